@@ -1,0 +1,33 @@
+-- The bytes of a file by its place in the list, and parts of a file that come one after another.
+use Rattle.std.proofs.Common.{◌≡◌, ℕ, zero, suc, ◌+◌, List, [], ◌∷◌, ◌++◌, ◌<◌, ◌≤◌, length, take, drop, sym, ap, ◌∙◌, arith, append_assoc, length-append, slice_index_or}
+use Rattle.std.proofs.lemmas.List.{length-take, take-take, take-append-le}
+use Rattle.std.proofs.Math.Seq.{take-add, take-append-add}
+use Rattle.cj_io.specs.declared.file.FileBytes.{FileBytes}
+use Rattle.cj_io.specs.Files.{bytes_of, ReadsFrom}
+
+pub bytes_of-at : (files : List FileBytes) (n : ℕ) (file : FileBytes) → n < length files → file ≡ slice_index_or files n file → file.bytes ≡ bytes_of files n
+bytes_of-at [] n file below is = absurd (omega arith)
+bytes_of-at (f ∷ files) zero file below is = ap (λ (x : FileBytes). x.bytes) is
+bytes_of-at (f ∷ files) (suc n) file below is = bytes_of-at files n file (omega arith) is
+
+-- a part that was read behind a front stands there, in a buffer with more behind it
+pub part_stands : (front part more rest : List ℕ) (read count room : ℕ) → length front ≡ read → count ≤ length part → read + count ≤ room
+    → take (read + count) (take room (front ++ (part ++ more) ++ rest)) ≡ front ++ take count part
+part_stands front part more rest read count room is within fits =
+    take-take (read + count) room (front ++ (part ++ more) ++ rest) fits
+    ∙ ap (λ (n : ℕ). take (n + count) (front ++ (part ++ more) ++ rest)) (sym is)
+    ∙ ap (λ (xs : List ℕ). take (length front + count) xs) (simp append_assoc)
+    ∙ take-append-add front (part ++ (more ++ rest)) count
+    ∙ ap (λ (xs : List ℕ). front ++ xs) (take-append-le count part (more ++ rest) within)
+
+-- and is within what is kept of that buffer
+pub part_fits : (front part more rest : List ℕ) (read count room : ℕ) → length front ≡ read → count ≤ length part → read + count ≤ room
+    → read + count ≤ length (take room (front ++ (part ++ more) ++ rest))
+part_fits front part more rest read count room is within fits = simp (length-take, length-append) (omega arith)
+
+-- what was read so far, with the part that came
+pub next_part : (bytes front buffer : List ℕ) (read count : ℕ) → front ≡ take read bytes → ReadsFrom bytes read count buffer → front ++ take count buffer ≡ take (read + count) bytes
+next_part bytes front buffer read count so_far came =
+    ap (λ (xs : List ℕ). front ++ xs) came.front
+    ∙ ap (λ (xs : List ℕ). xs ++ take count (drop read bytes)) so_far
+    ∙ sym (take-add read count bytes)

@@ -1,0 +1,8 @@
+use crate::{Bytes, Name};
+
+/// A file or a piece: its name and what it contains.
+#[derive(Debug, PartialEq, Eq, Drop)]
+pub struct FileBytes {
+    pub name: Name,
+    pub bytes: Bytes,
+}

@@ -1,0 +1,60 @@
+ghost use Rattle.std.specs.Prelude.{◌≡◌, ◌↔◌, [], Some, IsErrOf, IsTrue, OnErr};
+ghost use Rattle.cj_io.specs.Calls.{fails_next, after_call};
+ghost use Rattle.cj_io.specs.Files.{Puts};
+
+use crate::calls::Calls;
+use crate::{CalmShelf, FileBytes, PutError, Shelf};
+use std::alloc::Global;
+use std::marker::Model;
+
+/// A shelf in memory whose puts fail where their numbers are listed. Nothing is put by one that fails.
+#[derive(Debug, Drop)]
+pub struct MemShelf {
+    shelf: CalmShelf,
+    calls: Calls,
+}
+
+impl Model for MemShelf {
+    ghost use Rattle.cj_io.specs.Memory.{ShelfInMemory};
+
+    ghost Value = { ShelfInMemory };
+
+    ghost view = { λ s. record { pieces = s.shelf; calls = s.calls } };
+}
+
+impl MemShelf {
+    /// An empty shelf whose calls of these numbers fail. The calls are counted from 1.
+    pub fn new(alloc: Global, failing: Vec<u64>) -> Self
+        ensures { result ≡ record { pieces = []; calls = record { failing = failing.items; made = 0; faults = 0 } } }
+    {
+        MemShelf {
+            shelf: CalmShelf::new(alloc),
+            calls: Calls::new(failing),
+        }
+    }
+
+    /// The pieces that stand.
+    pub fn written(&self) -> &[FileBytes]
+        ensures { result.now ≡ self.now.pieces }
+    {
+        self.shelf.written()
+    }
+}
+
+impl Shelf for MemShelf {
+    ghost pieces = { λ s. Some s.pieces };
+
+    ghost faults = { λ s. s.calls.faults };
+
+    fn put(&mut self, alloc: Global, name: &[u8], bytes: &[u8]) -> Result<(), PutError>
+        ensures fails { IsErrOf result PutError.Failed ↔ IsTrue (fails_next self.old.calls) }
+        ensures pieces { Puts name.now bytes.now result self.old.pieces self.new.pieces }
+        ensures nothing { OnErr result (self.new.pieces ≡ self.old.pieces) }
+        ensures counted { self.new.calls ≡ after_call self.old.calls }
+    {
+        if self.calls.next_fails() {
+            return Err(PutError::Failed);
+        }
+        self.shelf.put(alloc, name, bytes)
+    }
+}

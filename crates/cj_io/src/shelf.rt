@@ -1,0 +1,49 @@
+ghost use Rattle.std.specs.Prelude.{◌≡◌, ◌≤◌, List, ℕ, Option, IsErrOf};
+ghost use Rattle.cj_io.specs.Faults.{Rose};
+ghost use Rattle.cj_io.specs.Files.{Puts, Told};
+ghost use Rattle.cj_io.specs.declared.file.FileBytes.{FileBytes};
+ghost use Rattle.cj_io.specs.declared.shelf.PutError.TheVariants.{Memory};
+
+use std::alloc::{AllocError, AllocFailed, Global};
+
+/// Why a piece was not put.
+#[derive(Clone, Copy, Debug, PartialEq, Eq)]
+pub enum PutError {
+    /// There was no memory.
+    Memory,
+    /// The shelf failed.
+    Failed,
+}
+
+impl From<AllocError> for PutError {
+    ghost from_gives = { λ _ e. e ≡ Memory };
+
+    fn from(_: AllocError) -> Self {
+        PutError::Memory
+    }
+}
+
+impl<T: Drop> From<AllocFailed<T>> for PutError {
+    ghost from_gives = { λ _ e. e ≡ Memory };
+
+    fn from(_: AllocFailed<T>) -> Self {
+        PutError::Memory
+    }
+}
+
+/// What finished pieces are put on, one after another.
+pub trait Shelf {
+    /// The pieces, where they are told.
+    ghost pieces: { Self → Option (List FileBytes) };
+
+    /// How often the shelf has failed. The count stops at the greatest value of a `u64`.
+    ghost faults: { Self → ℕ };
+
+    /// Puts one piece behind those that stand. Want of memory leaves all as it was; after a fault a last piece of this name
+    /// may stand cut short.
+    fn put(&mut self, alloc: Global, name: &[u8], bytes: &[u8]) -> Result<(), PutError>
+        ensures failed { IsErrOf result PutError.Failed → Rose (faults self.old) (faults self.new) }
+        ensures memory { IsErrOf result PutError.Memory → faults self.new ≡ faults self.old }
+        ensures pieces { Told (Puts name.now bytes.now result) (pieces self.old) (pieces self.new) }
+        ensures later { faults self.old ≤ faults self.new };
+}
