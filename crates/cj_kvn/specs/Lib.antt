@@ -1,0 +1,6 @@
+pub mod Ranges
+pub mod Lines
+pub mod Fields
+pub mod Numbers
+pub mod Scanning
+pub mod Decimals

@@ -1,0 +1,32 @@
+//! Lines, fields and numbers of texts in key-value notation.
+#![tactic(auto)]
+
+mod blanks;
+mod decimals;
+mod fields;
+mod leading;
+mod lines;
+mod numbers;
+mod powers;
+mod printing;
+mod range;
+mod reading;
+mod rounded;
+mod rounding;
+mod scaling;
+mod scanning;
+mod text;
+mod words;
+
+pub use decimals::Decimal;
+pub use fields::field;
+pub use lines::{KvnFault, Line, LineKind, MarkKind};
+pub use numbers::{NumFault, read_scaled};
+pub use printing::decimal_text;
+pub use range::Range32;
+pub use reading::read_lines;
+pub use rounding::read_decimal;
+pub use text::Text;
+
+#[cfg(test)]
+mod tests;

@@ -1,0 +1,59 @@
+//! Lines of a key-value file.
+ghost use Rattle.std.specs.Prelude.{◌≡◌};
+ghost use Rattle.cj_kvn.specs.declared.lines.KvnFault.TheVariants.{Memory};
+
+use crate::range::Range32;
+use std::alloc::{AllocError, AllocFailed};
+
+/// A line by its number, counted from 1, and its kind.
+#[derive(Clone, Copy, Debug, PartialEq, Eq)]
+pub struct Line {
+    pub number: u32,
+    pub kind: LineKind,
+}
+
+/// What a line is. The parts lie in the file's bytes and have no outer blanks.
+#[derive(Clone, Copy, Debug, PartialEq, Eq)]
+pub enum LineKind {
+    Blank,
+    Comment,
+    Mark(MarkKind),
+    Pair { key: Range32, value: Range32 },
+    Row { text: Range32 },
+}
+
+/// A word that opens or closes a block.
+#[derive(Clone, Copy, Debug, PartialEq, Eq)]
+pub enum MarkKind {
+    MetaStart,
+    MetaStop,
+    CovarianceStart,
+    CovarianceStop,
+}
+
+/// Why the lines of a file are not read.
+#[derive(Clone, Copy, Debug, PartialEq, Eq)]
+pub enum KvnFault {
+    /// Memory ran out.
+    Memory,
+    /// The line has a byte that may stand in comments alone.
+    NotPrintable { line: u32 },
+    /// The line is a pair whose key is not one or more of A to Z, 0 to 9 and `_`.
+    NoLineForm { line: u32 },
+}
+
+impl From<AllocError> for KvnFault {
+    ghost from_gives = { λ _ e. e ≡ Memory };
+
+    fn from(_e: AllocError) -> KvnFault {
+        KvnFault::Memory
+    }
+}
+
+impl<T: Drop> From<AllocFailed<T>> for KvnFault {
+    ghost from_gives = { λ _ e. e ≡ Memory };
+
+    fn from(_e: AllocFailed<T>) -> KvnFault {
+        KvnFault::Memory
+    }
+}

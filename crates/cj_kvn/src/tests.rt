@@ -1,0 +1,3 @@
+mod decimals;
+mod lines;
+mod scaled;

@@ -1,0 +1,127 @@
+use crate::fields::field;
+use crate::lines::{KvnFault, Line, LineKind, MarkKind};
+use crate::range::Range32;
+use crate::reading::read_lines;
+use crate::text::Text;
+use std::test::Fail;
+
+#[test]
+fn each_kind_of_line(rt: HostRuntime) -> Result<(), Fail> {
+    let bytes =
+        b"CCSDS_OEM_VERS = 2.0\r\n\r\n  COMMENT\tany \xff\nMETA_START\n  2025 7000\t1 \nA = B = \t";
+    let lines = read_lines(rt.alloc(), bytes)?;
+    let first = LineKind::Pair {
+        key: Range32 { first: 0, past: 14 },
+        value: Range32 {
+            first: 17,
+            past: 20,
+        },
+    };
+    let fifth = LineKind::Row {
+        text: Range32 {
+            first: 53,
+            past: 64,
+        },
+    };
+    let last = LineKind::Pair {
+        key: Range32 {
+            first: 66,
+            past: 67,
+        },
+        value: Range32 {
+            first: 70,
+            past: 73,
+        },
+    };
+    let expected = [
+        Line {
+            number: 1,
+            kind: first,
+        },
+        Line {
+            number: 2,
+            kind: LineKind::Blank,
+        },
+        Line {
+            number: 3,
+            kind: LineKind::Comment,
+        },
+        Line {
+            number: 4,
+            kind: LineKind::Mark(MarkKind::MetaStart),
+        },
+        Line {
+            number: 5,
+            kind: fifth,
+        },
+        Line {
+            number: 6,
+            kind: last,
+        },
+    ];
+    assert_eq!(rt; lines.as_slice(), expected.as_slice());
+    Ok(())
+}
+
+#[test]
+fn fields_of_a_row(rt: HostRuntime) -> Result<(), Fail> {
+    let bytes = b"  2025 7000\t1 ";
+    let row = Range32 { first: 1, past: 14 };
+    assert_eq!(rt; field(bytes, row, 0), Some(Range32 { first: 2, past: 6 }));
+    assert_eq!(rt; field(bytes, row, 1), Some(Range32 { first: 7, past: 11 }));
+    assert_eq!(rt;
+        field(bytes, row, 2),
+        Some(Range32 {
+            first: 12,
+            past: 13
+        })
+    );
+    assert_eq!(rt; field(bytes, row, 3), None);
+    assert_eq!(rt; field(b" \t ", Range32 { first: 0, past: 3 }, 0), None);
+    Ok(())
+}
+
+#[test]
+fn the_first_fault(rt: HostRuntime) -> Result<(), Fail> {
+    let texts: [(&[u8], KvnFault); 9] = [
+        (b"KEY = 1\nbad key = 2\n", KvnFault::NoLineForm { line: 2 }),
+        (b"= 1", KvnFault::NoLineForm { line: 1 }),
+        (b"a = 1\nK = \x01\n", KvnFault::NoLineForm { line: 1 }),
+        (b"K = \x01\na = 1\n", KvnFault::NotPrintable { line: 1 }),
+        (b"\n\nkey\x7f = 1", KvnFault::NotPrintable { line: 3 }),
+        (b"K = 1\rL = 2\n", KvnFault::NotPrintable { line: 1 }),
+        (b"K = 1\r", KvnFault::NotPrintable { line: 1 }),
+        (b"COMMENT\r", KvnFault::NotPrintable { line: 1 }),
+        (b"COMMENT\r\r\n", KvnFault::NotPrintable { line: 1 }),
+    ];
+    for (text, fault) in &texts {
+        assert_eq!(rt; read_lines(rt.alloc(), text).err(), Some(*fault));
+    }
+    Ok(())
+}
+
+#[test]
+fn ends_of_lines(rt: HostRuntime) -> Result<(), Fail> {
+    let counts: [(&[u8], usize); 6] = [
+        (b"", 0),
+        (b"\n", 1),
+        (b"\r\n", 1),
+        (b"COMMENT\r\n", 1),
+        (b"COMMENTS", 1),
+        (b"A = 1\nB = 2", 2),
+    ];
+    for (text, count) in &counts {
+        assert_eq!(rt; read_lines(rt.alloc(), text)?.len(), *count);
+    }
+    Ok(())
+}
+
+#[test]
+fn a_tab_in_a_value_is_a_space(rt: HostRuntime) -> Result<(), Fail> {
+    let value = Text::of_value(rt.alloc(), b"SAT\tA")?;
+    let text = Text::copy_of(rt.alloc(), b"SAT A")?;
+    assert_eq!(rt; value, text);
+    let next = Text::copy_of(rt.alloc(), b"SAT B")?;
+    assert!(rt; text < next);
+    Ok(())
+}
