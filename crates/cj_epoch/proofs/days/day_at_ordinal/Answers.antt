@@ -1,0 +1,14 @@
+use Rattle.std.proofs.Common.{arith, ◌≤◌, ◌≡◌, pos}
+use Rattle.std.proofs.lemmas.Bool.Decides.{nat_tests}
+use Rattle.std.proofs.lemmas.Int.{ints}
+use Rattle.cj_epoch.proofs.YearLemmas.{ordinal_read}
+use Rattle.cj_epoch.proofs.days.day_at_ordinal.Goals as goal
+
+pub returns-in-Ok-clause-value : goal.returns-in-Ok-clause-value
+returns-in-Ok-clause-value c =
+    let low : 1972 ≤ c.args.year = grind (arith, nat_tests) in
+    let high : c.args.year ≤ 2099 = grind (arith, nat_tests) in
+    let year : c.in-Ok.date.year ≡ pos c.args.year = omega (arith, ints, c.in-Ok.ensures.value.0) in
+    ordinal_read c.args.year c.args.day c.days_before.result c.in-Ok.date low high year
+    (omega (arith, ints, c.in-Ok.ensures.value.1))
+    c.days_before.ensures.value

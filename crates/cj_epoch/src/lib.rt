@@ -1,0 +1,20 @@
+//! Ticks, windows and epochs.
+#![tactic(auto)]
+
+mod days;
+mod digits;
+mod fault;
+mod leap;
+mod picture;
+mod reading;
+mod text;
+mod tick;
+
+pub use fault::EpochFault;
+pub use leap::leap_between;
+pub use reading::read_epoch;
+pub use text::epoch_text;
+pub use tick::{Tick, Window};
+
+#[cfg(test)]
+mod tests;
