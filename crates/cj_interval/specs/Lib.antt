@@ -1,0 +1,3 @@
+pub mod Rounding
+pub mod Sizes
+pub mod Spans
