@@ -1,0 +1,10 @@
+pub mod Limits
+pub mod Ephemeris
+pub mod Nodes
+pub mod Useable
+pub mod Segments
+pub mod Tracks
+pub mod Cuts
+pub mod PlainDecimal
+pub mod Plain
+pub mod PlainFile

@@ -1,0 +1,16 @@
+use crate::frame::Frame;
+use crate::segments::Segments;
+use cj_kvn::Text;
+
+/// The ephemeris of one object, as one file gives it.
+#[derive(Debug, Drop)]
+pub struct Track {
+    /// The name of the file.
+    pub file: Text,
+    /// The name of the object.
+    pub name: Text,
+    /// The international designator, or another one.
+    pub id: Text,
+    pub frame: Frame,
+    pub segments: Segments,
+}
