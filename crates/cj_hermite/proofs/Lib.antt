@@ -1,0 +1,9 @@
+pub mod CoverLemmas
+pub mod CubicLemmas
+pub mod DistanceLemmas
+pub mod LevelLemmas
+pub mod PieceLemmas
+pub mod PlaceLemmas
+pub mod RateLemmas
+pub mod RunLemmas
+pub mod SearchLemmas

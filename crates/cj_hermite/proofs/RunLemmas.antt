@@ -1,0 +1,155 @@
+-- The ticks at which a piece is the one to be used.
+use Rattle.std.proofs.Common.{◌≡◌, ◌≢◌, ℕ, suc, ◌-◌, ◌<◌, ◌≤◌, max, min, inl, inr, eq-or-lt_of_le, List, length, get_or, Option, Some, None, true, false, eqb, eq-eqb, refl, sym, ap, ◌∙◌, subst, arith}
+use Rattle.std.specs.Prelude.{◌↔◌, option_map, IsSomeAnd, slice_get}
+use Rattle.std.specs.Option.{option_eq}
+use Rattle.std.proofs.lemmas.Bool.{eqb-true}
+use Rattle.std.proofs.lemmas.List.{get_or_default}
+use Rattle.cj_epoch.specs.declared.tick.Window.{Window}
+use Rattle.cj_oem.specs.declared.node.Node.{Node}
+use Rattle.cj_oem.specs.declared.segment.Segment.{Segment}
+use Rattle.cj_oem.specs.Ephemeris.{Ephemeris}
+use Rattle.cj_oem.specs.Nodes.{AreNodes}
+use Rattle.cj_oem.specs.Segments.{AreSegments}
+use Rattle.cj_oem.specs.Tracks.{arc_of}
+use Rattle.cj_hermite.specs.declared.pieces.Piece.{Piece}
+use Rattle.cj_hermite.specs.Pieces.{Interval, intervals_of_arc, intervals_of, last_covering, interval_index_at}
+use Rattle.cj_hermite.specs.PiecesOfTracks.{Covers, CoversBoth, interval_with}
+use Rattle.cj_hermite.specs.Runs.{Holds, IsOfPiece, IsRun}
+use Rattle.cj_hermite.specs.Searches.{IsLastBegun, IsFromNode, IsPlace}
+use Rattle.cj_hermite.proofs.CoverLemmas.{found_is, covers_is}
+use Rattle.cj_hermite.proofs.SearchLemmas.{in_order}
+use Rattle.cj_hermite.proofs.PieceLemmas.{interval_between, intervals_through, IsLastFound, found_in, from_node}
+
+covers_found : (m index : ℕ) (xs : List Interval) (x : Interval) (z : Option (ℕ × Interval)) → last_covering m 0 xs ≡ z → option_map (λ y. y.0) z ≡ Some index → slice_get xs index ≡ Some x → Covers m x
+covers_found m index xs x None last same here = absurd cc
+covers_found m index xs x (Some z) last same here =
+    let found = found_is m 0 xs z last in
+    let number : z.0 ≡ index = cc in
+    let place : found.place ≡ index = omega (arith, found.number) in
+    let is : slice_get xs index ≡ Some z.1 = subst (λ (i : ℕ). slice_get xs i ≡ Some z.1) place found.is in
+    let one : z.1 ≡ x = cc in
+    subst (λ (y : Interval). Covers m y) one (covers_is m z.1 found.here)
+
+held_in : (m index : ℕ) (e : Ephemeris) (window : Window) (z : Option Interval) → slice_get (intervals_of e) index ≡ z → IsSomeAnd z (λ x. (i : ℕ) → Holds window i ↔ Covers i x)
+    → interval_index_at e m ≡ Some index → Holds window m
+unfolding interval_index_at
+held_in m index e window None same ticks here = absurd ticks
+held_in m index e window (Some x) same ticks here = (ticks m).1 (covers_found m index (intervals_of e) x (last_covering m 0 (intervals_of e)) refl here same)
+
+-- what is told of the ticks between the nodes of a piece
+pub record AreCovered (e : Ephemeris) (index : ℕ) (window : Window) : Type 0 where
+  pub ticks : IsSomeAnd (slice_get (intervals_of e) index) (λ x. (m : ℕ) → Holds window m ↔ Covers m x)
+  pub own : (m : ℕ) → Holds window m → m < window.last.micros → interval_index_at e m ≡ Some index
+
+-- the ticks that both windows have
+pub record IsCommonPart (a b run : Window) : Type 0 where
+  pub first : run.first.micros ≡ max a.first.micros b.first.micros
+  pub last : run.last.micros ≡ min a.last.micros b.last.micros
+
+in_both : (m : ℕ) (a b run : Window) → IsCommonPart a b run → Holds a m → Holds b m → Holds run m
+in_both m a b run part x y = record { after = omega (arith, part.first, x.after, y.after); before = omega (arith, part.last, x.before, y.before) }
+
+pub held : (m index : ℕ) (e : Ephemeris) (range covered run : Window) → AreCovered e index covered → IsCommonPart covered range run → IsOfPiece e index range m → Holds run m
+held m index e range covered run are part h =
+    in_both m covered range run part (held_in m index e covered (slice_get (intervals_of e) index) refl are.ticks h.here) h.within
+
+own_in : (m index : ℕ) (e : Ephemeris) (range covered run : Window) → AreCovered e index covered → IsCommonPart covered range run → Holds run m → m < run.last.micros → IsOfPiece e index range m
+own_in m index e range covered run are part h less = record {
+  within = record { after = omega (arith, part.first, h.after); before = omega (arith, part.last, h.before) };
+  here = are.own m (record { after = omega (arith, part.first, h.after); before = omega (arith, part.last, h.before) }) (omega (arith, part.last));
+}
+
+-- the ends of a run within
+pub ends_covered : (m n : ℕ) (window : Window) (z : Option Interval) → IsSomeAnd z (λ x. (i : ℕ) → Holds window i ↔ Covers i x) → Holds window m → Holds window n → IsSomeAnd z (CoversBoth m n)
+ends_covered m n window None ticks first second = ticks
+ends_covered m n window (Some x) ticks first second = record { first = (ticks m).0 first; second = (ticks n).0 second }
+
+-- where the last tick is the piece's own
+pub run_whole : (index : ℕ) (e : Ephemeris) (range covered run : Window) → AreCovered e index covered → IsCommonPart covered range run → run.first.micros ≤ run.last.micros
+    → interval_index_at e run.last.micros ≡ Some index → IsRun e index range run
+run_whole index e range covered run are part some last = record {
+  some = some;
+  ticks = λ m. (
+    λ h. elim (eq-or-lt_of_le h.before) [
+      | inl same ↦ record {
+        within = record { after = omega (arith, part.first, h.after); before = omega (arith, part.last, h.before) };
+        here = subst (λ (i : ℕ). interval_index_at e i ≡ Some index) (sym same) last;
+      }
+      | inr less ↦ own_in m index e range covered run are part h less
+    ],
+    λ h. held m index e range covered run are part h,
+  );
+}
+
+-- where it belongs to a later piece
+pub run_less : (index : ℕ) (e : Ephemeris) (range covered run shorter : Window) → AreCovered e index covered → IsCommonPart covered range run → run.first.micros < run.last.micros
+    → interval_index_at e run.last.micros ≢ Some index → shorter.first.micros ≡ run.first.micros → shorter.last.micros ≡ run.last.micros - 1 → IsRun e index range shorter
+run_less index e range covered run shorter are part some other first last = record {
+  some = omega arith;
+  ticks = λ m. (
+    λ h. own_in m index e range covered run are part (record { after = omega (arith, h.after); before = omega (arith, h.before) }) (omega (arith, h.before)),
+    λ h.
+        let inside = held m index e range covered run are part h in
+        elim (eq-or-lt_of_le inside.before) [
+          | inl same ↦ absurd (other (subst (λ (i : ℕ). interval_index_at e i ≡ Some index) same h.here))
+          | inr less ↦ record { after = omega (arith, inside.after); before = omega (arith, inside.before) }
+        ],
+  );
+}
+
+pub run_none : (index : ℕ) (e : Ephemeris) (range covered run : Window) → AreCovered e index covered → IsCommonPart covered range run → run.last.micros < run.first.micros
+    → (m : ℕ) → ¬ IsOfPiece e index range m
+run_none index e range covered run are part none m h = let inside = held m index e range covered run are part h in omega (arith, inside.after, inside.before)
+
+pub run_other : (index : ℕ) (e : Ephemeris) (range covered run : Window) → AreCovered e index covered → IsCommonPart covered range run → run.last.micros ≡ run.first.micros
+    → interval_index_at e run.last.micros ≢ Some index → (m : ℕ) → ¬ IsOfPiece e index range m
+run_other index e range covered run are part one other m h =
+    let inside = held m index e range covered run are part h in
+    let same : m ≡ run.last.micros = omega (arith, inside.after, inside.before) in
+    other (subst (λ (i : ℕ). interval_index_at e i ≡ Some index) same h.here)
+
+-- the nodes of the piece
+same_ticks : (first last first' last' : ℕ) (a b : Node) (piece : Piece) → Some (interval_between first last a b) ≡ Some (interval_with first' last' piece) → (a.at.micros ≡ piece.t0.micros) × (b.at.micros ≡ piece.t1.micros)
+same_ticks first last first' last' a b piece h =
+    let same : interval_between first last a b ≡ interval_with first' last' piece = cc in
+    (ap (λ (x : Interval). x.from.at) same, ap (λ (x : Interval). x.to.at) same)
+
+-- a tick before the last that the piece covers
+pub own_tick : (m index i : ℕ) (segments : List Segment) (s : Segment) (piece : Piece) → AreSegments segments → AreNodes s.nodes → IsPlace index segments s i
+    → slice_get (intervals_of_arc (arc_of s)) i ≡ Some (interval_with s.first.micros s.last.micros piece)
+    → s.first.micros ≤ m → piece.t0.micros ≤ m → m < s.last.micros → m < piece.t1.micros
+    → IsLastFound m index (intervals_through segments)
+own_tick m index i segments s piece are nodes place value after from before to =
+    let k = place.segment in
+    let begun : IsLastBegun m segments k = record {
+      exists = place.exists;
+      begun = λ d. subst (λ (t : Segment). t.first.micros ≤ m) (place.is ∙ get_or_default segments k s d place.exists) after;
+      next = λ d below.
+          let here : m < (get_or segments k d).last.micros = subst (λ (t : Segment). m < t.last.micros) (place.is ∙ get_or_default segments k s d place.exists) before in
+          omega (arith, in_order segments k (suc k) d are.order (omega arith) below);
+    } in
+    let below : suc i < length s.nodes = omega (arith, place.within) in
+    let node : (d : Node) → IsFromNode m s.nodes i d = λ d.
+    let ticks = same_ticks s.first.micros s.last.micros s.first.micros s.last.micros (get_or s.nodes i d) (get_or s.nodes (suc i) d) piece
+    (sym (from_node s.first.micros s.last.micros i s.nodes d below) ∙ value) in
+    record { exists = below; from = omega (arith, ticks.0); to = omega (arith, ticks.1); next = λ more. omega (arith, ticks.1) } in
+    let found = found_in m k i segments s are.order begun place.is (omega arith) nodes node in
+    subst (λ (number : ℕ). IsLastFound m number (intervals_through segments)) (sym place.number) found
+
+-- the ticks between the nodes, within the useable span
+pub between_ends : (first last : ℕ) (piece : Piece) (window : Window) (z : Option Interval) → z ≡ Some (interval_with first last piece) → window.first.micros ≡ max piece.t0.micros first
+    → window.last.micros ≡ min piece.t1.micros last → IsSomeAnd z (λ x. (m : ℕ) → Holds window m ↔ Covers m x)
+between_ends first last piece window z same from to =
+    subst (λ (y : Option Interval). IsSomeAnd y (λ x. (m : ℕ) → Holds window m ↔ Covers m x)) (sym same) (λ m. (
+      λ h. record { from = omega (arith, from, h.after); to = omega (arith, to, h.before); first = omega (arith, from, h.after); last = omega (arith, to, h.before) },
+      λ h. record { after = omega (arith, from, h.from, h.first); before = omega (arith, to, h.to, h.last) },
+    ))
+
+-- what a comparison of numbers tells
+pub same_number : (found : Option ℕ) (index : ℕ) → option_eq eqb found (Some index) ≡ true → found ≡ Some index
+same_number None index h = absurd cc
+same_number (Some number) index h = ap (λ (n : ℕ). Some n) (eqb-true number index h)
+
+pub other_number : (found : Option ℕ) (index : ℕ) → option_eq eqb found (Some index) ≡ false → found ≢ Some index
+other_number None index h e = cc
+other_number (Some number) index h e = let same : number ≡ index = cc in let true_here : eqb number index ≡ true = eq-eqb number index same in cc

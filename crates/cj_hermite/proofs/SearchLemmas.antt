@@ -1,0 +1,133 @@
+-- Segments and nodes are in order, and what a binary search over them finds.
+use Rattle.std.proofs.Common.{◌≡◌, ℕ, zero, suc, ◌+◌, ◌-◌, ◌<◌, ◌≤◌, inl, inr, eq-or-lt_of_le, min, List, [], ◌∷◌, length, get_or, true, false, Option, Some, None, refl, ap, arith, leb}
+use Rattle.std.specs.Prelude.{MatchOption}
+use Rattle.std.specs.Option.{SomeIff}
+use Rattle.std.specs.List.Sorted.{IsNonDecreasing, IsNonDecreasingBy, IsPartitionPoint}
+use Rattle.std.proofs.lemmas.Bool.{cases_lt}
+use Rattle.std.proofs.lemmas.List.Sorted.{IsNonDecreasingBy-from_default}
+use Rattle.std.proofs.lemmas.Bool.Decides.{nat_tests}
+use Rattle.cj_oem.specs.declared.node.Node.{Node}
+use Rattle.cj_oem.specs.declared.segment.Segment.{Segment}
+use Rattle.cj_oem.specs.Nodes.{AreSteps, AreNodes}
+use Rattle.cj_oem.specs.Segments.{AreInOrder, piece_count, starts_from}
+use Rattle.cj_oem.specs.Useable.{LiesWithin, last_tick}
+use Rattle.cj_hermite.specs.Searches.{IsLastBegun, AllLater, AreReached, IsFromNode}
+
+after_head : (a : Segment) (segments : List Segment) (j : ℕ) (d : Segment) → AreInOrder (a ∷ segments) → j < length segments → a.last.micros ≤ (get_or segments j d).first.micros
+after_head a [] j d order below = absurd (omega arith)
+after_head a (b ∷ segments) zero d order below = order.0
+after_head a (b ∷ segments) (suc j) d order below = omega (arith, order.0, b.some, after_head b segments j d order.1 (omega arith))
+
+-- a segment ends before each later one begins
+pub in_order : (segments : List Segment) (i j : ℕ) (d : Segment) → AreInOrder segments → i < j → j < length segments → (get_or segments i d).last.micros ≤ (get_or segments j d).first.micros
+in_order [] i j d order less below = absurd (omega arith)
+in_order (a ∷ segments) i zero d order less below = absurd (omega arith)
+in_order (a ∷ segments) zero (suc j) d order less below = after_head a segments j d order (omega arith)
+in_order (a ∷ []) (suc i) (suc j) d order less below = absurd (omega arith)
+in_order (a ∷ b ∷ segments) (suc i) (suc j) d order less below = in_order (b ∷ segments) i j d order.1 (omega arith) (omega arith)
+
+pub segments_rise : (segments : List Segment) → AreInOrder segments → IsNonDecreasingBy (λ segment. segment.first.micros) segments
+segments_rise segments order i j d le below =
+    elim (eq-or-lt_of_le le) [
+      | inl same ↦ omega (arith, ap (λ (k : ℕ). (get_or segments k d).first.micros) same)
+      | inr less ↦ omega (arith, (get_or segments i d).some, in_order segments i j d order less below)
+    ]
+
+pub begun_from : (m p : ℕ) (segments : List Segment) (r : Option ℕ) → SomeIff r (1 ≤ p) (p - 1) → p ≤ length segments
+    → IsPartitionPoint (λ (s : Segment). leb s.first.micros m ≡ true) (λ (s : Segment). leb s.first.micros m ≡ false) segments p
+    → MatchOption r (AllLater m segments) (IsLastBegun m segments)
+begun_from m p segments None none bound point = λ j d below. let here = point.1 j d (omega (arith, none)) below in grind (arith, nat_tests)
+begun_from m p segments (Some k) some bound point = record {
+  exists = omega (arith, some.0, some.1);
+  begun = λ d. let here = point.0 k d (omega arith) (omega (arith, some.0, some.1)) in grind (arith, nat_tests);
+  next = λ d below. let here = point.1 (suc k) d (omega (arith, some.0, some.1)) below in grind (arith, nat_tests);
+}
+
+above_head : (a : Node) (nodes : List Node) (j : ℕ) (d : Node) → AreSteps (a ∷ nodes) → j < length nodes → a.at.micros < (get_or nodes j d).at.micros
+above_head a [] j d steps below = absurd (omega arith)
+above_head a (b ∷ nodes) zero d steps below = steps.0.rises
+above_head a (b ∷ nodes) (suc j) d steps below = omega (arith, steps.0.rises, above_head b nodes j d steps.1 (omega arith))
+
+-- each node comes before the later ones
+nodes_in_order : (nodes : List Node) (i j : ℕ) (d : Node) → AreSteps nodes → i < j → j < length nodes → (get_or nodes i d).at.micros < (get_or nodes j d).at.micros
+nodes_in_order [] i j d steps less below = absurd (omega arith)
+nodes_in_order (a ∷ nodes) i zero d steps less below = absurd (omega arith)
+nodes_in_order (a ∷ nodes) zero (suc j) d steps less below = above_head a nodes j d steps (omega arith)
+nodes_in_order (a ∷ []) (suc i) (suc j) d steps less below = absurd (omega arith)
+nodes_in_order (a ∷ b ∷ nodes) (suc i) (suc j) d steps less below = nodes_in_order (b ∷ nodes) i j d steps.1 (omega arith) (omega arith)
+
+pub nodes_rise : (nodes : List Node) → AreSteps nodes → IsNonDecreasingBy (λ node. node.at.micros) nodes
+nodes_rise nodes steps i j d le below =
+    elim (eq-or-lt_of_le le) [
+      | inl same ↦ omega (arith, ap (λ (k : ℕ). (get_or nodes k d).at.micros) same)
+      | inr less ↦ omega (arith, nodes_in_order nodes i j d steps less below)
+    ]
+
+last_tick_is : (t k : ℕ) (nodes : List Node) (d : Node) → length nodes ≡ suc k → last_tick t nodes ≡ (get_or nodes k d).at.micros
+last_tick_is t k [] d e = absurd (omega arith)
+last_tick_is t zero (a ∷ []) d e = refl
+last_tick_is t (suc k) (a ∷ []) d e = absurd (omega arith)
+last_tick_is t zero (a ∷ b ∷ nodes) d e = absurd (omega arith)
+last_tick_is t (suc k) (a ∷ b ∷ nodes) d e = last_tick_is a.at.micros k (b ∷ nodes) d (omega arith)
+
+pub reached_from : (m p : ℕ) (nodes : List Node)
+    → IsPartitionPoint (λ (node : Node). leb node.at.micros m ≡ true) (λ (node : Node). leb node.at.micros m ≡ false) nodes p → AreReached m p nodes
+reached_from m p nodes point = record {
+  before = λ j d below. let here = point.0 j d (omega arith) below in grind (arith, nat_tests);
+  behind = λ j d le below. let here = point.1 j d le below in grind (arith, nat_tests);
+}
+
+pub some_reached : (m p : ℕ) (nodes : List Node) → AreNodes nodes → LiesWithin m m nodes → AreReached m p nodes → 1 ≤ p
+some_reached m (suc p) nodes are within reached = omega arith
+some_reached m zero [] are within reached = absurd (omega (arith, are.enough))
+some_reached m zero (a ∷ nodes) are within reached = absurd (omega (arith, reached.behind 0 a (omega arith) (omega arith), within.from))
+
+-- the node behind is not reached, or it is the last
+to_next : (m i : ℕ) (nodes : List Node) (d : Node) → LiesWithin m m nodes → (suc (suc i) < length nodes → m < (get_or nodes (suc i) d).at.micros) → suc i < length nodes
+    → m ≤ (get_or nodes (suc i) d).at.micros
+to_next m i nodes d within next below =
+    elim (cases_lt (suc (suc i)) (length nodes)) [
+      | inl more ↦ omega (arith, next more)
+      | inr last ↦ omega (arith, within.to, last_tick_is m (suc i) nodes d (omega arith))
+    ]
+
+pub from_reached : (m p i : ℕ) (nodes : List Node) (d : Node) → AreNodes nodes → LiesWithin m m nodes → AreReached m p nodes → p ≤ length nodes → i ≡ min (p - 1) (length nodes - 2)
+    → IsFromNode m nodes i d
+from_reached m p i nodes d are within reached bound e =
+    let some = some_reached m p nodes are within reached in
+    let next : suc (suc i) < length nodes → m < (get_or nodes (suc i) d).at.micros = λ below. reached.behind (suc i) d (omega (arith, are.enough)) (omega arith) in
+    record {
+      exists = omega (arith, are.enough);
+      from = reached.before i d (omega arith);
+      to = to_next m i nodes d within next (omega (arith, are.enough));
+      next = next;
+    }
+
+-- the numbers of the first pieces rise
+pub starts_at_least : (n j : ℕ) (segments : List Segment) → j < length (starts_from n segments) → n ≤ get_or (starts_from n segments) j 0
+starts_at_least n j [] below = absurd (omega arith)
+starts_at_least n zero (a ∷ segments) below = let here : n ≤ n = omega arith in here
+starts_at_least n (suc j) (a ∷ segments) below =
+    let rest = starts_at_least (n + piece_count a) j segments (omega arith) in
+    let here : n ≤ get_or (starts_from (n + piece_count a) segments) j 0 = omega arith in
+    here
+
+rise_from : (n : ℕ) (segments : List Segment) (i j : ℕ) → i ≤ j → j < length (starts_from n segments) → get_or (starts_from n segments) i 0 ≤ get_or (starts_from n segments) j 0
+rise_from n [] i j le below = absurd (omega arith)
+rise_from n (a ∷ segments) zero j le below = starts_at_least n j (a ∷ segments) below
+rise_from n (a ∷ segments) (suc i) zero le below = absurd (omega arith)
+rise_from n (a ∷ segments) (suc i) (suc j) le below = rise_from (n + piece_count a) segments i j (omega arith) (omega arith)
+
+pub starts_rise : (n : ℕ) (segments : List Segment) → IsNonDecreasing (starts_from n segments)
+starts_rise n segments = IsNonDecreasingBy-from_default (λ (x : ℕ). x) (starts_from n segments) 0 (rise_from n segments)
+
+-- the first p numbers are at most the index, and the others are greater
+pub record AreStarted (index p : ℕ) (starts : List ℕ) : Type 0 where
+  pub started : (j : ℕ) → j < p → get_or starts j 0 ≤ index
+  pub rest : (j : ℕ) → p ≤ j → j < length starts → index < get_or starts j 0
+
+pub are_started : (index p : ℕ) (starts : List ℕ) → IsPartitionPoint (λ (start : ℕ). leb start index ≡ true) (λ (start : ℕ). leb start index ≡ false) starts p → AreStarted index p starts
+are_started index p starts point = record {
+  started = λ j below. let here = point.0 j 0 (omega arith) below in grind (arith, nat_tests);
+  rest = λ j le below. let here = point.1 j 0 le below in grind (arith, nat_tests);
+}

@@ -1,0 +1,24 @@
+use Rattle.std.proofs.Common.{◌≡◌, ◌∙◌, List, [], ◌∷◌, length, ap, arith}
+use Rattle.cj_oem.specs.declared.segment.Segment.{Segment}
+use Rattle.cj_hermite.proofs.PieceLemmas.{intervals_through, count-through}
+use Rattle.cj_hermite.proofs.track_tests.track.Goals as goal
+
+pub returns : goal.returns
+returns c =
+    let a = c.in_ok-short.field-0 in
+    let b = c.in_ok-short-2.field-0 in
+    let d = c.in_ok-long.field-0 in
+    let e = c.in_ok-long-2.field-0 in
+    let all : length (intervals_through (a ∷ b ∷ d ∷ e ∷ [])) ≡ 6 =
+    omega (
+      arith,
+      count-through a (b ∷ d ∷ e ∷ []),
+      count-through b (d ∷ e ∷ []),
+      count-through d (e ∷ []),
+      count-through e [],
+      c.in_ok-short.ensures.count,
+      c.in_ok-short-2.ensures.count,
+      c.in_ok-long.ensures.count,
+      c.in_ok-long-2.ensures.count,
+    ) in
+    ap (λ (segments : List Segment). length (intervals_through segments)) (c.in_ok-new.ensures ∙ c.in_ok-segments.ensures.items) ∙ all

@@ -1,0 +1,13 @@
+pub mod Boxes
+pub mod CaseLimits
+pub mod Cases
+pub mod Distance
+pub mod Interpolant
+pub mod Levels
+pub mod Limits
+pub mod Pieces
+pub mod PiecesOfTracks
+pub mod Problems
+pub mod Rates
+pub mod Runs
+pub mod Searches

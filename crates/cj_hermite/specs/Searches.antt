@@ -1,0 +1,41 @@
+-- What the binary searches over segments and nodes find.
+use Rattle.std.specs.Prelude.{◌≡◌, ℕ, suc, ◌+◌, ◌<◌, ◌≤◌, List, length, slice_index, slice_index_or}
+use Rattle.cj_oem.specs.declared.node.Node.{Node}
+use Rattle.cj_oem.specs.declared.segment.Segment.{Segment}
+use Rattle.cj_oem.specs.Segments.{starts_from}
+
+-- the last segment that begins at tick m or before
+pub record IsLastBegun (m : ℕ) (segments : List Segment) (k : ℕ) : Type 0 where
+  pub exists : k < length segments
+  pub begun : (d : Segment) → (slice_index_or segments k d).first.micros ≤ m
+  pub next : (d : Segment) → suc k < length segments → m < (slice_index_or segments (suc k) d).first.micros
+
+-- all begin later
+abbrev pub AllLater : ℕ → List Segment → Type 0
+AllLater m segments = (j : ℕ) (d : Segment) → j < length segments → m < (slice_index_or segments j d).first.micros
+
+-- the nodes at tick m or before are the first p
+pub record AreReached (m p : ℕ) (nodes : List Node) : Type 0 where
+  pub before : (j : ℕ) (d : Node) → j < p → (slice_index_or nodes j d).at.micros ≤ m
+  pub behind : (j : ℕ) (d : Node) → p ≤ j → j < length nodes → m < (slice_index_or nodes j d).at.micros
+
+-- the tick lies between the node and the next, and at the next only if that is the last
+pub record IsFromNode (m : ℕ) (nodes : List Node) (i : ℕ) (d : Node) : Type 0 where
+  pub exists : suc i < length nodes
+  pub from : (slice_index_or nodes i d).at.micros ≤ m
+  pub to : m ≤ (slice_index_or nodes (suc i) d).at.micros
+  pub next : suc (suc i) < length nodes → m < (slice_index_or nodes (suc i) d).at.micros
+
+-- the last segment whose pieces begin at this number or before
+pub record IsLastStarted (index : ℕ) (starts : List ℕ) (k : ℕ) : Type 0 where
+  pub exists : k < length starts
+  pub started : slice_index starts k ≤ index
+  pub next : suc k < length starts → index < slice_index starts (suc k)
+
+-- the piece with this number among all is the i-th of this segment
+pub record IsPlace (index : ℕ) (segments : List Segment) (s : Segment) (i : ℕ) : Type 0 where
+  pub segment : ℕ
+  pub exists : segment < length segments
+  pub is : s ≡ slice_index_or segments segment s
+  pub number : index ≡ slice_index (starts_from 0 segments) segment + i
+  pub within : i + 1 < length s.nodes

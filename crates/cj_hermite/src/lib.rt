@@ -1,0 +1,37 @@
+//! The problem of a run, the pieces of its tracks, and the interpolant of each: its control values, and its place and rate,
+//! enclosed at a tick.
+#![tactic(auto)]
+
+mod box3;
+mod control_values;
+mod controlling;
+mod cutting;
+mod finding;
+mod level_spans;
+mod levels;
+mod pair;
+mod pieces;
+mod places;
+mod problem;
+mod rates;
+mod searches;
+mod tracks;
+
+pub use box3::Box3;
+pub use control_values::Controls;
+pub use controlling::controls;
+pub use cutting::cut;
+pub use finding::{piece, piece_at, segment_of};
+pub use level_spans::{FirstLevel, SecondLevel};
+pub use levels::{first_level, polar, second_level, third_level};
+pub use pair::Pair;
+pub use pieces::Piece;
+pub use places::point;
+pub use problem::Problem;
+pub use rates::rate;
+pub use tracks::Tracks;
+
+#[cfg(test)]
+mod tests;
+#[cfg(test)]
+mod track_tests;

@@ -1,0 +1,35 @@
+ghost use Rattle.std.specs.Prelude.{◌≡◌, ◌≤◌, ◌<◌, ◌^◌, length};
+ghost use Rattle.cj_hermite.specs.CaseLimits.{IsShort, AreFewSlots};
+
+use crate::pair::Pair;
+use crate::tracks::Tracks;
+use cj_epoch::Window;
+
+/// What a run is asked: its tracks, its window, and its threshold in nm.
+#[derive(Debug, Drop)]
+pub struct Problem {
+    pub tracks: Tracks,
+    pub window: Window,
+    /// From 10^9 to 10^15 nm.
+    pub threshold: u64,
+    pub ghost few: { length tracks ≤ 2000 },
+    pub ghost short: { IsShort window.first.micros window.last.micros },
+    pub ghost few_slots: { AreFewSlots (length tracks) window.first.micros window.last.micros },
+    pub ghost least: { 10 ^ 9 ≤ threshold },
+    pub ghost most: { threshold ≤ 10 ^ 15 },
+}
+
+impl Problem {
+    ghost use Rattle.cj_hermite.specs.Cases.{threshold_of};
+    ghost use Rattle.cj_hermite.specs.Problems.{case_of};
+
+    /// The threshold of a pair in nm.
+    pub fn pair_threshold(&self, pair: Pair) -> u64
+        requires { pair.b < length self.now.tracks }
+        ensures value { result ≡ threshold_of (case_of self.now) pair.a pair.b }
+        ensures least { 10 ^ 9 ≤ result }
+        ensures most { result ≤ 10 ^ 16 }
+    {
+        self.threshold
+    }
+}

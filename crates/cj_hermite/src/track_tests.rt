@@ -1,0 +1,201 @@
+ghost use Rattle.std.specs.Prelude.{◌≡◌, ◌+◌, ◌*◌, ◌<◌, ◌≤◌, length, IfOk};
+ghost use Rattle.cj_oem.specs.Tracks.{ephemeris_of};
+ghost use Rattle.cj_hermite.specs.Pieces.{intervals_of};
+
+use super::*;
+use cj_epoch::{Tick, Window};
+use cj_kvn::Text;
+use cj_oem::{Frame, Node, Nodes, Segment, Segments, Track, Vec3};
+use std::alloc::{AllocError, Global};
+use std::test::Fail;
+
+/// The tick of this millisecond of 2025.
+fn at(millis: u64) -> Tick
+    requires { millis ≤ 1000000 }
+    ensures { result.micros ≡ 1735689600000000 + millis * 1000 }
+{
+    Tick {
+        micros: 1_735_689_600_000_000 + millis * 1000,
+    }
+}
+
+fn node(millis: u64) -> Node
+    requires { millis ≤ 1000000 }
+    ensures { result.at.micros ≡ 1735689600000000 + millis * 1000 }
+{
+    let rest = Vec3 { x: 0, y: 0, z: 0 };
+    Node {
+        at: at(millis),
+        p: rest,
+        v: rest,
+    }
+}
+
+/// A segment with two nodes.
+fn short(alloc: Global, first: u64, last: u64, a: u64, b: u64) -> Result<Segment, AllocError>
+    requires rises { a < b }
+    requires near { b ≤ 1000000 }
+    requires some { first ≤ last }
+    requires from { a ≤ first }
+    requires to { last ≤ b }
+    ensures first { IfOk result (λ s. s.first.micros ≡ 1735689600000000 + first * 1000) }
+    ensures last { IfOk result (λ s. s.last.micros ≡ 1735689600000000 + last * 1000) }
+    ensures count { IfOk result (λ s. length s.nodes ≡ 2) }
+{
+    Ok(Segment {
+        first: at(first),
+        last: at(last),
+        nodes: Nodes::new(vec![in alloc; node(a), node(b)]?),
+    })
+}
+
+/// A segment with three nodes.
+fn long(alloc: Global, first: u64, last: u64, a: u64, b: u64, c: u64) -> Result<Segment, AllocError>
+    requires rises { a < b }
+    requires goes_on { b < c }
+    requires near { c ≤ 1000000 }
+    requires some { first ≤ last }
+    requires from { a ≤ first }
+    requires to { last ≤ c }
+    ensures first { IfOk result (λ s. s.first.micros ≡ 1735689600000000 + first * 1000) }
+    ensures last { IfOk result (λ s. s.last.micros ≡ 1735689600000000 + last * 1000) }
+    ensures count { IfOk result (λ s. length s.nodes ≡ 3) }
+{
+    Ok(Segment {
+        first: at(first),
+        last: at(last),
+        nodes: Nodes::new(vec![in alloc; node(a), node(b), node(c)]?),
+    })
+}
+
+/// Three segments share the tick at 30 s, and the fourth begins after a gap.
+fn track(alloc: Global) -> Result<Track, AllocError>
+    ensures { IfOk result (λ track. length (intervals_of (ephemeris_of track)) ≡ 6) }
+{
+    let segments = vec![in alloc;
+        short(alloc, 0, 30_000, 0, 30_000)?,
+        short(alloc, 30_000, 30_000, 20_000, 40_000)?,
+        long(alloc, 30_000, 60_000, 30_000, 45_000, 60_000)?,
+        long(alloc, 90_000, 100_000, 80_000, 95_000, 110_000)?,
+    ]?;
+    Ok(Track {
+        file: Text::copy_of(alloc, b"a.oem")?,
+        name: Text::copy_of(alloc, b"SAT A")?,
+        id: Text::copy_of(alloc, b"2025-001A")?,
+        frame: Frame::Eme2000,
+        segments: Segments::new(alloc, segments)?,
+    })
+}
+
+#[test]
+fn a_shared_tick_belongs_to_the_last_segment(rt: HostRuntime) -> Result<(), Fail> {
+    let track = track(rt.alloc())?;
+    let pieces = [
+        (0, Some(0)),
+        (29_999, Some(0)),
+        (30_000, Some(2)),
+        (30_001, Some(2)),
+        (44_999, Some(2)),
+        (45_000, Some(3)),
+        (60_000, Some(3)),
+    ];
+    for (millis, index) in pieces {
+        assert_eq!(rt; piece_at(&track, at(millis)), index, "at {millis}");
+    }
+    Ok(())
+}
+
+#[test]
+fn there_is_no_state_in_a_gap(rt: HostRuntime) -> Result<(), Fail> {
+    let track = track(rt.alloc())?;
+    let pieces = [
+        (60_001, None),
+        (89_999, None),
+        (90_000, Some(4)),
+        (95_000, Some(5)),
+        (100_000, Some(5)),
+        (100_001, None),
+    ];
+    for (millis, index) in pieces {
+        assert_eq!(rt; piece_at(&track, at(millis)), index, "at {millis}");
+    }
+    Ok(())
+}
+
+#[test]
+fn pieces_are_numbered_through_all_segments(rt: HostRuntime) -> Result<(), Fail> {
+    let track = track(rt.alloc())?;
+    let nodes = [
+        (0, 30_000, 0),
+        (20_000, 40_000, 1),
+        (30_000, 45_000, 2),
+        (45_000, 60_000, 2),
+        (80_000, 95_000, 3),
+        (95_000, 110_000, 3),
+    ];
+    for (index, (from, to, segment)) in nodes.iter().enumerate() {
+        let piece = piece(&track, index as u32);
+        assert_eq!(rt; (piece.t0, piece.t1), (at(*from), at(*to)));
+        assert_eq!(rt; segment_of(&track, index as u32), *segment);
+    }
+    Ok(())
+}
+
+#[test]
+fn a_cut_leaves_what_belongs_to_a_later_piece(rt: HostRuntime) -> Result<(), Fail> {
+    let track = track(rt.alloc())?;
+    let all = Window {
+        first: at(0),
+        last: at(200_000),
+    };
+    let before = |millis: u64| Tick::nearest(1_735_689_600_000_000 + millis * 1000 - 1);
+    assert_eq!(rt;
+        cut(&track, 0, all),
+        Some(Window {
+            first: at(0),
+            last: before(30_000)
+        })
+    );
+    assert_eq!(rt; cut(&track, 1, all), None);
+    assert_eq!(rt;
+        cut(&track, 2, all),
+        Some(Window {
+            first: at(30_000),
+            last: before(45_000)
+        })
+    );
+    assert_eq!(rt;
+        cut(&track, 3, all),
+        Some(Window {
+            first: at(45_000),
+            last: at(60_000)
+        })
+    );
+    assert_eq!(rt;
+        cut(&track, 4, all),
+        Some(Window {
+            first: at(90_000),
+            last: before(95_000)
+        })
+    );
+    assert_eq!(rt;
+        cut(&track, 5, all),
+        Some(Window {
+            first: at(95_000),
+            last: at(100_000)
+        })
+    );
+    let late = Window {
+        first: at(50_000),
+        last: at(200_000),
+    };
+    assert_eq!(rt;
+        cut(&track, 3, late),
+        Some(Window {
+            first: at(50_000),
+            last: at(60_000)
+        })
+    );
+    assert_eq!(rt; cut(&track, 2, late), None);
+    Ok(())
+}

@@ -1,0 +1,37 @@
+ghost use Rattle.std.specs.Prelude.{◌≡◌, ◌≤◌, length};
+
+use cj_oem::Track;
+use std::marker::Model;
+
+/// The tracks of a run, at most 2,000. Objects are numbered from 0 by their place.
+#[derive(Debug, Drop)]
+pub struct Tracks {
+    items: Vec<Track>,
+}
+
+impl Model for Tracks {
+    ghost use Rattle.std.specs.Prelude.{List, length, ◌≤◌};
+    ghost use Rattle.cj_oem.specs.declared.track.Track.{Track};
+
+    ghost Value = { List Track };
+
+    ghost view = { λ t. t.items.items };
+
+    ghost invariant = { λ t. length t.items.items ≤ 2000 };
+}
+
+impl Tracks {
+    pub fn new(items: Vec<Track>) -> Self
+        requires { length items.items ≤ 2000 }
+        ensures { result ≡ items.items }
+    {
+        Tracks { items }
+    }
+
+    pub fn as_slice(&self) -> &[Track]
+        ensures value { result.now ≡ self.now }
+        ensures few { length self.now ≤ 2000 }
+    {
+        &self.items
+    }
+}
