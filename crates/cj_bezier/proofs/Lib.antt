@@ -1,0 +1,12 @@
+pub mod BoxLemmas
+pub mod GapLemmas
+pub mod HullLemmas
+pub mod OneTickLemmas
+pub mod PartLemmas
+pub mod ProductLemmas
+pub mod SevenLemmas
+pub mod SexticLemmas
+pub mod ShellLemmas
+pub mod SplitLemmas
+pub mod TestLemmas
+pub mod VerdictLemmas

@@ -1,0 +1,9 @@
+pub mod Gaps
+pub mod Hulls
+pub mod Leaves
+pub mod OneTick
+pub mod Order
+pub mod Shells
+pub mod Sizes
+pub mod Squares
+pub mod Verdicts

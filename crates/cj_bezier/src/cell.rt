@@ -1,0 +1,15 @@
+ghost use Rattle.std.specs.Prelude.{◌≤◌};
+
+use cj_epoch::Tick;
+use cj_hermite::Pair;
+
+/// A stretch of ticks of a pair in one of its roots.
+#[derive(Clone, Copy, Debug, PartialEq, Eq)]
+pub struct Cell {
+    pub pair: Pair,
+    /// The place of the root in the list of roots.
+    pub root: u32,
+    pub first: Tick,
+    pub last: Tick,
+    pub ghost some: { first.micros ≤ last.micros },
+}
