@@ -1,0 +1,16 @@
+pub mod ListLemmas
+pub mod RunLemmas
+pub mod HalvingLemmas
+pub mod SlotLemmas
+pub mod RootLemmas
+pub mod SumLemmas
+pub mod OrderLemmas
+pub mod StateLemmas
+pub mod JudgeLemmas
+pub mod LeafLemmas
+pub mod RefineLemmas
+pub mod TrackLemmas
+pub mod SpanLemmas
+pub mod WalkLemmas
+pub mod SlotRootLemmas
+pub mod ListingLemmas

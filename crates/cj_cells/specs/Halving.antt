@@ -1,0 +1,28 @@
+-- Halving: a stretch of ticks is closed as one kind, or is halved until each part can be.
+use Rattle.std.specs.Prelude.{ℕ, zero, suc, ◌+◌, ◌-◌, ◌/◌, List, [], ◌∷◌, ◌++◌, Option, Some, None, unwrap_or}
+use Rattle.cj_bezier.specs.declared.kind.Kind.{Kind}
+use Rattle.cj_bezier.specs.declared.kind.Kind.TheVariants.{Undecided}
+use Rattle.cj_bezier.specs.Leaves.{Stretch}
+
+-- the last tick of the first half
+abbrev pub middle : ℕ → ℕ → ℕ
+middle first last = (first + last) / 2
+
+abbrev pub closed : ℕ → ℕ → ℕ → ℕ → Kind → Stretch
+closed a b first last kind = record { a = a; b = b; first = first; last = last; kind = kind }
+
+-- the stretch alone where it has a kind, and else these
+abbrev pub closed_or : ℕ → ℕ → ℕ → ℕ → Option Kind → List Stretch → List Stretch
+closed_or a b first last (Some kind) halves = closed a b first last kind ∷ []
+closed_or a b first last None halves = halves
+
+-- the leaves of the ticks from first to last of the objects a and b, where a stretch of at most n + 1 ticks is judged
+unfoldable pub leaves_within : (ℕ → ℕ → Option Kind) → ℕ → ℕ → ℕ → ℕ → ℕ → List Stretch
+leaves_within judge a b zero first last = closed a b first last (unwrap_or (judge first last) Undecided) ∷ []
+leaves_within judge a b (suc n) first last =
+    closed_or a b first last (judge first last)
+    (leaves_within judge a b n first (middle first last) ++ leaves_within judge a b n (middle first last + 1) last)
+
+-- the leaves of the ticks from first to last of the objects a and b; one tick is never halved
+unfoldable pub leaves_between : (ℕ → ℕ → Option Kind) → ℕ → ℕ → ℕ → ℕ → List Stretch
+leaves_between judge a b first last = leaves_within judge a b (last - first) first last

@@ -1,0 +1,93 @@
+-- Roots: for each pair of objects, the runs of ticks of a slot at which each of both is in one interval.
+use Rattle.std.specs.Prelude.{ℕ, ◌+◌, ◌-◌, ◌≡◌, ◌<◌, ◌≤◌, Bool, true, is_some, if◌then◌else◌, nat_le, List, [], ◌∷◌, map, filter, length, Option, Some, None}
+use Rattle.std.specs.List.{flat_map, range_with_len}
+use Rattle.cj_oem.specs.Ephemeris.{Ephemeris}
+use Rattle.cj_hermite.specs.declared.pair.Pair.{Pair}
+use Rattle.cj_hermite.specs.Pieces.{interval_index_at}
+use Rattle.cj_hermite.specs.Cases.{Case, number_at}
+use Rattle.cj_cells.specs.Slots.{slot_first, slot_last, slot_count}
+use Rattle.cj_cells.specs.Runs.{Run, runs_between}
+
+-- the ticks from first to last of the objects a and b, numbered from 0
+pub record Root : Type 0 where
+  pub a : ℕ
+  pub b : ℕ
+  pub first : ℕ
+  pub last : ℕ
+
+-- r lies before s: in an earlier pair, or in the same pair at earlier ticks
+pub record IsRootBefore (r s : Root) : Type 0 where
+  pub first_object : r.a ≤ s.a
+  pub second_object : r.a ≡ s.a → r.b ≤ s.b
+  pub ticks : r.a ≡ s.a → r.b ≡ s.b → r.last < s.first
+
+-- r begins no later than s, in the order of pair and tick
+pub record IsRootUpTo (r s : Root) : Type 0 where
+  pub first_object : r.a ≤ s.a
+  pub second_object : r.a ≡ s.a → r.b ≤ s.b
+  pub ticks : r.a ≡ s.a → r.b ≡ s.b → r.first ≤ s.first
+
+-- both numbers, where there are two
+abbrev pub both : Option ℕ → Option ℕ → Option (ℕ × ℕ)
+both None j = None
+both (Some i) None = None
+both (Some i) (Some j) = Some (i, j)
+
+-- the numbers of the intervals in which two ephemerides are at a tick, where both have a state
+abbrev pub both_numbers : Ephemeris → Ephemeris → ℕ → Option (ℕ × ℕ)
+both_numbers e f m = both (interval_index_at e m) (interval_index_at f m)
+
+-- the same of the objects a and b
+abbrev pub numbers_at : Case → ℕ → ℕ → ℕ → Option (ℕ × ℕ)
+numbers_at case a b m = both (number_at case a m) (number_at case b m)
+
+-- from first to last each of the objects a and b is in one interval
+pub record KeepIntervals (case : Case) (a b first last : ℕ) : Type 0 where
+  pub same : (m : ℕ) → first ≤ m → m ≤ last → numbers_at case a b m ≡ numbers_at case a b first
+  pub states : is_some (numbers_at case a b first) ≡ true
+
+abbrev pub root_of_run : ℕ → ℕ → Run → Root
+root_of_run a b run = record { a = a; b = b; first = run.first; last = run.last }
+
+-- the root from first to last, if there is a tick
+abbrev pub root_if : ℕ → ℕ → ℕ → ℕ → List Root
+root_if a b first last = if nat_le first last then record { a = a; b = b; first = first; last = last } ∷ [] else []
+
+-- the roots of the objects a and b from first to last
+unfoldable pub roots_between : Case → ℕ → ℕ → ℕ → ℕ → List Root
+roots_between case a b first last = map (root_of_run a b) (runs_between (numbers_at case a b) first last)
+
+-- the roots of the objects a and b in a slot
+abbrev pub roots_in : Case → ℕ → ℕ → ℕ → List Root
+roots_in case slot a b = roots_between case a b (slot_first case.first slot) (slot_last case.first case.last slot)
+
+-- the pairs of n objects, in order
+abbrev pub pairs_of : ℕ → List (ℕ × ℕ)
+pairs_of n = flat_map (λ a. map (λ b. (a, b)) (range_with_len (a + 1) (n - (a + 1)))) (range_with_len 0 n)
+
+-- the objects of a pair
+abbrev pub objects_of : Pair → ℕ × ℕ
+objects_of pair = (pair.a, pair.b)
+
+-- the roots of these pairs in a slot
+abbrev pub roots_in_slot : Case → ℕ → List (ℕ × ℕ) → List Root
+roots_in_slot case slot pairs = flat_map (λ pair. roots_in case slot pair.0 pair.1) pairs
+
+-- the slots of a window, in order
+abbrev pub slots_of : Case → List ℕ
+slots_of case = range_with_len 0 (slot_count case.first case.last)
+
+-- every pair is looked at in every slot
+abbrev pub everywhere : ℕ → ℕ → ℕ → Bool
+everywhere a b slot = true
+
+-- all roots, of those pairs and slots that are looked at, in order of pair and time
+unfoldable pub roots_of : (ℕ → ℕ → ℕ → Bool) → Case → List Root
+roots_of looked case =
+    flat_map (λ pair. flat_map (λ slot. if looked pair.0 pair.1 slot then roots_in case slot pair.0 pair.1 else []) (slots_of case))
+    (pairs_of (length case.ephemerides))
+
+-- the same roots slot by slot, in each slot in order of pair and time
+unfoldable pub roots_by_slot : (ℕ → ℕ → ℕ → Bool) → Case → List Root
+roots_by_slot looked case =
+    flat_map (λ slot. roots_in_slot case slot (filter (λ pair. looked pair.0 pair.1 slot) (pairs_of (length case.ephemerides)))) (slots_of case)

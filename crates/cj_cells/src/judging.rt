@@ -1,0 +1,68 @@
+//! The look at a cell of two pieces.
+ghost use Rattle.std.specs.Prelude.{◌≡◌, ◌^◌, ◌<◌, ◌≤◌};
+ghost use Rattle.cj_hermite.specs.Interpolant.{curve_of, IsOver};
+ghost use Rattle.cj_bezier.specs.Verdicts.{cell_verdict};
+ghost use Rattle.cj_cells.specs.Lists.{kind_between};
+ghost use Rattle.cj_cells.specs.Looks.{kind_found, IfClosed, IfHalves, AreHalves};
+
+use crate::outcome::Look;
+use cj_bezier::{Cell, Kind, Leaf, Verdict, gap, hull, verdict};
+use cj_epoch::Tick;
+use cj_hermite::Piece;
+
+#[tactic(auto, unfolding(cj_bezier::specs::Verdicts::cell_verdict))]
+/// The verdict on two pieces over the ticks from `first` to `last`, against a threshold in nm.
+fn judge(a: &Piece, b: &Piece, thr: u64, first: Tick, last: Tick) -> Verdict
+    requires order { first.micros ≤ last.micros }
+    requires first_over { IsOver (curve_of a.now) first.micros last.micros }
+    requires second_over { IsOver (curve_of b.now) first.micros last.micros }
+    requires least { 10 ^ 9 ≤ thr }
+    requires most { thr ≤ 10 ^ 16 }
+    ensures { result ≡ cell_verdict (curve_of a.now) (curve_of b.now) thr first.micros last.micros }
+{
+    verdict(&gap(&hull(a, first, last), &hull(b, first, last)), thr)
+}
+
+/// The halves of a cell of two ticks or more.
+fn halves(cell: Cell) -> (Cell, Cell)
+    requires { cell.first.micros < cell.last.micros }
+    ensures { AreHalves cell result.0 result.1 }
+{
+    let middle = (cell.first.micros + cell.last.micros) / 2;
+    let left = Cell {
+        pair: cell.pair,
+        root: cell.root,
+        first: cell.first,
+        last: Tick { micros: middle },
+    };
+    let right = Cell {
+        pair: cell.pair,
+        root: cell.root,
+        first: Tick { micros: middle + 1 },
+        last: cell.last,
+    };
+    (left, right)
+}
+
+#[tactic(auto, unfolding(crate::specs::Lists::kind_between))]
+/// The leaf of a cell that is of one kind, or its halves.
+pub(crate) fn look_at(a: &Piece, b: &Piece, thr: u64, cell: Cell) -> Look
+    requires first_over { IsOver (curve_of a.now) cell.first.micros cell.last.micros }
+    requires second_over { IsOver (curve_of b.now) cell.first.micros cell.last.micros }
+    requires least { 10 ^ 9 ≤ thr }
+    requires most { thr ≤ 10 ^ 16 }
+    ensures kind { kind_found result ≡ kind_between (curve_of a.now) (curve_of b.now) thr cell.first.micros cell.last.micros }
+    ensures closed { IfClosed result (λ leaf. leaf.cell ≡ cell) }
+    ensures halved { IfHalves result (AreHalves cell) }
+{
+    let kind = match judge(a, b, thr, cell.first, cell.last) {
+        Verdict::Far => Kind::Far,
+        Verdict::Near => Kind::Near,
+        Verdict::Undecided => Kind::Undecided,
+        Verdict::Split => {
+            let (left, right) = halves(cell);
+            return Look::Halves(left, right);
+        }
+    };
+    Look::Closed(Leaf { cell, kind })
+}

@@ -1,0 +1,24 @@
+//! Cells: the roots of a run, their halving, and the leaves that they come to.
+#![tactic(auto)]
+
+mod judging;
+mod listing;
+mod looking;
+mod ordering;
+mod outcome;
+mod refine_error;
+mod refining;
+mod rooting;
+mod stating;
+mod walking;
+
+pub use listing::{leaves_of, refine_all};
+pub use looking::look;
+pub use ordering::order_roots;
+pub use outcome::Look;
+pub use refine_error::RefineError;
+pub use refining::refine;
+pub use rooting::roots_of_slot;
+
+#[cfg(test)]
+mod tests;
