@@ -1,0 +1,3 @@
+pub mod EncounterLemmas
+pub mod OrderLemmas
+pub mod SpanLemmas

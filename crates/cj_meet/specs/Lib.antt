@@ -1,0 +1,2 @@
+pub mod Encounters
+pub mod Spans
