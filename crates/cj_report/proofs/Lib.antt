@@ -1,0 +1,4 @@
+mod EncounterTextLemmas
+mod LineLemmas
+mod NumberLemmas
+mod RunLemmas

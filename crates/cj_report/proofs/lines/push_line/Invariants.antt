@@ -1,0 +1,7 @@
+use Rattle.std.proofs.Common.{◌≡◌, ◌++◌, take}
+use Rattle.std.specs.Prelude.{flat_map}
+use Rattle.cj_report.proofs.LineLemmas.{spaced}
+use Rattle.cj_report.proofs.lines.push_line.Given as goal
+
+abbrev pub invariant-loop-next : goal.invariant-loop-next
+invariant-loop-next l = l.text.items ≡ (l.fn.text.items ++ l.word) ++ flat_map spaced (take l.next-index l.more)

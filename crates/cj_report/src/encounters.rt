@@ -1,0 +1,122 @@
+ghost use Rattle.std.specs.Prelude.{◌≡◌, ◌+◌, ◌++◌, flat_map, All, OnOk};
+ghost use Rattle.cj_bezier.specs.Leaves.{stretches_of};
+ghost use Rattle.cj_meet.specs.Encounters.{Describes, groups_in, stretches_in};
+ghost use Rattle.cj_meet.specs.Spans.{spans_of};
+ghost use Rattle.cj_report.specs.Report as spec;
+ghost use Rattle.cj_report.specs.Report.{encounter_line, encounter_lines, numbered, span_line, untold_approach};
+ghost use Rattle.cj_report.specs.Runs.{run_of};
+
+use crate::lines::push_line;
+use crate::span::Span;
+use cj_bezier::{Encounter, Kind, Leaf, Mark};
+use cj_epoch::epoch_text;
+use itoa::Buffer;
+use std::alloc::AllocError;
+
+/// Adds the lines of all encounters of the leaves.
+pub(crate) fn push_encounters(
+    text: &mut Vec<u8>,
+    leaves: &[Leaf],
+    encounters: &[Encounter],
+) -> Result<(), AllocError>
+    requires { All (Describes (stretches_of leaves.now)) encounters.now }
+    ensures { OnOk result (text.new.items ≡ text.old.items
+        ++ numbered encounter_lines 1 (groups_in (stretches_of leaves.now) encounters.now)) }
+{
+    for (place, encounter) in encounters.iter().enumerate() {
+        push_encounter(text, place + 1, leaves, encounter)?;
+    }
+    Ok(())
+}
+
+fn push_encounter(
+    text: &mut Vec<u8>,
+    number: usize,
+    leaves: &[Leaf],
+    encounter: &Encounter,
+) -> Result<(), AllocError>
+    requires { Describes (stretches_of leaves.now) encounter.now }
+    ensures { OnOk result (text.new.items ≡ text.old.items
+        ++ encounter_lines number (stretches_in (stretches_of leaves.now) encounter.now)) }
+{
+    push_heading(text, number, encounter)?;
+    push_spans(
+        text,
+        &leaves[encounter.leaf as usize..encounter.past as usize],
+    )?;
+    Ok(())
+}
+
+fn push_heading(text: &mut Vec<u8>, number: usize, encounter: &Encounter) -> Result<(), AllocError>
+    ensures { OnOk result (text.new.items ≡ text.old.items
+        ++ encounter_line number encounter.now.pair.a encounter.now.pair.b encounter.now.mark untold_approach) }
+{
+    push_line(
+        text,
+        b"ENCOUNTER",
+        &[
+            Buffer::new().format(number).as_bytes(),
+            Buffer::new()
+                .format(u64::from(encounter.pair.a) + 1)
+                .as_bytes(),
+            Buffer::new()
+                .format(u64::from(encounter.pair.b) + 1)
+                .as_bytes(),
+            mark_word(encounter.mark),
+            b"-",
+            b"-",
+            b"-",
+        ],
+    )
+}
+
+fn push_spans(text: &mut Vec<u8>, leaves: &[Leaf]) -> Result<(), AllocError>
+    ensures { OnOk result (text.new.items ≡ text.old.items ++ flat_map span_line (spans_of (stretches_of leaves.now))) }
+{
+    let [first, others @ ..] = leaves else {
+        return Ok(());
+    };
+    let mut span = Span::of(first);
+    for leaf in others {
+        if span.goes_on(leaf) {
+            span.last = leaf.cell.last;
+        } else {
+            push_span(text, &span)?;
+            span = Span::of(leaf);
+        }
+    }
+    push_span(text, &span)
+}
+
+fn push_span(text: &mut Vec<u8>, span: &Span) -> Result<(), AllocError>
+    ensures { OnOk result (text.new.items ≡ text.old.items ++ span_line (run_of span.now)) }
+{
+    push_line(
+        text,
+        b"SPAN",
+        &[
+            kind_word(span.kind),
+            &epoch_text(span.first),
+            &epoch_text(span.last),
+        ],
+    )
+}
+
+fn mark_word(mark: Mark) -> &'static [u8]
+    ensures { result.now ≡ spec.mark_word mark }
+{
+    match mark {
+        Mark::Near => b"NEAR",
+        Mark::Undecided => b"UNDECIDED",
+    }
+}
+
+fn kind_word(kind: Kind) -> &'static [u8]
+    ensures { result.now ≡ spec.kind_word kind }
+{
+    match kind {
+        Kind::Far => b"FAR",
+        Kind::Near => b"NEAR",
+        Kind::Undecided => b"UNDECIDED",
+    }
+}

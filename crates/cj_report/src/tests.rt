@@ -1,0 +1,111 @@
+ghost use Rattle.std.specs.Prelude.{◌≡◌, ◌+◌, ◌<◌, ◌≤◌};
+
+use crate::report_text;
+use cj_bezier::{Cell, Kind, Leaf};
+use cj_epoch::{Tick, Window};
+use cj_hermite::Pair;
+use cj_kvn::Text;
+use cj_meet::encounters;
+use cj_oem::{Frame, Node, Nodes, Segment, Segments, Track, Vec3};
+use std::alloc::{AllocError, Global};
+use std::test::Fail;
+
+/// 2025-01-01T00:00:00 in microseconds.
+const START: u64 = 1_735_689_600_000_000;
+
+const REPORT: &[u8] = b"CONJ-REPORT 1
+WINDOW 2025-01-01T00:00:29.500000 2025-01-01T00:00:30.499999
+THRESHOLD 5000000000000
+OBJECT 1
+FILE a.oem
+ID 2025-001A
+NAME SAT A
+OBJECT 2
+FILE b.oem
+ID 2025-001A
+NAME SAT A
+ENCOUNTER 1 1 2 NEAR - - -
+SPAN NEAR 2025-01-01T00:00:29.538120 2025-01-01T00:00:30.461880
+END
+";
+
+fn tick(after: u64) -> Tick
+    requires { after < 100_000_000 }
+    ensures { result.micros ≡ 1_735_689_600_000_000 + after }
+{
+    Tick {
+        micros: START + after,
+    }
+}
+
+fn node(at: Tick) -> Node
+    ensures { result.at ≡ at }
+{
+    let zero = Vec3 { x: 0, y: 0, z: 0 };
+    Node {
+        at,
+        p: zero,
+        v: zero,
+    }
+}
+
+fn track(alloc: Global, file: &[u8]) -> Result<Track, AllocError> {
+    let nodes = vec![in alloc; node(tick(0)), node(tick(60_000_000))]?;
+    let segment = Segment {
+        first: tick(0),
+        last: tick(60_000_000),
+        nodes: Nodes::new(nodes),
+    };
+    Ok(Track {
+        file: Text::copy_of(alloc, file)?,
+        name: Text::copy_of(alloc, b"SAT A")?,
+        id: Text::copy_of(alloc, b"2025-001A")?,
+        frame: Frame::Eme2000,
+        segments: Segments::new(alloc, vec![in alloc; segment]?)?,
+    })
+}
+
+fn leaf(first: u64, last: u64, kind: Kind) -> Leaf
+    requires order { first ≤ last }
+    requires early { last < 100_000_000 }
+    ensures objects { (result.cell.pair.a ≡ 0) × (result.cell.pair.b ≡ 1) }
+    ensures first { result.cell.first.micros ≡ 1_735_689_600_000_000 + first }
+    ensures last { result.cell.last.micros ≡ 1_735_689_600_000_000 + last }
+    ensures kind { result.kind ≡ kind }
+{
+    Leaf {
+        cell: Cell {
+            pair: Pair { a: 0, b: 1 },
+            root: 0,
+            first: tick(first),
+            last: tick(last),
+        },
+        kind,
+    }
+}
+
+#[test]
+fn two_tracks_cross_at_one_kilometre(rt: HostRuntime) -> Result<(), Fail> {
+    let tracks = [track(rt.alloc(), b"a.oem")?, track(rt.alloc(), b"b.oem")?];
+    let leaves = [
+        leaf(29_500_000, 29_538_119, Kind::Far),
+        leaf(29_538_120, 29_999_999, Kind::Near),
+        leaf(30_000_000, 30_461_880, Kind::Near),
+        leaf(30_461_881, 30_499_999, Kind::Far),
+    ];
+    let window = Window {
+        first: tick(29_500_000),
+        last: tick(30_499_999),
+    };
+    let found = encounters(rt.alloc(), &leaves)?;
+    let text = report_text(
+        rt.alloc(),
+        window,
+        5_000_000_000_000,
+        &tracks,
+        &leaves,
+        &found,
+    )?;
+    assert_eq!(rt; text.as_slice(), REPORT);
+    Ok(())
+}
