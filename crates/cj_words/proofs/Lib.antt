@@ -1,0 +1,3 @@
+mod DigitLemmas
+mod FrontLemmas
+mod PlaceLemmas

@@ -1,0 +1,33 @@
+use Rattle.std.proofs.Common.{◌≡◌, ◌+◌, ◌≤◌, ℕ, Bool, true, false, cond, sym, subst, arith, ap, ◌∙◌, length, Option, List}
+use Rattle.std.specs.Prelude.{IsTrue}
+use Rattle.std.specs.Str.{bytes_eq}
+use Rattle.cj_words.specs.Options.{Given, given_of, in_front, are_known, listed, count_of, is_named}
+use Rattle.cj_words.proofs.FrontLemmas.{others_known, count_step}
+use Rattle.cj_words.proofs.given.count_of.Goals.{then-eq, else-eq}
+use Rattle.cj_words.proofs.given.count_of.Goals as goal
+
+pub loop-front-preserved : goal.loop-front-preserved
+loop-front-preserved c =
+    let front = c.in-Some.front in
+    let g : Given = record { name = front.name.now; value = front.value.now } in
+    let o = given_of front.rest.now in
+    let split : given_of c.loop-front.rest.now ≡ in_front true g o = c.in-Some.ensures.some in
+    let known : IsTrue (are_known (in_front true g o)) = subst (λ (x : Option (List Given)). IsTrue (are_known x)) split c.loop-front.invariant.known in
+    let step = count_step c.args.option g o known in
+    let whole : count_of c.args.option (listed (given_of c.loop-front.rest.now)) ≡ cond (is_named c.args.option g) 1 0 + count_of c.args.option (listed o) =
+    ap (λ (x : Option (List Given)). count_of c.args.option (listed x)) split ∙ step in
+    let same : is_named c.args.option g ≡ c.eq.result = sym (c.eq.ensures ∙ ap (λ (n : List ℕ). bytes_eq front.name.now n) c.option_name.ensures) in
+    let counted : c.if-eq.count ≡ c.loop-front.count + cond (is_named c.args.option g) 1 0 =
+    elim c.if-eq.branch as (λ b. c.if-eq.count ≡ c.loop-front.count + cond (is_named c.args.option g) 1 0) [
+      | then-eq w ↦ w.count-is ∙ ap (λ (b : Bool). c.loop-front.count + cond b 1 0) (sym (same ∙ w.if-eq.true))
+      | else-eq w ↦ w.count-is ∙ omega arith ∙ ap (λ (b : Bool). c.loop-front.count + cond b 1 0) (sym (same ∙ w.if-eq.false))
+    ] in
+    record {
+      known = others_known g o known;
+      counted = omega (arith, whole, counted, c.loop-front.invariant.counted);
+      small = omega (arith, c.in-Some.ensures.shorter, counted, at_most (is_named c.args.option g), c.loop-front.invariant.small);
+    }
+  where
+    at_most : (b : Bool) → cond b 1 0 ≤ 1
+    at_most true = omega arith
+    at_most false = omega arith

@@ -1,0 +1,116 @@
+-- The options of the command line, and how they stand on it.
+use Rattle.std.specs.Prelude.{ℕ, ◌+◌, Bool, true, false, not, ◌&&◌, ◌||◌, ◌==◌, nat_le, nat_lt, length, if◌then◌else◌, List, [], ◌∷◌, Option, Some, None, codes, count_by, find}
+use Rattle.std.specs.List.{list_all, before_first, after_first}
+use Rattle.std.specs.Str.{bytes_eq}
+use Rattle.cj_words.specs.declared.option.Opt.{Opt}
+use Rattle.cj_words.specs.declared.option.Opt.TheVariants.{Threshold, From, To, Cells}
+
+abbrev pub name_of : Opt → List ℕ
+name_of Threshold = codes "--threshold"
+name_of From = codes "--from"
+name_of To = codes "--to"
+name_of Cells = codes "--cells"
+
+-- an option on the command line: its name and its value
+pub record Given : Type 0 where
+  pub name : List ℕ
+  pub value : List ℕ
+
+abbrev pub is_named : Opt → Given → Bool
+is_named option given = bytes_eq given.name (name_of option)
+
+-- the name of an option of this program
+abbrev pub is_name : List ℕ → Bool
+is_name name = bytes_eq name (name_of Threshold) || (bytes_eq name (name_of From) || (bytes_eq name (name_of To) || bytes_eq name (name_of Cells)))
+
+abbrev pub is_equals : ℕ → Bool
+is_equals b = b == 61
+
+-- a word that may stand on its own as a directory or as a value: not empty, and no option
+abbrev pub is_value : List ℕ → Bool
+is_value [] = false
+is_value (b ∷ word) = not (b == 45)
+
+-- there is a = in the word
+abbrev pub has_equals : List ℕ → Bool
+has_equals word = nat_lt (length (before_first is_equals word)) (length word)
+
+-- the option in one word, as --threshold=5
+abbrev pub in_one_word : List ℕ → Given
+in_one_word word = record { name = before_first is_equals word; value = after_first is_equals word }
+
+-- the option in two words, as --threshold 5
+abbrev pub in_two_words : List ℕ → List ℕ → Given
+in_two_words word value = record { name = word; value = value }
+
+-- what stands in front of a list, if both are there
+abbrev pub in_front : Bool → Given → Option (List Given) → Option (List Given)
+in_front true given (Some others) = Some (given ∷ others)
+in_front true given None = None
+in_front false given others = None
+
+abbrev pub is_empty : List ℕ → Bool
+is_empty [] = true
+is_empty (b ∷ bytes) = false
+
+-- the words as options with their values, if they are nothing else: a word with = stands alone, another takes the next word as its value
+abbrev pub given_of : List (List ℕ) → Option (List Given)
+given_of [] = Some []
+given_of (word ∷ []) =
+    if has_equals word then in_front (not (is_empty (after_first is_equals word))) (in_one_word word) (Some []) else None
+given_of (word ∷ next ∷ words) =
+    if has_equals word then in_front (not (is_empty (after_first is_equals word))) (in_one_word word) (given_of (next ∷ words))
+    else in_front (is_value next) (in_two_words word next) (given_of words)
+
+-- no words are no options, and any that do not begin with one are refused
+abbrev pub if_empty : List (List ℕ) → Option (List Given)
+if_empty [] = Some []
+if_empty (word ∷ words) = None
+
+-- no word follows that may stand as a value
+abbrev pub none_next : List (List ℕ) → Bool
+none_next [] = true
+none_next (word ∷ words) = not (is_value word)
+
+-- it is an option of this program
+abbrev pub is_known : Given → Bool
+is_known given = is_name given.name
+
+-- how often an option stands
+abbrev pub count_of : Opt → List Given → ℕ
+count_of option givens = count_by (is_named option) givens
+
+-- an option stands at most once
+abbrev pub is_single : Opt → List Given → Bool
+is_single option givens = nat_le (count_of option givens) 1
+
+-- so does each
+abbrev pub are_single : List Given → Bool
+are_single givens = is_single Threshold givens && (is_single From givens && (is_single To givens && is_single Cells givens))
+
+-- each is known and stands at most once
+abbrev pub are_options : List Given → Bool
+are_options givens = list_all is_known givens && are_single givens
+
+abbrev pub value_in : Option Given → Option (List ℕ)
+value_in None = None
+value_in (Some given) = Some given.value
+
+-- the value of an option, where it stands
+abbrev pub value_of : Opt → List Given → Option (List ℕ)
+value_of option givens = value_in (find (is_named option) givens)
+
+-- the words are options, and each is known
+abbrev pub are_known : Option (List Given) → Bool
+are_known None = false
+are_known (Some givens) = list_all is_known givens
+
+-- the options, none where the words are not of that form
+abbrev pub listed : Option (List Given) → List Given
+listed None = []
+listed (Some givens) = givens
+
+-- the words are options, each known and given at most once
+abbrev pub are_accepted : Option (List Given) → Bool
+are_accepted None = false
+are_accepted (Some givens) = are_options givens

@@ -1,0 +1,36 @@
+ghost use Rattle.std.specs.Prelude.{◌≡◌};
+ghost use Rattle.cj_words.specs.Options.{name_of};
+
+/// An option of the command line.
+#[derive(Clone, Copy, Debug, PartialEq, Eq)]
+pub enum Opt {
+    /// The greatest miss distance that is reported, in metres.
+    Threshold,
+    /// The first tick of the window.
+    From,
+    /// The last tick of the window.
+    To,
+    /// The greatest number of leaves.
+    Cells,
+}
+
+/// What is wrong with a command line.
+#[derive(Clone, Copy, Debug, PartialEq, Eq)]
+pub enum UsageFault {
+    /// It is not of the grammar.
+    Words,
+    /// The value of the option is out of its range.
+    Value { option: Opt },
+}
+
+/// The option as it stands on the command line.
+pub fn option_name(option: Opt) -> &'static [u8]
+    ensures { result.now ≡ name_of option }
+{
+    match option {
+        Opt::Threshold => b"--threshold",
+        Opt::From => b"--from",
+        Opt::To => b"--to",
+        Opt::Cells => b"--cells",
+    }
+}

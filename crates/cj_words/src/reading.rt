@@ -1,0 +1,133 @@
+//! From the words of a command line to its settings.
+ghost use Rattle.std.specs.Prelude.{◌≡◌, ◌≤◌, IsTrue, Option, Some, None, IfSome, option_map};
+ghost use Rattle.std.specs.Option.{option_copied};
+ghost use Rattle.cj_words.specs.Options as options;
+ghost use Rattle.cj_words.specs.Options.{given_of, listed};
+ghost use Rattle.cj_words.specs.Settings as spec;
+ghost use Rattle.cj_words.specs.Settings.{micros_of, said};
+
+use crate::digits::read_number;
+use crate::front::is_value;
+use crate::given::{are_options, value_of};
+use crate::option::{Opt, UsageFault};
+use crate::settings::{Settings, Word};
+use cj_epoch::{Tick, read_epoch};
+
+/// Reads the words of a command line, without the program's name.
+///
+/// # Errors
+///
+/// `Words` where they are not of the grammar, else `Value` with the first option whose value is out of its range, in the order
+/// of `Opt`.
+#[tactic(auto, unfolding(crate::specs::Settings::settings_of))]
+pub fn read_settings(words: &[Word]) -> Result<Settings, UsageFault>
+    ensures { said result ≡ spec.settings_of words.now }
+{
+    match words {
+        [command, directory, options @ ..] => {
+            if is_screen(command.as_slice(), directory.as_slice()) {
+                settings_with(options)
+            } else {
+                Err(UsageFault::Words)
+            }
+        }
+        _ => Err(UsageFault::Words),
+    }
+}
+
+fn is_screen(command: &[u8], directory: &[u8]) -> bool
+    ensures { result ≡ spec.is_screen command.now directory.now }
+{
+    command == b"screen".as_slice() && is_value(directory)
+}
+
+fn settings_with(words: &[Word]) -> Result<Settings, UsageFault>
+    ensures { said result ≡ spec.settings_with (given_of words.now) }
+{
+    if are_options(words) {
+        values_of(words)
+    } else {
+        Err(UsageFault::Words)
+    }
+}
+
+#[tactic(auto, unfolding(crate::specs::Settings::values_of))]
+fn values_of(words: &[Word]) -> Result<Settings, UsageFault>
+    requires { IsTrue (options.are_known (given_of words.now)) }
+    ensures { said result ≡ spec.values_of (listed (given_of words.now)) }
+{
+    let Some(threshold) = number_or(value_of(words, Opt::Threshold), 1_000_000, 5000) else {
+        return Err(out_of_range(Opt::Threshold));
+    };
+    let Some(from) = epoch_or(value_of(words, Opt::From)) else {
+        return Err(out_of_range(Opt::From));
+    };
+    let Some(to) = epoch_or(value_of(words, Opt::To)) else {
+        return Err(out_of_range(Opt::To));
+    };
+    if !are_in_order(from, to) {
+        return Err(out_of_range(Opt::To));
+    }
+    let Some(cells) = number_or(value_of(words, Opt::Cells), 4_000_000, 4_000_000) else {
+        return Err(out_of_range(Opt::Cells));
+    };
+    Ok(Settings {
+        threshold,
+        from,
+        to,
+        cells,
+    })
+}
+
+fn out_of_range(option: Opt) -> UsageFault
+    ensures { result ≡ UsageFault.Value option }
+{
+    UsageFault::Value { option }
+}
+
+/// The number that a value says, from 1 up to the greatest, or the one that stands for a value that is left out.
+fn number_or(value: Option<&[u8]>, greatest: u64, left_out: u64) -> Option<u64>
+    requires some { 1 ≤ left_out }
+    requires most { left_out ≤ greatest }
+    ensures value { result ≡ spec.number_or 1 greatest left_out (option_copied value.entry) }
+    ensures some { IfSome result (λ n. 1 ≤ n) }
+    ensures most { IfSome result (λ n. n ≤ greatest) }
+{
+    match value {
+        None => Some(left_out),
+        Some(text) => number_in(text, greatest),
+    }
+}
+
+fn number_in(text: &[u8], greatest: u64) -> Option<u64>
+    ensures value { result ≡ spec.number_in 1 greatest text.now }
+    ensures some { IfSome result (λ n. 1 ≤ n) }
+    ensures most { IfSome result (λ n. n ≤ greatest) }
+{
+    match read_number(text) {
+        Some(number) if 1 <= number && number <= u128::from(greatest) => Some(number as u64),
+        _ => None,
+    }
+}
+
+/// The tick that a value says, none where it is left out.
+fn epoch_or(value: Option<&[u8]>) -> Option<Option<Tick>>
+    ensures { option_map (λ tick. option_map micros_of tick) result ≡ spec.epoch_or (option_copied value.entry) }
+{
+    match value {
+        None => Some(None),
+        Some(text) => match read_epoch(text) {
+            Ok(tick) => Some(Some(tick)),
+            Err(_) => None,
+        },
+    }
+}
+
+fn are_in_order(from: Option<Tick>, to: Option<Tick>) -> bool
+    ensures { result ≡ spec.are_in_order (option_map micros_of from) (option_map micros_of to) }
+{
+    match (from, to) {
+        (Some(from), Some(to)) => from.micros <= to.micros,
+        _ => true,
+    }
+}

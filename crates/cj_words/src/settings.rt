@@ -1,0 +1,25 @@
+ghost use Rattle.std.specs.Prelude.{◌≤◌, ◌≡◌, Option, Some};
+ghost use Rattle.cj_epoch.specs.declared.tick.Tick.{Tick};
+
+use cj_epoch::Tick;
+use cj_kvn::Text;
+
+/// A word of the command line.
+pub type Word = Text;
+
+/// What a command line asks for.
+#[derive(Clone, Copy, Debug, PartialEq, Eq)]
+pub struct Settings {
+    /// The greatest miss distance that is reported, in metres, from 1 to 1,000,000.
+    pub threshold: u64,
+    /// The first tick of the window, where it is given.
+    pub from: Option<Tick>,
+    /// The last tick of the window, where it is given; not before the first.
+    pub to: Option<Tick>,
+    /// The greatest number of leaves, from 1 to 4,000,000.
+    pub cells: u64,
+    pub ghost some: { 1 ≤ threshold },
+    pub ghost most: { threshold ≤ 1_000_000 },
+    pub ghost some_cells: { 1 ≤ cells },
+    pub ghost most_cells: { cells ≤ 4_000_000 },
+}
