@@ -1,0 +1,7 @@
+mod EndLemmas
+mod ReadingLemmas
+mod ReportLemmas
+mod SortLemmas
+mod SplitLemmas
+mod StepLemmas
+mod TakenLemmas

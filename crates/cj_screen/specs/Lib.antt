@@ -1,0 +1,10 @@
+pub mod Statuses
+pub mod Faults
+pub mod Orders
+pub mod Taken
+pub mod Readings
+pub mod Windows
+pub mod Outcome
+pub mod Stopped
+pub mod Steps
+pub mod Headline
