@@ -1,0 +1,74 @@
+ghost use Rattle.std.specs.Prelude.{◌≡◌};
+ghost use Rattle.conj.specs.CommandLine.{notice_of};
+
+use cj_screen::Status;
+use cj_words::Word;
+use std::io::Write;
+
+/// What the program shows in place of a run.
+#[derive(Clone, Copy, Debug, PartialEq, Eq)]
+pub enum Notice {
+    Help,
+    Version,
+}
+
+/// The notice that the words ask for, where they are that one word alone.
+pub fn asked_notice(words: &[Word]) -> Option<Notice>
+    ensures { result ≡ notice_of words.now }
+{
+    match words {
+        [word] if word.as_slice() == b"--help".as_slice() => Some(Notice::Help),
+        [word] if word.as_slice() == b"--version".as_slice() => Some(Notice::Version),
+        _ => None,
+    }
+}
+
+/// Prints a notice to standard output. That it cannot be printed is a write fault.
+pub fn print_notice(rt: &HostRuntime, notice: Notice) -> Status {
+    let text = match notice {
+        Notice::Help => HELP,
+        Notice::Version => VERSION,
+    };
+    match rt.stdout().write_all(text.as_bytes()) {
+        Ok(()) => Status::Ok,
+        Err(_) => Status::WriteFault,
+    }
+}
+
+const VERSION: &str = "conj 0.1.0\n";
+
+const HELP: &str = "\
+conj 0.1.0 - certified all-on-all conjunction screening of ephemerides
+
+Usage:
+  conj screen DIR [--threshold METRES] [--from EPOCH] [--to EPOCH] [--cells N]
+  conj --help
+  conj --version
+
+Reads the ephemerides in the directory DIR, one object in each file whose name
+ends in .oem (CCSDS 502.0-B-2 OEM in KVN form, UTC, cubic Hermite states), finds
+every approach of every pair of objects that comes within the threshold at a
+microsecond of the window, and writes the report DIR/screen.report. It is proved
+that no such approach of the interpolated tracks is missed. So far the files are
+of one plain form, which docs/FORMATS.md shows; any other is refused as NotYet.
+
+Options, in any order after DIR, each at most once:
+  --threshold METRES  miss distance to report, 1 to 1000000 (default 5000)
+  --from EPOCH        first instant of the window (default: where the first
+                      ephemeris begins to be useable)
+  --to EPOCH          last instant of the window (default: where the last
+                      ephemeris ends to be useable)
+  --cells N           greatest number of stretches of time that are told apart,
+                      1 to 4000000 (default 4000000)
+An EPOCH is UTC, as 2025-01-01T00:00:00.000000 or 2025-001T00:00:00Z. An option
+may also be one word, as --threshold=1000.
+
+Exit status:
+  0  done
+  2  usage: the words are not as above, or a value is out of its range
+  3  an ephemeris was refused
+  4  a file of DIR could not be read
+  5  a result could not be written
+  6  a limit was exceeded
+  7  out of memory
+";
