@@ -1,11 +1,10 @@
 -- One option in front of others.
-use Rattle.std.proofs.Common.{◌≡◌, ℕ, ◌+◌, List, [], ◌∷◌, Bool, true, false, Option, Some, None, cond, refl, arith}
-use Rattle.std.specs.Prelude.{IsTrue, ◌&&◌, count_by, find}
+use Rattle.std.proofs.Common.{◌≡◌, ◌+◌, List, Bool, true, false, Option, Some, None, cond, refl}
+use Rattle.std.specs.Prelude.{IsTrue, ◌&&◌}
 use Rattle.std.specs.List.{list_all}
 use Rattle.std.proofs.lemmas.List.Sums.{sum_by-cons}
-use Rattle.std.specs.Str.{bytes_eq}
 use Rattle.cj_words.specs.declared.option.Opt.{Opt}
-use Rattle.cj_words.specs.Options.{Given, in_front, is_name, is_known, is_named, name_of, are_known, listed, count_of, value_of, value_in}
+use Rattle.cj_words.specs.Options.{Given, in_front, is_known, is_named, are_known, listed, count_of, value_of}
 
 both : (a b : Bool) → IsTrue (a && b) → IsTrue a × IsTrue b
 both true b h = (refl, h)

@@ -1,17 +1,19 @@
 -- The options of the command line, and how they stand on it.
-use Rattle.std.specs.Prelude.{ℕ, ◌+◌, Bool, true, false, not, ◌&&◌, ◌||◌, ◌==◌, nat_le, nat_lt, length, if◌then◌else◌, List, [], ◌∷◌, Option, Some, None, codes, count_by, find}
+use Rattle.std.specs.Prelude.{ℕ, Bool, true, false, not, ◌&&◌, ◌||◌, ◌==◌, nat_le, nat_lt, length, if◌then◌else◌, List, [], ◌∷◌, Option, Some, None, codes, count_by, find}
 use Rattle.std.specs.List.{list_all, before_first, after_first}
 use Rattle.std.specs.Str.{bytes_eq}
 use Rattle.cj_words.specs.declared.option.Opt.{Opt}
-use Rattle.cj_words.specs.declared.option.Opt.TheVariants.{Threshold, From, To, Cells}
+use Rattle.cj_words.specs.declared.option.Opt.TheVariants.{Threshold, From, To, Suffix, Cells, AsHermite3}
 
 abbrev pub name_of : Opt → List ℕ
 name_of Threshold = codes "--threshold"
 name_of From = codes "--from"
 name_of To = codes "--to"
+name_of Suffix = codes "--suffix"
 name_of Cells = codes "--cells"
+name_of AsHermite3 = codes "--as-hermite3"
 
--- an option on the command line: its name and its value
+-- an option on the command line: its name and its value, empty for a flag
 pub record Given : Type 0 where
   pub name : List ℕ
   pub value : List ℕ
@@ -21,7 +23,15 @@ is_named option given = bytes_eq given.name (name_of option)
 
 -- the name of an option of this program
 abbrev pub is_name : List ℕ → Bool
-is_name name = bytes_eq name (name_of Threshold) || (bytes_eq name (name_of From) || (bytes_eq name (name_of To) || bytes_eq name (name_of Cells)))
+is_name name =
+    bytes_eq name (name_of Threshold)
+    || (bytes_eq name (name_of From)
+    || (bytes_eq name (name_of To)
+    || (bytes_eq name (name_of Suffix) || (bytes_eq name (name_of Cells) || bytes_eq name (name_of AsHermite3)))))
+
+-- the name of a flag: an option that has no value
+abbrev pub is_flag : List ℕ → Bool
+is_flag name = bytes_eq name (name_of AsHermite3)
 
 abbrev pub is_equals : ℕ → Bool
 is_equals b = b == 61
@@ -34,6 +44,10 @@ is_value (b ∷ word) = not (b == 45)
 -- there is a = in the word
 abbrev pub has_equals : List ℕ → Bool
 has_equals word = nat_lt (length (before_first is_equals word)) (length word)
+
+-- a flag, which is one word
+abbrev pub flag : List ℕ → Given
+flag word = record { name = word; value = [] }
 
 -- the option in one word, as --threshold=5
 abbrev pub in_one_word : List ℕ → Given
@@ -53,13 +67,25 @@ abbrev pub is_empty : List ℕ → Bool
 is_empty [] = true
 is_empty (b ∷ bytes) = false
 
--- the words as options with their values, if they are nothing else: a word with = stands alone, another takes the next word as its value
+-- a name may have this value behind a =: no flag has one, and it is not empty
+abbrev pub may_have : List ℕ → List ℕ → Bool
+may_have name value = not (is_flag name) && not (is_empty value)
+
+-- the word is an option with its value
+abbrev pub is_one_word : List ℕ → Bool
+is_one_word word = may_have (before_first is_equals word) (after_first is_equals word)
+
+-- the words as options with their values, if they are nothing else: a flag stands alone, so does a word with =, and another takes the
+-- next word as its value
 abbrev pub given_of : List (List ℕ) → Option (List Given)
 given_of [] = Some []
 given_of (word ∷ []) =
-    if has_equals word then in_front (not (is_empty (after_first is_equals word))) (in_one_word word) (Some []) else None
+    if is_flag word then in_front true (flag word) (Some [])
+    else if has_equals word then in_front (is_one_word word) (in_one_word word) (Some [])
+    else None
 given_of (word ∷ next ∷ words) =
-    if has_equals word then in_front (not (is_empty (after_first is_equals word))) (in_one_word word) (given_of (next ∷ words))
+    if is_flag word then in_front true (flag word) (given_of (next ∷ words))
+    else if has_equals word then in_front (is_one_word word) (in_one_word word) (given_of (next ∷ words))
     else in_front (is_value next) (in_two_words word next) (given_of words)
 
 -- no words are no options, and any that do not begin with one are refused
@@ -86,7 +112,9 @@ is_single option givens = nat_le (count_of option givens) 1
 
 -- so does each
 abbrev pub are_single : List Given → Bool
-are_single givens = is_single Threshold givens && (is_single From givens && (is_single To givens && is_single Cells givens))
+are_single givens =
+    is_single Threshold givens
+    && (is_single From givens && (is_single To givens && (is_single Suffix givens && (is_single Cells givens && is_single AsHermite3 givens))))
 
 -- each is known and stands at most once
 abbrev pub are_options : List Given → Bool
@@ -99,6 +127,10 @@ value_in (Some given) = Some given.value
 -- the value of an option, where it stands
 abbrev pub value_of : Opt → List Given → Option (List ℕ)
 value_of option givens = value_in (find (is_named option) givens)
+
+-- the option stands
+abbrev pub is_given : Opt → List Given → Bool
+is_given option givens = nat_le 1 (count_of option givens)
 
 -- the words are options, and each is known
 abbrev pub are_known : Option (List Given) → Bool

@@ -1,5 +1,5 @@
 -- What the words of a command line ask for.
-use Rattle.std.specs.Prelude.{ℕ, ◌+◌, ◌*◌, ◌^◌, Bool, true, false, not, ◌&&◌, ◌||◌, ◌==◌, nat_le, nat_lt, length, if◌then◌else◌, List, [], ◌∷◌, Option, Some, None, Result, Ok, Err, codes}
+use Rattle.std.specs.Prelude.{ℕ, Bool, true, not, ◌&&◌, ◌==◌, nat_le, length, if◌then◌else◌, List, [], ◌∷◌, Option, Some, None, Result, Ok, Err, codes}
 use Rattle.std.specs.List.{list_all}
 use Rattle.std.specs.Option.{option_map}
 use Rattle.std.specs.Char.{is_ascii_digit}
@@ -8,25 +8,36 @@ use Rattle.std.specs.Str.Parse.{digits_value}
 use Rattle.cj_epoch.specs.declared.tick.Tick.{Tick}
 use Rattle.cj_epoch.specs.Reading.{reading_of}
 use Rattle.cj_epoch.specs.declared.fault.EpochFault.{EpochFault}
+use Rattle.cj_words.specs.declared.option.Opt.{Opt}
 use Rattle.cj_words.specs.declared.option.UsageFault.{UsageFault}
 use Rattle.cj_words.specs.declared.option.UsageFault.TheVariants.{Words, Value}
-use Rattle.cj_words.specs.declared.option.Opt.TheVariants.{Threshold, From, To, Cells}
+use Rattle.cj_words.specs.declared.option.Opt.TheVariants.{Threshold, From, To, Suffix, Cells, AsHermite3}
 use Rattle.cj_words.specs.declared.settings.Settings.{Settings}
-use Rattle.cj_words.specs.Options.{Given, given_of, is_value, are_accepted, listed, value_of}
+use Rattle.cj_words.specs.Options.{Given, given_of, is_value, are_accepted, listed, value_of, is_given}
 
--- settings: the threshold in metres, the ends of the window in ticks, where they are given, and the greatest number of leaves
+-- settings: the threshold in metres, the ends of the window in ticks, where they are given, what the names of the files that are taken
+-- end with, the greatest number of leaves, and whether each file is taken as if it declared the cubic
 pub record Asked : Type 0 where
   pub threshold : ℕ
   pub from : Option ℕ
   pub to : Option ℕ
+  pub suffix : List ℕ
   pub cells : ℕ
+  pub as_hermite3 : Bool
 
 abbrev pub micros_of : Tick → ℕ
 micros_of tick = tick.micros
 
 -- what settings say
 abbrev pub asked_of : Settings → Asked
-asked_of s = record { threshold = s.threshold; from = option_map micros_of s.from; to = option_map micros_of s.to; cells = s.cells }
+asked_of s = record {
+  threshold = s.threshold;
+  from = option_map micros_of s.from;
+  to = option_map micros_of s.to;
+  suffix = s.suffix.now;
+  cells = s.cells;
+  as_hermite3 = s.as_hermite3;
+}
 
 abbrev pub said : Result Settings UsageFault → Result Asked UsageFault
 said (Ok s) = Ok (asked_of s)
@@ -61,22 +72,44 @@ are_in_order None to = true
 are_in_order (Some from) None = true
 are_in_order (Some from) (Some to) = nat_le from to
 
--- the settings of four values, or the first option whose value is out of its range
-abbrev pub with_values : Option ℕ → Option (Option ℕ) → Option (Option ℕ) → Option ℕ → Result Asked UsageFault
-with_values None from to cells = Err (Value Threshold)
-with_values (Some threshold) None to cells = Err (Value From)
-with_values (Some threshold) (Some from) None cells = Err (Value To)
-with_values (Some threshold) (Some from) (Some to) cells = if are_in_order from to then with_cells threshold from to cells else Err (Value To)
-  where
-    with_cells : ℕ → Option ℕ → Option ℕ → Option ℕ → Result Asked UsageFault
-    with_cells threshold from to None = Err (Value Cells)
-    with_cells threshold from to (Some cells) = Ok (record { threshold = threshold; from = from; to = to; cells = cells })
+-- the last end, where it is not before the first
+abbrev pub not_before : Option ℕ → Option (Option ℕ) → Option (Option ℕ)
+not_before from None = None
+not_before from (Some to) = if are_in_order from to then Some to else None
 
--- the settings that accepted options give
+-- a byte that may stand in the name of a file: printable, no blank and no /
+abbrev pub is_file_byte : ℕ → Bool
+is_file_byte b = nat_le 33 b && (nat_le b 126 && not (b == 47))
+
+-- one to so many of them
+abbrev pub is_file_text : ℕ → List ℕ → Bool
+is_file_text longest text = nat_le 1 (length text) && (nat_le (length text) longest && list_all is_file_byte text)
+
+-- such a text, which may be left out
+abbrev pub file_text_or : ℕ → List ℕ → Option (List ℕ) → Option (List ℕ)
+file_text_or longest left_out None = Some left_out
+file_text_or longest left_out (Some text) = if is_file_text longest text then Some text else None
+
+-- the value of an option, which is out of its range where there is none
+abbrev pub in_range : {A : Type 0} → Opt → Option A → Result A UsageFault
+in_range option None = Err (Value option)
+in_range option (Some value) = Ok value
+
+-- one value after another, up to the first fault
+infixl 10 ◌>>=◌
+abbrev pub ◌>>=◌ : {A B : Type 0} → Result A UsageFault → (A → Result B UsageFault) → Result B UsageFault
+(Ok x) >>= f = f x
+(Err fault) >>= f = Err fault
+
+-- the settings that accepted options give, or the first option whose value is out of its range
 unfoldable pub values_of : List Given → Result Asked UsageFault
-values_of givens =
-    with_values (number_or 1 1_000_000 5000 (value_of Threshold givens)) (epoch_or (value_of From givens)) (epoch_or (value_of To givens))
-    (number_or 1 4_000_000 4_000_000 (value_of Cells givens))
+values_of givens = do
+  threshold ← in_range Threshold (number_or 1 1_000_000 5000 (value_of Threshold givens))
+  from ← in_range From (epoch_or (value_of From givens))
+  to ← in_range To (not_before from (epoch_or (value_of To givens)))
+  suffix ← in_range Suffix (file_text_or 20 (codes ".oem") (value_of Suffix givens))
+  cells ← in_range Cells (number_or 1 4_000_000 4_000_000 (value_of Cells givens))
+  Ok (record { threshold = threshold; from = from; to = to; suffix = suffix; cells = cells; as_hermite3 = is_given AsHermite3 givens })
 
 -- the settings that options give
 abbrev pub settings_with : Option (List Given) → Result Asked UsageFault

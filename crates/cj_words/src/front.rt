@@ -4,9 +4,10 @@ ghost use Rattle.cj_words.specs.Options as spec;
 ghost use Rattle.cj_words.specs.Options.{given_of, in_front, is_equals, has_equals};
 ghost use Rattle.std.specs.List.{before_first, after_first, position_or_len};
 
+use crate::option::{Opt, option_name};
 use crate::settings::Word;
 
-/// An option with its value, and the words behind them.
+/// An option with its value, which is empty for a flag, and the words behind them.
 #[derive(Clone, Copy)]
 pub struct Front<'w> {
     pub name: &'w [u8],
@@ -23,10 +24,25 @@ pub fn front_of(words: &[Word]) -> Option<Front<'_>>
     let [word, rest @ ..] = words else {
         return None;
     };
-    match split_at_equals(word.as_slice()) {
-        Some((name, value)) => alone(name, value, rest),
-        None => with_next(word.as_slice(), rest),
+    let word = word.as_slice();
+    if is_flag(word) {
+        return Some(Front {
+            name: word,
+            value: b"",
+            rest,
+        });
     }
+    match split_at_equals(word) {
+        Some((name, value)) => alone(name, value, rest),
+        None => with_next(word, rest),
+    }
+}
+
+/// Whether the option has no value.
+fn is_flag(name: &[u8]) -> bool
+    ensures { result ≡ spec.is_flag name.now }
+{
+    name == option_name(Opt::AsHermite3)
 }
 
 fn with_next<'w>(name: &'w [u8], words: &'w [Word]) -> Option<Front<'w>>
@@ -47,10 +63,10 @@ fn with_next<'w>(name: &'w [u8], words: &'w [Word]) -> Option<Front<'w>>
 }
 
 fn alone<'w>(name: &'w [u8], value: &'w [u8], rest: &'w [Word]) -> Option<Front<'w>>
-    ensures some { IfSome result (λ f. (f.name.now ≡ name.now) × (f.value.now ≡ value.now) × (f.rest.now ≡ rest.now) × (spec.is_empty value.now ≡ false)) }
-    ensures none { IfNone result (spec.is_empty value.now ≡ true) }
+    ensures some { IfSome result (λ f. (f.name.now ≡ name.now) × (f.value.now ≡ value.now) × (f.rest.now ≡ rest.now) × (spec.may_have name.now value.now ≡ true)) }
+    ensures none { IfNone result (spec.may_have name.now value.now ≡ false) }
 {
-    if value.is_empty() {
+    if is_flag(name) || value.is_empty() {
         None
     } else {
         Some(Front { name, value, rest })

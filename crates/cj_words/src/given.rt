@@ -22,7 +22,9 @@ fn are_single(words: &[Word]) -> bool
     is_single(words, Opt::Threshold)
         && is_single(words, Opt::From)
         && is_single(words, Opt::To)
+        && is_single(words, Opt::Suffix)
         && is_single(words, Opt::Cells)
+        && is_single(words, Opt::AsHermite3)
 }
 
 fn is_single(words: &[Word], option: Opt) -> bool
@@ -51,7 +53,17 @@ fn is_known(name: &[u8]) -> bool
     name == option_name(Opt::Threshold)
         || name == option_name(Opt::From)
         || name == option_name(Opt::To)
+        || name == option_name(Opt::Suffix)
         || name == option_name(Opt::Cells)
+        || name == option_name(Opt::AsHermite3)
+}
+
+/// Whether the option stands.
+pub fn is_given(words: &[Word], option: Opt) -> bool
+    requires { IsTrue (spec.are_known (given_of words.now)) }
+    ensures { result ≡ spec.is_given option (listed (given_of words.now)) }
+{
+    1 <= count_of(words, option)
 }
 
 fn count_of(words: &[Word], option: Opt) -> usize

@@ -11,3 +11,6 @@ mod settings;
 pub use option::{Opt, UsageFault, option_name};
 pub use reading::read_settings;
 pub use settings::{Settings, Word};
+
+#[cfg(test)]
+mod tests;

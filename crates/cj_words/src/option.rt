@@ -10,8 +10,12 @@ pub enum Opt {
     From,
     /// The last tick of the window.
     To,
+    /// What the names of the files that are taken end with.
+    Suffix,
     /// The greatest number of leaves.
     Cells,
+    /// Whether a file that does not declare the cubic is taken as if it did; a flag.
+    AsHermite3,
 }
 
 /// What is wrong with a command line.
@@ -31,6 +35,8 @@ pub fn option_name(option: Opt) -> &'static [u8]
         Opt::Threshold => b"--threshold",
         Opt::From => b"--from",
         Opt::To => b"--to",
+        Opt::Suffix => b"--suffix",
         Opt::Cells => b"--cells",
+        Opt::AsHermite3 => b"--as-hermite3",
     }
 }

@@ -1,5 +1,6 @@
 //! From the words of a command line to its settings.
 ghost use Rattle.std.specs.Prelude.{◌≡◌, ◌≤◌, IsTrue, Option, Some, None, IfSome, option_map};
+ghost use Rattle.std.specs.List.{list_all};
 ghost use Rattle.std.specs.Option.{option_copied};
 ghost use Rattle.cj_words.specs.Options as options;
 ghost use Rattle.cj_words.specs.Options.{given_of, listed};
@@ -8,7 +9,7 @@ ghost use Rattle.cj_words.specs.Settings.{micros_of, said};
 
 use crate::digits::read_number;
 use crate::front::is_value;
-use crate::given::{are_options, value_of};
+use crate::given::{are_options, is_given, value_of};
 use crate::option::{Opt, UsageFault};
 use crate::settings::{Settings, Word};
 use cj_epoch::{Tick, read_epoch};
@@ -20,7 +21,7 @@ use cj_epoch::{Tick, read_epoch};
 /// `Words` where they are not of the grammar, else `Value` with the first option whose value is out of its range, in the order
 /// of `Opt`.
 #[tactic(auto, unfolding(crate::specs::Settings::settings_of))]
-pub fn read_settings(words: &[Word]) -> Result<Settings, UsageFault>
+pub fn read_settings(words: &[Word]) -> Result<Settings<'_>, UsageFault>
     ensures { said result ≡ spec.settings_of words.now }
 {
     match words {
@@ -41,7 +42,7 @@ fn is_screen(command: &[u8], directory: &[u8]) -> bool
     command == b"screen".as_slice() && is_value(directory)
 }
 
-fn settings_with(words: &[Word]) -> Result<Settings, UsageFault>
+fn settings_with(words: &[Word]) -> Result<Settings<'_>, UsageFault>
     ensures { said result ≡ spec.settings_with (given_of words.now) }
 {
     if are_options(words) {
@@ -52,7 +53,7 @@ fn settings_with(words: &[Word]) -> Result<Settings, UsageFault>
 }
 
 #[tactic(auto, unfolding(crate::specs::Settings::values_of))]
-fn values_of(words: &[Word]) -> Result<Settings, UsageFault>
+fn values_of(words: &[Word]) -> Result<Settings<'_>, UsageFault>
     requires { IsTrue (options.are_known (given_of words.now)) }
     ensures { said result ≡ spec.values_of (listed (given_of words.now)) }
 {
@@ -68,6 +69,9 @@ fn values_of(words: &[Word]) -> Result<Settings, UsageFault>
     if !are_in_order(from, to) {
         return Err(out_of_range(Opt::To));
     }
+    let Some(suffix) = file_text_or(value_of(words, Opt::Suffix), 20, b".oem") else {
+        return Err(out_of_range(Opt::Suffix));
+    };
     let Some(cells) = number_or(value_of(words, Opt::Cells), 4_000_000, 4_000_000) else {
         return Err(out_of_range(Opt::Cells));
     };
@@ -75,7 +79,9 @@ fn values_of(words: &[Word]) -> Result<Settings, UsageFault>
         threshold,
         from,
         to,
+        suffix,
         cells,
+        as_hermite3: is_given(words, Opt::AsHermite3),
     })
 }
 
@@ -130,4 +136,28 @@ fn are_in_order(from: Option<Tick>, to: Option<Tick>) -> bool
         (Some(from), Some(to)) => from.micros <= to.micros,
         _ => true,
     }
+}
+
+/// The text that a value says, of bytes that may stand in the name of a file and at most so many, or the one that stands for a value
+/// that is left out.
+fn file_text_or<'w>(value: Option<&'w [u8]>, longest: usize, left_out: &'w [u8]) -> Option<&'w [u8]>
+    ensures { option_copied result ≡ spec.file_text_or longest left_out.now (option_copied value.entry) }
+{
+    match value {
+        None => Some(left_out),
+        Some(text) if is_file_text(text, longest) => Some(text),
+        Some(_) => None,
+    }
+}
+
+fn is_file_text(text: &[u8], longest: usize) -> bool
+    ensures { result ≡ spec.is_file_text longest text.now }
+{
+    1 <= text.len() && text.len() <= longest && are_file_bytes(text)
+}
+
+fn are_file_bytes(text: &[u8]) -> bool
+    ensures { result ≡ list_all spec.is_file_byte text.now }
+{
+    text.iter().all(|b| 33 <= *b && *b <= 126 && *b != b'/')
 }

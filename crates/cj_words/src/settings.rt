@@ -7,17 +7,21 @@ use cj_kvn::Text;
 /// A word of the command line.
 pub type Word = Text;
 
-/// What a command line asks for.
+/// What a command line asks for. The suffix is lent by the words.
 #[derive(Clone, Copy, Debug, PartialEq, Eq)]
-pub struct Settings {
+pub struct Settings<'w> {
     /// The greatest miss distance that is reported, in metres, from 1 to 1,000,000.
     pub threshold: u64,
     /// The first tick of the window, where it is given.
     pub from: Option<Tick>,
     /// The last tick of the window, where it is given; not before the first.
     pub to: Option<Tick>,
+    /// What the names of the files that are taken end with: 1 to 20 bytes from 33 to 126, none of them `/`.
+    pub suffix: &'w [u8],
     /// The greatest number of leaves, from 1 to 4,000,000.
     pub cells: u64,
+    /// Whether a file that does not declare the cubic is taken as if it did.
+    pub as_hermite3: bool,
     pub ghost some: { 1 ≤ threshold },
     pub ghost most: { threshold ≤ 1_000_000 },
     pub ghost some_cells: { 1 ≤ cells },

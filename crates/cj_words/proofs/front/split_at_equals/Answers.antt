@@ -1,7 +1,7 @@
-use Rattle.std.proofs.Common.{arith, ◌≡◌, ◌+◌, ℕ, ap, ◌∙◌, take, drop, sym, Option, Some, None, refl, false}
+use Rattle.std.proofs.Common.{arith, ◌≡◌, ◌+◌, ℕ, ap, ◌∙◌, take, drop, sym, Option, Some, None}
 use Rattle.std.specs.Prelude.{IfNone}
 use Rattle.std.proofs.lemmas.List.{take_all, length-drop}
-use Rattle.cj_words.specs.Options.{is_equals, has_equals}
+use Rattle.cj_words.specs.Options.{is_equals}
 use Rattle.cj_words.proofs.PlaceLemmas.{found_at, stands, stands_not}
 use Rattle.cj_words.proofs.front.split_at_equals.Goals as goal
 

@@ -1,4 +1,4 @@
-use Rattle.std.proofs.Common.{◌≡◌, ◌+◌, ◌≤◌, ℕ, Bool, true, false, cond, sym, subst, arith, ap, ◌∙◌, length, Option, List}
+use Rattle.std.proofs.Common.{◌≡◌, ◌+◌, ◌≤◌, ℕ, Bool, true, false, cond, sym, subst, arith, ap, ◌∙◌, Option, List}
 use Rattle.std.specs.Prelude.{IsTrue}
 use Rattle.std.specs.Str.{bytes_eq}
 use Rattle.cj_words.specs.Options.{Given, given_of, in_front, are_known, listed, count_of, is_named}
