@@ -1,4 +1,5 @@
 pub mod IntegerLemmas
+pub mod ListLemmas
 pub mod MachineLemmas
 pub mod RingLemmas
 pub mod RoundingLemmas
