@@ -1,11 +1,14 @@
 -- The rule of a list of nodes.
-use Rattle.std.specs.Prelude.{◌+◌, ◌<◌, ◌≤◌, List, [], ◌∷◌, length}
+use Rattle.std.specs.Prelude.{◌≡◌, ◌+◌, ◌<◌, ◌≤◌, false, List, [], ◌∷◌, length}
+use Rattle.cj_epoch.specs.LeapSeconds.{leap_lies_between}
 use Rattle.cj_oem.specs.declared.node.Node.{Node}
+use Rattle.cj_oem.specs.Limits.{MAX_STEP}
 
--- the second comes after the first, at most an hour later
+-- the second comes after the first, at most an hour later, with no leap second between
 pub record IsStep (a b : Node) : Type 0 where
   pub rises : a.at.micros < b.at.micros
-  pub short : b.at.micros ≤ a.at.micros + 3_600_000_000
+  pub short : b.at.micros ≤ a.at.micros + MAX_STEP
+  pub steady : leap_lies_between a.at.micros b.at.micros ≡ false
 
 -- each node is a step from the one before
 abbrev pub AreSteps : List Node → Type 0

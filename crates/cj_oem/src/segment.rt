@@ -1,15 +1,17 @@
 ghost use Rattle.std.specs.Prelude.{◌≤◌, length};
 ghost use Rattle.cj_oem.specs.Useable.{LiesWithin};
 
+use crate::matrices::Matrices;
 use crate::nodes::Nodes;
 use cj_epoch::Tick;
 
-/// A segment of an ephemeris: its useable span, and its nodes. Interpolation stays within it.
+/// A segment of an ephemeris: its useable span, its nodes, its covariances. Interpolation stays within it.
 #[derive(Debug, Drop)]
 pub struct Segment {
     pub first: Tick,
     pub last: Tick,
     pub nodes: Nodes,
+    pub matrices: Matrices,
     pub ghost some: { first.micros ≤ last.micros },
     pub ghost enough: { 2 ≤ length nodes },
     pub ghost within: { LiesWithin first.micros last.micros nodes },

@@ -1,3 +1,6 @@
+ghost use Rattle.std.specs.Prelude.{◌≡◌, true};
+ghost use Rattle.cj_oem.specs.Labels.{is_file_name, is_label};
+
 use crate::frame::Frame;
 use crate::segments::Segments;
 use cj_kvn::Text;
@@ -13,4 +16,7 @@ pub struct Track {
     pub id: Text,
     pub frame: Frame,
     pub segments: Segments,
+    pub ghost from: { is_file_name file ≡ true },
+    pub ghost named: { is_label name ≡ true },
+    pub ghost designated: { is_label id ≡ true },
 }

@@ -1,0 +1,507 @@
+-- Blocks: from the metadata on, the lines that are accepted are those of blocks, and each block is accepted.
+use Rattle.std.proofs.Common.{◌≡◌, ℕ, zero, suc, ◌<◌, ◌≤◌, ◌⊎◌, inl, inr, ⊎_elim, List, [], ◌∷◌, ◌++◌, length, Bool, true, false, IsSomeAnd, Option, Some, None, Result, Ok, arith, ap, sym, ◌∙◌, refl, subst, subst₂}
+use Rattle.std.specs.Prelude.{◌&&◌, not, nat_le, nat_lt}
+use Rattle.std.proofs.lemmas.Bool.Decides.{leb_tells, nat_tests}
+use Rattle.std.proofs.lemmas.List.{append_assoc, append-nil, length-append}
+use Rattle.cj_kvn.specs.Lines.{Form, Blank, Comment, Mark, Pair, Row}
+use Rattle.cj_kvn.specs.declared.lines.MarkKind.TheVariants.{MetaStart, MetaStop, CovarianceStart, CovarianceStop}
+use Rattle.cj_oem.specs.declared.fault.OemCause.{OemCause}
+use Rattle.cj_oem.specs.declared.fault.OemCause.TheVariants as causes
+use Rattle.cj_oem.specs.CovarianceRows.{Covariances, NO_COVARIANCES, closed, with_matrix_pair, with_matrix_row}
+use Rattle.cj_oem.specs.Ephemeris.{Arc, Covariance, State}
+use Rattle.cj_oem.specs.Grammar.{AreBlocks, AreCovariances, Entry, HasNoCovariances, IsBlock, IsPlan, IsUseable, covariances_from, last, more, pair_lines, row_lines, sheet_from, states_from, with_line}
+use Rattle.cj_oem.specs.Metadata.{◌>>=◌, EMPTY, Object, Plan, Sheet, plan_of, unless, with_pair}
+use Rattle.cj_oem.specs.NodeRows.{state_of_row}
+use Rattle.cj_oem.specs.Stages.{Body, Meta, Data, Cov, After, Stretch, close_nodes, end_of, finished, first_state, is_useable, last_state, with_arc}
+use Rattle.cj_oem.proofs.PlanLemmas.{plan_kept}
+use Rattle.cj_oem.proofs.RunLemmas.{end_push, last_push, run, run_covariances, run_meta, run_rows, stretch}
+use Rattle.cj_oem.proofs.StepLemmas.{bind_into, bind_ok, not_false, unless_ok}
+
+-- ---- the end of the nodes
+
+le_test : (a b : ℕ) → nat_le a b ≡ true → a ≤ b
+le_test a b e = elim (leb_tells a b) [ inl h ↦ h.1 | inr h ↦ absurd cc ]
+
+lt_fails : (a b : ℕ) → nat_lt a b ≡ false → b ≤ a
+lt_fails a b e = elim (leb_tells (suc a) b) [ inl h ↦ absurd cc | inr h ↦ omega arith ]
+
+three : (a b c : Bool) → (a && b && c) ≡ true → (a ≡ true) × (b ≡ true) × (c ≡ true)
+three true true c e = (refl, refl, e)
+three true false c e = absurd cc
+three false b c e = absurd cc
+
+useable_ends : (start stop : ℕ) (a z : Option State) → is_useable start stop a z ≡ true
+    → (start ≤ stop) × IsSomeAnd a (λ state. state.at ≤ start) × IsSomeAnd z (λ state. stop ≤ state.at)
+useable_ends start stop None z e = absurd cc
+useable_ends start stop (Some a) None e = absurd cc
+useable_ends start stop (Some a) (Some z) e =
+    let each = three (nat_le start stop) (nat_le a.at start) (nat_le stop z.at) e in
+    (le_test start stop each.0, le_test a.at start each.1, le_test stop z.at each.2)
+
+useable_again : (start stop : ℕ) (a z : Option State) → start ≤ stop → IsSomeAnd a (λ state. state.at ≤ start) → IsSomeAnd z (λ state. stop ≤ state.at)
+    → is_useable start stop a z ≡ true
+useable_again start stop None z some after before = absurd after
+useable_again start stop (Some a) None some after before = absurd before
+useable_again start stop (Some a) (Some z) some after before = grind (arith, nat_tests)
+
+-- the nodes of a stretch are closed
+record IsClosed (b : Body) (s : Stretch) : Type 0 where
+  enough : 2 ≤ length s.states
+  useable : IsUseable s.plan.first s.plan.last s.states
+  later : end_of b.arcs ≤ s.plan.first
+
+closed_nodes : (b : Body) (s : Stretch) (u : Unit {0}) → close_nodes b s ≡ Ok u → IsClosed b s
+unfolding close_nodes
+closed_nodes b s u e =
+    let few = unless (nat_lt (length s.states) 2) causes.TooFewNodes in
+    let span = unless (not (is_useable s.plan.first s.plan.last (first_state s.states) (last_state s.states))) causes.UseableSpan in
+    let overlap = unless (nat_lt s.plan.first (end_of b.arcs)) causes.SegmentsOverlap in
+    let one = bind_ok few (λ _. span >>= λ _. overlap) u e in
+    let two = bind_ok span (λ _. overlap) u one.2 in
+    let ends = useable_ends s.plan.first s.plan.last (first_state s.states) (last_state s.states) (not_false _ (unless_ok _ causes.UseableSpan two.0 two.1)) in
+    record {
+      enough = lt_fails (length s.states) 2 (unless_ok _ causes.TooFewNodes one.0 one.1);
+      useable = record { some = ends.0; after = ends.1; before = ends.2 };
+      later = lt_fails s.plan.first (end_of b.arcs) (unless_ok _ causes.SegmentsOverlap u two.2);
+    }
+
+close_again : (b : Body) (s : Stretch) → IsClosed b s → close_nodes b s ≡ Ok tt
+unfolding close_nodes
+close_again b s c =
+    let enough = c.enough in
+    let later = c.later in
+    let a : nat_lt (length s.states) 2 ≡ false = grind (arith, nat_tests) in
+    let d : is_useable s.plan.first s.plan.last (first_state s.states) (last_state s.states) ≡ true = useable_again s.plan.first s.plan.last _ _ c.useable.some c.useable.after c.useable.before in
+    let f : nat_lt s.plan.first (end_of b.arcs) ≡ false = grind (arith, nat_tests) in
+    rw (a, d, f) refl
+
+-- ---- the parts of a block, as a reader finds them
+
+-- entries up to the end of the metadata
+record IsMetaRead (as_hermite3 : Bool) (b : Body) (s : Sheet) (forms : List Form) (body : Body) : Type 0 where
+  entries : List Entry
+  end : Sheet
+  plan : Plan
+  rest : List Form
+  shape : forms ≡ pair_lines entries ++ Mark MetaStop ∷ rest
+  read : sheet_from b.object s entries ≡ Ok end
+  whole : plan_of as_hermite3 end ≡ Ok plan
+  next : run as_hermite3 (Data b (stretch plan [])) rest ≡ Ok body
+
+meta_more : (as_hermite3 : Bool) (b : Body) (s next : Sheet) (key value : List ℕ) (forms : List Form) (body : Body) → with_pair b.object s key value ≡ Ok next
+    → IsMetaRead as_hermite3 b next forms body → IsMetaRead as_hermite3 b s (Pair key value ∷ forms) body
+meta_more as_hermite3 b s next key value forms body e m = record {
+  entries = record { key = key; value = value } ∷ m.entries;
+  end = m.end;
+  plan = m.plan;
+  rest = m.rest;
+  shape = ap (λ (fs : List Form). Pair key value ∷ fs) m.shape;
+  read = ap (λ (r : Result Sheet OemCause). r >>= λ n. sheet_from b.object n m.entries) e ∙ m.read;
+  whole = m.whole;
+  next = m.next;
+}
+
+meta_read : (as_hermite3 : Bool) (b : Body) (forms : List Form) (s : Sheet) (body : Body) → run as_hermite3 (Meta b s) forms ≡ Ok body → IsMetaRead as_hermite3 b s forms body
+unfolding finished
+meta_read as_hermite3 b [] s body e = absurd cc
+meta_read as_hermite3 b (Blank ∷ forms) s body e = absurd cc
+meta_read as_hermite3 b (Comment ∷ forms) s body e = absurd cc
+meta_read as_hermite3 b (Mark MetaStart ∷ forms) s body e = absurd cc
+meta_read as_hermite3 b (Mark MetaStop ∷ forms) s body e =
+    let step = bind_into (plan_of as_hermite3 s) (λ plan. Data b (stretch plan [])) (λ next. run as_hermite3 next forms) body e in
+    record { entries = []; end = s; plan = step.0; rest = forms; shape = refl; read = refl; whole = step.1; next = step.2 }
+meta_read as_hermite3 b (Mark CovarianceStart ∷ forms) s body e = absurd cc
+meta_read as_hermite3 b (Mark CovarianceStop ∷ forms) s body e = absurd cc
+meta_read as_hermite3 b (Pair key value ∷ forms) s body e =
+    let step = bind_into (with_pair b.object s key value) (λ sheet. Meta b sheet) (λ next. run as_hermite3 next forms) body e in
+    meta_more as_hermite3 b s step.0 key value forms body step.1 (meta_read as_hermite3 b forms step.0 body step.2)
+meta_read as_hermite3 b (Row text ∷ forms) s body e = absurd cc
+
+-- a row does not stand in front
+abbrev NoRow : List Form → Type 0
+NoRow [] = Unit {0}
+NoRow (Blank ∷ forms) = Unit {0}
+NoRow (Comment ∷ forms) = Unit {0}
+NoRow (Mark mark ∷ forms) = Unit {0}
+NoRow (Pair key value ∷ forms) = Unit {0}
+NoRow (Row text ∷ forms) = ⊥
+
+-- rows up to another line
+record IsDataRead (as_hermite3 : Bool) (b : Body) (plan : Plan) (before : List State) (forms : List Form) (body : Body) : Type 0 where
+  rows : List (List ℕ)
+  states : List State
+  rest : List Form
+  shape : forms ≡ row_lines rows ++ rest
+  read : states_from (last_state before) rows ≡ Ok states
+  all : NoRow rest
+  next : run as_hermite3 (Data b (stretch plan (before ++ states))) rest ≡ Ok body
+
+data_more : (as_hermite3 : Bool) (b : Body) (plan : Plan) (before : List State) (state : State) (text : List ℕ) (forms : List Form) (body : Body)
+    → state_of_row (last_state before) text ≡ Ok state → IsDataRead as_hermite3 b plan (before ++ state ∷ []) forms body → IsDataRead as_hermite3 b plan before (Row text ∷ forms) body
+data_more as_hermite3 b plan before state text forms body e d = record {
+  rows = text ∷ d.rows;
+  states = state ∷ d.states;
+  rest = d.rest;
+  shape = ap (λ (fs : List Form). Row text ∷ fs) d.shape;
+  read =
+      let later : states_from (Some state) d.rows ≡ Ok d.states = ap (λ (o : Option State). states_from o d.rows) (sym (last_push None before state)) ∙ d.read in
+      ap (λ (r : Result State OemCause). r >>= λ s. states_from (Some s) d.rows >>= λ others. Ok (s ∷ others)) e
+      ∙ ap (λ (r : Result (List State) OemCause). r >>= λ others. Ok (state ∷ others)) later;
+  all = d.all;
+  next = ap (λ (all : List State). run as_hermite3 (Data b (stretch plan all)) d.rest) (sym (append_assoc before (state ∷ []) d.states)) ∙ d.next;
+}
+
+data_end : (as_hermite3 : Bool) (b : Body) (plan : Plan) (before : List State) (forms : List Form) (body : Body) → NoRow forms
+    → run as_hermite3 (Data b (stretch plan before)) forms ≡ Ok body → IsDataRead as_hermite3 b plan before forms body
+data_end as_hermite3 b plan before forms body none e = record {
+  rows = [];
+  states = [];
+  rest = forms;
+  shape = refl;
+  read = refl;
+  all = none;
+  next = ap (λ (all : List State). run as_hermite3 (Data b (stretch plan all)) forms) (append-nil before) ∙ e;
+}
+
+data_read : (as_hermite3 : Bool) (b : Body) (plan : Plan) (forms : List Form) (before : List State) (body : Body) → run as_hermite3 (Data b (stretch plan before)) forms ≡ Ok body
+    → IsDataRead as_hermite3 b plan before forms body
+data_read as_hermite3 b plan [] before body e = data_end as_hermite3 b plan before [] body tt e
+data_read as_hermite3 b plan (Blank ∷ forms) before body e = data_end as_hermite3 b plan before (Blank ∷ forms) body tt e
+data_read as_hermite3 b plan (Comment ∷ forms) before body e = data_end as_hermite3 b plan before (Comment ∷ forms) body tt e
+data_read as_hermite3 b plan (Mark mark ∷ forms) before body e = data_end as_hermite3 b plan before (Mark mark ∷ forms) body tt e
+data_read as_hermite3 b plan (Pair key value ∷ forms) before body e = data_end as_hermite3 b plan before (Pair key value ∷ forms) body tt e
+data_read as_hermite3 b plan (Row text ∷ forms) before body e =
+    let step = bind_into (state_of_row (last_state before) text) (λ state. Data b (stretch plan (before ++ state ∷ []))) (λ next. run as_hermite3 next forms) body e in
+    data_more as_hermite3 b plan before step.0 text forms body step.1 (data_read as_hermite3 b plan forms (before ++ step.0 ∷ []) body step.2)
+
+-- covariances up to their end
+record IsCovRead (as_hermite3 : Bool) (b : Body) (s : Stretch) (m : Covariances) (forms : List Form) (body : Body) : Type 0 where
+  inner : List Form
+  end : Covariances
+  covariances : List Covariance
+  rest : List Form
+  shape : forms ≡ inner ++ Mark CovarianceStop ∷ rest
+  read : covariances_from m inner ≡ Ok end
+  whole : closed end ≡ Ok covariances
+  next : run as_hermite3 (After (with_arc b s covariances)) rest ≡ Ok body
+
+cov_more : (as_hermite3 : Bool) (b : Body) (s : Stretch) (m next : Covariances) (line : Form) (forms : List Form) (body : Body) → with_line m line ≡ Ok next
+    → IsCovRead as_hermite3 b s next forms body → IsCovRead as_hermite3 b s m (line ∷ forms) body
+cov_more as_hermite3 b s m next line forms body e c = record {
+  inner = line ∷ c.inner;
+  end = c.end;
+  covariances = c.covariances;
+  rest = c.rest;
+  shape = ap (λ (fs : List Form). line ∷ fs) c.shape;
+  read = ap (λ (r : Result Covariances OemCause). r >>= λ n. covariances_from n c.inner) e ∙ c.read;
+  whole = c.whole;
+  next = c.next;
+}
+
+cov_read : (as_hermite3 : Bool) (b : Body) (s : Stretch) (forms : List Form) (m : Covariances) (body : Body) → run as_hermite3 (Cov b s m) forms ≡ Ok body → IsCovRead as_hermite3 b s m forms body
+unfolding finished
+cov_read as_hermite3 b s [] m body e = absurd cc
+cov_read as_hermite3 b s (Blank ∷ forms) m body e = absurd cc
+cov_read as_hermite3 b s (Comment ∷ forms) m body e = absurd cc
+cov_read as_hermite3 b s (Mark MetaStart ∷ forms) m body e = absurd cc
+cov_read as_hermite3 b s (Mark MetaStop ∷ forms) m body e = absurd cc
+cov_read as_hermite3 b s (Mark CovarianceStart ∷ forms) m body e = absurd cc
+cov_read as_hermite3 b s (Mark CovarianceStop ∷ forms) m body e =
+    let step = bind_into (closed m) (λ covariances. After (with_arc b s covariances)) (λ next. run as_hermite3 next forms) body e in
+    record { inner = []; end = m; covariances = step.0; rest = forms; shape = refl; read = refl; whole = step.1; next = step.2 }
+cov_read as_hermite3 b s (Pair key value ∷ forms) m body e =
+    let step = bind_into (with_matrix_pair m key value) (λ n. Cov b s n) (λ next. run as_hermite3 next forms) body e in
+    cov_more as_hermite3 b s m step.0 (Pair key value) forms body step.1 (cov_read as_hermite3 b s forms step.0 body step.2)
+cov_read as_hermite3 b s (Row text ∷ forms) m body e =
+    let step = bind_into (with_matrix_row m text) (λ n. Cov b s n) (λ next. run as_hermite3 next forms) body e in
+    cov_more as_hermite3 b s m step.0 (Row text) forms body step.1 (cov_read as_hermite3 b s forms step.0 body step.2)
+
+-- ---- the end of a block
+
+-- covariances or none, and where the lines go on
+record IsEndRead (as_hermite3 : Bool) (b : Body) (s : Stretch) (forms : List Form) (body : Body) : Type 0 where
+  front : List Form
+  covariances : List Covariance
+  rest : List Form
+  shape : forms ≡ front ++ rest
+  said : AreCovariances front covariances ⊎ HasNoCovariances front covariances
+  closed : close_nodes b s ≡ Ok tt
+  next : run as_hermite3 (After (with_arc b s covariances)) rest ≡ Ok body
+
+end_none : (as_hermite3 : Bool) (b : Body) (s : Stretch) (forms : List Form) (body : Body) (u : Unit {0}) → close_nodes b s ≡ Ok u
+    → run as_hermite3 (After (with_arc b s [])) forms ≡ Ok body → IsEndRead as_hermite3 b s forms body
+end_none as_hermite3 b s forms body u e f =
+    record { front = []; covariances = []; rest = forms; shape = refl; said = inr (record { no_line = refl; none = refl }); closed = e; next = f }
+
+end_some : (as_hermite3 : Bool) (b : Body) (s : Stretch) (forms : List Form) (body : Body) (u : Unit {0}) → close_nodes b s ≡ Ok u
+    → IsCovRead as_hermite3 b s NO_COVARIANCES forms body → IsEndRead as_hermite3 b s (Mark CovarianceStart ∷ forms) body
+end_some as_hermite3 b s forms body u e c = record {
+  front = Mark CovarianceStart ∷ c.inner ++ Mark CovarianceStop ∷ [];
+  covariances = c.covariances;
+  rest = c.rest;
+  shape = ap (λ (fs : List Form). Mark CovarianceStart ∷ fs) (c.shape ∙ sym (append_assoc c.inner (Mark CovarianceStop ∷ []) c.rest));
+  said = inl (record { inner = c.inner; read = c.end; marks = refl; said = c.read; whole = c.whole });
+  closed = e;
+  next = c.next;
+}
+
+end_read : (as_hermite3 : Bool) (b : Body) (s : Stretch) (forms : List Form) (body : Body) → NoRow forms → run as_hermite3 (Data b s) forms ≡ Ok body
+    → IsEndRead as_hermite3 b s forms body
+unfolding finished
+end_read as_hermite3 b s [] body none e =
+    let step = bind_ok (close_nodes b s) (λ _. Ok (with_arc b s [])) body e in
+    end_none as_hermite3 b s [] body step.0 step.1 step.2
+end_read as_hermite3 b s (Blank ∷ forms) body none e = absurd cc
+end_read as_hermite3 b s (Comment ∷ forms) body none e = absurd cc
+end_read as_hermite3 b s (Mark MetaStart ∷ forms) body none e =
+    let step = bind_into (close_nodes b s) (λ _. Meta (with_arc b s []) EMPTY) (λ next. run as_hermite3 next forms) body e in
+    end_none as_hermite3 b s (Mark MetaStart ∷ forms) body step.0 step.1 step.2
+end_read as_hermite3 b s (Mark MetaStop ∷ forms) body none e = absurd cc
+end_read as_hermite3 b s (Mark CovarianceStart ∷ forms) body none e =
+    let step = bind_into (close_nodes b s) (λ _. Cov b s NO_COVARIANCES) (λ next. run as_hermite3 next forms) body e in
+    end_some as_hermite3 b s forms body step.0 step.1 (cov_read as_hermite3 b s forms NO_COVARIANCES body step.2)
+end_read as_hermite3 b s (Mark CovarianceStop ∷ forms) body none e = absurd cc
+end_read as_hermite3 b s (Pair key value ∷ forms) body none e = absurd cc
+end_read as_hermite3 b s (Row text ∷ forms) body none e = absurd none
+
+-- ---- a block
+
+-- the body with a further segment
+abbrev pub with_segment : Body → Object → Arc → Body
+with_segment b object arc = record { object = Some object; arcs = b.arcs ++ arc ∷ [] }
+
+-- a block in front, and where the lines go on
+record IsBlockRead (as_hermite3 : Bool) (b : Body) (forms : List Form) (body : Body) : Type 0 where
+  block : List Form
+  rest : List Form
+  object : Object
+  arc : Arc
+  shape : forms ≡ block ++ rest
+  said : IsBlock as_hermite3 b.object (end_of b.arcs) block object arc
+  next : run as_hermite3 (After (with_segment b object arc)) rest ≡ Ok body
+
+-- the lines of a block
+abbrev lines_of : List Entry → List (List ℕ) → List Form → List Form
+lines_of entries rows rest = Mark MetaStart ∷ pair_lines entries ++ Mark MetaStop ∷ row_lines rows ++ rest
+
+-- and those behind it
+lines_behind : (entries : List Entry) (rows : List (List ℕ)) (front rest : List Form)
+    → Mark MetaStart ∷ (pair_lines entries ++ Mark MetaStop ∷ (row_lines rows ++ (front ++ rest))) ≡ lines_of entries rows front ++ rest
+lines_behind entries rows front rest =
+    ap (λ (fs : List Form). Mark MetaStart ∷ fs) (
+    sym (append_assoc (pair_lines entries) (Mark MetaStop ∷ row_lines rows) (front ++ rest))
+    ∙ sym (append_assoc (pair_lines entries ++ Mark MetaStop ∷ row_lines rows) front rest))
+
+block_is : (as_hermite3 : Bool) (b : Body) (forms : List Form) (body : Body) (m : IsMetaRead as_hermite3 b EMPTY forms body) (d : IsDataRead as_hermite3 b m.plan [] m.rest body)
+    → IsEndRead as_hermite3 b (stretch m.plan d.states) d.rest body → IsBlockRead as_hermite3 b (Mark MetaStart ∷ forms) body
+block_is as_hermite3 b forms body m d e =
+    let s = stretch m.plan d.states in
+    let closed = closed_nodes b s tt e.closed in
+    record {
+      block = lines_of m.entries d.rows e.front;
+      rest = e.rest;
+      object = m.plan.object;
+      arc = record { first = m.plan.first; last = m.plan.last; states = d.states; covariances = e.covariances };
+      shape =
+          ap (λ (fs : List Form). Mark MetaStart ∷ fs) (m.shape ∙ ap (λ (fs : List Form). pair_lines m.entries ++ Mark MetaStop ∷ fs) (d.shape ∙ ap (λ (fs : List Form). row_lines d.rows ++ fs) e.shape))
+          ∙ lines_behind m.entries d.rows e.front e.rest;
+      said = record {
+        entries = m.entries;
+        rows = d.rows;
+        rest = e.front;
+        shape = refl;
+        metadata = record { sheet = m.end; read = m.read; whole = m.whole };
+        states = d.read;
+        enough = closed.enough;
+        useable = closed.useable;
+        later = closed.later;
+        covariances = e.said;
+      };
+      next = e.next;
+    }
+
+block_read : (as_hermite3 : Bool) (b : Body) (forms : List Form) (body : Body) → run as_hermite3 (Meta b EMPTY) forms ≡ Ok body → IsBlockRead as_hermite3 b (Mark MetaStart ∷ forms) body
+block_read as_hermite3 b forms body e =
+    let m = meta_read as_hermite3 b forms EMPTY body e in
+    let d = data_read as_hermite3 b m.plan m.rest [] body m.next in
+    block_is as_hermite3 b forms body m d (end_read as_hermite3 b (stretch m.plan d.states) d.rest body d.all d.next)
+
+-- ---- all blocks
+
+-- the blocks that are left, if any
+pub record AreBlocksRead (as_hermite3 : Bool) (b : Body) (forms : List Form) (body : Body) : Type 0 where
+  pub object : Object
+  pub arcs : List Arc
+  pub blocks : AreBlocks as_hermite3 object b.object (end_of b.arcs) forms arcs
+  pub named : body.object ≡ Some object
+  pub whole : body.arcs ≡ b.arcs ++ arcs
+
+-- blocks behind the first one are of its object
+block_object : (as_hermite3 : Bool) (o : Object) (first : Option Object) (from : ℕ) (lines : List Form) (object : Object) (arc : Arc) → first ≡ Some o
+    → IsBlock as_hermite3 first from lines object arc → object ≡ o
+block_object as_hermite3 o first from lines object arc e block =
+    plan_kept as_hermite3 o block.entries (record { object = object; first = arc.first; last = arc.last })
+    (subst (λ (f : Option Object). IsPlan as_hermite3 f block.entries (record { object = object; first = arc.first; last = arc.last })) e block.metadata)
+
+blocks_object : (as_hermite3 : Bool) (o object : Object) (first : Option Object) (from : ℕ) (forms : List Form) (arcs : List Arc) → first ≡ Some o
+    → AreBlocks as_hermite3 object first from forms arcs → object ≡ o
+blocks_object as_hermite3 o object first from forms arcs e (last f at ls arc block) = block_object as_hermite3 o f at ls object arc e block
+blocks_object as_hermite3 o object first from forms arcs e (more f at ls rest arc others block later) = block_object as_hermite3 o f at ls object arc e block
+
+-- one block is left
+blocks_last : (as_hermite3 : Bool) (b : Body) (forms : List Form) (body : Body) (r : IsBlockRead as_hermite3 b forms body) → r.rest ≡ [] → with_segment b r.object r.arc ≡ body
+    → AreBlocksRead as_hermite3 b forms body
+blocks_last as_hermite3 b forms body r none same =
+    let whole : forms ≡ r.block = r.shape ∙ ap (λ (fs : List Form). r.block ++ fs) none ∙ append-nil r.block in
+    record {
+      object = r.object;
+      arcs = r.arc ∷ [];
+      blocks = subst (λ (fs : List Form). AreBlocks as_hermite3 r.object b.object (end_of b.arcs) fs (r.arc ∷ [])) (sym whole) (last b.object (end_of b.arcs) r.block r.arc r.said);
+      named = ap (λ (c : Body). c.object) (sym same);
+      whole = ap (λ (c : Body). c.arcs) (sym same);
+    }
+
+-- more blocks follow
+blocks_more : (as_hermite3 : Bool) (b : Body) (forms : List Form) (body : Body) (r : IsBlockRead as_hermite3 b forms body)
+    → AreBlocksRead as_hermite3 (with_segment b r.object r.arc) r.rest body → AreBlocksRead as_hermite3 b forms body
+blocks_more as_hermite3 b forms body r later =
+    let object : later.object ≡ r.object = blocks_object as_hermite3 r.object later.object (Some r.object) (end_of (b.arcs ++ r.arc ∷ [])) r.rest later.arcs refl later.blocks in
+    let others : AreBlocks as_hermite3 r.object (Some r.object) r.arc.last r.rest later.arcs =
+    subst (λ (n : ℕ). AreBlocks as_hermite3 r.object (Some r.object) n r.rest later.arcs) (end_push b.arcs r.arc)
+    (subst (λ (o : Object). AreBlocks as_hermite3 o (Some r.object) (end_of (b.arcs ++ r.arc ∷ [])) r.rest later.arcs) object later.blocks) in
+    record {
+      object = r.object;
+      arcs = r.arc ∷ later.arcs;
+      blocks =
+          subst (λ (fs : List Form). AreBlocks as_hermite3 r.object b.object (end_of b.arcs) fs (r.arc ∷ later.arcs)) (sym r.shape)
+          (more b.object (end_of b.arcs) r.block r.rest r.arc later.arcs r.said others);
+      named = later.named ∙ ap (λ (o : Object). Some o) object;
+      whole = later.whole ∙ append_assoc b.arcs (r.arc ∷ []) later.arcs;
+    }
+
+-- a block is not empty
+shorter : (as_hermite3 : Bool) (b : Body) (forms : List Form) (body : Body) (r : IsBlockRead as_hermite3 b forms body) → length r.rest < length forms
+shorter as_hermite3 b forms body r =
+    let some : 1 ≤ length r.block = subst (λ (fs : List Form). 1 ≤ length fs) (sym r.said.shape) (omega arith) in
+    omega (arith, ap length r.shape, length-append r.block r.rest)
+
+blocks_read : (as_hermite3 : Bool) (n : ℕ) (b : Body) (forms : List Form) (body : Body) → length forms ≤ n → run as_hermite3 (After b) forms ≡ Ok body
+    → ((forms ≡ []) × (b ≡ body)) ⊎ AreBlocksRead as_hermite3 b forms body
+unfolding finished
+blocks_read as_hermite3 n b [] body few e = inl (refl, cc)
+blocks_read as_hermite3 n b (Blank ∷ forms) body few e = absurd cc
+blocks_read as_hermite3 n b (Comment ∷ forms) body few e = absurd cc
+blocks_read as_hermite3 zero b (Mark MetaStart ∷ forms) body few e = absurd (omega arith)
+blocks_read as_hermite3 (suc n) b (Mark MetaStart ∷ forms) body few e =
+    let r = block_read as_hermite3 b forms body e in
+    let less = shorter as_hermite3 b (Mark MetaStart ∷ forms) body r in
+    inr (⊎_elim
+    (λ end. blocks_last as_hermite3 b (Mark MetaStart ∷ forms) body r end.0 end.1)
+    (λ later. blocks_more as_hermite3 b (Mark MetaStart ∷ forms) body r later)
+    (blocks_read as_hermite3 n (with_segment b r.object r.arc) r.rest body (omega arith) r.next))
+blocks_read as_hermite3 n b (Mark MetaStop ∷ forms) body few e = absurd cc
+blocks_read as_hermite3 n b (Mark CovarianceStart ∷ forms) body few e = absurd cc
+blocks_read as_hermite3 n b (Mark CovarianceStop ∷ forms) body few e = absurd cc
+blocks_read as_hermite3 n b (Pair key value ∷ forms) body few e = absurd cc
+blocks_read as_hermite3 n b (Row text ∷ forms) body few e = absurd cc
+
+-- from where a block may begin, what is left is nothing or blocks
+pub blocks_are : (as_hermite3 : Bool) (b : Body) (forms : List Form) (body : Body) → run as_hermite3 (Meta b EMPTY) forms ≡ Ok body
+    → AreBlocksRead as_hermite3 b (Mark MetaStart ∷ forms) body
+blocks_are as_hermite3 b forms body e =
+    ⊎_elim (λ none. absurd cc) (λ blocks. blocks) (blocks_read as_hermite3 (length (Mark MetaStart ∷ forms)) b (Mark MetaStart ∷ forms) body (omega arith) e)
+
+-- ---- blocks are accepted
+
+-- nothing, or a further block
+abbrev MayFollow : List Form → Type 0
+MayFollow [] = Unit {0}
+MayFollow (Blank ∷ forms) = ⊥
+MayFollow (Comment ∷ forms) = ⊥
+MayFollow (Mark MetaStart ∷ forms) = Unit {0}
+MayFollow (Mark MetaStop ∷ forms) = ⊥
+MayFollow (Mark CovarianceStart ∷ forms) = ⊥
+MayFollow (Mark CovarianceStop ∷ forms) = ⊥
+MayFollow (Pair key value ∷ forms) = ⊥
+MayFollow (Row text ∷ forms) = ⊥
+
+run_close : (as_hermite3 : Bool) (b : Body) (s : Stretch) (rest : List Form) → close_nodes b s ≡ Ok tt → MayFollow rest
+    → run as_hermite3 (Data b s) rest ≡ run as_hermite3 (After (with_arc b s [])) rest
+unfolding finished
+run_close as_hermite3 b s [] e may = ap (λ (r : Result (Unit {0}) OemCause). r >>= λ _. Ok (with_arc b s [])) e
+run_close as_hermite3 b s (Blank ∷ rest) e may = absurd may
+run_close as_hermite3 b s (Comment ∷ rest) e may = absurd may
+run_close as_hermite3 b s (Mark MetaStart ∷ rest) e may =
+    ap (λ (r : Result (Unit {0}) OemCause). (r >>= λ _. Ok (Meta (with_arc b s []) EMPTY)) >>= λ next. run as_hermite3 next rest) e
+run_close as_hermite3 b s (Mark MetaStop ∷ rest) e may = absurd may
+run_close as_hermite3 b s (Mark CovarianceStart ∷ rest) e may = absurd may
+run_close as_hermite3 b s (Mark CovarianceStop ∷ rest) e may = absurd may
+run_close as_hermite3 b s (Pair key value ∷ rest) e may = absurd may
+run_close as_hermite3 b s (Row text ∷ rest) e may = absurd may
+
+run_end_some : (as_hermite3 : Bool) (b : Body) (s : Stretch) (front rest : List Form) (covariances : List Covariance) → close_nodes b s ≡ Ok tt → AreCovariances front covariances
+    → run as_hermite3 (Data b s) (front ++ rest) ≡ run as_hermite3 (After (with_arc b s covariances)) rest
+run_end_some as_hermite3 b s front rest covariances e a =
+    let inner = (a.inner ++ Mark CovarianceStop ∷ []) ++ rest in
+    ap (λ (fs : List Form). run as_hermite3 (Data b s) (fs ++ rest)) a.marks
+    ∙ ap (λ (r : Result (Unit {0}) OemCause). (r >>= λ _. Ok (Cov b s NO_COVARIANCES)) >>= λ next. run as_hermite3 next inner) e
+    ∙ ap (run as_hermite3 (Cov b s NO_COVARIANCES)) (append_assoc a.inner (Mark CovarianceStop ∷ []) rest)
+    ∙ run_covariances as_hermite3 b s a.inner NO_COVARIANCES a.read (Mark CovarianceStop ∷ rest) a.said
+    ∙ ap (λ (r : Result (List Covariance) OemCause). (r >>= λ cs. Ok (After (with_arc b s cs))) >>= λ next. run as_hermite3 next rest) a.whole
+
+run_end_none : (as_hermite3 : Bool) (b : Body) (s : Stretch) (front rest : List Form) (covariances : List Covariance) → close_nodes b s ≡ Ok tt → HasNoCovariances front covariances
+    → MayFollow rest → run as_hermite3 (Data b s) (front ++ rest) ≡ run as_hermite3 (After (with_arc b s covariances)) rest
+run_end_none as_hermite3 b s front rest covariances e n may =
+    ap (λ (fs : List Form). run as_hermite3 (Data b s) (fs ++ rest)) n.no_line
+    ∙ run_close as_hermite3 b s rest e may
+    ∙ ap (λ (cs : List Covariance). run as_hermite3 (After (with_arc b s cs)) rest) (sym n.none)
+
+run_block : (as_hermite3 : Bool) (b : Body) (lines rest : List Form) (object : Object) (arc : Arc) → IsBlock as_hermite3 b.object (end_of b.arcs) lines object arc → MayFollow rest
+    → run as_hermite3 (After b) (lines ++ rest) ≡ run as_hermite3 (After (with_segment b object arc)) rest
+run_block as_hermite3 b lines rest object arc block may =
+    let plan : Plan = record { object = object; first = arc.first; last = arc.last } in
+    let s = stretch plan arc.states in
+    let closed = close_again b s (record { enough = block.enough; useable = block.useable; later = block.later }) in
+    let behind = row_lines block.rows ++ (block.rest ++ rest) in
+    ap (λ (fs : List Form). run as_hermite3 (After b) (fs ++ rest)) block.shape
+    ∙ ap (run as_hermite3 (After b)) (sym (lines_behind block.entries block.rows block.rest rest))
+    ∙ run_meta as_hermite3 b block.entries EMPTY block.metadata.sheet (Mark MetaStop ∷ behind) block.metadata.read
+    ∙ ap (λ (r : Result Plan OemCause). (r >>= λ p. Ok (Data b (stretch p []))) >>= λ next. run as_hermite3 next behind) block.metadata.whole
+    ∙ run_rows as_hermite3 b plan block.rows [] arc.states (block.rest ++ rest) block.states
+    ∙ ⊎_elim
+    (λ some. run_end_some as_hermite3 b s block.rest rest arc.covariances closed some)
+    (λ none. run_end_none as_hermite3 b s block.rest rest arc.covariances closed none may)
+    block.covariances
+
+-- a block begins with its metadata
+abbrev pub Begins : List Form → Type 0
+Begins forms = (rest : List Form) × (forms ≡ Mark MetaStart ∷ rest)
+
+block_begins : (as_hermite3 : Bool) (first : Option Object) (from : ℕ) (lines rest : List Form) (object : Object) (arc : Arc) → IsBlock as_hermite3 first from lines object arc
+    → Begins (lines ++ rest)
+block_begins as_hermite3 first from lines rest object arc block =
+    (((pair_lines block.entries ++ Mark MetaStop ∷ row_lines block.rows) ++ block.rest) ++ rest, ap (λ (fs : List Form). fs ++ rest) block.shape)
+
+pub blocks_begin : (as_hermite3 : Bool) (object : Object) (first : Option Object) (from : ℕ) (forms : List Form) (arcs : List Arc) → AreBlocks as_hermite3 object first from forms arcs
+    → Begins forms
+blocks_begin as_hermite3 object first from forms arcs (last f at ls arc block) = subst Begins (append-nil ls) (block_begins as_hermite3 f at ls [] object arc block)
+blocks_begin as_hermite3 object first from forms arcs (more f at ls rest arc others block later) = block_begins as_hermite3 f at ls rest object arc block
+
+blocks_follow : (forms : List Form) → Begins forms → MayFollow forms
+blocks_follow forms b = subst MayFollow (sym b.1) tt
+
+-- the block, from where the body stands
+block_at : (as_hermite3 : Bool) (b : Body) (first : Option Object) (from : ℕ) (lines : List Form) (object : Object) (arc : Arc) → first ≡ b.object → from ≡ end_of b.arcs
+    → IsBlock as_hermite3 first from lines object arc → IsBlock as_hermite3 b.object (end_of b.arcs) lines object arc
+block_at as_hermite3 b first from lines object arc e g block = subst₂ (λ (o : Option Object) (n : ℕ). IsBlock as_hermite3 o n lines object arc) e g block
+
+pub blocks_again : (as_hermite3 : Bool) (object : Object) (first : Option Object) (from : ℕ) (forms : List Form) (arcs : List Arc) → AreBlocks as_hermite3 object first from forms arcs
+    → (b : Body) → first ≡ b.object → from ≡ end_of b.arcs → run as_hermite3 (After b) forms ≡ Ok (record { object = Some object; arcs = b.arcs ++ arcs })
+unfolding finished
+blocks_again as_hermite3 object first from forms arcs (last f at ls arc block) b e g =
+    ap (run as_hermite3 (After b)) (sym (append-nil ls))
+    ∙ run_block as_hermite3 b ls [] object arc (block_at as_hermite3 b f at ls object arc e g block) tt
+blocks_again as_hermite3 object first from forms arcs (more f at ls rest arc others block later) b e g =
+    run_block as_hermite3 b ls rest object arc (block_at as_hermite3 b f at ls object arc e g block) (blocks_follow rest (blocks_begin as_hermite3 object (Some object) arc.last rest others later))
+    ∙ blocks_again as_hermite3 object (Some object) arc.last rest others later (with_segment b object arc) refl (sym (end_push b.arcs arc))
+    ∙ ap (λ (all : List Arc). Ok (record { object = Some object; arcs = all })) (append_assoc b.arcs (arc ∷ []) others)

@@ -1,0 +1,76 @@
+-- The row of a node.
+use Rattle.std.specs.Prelude.{ℕ, ◌+◌, Bool, true, false, ◌||◌, not, ◌==◌, nat_lt, nat_le, if◌then◌else◌, List, [], length, drop, slice_index_or, Option, Some, None, Result, Ok, Err, ℤ, unsigned_abs}
+use Rattle.std.specs.List.{list_all}
+use Rattle.cj_kvn.specs.Fields.{fields}
+use Rattle.cj_kvn.specs.Numbers.{Number, scaled_of}
+use Rattle.cj_kvn.specs.Decimals.{decimal_of}
+use Rattle.cj_kvn.specs.declared.numbers.NumFault.{NumFault}
+use Rattle.cj_kvn.specs.declared.numbers.NumFault.TheVariants.{NotNumber, TooLarge}
+use Rattle.cj_epoch.specs.LeapSeconds.{leap_lies_between}
+use Rattle.cj_oem.specs.declared.vec3.Vec3.{Vec3}
+use Rattle.cj_oem.specs.declared.fault.OemCause.{OemCause}
+use Rattle.cj_oem.specs.declared.fault.OemCause.TheVariants as causes
+use Rattle.cj_oem.specs.Limits.{MAX_COORDINATE, MAX_RATE, MAX_STEP}
+use Rattle.cj_oem.specs.Ephemeris.{State}
+use Rattle.cj_oem.specs.Metadata.{◌>>=◌, unless, epoch_said}
+
+-- a number in units of 10 ^ -12; none where it is past every range
+abbrev pub figure_or : Result ℤ NumFault → Result (Option ℤ) OemCause
+figure_or (Ok z) = Ok (Some z)
+figure_or (Err TooLarge) = Ok None
+figure_or (Err NotNumber) = Err causes.Number
+
+abbrev pub figure_said : List ℕ → Result (Option ℤ) OemCause
+figure_said text = figure_or (scaled_of 12 text)
+
+-- a number that is at most so large in size
+abbrev pub within_or : ℕ → OemCause → Option ℤ → Result ℤ OemCause
+within_or limit cause None = Err cause
+within_or limit cause (Some z) = if nat_le (unsigned_abs z) limit then Ok z else Err cause
+
+-- three of them
+abbrev pub vector_within : ℕ → OemCause → Option ℤ → Option ℤ → Option ℤ → Result Vec3 OemCause
+vector_within limit cause a b c = do
+  x ← within_or limit cause a
+  y ← within_or limit cause b
+  z ← within_or limit cause c
+  Ok (record { x = x; y = y; z = z })
+
+abbrev pub is_decimal_read : Result Number NumFault → Bool
+is_decimal_read (Ok n) = true
+is_decimal_read (Err e) = false
+
+abbrev pub is_decimal : List ℕ → Bool
+is_decimal text = is_decimal_read (decimal_of text)
+
+-- the field with this index
+abbrev pub field_in : List (List ℕ) → ℕ → List ℕ
+field_in row i = slice_index_or row i []
+
+-- the node may follow the one before
+abbrev pub following : Option State → State → Result State OemCause
+following None s = Ok s
+following (Some before) s = do
+  _ ← unless (nat_le s.at before.at) causes.TimesFall
+  _ ← unless (nat_lt (before.at + MAX_STEP) s.at) causes.StepTooLong
+  _ ← unless (leap_lies_between before.at s.at) causes.LeapSecond
+  Ok s
+
+-- the state of a row of seven fields, or of ten with accelerations, that follows the state before
+unfoldable pub state_of_fields : Option State → List (List ℕ) → Result State OemCause
+state_of_fields before row = do
+  _ ← unless (not ((length row == 7) || (length row == 10))) causes.Fields
+  at ← epoch_said (field_in row 0)
+  x ← figure_said (field_in row 1)
+  y ← figure_said (field_in row 2)
+  z ← figure_said (field_in row 3)
+  u ← figure_said (field_in row 4)
+  v ← figure_said (field_in row 5)
+  w ← figure_said (field_in row 6)
+  _ ← unless (not (list_all is_decimal (drop 7 row))) causes.Number
+  place ← vector_within MAX_COORDINATE causes.CoordinateRange x y z
+  rate ← vector_within MAX_RATE causes.RateRange u v w
+  following before (record { at = at; p = place; v = rate })
+
+abbrev pub state_of_row : Option State → List ℕ → Result State OemCause
+state_of_row before text = state_of_fields before (fields text)

@@ -1,0 +1,55 @@
+-- What a reader of a file knows, as it goes from line to line.
+use Rattle.std.specs.Prelude.{◌≡◌, ℕ, map, Result, Ok, Err}
+use Rattle.std.specs.Option.{option_map}
+use Rattle.cj_kvn.specs.declared.lines.KvnFault.{KvnFault}
+use Rattle.cj_kvn.specs.declared.lines.KvnFault.TheVariants as lines
+use Rattle.cj_oem.specs.Stages as spec
+use Rattle.cj_oem.specs.Drafts.{covariances_of}
+use Rattle.cj_oem.specs.Reading.{Fault}
+use Rattle.cj_oem.specs.Sheets.{object_of, plan_of, sheet_of}
+use Rattle.cj_oem.specs.Tracks.{arc_of, state_of}
+use Rattle.cj_oem.specs.declared.body.Body.{Body}
+use Rattle.cj_oem.specs.declared.body.Stretch.{Stretch}
+use Rattle.cj_oem.specs.declared.fault.KvnCause.TheVariants as kvn
+use Rattle.cj_oem.specs.declared.fault.OemCause.TheVariants as causes
+use Rattle.cj_oem.specs.declared.fault.OemFault.{OemFault}
+use Rattle.cj_oem.specs.declared.fault.OemFault.TheVariants.{Memory, At}
+use Rattle.cj_oem.specs.declared.head.Head.{Head}
+use Rattle.cj_oem.specs.declared.refused.Refused.{Refused}
+use Rattle.cj_oem.specs.declared.refused.Refused.TheVariants as refusals
+use Rattle.cj_oem.specs.declared.stage.Stage.{Stage}
+use Rattle.cj_oem.specs.declared.stage.Stage.TheVariants as stages
+
+abbrev pub head_of : Head → spec.Head
+head_of h = record { date = h.date; originator = h.originator; classification = h.classification; message = h.message }
+
+abbrev pub body_of : Body → spec.Body
+body_of body = record { object = option_map object_of body.object; arcs = map arc_of body.segments }
+
+abbrev pub stretch_of : Stretch → spec.Stretch
+stretch_of stretch = record { plan = plan_of stretch.plan; states = map state_of stretch.nodes }
+
+abbrev pub stage_of : Stage → spec.Stage
+stage_of stages.Start = spec.Start
+stage_of (stages.Header head) = spec.Header (head_of head)
+stage_of (stages.Meta body sheet) = spec.Meta (body_of body) (sheet_of sheet)
+stage_of (stages.Data body stretch) = spec.Data (body_of body) (stretch_of stretch)
+stage_of (stages.Cov closed covariances) = spec.Cov (body_of closed.body) (stretch_of closed.stretch) (covariances_of covariances)
+stage_of (stages.After body) = spec.After (body_of body)
+
+-- what a reader answers is what the file says, or the fault at its line; for want of memory nothing is told
+abbrev pub Gives : {X Y : Type 0} → (X → Y) → Result X OemFault → Result Y Fault → Type 0
+Gives view (Ok x) said = said ≡ Ok (view x)
+Gives view (Err (At line cause)) said = said ≡ Err (record { line = line; cause = cause })
+Gives view (Err Memory) said = Unit {0}
+
+-- why a line is not followed, as a fault of the file
+abbrev pub refused_at : ℕ → Refused → OemFault
+refused_at line refusals.Memory = Memory
+refused_at line (refusals.Because cause) = At line cause
+
+-- a fault of lines, as a fault of the file
+abbrev pub fault_of : KvnFault → OemFault
+fault_of lines.Memory = Memory
+fault_of (lines.NotPrintable line) = At line (causes.Kvn kvn.NotPrintable)
+fault_of (lines.NoLineForm line) = At line (causes.Kvn kvn.NoLineForm)

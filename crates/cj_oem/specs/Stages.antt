@@ -1,0 +1,163 @@
+-- The grammar of a file line by line: where a reader stands, and what each line leads to.
+use Rattle.std.specs.Prelude.{ℕ, Bool, true, false, ◌&&◌, ◌||◌, not, nat_lt, nat_le, if◌then◌else◌, List, [], ◌∷◌, ◌++◌, length, map, Option, Some, None, unwrap_or, Result, Ok, Err, codes}
+use Rattle.std.specs.List.{last_or}
+use Rattle.cj_kvn.specs.Lines.{Form, Blank, Comment, Mark, Pair, Row}
+use Rattle.cj_kvn.specs.declared.lines.MarkKind.TheVariants.{MetaStart, MetaStop, CovarianceStart, CovarianceStop}
+use Rattle.cj_oem.specs.declared.fault.OemCause.{OemCause}
+use Rattle.cj_oem.specs.declared.fault.OemCause.TheVariants as causes
+use Rattle.cj_oem.specs.Labels.{is_text}
+use Rattle.cj_oem.specs.Ephemeris.{State, Arc, Covariance}
+use Rattle.cj_oem.specs.Metadata.{◌>>=◌, unless, Object, Sheet, EMPTY, Plan, with_pair, plan_of}
+use Rattle.cj_oem.specs.NodeRows.{state_of_row}
+use Rattle.cj_oem.specs.CovarianceRows.{Covariances, NO_COVARIANCES, closed, with_matrix_pair, with_matrix_row}
+
+-- which keys the header has given
+pub record Head : Type 0 where
+  pub date : Bool
+  pub originator : Bool
+  pub classification : Bool
+  pub message : Bool
+
+abbrev pub NO_HEAD : Head
+NO_HEAD = record { date = false; originator = false; classification = false; message = false }
+
+-- the object, where a segment has named it, and the segments that are whole
+pub record Body : Type 0 where
+  pub object : Option Object
+  pub arcs : List Arc
+
+abbrev pub NO_BODY : Body
+NO_BODY = record { object = None; arcs = [] }
+
+-- a segment so far: what its metadata says, and its states
+pub record Stretch : Type 0 where
+  pub plan : Plan
+  pub states : List State
+
+-- where a reader stands
+pub data Stage : Type 0 where
+  Start : Stage
+  Header : Head → Stage
+  Meta : Body → Sheet → Stage
+  Data : Body → Stretch → Stage
+  Cov : Body → Stretch → Covariances → Stage
+  After : Body → Stage
+
+-- ---- the header
+
+-- the versions that are read
+abbrev pub is_version : List ℕ → Bool
+is_version value = is_text (codes "1.0") value || is_text (codes "2.0") value || is_text (codes "3.0") value
+
+-- the first line
+abbrev pub begun : Form → Result Stage OemCause
+begun (Pair key value) =
+    if is_text (codes "CCSDS_OEM_VERS") key then (if is_version value then Ok (Header NO_HEAD) else Err causes.Version)
+    else Err causes.Order
+begun form = Err causes.Order
+
+-- a flag that is set once
+abbrev pub once : Bool → Head → Result Head OemCause
+once given head = if given then Err causes.Twice else Ok head
+
+-- the header with a further key
+abbrev pub with_head_key : Head → List ℕ → Result Head OemCause
+with_head_key h key =
+    if is_text (codes "CREATION_DATE") key then once h.date (record h { date = true })
+    else if is_text (codes "ORIGINATOR") key then once h.originator (record h { originator = true })
+    else if is_text (codes "CLASSIFICATION") key then once h.classification (record h { classification = true })
+    else if is_text (codes "MESSAGE_ID") key then once h.message (record h { message = true })
+    else if is_text (codes "CCSDS_OEM_VERS") key then Err causes.Twice
+    else Err causes.Unknown
+
+abbrev pub in_header : Head → Form → Result Stage OemCause
+in_header h (Pair key value) = with_head_key h key >>= λ head. Ok (Header head)
+in_header h (Mark MetaStart) = if h.date && h.originator then Ok (Meta NO_BODY EMPTY) else Err causes.Missing
+in_header h form = Err causes.Order
+
+-- ---- metadata
+
+abbrev pub in_meta : Bool → Body → Sheet → Form → Result Stage OemCause
+in_meta as_hermite3 b s (Pair key value) = with_pair b.object s key value >>= λ sheet. Ok (Meta b sheet)
+in_meta as_hermite3 b s (Mark MetaStop) = plan_of as_hermite3 s >>= λ plan. Ok (Data b (record { plan = plan; states = [] }))
+in_meta as_hermite3 b s form = Err causes.Order
+
+-- ---- nodes
+
+-- the first state, and the last one
+abbrev pub first_state : List State → Option State
+first_state [] = None
+first_state (s ∷ states) = Some s
+
+abbrev pub last_state : List State → Option State
+last_state states = last_or None states
+
+-- the useable span is not empty, and lies from the first node to the last
+abbrev pub is_useable : ℕ → ℕ → Option State → Option State → Bool
+is_useable first last None z = false
+is_useable first last (Some a) None = false
+is_useable first last (Some a) (Some z) = nat_le first last && nat_le a.at first && nat_le last z.at
+
+-- the tick up to which the segments before are useable
+abbrev pub end_of : List Arc → ℕ
+end_of arcs = unwrap_or (last_or None (map (λ arc. arc.last) arcs)) 0
+
+-- the nodes of a segment are closed
+unfoldable pub close_nodes : Body → Stretch → Result (Unit {0}) OemCause
+close_nodes b s = do
+  _ ← unless (nat_lt (length s.states) 2) causes.TooFewNodes
+  _ ← unless (not (is_useable s.plan.first s.plan.last (first_state s.states) (last_state s.states))) causes.UseableSpan
+  unless (nat_lt s.plan.first (end_of b.arcs)) causes.SegmentsOverlap
+
+-- the segments with a further one
+abbrev pub with_arc : Body → Stretch → List Covariance → Body
+with_arc b s covariances = record {
+  object = Some s.plan.object;
+  arcs = b.arcs ++ record { first = s.plan.first; last = s.plan.last; states = s.states; covariances = covariances } ∷ [];
+}
+
+abbrev pub in_data : Body → Stretch → Form → Result Stage OemCause
+in_data b s (Row text) = state_of_row (last_state s.states) text >>= λ state. Ok (Data b (record s { states = s.states ++ state ∷ [] }))
+in_data b s (Mark MetaStart) = close_nodes b s >>= λ _. Ok (Meta (with_arc b s []) EMPTY)
+in_data b s (Mark CovarianceStart) = close_nodes b s >>= λ _. Ok (Cov b s NO_COVARIANCES)
+in_data b s form = Err causes.Order
+
+-- ---- covariances
+
+abbrev pub in_cov : Body → Stretch → Covariances → Form → Result Stage OemCause
+in_cov b s m (Pair key value) = with_matrix_pair m key value >>= λ m. Ok (Cov b s m)
+in_cov b s m (Row text) = with_matrix_row m text >>= λ m. Ok (Cov b s m)
+in_cov b s m (Mark CovarianceStop) = closed m >>= λ covariances. Ok (After (with_arc b s covariances))
+in_cov b s m form = Err causes.Order
+
+abbrev pub in_after : Body → Form → Result Stage OemCause
+in_after b (Mark MetaStart) = Ok (Meta b EMPTY)
+in_after b form = Err causes.Order
+
+-- ---- all lines
+
+-- what a line that is neither blank nor a comment leads to
+abbrev pub led : Bool → Stage → Form → Result Stage OemCause
+led as_hermite3 Start form = begun form
+led as_hermite3 (Header h) form = in_header h form
+led as_hermite3 (Meta b s) form = in_meta as_hermite3 b s form
+led as_hermite3 (Data b s) form = in_data b s form
+led as_hermite3 (Cov b s m) form = in_cov b s m form
+led as_hermite3 (After b) form = in_after b form
+
+-- what a line leads to: blank lines and comments change nothing
+unfoldable pub follows : Bool → Stage → Form → Result Stage OemCause
+follows as_hermite3 stage Blank = Ok stage
+follows as_hermite3 stage Comment = Ok stage
+follows as_hermite3 stage (Mark mark) = led as_hermite3 stage (Mark mark)
+follows as_hermite3 stage (Pair key value) = led as_hermite3 stage (Pair key value)
+follows as_hermite3 stage (Row text) = led as_hermite3 stage (Row text)
+
+-- what the end of the file leads to
+unfoldable pub finished : Stage → Result Body OemCause
+finished Start = Err causes.Missing
+finished (Header h) = Err causes.Missing
+finished (Meta b s) = Err causes.Missing
+finished (Data b s) = close_nodes b s >>= λ _. Ok (with_arc b s [])
+finished (Cov b s m) = Err causes.Missing
+finished (After b) = Ok b

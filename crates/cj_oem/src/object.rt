@@ -1,0 +1,16 @@
+ghost use Rattle.std.specs.Prelude.{◌≡◌, true};
+ghost use Rattle.cj_oem.specs.Labels.{is_label};
+
+use crate::frame::Frame;
+use cj_kvn::Text;
+
+/// The object of a file.
+#[derive(Debug, Drop)]
+pub(crate) struct Object {
+    pub(crate) name: Text,
+    /// The designator.
+    pub(crate) id: Text,
+    pub(crate) frame: Frame,
+    pub(crate) ghost named: { is_label name ≡ true },
+    pub(crate) ghost designated: { is_label id ≡ true },
+}

@@ -1,0 +1,92 @@
+//! The covariances of a segment.
+ghost use Rattle.std.specs.Prelude.{◌≡◌, ◌∷◌, ◌++◌, length, map, flat_map, All, OnOk};
+ghost use Rattle.cj_kvn.specs.Decimals.{IsReadable, decimal_text_of, number_of};
+ghost use Rattle.cj_oem.specs.Canonical.{covariance_text, covariances_text, line, numbers_text};
+ghost use Rattle.cj_oem.specs.Tracks.{covariance_of};
+
+use crate::matrix::Matrix;
+use crate::printing::lines::{push_entry, push_line};
+use cj_epoch::epoch_text;
+use cj_kvn::{Decimal, decimal_text};
+use std::alloc::AllocError;
+
+/// Adds the covariances between their marks, where there are any.
+pub(crate) fn push_covariances(text: &mut Vec<u8>, matrices: &[Matrix]) -> Result<(), AllocError>
+    ensures text { OnOk result (text.new.items ≡ text.old.items ++ covariances_text (map covariance_of matrices.now)) }
+    ensures kept { OnOk result (All (λ m. length m.values ≡ 21) matrices.now) }
+{
+    if matrices.is_empty() {
+        return Ok(());
+    }
+    push_line(text, b"COVARIANCE_START")?;
+    push_matrices(text, matrices)?;
+    push_line(text, b"COVARIANCE_STOP")
+}
+
+fn push_matrices(text: &mut Vec<u8>, matrices: &[Matrix]) -> Result<(), AllocError>
+    ensures text { OnOk result (text.new.items ≡ text.old.items ++ flat_map covariance_text (map covariance_of matrices.now)) }
+    ensures kept { OnOk result (All (λ m. length m.values ≡ 21) matrices.now) }
+{
+    for matrix in matrices {
+        push_matrix(text, matrix)?;
+    }
+    Ok(())
+}
+
+/// Adds a covariance: its epoch, its frame, its six rows.
+#[tactic(auto, unfolding(crate::specs::Canonical::covariance_text))]
+fn push_matrix(text: &mut Vec<u8>, matrix: &Matrix) -> Result<(), AllocError>
+    ensures text { OnOk result (text.new.items ≡ text.old.items ++ covariance_text (covariance_of matrix.now)) }
+    ensures kept { length matrix.now.values ≡ 21 }
+{
+    push_entry(text, b"EPOCH", &epoch_text(matrix.at))?;
+    push_entry(text, b"COV_REF_FRAME", b"RTN")?;
+    push_row(text, &matrix.values[0..1])?;
+    push_row(text, &matrix.values[1..3])?;
+    push_row(text, &matrix.values[3..6])?;
+    push_row(text, &matrix.values[6..10])?;
+    push_row(text, &matrix.values[10..15])?;
+    push_row(text, &matrix.values[15..21])
+}
+
+/// Adds the next row of a matrix.
+fn push_row(text: &mut Vec<u8>, row: &[Decimal]) -> Result<(), AllocError>
+    requires { All (λ d. IsReadable (number_of d)) row.now }
+    ensures { OnOk result (text.new.items ≡ text.old.items ++ line (numbers_text (map number_of row.now))) }
+{
+    push_numbers(text, row)?;
+    text.push(b'\n')?;
+    Ok(())
+}
+
+/// Adds numbers with a space between.
+fn push_numbers(text: &mut Vec<u8>, numbers: &[Decimal]) -> Result<(), AllocError>
+    requires { All (λ d. IsReadable (number_of d)) numbers.now }
+    ensures { OnOk result (text.new.items ≡ text.old.items ++ numbers_text (map number_of numbers.now)) }
+{
+    let [first, others @ ..] = numbers else {
+        return Ok(());
+    };
+    push_decimal(text, *first)?;
+    push_others(text, others)
+}
+
+/// Adds numbers with a space before each.
+fn push_others(text: &mut Vec<u8>, others: &[Decimal]) -> Result<(), AllocError>
+    requires { All (λ d. IsReadable (number_of d)) others.now }
+    ensures { OnOk result (text.new.items ≡ text.old.items
+        ++ flat_map (λ n. 32 ∷ decimal_text_of n) (map number_of others.now)) }
+{
+    for other in others {
+        text.push(b' ')?;
+        push_decimal(text, *other)?;
+    }
+    Ok(())
+}
+
+fn push_decimal(text: &mut Vec<u8>, number: Decimal) -> Result<(), AllocError>
+    requires { IsReadable (number_of number) }
+    ensures { OnOk result (text.new.items ≡ text.old.items ++ decimal_text_of (number_of number)) }
+{
+    text.extend_from_slice(&decimal_text(number))
+}

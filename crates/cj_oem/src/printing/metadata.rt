@@ -1,0 +1,43 @@
+//! The metadata of a segment.
+ghost use Rattle.std.specs.Prelude.{◌≡◌, ◌++◌, OnOk};
+ghost use Rattle.cj_oem.specs.Canonical as spec;
+ghost use Rattle.cj_oem.specs.Canonical.{metadata_text};
+ghost use Rattle.cj_oem.specs.Tracks.{arc_of, ephemeris_of};
+
+use crate::frame::Frame;
+use crate::printing::lines::{push_entry, push_line};
+use crate::segment::Segment;
+use crate::track::Track;
+use cj_epoch::epoch_text;
+use std::alloc::AllocError;
+
+/// Adds the metadata of a segment. Its times are those of its useable span.
+#[tactic(auto, unfolding(crate::specs::Canonical::metadata_text))]
+pub(crate) fn push_metadata(
+    text: &mut Vec<u8>,
+    track: &Track,
+    segment: &Segment,
+) -> Result<(), AllocError>
+    ensures { OnOk result (text.new.items ≡ text.old.items ++ metadata_text (ephemeris_of track.now) (arc_of segment.now)) }
+{
+    push_line(text, b"META_START")?;
+    push_entry(text, b"OBJECT_NAME", track.name.as_slice())?;
+    push_entry(text, b"OBJECT_ID", track.id.as_slice())?;
+    push_entry(text, b"CENTER_NAME", b"EARTH")?;
+    push_entry(text, b"REF_FRAME", frame_text(track.frame))?;
+    push_entry(text, b"TIME_SYSTEM", b"UTC")?;
+    push_entry(text, b"START_TIME", &epoch_text(segment.first))?;
+    push_entry(text, b"STOP_TIME", &epoch_text(segment.last))?;
+    push_entry(text, b"INTERPOLATION", b"HERMITE")?;
+    push_entry(text, b"INTERPOLATION_DEGREE", b"3")?;
+    push_line(text, b"META_STOP")
+}
+
+fn frame_text(frame: Frame) -> &'static [u8]
+    ensures { result.now ≡ spec.frame_text frame }
+{
+    match frame {
+        Frame::Eme2000 => b"EME2000",
+        Frame::Gcrf => b"GCRF",
+    }
+}

@@ -1,0 +1,32 @@
+//! The rows of nodes.
+ghost use Rattle.std.specs.Prelude.{◌≡◌, ◌++◌, map, flat_map, OnOk};
+ghost use Rattle.cj_oem.specs.Canonical.{row_text};
+ghost use Rattle.cj_oem.specs.Tracks.{state_of};
+
+use crate::node::Node;
+use crate::printing::figures::push_vector;
+use cj_epoch::epoch_text;
+use std::alloc::AllocError;
+
+/// Adds the rows of nodes.
+pub(crate) fn push_states(text: &mut Vec<u8>, nodes: &[Node]) -> Result<(), AllocError>
+    ensures { OnOk result (text.new.items ≡ text.old.items ++ flat_map row_text (map state_of nodes.now)) }
+{
+    for node in nodes {
+        push_state(text, node)?;
+    }
+    Ok(())
+}
+
+#[tactic(auto, unfolding(crate::specs::Canonical::row_text))]
+fn push_state(text: &mut Vec<u8>, node: &Node) -> Result<(), AllocError>
+    ensures { OnOk result (text.new.items ≡ text.old.items ++ row_text (state_of node.now)) }
+{
+    text.extend_from_slice(&epoch_text(node.at))?;
+    text.push(b' ')?;
+    push_vector(text, node.p)?;
+    text.push(b' ')?;
+    push_vector(text, node.v)?;
+    text.push(b'\n')?;
+    Ok(())
+}

@@ -1,0 +1,112 @@
+//! Reading a file.
+ghost use Rattle.std.specs.Prelude.{◌≡◌, ◌+◌, ◌≤◌, ◌^◌, ◌<◌, true, All, IfOk, length};
+ghost use Rattle.std.specs.List.{list_all};
+ghost use Rattle.cj_kvn.specs.Lines.{LineIsWithin, form_at, lines_at};
+ghost use Rattle.cj_oem.specs.Grammar.{Says};
+ghost use Rattle.cj_oem.specs.Labels as labels;
+ghost use Rattle.cj_oem.specs.Reading as spec;
+ghost use Rattle.cj_oem.specs.Readers.{Gives, body_of};
+ghost use Rattle.cj_oem.specs.Segments.{node_count};
+ghost use Rattle.cj_oem.specs.Sheets.{HasLabel};
+ghost use Rattle.cj_oem.specs.Stages.{Start};
+ghost use Rattle.cj_oem.specs.Tracks.{ephemeris_of};
+
+use crate::body::Body;
+use crate::fault::{OemCause, OemFault};
+use crate::stage::Stage;
+use crate::track::Track;
+use cj_kvn::{Line, Text, read_lines};
+use std::alloc::Global;
+
+/// The ephemeris that the bytes of the file with this name say.
+///
+/// The cubic between two nodes may be taken where the file declares another interpolation or none.
+///
+/// # Errors
+///
+/// The first fault of the file, at its line.
+pub fn read_oem(
+    alloc: Global,
+    name: &[u8],
+    bytes: &[u8],
+    as_hermite3: bool,
+) -> Result<Track, OemFault>
+    requires { length bytes.now + 1 < 2 ^ 32 }
+    ensures value { spec.Gives result (spec.reading name.now bytes.now as_hermite3) }
+    ensures says { IfOk result (λ track. Says as_hermite3 name.now bytes.now (ephemeris_of track)) }
+{
+    if !is_file_name(name) {
+        return Err(OemFault::At {
+            line: 0,
+            cause: OemCause::Name,
+        });
+    }
+    let lines = read_lines(alloc, bytes)?;
+    let body = read_body(alloc, bytes, &lines, as_hermite3)?;
+    track_of(alloc, name, body)
+}
+
+/// Whether a name is one of 1 to 200 printable bytes.
+#[tactic(auto, unfolding(crate::specs::Labels::is_file_name))]
+fn is_file_name(name: &[u8]) -> bool
+    ensures { result ≡ labels.is_file_name name.now }
+{
+    1 <= name.len() && name.len() <= 200 && are_visible(name)
+}
+
+fn are_visible(text: &[u8]) -> bool
+    ensures { result ≡ list_all labels.is_visible text.now }
+{
+    text.iter().all(|b| 32 <= *b && *b <= 126)
+}
+
+/// What the lines of a file say.
+fn read_body(
+    alloc: Global,
+    bytes: &[u8],
+    lines: &[Line],
+    as_hermite3: bool,
+) -> Result<Body, OemFault>
+    requires short { length bytes.now < 2 ^ 32 }
+    requires within { All (LineIsWithin bytes.now) lines.now }
+    requires labels { All (λ line. HasLabel (form_at bytes.now line.kind)) lines.now }
+    requires numbers { All (λ line. line.number + 1 < 2 ^ 32) lines.now }
+    ensures { Gives body_of result (spec.read_on as_hermite3 Start 1 (lines_at bytes.now lines.now)) }
+{
+    let mut stage = Stage::Start;
+    let mut number = 1;
+    for line in lines {
+        stage = match stage.follow(alloc, bytes, line.kind, as_hermite3) {
+            Ok(next) => next,
+            Err(refused) => return Err(refused.at(line.number)),
+        };
+        number = line.number + 1;
+    }
+    match stage.finish(alloc) {
+        Ok(body) => Ok(body),
+        Err(refused) => Err(refused.at(number)),
+    }
+}
+
+/// The track of the file with this name.
+fn track_of(alloc: Global, file: &[u8], body: Body) -> Result<Track, OemFault>
+    requires named { labels.is_file_name file.now ≡ true }
+    requires some { 1 ≤ length body.segments }
+    requires few { node_count body.segments < 2 ^ 32 }
+    ensures { Gives ephemeris_of result (spec.with_object file.now (body_of body) (body_of body).object) }
+{
+    let Body { object, segments } = body;
+    let Some(object) = object else {
+        return Err(OemFault::At {
+            line: 0,
+            cause: OemCause::Missing,
+        });
+    };
+    Ok(Track {
+        file: Text::copy_of(alloc, file)?,
+        name: object.name,
+        id: object.id,
+        frame: object.frame,
+        segments: segments.into_segments(alloc)?,
+    })
+}

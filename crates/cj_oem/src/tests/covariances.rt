@@ -1,0 +1,215 @@
+use super::texts::{
+    Fault, base_with, counts_of, fault_in, fault_with, matrix_tick, read, two_with, value_of,
+};
+use crate::{OemCause, OemFault};
+use cj_epoch::EpochFault;
+use std::alloc::{AllocError, Global};
+use std::test::Fail;
+
+const EPOCH: &[u8] = b"EPOCH = 2025-01-01T00:00:00\n";
+
+const RTN: &[u8] = b"COV_REF_FRAME = RTN\n";
+
+const SIX_ROWS: &[u8] = b"0.25\n0 1\n0 0 1\n0 0 0 1\n0 0 0 0 1\n0 0 0 0 0 -3e-4\n";
+
+const STOP: &[u8] = b"COVARIANCE_STOP";
+
+/// The last node and then, from line 17 on, covariances of these parts.
+fn with_covariances(alloc: Global, parts: &[&[u8]]) -> Result<Vec<u8>, AllocError> {
+    let mut lines = Vec::from_slice(
+        alloc,
+        b"2025-01-01T00:01:00 7000 225 0 0 7.5 0\nCOVARIANCE_START\n",
+    )?;
+    for part in parts {
+        lines.extend_from_slice(part)?;
+    }
+    base_with(alloc, &[(16, &lines)])
+}
+
+/// The parts of covariances, and the fault that the file then has.
+type Parts<'a> = (&'a [&'a [u8]], Option<Fault>);
+
+/// The first case in which the file does not have its fault.
+fn first_wrong(alloc: Global, cases: &[Parts]) -> Result<Option<usize>, OemFault> {
+    for (i, (parts, fault)) in cases.iter().enumerate() {
+        let text = with_covariances(alloc, parts)?;
+        if fault_in(alloc, &text)? != *fault {
+            return Ok(Some(i));
+        }
+    }
+    Ok(None)
+}
+
+const KEPT: [(&[&[u8]], usize); 6] = [
+    (&[STOP], 0),
+    (&[EPOCH, RTN, SIX_ROWS, STOP], 1),
+    (&[EPOCH, b"COV_REF_FRAME = rtn\n", SIX_ROWS, STOP], 1),
+    (&[EPOCH, b"COV_REF_FRAME = TNW\n", SIX_ROWS, STOP], 0),
+    (&[EPOCH, SIX_ROWS, STOP], 0),
+    (
+        &[
+            EPOCH, RTN, SIX_ROWS, EPOCH, SIX_ROWS, EPOCH, RTN, SIX_ROWS, STOP,
+        ],
+        2,
+    ),
+];
+
+#[test]
+fn a_matrix_is_kept_in_the_frame_rtn_alone(rt: HostRuntime) -> Result<(), Fail> {
+    for (parts, count) in KEPT {
+        let text = with_covariances(rt.alloc(), parts)?;
+        let track = read(rt.alloc(), &text, false)?;
+        assert_eq!(rt; counts_of(&track, 0), Some((2, count)));
+    }
+    Ok(())
+}
+
+#[test]
+fn the_values_of_a_matrix_stand_row_by_row(rt: HostRuntime) -> Result<(), Fail> {
+    let text = with_covariances(rt.alloc(), &[EPOCH, RTN, SIX_ROWS, STOP])?;
+    let track = read(rt.alloc(), &text, false)?;
+    assert_eq!(rt; matrix_tick(&track, 0, 0), Some(1_735_689_600_000_000));
+    assert_eq!(rt; value_of(&track, 0, 0, 0), Some((false, 25, -2)));
+    assert_eq!(rt; value_of(&track, 0, 0, 1), Some((false, 0, 0)));
+    for diagonal in [2, 5, 9, 14] {
+        assert_eq!(rt; value_of(&track, 0, 0, diagonal), Some((false, 1, 0)));
+    }
+    assert_eq!(rt; value_of(&track, 0, 0, 20), Some((true, 3, -4)));
+    Ok(())
+}
+
+const FAULTS: [Parts<'static>; 20] = [
+    (
+        &[b"EPOCH = now\n", STOP],
+        Some((18, OemCause::Epoch(EpochFault::Form))),
+    ),
+    (
+        &[RTN, EPOCH, SIX_ROWS, STOP],
+        Some((18, OemCause::MatrixForm)),
+    ),
+    (&[SIX_ROWS, STOP], Some((18, OemCause::MatrixForm))),
+    (
+        &[EPOCH, RTN, RTN, SIX_ROWS, STOP],
+        Some((20, OemCause::MatrixForm)),
+    ),
+    (
+        &[EPOCH, b"1\n", RTN, STOP],
+        Some((20, OemCause::MatrixForm)),
+    ),
+    (
+        &[EPOCH, b"1\n1 1 1\n", STOP],
+        Some((20, OemCause::MatrixForm)),
+    ),
+    (&[EPOCH, b"1 1\n", STOP], Some((19, OemCause::MatrixForm))),
+    (
+        &[EPOCH, SIX_ROWS, b"1 1 1 1 1 1 1\n", STOP],
+        Some((25, OemCause::MatrixForm)),
+    ),
+    (&[EPOCH, b"1\n", STOP], Some((20, OemCause::MatrixForm))),
+    (&[EPOCH, STOP], Some((19, OemCause::MatrixForm))),
+    (&[EPOCH, EPOCH, STOP], Some((19, OemCause::MatrixForm))),
+    (
+        &[EPOCH, b"1\n", b"EPOCH = now\n", STOP],
+        Some((20, OemCause::MatrixForm)),
+    ),
+    (&[EPOCH, b"x\n", STOP], Some((19, OemCause::Number))),
+    (
+        &[EPOCH, b"1\n1 1e100\n", STOP],
+        Some((20, OemCause::Number)),
+    ),
+    (&[EPOCH, b"x x\n", STOP], Some((19, OemCause::MatrixForm))),
+    (
+        &[EPOCH, b"OBJECT_NAME = SAT A\n", STOP],
+        Some((19, OemCause::Unknown)),
+    ),
+    (&[EPOCH, b"META_START\n", STOP], Some((19, OemCause::Order))),
+    (&[b"COVARIANCE_START\n", STOP], Some((18, OemCause::Order))),
+    (&[EPOCH, RTN, SIX_ROWS], Some((27, OemCause::Missing))),
+    (
+        &[
+            b"EPOCH = 1999-01-01T00:00:00\n",
+            RTN,
+            SIX_ROWS,
+            b"\nCOMMENT any\n",
+            STOP,
+        ],
+        None,
+    ),
+];
+
+#[test]
+fn a_matrix_has_its_first_fault(rt: HostRuntime) -> Result<(), Fail> {
+    assert_eq!(rt; first_wrong(rt.alloc(), FAULTS.as_slice())?, None);
+    Ok(())
+}
+
+const BEHIND: [Parts<'static>; 7] = [
+    (&[b"COVARIANCE_STOP\n\nCOMMENT any\n"], None),
+    (
+        &[b"COVARIANCE_STOP\nCOVARIANCE_START\nCOVARIANCE_STOP"],
+        Some((19, OemCause::Order)),
+    ),
+    (
+        &[b"COVARIANCE_STOP\nMETA_STOP"],
+        Some((19, OemCause::Order)),
+    ),
+    (
+        &[b"COVARIANCE_STOP\nEPOCH = 2025-01-01T00:00:00"],
+        Some((19, OemCause::Order)),
+    ),
+    (
+        &[b"COVARIANCE_STOP\n2025-01-01T00:02:00 7000 225 0 0 7.5 0"],
+        Some((19, OemCause::Order)),
+    ),
+    (
+        &[b"COVARIANCE_STOP\nMETA_START"],
+        Some((20, OemCause::Missing)),
+    ),
+    (&[b""], Some((19, OemCause::Missing))),
+];
+
+#[test]
+fn only_a_further_segment_follows_covariances(rt: HostRuntime) -> Result<(), Fail> {
+    assert_eq!(rt; first_wrong(rt.alloc(), BEHIND.as_slice())?, None);
+    Ok(())
+}
+
+#[test]
+fn covariances_belong_to_their_segment(rt: HostRuntime) -> Result<(), Fail> {
+    let mut lines = Vec::from_slice(
+        rt.alloc(),
+        b"2025-01-01T00:01:00 7000 225 0 0 7.5 0\nCOVARIANCE_START\n",
+    )?;
+    lines.extend_from_slice(EPOCH)?;
+    lines.extend_from_slice(RTN)?;
+    lines.extend_from_slice(SIX_ROWS)?;
+    lines.extend_from_slice(STOP)?;
+    let text = two_with(rt.alloc(), &[(16, &lines)])?;
+    let track = read(rt.alloc(), &text, false)?;
+    assert_eq!(rt; counts_of(&track, 0), Some((2, 1)));
+    assert_eq!(rt; counts_of(&track, 1), Some((2, 0)));
+    Ok(())
+}
+
+#[test]
+fn covariances_close_the_nodes(rt: HostRuntime) -> Result<(), Fail> {
+    assert_eq!(rt;
+        fault_with(rt.alloc(), 16, b"COVARIANCE_START")?,
+        Some((16, OemCause::TooFewNodes))
+    );
+    let text = base_with(
+        rt.alloc(),
+        &[
+            (11, b"STOP_TIME = 2025-01-01T00:01:01"),
+            (
+                16,
+                b"2025-01-01T00:01:00 7000 225 0 0 7.5 0\nCOVARIANCE_START",
+            ),
+        ],
+    )?;
+    assert_eq!(rt;
+        fault_in(rt.alloc(), &text)?,
+        Some((17, OemCause::UseableSpan))
+    );
+    Ok(())
+}

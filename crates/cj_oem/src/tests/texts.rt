@@ -1,0 +1,179 @@
+//! Files for the tests.
+use crate::{Matrix, Node, OemCause, OemFault, Segment, Track, read_oem};
+use std::alloc::{AllocError, Global};
+
+/// The lines of a file with one segment of two nodes.
+pub const BASE: [&[u8]; 16] = [
+    b"CCSDS_OEM_VERS = 2.0",
+    b"CREATION_DATE = 2025-01-01T00:00:00",
+    b"ORIGINATOR = TEST",
+    b"META_START",
+    b"OBJECT_NAME = SAT A",
+    b"OBJECT_ID = 2025-001A",
+    b"CENTER_NAME = EARTH",
+    b"REF_FRAME = EME2000",
+    b"TIME_SYSTEM = UTC",
+    b"START_TIME = 2025-01-01T00:00:00",
+    b"STOP_TIME = 2025-01-01T00:01:00",
+    b"INTERPOLATION = HERMITE",
+    b"INTERPOLATION_DEGREE = 3",
+    b"META_STOP",
+    b"2025-01-01T00:00:00 7000 -225 0 0 7.5 0",
+    b"2025-01-01T00:01:00 7000 225 0 0 7.5 0",
+];
+
+/// A further segment, which begins where the first one ends: its lines are 17 to 29.
+pub const NEXT: [&[u8]; 13] = [
+    b"META_START",
+    b"OBJECT_NAME = SAT A",
+    b"OBJECT_ID = 2025-001A",
+    b"CENTER_NAME = EARTH",
+    b"REF_FRAME = EME2000",
+    b"TIME_SYSTEM = UTC",
+    b"START_TIME = 2025-01-01T00:01:00",
+    b"STOP_TIME = 2025-01-01T00:02:00",
+    b"INTERPOLATION = HERMITE",
+    b"INTERPOLATION_DEGREE = 3",
+    b"META_STOP",
+    b"2025-01-01T00:01:00 7100 0 0 0 0 0",
+    b"2025-01-01T00:02:00 7100 0 0 0 0 0",
+];
+
+/// A line's number and the text in its place.
+pub type Change<'a> = (usize, &'a [u8]);
+
+/// Appends lines, which are numbered on from those before them, some of them changed.
+fn append(
+    text: &mut Vec<u8>,
+    before: usize,
+    lines: &[&[u8]],
+    changes: &[Change],
+) -> Result<(), AllocError> {
+    for (i, line) in lines.iter().enumerate() {
+        let mut line = *line;
+        for (number, changed) in changes {
+            if *number > before && *number - before - 1 == i {
+                line = *changed;
+            }
+        }
+        text.extend_from_slice(line)?;
+        text.push(b'\n')?;
+    }
+    Ok(())
+}
+
+/// The file with one segment, with other texts in place of some lines.
+pub fn base_with(alloc: Global, changes: &[Change]) -> Result<Vec<u8>, AllocError> {
+    let mut text = Vec::new(alloc);
+    append(&mut text, 0, BASE.as_slice(), changes)?;
+    Ok(text)
+}
+
+/// The file with two segments, with other texts in place of some lines.
+pub fn two_with(alloc: Global, changes: &[Change]) -> Result<Vec<u8>, AllocError> {
+    let mut text = base_with(alloc, changes)?;
+    append(&mut text, 16, NEXT.as_slice(), changes)?;
+    Ok(text)
+}
+
+/// The track of a short file.
+pub fn read(alloc: Global, bytes: &[u8], as_hermite3: bool) -> Result<Track, OemFault> {
+    if bytes.len() > 100_000 {
+        return Err(OemFault::Memory);
+    }
+    read_oem(alloc, b"a.oem", bytes, as_hermite3)
+}
+
+/// The fault of a file with its line, none where it is accepted.
+pub fn fault_in(alloc: Global, bytes: &[u8]) -> Result<Option<Fault>, OemFault> {
+    fault_of(read(alloc, bytes, false))
+}
+
+pub fn fault_of(read: Result<Track, OemFault>) -> Result<Option<Fault>, OemFault> {
+    match read {
+        Ok(_) => Ok(None),
+        Err(OemFault::At { line, cause }) => Ok(Some((line, cause))),
+        Err(OemFault::Memory) => Err(OemFault::Memory),
+    }
+}
+
+/// A fault with its line.
+pub type Fault = (u32, OemCause);
+
+/// A line's number, the text in its place, and the fault that the file then has.
+pub type Case<'a> = (usize, &'a [u8], Option<Fault>);
+
+/// The fault of the file with one segment where one line is changed.
+pub fn fault_with(alloc: Global, number: usize, changed: &[u8]) -> Result<Option<Fault>, OemFault> {
+    let text = base_with(alloc, &[(number, changed)])?;
+    fault_in(alloc, &text)
+}
+
+/// The first case in which the file with one segment does not have its fault.
+pub fn wrong_in_base(alloc: Global, cases: &[Case]) -> Result<Option<usize>, OemFault> {
+    for (i, (number, changed, fault)) in cases.iter().enumerate() {
+        if fault_with(alloc, *number, changed)? != *fault {
+            return Ok(Some(i));
+        }
+    }
+    Ok(None)
+}
+
+/// The first case in which the file with two segments does not have its fault.
+pub fn wrong_in_two(alloc: Global, cases: &[Case]) -> Result<Option<usize>, OemFault> {
+    for (i, (number, changed, fault)) in cases.iter().enumerate() {
+        let text = two_with(alloc, &[(*number, *changed)])?;
+        if fault_in(alloc, &text)? != *fault {
+            return Ok(Some(i));
+        }
+    }
+    Ok(None)
+}
+
+fn segment_of(track: &Track, segment: usize) -> Option<&Segment> {
+    track.segments.as_slice().get(segment)
+}
+
+/// The useable span of a segment.
+pub fn span_of(track: &Track, segment: usize) -> Option<(u64, u64)> {
+    let segment = segment_of(track, segment)?;
+    Some((segment.first.micros, segment.last.micros))
+}
+
+/// How many nodes and covariances a segment has.
+pub fn counts_of(track: &Track, segment: usize) -> Option<(usize, usize)> {
+    let segment = segment_of(track, segment)?;
+    Some((
+        segment.nodes.as_slice().len(),
+        segment.matrices.as_slice().len(),
+    ))
+}
+
+/// The tick, the place and the rate of a node.
+pub fn node_of(track: &Track, segment: usize, node: usize) -> Option<(u64, [i64; 6])> {
+    let Node { at, p, v, .. } = *segment_of(track, segment)?.nodes.as_slice().get(node)?;
+    Some((at.micros, [p.x, p.y, p.z, v.x, v.y, v.z]))
+}
+
+fn matrix_of(track: &Track, segment: usize, matrix: usize) -> Option<&Matrix> {
+    segment_of(track, segment)?.matrices.as_slice().get(matrix)
+}
+
+/// The tick of a covariance.
+pub fn matrix_tick(track: &Track, segment: usize, matrix: usize) -> Option<u64> {
+    Some(matrix_of(track, segment, matrix)?.at.micros)
+}
+
+/// A value of a covariance: its sign, its digits, its exponent.
+pub fn value_of(
+    track: &Track,
+    segment: usize,
+    matrix: usize,
+    index: usize,
+) -> Option<(bool, u64, i32)> {
+    let value = matrix_of(track, segment, matrix)?
+        .values
+        .as_slice()
+        .get(index)?;
+    Some((value.negative, value.digits, value.exponent))
+}
