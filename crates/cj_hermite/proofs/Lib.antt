@@ -2,8 +2,12 @@ pub mod CoverLemmas
 pub mod CubicLemmas
 pub mod DistanceLemmas
 pub mod LevelLemmas
+pub mod PairLemmas
 pub mod PieceLemmas
 pub mod PlaceLemmas
 pub mod RateLemmas
 pub mod RunLemmas
 pub mod SearchLemmas
+pub mod SlotLemmas
+pub mod SpanLemmas
+pub mod StateLemmas

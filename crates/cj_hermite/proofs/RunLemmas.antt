@@ -1,8 +1,8 @@
 -- The ticks at which a piece is the one to be used.
-use Rattle.std.proofs.Common.{◌≡◌, ◌≢◌, ℕ, suc, ◌-◌, ◌<◌, ◌≤◌, max, min, inl, inr, eq-or-lt_of_le, List, length, get_or, Option, Some, None, true, false, eqb, eq-eqb, refl, sym, ap, ◌∙◌, subst, arith}
+use Rattle.std.proofs.Common.{◌≡◌, ◌≢◌, ℕ, suc, ◌-◌, ◌<◌, ◌≤◌, ◌⊎◌, max, min, inl, inr, eq-or-lt_of_le, List, length, get_or, Option, Some, None, true, false, eqb, eq-eqb, refl, sym, ap, ◌∙◌, subst, arith}
 use Rattle.std.specs.Prelude.{◌↔◌, option_map, IsSomeAnd, slice_get}
 use Rattle.std.specs.Option.{option_eq}
-use Rattle.std.proofs.lemmas.Bool.{eqb-true}
+use Rattle.std.proofs.lemmas.Bool.{eqb-true, cases_lt}
 use Rattle.std.proofs.lemmas.List.{get_or_default}
 use Rattle.cj_epoch.specs.declared.tick.Window.{Window}
 use Rattle.cj_oem.specs.declared.node.Node.{Node}
@@ -107,6 +107,26 @@ run_other index e range covered run are part one other m h =
     let inside = held m index e range covered run are part h in
     let same : m ≡ run.last.micros = omega (arith, inside.after, inside.before) in
     other (subst (λ (i : ℕ). interval_index_at e i ≡ Some index) same h.here)
+
+-- where the run ends before the range does
+pub ended_whole : (index : ℕ) (e : Ephemeris) (range covered run : Window) → AreCovered e index covered → IsCommonPart covered range run → run.last.micros < range.last.micros
+    → (m : ℕ) → run.last.micros < m → interval_index_at e m ≢ Some index
+ended_whole index e range covered run are part short m after here =
+    let inside = held_in m index e covered (slice_get (intervals_of e) index) refl are.ticks here in
+    omega (arith, part.last, inside.before)
+
+pub ended_less : (index : ℕ) (e : Ephemeris) (range covered run : Window) → AreCovered e index covered → IsCommonPart covered range run → run.first.micros < run.last.micros
+    → interval_index_at e run.last.micros ≢ Some index → (m : ℕ) → run.last.micros - 1 < m → interval_index_at e m ≢ Some index
+ended_less index e range covered run are part some other m after here =
+    let inside = held_in m index e covered (slice_get (intervals_of e) index) refl are.ticks here in
+    elim (eq-or-lt_of_le (last_here (cases_lt run.last.micros covered.last.micros))) [
+      | inl same ↦ other (subst (λ (i : ℕ). interval_index_at e i ≡ Some index) (omega (arith, inside.before)) here)
+      | inr less ↦ omega (arith, part.last)
+    ]
+  where
+    last_here : (run.last.micros < covered.last.micros) ⊎ (covered.last.micros ≤ run.last.micros) → covered.last.micros ≤ run.last.micros
+    last_here (inl before) = absurd (other (are.own run.last.micros (record { after = omega (arith, part.first); before = omega arith }) before))
+    last_here (inr behind) = behind
 
 -- the nodes of the piece
 same_ticks : (first last first' last' : ℕ) (a b : Node) (piece : Piece) → Some (interval_between first last a b) ≡ Some (interval_with first' last' piece) → (a.at.micros ≡ piece.t0.micros) × (b.at.micros ≡ piece.t1.micros)

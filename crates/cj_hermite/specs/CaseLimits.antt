@@ -1,9 +1,16 @@
 -- Limits of a run.
-use Rattle.std.specs.Prelude.{ℕ, ◌+◌, ◌-◌, ◌*◌, ◌/◌, ◌≤◌}
+use Rattle.std.specs.Prelude.{ℕ, ◌-◌, ◌*◌, ◌≤◌, List, sum_by}
+use Rattle.cj_oem.specs.Segments.{node_count}
+use Rattle.cj_oem.specs.declared.track.Track.{Track}
+use Rattle.cj_hermite.specs.Slots.{slot_count}
 
--- the minutes of a window, the last one perhaps cut: none where its first tick comes after its last
-abbrev pub slots_between : ℕ → ℕ → ℕ
-slots_between first last = (last + 1 - first + 59_999_999) / 60_000_000
+-- how many nodes tracks have in all
+abbrev pub node_total : List Track → ℕ
+node_total tracks = sum_by (λ track. node_count track.segments) tracks
+
+-- at most so many nodes in all
+abbrev pub AreFewNodes : List Track → Type 0
+AreFewNodes tracks = node_total tracks ≤ 2_000_000
 
 -- at most fourteen days from the first tick to the last
 abbrev pub IsShort : ℕ → ℕ → Type 0
@@ -11,4 +18,4 @@ IsShort first last = last - first ≤ 1_209_600_000_000
 
 -- at most so many objects times slots
 abbrev pub AreFewSlots : ℕ → ℕ → ℕ → Type 0
-AreFewSlots objects first last = objects * slots_between first last ≤ 4_000_000
+AreFewSlots objects first last = objects * slot_count first last ≤ 4_000_000

@@ -2,12 +2,16 @@ pub mod Boxes
 pub mod CaseLimits
 pub mod Cases
 pub mod Distance
+pub mod Frames
 pub mod Interpolant
 pub mod Levels
 pub mod Limits
+pub mod Pairs
 pub mod Pieces
 pub mod PiecesOfTracks
 pub mod Problems
 pub mod Rates
 pub mod Runs
 pub mod Searches
+pub mod Slots
+pub mod Walks

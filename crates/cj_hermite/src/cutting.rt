@@ -1,5 +1,5 @@
 //! The run of ticks at which a piece is the one to be used.
-ghost use Rattle.std.specs.Prelude.{◌≡◌, ℕ, ◌<◌, ◌↔◌, max, min, length, IfNone, IfSome, IsSomeAnd, slice_get, Some};
+ghost use Rattle.std.specs.Prelude.{◌≡◌, ◌≢◌, ℕ, ◌<◌, ◌↔◌, max, min, length, IfNone, IfSome, IsSomeAnd, slice_get, Some};
 ghost use Rattle.cj_oem.specs.Tracks.{ephemeris_of};
 ghost use Rattle.cj_hermite.specs.Pieces.{intervals_of, interval_index_at};
 ghost use Rattle.cj_hermite.specs.PiecesOfTracks.{Covers, CoversBoth};
@@ -15,6 +15,8 @@ pub fn cut(track: &Track, index: u32, range: Window) -> Option<Window>
     ensures none { IfNone result ((m : ℕ) → ¬ IsOfPiece (ephemeris_of track.now) index range m) }
     ensures run { IfSome result (IsRun (ephemeris_of track.now) index range) }
     ensures covered { IfSome result (λ run. IsSomeAnd (slice_get (intervals_of (ephemeris_of track.now)) index) (CoversBoth run.first.micros run.last.micros)) }
+    // A run that ends before the range does is the piece's last.
+    ensures ended { IfSome result (λ run. run.last.micros < range.last.micros → (m : ℕ) → run.last.micros < m → interval_index_at (ephemeris_of track.now) m ≢ Some index) }
 {
     let covered = covered(track, index);
     let first = later(covered.first, range.first);
@@ -49,7 +51,7 @@ fn covered(track: &Track, index: u32) -> Window
     }
 }
 
-fn later(a: Tick, b: Tick) -> Tick
+pub(crate) fn later(a: Tick, b: Tick) -> Tick
     ensures { result.micros ≡ max a.micros b.micros }
 {
     if a.micros < b.micros { b } else { a }

@@ -15,7 +15,9 @@ mod places;
 mod problem;
 mod rates;
 mod searches;
+mod slots;
 mod tracks;
+mod walking;
 
 pub use box3::Box3;
 pub use control_values::Controls;
@@ -29,7 +31,9 @@ pub use pieces::Piece;
 pub use places::point;
 pub use problem::Problem;
 pub use rates::rate;
+pub use slots::{SLOT, slot_window};
 pub use tracks::Tracks;
+pub use walking::next_run;
 
 #[cfg(test)]
 mod tests;

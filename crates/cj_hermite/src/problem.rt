@@ -5,7 +5,7 @@ use crate::pair::Pair;
 use crate::tracks::Tracks;
 use cj_epoch::Window;
 
-/// What a run is asked: its tracks, its window, and its threshold in nm.
+/// What a run is asked: its tracks, which have one frame and few nodes, its window, and its threshold in nm.
 #[derive(Debug, Drop)]
 pub struct Problem {
     pub tracks: Tracks,

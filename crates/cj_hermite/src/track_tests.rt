@@ -3,10 +3,11 @@ ghost use Rattle.cj_oem.specs.Tracks.{ephemeris_of};
 ghost use Rattle.cj_hermite.specs.Pieces.{intervals_of};
 
 use super::*;
-use cj_epoch::{Tick, Window};
+use cj_epoch::{Tick, Window, leap_between};
 use cj_kvn::Text;
-use cj_oem::{Frame, Node, Nodes, Segment, Segments, Track, Vec3};
+use cj_oem::{Frame, Matrices, Node, Nodes, Segment, Segments, Track, Vec3};
 use std::alloc::{AllocError, Global};
+use std::process::Abort;
 use std::test::Fail;
 
 /// The tick of this millisecond of 2025.
@@ -31,8 +32,15 @@ fn node(millis: u64) -> Node
     }
 }
 
-/// A segment with two nodes.
-fn short(alloc: Global, first: u64, last: u64, a: u64, b: u64) -> Result<Segment, AllocError>
+/// A segment with two nodes, with no leap second between.
+fn short(
+    rt: &impl Abort,
+    alloc: Global,
+    first: u64,
+    last: u64,
+    a: u64,
+    b: u64,
+) -> Result<Segment, AllocError>
     requires rises { a < b }
     requires near { b ≤ 1000000 }
     requires some { first ≤ last }
@@ -42,15 +50,25 @@ fn short(alloc: Global, first: u64, last: u64, a: u64, b: u64) -> Result<Segment
     ensures last { IfOk result (λ s. s.last.micros ≡ 1735689600000000 + last * 1000) }
     ensures count { IfOk result (λ s. length s.nodes ≡ 2) }
 {
+    assert!(rt; !leap_between(at(a), at(b)));
     Ok(Segment {
         first: at(first),
         last: at(last),
         nodes: Nodes::new(vec![in alloc; node(a), node(b)]?),
+        matrices: Matrices::new(Vec::new(alloc)),
     })
 }
 
-/// A segment with three nodes.
-fn long(alloc: Global, first: u64, last: u64, a: u64, b: u64, c: u64) -> Result<Segment, AllocError>
+/// A segment with three nodes, with no leap second between.
+fn long(
+    rt: &impl Abort,
+    alloc: Global,
+    first: u64,
+    last: u64,
+    a: u64,
+    b: u64,
+    c: u64,
+) -> Result<Segment, AllocError>
     requires rises { a < b }
     requires goes_on { b < c }
     requires near { c ≤ 1000000 }
@@ -61,35 +79,45 @@ fn long(alloc: Global, first: u64, last: u64, a: u64, b: u64, c: u64) -> Result<
     ensures last { IfOk result (λ s. s.last.micros ≡ 1735689600000000 + last * 1000) }
     ensures count { IfOk result (λ s. length s.nodes ≡ 3) }
 {
+    assert!(rt; !leap_between(at(a), at(b)));
+    assert!(rt; !leap_between(at(b), at(c)));
     Ok(Segment {
         first: at(first),
         last: at(last),
         nodes: Nodes::new(vec![in alloc; node(a), node(b), node(c)]?),
+        matrices: Matrices::new(Vec::new(alloc)),
     })
 }
 
-/// Three segments share the tick at 30 s, and the fourth begins after a gap.
-fn track(alloc: Global) -> Result<Track, AllocError>
-    ensures { IfOk result (λ track. length (intervals_of (ephemeris_of track)) ≡ 6) }
+#[tactic(auto, unfolding(cj_oem::specs::Labels::is_file_name, cj_oem::specs::Labels::is_label))]
+fn named(alloc: Global, segments: Segments) -> Result<Track, AllocError>
+    ensures { IfOk result (λ track. track.segments ≡ segments) }
 {
-    let segments = vec![in alloc;
-        short(alloc, 0, 30_000, 0, 30_000)?,
-        short(alloc, 30_000, 30_000, 20_000, 40_000)?,
-        long(alloc, 30_000, 60_000, 30_000, 45_000, 60_000)?,
-        long(alloc, 90_000, 100_000, 80_000, 95_000, 110_000)?,
-    ]?;
     Ok(Track {
         file: Text::copy_of(alloc, b"a.oem")?,
         name: Text::copy_of(alloc, b"SAT A")?,
         id: Text::copy_of(alloc, b"2025-001A")?,
         frame: Frame::Eme2000,
-        segments: Segments::new(alloc, segments)?,
+        segments,
     })
+}
+
+/// Three segments share the tick at 30 s, and the fourth begins after a gap.
+fn track(rt: &impl Abort, alloc: Global) -> Result<Track, AllocError>
+    ensures { IfOk result (λ track. length (intervals_of (ephemeris_of track)) ≡ 6) }
+{
+    let segments = vec![in alloc;
+        short(rt, alloc, 0, 30_000, 0, 30_000)?,
+        short(rt, alloc, 30_000, 30_000, 20_000, 40_000)?,
+        long(rt, alloc, 30_000, 60_000, 30_000, 45_000, 60_000)?,
+        long(rt, alloc, 90_000, 100_000, 80_000, 95_000, 110_000)?,
+    ]?;
+    named(alloc, Segments::new(alloc, segments)?)
 }
 
 #[test]
 fn a_shared_tick_belongs_to_the_last_segment(rt: HostRuntime) -> Result<(), Fail> {
-    let track = track(rt.alloc())?;
+    let track = track(&rt, rt.alloc())?;
     let pieces = [
         (0, Some(0)),
         (29_999, Some(0)),
@@ -107,7 +135,7 @@ fn a_shared_tick_belongs_to_the_last_segment(rt: HostRuntime) -> Result<(), Fail
 
 #[test]
 fn there_is_no_state_in_a_gap(rt: HostRuntime) -> Result<(), Fail> {
-    let track = track(rt.alloc())?;
+    let track = track(&rt, rt.alloc())?;
     let pieces = [
         (60_001, None),
         (89_999, None),
@@ -124,7 +152,7 @@ fn there_is_no_state_in_a_gap(rt: HostRuntime) -> Result<(), Fail> {
 
 #[test]
 fn pieces_are_numbered_through_all_segments(rt: HostRuntime) -> Result<(), Fail> {
-    let track = track(rt.alloc())?;
+    let track = track(&rt, rt.alloc())?;
     let nodes = [
         (0, 30_000, 0),
         (20_000, 40_000, 1),
@@ -143,7 +171,7 @@ fn pieces_are_numbered_through_all_segments(rt: HostRuntime) -> Result<(), Fail>
 
 #[test]
 fn a_cut_leaves_what_belongs_to_a_later_piece(rt: HostRuntime) -> Result<(), Fail> {
-    let track = track(rt.alloc())?;
+    let track = track(&rt, rt.alloc())?;
     let all = Window {
         first: at(0),
         last: at(200_000),

@@ -1,9 +1,11 @@
 ghost use Rattle.std.specs.Prelude.{◌≡◌, ◌≤◌, length};
+ghost use Rattle.cj_hermite.specs.CaseLimits.{AreFewNodes};
+ghost use Rattle.cj_hermite.specs.Frames.{HaveOneFrame};
 
 use cj_oem::Track;
 use std::marker::Model;
 
-/// The tracks of a run, at most 2,000. Objects are numbered from 0 by their place.
+/// The tracks of a run: at most 2,000, of one frame, with at most 2,000,000 nodes in all. Objects are numbered from 0 by their place.
 #[derive(Debug, Drop)]
 pub struct Tracks {
     items: Vec<Track>,
@@ -12,17 +14,21 @@ pub struct Tracks {
 impl Model for Tracks {
     ghost use Rattle.std.specs.Prelude.{List, length, ◌≤◌};
     ghost use Rattle.cj_oem.specs.declared.track.Track.{Track};
+    ghost use Rattle.cj_hermite.specs.CaseLimits.{AreFewNodes};
+    ghost use Rattle.cj_hermite.specs.Frames.{HaveOneFrame};
 
     ghost Value = { List Track };
 
     ghost view = { λ t. t.items.items };
 
-    ghost invariant = { λ t. length t.items.items ≤ 2000 };
+    ghost invariant = { λ t. (length t.items.items ≤ 2000) × HaveOneFrame t.items.items × AreFewNodes t.items.items };
 }
 
 impl Tracks {
     pub fn new(items: Vec<Track>) -> Self
-        requires { length items.items ≤ 2000 }
+        requires few { length items.items ≤ 2000 }
+        requires frame { HaveOneFrame items.items }
+        requires nodes { AreFewNodes items.items }
         ensures { result ≡ items.items }
     {
         Tracks { items }
@@ -31,6 +37,8 @@ impl Tracks {
     pub fn as_slice(&self) -> &[Track]
         ensures value { result.now ≡ self.now }
         ensures few { length self.now ≤ 2000 }
+        ensures frame { HaveOneFrame self.now }
+        ensures nodes { AreFewNodes self.now }
     {
         &self.items
     }

@@ -1,10 +1,11 @@
 use Rattle.std.proofs.Common.{◌≡◌, ◌∙◌, List, [], ◌∷◌, length, ap, arith}
+use Rattle.std.proofs.lemmas.Result.{IfOk-weaker}
 use Rattle.cj_oem.specs.declared.segment.Segment.{Segment}
 use Rattle.cj_hermite.proofs.PieceLemmas.{intervals_through, count-through}
 use Rattle.cj_hermite.proofs.track_tests.track.Goals as goal
 
 pub returns : goal.returns
-returns c =
+returns g c =
     let a = c.in_ok-short.field-0 in
     let b = c.in_ok-short-2.field-0 in
     let d = c.in_ok-long.field-0 in
@@ -21,4 +22,6 @@ returns c =
       c.in_ok-long.ensures.count,
       c.in_ok-long-2.ensures.count,
     ) in
-    ap (λ (segments : List Segment). length (intervals_through segments)) (c.in_ok-new.ensures ∙ c.in_ok-segments.ensures.items) ∙ all
+    IfOk-weaker c.named.result (λ track. track.segments ≡ c.in_ok-new.field-0) (λ track. length (intervals_through track.segments) ≡ 6)
+    (λ track same. ap (λ (segments : List Segment). length (intervals_through segments)) (same ∙ c.in_ok-new.ensures ∙ c.in_ok-segments.ensures.items) ∙ all)
+    c.named.ensures

@@ -1,0 +1,26 @@
+//! The slots of a window.
+ghost use Rattle.std.specs.Prelude.{◌≡◌, ◌<◌, ◌≤◌, IfNone, IfSome};
+ghost use Rattle.cj_hermite.specs.Slots.{slot_first, slot_last};
+
+use cj_epoch::{Tick, Window};
+
+/// The ticks of a slot: a minute.
+pub const SLOT: u64 = 60_000_000;
+
+/// The ticks of a slot, none where the window ends before it.
+pub fn slot_window(window: Window, slot: u32) -> Option<Window>
+    ensures none { IfNone result (slot_last window.first.micros window.last.micros slot < slot_first window.first.micros slot) }
+    ensures first { IfSome result (λ ticks. ticks.first.micros ≡ slot_first window.first.micros slot) }
+    ensures last { IfSome result (λ ticks. ticks.last.micros ≡ slot_last window.first.micros window.last.micros slot) }
+    ensures some { IfSome result (λ ticks. ticks.first.micros ≤ ticks.last.micros) }
+{
+    let first = window.first.micros + SLOT * u64::from(slot);
+    if window.last.micros < first {
+        return None;
+    }
+    let last = (first + SLOT - 1).min(window.last.micros);
+    Some(Window {
+        first: Tick { micros: first },
+        last: Tick { micros: last },
+    })
+}
