@@ -3,6 +3,7 @@ pub mod GapLemmas
 pub mod HullLemmas
 pub mod OneTickLemmas
 pub mod PartLemmas
+pub mod PartsLemmas
 pub mod ProductLemmas
 pub mod SevenLemmas
 pub mod SexticLemmas
@@ -10,3 +11,4 @@ pub mod ShellLemmas
 pub mod SplitLemmas
 pub mod TestLemmas
 pub mod VerdictLemmas
+pub mod WholeLemmas

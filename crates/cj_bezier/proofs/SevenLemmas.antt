@@ -1,5 +1,5 @@
 -- The seven coefficients one by one, and the binomial coefficients.
-use Rattle.std.proofs.Common.{◌≡◌, ℕ, zero, suc, ◌<◌, ◌≤◌, arith, sym, subst, List, [], ◌∷◌, slice_index_or}
+use Rattle.std.proofs.Common.{◌≡◌, ℕ, zero, suc, ◌<◌, ◌≤◌, arith, refl, sym, subst, List, [], ◌∷◌, slice_index_or}
 use Rattle.std.specs.Prelude.{ℤ, pos}
 use Rattle.cj_bezier.specs.Verdicts.{choose6}
 
@@ -42,3 +42,7 @@ choose6-bounds (suc (suc (suc zero))) = (omega arith, omega arith)
 choose6-bounds (suc (suc (suc (suc zero)))) = (omega arith, omega arith)
 choose6-bounds (suc (suc (suc (suc (suc zero))))) = (omega arith, omega arith)
 choose6-bounds (suc (suc (suc (suc (suc (suc n)))))) = (omega arith, omega arith)
+
+-- a value of a function of the first seven
+pub at_seven : (f : ℕ → ℤ) (k : ℕ) → k < 7 → slice_index_or (seven f) k (pos 0) ≡ f k
+at_seven f = seven_cases (λ k. slice_index_or (seven f) k (pos 0) ≡ f k) refl refl refl refl refl refl refl

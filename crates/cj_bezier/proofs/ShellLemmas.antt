@@ -1,25 +1,32 @@
 -- The shell of a gap against the origin, and the distance that it holds at each tick.
-use Rattle.std.proofs.Common.{◌≡◌, ℕ, zero, suc, ◌+◌, ◌-◌, ◌*◌, ◌<◌, ◌≤◌, ◌⊎◌, inl, inr, arith, refl, sym, ap, subst, ◌∙◌, [], ◌∷◌, List, slice_index_or, length}
+use Rattle.std.proofs.Common.{◌≡◌, ℕ, zero, suc, ◌+◌, ◌-◌, ◌*◌, ◌^◌, ◌<◌, ◌≤◌, ◌⊎◌, inl, inr, arith, refl, sym, ap, subst, ◌∙◌, [], ◌∷◌, List, slice_index_or, length}
 use Rattle.std.proofs.lemmas.Bool.{cases_lt}
 use Rattle.std.proofs.lemmas.Int.{ints, clamps, by_lt_z}
 use Rattle.std.specs.Int.{int_min, int_max}
+use Rattle.std.specs.List.{All}
 use Rattle.std.specs.Prelude.{ℤ, pos, negsuc, ◌+ℤ◌, ◌*ℤ◌, ◌≤ℤ◌, ◌<ℤ◌}
 use Rattle.cj_interval.specs.declared.span.Span.{Span}
 use Rattle.cj_interval.specs.Rounding.{floor_div, ceil_div}
-use Rattle.cj_interval.proofs.IntegerLemmas.{add-mul_ℤ, mul-le_right, le_trans_ℤ}
+use Rattle.cj_interval.proofs.IntegerLemmas.{add-mul_ℤ, mul-le_right, le_refl_ℤ, le_trans_ℤ}
 use Rattle.cj_interval.proofs.RoundingLemmas.{floor_div-le, floor_div-gt, ceil_div-ge, ceil_div-lt}
 use Rattle.cj_interval.proofs.SquareLemmas.{square_is, root-le}
+use Rattle.cj_interval.proofs.SizeLemmas.{greatest_within}
+use Rattle.cj_interval.proofs.MachineLemmas.{product_within}
+use Rattle.cj_interval.specs.Sizes.{IsWithin}
+use Rattle.cj_hermite.specs.declared.box3.Box3.{Box3}
+use Rattle.cj_hermite.specs.Boxes.{IsSpanWithin, IsBoxWithin}
 use Rattle.cj_hermite.specs.Interpolant.{Four, Curve, IsOver, place_numerator, place_denominator}
 use Rattle.cj_hermite.specs.Levels.{exact_polar}
 use Rattle.cj_hermite.proofs.LevelLemmas.{polar-low, polar-high, exact_polar-same}
-use Rattle.cj_bezier.specs.Hulls.{hull_ends, hull_axes, lows, highs}
-use Rattle.cj_bezier.specs.Gaps.{Terms, gap_terms}
+use Rattle.cj_bezier.specs.Hulls.{Ends, Axes, ends_of, axes_of, hull_ends, hull_axes, lows, highs}
+use Rattle.cj_bezier.specs.Sizes.{HULL_REACH}
+use Rattle.cj_bezier.specs.Gaps.{Terms, gap_terms, value_at, product_high, coefficient, gap_high}
 use Rattle.cj_bezier.specs.Verdicts.{choose6, share, AreAtLeast, AreAtMost}
 use Rattle.cj_bezier.specs.Squares.{from_zero, part_down, part_up, least_part, greatest_part, least_square, greatest_square}
 use Rattle.cj_bezier.specs.Shells.{IsInner, IsOuter, IsRadiusWithin, square_radius}
-use Rattle.cj_bezier.proofs.GapLemmas.{HoldsFour, IsCubic, IsGapAt, polar_four, at_tick, first_only, at_least_of_gap, at_most_of_gap, squares}
+use Rattle.cj_bezier.proofs.GapLemmas.{HoldsFour, IsCubic, IsGapAt, polar_four, at_tick, first_only, at_least_of_gap, at_most_of_gap, coefficient-le, squares}
 use Rattle.cj_bezier.proofs.SevenLemmas.{seven_cases}
-use Rattle.cj_bezier.proofs.VerdictLemmas.{all_at_least, all_at_most}
+use Rattle.cj_bezier.proofs.VerdictLemmas.{all_at_least, all_at_most, are_at_most_from}
 
 -- ---- a share of an end and the end's part
 
@@ -67,22 +74,22 @@ from_ceil n z d p h =
 
 -- ---- seven parts
 
-le-min : (x a b : ℤ) → x ≤ℤ a → x ≤ℤ b → x ≤ℤ int_min a b
+pub le-min : (x a b : ℤ) → x ≤ℤ a → x ≤ℤ b → x ≤ℤ int_min a b
 le-min x a b h k = omega (arith, ints, clamps)
 
-min-left : (x a b : ℤ) → x ≤ℤ int_min a b → x ≤ℤ a
+pub min-left : (x a b : ℤ) → x ≤ℤ int_min a b → x ≤ℤ a
 min-left x a b h = omega (arith, ints, clamps)
 
-min-right : (x a b : ℤ) → x ≤ℤ int_min a b → x ≤ℤ b
+pub min-right : (x a b : ℤ) → x ≤ℤ int_min a b → x ≤ℤ b
 min-right x a b h = omega (arith, ints, clamps)
 
-max-le : (x a b : ℤ) → a ≤ℤ x → b ≤ℤ x → int_max a b ≤ℤ x
+pub max-le : (x a b : ℤ) → a ≤ℤ x → b ≤ℤ x → int_max a b ≤ℤ x
 max-le x a b h k = omega (arith, ints, clamps)
 
-max-left : (x a b : ℤ) → int_max a b ≤ℤ x → a ≤ℤ x
+pub max-left : (x a b : ℤ) → int_max a b ≤ℤ x → a ≤ℤ x
 max-left x a b h = omega (arith, ints, clamps)
 
-max-right : (x a b : ℤ) → int_max a b ≤ℤ x → b ≤ℤ x
+pub max-right : (x a b : ℤ) → int_max a b ≤ℤ x → b ≤ℤ x
 max-right x a b h = omega (arith, ints, clamps)
 
 to_least : (ends : List ℤ) (r : ℕ) → AreAtLeast ends r → pos (r * r) ≤ℤ least_part ends
@@ -178,9 +185,9 @@ inner-le_outer g lo hi o (inr l) h = root-le lo hi (squares_le (lo * lo) (hi * h
     squares_le : (m n : ℕ) (a b : ℤ) → pos (1 * m) ≤ℤ a → a ≤ℤ b → b ≤ℤ pos (1 * n) → m ≤ n
     squares_le m n a b p q r = omega (arith, ints)
 
-pub first_ordered : (xs : List Span) → 0 < length xs → slice_index_or (lows xs) 0 (pos 0) ≤ℤ slice_index_or (highs xs) 0 (pos 0)
-first_ordered [] l = absurd (omega arith)
-first_ordered (x ∷ xs) l = x.ordered
+pub first_ordered : (xs : List Span) → slice_index_or (lows xs) 0 (pos 0) ≤ℤ slice_index_or (highs xs) 0 (pos 0)
+first_ordered [] = le_refl_ℤ (pos 0)
+first_ordered (x ∷ xs) = x.ordered
 
 -- ---- the distance from the origin at each tick
 
@@ -245,6 +252,7 @@ pub radius_within : (c : Curve) (first m last lo hi : ℕ) → first ≤ m → m
 radius_within c first m last lo hi p q over inner outer =
     let at = origin_gap_at c first m last p q over in
     record {
+      some = over.some;
       least = by_inner inner;
       most = at_most_of_gap (place_denominator c.span) hi (hull_axes c first last) _ _ _ at (all_at_most (hull_axes c first last) hi outer);
     }
@@ -252,3 +260,68 @@ radius_within c first m last lo hi p q over inner outer =
     by_inner : IsInner (gap_terms (hull_axes c first last)) lo → pos (lo * lo * (place_denominator c.span * place_denominator c.span)) ≤ℤ square_radius c m
     by_inner (inl e) = subst (λ (n : ℕ). pos (n * n * (place_denominator c.span * place_denominator c.span)) ≤ℤ square_radius c m) (sym e) (not_negative (place_denominator c.span * place_denominator c.span) (place_numerator c.x c.span (m - c.start)) (place_numerator c.y c.span (m - c.start)) (place_numerator c.z c.span (m - c.start)))
     by_inner (inr h) = at_least_of_gap (place_denominator c.span) lo (hull_axes c first last) _ _ _ (origin_gap_at c first m last p q over) (all_at_least (hull_axes c first last) lo h)
+
+-- ---- how far out a hull lies
+
+-- the ends of four spans are at most r in size
+record AreWithin (r : ℕ) (e : Ends) : Type 0 where
+  low : (n : ℕ) → IsWithin r (value_at e.low n)
+  high : (n : ℕ) → IsWithin r (value_at e.high n)
+
+each_value : (r : ℕ) (k : Four) → IsWithin r k.k0 → IsWithin r k.k1 → IsWithin r k.k2 → IsWithin r k.k3 → (n : ℕ) → IsWithin r (value_at k n)
+each_value r k a b c d zero = a
+each_value r k a b c d (suc zero) = b
+each_value r k a b c d (suc (suc zero)) = c
+each_value r k a b c d (suc (suc (suc n))) = d
+
+on_axis : (r : ℕ) (p q s t : Span) → IsSpanWithin r p.lo p.hi → IsSpanWithin r q.lo q.hi → IsSpanWithin r s.lo s.hi → IsSpanWithin r t.lo t.hi → AreWithin r (ends_of (p ∷ q ∷ s ∷ t ∷ []))
+on_axis r p q s t a b c d = record {
+  low = each_value r _ a.low b.low c.low d.low;
+  high = each_value r _ a.high b.high c.high d.high;
+}
+
+product_reach : (r : ℕ) (e : Ends) → AreWithin r e → (i j : ℕ) → IsWithin (r * r) (product_high e i j)
+product_reach r e w i j =
+    let a = value_at e.low i in
+    let b = value_at e.high i in
+    let c = value_at e.low j in
+    let d = value_at e.high j in
+    greatest_within (r * r) (a *ℤ c) (a *ℤ d) (b *ℤ c) (b *ℤ d)
+    (product_within a c r r (w.low i) (w.low j)) (product_within a d r r (w.low i) (w.high j))
+    (product_within b c r r (w.high i) (w.low j)) (product_within b d r r (w.high i) (w.high j))
+
+coefficient_same : (s : ℕ) (k : ℕ) → coefficient (λ _ _. pos s) k ≡ pos (choose6 k * s)
+coefficient_same s zero = omega (arith, ints)
+coefficient_same s (suc zero) = omega (arith, ints)
+coefficient_same s (suc (suc zero)) = omega (arith, ints)
+coefficient_same s (suc (suc (suc zero))) = omega (arith, ints)
+coefficient_same s (suc (suc (suc (suc zero)))) = omega (arith, ints)
+coefficient_same s (suc (suc (suc (suc (suc zero))))) = omega (arith, ints)
+coefficient_same s (suc (suc (suc (suc (suc (suc n)))))) = omega (arith, ints)
+
+outer_of_axes : (r e : ℕ) (d : Axes) → 3 * (r * r) ≤ e * e → AreWithin r d.x → AreWithin r d.y → AreWithin r d.z → IsOuter (gap_terms d) e
+outer_of_axes r e d wide x y z =
+    are_at_most_from d e (λ k. subst (λ (t : ℤ). gap_high d k ≤ℤ t) (coefficient_same (e * e) k)
+    (coefficient-le (λ i j. product_high d.x i j +ℤ product_high d.y i j +ℤ product_high d.z i j) (λ _ _. pos (e * e))
+    (λ i j. sum_below (product_high d.x i j) (product_high d.y i j) (product_high d.z i j) (r * r) (e * e) wide (product_reach r d.x x i j) (product_reach r d.y y i j) (product_reach r d.z z i j)) k))
+  where
+    sum_below : (a b c : ℤ) (m n : ℕ) → 3 * m ≤ n → IsWithin m a → IsWithin m b → IsWithin m c → (a +ℤ b +ℤ c) ≤ℤ pos n
+    sum_below a b c m n h p q s = omega (arith, ints)
+
+-- four boxes of a hull lie within a million kilometres of the origin
+pub outer_of_hull : (bs : List Box3) → length bs ≡ 4 → All (IsBoxWithin HULL_REACH) bs → IsOuter (gap_terms (axes_of bs)) (10 ^ 18)
+unfolding axes_of
+outer_of_hull [] l w = absurd (omega arith)
+outer_of_hull (a ∷ []) l w = absurd (omega arith)
+outer_of_hull (a ∷ b ∷ []) l w = absurd (omega arith)
+outer_of_hull (a ∷ b ∷ c ∷ []) l w = absurd (omega arith)
+outer_of_hull (a ∷ b ∷ c ∷ d ∷ []) l w =
+    let wa = w 0 a (omega arith) in
+    let wb = w 1 a (omega arith) in
+    let wc = w 2 a (omega arith) in
+    let wd = w 3 a (omega arith) in
+    outer_of_axes HULL_REACH (10 ^ 18) (axes_of (a ∷ b ∷ c ∷ d ∷ [])) (omega arith)
+    (on_axis HULL_REACH a.x b.x c.x d.x wa.x wb.x wc.x wd.x)
+    (on_axis HULL_REACH a.y b.y c.y d.y wa.y wb.y wc.y wd.y)
+    (on_axis HULL_REACH a.z b.z c.z d.z wa.z wb.z wc.z wd.z)
+outer_of_hull (a ∷ b ∷ c ∷ d ∷ e ∷ bs) l w = absurd (omega arith)

@@ -3,7 +3,9 @@ pub mod Hulls
 pub mod Leaves
 pub mod OneTick
 pub mod Order
+pub mod Parts
 pub mod Shells
 pub mod Sizes
+pub mod SlotBoxes
 pub mod Squares
 pub mod Verdicts

@@ -1,8 +1,13 @@
 -- Shells: between which distances from the origin an interpolant stays.
-use Rattle.std.specs.Prelude.{◌≡◌, ℕ, ◌-◌, ◌*◌, ◌⊎◌, ℤ, pos, ◌+ℤ◌, ◌*ℤ◌, ◌≤ℤ◌}
+use Rattle.std.specs.Prelude.{◌≡◌, ℕ, zero, suc, ◌+◌, ◌-◌, ◌*◌, ◌<◌, ◌≤◌, ◌⊎◌, ◌==◌, min, max, nat_lt, Bool, false, ◌||◌, not, if◌then◌else◌, ℤ, pos, ◌+ℤ◌, ◌*ℤ◌, ◌≤ℤ◌, List, [], ◌∷◌, Option, Some, None, option_and_then, slice_get}
+use Rattle.std.specs.List.{list_all}
+use Rattle.cj_oem.specs.Ephemeris.{Ephemeris}
 use Rattle.cj_hermite.specs.Interpolant.{Curve, place_numerator, place_denominator}
-use Rattle.cj_bezier.specs.Gaps.{Terms}
-use Rattle.cj_bezier.specs.Verdicts.{AreAtLeast, AreAtMost}
+use Rattle.cj_bezier.specs.declared.shells.Shell.{Shell}
+use Rattle.cj_bezier.specs.Gaps.{Terms, gap_terms}
+use Rattle.cj_bezier.specs.Hulls.{Axes}
+use Rattle.cj_bezier.specs.Parts.{OfEachHull, hulls_of}
+use Rattle.cj_bezier.specs.Verdicts.{AreAtLeast, AreAtMost, are_at_least, are_at_most}
 
 -- r may be the lower end of a shell: it is 0, or each lower end of the gap against the origin is at least C(6,k) r²
 abbrev pub IsInner : Terms → ℕ → Type 0
@@ -20,7 +25,66 @@ square_radius c m =
     let z = place_numerator c.z c.span (m - c.start) in
     x *ℤ x +ℤ y *ℤ y +ℤ z *ℤ z
 
--- at tick m the distance from the origin lies from lo to hi, in nm
+-- at tick m of an interpolant that has ticks the distance from the origin lies from lo to hi, in nm
 pub record IsRadiusWithin (c : Curve) (m lo hi : ℕ) : Type 0 where
+  pub some : 0 < c.span
   pub least : pos (lo * lo * (place_denominator c.span * place_denominator c.span)) ≤ℤ square_radius c m
   pub most : square_radius c m ≤ℤ pos (hi * hi * (place_denominator c.span * place_denominator c.span))
+
+-- the shell of an ephemeris from one tick to another: the greatest inner and the least outer radius that the hulls of its parts show
+pub record IsShellOf (e : Ephemeris) (from to : ℕ) (shell : Shell) : Type 0 where
+  pub inner : OfEachHull e from to (λ h. IsInner (gap_terms h) shell.lo)
+  pub greatest : (r : ℕ) → OfEachHull e from to (λ h. IsInner (gap_terms h) r) → r ≤ shell.lo
+  pub outer : OfEachHull e from to (λ h. IsOuter (gap_terms h) shell.hi)
+  pub least : (r : ℕ) → OfEachHull e from to (λ h. IsOuter (gap_terms h) r) → shell.hi ≤ r
+
+-- ---- the same as a function
+
+-- the greatest radius that a certificate may have, in nm
+abbrev pub MAX_RADIUS : ℕ
+MAX_RADIUS = 1_000_000_000_000_000_000
+
+-- the greatest number up to n that passes a test, else 0
+unfoldable pub greatest_to : ℕ → (ℕ → Bool) → ℕ
+greatest_to zero test = 0
+greatest_to (suc n) test = if test (suc n) then suc n else greatest_to n test
+
+-- the least of the n numbers from r on that passes a test, else the number behind them
+unfoldable pub least_from : ℕ → ℕ → (ℕ → Bool) → ℕ
+least_from zero r test = r
+least_from (suc n) r test = if test r then r else least_from n (r + 1) test
+
+abbrev pub is_inner : List Axes → ℕ → Bool
+is_inner hs r = (r == 0) || list_all (λ h. are_at_least (gap_terms h).low r) hs
+
+abbrev pub is_outer : List Axes → ℕ → Bool
+is_outer hs r = list_all (λ h. are_at_most (gap_terms h).high r) hs
+
+-- the shell round hulls, where there are any
+unfoldable pub shell_round : List Axes → Option Shell
+shell_round [] = None
+shell_round (h ∷ hs) = Some (record { lo = greatest_to MAX_RADIUS (is_inner (h ∷ hs)); hi = least_from MAX_RADIUS 0 (is_outer (h ∷ hs)) })
+
+-- the shell of an ephemeris from one tick to another, where it has a state
+abbrev pub shell_of : Ephemeris → ℕ → ℕ → Option Shell
+shell_of e from to = shell_round (hulls_of e from to)
+
+-- ---- two shells
+
+-- the apogee and perigee filter of Hoots, Crawford and Roehrich: the shells are more than a threshold apart
+abbrev pub are_parted : Shell → Shell → ℕ → Bool
+are_parted s t thr = nat_lt (min s.hi t.hi + thr) (max s.lo t.lo)
+
+-- both objects have a shell, and these are not parted
+abbrev pub are_kept : ℕ → Option Shell → Option Shell → Bool
+are_kept thr None t = false
+are_kept thr (Some s) None = false
+are_kept thr (Some s) (Some t) = not (are_parted s t thr)
+
+-- the shell of an object, where there is one
+abbrev pub shell_in : List (Option Shell) → ℕ → Option Shell
+shell_in shells object = option_and_then (λ shell. shell) (slice_get shells object)
+
+-- whether a pair of objects with these shells is kept
+abbrev pub keeps : ℕ → List (Option Shell) → ℕ × ℕ → Bool
+keeps thr shells pair = are_kept thr (shell_in shells pair.0) (shell_in shells pair.1)

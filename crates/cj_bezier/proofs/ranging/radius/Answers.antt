@@ -1,4 +1,4 @@
-use Rattle.std.proofs.Common.{◌≡◌, ℕ, ◌+◌, ◌*◌, ◌<◌, ◌≤◌, arith, rules, subst, sym, length}
+use Rattle.std.proofs.Common.{ℕ, ◌+◌, ◌*◌, ◌<◌, ◌≤◌, subst, sym}
 use Rattle.cj_bezier.specs.Hulls.{Axes}
 use Rattle.cj_bezier.specs.Gaps.{Terms, gap_terms, terms_of}
 use Rattle.cj_bezier.specs.Squares.{least_square, greatest_square}
@@ -29,10 +29,8 @@ returns-clause-least c r h =
 
 pub returns-clause-ordered : goal.returns-clause-ordered
 returns-clause-ordered c =
-    let xs = c.gap_origin-gap.result.terms in
-    let seven : length xs ≡ 7 = search rules in
-    let g = terms_of xs in
-    inner-le_outer g c.isqrt_down.result c.isqrt_up.result (first_ordered xs (omega arith))
+    let g = terms_of c.gap_origin-gap.result.terms in
+    inner-le_outer g c.isqrt_down.result c.isqrt_up.result (first_ordered c.gap_origin-gap.result.terms)
     (subst (λ (g : Terms). IsInner g c.isqrt_down.result) (sym c.gap_origin-gap.ensures) (returns-clause-inner c))
     (subst (λ (g : Terms). IsOuter g c.isqrt_up.result) (sym c.gap_origin-gap.ensures) (returns-clause-outer c))
 
