@@ -1,0 +1,4 @@
+pub mod BoxingLemmas
+pub mod GrowingLemmas
+pub mod PairingLemmas
+pub mod TouchLemmas
