@@ -7,7 +7,7 @@ use Rattle.cj_bezier.specs.declared.kind.Kind.TheVariants.{Undecided}
 use Rattle.cj_bezier.specs.Leaves.{Stretch}
 use Rattle.cj_cells.specs.Halving.{middle, closed, closed_or, leaves_within, leaves_between}
 use Rattle.cj_bezier.specs.Order.{IsBefore}
-use Rattle.cj_cells.proofs.ListLemmas.{Each, Exists, Ordered, Each-weaker}
+use Rattle.cj_interval.proofs.ListLemmas.{Each, Exists, Ordered, Each-weaker}
 
 -- a stretch with its kind, from lo to hi
 pub record IsLeaf (judge : ℕ → ℕ → Option Kind) (a b lo hi : ℕ) (s : Stretch) : Type 0 where

@@ -1,18 +1,20 @@
 -- The one-thread list: its stretches are sound and in order, and hold each common tick that is looked at.
 use Rattle.std.proofs.Common.{◌≡◌, ℕ, zero, suc, ◌+◌, ◌-◌, ◌^◌, ◌<◌, ◌≤◌, ◌⊎◌, Bool, true, false, List, [], ◌∷◌, ◌++◌, length, Option, Some, None, refl, sym, ap, subst, ◌∙◌, inl, inr, arith, length-append}
 use Rattle.std.specs.Prelude.{is_some, All, Any, AllPairs}
-use Rattle.std.specs.List.{flat_map}
+use Rattle.std.specs.List.{flat_map, sum_by}
+use Rattle.std.proofs.lemmas.List.Sums.{sum_by-cons}
 use Rattle.cj_hermite.specs.Interpolant.{Curve, IsOver}
 use Rattle.cj_hermite.specs.Cases.{Case, number_at, curve_at, threshold_of, IsCommonOf}
 use Rattle.cj_bezier.specs.declared.kind.Kind.{Kind}
 use Rattle.cj_bezier.specs.Leaves.{Stretch}
 use Rattle.cj_bezier.specs.Verdicts.{Holds}
-use Rattle.cj_cells.specs.Halving.{middle, closed_or, leaves_within, leaves_between}
-use Rattle.cj_cells.specs.Slots.{slot_of}
+use Rattle.cj_cells.specs.Halving.{middle, closed_or, halved_or, leaves_within, leaves_between, splits_within}
+use Rattle.cj_hermite.specs.Slots.{slot_of}
+use Rattle.cj_cells.specs.Looked.{is_looked}
 use Rattle.cj_cells.specs.Roots.{Root, both, numbers_at, KeepIntervals, roots_of, IsRootBefore}
 use Rattle.cj_bezier.specs.Order.{IsBefore}
-use Rattle.cj_cells.specs.Lists.{kind_between, leaves_of_curves, leaves_of_root, leaves_of_roots, list_of, IsTrueThroughout, IsSound, IsTickOf, IsPartOf, Describe}
-use Rattle.cj_cells.proofs.ListLemmas.{Each, Exists, Ordered, Each-weaker, Each-both, Each-flat_map, Each-exists, Exists-weaker, Exists-flat_map, Ordered-flat_map, All-from_each, Any-from_exists, AllPairs-from_ordered, each_from_All, exists_from_Any, ordered_from_AllPairs}
+use Rattle.cj_cells.specs.Lists.{kind_between, leaves_of_curves, leaves_of_root, leaves_of_roots, list_of, list_looked, splits_of_curves, splits_of_root, splits_of, IsTrueThroughout, IsSound, IsTickOf, IsPartOf, Describe}
+use Rattle.cj_interval.proofs.ListLemmas.{Each, Exists, Ordered, Each-weaker, Each-both, Each-flat_map, Each-exists, Exists-weaker, Exists-flat_map, Ordered-flat_map, All-from_each, Any-from_exists, AllPairs-from_ordered, each_from_All, exists_from_Any, ordered_from_AllPairs}
 use Rattle.cj_cells.proofs.HalvingLemmas.{Tile, IsLeaf, HasTick, tiles, Each-tile, Ordered-tile, Exists-tile}
 use Rattle.cj_cells.proofs.RootLemmas.{IsRoot, IsRootOf, Each-roots, Ordered-roots, Exists-roots}
 use Rattle.cj_cells.proofs.RootLemmas.{Holds as HasRootTick}
@@ -244,3 +246,42 @@ fewer_roots case (r ∷ rs) are =
     let one = some_leaf case r are.0 in
     let rest = fewer_roots case rs are.1 in
     omega (arith, length-append (leaves_of_root case r) (flat_map (leaves_of_root case) rs))
+
+-- ---- how often roots are halved
+
+leaves_split : (judge : ℕ → ℕ → Option Kind) (a b n first last : ℕ) → length (leaves_within judge a b n first last) ≡ 1 + splits_within judge n first last
+unfolding leaves_within splits_within
+leaves_split judge a b zero first last = refl
+leaves_split judge a b (suc n) first last =
+    go (judge first last) (leaves_within judge a b n first (middle first last)) (leaves_within judge a b n (middle first last + 1) last)
+    (splits_within judge n first (middle first last)) (splits_within judge n (middle first last + 1) last)
+    (leaves_split judge a b n first (middle first last)) (leaves_split judge a b n (middle first last + 1) last)
+  where
+    go : (o : Option Kind) (xs ys : List Stretch) (k l : ℕ) → length xs ≡ 1 + k → length ys ≡ 1 + l → length (closed_or a b first last o (xs ++ ys)) ≡ 1 + halved_or o (k + l)
+    go (Some kind) xs ys k l p q = refl
+    go None xs ys k l p q = omega (arith, length-append xs ys)
+
+root_split : (case : Case) (r : Root) → IsRootOf case r → length (leaves_of_root case r) ≡ 1 + splits_of_root case r
+unfolding leaves_of_root leaves_between splits_of_root
+root_split case r is = go (curves_of case r.a r.b r.first r.last (root_intervals case r is))
+  where
+    go : Curves case r.a r.b r.first r.last → length (leaves_of_curves r case.threshold (curve_at case r.a r.first) (curve_at case r.b r.first)) ≡ 1 + splits_of_curves r case.threshold (curve_at case r.a r.first) (curve_at case r.b r.first)
+    go (curves c d have) =
+        let root = is.root in
+        let first = have.first_curve r.first (omega arith) root.some in
+        let second = have.second_curve r.first (omega arith) root.some in
+        rw (first, second) (leaves_split (kind_between c d case.threshold) r.a r.b (r.last - r.first) r.first r.last)
+
+roots_split : (case : Case) (rs : List Root) → Each (IsRootOf case) rs → length (leaves_of_roots case rs) ≡ length rs + sum_by (splits_of_root case) rs
+unfolding leaves_of_roots
+roots_split case [] are = refl
+roots_split case (r ∷ rs) are =
+    let one = root_split case r are.0 in
+    let rest = roots_split case rs are.1 in
+    let sum = sum_by-cons (splits_of_root case) r rs in
+    omega (arith, length-append (leaves_of_root case r) (flat_map (leaves_of_root case) rs))
+
+-- a case has as many leaves as roots and halvings
+pub list_split : (case : Case) → length (list_looked case) ≡ length (roots_of (is_looked case) case) + splits_of case
+unfolding list_of splits_of
+list_split case = roots_split case (roots_of (is_looked case) case) (Each-roots (is_looked case) case)

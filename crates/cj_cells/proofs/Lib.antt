@@ -1,7 +1,5 @@
-pub mod ListLemmas
 pub mod RunLemmas
 pub mod HalvingLemmas
-pub mod SlotLemmas
 pub mod RootLemmas
 pub mod SumLemmas
 pub mod OrderLemmas
@@ -10,7 +8,6 @@ pub mod JudgeLemmas
 pub mod LeafLemmas
 pub mod RefineLemmas
 pub mod TrackLemmas
-pub mod SpanLemmas
 pub mod WalkLemmas
 pub mod SlotRootLemmas
 pub mod ListingLemmas

@@ -10,77 +10,34 @@ use Rattle.cj_hermite.specs.declared.pair.Pair.{Pair}
 use Rattle.cj_bezier.specs.declared.cell.Cell.{Cell}
 use Rattle.cj_bezier.specs.declared.leaf.Leaf.{Leaf}
 use Rattle.cj_bezier.specs.Leaves.{Stretch, stretch_of, stretches_of}
-use Rattle.cj_cells.specs.Slots.{slot_count}
-use Rattle.cj_cells.specs.Roots.{Root, KeepIntervals, objects_of, pairs_of, everywhere, slots_of, roots_in_slot, roots_of, roots_by_slot}
+use Rattle.cj_hermite.specs.Slots.{slot_count}
+use Rattle.cj_hermite.specs.Pairs.{objects_of, pairs_of}
+use Rattle.cj_cells.specs.Roots.{Root, KeepIntervals, slots_of, roots_in_slot, roots_of, roots_by_slot}
+use Rattle.cj_cells.specs.Looked.{is_looked, pairs_looked}
 use Rattle.cj_cells.specs.Cells.{root_of_cell, roots_in_cells, added_roots, added_stretches}
 use Rattle.cj_cells.specs.Lists.{leaves_of_root, leaves_of_roots}
-use Rattle.cj_cells.proofs.ListLemmas.{Each, Each-weaker, All-from_each, each_from_map}
-use Rattle.cj_cells.proofs.RootLemmas.{IsRootOf, IsPair, Each-roots, Each-pairs}
+use Rattle.cj_interval.proofs.ListLemmas.{Each, Each-weaker, All-from_each, each_from_map}
+use Rattle.cj_hermite.proofs.PairLemmas.{range_more}
+use Rattle.cj_cells.proofs.RootLemmas.{IsRootOf, Each-roots}
 use Rattle.cj_cells.proofs.LeafLemmas.{root_intervals}
 use Rattle.cj_cells.proofs.SumLemmas.{total, same_roots}
-
--- ---- pairs
-
-abbrev pub row : ℕ → ℕ → List (ℕ × ℕ)
-row count a = map (λ (b : ℕ). let p : ℕ × ℕ = (a, b) in p) (range_with_len (a + 1) (count - (a + 1)))
-
-range_more : (a n : ℕ) → range_with_len a (n + 1) ≡ range_with_len a n ++ (a + n) ∷ []
-range_more a zero = let e : a ≡ a + 0 = omega arith in ap (λ (k : ℕ). k ∷ []) e
-range_more a (suc n) =
-    let m : suc n + 1 ≡ suc (n + 1) = omega arith in
-    let e : a + 1 + n ≡ a + suc n = omega arith in
-    rw m (ap (λ (ks : List ℕ). a ∷ ks) (rw (← e) (range_more (a + 1) n)))
-
--- one object more in a row
-pub row_more : (a b : ℕ) (done : List (ℕ × ℕ)) → a < b →
-    (done ++ map (λ (x : ℕ). let p : ℕ × ℕ = (a, x) in p) (range_with_len (a + 1) (b - (a + 1)))) ++ (let p : ℕ × ℕ = (a, b) in p ∷ []) ≡ done ++ map (λ (x : ℕ). let p : ℕ × ℕ = (a, x) in p) (range_with_len (a + 1) (b + 1 - (a + 1)))
-row_more a b done lt =
-    let n : b + 1 - (a + 1) ≡ b - (a + 1) + 1 = omega arith in
-    let at : a + 1 + (b - (a + 1)) ≡ b = omega arith in
-    append_assoc done (map (λ (x : ℕ). let p : ℕ × ℕ = (a, x) in p) (range_with_len (a + 1) (b - (a + 1)))) (let p : ℕ × ℕ = (a, b) in p ∷ [])
-    ∙ ap (λ (k : ℕ). done ++ (map (λ (x : ℕ). let p : ℕ × ℕ = (a, x) in p) (range_with_len (a + 1) (b - (a + 1))) ++ (let p : ℕ × ℕ = (a, k) in p ∷ []))) (sym at)
-    ∙ ap (λ (ps : List (ℕ × ℕ)). done ++ ps)
-    (sym (map_push (λ (x : ℕ). let p : ℕ × ℕ = (a, x) in p) (range_with_len (a + 1) (b - (a + 1))) (a + 1 + (b - (a + 1))))
-    ∙ ap (map (λ (x : ℕ). let p : ℕ × ℕ = (a, x) in p)) (sym (range_more (a + 1) (b - (a + 1)))))
-    ∙ ap (λ (k : ℕ). done ++ map (λ (x : ℕ). let p : ℕ × ℕ = (a, x) in p) (range_with_len (a + 1) k)) (sym n)
-
--- one row more
-pub rows_more : (count a : ℕ) → flat_map (row count) (range_with_len 0 a) ++ row count a ≡ flat_map (row count) (range_with_len 0 (a + 1))
-rows_more count a =
-    sym (ap (flat_map (row count)) (range_more 0 a)
-    ∙ flat_map-append (row count) (range_with_len 0 a) ((0 + a) ∷ [])
-    ∙ ap (λ ps. flat_map (row count) (range_with_len 0 a) ++ ps) (append-nil (row count (0 + a)))
-    ∙ (let e : 0 + a ≡ a = omega arith in ap (λ (k : ℕ). flat_map (row count) (range_with_len 0 a) ++ row count k) e))
-
--- each pair has existing objects
-pub pairs_exist : (count : ℕ) (pairs : List Pair) → map objects_of pairs ≡ pairs_of count → All (λ pair. pair.b < count) pairs
-pairs_exist count pairs same =
-    All-from_each (λ pair. pair.b < count) pairs
-    (each_from_map (λ (p : ℕ × ℕ). p.1 < count) objects_of pairs
-    (subst (Each (λ (p : ℕ × ℕ). p.1 < count)) (sym same)
-    (Each-weaker (IsPair count) (λ (p : ℕ × ℕ). p.1 < count) (λ p is. is.exists) (pairs_of count) (Each-pairs count))))
 
 -- ---- slots
 
 abbrev pub roots_to : Case → ℕ → List Root
-roots_to case k = flat_map (λ slot. roots_in_slot case slot (pairs_of (length case.ephemerides))) (range_with_len 0 k)
+roots_to case k = flat_map (λ slot. roots_in_slot case slot (pairs_looked case slot)) (range_with_len 0 k)
 
-pub slot_more : (case : Case) (k : ℕ) → roots_to case (k + 1) ≡ roots_to case k ++ roots_in_slot case k (pairs_of (length case.ephemerides))
+pub slot_more : (case : Case) (k : ℕ) → roots_to case (k + 1) ≡ roots_to case k ++ roots_in_slot case k (pairs_looked case k)
 slot_more case k =
-    ap (flat_map (λ slot. roots_in_slot case slot (pairs_of (length case.ephemerides)))) (range_more 0 k)
-    ∙ flat_map-append (λ slot. roots_in_slot case slot (pairs_of (length case.ephemerides))) (range_with_len 0 k) ((0 + k) ∷ [])
-    ∙ ap (λ rs. roots_to case k ++ rs) (append-nil (roots_in_slot case (0 + k) (pairs_of (length case.ephemerides))))
-    ∙ (let e : 0 + k ≡ k = omega arith in ap (λ (j : ℕ). roots_to case k ++ roots_in_slot case j (pairs_of (length case.ephemerides))) e)
+    ap (flat_map (λ slot. roots_in_slot case slot (pairs_looked case slot))) (range_more 0 k)
+    ∙ flat_map-append (λ slot. roots_in_slot case slot (pairs_looked case slot)) (range_with_len 0 k) ((0 + k) ∷ [])
+    ∙ ap (λ rs. roots_to case k ++ rs) (append-nil (roots_in_slot case (0 + k) (pairs_looked case (0 + k))))
+    ∙ (let e : 0 + k ≡ k = omega arith in ap (λ (j : ℕ). roots_to case k ++ roots_in_slot case j (pairs_looked case j)) e)
 
-filter_all : (ps : List (ℕ × ℕ)) → filter (λ p. true) ps ≡ ps
-filter_all [] = refl
-filter_all (p ∷ ps) = ap (λ (qs : List (ℕ × ℕ)). p ∷ qs) (filter_all ps)
-
--- the roots slot by slot, where every pair is looked at
-pub by_slot : (case : Case) → roots_to case (slot_count case.first case.last) ≡ roots_by_slot everywhere case
+-- the roots slot by slot
+pub by_slot : (case : Case) → roots_to case (slot_count case.first case.last) ≡ roots_by_slot (is_looked case) case
 unfolding roots_by_slot
-by_slot case =
-    ap (λ (ps : List (ℕ × ℕ)). flat_map (λ slot. roots_in_slot case slot ps) (slots_of case)) (sym (filter_all (pairs_of (length case.ephemerides))))
+by_slot case = refl
 
 roots_to_le : (case : Case) (j n : ℕ) → length (roots_to case j) ≤ length (roots_to case (j + n))
 roots_to_le case j zero = let e : j + 0 ≡ j = omega arith in rw e (omega arith)
@@ -88,24 +45,27 @@ roots_to_le case j (suc n) =
     let e : j + suc n ≡ j + n + 1 = omega arith in
     let before = roots_to_le case j n in
     let more = ap length (slot_more case (j + n)) in
-    rw e (omega (arith, before, more, length-append (roots_to case (j + n)) (roots_in_slot case (j + n) (pairs_of (length case.ephemerides)))))
+    rw e (omega (arith, before, more, length-append (roots_to case (j + n)) (roots_in_slot case (j + n) (pairs_looked case (j + n)))))
 
 length_is : {X : Type 0} (xs : List X) → length xs ≡ total (λ x. 1) xs
 unfolding total
 length_is [] = refl
 length_is (x ∷ xs) = let rest = length_is xs in omega arith
 
+-- slot by slot there are as many roots as in all
+pub same_count : (case : Case) → length (roots_by_slot (is_looked case) case) ≡ length (roots_of (is_looked case) case)
+same_count case = length_is (roots_by_slot (is_looked case) case) ∙ same_roots (is_looked case) case (λ r. 1) ∙ sym (length_is (roots_of (is_looked case) case))
+
 -- no slot has more roots than there are in all
-pub slots_count : (case : Case) (k : ℕ) → k < slot_count case.first case.last → length (roots_to case k) + length (roots_in_slot case k (pairs_of (length case.ephemerides))) ≤ length (roots_of everywhere case)
+pub slots_count : (case : Case) (k : ℕ) → k < slot_count case.first case.last → length (roots_to case k) + length (roots_in_slot case k (pairs_looked case k)) ≤ length (roots_of (is_looked case) case)
 slots_count case k lt =
     let next = ap length (slot_more case k) in
     let count = slot_count case.first case.last in
     let at : k + 1 + (count - (k + 1)) ≡ count = omega arith in
     let upto = subst (λ (n : ℕ). length (roots_to case (k + 1)) ≤ length (roots_to case n)) at (roots_to_le case (k + 1) (count - (k + 1))) in
     let slots = ap length (by_slot case) in
-    let same : length (roots_by_slot everywhere case) ≡ length (roots_of everywhere case) =
-    length_is (roots_by_slot everywhere case) ∙ same_roots everywhere case (λ r. 1) ∙ sym (length_is (roots_of everywhere case)) in
-    omega (arith, next, upto, slots, same, length-append (roots_to case k) (roots_in_slot case k (pairs_of (length case.ephemerides))))
+    let same = same_count case in
+    omega (arith, next, upto, slots, same, length-append (roots_to case k) (roots_in_slot case k (pairs_looked case k)))
 
 -- cells that were added behind others
 pub cells_more : (old new : List Cell) → take (length old) new ≡ old → roots_in_cells new ≡ roots_in_cells old ++ added_roots old new

@@ -9,7 +9,7 @@ use Rattle.cj_bezier.specs.declared.cell.Cell.{Cell}
 use Rattle.cj_hermite.specs.Cases.{Case}
 use Rattle.cj_cells.specs.Cells.{root_of_cell, roots_in_cells, root_numbers}
 use Rattle.cj_cells.specs.Roots.{Root, IsRootUpTo, roots_of, roots_by_slot}
-use Rattle.cj_cells.proofs.ListLemmas.{Each, Ordered, Each-weaker, AllPairs-from_ordered, ordered_from_AllPairs}
+use Rattle.cj_interval.proofs.ListLemmas.{Each, Ordered, Each-weaker, AllPairs-from_ordered, ordered_from_AllPairs}
 use Rattle.cj_cells.proofs.RootLemmas.{Each-roots, Ordered-roots, IsRootOf}
 use Rattle.cj_cells.proofs.SumLemmas.{total, same_list, same_roots, same_totals}
 

@@ -3,12 +3,14 @@ use Rattle.std.proofs.Common.{◌≡◌, ℕ, zero, suc, ◌+◌, ◌-◌, ◌<�
 use Rattle.std.specs.Prelude.{is_some}
 use Rattle.std.specs.List.{flat_map, range_with_len}
 use Rattle.cj_hermite.specs.Cases.{Case, number_at}
-use Rattle.cj_cells.specs.Slots.{slot_first, slot_last, slot_count, slot_of}
+use Rattle.cj_hermite.specs.Pairs.{pairs_of}
+use Rattle.cj_hermite.specs.Slots.{slot_first, slot_last, slot_count, slot_of}
 use Rattle.cj_cells.specs.Runs.{Run, runs_over, runs_between}
-use Rattle.cj_cells.specs.Roots.{Root, both, numbers_at, root_of_run, roots_between, roots_in, pairs_of, slots_of, roots_of, IsRootBefore}
-use Rattle.cj_cells.proofs.ListLemmas.{Each, Exists, Ordered, Each-weaker, Each-map, Each-flat_map, Each-range, Each-taken, Exists-weaker, Exists-map, Exists-flat_map, Exists-range, Exists-taken, Ordered-map, Ordered-flat_map, Ordered-range, Ordered-taken}
+use Rattle.cj_cells.specs.Roots.{Root, both, numbers_at, root_of_run, roots_between, roots_in, slots_of, roots_of, IsRootBefore}
+use Rattle.cj_interval.proofs.ListLemmas.{Each, Exists, Ordered, Each-weaker, Each-map, Each-flat_map, Each-range, Each-taken, Exists-weaker, Exists-map, Exists-flat_map, Exists-range, Exists-taken, Ordered-map, Ordered-flat_map, Ordered-range, Ordered-taken}
 use Rattle.cj_cells.proofs.RunLemmas.{IsRun, AreRuns, Has, runs_are, runs_have}
-use Rattle.cj_cells.proofs.SlotLemmas.{slot_exists, slot_begins, slot_ends, slots_follow, slot_within}
+use Rattle.cj_hermite.proofs.PairLemmas.{IsPair, PairBefore, Each-pairs, Ordered-pairs, Exists-pairs}
+use Rattle.cj_hermite.proofs.SlotLemmas.{slot_exists, slot_begins, slot_ends, slots_follow, slot_within}
 
 -- ---- runs in order
 
@@ -150,52 +152,6 @@ Exists-pair looked case pair m low high is some =
     (slot_begins case.first m low) (slot_ends case.first case.last m low high) some)))
     (slots_of case)
     (Exists-range 0 (slot_count case.first case.last) (slot_of case.first m) (omega arith) (omega (arith, slot_exists case.first case.last m low high))))
-
--- ---- pairs of objects
-
--- two of n objects, the lower number first
-pub record IsPair (n : ℕ) (p : ℕ × ℕ) : Type 0 where
-  pub ordered : p.0 < p.1
-  pub exists : p.1 < n
-
--- p comes before q
-pub record PairBefore (p q : ℕ × ℕ) : Type 0 where
-  pub first_object : p.0 ≤ q.0
-  pub second_object : p.0 ≡ q.0 → p.1 < q.1
-
-abbrev pairs_from : ℕ → ℕ → List (ℕ × ℕ)
-pairs_from n a = map (λ (b : ℕ). let p : ℕ × ℕ = (a, b) in p) (range_with_len (a + 1) (n - (a + 1)))
-
-pub Each-pairs : (n : ℕ) → Each (IsPair n) (pairs_of n)
-Each-pairs n = Each-flat_map (IsPair n) (pairs_from n) (range_with_len 0 n)
-    (Each-range (λ a. Each (IsPair n) (pairs_from n a)) 0 n
-    (λ a low high. Each-map (IsPair n) (λ (b : ℕ). (a, b)) (range_with_len (a + 1) (n - (a + 1)))
-    (Each-range (λ b. IsPair n (a, b)) (a + 1) (n - (a + 1)) (λ b above below. record { ordered = omega arith; exists = omega arith }))))
-
-pub Ordered-pairs : (n : ℕ) → Ordered PairBefore (pairs_of n)
-Ordered-pairs n =
-    Ordered-flat_map PairBefore (λ j k. j < k) (λ a. Unit {0}) (pairs_from n)
-    (λ a _. Ordered-map PairBefore (λ (b : ℕ). (a, b)) (range_with_len (a + 1) (n - (a + 1))) (rising a (range_with_len (a + 1) (n - (a + 1))) (Ordered-range (a + 1) (n - (a + 1)))))
-    (λ a c _ _ lt. Each-map (λ p. Each (PairBefore p) (pairs_from n c)) (λ (b : ℕ). (a, b)) (range_with_len (a + 1) (n - (a + 1)))
-    (Each-range (λ b. Each (PairBefore (a, b)) (pairs_from n c)) (a + 1) (n - (a + 1)) (λ b above below.
-    Each-map (PairBefore (a, b)) (λ (d : ℕ). (c, d)) (range_with_len (c + 1) (n - (c + 1)))
-    (Each-range (λ d. PairBefore (a, b) (c, d)) (c + 1) (n - (c + 1)) (λ d above' below'. record { first_object = omega arith; second_object = λ e. absurd (omega arith) })))))
-    (range_with_len 0 n) (Each-range (λ a. Unit {0}) 0 n (λ k low high. tt)) (Ordered-range 0 n)
-  where
-    rising : (a : ℕ) (bs : List ℕ) → Ordered (λ j k. j < k) bs → Ordered (λ b d. PairBefore (a, b) (a, d)) bs
-    rising a [] o = tt
-    rising a (b ∷ bs) o =
-        (Each-weaker (λ d. b < d) (λ d. PairBefore (a, b) (a, d)) (λ d lt. record { first_object = omega arith; second_object = λ e. lt }) bs o.0, rising a bs o.1)
-
-Exists-pairs : (n a b : ℕ) → a < b → b < n → Exists (λ p. p ≡ (a, b)) (pairs_of n)
-Exists-pairs n a b ordered exists =
-    Exists-flat_map (λ p. p ≡ (a, b)) (pairs_from n) (range_with_len 0 n)
-    (Exists-weaker (λ c. c ≡ a) (λ c. Exists (λ p. p ≡ (a, b)) (pairs_from n c))
-    (λ c e. rw e
-    (Exists-map (λ p. p ≡ (a, b)) (λ (d : ℕ). let p : ℕ × ℕ = (a, d) in p) (range_with_len (a + 1) (n - (a + 1)))
-    (Exists-weaker (λ d. d ≡ b) (λ d. ◌≡◌ {A = ℕ × ℕ} (a, d) (a, b)) (λ d e. ap (λ (x : ℕ). let p : ℕ × ℕ = (a, x) in p) e) (range_with_len (a + 1) (n - (a + 1)))
-    (Exists-range (a + 1) (n - (a + 1)) b (omega arith) (omega arith)))))
-    (range_with_len 0 n) (Exists-range 0 n a (omega arith) (omega arith)))
 
 -- ---- all roots
 

@@ -4,7 +4,7 @@ use Rattle.std.specs.Prelude.{is_some}
 use Rattle.std.specs.List.{range_with_len}
 use Rattle.std.proofs.lemmas.Bool.{eqb-true, eq-eqb, and_parts, and_from, and_cases, cond-true, cond-false, cases_Bool, cases_eq, false_from_ne_true}
 use Rattle.cj_cells.specs.Runs.{Run, is_same, with_tick, runs_over, runs_between}
-use Rattle.cj_cells.proofs.ListLemmas.{Each, Exists, Ordered, Each-weaker}
+use Rattle.cj_interval.proofs.ListLemmas.{Each, Exists, Ordered, Each-weaker}
 
 -- ---- labels
 

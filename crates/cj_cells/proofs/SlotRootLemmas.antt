@@ -10,12 +10,13 @@ use Rattle.cj_hermite.specs.declared.problem.Problem.{Problem}
 use Rattle.cj_hermite.specs.declared.pair.Pair.{Pair}
 use Rattle.cj_hermite.specs.Cases.{Case}
 use Rattle.cj_hermite.specs.Problems.{case_of}
-use Rattle.cj_cells.specs.Slots.{slot_first, slot_last}
+use Rattle.cj_hermite.specs.Slots.{slot_first, slot_last}
 use Rattle.cj_cells.specs.Runs.{runs_over, runs_between}
-use Rattle.cj_cells.specs.Roots.{Root, KeepIntervals, both, both_numbers, numbers_at, root_of_run, roots_between, roots_in, objects_of, roots_in_slot}
+use Rattle.cj_hermite.specs.Pairs.{objects_of}
+use Rattle.cj_cells.specs.Roots.{Root, KeepIntervals, both, both_numbers, numbers_at, root_of_run, roots_between, roots_in, roots_in_slot}
 use Rattle.cj_bezier.specs.declared.cell.Cell.{Cell}
 use Rattle.cj_cells.specs.Cells.{root_of_cell, roots_in_cells}
-use Rattle.cj_cells.proofs.ListLemmas.{Each, Each-weaker, Each-always, Each-flat_map, Each-take, All-from_each, each_from_map}
+use Rattle.cj_interval.proofs.ListLemmas.{Each, Each-weaker, Each-always, Each-flat_map, Each-take, All-from_each, each_from_map}
 use Rattle.cj_cells.proofs.RootLemmas.{IsRoot, Each-between}
 use Rattle.cj_cells.proofs.TrackLemmas.{number_of_track}
 

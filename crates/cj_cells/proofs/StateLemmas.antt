@@ -7,36 +7,8 @@ use Rattle.cj_oem.specs.Ephemeris.{Ephemeris}
 use Rattle.cj_hermite.specs.Interpolant.{Curve, IsOver}
 use Rattle.cj_hermite.specs.Pieces.{Interval, intervals_of, interval_at, interval_index_at, curve_of_interval, last_covering, OfBothAt}
 use Rattle.cj_hermite.specs.PiecesOfTracks.{Covers}
-use Rattle.cj_hermite.proofs.CoverLemmas.{IsFound, found_is, covers_is}
+use Rattle.cj_hermite.proofs.StateLemmas.{IsState, HasState, has, lacks, state}
 use Rattle.cj_hermite.specs.Cases.{Case, number_at, curve_at, OfObjectsAt}
-
--- what is found at a tick: an interval that covers it, at its number in the list
-pub record IsState (e : Ephemeris) (m : ℕ) (number : ℕ) (x : Interval) : Type 0 where
-  pub numbered : interval_index_at e m ≡ Some number
-  pub at : interval_at e m ≡ Some x
-  pub place : slice_get (intervals_of e) number ≡ Some x
-  pub covers : Covers m x
-
--- an ephemeris has a state at a tick, or has not
-data HasState (e : Ephemeris) (m : ℕ) : Type 0 where
-  has : (number : ℕ) (x : Interval) → IsState e m number x → HasState e m
-  lacks : interval_index_at e m ≡ None → interval_at e m ≡ None → HasState e m
-
-state : (e : Ephemeris) (m : ℕ) → HasState e m
-unfolding interval_at interval_index_at
-state e m = go (last_covering m 0 (intervals_of e)) refl
-  where
-    go : (o : Option (ℕ × Interval)) → last_covering m 0 (intervals_of e) ≡ o → HasState e m
-    go None h = lacks (ap (λ (o : Option (ℕ × Interval)). option_map (λ x. x.0) o) h) (ap (λ (o : Option (ℕ × Interval)). option_map (λ x. x.1) o) h)
-    go (Some z) h =
-        let found = found_is m 0 (intervals_of e) z h in
-        let number : found.place ≡ z.0 = omega (arith, found.number) in
-        has z.0 z.1 (record {
-          numbered = ap (λ (o : Option (ℕ × Interval)). option_map (λ x. x.0) o) h;
-          at = ap (λ (o : Option (ℕ × Interval)). option_map (λ x. x.1) o) h;
-          place = subst (λ k. slice_get (intervals_of e) k ≡ Some z.1) number found.is;
-          covers = covers_is m z.1 found.here;
-        })
 
 -- ---- an object at a tick
 

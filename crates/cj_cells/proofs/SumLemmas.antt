@@ -7,8 +7,9 @@ use Rattle.std.proofs.lemmas.List.Sums.{sum_by-cons}
 use Rattle.std.proofs.lemmas.List.Sorted.{sum_by-IsPermutation}
 use Rattle.std.proofs.lemmas.Bool.{eqb-true, eq-eqb, and_parts, and_from, cases_Bool}
 use Rattle.cj_hermite.specs.Cases.{Case}
-use Rattle.cj_cells.specs.Roots.{Root, IsRootBefore, IsRootUpTo, roots_in, pairs_of, slots_of, roots_of, roots_by_slot}
-use Rattle.cj_cells.proofs.ListLemmas.{Each, Exists, Ordered, Each-exists}
+use Rattle.cj_hermite.specs.Pairs.{pairs_of}
+use Rattle.cj_cells.specs.Roots.{Root, IsRootBefore, IsRootUpTo, roots_in, slots_of, roots_of, roots_by_slot}
+use Rattle.cj_interval.proofs.ListLemmas.{Each, Exists, Ordered, Each-exists}
 
 -- the sum of a number of each element
 unfoldable pub total : {X : Type 0} → (X → ℕ) → List X → ℕ

@@ -12,7 +12,7 @@ use Rattle.cj_bezier.specs.declared.cell.Cell.{Cell}
 use Rattle.cj_cells.specs.Runs.{Run, is_same, runs_over, runs_between}
 use Rattle.cj_cells.specs.Roots.{Root, both, both_numbers, root_of_run, root_if}
 use Rattle.cj_cells.specs.Cells.{root_of_cell, roots_in_cells, added_roots}
-use Rattle.cj_cells.specs.Walks.{HasNone, IsNextRun}
+use Rattle.cj_hermite.specs.Walks.{HasNone, IsNextRun}
 use Rattle.cj_cells.proofs.RunLemmas.{same_from_is_same, skipped, taken}
 use Rattle.cj_cells.proofs.LeafLemmas.{same_numbers}
 

@@ -26,3 +26,18 @@ leaves_within judge a b (suc n) first last =
 -- the leaves of the ticks from first to last of the objects a and b; one tick is never halved
 unfoldable pub leaves_between : (ℕ → ℕ → Option Kind) → ℕ → ℕ → ℕ → ℕ → List Stretch
 leaves_between judge a b first last = leaves_within judge a b (last - first) first last
+
+-- how often ticks are halved: not at all where they have a kind, and else once and each half as often as it is
+abbrev pub halved_or : Option Kind → ℕ → ℕ
+halved_or (Some kind) halves = 0
+halved_or None halves = 1 + halves
+
+-- how often the ticks from first to last are halved, where a stretch of at most n + 1 ticks is judged
+unfoldable pub splits_within : (ℕ → ℕ → Option Kind) → ℕ → ℕ → ℕ → ℕ
+splits_within judge zero first last = 0
+splits_within judge (suc n) first last =
+    halved_or (judge first last) (splits_within judge n first (middle first last) + splits_within judge n (middle first last + 1) last)
+
+-- how often the ticks from first to last are halved
+abbrev pub splits_between : (ℕ → ℕ → Option Kind) → ℕ → ℕ → ℕ
+splits_between judge first last = splits_within judge (last - first) first last

@@ -1,13 +1,14 @@
 -- The one-thread list: the leaves of all roots, in order.
 use Rattle.std.specs.Prelude.{ℕ, ◌≡◌, ◌<◌, ◌≤◌, Bool, List, [], All, Any, Option, Some, None}
-use Rattle.std.specs.List.{flat_map}
+use Rattle.std.specs.List.{flat_map, sum_by}
 use Rattle.cj_hermite.specs.Interpolant.{Curve}
 use Rattle.cj_hermite.specs.Cases.{Case, threshold_of, curve_at, OfObjectsAt}
 use Rattle.cj_bezier.specs.declared.kind.Kind.{Kind}
 use Rattle.cj_bezier.specs.Leaves.{Stretch}
 use Rattle.cj_bezier.specs.Order.{AreInOrder}
 use Rattle.cj_bezier.specs.Verdicts.{kind_of, cell_verdict, Holds}
-use Rattle.cj_cells.specs.Halving.{leaves_between}
+use Rattle.cj_cells.specs.Halving.{leaves_between, splits_between}
+use Rattle.cj_cells.specs.Looked.{is_looked}
 use Rattle.cj_cells.specs.Roots.{Root, roots_of}
 
 -- what the ticks from first to last of two interpolants are closed as, by a threshold in nm; none where they are halved
@@ -75,3 +76,21 @@ pub record Describe (case : Case) (r : Root) (ss : List Stretch) : Type 0 where
   pub holds : All (IsTrueThroughout case) ss
   pub ordered : AreInOrder ss
   pub complete : (m : ℕ) → r.first ≤ m → m ≤ r.last → Any (IsTickOf r.a r.b m) ss
+
+-- the one-thread list of a case
+abbrev pub list_looked : Case → List Stretch
+list_looked case = list_of (is_looked case) case
+
+-- how often a root is halved whose objects have these interpolants
+abbrev pub splits_of_curves : Root → ℕ → Option Curve → Option Curve → ℕ
+splits_of_curves r thr None d = 0
+splits_of_curves r thr (Some c) None = 0
+splits_of_curves r thr (Some c) (Some d) = splits_between (kind_between c d thr) r.first r.last
+
+-- how often a root is halved
+unfoldable pub splits_of_root : Case → Root → ℕ
+splits_of_root case r = splits_of_curves r (threshold_of case r.a r.b) (curve_at case r.a r.first) (curve_at case r.b r.first)
+
+-- how often the roots of a case are halved
+unfoldable pub splits_of : Case → ℕ
+splits_of case = sum_by (splits_of_root case) (roots_of (is_looked case) case)

@@ -2,10 +2,10 @@
 use Rattle.std.specs.Prelude.{ℕ, ◌+◌, ◌-◌, ◌≡◌, ◌<◌, ◌≤◌, Bool, true, is_some, if◌then◌else◌, nat_le, List, [], ◌∷◌, map, filter, length, Option, Some, None}
 use Rattle.std.specs.List.{flat_map, range_with_len}
 use Rattle.cj_oem.specs.Ephemeris.{Ephemeris}
-use Rattle.cj_hermite.specs.declared.pair.Pair.{Pair}
+use Rattle.cj_hermite.specs.Pairs.{pairs_of}
 use Rattle.cj_hermite.specs.Pieces.{interval_index_at}
 use Rattle.cj_hermite.specs.Cases.{Case, number_at}
-use Rattle.cj_cells.specs.Slots.{slot_first, slot_last, slot_count}
+use Rattle.cj_hermite.specs.Slots.{slot_first, slot_last, slot_count}
 use Rattle.cj_cells.specs.Runs.{Run, runs_between}
 
 -- the ticks from first to last of the objects a and b, numbered from 0
@@ -61,14 +61,6 @@ roots_between case a b first last = map (root_of_run a b) (runs_between (numbers
 abbrev pub roots_in : Case → ℕ → ℕ → ℕ → List Root
 roots_in case slot a b = roots_between case a b (slot_first case.first slot) (slot_last case.first case.last slot)
 
--- the pairs of n objects, in order
-abbrev pub pairs_of : ℕ → List (ℕ × ℕ)
-pairs_of n = flat_map (λ a. map (λ b. (a, b)) (range_with_len (a + 1) (n - (a + 1)))) (range_with_len 0 n)
-
--- the objects of a pair
-abbrev pub objects_of : Pair → ℕ × ℕ
-objects_of pair = (pair.a, pair.b)
-
 -- the roots of these pairs in a slot
 abbrev pub roots_in_slot : Case → ℕ → List (ℕ × ℕ) → List Root
 roots_in_slot case slot pairs = flat_map (λ pair. roots_in case slot pair.0 pair.1) pairs
@@ -76,10 +68,6 @@ roots_in_slot case slot pairs = flat_map (λ pair. roots_in case slot pair.0 pai
 -- the slots of a window, in order
 abbrev pub slots_of : Case → List ℕ
 slots_of case = range_with_len 0 (slot_count case.first case.last)
-
--- every pair is looked at in every slot
-abbrev pub everywhere : ℕ → ℕ → ℕ → Bool
-everywhere a b slot = true
 
 -- all roots, of those pairs and slots that are looked at, in order of pair and time
 unfoldable pub roots_of : (ℕ → ℕ → ℕ → Bool) → Case → List Root

@@ -2,39 +2,19 @@
 ghost use Rattle.std.specs.Prelude.{◌≡◌, ◌+◌, ◌<◌, ◌≤◌, map, length, take, drop, vec_len, if◌then◌else◌, nat_le, List, [], ◌∷◌, All, IfNone, IfSome, OnOk, OnErr, IsErrOf};
 ghost use Rattle.cj_oem.specs.Tracks.{ephemeris_of};
 ghost use Rattle.cj_hermite.specs.Problems.{case_of};
-ghost use Rattle.cj_cells.specs.Slots.{slot_first, slot_last};
+ghost use Rattle.cj_hermite.specs.Slots.{slot_first, slot_last};
 ghost use Rattle.cj_cells.specs.Runs.{runs_between};
-ghost use Rattle.cj_cells.specs.Roots.{KeepIntervals, both_numbers, root_of_run, root_if, objects_of, roots_in_slot};
+ghost use Rattle.cj_hermite.specs.Pairs.{objects_of};
+ghost use Rattle.cj_cells.specs.Roots.{KeepIntervals, both_numbers, root_of_run, root_if, roots_in_slot};
 ghost use Rattle.cj_cells.specs.Cells.{added_roots};
 
 use crate::refine_error::RefineError;
-use crate::walking::{earlier, going_on, later, next, next_run};
+use crate::walking::{earlier, going_on, later, next};
 use cj_bezier::Cell;
 use cj_epoch::{Tick, Window};
-use cj_hermite::{Pair, Problem};
+use cj_hermite::{Pair, Problem, next_run, slot_window};
 use cj_oem::Track;
 use std::alloc::Global;
-
-/// The ticks of a slot: a minute.
-pub(crate) const SLOT: u64 = 60_000_000;
-
-/// The ticks of a slot, none where the window ends before it.
-fn slot_window(window: Window, slot: u32) -> Option<Window>
-    ensures none { IfNone result (slot_last window.first.micros window.last.micros slot < slot_first window.first.micros slot) }
-    ensures first { IfSome result (λ ticks. ticks.first.micros ≡ slot_first window.first.micros slot) }
-    ensures last { IfSome result (λ ticks. ticks.last.micros ≡ slot_last window.first.micros window.last.micros slot) }
-    ensures some { IfSome result (λ ticks. ticks.first.micros ≤ ticks.last.micros) }
-{
-    let first = window.first.micros + SLOT * u64::from(slot);
-    if window.last.micros < first {
-        return None;
-    }
-    let last = (first + SLOT - 1).min(window.last.micros);
-    Some(Window {
-        first: Tick { micros: first },
-        last: Tick { micros: last },
-    })
-}
 
 /// Appends the root of a pair from one tick to another, if there is a tick.
 fn append(

@@ -1,13 +1,15 @@
-ghost use Rattle.std.specs.Prelude.{◌≡◌, ◌+◌, ◌*◌, ◌<◌, ◌≤◌, [], ◌∷◌, length, vec_len, IfOk};
+ghost use Rattle.std.specs.Prelude.{◌≡◌, ◌+◌, ◌*◌, ◌<◌, ◌≤◌, length, IfOk};
 ghost use Rattle.cj_oem.specs.Limits.{MAX_COORDINATE, MAX_RATE, IsWithin};
+ghost use Rattle.cj_oem.specs.Segments.{node_count};
 
 use super::*;
 use cj_bezier::{Cell, Kind, Leaf};
-use cj_epoch::{Tick, Window};
+use cj_epoch::{Tick, Window, leap_between};
 use cj_hermite::{Pair, Problem, Tracks};
 use cj_kvn::Text;
-use cj_oem::{Frame, Node, Nodes, Segment, Segments, Track, Vec3};
+use cj_oem::{Frame, Matrices, Node, Nodes, Segment, Segments, Track, Vec3};
 use std::alloc::{AllocError, Global};
+use std::process::Abort;
 use std::test::Fail;
 
 const START: u64 = 1_735_689_600_000_000;
@@ -59,8 +61,9 @@ fn node(second: u64, p: Vec3, v: Vec3) -> Node
     }
 }
 
-/// A segment of two nodes that is useable from one second to another.
+/// A segment of two nodes that is useable from one second to another, with no leap second between.
 fn segment(
+    rt: &impl Abort,
     alloc: Global,
     first: u64,
     last: u64,
@@ -77,15 +80,23 @@ fn segment(
     ensures last { IfOk result (λ s. s.last.micros ≡ 1735689600000000 + last * 1000000) }
     ensures nodes { IfOk result (λ s. length s.nodes ≡ 2) }
 {
+    assert!(rt; !leap_between(from.at, to.at));
     Ok(Segment {
         first: tick(first * 1_000_000),
         last: tick(last * 1_000_000),
         nodes: Nodes::new(vec![in alloc; from, to]?),
+        matrices: Matrices::new(Vec::new(alloc)),
     })
 }
 
 /// A segment at rest from one second to another.
-fn rest(alloc: Global, first: u64, last: u64, p: Vec3) -> Result<Segment, AllocError>
+fn rest(
+    rt: &impl Abort,
+    alloc: Global,
+    first: u64,
+    last: u64,
+    p: Vec3,
+) -> Result<Segment, AllocError>
     requires some { first < last }
     requires early { last ≤ 60 }
     requires place { IsWithin MAX_COORDINATE p.x × IsWithin MAX_COORDINATE p.y × IsWithin MAX_COORDINATE p.z }
@@ -94,6 +105,7 @@ fn rest(alloc: Global, first: u64, last: u64, p: Vec3) -> Result<Segment, AllocE
     ensures nodes { IfOk result (λ s. length s.nodes ≡ 2) }
 {
     segment(
+        rt,
         alloc,
         first,
         last,
@@ -102,7 +114,11 @@ fn rest(alloc: Global, first: u64, last: u64, p: Vec3) -> Result<Segment, AllocE
     )
 }
 
-fn named(alloc: Global, segments: Segments) -> Result<Track, AllocError> {
+#[tactic(auto, unfolding(cj_oem::specs::Labels::is_file_name, cj_oem::specs::Labels::is_label))]
+fn named(alloc: Global, segments: Segments) -> Result<Track, AllocError>
+    ensures frame { IfOk result (λ track. track.frame ≡ Frame.Eme2000) }
+    ensures segments { IfOk result (λ track. track.segments ≡ segments) }
+{
     Ok(Track {
         file: Text::copy_of(alloc, b"a.oem")?,
         name: Text::copy_of(alloc, b"SAT A")?,
@@ -114,6 +130,8 @@ fn named(alloc: Global, segments: Segments) -> Result<Track, AllocError> {
 
 fn track_of(alloc: Global, segment: Segment) -> Result<Track, AllocError>
     requires { length segment.nodes ≡ 2 }
+    ensures frame { IfOk result (λ track. track.frame ≡ Frame.Eme2000) }
+    ensures nodes { IfOk result (λ track. node_count track.segments ≡ 2) }
 {
     let segments = Segments::new(alloc, vec![in alloc; segment]?)?;
     named(alloc, segments)
@@ -123,6 +141,8 @@ fn track_of_two(alloc: Global, one: Segment, other: Segment) -> Result<Track, Al
     requires order { one.last.micros ≤ other.first.micros }
     requires one { length one.nodes ≡ 2 }
     requires other { length other.nodes ≡ 2 }
+    ensures frame { IfOk result (λ track. track.frame ≡ Frame.Eme2000) }
+    ensures nodes { IfOk result (λ track. node_count track.segments ≡ 4) }
 {
     let segments = Segments::new(alloc, vec![in alloc; one, other]?)?;
     named(alloc, segments)
@@ -130,6 +150,9 @@ fn track_of_two(alloc: Global, one: Segment, other: Segment) -> Result<Track, Al
 
 /// Two tracks over a minute and one tick, by a threshold of 5 km.
 fn problem_of(alloc: Global, a: Track, b: Track) -> Result<Problem, AllocError>
+    requires frame { a.frame ≡ b.frame }
+    requires few_of_a { node_count a.segments ≤ 4 }
+    requires few_of_b { node_count b.segments ≤ 4 }
     ensures { IfOk result (λ problem. length problem.tracks ≡ 2) }
 {
     Ok(Problem {
@@ -143,7 +166,7 @@ fn problem_of(alloc: Global, a: Track, b: Track) -> Result<Problem, AllocError>
 }
 
 /// Two tracks that cross at right angles, one kilometre apart.
-fn crossing(alloc: Global) -> Result<Problem, AllocError>
+fn crossing(rt: &impl Abort, alloc: Global) -> Result<Problem, AllocError>
     ensures { IfOk result (λ problem. length problem.tracks ≡ 2) }
 {
     let along_y = Vec3 {
@@ -176,8 +199,22 @@ fn crossing(alloc: Global) -> Result<Problem, AllocError>
         y: 0,
         z: 225_000_000_000_000,
     };
-    let a = segment(alloc, 0, 60, node(0, a0, along_y), node(60, a1, along_y))?;
-    let b = segment(alloc, 0, 60, node(0, b0, along_z), node(60, b1, along_z))?;
+    let a = segment(
+        rt,
+        alloc,
+        0,
+        60,
+        node(0, a0, along_y),
+        node(60, a1, along_y),
+    )?;
+    let b = segment(
+        rt,
+        alloc,
+        0,
+        60,
+        node(0, b0, along_z),
+        node(60, b1, along_z),
+    )?;
     problem_of(alloc, track_of(alloc, a)?, track_of(alloc, b)?)
 }
 
@@ -198,11 +235,21 @@ fn runs_in(alloc: Global, problem: &Problem, slot: u32) -> Result<Vec<(u64, u64)
 }
 
 /// The leaves of the first root of the crossing.
-fn first_leaves(alloc: Global, limit: u64) -> Result<Vec<Leaf>, RefineError> {
-    let problem = crossing(alloc)?;
+fn first_leaves(rt: &impl Abort, alloc: Global, limit: u64) -> Result<Vec<Leaf>, RefineError> {
+    let problem = crossing(rt, alloc)?;
     let mut roots = Vec::new(alloc);
     roots_of_slot(alloc, &problem, 0, &BOTH, 1, &mut roots)?;
     refine_all(alloc, &problem, &roots, limit)
+}
+
+/// The leaves of the roots in the first two slots, those of the minute and of the tick behind it.
+fn all_leaves(alloc: Global, problem: &Problem, limit: u64) -> Result<Vec<Leaf>, RefineError>
+    requires { length problem.now.tracks ≡ 2 }
+{
+    let mut roots = Vec::new(alloc);
+    roots_of_slot(alloc, problem, 0, &BOTH, 10, &mut roots)?;
+    roots_of_slot(alloc, problem, 1, &BOTH, 10, &mut roots)?;
+    refine_all(alloc, problem, &roots, limit)
 }
 
 fn count(leaves: &[Leaf], kind: Kind) -> usize {
@@ -211,7 +258,7 @@ fn count(leaves: &[Leaf], kind: Kind) -> usize {
 
 #[test]
 fn tracks_that_cross_have_49_leaves_in_a_minute(rt: HostRuntime) -> Result<(), Fail> {
-    let leaves = first_leaves(rt.alloc(), 49)?;
+    let leaves = first_leaves(&rt, rt.alloc(), 49)?;
     assert_eq!(rt; leaves.len(), 49);
     assert_eq!(rt; count(&leaves, Kind::Far), 22);
     assert_eq!(rt; count(&leaves, Kind::Near), 27);
@@ -219,16 +266,19 @@ fn tracks_that_cross_have_49_leaves_in_a_minute(rt: HostRuntime) -> Result<(), F
     assert_eq!(rt; near.map(|leaf| leaf.cell.first), Some(tick(29_538_120)));
     let near = leaves.iter().rev().find(|leaf| leaf.kind == Kind::Near);
     assert_eq!(rt; near.map(|leaf| leaf.cell.last), Some(tick(30_461_880)));
-    assert_eq!(rt; first_leaves(rt.alloc(), 48), Err(RefineError::TooMany));
+    assert_eq!(rt;
+        first_leaves(&rt, rt.alloc(), 48),
+        Err(RefineError::TooMany)
+    );
     Ok(())
 }
 
 #[test]
 fn one_tick_behind_the_minute_has_a_leaf_too(rt: HostRuntime) -> Result<(), Fail> {
-    let problem = crossing(rt.alloc())?;
-    assert_eq!(rt; leaves_of(rt.alloc(), &problem, 50)?.len(), 50);
+    let problem = crossing(&rt, rt.alloc())?;
+    assert_eq!(rt; all_leaves(rt.alloc(), &problem, 50)?.len(), 50);
     assert_eq!(rt;
-        leaves_of(rt.alloc(), &problem, 49),
+        all_leaves(rt.alloc(), &problem, 49),
         Err(RefineError::TooMany)
     );
     Ok(())
@@ -237,10 +287,10 @@ fn one_tick_behind_the_minute_has_a_leaf_too(rt: HostRuntime) -> Result<(), Fail
 #[test]
 fn a_shared_tick_begins_the_later_run(rt: HostRuntime) -> Result<(), Fail> {
     let alloc = rt.alloc();
-    let one = rest(alloc, 0, 30, AT_7000)?;
-    let other = rest(alloc, 30, 60, AT_7100)?;
+    let one = rest(&rt, alloc, 0, 30, AT_7000)?;
+    let other = rest(&rt, alloc, 30, 60, AT_7100)?;
     let a = track_of_two(alloc, one, other)?;
-    let b = track_of(alloc, rest(alloc, 0, 60, AT_7005)?)?;
+    let b = track_of(alloc, rest(&rt, alloc, 0, 60, AT_7005)?)?;
     let problem = problem_of(alloc, a, b)?;
     assert_eq!(rt;
         runs_in(alloc, &problem, 0)?.as_slice(),
@@ -257,17 +307,17 @@ fn a_shared_tick_begins_the_later_run(rt: HostRuntime) -> Result<(), Fail> {
 #[test]
 fn a_gap_is_in_no_run(rt: HostRuntime) -> Result<(), Fail> {
     let alloc = rt.alloc();
-    let one = rest(alloc, 0, 20, AT_7000)?;
-    let other = rest(alloc, 40, 60, AT_7000)?;
+    let one = rest(&rt, alloc, 0, 20, AT_7000)?;
+    let other = rest(&rt, alloc, 40, 60, AT_7000)?;
     let a = track_of_two(alloc, one, other)?;
-    let b = track_of(alloc, rest(alloc, 0, 60, AT_7005)?)?;
+    let b = track_of(alloc, rest(&rt, alloc, 0, 60, AT_7005)?)?;
     let problem = problem_of(alloc, a, b)?;
     assert_eq!(rt;
         runs_in(alloc, &problem, 0)?.as_slice(),
         [(0, 20_000_000), (40_000_000, 59_999_999)].as_slice()
     );
-    assert_eq!(rt; leaves_of(alloc, &problem, 3)?.len(), 3);
-    assert_eq!(rt; leaves_of(alloc, &problem, 2), Err(RefineError::TooMany));
+    assert_eq!(rt; all_leaves(alloc, &problem, 3)?.len(), 3);
+    assert_eq!(rt; all_leaves(alloc, &problem, 2), Err(RefineError::TooMany));
     Ok(())
 }
 
@@ -275,6 +325,7 @@ fn a_gap_is_in_no_run(rt: HostRuntime) -> Result<(), Fail> {
 fn spans_that_meet_at_one_tick(rt: HostRuntime) -> Result<(), Fail> {
     let alloc = rt.alloc();
     let early = segment(
+        &rt,
         alloc,
         0,
         30,
@@ -282,6 +333,7 @@ fn spans_that_meet_at_one_tick(rt: HostRuntime) -> Result<(), Fail> {
         node(60, AT_7000, REST),
     )?;
     let late = segment(
+        &rt,
         alloc,
         30,
         60,
@@ -293,7 +345,7 @@ fn spans_that_meet_at_one_tick(rt: HostRuntime) -> Result<(), Fail> {
         runs_in(alloc, &problem, 0)?.as_slice(),
         [(30_000_000, 30_000_000)].as_slice()
     );
-    let leaves = leaves_of(alloc, &problem, 1)?;
+    let leaves = all_leaves(alloc, &problem, 1)?;
     assert_eq!(rt; leaves.len(), 1);
     assert_eq!(rt; count(&leaves, Kind::Near), 1);
     Ok(())
@@ -302,7 +354,7 @@ fn spans_that_meet_at_one_tick(rt: HostRuntime) -> Result<(), Fail> {
 #[test]
 fn a_look_halves_at_the_middle(rt: HostRuntime) -> Result<(), Fail> {
     let alloc = rt.alloc();
-    let problem = crossing(alloc)?;
+    let problem = crossing(&rt, alloc)?;
     let mut roots = Vec::new(alloc);
     roots_of_slot(alloc, &problem, 0, &BOTH, 1, &mut roots)?;
     assert_eq!(rt; roots.len(), 1);

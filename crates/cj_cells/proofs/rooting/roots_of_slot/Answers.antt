@@ -4,7 +4,8 @@ use Rattle.std.proofs.lemmas.List.{take_all}
 use Rattle.cj_hermite.specs.declared.pair.Pair.{Pair}
 use Rattle.cj_hermite.specs.Problems.{case_of}
 use Rattle.cj_cells.specs.Cells.{roots_in_cells, added_roots}
-use Rattle.cj_cells.specs.Roots.{Root, objects_of, roots_in, roots_in_slot}
+use Rattle.cj_hermite.specs.Pairs.{objects_of}
+use Rattle.cj_cells.specs.Roots.{Root, roots_in, roots_in_slot}
 use Rattle.cj_cells.proofs.WalkLemmas.{added_nothing, added_twice, added_count, kept_twice, root_twice}
 use Rattle.cj_cells.proofs.SlotRootLemmas.{walked, empty_slot, roots_of_pairs, pair_more, pairs_apart, prefix_of, count_of, cells_keep}
 use Rattle.cj_cells.proofs.rooting.roots_of_slot.Goals as goal

@@ -1,6 +1,7 @@
 use Rattle.std.proofs.Common.{◌≡◌, ◌≤◌, length, take, drop, map, vec_len, All}
 use Rattle.cj_hermite.specs.Problems.{case_of}
-use Rattle.cj_cells.specs.Roots.{objects_of, roots_in_slot}
+use Rattle.cj_hermite.specs.Pairs.{objects_of}
+use Rattle.cj_cells.specs.Roots.{roots_in_slot}
 use Rattle.cj_cells.specs.Cells.{added_roots}
 use Rattle.cj_cells.proofs.rooting.roots_of_slot.Given as goal
 

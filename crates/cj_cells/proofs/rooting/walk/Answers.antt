@@ -8,7 +8,7 @@ use Rattle.cj_bezier.specs.declared.cell.Cell.{Cell}
 use Rattle.cj_cells.specs.Runs.{runs_between}
 use Rattle.cj_cells.specs.Roots.{both_numbers, root_of_run}
 use Rattle.cj_cells.specs.Cells.{added_roots}
-use Rattle.cj_cells.specs.Walks.{HasNone, IsNextRun}
+use Rattle.cj_hermite.specs.Walks.{HasNone, IsNextRun}
 use Rattle.cj_cells.proofs.WalkLemmas.{roots_left, no_left, no_right, no_more, walk_done, whole_step, count_step, kept_twice, root_twice, added_count, added_nothing}
 use Rattle.cj_cells.proofs.rooting.walk.Goals as goal
 
@@ -19,8 +19,8 @@ loop-left-init c =
     record {
       room = c.requires.room;
       within = c.requires.some;
-      left = c.next_run-left.ensures;
-      right = c.next_run-right.ensures;
+      left = c.next_run-left.ensures.run;
+      right = c.next_run-right.ensures.run;
       whole = ap (λ rs. rs ++ roots_left c.args.pair.a c.args.pair.b (ephemeris_of c.args.a.now) (ephemeris_of c.args.b.now) c.args.slot.first.micros c.args.slot.last.micros) (added_nothing old old refl);
       kept = take_all (length old) old (omega arith);
       root = All-same (λ cell. cell.root ≡ 0) _ [] (drop_all (length old) old (omega arith)) (All-nil (λ cell. cell.root ≡ 0));

@@ -3,7 +3,7 @@ use Rattle.cj_oem.specs.Tracks.{ephemeris_of}
 use Rattle.cj_cells.specs.Runs.{runs_between}
 use Rattle.cj_cells.specs.Roots.{both_numbers, root_of_run}
 use Rattle.cj_cells.specs.Cells.{added_roots}
-use Rattle.cj_cells.specs.Walks.{HasNone, IsNextRun}
+use Rattle.cj_hermite.specs.Walks.{HasNone, IsNextRun}
 use Rattle.cj_cells.proofs.WalkLemmas.{runs_left}
 use Rattle.cj_cells.proofs.rooting.walk.Given as goal
 
