@@ -1,2 +1,4 @@
+pub mod Counts
 pub mod Report
 pub mod Runs
+pub mod Summary

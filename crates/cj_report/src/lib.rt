@@ -1,13 +1,17 @@
-//! The report of a run, as text.
+//! The report of a run and its summary, as text.
 #![tactic(auto)]
 
+mod counts;
 mod encounters;
 mod lines;
 mod objects;
 mod report;
 mod span;
+mod summary;
 
+pub use counts::Counts;
 pub use report::report_text;
+pub use summary::summary_text;
 
 #[cfg(test)]
 mod tests;

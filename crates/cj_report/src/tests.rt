@@ -1,13 +1,15 @@
-ghost use Rattle.std.specs.Prelude.{◌≡◌, ◌+◌, ◌<◌, ◌≤◌};
+ghost use Rattle.std.specs.Prelude.{◌≡◌, ◌+◌, ◌<◌, ◌≤◌, true};
+ghost use Rattle.cj_oem.specs.Labels.{is_file_name};
 
 use crate::report_text;
 use cj_bezier::{Cell, Kind, Leaf};
-use cj_epoch::{Tick, Window};
+use cj_epoch::{Tick, Window, leap_between};
 use cj_hermite::Pair;
 use cj_kvn::Text;
 use cj_meet::encounters;
-use cj_oem::{Frame, Node, Nodes, Segment, Segments, Track, Vec3};
+use cj_oem::{Frame, Matrices, Node, Nodes, Segment, Segments, Track, Vec3};
 use std::alloc::{AllocError, Global};
+use std::process::Abort;
 use std::test::Fail;
 
 /// 2025-01-01T00:00:00 in microseconds.
@@ -49,20 +51,37 @@ fn node(at: Tick) -> Node
     }
 }
 
-fn track(alloc: Global, file: &[u8]) -> Result<Track, AllocError> {
+/// A minute at rest.
+fn segments(rt: &impl Abort, alloc: Global) -> Result<Segments, AllocError> {
+    assert!(rt; !leap_between(tick(0), tick(60_000_000)));
     let nodes = vec![in alloc; node(tick(0)), node(tick(60_000_000))]?;
     let segment = Segment {
         first: tick(0),
         last: tick(60_000_000),
         nodes: Nodes::new(nodes),
+        matrices: Matrices::new(Vec::new(alloc)),
     };
+    Segments::new(alloc, vec![in alloc; segment]?)
+}
+
+#[tactic(auto, unfolding(cj_oem::specs::Labels::is_label))]
+fn track_of(alloc: Global, file: Text, segments: Segments) -> Result<Track, AllocError>
+    requires { is_file_name file ≡ true }
+{
     Ok(Track {
-        file: Text::copy_of(alloc, file)?,
+        file,
         name: Text::copy_of(alloc, b"SAT A")?,
         id: Text::copy_of(alloc, b"2025-001A")?,
         frame: Frame::Eme2000,
-        segments: Segments::new(alloc, vec![in alloc; segment]?)?,
+        segments,
     })
+}
+
+#[tactic(auto, unfolding(cj_oem::specs::Labels::is_file_name))]
+fn tracks(rt: &impl Abort, alloc: Global) -> Result<[Track; 2], AllocError> {
+    let one = track_of(alloc, Text::copy_of(alloc, b"a.oem")?, segments(rt, alloc)?)?;
+    let other = track_of(alloc, Text::copy_of(alloc, b"b.oem")?, segments(rt, alloc)?)?;
+    Ok([one, other])
 }
 
 fn leaf(first: u64, last: u64, kind: Kind) -> Leaf
@@ -86,7 +105,7 @@ fn leaf(first: u64, last: u64, kind: Kind) -> Leaf
 
 #[test]
 fn two_tracks_cross_at_one_kilometre(rt: HostRuntime) -> Result<(), Fail> {
-    let tracks = [track(rt.alloc(), b"a.oem")?, track(rt.alloc(), b"b.oem")?];
+    let tracks = tracks(&rt, rt.alloc())?;
     let leaves = [
         leaf(29_500_000, 29_538_119, Kind::Far),
         leaf(29_538_120, 29_999_999, Kind::Near),

@@ -1,0 +1,42 @@
+-- The text of a summary.
+use Rattle.std.specs.Prelude.{ℕ, List, [], ◌∷◌, ◌++◌, codes, decimal}
+use Rattle.cj_report.specs.Report.{line}
+
+-- what is counted in a run
+pub record Tally : Type 0 where
+  -- the objects, their pairs, and the pairs whose shells are parted
+  pub objects : ℕ
+  pub pairs : ℕ
+  pub parted : ℕ
+  -- the pairs that are looked at, summed over all slots
+  pub touching : ℕ
+  -- the roots, how often they are halved, and the leaves
+  pub roots : ℕ
+  pub splits : ℕ
+  pub leaves : ℕ
+  -- the leaves of each kind
+  pub far : ℕ
+  pub near : ℕ
+  pub undecided : ℕ
+  pub encounters : ℕ
+  pub messages : ℕ
+
+-- a word and a number
+abbrev pub count_line : List ℕ → ℕ → List ℕ
+count_line word count = line (word ∷ decimal count ∷ [])
+
+-- the summary: twelve lines
+abbrev pub summary_of : Tally → List ℕ
+summary_of t =
+    count_line (codes "OBJECTS") t.objects
+    ++ count_line (codes "PAIRS") t.pairs
+    ++ count_line (codes "PARTED") t.parted
+    ++ count_line (codes "TOUCHING") t.touching
+    ++ count_line (codes "ROOTS") t.roots
+    ++ count_line (codes "SPLITS") t.splits
+    ++ count_line (codes "LEAVES") t.leaves
+    ++ count_line (codes "FAR") t.far
+    ++ count_line (codes "NEAR") t.near
+    ++ count_line (codes "UNDECIDED") t.undecided
+    ++ count_line (codes "ENCOUNTERS") t.encounters
+    ++ count_line (codes "MESSAGES") t.messages
