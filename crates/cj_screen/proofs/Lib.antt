@@ -1,7 +1,10 @@
-mod EndLemmas
-mod ReadingLemmas
-mod ReportLemmas
-mod SortLemmas
-mod SplitLemmas
-mod StepLemmas
-mod TakenLemmas
+pub mod CountLemmas
+pub mod EndLemmas
+pub mod FarLemmas
+pub mod GatherLemmas
+pub mod ReadingLemmas
+pub mod ReportLemmas
+pub mod SortLemmas
+pub mod SplitLemmas
+pub mod StepLemmas
+pub mod TakenLemmas

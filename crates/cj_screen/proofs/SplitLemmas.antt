@@ -1,5 +1,5 @@
 -- The spans of a case's encounters split its common ticks, where its leaves are sound and hold each of them.
-use Rattle.std.proofs.Common.{◌≡◌, ℕ, ◌<◌, ◌≤◌, List, Option, Some, None, sym, subst, ap, ◌∙◌, arith, refl, slice_index_or, length}
+use Rattle.std.proofs.Common.{◌≡◌, ℕ, Bool, true, false, ◌<◌, ◌≤◌, List, Option, Some, None, sym, subst, ap, ◌∙◌, arith, refl, slice_index_or, length}
 use Rattle.std.specs.Prelude.{All, Any, IsSomeAnd, slice_get}
 use Rattle.cj_hermite.specs.Interpolant.{Curve}
 use Rattle.cj_hermite.specs.Distance.{IsNear, IsFar, IsInBand}
@@ -10,9 +10,12 @@ use Rattle.cj_bezier.specs.declared.kind.Kind.{Kind}
 use Rattle.cj_bezier.specs.declared.kind.Kind.TheVariants.{Far, Near, Undecided}
 use Rattle.cj_bezier.specs.Leaves.{Stretch}
 use Rattle.cj_bezier.specs.Verdicts.{Holds}
+use Rattle.cj_hermite.specs.Slots.{slot_of}
+use Rattle.cj_cells.specs.Looked.{is_looked}
 use Rattle.cj_cells.specs.Lists.{IsSound, IsTickOf}
 use Rattle.cj_meet.specs.Encounters.{encounters_of}
 use Rattle.cj_meet.specs.Spans.{LiesIn, LiesInSpan, HaveExactSpans}
+use Rattle.cj_screen.specs.Enclosed.{UnlookedAreFar}
 use Rattle.cj_screen.specs.Headline.{SplitsTicks}
 
 some_and : {A : Type 0} (P Q : A → Type 0) (o : Option A) → ((x : A) → P x → Q x) → IsSomeAnd o P → IsSomeAnd o Q
@@ -73,13 +76,20 @@ far_of case ss a b m sound tick near undecided = by_kind tick.1.kind refl
     by_kind Near is = absurd (near (lies Near is))
     by_kind Undecided is = absurd (undecided (lies Undecided is))
 
-pub splits : (case : Case) (ss : List Stretch) → All (IsSound case) ss → ((a b m : ℕ) → IsCommonOf case a b m → Any (IsTickOf a b m) ss)
+-- a tick that is looked at lies in a stretch, and at another the pair is far
+outside_of : (case : Case) (ss : List Stretch) (a b m : ℕ) (looked : Bool) → All (IsSound case) ss → (looked ≡ true → Any (IsTickOf a b m) ss) → (looked ≡ false → OfObjectsAt case a b m (λ c d. IsFar c d case.threshold m))
+    → ¬ Any (LiesIn Near a b m) ss → ¬ Any (LiesIn Undecided a b m) ss → OfObjectsAt case a b m (λ c d. IsFar c d case.threshold m)
+outside_of case ss a b m true sound complete far near undecided = far_of case ss a b m sound (complete refl) near undecided
+outside_of case ss a b m false sound complete far near undecided = far refl
+
+pub splits : (case : Case) (ss : List Stretch) → All (IsSound case) ss
+    → ((a b m : ℕ) → IsCommonOf case a b m → is_looked case a b (slot_of case.first m) ≡ true → Any (IsTickOf a b m) ss) → UnlookedAreFar case
     → HaveExactSpans ss → SplitsTicks case (encounters_of ss)
-splits case ss sound complete exact = record {
+splits case ss sound complete far exact = record {
   near = λ a b m here.
       let told = tells_of case ss Near a b m sound ((exact.near a b m).0 here) in (told.common, told.holds);
   undecided = λ a b m here.
       let told = tells_of case ss Undecided a b m sound ((exact.undecided a b m).0 here) in (told.common, told.holds);
   outside = λ a b m common near undecided.
-      far_of case ss a b m sound (complete a b m common) (λ h. near ((exact.near a b m).1 h)) (λ h. undecided ((exact.undecided a b m).1 h));
+      outside_of case ss a b m (is_looked case a b (slot_of case.first m)) sound (complete a b m common) (far a b m common) (λ h. near ((exact.near a b m).1 h)) (λ h. undecided ((exact.undecided a b m).1 h));
 }

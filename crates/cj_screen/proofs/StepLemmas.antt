@@ -22,7 +22,7 @@ use Rattle.cj_screen.specs.Steps.{Stops, Gives}
 use Rattle.cj_screen.specs.Outcome.{case_asked, case_of_run, within_limits}
 
 -- more files than may be
-pub too_many : (files : List FileBytes) (settings : Asked) (entries : List Entry) → entries ≡ taken_of (names_of files) → 2000 < length entries
+pub too_many : (files : List FileBytes) (settings : Asked) (entries : List Entry) → entries ≡ taken_of settings.suffix (names_of files) → 2000 < length entries
     → case_asked files settings ≡ Err (status.Limit (Objects (length entries)))
 unfolding case_asked
 too_many files settings entries same more =
@@ -30,8 +30,8 @@ too_many files settings entries same more =
     rw (← same, large) refl
 
 -- the rest, once the files are known
-pub asked_of_entries : (files : List FileBytes) (settings : Asked) (entries : List Entry) → entries ≡ taken_of (names_of files) → length entries ≤ 2000
-    → case_asked files settings ≡ (readings_of files entries >>= λ es. within_limits (case_of_run settings es))
+pub asked_of_entries : (files : List FileBytes) (settings : Asked) (entries : List Entry) → entries ≡ taken_of settings.suffix (names_of files) → length entries ≤ 2000
+    → case_asked files settings ≡ (readings_of settings.as_hermite3 files entries >>= λ es. within_limits (case_of_run settings es))
 unfolding case_asked
 asked_of_entries files settings entries same few =
     let small : nat_le (length entries) 2000 ≡ true = grind (arith, nat_tests) in
@@ -48,6 +48,7 @@ pub unread_stops : {X A B : Type 0} (P Q : Type 0) (view : X → A) (why : Unrea
 unread_stops P Q view unread.Memory read f rose here = tt
 unread_stops P Q view unread.Fault read f rose here = rose here
 unread_stops {X} {A} {B} P Q view (unread.Refused file line cause) read f rose here = ap (λ (r : Result A Status). r >>= f) here
+unread_stops {X} {A} {B} P Q view (unread.Beyond fault) read f rose here = ap (λ (r : Result A Status). r >>= f) here
 
 pub stops_wider : {A : Type 0} (P Q : Type 0) (s : Status) (due : Result A Status) → (P → Q) → Stops P s due → Stops Q s due
 stops_wider P Q status.Ok due wider ends = ends

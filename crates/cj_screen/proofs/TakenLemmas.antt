@@ -1,5 +1,5 @@
 -- The order of a folder's entries.
-use Rattle.std.proofs.Common.{◌≡◌, ap, ℕ, ◌+◌, ◌<◌, ◌≤◌, List, [], ◌∷◌, length, Bool, true, false, cond, arith, subst, sym, refl}
+use Rattle.std.proofs.Common.{◌≡◌, ap, ℕ, ◌+◌, ◌<◌, ◌≤◌, List, [], ◌∷◌, length, Bool, true, false, cond, arith, refl}
 use Rattle.std.specs.Prelude.{All}
 use Rattle.std.specs.List.{AllByRecursion}
 use Rattle.std.proofs.lemmas.List.Elements.{All-from_recursion}
@@ -35,19 +35,19 @@ length_sorted : {K : Type 0} (R : K → K → Ordering) (xs : List K) → length
 length_sorted R [] = refl
 length_sorted R (x ∷ xs) = omega (arith, length_inserted R x (sorted R xs), length_sorted R xs)
 
-length_entries : (n : ℕ) (names : List (List ℕ)) → length (entries_from n names) ≤ length names
-length_entries n [] = omega arith
-length_entries n (name ∷ names) = chosen (has_suffix name) (length_entries (n + 1) names)
+length_entries : (suffix : List ℕ) (n : ℕ) (names : List (List ℕ)) → length (entries_from suffix n names) ≤ length names
+length_entries suffix n [] = omega arith
+length_entries suffix n (name ∷ names) = chosen (has_suffix suffix name) (length_entries suffix (n + 1) names)
   where
-    chosen : (b : Bool) → length (entries_from (n + 1) names) ≤ length names
-        → length (cond b (record { name = name; number = n } ∷ entries_from (n + 1) names) (entries_from (n + 1) names)) ≤ length (name ∷ names)
+    chosen : (b : Bool) → length (entries_from suffix (n + 1) names) ≤ length names
+        → length (cond b (record { name = name; number = n } ∷ entries_from suffix (n + 1) names) (entries_from suffix (n + 1) names)) ≤ length (name ∷ names)
     chosen true h = omega arith
     chosen false h = omega arith
 
 -- no more files are taken than there are
-pub few_taken : (names : List (List ℕ)) → length (taken_of names) ≤ length names
+pub few_taken : (suffix : List ℕ) (names : List (List ℕ)) → length (taken_of suffix names) ≤ length names
 unfolding taken_of
-few_taken names = omega (arith, length_sorted entry_cmp (entries_from 0 names), length_entries 0 names)
+few_taken suffix names = omega (arith, length_sorted entry_cmp (entries_from suffix 0 names), length_entries suffix 0 names)
 
 abbrev Below : ℕ → Entry → Type 0
 Below n e = e.number < n
@@ -64,18 +64,18 @@ below_sorted : (n : ℕ) (xs : List Entry) → AllByRecursion (Below n) xs → A
 below_sorted n [] all = tt
 below_sorted n (x ∷ xs) all = below_inserted n x (sorted entry_cmp xs) all.0 (below_sorted n xs all.1)
 
-below_entries : (n total : ℕ) (names : List (List ℕ)) → n + length names ≤ total → AllByRecursion (Below total) (entries_from n names)
-below_entries n total [] h = tt
-below_entries n total (name ∷ names) h = chosen (has_suffix name) (below_entries (n + 1) total names (omega arith))
+below_entries : (suffix : List ℕ) (n total : ℕ) (names : List (List ℕ)) → n + length names ≤ total → AllByRecursion (Below total) (entries_from suffix n names)
+below_entries suffix n total [] h = tt
+below_entries suffix n total (name ∷ names) h = chosen (has_suffix suffix name) (below_entries suffix (n + 1) total names (omega arith))
   where
-    chosen : (b : Bool) → AllByRecursion (Below total) (entries_from (n + 1) names)
-        → AllByRecursion (Below total) (cond b (record { name = name; number = n } ∷ entries_from (n + 1) names) (entries_from (n + 1) names))
+    chosen : (b : Bool) → AllByRecursion (Below total) (entries_from suffix (n + 1) names)
+        → AllByRecursion (Below total) (cond b (record { name = name; number = n } ∷ entries_from suffix (n + 1) names) (entries_from suffix (n + 1) names))
     chosen true later = (omega arith, later)
     chosen false later = later
 
 -- each that is taken is one of the folder's
-pub numbers_taken : (names : List (List ℕ)) → All (λ e. e.number < length names) (taken_of names)
+pub numbers_taken : (suffix : List ℕ) (names : List (List ℕ)) → All (λ e. e.number < length names) (taken_of suffix names)
 unfolding taken_of
-numbers_taken names =
-    All-from_recursion (Below (length names)) (sorted entry_cmp (entries_from 0 names))
-    (below_sorted (length names) (entries_from 0 names) (below_entries 0 (length names) names (omega arith)))
+numbers_taken suffix names =
+    All-from_recursion (Below (length names)) (sorted entry_cmp (entries_from suffix 0 names))
+    (below_sorted (length names) (entries_from suffix 0 names) (below_entries suffix 0 (length names) names (omega arith)))

@@ -8,7 +8,7 @@ use Rattle.cj_bezier.specs.Leaves.{Stretch}
 use Rattle.cj_meet.specs.Spans.{LiesInSpan}
 use Rattle.cj_report.specs.Report.{report_of}
 use Rattle.cj_words.specs.Settings.{Asked, settings_of}
-use Rattle.cj_screen.specs.Outcome.{case_asked, report_piece}
+use Rattle.cj_screen.specs.Outcome.{case_asked, report_piece, summary_piece}
 
 -- The spans of these encounters split the common ticks of every pair of objects a and b. A span holds common ticks only.
 pub record SplitsTicks (case : Case) (encounters : List (List Stretch)) : Type 0 where
@@ -30,8 +30,9 @@ pub record Reports (words : List (List ℕ)) (files : List FileBytes) (bytes : L
   pub text : bytes ≡ report_of case.first case.last case.threshold case.ephemerides encounters
   pub split : SplitsTicks case encounters
 
--- The one new piece is such a report.
+-- The new pieces are such a report and a summary.
 pub record IsScreened (words : List (List ℕ)) (files old : List FileBytes) (new : Option (List FileBytes)) : Type 0 where
   pub bytes : List ℕ
   pub report : Reports words files bytes
-  pub put : new ≡ Some (old ++ report_piece bytes ∷ [])
+  pub summary : List ℕ
+  pub put : new ≡ Some (old ++ report_piece bytes ∷ summary_piece summary ∷ [])

@@ -1,24 +1,24 @@
 -- How a run over told files ends, and what it puts.
 use Rattle.std.specs.Prelude.{◌≡◌, ℕ, ◌-◌, ◌*◌, nat_le, if◌then◌else◌, List, [], ◌∷◌, ◌++◌, length, Option, Some, Result, Ok, Err, codes}
 use Rattle.cj_io.specs.declared.file.FileBytes.{FileBytes}
-use Rattle.cj_io.specs.Files.{names_of, IsPrefix, Told, Puts}
-use Rattle.cj_io.specs.declared.shelf.PutError.TheVariants as put
+use Rattle.cj_io.specs.Files.{names_of, IsPrefix}
 use Rattle.cj_words.specs.declared.option.UsageFault.{UsageFault}
 use Rattle.cj_words.specs.Settings.{Asked, settings_of}
 use Rattle.cj_oem.specs.Ephemeris.{Ephemeris}
 use Rattle.cj_hermite.specs.Cases.{Case}
 use Rattle.cj_bezier.specs.Leaves.{Stretch}
 use Rattle.cj_meet.specs.Encounters.{encounters_of}
-use Rattle.cj_hermite.specs.CaseLimits.{slots_between}
-use Rattle.cj_cells.specs.Roots.{everywhere}
-use Rattle.cj_cells.specs.Lists.{list_of}
+use Rattle.cj_hermite.specs.Slots.{slot_count}
+use Rattle.cj_cells.specs.Lists.{list_looked}
 use Rattle.cj_report.specs.Report.{report_of}
+use Rattle.cj_report.specs.Summary.{summary_of}
 use Rattle.cj_screen.specs.declared.status.Status.{Status}
 use Rattle.cj_screen.specs.declared.status.Status.TheVariants as status
 use Rattle.cj_screen.specs.declared.status.LimitFault.TheVariants.{Objects, Window, Slots, Cells}
 use Rattle.cj_screen.specs.declared.taken.Entry.{Entry}
 use Rattle.cj_screen.specs.Readings.{◌>>=◌, readings_of}
 use Rattle.cj_screen.specs.Taken.{taken_of}
+use Rattle.cj_screen.specs.Summaries.{tally_with}
 use Rattle.cj_screen.specs.Windows.{window_first, window_last}
 
 abbrev pub asked : Result Asked UsageFault → Result Asked Status
@@ -41,7 +41,7 @@ abbrev pub within_window : Case → Result Case Status
 within_window case = if nat_le (case.last - case.first) 1_209_600_000_000 then Ok case else Err (status.Limit (Window (case.last - case.first)))
 
 abbrev pub object_slots : Case → ℕ
-object_slots case = length case.ephemerides * slots_between case.first case.last
+object_slots case = length case.ephemerides * slot_count case.first case.last
 
 -- at most 4,000,000 objects times slots
 abbrev pub within_slots : Case → Result Case Status
@@ -58,35 +58,41 @@ within_cells limit leaves = if nat_le (length leaves) limit then Ok leaves else 
 abbrev pub piece : List ℕ → List ℕ → FileBytes
 piece name bytes = record { name = name; bytes = bytes }
 
--- the bytes of the report of a case with these leaves
+-- the report of a case with these leaves
 abbrev pub report_bytes : Case → List Stretch → List ℕ
 report_bytes case leaves = report_of case.first case.last case.threshold case.ephemerides (encounters_of leaves)
 
--- the same of the case's own leaves, where there are at most so many
-unfoldable pub report_within : ℕ → Case → Result (List ℕ) Status
-report_within limit case = within_cells limit (list_of everywhere case) >>= λ leaves. Ok (report_bytes case leaves)
+-- its summary
+abbrev pub summary_bytes : Case → List Stretch → List ℕ
+summary_bytes case leaves = summary_of (tally_with case leaves)
 
--- the one piece that is put
 abbrev pub report_piece : List ℕ → FileBytes
 report_piece bytes = piece (codes "screen.report") bytes
+
+abbrev pub summary_piece : List ℕ → FileBytes
+summary_piece bytes = piece (codes "-") bytes
+
+-- the pieces of a case with these leaves: the report, and the summary for standard output
+abbrev pub pieces_with : Case → List Stretch → List FileBytes
+pieces_with case leaves = report_piece (report_bytes case leaves) ∷ summary_piece (summary_bytes case leaves) ∷ []
+
+-- the pieces of a case, where it has at most so many leaves
+unfoldable pub pieces_within : ℕ → Case → Result (List FileBytes) Status
+pieces_within limit case = within_cells limit (list_looked case) >>= λ leaves. Ok (pieces_with case leaves)
 
 -- the case that is asked of the files, or the first cause for which there is none
 unfoldable pub case_asked : List FileBytes → Asked → Result Case Status
 case_asked files settings = do
-  entries ← within_objects (taken_of (names_of files))
-  es ← readings_of files entries
+  entries ← within_objects (taken_of settings.suffix (names_of files))
+  es ← readings_of settings.as_hermite3 files entries
   within_limits (case_of_run settings es)
 
--- the bytes of the report that the words ask of the files, or the first cause for which there is none
-unfoldable pub report_asked : List (List ℕ) → List FileBytes → Result (List ℕ) Status
-report_asked words files = do
+-- the pieces that the words ask of the files, or the first cause for which there is none
+unfoldable pub pieces_of : List (List ℕ) → List FileBytes → Result (List FileBytes) Status
+pieces_of words files = do
   settings ← asked (settings_of words)
   case ← case_asked files settings
-  report_within settings.cells case
-
--- the pieces that a run puts, or that cause
-abbrev pub pieces_of : List (List ℕ) → List FileBytes → Result (List FileBytes) Status
-pieces_of words files = report_asked words files >>= λ bytes. Ok (report_piece bytes ∷ [])
+  pieces_within settings.cells case
 
 -- fronts of the pieces, the last one perhaps cut
 abbrev pub IsFront : List FileBytes → List FileBytes → Type 0
@@ -115,12 +121,23 @@ Answers read write status.WriteFault due old new = write × PartlyPut due old ne
 Answers read write (status.Limit fault) due old new = (due ≡ Err (status.Limit fault)) × (new ≡ Some old)
 Answers read write status.OutOfMemory due old new = PartlyPut due old new
 
--- how a run ends that puts the report, its last step
-abbrev pub EndsWithPut : Option (List FileBytes) → Option (List FileBytes) → Type 0 → Status → List ℕ → Type 0
-EndsWithPut old new write status.Ok bytes = Told (Puts (codes "screen.report") bytes (Ok tt)) old new
-EndsWithPut old new write (status.Usage fault) bytes = ⊥
-EndsWithPut old new write (status.BadFile file line cause) bytes = ⊥
-EndsWithPut old new write status.ReadFault bytes = ⊥
-EndsWithPut old new write status.WriteFault bytes = write × Told (Puts (codes "screen.report") bytes (Err put.Failed)) old new
-EndsWithPut old new write (status.Limit fault) bytes = ⊥
-EndsWithPut old new write status.OutOfMemory bytes = Told (Puts (codes "screen.report") bytes (Err put.Memory)) old new
+-- How a run ends that puts these pieces, its last step: all of them stand behind the old ones; or, for a write fault or want of memory,
+-- a front of them, the last one perhaps cut.
+abbrev pub EndsWithPuts : Type 0 → Status → List FileBytes → List FileBytes → Option (List FileBytes) → Type 0
+EndsWithPuts write status.Ok pieces old new = new ≡ Some (old ++ pieces)
+EndsWithPuts write (status.Usage fault) pieces old new = ⊥
+EndsWithPuts write (status.BadFile file line cause) pieces old new = ⊥
+EndsWithPuts write status.ReadFault pieces old new = ⊥
+EndsWithPuts write status.WriteFault pieces old new = write × PartlyPut (Ok pieces) old new
+EndsWithPuts write (status.Limit fault) pieces old new = ⊥
+EndsWithPuts write status.OutOfMemory pieces old new = PartlyPut (Ok pieces) old new
+
+-- what may end the putting of pieces
+abbrev pub ComesOfPuts : Status → Type 0
+ComesOfPuts status.Ok = ⊥
+ComesOfPuts (status.Usage fault) = ⊥
+ComesOfPuts (status.BadFile file line cause) = ⊥
+ComesOfPuts status.ReadFault = ⊥
+ComesOfPuts status.WriteFault = Unit {0}
+ComesOfPuts (status.Limit fault) = ⊥
+ComesOfPuts status.OutOfMemory = Unit {0}

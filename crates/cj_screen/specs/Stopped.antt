@@ -1,10 +1,14 @@
 -- The statuses that errors of the layers below become.
+use Rattle.std.specs.Prelude.{ℕ}
+use Rattle.cj_cells.specs.declared.refine_error.RefineError.{RefineError}
+use Rattle.cj_cells.specs.declared.refine_error.RefineError.TheVariants as refine
 use Rattle.cj_io.specs.declared.folder.FolderError.{FolderError}
 use Rattle.cj_io.specs.declared.folder.FolderError.TheVariants as folder
 use Rattle.cj_screen.specs.declared.reading.Unread.{Unread}
 use Rattle.cj_screen.specs.declared.reading.Unread.TheVariants as unread
 use Rattle.cj_screen.specs.declared.status.Status.{Status}
-use Rattle.cj_screen.specs.declared.status.Status.TheVariants.{OutOfMemory, ReadFault, BadFile}
+use Rattle.cj_screen.specs.declared.status.Status.TheVariants.{OutOfMemory, ReadFault, BadFile, Limit}
+use Rattle.cj_screen.specs.declared.status.LimitFault.TheVariants.{Cells}
 
 abbrev pub folder_status : FolderError → Status
 folder_status folder.Memory = OutOfMemory
@@ -14,3 +18,8 @@ abbrev pub unread_status : Unread → Status
 unread_status unread.Memory = OutOfMemory
 unread_status unread.Fault = ReadFault
 unread_status (unread.Refused file line cause) = BadFile file line cause
+unread_status (unread.Beyond fault) = Limit fault
+
+abbrev pub refined_status : ℕ → RefineError → Status
+refined_status cells refine.Memory = OutOfMemory
+refined_status cells refine.TooMany = Limit (Cells cells)

@@ -1,9 +1,11 @@
 //! The line that says on standard error why a run failed.
 ghost use Rattle.std.specs.Prelude.{◌≡◌, ◌++◌, IfOk, OnOk, codes};
 ghost use Rattle.std.specs.Fmt.{decimal};
-ghost use Rattle.cj_screen.specs.Faults.{line_of, fault_body, usage_text, limit_text, cause_text};
+ghost use Rattle.cj_screen.specs.Faults.{line_of, fault_body, usage_text, limit_text, cause_text, oem_text, kvn_text, epoch_text};
 
 use crate::status::{FileCause, LimitFault, Status};
+use cj_epoch::EpochFault;
+use cj_oem::{KvnCause, OemCause};
 use cj_words::{UsageFault, option_name};
 use std::alloc::{AllocError, Global};
 
@@ -47,7 +49,61 @@ fn cause_name(cause: FileCause) -> &'static [u8]
     ensures { result.now ≡ cause_text cause }
 {
     match cause {
-        FileCause::NotYet => b"NotYet",
+        FileCause::Oem(cause) => oem_name(cause),
+        FileCause::MixedFrames => b"MixedFrames",
+    }
+}
+
+fn oem_name(cause: OemCause) -> &'static [u8]
+    ensures { result.now ≡ oem_text cause }
+{
+    match cause {
+        OemCause::Name => b"Name",
+        OemCause::Kvn(cause) => kvn_name(cause),
+        OemCause::Order => b"Order",
+        OemCause::Version => b"Version",
+        OemCause::Twice => b"Twice",
+        OemCause::Unknown => b"Unknown",
+        OemCause::Missing => b"Missing",
+        OemCause::Interpolation => b"Interpolation",
+        OemCause::ObjectChanged => b"ObjectChanged",
+        OemCause::Center => b"Center",
+        OemCause::Frame => b"Frame",
+        OemCause::TimeSystem => b"TimeSystem",
+        OemCause::Epoch(fault) => epoch_name(fault),
+        OemCause::Fields => b"Fields",
+        OemCause::Number => b"Number",
+        OemCause::CoordinateRange => b"CoordinateRange",
+        OemCause::RateRange => b"RateRange",
+        OemCause::TimesFall => b"TimesFall",
+        OemCause::StepTooLong => b"StepTooLong",
+        OemCause::LeapSecond => b"LeapSecond",
+        OemCause::TooFewNodes => b"TooFewNodes",
+        OemCause::UseableSpan => b"UseableSpan",
+        OemCause::SegmentsOverlap => b"SegmentsOverlap",
+        OemCause::MatrixForm => b"MatrixForm",
+    }
+}
+
+/// The name of a cause among lines, behind the word for all such.
+fn kvn_name(cause: KvnCause) -> &'static [u8]
+    ensures { result.now ≡ codes "Kvn " ++ kvn_text cause }
+{
+    match cause {
+        KvnCause::NotPrintable => b"Kvn NotPrintable",
+        KvnCause::NoLineForm => b"Kvn NoLineForm",
+    }
+}
+
+/// The name of a fault of an epoch, behind the word for all such.
+fn epoch_name(fault: EpochFault) -> &'static [u8]
+    ensures { result.now ≡ codes "Epoch " ++ epoch_text fault }
+{
+    match fault {
+        EpochFault::Form => b"Epoch Form",
+        EpochFault::Range => b"Epoch Range",
+        EpochFault::SecondSixty => b"Epoch SecondSixty",
+        EpochFault::TooFine => b"Epoch TooFine",
     }
 }
 
@@ -67,13 +123,26 @@ fn push_usage(text: &mut Vec<u8>, fault: &UsageFault) -> Result<(), AllocError>
 fn push_limit(alloc: Global, text: &mut Vec<u8>, fault: &LimitFault) -> Result<(), AllocError>
     ensures { OnOk result (text.new.items ≡ text.old.items ++ (codes "limit: " ++ limit_text fault.now)) }
 {
-    let line = match fault {
-        LimitFault::Objects { count } => format!(in alloc; "limit: Objects {count}")?,
-        LimitFault::Window { length } => format!(in alloc; "limit: Window {length}")?,
-        LimitFault::Slots { count } => format!(in alloc; "limit: Slots {count}")?,
-        LimitFault::Cells { limit } => format!(in alloc; "limit: Cells {limit}")?,
-    };
-    text.extend_from_slice(line.as_bytes())
+    text.extend_from_slice(b"limit: ")?;
+    match fault {
+        LimitFault::Objects { count } => push_count(alloc, text, b"Objects ", u64::from(*count)),
+        LimitFault::FileBytes { file } => {
+            text.extend_from_slice(b"FileBytes ")?;
+            text.extend_from_slice(file.as_slice())
+        }
+        LimitFault::Nodes { count } => push_count(alloc, text, b"Nodes ", *count),
+        LimitFault::Window { length } => push_count(alloc, text, b"Window ", *length),
+        LimitFault::Slots { count } => push_count(alloc, text, b"Slots ", *count),
+        LimitFault::Cells { limit } => push_count(alloc, text, b"Cells ", *limit),
+    }
+}
+
+/// A number behind its name.
+fn push_count(alloc: Global, text: &mut Vec<u8>, name: &[u8], number: u64) -> Result<(), AllocError>
+    ensures { OnOk result (text.new.items ≡ text.old.items ++ (name.now ++ decimal number)) }
+{
+    text.extend_from_slice(name)?;
+    push_number(alloc, text, number)
 }
 
 fn push_number(alloc: Global, text: &mut Vec<u8>, number: u64) -> Result<(), AllocError>

@@ -2,12 +2,16 @@
 #![tactic(auto)]
 
 mod fault_line;
+mod gathering;
+mod pieces;
 mod preparing;
+mod putting;
 mod reading;
 mod screening;
 mod status;
 mod stops;
 mod taken;
+mod telling;
 mod top;
 mod window;
 

@@ -2,7 +2,9 @@
 ghost use Rattle.std.specs.Prelude.{◌≡◌, ◌<◌, ◌≤◌, ◌^◌, List, Some, Err, IfErr, map, length};
 ghost use Rattle.cj_io.specs.Faults.{Rose};
 ghost use Rattle.cj_io.specs.declared.file.FileBytes.{FileBytes};
-ghost use Rattle.cj_hermite.specs.CaseLimits.{slots_between};
+ghost use Rattle.cj_hermite.specs.CaseLimits.{AreFewNodes};
+ghost use Rattle.cj_hermite.specs.Frames.{HaveOneFrame};
+ghost use Rattle.cj_hermite.specs.Slots.{slot_count};
 ghost use Rattle.cj_hermite.specs.Problems.{case_of};
 ghost use Rattle.cj_oem.specs.Tracks.{ephemeris_of};
 ghost use Rattle.cj_words.specs.Settings.{asked_of};
@@ -45,11 +47,11 @@ pub fn prepare<F: Folder>(
         → Gives (Rose (F.faults folder.old) (F.faults folder.new)) case_of result (spec.case_asked files (asked_of settings.now)) }
 {
     let names = folder.names(alloc)?;
-    let entries = taken(alloc, &names)?;
+    let entries = taken(alloc, &names, settings.suffix)?;
     if entries.len() > MAX_OBJECTS {
         return Err(too_many_objects(entries.len() as u32));
     }
-    let tracks = read_tracks(alloc, folder, &entries)?;
+    let tracks = read_tracks(alloc, folder, &entries, settings.as_hermite3)?;
     let window = window_of(settings, &tracks);
     pose(tracks, window, settings.threshold * 1_000_000_000)
 }
@@ -63,6 +65,8 @@ fn too_many_objects(count: u32) -> Status
 /// The problem of these tracks, where its window is within the limits.
 fn pose(tracks: Vec<Track>, window: Window, threshold: u64) -> Result<Problem, Status>
     requires few { length tracks.items ≤ 2000 }
+    requires frame { HaveOneFrame tracks.items }
+    requires nodes { AreFewNodes tracks.items }
     requires least { 10 ^ 9 ≤ threshold }
     requires most { threshold ≤ 10 ^ 15 }
     ensures limit { IfErr result IsLimit }
@@ -85,7 +89,7 @@ fn pose(tracks: Vec<Track>, window: Window, threshold: u64) -> Result<Problem, S
 
 /// How many slots the window has.
 fn slots(window: Window) -> u64
-    ensures { result ≡ slots_between window.first.micros window.last.micros }
+    ensures { result ≡ slot_count window.first.micros window.last.micros }
 {
     (window.last.micros + 1)
         .saturating_sub(window.first.micros)

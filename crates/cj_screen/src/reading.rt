@@ -1,18 +1,21 @@
 //! Reading the files that are taken.
-ghost use Rattle.std.specs.Prelude.{◌≡◌, ◌<◌, ◌≤◌, List, Some, Err, map, length, IfOk};
+ghost use Rattle.std.specs.Prelude.{◌≡◌, ◌<◌, ◌≤◌, ◌+◌, ◌^◌, List, Some, Err, map, length, IfOk, OnOk, true};
 ghost use Rattle.std.specs.List.{All};
 ghost use Rattle.cj_io.specs.Faults.{Rose};
 ghost use Rattle.cj_io.specs.Files.{bytes_of};
 ghost use Rattle.cj_io.specs.declared.file.FileBytes.{FileBytes};
+ghost use Rattle.cj_hermite.specs.CaseLimits.{AreFewNodes, node_total};
+ghost use Rattle.cj_hermite.specs.Frames.{HaveOneFrame};
+ghost use Rattle.cj_oem.specs.Segments.{node_count as the_count};
 ghost use Rattle.cj_oem.specs.Tracks.{ephemeris_of};
 ghost use Rattle.cj_screen.specs.Readings as spec;
 ghost use Rattle.cj_screen.specs.Readings.{Reads};
 ghost use Rattle.cj_screen.specs.declared.reading.Unread.TheVariants.{Memory};
 
-use crate::status::FileCause;
+use crate::status::{FileCause, LimitFault};
 use crate::taken::Entry;
 use cj_io::{Folder, Name, ReadError, read_whole};
-use cj_oem::{PlainFault, Track, read_plain};
+use cj_oem::{OemFault, Track, read_oem};
 use std::alloc::{AllocError, AllocFailed, Global};
 
 /// Why files were not read.
@@ -28,6 +31,8 @@ pub enum Unread {
         line: u32,
         cause: FileCause,
     },
+    /// A limit was exceeded.
+    Beyond(LimitFault),
 }
 
 impl From<AllocError> for Unread {
@@ -47,40 +52,54 @@ impl<T: Drop> From<AllocFailed<T>> for Unread {
 }
 
 /// The greatest number of bytes of a file.
-const MAX_BYTES: u64 = 4096;
+const MAX_BYTES: u64 = 67_108_864;
 
-/// Reads the files in order, up to the first that is refused.
+/// The greatest number of nodes of all files.
+const MAX_NODES: u64 = 2_000_000;
+
+/// Reads the files in order, up to the first that is refused or beyond a limit.
 pub fn read_tracks<F: Folder>(
     alloc: Global,
     folder: &mut F,
     entries: &[Entry],
+    as_hermite3: bool,
 ) -> Result<Vec<Track>, Unread>
     requires { All (λ entry. entry.number < F.count folder.old) entries.now }
 
     ensures fault { result ≡ Err Unread.Fault → Rose (F.faults folder.old) (F.faults folder.new) }
     ensures told { (files : List FileBytes) → F.files folder.old ≡ Some files
-        → Reads (Rose (F.faults folder.old) (F.faults folder.new)) (λ tracks. map ephemeris_of tracks.items) result (spec.readings_of files entries.now) }
+        → Reads (Rose (F.faults folder.old) (F.faults folder.new)) (λ tracks. map ephemeris_of tracks.items) result (spec.readings_of as_hermite3 files entries.now) }
 
     ensures many { IfOk result (λ tracks. length tracks.items ≡ length entries.now) }
+    ensures frame { IfOk result (λ tracks. HaveOneFrame tracks.items) }
+    ensures nodes { IfOk result (λ tracks. AreFewNodes tracks.items) }
 
     ensures files { F.files folder.new ≡ F.files folder.old }
     ensures later { F.faults folder.old ≤ F.faults folder.new }
 {
     let mut tracks = Vec::with_capacity(alloc, entries.len())?;
+    let mut nodes = 0;
     for entry in entries {
-        let track = read_track(alloc, folder, entry)?;
+        let track = read_track(alloc, folder, entry, as_hermite3)?;
+        nodes += node_count(&track);
+        fit(alloc, &tracks, entry.name.as_slice(), &track, nodes)?;
         tracks.push(track)?;
     }
     Ok(tracks)
 }
 
 #[tactic(auto, unfolding(crate::specs::Readings::reading_of))]
-fn read_track<F: Folder>(alloc: Global, folder: &mut F, entry: &Entry) -> Result<Track, Unread>
+fn read_track<F: Folder>(
+    alloc: Global,
+    folder: &mut F,
+    entry: &Entry,
+    as_hermite3: bool,
+) -> Result<Track, Unread>
     requires { entry.now.number < F.count folder.old }
 
     ensures fault { result ≡ Err Unread.Fault → Rose (F.faults folder.old) (F.faults folder.new) }
     ensures told { (files : List FileBytes) → F.files folder.old ≡ Some files
-        → Reads (Rose (F.faults folder.old) (F.faults folder.new)) ephemeris_of result (spec.reading_of entry.now.name (bytes_of files entry.now.number)) }
+        → Reads (Rose (F.faults folder.old) (F.faults folder.new)) ephemeris_of result (spec.reading_of as_hermite3 entry.now.name (bytes_of files entry.now.number)) }
 
     ensures count { F.count folder.new ≡ F.count folder.old }
     ensures files { F.files folder.new ≡ F.files folder.old }
@@ -91,21 +110,63 @@ fn read_track<F: Folder>(alloc: Global, folder: &mut F, entry: &Entry) -> Result
         Ok(bytes) => bytes,
         Err(ReadError::Memory) => return Err(Unread::Memory),
         Err(ReadError::Failed) => return Err(Unread::Fault),
-        Err(ReadError::TooLarge) => return Err(not_yet(file)),
+        Err(ReadError::TooLarge) => return Err(Unread::Beyond(LimitFault::FileBytes { file })),
     };
-    match read_plain(alloc, file.as_slice(), &bytes) {
+    match read_oem(alloc, file.as_slice(), &bytes, as_hermite3) {
         Ok(track) => Ok(track),
-        Err(PlainFault::Memory) => Err(Unread::Memory),
-        Err(PlainFault::NotPlain) => Err(not_yet(file)),
+        Err(OemFault::Memory) => Err(Unread::Memory),
+        Err(OemFault::At { line, cause }) => Err(Unread::Refused {
+            file,
+            line,
+            cause: FileCause::Oem(cause),
+        }),
     }
 }
 
-fn not_yet(file: Name) -> Unread
-    ensures { result ≡ Unread.Refused file 0 FileCause.NotYet }
+/// How many nodes a track has.
+fn node_count(track: &Track) -> u64
+    ensures value { result ≡ the_count track.now.segments }
+    ensures small { result < 2 ^ 32 }
 {
-    Unread::Refused {
-        file,
-        line: 0,
-        cause: FileCause::NotYet,
+    let mut count = 0;
+    for segment in track.segments.as_slice() {
+        count += segment.nodes.as_slice().len() as u64;
+    }
+    count
+}
+
+/// Refuses a track of the file with this name that may not stand behind those before it. With it there are so many nodes in all.
+fn fit(
+    alloc: Global,
+    before: &[Track],
+    name: &[u8],
+    track: &Track,
+    nodes: u64,
+) -> Result<(), Unread>
+    requires { nodes ≡ node_total before.now + the_count track.now.segments }
+    ensures told { Reads ⊥ (λ done. ephemeris_of track.now) result (spec.fitting (map ephemeris_of before.now) name.now (ephemeris_of track.now)) }
+    ensures frame { OnOk result (spec.has_frame_of (map ephemeris_of before.now) (ephemeris_of track.now) ≡ true) }
+    ensures nodes { OnOk result (nodes ≤ 2_000_000) }
+{
+    if !has_frame_of(before, track) {
+        return Err(Unread::Refused {
+            file: Name::copy_of(alloc, name)?,
+            line: 0,
+            cause: FileCause::MixedFrames,
+        });
+    }
+    if nodes > MAX_NODES {
+        return Err(Unread::Beyond(LimitFault::Nodes { count: nodes }));
+    }
+    Ok(())
+}
+
+/// Whether a track has the frame of the first of those before it.
+fn has_frame_of(before: &[Track], track: &Track) -> bool
+    ensures { result ≡ spec.has_frame_of (map ephemeris_of before.now) (ephemeris_of track.now) }
+{
+    match before.first() {
+        None => true,
+        Some(first) => first.frame == track.frame,
     }
 }

@@ -2,20 +2,27 @@ ghost use Rattle.std.specs.Prelude.{◌≡◌};
 ghost use Rattle.cj_screen.specs.Statuses.{number_of};
 
 use cj_io::Name;
+use cj_oem::OemCause;
 use cj_words::UsageFault;
 
 /// Why a file was refused.
 #[derive(Clone, Copy, Debug, PartialEq, Eq)]
 pub enum FileCause {
-    /// It is not of the one form that is read so far.
-    NotYet,
+    /// It is not an ephemeris that can be read.
+    Oem(OemCause),
+    /// Its frame is not that of the first file.
+    MixedFrames,
 }
 
 /// What is beyond its limit.
-#[derive(Clone, Copy, Debug, PartialEq, Eq)]
+#[derive(Debug, PartialEq, Eq, Drop)]
 pub enum LimitFault {
     /// There are so many objects, more than 2,000.
     Objects { count: u32 },
+    /// This file has more than 67,108,864 bytes.
+    FileBytes { file: Name },
+    /// The files up to one of them have so many nodes, more than 2,000,000.
+    Nodes { count: u64 },
     /// The last tick of the window less the first is so much, more than fourteen days.
     Window { length: u64 },
     /// The objects times the slots of the window are so many, more than 4,000,000.

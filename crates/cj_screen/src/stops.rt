@@ -52,6 +52,7 @@ impl From<Unread> for Status {
             Unread::Memory => Status::OutOfMemory,
             Unread::Fault => Status::ReadFault,
             Unread::Refused { file, line, cause } => Status::BadFile { file, line, cause },
+            Unread::Beyond(fault) => Status::Limit(fault),
         }
     }
 }

@@ -1,4 +1,4 @@
-//! The files of a folder that are ephemerides.
+//! The files of a folder that are taken.
 ghost use Rattle.std.specs.Prelude.{◌≡◌, ◌<◌, ◌≤◌, ◌^◌, length, IfOk, All, nat_eq};
 ghost use Rattle.std.specs.List.{ends_with};
 ghost use Rattle.cj_screen.specs.Taken as spec;
@@ -13,36 +13,30 @@ pub struct Entry {
     pub number: u32,
 }
 
-/// The files whose names end as ephemerides do, in byte order of names, equal names in the folder's order.
-pub fn taken(alloc: Global, names: &[Name]) -> Result<Vec<Entry>, AllocError>
+/// The files whose names end with the suffix, in byte order of names, equal names in the folder's order.
+pub fn taken(alloc: Global, names: &[Name], suffix: &[u8]) -> Result<Vec<Entry>, AllocError>
     requires { length names.now < 2 ^ 32 }
-    ensures value { IfOk result (λ entries. entries.items ≡ spec.taken_of names.now) }
+    ensures value { IfOk result (λ entries. entries.items ≡ spec.taken_of suffix.now names.now) }
     ensures few { IfOk result (λ entries. length entries.items ≤ length names.now) }
     ensures numbers { IfOk result (λ entries. All (λ entry. entry.number < length names.now) entries.items) }
 {
-    let mut entries = entries(alloc, names)?;
+    let mut entries = entries(alloc, names, suffix)?;
     entries.sort()?;
     Ok(entries)
 }
 
-fn entries(alloc: Global, names: &[Name]) -> Result<Vec<Entry>, AllocError>
+fn entries(alloc: Global, names: &[Name], suffix: &[u8]) -> Result<Vec<Entry>, AllocError>
     requires { length names.now < 2 ^ 32 }
-    ensures { IfOk result (λ entries. entries.items ≡ spec.entries_from 0 names.now) }
+    ensures { IfOk result (λ entries. entries.items ≡ spec.entries_from suffix.now 0 names.now) }
 {
     let mut entries = Vec::new(alloc);
     let mut number = 0;
     for name in names {
-        if has_suffix(name.as_slice()) {
+        if name.as_slice().ends_with(suffix) {
             let name = Name::copy_of(alloc, name.as_slice())?;
             entries.push(Entry { name, number })?;
         }
         number += 1;
     }
     Ok(entries)
-}
-
-fn has_suffix(name: &[u8]) -> bool
-    ensures { result ≡ spec.has_suffix name.now }
-{
-    name.ends_with(b".oem")
 }

@@ -5,15 +5,18 @@ ghost use Rattle.cj_io.specs.declared.file.FileBytes.{FileBytes};
 ghost use Rattle.cj_words.specs.declared.option.UsageFault.{UsageFault};
 ghost use Rattle.cj_words.specs.Settings.{settings_of};
 ghost use Rattle.cj_screen.specs.Outcome as spec;
-ghost use Rattle.cj_screen.specs.Outcome.{Answers, pieces_of};
+ghost use Rattle.cj_screen.specs.Outcome.{Answers};
+ghost use Rattle.cj_screen.specs.Pieces.{ended, pieces_in};
 ghost use Rattle.cj_screen.specs.Headline.{IsScreened, Reports};
 ghost use Rattle.cj_screen.specs.Steps.{Gives, ComesBefore};
 
+use crate::pieces::Pieces;
 use crate::preparing::prepare;
+use crate::putting::put_pieces;
 use crate::screening::screen;
 use crate::status::Status;
 use cj_epoch::Tick;
-use cj_io::{Folder, Gate, PutError, Shelf};
+use cj_io::{Folder, Gate, Shelf};
 use cj_words::{Word, read_settings};
 use std::alloc::Global;
 use std::sync::Wait;
@@ -39,10 +42,10 @@ pub fn conj<R: Threads + Wait + Sync, F: Folder, S: Shelf, G: Gate + Sync>(
     // Over a folder and a shelf that tell what they hold: which status comes, and what was put.
     ensures told { (files pieces : List FileBytes) → F.files folder.old ≡ Some files → S.pieces shelf.old ≡ Some pieces
         → Answers (Rose (F.faults folder.old) (F.faults folder.new)) (Rose (S.faults shelf.old) (S.faults shelf.new))
-        result (pieces_of words.now files) pieces (S.pieces shelf.new) }
+        result (spec.pieces_of words.now files) pieces (S.pieces shelf.new) }
 
     // Where pieces are due and nothing fails, they are put, or memory ran out.
-    ensures complete { (files due : List FileBytes) → F.files folder.old ≡ Some files → pieces_of words.now files ≡ Ok due
+    ensures complete { (files due : List FileBytes) → F.files folder.old ≡ Some files → spec.pieces_of words.now files ≡ Ok due
         → ¬ Rose (F.faults folder.old) (F.faults folder.new) → ¬ Rose (S.faults shelf.old) (S.faults shelf.new)
         → (result ≡ Status.Ok) ⊎ (result ≡ Status.OutOfMemory) }
 
@@ -50,34 +53,33 @@ pub fn conj<R: Threads + Wait + Sync, F: Folder, S: Shelf, G: Gate + Sync>(
     ensures headline { (files pieces : List FileBytes) → F.files folder.old ≡ Some files → S.pieces shelf.old ≡ Some pieces
         → result ≡ Status.Ok → IsScreened words.now files pieces (S.pieces shelf.new) }
 {
-    match report_of(alloc, words, folder) {
-        Ok(text) => put_report(alloc, shelf, &text),
+    match pieces_of(alloc, words, folder) {
+        Ok(pieces) => end(put_pieces(alloc, shelf, &pieces)),
         Err(status) => status,
     }
 }
 
-/// The report that the words ask for.
-#[tactic(auto, unfolding(crate::specs::Outcome::report_asked))]
-fn report_of<F: Folder>(alloc: Global, words: &[Word], folder: &mut F) -> Result<Vec<u8>, Status>
+/// How a run ends by its last step.
+fn end(put: Result<(), Status>) -> Status
+    ensures { result ≡ ended put }
+{
+    match put {
+        Ok(()) => Status::Ok,
+        Err(status) => status,
+    }
+}
+
+/// The pieces that the words ask for.
+#[tactic(auto, unfolding(crate::specs::Outcome::pieces_of))]
+fn pieces_of<F: Folder>(alloc: Global, words: &[Word], folder: &mut F) -> Result<Pieces, Status>
     ensures usage { (fault : UsageFault) → (result ≡ Err (Status.Usage fault)) ↔ (settings_of words.now ≡ Err fault) }
     ensures before { IfErr result ComesBefore }
     ensures read { result ≡ Err Status.ReadFault → Rose (F.faults folder.old) (F.faults folder.new) }
-    ensures reports { (files : List FileBytes) → F.files folder.old ≡ Some files → IfOk result (λ text. Reports words.now files text.items) }
+    ensures reports { (files : List FileBytes) → F.files folder.old ≡ Some files → IfOk result (λ pieces. Reports words.now files pieces.report.items) }
     ensures told { (files : List FileBytes) → F.files folder.old ≡ Some files
-        → Gives (Rose (F.faults folder.old) (F.faults folder.new)) (λ text. text.items) result (spec.report_asked words.now files) }
+        → Gives (Rose (F.faults folder.old) (F.faults folder.new)) pieces_in result (spec.pieces_of words.now files) }
 {
     let settings = read_settings(words)?;
     let problem = prepare(alloc, folder, &settings)?;
     screen(alloc, &problem, settings.cells)
-}
-
-/// Puts the report, and says how the run ended.
-fn put_report<S: Shelf>(alloc: Global, shelf: &mut S, text: &[u8]) -> Status
-    ensures { spec.EndsWithPut (S.pieces shelf.old) (S.pieces shelf.new) (Rose (S.faults shelf.old) (S.faults shelf.new)) result text.now }
-{
-    match shelf.put(alloc, b"screen.report", text) {
-        Ok(()) => Status::Ok,
-        Err(PutError::Memory) => Status::OutOfMemory,
-        Err(PutError::Failed) => Status::WriteFault,
-    }
 }

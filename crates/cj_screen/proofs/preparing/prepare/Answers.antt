@@ -1,5 +1,4 @@
-use Rattle.std.proofs.Common.{arith, ◌≡◌, ◌<◌, ◌≤◌, ◌∙◌, subst, sym, ap, List, length, get_or, ℕ}
-use Rattle.std.specs.Prelude.{All}
+use Rattle.std.proofs.Common.{arith, ◌<◌, subst, ap, List, length, get_or}
 use Rattle.cj_screen.specs.declared.taken.Entry.{Entry}
 use Rattle.cj_screen.proofs.preparing.prepare.Goals as goal
 

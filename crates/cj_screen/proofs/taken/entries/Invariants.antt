@@ -5,5 +5,5 @@ use Rattle.cj_screen.proofs.taken.entries.Given as goal
 abbrev pub invariant-loop-name : goal.invariant-loop-name
 invariant-loop-name l = record {
   number : l.number ≡ l.name-index;
-  listed : l.entries.items ++ entries_from l.number (drop l.name-index l.names) ≡ entries_from 0 l.names;
+  listed : l.entries.items ++ entries_from l.suffix l.number (drop l.name-index l.names) ≡ entries_from l.suffix 0 l.names;
 }

@@ -14,7 +14,7 @@ returns-clause-value c =
     ∙ ap (λ (es : List Entry). sorted entry_cmp es) c.in_ok-entries.ensures
 
 pub returns-clause-few : goal.returns-clause-few
-returns-clause-few c = subst (λ (es : List Entry). length es ≤ length c.args.names.now) (sym (returns-clause-value c)) (few_taken c.args.names.now)
+returns-clause-few c = subst (λ (es : List Entry). length es ≤ length c.args.names.now) (sym (returns-clause-value c)) (few_taken c.args.suffix.now c.args.names.now)
 
 pub returns-clause-numbers : goal.returns-clause-numbers
-returns-clause-numbers c = subst (λ (es : List Entry). All (λ e. e.number < length c.args.names.now) es) (sym (returns-clause-value c)) (numbers_taken c.args.names.now)
+returns-clause-numbers c = subst (λ (es : List Entry). All (λ e. e.number < length c.args.names.now) es) (sym (returns-clause-value c)) (numbers_taken c.args.suffix.now c.args.names.now)

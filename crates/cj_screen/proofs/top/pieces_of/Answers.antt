@@ -2,7 +2,7 @@ use Rattle.std.proofs.Common.{sym}
 use Rattle.cj_hermite.specs.Problems.{case_of}
 use Rattle.cj_words.specs.Settings.{asked_of}
 use Rattle.cj_screen.proofs.ReportLemmas.{reports}
-use Rattle.cj_screen.proofs.top.report_of.Goals as goal
+use Rattle.cj_screen.proofs.top.pieces_of.Goals as goal
 
 pub returns-clause-reports : goal.returns-clause-reports
 returns-clause-reports g c = λ files told.
