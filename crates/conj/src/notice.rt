@@ -41,16 +41,15 @@ const HELP: &str = "\
 conj 0.1.0 - certified all-on-all conjunction screening of ephemerides
 
 Usage:
-  conj screen DIR [--threshold METRES] [--from EPOCH] [--to EPOCH] [--cells N]
+  conj screen DIR [OPTIONS]
   conj --help
   conj --version
 
 Reads the ephemerides in the directory DIR, one object in each file whose name
-ends in .oem (CCSDS 502.0-B-2 OEM in KVN form, UTC, cubic Hermite states), finds
-every approach of every pair of objects that comes within the threshold at a
-microsecond of the window, and writes the report DIR/screen.report. It is proved
-that no such approach of the interpolated tracks is missed. So far the files are
-of one plain form, which docs/FORMATS.md shows; any other is refused as NotYet.
+has the suffix (CCSDS 502.0-B-2 OEM in KVN form, UTC, cubic Hermite states),
+finds every approach of every pair of objects that comes within the threshold at
+a microsecond of the window, writes the report DIR/screen.report, and prints a
+summary. It is proved that no such approach of the interpolated tracks is missed.
 
 Options, in any order after DIR, each at most once:
   --threshold METRES  miss distance to report, 1 to 1000000 (default 5000)
@@ -58,10 +57,13 @@ Options, in any order after DIR, each at most once:
                       ephemeris begins to be useable)
   --to EPOCH          last instant of the window (default: where the last
                       ephemeris ends to be useable)
+  --suffix TEXT       how names of ephemerides end, 1 to 20 bytes (default .oem)
   --cells N           greatest number of stretches of time that are told apart,
                       1 to 4000000 (default 4000000)
+  --as-hermite3       screen a file that declares another interpolation, or none,
+                      by the cubic through its nodes
 An EPOCH is UTC, as 2025-01-01T00:00:00.000000 or 2025-001T00:00:00Z. An option
-may also be one word, as --threshold=1000.
+with a value may also be one word, as --threshold=1000.
 
 Exit status:
   0  done
