@@ -1,4 +1,4 @@
-ghost use Rattle.std.specs.Prelude.{◌≡◌, ◌+◌, ◌-◌, ◌≤◌, ◌↔◌, IsTrue, IfSome, IfNone};
+ghost use Rattle.std.specs.Prelude.{◌≡◌, ◌+◌, ◌-◌, ◌<◌, ◌≤◌, ◌↔◌, max, min, IsTrue, IfSome, IfNone};
 ghost use Rattle.cj_epoch.specs.Ticks.{IsTick, FIRST_TICK, LAST_TICK};
 
 /// The microseconds of a second.
@@ -61,6 +61,38 @@ impl Tick {
         ensures { result + earlier.micros ≡ self.micros }
     {
         self.micros - earlier.micros
+    }
+
+    /// The later of two ticks.
+    pub fn later(self, other: Tick) -> Tick
+        ensures { result.micros ≡ max self.micros other.micros }
+    {
+        if self.micros < other.micros {
+            other
+        } else {
+            self
+        }
+    }
+
+    /// The earlier of two ticks.
+    pub fn earlier(self, other: Tick) -> Tick
+        ensures { result.micros ≡ min self.micros other.micros }
+    {
+        if other.micros < self.micros {
+            other
+        } else {
+            self
+        }
+    }
+
+    /// The tick after one that is not the last of all.
+    pub fn next(self) -> Tick
+        requires { self.micros < LAST_TICK }
+        ensures { result.micros ≡ self.micros + 1 }
+    {
+        Tick {
+            micros: self.micros + 1,
+        }
     }
 }
 

@@ -1,7 +1,11 @@
+pub mod FractionLemmas
 pub mod IntegerLemmas
 pub mod ListLemmas
 pub mod MachineLemmas
+pub mod OrderLemmas
 pub mod RingLemmas
 pub mod RoundingLemmas
+pub mod SignLemmas
 pub mod SizeLemmas
 pub mod SquareLemmas
+pub mod SumLemmas

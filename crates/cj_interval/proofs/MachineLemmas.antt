@@ -54,3 +54,9 @@ read_up z q k d p r s e h f g =
     quotient_within : (z q : ℤ) (d : ℕ) → q ≡ int_div_euclid z (pos d) → 0 < d → unsigned_abs q ≤ unsigned_abs z
     quotient_within (pos a) q d e g = rw e (omega arith)
     quotient_within (negsuc a) q d e g = rw e (omega arith)
+
+-- the same, where the code has the value in r
+pub read_known : (f : ℤ → ℤ → ℤ) (a b r v : ℤ) → FitsSigned w128 a → FitsSigned w128 b → FitsSigned w128 r
+    → r ≡ f (to_z w128 (of_z w128 a)) (to_z w128 (of_z w128 b)) → f a b ≡ v → to_z w128 (of_z w128 r) ≡ v
+read_known f a b r v p q s e g =
+    to_z-of_z s ∙ e ∙ ap (λ z. f z (to_z w128 (of_z w128 b))) (to_z-of_z p) ∙ ap (f a) (to_z-of_z q) ∙ g

@@ -55,14 +55,8 @@ impl Span {
         ensures upper { result.hi ≡ greatest (self.lo *ℤ other.lo) (self.lo *ℤ other.hi) (self.hi *ℤ other.lo) (self.hi *ℤ other.hi) }
         ensures encloses { (x y : ℤ) → IsIn self.lo self.hi x → IsIn other.lo other.hi y → IsIn result.lo result.hi (x *ℤ y) }
     {
-        let low_low = corner(self.lo, other.lo);
-        let low_high = corner(self.lo, other.hi);
-        let high_low = corner(self.hi, other.lo);
-        let high_high = corner(self.hi, other.hi);
-        Span {
-            lo: least_of(low_low, low_high, high_low, high_high),
-            hi: greatest_of(low_low, low_high, high_low, high_high),
-        }
+        let (lo, hi) = product_ends(self, other);
+        Span { lo, hi }
     }
 
     /// `by` times each number.
@@ -117,6 +111,47 @@ impl Span {
     }
 }
 
+/// The least and the greatest product of the ends, named by the signs of the spans where these settle it.
+fn product_ends(first: Span, second: Span) -> (i128, i128)
+    requires first_low { IsWithin (2 ^ 62) first.lo }
+    requires first_high { IsWithin (2 ^ 62) first.hi }
+    requires second_low { IsWithin (2 ^ 62) second.lo }
+    requires second_high { IsWithin (2 ^ 62) second.hi }
+    ensures lower { result.0 ≡ least (first.lo *ℤ second.lo) (first.lo *ℤ second.hi) (first.hi *ℤ second.lo) (first.hi *ℤ second.hi) }
+    ensures upper { result.1 ≡ greatest (first.lo *ℤ second.lo) (first.lo *ℤ second.hi) (first.hi *ℤ second.lo) (first.hi *ℤ second.hi) }
+{
+    if 0 <= first.lo && 0 <= second.lo {
+        (corner(first.lo, second.lo), corner(first.hi, second.hi))
+    } else if 0 <= first.lo && second.hi <= 0 {
+        (corner(first.hi, second.lo), corner(first.lo, second.hi))
+    } else if first.hi <= 0 && 0 <= second.lo {
+        (corner(first.lo, second.hi), corner(first.hi, second.lo))
+    } else if first.hi <= 0 && second.hi <= 0 {
+        (corner(first.hi, second.hi), corner(first.lo, second.lo))
+    } else {
+        ends_of_four(first, second)
+    }
+}
+
+/// The least and the greatest of the four products of ends.
+fn ends_of_four(first: Span, second: Span) -> (i128, i128)
+    requires first_low { IsWithin (2 ^ 62) first.lo }
+    requires first_high { IsWithin (2 ^ 62) first.hi }
+    requires second_low { IsWithin (2 ^ 62) second.lo }
+    requires second_high { IsWithin (2 ^ 62) second.hi }
+    ensures lower { result.0 ≡ least (first.lo *ℤ second.lo) (first.lo *ℤ second.hi) (first.hi *ℤ second.lo) (first.hi *ℤ second.hi) }
+    ensures upper { result.1 ≡ greatest (first.lo *ℤ second.lo) (first.lo *ℤ second.hi) (first.hi *ℤ second.lo) (first.hi *ℤ second.hi) }
+{
+    let low_low = corner(first.lo, second.lo);
+    let low_high = corner(first.lo, second.hi);
+    let high_low = corner(first.hi, second.lo);
+    let high_high = corner(first.hi, second.hi);
+    (
+        least_of(low_low, low_high, high_low, high_high),
+        greatest_of(low_low, low_high, high_low, high_high),
+    )
+}
+
 #[tactic(auto, unfolding(crate::specs::Spans::least))]
 fn least_of(a: i128, b: i128, c: i128, d: i128) -> i128
     ensures { result ≡ least a b c d }
@@ -131,21 +166,21 @@ fn greatest_of(a: i128, b: i128, c: i128, d: i128) -> i128
     a.max(b).max(c.max(d))
 }
 
-/// `by` times a number.
-fn product(a: i128, by: u64) -> i128
-    requires { IsWithin (2 ^ 126) (a *ℤ pos by) }
-    ensures { result ≡ a *ℤ pos by }
-{
-    a * i128::from(by)
-}
-
 /// The product of two ends.
 fn corner(a: i128, b: i128) -> i128
     requires first { IsWithin (2 ^ 62) a }
     requires second { IsWithin (2 ^ 62) b }
     ensures { result ≡ a *ℤ b }
 {
-    a * b
+    i128::from(a as i64) * i128::from(b as i64)
+}
+
+/// `by` times a number.
+fn product(a: i128, by: u64) -> i128
+    requires { IsWithin (2 ^ 126) (a *ℤ pos by) }
+    ensures { result ≡ a *ℤ pos by }
+{
+    a * i128::from(by)
 }
 
 /// The sum of two numbers with the weights `before` and `after`.

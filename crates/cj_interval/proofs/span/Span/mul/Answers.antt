@@ -1,57 +1,18 @@
-use Rattle.std.proofs.Common.{FitsSigned, to_z-of_z, rules, ◌∙◌}
+use Rattle.std.proofs.Common.{FitsSigned, to_z-of_z, rules}
 use Rattle.std.specs.Int.{w128}
 use Rattle.cj_interval.proofs.RoundingLemmas.{product_of_spans, least-le, le-greatest}
 use Rattle.cj_interval.proofs.IntegerLemmas.{le_trans_ℤ}
 use Rattle.cj_interval.proofs.span.Span.mul.Goals as goal
 
-pub returns-clause-lower : goal.returns-clause-lower
-returns-clause-lower c =
-    let f1 : FitsSigned w128 c.args.self.lo = search rules in
-    let f2 : FitsSigned w128 c.args.self.hi = search rules in
-    let f3 : FitsSigned w128 c.args.other.lo = search rules in
-    let f4 : FitsSigned w128 c.args.other.hi = search rules in
-    let g1 : FitsSigned w128 c.corner-low_low.result = record { sfits = c.corner-low_low.type_inv } in
-    let g2 : FitsSigned w128 c.corner-low_high.result = record { sfits = c.corner-low_high.type_inv } in
-    let g3 : FitsSigned w128 c.corner-high_low.result = record { sfits = c.corner-high_low.type_inv } in
-    let g4 : FitsSigned w128 c.corner-high_high.result = record { sfits = c.corner-high_high.type_inv } in
-    let k : FitsSigned w128 c.least_of.result = record { sfits = c.least_of.type_inv } in
-    let e1 = simp to_z-of_z at c.corner-low_low.ensures in
-    let e2 = simp to_z-of_z at c.corner-low_high.ensures in
-    let e3 = simp to_z-of_z at c.corner-high_low.ensures in
-    let e4 = simp to_z-of_z at c.corner-high_high.ensures in
-    let d = simp to_z-of_z at c.least_of.ensures in
-    to_z-of_z k ∙ d ∙ simp (e1, e2, e3, e4)
-
-pub returns-clause-upper : goal.returns-clause-upper
-returns-clause-upper c =
-    let f1 : FitsSigned w128 c.args.self.lo = search rules in
-    let f2 : FitsSigned w128 c.args.self.hi = search rules in
-    let f3 : FitsSigned w128 c.args.other.lo = search rules in
-    let f4 : FitsSigned w128 c.args.other.hi = search rules in
-    let g1 : FitsSigned w128 c.corner-low_low.result = record { sfits = c.corner-low_low.type_inv } in
-    let g2 : FitsSigned w128 c.corner-low_high.result = record { sfits = c.corner-low_high.type_inv } in
-    let g3 : FitsSigned w128 c.corner-high_low.result = record { sfits = c.corner-high_low.type_inv } in
-    let g4 : FitsSigned w128 c.corner-high_high.result = record { sfits = c.corner-high_high.type_inv } in
-    let k : FitsSigned w128 c.greatest_of.result = record { sfits = c.greatest_of.type_inv } in
-    let e1 = simp to_z-of_z at c.corner-low_low.ensures in
-    let e2 = simp to_z-of_z at c.corner-low_high.ensures in
-    let e3 = simp to_z-of_z at c.corner-high_low.ensures in
-    let e4 = simp to_z-of_z at c.corner-high_high.ensures in
-    let d = simp to_z-of_z at c.greatest_of.ensures in
-    to_z-of_z k ∙ d ∙ simp (e1, e2, e3, e4)
-
 pub invariant_of-result : goal.invariant_of-result
 invariant_of-result c =
-    let g1 : FitsSigned w128 c.corner-low_low.result = record { sfits = c.corner-low_low.type_inv } in
-    let g2 : FitsSigned w128 c.corner-low_high.result = record { sfits = c.corner-low_high.type_inv } in
-    let g3 : FitsSigned w128 c.corner-high_low.result = record { sfits = c.corner-high_low.type_inv } in
-    let g4 : FitsSigned w128 c.corner-high_high.result = record { sfits = c.corner-high_high.type_inv } in
-    let k : FitsSigned w128 c.least_of.result = record { sfits = c.least_of.type_inv } in
-    let m : FitsSigned w128 c.greatest_of.result = record { sfits = c.greatest_of.type_inv } in
-    let d = simp to_z-of_z at c.least_of.ensures in
-    let e = simp to_z-of_z at c.greatest_of.ensures in
-    record { ordered = rw (to_z-of_z k, to_z-of_z m, d, e) (le_trans_ℤ _ _ _ (least-le _ _ _ _).0 (le-greatest _ _ _ _).0) }
+    let k : FitsSigned w128 c.product_ends-lo.result.0 = search rules in
+    let m : FitsSigned w128 c.product_ends-lo.result.1 = search rules in
+    record { ordered = rw (to_z-of_z k, to_z-of_z m, c.product_ends-lo.ensures.lower, c.product_ends-lo.ensures.upper) (le_trans_ℤ _ _ _ (least-le _ _ _ _).0 (le-greatest _ _ _ _).0) }
 
 pub returns-clause-encloses : goal.returns-clause-encloses
 returns-clause-encloses c x y p q =
-    rw (returns-clause-lower c, returns-clause-upper c) (product_of_spans c.args.self.lo c.args.self.hi c.args.other.lo c.args.other.hi x y p q)
+    let k : FitsSigned w128 c.product_ends-lo.result.0 = search rules in
+    let m : FitsSigned w128 c.product_ends-lo.result.1 = search rules in
+    rw (to_z-of_z k, to_z-of_z m, c.product_ends-lo.ensures.lower, c.product_ends-lo.ensures.upper)
+    (product_of_spans c.args.self.lo c.args.self.hi c.args.other.lo c.args.other.hi x y p q)
