@@ -1,26 +1,25 @@
 -- What is printed is read again.
-use Rattle.std.proofs.Common.{◌≡◌, ℕ, suc, ◌+◌, ◌*◌, ◌/◌, ◌%◌, ◌-◌, ◌^◌, ◌<◌, ◌≤◌, List, [], ◌∷◌, ◌++◌, take, drop, length, arith, ap, sym, ◌∙◌, refl, subst, inl, inr, true, false, Bool, ℤ, pos, negsuc, neg_ℤ, ◌+ℤ◌, ◌-ℤ◌, decimal, min, Option, Some, None, Result, Ok, Err}
-use Rattle.std.specs.Prelude.{◌==◌, ◌&&◌, nat_lt, nat_le, if◌then◌else◌, int_lt, unsigned_abs}
+use Rattle.std.proofs.Common.{◌≡◌, ℕ, ◌+◌, ◌*◌, ◌/◌, ◌%◌, ◌-◌, ◌^◌, ◌<◌, ◌≤◌, List, [], ◌∷◌, ◌++◌, take, drop, length, arith, ap, sym, ◌∙◌, refl, subst, inl, inr, true, false, Bool, ℤ, pos, negsuc, neg_ℤ, ◌+ℤ◌, ◌-ℤ◌, decimal, min, Option, Some, Ok}
+use Rattle.std.specs.Prelude.{◌==◌, ◌&&◌, nat_le, if◌then◌else◌, int_lt, unsigned_abs}
 use Rattle.std.specs.Char.{is_ascii_digit, digit_value}
-use Rattle.std.specs.List.{list_all}
-use Rattle.std.specs.Str.Parse.{AllDigits, digits_value, digits_value_after, signed_digits_value, starts_with_minus, without_leading_sign}
+use Rattle.std.specs.Str.Parse.{AllDigits, digits_value, signed_digits_value, starts_with_minus, without_leading_sign}
 use Rattle.std.proofs.Math.Nat.{div-one}
 use Rattle.std.proofs.lemmas.Bool.{le-ltb, le-leb}
-use Rattle.std.proofs.lemmas.Bool.Decides.{leb_tells, eqb_tells, nat_tests}
+use Rattle.std.proofs.lemmas.Bool.Decides.{leb_tells, nat_tests}
 use Rattle.std.proofs.lemmas.Fmt.{decimal_digit, decimal-digits_of, decimal_is_IsNumeral, length-decimal-le, decimal_nonempty}
 use Rattle.std.proofs.lemmas.Int.{ints}
 use Rattle.std.proofs.lemmas.List.{append_assoc, length-drop, length-map, length-take, take-append-drop}
 use Rattle.std.proofs.lemmas.Str.{digit_value_digit}
 use Rattle.std.specs.Int.Digits.{digits_of}
 use Rattle.cj_kvn.specs.Decimals.{IsReadable, decimal_form, decimal_of, decimal_text_of, digit_count, exponent_text, is_huge, is_tiny, leading_power, minus_if, rounded, significand_text, trailing_zeros, without_trailing_zeros, zero_number}
-use Rattle.cj_kvn.specs.Numbers.{Number, Parts, are_digits, digits, exponent_value, is_exponent, is_number, nearest, number, parts_of}
-use Rattle.cj_kvn.specs.Scanning.{after_fraction, after_run, exponent_said, fraction_run, run}
+use Rattle.cj_kvn.specs.Numbers.{Number, Parts, are_digits, digits, exponent_value, is_exponent, nearest, number, parts_of}
+use Rattle.cj_kvn.specs.Scanning.{after_run, exponent_said, fraction_run, run}
 use Rattle.cj_kvn.proofs.CountLemmas.{count_most, count_is, tiny_same, huge_same, tiny_zero}
 use Rattle.cj_kvn.proofs.ListLemmas.{HeadFails, behind_yes, behind_no, both, take_while_yes, take_while_no}
 use Rattle.cj_kvn.proofs.PartsLemmas.{Reads, parts}
 use Rattle.cj_kvn.proofs.PowerLemmas.{nearest_one}
 use Rattle.cj_kvn.proofs.PrintLemmas.{length_two, power_of_first}
-use Rattle.cj_kvn.proofs.ScanLemmas.{Read, exponent_is, is_of_form, value_append}
+use Rattle.cj_kvn.proofs.ScanLemmas.{Read, exponent_is, is_of_form}
 use Rattle.cj_kvn.proofs.ZeroLemmas.{zeros_more, zeros_none}
 
 -- digits by std's word and by ours

@@ -1,14 +1,14 @@
 -- How many digits a number has, and what follows for its size.
-use Rattle.std.proofs.Common.{◌≡◌, ℕ, zero, suc, ◌+◌, ◌*◌, ◌/◌, ◌-◌, ◌^◌, ◌<◌, ◌≤◌, List, [], ◌∷◌, ◌++◌, length, arith, ap, sym, ◌∙◌, refl, subst, inl, inr, true, false, Bool, ℤ, pos, negsuc, ◌+ℤ◌, ◌≤ℤ◌, ◌<ℤ◌}
+use Rattle.std.proofs.Common.{◌≡◌, ℕ, zero, suc, ◌+◌, ◌*◌, ◌/◌, ◌-◌, ◌^◌, ◌<◌, ◌≤◌, length, arith, ap, sym, ◌∙◌, refl, subst, inl, inr, true, false, ℤ, pos, negsuc, ◌+ℤ◌, ◌≤ℤ◌, ◌<ℤ◌}
 use Rattle.std.specs.Int.Digits.{digits_of}
-use Rattle.std.proofs.Math.Nat.{mul_assoc, mul_comm, mul-le-mul_left, mul-le-mul_right, mul-lt-mul_of_pos_right, div-mul-le_self, lt-div-mul-add, div-lt_iff_lt-mul}
+use Rattle.std.proofs.Math.Nat.{mul-le-mul_left, mul-le-mul_right, mul-lt-mul_of_pos_right, div-mul-le_self, lt-div-mul-add, div-lt_iff_lt-mul}
 use Rattle.std.proofs.lemmas.Bool.{lt-ltb, le-ltb, le-leb, lt-leb}
 use Rattle.std.proofs.lemmas.Bool.Decides.{leb_tells}
 use Rattle.std.proofs.lemmas.Int.{by_lt_z, ints}
 use Rattle.std.proofs.lemmas.Int.Digits.{length-digits_of-le, number_digits_of, number_lt, all_below_base_digits_of}
 use Rattle.std.proofs.lemmas.Nat.{pow-add}
 use Rattle.cj_kvn.specs.Decimals.{digit_count, is_tiny, is_huge}
-use Rattle.cj_kvn.specs.Numbers.{Number, nearest, numerator, denominator, ten_above, ten_below}
+use Rattle.cj_kvn.specs.Numbers.{Number, nearest, ten_above, ten_below}
 use Rattle.cj_kvn.proofs.PowerLemmas.{ten_pos, ten_grows, nearest_ge, nearest_one}
 
 pub count_zero : digit_count 0 ≡ 0

@@ -1,5 +1,5 @@
 -- A number that was read, to 18 significant digits.
-use Rattle.std.proofs.Common.{◌≡◌, ℕ, zero, suc, ◌+◌, ◌*◌, ◌/◌, ◌-◌, ◌^◌, ◌<◌, ◌≤◌, arith, ap, sym, ◌∙◌, refl, subst, inl, inr, true, false, Bool, ℤ, pos, negsuc, ◌+ℤ◌, ◌≤ℤ◌}
+use Rattle.std.proofs.Common.{◌≡◌, ℕ, zero, suc, ◌+◌, ◌/◌, ◌-◌, ◌^◌, ◌<◌, ◌≤◌, arith, ap, sym, ◌∙◌, refl, inl, inr, true, false, Bool, ℤ, pos, negsuc, ◌+ℤ◌, ◌≤ℤ◌}
 use Rattle.std.proofs.Math.Nat.{div-eq_of_lt, div-one}
 use Rattle.std.proofs.lemmas.Bool.Decides.{leb_tells}
 use Rattle.std.proofs.lemmas.Int.{ints}
@@ -11,7 +11,7 @@ use Rattle.cj_kvn.specs.declared.rounded.Rounded.{Rounded}
 use Rattle.cj_kvn.specs.Numbers.{Number, nearest}
 use Rattle.cj_kvn.specs.Scanning.{Begins}
 use Rattle.cj_kvn.proofs.CountLemmas.{count_zero, count_first, count_least, rounded_count, tiny_same, huge_same, tiny_zero, tiny_yes, tiny_no, huge_yes, huge_no}
-use Rattle.cj_kvn.proofs.PowerLemmas.{ten_pos, nearest_first, nearest_one}
+use Rattle.cj_kvn.proofs.PowerLemmas.{ten_pos, nearest_first}
 
 -- a test of a whole number, by what it stands for
 least_test : (t : ℤ) (b : Bool) → (t ≤ℤ negsuc 98 → b ≡ true) → (negsuc 97 ≤ℤ t → b ≡ false) → le_z t (negsuc 98) ≡ b

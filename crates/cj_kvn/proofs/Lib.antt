@@ -9,6 +9,8 @@ pub mod PowerLemmas
 pub mod RangeLemmas
 pub mod ReadableLemmas
 pub mod ReadingLemmas
+pub mod RawLemmas
+pub mod RowLemmas
 pub mod RunLemmas
 pub mod ScalingLemmas
 pub mod ScanLemmas

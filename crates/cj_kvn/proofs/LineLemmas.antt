@@ -1,13 +1,13 @@
 -- What a line says, and the first line of a text.
-use Rattle.std.proofs.Common.{◌≡◌, ℕ, suc, ◌+◌, ◌-◌, ◌<◌, ◌≤◌, List, [], ◌∷◌, Bool, true, false, take, drop, length, eqb, arith, ap, sym, ◌∙◌, refl, subst, Option, Some, None, Result, Ok, Err, inl, inr}
-use Rattle.std.specs.Prelude.{◌==◌, nat_lt, cond, not, slice_range, position, if◌then◌else◌}
+use Rattle.std.proofs.Common.{◌≡◌, ℕ, suc, ◌+◌, ◌-◌, ◌<◌, ◌≤◌, List, [], ◌∷◌, Bool, true, false, take, drop, length, eqb, arith, ap, sym, ◌∙◌, refl, subst, Some, None, Ok, Err, inl, inr}
+use Rattle.std.specs.Prelude.{◌==◌, nat_lt, cond, slice_range, position}
 use Rattle.std.specs.List.{position_or_len, before_first, after_first, list_all, list_any, slice_split}
 use Rattle.std.specs.Str.Lines.{lines, lines_of_parts, strip_carriage_return}
 use Rattle.std.proofs.lemmas.Bool.Decides.{nat_tests, leb_tells, eqb_tells}
 use Rattle.std.proofs.lemmas.List.{drop-drop, drop_all, length-drop, length-take, take-take, take_all, take_rest}
 use Rattle.std.proofs.lemmas.List.Splits.{slice_split_first, slice_split_none, length-slice_split}
 use Rattle.std.proofs.lemmas.List.Sums.{fails_before_first}
-use Rattle.cj_kvn.specs.Lines.{Form, Row, Comment, is_comment, is_printable, is_equals, form_of, line_form, pair_of, pair_or_row, trimmed}
+use Rattle.cj_kvn.specs.Lines.{Row, Comment, is_comment, is_printable, is_equals, form_of, line_form, pair_of, pair_or_row, trimmed}
 use Rattle.cj_kvn.specs.declared.lines.KvnFault.TheVariants as faults
 use Rattle.cj_kvn.proofs.ListLemmas.{any_yes, any_no, at_yes, at_no}
 use Rattle.cj_kvn.proofs.RangeLemmas.{slice_drop, slice_take}
@@ -90,14 +90,14 @@ pub fault_is : (number : ℕ) (line : List ℕ) → is_comment line ≡ false �
 unfolding line_form
 fault_is number line h printable = rw (h, printable) refl
 
-abbrev is_feed : ℕ → Bool
+abbrev pub is_feed : ℕ → Bool
 is_feed b = b == 10
 
-first_part : (x : List ℕ) (parts : List (List ℕ)) → 0 < length parts → lines_of_parts (x ∷ parts) ≡ strip_carriage_return x ∷ lines_of_parts parts
+pub first_part : (x : List ℕ) (parts : List (List ℕ)) → 0 < length parts → lines_of_parts (x ∷ parts) ≡ strip_carriage_return x ∷ lines_of_parts parts
 first_part x [] some = absurd (omega arith)
 first_part x (y ∷ parts) some = refl
 
-alone : (x : List ℕ) → 0 < length x → lines_of_parts (x ∷ []) ≡ x ∷ []
+pub alone : (x : List ℕ) → 0 < length x → lines_of_parts (x ∷ []) ≡ x ∷ []
 alone x some =
     let long : eqb (length x) 0 ≡ false = elim (eqb_tells (length x) 0) [ inl h ↦ absurd (omega (arith, h.1)) | inr h ↦ h.0 ] in
     rw long refl
@@ -142,7 +142,7 @@ line_from bytes at len kept h strip short =
     ∙ ap (λ (xs : List ℕ). slice_range bytes at (at + kept) ∷ lines xs) rest
 
 -- the same of a slice of the rest
-abbrev rest_of : List ℕ → ℕ → List ℕ
+abbrev pub rest_of : List ℕ → ℕ → List ℕ
 rest_of bytes at = take (length bytes - at) (drop at bytes)
 
 pub last_line_of_rest : (bytes : List ℕ) (at : ℕ) → at < length bytes → position is_feed (rest_of bytes at) ≡ None

@@ -1,8 +1,8 @@
 -- The parts of a number's text, by the digits at its front.
-use Rattle.std.proofs.Common.{◌≡◌, ℕ, ◌+◌, List, [], ◌∷◌, ◌++◌, Bool, true, false, length, arith, ap, sym, ◌∙◌, refl, subst, Option, Some, None, ℤ, pos}
-use Rattle.std.specs.Prelude.{◌&&◌, ◌||◌, MatchOption, nat_le, if◌then◌else◌}
+use Rattle.std.proofs.Common.{◌≡◌, ℕ, List, [], ◌∷◌, ◌++◌, Bool, true, false, length, arith, ap, sym, ◌∙◌, refl, subst, Option, Some, None, ℤ}
+use Rattle.std.specs.Prelude.{◌&&◌, MatchOption, nat_le, if◌then◌else◌}
 use Rattle.std.specs.Char.{is_ascii_digit}
-use Rattle.std.specs.List.{before_first, after_first, list_all, list_any}
+use Rattle.std.specs.List.{before_first, after_first, list_any}
 use Rattle.std.specs.Str.Parse.{signed_digits_value, starts_with_minus, without_leading_sign}
 use Rattle.std.proofs.lemmas.Bool.Decides.{nat_tests}
 use Rattle.std.proofs.lemmas.List.{append-nil, append_assoc}

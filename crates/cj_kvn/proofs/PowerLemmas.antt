@@ -1,7 +1,7 @@
 -- Powers of ten, and the nearest whole number.
-use Rattle.std.proofs.Common.{◌≡◌, ◌≢◌, ℕ, zero, suc, ◌+◌, ◌*◌, ◌/◌, ◌-◌, ◌^◌, ◌<◌, ◌≤◌, List, [], ◌∷◌, get_or, arith, ap, sym, ◌∙◌, refl, subst, inl, inr}
-use Rattle.std.proofs.Math.Nat.{pow-suc, one-le-pow, mul_assoc, mul_comm, mul-one, div-one, div-div-eq-div-mul, div-eq_of_lt, mul-div-mul_left, mul-div-mul_right, mul-le-mul, mul-le-mul_left, mul-le-mul_right, mul-lt-mul_of_pos_right, pow-le-pow_right, add-mul-div_right}
-use Rattle.std.proofs.lemmas.Nat.{pow-add, div-mul-add, le-div}
+use Rattle.std.proofs.Common.{◌≡◌, ℕ, zero, suc, ◌+◌, ◌*◌, ◌/◌, ◌-◌, ◌^◌, ◌<◌, ◌≤◌, List, [], ◌∷◌, get_or, arith, ap, sym, ◌∙◌, inl, inr}
+use Rattle.std.proofs.Math.Nat.{pow-suc, one-le-pow, mul_assoc, mul_comm, div-div-eq-div-mul, div-eq_of_lt, mul-div-mul_left, mul-div-mul_right, mul-le-mul_right, mul-lt-mul_of_pos_right, pow-le-pow_right, add-mul-div_right}
+use Rattle.std.proofs.lemmas.Nat.{pow-add, le-div}
 use Rattle.std.proofs.lemmas.Bool.Decides.{leb_tells}
 use Rattle.cj_kvn.specs.Numbers.{nearest}
 

@@ -1,14 +1,13 @@
 -- The text of a decimal number.
-use Rattle.std.proofs.Common.{◌≡◌, ℕ, suc, ◌+◌, ◌*◌, ◌/◌, ◌%◌, ◌-◌, ◌^◌, ◌<◌, ◌≤◌, List, [], ◌∷◌, ◌++◌, take, drop, length, arith, ap, sym, ◌∙◌, refl, subst, inl, inr, true, false, Bool, ℤ, pos, negsuc, ◌+ℤ◌, ◌≤ℤ◌, decimal}
+use Rattle.std.proofs.Common.{◌≡◌, ℕ, suc, ◌+◌, ◌/◌, ◌%◌, ◌-◌, ◌^◌, ◌<◌, ◌≤◌, List, [], ◌∷◌, ◌++◌, take, drop, length, arith, ap, sym, ◌∙◌, refl, inl, inr, true, false, Bool, ℤ, pos, ◌+ℤ◌, decimal}
 use Rattle.std.specs.Prelude.{◌==◌, nat_lt, if◌then◌else◌, int_lt, unsigned_abs, insert}
-use Rattle.std.proofs.lemmas.Bool.Decides.{leb_tells, eqb_tells, nat_tests}
-use Rattle.std.proofs.lemmas.Fmt.{decimal_digit, decimal_step, length-decimal-le, decimal_nonempty}
-use Rattle.std.proofs.lemmas.Int.{ints}
-use Rattle.std.proofs.lemmas.List.{append_assoc, append-nil, length-append, drop-append-le, take-append-le, length-drop, length-take}
-use Rattle.cj_kvn.specs.Decimals.{digit_count, leading_power, significand_text, exponent_text, minus_if, decimal_text_of, number_of}
+use Rattle.std.proofs.lemmas.Bool.Decides.{leb_tells, nat_tests}
+use Rattle.std.proofs.lemmas.Fmt.{decimal_digit, decimal_step, decimal_nonempty}
+use Rattle.std.proofs.lemmas.List.{append_assoc, append-nil, length-append}
+use Rattle.cj_kvn.specs.Decimals.{digit_count, leading_power, significand_text, exponent_text, minus_if, decimal_text_of}
 use Rattle.cj_kvn.specs.Numbers.{Number}
 use Rattle.cj_kvn.proofs.CountLemmas.{count_is}
-use Rattle.cj_kvn.proofs.PowerLemmas.{ten_grows, ten_more}
+use Rattle.cj_kvn.proofs.PowerLemmas.{ten_grows}
 
 -- the power of ten of the first digit
 pub power_of_zero : (n : Number) → n.digits ≡ 0 → leading_power n ≡ pos 0

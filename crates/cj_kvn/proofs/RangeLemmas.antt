@@ -1,8 +1,8 @@
 -- Parts of a part.
-use Rattle.std.proofs.Common.{◌≡◌, ℕ, ◌+◌, ◌-◌, ◌<◌, ◌≤◌, List, [], take, drop, length, arith, ap, sym, ◌∙◌, refl, inl, inr}
+use Rattle.std.proofs.Common.{◌≡◌, ℕ, ◌+◌, ◌-◌, ◌≤◌, List, take, drop, length, arith, ap, sym, ◌∙◌, inl, inr}
 use Rattle.std.specs.Prelude.{slice_range}
 use Rattle.std.proofs.lemmas.Bool.Decides.{leb_tells}
-use Rattle.std.proofs.lemmas.List.{drop-drop, drop-take, drop_all, length-take, length-drop, take-take, take_all}
+use Rattle.std.proofs.lemmas.List.{drop-drop, drop-take, drop_all, length-take, length-drop, take-take}
 
 -- without the first n bytes
 pub slice_drop : (bytes : List ℕ) (a b n : ℕ) → slice_range bytes (a + n) b ≡ drop n (slice_range bytes a b)

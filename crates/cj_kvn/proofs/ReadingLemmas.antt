@@ -1,7 +1,7 @@
 -- The lines read so far, and those that are left.
-use Rattle.std.proofs.Common.{◌≡◌, ℕ, ◌+◌, List, [], ◌∷◌, ◌++◌, ap, sym, ◌∙◌, refl, subst, Result, Ok, Err}
+use Rattle.std.proofs.Common.{◌≡◌, ℕ, ◌+◌, List, [], ◌∷◌, ◌++◌, ap, ◌∙◌, refl, Result, Ok, Err}
 use Rattle.std.proofs.lemmas.List.{append_assoc, append-nil}
-use Rattle.cj_kvn.specs.Lines.{Form, Gives, Numbered, Tells, line_form, lines_said, ◌>>=◌}
+use Rattle.cj_kvn.specs.Lines.{Form, Gives, Numbered, line_form, lines_said, ◌>>=◌}
 use Rattle.cj_kvn.specs.declared.lines.KvnFault.{KvnFault}
 use Rattle.cj_kvn.specs.declared.lines.KvnFault.TheVariants.{Memory, NotPrintable, NoLineForm}
 

@@ -1,11 +1,11 @@
 -- A number that was read, times a power of ten.
-use Rattle.std.proofs.Common.{◌≡◌, ℕ, zero, suc, ◌+◌, ◌*◌, ◌/◌, ◌-◌, ◌^◌, ◌<◌, ◌≤◌, arith, ap, sym, ◌∙◌, refl, subst, ℤ, pos, negsuc, ◌+ℤ◌, Option, Some, None}
-use Rattle.std.proofs.Math.Nat.{pow-suc, mul_assoc, mul_comm, mul-le-mul, mul-le-mul_left, mul-le-mul_right, div-mul-le_self, div-one, div-le_self}
+use Rattle.std.proofs.Common.{◌≡◌, ℕ, zero, suc, ◌+◌, ◌*◌, ◌/◌, ◌^◌, ◌<◌, ◌≤◌, arith, ap, sym, ◌∙◌, subst, ℤ, pos, negsuc, ◌+ℤ◌, Option, Some, None}
+use Rattle.std.proofs.Math.Nat.{mul_assoc, mul-le-mul_left, mul-le-mul_right, div-mul-le_self, div-one, div-le_self}
 use Rattle.std.proofs.lemmas.Int.{ints}
 use Rattle.std.proofs.lemmas.Nat.{pow-add}
 use Rattle.std.specs.Option.{SomeIff}
 use Rattle.cj_kvn.specs.declared.leading.Scanned.{Scanned}
-use Rattle.cj_kvn.specs.Numbers.{Number, nearest, numerator, denominator, scaled_size, ten_above, ten_below}
+use Rattle.cj_kvn.specs.Numbers.{Number, nearest, scaled_size, ten_above, ten_below}
 use Rattle.cj_kvn.specs.Scanning.{Begins}
 use Rattle.cj_kvn.proofs.PowerLemmas.{ten_pos, ten_grows, nearest_one, nearest_times, nearest_cancel, nearest_ge, nearest_first}
 

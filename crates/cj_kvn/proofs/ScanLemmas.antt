@@ -1,18 +1,17 @@
 -- A whole number's text, read from left to right.
-use Rattle.std.proofs.Common.{◌≡◌, ℕ, suc, ◌+◌, ◌*◌, ◌/◌, ◌^◌, ◌<◌, ◌≤◌, List, [], ◌∷◌, ◌++◌, Bool, true, false, length, arith, ap, sym, ◌∙◌, refl, subst, Option, Some, None, ℤ, pos, ◌+ℤ◌, ◌-ℤ◌, inl, inr}
+use Rattle.std.proofs.Common.{◌≡◌, ℕ, ◌+◌, ◌*◌, ◌/◌, ◌^◌, ◌<◌, List, [], ◌∷◌, ◌++◌, Bool, true, false, length, arith, ap, sym, ◌∙◌, refl, subst, Option, Some, None, ℤ, pos, ◌+ℤ◌, ◌-ℤ◌, inl, inr}
 use Rattle.std.proofs.Math.Nat.{zero-div}
 use Rattle.std.specs.Prelude.{◌&&◌, MatchOption, nat_le, if◌then◌else◌}
 use Rattle.std.specs.Char.{is_ascii_digit, digit_value}
-use Rattle.std.specs.List.{list_all}
 use Rattle.std.specs.Str.Parse.{digits_value, digits_value_after, starts_with_minus, without_leading_sign}
-use Rattle.std.proofs.lemmas.Bool.Decides.{nat_tests, leb_tells}
-use Rattle.std.proofs.lemmas.List.{append_assoc, length-append, nil_from_length}
+use Rattle.std.proofs.lemmas.Bool.Decides.{leb_tells}
+use Rattle.std.proofs.lemmas.List.{length-append, nil_from_length}
 use Rattle.cj_kvn.specs.declared.leading.Leading.{Leading}
 use Rattle.cj_kvn.specs.declared.leading.Scanned.{Scanned}
 use Rattle.cj_kvn.specs.Numbers.{Parts, parts_of, is_number, number, is_exponent, exponent_value, is_point, digits, are_digits}
 use Rattle.cj_kvn.specs.Scanning.{Begins, Leads, run, after_run, fraction_run, after_fraction, exponent_said}
 use Rattle.cj_kvn.proofs.ListLemmas.{all_take_while, front_behind}
-use Rattle.cj_kvn.proofs.PartsLemmas.{Reads, Told, parts, told}
+use Rattle.cj_kvn.proofs.PartsLemmas.{Reads, Told, told}
 
 -- the text, and what stands behind its sign, its whole digits and its digits behind a point
 pub record Read (text unsigned behind rest : List ℕ) : Type 0 where

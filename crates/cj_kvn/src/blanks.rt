@@ -1,5 +1,5 @@
 //! Blanks round a text.
-ghost use Rattle.std.specs.Prelude.{◌≡◌, ◌≤◌, length};
+ghost use Rattle.std.specs.Prelude.{◌≡◌, ◌+◌, ◌≤◌, length};
 ghost use Rattle.std.specs.List.{prefix_len, suffix_len};
 ghost use Rattle.cj_kvn.specs.Lines.{is_blank as the_test, trimmed as the_trimmed, without_leading_blanks, without_trailing_blanks};
 ghost use Rattle.cj_kvn.specs.Ranges.{IsWithin, text_at};
@@ -42,6 +42,7 @@ pub fn trimmed(bytes: &[u8], part: Range32) -> Range32
     requires { IsWithin bytes.now part }
     ensures text { text_at bytes.now result ≡ the_trimmed (text_at bytes.now part) }
     ensures within { IsWithin bytes.now result }
+    ensures first { result.first ≡ part.first + prefix_len the_test (text_at bytes.now part) }
 {
     let inner = without_leading(bytes, part);
     without_trailing(bytes, inner)
@@ -54,7 +55,7 @@ pub fn without_leading(bytes: &[u8], part: Range32) -> Range32
     ensures text { text_at bytes.now result ≡ without_leading_blanks (text_at bytes.now part) }
     ensures within { IsWithin bytes.now result }
     ensures past { result.past ≡ part.past }
-    ensures first { part.first ≤ result.first }
+    ensures first { result.first ≡ part.first + prefix_len the_test (text_at bytes.now part) }
 {
     Range32 {
         first: part.first + leading_blanks(part.text(bytes)) as u32,
@@ -67,6 +68,7 @@ fn without_trailing(bytes: &[u8], part: Range32) -> Range32
     requires { IsWithin bytes.now part }
     ensures text { text_at bytes.now result ≡ without_trailing_blanks (text_at bytes.now part) }
     ensures within { IsWithin bytes.now result }
+    ensures first { result.first ≡ part.first }
 {
     Range32 {
         first: part.first,

@@ -1,8 +1,8 @@
 //! The fields of a row.
-ghost use Rattle.std.specs.Prelude.{◌≡◌, ◌≤◌, ◌+◌, ◌∷◌, [], length, IfSome, MatchOption, slice_get};
+ghost use Rattle.std.specs.Prelude.{◌≡◌, ◌<◌, ◌≤◌, ◌+◌, ◌∷◌, [], All, length, take, IfSome, MatchOption, slice_get, slice_index_or};
 ghost use Rattle.std.specs.List.{position_or_len};
 ghost use Rattle.std.specs.Option.{option_map};
-ghost use Rattle.cj_kvn.specs.Fields.{fields};
+ghost use Rattle.cj_kvn.specs.Fields.{fields, texts_of};
 ghost use Rattle.cj_kvn.specs.Lines.{is_blank as the_test};
 ghost use Rattle.cj_kvn.specs.Ranges.{IsWithin, text_at};
 
@@ -22,6 +22,50 @@ pub fn field(bytes: &[u8], text: Range32, index: u32) -> Option<Range32>
     }
     let (found, _) = first_field(bytes, rest)?;
     Some(found)
+}
+
+/// The fields of a row: where the first ten lie, and how many there are, where more than ten count as eleven.
+#[derive(Clone, Copy, Debug)]
+pub struct RowFields {
+    pub found: [Range32; 10],
+    pub count: u32,
+}
+
+impl RowFields {
+    /// The field of this index, counted from 0.
+    pub fn text<'a>(&self, bytes: &'a [u8], index: u32) -> &'a [u8]
+        requires one_of_ten { index < 10 }
+        requires found { index < self.now.count }
+        requires within { All (IsWithin bytes.now) self.now.found }
+        ensures exact { result.now ≡ slice_index_or (texts_of bytes.now self.now) index [] }
+        ensures there { index < length (texts_of bytes.now self.now) }
+        ensures short { length result.now ≤ length bytes.now }
+    {
+        self.found[index as usize].text(bytes)
+    }
+}
+
+/// The fields of a row's text, all found in one pass.
+pub fn row_fields(bytes: &[u8], text: Range32) -> RowFields
+    requires { IsWithin bytes.now text }
+    ensures count { result.count ≡ length (take 11 (fields (text_at bytes.now text))) }
+    ensures texts { texts_of bytes.now result ≡ take 10 (fields (text_at bytes.now text)) }
+    ensures within { All (IsWithin bytes.now) result.found }
+{
+    let mut found = [Range32 { first: 0, past: 0 }; 10];
+    let mut rest = text;
+    for count in 0..10 {
+        let Some((field, behind)) = first_field(bytes, rest) else {
+            return RowFields { found, count };
+        };
+        found[count as usize] = field;
+        rest = behind;
+    }
+    let count = match first_field(bytes, rest) {
+        None => 10,
+        Some(_) => 11,
+    };
+    RowFields { found, count }
 }
 
 /// The first field, and what stands behind it.

@@ -1,7 +1,7 @@
 //! What the text of a line is.
 ghost use Rattle.std.specs.Prelude.{◌≡◌, ◌==◌, position};
 ghost use Rattle.std.specs.List.{list_all};
-ghost use Rattle.cj_kvn.specs.Lines.{is_comment as the_comment_test, is_end_or_blank as the_end_test, is_key as the_key_test, is_key_byte as the_byte_test, is_printable as the_test, mark_of as the_mark};
+ghost use Rattle.cj_kvn.specs.Lines.{is_comment as the_comment_test, is_end_or_blank as the_end_test, is_key as the_key_test, is_key_byte as the_byte_test, mark_of as the_mark};
 
 use crate::blanks::{is_blank, leading_blanks};
 use crate::lines::MarkKind;
@@ -11,13 +11,6 @@ pub fn find_byte(text: &[u8], byte: u8) -> Option<usize>
     ensures { result ≡ position (λ b. b == byte) text.now }
 {
     text.iter().position(|b| *b == byte)
-}
-
-/// Each byte is a tab or lies from the space to the tilde.
-pub fn is_printable(text: &[u8]) -> bool
-    ensures { result ≡ list_all the_test text.now }
-{
-    text.iter().all(|b| *b == b'\t' || 32 <= *b && *b <= 126)
 }
 
 /// The word COMMENT after any blanks, and then a blank or the end.

@@ -1,4 +1,4 @@
-use crate::fields::field;
+use crate::fields::{field, row_fields};
 use crate::lines::{KvnFault, Line, LineKind, MarkKind};
 use crate::range::Range32;
 use crate::reading::read_lines;
@@ -82,8 +82,28 @@ fn fields_of_a_row(rt: HostRuntime) -> Result<(), Fail> {
 }
 
 #[test]
+fn fields_found_in_one_pass(rt: HostRuntime) -> Result<(), Fail> {
+    let row = row_fields(b"  2025 7000\t1 ", Range32 { first: 1, past: 14 });
+    assert_eq!(rt; row.count, 3);
+    assert_eq!(rt; row.found[1], Range32 { first: 7, past: 11 });
+    let ten = row_fields(b"0 1 2 3 4 5 6 7 8 9", Range32 { first: 0, past: 19 });
+    assert_eq!(rt; ten.count, 10);
+    let last = Range32 {
+        first: 18,
+        past: 19,
+    };
+    assert_eq!(rt; ten.found[9], last);
+    let more = row_fields(b"0 1 2 3 4 5 6 7 8 9 a b", Range32 { first: 0, past: 23 });
+    assert_eq!(rt; more.count, 11);
+    assert_eq!(rt; more.found[9], last);
+    let none = row_fields(b" \t ", Range32 { first: 0, past: 3 });
+    assert_eq!(rt; none.count, 0);
+    Ok(())
+}
+
+#[test]
 fn the_first_fault(rt: HostRuntime) -> Result<(), Fail> {
-    let texts: [(&[u8], KvnFault); 9] = [
+    let texts: [(&[u8], KvnFault); 11] = [
         (b"KEY = 1\nbad key = 2\n", KvnFault::NoLineForm { line: 2 }),
         (b"= 1", KvnFault::NoLineForm { line: 1 }),
         (b"a = 1\nK = \x01\n", KvnFault::NoLineForm { line: 1 }),
@@ -92,6 +112,8 @@ fn the_first_fault(rt: HostRuntime) -> Result<(), Fail> {
         (b"K = 1\rL = 2\n", KvnFault::NotPrintable { line: 1 }),
         (b"K = 1\r", KvnFault::NotPrintable { line: 1 }),
         (b"COMMENT\r", KvnFault::NotPrintable { line: 1 }),
+        (b"KEY = 1\r\n\t\x08\r\n", KvnFault::NotPrintable { line: 2 }),
+        (b"a = b = c\n", KvnFault::NoLineForm { line: 1 }),
         (b"COMMENT\r\r\n", KvnFault::NotPrintable { line: 1 }),
     ];
     for (text, fault) in &texts {

@@ -1,5 +1,4 @@
-use Rattle.std.proofs.Common.{arith, rules, ap, length}
-use Rattle.std.proofs.lemmas.List.{length-append}
+use Rattle.std.proofs.Common.{arith}
 use Rattle.cj_kvn.proofs.PrintLemmas.{length_digit, length_step, digit_pushed, digits_pushed}
 use Rattle.cj_kvn.proofs.printing.+push_number.Goals as goal
 

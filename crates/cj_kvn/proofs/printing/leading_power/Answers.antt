@@ -1,4 +1,4 @@
-use Rattle.std.proofs.Common.{arith, sym, ◌≡◌, ◌∙◌}
+use Rattle.std.proofs.Common.{arith, sym}
 use Rattle.std.proofs.lemmas.Int.{ints}
 use Rattle.cj_kvn.specs.Decimals.{number_of}
 use Rattle.cj_kvn.proofs.PowerLemmas.{ten_more}

@@ -1,5 +1,5 @@
 use Rattle.std.proofs.Common.{arith, ◌≡◌, ap, sym, ◌∙◌, ℕ, ℤ, pos, ◌++◌, w32, to_z, of_z}
-use Rattle.std.specs.Prelude.{nat_lt, int_lt, unsigned_abs, if◌then◌else◌}
+use Rattle.std.specs.Prelude.{nat_lt, int_lt, unsigned_abs}
 use Rattle.std.proofs.lemmas.Int.{ints}
 use Rattle.std.proofs.lemmas.Fmt.{length-decimal-le}
 use Rattle.cj_kvn.proofs.PrintLemmas.{exponent_pushed, sign_code, zero_if}

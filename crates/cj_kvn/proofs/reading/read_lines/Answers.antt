@@ -1,4 +1,4 @@
-use Rattle.std.proofs.Common.{arith, ◌≡◌, ◌∙◌, ◌+◌, ap, sym, subst, drop, ℕ, List, All}
+use Rattle.std.proofs.Common.{arith, ◌∙◌, ◌+◌, ap, sym, subst, drop, ℕ, List, All}
 use Rattle.std.specs.Str.Lines.{lines}
 use Rattle.std.proofs.lemmas.List.{map_push}
 use Rattle.std.proofs.lemmas.List.Elements.{All-push}
@@ -19,7 +19,7 @@ loop-at-preserved c =
       read =
           ap (λ (ls : List Line). with_front (lines_at bytes ls) (lines_said (number + 1) rest)) c.in_ok-push.ensures.items
           ∙ ap (λ (front : List Numbered). with_front front (lines_said (number + 1) rest)) (map_push (line_at bytes) old line)
-          ∙ line_read (lines_at bytes old) number (text_at bytes c.first_line-behind.result.0) rest (form_at bytes c.in_ok-kind.kind) c.in_ok-kind.ensures.exact
+          ∙ line_read (lines_at bytes old) number (text_at bytes c.first_line-behind.result.0.text) rest (form_at bytes c.in_ok-kind.kind) c.in_ok-kind.ensures.exact
           ∙ ap (λ (ts : List (List ℕ)). with_front (lines_at bytes old) (lines_said number ts)) (sym c.first_line-behind.ensures.lines)
           ∙ c.loop-at.invariant.read;
       within = subst (All (LineIsWithin bytes)) (sym c.in_ok-push.ensures.items)

@@ -1,4 +1,4 @@
-use Rattle.std.proofs.Common.{arith, ◌≡◌, ap, sym, ◌∙◌}
+use Rattle.std.proofs.Common.{arith, ap, sym, ◌∙◌}
 use Rattle.cj_kvn.specs.Decimals.{digit_count}
 use Rattle.cj_kvn.proofs.CountLemmas.{count_zero, count_is}
 use Rattle.cj_kvn.proofs.PowerLemmas.{ten_more}

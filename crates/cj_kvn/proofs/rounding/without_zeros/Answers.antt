@@ -1,4 +1,4 @@
-use Rattle.std.proofs.Common.{arith, ◌<◌}
+use Rattle.std.proofs.Common.{arith}
 use Rattle.std.proofs.lemmas.Int.{ints}
 use Rattle.cj_kvn.proofs.DecimalLemmas.{cut_at, cut_tiny, cut_huge}
 use Rattle.cj_kvn.proofs.rounding.without_zeros.Goals as goal

@@ -1,4 +1,4 @@
-use Rattle.std.proofs.Common.{arith, ◌∙◌, sym, ap, ◌+◌, ◌/◌, ◌*◌, ℕ}
+use Rattle.std.proofs.Common.{arith, ◌∙◌, sym, ap, ◌+◌, ◌/◌, ℕ}
 use Rattle.cj_kvn.proofs.PowerLemmas.{nearest_ten, nearest_zero, ten_pos, ten_grows}
 use Rattle.cj_kvn.proofs.scaling.lowered.Goals as goal
 

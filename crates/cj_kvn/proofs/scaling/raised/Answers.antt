@@ -1,4 +1,4 @@
-use Rattle.std.proofs.Common.{arith, ap, ◌*◌, ◌-◌, ℕ, subst}
+use Rattle.std.proofs.Common.{arith, ap, ◌*◌, ℕ}
 use Rattle.cj_kvn.proofs.PowerLemmas.{raised_fits, raised_past}
 use Rattle.cj_kvn.proofs.scaling.raised.Goals.{else-power-le36-via-then-power-le36+else-number-ten_to, else-power-le36-via-else-power-le36}
 use Rattle.cj_kvn.proofs.scaling.raised.Goals as goal

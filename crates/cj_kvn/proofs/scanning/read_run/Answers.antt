@@ -1,4 +1,4 @@
-use Rattle.std.proofs.Common.{arith, sym, ◌∙◌, ◌≡◌, ap, ℕ, List, subst, length, get_or, drop, ◌-◌, refl, false, ◌≤◌, []}
+use Rattle.std.proofs.Common.{arith, sym, ◌∙◌, ◌≡◌, ap, ℕ, List, subst, length, get_or, drop, ◌-◌, refl, false, ◌≤◌}
 use Rattle.std.specs.Char.{is_ascii_digit}
 use Rattle.std.specs.Str.Parse.{digits_value_after}
 use Rattle.std.proofs.lemmas.List.{length-drop, length-take}

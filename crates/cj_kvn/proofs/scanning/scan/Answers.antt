@@ -1,4 +1,4 @@
-use Rattle.std.proofs.Common.{arith, sym, ◌∙◌, ◌≡◌, ap, refl, subst, List, ℕ, ◌+◌, ◌<◌, length, false, true, Option, Some, None, ℤ}
+use Rattle.std.proofs.Common.{arith, sym, ◌∙◌, ◌≡◌, refl, subst, ◌+◌, ◌<◌, length, false, true, Option}
 use Rattle.std.specs.Prelude.{MatchOption}
 use Rattle.std.proofs.lemmas.Int.{ints}
 use Rattle.cj_kvn.specs.declared.leading.Scanned.{Scanned}

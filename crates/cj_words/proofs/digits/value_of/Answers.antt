@@ -1,5 +1,6 @@
 use Rattle.std.proofs.Common.{arith}
-use Rattle.cj_words.proofs.DigitLemmas.{digit_at, value_more, ten_more, ten_small}
+use Rattle.cj_epoch.proofs.DigitLemmas.{digit_at, value_more, ten_more}
+use Rattle.cj_words.proofs.DigitLemmas.{ten_small}
 use Rattle.cj_words.proofs.digits.value_of.Goals as goal
 
 pub overflow_mul-value : goal.overflow_mul-value

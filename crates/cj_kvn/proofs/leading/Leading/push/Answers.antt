@@ -1,4 +1,4 @@
-use Rattle.std.proofs.Common.{arith, ◌≡◌, ◌∙◌, ap, sym, ℕ, ◌+◌, ◌*◌, ◌/◌, ◌^◌}
+use Rattle.std.proofs.Common.{arith, ◌∙◌, ap, sym, ℕ, ◌+◌, ◌*◌, ◌/◌, ◌^◌}
 use Rattle.cj_kvn.proofs.ScanningLemmas.{digit_kept, digit_past}
 use Rattle.cj_kvn.proofs.leading.Leading.push.Goals.{then-self-lt-LEAST_FULL, else-self-lt-LEAST_FULL}
 use Rattle.cj_kvn.proofs.leading.Leading.push.Goals as goal

@@ -1,0 +1,23 @@
+use Rattle.std.proofs.Common.{arith, ◌≡◌, sym, ◌∙◌, length, map, take}
+use Rattle.std.proofs.lemmas.List.{length-map, length-take}
+use Rattle.cj_kvn.specs.Ranges.{text_at}
+use Rattle.cj_kvn.proofs.RowLemmas.{all_found, ten_found}
+use Rattle.cj_kvn.proofs.fields.row_fields.Goals as goal
+
+pub returns-in_default-clause-count : goal.returns-in_default-clause-count
+returns-in_default-clause-count c =
+    let front = take c.loop-count.count c.loop-count.found in
+    let long : length (map (text_at c.args.bytes.now) front) ≡ c.loop-count.count = omega (arith, length-map front (text_at c.args.bytes.now), length-take c.loop-count.count c.loop-count.found) in
+    sym long ∙ (all_found _ _ _ c.in_default.ensures.fields c.loop-count.invariant.said (omega arith)).0
+
+pub returns-in_default-clause-texts : goal.returns-in_default-clause-texts
+returns-in_default-clause-texts c =
+    let front = take c.loop-count.count c.loop-count.found in
+    let long : length (map (text_at c.args.bytes.now) front) ≡ c.loop-count.count = omega (arith, length-map front (text_at c.args.bytes.now), length-take c.loop-count.count c.loop-count.found) in
+    (all_found _ _ _ c.in_default.ensures.fields c.loop-count.invariant.said (omega arith)).1
+
+pub returns-in-Some-first_field-clause-count : goal.returns-in-Some-first_field-clause-count
+returns-in-Some-first_field-clause-count c =
+    let front = take c.loop-count.count c.loop-count.found in
+    let long : length (map (text_at c.args.bytes.now) front) ≡ 10 = omega (arith, length-map front (text_at c.args.bytes.now), length-take c.loop-count.count c.loop-count.found) in
+    (ten_found _ _ _ _ _ c.in-Some-first_field.ensures.fields c.loop-count.invariant.said long).0
