@@ -1,0 +1,13 @@
+//! Small tracks for the tests of the crates above: objects at rest and on straight lines in the first hour of 2025.
+#![tactic(auto)]
+
+mod segments;
+mod ticks;
+mod tracks;
+
+pub use segments::{AT_7000, AT_7005, AT_7100, REST, moving, node, rest, useable};
+pub use ticks::{second, seconds, tick, window};
+pub use tracks::{track, track_of, track_of_two};
+
+#[cfg(test)]
+mod tests;

@@ -1,0 +1,25 @@
+use super::*;
+use std::process::Abort;
+use std::test::Fail;
+
+#[test]
+fn a_track_at_rest_has_the_nodes_of_its_segments(rt: HostRuntime) -> Result<(), Fail> {
+    let alloc = rt.alloc();
+    let one = rest(alloc, 0, 30, AT_7000)?;
+    let other = rest(alloc, 30, 60, AT_7005)?;
+    let track = track_of_two(alloc, one, other)?;
+    let mut places = Vec::new(alloc);
+    for segment in track.segments.as_slice() {
+        for node in segment.nodes.as_slice() {
+            places.push((node.at, node.p.x))?;
+        }
+    }
+    let wanted = [
+        (second(0), AT_7000.x),
+        (second(30), AT_7000.x),
+        (second(30), AT_7005.x),
+        (second(60), AT_7005.x),
+    ];
+    assert_eq!(rt; places.as_slice(), wanted.as_slice());
+    Ok(())
+}
