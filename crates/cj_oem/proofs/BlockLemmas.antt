@@ -1,56 +1,52 @@
 -- Blocks: from the metadata on, the lines that are accepted are those of blocks, and each block is accepted.
-use Rattle.std.proofs.Common.{◌≡◌, ℕ, zero, suc, ◌<◌, ◌≤◌, ◌⊎◌, inl, inr, ⊎_elim, List, [], ◌∷◌, ◌++◌, length, Bool, true, false, IsSomeAnd, Option, Some, None, Result, Ok, arith, ap, sym, ◌∙◌, refl, subst, subst₂}
+use Rattle.std.proofs.Common.{◌≡◌, ℕ, zero, suc, ◌<◌, ◌≤◌, ◌⊎◌, inl, inr, ⊎_elim, List, [], ◌∷◌, ◌++◌, length, Bool, true, false, IsSomeAnd, Option, Some, None, Result, Ok, arith, ap, sym, ◌∙◌, refl, subst}
 use Rattle.std.specs.Prelude.{◌&&◌, not, nat_le, nat_lt}
-use Rattle.std.proofs.lemmas.Bool.Decides.{leb_tells, nat_tests}
+use Rattle.std.proofs.lemmas.Bool.Decides.{nat_tests}
 use Rattle.std.proofs.lemmas.List.{append_assoc, append-nil, length-append}
 use Rattle.cj_kvn.specs.Lines.{Form, Blank, Comment, Mark, Pair, Row}
 use Rattle.cj_kvn.specs.declared.lines.MarkKind.TheVariants.{MetaStart, MetaStop, CovarianceStart, CovarianceStop}
 use Rattle.cj_oem.specs.declared.fault.OemCause.{OemCause}
 use Rattle.cj_oem.specs.declared.fault.OemCause.TheVariants as causes
 use Rattle.cj_oem.specs.CovarianceRows.{Covariances, NO_COVARIANCES, closed, with_matrix_pair, with_matrix_row}
-use Rattle.cj_oem.specs.Ephemeris.{Arc, Covariance, State}
-use Rattle.cj_oem.specs.Grammar.{AreBlocks, AreCovariances, Entry, HasNoCovariances, IsBlock, IsPlan, IsUseable, covariances_from, last, more, pair_lines, row_lines, sheet_from, states_from, with_line}
-use Rattle.cj_oem.specs.Metadata.{◌>>=◌, EMPTY, Object, Plan, Sheet, plan_of, unless, with_pair}
+use Rattle.cj_track.specs.PlainTracks.{PlainSegment, PlainMatrix, PlainNode}
+use Rattle.cj_oem.specs.Grammar.{AreBlocks, AreCovariances, Entry, HasNoCovariances, IsBlock, IsUseable, last, more, pair_lines, row_lines}
+use Rattle.cj_oem.specs.Metadata.{◌>>=◌, EMPTY, Object, Metadata, MetadataDraft, plan_of, unless, with_pair}
 use Rattle.cj_oem.specs.NodeRows.{state_of_row}
-use Rattle.cj_oem.specs.Stages.{Body, Meta, Data, Cov, After, Stretch, close_nodes, end_of, finished, first_state, is_useable, last_state, with_arc}
-use Rattle.cj_oem.proofs.PlanLemmas.{plan_kept}
+use Rattle.cj_oem.specs.Stages.{Body, Meta, Data, Cov, After, OpenSegment, close_nodes, end_of, finished, first_state, is_useable, last_state, with_arc}
+use Rattle.cj_oem.proofs.MatrixLemmas.{covariances_from, matrices_again, matrices_are, with_line}
+use Rattle.cj_oem.proofs.MetadataLemmas.{Suits, metadata_again, metadata_is, metadata_suits, sheet_from}
+use Rattle.cj_oem.proofs.NodeRowLemmas.{states_again, states_are, states_from}
 use Rattle.cj_oem.proofs.RunLemmas.{end_push, last_push, run, run_covariances, run_meta, run_rows, stretch}
-use Rattle.cj_oem.proofs.StepLemmas.{bind_into, bind_ok, not_false, unless_ok}
+use Rattle.cj_oem.proofs.StepLemmas.{bind_into, bind_ok, le_holds, lt_fails, not_false, unless_ok}
 
 -- ---- the end of the nodes
-
-le_test : (a b : ℕ) → nat_le a b ≡ true → a ≤ b
-le_test a b e = elim (leb_tells a b) [ inl h ↦ h.1 | inr h ↦ absurd cc ]
-
-lt_fails : (a b : ℕ) → nat_lt a b ≡ false → b ≤ a
-lt_fails a b e = elim (leb_tells (suc a) b) [ inl h ↦ absurd cc | inr h ↦ omega arith ]
 
 three : (a b c : Bool) → (a && b && c) ≡ true → (a ≡ true) × (b ≡ true) × (c ≡ true)
 three true true c e = (refl, refl, e)
 three true false c e = absurd cc
 three false b c e = absurd cc
 
-useable_ends : (start stop : ℕ) (a z : Option State) → is_useable start stop a z ≡ true
+useable_ends : (start stop : ℕ) (a z : Option PlainNode) → is_useable start stop a z ≡ true
     → (start ≤ stop) × IsSomeAnd a (λ state. state.at ≤ start) × IsSomeAnd z (λ state. stop ≤ state.at)
 useable_ends start stop None z e = absurd cc
 useable_ends start stop (Some a) None e = absurd cc
 useable_ends start stop (Some a) (Some z) e =
     let each = three (nat_le start stop) (nat_le a.at start) (nat_le stop z.at) e in
-    (le_test start stop each.0, le_test a.at start each.1, le_test stop z.at each.2)
+    (le_holds start stop each.0, le_holds a.at start each.1, le_holds stop z.at each.2)
 
-useable_again : (start stop : ℕ) (a z : Option State) → start ≤ stop → IsSomeAnd a (λ state. state.at ≤ start) → IsSomeAnd z (λ state. stop ≤ state.at)
+useable_again : (start stop : ℕ) (a z : Option PlainNode) → start ≤ stop → IsSomeAnd a (λ state. state.at ≤ start) → IsSomeAnd z (λ state. stop ≤ state.at)
     → is_useable start stop a z ≡ true
 useable_again start stop None z some after before = absurd after
 useable_again start stop (Some a) None some after before = absurd before
 useable_again start stop (Some a) (Some z) some after before = grind (arith, nat_tests)
 
 -- the nodes of a stretch are closed
-record IsClosed (b : Body) (s : Stretch) : Type 0 where
+record IsClosed (b : Body) (s : OpenSegment) : Type 0 where
   enough : 2 ≤ length s.states
   useable : IsUseable s.plan.first s.plan.last s.states
   later : end_of b.arcs ≤ s.plan.first
 
-closed_nodes : (b : Body) (s : Stretch) (u : Unit {0}) → close_nodes b s ≡ Ok u → IsClosed b s
+closed_nodes : (b : Body) (s : OpenSegment) (u : Unit {0}) → close_nodes b s ≡ Ok u → IsClosed b s
 unfolding close_nodes
 closed_nodes b s u e =
     let few = unless (nat_lt (length s.states) 2) causes.TooFewNodes in
@@ -65,7 +61,7 @@ closed_nodes b s u e =
       later = lt_fails s.plan.first (end_of b.arcs) (unless_ok _ causes.SegmentsOverlap u two.2);
     }
 
-close_again : (b : Body) (s : Stretch) → IsClosed b s → close_nodes b s ≡ Ok tt
+close_again : (b : Body) (s : OpenSegment) → IsClosed b s → close_nodes b s ≡ Ok tt
 unfolding close_nodes
 close_again b s c =
     let enough = c.enough in
@@ -78,17 +74,17 @@ close_again b s c =
 -- ---- the parts of a block, as a reader finds them
 
 -- entries up to the end of the metadata
-record IsMetaRead (as_hermite3 : Bool) (b : Body) (s : Sheet) (forms : List Form) (body : Body) : Type 0 where
+record IsMetaRead (as_hermite3 : Bool) (b : Body) (s : MetadataDraft) (forms : List Form) (body : Body) : Type 0 where
   entries : List Entry
-  end : Sheet
-  plan : Plan
+  end : MetadataDraft
+  plan : Metadata
   rest : List Form
   shape : forms ≡ pair_lines entries ++ Mark MetaStop ∷ rest
   read : sheet_from b.object s entries ≡ Ok end
   whole : plan_of as_hermite3 end ≡ Ok plan
   next : run as_hermite3 (Data b (stretch plan [])) rest ≡ Ok body
 
-meta_more : (as_hermite3 : Bool) (b : Body) (s next : Sheet) (key value : List ℕ) (forms : List Form) (body : Body) → with_pair b.object s key value ≡ Ok next
+meta_more : (as_hermite3 : Bool) (b : Body) (s next : MetadataDraft) (key value : List ℕ) (forms : List Form) (body : Body) → with_pair b.object s key value ≡ Ok next
     → IsMetaRead as_hermite3 b next forms body → IsMetaRead as_hermite3 b s (Pair key value ∷ forms) body
 meta_more as_hermite3 b s next key value forms body e m = record {
   entries = record { key = key; value = value } ∷ m.entries;
@@ -96,12 +92,12 @@ meta_more as_hermite3 b s next key value forms body e m = record {
   plan = m.plan;
   rest = m.rest;
   shape = ap (λ (fs : List Form). Pair key value ∷ fs) m.shape;
-  read = ap (λ (r : Result Sheet OemCause). r >>= λ n. sheet_from b.object n m.entries) e ∙ m.read;
+  read = ap (λ (r : Result MetadataDraft OemCause). r >>= λ n. sheet_from b.object n m.entries) e ∙ m.read;
   whole = m.whole;
   next = m.next;
 }
 
-meta_read : (as_hermite3 : Bool) (b : Body) (forms : List Form) (s : Sheet) (body : Body) → run as_hermite3 (Meta b s) forms ≡ Ok body → IsMetaRead as_hermite3 b s forms body
+meta_read : (as_hermite3 : Bool) (b : Body) (forms : List Form) (s : MetadataDraft) (body : Body) → run as_hermite3 (Meta b s) forms ≡ Ok body → IsMetaRead as_hermite3 b s forms body
 unfolding finished
 meta_read as_hermite3 b [] s body e = absurd cc
 meta_read as_hermite3 b (Blank ∷ forms) s body e = absurd cc
@@ -127,16 +123,16 @@ NoRow (Pair key value ∷ forms) = Unit {0}
 NoRow (Row text ∷ forms) = ⊥
 
 -- rows up to another line
-record IsDataRead (as_hermite3 : Bool) (b : Body) (plan : Plan) (before : List State) (forms : List Form) (body : Body) : Type 0 where
+record IsDataRead (as_hermite3 : Bool) (b : Body) (plan : Metadata) (before : List PlainNode) (forms : List Form) (body : Body) : Type 0 where
   rows : List (List ℕ)
-  states : List State
+  states : List PlainNode
   rest : List Form
   shape : forms ≡ row_lines rows ++ rest
   read : states_from (last_state before) rows ≡ Ok states
   all : NoRow rest
   next : run as_hermite3 (Data b (stretch plan (before ++ states))) rest ≡ Ok body
 
-data_more : (as_hermite3 : Bool) (b : Body) (plan : Plan) (before : List State) (state : State) (text : List ℕ) (forms : List Form) (body : Body)
+data_more : (as_hermite3 : Bool) (b : Body) (plan : Metadata) (before : List PlainNode) (state : PlainNode) (text : List ℕ) (forms : List Form) (body : Body)
     → state_of_row (last_state before) text ≡ Ok state → IsDataRead as_hermite3 b plan (before ++ state ∷ []) forms body → IsDataRead as_hermite3 b plan before (Row text ∷ forms) body
 data_more as_hermite3 b plan before state text forms body e d = record {
   rows = text ∷ d.rows;
@@ -144,14 +140,14 @@ data_more as_hermite3 b plan before state text forms body e d = record {
   rest = d.rest;
   shape = ap (λ (fs : List Form). Row text ∷ fs) d.shape;
   read =
-      let later : states_from (Some state) d.rows ≡ Ok d.states = ap (λ (o : Option State). states_from o d.rows) (sym (last_push None before state)) ∙ d.read in
-      ap (λ (r : Result State OemCause). r >>= λ s. states_from (Some s) d.rows >>= λ others. Ok (s ∷ others)) e
-      ∙ ap (λ (r : Result (List State) OemCause). r >>= λ others. Ok (state ∷ others)) later;
+      let later : states_from (Some state) d.rows ≡ Ok d.states = ap (λ (o : Option PlainNode). states_from o d.rows) (sym (last_push None before state)) ∙ d.read in
+      ap (λ (r : Result PlainNode OemCause). r >>= λ s. states_from (Some s) d.rows >>= λ others. Ok (s ∷ others)) e
+      ∙ ap (λ (r : Result (List PlainNode) OemCause). r >>= λ others. Ok (state ∷ others)) later;
   all = d.all;
-  next = ap (λ (all : List State). run as_hermite3 (Data b (stretch plan all)) d.rest) (sym (append_assoc before (state ∷ []) d.states)) ∙ d.next;
+  next = ap (λ (all : List PlainNode). run as_hermite3 (Data b (stretch plan all)) d.rest) (sym (append_assoc before (state ∷ []) d.states)) ∙ d.next;
 }
 
-data_end : (as_hermite3 : Bool) (b : Body) (plan : Plan) (before : List State) (forms : List Form) (body : Body) → NoRow forms
+data_end : (as_hermite3 : Bool) (b : Body) (plan : Metadata) (before : List PlainNode) (forms : List Form) (body : Body) → NoRow forms
     → run as_hermite3 (Data b (stretch plan before)) forms ≡ Ok body → IsDataRead as_hermite3 b plan before forms body
 data_end as_hermite3 b plan before forms body none e = record {
   rows = [];
@@ -160,10 +156,10 @@ data_end as_hermite3 b plan before forms body none e = record {
   shape = refl;
   read = refl;
   all = none;
-  next = ap (λ (all : List State). run as_hermite3 (Data b (stretch plan all)) forms) (append-nil before) ∙ e;
+  next = ap (λ (all : List PlainNode). run as_hermite3 (Data b (stretch plan all)) forms) (append-nil before) ∙ e;
 }
 
-data_read : (as_hermite3 : Bool) (b : Body) (plan : Plan) (forms : List Form) (before : List State) (body : Body) → run as_hermite3 (Data b (stretch plan before)) forms ≡ Ok body
+data_read : (as_hermite3 : Bool) (b : Body) (plan : Metadata) (forms : List Form) (before : List PlainNode) (body : Body) → run as_hermite3 (Data b (stretch plan before)) forms ≡ Ok body
     → IsDataRead as_hermite3 b plan before forms body
 data_read as_hermite3 b plan [] before body e = data_end as_hermite3 b plan before [] body tt e
 data_read as_hermite3 b plan (Blank ∷ forms) before body e = data_end as_hermite3 b plan before (Blank ∷ forms) body tt e
@@ -175,17 +171,17 @@ data_read as_hermite3 b plan (Row text ∷ forms) before body e =
     data_more as_hermite3 b plan before step.0 text forms body step.1 (data_read as_hermite3 b plan forms (before ++ step.0 ∷ []) body step.2)
 
 -- covariances up to their end
-record IsCovRead (as_hermite3 : Bool) (b : Body) (s : Stretch) (m : Covariances) (forms : List Form) (body : Body) : Type 0 where
+record IsCovRead (as_hermite3 : Bool) (b : Body) (s : OpenSegment) (m : Covariances) (forms : List Form) (body : Body) : Type 0 where
   inner : List Form
   end : Covariances
-  covariances : List Covariance
+  covariances : List PlainMatrix
   rest : List Form
   shape : forms ≡ inner ++ Mark CovarianceStop ∷ rest
   read : covariances_from m inner ≡ Ok end
   whole : closed end ≡ Ok covariances
   next : run as_hermite3 (After (with_arc b s covariances)) rest ≡ Ok body
 
-cov_more : (as_hermite3 : Bool) (b : Body) (s : Stretch) (m next : Covariances) (line : Form) (forms : List Form) (body : Body) → with_line m line ≡ Ok next
+cov_more : (as_hermite3 : Bool) (b : Body) (s : OpenSegment) (m next : Covariances) (line : Form) (forms : List Form) (body : Body) → with_line m line ≡ Ok next
     → IsCovRead as_hermite3 b s next forms body → IsCovRead as_hermite3 b s m (line ∷ forms) body
 cov_more as_hermite3 b s m next line forms body e c = record {
   inner = line ∷ c.inner;
@@ -198,7 +194,7 @@ cov_more as_hermite3 b s m next line forms body e c = record {
   next = c.next;
 }
 
-cov_read : (as_hermite3 : Bool) (b : Body) (s : Stretch) (forms : List Form) (m : Covariances) (body : Body) → run as_hermite3 (Cov b s m) forms ≡ Ok body → IsCovRead as_hermite3 b s m forms body
+cov_read : (as_hermite3 : Bool) (b : Body) (s : OpenSegment) (forms : List Form) (m : Covariances) (body : Body) → run as_hermite3 (Cov b s m) forms ≡ Ok body → IsCovRead as_hermite3 b s m forms body
 unfolding finished
 cov_read as_hermite3 b s [] m body e = absurd cc
 cov_read as_hermite3 b s (Blank ∷ forms) m body e = absurd cc
@@ -219,33 +215,33 @@ cov_read as_hermite3 b s (Row text ∷ forms) m body e =
 -- ---- the end of a block
 
 -- covariances or none, and where the lines go on
-record IsEndRead (as_hermite3 : Bool) (b : Body) (s : Stretch) (forms : List Form) (body : Body) : Type 0 where
+record IsEndRead (as_hermite3 : Bool) (b : Body) (s : OpenSegment) (forms : List Form) (body : Body) : Type 0 where
   front : List Form
-  covariances : List Covariance
+  covariances : List PlainMatrix
   rest : List Form
   shape : forms ≡ front ++ rest
   said : AreCovariances front covariances ⊎ HasNoCovariances front covariances
   closed : close_nodes b s ≡ Ok tt
   next : run as_hermite3 (After (with_arc b s covariances)) rest ≡ Ok body
 
-end_none : (as_hermite3 : Bool) (b : Body) (s : Stretch) (forms : List Form) (body : Body) (u : Unit {0}) → close_nodes b s ≡ Ok u
+end_none : (as_hermite3 : Bool) (b : Body) (s : OpenSegment) (forms : List Form) (body : Body) (u : Unit {0}) → close_nodes b s ≡ Ok u
     → run as_hermite3 (After (with_arc b s [])) forms ≡ Ok body → IsEndRead as_hermite3 b s forms body
 end_none as_hermite3 b s forms body u e f =
     record { front = []; covariances = []; rest = forms; shape = refl; said = inr (record { no_line = refl; none = refl }); closed = e; next = f }
 
-end_some : (as_hermite3 : Bool) (b : Body) (s : Stretch) (forms : List Form) (body : Body) (u : Unit {0}) → close_nodes b s ≡ Ok u
+end_some : (as_hermite3 : Bool) (b : Body) (s : OpenSegment) (forms : List Form) (body : Body) (u : Unit {0}) → close_nodes b s ≡ Ok u
     → IsCovRead as_hermite3 b s NO_COVARIANCES forms body → IsEndRead as_hermite3 b s (Mark CovarianceStart ∷ forms) body
 end_some as_hermite3 b s forms body u e c = record {
   front = Mark CovarianceStart ∷ c.inner ++ Mark CovarianceStop ∷ [];
   covariances = c.covariances;
   rest = c.rest;
   shape = ap (λ (fs : List Form). Mark CovarianceStart ∷ fs) (c.shape ∙ sym (append_assoc c.inner (Mark CovarianceStop ∷ []) c.rest));
-  said = inl (record { inner = c.inner; read = c.end; marks = refl; said = c.read; whole = c.whole });
+  said = inl (record { inner = c.inner; marks = refl; matrices = matrices_are c.inner c.end c.covariances c.read c.whole });
   closed = e;
   next = c.next;
 }
 
-end_read : (as_hermite3 : Bool) (b : Body) (s : Stretch) (forms : List Form) (body : Body) → NoRow forms → run as_hermite3 (Data b s) forms ≡ Ok body
+end_read : (as_hermite3 : Bool) (b : Body) (s : OpenSegment) (forms : List Form) (body : Body) → NoRow forms → run as_hermite3 (Data b s) forms ≡ Ok body
     → IsEndRead as_hermite3 b s forms body
 unfolding finished
 end_read as_hermite3 b s [] body none e =
@@ -267,7 +263,7 @@ end_read as_hermite3 b s (Row text ∷ forms) body none e = absurd none
 -- ---- a block
 
 -- the body with a further segment
-abbrev pub with_segment : Body → Object → Arc → Body
+abbrev pub with_segment : Body → Object → PlainSegment → Body
 with_segment b object arc = record { object = Some object; arcs = b.arcs ++ arc ∷ [] }
 
 -- a block in front, and where the lines go on
@@ -275,9 +271,10 @@ record IsBlockRead (as_hermite3 : Bool) (b : Body) (forms : List Form) (body : B
   block : List Form
   rest : List Form
   object : Object
-  arc : Arc
+  arc : PlainSegment
   shape : forms ≡ block ++ rest
-  said : IsBlock as_hermite3 b.object (end_of b.arcs) block object arc
+  suits : Suits b.object object
+  said : IsBlock as_hermite3 object (end_of b.arcs) block arc
   next : run as_hermite3 (After (with_segment b object arc)) rest ≡ Ok body
 
 -- the lines of a block
@@ -297,6 +294,7 @@ block_is : (as_hermite3 : Bool) (b : Body) (forms : List Form) (body : Body) (m 
 block_is as_hermite3 b forms body m d e =
     let s = stretch m.plan d.states in
     let closed = closed_nodes b s tt e.closed in
+    let states = states_are d.rows d.states d.read in
     record {
       block = lines_of m.entries d.rows e.front;
       rest = e.rest;
@@ -305,13 +303,15 @@ block_is as_hermite3 b forms body m d e =
       shape =
           ap (λ (fs : List Form). Mark MetaStart ∷ fs) (m.shape ∙ ap (λ (fs : List Form). pair_lines m.entries ++ Mark MetaStop ∷ fs) (d.shape ∙ ap (λ (fs : List Form). row_lines d.rows ++ fs) e.shape))
           ∙ lines_behind m.entries d.rows e.front e.rest;
+      suits = metadata_suits as_hermite3 b.object m.entries m.end m.plan m.read m.whole;
       said = record {
         entries = m.entries;
         rows = d.rows;
         rest = e.front;
         shape = refl;
-        metadata = record { sheet = m.end; read = m.read; whole = m.whole };
-        states = d.read;
+        metadata = metadata_is as_hermite3 b.object m.entries m.end m.plan m.read m.whole;
+        states = states.0;
+        steps = states.1;
         enough = closed.enough;
         useable = closed.useable;
         later = closed.later;
@@ -331,22 +331,11 @@ block_read as_hermite3 b forms body e =
 -- the blocks that are left, if any
 pub record AreBlocksRead (as_hermite3 : Bool) (b : Body) (forms : List Form) (body : Body) : Type 0 where
   pub object : Object
-  pub arcs : List Arc
-  pub blocks : AreBlocks as_hermite3 object b.object (end_of b.arcs) forms arcs
+  pub arcs : List PlainSegment
+  pub suits : Suits b.object object
+  pub blocks : AreBlocks as_hermite3 object (end_of b.arcs) forms arcs
   pub named : body.object ≡ Some object
   pub whole : body.arcs ≡ b.arcs ++ arcs
-
--- blocks behind the first one are of its object
-block_object : (as_hermite3 : Bool) (o : Object) (first : Option Object) (from : ℕ) (lines : List Form) (object : Object) (arc : Arc) → first ≡ Some o
-    → IsBlock as_hermite3 first from lines object arc → object ≡ o
-block_object as_hermite3 o first from lines object arc e block =
-    plan_kept as_hermite3 o block.entries (record { object = object; first = arc.first; last = arc.last })
-    (subst (λ (f : Option Object). IsPlan as_hermite3 f block.entries (record { object = object; first = arc.first; last = arc.last })) e block.metadata)
-
-blocks_object : (as_hermite3 : Bool) (o object : Object) (first : Option Object) (from : ℕ) (forms : List Form) (arcs : List Arc) → first ≡ Some o
-    → AreBlocks as_hermite3 object first from forms arcs → object ≡ o
-blocks_object as_hermite3 o object first from forms arcs e (last f at ls arc block) = block_object as_hermite3 o f at ls object arc e block
-blocks_object as_hermite3 o object first from forms arcs e (more f at ls rest arc others block later) = block_object as_hermite3 o f at ls object arc e block
 
 -- one block is left
 blocks_last : (as_hermite3 : Bool) (b : Body) (forms : List Form) (body : Body) (r : IsBlockRead as_hermite3 b forms body) → r.rest ≡ [] → with_segment b r.object r.arc ≡ body
@@ -356,7 +345,8 @@ blocks_last as_hermite3 b forms body r none same =
     record {
       object = r.object;
       arcs = r.arc ∷ [];
-      blocks = subst (λ (fs : List Form). AreBlocks as_hermite3 r.object b.object (end_of b.arcs) fs (r.arc ∷ [])) (sym whole) (last b.object (end_of b.arcs) r.block r.arc r.said);
+      suits = r.suits;
+      blocks = subst (λ (fs : List Form). AreBlocks as_hermite3 r.object (end_of b.arcs) fs (r.arc ∷ [])) (sym whole) (last (end_of b.arcs) r.block r.arc r.said);
       named = ap (λ (c : Body). c.object) (sym same);
       whole = ap (λ (c : Body). c.arcs) (sym same);
     }
@@ -365,16 +355,17 @@ blocks_last as_hermite3 b forms body r none same =
 blocks_more : (as_hermite3 : Bool) (b : Body) (forms : List Form) (body : Body) (r : IsBlockRead as_hermite3 b forms body)
     → AreBlocksRead as_hermite3 (with_segment b r.object r.arc) r.rest body → AreBlocksRead as_hermite3 b forms body
 blocks_more as_hermite3 b forms body r later =
-    let object : later.object ≡ r.object = blocks_object as_hermite3 r.object later.object (Some r.object) (end_of (b.arcs ++ r.arc ∷ [])) r.rest later.arcs refl later.blocks in
-    let others : AreBlocks as_hermite3 r.object (Some r.object) r.arc.last r.rest later.arcs =
-    subst (λ (n : ℕ). AreBlocks as_hermite3 r.object (Some r.object) n r.rest later.arcs) (end_push b.arcs r.arc)
-    (subst (λ (o : Object). AreBlocks as_hermite3 o (Some r.object) (end_of (b.arcs ++ r.arc ∷ [])) r.rest later.arcs) object later.blocks) in
+    let object : later.object ≡ r.object = sym later.suits in
+    let others : AreBlocks as_hermite3 r.object r.arc.last r.rest later.arcs =
+    subst (λ (n : ℕ). AreBlocks as_hermite3 r.object n r.rest later.arcs) (end_push b.arcs r.arc)
+    (subst (λ (o : Object). AreBlocks as_hermite3 o (end_of (b.arcs ++ r.arc ∷ [])) r.rest later.arcs) object later.blocks) in
     record {
       object = r.object;
       arcs = r.arc ∷ later.arcs;
+      suits = r.suits;
       blocks =
-          subst (λ (fs : List Form). AreBlocks as_hermite3 r.object b.object (end_of b.arcs) fs (r.arc ∷ later.arcs)) (sym r.shape)
-          (more b.object (end_of b.arcs) r.block r.rest r.arc later.arcs r.said others);
+          subst (λ (fs : List Form). AreBlocks as_hermite3 r.object (end_of b.arcs) fs (r.arc ∷ later.arcs)) (sym r.shape)
+          (more (end_of b.arcs) r.block r.rest r.arc later.arcs r.said others);
       named = later.named ∙ ap (λ (o : Object). Some o) object;
       whole = later.whole ∙ append_assoc b.arcs (r.arc ∷ []) later.arcs;
     }
@@ -425,7 +416,7 @@ MayFollow (Mark CovarianceStop ∷ forms) = ⊥
 MayFollow (Pair key value ∷ forms) = ⊥
 MayFollow (Row text ∷ forms) = ⊥
 
-run_close : (as_hermite3 : Bool) (b : Body) (s : Stretch) (rest : List Form) → close_nodes b s ≡ Ok tt → MayFollow rest
+run_close : (as_hermite3 : Bool) (b : Body) (s : OpenSegment) (rest : List Form) → close_nodes b s ≡ Ok tt → MayFollow rest
     → run as_hermite3 (Data b s) rest ≡ run as_hermite3 (After (with_arc b s [])) rest
 unfolding finished
 run_close as_hermite3 b s [] e may = ap (λ (r : Result (Unit {0}) OemCause). r >>= λ _. Ok (with_arc b s [])) e
@@ -439,35 +430,37 @@ run_close as_hermite3 b s (Mark CovarianceStop ∷ rest) e may = absurd may
 run_close as_hermite3 b s (Pair key value ∷ rest) e may = absurd may
 run_close as_hermite3 b s (Row text ∷ rest) e may = absurd may
 
-run_end_some : (as_hermite3 : Bool) (b : Body) (s : Stretch) (front rest : List Form) (covariances : List Covariance) → close_nodes b s ≡ Ok tt → AreCovariances front covariances
+run_end_some : (as_hermite3 : Bool) (b : Body) (s : OpenSegment) (front rest : List Form) (covariances : List PlainMatrix) → close_nodes b s ≡ Ok tt → AreCovariances front covariances
     → run as_hermite3 (Data b s) (front ++ rest) ≡ run as_hermite3 (After (with_arc b s covariances)) rest
 run_end_some as_hermite3 b s front rest covariances e a =
     let inner = (a.inner ++ Mark CovarianceStop ∷ []) ++ rest in
+    let again = matrices_again a.inner covariances a.matrices in
     ap (λ (fs : List Form). run as_hermite3 (Data b s) (fs ++ rest)) a.marks
     ∙ ap (λ (r : Result (Unit {0}) OemCause). (r >>= λ _. Ok (Cov b s NO_COVARIANCES)) >>= λ next. run as_hermite3 next inner) e
     ∙ ap (run as_hermite3 (Cov b s NO_COVARIANCES)) (append_assoc a.inner (Mark CovarianceStop ∷ []) rest)
-    ∙ run_covariances as_hermite3 b s a.inner NO_COVARIANCES a.read (Mark CovarianceStop ∷ rest) a.said
-    ∙ ap (λ (r : Result (List Covariance) OemCause). (r >>= λ cs. Ok (After (with_arc b s cs))) >>= λ next. run as_hermite3 next rest) a.whole
+    ∙ run_covariances as_hermite3 b s a.inner NO_COVARIANCES again.0 (Mark CovarianceStop ∷ rest) again.1
+    ∙ ap (λ (r : Result (List PlainMatrix) OemCause). (r >>= λ cs. Ok (After (with_arc b s cs))) >>= λ next. run as_hermite3 next rest) again.2
 
-run_end_none : (as_hermite3 : Bool) (b : Body) (s : Stretch) (front rest : List Form) (covariances : List Covariance) → close_nodes b s ≡ Ok tt → HasNoCovariances front covariances
+run_end_none : (as_hermite3 : Bool) (b : Body) (s : OpenSegment) (front rest : List Form) (covariances : List PlainMatrix) → close_nodes b s ≡ Ok tt → HasNoCovariances front covariances
     → MayFollow rest → run as_hermite3 (Data b s) (front ++ rest) ≡ run as_hermite3 (After (with_arc b s covariances)) rest
 run_end_none as_hermite3 b s front rest covariances e n may =
     ap (λ (fs : List Form). run as_hermite3 (Data b s) (fs ++ rest)) n.no_line
     ∙ run_close as_hermite3 b s rest e may
-    ∙ ap (λ (cs : List Covariance). run as_hermite3 (After (with_arc b s cs)) rest) (sym n.none)
+    ∙ ap (λ (cs : List PlainMatrix). run as_hermite3 (After (with_arc b s cs)) rest) (sym n.none)
 
-run_block : (as_hermite3 : Bool) (b : Body) (lines rest : List Form) (object : Object) (arc : Arc) → IsBlock as_hermite3 b.object (end_of b.arcs) lines object arc → MayFollow rest
-    → run as_hermite3 (After b) (lines ++ rest) ≡ run as_hermite3 (After (with_segment b object arc)) rest
-run_block as_hermite3 b lines rest object arc block may =
-    let plan : Plan = record { object = object; first = arc.first; last = arc.last } in
+run_block : (as_hermite3 : Bool) (b : Body) (lines rest : List Form) (object : Object) (arc : PlainSegment) → Suits b.object object → IsBlock as_hermite3 object (end_of b.arcs) lines arc
+    → MayFollow rest → run as_hermite3 (After b) (lines ++ rest) ≡ run as_hermite3 (After (with_segment b object arc)) rest
+run_block as_hermite3 b lines rest object arc suits block may =
+    let plan : Metadata = record { object = object; first = arc.first; last = arc.last } in
     let s = stretch plan arc.states in
     let closed = close_again b s (record { enough = block.enough; useable = block.useable; later = block.later }) in
+    let metadata = metadata_again as_hermite3 b.object block.entries object arc.first arc.last suits block.metadata in
     let behind = row_lines block.rows ++ (block.rest ++ rest) in
     ap (λ (fs : List Form). run as_hermite3 (After b) (fs ++ rest)) block.shape
     ∙ ap (run as_hermite3 (After b)) (sym (lines_behind block.entries block.rows block.rest rest))
-    ∙ run_meta as_hermite3 b block.entries EMPTY block.metadata.sheet (Mark MetaStop ∷ behind) block.metadata.read
-    ∙ ap (λ (r : Result Plan OemCause). (r >>= λ p. Ok (Data b (stretch p []))) >>= λ next. run as_hermite3 next behind) block.metadata.whole
-    ∙ run_rows as_hermite3 b plan block.rows [] arc.states (block.rest ++ rest) block.states
+    ∙ run_meta as_hermite3 b block.entries EMPTY metadata.0 (Mark MetaStop ∷ behind) metadata.1
+    ∙ ap (λ (r : Result Metadata OemCause). (r >>= λ p. Ok (Data b (stretch p []))) >>= λ next. run as_hermite3 next behind) metadata.2
+    ∙ run_rows as_hermite3 b plan block.rows [] arc.states (block.rest ++ rest) (states_again block.rows arc.states block.states block.steps)
     ∙ ⊎_elim
     (λ some. run_end_some as_hermite3 b s block.rest rest arc.covariances closed some)
     (λ none. run_end_none as_hermite3 b s block.rest rest arc.covariances closed none may)
@@ -477,31 +470,25 @@ run_block as_hermite3 b lines rest object arc block may =
 abbrev pub Begins : List Form → Type 0
 Begins forms = (rest : List Form) × (forms ≡ Mark MetaStart ∷ rest)
 
-block_begins : (as_hermite3 : Bool) (first : Option Object) (from : ℕ) (lines rest : List Form) (object : Object) (arc : Arc) → IsBlock as_hermite3 first from lines object arc
-    → Begins (lines ++ rest)
-block_begins as_hermite3 first from lines rest object arc block =
+block_begins : (as_hermite3 : Bool) (from : ℕ) (lines rest : List Form) (object : Object) (arc : PlainSegment) → IsBlock as_hermite3 object from lines arc → Begins (lines ++ rest)
+block_begins as_hermite3 from lines rest object arc block =
     (((pair_lines block.entries ++ Mark MetaStop ∷ row_lines block.rows) ++ block.rest) ++ rest, ap (λ (fs : List Form). fs ++ rest) block.shape)
 
-pub blocks_begin : (as_hermite3 : Bool) (object : Object) (first : Option Object) (from : ℕ) (forms : List Form) (arcs : List Arc) → AreBlocks as_hermite3 object first from forms arcs
-    → Begins forms
-blocks_begin as_hermite3 object first from forms arcs (last f at ls arc block) = subst Begins (append-nil ls) (block_begins as_hermite3 f at ls [] object arc block)
-blocks_begin as_hermite3 object first from forms arcs (more f at ls rest arc others block later) = block_begins as_hermite3 f at ls rest object arc block
+pub blocks_begin : (as_hermite3 : Bool) (object : Object) (from : ℕ) (forms : List Form) (arcs : List PlainSegment) → AreBlocks as_hermite3 object from forms arcs → Begins forms
+blocks_begin as_hermite3 object from forms arcs (last at ls arc block) = subst Begins (append-nil ls) (block_begins as_hermite3 at ls [] object arc block)
+blocks_begin as_hermite3 object from forms arcs (more at ls rest arc others block later) = block_begins as_hermite3 at ls rest object arc block
 
 blocks_follow : (forms : List Form) → Begins forms → MayFollow forms
 blocks_follow forms b = subst MayFollow (sym b.1) tt
 
--- the block, from where the body stands
-block_at : (as_hermite3 : Bool) (b : Body) (first : Option Object) (from : ℕ) (lines : List Form) (object : Object) (arc : Arc) → first ≡ b.object → from ≡ end_of b.arcs
-    → IsBlock as_hermite3 first from lines object arc → IsBlock as_hermite3 b.object (end_of b.arcs) lines object arc
-block_at as_hermite3 b first from lines object arc e g block = subst₂ (λ (o : Option Object) (n : ℕ). IsBlock as_hermite3 o n lines object arc) e g block
-
-pub blocks_again : (as_hermite3 : Bool) (object : Object) (first : Option Object) (from : ℕ) (forms : List Form) (arcs : List Arc) → AreBlocks as_hermite3 object first from forms arcs
-    → (b : Body) → first ≡ b.object → from ≡ end_of b.arcs → run as_hermite3 (After b) forms ≡ Ok (record { object = Some object; arcs = b.arcs ++ arcs })
+pub blocks_again : (as_hermite3 : Bool) (object : Object) (from : ℕ) (forms : List Form) (arcs : List PlainSegment) → AreBlocks as_hermite3 object from forms arcs
+    → (b : Body) → Suits b.object object → from ≡ end_of b.arcs → run as_hermite3 (After b) forms ≡ Ok (record { object = Some object; arcs = b.arcs ++ arcs })
 unfolding finished
-blocks_again as_hermite3 object first from forms arcs (last f at ls arc block) b e g =
+blocks_again as_hermite3 object from forms arcs (last at ls arc block) b suits g =
     ap (run as_hermite3 (After b)) (sym (append-nil ls))
-    ∙ run_block as_hermite3 b ls [] object arc (block_at as_hermite3 b f at ls object arc e g block) tt
-blocks_again as_hermite3 object first from forms arcs (more f at ls rest arc others block later) b e g =
-    run_block as_hermite3 b ls rest object arc (block_at as_hermite3 b f at ls object arc e g block) (blocks_follow rest (blocks_begin as_hermite3 object (Some object) arc.last rest others later))
-    ∙ blocks_again as_hermite3 object (Some object) arc.last rest others later (with_segment b object arc) refl (sym (end_push b.arcs arc))
-    ∙ ap (λ (all : List Arc). Ok (record { object = Some object; arcs = all })) (append_assoc b.arcs (arc ∷ []) others)
+    ∙ run_block as_hermite3 b ls [] object arc suits (subst (λ (n : ℕ). IsBlock as_hermite3 object n ls arc) g block) tt
+blocks_again as_hermite3 object from forms arcs (more at ls rest arc others block later) b suits g =
+    run_block as_hermite3 b ls rest object arc suits (subst (λ (n : ℕ). IsBlock as_hermite3 object n ls arc) g block)
+    (blocks_follow rest (blocks_begin as_hermite3 object arc.last rest others later))
+    ∙ blocks_again as_hermite3 object arc.last rest others later (with_segment b object arc) refl (sym (end_push b.arcs arc))
+    ∙ ap (λ (all : List PlainSegment). Ok (record { object = Some object; arcs = all })) (append_assoc b.arcs (arc ∷ []) others)

@@ -11,22 +11,22 @@ use Rattle.cj_kvn.specs.Lines as kvn
 use Rattle.cj_kvn.specs.Lines.{Form, Blank, Comment, Mark, Pair, Row, Numbered}
 use Rattle.cj_kvn.specs.declared.lines.KvnFault.{KvnFault}
 use Rattle.cj_kvn.specs.declared.lines.MarkKind.TheVariants.{MetaStart, MetaStop, CovarianceStart, CovarianceStop}
-use Rattle.cj_oem.specs.declared.segment.Segment.{Segment}
+use Rattle.cj_track.specs.declared.segment.Segment.{Segment}
 use Rattle.cj_oem.specs.declared.fault.OemCause.{OemCause}
-use Rattle.cj_oem.specs.Ephemeris.{Arc, Covariance}
-use Rattle.cj_oem.specs.Labels.{is_text}
-use Rattle.cj_oem.specs.Metadata.{Sheet, plan_of, with_pair}
+use Rattle.cj_track.specs.PlainTracks.{PlainSegment, PlainMatrix}
+use Rattle.cj_oem.specs.Words.{is_text}
+use Rattle.cj_oem.specs.Metadata.{MetadataDraft, plan_of, with_pair}
 use Rattle.cj_oem.specs.NodeRows.{state_of_row}
 use Rattle.cj_oem.specs.CovarianceRows.{Covariances, closed, with_matrix_pair, with_matrix_row}
 use Rattle.cj_oem.specs.Reading as reader
 use Rattle.cj_oem.specs.Reading.{Fault, at_line, read_on}
-use Rattle.cj_oem.specs.Segments.{node_count}
-use Rattle.cj_oem.specs.Stages.{Body, Head, Stage, Start, Header, Meta, Data, Cov, After, Stretch, NO_HEAD, begun, close_nodes, finished, follows, in_after, in_cov, in_data, in_header, in_meta, is_version, last_state, led, with_arc, with_head_key}
-use Rattle.cj_oem.specs.Tracks.{arc_of, state_of}
+use Rattle.cj_track.specs.Segments.{node_count}
+use Rattle.cj_oem.specs.Stages.{Body, Head, Stage, Start, Header, Meta, Data, Cov, After, OpenSegment, NO_HEAD, begun, close_nodes, finished, follows, in_after, in_cov, in_data, in_header, in_meta, is_version, last_state, led, with_arc, with_head_key}
+use Rattle.cj_track.specs.Tracks.{plain_segment, plain_node}
 use Rattle.cj_oem.proofs.StepLemmas.{if_ok_cond, if_ok_then}
 
 -- how many nodes segments have
-abbrev pub nodes_in : List Arc → ℕ
+abbrev pub nodes_in : List PlainSegment → ℕ
 nodes_in arcs = sum_by (λ arc. length arc.states) arcs
 
 -- how many nodes were read
@@ -53,10 +53,10 @@ IsSound (After b) = IsWhole b
 
 -- ---- one line
 
-nodes_with_arc : (b : Body) (s : Stretch) (covariances : List Covariance) → nodes_in (with_arc b s covariances).arcs ≡ nodes_in b.arcs + length s.states
-nodes_with_arc b s covariances = sum_by_push (λ (arc : Arc). length arc.states) b.arcs (record { first = s.plan.first; last = s.plan.last; states = s.states; covariances = covariances })
+nodes_with_arc : (b : Body) (s : OpenSegment) (covariances : List PlainMatrix) → nodes_in (with_arc b s covariances).arcs ≡ nodes_in b.arcs + length s.states
+nodes_with_arc b s covariances = sum_by_push (λ (arc : PlainSegment). length arc.states) b.arcs (record { first = s.plan.first; last = s.plan.last; states = s.states; covariances = covariances })
 
-whole_with_arc : (b : Body) (s : Stretch) (covariances : List Covariance) → IsWhole (with_arc b s covariances)
+whole_with_arc : (b : Body) (s : OpenSegment) (covariances : List PlainMatrix) → IsWhole (with_arc b s covariances)
 whole_with_arc b s covariances = (refl, omega (arith, length-append b.arcs (record { first = s.plan.first; last = s.plan.last; states = s.states; covariances = covariances } ∷ [])))
 
 -- what a line leads to has at most one node more, and is sound
@@ -93,7 +93,7 @@ header_step h (Mark CovarianceStop) = tt
 header_step h (Pair key value) = if_ok_then (IsNext 0) (with_head_key h key) _ (λ head. record { few = omega arith; sound = tt })
 header_step h (Row text) = tt
 
-meta_step : (as_hermite3 : Bool) (b : Body) (s : Sheet) (form : Form) → IfOk (in_meta as_hermite3 b s form) (IsNext (nodes_in b.arcs))
+meta_step : (as_hermite3 : Bool) (b : Body) (s : MetadataDraft) (form : Form) → IfOk (in_meta as_hermite3 b s form) (IsNext (nodes_in b.arcs))
 meta_step as_hermite3 b s Blank = tt
 meta_step as_hermite3 b s Comment = tt
 meta_step as_hermite3 b s (Mark MetaStart) = tt
@@ -103,7 +103,7 @@ meta_step as_hermite3 b s (Mark CovarianceStop) = tt
 meta_step as_hermite3 b s (Pair key value) = if_ok_then (IsNext (nodes_in b.arcs)) (with_pair b.object s key value) _ (λ sheet. record { few = omega arith; sound = tt })
 meta_step as_hermite3 b s (Row text) = tt
 
-data_step : (b : Body) (s : Stretch) (form : Form) → IfOk (in_data b s form) (IsNext (nodes_in b.arcs + length s.states))
+data_step : (b : Body) (s : OpenSegment) (form : Form) → IfOk (in_data b s form) (IsNext (nodes_in b.arcs + length s.states))
 data_step b s Blank = tt
 data_step b s Comment = tt
 data_step b s (Mark MetaStart) =
@@ -116,7 +116,7 @@ data_step b s (Row text) =
     if_ok_then (IsNext (nodes_in b.arcs + length s.states)) (state_of_row (last_state s.states) text) _
     (λ state. record { few = omega (arith, length-append s.states (state ∷ [])); sound = tt })
 
-cov_step : (b : Body) (s : Stretch) (m : Covariances) (form : Form) → IfOk (in_cov b s m form) (IsNext (nodes_in b.arcs + length s.states))
+cov_step : (b : Body) (s : OpenSegment) (m : Covariances) (form : Form) → IfOk (in_cov b s m form) (IsNext (nodes_in b.arcs + length s.states))
 cov_step b s m Blank = tt
 cov_step b s m Comment = tt
 cov_step b s m (Mark MetaStart) = tt
@@ -291,9 +291,9 @@ pub nodes_fit : (as_hermite3 : Bool) (bytes : List ℕ) (said : List Numbered) (
 nodes_fit as_hermite3 bytes said body e f = omega (arith, said_few bytes said e, nodes_below_lines as_hermite3 1 said body f)
 
 -- the nodes of segments are those of what they say
-pub nodes_said : (segments : List Segment) → nodes_in (map arc_of segments) ≡ node_count segments
+pub nodes_said : (segments : List Segment) → nodes_in (map plain_segment segments) ≡ node_count segments
 nodes_said [] = refl
 nodes_said (segment ∷ segments) =
-    sum_by-cons (λ (arc : Arc). length arc.states) (arc_of segment) (map arc_of segments)
-    ∙ ap₂ (λ (a b : ℕ). a + b) (length-map segment.nodes state_of) (nodes_said segments)
+    sum_by-cons (λ (arc : PlainSegment). length arc.states) (plain_segment segment) (map plain_segment segments)
+    ∙ ap₂ (λ (a b : ℕ). a + b) (length-map segment.nodes plain_node) (nodes_said segments)
     ∙ sym (sum_by-cons (λ (s : Segment). length s.nodes) segment segments)

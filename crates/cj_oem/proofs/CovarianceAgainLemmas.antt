@@ -13,9 +13,9 @@ use Rattle.cj_epoch.specs.Ticks.{IsTick}
 use Rattle.cj_epoch.specs.Written.{epoch_of}
 use Rattle.cj_oem.specs.Canonical.{covariance_text, matrix_row, numbers_text}
 use Rattle.cj_oem.specs.CovarianceRows.{Covariances, Draft, closed, numbers_said, with_fields, with_matrix_pair, with_matrix_row}
-use Rattle.cj_oem.specs.Ephemeris.{Covariance}
-use Rattle.cj_oem.specs.Labels.{is_word}
-use Rattle.cj_oem.specs.Stages.{Body, Cov, Stage, Stretch, follows}
+use Rattle.cj_track.specs.PlainTracks.{PlainMatrix}
+use Rattle.cj_oem.specs.Words.{is_word}
+use Rattle.cj_oem.specs.Stages.{Body, Cov, Stage, OpenSegment, follows}
 use Rattle.cj_oem.proofs.CovarianceTextLemmas.{numbers_spaced}
 use Rattle.cj_oem.proofs.PrintedLineLemmas.{Says, Tells, told_append, told_line}
 use Rattle.cj_oem.proofs.PrintedNumberLemmas.{decimal_field}
@@ -31,7 +31,7 @@ pub record IsPrinted (n : Number) : Type 0 where
   pub again : decimal_of (decimal_text_of n) ≡ Ok n
 
 -- a covariance of them
-pub record IsCovariance (c : Covariance) : Type 0 where
+pub record IsCovariance (c : PlainMatrix) : Type 0 where
   pub tick : IsTick c.at
   pub count : length c.values ≡ 21
   pub printed : All IsPrinted c.values
@@ -68,7 +68,7 @@ numbers_fields (n ∷ ns) some all = ap fields (numbers_shape n ns) ∙ fields_r
 
 -- ---- the next row of a matrix
 
-abbrev drafted : List Covariance → Draft → Covariances
+abbrev drafted : List PlainMatrix → Draft → Covariances
 drafted whole d = record { whole = whole; draft = Some d }
 
 abbrev draft : ℕ → Bool → ℕ → List Number → Draft
@@ -78,7 +78,7 @@ row_with : (d : Draft) (row : List (List ℕ)) (ns : List Number) → (d.rows ==
     → with_fields (Some d) row ≡ Ok (record d { rows = d.rows + 1; values = d.values ++ ns })
 row_with d row ns short long said = rw (short, long, said) refl
 
-row_follows : (b : Body) (s : Stretch) (whole : List Covariance) (at k : ℕ) (values ns : List Number) → k < 6 → length ns ≡ k + 1 → All IsPrinted ns
+row_follows : (b : Body) (s : OpenSegment) (whole : List PlainMatrix) (at k : ℕ) (values ns : List Number) → k < 6 → length ns ≡ k + 1 → All IsPrinted ns
     → follows false (Cov b s (drafted whole (draft at true k values))) (Row (numbers_text ns)) ≡ Ok (Cov b s (drafted whole (draft at true (k + 1) (values ++ ns))))
 unfolding follows with_matrix_row
 row_follows b s whole at k values ns few long all =
@@ -105,7 +105,7 @@ row_form start count values = Row (numbers_text (part start count values))
 abbrev row_forms : List Number → List Form
 row_forms values = row_form 0 1 values ∷ row_form 1 2 values ∷ row_form 3 3 values ∷ row_form 6 4 values ∷ row_form 10 5 values ∷ row_form 15 6 values ∷ []
 
-abbrev pub covariance_forms : Covariance → List Form
+abbrev pub covariance_forms : PlainMatrix → List Form
 covariance_forms c = Pair (codes "EPOCH") (epoch_of c.at) ∷ Pair (codes "COV_REF_FRAME") (codes "RTN") ∷ row_forms c.values
 
 row_told : (start count : ℕ) (values : List Number) → length values ≡ 21 → start + count ≤ 21 → 0 < count → All IsPrinted values
@@ -114,7 +114,7 @@ row_told start count values long within some all =
     let ns = part start count values in
     told_line (numbers_text ns) (Row (numbers_text ns)) (numbers_line ns (omega (arith, part_length start count values long within)) (part_all start count values all))
 
-pub covariance_told : (c : Covariance) → IsCovariance c → Tells (covariance_text c) (covariance_forms c)
+pub covariance_told : (c : PlainMatrix) → IsCovariance c → Tells (covariance_text c) (covariance_forms c)
 unfolding covariance_text
 covariance_told c is =
     let v = c.values in
@@ -154,17 +154,17 @@ parts_are v long =
     ∙ take_add 15 6 v
     ∙ take_all 21 v (omega arith)
 
-epoch_follows : (b : Body) (s : Stretch) (m : Covariances) (done : List Covariance) (t : ℕ) → closed m ≡ Ok done → IsTick t
+epoch_follows : (b : Body) (s : OpenSegment) (m : Covariances) (done : List PlainMatrix) (t : ℕ) → closed m ≡ Ok done → IsTick t
     → follows false (Cov b s m) (Pair (codes "EPOCH") (epoch_of t)) ≡ Ok (Cov b s (drafted done (draft t false 0 [])))
 unfolding follows with_matrix_pair
 epoch_follows b s m done t ends tick = rw (ends, epoch_again t tick) refl
 
-frame_follows : (b : Body) (s : Stretch) (done : List Covariance) (t : ℕ)
+frame_follows : (b : Body) (s : OpenSegment) (done : List PlainMatrix) (t : ℕ)
     → follows false (Cov b s (drafted done (draft t false 0 []))) (Pair (codes "COV_REF_FRAME") (codes "RTN")) ≡ Ok (Cov b s (drafted done (draft t true 0 [])))
 unfolding follows with_matrix_pair is_word
 frame_follows b s done t = refl
 
-rows_walk : (b : Body) (s : Stretch) (done : List Covariance) (t : ℕ) (v : List Number) → length v ≡ 21 → All IsPrinted v
+rows_walk : (b : Body) (s : OpenSegment) (done : List PlainMatrix) (t : ℕ) (v : List Number) → length v ≡ 21 → All IsPrinted v
     → walk (Cov b s (drafted done (draft t true 0 []))) (row_forms v) ≡ Ok (Cov b s (drafted done (draft t true 6 v)))
 rows_walk b s done t v long all =
     let at : ℕ → List Number → Stage = λ k values. Cov b s (drafted done (draft t true k values)) in
@@ -188,7 +188,7 @@ rows_walk b s done t v long all =
     ∙ walk_step (at 5 v5) (at 6 (v5 ++ part 15 6 v)) (row_form 15 6 v) [] (step 5 15 v5 (omega arith) (omega arith))
     ∙ ap (λ values. Ok (at 6 values)) (parts_are v long)
 
-pub covariance_walk : (b : Body) (s : Stretch) (m : Covariances) (done : List Covariance) (c : Covariance) → closed m ≡ Ok done → IsCovariance c
+pub covariance_walk : (b : Body) (s : OpenSegment) (m : Covariances) (done : List PlainMatrix) (c : PlainMatrix) → closed m ≡ Ok done → IsCovariance c
     → walk (Cov b s m) (covariance_forms c) ≡ Ok (Cov b s (drafted done (draft c.at true 6 c.values)))
 covariance_walk b s m done c ends is =
     walk_step (Cov b s m) (Cov b s (drafted done (draft c.at false 0 []))) (Pair (codes "EPOCH") (epoch_of c.at)) (Pair (codes "COV_REF_FRAME") (codes "RTN") ∷ row_forms c.values)
@@ -197,17 +197,17 @@ covariance_walk b s m done c ends is =
     (frame_follows b s done c.at)
     ∙ rows_walk b s done c.at c.values is.count is.printed
 
-closed_whole : (done : List Covariance) (c : Covariance) → closed (drafted done (draft c.at true 6 c.values)) ≡ Ok (done ++ c ∷ [])
+closed_whole : (done : List PlainMatrix) (c : PlainMatrix) → closed (drafted done (draft c.at true 6 c.values)) ≡ Ok (done ++ c ∷ [])
 unfolding closed
 closed_whole done c = refl
 
 -- all of them
-pub record AllRead (b : Body) (s : Stretch) (m : Covariances) (forms : List Form) (covariances : List Covariance) : Type 0 where
+pub record AllRead (b : Body) (s : OpenSegment) (m : Covariances) (forms : List Form) (covariances : List PlainMatrix) : Type 0 where
   pub read : Covariances
   pub walked : walk (Cov b s m) forms ≡ Ok (Cov b s read)
   pub whole : closed read ≡ Ok covariances
 
-pub covariances_walk : (b : Body) (s : Stretch) (m : Covariances) (done cs : List Covariance) → closed m ≡ Ok done → All IsCovariance cs
+pub covariances_walk : (b : Body) (s : OpenSegment) (m : Covariances) (done cs : List PlainMatrix) → closed m ≡ Ok done → All IsCovariance cs
     → AllRead b s m (flat_map covariance_forms cs) (done ++ cs)
 covariances_walk b s m done [] ends all = record { read = m; walked = refl; whole = ends ∙ ap (λ xs. Ok xs) (sym (append-nil done)) }
 covariances_walk b s m done (c ∷ cs) ends all =

@@ -6,9 +6,9 @@ use Rattle.cj_kvn.specs.Decimals.{decimal_text_of, number_of}
 use Rattle.cj_kvn.specs.Numbers.{Number}
 use Rattle.cj_kvn.specs.declared.decimals.Decimal.{Decimal}
 use Rattle.cj_kvn.proofs.ListLemmas.{tail_of, tail_of-cons}
-use Rattle.cj_oem.specs.declared.matrix.Matrix.{Matrix}
+use Rattle.cj_track.specs.declared.matrix.Matrix.{Matrix}
 use Rattle.cj_oem.specs.Canonical.{covariance_text, covariances_text, line, matrix_row, numbers_text}
-use Rattle.cj_oem.specs.Tracks.{covariance_of}
+use Rattle.cj_track.specs.Tracks.{plain_matrix}
 
 -- the numbers behind the first one have a space before each
 pub numbers_spaced : (n : Number) (ns : List Number) → numbers_text (n ∷ ns) ≡ decimal_text_of n ++ flat_map (λ m. 32 ∷ decimal_text_of m) ns
@@ -26,7 +26,7 @@ row_more was now start count ds e =
 
 -- covariances stand between their marks where there are any
 pub covariances_some : (ms : List Matrix) → 0 < length ms
-    → line (codes "COVARIANCE_START") ++ flat_map covariance_text (map covariance_of ms) ++ line (codes "COVARIANCE_STOP") ≡ covariances_text (map covariance_of ms)
+    → line (codes "COVARIANCE_START") ++ flat_map covariance_text (map plain_matrix ms) ++ line (codes "COVARIANCE_STOP") ≡ covariances_text (map plain_matrix ms)
 covariances_some [] some = absurd (omega arith)
 covariances_some (m ∷ ms) some = refl
 

@@ -5,19 +5,19 @@ use Rattle.cj_kvn.specs.Lines as kvn
 use Rattle.cj_kvn.specs.Lines.{Numbered}
 use Rattle.cj_kvn.specs.declared.lines.KvnFault.{KvnFault}
 use Rattle.cj_kvn.specs.declared.lines.KvnFault.TheVariants as lines
-use Rattle.cj_oem.specs.Ephemeris.{Ephemeris}
-use Rattle.cj_oem.specs.Labels.{is_file_name}
+use Rattle.cj_track.specs.PlainTracks.{PlainTrack}
+use Rattle.cj_track.specs.Labels.{is_file_name}
 use Rattle.cj_oem.specs.Readers as readers
 use Rattle.cj_oem.specs.Readers.{body_of, fault_of}
 use Rattle.cj_oem.specs.Reading.{Fault, Gives, lines_or, lines_read, read_on, reading, with_object, ◌>>=◌}
-use Rattle.cj_oem.specs.Segments.{node_count}
+use Rattle.cj_track.specs.Segments.{node_count}
 use Rattle.cj_oem.specs.Stages.{Body, Start}
-use Rattle.cj_oem.specs.Tracks.{arc_of, ephemeris_of}
+use Rattle.cj_track.specs.Tracks.{plain_segment, plain_track}
 use Rattle.cj_oem.specs.declared.body.Body as program
 use Rattle.cj_oem.specs.declared.fault.OemCause.TheVariants as causes
 use Rattle.cj_oem.specs.declared.fault.OemFault.{OemFault}
 use Rattle.cj_oem.specs.declared.fault.OemFault.TheVariants.{Memory, At}
-use Rattle.cj_oem.specs.declared.track.Track.{Track}
+use Rattle.cj_track.specs.declared.track.Track.{Track}
 use Rattle.cj_oem.proofs.CountLemmas.{body_whole, nodes_fit, nodes_said}
 
 -- a name that is none
@@ -29,7 +29,7 @@ by_name : (file bytes : List ℕ) (as_hermite3 : Bool) → is_file_name file ≡
 unfolding reading
 by_name file bytes as_hermite3 e = rw e refl
 
-abbrev lines_then : Bool → List ℕ → Result (List Numbered) KvnFault → Result Ephemeris Fault
+abbrev lines_then : Bool → List ℕ → Result (List Numbered) KvnFault → Result PlainTrack Fault
 lines_then as_hermite3 file said = lines_or said >>= lines_read as_hermite3 file
 
 -- lines with a fault
@@ -52,21 +52,21 @@ body_refused file bytes as_hermite3 said Memory name e h = tt
 body_refused file bytes as_hermite3 said (At line cause) name e h =
     by_lines file bytes as_hermite3 said name e ∙ ap (λ (r : Result Body Fault). r >>= λ body. with_object file body body.object) h
 
-given_again : (result : Result Track OemFault) (said : Result Ephemeris Fault) → readers.Gives ephemeris_of result said → Gives result said
+given_again : (result : Result Track OemFault) (said : Result PlainTrack Fault) → readers.Gives plain_track result said → Gives result said
 given_again (Ok track) said h = h
 given_again (Err (At line cause)) said h = h
 given_again (Err Memory) said h = tt
 
 -- a file without a fault
 pub body_read : (file bytes : List ℕ) (as_hermite3 : Bool) (said : List Numbered) (body : Body) (result : Result Track OemFault) → is_file_name file ≡ true → kvn.reading bytes ≡ Ok said
-    → read_on as_hermite3 Start 1 said ≡ Ok body → readers.Gives ephemeris_of result (with_object file body body.object) → Gives result (reading file bytes as_hermite3)
+    → read_on as_hermite3 Start 1 said ≡ Ok body → readers.Gives plain_track result (with_object file body body.object) → Gives result (reading file bytes as_hermite3)
 body_read file bytes as_hermite3 said body result name e f h =
     let whole = by_lines file bytes as_hermite3 said name e ∙ ap (λ (r : Result Body Fault). r >>= λ b. with_object file b b.object) f in
     subst (Gives result) (sym whole) (given_again result (with_object file body body.object) h)
 
 -- it has a segment
 pub some_segment : (as_hermite3 : Bool) (said : List Numbered) (body : program.Body) → read_on as_hermite3 Start 1 said ≡ Ok (body_of body) → 1 ≤ length body.segments
-some_segment as_hermite3 said body e = omega (arith, (body_whole as_hermite3 1 said (body_of body) e).1, length-map body.segments arc_of)
+some_segment as_hermite3 said body e = omega (arith, (body_whole as_hermite3 1 said (body_of body) e).1, length-map body.segments plain_segment)
 
 -- and its nodes can be counted
 pub few_nodes : (as_hermite3 : Bool) (bytes : List ℕ) (said : List Numbered) (body : program.Body) → length bytes + 1 < 2 ^ 32 → kvn.reading bytes ≡ Ok said

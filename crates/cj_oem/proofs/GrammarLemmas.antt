@@ -1,5 +1,5 @@
 -- The files that are accepted are those of the grammar, and what they say is what it says.
-use Rattle.std.proofs.Common.{◌≡◌, ℕ, ◌↔◌, inl, inr, List, [], ◌∷◌, ◌++◌, Bool, true, false, Some, None, IfOk, Result, Ok, Err, ap, sym, ◌∙◌, refl, subst}
+use Rattle.std.proofs.Common.{◌≡◌, ℕ, ◌↔◌, inl, inr, List, [], ◌∷◌, ◌++◌, Bool, true, false, Some, IfOk, IfErr, Result, Ok, Err, ap, sym, ◌∙◌, refl, subst}
 use Rattle.std.specs.Prelude.{◌&&◌, ◌||◌, codes, if◌then◌else◌}
 use Rattle.cj_kvn.specs.Lines as kvn
 use Rattle.cj_kvn.specs.Lines.{Form, Blank, Comment, Mark, Pair, Row, Numbered}
@@ -9,15 +9,17 @@ use Rattle.cj_kvn.specs.declared.lines.MarkKind.TheVariants.{MetaStart, MetaStop
 use Rattle.cj_oem.specs.declared.fault.OemCause.{OemCause}
 use Rattle.cj_oem.specs.declared.fault.OemCause.TheVariants as causes
 use Rattle.cj_oem.specs.declared.fault.OemFault.{OemFault}
-use Rattle.cj_oem.specs.declared.track.Track.{Track}
-use Rattle.cj_oem.specs.Ephemeris.{Arc, Ephemeris}
+use Rattle.cj_oem.specs.declared.fault.OemFault.TheVariants.{Memory, At}
+use Rattle.cj_track.specs.declared.track.Track.{Track}
+use Rattle.cj_track.specs.PlainTracks.{PlainSegment, PlainTrack}
 use Rattle.cj_oem.specs.Grammar.{AreBlocks, Entry, IsFile, IsVersion, Says, pair_lines, telling}
-use Rattle.cj_oem.specs.Labels.{is_file_name, is_text}
+use Rattle.cj_track.specs.Labels.{is_file_name}
+use Rattle.cj_oem.specs.Words.{is_text}
 use Rattle.cj_oem.specs.Metadata.{◌>>=◌, EMPTY, Object}
 use Rattle.cj_oem.specs.Reading as reader
-use Rattle.cj_oem.specs.Reading.{Fault, Gives, lines_or, lines_read, read_on, reading, with_object}
+use Rattle.cj_oem.specs.Reading.{Fault, Gives, IsOfFile, IsTrackOf, lines_or, lines_read, read_on, reading, with_object}
 use Rattle.cj_oem.specs.Stages.{Body, Head, Start, Header, Meta, After, NO_BODY, NO_HEAD, finished, is_version, with_head_key}
-use Rattle.cj_oem.specs.Tracks.{ephemeris_of}
+use Rattle.cj_track.specs.Tracks.{plain_track}
 use Rattle.cj_oem.proofs.BlockLemmas.{Begins, blocks_again, blocks_are, blocks_begin}
 use Rattle.cj_oem.proofs.HeaderLemmas.{head_from, header_again, header_is}
 use Rattle.cj_oem.proofs.RunLemmas.{run, run_header, run_lines, without_line}
@@ -86,7 +88,7 @@ header_read as_hermite3 (Row text ∷ forms) h body e = absurd cc
 -- ---- the whole file
 
 -- what a body says of its object
-abbrev said : List ℕ → Object → List Arc → Ephemeris
+abbrev said : List ℕ → Object → List PlainSegment → PlainTrack
 said file o arcs = record { file = file; name = o.name; id = o.id; frame = o.frame; arcs = arcs }
 
 -- the lines say an object with its segments
@@ -109,7 +111,7 @@ file_is as_hermite3 file key value forms body e version r =
         shape = ap (λ (k : List ℕ). Pair k value ∷ forms) e ∙ ap (λ (fs : List Form). Pair (codes "CCSDS_OEM_VERS") value ∷ fs) r.shape;
         known = version;
         header = header_is r.entries r.end r.read r.enough;
-        segments = subst (AreBlocks as_hermite3 blocks.object None 0 (Mark MetaStart ∷ r.rest)) (sym blocks.whole) blocks.blocks;
+        segments = subst (AreBlocks as_hermite3 blocks.object 0 (Mark MetaStart ∷ r.rest)) (sym blocks.whole) blocks.blocks;
       };
     }
 
@@ -133,10 +135,10 @@ file_read as_hermite3 file (Row text ∷ forms) body e = absurd cc
 
 -- ---- back again
 
-abbrev object_of : Ephemeris → Object
+abbrev object_of : PlainTrack → Object
 object_of e = record { name = e.name; id = e.id; frame = e.frame }
 
-abbrev body_of : Ephemeris → Body
+abbrev body_of : PlainTrack → Body
 body_of e = record { object = Some (object_of e); arcs = e.arcs }
 
 header_enough : (as_hermite3 : Bool) (h : Head) (rest : List Form) → (h.date && h.originator) ≡ true
@@ -149,15 +151,15 @@ run_blocks : (as_hermite3 : Bool) (h : Head) (blocks : List Form) → (h.date &&
 run_blocks as_hermite3 h blocks e b =
     ap (run as_hermite3 (Header h)) b.1 ∙ header_enough as_hermite3 h b.0 e ∙ ap (run as_hermite3 (After NO_BODY)) (sym b.1)
 
-file_again : (as_hermite3 : Bool) (forms : List Form) (e : Ephemeris) → IsFile as_hermite3 forms e → run as_hermite3 Start forms ≡ Ok (body_of e)
+file_again : (as_hermite3 : Bool) (forms : List Form) (e : PlainTrack) → IsFile as_hermite3 forms e → run as_hermite3 Start forms ≡ Ok (body_of e)
 file_again as_hermite3 forms e f =
     let header = header_again f.entries f.header in
     let rest = pair_lines f.entries ++ f.blocks in
     ap (run as_hermite3 Start) f.shape
     ∙ ap (λ (b : Bool). (if b then Ok (Header NO_HEAD) else Err causes.Version) >>= λ next. run as_hermite3 next rest) (version_again f.version f.known)
     ∙ run_header as_hermite3 f.entries NO_HEAD header.0 f.blocks header.1
-    ∙ run_blocks as_hermite3 header.0 f.blocks header.2 (blocks_begin as_hermite3 (object_of e) None 0 f.blocks e.arcs f.segments)
-    ∙ blocks_again as_hermite3 (object_of e) None 0 f.blocks e.arcs f.segments NO_BODY refl refl
+    ∙ run_blocks as_hermite3 header.0 f.blocks header.2 (blocks_begin as_hermite3 (object_of e) 0 f.blocks e.arcs f.segments)
+    ∙ blocks_again as_hermite3 (object_of e) 0 f.blocks e.arcs f.segments NO_BODY tt refl
 
 -- ---- the bytes
 
@@ -175,59 +177,74 @@ ok_without_line : {A : Type 0} (r : Result A Fault) (x : A) → without_line r �
 ok_without_line (Ok y) x e = cc
 ok_without_line (Err fault) x e = absurd cc
 
-lines_say : (as_hermite3 : Bool) (file : List ℕ) (lines : List Numbered) (e : Ephemeris) → lines_read as_hermite3 file lines ≡ Ok e
+lines_say : (as_hermite3 : Bool) (file : List ℕ) (lines : List Numbered) (e : PlainTrack) → lines_read as_hermite3 file lines ≡ Ok e
     → IsFile as_hermite3 (telling lines) e × (e.file ≡ file)
 unfolding lines_read
 lines_say as_hermite3 file lines e read =
     let step = bind_ok (read_on as_hermite3 Start 1 lines) (λ body. with_object file body body.object) e read in
     let body = step.0 in
     let r = file_read as_hermite3 file (telling lines) body (sym (run_lines as_hermite3 lines Start 1) ∙ ap without_line step.1) in
-    let told : ◌≡◌ {A = Result Ephemeris Fault} (Ok (said file r.object body.arcs)) (Ok e) = ap (with_object file body) (sym r.named) ∙ step.2 in
+    let told : ◌≡◌ {A = Result PlainTrack Fault} (Ok (said file r.object body.arcs)) (Ok e) = ap (with_object file body) (sym r.named) ∙ step.2 in
     let same : said file r.object body.arcs ≡ e = cc in
-    (subst (IsFile as_hermite3 (telling lines)) same r.whole, ap (λ (x : Ephemeris). x.file) (sym same))
+    (subst (IsFile as_hermite3 (telling lines)) same r.whole, ap (λ (x : PlainTrack). x.file) (sym same))
 
-lines_again : (as_hermite3 : Bool) (file : List ℕ) (lines : List Numbered) (e : Ephemeris) → IsFile as_hermite3 (telling lines) e → e.file ≡ file → lines_read as_hermite3 file lines ≡ Ok e
+lines_again : (as_hermite3 : Bool) (file : List ℕ) (lines : List Numbered) (e : PlainTrack) → IsFile as_hermite3 (telling lines) e → e.file ≡ file → lines_read as_hermite3 file lines ≡ Ok e
 unfolding lines_read
 lines_again as_hermite3 file lines e f named =
     let read = ok_without_line (read_on as_hermite3 Start 1 lines) (body_of e) (run_lines as_hermite3 lines Start 1 ∙ file_again as_hermite3 (telling lines) e f) in
     ap (λ (r : Result Body Fault). reader.◌>>=◌ r (λ body. with_object file body body.object)) read
     ∙ ap (λ (name : List ℕ). Ok (record e { file = name })) (sym named)
 
--- a file that is read has a name, and says by the grammar what was read
-pub reading_says : (as_hermite3 : Bool) (file bytes : List ℕ) (e : Ephemeris) → reading file bytes as_hermite3 ≡ Ok e → (is_file_name file ≡ true) × Says as_hermite3 file bytes e
+-- a file that is read says by the grammar what was read
+pub reading_says : (as_hermite3 : Bool) (file bytes : List ℕ) (e : PlainTrack) → reading file bytes as_hermite3 ≡ Ok e → Says as_hermite3 file bytes e
 unfolding reading
 reading_says as_hermite3 file bytes e read =
     let named = wanted (is_file_name file) (reader.◌>>=◌ (lines_or (kvn.reading bytes)) (lines_read as_hermite3 file)) _ e read in
     let step = bind_ok (lines_or (kvn.reading bytes)) (lines_read as_hermite3 file) e named.1 in
     let says = lines_say as_hermite3 file step.0 e step.2 in
-    (named.0, record { lines = step.0; named = says.1; readable = lines_ok (kvn.reading bytes) step.0 step.1; whole = says.0 })
+    record { name = named.0; lines = step.0; named = says.1; readable = lines_ok (kvn.reading bytes) step.0 step.1; whole = says.0 }
 
--- what a file with a name says by the grammar is read
-pub says_reading : (as_hermite3 : Bool) (file bytes : List ℕ) (e : Ephemeris) → is_file_name file ≡ true → Says as_hermite3 file bytes e → reading file bytes as_hermite3 ≡ Ok e
+-- what a file says by the grammar is read
+pub says_reading : (as_hermite3 : Bool) (file bytes : List ℕ) (e : PlainTrack) → Says as_hermite3 file bytes e → reading file bytes as_hermite3 ≡ Ok e
 unfolding reading
-says_reading as_hermite3 file bytes e name says =
-    ap (λ (b : Bool). if b then reader.◌>>=◌ (lines_or (kvn.reading bytes)) (lines_read as_hermite3 file) else Err (record { line = 0; cause = causes.Name })) name
+says_reading as_hermite3 file bytes e says =
+    ap (λ (b : Bool). if b then reader.◌>>=◌ (lines_or (kvn.reading bytes)) (lines_read as_hermite3 file) else Err (record { line = 0; cause = causes.Name })) says.name
     ∙ ap (λ (r : Result (List Numbered) KvnFault). reader.◌>>=◌ (lines_or r) (lines_read as_hermite3 file)) says.readable
     ∙ lines_again as_hermite3 file says.lines e says.whole says.named
 
 -- so the grammar says just which files are read, and what they say
-pub reading_iff : (as_hermite3 : Bool) (file bytes : List ℕ) (e : Ephemeris) → (reading file bytes as_hermite3 ≡ Ok e) ↔ (is_file_name file ≡ true) × Says as_hermite3 file bytes e
-reading_iff as_hermite3 file bytes e = (reading_says as_hermite3 file bytes e, λ says. says_reading as_hermite3 file bytes e says.0 says.1)
+pub reading_iff : (as_hermite3 : Bool) (file bytes : List ℕ) (e : PlainTrack) → (reading file bytes as_hermite3 ≡ Ok e) ↔ Says as_hermite3 file bytes e
+reading_iff as_hermite3 file bytes e = (reading_says as_hermite3 file bytes e, says_reading as_hermite3 file bytes e)
 
 -- a file says one ephemeris at most
-pub says_one : (as_hermite3 : Bool) (file bytes : List ℕ) (d e : Ephemeris) → is_file_name file ≡ true → Says as_hermite3 file bytes d → Says as_hermite3 file bytes e → d ≡ e
-says_one as_hermite3 file bytes d e name a b =
-    let first = says_reading as_hermite3 file bytes d name a in
-    let second = says_reading as_hermite3 file bytes e name b in
-    let both : ◌≡◌ {A = Result Ephemeris Fault} (Ok d) (Ok e) = sym first ∙ second in
+pub says_one : (as_hermite3 : Bool) (file bytes : List ℕ) (d e : PlainTrack) → Says as_hermite3 file bytes d → Says as_hermite3 file bytes e → d ≡ e
+says_one as_hermite3 file bytes d e a b =
+    let first = says_reading as_hermite3 file bytes d a in
+    let second = says_reading as_hermite3 file bytes e b in
+    let both : ◌≡◌ {A = Result PlainTrack Fault} (Ok d) (Ok e) = sym first ∙ second in
     cc
 
--- the same of what a program answers: a track that it gives says what the grammar says, and what the grammar says it gives
+-- ---- what a program answers
+
+-- a track that it gives is said by the grammar
 pub gives_says : (as_hermite3 : Bool) (file bytes : List ℕ) (result : Result Track OemFault) → Gives result (reading file bytes as_hermite3)
-    → IfOk result (λ track. Says as_hermite3 file bytes (ephemeris_of track))
-gives_says as_hermite3 file bytes (Ok track) e = (reading_says as_hermite3 file bytes (ephemeris_of track) e).1
+    → IfOk result (λ track. Says as_hermite3 file bytes (plain_track track))
+gives_says as_hermite3 file bytes (Ok track) e = reading_says as_hermite3 file bytes (plain_track track) e
 gives_says as_hermite3 file bytes (Err fault) e = tt
 
-pub says_gives : (as_hermite3 : Bool) (file bytes : List ℕ) (e : Ephemeris) (result : Result Track OemFault) → is_file_name file ≡ true → Says as_hermite3 file bytes e
-    → Gives result (reading file bytes as_hermite3) → Gives result (Ok e)
-says_gives as_hermite3 file bytes e result name says gives = subst (Gives result) (says_reading as_hermite3 file bytes e name says) gives
+is_track_of : (e : PlainTrack) (result : Result Track OemFault) → Gives result (Ok e) → IsTrackOf result e
+is_track_of e (Ok track) same = cc
+is_track_of e (Err (At line cause)) same = absurd cc
+is_track_of e (Err Memory) same = tt
+
+-- what the grammar says it gives
+pub gives_accepts : (as_hermite3 : Bool) (file bytes : List ℕ) (result : Result Track OemFault) → Gives result (reading file bytes as_hermite3)
+    → (e : PlainTrack) → Says as_hermite3 file bytes e → IsTrackOf result e
+gives_accepts as_hermite3 file bytes result gives e says = is_track_of e result (subst (Gives result) (says_reading as_hermite3 file bytes e says) gives)
+
+-- where it finds a fault the grammar says nothing
+pub gives_refuses : (as_hermite3 : Bool) (file bytes : List ℕ) (result : Result Track OemFault) → Gives result (reading file bytes as_hermite3)
+    → IfErr result (λ fault. IsOfFile fault → (e : PlainTrack) → Says as_hermite3 file bytes e → ⊥)
+gives_refuses as_hermite3 file bytes (Ok track) gives = tt
+gives_refuses as_hermite3 file bytes (Err (At line cause)) gives = λ _ e says. gives_accepts as_hermite3 file bytes (Err (At line cause)) gives e says
+gives_refuses as_hermite3 file bytes (Err Memory) gives = λ none e says. none

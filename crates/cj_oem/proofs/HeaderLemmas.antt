@@ -1,15 +1,16 @@
 -- The header: reading its keys one after another asks for just what the grammar says of them.
-use Rattle.std.proofs.Common.{◌≡◌, ◌≢◌, ℕ, suc, List, [], ◌∷◌, Bool, true, false, All, AllPairs, Any, ◌⊎◌, inl, inr, ⊎_elim, Result, Ok, Err, arith, ap, sym, ◌∙◌, refl, subst, true≢false, zero}
+use Rattle.std.proofs.Common.{◌≡◌, ◌≢◌, ℕ, List, [], ◌∷◌, Bool, true, false, All, AllPairs, Any, ◌⊎◌, inl, inr, ⊎_elim, Result, Ok, Err, arith, ap, sym, ◌∙◌, refl, true≢false}
 use Rattle.std.specs.Prelude.{if◌then◌else◌, ◌&&◌, codes}
 use Rattle.std.proofs.lemmas.List.Elements.{All-cons, All-head, All-nil, All-tail, All-weaker}
 use Rattle.std.proofs.lemmas.List.Kept.{AllPairs-cons}
 use Rattle.cj_oem.specs.declared.fault.OemCause.{OemCause}
 use Rattle.cj_oem.specs.declared.fault.OemCause.TheVariants as causes
 use Rattle.cj_oem.specs.Grammar.{Entry, IsHeader, IsHeaderKey}
-use Rattle.cj_oem.specs.Labels.{is_text}
+use Rattle.cj_oem.specs.Words.{is_text}
 use Rattle.cj_oem.specs.Metadata.{◌>>=◌}
 use Rattle.cj_oem.specs.Stages.{Head, NO_HEAD, once, with_head_key}
-use Rattle.cj_oem.proofs.StepLemmas.{bind_ok, text_is}
+use Rattle.cj_oem.proofs.ElementLemmas.{any_cases, any_here, any_later, any_none, pairs_head, pairs_tail}
+use Rattle.cj_oem.proofs.StepLemmas.{bind_ok, both_true, text_is}
 
 -- the keys of a header, and whether they were given
 data HeaderKey : Type 0 where
@@ -128,19 +129,6 @@ HasKey k entries = Any (λ entry. entry.key ≡ key_text k) entries
 abbrev AreFresh : Head → List Entry → Type 0
 AreFresh h entries = (k : HeaderKey) → has h k ≡ true → All (λ entry. key_text k ≢ entry.key) entries
 
-any_here : {X : Type 0} (P : X → Type 0) (x : X) (xs : List X) → P x → Any P (x ∷ xs)
-any_here P x xs p = (0, x, omega arith, refl, p)
-
-any_later : {X : Type 0} (P : X → Type 0) (x : X) (xs : List X) → Any P xs → Any P (x ∷ xs)
-any_later P x xs (k, y, within, at, p) = (suc k, y, omega arith, at, p)
-
-any_cases : {X : Type 0} (P : X → Type 0) (x : X) (xs : List X) → Any P (x ∷ xs) → P x ⊎ Any P xs
-any_cases P x xs (zero, y, within, at, p) = inl (subst P (sym at) p)
-any_cases P x xs (suc k, y, within, at, p) = inr (k, y, omega arith, at, p)
-
-any_none : {X : Type 0} (P : X → Type 0) → Any P [] → ⊥
-any_none P (k, y, within, at, p) = omega arith
-
 -- the keys are read in full
 record IsHeaded (h : Head) (entries : List Entry) (end : Head) : Type 0 where
   known : All (λ entry. IsHeaderKey entry.key) entries
@@ -202,12 +190,6 @@ same_key h Classification Classification same = refl
 same_key h MessageId MessageId same = refl
 same_key h k j same = absurd (true≢false (sym (ap (is_text (key_text j)) same)))
 
-pairs_head : {X : Type 0} (R : X → X → Type 0) (x : X) (xs : List X) → AllPairs R (x ∷ xs) → All (R x) xs
-pairs_head R x xs h k d within = h 0 (suc k) d (omega arith) (omega arith)
-
-pairs_tail : {X : Type 0} (R : X → X → Type 0) (x : X) (xs : List X) → AllPairs R (x ∷ xs) → AllPairs R xs
-pairs_tail R x xs h i j d below within = h (suc i) (suc j) d (omega arith) (omega arith)
-
 fresh_later : (h : Head) (k : HeaderKey) (entry : Entry) (entries : List Entry) → entry.key ≡ key_text k → All (λ e. entry.key ≢ e.key) entries
     → AreFresh h (entry ∷ entries) → AreFresh (with_key h k) entries
 fresh_later h k entry entries e others fresh j s = ⊎_elim
@@ -250,15 +232,11 @@ none_given Originator e = true≢false (sym e)
 none_given Classification e = true≢false (sym e)
 none_given MessageId e = true≢false (sym e)
 
-two : (a b : Bool) → (a && b) ≡ true → (a ≡ true) × (b ≡ true)
-two true b e = (refl, e)
-two false b e = absurd (true≢false (sym e))
-
 -- keys that are read from the start, with a date and an originator, are a header
 pub header_is : (entries : List Entry) (end : Head) → head_from NO_HEAD entries ≡ Ok end → (end.date && end.originator) ≡ true → IsHeader entries
 header_is entries end e both =
     let h = headed entries NO_HEAD end e in
-    let each = two end.date end.originator both in
+    let each = both_true end.date end.originator both in
     let there = λ (k : HeaderKey) (s : has end k ≡ true). ⊎_elim (λ before. absurd (none_given k before)) (λ any. any) (h.given k s) in
     record { known = h.known; once = h.once; date = there Date each.0; originator = there Originator each.1 }
 

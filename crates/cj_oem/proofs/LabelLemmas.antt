@@ -12,8 +12,8 @@ use Rattle.cj_kvn.specs.declared.lines.KvnFault.{KvnFault}
 use Rattle.cj_kvn.specs.declared.lines.Line.{Line}
 use Rattle.cj_kvn.specs.declared.lines.MarkKind.{MarkKind}
 use Rattle.cj_kvn.proofs.ListLemmas.{HeadFails, behind_fails}
-use Rattle.cj_oem.specs.Labels.{is_label, is_visible}
-use Rattle.cj_oem.specs.Sheets.{HasLabel, IsLabelled}
+use Rattle.cj_track.specs.Labels.{is_label, is_visible}
+use Rattle.cj_oem.specs.MetadataDrafts.{HasLabel, IsLabelled}
 
 -- ---- texts without outer blanks
 

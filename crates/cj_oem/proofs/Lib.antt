@@ -4,6 +4,7 @@ pub mod CountLemmas
 pub mod CovarianceAgainLemmas
 pub mod CovarianceTextLemmas
 pub mod DraftLemmas
+pub mod ElementLemmas
 pub mod FigureAgainLemmas
 pub mod FigureLemmas
 pub mod FileLemmas
@@ -11,9 +12,11 @@ pub mod GrammarLemmas
 pub mod HeaderLemmas
 pub mod LabelLemmas
 pub mod ListLemmas
+pub mod MatrixLemmas
 pub mod MetadataAgainLemmas
+pub mod MetadataLemmas
+pub mod NodeRowLemmas
 pub mod NumberLemmas
-pub mod PlanLemmas
 pub mod PrintedLineLemmas
 pub mod PrintedNumberLemmas
 pub mod PrintedPairLemmas
@@ -22,6 +25,7 @@ pub mod PrintedTextLemmas
 pub mod ReaderLemmas
 pub mod RunLemmas
 pub mod SegmentAgainLemmas
+pub mod StageLemmas
 pub mod StateAgainLemmas
 pub mod StepLemmas
 pub mod TextLemmas

@@ -10,11 +10,12 @@ use Rattle.cj_kvn.proofs.ListLemmas.{both}
 use Rattle.cj_epoch.specs.Ticks.{IsTick}
 use Rattle.cj_epoch.specs.Written.{epoch_of}
 use Rattle.cj_oem.specs.Canonical.{entry, frame_text, header_text, metadata_text}
-use Rattle.cj_oem.specs.declared.frame.Frame.{Frame}
-use Rattle.cj_oem.specs.declared.frame.Frame.TheVariants as frames
-use Rattle.cj_oem.specs.Ephemeris.{Arc, Ephemeris}
-use Rattle.cj_oem.specs.Labels.{is_label, is_visible, is_word}
-use Rattle.cj_oem.specs.Metadata.{EMPTY, Object, Plan, Sheet, frame_kept, frame_named, frame_of, id_of, key_of, label_said, name_of, plan_of, text_differs, with_pair, with_value}
+use Rattle.cj_track.specs.declared.frame.Frame.{Frame}
+use Rattle.cj_track.specs.declared.frame.Frame.TheVariants as frames
+use Rattle.cj_track.specs.PlainTracks.{PlainSegment, PlainTrack}
+use Rattle.cj_track.specs.Labels.{is_label, is_visible}
+use Rattle.cj_oem.specs.Words.{is_word}
+use Rattle.cj_oem.specs.Metadata.{EMPTY, Object, Metadata, MetadataDraft, frame_kept, frame_named, frame_of, id_of, key_of, parse_label, name_of, plan_of, text_differs, with_pair, with_value}
 use Rattle.cj_oem.specs.Stages.{Body, Data, Head, Header, Meta, Start, follows}
 use Rattle.cj_oem.proofs.PrintedLineLemmas.{Tells, told_append, told_line}
 use Rattle.cj_oem.proofs.PrintedPairLemmas.{meta_start, meta_stop, pair_line, pair_text}
@@ -80,7 +81,7 @@ label_neat text h =
 same_text : (text : List ℕ) → pointwise nat_eq text text ≡ true
 same_text text = (bytes_decides text text).1 refl
 
-label_again : (first : Option (List ℕ)) (text : List ℕ) → IsNeat text → text_differs first text ≡ false → label_said first text ≡ Ok text
+label_again : (first : Option (List ℕ)) (text : List ℕ) → IsNeat text → text_differs first text ≡ false → parse_label first text ≡ Ok text
 label_again first text is same =
     let long : (length text == 0) ≡ false = grind (arith, nat_tests, is.some) in
     let kept = all_kept text is.visible in
@@ -124,10 +125,10 @@ meta_pairs o first last =
 abbrev pub meta_forms : Object → ℕ → ℕ → List Form
 meta_forms o first last = Mark MetaStart ∷ meta_pairs o first last
 
-abbrev pub object_of : Ephemeris → Object
+abbrev pub object_of : PlainTrack → Object
 object_of e = record { name = e.name; id = e.id; frame = e.frame }
 
-pub metadata_told : (e : Ephemeris) (arc : Arc) → IsNeat e.name → IsNeat e.id → Tells (metadata_text e arc) (meta_forms (object_of e) arc.first arc.last)
+pub metadata_told : (e : PlainTrack) (arc : PlainSegment) → IsNeat e.name → IsNeat e.id → Tells (metadata_text e arc) (meta_forms (object_of e) arc.first arc.last)
 unfolding metadata_text
 metadata_told e arc name id =
     let t0 = told_line (codes "META_START") (Mark MetaStart) meta_start in
@@ -142,14 +143,14 @@ metadata_told e arc name id =
     let t9 = told_append _ _ _ _ t8 (fixed_told (codes "INTERPOLATION_DEGREE") (codes "3") refl refl refl refl refl) in
     told_append _ _ _ _ t9 (told_line (codes "META_STOP") (Mark MetaStop) meta_stop)
 
-abbrev pub plan : Object → ℕ → ℕ → Plan
+abbrev pub plan : Object → ℕ → ℕ → Metadata
 plan o first last = record { object = o; first = first; last = last }
 
 -- the sheet with the object
-abbrev named : Object → Sheet
+abbrev named : Object → MetadataDraft
 named o = record EMPTY { name = Some o.name; id = Some o.id; center = true; frame = Some o.frame; time_system = true }
 
-abbrev filled : Object → ℕ → ℕ → Sheet
+abbrev filled : Object → ℕ → ℕ → MetadataDraft
 filled o first last = record (named o) { start = Some first; stop = Some last; hermite = Some true; cubic = Some true }
 
 name_follows : (b : Body) (o : Object) → IsKnown b.object o → IsNeat o.name → follows false (Meta b EMPTY) (Pair (codes "OBJECT_NAME") o.name) ≡ Ok (Meta b (record EMPTY { name = Some o.name }))

@@ -10,7 +10,7 @@ use Rattle.cj_kvn.specs.Lines.{Form, Numbered, line_form, lines_said}
 use Rattle.cj_kvn.specs.Lines as kvn
 use Rattle.cj_kvn.proofs.ListLemmas.{both}
 use Rattle.cj_oem.specs.Canonical.{line}
-use Rattle.cj_oem.specs.Labels.{is_visible}
+use Rattle.cj_track.specs.Labels.{is_visible}
 use Rattle.cj_oem.proofs.PrintedTextLemmas.{all_at}
 
 abbrev is_feed : ℕ → Bool

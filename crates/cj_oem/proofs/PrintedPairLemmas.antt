@@ -8,7 +8,7 @@ use Rattle.cj_kvn.specs.Lines.{Mark, Pair, form_of, is_blank, is_comment, is_equ
 use Rattle.cj_kvn.specs.declared.lines.MarkKind.TheVariants.{MetaStart, MetaStop, CovarianceStart, CovarianceStop}
 use Rattle.cj_kvn.proofs.LineLemmas.{inner_is}
 use Rattle.cj_kvn.proofs.ListLemmas.{after_skip, any_skip, before_skip, both}
-use Rattle.cj_oem.specs.Labels.{is_visible}
+use Rattle.cj_track.specs.Labels.{is_visible}
 use Rattle.cj_oem.proofs.PrintedLineLemmas.{Says}
 use Rattle.cj_oem.proofs.PrintedTextLemmas.{Ends, Starts, all_append, all_at, all_printable, all_weaker, ends_append, starts_append, starts_length, trimmed_behind, trimmed_before, trimmed_none}
 

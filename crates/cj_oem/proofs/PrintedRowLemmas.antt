@@ -8,7 +8,7 @@ use Rattle.cj_kvn.specs.Fields.{fields}
 use Rattle.cj_kvn.specs.Lines.{Row, form_of, is_blank, is_comment, is_end_or_blank, is_equals, mark_of, pair_or_row}
 use Rattle.cj_kvn.proofs.LineLemmas.{inner_is}
 use Rattle.cj_kvn.proofs.ListLemmas.{behind_no, both}
-use Rattle.cj_oem.specs.Labels.{is_visible}
+use Rattle.cj_track.specs.Labels.{is_visible}
 use Rattle.cj_oem.proofs.PrintedLineLemmas.{Says}
 use Rattle.cj_oem.proofs.PrintedPairLemmas.{form_other}
 use Rattle.cj_oem.proofs.PrintedTextLemmas.{Ends, Starts, all_append, all_at, all_printable, all_weaker, ends_append, starts_append, starts_length, trimmed_none}

@@ -6,7 +6,7 @@ use Rattle.std.proofs.lemmas.List.{get_or-append_right, length-append, reverse-a
 use Rattle.std.proofs.lemmas.List.Folds.{list_all-append}
 use Rattle.cj_kvn.specs.Lines.{is_blank, is_printable, spaced, trimmed, without_leading_blanks, without_trailing_blanks}
 use Rattle.cj_kvn.proofs.ListLemmas.{behind_no, behind_yes, both}
-use Rattle.cj_oem.specs.Labels.{is_visible}
+use Rattle.cj_track.specs.Labels.{is_visible}
 
 -- each element passes in both parts
 pub all_append : {X : Type 0} (p : X → Bool) (xs ys : List X) → list_all p xs ≡ true → list_all p ys ≡ true → list_all p (xs ++ ys) ≡ true

@@ -5,14 +5,17 @@ use Rattle.std.proofs.lemmas.List.{append_assoc, append-nil, map-append}
 use Rattle.cj_kvn.specs.Lines.{Form, Blank, Comment, Mark, Pair, Row, Numbered}
 use Rattle.cj_oem.specs.declared.fault.OemCause.{OemCause}
 use Rattle.cj_oem.specs.CovarianceRows.{Covariances}
-use Rattle.cj_oem.specs.Ephemeris.{Arc, State}
-use Rattle.cj_oem.specs.Grammar.{Entry, covariances_from, pair_lines, row_lines, sheet_from, states_from, telling, with_line}
-use Rattle.cj_oem.specs.Metadata.{◌>>=◌, Plan, Sheet, with_pair}
+use Rattle.cj_track.specs.PlainTracks.{PlainSegment, PlainNode}
+use Rattle.cj_oem.specs.Grammar.{Entry, pair_lines, row_lines, telling}
+use Rattle.cj_oem.specs.Metadata.{◌>>=◌, Metadata, MetadataDraft, with_pair}
 use Rattle.cj_oem.specs.NodeRows.{state_of_row}
 use Rattle.cj_oem.specs.Reading as reader
 use Rattle.cj_oem.specs.Reading.{Fault, at_line, read_on}
-use Rattle.cj_oem.specs.Stages.{Body, Head, Stage, Header, Meta, Data, Cov, Stretch, end_of, finished, follows, last_state, led, with_head_key}
+use Rattle.cj_oem.specs.Stages.{Body, Head, Stage, Header, Meta, Data, Cov, OpenSegment, end_of, finished, follows, last_state, led, with_head_key}
 use Rattle.cj_oem.proofs.HeaderLemmas.{head_from}
+use Rattle.cj_oem.proofs.MatrixLemmas.{covariances_from, with_line}
+use Rattle.cj_oem.proofs.MetadataLemmas.{sheet_from}
+use Rattle.cj_oem.proofs.NodeRowLemmas.{states_from}
 use Rattle.cj_oem.proofs.StepLemmas.{bind_ok}
 
 -- where lines that say something lead from a stage
@@ -59,8 +62,8 @@ pub last_push : {A : Type 0} (o : Option A) (xs : List A) (x : A) → last_or o 
 last_push o [] x = refl
 last_push o (y ∷ xs) x = last_push (Some y) xs x
 
-pub end_push : (arcs : List Arc) (arc : Arc) → end_of (arcs ++ arc ∷ []) ≡ arc.last
-end_push arcs arc = rw (map-append (λ (a : Arc). a.last) arcs (arc ∷ []), last_push None (map (λ (a : Arc). a.last) arcs) arc.last) refl
+pub end_push : (arcs : List PlainSegment) (arc : PlainSegment) → end_of (arcs ++ arc ∷ []) ≡ arc.last
+end_push arcs arc = rw (map-append (λ (a : PlainSegment). a.last) arcs (arc ∷ []), last_push None (map (λ (a : PlainSegment). a.last) arcs) arc.last) refl
 
 -- ---- lines of one kind
 
@@ -72,34 +75,34 @@ run_header as_hermite3 (entry ∷ entries) h end rest e =
     ap (λ (r : Result Head OemCause). (r >>= λ head. Ok (Header head)) >>= λ next. run as_hermite3 next (pair_lines entries ++ rest)) step.1
     ∙ run_header as_hermite3 entries step.0 end rest step.2
 
-pub run_meta : (as_hermite3 : Bool) (b : Body) (entries : List Entry) (s end : Sheet) (rest : List Form) → sheet_from b.object s entries ≡ Ok end
+pub run_meta : (as_hermite3 : Bool) (b : Body) (entries : List Entry) (s end : MetadataDraft) (rest : List Form) → sheet_from b.object s entries ≡ Ok end
     → run as_hermite3 (Meta b s) (pair_lines entries ++ rest) ≡ run as_hermite3 (Meta b end) rest
-run_meta as_hermite3 b [] s end rest e = let same : s ≡ end = cc in ap (λ (t : Sheet). run as_hermite3 (Meta b t) rest) same
+run_meta as_hermite3 b [] s end rest e = let same : s ≡ end = cc in ap (λ (t : MetadataDraft). run as_hermite3 (Meta b t) rest) same
 run_meta as_hermite3 b (entry ∷ entries) s end rest e =
     let step = bind_ok (with_pair b.object s entry.key entry.value) (λ next. sheet_from b.object next entries) end e in
-    ap (λ (r : Result Sheet OemCause). (r >>= λ sheet. Ok (Meta b sheet)) >>= λ next. run as_hermite3 next (pair_lines entries ++ rest)) step.1
+    ap (λ (r : Result MetadataDraft OemCause). (r >>= λ sheet. Ok (Meta b sheet)) >>= λ next. run as_hermite3 next (pair_lines entries ++ rest)) step.1
     ∙ run_meta as_hermite3 b entries step.0 end rest step.2
 
 -- a stretch with its states
-abbrev pub stretch : Plan → List State → Stretch
+abbrev pub stretch : Metadata → List PlainNode → OpenSegment
 stretch plan states = record { plan = plan; states = states }
 
-pub run_rows : (as_hermite3 : Bool) (b : Body) (plan : Plan) (rows : List (List ℕ)) (states more : List State) (rest : List Form) → states_from (last_state states) rows ≡ Ok more
+pub run_rows : (as_hermite3 : Bool) (b : Body) (plan : Metadata) (rows : List (List ℕ)) (states more : List PlainNode) (rest : List Form) → states_from (last_state states) rows ≡ Ok more
     → run as_hermite3 (Data b (stretch plan states)) (row_lines rows ++ rest) ≡ run as_hermite3 (Data b (stretch plan (states ++ more))) rest
 run_rows as_hermite3 b plan [] states more rest e =
     let none : [] ≡ more = cc in
-    ap (λ (all : List State). run as_hermite3 (Data b (stretch plan all)) rest) (sym (append-nil states) ∙ ap (λ (xs : List State). states ++ xs) none)
+    ap (λ (all : List PlainNode). run as_hermite3 (Data b (stretch plan all)) rest) (sym (append-nil states) ∙ ap (λ (xs : List PlainNode). states ++ xs) none)
 run_rows as_hermite3 b plan (row ∷ rows) states more rest e =
     let step = bind_ok (state_of_row (last_state states) row) (λ state. states_from (Some state) rows >>= λ others. Ok (state ∷ others)) more e in
     let state = step.0 in
     let later = bind_ok (states_from (Some state) rows) (λ others. Ok (state ∷ others)) more step.2 in
     let whole : state ∷ later.0 ≡ more = cc (later.2) in
-    let read : states_from (last_state (states ++ state ∷ [])) rows ≡ Ok later.0 = ap (λ (o : Option State). states_from o rows) (last_push None states state) ∙ later.1 in
-    ap (λ (r : Result State OemCause). (r >>= λ s. Ok (Data b (stretch plan (states ++ s ∷ [])))) >>= λ next. run as_hermite3 next (row_lines rows ++ rest)) step.1
+    let read : states_from (last_state (states ++ state ∷ [])) rows ≡ Ok later.0 = ap (λ (o : Option PlainNode). states_from o rows) (last_push None states state) ∙ later.1 in
+    ap (λ (r : Result PlainNode OemCause). (r >>= λ s. Ok (Data b (stretch plan (states ++ s ∷ [])))) >>= λ next. run as_hermite3 next (row_lines rows ++ rest)) step.1
     ∙ run_rows as_hermite3 b plan rows (states ++ state ∷ []) later.0 rest read
-    ∙ ap (λ (all : List State). run as_hermite3 (Data b (stretch plan all)) rest) (append_assoc states (state ∷ []) later.0 ∙ ap (λ (xs : List State). states ++ xs) whole)
+    ∙ ap (λ (all : List PlainNode). run as_hermite3 (Data b (stretch plan all)) rest) (append_assoc states (state ∷ []) later.0 ∙ ap (λ (xs : List PlainNode). states ++ xs) whole)
 
-run_covariance : (as_hermite3 : Bool) (b : Body) (s : Stretch) (line : Form) (m next : Covariances) (rest : List Form) → with_line m line ≡ Ok next
+run_covariance : (as_hermite3 : Bool) (b : Body) (s : OpenSegment) (line : Form) (m next : Covariances) (rest : List Form) → with_line m line ≡ Ok next
     → run as_hermite3 (Cov b s m) (line ∷ rest) ≡ run as_hermite3 (Cov b s next) rest
 run_covariance as_hermite3 b s Blank m next rest e = absurd cc
 run_covariance as_hermite3 b s Comment m next rest e = absurd cc
@@ -109,7 +112,7 @@ run_covariance as_hermite3 b s (Pair key value) m next rest e =
 run_covariance as_hermite3 b s (Row text) m next rest e =
     ap (λ (r : Result Covariances OemCause). (r >>= λ n. Ok (Cov b s n)) >>= λ stage. run as_hermite3 stage rest) e
 
-pub run_covariances : (as_hermite3 : Bool) (b : Body) (s : Stretch) (inner : List Form) (m end : Covariances) (rest : List Form) → covariances_from m inner ≡ Ok end
+pub run_covariances : (as_hermite3 : Bool) (b : Body) (s : OpenSegment) (inner : List Form) (m end : Covariances) (rest : List Form) → covariances_from m inner ≡ Ok end
     → run as_hermite3 (Cov b s m) (inner ++ rest) ≡ run as_hermite3 (Cov b s end) rest
 run_covariances as_hermite3 b s [] m end rest e = let same : m ≡ end = cc in ap (λ (n : Covariances). run as_hermite3 (Cov b s n) rest) same
 run_covariances as_hermite3 b s (line ∷ inner) m end rest e =

@@ -10,9 +10,9 @@ use Rattle.cj_kvn.specs.declared.lines.MarkKind.TheVariants.{MetaStart, Covarian
 use Rattle.cj_epoch.specs.Ticks.{IsTick}
 use Rattle.cj_oem.specs.Canonical.{covariance_text, covariances_text, row_text, segment_text}
 use Rattle.cj_oem.specs.CovarianceRows.{NO_COVARIANCES, closed}
-use Rattle.cj_oem.specs.Ephemeris.{Arc, Covariance, Ephemeris, State}
+use Rattle.cj_track.specs.PlainTracks.{PlainSegment, PlainMatrix, PlainTrack, PlainNode}
 use Rattle.cj_oem.specs.Metadata.{EMPTY, Object}
-use Rattle.cj_oem.specs.Stages.{After, Body, Cov, Data, Meta, Stage, Stretch, close_nodes, end_of, finished, first_state, follows, is_useable, last_state, with_arc}
+use Rattle.cj_oem.specs.Stages.{After, Body, Cov, Data, Meta, Stage, OpenSegment, close_nodes, end_of, finished, first_state, follows, is_useable, last_state, with_arc}
 use Rattle.cj_oem.proofs.CovarianceAgainLemmas.{AllRead, IsCovariance, covariance_forms, covariance_told, covariances_walk}
 use Rattle.cj_oem.proofs.MetadataAgainLemmas.{IsKnown, IsNeat, known_same, meta_forms, meta_pairs, meta_walk, metadata_told, object_of, plan}
 use Rattle.cj_oem.proofs.PrintedLineLemmas.{Tells, none, told_append, told_each, told_line}
@@ -21,7 +21,7 @@ use Rattle.cj_oem.proofs.StateAgainLemmas.{Follow, IsState, state_forms, state_t
 use Rattle.cj_oem.proofs.WalkLemmas.{walk, walk_append, walk_step}
 
 -- a segment that can be read
-pub record IsArc (arc : Arc) : Type 0 where
+pub record IsArc (arc : PlainSegment) : Type 0 where
   pub first : IsTick arc.first
   pub last : IsTick arc.last
   pub states : All IsState arc.states
@@ -31,27 +31,27 @@ pub record IsArc (arc : Arc) : Type 0 where
   pub covariances : All IsCovariance arc.covariances
 
 -- each segment is useable from where the one before ends, or later
-abbrev pub Later : ℕ → List Arc → Type 0
+abbrev pub Later : ℕ → List PlainSegment → Type 0
 Later end [] = Unit {0}
 Later end (arc ∷ arcs) = (end ≤ arc.first) × Later arc.last arcs
 
 -- ---- what the text says
 
-abbrev covariances_forms : List Covariance → List Form
+abbrev covariances_forms : List PlainMatrix → List Form
 covariances_forms [] = []
 covariances_forms (c ∷ cs) = (Mark CovarianceStart ∷ []) ++ flat_map covariance_forms (c ∷ cs) ++ Mark CovarianceStop ∷ []
 
-abbrev pub arc_forms : Object → Arc → List Form
+abbrev pub arc_forms : Object → PlainSegment → List Form
 arc_forms o arc = meta_forms o arc.first arc.last ++ flat_map state_forms arc.states ++ covariances_forms arc.covariances
 
-covariances_told : (cs : List Covariance) → All IsCovariance cs → Tells (covariances_text cs) (covariances_forms cs)
+covariances_told : (cs : List PlainMatrix) → All IsCovariance cs → Tells (covariances_text cs) (covariances_forms cs)
 covariances_told [] all = none
 covariances_told (c ∷ cs) all =
     told_append _ _ _ _
     (told_append _ _ _ _ (told_line (codes "COVARIANCE_START") (Mark CovarianceStart) covariance_start) (told_each IsCovariance covariance_text covariance_forms covariance_told (c ∷ cs) all))
     (told_line (codes "COVARIANCE_STOP") (Mark CovarianceStop) covariance_stop)
 
-pub segment_told : (e : Ephemeris) → IsNeat e.name → IsNeat e.id → (arc : Arc) → IsArc arc → Tells (segment_text e arc) (arc_forms (object_of e) arc)
+pub segment_told : (e : PlainTrack) → IsNeat e.name → IsNeat e.id → (arc : PlainSegment) → IsArc arc → Tells (segment_text e arc) (arc_forms (object_of e) arc)
 unfolding segment_text
 segment_told e name id arc is =
     told_append _ _ _ _ (told_append _ _ _ _ (metadata_told e arc name id) (told_each IsState row_text state_forms state_told arc.states is.states)) (covariances_told arc.covariances is.covariances)
@@ -63,20 +63,20 @@ pub record Rests (stage : Stage) (b : Body) : Type 0 where
   pub more : follows false stage (Mark MetaStart) ≡ Ok (Meta b EMPTY)
   pub done : finished stage ≡ Ok b
 
-abbrev stretch : Object → Arc → Stretch
+abbrev stretch : Object → PlainSegment → OpenSegment
 stretch o arc = record { plan = plan o arc.first arc.last; states = arc.states }
 
-abbrev pub body : Object → List Arc → Body
+abbrev pub body : Object → List PlainSegment → Body
 body o arcs = record { object = Some o; arcs = arcs }
 
-closes : (b : Body) (o : Object) (arc : Arc) → IsArc arc → end_of b.arcs ≤ arc.first → close_nodes b (stretch o arc) ≡ Ok tt
+closes : (b : Body) (o : Object) (arc : PlainSegment) → IsArc arc → end_of b.arcs ≤ arc.first → close_nodes b (stretch o arc) ≡ Ok tt
 unfolding close_nodes
 closes b o arc is later =
     let many : nat_lt (length arc.states) 2 ≡ false = le-ltb _ _ is.enough in
     let behind : nat_lt arc.first (end_of b.arcs) ≡ false = le-ltb _ _ later in
     rw (many, is.useable, behind) refl
 
-data_rests : (b : Body) (o : Object) (arc : Arc) → IsArc arc → end_of b.arcs ≤ arc.first → Rests (Data b (stretch o arc)) (with_arc b (stretch o arc) [])
+data_rests : (b : Body) (o : Object) (arc : PlainSegment) → IsArc arc → end_of b.arcs ≤ arc.first → Rests (Data b (stretch o arc)) (with_arc b (stretch o arc) [])
 unfolding follows finished
 data_rests b o arc is later =
     let close = closes b o arc is later in
@@ -86,12 +86,12 @@ after_rests : (b : Body) → Rests (After b) b
 unfolding follows finished
 after_rests b = record { more = refl; done = refl }
 
-start_follows : (b : Body) (o : Object) (arc : Arc) → IsArc arc → end_of b.arcs ≤ arc.first
+start_follows : (b : Body) (o : Object) (arc : PlainSegment) → IsArc arc → end_of b.arcs ≤ arc.first
     → follows false (Data b (stretch o arc)) (Mark CovarianceStart) ≡ Ok (Cov b (stretch o arc) NO_COVARIANCES)
 unfolding follows
 start_follows b o arc is later = rw (closes b o arc is later) refl
 
-stop_follows : (b : Body) (s : Stretch) (cs : List Covariance) (forms : List Form) (all : AllRead b s NO_COVARIANCES forms cs)
+stop_follows : (b : Body) (s : OpenSegment) (cs : List PlainMatrix) (forms : List Form) (all : AllRead b s NO_COVARIANCES forms cs)
     → follows false (Cov b s all.read) (Mark CovarianceStop) ≡ Ok (After (with_arc b s cs))
 unfolding follows
 stop_follows b s cs forms all = rw all.whole refl
@@ -107,14 +107,14 @@ pub record Passes (stage : Stage) (forms : List Form) (b : Body) : Type 0 where
   pub rests : Rests end b
 
 -- the covariances of a segment
-covariances_pass : (b : Body) (o : Object) (first last : ℕ) (states : List State) (cs : List Covariance) →
-    let arc : Arc = record { first = first; last = last; states = states; covariances = cs } in
+covariances_pass : (b : Body) (o : Object) (first last : ℕ) (states : List PlainNode) (cs : List PlainMatrix) →
+    let arc : PlainSegment = record { first = first; last = last; states = states; covariances = cs } in
     IsArc arc → end_of b.arcs ≤ first → Passes (Data b (stretch o arc)) (covariances_forms cs) (body o (b.arcs ++ arc ∷ []))
 covariances_pass b o first last states [] is later =
-    let arc : Arc = record { first = first; last = last; states = states; covariances = [] } in
+    let arc : PlainSegment = record { first = first; last = last; states = states; covariances = [] } in
     record { end = Data b (stretch o arc); walked = refl; rests = data_rests b o arc is later }
 covariances_pass b o first last states (c ∷ cs) is later =
-    let arc : Arc = record { first = first; last = last; states = states; covariances = c ∷ cs } in
+    let arc : PlainSegment = record { first = first; last = last; states = states; covariances = c ∷ cs } in
     let s = stretch o arc in
     let inner = flat_map covariance_forms (c ∷ cs) in
     let all = covariances_walk b s NO_COVARIANCES [] (c ∷ cs) none_closed is.covariances in
@@ -129,7 +129,7 @@ covariances_pass b o first last states (c ∷ cs) is later =
       rests = after_rests final;
     }
 
-segment_pass : (stage : Stage) (b : Body) (o : Object) (arc : Arc) → follows false stage (Mark MetaStart) ≡ Ok (Meta b EMPTY) → IsKnown b.object o → IsNeat o.name → IsNeat o.id
+segment_pass : (stage : Stage) (b : Body) (o : Object) (arc : PlainSegment) → follows false stage (Mark MetaStart) ≡ Ok (Meta b EMPTY) → IsKnown b.object o → IsNeat o.name → IsNeat o.id
     → IsArc arc → end_of b.arcs ≤ arc.first → Passes stage (arc_forms o arc) (body o (b.arcs ++ arc ∷ []))
 segment_pass stage b o arc meta known name id is later =
     let passes = covariances_pass b o arc.first arc.last arc.states arc.covariances is later in
@@ -152,13 +152,13 @@ last_behind : {A : Type 0} (o : Option A) (xs : List A) (x : A) → last_or o (x
 last_behind o [] x = refl
 last_behind o (y ∷ xs) x = last_behind (Some y) xs x
 
-end_behind : (arcs : List Arc) (arc : Arc) → end_of (arcs ++ arc ∷ []) ≡ arc.last
+end_behind : (arcs : List PlainSegment) (arc : PlainSegment) → end_of (arcs ++ arc ∷ []) ≡ arc.last
 end_behind arcs arc =
     ap (λ ends. unwrap_or (last_or None ends) 0) (map_push (λ a. a.last) arcs arc)
     ∙ ap (λ o. unwrap_or o 0) (last_behind None (map (λ a. a.last) arcs) arc.last)
 
 -- more segments of the same object
-more_pass : (stage : Stage) (o : Object) (front arcs : List Arc) → Rests stage (body o front) → IsNeat o.name → IsNeat o.id → All IsArc arcs → Later (end_of front) arcs
+more_pass : (stage : Stage) (o : Object) (front arcs : List PlainSegment) → Rests stage (body o front) → IsNeat o.name → IsNeat o.id → All IsArc arcs → Later (end_of front) arcs
     → Passes stage (flat_map (arc_forms o) arcs) (body o (front ++ arcs))
 more_pass stage o front [] rests name id all later = record { end = stage; walked = refl; rests = subst (λ arcs. Rests stage (body o arcs)) (sym (append-nil front)) rests }
 more_pass stage o front (arc ∷ arcs) rests name id all later =
@@ -171,7 +171,7 @@ more_pass stage o front (arc ∷ arcs) rests name id all later =
       rests = subst (λ arcs. Rests others.end (body o arcs)) (append_assoc front (arc ∷ []) arcs) others.rests;
     }
 
-pub segments_pass : (stage : Stage) (b : Body) (o : Object) (arcs : List Arc) → follows false stage (Mark MetaStart) ≡ Ok (Meta b EMPTY) → IsKnown b.object o → IsNeat o.name → IsNeat o.id
+pub segments_pass : (stage : Stage) (b : Body) (o : Object) (arcs : List PlainSegment) → follows false stage (Mark MetaStart) ≡ Ok (Meta b EMPTY) → IsKnown b.object o → IsNeat o.name → IsNeat o.id
     → 0 < length arcs → All IsArc arcs → Later (end_of b.arcs) arcs → Passes stage (flat_map (arc_forms o) arcs) (body o (b.arcs ++ arcs))
 segments_pass stage b o [] meta known name id some all later = absurd (omega arith)
 segments_pass stage b o (arc ∷ arcs) meta known name id some all later =

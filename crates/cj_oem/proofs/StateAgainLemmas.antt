@@ -13,13 +13,13 @@ use Rattle.cj_epoch.proofs.WrittenLemmas.{epoch_of-read}
 use Rattle.cj_oem.specs.Canonical.{figure_text, line, row_text, vector_text}
 use Rattle.cj_oem.specs.declared.fault.OemCause.{OemCause}
 use Rattle.cj_oem.specs.declared.fault.OemCause.TheVariants as causes
-use Rattle.cj_oem.specs.declared.vec3.Vec3.{Vec3}
-use Rattle.cj_oem.specs.Ephemeris.{State}
-use Rattle.cj_oem.specs.Limits.{IsWithin, MAX_COORDINATE, MAX_RATE}
-use Rattle.cj_oem.specs.Metadata.{epoch_or, epoch_said}
-use Rattle.cj_oem.specs.NodeRows.{figure_or, figure_said, following, state_of_fields, state_of_row, vector_within}
-use Rattle.cj_oem.specs.Stages.{Body, Data, Stretch, follows, last_state}
-use Rattle.cj_oem.specs.Metadata.{Plan}
+use Rattle.cj_track.specs.declared.vec3.Vec3.{Vec3}
+use Rattle.cj_track.specs.PlainTracks.{PlainNode}
+use Rattle.cj_track.specs.Limits.{IsWithin, MAX_COORDINATE, MAX_RATE}
+use Rattle.cj_oem.specs.Metadata.{epoch_or, parse_epoch}
+use Rattle.cj_oem.specs.NodeRows.{figure_or, parse_figure, following, state_of_fields, state_of_row, vector_within}
+use Rattle.cj_oem.specs.Stages.{Body, Data, OpenSegment, follows, last_state}
+use Rattle.cj_oem.specs.Metadata.{Metadata}
 use Rattle.cj_oem.proofs.FigureAgainLemmas.{figure_again}
 use Rattle.cj_oem.proofs.PrintedLineLemmas.{Says, Tells, told_line}
 use Rattle.cj_oem.proofs.PrintedNumberLemmas.{epoch_field, figure_field}
@@ -34,13 +34,13 @@ pub record IsVector (limit : ℕ) (v : Vec3) : Type 0 where
   pub z : IsWithin limit v.z
 
 -- a state that can be read
-pub record IsState (s : State) : Type 0 where
+pub record IsState (s : PlainNode) : Type 0 where
   pub tick : IsTick s.at
   pub place : IsVector MAX_COORDINATE s.p
   pub rate : IsVector MAX_RATE s.v
 
 -- each state follows the one before
-abbrev pub Follow : Option State → List State → Type 0
+abbrev pub Follow : Option PlainNode → List PlainNode → Type 0
 Follow before [] = Unit {0}
 Follow before (s ∷ states) = (following before s ≡ Ok s) × Follow (Some s) states
 
@@ -49,19 +49,19 @@ Follow before (s ∷ states) = (following before s ≡ Ok s) × Follow (Some s) 
 abbrev vector_fields : Vec3 → List (List ℕ) → List (List ℕ)
 vector_fields v more = figure_text v.x ∷ figure_text v.y ∷ figure_text v.z ∷ more
 
-abbrev state_fields : State → List (List ℕ)
+abbrev state_fields : PlainNode → List (List ℕ)
 state_fields s = vector_fields s.p (vector_fields s.v [])
 
-abbrev row_content : State → List ℕ
+abbrev row_content : PlainNode → List ℕ
 row_content s = epoch_of s.at ++ 32 ∷ [] ++ vector_text s.p ++ 32 ∷ [] ++ vector_text s.v
 
 seven : (t a b c u v w : List ℕ) → t ++ 32 ∷ [] ++ (a ++ 32 ∷ [] ++ b ++ 32 ∷ [] ++ c) ++ 32 ∷ [] ++ (u ++ 32 ∷ [] ++ v ++ 32 ∷ [] ++ w) ≡ row_of t (a ∷ b ∷ c ∷ u ∷ v ∷ w ∷ [])
 seven t a b c u v w = simp (append_assoc, append-nil)
 
-row_shape : (s : State) → row_content s ≡ row_of (epoch_of s.at) (state_fields s)
+row_shape : (s : PlainNode) → row_content s ≡ row_of (epoch_of s.at) (state_fields s)
 row_shape s = seven (epoch_of s.at) (figure_text s.p.x) (figure_text s.p.y) (figure_text s.p.z) (figure_text s.v.x) (figure_text s.v.y) (figure_text s.v.z)
 
-size_within : (limit : ℕ) (z : ℤ) → IsWithin limit z → unsigned_abs z ≤ limit
+pub size_within : (limit : ℕ) (z : ℤ) → IsWithin limit z → unsigned_abs z ≤ limit
 size_within limit (pos k) within = omega (arith, ints, within)
 size_within limit (negsuc k) within = omega (arith, ints, within)
 
@@ -71,7 +71,7 @@ within_small limit z low within = omega (arith, size_within limit z within)
 figure_is_field : (limit : ℕ) (z : ℤ) → limit ≤ MAX_COORDINATE → IsWithin limit z → is_field (figure_text z) ≡ true
 figure_is_field limit z low within = figure_field z (omega (arith, within_small limit z low within))
 
-state_are_fields : (s : State) → IsState s → list_all is_field (epoch_of s.at ∷ state_fields s) ≡ true
+state_are_fields : (s : PlainNode) → IsState s → list_all is_field (epoch_of s.at ∷ state_fields s) ≡ true
 state_are_fields s is =
     rw (
       epoch_field s.at,
@@ -85,13 +85,13 @@ state_are_fields s is =
 
 -- ---- what they say
 
-pub epoch_again : (t : ℕ) → IsTick t → epoch_said (epoch_of t) ≡ Ok t
+pub epoch_again : (t : ℕ) → IsTick t → parse_epoch (epoch_of t) ≡ Ok t
 epoch_again t tick = ap epoch_or (epoch_of-read t tick)
 
-figure_said_again : (limit : ℕ) (z : ℤ) → limit ≤ MAX_COORDINATE → IsWithin limit z → figure_said (figure_text z) ≡ Ok (Some z)
+figure_said_again : (limit : ℕ) (z : ℤ) → limit ≤ MAX_COORDINATE → IsWithin limit z → parse_figure (figure_text z) ≡ Ok (Some z)
 figure_said_again limit z low within = ap figure_or (figure_again z (within_small limit z low within))
 
-vector_again : (limit : ℕ) (cause : OemCause) (v : Vec3) → IsVector limit v → vector_within limit cause (Some v.x) (Some v.y) (Some v.z) ≡ Ok v
+pub vector_again : (limit : ℕ) (cause : OemCause) (v : Vec3) → IsVector limit v → vector_within limit cause (Some v.x) (Some v.y) (Some v.z) ≡ Ok v
 vector_again limit cause v is =
     rw (
       le-leb (unsigned_abs v.x) limit (size_within limit v.x is.x),
@@ -99,7 +99,7 @@ vector_again limit cause v is =
       le-leb (unsigned_abs v.z) limit (size_within limit v.z is.z),
     ) refl
 
-state_again : (before : Option State) (s : State) → IsState s → following before s ≡ Ok s → state_of_fields before (epoch_of s.at ∷ state_fields s) ≡ Ok s
+state_again : (before : Option PlainNode) (s : PlainNode) → IsState s → following before s ≡ Ok s → state_of_fields before (epoch_of s.at ∷ state_fields s) ≡ Ok s
 unfolding state_of_fields
 state_again before s is follows_on =
     rw (
@@ -114,34 +114,34 @@ state_again before s is follows_on =
       vector_again MAX_RATE causes.RateRange s.v is.rate,
     ) follows_on
 
-row_again : (before : Option State) (s : State) → IsState s → following before s ≡ Ok s → state_of_row before (row_content s) ≡ Ok s
+row_again : (before : Option PlainNode) (s : PlainNode) → IsState s → following before s ≡ Ok s → state_of_row before (row_content s) ≡ Ok s
 row_again before s is follows_on =
     ap (state_of_fields before) (ap fields (row_shape s) ∙ fields_row (epoch_of s.at) (state_fields s) (state_are_fields s is)) ∙ state_again before s is follows_on
 
 -- ---- the lines
 
-abbrev pub state_forms : State → List Form
+abbrev pub state_forms : PlainNode → List Form
 state_forms s = Row (row_content s) ∷ []
 
-pub state_told : (s : State) → IsState s → Tells (row_text s) (state_forms s)
+pub state_told : (s : PlainNode) → IsState s → Tells (row_text s) (state_forms s)
 unfolding row_text
 state_told s is =
     subst (λ text. Tells (line text) (Row text ∷ [])) (sym (row_shape s))
     (told_line (row_of (epoch_of s.at) (state_fields s)) (Row (row_of (epoch_of s.at) (state_fields s))) (row_line (epoch_of s.at) (state_fields s) (state_are_fields s is)))
 
-last_behind : (o : Option State) (states : List State) (s : State) → last_or o (states ++ s ∷ []) ≡ Some s
+last_behind : (o : Option PlainNode) (states : List PlainNode) (s : PlainNode) → last_or o (states ++ s ∷ []) ≡ Some s
 last_behind o [] s = refl
 last_behind o (t ∷ states) s = last_behind (Some t) states s
 
-abbrev stretch : Plan → List State → Stretch
+abbrev stretch : Metadata → List PlainNode → OpenSegment
 stretch plan states = record { plan = plan; states = states }
 
-state_follows : (b : Body) (plan : Plan) (front : List State) (s : State) → IsState s → following (last_state front) s ≡ Ok s
+state_follows : (b : Body) (plan : Metadata) (front : List PlainNode) (s : PlainNode) → IsState s → following (last_state front) s ≡ Ok s
     → follows false (Data b (stretch plan front)) (Row (row_content s)) ≡ Ok (Data b (stretch plan (front ++ s ∷ [])))
 unfolding follows
 state_follows b plan front s is follows_on = rw (row_again (last_state front) s is follows_on) refl
 
-pub states_walk : (b : Body) (plan : Plan) (front states : List State) → All IsState states → Follow (last_state front) states
+pub states_walk : (b : Body) (plan : Metadata) (front states : List PlainNode) → All IsState states → Follow (last_state front) states
     → walk (Data b (stretch plan front)) (flat_map state_forms states) ≡ Ok (Data b (stretch plan (front ++ states)))
 states_walk b plan front [] all follow = ap (λ ss. Ok (Data b (stretch plan ss))) (sym (append-nil front))
 states_walk b plan front (s ∷ states) all follow =

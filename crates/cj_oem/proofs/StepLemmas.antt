@@ -1,9 +1,10 @@
 -- Steps one after another, and what is known where they succeed.
-use Rattle.std.proofs.Common.{◌≡◌, ℕ, List, Bool, true, false, IfOk, ◌⊎◌, inl, inr, Result, Ok, Err, refl}
-use Rattle.std.specs.Prelude.{if◌then◌else◌, not}
+use Rattle.std.proofs.Common.{◌≡◌, ℕ, suc, ◌<◌, ◌≤◌, arith, List, Bool, true, false, IfOk, ◌⊎◌, inl, inr, Result, Ok, Err, refl}
+use Rattle.std.specs.Prelude.{if◌then◌else◌, ◌&&◌, ◌||◌, not, nat_le, nat_lt}
+use Rattle.std.proofs.lemmas.Bool.Decides.{leb_tells}
 use Rattle.std.specs.Cmp.Lexicographic.{bytes_decides}
 use Rattle.cj_oem.specs.declared.fault.OemCause.{OemCause}
-use Rattle.cj_oem.specs.Labels.{is_text}
+use Rattle.cj_oem.specs.Words.{is_text}
 use Rattle.cj_oem.specs.Metadata.{◌>>=◌, unless}
 
 -- ---- what holds of what is found
@@ -11,11 +12,6 @@ use Rattle.cj_oem.specs.Metadata.{◌>>=◌, unless}
 pub if_ok_then : {A B : Type 0} (P : B → Type 0) (r : Result A OemCause) (f : A → Result B OemCause) → ((x : A) → IfOk (f x) P) → IfOk (r >>= f) P
 if_ok_then P (Ok x) f h = h x
 if_ok_then P (Err e) f h = tt
-
-pub if_ok_after : {A B : Type 0} (P : A → Type 0) (Q : B → Type 0) (r : Result A OemCause) (f : A → Result B OemCause) → IfOk r P → ((x : A) → P x → IfOk (f x) Q)
-    → IfOk (r >>= f) Q
-if_ok_after P Q (Ok x) f h g = g x h
-if_ok_after P Q (Err e) f h g = tt
 
 pub if_ok_cond : {A E : Type 0} (P : A → Type 0) (b : Bool) (r s : Result A E) → IfOk r P → IfOk s P → IfOk (if b then r else s) P
 if_ok_cond P true r s h g = h
@@ -32,6 +28,9 @@ pub bind_into : {A B C : Type 0} (r : Result A OemCause) (c : A → B) (f : B �
     → (x : A) × (r ≡ Ok x) × (f (c x) ≡ Ok y)
 bind_into (Ok x) c f y e = (x, refl, e)
 bind_into (Err cause) c f y e = absurd cc
+
+pub ok_is : {A : Type 0} (x y : A) → ◌≡◌ {A = Result A OemCause} (Ok x) (Ok y) → x ≡ y
+ok_is x y e = cc
 
 pub chosen : {A : Type 0} (b : Bool) (x y z : A) → (if b then x else y) ≡ z → ((b ≡ true) × (x ≡ z)) ⊎ ((b ≡ false) × (y ≡ z))
 chosen true x y z e = inl (refl, e)
@@ -54,6 +53,29 @@ unless_ok false c u e = refl
 pub not_false : (b : Bool) → not b ≡ false → b ≡ true
 not_false true e = refl
 not_false false e = absurd cc
+
+-- the test held, where the other is a cause
+pub unless_not : (b : Bool) (c : OemCause) (u : Unit {0}) → unless (not b) c ≡ Ok u → b ≡ true
+unless_not b c u e = not_false b (unless_ok (not b) c u e)
+
+-- ---- tests
+
+pub both_true : (a b : Bool) → (a && b) ≡ true → (a ≡ true) × (b ≡ true)
+both_true true b e = (refl, e)
+both_true false b e = absurd cc
+
+pub both_false : (a b : Bool) → (a || b) ≡ false → (a ≡ false) × (b ≡ false)
+both_false true b e = absurd cc
+both_false false b e = (refl, e)
+
+pub le_holds : (a b : ℕ) → nat_le a b ≡ true → a ≤ b
+le_holds a b e = elim (leb_tells a b) [ inl h ↦ h.1 | inr h ↦ absurd cc ]
+
+pub le_fails : (a b : ℕ) → nat_le a b ≡ false → b < a
+le_fails a b e = elim (leb_tells a b) [ inl h ↦ absurd cc | inr h ↦ omega arith ]
+
+pub lt_fails : (a b : ℕ) → nat_lt a b ≡ false → b ≤ a
+lt_fails a b e = elim (leb_tells (suc a) b) [ inl h ↦ absurd cc | inr h ↦ omega arith ]
 
 -- ---- texts
 

@@ -4,10 +4,10 @@ use Rattle.std.specs.List.{flat_map, repeat}
 use Rattle.cj_kvn.specs.Numbers.{Number}
 use Rattle.cj_kvn.specs.Decimals.{decimal_text_of}
 use Rattle.cj_epoch.specs.Written.{epoch_of}
-use Rattle.cj_oem.specs.declared.vec3.Vec3.{Vec3}
-use Rattle.cj_oem.specs.declared.frame.Frame.{Frame}
-use Rattle.cj_oem.specs.declared.frame.Frame.TheVariants as frames
-use Rattle.cj_oem.specs.Ephemeris.{State, Covariance, Arc, Ephemeris}
+use Rattle.cj_track.specs.declared.vec3.Vec3.{Vec3}
+use Rattle.cj_track.specs.declared.frame.Frame.{Frame}
+use Rattle.cj_track.specs.declared.frame.Frame.TheVariants as frames
+use Rattle.cj_track.specs.PlainTracks.{PlainNode, PlainMatrix, PlainSegment, PlainTrack}
 
 abbrev pub line : List ℕ → List ℕ
 line text = text ++ 10 ∷ []
@@ -30,7 +30,7 @@ abbrev pub vector_text : Vec3 → List ℕ
 vector_text v = figure_text v.x ++ 32 ∷ [] ++ figure_text v.y ++ 32 ∷ [] ++ figure_text v.z
 
 -- the row of a state, one space between its fields
-unfoldable pub row_text : State → List ℕ
+unfoldable pub row_text : PlainNode → List ℕ
 row_text s = line (epoch_of s.at ++ 32 ∷ [] ++ vector_text s.p ++ 32 ∷ [] ++ vector_text s.v)
 
 -- numbers with one space between
@@ -44,14 +44,14 @@ abbrev pub matrix_row : ℕ → ℕ → List Number → List ℕ
 matrix_row start count values = line (numbers_text (take count (drop start values)))
 
 -- a covariance: its epoch, its frame, its six rows
-unfoldable pub covariance_text : Covariance → List ℕ
+unfoldable pub covariance_text : PlainMatrix → List ℕ
 covariance_text c =
     entry (codes "EPOCH") (epoch_of c.at) ++ entry (codes "COV_REF_FRAME") (codes "RTN")
     ++ matrix_row 0 1 c.values ++ matrix_row 1 2 c.values ++ matrix_row 3 3 c.values ++ matrix_row 6 4 c.values
     ++ matrix_row 10 5 c.values ++ matrix_row 15 6 c.values
 
 -- the covariances of a segment between their marks, where there are any
-abbrev pub covariances_text : List Covariance → List ℕ
+abbrev pub covariances_text : List PlainMatrix → List ℕ
 covariances_text [] = []
 covariances_text (c ∷ cs) = line (codes "COVARIANCE_START") ++ flat_map covariance_text (c ∷ cs) ++ line (codes "COVARIANCE_STOP")
 
@@ -60,7 +60,7 @@ frame_text frames.Eme2000 = codes "EME2000"
 frame_text frames.Gcrf = codes "GCRF"
 
 -- the metadata of a segment
-unfoldable pub metadata_text : Ephemeris → Arc → List ℕ
+unfoldable pub metadata_text : PlainTrack → PlainSegment → List ℕ
 metadata_text e arc =
     line (codes "META_START") ++ entry (codes "OBJECT_NAME") e.name ++ entry (codes "OBJECT_ID") e.id
     ++ entry (codes "CENTER_NAME") (codes "EARTH") ++ entry (codes "REF_FRAME") (frame_text e.frame) ++ entry (codes "TIME_SYSTEM") (codes "UTC")
@@ -68,7 +68,7 @@ metadata_text e arc =
     ++ entry (codes "INTERPOLATION") (codes "HERMITE") ++ entry (codes "INTERPOLATION_DEGREE") (codes "3") ++ line (codes "META_STOP")
 
 -- a segment: its metadata, its nodes, its covariances
-unfoldable pub segment_text : Ephemeris → Arc → List ℕ
+unfoldable pub segment_text : PlainTrack → PlainSegment → List ℕ
 segment_text e arc = metadata_text e arc ++ flat_map row_text arc.states ++ covariances_text arc.covariances
 
 -- the header
@@ -77,5 +77,5 @@ header_text =
     entry (codes "CCSDS_OEM_VERS") (codes "2.0") ++ entry (codes "CREATION_DATE") (codes "1972-01-01T00:00:00.000000") ++ entry (codes "ORIGINATOR") (codes "CONJ")
 
 -- the whole text
-unfoldable pub text_of : Ephemeris → List ℕ
+unfoldable pub text_of : PlainTrack → List ℕ
 text_of e = header_text ++ flat_map (segment_text e) e.arcs

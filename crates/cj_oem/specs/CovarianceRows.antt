@@ -6,9 +6,9 @@ use Rattle.cj_kvn.specs.Decimals.{decimal_of}
 use Rattle.cj_kvn.specs.declared.numbers.NumFault.{NumFault}
 use Rattle.cj_oem.specs.declared.fault.OemCause.{OemCause}
 use Rattle.cj_oem.specs.declared.fault.OemCause.TheVariants as causes
-use Rattle.cj_oem.specs.Labels.{is_text, is_word}
-use Rattle.cj_oem.specs.Ephemeris.{Covariance}
-use Rattle.cj_oem.specs.Metadata.{◌>>=◌, unless, epoch_said}
+use Rattle.cj_oem.specs.Words.{is_text, is_word}
+use Rattle.cj_track.specs.PlainTracks.{PlainMatrix}
+use Rattle.cj_oem.specs.Metadata.{◌>>=◌, unless, parse_epoch}
 
 -- a matrix so far: its epoch, whether its frame was given and is RTN, how many rows were read, their values
 pub record Draft : Type 0 where
@@ -20,29 +20,29 @@ pub record Draft : Type 0 where
 
 -- the covariances of a segment so far: those that are whole and in RTN, and the one that is being read
 pub record Covariances : Type 0 where
-  pub whole : List Covariance
+  pub whole : List PlainMatrix
   pub draft : Option Draft
 
 abbrev pub NO_COVARIANCES : Covariances
 NO_COVARIANCES = record { whole = []; draft = None }
 
 -- a whole matrix stands behind the others, where its frame is RTN
-abbrev pub with_whole : List Covariance → Draft → List Covariance
+abbrev pub with_whole : List PlainMatrix → Draft → List PlainMatrix
 with_whole whole d = if d.rtn then whole ++ record { at = d.at; values = d.values } ∷ [] else whole
 
 -- the matrices where the last one has its six rows
-abbrev pub closed_with : List Covariance → Option Draft → Result (List Covariance) OemCause
+abbrev pub closed_with : List PlainMatrix → Option Draft → Result (List PlainMatrix) OemCause
 closed_with whole None = Ok whole
 closed_with whole (Some d) = if d.rows == 6 then Ok (with_whole whole d) else Err causes.MatrixForm
 
-unfoldable pub closed : Covariances → Result (List Covariance) OemCause
+unfoldable pub closed : Covariances → Result (List PlainMatrix) OemCause
 closed m = closed_with m.whole m.draft
 
 -- a matrix begins
 abbrev pub with_epoch : Covariances → List ℕ → Result Covariances OemCause
 with_epoch m value = do
   whole ← closed m
-  at ← epoch_said value
+  at ← parse_epoch value
   Ok (record { whole = whole; draft = Some (record { at = at; framed = false; rtn = false; rows = 0; values = [] }) })
 
 -- the frame of a matrix that has no row

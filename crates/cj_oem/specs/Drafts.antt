@@ -6,7 +6,7 @@ use Rattle.cj_oem.specs.declared.draft.Draft as kept_draft
 use Rattle.cj_oem.specs.declared.covariances.Covariances as kept_covariances
 use Rattle.cj_oem.specs.CovarianceRows.{Draft, Covariances}
 use Rattle.cj_oem.specs.Metadata.{◌>>=◌}
-use Rattle.cj_oem.specs.Tracks.{covariance_of}
+use Rattle.cj_track.specs.Tracks.{plain_matrix}
 
 -- how many values the first rows of a lower triangle have
 abbrev pub value_count : ℕ → ℕ
@@ -18,7 +18,7 @@ draft_of d = record { at = d.at.micros; framed = d.framed; rtn = d.rtn; rows = d
 
 -- the covariances so far
 abbrev pub covariances_of : kept_covariances.Covariances → Covariances
-covariances_of m = record { whole = map covariance_of m.whole.items; draft = option_map draft_of m.draft }
+covariances_of m = record { whole = map plain_matrix m.whole.items; draft = option_map draft_of m.draft }
 
 -- a matrix of which only the epoch was read
 abbrev pub begun : ℕ → Draft

@@ -3,13 +3,13 @@ use Rattle.std.specs.Prelude.{ℕ, Bool, true, false, ◌&&◌, ◌||◌, not, �
 use Rattle.cj_kvn.specs.Lines.{spaced}
 use Rattle.cj_epoch.specs.Reading.{reading_of}
 use Rattle.cj_epoch.specs.declared.fault.EpochFault.{EpochFault}
-use Rattle.cj_oem.specs.declared.frame.Frame.{Frame}
-use Rattle.cj_oem.specs.declared.frame.Frame.TheVariants as frames
+use Rattle.cj_track.specs.declared.frame.Frame.{Frame}
+use Rattle.cj_track.specs.declared.frame.Frame.TheVariants as frames
 use Rattle.cj_oem.specs.declared.key.Key.{Key}
 use Rattle.cj_oem.specs.declared.key.Key.TheVariants as keys
 use Rattle.cj_oem.specs.declared.fault.OemCause.{OemCause}
 use Rattle.cj_oem.specs.declared.fault.OemCause.TheVariants as causes
-use Rattle.cj_oem.specs.Labels.{is_text, is_word}
+use Rattle.cj_oem.specs.Words.{is_text, is_word}
 
 -- one step after another, up to the first cause
 infixl 10 ◌>>=◌
@@ -28,7 +28,7 @@ pub record Object : Type 0 where
   pub frame : Frame
 
 -- what the keys of a block have said so far
-pub record Sheet : Type 0 where
+pub record MetadataDraft : Type 0 where
   pub name : Option (List ℕ)
   pub id : Option (List ℕ)
   pub center : Bool
@@ -44,7 +44,7 @@ pub record Sheet : Type 0 where
   pub cubic : Option Bool
 
 -- no key was given
-abbrev pub EMPTY : Sheet
+abbrev pub EMPTY : MetadataDraft
 EMPTY = record {
   name = None;
   id = None;
@@ -78,7 +78,7 @@ key_of text =
     else None
 
 -- the key was given
-abbrev pub is_given : Key → Sheet → Bool
+abbrev pub is_given : Key → MetadataDraft → Bool
 is_given keys.ObjectName s = is_some s.name
 is_given keys.ObjectId s = is_some s.id
 is_given keys.CenterName s = s.center
@@ -98,8 +98,8 @@ text_differs None text = false
 text_differs (Some first) text = not (is_text first text)
 
 -- what a name or a designator says: the first segment's, if there is one
-abbrev pub label_said : Option (List ℕ) → List ℕ → Result (List ℕ) OemCause
-label_said first value =
+abbrev pub parse_label : Option (List ℕ) → List ℕ → Result (List ℕ) OemCause
+parse_label first value =
     if length value == 0 then Err causes.Missing
     else if text_differs first (map spaced value) then Err causes.ObjectChanged
     else Ok (map spaced value)
@@ -128,8 +128,8 @@ abbrev pub epoch_or : Result ℕ EpochFault → Result ℕ OemCause
 epoch_or (Ok tick) = Ok tick
 epoch_or (Err fault) = Err (causes.Epoch fault)
 
-abbrev pub epoch_said : List ℕ → Result ℕ OemCause
-epoch_said text = epoch_or (reading_of text)
+abbrev pub parse_epoch : List ℕ → Result ℕ OemCause
+parse_epoch text = epoch_or (reading_of text)
 
 -- what the first segment gives for later ones
 abbrev pub name_of : Option Object → Option (List ℕ)
@@ -145,30 +145,30 @@ frame_of None = None
 frame_of (Some object) = Some object.frame
 
 -- the sheet with what a key says that was not given
-unfoldable pub with_value : Option Object → Sheet → Key → List ℕ → Result Sheet OemCause
-with_value first s keys.ObjectName value = label_said (name_of first) value >>= λ name. Ok (record s { name = Some name })
-with_value first s keys.ObjectId value = label_said (id_of first) value >>= λ id. Ok (record s { id = Some id })
+unfoldable pub with_value : Option Object → MetadataDraft → Key → List ℕ → Result MetadataDraft OemCause
+with_value first s keys.ObjectName value = parse_label (name_of first) value >>= λ name. Ok (record s { name = Some name })
+with_value first s keys.ObjectId value = parse_label (id_of first) value >>= λ id. Ok (record s { id = Some id })
 with_value first s keys.CenterName value = if is_word (codes "EARTH") value then Ok (record s { center = true }) else Err causes.Center
 with_value first s keys.RefFrame value = frame_kept (frame_of first) (frame_named value) >>= λ frame. Ok (record s { frame = Some frame })
 with_value first s keys.RefFrameEpoch value = Ok (record s { frame_epoch = true })
 with_value first s keys.TimeSystem value = if is_word (codes "UTC") value then Ok (record s { time_system = true }) else Err causes.TimeSystem
-with_value first s keys.StartTime value = epoch_said value >>= λ at. Ok (record s { start = Some at })
-with_value first s keys.StopTime value = epoch_said value >>= λ at. Ok (record s { stop = Some at })
-with_value first s keys.UseableStartTime value = epoch_said value >>= λ at. Ok (record s { useable_start = Some at })
-with_value first s keys.UseableStopTime value = epoch_said value >>= λ at. Ok (record s { useable_stop = Some at })
+with_value first s keys.StartTime value = parse_epoch value >>= λ at. Ok (record s { start = Some at })
+with_value first s keys.StopTime value = parse_epoch value >>= λ at. Ok (record s { stop = Some at })
+with_value first s keys.UseableStartTime value = parse_epoch value >>= λ at. Ok (record s { useable_start = Some at })
+with_value first s keys.UseableStopTime value = parse_epoch value >>= λ at. Ok (record s { useable_stop = Some at })
 with_value first s keys.Interpolation value = Ok (record s { hermite = Some (is_word (codes "HERMITE") value) })
 with_value first s keys.InterpolationDegree value = Ok (record s { cubic = Some (is_text (codes "3") value) })
 
 -- the sheet with a further pair
-abbrev pub with_key : Option Object → Sheet → Option Key → List ℕ → Result Sheet OemCause
+abbrev pub with_key : Option Object → MetadataDraft → Option Key → List ℕ → Result MetadataDraft OemCause
 with_key first s None value = Err causes.Unknown
 with_key first s (Some key) value = if is_given key s then Err causes.Twice else with_value first s key value
 
-unfoldable pub with_pair : Option Object → Sheet → List ℕ → List ℕ → Result Sheet OemCause
+unfoldable pub with_pair : Option Object → MetadataDraft → List ℕ → List ℕ → Result MetadataDraft OemCause
 with_pair first s key value = with_key first s (key_of key) value
 
 -- what the metadata of a segment says: its object, and its useable span
-pub record Plan : Type 0 where
+pub record Metadata : Type 0 where
   pub object : Object
   pub first : ℕ
   pub last : ℕ
@@ -179,11 +179,11 @@ needed None = Err causes.Missing
 needed (Some x) = Ok x
 
 -- the file declares the cubic between two nodes
-abbrev pub is_cubic : Sheet → Bool
+abbrev pub is_cubic : MetadataDraft → Bool
 is_cubic s = unwrap_or s.hermite false && unwrap_or s.cubic false
 
 -- what a whole sheet says; the cubic may be taken where the file declares another interpolation or none
-unfoldable pub plan_of : Bool → Sheet → Result Plan OemCause
+unfoldable pub plan_of : Bool → MetadataDraft → Result Metadata OemCause
 plan_of as_hermite3 s = do
   name ← needed s.name
   id ← needed s.id

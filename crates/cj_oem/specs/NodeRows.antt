@@ -7,12 +7,12 @@ use Rattle.cj_kvn.specs.Decimals.{decimal_of}
 use Rattle.cj_kvn.specs.declared.numbers.NumFault.{NumFault}
 use Rattle.cj_kvn.specs.declared.numbers.NumFault.TheVariants.{NotNumber, TooLarge}
 use Rattle.cj_epoch.specs.LeapSeconds.{leap_lies_between}
-use Rattle.cj_oem.specs.declared.vec3.Vec3.{Vec3}
+use Rattle.cj_track.specs.declared.vec3.Vec3.{Vec3}
 use Rattle.cj_oem.specs.declared.fault.OemCause.{OemCause}
 use Rattle.cj_oem.specs.declared.fault.OemCause.TheVariants as causes
-use Rattle.cj_oem.specs.Limits.{MAX_COORDINATE, MAX_RATE, MAX_STEP}
-use Rattle.cj_oem.specs.Ephemeris.{State}
-use Rattle.cj_oem.specs.Metadata.{◌>>=◌, unless, epoch_said}
+use Rattle.cj_track.specs.Limits.{MAX_COORDINATE, MAX_RATE, MAX_STEP}
+use Rattle.cj_track.specs.PlainTracks.{PlainNode}
+use Rattle.cj_oem.specs.Metadata.{◌>>=◌, unless, parse_epoch}
 
 -- a number in units of 10 ^ -12; none where it is past every range
 abbrev pub figure_or : Result ℤ NumFault → Result (Option ℤ) OemCause
@@ -20,8 +20,8 @@ figure_or (Ok z) = Ok (Some z)
 figure_or (Err TooLarge) = Ok None
 figure_or (Err NotNumber) = Err causes.Number
 
-abbrev pub figure_said : List ℕ → Result (Option ℤ) OemCause
-figure_said text = figure_or (scaled_of 12 text)
+abbrev pub parse_figure : List ℕ → Result (Option ℤ) OemCause
+parse_figure text = figure_or (scaled_of 12 text)
 
 -- a number that is at most so large in size
 abbrev pub within_or : ℕ → OemCause → Option ℤ → Result ℤ OemCause
@@ -48,7 +48,7 @@ abbrev pub field_in : List (List ℕ) → ℕ → List ℕ
 field_in row i = slice_index_or row i []
 
 -- the node may follow the one before
-abbrev pub following : Option State → State → Result State OemCause
+abbrev pub following : Option PlainNode → PlainNode → Result PlainNode OemCause
 following None s = Ok s
 following (Some before) s = do
   _ ← unless (nat_le s.at before.at) causes.TimesFall
@@ -57,20 +57,20 @@ following (Some before) s = do
   Ok s
 
 -- the state of a row of seven fields, or of ten with accelerations, that follows the state before
-unfoldable pub state_of_fields : Option State → List (List ℕ) → Result State OemCause
+unfoldable pub state_of_fields : Option PlainNode → List (List ℕ) → Result PlainNode OemCause
 state_of_fields before row = do
   _ ← unless (not ((length row == 7) || (length row == 10))) causes.Fields
-  at ← epoch_said (field_in row 0)
-  x ← figure_said (field_in row 1)
-  y ← figure_said (field_in row 2)
-  z ← figure_said (field_in row 3)
-  u ← figure_said (field_in row 4)
-  v ← figure_said (field_in row 5)
-  w ← figure_said (field_in row 6)
+  at ← parse_epoch (field_in row 0)
+  x ← parse_figure (field_in row 1)
+  y ← parse_figure (field_in row 2)
+  z ← parse_figure (field_in row 3)
+  u ← parse_figure (field_in row 4)
+  v ← parse_figure (field_in row 5)
+  w ← parse_figure (field_in row 6)
   _ ← unless (not (list_all is_decimal (drop 7 row))) causes.Number
   place ← vector_within MAX_COORDINATE causes.CoordinateRange x y z
   rate ← vector_within MAX_RATE causes.RateRange u v w
   following before (record { at = at; p = place; v = rate })
 
-abbrev pub state_of_row : Option State → List ℕ → Result State OemCause
+abbrev pub state_of_row : Option PlainNode → List ℕ → Result PlainNode OemCause
 state_of_row before text = state_of_fields before (fields text)

@@ -6,10 +6,10 @@ use Rattle.cj_kvn.specs.declared.lines.KvnFault.TheVariants as lines
 use Rattle.cj_oem.specs.Stages as spec
 use Rattle.cj_oem.specs.Drafts.{covariances_of}
 use Rattle.cj_oem.specs.Reading.{Fault}
-use Rattle.cj_oem.specs.Sheets.{object_of, plan_of, sheet_of}
-use Rattle.cj_oem.specs.Tracks.{arc_of, state_of}
+use Rattle.cj_oem.specs.MetadataDrafts.{object_of, plan_of, metadata_draft_of}
+use Rattle.cj_track.specs.Tracks.{plain_segment, plain_node}
 use Rattle.cj_oem.specs.declared.body.Body.{Body}
-use Rattle.cj_oem.specs.declared.body.Stretch.{Stretch}
+use Rattle.cj_oem.specs.declared.body.OpenSegment.{OpenSegment}
 use Rattle.cj_oem.specs.declared.fault.KvnCause.TheVariants as kvn
 use Rattle.cj_oem.specs.declared.fault.OemCause.TheVariants as causes
 use Rattle.cj_oem.specs.declared.fault.OemFault.{OemFault}
@@ -24,17 +24,17 @@ abbrev pub head_of : Head → spec.Head
 head_of h = record { date = h.date; originator = h.originator; classification = h.classification; message = h.message }
 
 abbrev pub body_of : Body → spec.Body
-body_of body = record { object = option_map object_of body.object; arcs = map arc_of body.segments }
+body_of body = record { object = option_map object_of body.object; arcs = map plain_segment body.segments }
 
-abbrev pub stretch_of : Stretch → spec.Stretch
-stretch_of stretch = record { plan = plan_of stretch.plan; states = map state_of stretch.nodes }
+abbrev pub open_segment_of : OpenSegment → spec.OpenSegment
+open_segment_of stretch = record { plan = plan_of stretch.plan; states = map plain_node stretch.nodes }
 
 abbrev pub stage_of : Stage → spec.Stage
 stage_of stages.Start = spec.Start
 stage_of (stages.Header head) = spec.Header (head_of head)
-stage_of (stages.Meta body sheet) = spec.Meta (body_of body) (sheet_of sheet)
-stage_of (stages.Data body stretch) = spec.Data (body_of body) (stretch_of stretch)
-stage_of (stages.Cov closed covariances) = spec.Cov (body_of closed.body) (stretch_of closed.stretch) (covariances_of covariances)
+stage_of (stages.Meta body sheet) = spec.Meta (body_of body) (metadata_draft_of sheet)
+stage_of (stages.Data body stretch) = spec.Data (body_of body) (open_segment_of stretch)
+stage_of (stages.Cov closed covariances) = spec.Cov (body_of closed.body) (open_segment_of closed.stretch) (covariances_of covariances)
 stage_of (stages.After body) = spec.After (body_of body)
 
 -- what a reader answers is what the file says, or the fault at its line; for want of memory nothing is told

@@ -4,17 +4,17 @@ use Rattle.cj_kvn.specs.Lines as kvn
 use Rattle.cj_kvn.specs.Lines.{Numbered}
 use Rattle.cj_kvn.specs.declared.lines.KvnFault.{KvnFault}
 use Rattle.cj_kvn.specs.declared.lines.KvnFault.TheVariants as faults
-use Rattle.cj_oem.specs.declared.track.Track.{Track}
+use Rattle.cj_track.specs.declared.track.Track.{Track}
 use Rattle.cj_oem.specs.declared.fault.OemCause.{OemCause}
 use Rattle.cj_oem.specs.declared.fault.OemCause.TheVariants as causes
 use Rattle.cj_oem.specs.declared.fault.KvnCause.TheVariants.{NotPrintable, NoLineForm}
 use Rattle.cj_oem.specs.declared.fault.OemFault.{OemFault}
 use Rattle.cj_oem.specs.declared.fault.OemFault.TheVariants.{Memory, At}
-use Rattle.cj_oem.specs.Ephemeris.{Ephemeris}
-use Rattle.cj_oem.specs.Labels.{is_file_name}
+use Rattle.cj_track.specs.PlainTracks.{PlainTrack}
+use Rattle.cj_track.specs.Labels.{is_file_name}
 use Rattle.cj_oem.specs.Metadata.{Object}
 use Rattle.cj_oem.specs.Stages.{Stage, Start, Body, follows, finished}
-use Rattle.cj_oem.specs.Tracks.{ephemeris_of}
+use Rattle.cj_track.specs.Tracks.{plain_track}
 
 -- a fault at its line
 pub record Fault : Type 0 where
@@ -36,12 +36,12 @@ read_on as_hermite3 stage number [] = at_line number (finished stage)
 read_on as_hermite3 stage number (line ∷ lines) = at_line line.number (follows as_hermite3 stage line.form) >>= λ next. read_on as_hermite3 next (line.number + 1) lines
 
 -- the object with its segments
-abbrev pub with_object : List ℕ → Body → Option Object → Result Ephemeris Fault
+abbrev pub with_object : List ℕ → Body → Option Object → Result PlainTrack Fault
 with_object file body None = Err (record { line = 0; cause = causes.Missing })
 with_object file body (Some o) = Ok (record { file = file; name = o.name; id = o.id; frame = o.frame; arcs = body.arcs })
 
 -- what the lines of the file with this name say
-unfoldable pub lines_read : Bool → List ℕ → List Numbered → Result Ephemeris Fault
+unfoldable pub lines_read : Bool → List ℕ → List Numbered → Result PlainTrack Fault
 lines_read as_hermite3 file lines = read_on as_hermite3 Start 1 lines >>= λ body. with_object file body body.object
 
 abbrev pub lines_or : Result (List Numbered) KvnFault → Result (List Numbered) Fault
@@ -51,13 +51,24 @@ lines_or (Err (faults.NoLineForm line)) = Err (record { line = line; cause = cau
 lines_or (Err faults.Memory) = Err (record { line = 0; cause = causes.Missing })
 
 -- what the bytes of the file with this name say; the cubic may be taken where the file declares another interpolation or none
-unfoldable pub reading : List ℕ → List ℕ → Bool → Result Ephemeris Fault
+unfoldable pub reading : List ℕ → List ℕ → Bool → Result PlainTrack Fault
 reading file bytes as_hermite3 =
     if is_file_name file then lines_or (kvn.reading bytes) >>= lines_read as_hermite3 file
     else Err (record { line = 0; cause = causes.Name })
 
 -- the track says what the file says, and a fault is the file's; for want of memory nothing is told
-abbrev pub Gives : Result Track OemFault → Result Ephemeris Fault → Type 0
-Gives (Ok track) said = said ≡ Ok (ephemeris_of track)
+abbrev pub Gives : Result Track OemFault → Result PlainTrack Fault → Type 0
+Gives (Ok track) said = said ≡ Ok (plain_track track)
 Gives (Err (At line cause)) said = said ≡ Err (record { line = line; cause = cause })
 Gives (Err Memory) said = Unit {0}
+
+-- the track is this ephemeris, or memory ran out
+abbrev pub IsTrackOf : Result Track OemFault → PlainTrack → Type 0
+IsTrackOf (Ok track) e = plain_track track ≡ e
+IsTrackOf (Err (At line cause)) e = ⊥
+IsTrackOf (Err Memory) e = Unit {0}
+
+-- a fault of the file, at a line of it
+abbrev pub IsOfFile : OemFault → Type 0
+IsOfFile (At line cause) = Unit {0}
+IsOfFile Memory = ⊥

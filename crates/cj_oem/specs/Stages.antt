@@ -5,9 +5,10 @@ use Rattle.cj_kvn.specs.Lines.{Form, Blank, Comment, Mark, Pair, Row}
 use Rattle.cj_kvn.specs.declared.lines.MarkKind.TheVariants.{MetaStart, MetaStop, CovarianceStart, CovarianceStop}
 use Rattle.cj_oem.specs.declared.fault.OemCause.{OemCause}
 use Rattle.cj_oem.specs.declared.fault.OemCause.TheVariants as causes
-use Rattle.cj_oem.specs.Labels.{is_text}
-use Rattle.cj_oem.specs.Ephemeris.{State, Arc, Covariance}
-use Rattle.cj_oem.specs.Metadata.{◌>>=◌, unless, Object, Sheet, EMPTY, Plan, with_pair, plan_of}
+use Rattle.cj_oem.specs.Words.{is_text}
+use Rattle.cj_track.specs.PlainTracks.{PlainNode, PlainSegment, PlainMatrix}
+pub use Rattle.cj_track.specs.PlainTracks.{first_state, last_state}
+use Rattle.cj_oem.specs.Metadata.{◌>>=◌, unless, Object, MetadataDraft, EMPTY, Metadata, with_pair, plan_of}
 use Rattle.cj_oem.specs.NodeRows.{state_of_row}
 use Rattle.cj_oem.specs.CovarianceRows.{Covariances, NO_COVARIANCES, closed, with_matrix_pair, with_matrix_row}
 
@@ -24,23 +25,23 @@ NO_HEAD = record { date = false; originator = false; classification = false; mes
 -- the object, where a segment has named it, and the segments that are whole
 pub record Body : Type 0 where
   pub object : Option Object
-  pub arcs : List Arc
+  pub arcs : List PlainSegment
 
 abbrev pub NO_BODY : Body
 NO_BODY = record { object = None; arcs = [] }
 
 -- a segment so far: what its metadata says, and its states
-pub record Stretch : Type 0 where
-  pub plan : Plan
-  pub states : List State
+pub record OpenSegment : Type 0 where
+  pub plan : Metadata
+  pub states : List PlainNode
 
 -- where a reader stands
 pub data Stage : Type 0 where
   Start : Stage
   Header : Head → Stage
-  Meta : Body → Sheet → Stage
-  Data : Body → Stretch → Stage
-  Cov : Body → Stretch → Covariances → Stage
+  Meta : Body → MetadataDraft → Stage
+  Data : Body → OpenSegment → Stage
+  Cov : Body → OpenSegment → Covariances → Stage
   After : Body → Stage
 
 -- ---- the header
@@ -77,46 +78,38 @@ in_header h form = Err causes.Order
 
 -- ---- metadata
 
-abbrev pub in_meta : Bool → Body → Sheet → Form → Result Stage OemCause
+abbrev pub in_meta : Bool → Body → MetadataDraft → Form → Result Stage OemCause
 in_meta as_hermite3 b s (Pair key value) = with_pair b.object s key value >>= λ sheet. Ok (Meta b sheet)
 in_meta as_hermite3 b s (Mark MetaStop) = plan_of as_hermite3 s >>= λ plan. Ok (Data b (record { plan = plan; states = [] }))
 in_meta as_hermite3 b s form = Err causes.Order
 
 -- ---- nodes
 
--- the first state, and the last one
-abbrev pub first_state : List State → Option State
-first_state [] = None
-first_state (s ∷ states) = Some s
-
-abbrev pub last_state : List State → Option State
-last_state states = last_or None states
-
 -- the useable span is not empty, and lies from the first node to the last
-abbrev pub is_useable : ℕ → ℕ → Option State → Option State → Bool
+abbrev pub is_useable : ℕ → ℕ → Option PlainNode → Option PlainNode → Bool
 is_useable first last None z = false
 is_useable first last (Some a) None = false
 is_useable first last (Some a) (Some z) = nat_le first last && nat_le a.at first && nat_le last z.at
 
 -- the tick up to which the segments before are useable
-abbrev pub end_of : List Arc → ℕ
+abbrev pub end_of : List PlainSegment → ℕ
 end_of arcs = unwrap_or (last_or None (map (λ arc. arc.last) arcs)) 0
 
 -- the nodes of a segment are closed
-unfoldable pub close_nodes : Body → Stretch → Result (Unit {0}) OemCause
+unfoldable pub close_nodes : Body → OpenSegment → Result (Unit {0}) OemCause
 close_nodes b s = do
   _ ← unless (nat_lt (length s.states) 2) causes.TooFewNodes
   _ ← unless (not (is_useable s.plan.first s.plan.last (first_state s.states) (last_state s.states))) causes.UseableSpan
   unless (nat_lt s.plan.first (end_of b.arcs)) causes.SegmentsOverlap
 
 -- the segments with a further one
-abbrev pub with_arc : Body → Stretch → List Covariance → Body
+abbrev pub with_arc : Body → OpenSegment → List PlainMatrix → Body
 with_arc b s covariances = record {
   object = Some s.plan.object;
   arcs = b.arcs ++ record { first = s.plan.first; last = s.plan.last; states = s.states; covariances = covariances } ∷ [];
 }
 
-abbrev pub in_data : Body → Stretch → Form → Result Stage OemCause
+abbrev pub in_data : Body → OpenSegment → Form → Result Stage OemCause
 in_data b s (Row text) = state_of_row (last_state s.states) text >>= λ state. Ok (Data b (record s { states = s.states ++ state ∷ [] }))
 in_data b s (Mark MetaStart) = close_nodes b s >>= λ _. Ok (Meta (with_arc b s []) EMPTY)
 in_data b s (Mark CovarianceStart) = close_nodes b s >>= λ _. Ok (Cov b s NO_COVARIANCES)
@@ -124,7 +117,7 @@ in_data b s form = Err causes.Order
 
 -- ---- covariances
 
-abbrev pub in_cov : Body → Stretch → Covariances → Form → Result Stage OemCause
+abbrev pub in_cov : Body → OpenSegment → Covariances → Form → Result Stage OemCause
 in_cov b s m (Pair key value) = with_matrix_pair m key value >>= λ m. Ok (Cov b s m)
 in_cov b s m (Row text) = with_matrix_row m text >>= λ m. Ok (Cov b s m)
 in_cov b s m (Mark CovarianceStop) = closed m >>= λ covariances. Ok (After (with_arc b s covariances))

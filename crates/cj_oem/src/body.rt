@@ -1,13 +1,13 @@
 //! The segments of a file so far.
 ghost use Rattle.std.specs.Prelude.{◌≡◌, []};
-ghost use Rattle.cj_oem.specs.Readers.{body_of, stretch_of};
-ghost use Rattle.cj_oem.specs.Sheets.{plan_of};
+ghost use Rattle.cj_oem.specs.Readers.{body_of, open_segment_of};
+ghost use Rattle.cj_oem.specs.MetadataDrafts.{plan_of};
 ghost use Rattle.cj_oem.specs.Stages as spec;
 
 use crate::node_list::NodeList;
 use crate::object::Object;
-use crate::plan::Plan;
 use crate::segment_list::SegmentList;
+use crate::segment_metadata::Metadata;
 use std::alloc::Global;
 
 /// The object, where a segment has named it, and the segments that are whole.
@@ -30,16 +30,16 @@ impl Body {
 
 /// A segment so far: what its metadata says, and its nodes.
 #[derive(Debug, Drop)]
-pub(crate) struct Stretch {
-    pub(crate) plan: Plan,
+pub(crate) struct OpenSegment {
+    pub(crate) plan: Metadata,
     pub(crate) nodes: NodeList,
 }
 
-impl Stretch {
-    pub(crate) fn new(alloc: Global, plan: Plan) -> Self
-        ensures { stretch_of result ≡ record { plan = plan_of plan; states = [] } }
+impl OpenSegment {
+    pub(crate) fn new(alloc: Global, plan: Metadata) -> Self
+        ensures { open_segment_of result ≡ record { plan = plan_of plan; states = [] } }
     {
-        Stretch {
+        OpenSegment {
             plan,
             nodes: NodeList::new(alloc),
         }

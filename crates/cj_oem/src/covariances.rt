@@ -5,10 +5,10 @@ ghost use Rattle.cj_oem.specs.Answers.{Gives, Tells};
 
 use crate::draft::Draft;
 use crate::fault::OemCause;
-use crate::matrix::Matrix;
 use crate::refused::Refused;
-use crate::word::epoch_said;
+use crate::word::parse_epoch;
 use cj_kvn::Range32;
+use cj_track::Matrix;
 use std::alloc::Global;
 
 /// The covariances of a segment so far: those that are whole and in the frame RTN, and the one that is being read.
@@ -21,7 +21,7 @@ pub(crate) struct Covariances {
 impl Covariances {
     ghost use Rattle.cj_oem.specs.CovarianceRows as spec;
     ghost use Rattle.cj_oem.specs.Drafts.{covariances_of, with_draft};
-    ghost use Rattle.cj_oem.specs.Tracks.{covariance_of};
+    ghost use Rattle.cj_track.specs.Tracks.{plain_matrix};
 
     pub(crate) fn new(alloc: Global) -> Self
         ensures { covariances_of result ≡ spec.NO_COVARIANCES }
@@ -61,7 +61,7 @@ impl Covariances {
 
     /// The covariances in the frame RTN, where the last one is whole.
     pub(crate) fn close(self) -> Result<Vec<Matrix>, Refused>
-        ensures { Gives (λ v. map covariance_of v.items) result (spec.closed (covariances_of self)) }
+        ensures { Gives (λ v. map plain_matrix v.items) result (spec.closed (covariances_of self)) }
     {
         let mut covariances = self;
         covariances.finish()?;
@@ -72,7 +72,7 @@ impl Covariances {
     /// Puts the matrix that was read to the others, where its frame is RTN.
     #[tactic(auto, unfolding(crate::specs::CovarianceRows::closed))]
     fn finish(&mut self) -> Result<(), Refused>
-        ensures { Gives (λ _. map covariance_of self.new.whole.items) result (spec.closed (covariances_of self.old)) }
+        ensures { Gives (λ _. map plain_matrix self.new.whole.items) result (spec.closed (covariances_of self.old)) }
     {
         let Some(draft) = self.draft else {
             return Ok(());
@@ -91,7 +91,7 @@ impl Covariances {
         ensures { Gives (λ _. covariances_of self.new) result (spec.with_epoch (covariances_of self.old) value.now) }
     {
         self.finish()?;
-        let at = epoch_said(value)?;
+        let at = parse_epoch(value)?;
         self.draft = Some(Draft::new(at));
         Ok(())
     }

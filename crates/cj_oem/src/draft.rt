@@ -5,11 +5,11 @@ ghost use Rattle.cj_kvn.specs.Decimals.{IsReadable, number_of};
 
 use crate::fault::OemCause;
 use crate::figures::decimal_said;
-use crate::matrix::Matrix;
 use crate::row_fields::{field_text, has_fields};
 use crate::word::is_word;
 use cj_epoch::Tick;
 use cj_kvn::{Decimal, Range32};
+use cj_track::Matrix;
 
 /// A matrix that is being read: its epoch, whether its frame was given and is RTN, how many of its six rows were read, and their
 /// values, row by row.
@@ -31,7 +31,7 @@ impl Draft {
     ghost use Rattle.cj_oem.specs.Answers.{Tells};
     ghost use Rattle.cj_oem.specs.CovarianceRows as spec;
     ghost use Rattle.cj_oem.specs.Drafts.{begun, draft_of};
-    ghost use Rattle.cj_oem.specs.Tracks.{covariance_of};
+    ghost use Rattle.cj_track.specs.Tracks.{plain_matrix};
 
     /// A matrix of which only the epoch was read.
     pub(crate) fn new(at: Tick) -> Draft
@@ -89,7 +89,7 @@ impl Draft {
     /// The whole matrix.
     pub(crate) fn matrix(self) -> Matrix
         requires { self.rows ≡ 6 }
-        ensures { covariance_of result ≡ record { at = (draft_of self).at; values = (draft_of self).values } }
+        ensures { plain_matrix result ≡ record { at = (draft_of self).at; values = (draft_of self).values } }
     {
         let values = self.values;
         Matrix {

@@ -3,17 +3,17 @@ ghost use Rattle.std.specs.Prelude.{◌≡◌, ◌^◌, ◌<◌, ◌≤◌, leng
 ghost use Rattle.cj_kvn.specs.Decimals.{IsReadable, decimal_of, number_of};
 ghost use Rattle.cj_oem.specs.Answers.{Tells};
 ghost use Rattle.cj_oem.specs.CovarianceRows.{number_or};
-ghost use Rattle.cj_oem.specs.Limits.{IsWithin};
+ghost use Rattle.cj_track.specs.Limits.{IsWithin};
 ghost use Rattle.cj_oem.specs.NodeRows as spec;
 
 use crate::fault::OemCause;
-use crate::vec3::Vec3;
 use cj_kvn::{Decimal, NumFault, read_decimal, read_scaled};
+use cj_track::Vec3;
 
 /// A number in units of 10^-12, none where it is past every range.
-pub(crate) fn figure_said(text: &[u8]) -> Result<Option<i128>, OemCause>
+pub(crate) fn parse_figure(text: &[u8]) -> Result<Option<i128>, OemCause>
     requires { length text.now < 2 ^ 32 }
-    ensures { result ≡ spec.figure_said text.now }
+    ensures { result ≡ spec.parse_figure text.now }
 {
     match read_scaled(text, 12) {
         Ok(figure) => Ok(Some(figure)),

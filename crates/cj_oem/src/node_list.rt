@@ -1,5 +1,4 @@
-use crate::node::Node;
-use crate::nodes::Nodes;
+use cj_track::{Node, Nodes};
 use std::alloc::{AllocError, Global};
 use std::marker::Model;
 
@@ -11,8 +10,8 @@ pub(crate) struct NodeList {
 
 impl Model for NodeList {
     ghost use Rattle.std.specs.Prelude.{List};
-    ghost use Rattle.cj_oem.specs.declared.node.Node.{Node};
-    ghost use Rattle.cj_oem.specs.Nodes.{AreSteps};
+    ghost use Rattle.cj_track.specs.declared.node.Node.{Node};
+    ghost use Rattle.cj_track.specs.Nodes.{AreSteps};
 
     ghost Value = { List Node };
 
@@ -24,9 +23,9 @@ impl Model for NodeList {
 impl NodeList {
     ghost use Rattle.std.specs.Prelude.{◌≡◌, ◌≤◌, ◌-◌, ◌++◌, ◌∷◌, [], length, map, slice_get, IfSome, OnOk};
     ghost use Rattle.std.specs.Option.{option_map};
-    ghost use Rattle.cj_oem.specs.Nodes.{IsStep};
+    ghost use Rattle.cj_track.specs.Nodes.{IsStep};
     ghost use Rattle.cj_oem.specs.Stages.{last_state};
-    ghost use Rattle.cj_oem.specs.Tracks.{state_of};
+    ghost use Rattle.cj_track.specs.Tracks.{plain_node};
 
     pub(crate) fn new(alloc: Global) -> Self
         ensures { result ≡ [] }
@@ -44,7 +43,7 @@ impl NodeList {
 
     pub(crate) fn last(&self) -> Option<Node>
         ensures value { result ≡ slice_get self.now (length self.now - 1) }
-        ensures state { option_map state_of result ≡ last_state (map state_of self.now) }
+        ensures state { option_map plain_node result ≡ last_state (map plain_node self.now) }
     {
         self.items.last().copied()
     }

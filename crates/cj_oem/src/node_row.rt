@@ -1,23 +1,21 @@
 //! The row of a node.
-ghost use Rattle.std.specs.Prelude.{◌≡◌, ◌==◌, ◌||◌, ◌^◌, ◌<◌, not, IfOk, IfSome, drop, length, option_map};
+ghost use Rattle.std.specs.Prelude.{◌≡◌, ◌==◌, ◌||◌, ◌^◌, ◌<◌, ◌≤◌, not, All, IfOk, IfSome, drop, length, option_map};
 ghost use Rattle.std.specs.List.{list_all};
-ghost use Rattle.cj_kvn.specs.Fields.{fields};
+ghost use Rattle.cj_kvn.specs.Fields.{fields, texts_of};
 ghost use Rattle.cj_kvn.specs.Ranges.{IsWithin, text_at};
 ghost use Rattle.cj_oem.specs.Answers.{Tells};
-ghost use Rattle.cj_oem.specs.Limits as limits;
+ghost use Rattle.cj_track.specs.Limits as limits;
 ghost use Rattle.cj_oem.specs.Metadata.{unless};
 ghost use Rattle.cj_oem.specs.NodeRows as spec;
-ghost use Rattle.cj_oem.specs.Nodes.{IsStep};
-ghost use Rattle.cj_oem.specs.Tracks.{state_of};
+ghost use Rattle.cj_track.specs.Nodes.{IsStep};
+ghost use Rattle.cj_track.specs.Tracks.{plain_node};
 
 use crate::fault::OemCause;
-use crate::figures::{figure_said, is_decimal, within_or};
-use crate::node::Node;
-use crate::row_fields::{field_text, has_fields};
-use crate::vec3::Vec3;
-use crate::word::epoch_said;
+use crate::figures::{is_decimal, parse_figure, within_or};
+use crate::word::parse_epoch;
 use cj_epoch::leap_between;
-use cj_kvn::Range32;
+use cj_kvn::{Range32, RowFields, row_fields};
+use cj_track::{Node, Vec3};
 
 /// 500,000 km in nm: the greatest size of a coordinate.
 const COORDINATE_LIMIT: u64 = 500_000_000_000_000_000;
@@ -41,18 +39,18 @@ pub(crate) fn node_of_row(
 ) -> Result<Node, OemCause>
     requires within { IsWithin bytes.now text }
     requires short { length bytes.now < 2 ^ 32 }
-    ensures value { Tells state_of result (spec.state_of_row (option_map state_of before) (text_at bytes.now text)) }
+    ensures value { Tells plain_node result (spec.state_of_row (option_map plain_node before) (text_at bytes.now text)) }
     ensures step { IfSome before (λ b. IfOk result (IsStep b)) }
 {
-    let count = node_fields(bytes, text)?;
-    let at = epoch_said(field_text(bytes, text, 0))?;
-    let x = figure_said(field_text(bytes, text, 1))?;
-    let y = figure_said(field_text(bytes, text, 2))?;
-    let z = figure_said(field_text(bytes, text, 3))?;
-    let u = figure_said(field_text(bytes, text, 4))?;
-    let v = figure_said(field_text(bytes, text, 5))?;
-    let w = figure_said(field_text(bytes, text, 6))?;
-    check_accelerations(bytes, text, count)?;
+    let row = node_fields(bytes, text)?;
+    let at = parse_epoch(row.text(bytes, 0))?;
+    let x = parse_figure(row.text(bytes, 1))?;
+    let y = parse_figure(row.text(bytes, 2))?;
+    let z = parse_figure(row.text(bytes, 3))?;
+    let u = parse_figure(row.text(bytes, 4))?;
+    let v = parse_figure(row.text(bytes, 5))?;
+    let w = parse_figure(row.text(bytes, 6))?;
+    check_accelerations(bytes, &row)?;
     let place = vector_within(COORDINATE_LIMIT, OemCause::CoordinateRange, x, y, z)?;
     let rate = vector_within(RATE_LIMIT, OemCause::RateRange, u, v, w)?;
     following(
@@ -65,30 +63,31 @@ pub(crate) fn node_of_row(
     )
 }
 
-/// How many fields the row of a node has: seven, or ten with accelerations.
-fn node_fields(bytes: &[u8], text: Range32) -> Result<u32, OemCause>
+/// The fields of the row of a node: seven, or ten with accelerations.
+fn node_fields(bytes: &[u8], text: Range32) -> Result<RowFields, OemCause>
     requires { IsWithin bytes.now text }
-    ensures value { let row = fields (text_at bytes.now text) in Tells (λ _. tt) result (unless (not ((length row == 7) || (length row == 10))) OemCause.Fields) }
-    ensures count { IfOk result (λ count. count ≡ length (fields (text_at bytes.now text))) }
+    ensures value { let parts = fields (text_at bytes.now text) in Tells (λ _. tt) result (unless (not ((length parts == 7) || (length parts == 10))) OemCause.Fields) }
+    ensures texts { IfOk result (λ row. texts_of bytes.now row ≡ fields (text_at bytes.now text)) }
+    ensures within { IfOk result (λ row. All (IsWithin bytes.now) row.found) }
+    ensures at_least { IfOk result (λ row. 7 ≤ row.count) }
+    ensures at_most { IfOk result (λ row. row.count ≤ 10) }
 {
-    if has_fields(bytes, text, 7) {
-        Ok(7)
-    } else if has_fields(bytes, text, 10) {
-        Ok(10)
-    } else {
-        Err(OemCause::Fields)
+    let row = row_fields(bytes, text);
+    match row.count {
+        7 | 10 => Ok(row),
+        _ => Err(OemCause::Fields),
     }
 }
 
 /// The fields behind the rate, if there are any, have to be numbers.
-fn check_accelerations(bytes: &[u8], text: Range32, count: u32) -> Result<(), OemCause>
-    requires within { IsWithin bytes.now text }
+fn check_accelerations(bytes: &[u8], row: &RowFields) -> Result<(), OemCause>
+    requires within { All (IsWithin bytes.now) row.now.found }
     requires short { length bytes.now < 2 ^ 32 }
-    requires count { count ≡ length (fields (text_at bytes.now text)) }
-    ensures { Tells (λ _. tt) result (unless (not (list_all spec.is_decimal (drop 7 (fields (text_at bytes.now text))))) OemCause.Number) }
+    requires at_most { row.now.count ≤ 10 }
+    ensures { Tells (λ _. tt) result (unless (not (list_all spec.is_decimal (drop 7 (texts_of bytes.now row.now)))) OemCause.Number) }
 {
-    for index in 7..count {
-        if !is_decimal(field_text(bytes, text, index)) {
+    for index in 7..row.count {
+        if !is_decimal(row.text(bytes, index)) {
             return Err(OemCause::Number);
         }
     }
@@ -115,7 +114,7 @@ fn vector_within(
 
 /// The node, where it may follow the one before.
 fn following(before: Option<Node>, node: Node) -> Result<Node, OemCause>
-    ensures value { Tells state_of result (spec.following (option_map state_of before) (state_of node)) }
+    ensures value { Tells plain_node result (spec.following (option_map plain_node before) (plain_node node)) }
     ensures step { IfSome before (λ b. IfOk result (IsStep b)) }
 {
     let Some(before) = before else {

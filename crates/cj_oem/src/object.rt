@@ -1,8 +1,8 @@
 ghost use Rattle.std.specs.Prelude.{◌≡◌, true};
-ghost use Rattle.cj_oem.specs.Labels.{is_label};
+ghost use Rattle.cj_track.specs.Labels.{is_label};
 
-use crate::frame::Frame;
 use cj_kvn::Text;
+use cj_track::Frame;
 
 /// The object of a file.
 #[derive(Debug, Drop)]

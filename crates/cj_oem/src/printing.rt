@@ -1,9 +1,9 @@
 //! The canonical text of a track.
 ghost use Rattle.std.specs.Prelude.{◌≡◌, ◌+◌, ◌^◌, ◌<◌, ◌++◌, length, false, All, IfOk, Ok, OnOk};
 ghost use Rattle.cj_oem.specs.Canonical.{header_text, segment_text, text_of};
-ghost use Rattle.cj_oem.specs.Nodes.{AreNodes};
+ghost use Rattle.cj_track.specs.Nodes.{AreNodes};
 ghost use Rattle.cj_oem.specs.Reading.{reading};
-ghost use Rattle.cj_oem.specs.Tracks.{arc_of, ephemeris_of};
+ghost use Rattle.cj_track.specs.Tracks.{plain_segment, plain_track};
 
 mod covariances;
 mod figures;
@@ -11,8 +11,7 @@ mod lines;
 mod metadata;
 mod states;
 
-use crate::segment::Segment;
-use crate::track::Track;
+use cj_track::{Segment, Track};
 use covariances::push_covariances;
 use lines::push_entry;
 use metadata::push_metadata;
@@ -22,10 +21,10 @@ use std::alloc::{AllocError, Global};
 /// The track as a file: places in km and rates in km/s with twelve decimals, epochs with six, one space between the fields of
 /// a row, LF behind each line.
 pub fn oem_text(alloc: Global, track: &Track) -> Result<Vec<u8>, AllocError>
-    ensures value { IfOk result (λ text. text.items ≡ text_of (ephemeris_of track.now)) }
+    ensures value { IfOk result (λ text. text.items ≡ text_of (plain_track track.now)) }
     // What is printed is read again.
     ensures again { IfOk result (λ text. length text.items + 1 < 2 ^ 32
-        → reading track.now.file text.items false ≡ Ok (ephemeris_of track.now)) }
+        → reading track.now.file text.items false ≡ Ok (plain_track track.now)) }
 {
     let segments = track.segments.as_slice();
     let mut text = Vec::with_capacity(alloc, usual_length(segments))?;
@@ -62,7 +61,7 @@ fn push_header(text: &mut Vec<u8>) -> Result<(), AllocError>
 /// Adds a segment: its metadata, its nodes, its covariances.
 #[tactic(auto, unfolding(crate::specs::Canonical::segment_text))]
 fn push_segment(text: &mut Vec<u8>, track: &Track, segment: &Segment) -> Result<(), AllocError>
-    ensures text { OnOk result (text.new.items ≡ text.old.items ++ segment_text (ephemeris_of track.now) (arc_of segment.now)) }
+    ensures text { OnOk result (text.new.items ≡ text.old.items ++ segment_text (plain_track track.now) (plain_segment segment.now)) }
     ensures nodes { OnOk result (AreNodes segment.now.nodes) }
     ensures matrices { OnOk result (All (λ m. length m.values ≡ 21) segment.now.matrices) }
 {

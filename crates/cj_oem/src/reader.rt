@@ -1,21 +1,22 @@
 //! Reading a file.
-ghost use Rattle.std.specs.Prelude.{◌≡◌, ◌+◌, ◌≤◌, ◌^◌, ◌<◌, true, All, IfOk, length};
+ghost use Rattle.std.specs.Prelude.{◌≡◌, ◌+◌, ◌≤◌, ◌^◌, ◌<◌, true, All, IfOk, IfErr, length};
 ghost use Rattle.std.specs.List.{list_all};
 ghost use Rattle.cj_kvn.specs.Lines.{LineIsWithin, form_at, lines_at};
+ghost use Rattle.cj_track.specs.PlainTracks.{PlainTrack};
 ghost use Rattle.cj_oem.specs.Grammar.{Says};
-ghost use Rattle.cj_oem.specs.Labels as labels;
+ghost use Rattle.cj_track.specs.Labels as labels;
 ghost use Rattle.cj_oem.specs.Reading as spec;
 ghost use Rattle.cj_oem.specs.Readers.{Gives, body_of};
-ghost use Rattle.cj_oem.specs.Segments.{node_count};
-ghost use Rattle.cj_oem.specs.Sheets.{HasLabel};
+ghost use Rattle.cj_track.specs.Segments.{node_count};
+ghost use Rattle.cj_oem.specs.MetadataDrafts.{HasLabel};
 ghost use Rattle.cj_oem.specs.Stages.{Start};
-ghost use Rattle.cj_oem.specs.Tracks.{ephemeris_of};
+ghost use Rattle.cj_track.specs.Tracks.{plain_track};
 
 use crate::body::Body;
 use crate::fault::{OemCause, OemFault};
 use crate::stage::Stage;
-use crate::track::Track;
 use cj_kvn::{Line, Text, read_lines};
+use cj_track::Track;
 use std::alloc::Global;
 
 /// The ephemeris that the bytes of the file with this name say.
@@ -33,7 +34,9 @@ pub fn read_oem(
 ) -> Result<Track, OemFault>
     requires { length bytes.now + 1 < 2 ^ 32 }
     ensures value { spec.Gives result (spec.reading name.now bytes.now as_hermite3) }
-    ensures says { IfOk result (λ track. Says as_hermite3 name.now bytes.now (ephemeris_of track)) }
+    ensures says { IfOk result (λ track. Says as_hermite3 name.now bytes.now (plain_track track)) }
+    ensures accepts { (e : PlainTrack) → Says as_hermite3 name.now bytes.now e → spec.IsTrackOf result e }
+    ensures refuses { IfErr result (λ fault. spec.IsOfFile fault → (e : PlainTrack) → Says as_hermite3 name.now bytes.now e → ⊥) }
 {
     if !is_file_name(name) {
         return Err(OemFault::At {
@@ -47,7 +50,7 @@ pub fn read_oem(
 }
 
 /// Whether a name is one of 1 to 200 printable bytes.
-#[tactic(auto, unfolding(crate::specs::Labels::is_file_name))]
+#[tactic(auto, unfolding(cj_track::specs::Labels::is_file_name))]
 fn is_file_name(name: &[u8]) -> bool
     ensures { result ≡ labels.is_file_name name.now }
 {
@@ -76,11 +79,10 @@ fn read_body(
     let mut stage = Stage::Start;
     let mut number = 1;
     for line in lines {
-        stage = match stage.follow(alloc, bytes, line.kind, as_hermite3) {
-            Ok(next) => next,
+        match stage.follow(alloc, bytes, line.kind, as_hermite3) {
+            Ok(()) => number = line.number + 1,
             Err(refused) => return Err(refused.at(line.number)),
-        };
-        number = line.number + 1;
+        }
     }
     match stage.finish(alloc) {
         Ok(body) => Ok(body),
@@ -93,7 +95,7 @@ fn track_of(alloc: Global, file: &[u8], body: Body) -> Result<Track, OemFault>
     requires named { labels.is_file_name file.now ≡ true }
     requires some { 1 ≤ length body.segments }
     requires few { node_count body.segments < 2 ^ 32 }
-    ensures { Gives ephemeris_of result (spec.with_object file.now (body_of body) (body_of body).object) }
+    ensures { Gives plain_track result (spec.with_object file.now (body_of body) (body_of body).object) }
 {
     let Body { object, segments } = body;
     let Some(object) = object else {

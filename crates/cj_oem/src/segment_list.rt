@@ -1,5 +1,4 @@
-use crate::segment::Segment;
-use crate::segments::Segments;
+use cj_track::{Segment, Segments};
 use std::alloc::{AllocError, Global};
 use std::marker::Model;
 
@@ -11,8 +10,8 @@ pub(crate) struct SegmentList {
 
 impl Model for SegmentList {
     ghost use Rattle.std.specs.Prelude.{List};
-    ghost use Rattle.cj_oem.specs.declared.segment.Segment.{Segment};
-    ghost use Rattle.cj_oem.specs.Segments.{AreInOrder};
+    ghost use Rattle.cj_track.specs.declared.segment.Segment.{Segment};
+    ghost use Rattle.cj_track.specs.Segments.{AreInOrder};
 
     ghost Value = { List Segment };
 
@@ -23,9 +22,9 @@ impl Model for SegmentList {
 
 impl SegmentList {
     ghost use Rattle.std.specs.Prelude.{◌≡◌, ◌≤◌, ◌<◌, ◌^◌, ◌++◌, ◌∷◌, [], length, map, IfOk, OnOk};
-    ghost use Rattle.cj_oem.specs.Segments.{node_count};
+    ghost use Rattle.cj_track.specs.Segments.{node_count};
     ghost use Rattle.cj_oem.specs.Stages.{end_of};
-    ghost use Rattle.cj_oem.specs.Tracks.{arc_of};
+    ghost use Rattle.cj_track.specs.Tracks.{plain_segment};
 
     pub(crate) fn new(alloc: Global) -> Self
         ensures { result ≡ [] }
@@ -37,7 +36,7 @@ impl SegmentList {
 
     /// The tick up to which the segments so far are useable, 0 where there is none.
     pub(crate) fn end(&self) -> u64
-        ensures { result ≡ end_of (map arc_of self.now) }
+        ensures { result ≡ end_of (map plain_segment self.now) }
     {
         match self.items.last() {
             None => 0,
@@ -47,7 +46,7 @@ impl SegmentList {
 
     /// Takes a further segment, which is useable from where the last one ends or later.
     pub(crate) fn push(&mut self, segment: Segment) -> Result<(), AllocError>
-        requires { end_of (map arc_of self.old) ≤ segment.first.micros }
+        requires { end_of (map plain_segment self.old) ≤ segment.first.micros }
         ensures { OnOk result (self.new ≡ self.old ++ segment ∷ []) }
     {
         self.items.push(segment)?;

@@ -2,22 +2,26 @@
 ghost use Rattle.std.specs.Prelude.{◌≡◌, true, IfOk};
 ghost use Rattle.std.specs.Option.{option_copied, option_map};
 ghost use Rattle.cj_oem.specs.Answers.{Gives, Tells};
-ghost use Rattle.cj_oem.specs.Labels.{is_label};
+ghost use Rattle.cj_track.specs.Labels.{is_label};
 ghost use Rattle.cj_oem.specs.Metadata as spec;
-ghost use Rattle.cj_oem.specs.Sheets.{IsLabelled, object_of};
+ghost use Rattle.cj_oem.specs.MetadataDrafts.{IsLabelled, object_of};
 
 use crate::fault::OemCause;
-use crate::frame::Frame;
 use crate::object::Object;
 use crate::refused::Refused;
 use crate::word::is_word;
 use cj_kvn::Text;
+use cj_track::Frame;
 use std::alloc::Global;
 
 /// What a name or a designator says: the first segment's, if there is one.
-pub(crate) fn label_said(alloc: Global, first: Option<&Text>, value: &[u8]) -> Result<Text, Refused>
+pub(crate) fn parse_label(
+    alloc: Global,
+    first: Option<&Text>,
+    value: &[u8],
+) -> Result<Text, Refused>
     requires { IsLabelled value.now }
-    ensures exact { Gives (λ text. text) result (spec.label_said (option_copied first.entry) value.now) }
+    ensures exact { Gives (λ text. text) result (spec.parse_label (option_copied first.entry) value.now) }
     ensures label { IfOk result (λ text. is_label text ≡ true) }
 {
     if value.is_empty() {
@@ -41,7 +45,7 @@ fn text_differs(first: Option<&Text>, text: &Text) -> bool
 }
 
 /// The frame that a value says: the first segment's, if there is one.
-pub(crate) fn frame_said(first: Option<Frame>, value: &[u8]) -> Result<Frame, OemCause>
+pub(crate) fn parse_frame(first: Option<Frame>, value: &[u8]) -> Result<Frame, OemCause>
     ensures { Tells (λ frame. frame) result (spec.frame_kept first (spec.frame_named value.now)) }
 {
     match frame_named(value) {

@@ -2,17 +2,17 @@
 ghost use Rattle.std.specs.Prelude.{◌≡◌, ◌∷◌, ◌++◌, length, map, flat_map, All, OnOk};
 ghost use Rattle.cj_kvn.specs.Decimals.{IsReadable, decimal_text_of, number_of};
 ghost use Rattle.cj_oem.specs.Canonical.{covariance_text, covariances_text, line, numbers_text};
-ghost use Rattle.cj_oem.specs.Tracks.{covariance_of};
+ghost use Rattle.cj_track.specs.Tracks.{plain_matrix};
 
-use crate::matrix::Matrix;
 use crate::printing::lines::{push_entry, push_line};
 use cj_epoch::epoch_text;
 use cj_kvn::{Decimal, decimal_text};
+use cj_track::Matrix;
 use std::alloc::AllocError;
 
 /// Adds the covariances between their marks, where there are any.
 pub(crate) fn push_covariances(text: &mut Vec<u8>, matrices: &[Matrix]) -> Result<(), AllocError>
-    ensures text { OnOk result (text.new.items ≡ text.old.items ++ covariances_text (map covariance_of matrices.now)) }
+    ensures text { OnOk result (text.new.items ≡ text.old.items ++ covariances_text (map plain_matrix matrices.now)) }
     ensures kept { OnOk result (All (λ m. length m.values ≡ 21) matrices.now) }
 {
     if matrices.is_empty() {
@@ -24,7 +24,7 @@ pub(crate) fn push_covariances(text: &mut Vec<u8>, matrices: &[Matrix]) -> Resul
 }
 
 fn push_matrices(text: &mut Vec<u8>, matrices: &[Matrix]) -> Result<(), AllocError>
-    ensures text { OnOk result (text.new.items ≡ text.old.items ++ flat_map covariance_text (map covariance_of matrices.now)) }
+    ensures text { OnOk result (text.new.items ≡ text.old.items ++ flat_map covariance_text (map plain_matrix matrices.now)) }
     ensures kept { OnOk result (All (λ m. length m.values ≡ 21) matrices.now) }
 {
     for matrix in matrices {
@@ -36,7 +36,7 @@ fn push_matrices(text: &mut Vec<u8>, matrices: &[Matrix]) -> Result<(), AllocErr
 /// Adds a covariance: its epoch, its frame, its six rows.
 #[tactic(auto, unfolding(crate::specs::Canonical::covariance_text))]
 fn push_matrix(text: &mut Vec<u8>, matrix: &Matrix) -> Result<(), AllocError>
-    ensures text { OnOk result (text.new.items ≡ text.old.items ++ covariance_text (covariance_of matrix.now)) }
+    ensures text { OnOk result (text.new.items ≡ text.old.items ++ covariance_text (plain_matrix matrix.now)) }
     ensures kept { length matrix.now.values ≡ 21 }
 {
     push_entry(text, b"EPOCH", &epoch_text(matrix.at))?;

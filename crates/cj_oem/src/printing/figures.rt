@@ -3,7 +3,7 @@ ghost use Rattle.std.specs.Prelude.{◌≡◌, ◌-◌, ◌^◌, ◌<◌, ◌≤
 ghost use Rattle.std.specs.List.{repeat};
 ghost use Rattle.cj_oem.specs.Canonical.{figure_text, vector_text};
 
-use crate::vec3::Vec3;
+use cj_track::Vec3;
 use std::alloc::AllocError;
 
 /// The nm of a km.

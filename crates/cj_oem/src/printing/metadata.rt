@@ -2,13 +2,11 @@
 ghost use Rattle.std.specs.Prelude.{◌≡◌, ◌++◌, OnOk};
 ghost use Rattle.cj_oem.specs.Canonical as spec;
 ghost use Rattle.cj_oem.specs.Canonical.{metadata_text};
-ghost use Rattle.cj_oem.specs.Tracks.{arc_of, ephemeris_of};
+ghost use Rattle.cj_track.specs.Tracks.{plain_segment, plain_track};
 
-use crate::frame::Frame;
 use crate::printing::lines::{push_entry, push_line};
-use crate::segment::Segment;
-use crate::track::Track;
 use cj_epoch::epoch_text;
+use cj_track::{Frame, Segment, Track};
 use std::alloc::AllocError;
 
 /// Adds the metadata of a segment. Its times are those of its useable span.
@@ -18,7 +16,7 @@ pub(crate) fn push_metadata(
     track: &Track,
     segment: &Segment,
 ) -> Result<(), AllocError>
-    ensures { OnOk result (text.new.items ≡ text.old.items ++ metadata_text (ephemeris_of track.now) (arc_of segment.now)) }
+    ensures { OnOk result (text.new.items ≡ text.old.items ++ metadata_text (plain_track track.now) (plain_segment segment.now)) }
 {
     push_line(text, b"META_START")?;
     push_entry(text, b"OBJECT_NAME", track.name.as_slice())?;

@@ -1,7 +1,7 @@
 use super::texts::{
     Fault, base_with, counts_of, fault_in, fault_with, matrix_tick, read, two_with, value_of,
 };
-use crate::{OemCause, OemFault};
+use crate::{KvnCause, OemCause, OemFault};
 use cj_epoch::EpochFault;
 use std::alloc::{AllocError, Global};
 use std::test::Fail;
@@ -10,7 +10,11 @@ const EPOCH: &[u8] = b"EPOCH = 2025-01-01T00:00:00\n";
 
 const RTN: &[u8] = b"COV_REF_FRAME = RTN\n";
 
+const FIVE_ROWS: &[u8] = b"0.25\n0 1\n0 0 1\n0 0 0 1\n0 0 0 0 1\n";
+
 const SIX_ROWS: &[u8] = b"0.25\n0 1\n0 0 1\n0 0 0 1\n0 0 0 0 1\n0 0 0 0 0 -3e-4\n";
+
+const ODD_NUMBERS: &[u8] = b"1\n3 5\n7 9 11\n13 15 17 19\n21 23 25 27 29\n31 33 35 37 39 41\n";
 
 const STOP: &[u8] = b"COVARIANCE_STOP";
 
@@ -40,11 +44,14 @@ fn first_wrong(alloc: Global, cases: &[Parts]) -> Result<Option<usize>, OemFault
     Ok(None)
 }
 
-const KEPT: [(&[&[u8]], usize); 6] = [
+const KEPT: [(&[&[u8]], usize); 9] = [
     (&[STOP], 0),
     (&[EPOCH, RTN, SIX_ROWS, STOP], 1),
     (&[EPOCH, b"COV_REF_FRAME = rtn\n", SIX_ROWS, STOP], 1),
+    (&[EPOCH, b"COV_REF_FRAME = Rtn\n", SIX_ROWS, STOP], 1),
     (&[EPOCH, b"COV_REF_FRAME = TNW\n", SIX_ROWS, STOP], 0),
+    (&[EPOCH, b"COV_REF_FRAME = EME2000\n", SIX_ROWS, STOP], 0),
+    (&[EPOCH, b"COV_REF_FRAME =\n", SIX_ROWS, STOP], 0),
     (&[EPOCH, SIX_ROWS, STOP], 0),
     (
         &[
@@ -75,10 +82,35 @@ fn the_values_of_a_matrix_stand_row_by_row(rt: HostRuntime) -> Result<(), Fail> 
         assert_eq!(rt; value_of(&track, 0, 0, diagonal), Some((false, 1, 0)));
     }
     assert_eq!(rt; value_of(&track, 0, 0, 20), Some((true, 3, -4)));
+    let text = with_covariances(rt.alloc(), &[EPOCH, RTN, ODD_NUMBERS, STOP])?;
+    let track = read(rt.alloc(), &text, false)?;
+    for index in 0..21u32 {
+        let odd = u64::from(2 * index + 1);
+        assert_eq!(rt;
+            value_of(&track, 0, 0, index as usize),
+            Some((false, odd, 0))
+        );
+    }
     Ok(())
 }
 
-const FAULTS: [Parts<'static>; 20] = [
+const FAULTS: [Parts<'static>; 27] = [
+    (
+        &[b"EPOCH = 2016-12-31T23:59:60\n", STOP],
+        Some((18, OemCause::Epoch(EpochFault::SecondSixty))),
+    ),
+    (
+        &[b"Epoch = 2025-01-01T00:00:00\n", STOP],
+        Some((18, OemCause::Kvn(KvnCause::NoLineForm))),
+    ),
+    (&[EPOCH, b"x 1\n", STOP], Some((19, OemCause::MatrixForm))),
+    (&[EPOCH, b"1\n1\n", STOP], Some((20, OemCause::MatrixForm))),
+    (&[EPOCH, b"1\n1 x\n", STOP], Some((20, OemCause::Number))),
+    (
+        &[EPOCH, FIVE_ROWS, b"EPOCH = x\n", STOP],
+        Some((24, OemCause::MatrixForm)),
+    ),
+    (&[EPOCH, FIVE_ROWS, STOP], Some((24, OemCause::MatrixForm))),
     (
         &[b"EPOCH = now\n", STOP],
         Some((18, OemCause::Epoch(EpochFault::Form))),

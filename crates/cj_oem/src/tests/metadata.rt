@@ -1,9 +1,9 @@
-use super::texts::{Case, base_with, fault_in, fault_of, fault_with, read, wrong_in_base};
+use super::texts::{PlainProblem, base_with, fault_in, fault_of, fault_with, read, wrong_in_base};
 use crate::{KvnCause, OemCause};
 use cj_epoch::EpochFault;
 use std::test::Fail;
 
-const HEADERS: [Case<'static>; 22] = [
+const HEADERS: [PlainProblem<'static>; 22] = [
     (1, b"CCSDS_OEM_VERS = 1.0", None),
     (1, b"CCSDS_OEM_VERS = 3.0", None),
     (1, b"CCSDS_OEM_VERS = 4.0", Some((1, OemCause::Version))),
@@ -62,7 +62,7 @@ fn the_header_takes_its_keys_once(rt: HostRuntime) -> Result<(), Fail> {
     Ok(())
 }
 
-const VALUES: [Case<'static>; 24] = [
+const VALUES: [PlainProblem<'static>; 24] = [
     (5, b"OBJECT_NAME =", Some((5, OemCause::Missing))),
     (6, b"OBJECT_ID = \t", Some((6, OemCause::Missing))),
     (6, b"OBJECT = 2025-001A", Some((6, OemCause::Unknown))),

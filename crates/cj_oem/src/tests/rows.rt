@@ -1,9 +1,9 @@
-use super::texts::{Case, base_with, fault_in, wrong_in_base};
+use super::texts::{PlainProblem, base_with, fault_in, node_of, read, wrong_in_base};
 use crate::OemCause;
 use cj_epoch::EpochFault;
 use std::test::Fail;
 
-const ROWS: [Case<'static>; 22] = [
+const ROWS: [PlainProblem<'static>; 29] = [
     (
         15,
         b"2025-01-01T00:00:00 7000 -225 0 0 7.5",
@@ -88,6 +88,41 @@ const ROWS: [Case<'static>; 22] = [
         b"2025-01-01T00:00:00 7000 -225 0 0 7.5 0 1e200 0 0",
         Some((15, OemCause::Number)),
     ),
+    (
+        15,
+        b"2025-01-01T00:00:00 7000 -225 0 0 7.5 0 1e40 0 0",
+        None,
+    ),
+    (
+        15,
+        b"2016-12-31T23:59:60 x 0 0 0 0 0 0",
+        Some((15, OemCause::Fields)),
+    ),
+    (
+        15,
+        b"2016-12-31T23:59:60 x 0 0 0 0 0",
+        Some((15, OemCause::Epoch(EpochFault::SecondSixty))),
+    ),
+    (
+        15,
+        b"2025-01-01T00:00:00 1e40 0 0 0 0 0 0 x 0",
+        Some((15, OemCause::Number)),
+    ),
+    (
+        15,
+        b"2025-01-01T00:00:00 0 0 0 0 0 0 0 0 1e100",
+        Some((15, OemCause::Number)),
+    ),
+    (
+        15,
+        b"2025-01-01T00:00:00 0 0 -500000.000000000001 0 0 0",
+        Some((15, OemCause::CoordinateRange)),
+    ),
+    (
+        15,
+        b"2025-01-01T00:00:00 0 1e40 0 0 0 0",
+        Some((15, OemCause::CoordinateRange)),
+    ),
     (15, b"OBJECT_NAME = SAT A", Some((15, OemCause::Order))),
     (15, b"META_STOP", Some((15, OemCause::Order))),
 ];
@@ -98,7 +133,12 @@ fn a_row_has_its_first_fault(rt: HostRuntime) -> Result<(), Fail> {
     Ok(())
 }
 
-const TIMES: [Case<'static>; 4] = [
+const TIMES: [PlainProblem<'static>; 5] = [
+    (
+        16,
+        b"2024-12-31T23:59:59 0 0 0 21 0 0",
+        Some((16, OemCause::RateRange)),
+    ),
     (
         16,
         b"2025-01-01T00:00:00 7000 225 0 0 7.5 0",
@@ -151,7 +191,7 @@ fn no_leap_second_lies_between_nodes(rt: HostRuntime) -> Result<(), Fail> {
     let start = (10, b"START_TIME = 2016-12-31T23:59:30".as_slice());
     let stop = (11, b"STOP_TIME = 2017-01-01T00:00:30".as_slice());
     let first = (15, b"2016-12-31T23:59:30 7000 -225 0 0 7.5 0".as_slice());
-    let cases: [(&[u8], OemCause); 3] = [
+    let cases: [(&[u8], OemCause); 4] = [
         (
             b"2017-01-01T00:00:30 7000 225 0 0 7.5 0",
             OemCause::LeapSecond,
@@ -164,6 +204,7 @@ fn no_leap_second_lies_between_nodes(rt: HostRuntime) -> Result<(), Fail> {
             b"2017-01-01T01:00:30 7000 225 0 0 7.5 0",
             OemCause::StepTooLong,
         ),
+        (b"2017-01-01T01:00:00 0 0 0 0 0 0", OemCause::StepTooLong),
     ];
     for (last, cause) in cases {
         let text = base_with(rt.alloc(), &[start, stop, first, (16, last)])?;
@@ -186,5 +227,30 @@ fn a_node_at_the_first_tick_after_a_leap_second_begins_a_segment(
         ],
     )?;
     assert_eq!(rt; fault_in(rt.alloc(), &text)?, None);
+    Ok(())
+}
+
+#[test]
+fn numbers_of_every_form_are_read(rt: HostRuntime) -> Result<(), Fail> {
+    let text = base_with(
+        rt.alloc(),
+        &[(
+            15,
+            b"2025-01-01T00:00:00 7000 -225.5  0.25\t1e-3 7.5 -.5e-11",
+        )],
+    )?;
+    let track = read(rt.alloc(), &text, false)?;
+    let numbers = [
+        7_000_000_000_000_000,
+        -225_500_000_000_000,
+        250_000_000_000,
+        1_000_000_000,
+        7_500_000_000_000,
+        -5,
+    ];
+    assert_eq!(rt;
+        node_of(&track, 0, 0),
+        Some((1_735_689_600_000_000, numbers))
+    );
     Ok(())
 }

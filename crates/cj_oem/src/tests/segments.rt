@@ -1,11 +1,11 @@
 use super::texts::{
-    Case, base_with, counts_of, fault_in, fault_with, node_of, read, span_of, two_with,
+    PlainProblem, base_with, counts_of, fault_in, fault_with, node_of, read, span_of, two_with,
     wrong_in_base, wrong_in_two,
 };
 use crate::OemCause;
 use std::test::Fail;
 
-const SPANS: [Case<'static>; 9] = [
+const SPANS: [PlainProblem<'static>; 9] = [
     (
         10,
         b"START_TIME = 2024-12-31T23:59:59.999999",
@@ -104,7 +104,7 @@ fn a_useable_span_is_judged_before_an_overlap(rt: HostRuntime) -> Result<(), Fai
     Ok(())
 }
 
-const OBJECTS: [Case<'static>; 9] = [
+const OBJECTS: [PlainProblem<'static>; 9] = [
     (
         18,
         b"OBJECT_NAME = SAT B",

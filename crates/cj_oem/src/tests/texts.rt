@@ -101,7 +101,7 @@ pub fn fault_of(read: Result<Track, OemFault>) -> Result<Option<Fault>, OemFault
 pub type Fault = (u32, OemCause);
 
 /// A line's number, the text in its place, and the fault that the file then has.
-pub type Case<'a> = (usize, &'a [u8], Option<Fault>);
+pub type PlainProblem<'a> = (usize, &'a [u8], Option<Fault>);
 
 /// The fault of the file with one segment where one line is changed.
 pub fn fault_with(alloc: Global, number: usize, changed: &[u8]) -> Result<Option<Fault>, OemFault> {
@@ -110,7 +110,7 @@ pub fn fault_with(alloc: Global, number: usize, changed: &[u8]) -> Result<Option
 }
 
 /// The first case in which the file with one segment does not have its fault.
-pub fn wrong_in_base(alloc: Global, cases: &[Case]) -> Result<Option<usize>, OemFault> {
+pub fn wrong_in_base(alloc: Global, cases: &[PlainProblem]) -> Result<Option<usize>, OemFault> {
     for (i, (number, changed, fault)) in cases.iter().enumerate() {
         if fault_with(alloc, *number, changed)? != *fault {
             return Ok(Some(i));
@@ -120,7 +120,7 @@ pub fn wrong_in_base(alloc: Global, cases: &[Case]) -> Result<Option<usize>, Oem
 }
 
 /// The first case in which the file with two segments does not have its fault.
-pub fn wrong_in_two(alloc: Global, cases: &[Case]) -> Result<Option<usize>, OemFault> {
+pub fn wrong_in_two(alloc: Global, cases: &[PlainProblem]) -> Result<Option<usize>, OemFault> {
     for (i, (number, changed, fault)) in cases.iter().enumerate() {
         let text = two_with(alloc, &[(*number, *changed)])?;
         if fault_in(alloc, &text)? != *fault {

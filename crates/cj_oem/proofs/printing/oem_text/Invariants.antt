@@ -1,12 +1,12 @@
 use Rattle.std.proofs.Common.{◌≡◌, ◌++◌, map, take, All}
 use Rattle.std.specs.Prelude.{flat_map}
 use Rattle.cj_oem.specs.Canonical.{header_text, segment_text}
-use Rattle.cj_oem.specs.Tracks.{arc_of, ephemeris_of}
+use Rattle.cj_track.specs.Tracks.{plain_segment, plain_track}
 use Rattle.cj_oem.proofs.TrackAgainLemmas.{Keeps}
 use Rattle.cj_oem.proofs.printing.oem_text.Given as goal
 
 abbrev pub invariant-loop-segment : goal.invariant-loop-segment
 invariant-loop-segment l = record {
-  text : l.text.items ≡ header_text ++ flat_map (segment_text (ephemeris_of l.track)) (map arc_of (take l.segment-index l.segments));
+  text : l.text.items ≡ header_text ++ flat_map (segment_text (plain_track l.track)) (map plain_segment (take l.segment-index l.segments));
   kept : All Keeps (take l.segment-index l.segments);
 }

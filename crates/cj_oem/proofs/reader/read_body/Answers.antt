@@ -10,5 +10,5 @@ returns-in-Err c =
 
 pub loop-line-preserved : goal.loop-line-preserved
 loop-line-preserved c =
-    sym (line_followed c.args.as_hermite3 c.args.bytes.now (stage_of c.loop-line.stage) (stage_of c.in-Ok.next) c.loop-line.number c.loop-line.line-index c.args.lines.now _ c.loop-line-test.true c.in-Ok.ensures)
+    sym (line_followed c.args.as_hermite3 c.args.bytes.now (stage_of c.loop-line.stage) (stage_of c.follow.new.self) c.loop-line.number c.loop-line.line-index c.args.lines.now _ c.loop-line-test.true c.in-Ok.ensures)
     ∙ c.loop-line.invariant

@@ -1,11 +1,13 @@
-use Rattle.std.proofs.Common.{◌∙◌, ◌+◌, ◌^◌, ◌<◌, ap, sym, List, All, Global, Ok, Vec, subst}
+use Rattle.std.proofs.Common.{◌∙◌, ◌+◌, ◌^◌, ◌<◌, ap, sym, List, All, Global, Ok, Err, Vec, subst}
 use Rattle.std.proofs.lemmas.Result.{err_from_is_err_and}
 use Rattle.cj_kvn.specs.Lines.{form_at, lines_at}
 use Rattle.cj_kvn.specs.declared.lines.Line.{Line}
 use Rattle.cj_oem.specs.Readers.{body_of}
-use Rattle.cj_oem.specs.Sheets.{HasLabel}
+use Rattle.cj_oem.specs.declared.fault.OemCause.TheVariants.{Name}
+use Rattle.cj_oem.specs.declared.fault.OemFault.TheVariants.{At}
+use Rattle.cj_oem.specs.MetadataDrafts.{HasLabel}
 use Rattle.cj_oem.proofs.FileLemmas.{body_read, body_refused, few_nodes, lines_refused, name_refused, some_segment}
-use Rattle.cj_oem.proofs.GrammarLemmas.{gives_says}
+use Rattle.cj_oem.proofs.GrammarLemmas.{gives_accepts, gives_refuses, gives_says}
 use Rattle.cj_oem.proofs.LabelLemmas.{value_labelled}
 use Rattle.cj_oem.proofs.NumberLemmas.{numbers_fit}
 use Rattle.cj_oem.proofs.reader.read_oem.Goals as goal
@@ -49,3 +51,31 @@ returns-clause-value c =
 
 pub returns-clause-says : goal.returns-clause-says
 returns-clause-says c = gives_says c.args.as_hermite3 c.args.name.now c.args.bytes.now c.track_of.result (returns-clause-value c)
+
+pub returns-clause-accepts : goal.returns-clause-accepts
+returns-clause-accepts c = gives_accepts c.args.as_hermite3 c.args.name.now c.args.bytes.now c.track_of.result (returns-clause-value c)
+
+pub returns-clause-refuses : goal.returns-clause-refuses
+returns-clause-refuses c = gives_refuses c.args.as_hermite3 c.args.name.now c.args.bytes.now c.track_of.result (returns-clause-value c)
+
+pub returns-then-not-is_file_name-clause-accepts : goal.returns-then-not-is_file_name-clause-accepts
+returns-then-not-is_file_name-clause-accepts c =
+    gives_accepts c.args.as_hermite3 c.args.name.now c.args.bytes.now (Err (At 0 Name)) (returns-then-not-is_file_name-clause-value c)
+
+pub returns-then-not-is_file_name-clause-refuses : goal.returns-then-not-is_file_name-clause-refuses
+returns-then-not-is_file_name-clause-refuses c =
+    gives_refuses c.args.as_hermite3 c.args.name.now c.args.bytes.now (Err (At 0 Name)) (returns-then-not-is_file_name-clause-value c)
+
+pub returns-in_err-lines-clause-accepts : goal.returns-in_err-lines-clause-accepts
+returns-in_err-lines-clause-accepts c = gives_accepts c.args.as_hermite3 c.args.name.now c.args.bytes.now c.from_residual.result (returns-in_err-lines-clause-value c)
+
+pub returns-in_err-lines-clause-refuses : goal.returns-in_err-lines-clause-refuses
+returns-in_err-lines-clause-refuses c = gives_refuses c.args.as_hermite3 c.args.name.now c.args.bytes.now c.from_residual.result (returns-in_err-lines-clause-value c)
+
+pub returns-in_err-body-clause-accepts : goal.returns-in_err-body-clause-accepts
+returns-in_err-body-clause-accepts c =
+    gives_accepts c.args.as_hermite3 c.args.name.now c.args.bytes.now c.from_residual-in_err-body.result (returns-in_err-body-clause-value c)
+
+pub returns-in_err-body-clause-refuses : goal.returns-in_err-body-clause-refuses
+returns-in_err-body-clause-refuses c =
+    gives_refuses c.args.as_hermite3 c.args.name.now c.args.bytes.now c.from_residual-in_err-body.result (returns-in_err-body-clause-value c)

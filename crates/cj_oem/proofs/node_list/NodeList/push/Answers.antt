@@ -1,6 +1,6 @@
 use Rattle.std.proofs.Common.{◌-◌, List, IfSome, length, slice_get, subst, sym}
-use Rattle.cj_oem.specs.declared.node.Node.{Node}
-use Rattle.cj_oem.specs.Nodes.{IsStep}
+use Rattle.cj_track.specs.declared.node.Node.{Node}
+use Rattle.cj_track.specs.Nodes.{IsStep}
 use Rattle.cj_oem.proofs.ListLemmas.{steps_push}
 use Rattle.cj_oem.proofs.node_list.NodeList.push.Goals as goal
 

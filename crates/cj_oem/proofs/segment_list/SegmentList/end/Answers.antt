@@ -1,7 +1,7 @@
 use Rattle.std.proofs.Common.{◌≡◌, ◌∙◌, ap, sym, Option}
 use Rattle.std.specs.Prelude.{unwrap_or}
 use Rattle.std.specs.Option.{option_map}
-use Rattle.cj_oem.specs.declared.segment.Segment.{Segment}
+use Rattle.cj_track.specs.declared.segment.Segment.{Segment}
 use Rattle.cj_oem.proofs.ListLemmas.{end_is}
 use Rattle.cj_oem.proofs.segment_list.SegmentList.end.Goals as goal
 

@@ -1,0 +1,10 @@
+use crate::object::Object;
+use cj_epoch::Tick;
+
+/// What the metadata of a segment says: its object and its useable span.
+#[derive(Debug, Drop)]
+pub(crate) struct Metadata {
+    pub(crate) object: Object,
+    pub(crate) first: Tick,
+    pub(crate) last: Tick,
+}
