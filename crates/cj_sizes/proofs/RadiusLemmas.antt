@@ -1,0 +1,71 @@
+-- The radius of an object among the lines of a file.
+use Rattle.std.proofs.Common.{◌≡◌, ℕ, ◌+◌, ◌<◌, ◌≤◌, Bool, true, false, cond, List, [], ◌∷◌, All, length, take, get_or, Option, Some, None, refl, find, map, unwrap_or, option_map, bytes_eq, ap, sym, ◌∙◌, arith, Bor, is_some, BTreeMap}
+use Rattle.std.specs.Cmp.Lexicographic.{same_text}
+use Rattle.std.specs.Option.{option_or}
+use Rattle.std.proofs.lemmas.Bool.{false≢true}
+use Rattle.std.proofs.lemmas.List.{take_more, map-append}
+use Rattle.std.proofs.lemmas.List.Elements.{All-map}
+use Rattle.std.proofs.lemmas.List.Folds.{find-append}
+use Rattle.cj_sizes.specs.Limits.{MAX_RADIUS}
+use Rattle.cj_sizes.specs.Radii.{radius_in}
+use Rattle.cj_sizes.specs.Sizes.{Size, radius_given, radius_of, size_of, sizes_of}
+use Rattle.cj_sizes.specs.declared.size_line.SizeLine.{SizeLine}
+
+abbrev pub radius_found : Option SizeLine → ℕ
+radius_found found = unwrap_or (option_map (λ line. line.radius) found) 0
+
+-- the first line with this id gives it
+pub radius_of_first : (lines : List SizeLine) (id : List ℕ) → radius_found (find (λ line. bytes_eq line.id id) lines) ≡ radius_of (sizes_of lines) id
+radius_of_first [] id = refl
+radius_of_first (line ∷ lines) id = at (bytes_eq line.id id) (radius_of_first lines id)
+  where
+    at : (b : Bool) → radius_found (find (λ l. bytes_eq l.id id) lines) ≡ radius_of (sizes_of lines) id
+        → radius_found (cond b (Some line) (find (λ l. bytes_eq l.id id) lines))
+        ≡ unwrap_or (option_map (λ (s : Size). s.radius) (cond b (Some (size_of line)) (find (λ s. bytes_eq s.id id) (sizes_of lines)))) 0
+    at true rest = refl
+    at false rest = rest
+
+-- it is at most a kilometre, as each one is that is given
+pub radius_of_within : (lines : List SizeLine) (id : List ℕ) → radius_of (sizes_of lines) id ≤ MAX_RADIUS
+radius_of_within [] id = omega arith
+radius_of_within (line ∷ lines) id = at (bytes_eq line.id id) (radius_of_within lines id)
+  where
+    at : (b : Bool) → radius_of (sizes_of lines) id ≤ MAX_RADIUS
+        → unwrap_or (option_map (λ (s : Size). s.radius) (cond b (Some (size_of line)) (find (λ s. bytes_eq s.id id) (sizes_of lines)))) 0 ≤ MAX_RADIUS
+    at true rest = line.within
+    at false rest = rest
+
+pub radii_within : (lines : List SizeLine) (ids : List (Bor (List ℕ))) → All (λ radius. radius ≤ MAX_RADIUS) (map (λ id. radius_of (sizes_of lines) id.now) ids)
+radii_within lines ids = All-map (λ radius. radius ≤ MAX_RADIUS) (λ (id : Bor (List ℕ)). radius_of (sizes_of lines) id.now) ids (λ k d h. radius_of_within lines (get_or ids k d).now)
+
+-- a further line gives the radius of its id where no line before does
+pub given_more : (lines : List SizeLine) (i : ℕ) (d : SizeLine) (id : List ℕ) → i < length lines
+    → radius_given (sizes_of (take (i + 1) lines)) id ≡ option_or (radius_given (sizes_of (take i lines)) id) (cond (bytes_eq (get_or lines i d).id id) (Some (get_or lines i d).radius) None)
+given_more lines i d id within =
+    ap (λ (ls : List SizeLine). radius_given (sizes_of ls) id) (take_more lines i d within)
+    ∙ ap (λ (ss : List Size). radius_given ss id) (map-append size_of (take i lines) (get_or lines i d ∷ []))
+    ∙ ap (option_map (λ (s : Size). s.radius)) (find-append (λ s. bytes_eq s.id id) (sizes_of (take i lines)) (size_of (get_or lines i d) ∷ []))
+    ∙ at (find (λ s. bytes_eq s.id id) (sizes_of (take i lines))) (size_of (get_or lines i d)) (bytes_eq (get_or lines i d).id id)
+  where
+    at : (before : Option Size) (size : Size) (b : Bool)
+        → option_map (λ (s : Size). s.radius) (option_or before (cond b (Some size) None)) ≡ option_or (option_map (λ (s : Size). s.radius) before) (cond b (Some size.radius) None)
+    at (Some s) size b = refl
+    at None size true = refl
+    at None size false = refl
+
+-- what is had stays
+pub kept : (old at_key : Option ℕ) (b : Bool) (radius : ℕ) → is_some at_key ≡ true → (b ≡ true → at_key ≡ old) → old ≡ option_or old (cond b (Some radius) None)
+kept (Some r) at_key b radius some same = refl
+kept None at_key true radius some same = absurd (false≢true (ap (λ (o : Option ℕ). is_some o) (sym (same refl)) ∙ some))
+kept None at_key false radius some same = refl
+
+-- and what is not is taken
+pub put : (new old at_key : Option ℕ) (b : Bool) (radius : ℕ) → is_some at_key ≡ false → new ≡ cond b (Some radius) old → (b ≡ true → at_key ≡ old) → new ≡ option_or old (cond b (Some radius) None)
+put new (Some r) at_key true radius none e same = absurd (false≢true (sym (ap (λ (o : Option ℕ). is_some o) (sym (same refl)) ∙ none)))
+put new (Some r) at_key false radius none e same = e
+put new None at_key true radius none e same = e
+put new None at_key false radius none e same = e
+
+-- the same text has the same radius
+pub same_radius : (radii : BTreeMap (Bor (List ℕ)) ℕ) (a b : List ℕ) → bytes_eq a b ≡ true → radius_in radii a ≡ radius_in radii b
+same_radius radii a b e = ap (radius_in radii) (same_text a b (sym e))

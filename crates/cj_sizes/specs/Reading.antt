@@ -1,0 +1,58 @@
+-- What a file of sizes says, or the first fault of it.
+use Rattle.std.specs.Prelude.{ℕ, Bool, if◌then◌else◌, List, [], ◌∷◌, ◌++◌, Result, Ok, Err}
+use Rattle.std.specs.List.{list_any}
+use Rattle.std.specs.Str.{bytes_eq}
+use Rattle.cj_kvn.specs.Lines as kvn
+use Rattle.cj_kvn.specs.Lines.{Blank, Comment, Mark, Pair, Row, Numbered}
+use Rattle.cj_kvn.specs.declared.lines.KvnFault.{KvnFault}
+use Rattle.cj_kvn.specs.declared.lines.KvnFault.TheVariants as faults
+use Rattle.cj_sizes.specs.declared.fault.KvnCause.TheVariants.{NotPrintable, NoLineForm}
+use Rattle.cj_sizes.specs.declared.fault.SizesCause.{SizesCause}
+use Rattle.cj_sizes.specs.declared.fault.SizesCause.TheVariants as causes
+use Rattle.cj_sizes.specs.Rows.{◌>>=◌, size_of_row}
+use Rattle.cj_sizes.specs.Sizes.{Size, ids_of}
+
+-- one of the sizes is given for this id
+abbrev pub is_named : List Size → List ℕ → Bool
+is_named sizes id = list_any (bytes_eq id) (ids_of sizes)
+
+-- the sizes with a further one, whose id was not given before
+abbrev pub with_size : List Size → Size → Result (List Size) SizesCause
+with_size before size = if is_named before size.id then Err causes.Twice else Ok (before ++ size ∷ [])
+
+-- the sizes with what a further line says: blank lines and comments say nothing
+unfoldable pub with_line : List Size → kvn.Form → Result (List Size) SizesCause
+with_line before Blank = Ok before
+with_line before Comment = Ok before
+with_line before (Mark mark) = Err causes.Form
+with_line before (Pair key value) = Err causes.Form
+with_line before (Row text) = size_of_row text >>= λ size. with_size before size
+
+-- a fault at its line
+pub record Fault : Type 0 where
+  pub line : ℕ
+  pub cause : SizesCause
+
+abbrev pub at_line : {A : Type 0} → ℕ → Result A SizesCause → Result A Fault
+at_line line (Ok x) = Ok x
+at_line line (Err cause) = Err (record { line = line; cause = cause })
+
+abbrev pub and_then : {A B : Type 0} → Result A Fault → (A → Result B Fault) → Result B Fault
+and_then (Ok x) f = f x
+and_then (Err e) f = Err e
+
+-- the sizes with what further lines say, or the first fault of these
+abbrev pub with_lines : List Size → List Numbered → Result (List Size) Fault
+with_lines before [] = Ok before
+with_lines before (line ∷ lines) = and_then (at_line line.number (with_line before line.form)) (λ sizes. with_lines sizes lines)
+
+-- the lines of a text, which are never out of memory
+abbrev pub lines_or : Result (List Numbered) KvnFault → Result (List Numbered) Fault
+lines_or (Ok lines) = Ok lines
+lines_or (Err (faults.NotPrintable line)) = Err (record { line = line; cause = causes.Kvn NotPrintable })
+lines_or (Err (faults.NoLineForm line)) = Err (record { line = line; cause = causes.Kvn NoLineForm })
+lines_or (Err faults.Memory) = Err (record { line = 0; cause = causes.Form })
+
+-- what the bytes of a file of sizes say
+unfoldable pub reading : List ℕ → Result (List Size) Fault
+reading bytes = and_then (lines_or (kvn.reading bytes)) (with_lines [])

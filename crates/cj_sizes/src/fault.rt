@@ -1,0 +1,67 @@
+//! Why a file of sizes is not read.
+ghost use Rattle.std.specs.Prelude.{◌≡◌};
+ghost use Rattle.cj_sizes.specs.declared.fault.SizesFault.TheVariants.{Memory};
+
+use cj_kvn::KvnFault;
+use std::alloc::AllocError;
+
+/// Why a file of sizes is not read.
+#[derive(Clone, Copy, Debug, PartialEq, Eq)]
+pub enum SizesFault {
+    /// Memory ran out.
+    Memory,
+    /// The first fault of the file, at its line. Lines are counted from 1.
+    At { line: u32, cause: SizesCause },
+}
+
+impl From<AllocError> for SizesFault {
+    ghost from_gives = { λ _ e. e ≡ Memory };
+
+    fn from(_: AllocError) -> Self {
+        SizesFault::Memory
+    }
+}
+
+impl From<KvnFault> for SizesFault {
+    ghost use Rattle.cj_sizes.specs.Readers.{fault_of};
+
+    ghost from_gives = { λ fault e. e ≡ fault_of fault };
+
+    fn from(fault: KvnFault) -> Self {
+        match fault {
+            KvnFault::Memory => SizesFault::Memory,
+            KvnFault::NotPrintable { line } => SizesFault::At {
+                line,
+                cause: SizesCause::Kvn(KvnCause::NotPrintable),
+            },
+            KvnFault::NoLineForm { line } => SizesFault::At {
+                line,
+                cause: SizesCause::Kvn(KvnCause::NoLineForm),
+            },
+        }
+    }
+}
+
+/// What is wrong with a line.
+#[derive(Clone, Copy, Debug, PartialEq, Eq)]
+pub enum SizesCause {
+    /// The line is none of key-value notation.
+    Kvn(KvnCause),
+    /// The line is not a row of two fields.
+    Form,
+    /// The radius is not a number.
+    Number,
+    /// The radius is below 0 or above a kilometre.
+    Range,
+    /// A radius was given for this designator before.
+    Twice,
+}
+
+/// Why a line is none of key-value notation.
+#[derive(Clone, Copy, Debug, PartialEq, Eq)]
+pub enum KvnCause {
+    /// It has a byte that may stand in comments alone.
+    NotPrintable,
+    /// Its key is not one or more of A to Z, 0 to 9 and `_`.
+    NoLineForm,
+}

@@ -1,0 +1,19 @@
+//! The sizes of objects: a radius for each designator, and how a file of them is read.
+#![tactic(auto)]
+
+mod draft;
+mod fault;
+mod radii;
+mod reader;
+mod refused;
+mod row;
+mod rows;
+mod size_line;
+
+pub use fault::{KvnCause, SizesCause, SizesFault};
+pub use radii::{radii_of, radius_of};
+pub use reader::read_sizes;
+pub use size_line::SizeLine;
+
+#[cfg(test)]
+mod tests;
