@@ -1,0 +1,16 @@
+//! The three words that the shares count with.
+
+/// The number of live cells, modulo 2^64.
+pub(crate) const LIVE: usize = 0;
+
+/// The number of leaves that are certain, which is the roots and the splits, modulo 2^64.
+pub(crate) const LEAVES: usize = 1;
+
+/// The causes for which the workers are to stop, a bit each.
+pub(crate) const HALTS: usize = 2;
+
+/// The bit of `Why::Cells`.
+pub(crate) const CELLS: u64 = 1;
+
+/// The bit of `Why::Memory`.
+pub(crate) const MEMORY: u64 = 2;
