@@ -6,26 +6,26 @@ use Rattle.std.proofs.lemmas.List.Sums.{sum_by-cons}
 use Rattle.std.proofs.lemmas.Option.{slice_get_within}
 use Rattle.std.proofs.lemmas.Bool.{cases_lt}
 use Rattle.std.proofs.lemmas.List.{append-nil, get_or_default, length-append, length-map}
-use Rattle.cj_oem.specs.declared.node.Node.{Node}
-use Rattle.cj_oem.specs.declared.segment.Segment.{Segment}
-use Rattle.cj_oem.specs.Ephemeris.{State, Arc, Ephemeris}
-use Rattle.cj_oem.specs.Nodes.{IsStep, AreSteps, AreNodes}
-use Rattle.cj_oem.specs.Segments.{AreSegments, AreInOrder, node_count, piece_count, starts_from}
-use Rattle.cj_oem.specs.Tracks.{state_of, arc_of}
+use Rattle.cj_track.specs.declared.node.Node.{Node}
+use Rattle.cj_track.specs.declared.segment.Segment.{Segment}
+use Rattle.cj_track.specs.PlainTracks.{PlainNode, PlainSegment, PlainTrack}
+use Rattle.cj_track.specs.Nodes.{IsStep, AreSteps, AreNodes}
+use Rattle.cj_track.specs.Segments.{AreSegments, AreInOrder, node_count, piece_count, starts_from}
+use Rattle.cj_track.specs.Tracks.{plain_node, plain_segment}
 use Rattle.cj_hermite.specs.declared.pieces.Piece.{Piece}
 use Rattle.cj_hermite.specs.Interpolant.{curve_of}
-use Rattle.cj_hermite.specs.Pieces.{Interval, intervals_between, intervals_of_arc, intervals_of, last_covering, interval_at, interval_index_at, curve_of_interval}
+use Rattle.cj_hermite.specs.Pieces.{PlainPiece, intervals_between, intervals_of_arc, intervals_of, last_covering, interval_at, interval_index_at, curve_of_interval}
 use Rattle.cj_hermite.specs.PiecesOfTracks.{Covers, Spans, IsInSegment, first_state, last_state, interval_with}
 use Rattle.cj_hermite.specs.Searches.{IsLastBegun, AllLater, IsFromNode, IsLastStarted, IsPlace}
 use Rattle.cj_hermite.proofs.SearchLemmas.{in_order, segments_rise, starts_at_least}
 use Rattle.cj_hermite.proofs.CoverLemmas.{Misses, misses-append, last_before, last_behind, last_first, covers_if, before_from, before_first, behind_last, last_none, found_is, covers_is}
 
-abbrev pub interval_between : ℕ → ℕ → Node → Node → Interval
-interval_between first last a b = record { from = state_of a; to = state_of b; first = first; last = last }
+abbrev pub interval_between : ℕ → ℕ → Node → Node → PlainPiece
+interval_between first last a b = record { from = plain_node a; to = plain_node b; first = first; last = last }
 
 -- the intervals of a segment
-abbrev pub intervals_in : ℕ → ℕ → List Node → List Interval
-intervals_in first last nodes = intervals_between first last (map state_of nodes)
+abbrev pub intervals_in : ℕ → ℕ → List Node → List PlainPiece
+intervals_in first last nodes = intervals_between first last (map plain_node nodes)
 
 -- those from a later node on
 later_nodes : (m first last : ℕ) (a : Node) (nodes : List Node) → AreSteps (a ∷ nodes) → m < a.at.micros → Misses m (intervals_in first last (a ∷ nodes))
@@ -34,12 +34,12 @@ later_nodes m first last a (b ∷ nodes) steps h =
     (before_from m (interval_between first last a b) h, later_nodes m first last b nodes steps.1 (omega (arith, steps.0.rises)))
 
 -- those of a later segment, and of an earlier one
-pub later_span : (m first last : ℕ) (states : List State) → m < first → Misses m (intervals_between first last states)
+pub later_span : (m first last : ℕ) (states : List PlainNode) → m < first → Misses m (intervals_between first last states)
 later_span m first last [] h = tt
 later_span m first last (a ∷ []) h = tt
 later_span m first last (a ∷ b ∷ states) h = (before_first m (record { from = a; to = b; first = first; last = last }) h, later_span m first last (b ∷ states) h)
 
-pub earlier_span : (m first last : ℕ) (states : List State) → last < m → Misses m (intervals_between first last states)
+pub earlier_span : (m first last : ℕ) (states : List PlainNode) → last < m → Misses m (intervals_between first last states)
 earlier_span m first last [] h = tt
 earlier_span m first last (a ∷ []) h = tt
 earlier_span m first last (a ∷ b ∷ states) h = (behind_last m (record { from = a; to = b; first = first; last = last }) h, earlier_span m first last (b ∷ states) h)
@@ -68,14 +68,14 @@ at_node m n first last (suc i) (a ∷ b ∷ nodes) d steps after before h =
     ∙ ap (λ (k : ℕ). Some (k, interval_between first last (get_or (b ∷ nodes) i d) (get_or (b ∷ nodes) (suc i) d))) (omega arith)
 
 -- the intervals of segments
-abbrev pub intervals_through : List Segment → List Interval
-intervals_through segments = flat_map intervals_of_arc (map arc_of segments)
+abbrev pub intervals_through : List Segment → List PlainPiece
+intervals_through segments = flat_map intervals_of_arc (map plain_segment segments)
 
 -- those from a later segment on
 later_segments : (m : ℕ) (a : Segment) (segments : List Segment) → AreInOrder (a ∷ segments) → m < a.first.micros → Misses m (intervals_through (a ∷ segments))
-later_segments m a [] order h = misses-append m (intervals_of_arc (arc_of a)) [] (later_span m a.first.micros a.last.micros (map state_of a.nodes) h) tt
+later_segments m a [] order h = misses-append m (intervals_of_arc (plain_segment a)) [] (later_span m a.first.micros a.last.micros (map plain_node a.nodes) h) tt
 later_segments m a (b ∷ segments) order h =
-    misses-append m (intervals_of_arc (arc_of a)) (intervals_through (b ∷ segments)) (later_span m a.first.micros a.last.micros (map state_of a.nodes) h)
+    misses-append m (intervals_of_arc (plain_segment a)) (intervals_through (b ∷ segments)) (later_span m a.first.micros a.last.micros (map plain_node a.nodes) h)
     (later_segments m b segments order.1 (omega (arith, order.0, a.some)))
 
 -- each segment begins later or ends earlier
@@ -83,10 +83,10 @@ no_segment : (m : ℕ) (segments : List Segment) (d : Segment) → ((j : ℕ) �
     → Misses m (intervals_through segments)
 no_segment m [] d h = tt
 no_segment m (a ∷ segments) d h =
-    misses-append m (intervals_of_arc (arc_of a)) (intervals_through segments)
+    misses-append m (intervals_of_arc (plain_segment a)) (intervals_through segments)
     (elim (h 0 (omega arith)) [
-      | inl later ↦ later_span m a.first.micros a.last.micros (map state_of a.nodes) later
-      | inr earlier ↦ earlier_span m a.first.micros a.last.micros (map state_of a.nodes) earlier
+      | inl later ↦ later_span m a.first.micros a.last.micros (map plain_node a.nodes) later
+      | inr earlier ↦ earlier_span m a.first.micros a.last.micros (map plain_node a.nodes) earlier
     ])
     (no_segment m segments d (λ j below. h (suc j) (omega arith)))
 
@@ -108,17 +108,17 @@ all_apart m k segments s order last e ended =
     ])
 
 -- what the intervals of a segment give is what all give, if the next segment begins later
-pub at_segment : (m n k : ℕ) (segments : List Segment) (d : Segment) (z : ℕ × Interval) → AreInOrder segments → k < length segments
+pub at_segment : (m n k : ℕ) (segments : List Segment) (d : Segment) (z : ℕ × PlainPiece) → AreInOrder segments → k < length segments
     → (suc k < length segments → m < (get_or segments (suc k) d).first.micros)
-    → last_covering m (get_or (starts_from n segments) k 0) (intervals_of_arc (arc_of (get_or segments k d))) ≡ Some z
+    → last_covering m (get_or (starts_from n segments) k 0) (intervals_of_arc (plain_segment (get_or segments k d))) ≡ Some z
     → last_covering m n (intervals_through segments) ≡ Some z
 at_segment m n k [] d z order below next found = absurd (omega arith)
-at_segment m n zero (a ∷ []) d z order below next found = last_before m n (intervals_of_arc (arc_of a)) [] tt ∙ found
+at_segment m n zero (a ∷ []) d z order below next found = last_before m n (intervals_of_arc (plain_segment a)) [] tt ∙ found
 at_segment m n zero (a ∷ b ∷ segments) d z order below next found =
-    last_before m n (intervals_of_arc (arc_of a)) (intervals_through (b ∷ segments)) (later_segments m b segments order.1 (next (omega arith))) ∙ found
+    last_before m n (intervals_of_arc (plain_segment a)) (intervals_through (b ∷ segments)) (later_segments m b segments order.1 (next (omega arith))) ∙ found
 at_segment m n (suc k) (a ∷ []) d z order below next found = absurd (omega arith)
 at_segment m n (suc k) (a ∷ b ∷ segments) d z order below next found =
-    last_behind m n (n + piece_count a) z (intervals_of_arc (arc_of a)) (intervals_through (b ∷ segments)) (omega (arith, length-intervals a.first.micros a.last.micros a.nodes))
+    last_behind m n (n + piece_count a) z (intervals_of_arc (plain_segment a)) (intervals_through (b ∷ segments)) (omega (arith, length-intervals a.first.micros a.last.micros a.nodes))
     (at_segment m (n + piece_count a) k (b ∷ segments) d z order.1 (omega arith) (λ e. next (omega arith)) found)
 
 -- the number of a segment's first piece, and how many there are at most
@@ -147,12 +147,12 @@ number_fits k i segments s are exists e below =
     omega (arith, are.few)
 
 -- what is found for a tick, at its number
-pub record IsLastFound (m number : ℕ) (intervals : List Interval) : Type 0 where
-  pub interval : Interval
+pub record IsLastFound (m number : ℕ) (intervals : List PlainPiece) : Type 0 where
+  pub interval : PlainPiece
   pub is : last_covering m 0 intervals ≡ Some (number, interval)
 
 in_nodes : (m n first last i : ℕ) (nodes : List Node) → AreNodes nodes → first ≤ m → m ≤ last → ((d : Node) → IsFromNode m nodes i d)
-    → (x : Interval) × (last_covering m n (intervals_in first last nodes) ≡ Some (n + i, x))
+    → (x : PlainPiece) × (last_covering m n (intervals_in first last nodes) ≡ Some (n + i, x))
 in_nodes m n first last i [] are after before from = absurd (omega (arith, are.enough))
 in_nodes m n first last i (a ∷ nodes) are after before from =
     (interval_between first last (get_or (a ∷ nodes) i a) (get_or (a ∷ nodes) (suc i) a), at_node m n first last i (a ∷ nodes) a are.steps after before (from a))
@@ -167,49 +167,49 @@ found_in m k i segments s order last e before are from =
     record {
       interval = here.0;
       is = at_segment m 0 k segments s (start + i, here.0) order last.exists (last.next s)
-          (subst (λ (t : Segment). last_covering m start (intervals_of_arc (arc_of t)) ≡ Some (start + i, here.0)) e here.1);
+          (subst (λ (t : Segment). last_covering m start (intervals_of_arc (plain_segment t)) ≡ Some (start + i, here.0)) e here.1);
     }
 
-pub none_at : (e : Ephemeris) (m : ℕ) → Misses m (intervals_of e) → interval_index_at e m ≡ None
+pub none_at : (e : PlainTrack) (m : ℕ) → Misses m (intervals_of e) → interval_index_at e m ≡ None
 unfolding interval_index_at
-none_at e m misses = ap (λ (z : Option (ℕ × Interval)). option_map (λ x. x.0) z) (last_none m 0 (intervals_of e) misses)
+none_at e m misses = ap (λ (z : Option (ℕ × PlainPiece)). option_map (λ x. x.0) z) (last_none m 0 (intervals_of e) misses)
 
 -- what is told of the piece at a tick
-pub record IsAt (e : Ephemeris) (m number : ℕ) : Type 0 where
+pub record IsAt (e : PlainTrack) (m number : ℕ) : Type 0 where
   pub index : Some number ≡ interval_index_at e m
   pub exists : number < length (intervals_of e)
   pub interval : slice_get (intervals_of e) number ≡ interval_at e m
   pub covered : IsSomeAnd (interval_at e m) (Covers m)
 
-pub is_at : (e : Ephemeris) (m number : ℕ) → IsLastFound m number (intervals_of e) → IsAt e m number
+pub is_at : (e : PlainTrack) (m number : ℕ) → IsLastFound m number (intervals_of e) → IsAt e m number
 unfolding interval_index_at interval_at
 is_at e m number found =
     let place = found_is m 0 (intervals_of e) (number, found.interval) found.is in
     let here : slice_get (intervals_of e) number ≡ Some found.interval = subst (λ (i : ℕ). slice_get (intervals_of e) i ≡ Some found.interval) (omega (arith, place.number)) place.is in
     let last : last_covering m 0 (intervals_of e) ≡ Some (number, found.interval) = found.is in
     record {
-      index = sym (ap (λ (z : Option (ℕ × Interval)). option_map (λ x. x.0) z) last);
+      index = sym (ap (λ (z : Option (ℕ × PlainPiece)). option_map (λ x. x.0) z) last);
       exists = slice_get_within (intervals_of e) number found.interval here;
-      interval = here ∙ sym (ap (λ (z : Option (ℕ × Interval)). option_map (λ x. x.1) z) last);
-      covered = subst (λ (z : Option (ℕ × Interval)). IsSomeAnd (option_map (λ x. x.1) z) (Covers m)) (sym last) (covers_is m found.interval place.here);
+      interval = here ∙ sym (ap (λ (z : Option (ℕ × PlainPiece)). option_map (λ x. x.1) z) last);
+      covered = subst (λ (z : Option (ℕ × PlainPiece)). IsSomeAnd (option_map (λ x. x.1) z) (Covers m)) (sym last) (covers_is m found.interval place.here);
     }
 
-slice_get-append_left : (xs ys : List Interval) (i : ℕ) → i < length xs → slice_get (xs ++ ys) i ≡ slice_get xs i
+pub slice_get-append_left : (xs ys : List PlainPiece) (i : ℕ) → i < length xs → slice_get (xs ++ ys) i ≡ slice_get xs i
 slice_get-append_left [] ys i below = absurd (omega arith)
 slice_get-append_left (x ∷ xs) ys zero below = refl
 slice_get-append_left (x ∷ xs) ys (suc i) below = slice_get-append_left xs ys i (omega arith)
 
-slice_get-append_right : (xs ys : List Interval) (i j : ℕ) → j ≡ length xs + i → slice_get (xs ++ ys) j ≡ slice_get ys i
+pub slice_get-append_right : (xs ys : List PlainPiece) (i j : ℕ) → j ≡ length xs + i → slice_get (xs ++ ys) j ≡ slice_get ys i
 slice_get-append_right [] ys i j e = ap (λ (k : ℕ). slice_get ys k) (omega arith)
 slice_get-append_right (x ∷ xs) ys i zero e = absurd (omega arith)
 slice_get-append_right (x ∷ xs) ys i (suc j) e = slice_get-append_right xs ys i j (omega arith)
 
-pub count-intervals : (s : Segment) → length (intervals_of_arc (arc_of s)) ≡ piece_count s
+pub count-intervals : (s : Segment) → length (intervals_of_arc (plain_segment s)) ≡ piece_count s
 count-intervals s = length-intervals s.first.micros s.last.micros s.nodes
 
 pub count-through : (a : Segment) (segments : List Segment) → length (intervals_through (a ∷ segments)) ≡ piece_count a + length (intervals_through segments)
 count-through a segments =
-    length-append (intervals_of_arc (arc_of a)) (intervals_through segments) ∙ ap (λ (i : ℕ). i + length (intervals_through segments)) (count-intervals a)
+    length-append (intervals_of_arc (plain_segment a)) (intervals_through segments) ∙ ap (λ (i : ℕ). i + length (intervals_through segments)) (count-intervals a)
 
 -- the number of a piece less that of its segment's first
 pub in_started : (n k index : ℕ) (segments : List Segment) (d : Segment) → k < length segments → get_or (starts_from n segments) k 0 ≤ index
@@ -217,7 +217,7 @@ pub in_started : (n k index : ℕ) (segments : List Segment) (d : Segment) → k
     → index < get_or (starts_from n segments) k 0 + piece_count (get_or segments k d)
 in_started n k index [] d exists started next below = absurd (omega arith)
 in_started n zero index (a ∷ []) d exists started next below =
-    let all : length (intervals_through (a ∷ [])) ≡ piece_count a = ap (λ (xs : List Interval). length xs) (append-nil (intervals_of_arc (arc_of a))) ∙ count-intervals a in
+    let all : length (intervals_through (a ∷ [])) ≡ piece_count a = ap (λ (xs : List PlainPiece). length xs) (append-nil (intervals_of_arc (plain_segment a))) ∙ count-intervals a in
     let here : index < n + piece_count a = omega arith in
     here
 in_started n zero index (a ∷ b ∷ segments) d exists started next below =
@@ -228,18 +228,18 @@ in_started n (suc k) index (a ∷ segments) d exists started next below =
 
 -- a piece of a segment among all
 pub in_all : (n k i j : ℕ) (segments : List Segment) (d : Segment) → k < length segments → n + j ≡ get_or (starts_from n segments) k 0 + i → i < piece_count (get_or segments k d)
-    → slice_get (intervals_through segments) j ≡ slice_get (intervals_of_arc (arc_of (get_or segments k d))) i
+    → slice_get (intervals_through segments) j ≡ slice_get (intervals_of_arc (plain_segment (get_or segments k d))) i
 in_all n k i j [] d exists e below = absurd (omega arith)
 in_all n zero i j (a ∷ segments) d exists e below =
     let start : n + j ≡ n + i = e in
     let same : j ≡ i = omega arith in
     let short : i < piece_count a = below in
     ap (λ (l : ℕ). slice_get (intervals_through (a ∷ segments)) l) same
-    ∙ slice_get-append_left (intervals_of_arc (arc_of a)) (intervals_through segments) i (omega (arith, count-intervals a))
+    ∙ slice_get-append_left (intervals_of_arc (plain_segment a)) (intervals_through segments) i (omega (arith, count-intervals a))
 in_all n (suc k) i j (a ∷ segments) d exists e below =
     let start : n + j ≡ get_or (starts_from (n + piece_count a) segments) k 0 + i = e in
     let least = starts_at_least (n + piece_count a) k segments (omega (arith, length-starts (n + piece_count a) segments)) in
-    slice_get-append_right (intervals_of_arc (arc_of a)) (intervals_through segments) (j - piece_count a) j (omega (arith, count-intervals a))
+    slice_get-append_right (intervals_of_arc (plain_segment a)) (intervals_through segments) (j - piece_count a) j (omega (arith, count-intervals a))
     ∙ in_all (n + piece_count a) k i (j - piece_count a) segments d (omega arith) (omega arith) below
 
 pub from_node : (first last i : ℕ) (nodes : List Node) (d : Node) → suc i < length nodes
@@ -271,40 +271,40 @@ first_start [] = refl
 first_start (a ∷ segments) = refl
 
 -- how many pieces come before a segment, and with it
-before_segment : (n k : ℕ) (segments : List Segment) → k < length segments → get_or (starts_from n segments) k 0 ≡ n + length (flat_map intervals_of_arc (take k (map arc_of segments)))
+before_segment : (n k : ℕ) (segments : List Segment) → k < length segments → get_or (starts_from n segments) k 0 ≡ n + length (flat_map intervals_of_arc (take k (map plain_segment segments)))
 before_segment n k [] below = absurd (omega arith)
 before_segment n zero (a ∷ segments) below = let here : n ≡ n + 0 = omega arith in here
 before_segment n (suc k) (a ∷ segments) below =
-    let all : length (intervals_of_arc (arc_of a) ++ flat_map intervals_of_arc (take k (map arc_of segments))) ≡ piece_count a + length (flat_map intervals_of_arc (take k (map arc_of segments))) =
-    length-append (intervals_of_arc (arc_of a)) (flat_map intervals_of_arc (take k (map arc_of segments))) ∙ ap (λ (i : ℕ). i + length (flat_map intervals_of_arc (take k (map arc_of segments)))) (count-intervals a) in
+    let all : length (intervals_of_arc (plain_segment a) ++ flat_map intervals_of_arc (take k (map plain_segment segments))) ≡ piece_count a + length (flat_map intervals_of_arc (take k (map plain_segment segments))) =
+    length-append (intervals_of_arc (plain_segment a)) (flat_map intervals_of_arc (take k (map plain_segment segments))) ∙ ap (λ (i : ℕ). i + length (flat_map intervals_of_arc (take k (map plain_segment segments)))) (count-intervals a) in
     before_segment (n + piece_count a) k segments (omega arith) ∙ omega arith
 
 with_segment : (n k : ℕ) (segments : List Segment) (d : Segment) → k < length segments
-    → get_or (starts_from n segments) k 0 + piece_count (get_or segments k d) ≡ n + length (flat_map intervals_of_arc (take (suc k) (map arc_of segments)))
+    → get_or (starts_from n segments) k 0 + piece_count (get_or segments k d) ≡ n + length (flat_map intervals_of_arc (take (suc k) (map plain_segment segments)))
 with_segment n k [] d below = absurd (omega arith)
 with_segment n zero (a ∷ segments) d below =
-    let all : length (intervals_of_arc (arc_of a) ++ []) ≡ piece_count a = ap (λ (xs : List Interval). length xs) (append-nil (intervals_of_arc (arc_of a))) ∙ count-intervals a in
-    let here : n + piece_count a ≡ n + length (intervals_of_arc (arc_of a) ++ []) = omega arith in
+    let all : length (intervals_of_arc (plain_segment a) ++ []) ≡ piece_count a = ap (λ (xs : List PlainPiece). length xs) (append-nil (intervals_of_arc (plain_segment a))) ∙ count-intervals a in
+    let here : n + piece_count a ≡ n + length (intervals_of_arc (plain_segment a) ++ []) = omega arith in
     here
 with_segment n (suc k) (a ∷ segments) d below =
-    let all : length (intervals_of_arc (arc_of a) ++ flat_map intervals_of_arc (take (suc k) (map arc_of segments))) ≡ piece_count a + length (flat_map intervals_of_arc (take (suc k) (map arc_of segments))) =
-    length-append (intervals_of_arc (arc_of a)) (flat_map intervals_of_arc (take (suc k) (map arc_of segments)))
-    ∙ ap (λ (i : ℕ). i + length (flat_map intervals_of_arc (take (suc k) (map arc_of segments)))) (count-intervals a) in
+    let all : length (intervals_of_arc (plain_segment a) ++ flat_map intervals_of_arc (take (suc k) (map plain_segment segments))) ≡ piece_count a + length (flat_map intervals_of_arc (take (suc k) (map plain_segment segments))) =
+    length-append (intervals_of_arc (plain_segment a)) (flat_map intervals_of_arc (take (suc k) (map plain_segment segments)))
+    ∙ ap (λ (i : ℕ). i + length (flat_map intervals_of_arc (take (suc k) (map plain_segment segments)))) (count-intervals a) in
     with_segment (n + piece_count a) k segments d (omega arith) ∙ omega arith
 
 -- the segment with the last start that is at most the index
-pub in_segment : (e : Ephemeris) (index k : ℕ) (segments : List Segment) → e.arcs ≡ map arc_of segments → index < length (intervals_of e) → k < length segments
+pub in_segment : (e : PlainTrack) (index k : ℕ) (segments : List Segment) → e.arcs ≡ map plain_segment segments → index < length (intervals_of e) → k < length segments
     → IsLastStarted index (starts_from 0 segments) k → IsInSegment e index k
 in_segment e index k [] same below exists last = absurd (omega arith)
 in_segment e index k (a ∷ segments) same below exists last =
-    let all = subst (λ (arcs : List Arc). index < length (flat_map intervals_of_arc arcs)) same below in
+    let all = subst (λ (arcs : List PlainSegment). index < length (flat_map intervals_of_arc arcs)) same below in
     let one_more : suc k ≡ k + 1 = omega arith in
     let until = in_started 0 k index (a ∷ segments) a exists last.started (λ more. last.next (omega (arith, length-starts 0 (a ∷ segments)))) (omega (arith, all)) in
     record {
-      exists = omega (arith, ap (λ (arcs : List Arc). length arcs) same, length-map segments arc_of);
-      from = subst (λ (arcs : List Arc). length (flat_map intervals_of_arc (take k arcs)) ≤ index) (sym same) (omega (arith, last.started, before_segment 0 k (a ∷ segments) exists));
-      to = subst (λ (arcs : List Arc). index < length (flat_map intervals_of_arc (take (k + 1) arcs))) (sym same)
-          (subst (λ (i : ℕ). index < length (flat_map intervals_of_arc (take i (map arc_of (a ∷ segments))))) one_more (omega (arith, until, with_segment 0 k (a ∷ segments) a exists)));
+      exists = omega (arith, ap (λ (arcs : List PlainSegment). length arcs) same, length-map segments plain_segment);
+      from = subst (λ (arcs : List PlainSegment). length (flat_map intervals_of_arc (take k arcs)) ≤ index) (sym same) (omega (arith, last.started, before_segment 0 k (a ∷ segments) exists));
+      to = subst (λ (arcs : List PlainSegment). index < length (flat_map intervals_of_arc (take (k + 1) arcs))) (sym same)
+          (subst (λ (i : ℕ). index < length (flat_map intervals_of_arc (take i (map plain_segment (a ∷ segments))))) one_more (omega (arith, until, with_segment 0 k (a ∷ segments) a exists)));
     }
 
 -- the place of the piece with this number
@@ -316,11 +316,11 @@ place_from index k segments s exists below last e =
     record { segment = k; exists = exists; is = e; number = omega (arith, last.started); within = omega (arith, last.started) }
 
 pub at_place : (index i : ℕ) (segments : List Segment) (s : Segment) → IsPlace index segments s i
-    → slice_get (intervals_through segments) index ≡ slice_get (intervals_of_arc (arc_of s)) i
+    → slice_get (intervals_through segments) index ≡ slice_get (intervals_of_arc (plain_segment s)) i
 at_place index i segments s place =
     let count : piece_count s ≡ piece_count (get_or segments place.segment s) = ap (λ (t : Segment). piece_count t) place.is in
     in_all 0 place.segment i index segments s place.exists (omega (arith, place.number)) (omega (arith, place.within))
-    ∙ ap (λ (t : Segment). slice_get (intervals_of_arc (arc_of t)) i) (sym place.is)
+    ∙ ap (λ (t : Segment). slice_get (intervals_of_arc (plain_segment t)) i) (sym place.is)
 
 -- the two nodes of a piece, as they are read
 record AreRead (nodes : List Node) (i : ℕ) (a b : Node) : Type 0 where
@@ -340,26 +340,26 @@ step_between i nodes a b steps below first second =
 
 -- the piece between them is that of the interval
 pub interval_read : (s : Segment) (i : ℕ) (nodes : List Node) (a b : Node) (piece : Piece) → nodes ≡ s.nodes → i + 1 < length nodes → a ≡ get_or nodes i a → b ≡ get_or nodes (i + 1) b
-    → first_state piece ≡ state_of a → last_state piece ≡ state_of b → slice_get (intervals_of_arc (arc_of s)) i ≡ Some (interval_with s.first.micros s.last.micros piece)
+    → first_state piece ≡ plain_node a → last_state piece ≡ plain_node b → slice_get (intervals_of_arc (plain_segment s)) i ≡ Some (interval_with s.first.micros s.last.micros piece)
 interval_read s i nodes a b piece e below first second from to =
     let are = read i nodes a b below first second in
     let here : slice_get (intervals_in s.first.micros s.last.micros nodes) i ≡ Some (interval_with s.first.micros s.last.micros piece) =
     from_node s.first.micros s.last.micros i nodes a (omega arith)
     ∙ ap (λ (x : Node). Some (interval_between s.first.micros s.last.micros x (get_or nodes (suc i) a))) are.first
     ∙ ap (λ (y : Node). Some (interval_between s.first.micros s.last.micros a y)) are.second
-    ∙ ap (λ (x : State). Some (record { from = x; to = state_of b; first = s.first.micros; last = s.last.micros })) (sym from)
-    ∙ ap (λ (y : State). Some (record { from = first_state piece; to = y; first = s.first.micros; last = s.last.micros })) (sym to) in
+    ∙ ap (λ (x : PlainNode). Some (record { from = x; to = plain_node b; first = s.first.micros; last = s.last.micros })) (sym from)
+    ∙ ap (λ (y : PlainNode). Some (record { from = first_state piece; to = y; first = s.first.micros; last = s.last.micros })) (sym to) in
     subst (λ (xs : List Node). slice_get (intervals_in s.first.micros s.last.micros xs) i ≡ Some (interval_with s.first.micros s.last.micros piece)) e here
 
-pub spans : (first last : ℕ) (piece : Piece) (z : Option Interval) → z ≡ Some (interval_with first last piece) → IsSomeAnd z (Spans piece)
-spans first last piece z e = subst (λ (x : Option Interval). IsSomeAnd x (Spans piece)) (sym e) (record { from = refl; to = refl })
+pub spans : (first last : ℕ) (piece : Piece) (z : Option PlainPiece) → z ≡ Some (interval_with first last piece) → IsSomeAnd z (Spans piece)
+spans first last piece z e = subst (λ (x : Option PlainPiece). IsSomeAnd x (Spans piece)) (sym e) (record { from = refl; to = refl })
 
 -- and its interpolant
-pub same_curve : (piece : Piece) (x : Interval) → Spans piece x → curve_of piece ≡ curve_of_interval x
+pub same_curve : (piece : Piece) (x : PlainPiece) → Spans piece x → curve_of piece ≡ curve_of_interval x
 same_curve piece x h =
-    ap (λ (from : State). curve_of_interval (record { from = from; to = last_state piece; first = x.first; last = x.last })) h.from
-    ∙ ap (λ (to : State). curve_of_interval (record { from = x.from; to = to; first = x.first; last = x.last })) h.to
+    ap (λ (from : PlainNode). curve_of_interval (record { from = from; to = last_state piece; first = x.first; last = x.last })) h.from
+    ∙ ap (λ (to : PlainNode). curve_of_interval (record { from = x.from; to = to; first = x.first; last = x.last })) h.to
 
-pub curve_if : (piece : Piece) (z : Option Interval) → IsSomeAnd z (Spans piece) → IsSomeAnd z (λ x. curve_of piece ≡ curve_of_interval x)
+pub curve_if : (piece : Piece) (z : Option PlainPiece) → IsSomeAnd z (Spans piece) → IsSomeAnd z (λ x. curve_of piece ≡ curve_of_interval x)
 curve_if piece None h = h
 curve_if piece (Some x) h = same_curve piece x h

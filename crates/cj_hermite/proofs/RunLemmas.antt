@@ -5,14 +5,14 @@ use Rattle.std.specs.Option.{option_eq}
 use Rattle.std.proofs.lemmas.Bool.{eqb-true, cases_lt}
 use Rattle.std.proofs.lemmas.List.{get_or_default}
 use Rattle.cj_epoch.specs.declared.tick.Window.{Window}
-use Rattle.cj_oem.specs.declared.node.Node.{Node}
-use Rattle.cj_oem.specs.declared.segment.Segment.{Segment}
-use Rattle.cj_oem.specs.Ephemeris.{Ephemeris}
-use Rattle.cj_oem.specs.Nodes.{AreNodes}
-use Rattle.cj_oem.specs.Segments.{AreSegments}
-use Rattle.cj_oem.specs.Tracks.{arc_of}
+use Rattle.cj_track.specs.declared.node.Node.{Node}
+use Rattle.cj_track.specs.declared.segment.Segment.{Segment}
+use Rattle.cj_track.specs.PlainTracks.{PlainTrack}
+use Rattle.cj_track.specs.Nodes.{AreNodes}
+use Rattle.cj_track.specs.Segments.{AreSegments}
+use Rattle.cj_track.specs.Tracks.{plain_segment}
 use Rattle.cj_hermite.specs.declared.pieces.Piece.{Piece}
-use Rattle.cj_hermite.specs.Pieces.{Interval, intervals_of_arc, intervals_of, last_covering, interval_index_at}
+use Rattle.cj_hermite.specs.Pieces.{PlainPiece, intervals_of_arc, intervals_of, last_covering, interval_index_at}
 use Rattle.cj_hermite.specs.PiecesOfTracks.{Covers, CoversBoth, interval_with}
 use Rattle.cj_hermite.specs.Runs.{Holds, IsOfPiece, IsRun}
 use Rattle.cj_hermite.specs.Searches.{IsLastBegun, IsFromNode, IsPlace}
@@ -20,7 +20,7 @@ use Rattle.cj_hermite.proofs.CoverLemmas.{found_is, covers_is}
 use Rattle.cj_hermite.proofs.SearchLemmas.{in_order}
 use Rattle.cj_hermite.proofs.PieceLemmas.{interval_between, intervals_through, IsLastFound, found_in, from_node}
 
-covers_found : (m index : ℕ) (xs : List Interval) (x : Interval) (z : Option (ℕ × Interval)) → last_covering m 0 xs ≡ z → option_map (λ y. y.0) z ≡ Some index → slice_get xs index ≡ Some x → Covers m x
+covers_found : (m index : ℕ) (xs : List PlainPiece) (x : PlainPiece) (z : Option (ℕ × PlainPiece)) → last_covering m 0 xs ≡ z → option_map (λ y. y.0) z ≡ Some index → slice_get xs index ≡ Some x → Covers m x
 covers_found m index xs x None last same here = absurd cc
 covers_found m index xs x (Some z) last same here =
     let found = found_is m 0 xs z last in
@@ -28,16 +28,16 @@ covers_found m index xs x (Some z) last same here =
     let place : found.place ≡ index = omega (arith, found.number) in
     let is : slice_get xs index ≡ Some z.1 = subst (λ (i : ℕ). slice_get xs i ≡ Some z.1) place found.is in
     let one : z.1 ≡ x = cc in
-    subst (λ (y : Interval). Covers m y) one (covers_is m z.1 found.here)
+    subst (λ (y : PlainPiece). Covers m y) one (covers_is m z.1 found.here)
 
-held_in : (m index : ℕ) (e : Ephemeris) (window : Window) (z : Option Interval) → slice_get (intervals_of e) index ≡ z → IsSomeAnd z (λ x. (i : ℕ) → Holds window i ↔ Covers i x)
+held_in : (m index : ℕ) (e : PlainTrack) (window : Window) (z : Option PlainPiece) → slice_get (intervals_of e) index ≡ z → IsSomeAnd z (λ x. (i : ℕ) → Holds window i ↔ Covers i x)
     → interval_index_at e m ≡ Some index → Holds window m
 unfolding interval_index_at
 held_in m index e window None same ticks here = absurd ticks
 held_in m index e window (Some x) same ticks here = (ticks m).1 (covers_found m index (intervals_of e) x (last_covering m 0 (intervals_of e)) refl here same)
 
 -- what is told of the ticks between the nodes of a piece
-pub record AreCovered (e : Ephemeris) (index : ℕ) (window : Window) : Type 0 where
+pub record AreCovered (e : PlainTrack) (index : ℕ) (window : Window) : Type 0 where
   pub ticks : IsSomeAnd (slice_get (intervals_of e) index) (λ x. (m : ℕ) → Holds window m ↔ Covers m x)
   pub own : (m : ℕ) → Holds window m → m < window.last.micros → interval_index_at e m ≡ Some index
 
@@ -49,23 +49,23 @@ pub record IsCommonPart (a b run : Window) : Type 0 where
 in_both : (m : ℕ) (a b run : Window) → IsCommonPart a b run → Holds a m → Holds b m → Holds run m
 in_both m a b run part x y = record { after = omega (arith, part.first, x.after, y.after); before = omega (arith, part.last, x.before, y.before) }
 
-pub held : (m index : ℕ) (e : Ephemeris) (range covered run : Window) → AreCovered e index covered → IsCommonPart covered range run → IsOfPiece e index range m → Holds run m
+pub held : (m index : ℕ) (e : PlainTrack) (range covered run : Window) → AreCovered e index covered → IsCommonPart covered range run → IsOfPiece e index range m → Holds run m
 held m index e range covered run are part h =
     in_both m covered range run part (held_in m index e covered (slice_get (intervals_of e) index) refl are.ticks h.here) h.within
 
-own_in : (m index : ℕ) (e : Ephemeris) (range covered run : Window) → AreCovered e index covered → IsCommonPart covered range run → Holds run m → m < run.last.micros → IsOfPiece e index range m
+own_in : (m index : ℕ) (e : PlainTrack) (range covered run : Window) → AreCovered e index covered → IsCommonPart covered range run → Holds run m → m < run.last.micros → IsOfPiece e index range m
 own_in m index e range covered run are part h less = record {
   within = record { after = omega (arith, part.first, h.after); before = omega (arith, part.last, h.before) };
   here = are.own m (record { after = omega (arith, part.first, h.after); before = omega (arith, part.last, h.before) }) (omega (arith, part.last));
 }
 
 -- the ends of a run within
-pub ends_covered : (m n : ℕ) (window : Window) (z : Option Interval) → IsSomeAnd z (λ x. (i : ℕ) → Holds window i ↔ Covers i x) → Holds window m → Holds window n → IsSomeAnd z (CoversBoth m n)
+pub ends_covered : (m n : ℕ) (window : Window) (z : Option PlainPiece) → IsSomeAnd z (λ x. (i : ℕ) → Holds window i ↔ Covers i x) → Holds window m → Holds window n → IsSomeAnd z (CoversBoth m n)
 ends_covered m n window None ticks first second = ticks
 ends_covered m n window (Some x) ticks first second = record { first = (ticks m).0 first; second = (ticks n).0 second }
 
 -- where the last tick is the piece's own
-pub run_whole : (index : ℕ) (e : Ephemeris) (range covered run : Window) → AreCovered e index covered → IsCommonPart covered range run → run.first.micros ≤ run.last.micros
+pub run_whole : (index : ℕ) (e : PlainTrack) (range covered run : Window) → AreCovered e index covered → IsCommonPart covered range run → run.first.micros ≤ run.last.micros
     → interval_index_at e run.last.micros ≡ Some index → IsRun e index range run
 run_whole index e range covered run are part some last = record {
   some = some;
@@ -82,7 +82,7 @@ run_whole index e range covered run are part some last = record {
 }
 
 -- where it belongs to a later piece
-pub run_less : (index : ℕ) (e : Ephemeris) (range covered run shorter : Window) → AreCovered e index covered → IsCommonPart covered range run → run.first.micros < run.last.micros
+pub run_less : (index : ℕ) (e : PlainTrack) (range covered run shorter : Window) → AreCovered e index covered → IsCommonPart covered range run → run.first.micros < run.last.micros
     → interval_index_at e run.last.micros ≢ Some index → shorter.first.micros ≡ run.first.micros → shorter.last.micros ≡ run.last.micros - 1 → IsRun e index range shorter
 run_less index e range covered run shorter are part some other first last = record {
   some = omega arith;
@@ -97,11 +97,11 @@ run_less index e range covered run shorter are part some other first last = reco
   );
 }
 
-pub run_none : (index : ℕ) (e : Ephemeris) (range covered run : Window) → AreCovered e index covered → IsCommonPart covered range run → run.last.micros < run.first.micros
+pub run_none : (index : ℕ) (e : PlainTrack) (range covered run : Window) → AreCovered e index covered → IsCommonPart covered range run → run.last.micros < run.first.micros
     → (m : ℕ) → ¬ IsOfPiece e index range m
 run_none index e range covered run are part none m h = let inside = held m index e range covered run are part h in omega (arith, inside.after, inside.before)
 
-pub run_other : (index : ℕ) (e : Ephemeris) (range covered run : Window) → AreCovered e index covered → IsCommonPart covered range run → run.last.micros ≡ run.first.micros
+pub run_other : (index : ℕ) (e : PlainTrack) (range covered run : Window) → AreCovered e index covered → IsCommonPart covered range run → run.last.micros ≡ run.first.micros
     → interval_index_at e run.last.micros ≢ Some index → (m : ℕ) → ¬ IsOfPiece e index range m
 run_other index e range covered run are part one other m h =
     let inside = held m index e range covered run are part h in
@@ -109,13 +109,13 @@ run_other index e range covered run are part one other m h =
     other (subst (λ (i : ℕ). interval_index_at e i ≡ Some index) same h.here)
 
 -- where the run ends before the range does
-pub ended_whole : (index : ℕ) (e : Ephemeris) (range covered run : Window) → AreCovered e index covered → IsCommonPart covered range run → run.last.micros < range.last.micros
+pub ended_whole : (index : ℕ) (e : PlainTrack) (range covered run : Window) → AreCovered e index covered → IsCommonPart covered range run → run.last.micros < range.last.micros
     → (m : ℕ) → run.last.micros < m → interval_index_at e m ≢ Some index
 ended_whole index e range covered run are part short m after here =
     let inside = held_in m index e covered (slice_get (intervals_of e) index) refl are.ticks here in
     omega (arith, part.last, inside.before)
 
-pub ended_less : (index : ℕ) (e : Ephemeris) (range covered run : Window) → AreCovered e index covered → IsCommonPart covered range run → run.first.micros < run.last.micros
+pub ended_less : (index : ℕ) (e : PlainTrack) (range covered run : Window) → AreCovered e index covered → IsCommonPart covered range run → run.first.micros < run.last.micros
     → interval_index_at e run.last.micros ≢ Some index → (m : ℕ) → run.last.micros - 1 < m → interval_index_at e m ≢ Some index
 ended_less index e range covered run are part some other m after here =
     let inside = held_in m index e covered (slice_get (intervals_of e) index) refl are.ticks here in
@@ -132,11 +132,11 @@ ended_less index e range covered run are part some other m after here =
 same_ticks : (first last first' last' : ℕ) (a b : Node) (piece : Piece) → Some (interval_between first last a b) ≡ Some (interval_with first' last' piece) → (a.at.micros ≡ piece.t0.micros) × (b.at.micros ≡ piece.t1.micros)
 same_ticks first last first' last' a b piece h =
     let same : interval_between first last a b ≡ interval_with first' last' piece = cc in
-    (ap (λ (x : Interval). x.from.at) same, ap (λ (x : Interval). x.to.at) same)
+    (ap (λ (x : PlainPiece). x.from.at) same, ap (λ (x : PlainPiece). x.to.at) same)
 
 -- a tick before the last that the piece covers
 pub own_tick : (m index i : ℕ) (segments : List Segment) (s : Segment) (piece : Piece) → AreSegments segments → AreNodes s.nodes → IsPlace index segments s i
-    → slice_get (intervals_of_arc (arc_of s)) i ≡ Some (interval_with s.first.micros s.last.micros piece)
+    → slice_get (intervals_of_arc (plain_segment s)) i ≡ Some (interval_with s.first.micros s.last.micros piece)
     → s.first.micros ≤ m → piece.t0.micros ≤ m → m < s.last.micros → m < piece.t1.micros
     → IsLastFound m index (intervals_through segments)
 own_tick m index i segments s piece are nodes place value after from before to =
@@ -157,10 +157,10 @@ own_tick m index i segments s piece are nodes place value after from before to =
     subst (λ (number : ℕ). IsLastFound m number (intervals_through segments)) (sym place.number) found
 
 -- the ticks between the nodes, within the useable span
-pub between_ends : (first last : ℕ) (piece : Piece) (window : Window) (z : Option Interval) → z ≡ Some (interval_with first last piece) → window.first.micros ≡ max piece.t0.micros first
+pub between_ends : (first last : ℕ) (piece : Piece) (window : Window) (z : Option PlainPiece) → z ≡ Some (interval_with first last piece) → window.first.micros ≡ max piece.t0.micros first
     → window.last.micros ≡ min piece.t1.micros last → IsSomeAnd z (λ x. (m : ℕ) → Holds window m ↔ Covers m x)
 between_ends first last piece window z same from to =
-    subst (λ (y : Option Interval). IsSomeAnd y (λ x. (m : ℕ) → Holds window m ↔ Covers m x)) (sym same) (λ m. (
+    subst (λ (y : Option PlainPiece). IsSomeAnd y (λ x. (m : ℕ) → Holds window m ↔ Covers m x)) (sym same) (λ m. (
       λ h. record { from = omega (arith, from, h.after); to = omega (arith, to, h.before); first = omega (arith, from, h.after); last = omega (arith, to, h.before) },
       λ h. record { after = omega (arith, from, h.from, h.first); before = omega (arith, to, h.to, h.last) },
     ))

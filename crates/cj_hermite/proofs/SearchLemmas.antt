@@ -6,11 +6,11 @@ use Rattle.std.specs.List.Sorted.{IsNonDecreasing, IsNonDecreasingBy, IsPartitio
 use Rattle.std.proofs.lemmas.Bool.{cases_lt}
 use Rattle.std.proofs.lemmas.List.Sorted.{IsNonDecreasingBy-from_default}
 use Rattle.std.proofs.lemmas.Bool.Decides.{nat_tests}
-use Rattle.cj_oem.specs.declared.node.Node.{Node}
-use Rattle.cj_oem.specs.declared.segment.Segment.{Segment}
-use Rattle.cj_oem.specs.Nodes.{AreSteps, AreNodes}
-use Rattle.cj_oem.specs.Segments.{AreInOrder, piece_count, starts_from}
-use Rattle.cj_oem.specs.Useable.{LiesWithin, last_tick}
+use Rattle.cj_track.specs.declared.node.Node.{Node}
+use Rattle.cj_track.specs.declared.segment.Segment.{Segment}
+use Rattle.cj_track.specs.Nodes.{AreSteps, AreNodes}
+use Rattle.cj_track.specs.Segments.{AreInOrder, piece_count, starts_from}
+use Rattle.cj_track.specs.Useable.{LiesWithin, last_tick}
 use Rattle.cj_hermite.specs.Searches.{IsLastBegun, AllLater, AreReached, IsFromNode}
 
 after_head : (a : Segment) (segments : List Segment) (j : ℕ) (d : Segment) → AreInOrder (a ∷ segments) → j < length segments → a.last.micros ≤ (get_or segments j d).first.micros

@@ -6,13 +6,13 @@ use Rattle.std.specs.List.Sorted.{IsNonDecreasingBy, IsPartitionPoint}
 use Rattle.std.proofs.lemmas.Bool.{cases_lt}
 use Rattle.std.proofs.lemmas.List.{get_or_default}
 use Rattle.std.proofs.lemmas.Bool.Decides.{nat_tests}
-use Rattle.cj_oem.specs.declared.node.Node.{Node}
-use Rattle.cj_oem.specs.declared.segment.Segment.{Segment}
-use Rattle.cj_oem.specs.declared.track.Track.{Track}
-use Rattle.cj_oem.specs.Segments.{AreInOrder}
-use Rattle.cj_oem.specs.Tracks.{state_of, arc_of, ephemeris_of}
-use Rattle.cj_oem.specs.Useable.{last_tick, LiesWithin}
-use Rattle.cj_hermite.specs.Pieces.{Interval, covers, last_covering, intervals_of_arc, interval_index_at}
+use Rattle.cj_track.specs.declared.node.Node.{Node}
+use Rattle.cj_track.specs.declared.segment.Segment.{Segment}
+use Rattle.cj_track.specs.declared.track.Track.{Track}
+use Rattle.cj_track.specs.Segments.{AreInOrder}
+use Rattle.cj_track.specs.Tracks.{plain_node, plain_segment, plain_track}
+use Rattle.cj_track.specs.Useable.{last_tick, LiesWithin}
+use Rattle.cj_hermite.specs.Pieces.{PlainPiece, covers, last_covering, intervals_of_arc, interval_index_at}
 use Rattle.cj_hermite.proofs.CoverLemmas.{Misses, misses-append, covers_if}
 use Rattle.cj_hermite.proofs.PieceLemmas.{interval_between, intervals_in, intervals_through, later_span, earlier_span, none_at}
 use Rattle.cj_hermite.proofs.SearchLemmas.{in_order, segments_rise}
@@ -25,7 +25,7 @@ last_or-some : {A : Type 0} (z : A) (zs : List A) → is_some (last_or (Some z) 
 last_or-some z [] = refl
 last_or-some z (y ∷ ys) = last_or-some y ys
 
-found_last : (m n : ℕ) (o : Option (ℕ × Interval)) (xs : List Interval) → Exists (λ x. covers m x ≡ true) xs → is_some (last_or o (filter (λ x. covers m x.1) (enumerate_from n xs))) ≡ true
+found_last : (m n : ℕ) (o : Option (ℕ × PlainPiece)) (xs : List PlainPiece) → Exists (λ x. covers m x ≡ true) xs → is_some (last_or o (filter (λ x. covers m x.1) (enumerate_from n xs))) ≡ true
 found_last m n o [] has = absurd has
 found_last m n o (x ∷ xs) (inl here) = rw here (last_or-some (n, x) (filter (λ y. covers m y.1) (enumerate_from (n + 1) xs)))
 found_last m n o (x ∷ xs) (inr later) = go (covers m x) (found_last m (n + 1) (Some (n, x)) xs later) (found_last m (n + 1) o xs later)
@@ -44,7 +44,7 @@ bracketed first last m a (b ∷ d ∷ nodes) some low high from to = elim (cases
   | inr upto ↦ inl (covers_if m (interval_between first last a b) low upto from to)
 ]
 
-in_span : (m : ℕ) (s : Segment) → s.first.micros ≤ m → m ≤ s.last.micros → Exists (λ x. covers m x ≡ true) (intervals_of_arc (arc_of s))
+in_span : (m : ℕ) (s : Segment) → s.first.micros ≤ m → m ≤ s.last.micros → Exists (λ x. covers m x ≡ true) (intervals_of_arc (plain_segment s))
 in_span m s from to = go s.nodes s.enough s.within
   where
     go : (nodes : List Node) → 2 ≤ length nodes → LiesWithin s.first.micros s.last.micros nodes → Exists (λ x. covers m x ≡ true) (intervals_in s.first.micros s.last.micros nodes)
@@ -57,16 +57,16 @@ exists_at P (x ∷ xs) zero d lt p = inl p
 exists_at P (x ∷ xs) (suc k) d lt p = inr (exists_at P xs k d (omega arith) p)
 
 pub state_in_span : (track : Track) (m k : ℕ) (d : Segment) → k < length track.segments → (get_or track.segments k d).first.micros ≤ m → m ≤ (get_or track.segments k d).last.micros →
-    is_some (interval_index_at (ephemeris_of track) m) ≡ true
+    is_some (interval_index_at (plain_track track) m) ≡ true
 unfolding interval_index_at
 state_in_span track m k d lt from to =
     some_map (last_covering m 0 (intervals_through track.segments))
     (found_last m 0 None (intervals_through track.segments)
-    (Exists-flat_map (λ x. covers m x ≡ true) intervals_of_arc (map arc_of track.segments)
-    (Exists-map (λ arc. Exists (λ x. covers m x ≡ true) (intervals_of_arc arc)) arc_of track.segments
-    (exists_at (λ s. Exists (λ x. covers m x ≡ true) (intervals_of_arc (arc_of s))) track.segments k d lt (in_span m (get_or track.segments k d) from to)))))
+    (Exists-flat_map (λ x. covers m x ≡ true) intervals_of_arc (map plain_segment track.segments)
+    (Exists-map (λ arc. Exists (λ x. covers m x ≡ true) (intervals_of_arc arc)) plain_segment track.segments
+    (exists_at (λ s. Exists (λ x. covers m x ≡ true) (intervals_of_arc (plain_segment s))) track.segments k d lt (in_span m (get_or track.segments k d) from to)))))
   where
-    some_map : (o : Option (ℕ × Interval)) → is_some o ≡ true → is_some (option_map (λ x. x.0) o) ≡ true
+    some_map : (o : Option (ℕ × PlainPiece)) → is_some o ≡ true → is_some (option_map (λ x. x.0) o) ≡ true
     some_map None some = absurd cc
     some_map (Some z) some = refl
 
@@ -75,16 +75,16 @@ state_in_span track m k d lt from to =
 out_of_spans : (m : ℕ) (segments : List Segment) → ((k : ℕ) (d : Segment) → k < length segments → (m < (get_or segments k d).first.micros) ⊎ ((get_or segments k d).last.micros < m)) → Misses m (intervals_through segments)
 out_of_spans m [] h = tt
 out_of_spans m (a ∷ segments) h =
-    misses-append m (intervals_of_arc (arc_of a)) (intervals_through segments)
+    misses-append m (intervals_of_arc (plain_segment a)) (intervals_through segments)
     (elim (h 0 a (omega arith)) [
-      | inl later ↦ later_span m a.first.micros a.last.micros (map state_of a.nodes) later
-      | inr earlier ↦ earlier_span m a.first.micros a.last.micros (map state_of a.nodes) earlier
+      | inl later ↦ later_span m a.first.micros a.last.micros (map plain_node a.nodes) later
+      | inr earlier ↦ earlier_span m a.first.micros a.last.micros (map plain_node a.nodes) earlier
     ])
     (out_of_spans m segments (λ k d lt. h (suc k) d (omega arith)))
 
 pub no_state : (track : Track) (m : ℕ) → ((k : ℕ) (d : Segment) → k < length track.segments → (m < (get_or track.segments k d).first.micros) ⊎ ((get_or track.segments k d).last.micros < m)) →
-    interval_index_at (ephemeris_of track) m ≡ None
-no_state track m h = none_at (ephemeris_of track) m (out_of_spans m track.segments h)
+    interval_index_at (plain_track track) m ≡ None
+no_state track m h = none_at (plain_track track) m (out_of_spans m track.segments h)
 
 -- ---- the segments that end before a tick
 
@@ -101,11 +101,11 @@ ended_from m p segments bound point = record {
   behind = λ k d from below. let here = point.1 k d from below in grind (arith, nat_tests);
 }
 
-pub none_behind : (track : Track) (from p : ℕ) → AreEnded from track.segments p → length track.segments ≤ p → HasNoMore (ephemeris_of track) from
+pub none_behind : (track : Track) (from p : ℕ) → AreEnded from track.segments p → length track.segments ≤ p → HasNoMore (plain_track track) from
 none_behind track from p ended all m low = no_state track m (λ k d lt. inr (omega (arith, ended.before k d (omega arith))))
 
 next_in : (track : Track) (from p at : ℕ) (s : Segment) → AreInOrder track.segments → AreEnded from track.segments p → p < length track.segments → at ≡ max (get_or track.segments p s).first.micros from →
-    IsNextState (ephemeris_of track) from at
+    IsNextState (plain_track track) from at
 next_in track from p at s order ended lt e =
     let ends = ended.behind p s (omega arith) lt in
     let own = (get_or track.segments p s).some in
@@ -122,13 +122,13 @@ next_in track from p at s order ended lt e =
     same_first k d x = ap (λ (y : Segment). y.first.micros) (get_or_default track.segments p d x lt)
 
 -- the same of the segments as they are read
-pub none_left : (track : Track) (segments : List Segment) (from p : ℕ) → segments ≡ track.segments → AreEnded from segments p → p ≡ length segments → HasNoMore (ephemeris_of track) from
+pub none_left : (track : Track) (segments : List Segment) (from p : ℕ) → segments ≡ track.segments → AreEnded from segments p → p ≡ length segments → HasNoMore (plain_track track) from
 none_left track segments from p same ended all =
-    subst (λ (ss : List Segment). AreEnded from ss p → p ≡ length ss → HasNoMore (ephemeris_of track) from) (sym same)
+    subst (λ (ss : List Segment). AreEnded from ss p → p ≡ length ss → HasNoMore (plain_track track) from) (sym same)
     (λ ended all. none_behind track from p ended (omega arith)) ended all
 
 pub next_of : (track : Track) (segments : List Segment) (from p at : ℕ) (d : Segment) → segments ≡ track.segments → AreInOrder segments → AreEnded from segments p → (p ≡ length segments → ⊥) →
-    at ≡ max (get_or segments p d).first.micros from → IsNextState (ephemeris_of track) from at
+    at ≡ max (get_or segments p d).first.micros from → IsNextState (plain_track track) from at
 next_of track segments from p at d same order ended more e =
-    subst (λ (ss : List Segment). AreInOrder ss → AreEnded from ss p → (p ≡ length ss → ⊥) → at ≡ max (get_or ss p d).first.micros from → IsNextState (ephemeris_of track) from at) (sym same)
+    subst (λ (ss : List Segment). AreInOrder ss → AreEnded from ss p → (p ≡ length ss → ⊥) → at ≡ max (get_or ss p d).first.micros from → IsNextState (plain_track track) from at) (sym same)
     (λ order ended more e. next_in track from p at d order ended (let bound = ended.bound in omega arith) e) order ended more e

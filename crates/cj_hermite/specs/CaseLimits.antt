@@ -1,7 +1,7 @@
 -- Limits of a run.
 use Rattle.std.specs.Prelude.{ℕ, ◌-◌, ◌*◌, ◌≤◌, List, sum_by}
-use Rattle.cj_oem.specs.Segments.{node_count}
-use Rattle.cj_oem.specs.declared.track.Track.{Track}
+use Rattle.cj_track.specs.Segments.{node_count}
+use Rattle.cj_track.specs.declared.track.Track.{Track}
 use Rattle.cj_hermite.specs.Slots.{slot_count}
 
 -- how many nodes tracks have in all

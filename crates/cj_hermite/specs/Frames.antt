@@ -1,6 +1,6 @@
 -- Tracks of one frame.
 use Rattle.std.specs.Prelude.{◌≡◌, ℕ, ◌<◌, List, length, slice_index_or}
-use Rattle.cj_oem.specs.declared.track.Track.{Track}
+use Rattle.cj_track.specs.declared.track.Track.{Track}
 
 -- each two of them have the same frame
 abbrev pub HaveOneFrame : List Track → Type 0

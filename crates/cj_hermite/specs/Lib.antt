@@ -1,6 +1,7 @@
 pub mod Boxes
 pub mod CaseLimits
-pub mod Cases
+pub mod PlainProblems
+pub mod CommonRuns
 pub mod Distance
 pub mod Frames
 pub mod Interpolant
@@ -11,6 +12,8 @@ pub mod Pieces
 pub mod PiecesOfTracks
 pub mod Problems
 pub mod Rates
+pub mod Ready
+pub mod Roots
 pub mod Runs
 pub mod Searches
 pub mod Slots

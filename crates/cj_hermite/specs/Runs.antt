@@ -1,7 +1,7 @@
 -- The ticks of a range at which a piece is the one to be used.
 use Rattle.std.specs.Prelude.{◌≡◌, ℕ, ◌≤◌, ◌↔◌, Some}
 use Rattle.cj_epoch.specs.declared.tick.Window.{Window}
-use Rattle.cj_oem.specs.Ephemeris.{Ephemeris}
+use Rattle.cj_track.specs.PlainTracks.{PlainTrack}
 use Rattle.cj_hermite.specs.Pieces.{interval_index_at}
 
 -- a tick of the window
@@ -10,11 +10,11 @@ pub record Holds (window : Window) (m : ℕ) : Type 0 where
   pub before : m ≤ window.last.micros
 
 -- a tick of the range at which the piece is the one with this number
-pub record IsOfPiece (e : Ephemeris) (index : ℕ) (range : Window) (m : ℕ) : Type 0 where
+pub record IsOfPiece (e : PlainTrack) (index : ℕ) (range : Window) (m : ℕ) : Type 0 where
   pub within : Holds range m
   pub here : interval_index_at e m ≡ Some index
 
 -- those ticks are the ones of this run, and there is one
-pub record IsRun (e : Ephemeris) (index : ℕ) (range run : Window) : Type 0 where
+pub record IsRun (e : PlainTrack) (index : ℕ) (range run : Window) : Type 0 where
   pub some : run.first.micros ≤ run.last.micros
   pub ticks : (m : ℕ) → Holds run m ↔ IsOfPiece e index range m

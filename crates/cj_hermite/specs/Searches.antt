@@ -1,8 +1,8 @@
 -- What the binary searches over segments and nodes find.
 use Rattle.std.specs.Prelude.{◌≡◌, ℕ, suc, ◌+◌, ◌<◌, ◌≤◌, List, length, slice_index, slice_index_or}
-use Rattle.cj_oem.specs.declared.node.Node.{Node}
-use Rattle.cj_oem.specs.declared.segment.Segment.{Segment}
-use Rattle.cj_oem.specs.Segments.{starts_from}
+use Rattle.cj_track.specs.declared.node.Node.{Node}
+use Rattle.cj_track.specs.declared.segment.Segment.{Segment}
+use Rattle.cj_track.specs.Segments.{starts_from}
 
 -- the last segment that begins at tick m or before
 pub record IsLastBegun (m : ℕ) (segments : List Segment) (k : ℕ) : Type 0 where

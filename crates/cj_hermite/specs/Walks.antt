@@ -1,8 +1,8 @@
 -- Walks: an ephemeris from one run of ticks in one interval to the next.
 use Rattle.std.specs.Prelude.{◌≡◌, ◌≢◌, ℕ, ◌+◌, ◌<◌, ◌≤◌, true, List, length, slice_index_or, None, is_some}
 use Rattle.cj_epoch.specs.declared.tick.Window.{Window}
-use Rattle.cj_oem.specs.declared.segment.Segment.{Segment}
-use Rattle.cj_oem.specs.Ephemeris.{Ephemeris}
+use Rattle.cj_track.specs.declared.segment.Segment.{Segment}
+use Rattle.cj_track.specs.PlainTracks.{PlainTrack}
 use Rattle.cj_hermite.specs.Pieces.{interval_index_at}
 
 -- so many segments end before tick m, and all others then or later
@@ -12,21 +12,21 @@ pub record AreEnded (m : ℕ) (segments : List Segment) (count : ℕ) : Type 0 w
   pub behind : (k : ℕ) (d : Segment) → count ≤ k → k < length segments → m ≤ (slice_index_or segments k d).last.micros
 
 -- from tick `from` on there is no state
-abbrev pub HasNoMore : Ephemeris → ℕ → Type 0
+abbrev pub HasNoMore : PlainTrack → ℕ → Type 0
 HasNoMore e from = (m : ℕ) → from ≤ m → interval_index_at e m ≡ None
 
 -- the first tick from `from` on at which there is a state
-pub record IsNextState (e : Ephemeris) (from at : ℕ) : Type 0 where
+pub record IsNextState (e : PlainTrack) (from at : ℕ) : Type 0 where
   pub later : from ≤ at
   pub none : (m : ℕ) → from ≤ m → m < at → interval_index_at e m ≡ None
   pub some : is_some (interval_index_at e at) ≡ true
 
 -- none of the ticks from `from` to last has a state
-abbrev pub HasNone : Ephemeris → ℕ → ℕ → Type 0
+abbrev pub HasNone : PlainTrack → ℕ → ℕ → Type 0
 HasNone e from last = (m : ℕ) → from ≤ m → m ≤ last → interval_index_at e m ≡ None
 
 -- the next run of the ticks from `from` to last; it may have begun before
-pub record IsNextRun (e : Ephemeris) (from last : ℕ) (run : Window) : Type 0 where
+pub record IsNextRun (e : PlainTrack) (from last : ℕ) (run : Window) : Type 0 where
   pub later : from ≤ run.last.micros
   pub within : run.last.micros ≤ last
   pub none : (m : ℕ) → from ≤ m → m < run.first.micros → interval_index_at e m ≡ None

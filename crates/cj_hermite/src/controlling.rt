@@ -1,6 +1,6 @@
 //! The control values of a piece.
 ghost use Rattle.std.specs.Prelude.{◌≡◌, ◌-◌, ◌≤◌, pos, ◌*ℤ◌};
-ghost use Rattle.cj_oem.specs.Limits.{MAX_COORDINATE, MAX_RATE, IsWithin};
+ghost use Rattle.cj_track.specs.Limits.{MAX_COORDINATE, MAX_RATE, IsWithin};
 ghost use Rattle.cj_hermite.specs.Interpolant.{four_of, controls_of, curve_of, AreBounded};
 ghost use Rattle.cj_hermite.specs.Limits.{MAX_SPAN};
 

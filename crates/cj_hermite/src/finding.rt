@@ -1,8 +1,8 @@
 //! The pieces of a track: which one a tick falls into, and what it is.
-ghost use Rattle.std.specs.Prelude.{◌≡◌, ◌+◌, ◌^◌, ◌<◌, length, IfSome, IsSomeAnd, slice_get};
-ghost use Rattle.cj_oem.specs.Nodes.{IsStep, AreNodes};
-ghost use Rattle.cj_oem.specs.Segments.{AreSegments, starts_from};
-ghost use Rattle.cj_oem.specs.Tracks.{state_of, arc_of, ephemeris_of};
+ghost use Rattle.std.specs.Prelude.{◌≡◌, ℕ, ◌+◌, ◌^◌, ◌<◌, ◌≤◌, length, Some, IfSome, IsSomeAnd, slice_get};
+ghost use Rattle.cj_track.specs.Nodes.{IsStep, AreNodes};
+ghost use Rattle.cj_track.specs.Segments.{AreSegments, starts_from};
+ghost use Rattle.cj_track.specs.Tracks.{plain_node, plain_segment, plain_track};
 ghost use Rattle.cj_hermite.specs.Interpolant.{curve_of};
 ghost use Rattle.cj_hermite.specs.Pieces.{intervals_of_arc, intervals_of, interval_at, interval_index_at, curve_of_interval};
 ghost use Rattle.cj_hermite.specs.PiecesOfTracks.{Covers, Spans, IsInSegment, first_state, last_state, interval_with};
@@ -11,14 +11,17 @@ ghost use Rattle.cj_hermite.specs.Searches.{IsLastStarted, IsPlace};
 use crate::pieces::Piece;
 use crate::searches::{last_begun, last_reached, last_started};
 use cj_epoch::Tick;
-use cj_oem::{Node, Segment, Track};
+use cj_track::{Node, Segment, Track};
 
 /// The number of the piece at a tick, or none where the track has no state.
 pub fn piece_at(track: &Track, at: Tick) -> Option<u32>
-    ensures value { result ≡ interval_index_at (ephemeris_of track.now) at.micros }
-    ensures exists { IfSome result (λ index. index < length (intervals_of (ephemeris_of track.now))) }
-    ensures interval { IfSome result (λ index. slice_get (intervals_of (ephemeris_of track.now)) index ≡ interval_at (ephemeris_of track.now) at.micros) }
-    ensures covered { IfSome result (λ index. IsSomeAnd (interval_at (ephemeris_of track.now) at.micros) (Covers at.micros)) }
+    ensures value { result ≡ interval_index_at (plain_track track.now) at.micros }
+    ensures exists { IfSome result (λ index. index < length (intervals_of (plain_track track.now))) }
+    ensures interval { IfSome result (λ index. slice_get (intervals_of (plain_track track.now)) index ≡ interval_at (plain_track track.now) at.micros) }
+    ensures covered { IfSome result (λ index. IsSomeAnd (interval_at (plain_track track.now) at.micros) (Covers at.micros)) }
+
+    // No later tick has an earlier piece.
+    ensures later { IfSome result (λ index. (m number : ℕ) → at.micros ≤ m → interval_index_at (plain_track track.now) m ≡ Some number → index ≤ number) }
 {
     let segments = track.segments.as_slice();
     let number = last_begun(segments, at)?;
@@ -32,9 +35,9 @@ pub fn piece_at(track: &Track, at: Tick) -> Option<u32>
 
 /// The piece with this number.
 pub fn piece(track: &Track, index: u32) -> Piece
-    requires { index < length (intervals_of (ephemeris_of track.now)) }
-    ensures states { IsSomeAnd (slice_get (intervals_of (ephemeris_of track.now)) index) (Spans result) }
-    ensures curve { IsSomeAnd (slice_get (intervals_of (ephemeris_of track.now)) index) (λ x. curve_of result ≡ curve_of_interval x) }
+    requires { index < length (intervals_of (plain_track track.now)) }
+    ensures states { IsSomeAnd (slice_get (intervals_of (plain_track track.now)) index) (Spans result) }
+    ensures curve { IsSomeAnd (slice_get (intervals_of (plain_track track.now)) index) (λ x. curve_of result ≡ curve_of_interval x) }
 {
     let (segment, number) = place(track, index);
     piece_of(segment, number)
@@ -42,7 +45,7 @@ pub fn piece(track: &Track, index: u32) -> Piece
 
 /// The segment in which the piece with this number lies, and the piece's number in it.
 pub fn place(track: &Track, index: u32) -> (&Segment, usize)
-    requires { index < length (intervals_of (ephemeris_of track.now)) }
+    requires { index < length (intervals_of (plain_track track.now)) }
     ensures place { IsPlace index track.now.segments result.0.now result.1 }
     ensures kept { AreSegments track.now.segments }
 {
@@ -54,7 +57,7 @@ pub fn place(track: &Track, index: u32) -> (&Segment, usize)
 /// The piece of a segment with this number, counted from the segment's first.
 pub fn piece_of(segment: &Segment, number: usize) -> Piece
     requires { number + 1 < length segment.now.nodes }
-    ensures value { slice_get (intervals_of_arc (arc_of segment.now)) number ≡ Some (interval_with segment.now.first.micros segment.now.last.micros result) }
+    ensures value { slice_get (intervals_of_arc (plain_segment segment.now)) number ≡ Some (interval_with segment.now.first.micros segment.now.last.micros result) }
     ensures nodes { AreNodes segment.now.nodes }
 {
     let nodes = segment.nodes.as_slice();
@@ -64,8 +67,8 @@ pub fn piece_of(segment: &Segment, number: usize) -> Piece
 /// The piece between two neighbouring nodes.
 fn between(from: Node, to: Node) -> Piece
     requires { IsStep from to }
-    ensures from { first_state result ≡ state_of from }
-    ensures to { last_state result ≡ state_of to }
+    ensures from { first_state result ≡ plain_node from }
+    ensures to { last_state result ≡ plain_node to }
 {
     Piece {
         t0: from.at,
@@ -79,14 +82,14 @@ fn between(from: Node, to: Node) -> Piece
 
 /// The number of the segment in which the piece with this number lies.
 pub fn segment_of(track: &Track, index: u32) -> u32
-    requires { index < length (intervals_of (ephemeris_of track.now)) }
-    ensures { IsInSegment (ephemeris_of track.now) index result }
+    requires { index < length (intervals_of (plain_track track.now)) }
+    ensures { IsInSegment (plain_track track.now) index result }
 {
     segment_number(track, index) as u32
 }
 
 fn segment_number(track: &Track, index: u32) -> usize
-    requires { index < length (intervals_of (ephemeris_of track.now)) }
+    requires { index < length (intervals_of (plain_track track.now)) }
     ensures exists { result < length track.now.segments }
     ensures fits { result < 2 ^ 32 }
     ensures last { IsLastStarted index (starts_from 0 track.now.segments) result }

@@ -3,35 +3,46 @@
 #![tactic(auto)]
 
 mod box3;
+mod common_run;
+mod common_runs;
 mod control_values;
 mod controlling;
 mod cutting;
 mod finding;
+mod first_values;
 mod level_spans;
 mod levels;
 mod pair;
+mod piece_lookup;
 mod pieces;
 mod places;
 mod problem;
 mod rates;
+mod ready_axis;
+mod readying;
 mod searches;
 mod slots;
 mod tracks;
 mod walking;
 
 pub use box3::Box3;
+pub use common_run::CommonRun;
+pub use common_runs::{next_common, next_common_pieces};
 pub use control_values::Controls;
 pub use controlling::controls;
 pub use cutting::cut;
 pub use finding::{piece, piece_at, segment_of};
-pub use level_spans::{FirstLevel, SecondLevel};
+pub use level_spans::{Bounds, FirstLevel, SecondLevel};
 pub use levels::{first_level, polar, second_level, third_level};
 pub use pair::Pair;
+pub use piece_lookup::piece_of;
 pub use pieces::Piece;
 pub use places::point;
 pub use problem::Problem;
 pub use rates::rate;
-pub use slots::{SLOT, slot_window};
+pub use ready_axis::{Ready, ReadyAxis, Speed};
+pub use readying::ready;
+pub use slots::{SLOT, slot_count, slot_window};
 pub use tracks::Tracks;
 pub use walking::next_run;
 

@@ -20,13 +20,13 @@ pub struct Problem {
 }
 
 impl Problem {
-    ghost use Rattle.cj_hermite.specs.Cases.{threshold_of};
-    ghost use Rattle.cj_hermite.specs.Problems.{case_of};
+    ghost use Rattle.cj_hermite.specs.PlainProblems.{threshold_of};
+    ghost use Rattle.cj_hermite.specs.Problems.{plain_problem};
 
     /// The threshold of a pair in nm.
     pub fn pair_threshold(&self, pair: Pair) -> u64
         requires { pair.b < length self.now.tracks }
-        ensures value { result ≡ threshold_of (case_of self.now) pair.a pair.b }
+        ensures value { result ≡ threshold_of (plain_problem self.now) pair.a pair.b }
         ensures least { 10 ^ 9 ≤ result }
         ensures most { result ≤ 10 ^ 16 }
     {

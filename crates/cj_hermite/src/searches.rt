@@ -1,14 +1,14 @@
 //! Binary searches over the segments and the nodes of a track.
 ghost use Rattle.std.specs.Prelude.{ℕ, ◌+◌, ◌<◌, ◌≤◌, length, MatchOption, slice_index};
 ghost use Rattle.std.specs.List.Sorted.{IsNonDecreasing};
-ghost use Rattle.cj_oem.specs.declared.node.Node.{Node};
-ghost use Rattle.cj_oem.specs.Nodes.{AreNodes};
-ghost use Rattle.cj_oem.specs.Segments.{AreInOrder};
-ghost use Rattle.cj_oem.specs.Useable.{LiesWithin};
+ghost use Rattle.cj_track.specs.declared.node.Node.{Node};
+ghost use Rattle.cj_track.specs.Nodes.{AreNodes};
+ghost use Rattle.cj_track.specs.Segments.{AreInOrder};
+ghost use Rattle.cj_track.specs.Useable.{LiesWithin};
 ghost use Rattle.cj_hermite.specs.Searches.{IsLastBegun, AllLater, AreReached, IsFromNode, IsLastStarted};
 
 use cj_epoch::Tick;
-use cj_oem::{Node, Segment};
+use cj_track::{Node, Segment};
 
 /// The last segment that begins at the tick or before.
 pub fn last_begun(segments: &[Segment], at: Tick) -> Option<usize>

@@ -1,6 +1,6 @@
 //! The slots of a window.
 ghost use Rattle.std.specs.Prelude.{◌≡◌, ◌<◌, ◌≤◌, IfNone, IfSome};
-ghost use Rattle.cj_hermite.specs.Slots.{slot_first, slot_last};
+ghost use Rattle.cj_hermite.specs.Slots.{slot_first, slot_last, slot_count};
 
 use cj_epoch::{Tick, Window};
 
@@ -23,4 +23,11 @@ pub fn slot_window(window: Window, slot: u32) -> Option<Window>
         first: Tick { micros: first },
         last: Tick { micros: last },
     })
+}
+
+/// How many slots hold the ticks of a window: none where its first tick comes after its last.
+pub fn slot_count(window: Window) -> u32
+    ensures { result ≡ slot_count window.first.micros window.last.micros }
+{
+    window.ticks().div_ceil(SLOT) as u32
 }

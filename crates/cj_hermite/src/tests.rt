@@ -1,9 +1,9 @@
-ghost use Rattle.std.specs.Prelude.{◌≡◌};
+ghost use Rattle.std.specs.Prelude.{◌≡◌, ◌≤◌};
 
 use super::*;
-use cj_epoch::Tick;
+use cj_epoch::{Tick, Window};
 use cj_interval::Span;
-use cj_oem::Vec3;
+use cj_track::Vec3;
 use std::test::Fail;
 
 fn exactly(value: i128) -> Span {
@@ -98,5 +98,35 @@ fn the_nodes_are_met_exactly(rt: HostRuntime) -> Result<(), Fail> {
     let piece = straight();
     assert_eq!(rt; point(&piece, piece.t0).y, exactly(-225_000_000_000_000));
     assert_eq!(rt; point(&piece, piece.t1).y, exactly(225_000_000_000_000));
+    Ok(())
+}
+
+/// So many microseconds after a full minute.
+fn after(micros: u64) -> Tick
+    requires { micros ≤ 200000000 }
+{
+    Tick {
+        micros: 1_735_689_600_000_000 + micros,
+    }
+}
+
+/// How many slots a window has.
+fn slots_between(first: u64, last: u64) -> u32
+    requires first { first ≤ 200000000 }
+    requires last { last ≤ 200000000 }
+{
+    slot_count(Window {
+        first: after(first),
+        last: after(last),
+    })
+}
+
+#[test]
+fn a_slot_is_a_minute_from_the_first_tick_on(rt: HostRuntime) -> Result<(), Fail> {
+    assert_eq!(rt; slots_between(1, 0), 0);
+    assert_eq!(rt; slots_between(7, 7), 1);
+    assert_eq!(rt; slots_between(7, 60_000_006), 1);
+    assert_eq!(rt; slots_between(7, 60_000_007), 2);
+    assert_eq!(rt; slots_between(0, 120_000_000), 3);
     Ok(())
 }

@@ -1,11 +1,11 @@
 ghost use Rattle.std.specs.Prelude.{◌≡◌, ◌+◌, ◌*◌, ◌<◌, ◌≤◌, length, IfOk};
-ghost use Rattle.cj_oem.specs.Tracks.{ephemeris_of};
+ghost use Rattle.cj_track.specs.Tracks.{plain_track};
 ghost use Rattle.cj_hermite.specs.Pieces.{intervals_of};
 
 use super::*;
 use cj_epoch::{Tick, Window, leap_between};
 use cj_kvn::Text;
-use cj_oem::{Frame, Matrices, Node, Nodes, Segment, Segments, Track, Vec3};
+use cj_track::{Frame, Matrices, Node, Nodes, Segment, Segments, Track, Vec3};
 use std::alloc::{AllocError, Global};
 use std::process::Abort;
 use std::test::Fail;
@@ -89,7 +89,7 @@ fn long(
     })
 }
 
-#[tactic(auto, unfolding(cj_oem::specs::Labels::is_file_name, cj_oem::specs::Labels::is_label))]
+#[tactic(auto, unfolding(cj_track::specs::Labels::is_file_name, cj_track::specs::Labels::is_label))]
 fn named(alloc: Global, segments: Segments) -> Result<Track, AllocError>
     ensures { IfOk result (λ track. track.segments ≡ segments) }
 {
@@ -104,7 +104,7 @@ fn named(alloc: Global, segments: Segments) -> Result<Track, AllocError>
 
 /// Three segments share the tick at 30 s, and the fourth begins after a gap.
 fn track(rt: &impl Abort, alloc: Global) -> Result<Track, AllocError>
-    ensures { IfOk result (λ track. length (intervals_of (ephemeris_of track)) ≡ 6) }
+    ensures { IfOk result (λ track. length (intervals_of (plain_track track)) ≡ 6) }
 {
     let segments = vec![in alloc;
         short(rt, alloc, 0, 30_000, 0, 30_000)?,

@@ -2,7 +2,7 @@ ghost use Rattle.std.specs.Prelude.{◌≡◌, ◌≤◌, length};
 ghost use Rattle.cj_hermite.specs.CaseLimits.{AreFewNodes};
 ghost use Rattle.cj_hermite.specs.Frames.{HaveOneFrame};
 
-use cj_oem::Track;
+use cj_track::Track;
 use std::marker::Model;
 
 /// The tracks of a run: at most 2,000, of one frame, with at most 2,000,000 nodes in all. Objects are numbered from 0 by their place.
@@ -13,7 +13,7 @@ pub struct Tracks {
 
 impl Model for Tracks {
     ghost use Rattle.std.specs.Prelude.{List, length, ◌≤◌};
-    ghost use Rattle.cj_oem.specs.declared.track.Track.{Track};
+    ghost use Rattle.cj_track.specs.declared.track.Track.{Track};
     ghost use Rattle.cj_hermite.specs.CaseLimits.{AreFewNodes};
     ghost use Rattle.cj_hermite.specs.Frames.{HaveOneFrame};
 

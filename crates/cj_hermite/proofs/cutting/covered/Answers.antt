@@ -1,6 +1,6 @@
 use Rattle.std.proofs.Common.{◌∙◌, sym, arith}
 use Rattle.std.specs.Prelude.{slice_get}
-use Rattle.cj_oem.specs.Tracks.{ephemeris_of}
+use Rattle.cj_track.specs.Tracks.{plain_track}
 use Rattle.cj_hermite.specs.Pieces.{intervals_of}
 use Rattle.cj_hermite.proofs.PieceLemmas.{at_place, is_at}
 use Rattle.cj_hermite.proofs.RunLemmas.{own_tick, between_ends}
@@ -11,7 +11,7 @@ returns-clause-ticks c =
     let segments = c.args.track.now.segments in
     let s = c.place-number.result.0.now in
     between_ends s.first.micros s.last.micros c.piece_of-piece.result (record { first = c.later.result; last = c.earlier.result })
-    (slice_get (intervals_of (ephemeris_of c.args.track.now)) c.args.index)
+    (slice_get (intervals_of (plain_track c.args.track.now)) c.args.index)
     (at_place c.args.index c.place-number.result.1 segments s c.place-number.ensures.place ∙ c.piece_of-piece.ensures.value) c.later.ensures c.earlier.ensures
 
 pub returns-clause-own : goal.returns-clause-own
@@ -21,4 +21,4 @@ returns-clause-own c = λ m held before.
     let found = own_tick m c.args.index c.place-number.result.1 c.args.track.now.segments s piece c.place-number.ensures.kept c.piece_of-piece.ensures.nodes c.place-number.ensures.place
     c.piece_of-piece.ensures.value (omega (arith, held.after, c.later.ensures)) (omega (arith, held.after, c.later.ensures)) (omega (arith, before, c.earlier.ensures))
     (omega (arith, before, c.earlier.ensures)) in
-    sym (is_at (ephemeris_of c.args.track.now) m c.args.index found).index
+    sym (is_at (plain_track c.args.track.now) m c.args.index found).index

@@ -1,33 +1,33 @@
 use Rattle.std.proofs.Common.{◌≡◌, ◌≢◌, ◌-◌, ◌∙◌, Some, sym, refl, arith}
 use Rattle.cj_epoch.specs.declared.tick.Window.{Window}
-use Rattle.cj_oem.specs.Tracks.{ephemeris_of}
+use Rattle.cj_track.specs.Tracks.{plain_track}
 use Rattle.cj_hermite.specs.Pieces.{interval_index_at}
 use Rattle.cj_hermite.proofs.RunLemmas.{run_whole, run_less, run_none, run_other, ended_whole, ended_less, ends_covered, same_number, other_number}
 use Rattle.cj_hermite.proofs.cutting.cut.Goals as goal
 
 pub returns-then-last-first-clause-none : goal.returns-then-last-first-clause-none
 returns-then-last-first-clause-none c =
-    let e = ephemeris_of c.args.track.now in
+    let e = plain_track c.args.track.now in
     let run : Window = record { first = c.later-first.result; last = c.earlier-last.result } in
     run_none c.args.index e c.args.range c.covered-covered.result run (record { ticks = c.covered-covered.ensures.ticks; own = c.covered-covered.ensures.own }) (record { first = c.later-first.ensures; last = c.earlier-last.ensures }) c.if-last-first.true
 
 pub returns-then-eq-clause-run : goal.returns-then-eq-clause-run
 returns-then-eq-clause-run c =
-    let e = ephemeris_of c.args.track.now in
+    let e = plain_track c.args.track.now in
     let run : Window = record { first = c.later-first.result; last = c.earlier-last.result } in
     let last : interval_index_at e c.earlier-last.result.micros ≡ Some c.args.index = sym c.piece_at.ensures.value ∙ same_number c.piece_at.result c.args.index (sym c.eq.ensures ∙ c.if-eq.true) in
     run_whole c.args.index e c.args.range c.covered-covered.result run (record { ticks = c.covered-covered.ensures.ticks; own = c.covered-covered.ensures.own }) (record { first = c.later-first.ensures; last = c.earlier-last.ensures }) c.if-last-first.false last
 
 pub returns-then-last-first-2-clause-none : goal.returns-then-last-first-2-clause-none
 returns-then-last-first-2-clause-none c =
-    let e = ephemeris_of c.args.track.now in
+    let e = plain_track c.args.track.now in
     let run : Window = record { first = c.later-first.result; last = c.earlier-last.result } in
     let other : interval_index_at e c.earlier-last.result.micros ≢ Some c.args.index = λ here. other_number c.piece_at.result c.args.index (sym c.eq.ensures ∙ c.if-eq.false) (c.piece_at.ensures.value ∙ here) in
     run_other c.args.index e c.args.range c.covered-covered.result run (record { ticks = c.covered-covered.ensures.ticks; own = c.covered-covered.ensures.own }) (record { first = c.later-first.ensures; last = c.earlier-last.ensures }) c.if-last-first-2.true other
 
 pub returns-clause-run : goal.returns-clause-run
 returns-clause-run c =
-    let e = ephemeris_of c.args.track.now in
+    let e = plain_track c.args.track.now in
     let run : Window = record { first = c.later-first.result; last = c.earlier-last.result } in
     let other : interval_index_at e c.earlier-last.result.micros ≢ Some c.args.index = λ here. other_number c.piece_at.result c.args.index (sym c.eq.ensures ∙ c.if-eq.false) (c.piece_at.ensures.value ∙ here) in
     run_less c.args.index e c.args.range c.covered-covered.result run _ (record { ticks = c.covered-covered.ensures.ticks; own = c.covered-covered.ensures.own }) (record { first = c.later-first.ensures; last = c.earlier-last.ensures }) (omega arith) other refl refl
@@ -46,13 +46,13 @@ returns-clause-covered c =
 
 pub returns-then-eq-clause-ended : goal.returns-then-eq-clause-ended
 returns-then-eq-clause-ended c =
-    let e = ephemeris_of c.args.track.now in
+    let e = plain_track c.args.track.now in
     let run : Window = record { first = c.later-first.result; last = c.earlier-last.result } in
     ended_whole c.args.index e c.args.range c.covered-covered.result run (record { ticks = c.covered-covered.ensures.ticks; own = c.covered-covered.ensures.own }) (record { first = c.later-first.ensures; last = c.earlier-last.ensures })
 
 pub returns-clause-ended : goal.returns-clause-ended
 returns-clause-ended c less =
-    let e = ephemeris_of c.args.track.now in
+    let e = plain_track c.args.track.now in
     let run : Window = record { first = c.later-first.result; last = c.earlier-last.result } in
     let other : interval_index_at e c.earlier-last.result.micros ≢ Some c.args.index = λ here. other_number c.piece_at.result c.args.index (sym c.eq.ensures ∙ c.if-eq.false) (c.piece_at.ensures.value ∙ here) in
     ended_less c.args.index e c.args.range c.covered-covered.result run (record { ticks = c.covered-covered.ensures.ticks; own = c.covered-covered.ensures.own }) (record { first = c.later-first.ensures; last = c.earlier-last.ensures }) (omega arith) other

@@ -1,11 +1,13 @@
-use Rattle.std.proofs.Common.{◌≡◌, ℕ, ◌+◌, ◌<◌, ◌^◌, ◌∙◌, List, sym, ap, subst, get_or, length, arith}
-use Rattle.cj_oem.specs.declared.node.Node.{Node}
-use Rattle.cj_oem.specs.declared.segment.Segment.{Segment}
-use Rattle.cj_oem.specs.Nodes.{AreNodes}
-use Rattle.cj_oem.specs.Segments.{starts_from}
-use Rattle.cj_oem.specs.Tracks.{ephemeris_of}
+use Rattle.std.proofs.Common.{◌≡◌, ℕ, ◌+◌, ◌<◌, ◌≤◌, ◌^◌, ◌∙◌, List, Some, sym, ap, subst, get_or, length, arith}
+use Rattle.cj_track.specs.declared.node.Node.{Node}
+use Rattle.cj_track.specs.declared.segment.Segment.{Segment}
+use Rattle.cj_track.specs.Nodes.{AreNodes}
+use Rattle.cj_track.specs.Segments.{starts_from}
+use Rattle.cj_track.specs.Tracks.{plain_track}
+use Rattle.cj_hermite.specs.Pieces.{intervals_of, interval_index_at}
 use Rattle.cj_hermite.specs.Searches.{IsFromNode}
 use Rattle.cj_hermite.proofs.CoverLemmas.{Misses}
+use Rattle.cj_hermite.proofs.LaterLemmas.{later_than_found}
 use Rattle.cj_hermite.proofs.PieceLemmas.{intervals_through, all_later, all_apart, none_at, IsLastFound, IsAt, is_at, found_in, length-starts, number_fits}
 use Rattle.cj_hermite.proofs.finding.piece_at.Goals as goal
 
@@ -13,7 +15,7 @@ pub returns-in_err-number-clause-value : goal.returns-in_err-number-clause-value
 returns-in_err-number-clause-value c =
     let m = c.args.at.micros in
     let misses = subst (λ (s : List Segment). Misses m (intervals_through s)) c.as_slice-segments.ensures.value (all_later m c.as_slice-segments.result.now c.in_err-number.ensures) in
-    c.from_residual.ensures ∙ sym (none_at (ephemeris_of c.args.track.now) m misses)
+    c.from_residual.ensures ∙ sym (none_at (plain_track c.args.track.now) m misses)
 
 pub returns-then-segment-at-clause-value : goal.returns-then-segment-at-clause-value
 returns-then-segment-at-clause-value c =
@@ -21,7 +23,7 @@ returns-then-segment-at-clause-value c =
     let misses = subst (λ (s : List Segment). Misses m (intervals_through s)) c.as_slice-segments.ensures.value
     (all_apart m c.in_ok-number.number c.as_slice-segments.result.now c.index-segments-number.result c.as_slice-segments.ensures.kept.order c.in_ok-number.ensures c.index-segments-number.is
     c.if-segment-at.true) in
-    sym (none_at (ephemeris_of c.args.track.now) m misses)
+    sym (none_at (plain_track c.args.track.now) m misses)
 
 pub bounds-starts-number : goal.bounds-starts-number
 bounds-starts-number c =
@@ -43,7 +45,7 @@ fits c =
     let starts : c.starts.result.now ≡ starts_from 0 c.as_slice-segments.result.now = c.starts.ensures.value ∙ ap (λ (s : List Segment). starts_from 0 s) (sym c.as_slice-segments.ensures.value) in
     subst (λ (xs : List ℕ). get_or xs number 0 + c.last_reached.result < 2 ^ 32) (sym starts) here
 
-place : (c : goal.After-last_reached) → IsAt (ephemeris_of c.args.track.now) c.args.at.micros (get_or c.starts.result.now c.in_ok-number.number 0 + c.last_reached.result)
+place : (c : goal.After-last_reached) → IsAt (plain_track c.args.track.now) c.args.at.micros (get_or c.starts.result.now c.in_ok-number.number 0 + c.last_reached.result)
 place c =
     let m = c.args.at.micros in
     let k = c.in_ok-number.number in
@@ -52,8 +54,8 @@ place c =
     let found = found_in m k i c.as_slice-segments.result.now c.index-segments-number.result c.as_slice-segments.ensures.kept.order c.in_ok-number.ensures c.index-segments-number.is c.if-segment-at.false
     (subst (λ (nodes : List Node). AreNodes nodes) c.as_slice.ensures.value c.as_slice.ensures.kept) from in
     let of_track = subst (λ (s : List Segment). IsLastFound m (get_or (starts_from 0 s) k 0 + i) (intervals_through s)) c.as_slice-segments.ensures.value found in
-    subst (λ (starts : List ℕ). IsAt (ephemeris_of c.args.track.now) m (get_or starts k 0 + i)) (sym c.starts.ensures.value)
-    (is_at (ephemeris_of c.args.track.now) m (get_or (starts_from 0 c.args.track.now.segments) k 0 + i) of_track)
+    subst (λ (starts : List ℕ). IsAt (plain_track c.args.track.now) m (get_or starts k 0 + i)) (sym c.starts.ensures.value)
+    (is_at (plain_track c.args.track.now) m (get_or (starts_from 0 c.args.track.now.segments) k 0 + i) of_track)
 
 pub overflow_cast-result : goal.overflow_cast-result
 overflow_cast-result c = omega (arith, fits c)
@@ -72,3 +74,19 @@ returns-clause-interval c = (place c).interval
 
 pub returns-clause-covered : goal.returns-clause-covered
 returns-clause-covered c = (place c).covered
+
+pub returns-clause-later : goal.returns-clause-later
+returns-clause-later c =
+    let e = plain_track c.args.track.now in
+    let m = c.args.at.micros in
+    let k = c.in_ok-number.number in
+    let i = c.last_reached.result in
+    let segments = c.as_slice-segments.result.now in
+    let all : intervals_of e ≡ intervals_through segments = ap (λ (s : List Segment). intervals_through s) (sym c.as_slice-segments.ensures.value) in
+    let starts : c.starts.result.now ≡ starts_from 0 segments = c.starts.ensures.value ∙ ap (λ (s : List Segment). starts_from 0 s) (sym c.as_slice-segments.ensures.value) in
+    let number : get_or c.starts.result.now k 0 + i ≡ get_or (starts_from 0 segments) k 0 + i = ap (λ (xs : List ℕ). get_or xs k 0 + i) starts in
+    let from = subst (λ (nodes : List Node). (d : Node) → IsFromNode m nodes i d) c.as_slice.ensures.value c.last_reached.ensures.from in
+    subst (λ (index : ℕ). (n j : ℕ) → m ≤ n → interval_index_at e n ≡ Some j → index ≤ j) (sym number)
+    (later_than_found m k i e segments c.index-segments-number.result all c.as_slice-segments.ensures.kept.order c.in_ok-number.ensures c.index-segments-number.is
+    (subst (λ (nodes : List Node). AreNodes nodes) c.as_slice.ensures.value c.as_slice.ensures.kept) from
+    (sym (place c).index ∙ ap (λ (n : ℕ). Some n) number))

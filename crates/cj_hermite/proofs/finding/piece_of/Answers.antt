@@ -1,5 +1,5 @@
 use Rattle.std.proofs.Common.{◌+◌, ◌<◌, List, length, ap, arith}
-use Rattle.cj_oem.specs.declared.node.Node.{Node}
+use Rattle.cj_track.specs.declared.node.Node.{Node}
 use Rattle.cj_hermite.proofs.PieceLemmas.{step_between, interval_read}
 use Rattle.cj_hermite.proofs.finding.piece_of.Goals as goal
 

@@ -1,5 +1,5 @@
 use Rattle.std.proofs.Common.{◌∙◌, ◌-◌, ℕ, List, get_or, subst, sym, ap}
-use Rattle.cj_oem.specs.declared.segment.Segment.{Segment}
+use Rattle.cj_track.specs.declared.segment.Segment.{Segment}
 use Rattle.cj_hermite.specs.Searches.{IsPlace}
 use Rattle.cj_hermite.proofs.PieceLemmas.{place_from}
 use Rattle.cj_hermite.proofs.finding.place.Goals as goal

@@ -1,8 +1,8 @@
 use Rattle.std.proofs.Common.{refl}
-use Rattle.cj_oem.specs.Tracks.{ephemeris_of}
+use Rattle.cj_track.specs.Tracks.{plain_track}
 use Rattle.cj_hermite.proofs.PieceLemmas.{in_segment}
 use Rattle.cj_hermite.proofs.finding.segment_of.Goals as goal
 
 pub returns : goal.returns
 returns c =
-    in_segment (ephemeris_of c.args.track.now) c.args.index c.segment_number.result c.args.track.now.segments refl c.requires c.segment_number.ensures.exists c.segment_number.ensures.last
+    in_segment (plain_track c.args.track.now) c.args.index c.segment_number.result c.args.track.now.segments refl c.requires c.segment_number.ensures.exists c.segment_number.ensures.last

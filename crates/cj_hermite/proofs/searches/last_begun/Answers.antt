@@ -1,6 +1,6 @@
 use Rattle.std.proofs.Common.{leb, rules}
 use Rattle.std.proofs.lemmas.List.Sorted.{IsPartitionPoint-from_clause, IsPartitionedBy-leb}
-use Rattle.cj_oem.specs.declared.segment.Segment.{Segment}
+use Rattle.cj_track.specs.declared.segment.Segment.{Segment}
 use Rattle.cj_hermite.proofs.SearchLemmas.{begun_from, segments_rise}
 use Rattle.cj_hermite.proofs.searches.last_begun.Goals as goal
 

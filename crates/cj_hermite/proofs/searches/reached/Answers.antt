@@ -1,6 +1,6 @@
 use Rattle.std.proofs.Common.{leb, rules}
 use Rattle.std.proofs.lemmas.List.Sorted.{IsPartitionPoint-from_clause, IsPartitionedBy-leb}
-use Rattle.cj_oem.specs.declared.node.Node.{Node}
+use Rattle.cj_track.specs.declared.node.Node.{Node}
 use Rattle.cj_hermite.proofs.SearchLemmas.{reached_from, nodes_rise}
 use Rattle.cj_hermite.proofs.searches.reached.Goals as goal
 

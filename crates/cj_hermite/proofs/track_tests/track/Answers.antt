@@ -1,6 +1,6 @@
 use Rattle.std.proofs.Common.{◌≡◌, ◌∙◌, List, [], ◌∷◌, length, ap, arith}
 use Rattle.std.proofs.lemmas.Result.{IfOk-weaker}
-use Rattle.cj_oem.specs.declared.segment.Segment.{Segment}
+use Rattle.cj_track.specs.declared.segment.Segment.{Segment}
 use Rattle.cj_hermite.proofs.PieceLemmas.{intervals_through, count-through}
 use Rattle.cj_hermite.proofs.track_tests.track.Goals as goal
 

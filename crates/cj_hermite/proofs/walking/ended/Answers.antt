@@ -1,6 +1,6 @@
 use Rattle.std.proofs.Common.{ltb, rules}
 use Rattle.std.proofs.lemmas.List.Sorted.{IsPartitionPoint-from_clause, IsPartitionedBy-ltb}
-use Rattle.cj_oem.specs.declared.segment.Segment.{Segment}
+use Rattle.cj_track.specs.declared.segment.Segment.{Segment}
 use Rattle.cj_hermite.proofs.SpanLemmas.{lasts_rise, ended_from}
 use Rattle.cj_hermite.proofs.walking.ended.Goals as goal
 

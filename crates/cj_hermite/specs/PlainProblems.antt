@@ -1,45 +1,45 @@
 -- Cases: what a run is asked, apart from how a program keeps it.
 use Rattle.std.specs.Prelude.{ℕ, ◌^◌, ◌<◌, ◌≤◌, List, All, Option, option_map, option_and_then, slice_get, IsSomeAnd}
-use Rattle.cj_oem.specs.Ephemeris.{Ephemeris}
+use Rattle.cj_track.specs.PlainTracks.{PlainTrack}
 use Rattle.cj_hermite.specs.Interpolant.{Curve}
 use Rattle.cj_hermite.specs.Pieces.{intervals_of, interval_at, interval_index_at, curve_of_interval, OfBothAt}
 
 -- the ephemerides of the objects, which are numbered from 0; the window from its first to its last tick; the threshold in nm
-pub record Case : Type 0 where
-  pub ephemerides : List Ephemeris
+pub record PlainProblem : Type 0 where
+  pub ephemerides : List PlainTrack
   pub first : ℕ
   pub last : ℕ
   pub threshold : ℕ
 
 -- the threshold of the objects a and b in nm
-abbrev pub threshold_of : Case → ℕ → ℕ → ℕ
+abbrev pub threshold_of : PlainProblem → ℕ → ℕ → ℕ
 threshold_of case a b = case.threshold
 
 -- the number of the interval in which an object is at a tick, or none where it has no state
-unfoldable pub number_at : Case → ℕ → ℕ → Option ℕ
+unfoldable pub number_at : PlainProblem → ℕ → ℕ → Option ℕ
 number_at case object m = option_and_then (λ e. interval_index_at e m) (slice_get case.ephemerides object)
 
 -- the interpolant of an object at a tick, or none where it has no state
-unfoldable pub curve_at : Case → ℕ → ℕ → Option Curve
+unfoldable pub curve_at : PlainProblem → ℕ → ℕ → Option Curve
 curve_at case object m = option_map curve_of_interval (option_and_then (λ e. interval_at e m) (slice_get case.ephemerides object))
 
 -- the objects a and b both have a state at the tick, and this holds of their interpolants
-abbrev pub OfObjectsAt : Case → ℕ → ℕ → ℕ → (Curve → Curve → Type 0) → Type 0
+abbrev pub OfObjectsAt : PlainProblem → ℕ → ℕ → ℕ → (Curve → Curve → Type 0) → Type 0
 OfObjectsAt case a b m P = IsSomeAnd (slice_get case.ephemerides a) (λ e. IsSomeAnd (slice_get case.ephemerides b) (λ f. OfBothAt e f m P))
 
 -- a tick of the window at which the objects a and b, the lower number first, both have a state
-pub record IsCommonOf (case : Case) (a b m : ℕ) : Type 0 where
+pub record IsCommonOf (case : PlainProblem) (a b m : ℕ) : Type 0 where
   pub ordered : a < b
   pub after : case.first ≤ m
   pub before : m ≤ case.last
   pub states : OfObjectsAt case a b m (λ c d. Unit {0})
 
 -- the states of each segment rise in time
-abbrev pub IsRising : Ephemeris → Type 0
+abbrev pub IsRising : PlainTrack → Type 0
 IsRising e = All (λ x. x.from.at < x.to.at) (intervals_of e)
 
 -- ephemerides that rise in time, and a threshold from 1 m to 10,000 km
-pub record IsProper (case : Case) : Type 0 where
+pub record IsProper (case : PlainProblem) : Type 0 where
   pub rising : All IsRising case.ephemerides
   pub least : 10 ^ 9 ≤ case.threshold
   pub most : case.threshold ≤ 10 ^ 16
