@@ -5,7 +5,7 @@ use Rattle.std.specs.Prelude.{ℤ, pos, map, ◌-ℤ◌, [], ◌∷◌}
 use Rattle.std.specs.List.{All}
 use Rattle.cj_interval.specs.declared.span.Span.{Span}
 use Rattle.cj_hermite.specs.declared.box3.Box3.{Box3}
-use Rattle.cj_bezier.specs.Hulls.{Ends, Axes, axes_of}
+use Rattle.cj_bezier.specs.Hulls.{Ends, PlainHull, axes_of}
 use Rattle.cj_bezier.specs.Gaps.{IsLess, apart_axes}
 
 -- what holds of four holds of each in their list
@@ -28,7 +28,7 @@ ends_same a b l0 l1 l2 l3 h0 h1 h2 h3 = λ i. record {
   high = record { k0 = h0 i; k1 = h1 i; k2 = h2 i; k3 = h3 i };
 }
 
-pub axes_same : (a b : Axes) → a.x ≡ b.x → a.y ≡ b.y → a.z ≡ b.z → a ≡ b
+pub axes_same : (a b : PlainHull) → a.x ≡ b.x → a.y ≡ b.y → a.z ≡ b.z → a ≡ b
 axes_same a b ex ey ez = λ i. record { x = ex i; y = ey i; z = ez i }
 
 less_by : (d p q p' q' : ℤ) → d ≡ p -ℤ q → p' ≡ p → q' ≡ q → d ≡ p' -ℤ q'

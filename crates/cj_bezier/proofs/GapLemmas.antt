@@ -11,10 +11,12 @@ use Rattle.cj_interval.proofs.RoundingLemmas.{least-le, le-greatest}
 use Rattle.cj_interval.proofs.SizeLemmas.{mul_pos}
 use Rattle.cj_hermite.specs.Interpolant.{Four, Curve, IsOver, place_numerator, place_denominator}
 use Rattle.cj_hermite.specs.Levels.{exact_polar, polar}
+use Rattle.cj_hermite.proofs.DistanceLemmas.{apart_one}
 use Rattle.cj_hermite.proofs.LevelLemmas.{polar-low, polar-high, exact_polar-same}
 use Rattle.cj_hermite.proofs.CubicLemmas.{bernstein_ticks}
 use Rattle.cj_hermite.specs.Distance.{offset, square_distance, square_bound}
-use Rattle.cj_bezier.specs.Hulls.{Ends, Axes, hull_ends, hull_axes}
+use Rattle.cj_hermite.proofs.DistanceLemmas.{apart_one}
+use Rattle.cj_bezier.specs.Hulls.{Ends, PlainHull, hull_ends, hull_axes}
 use Rattle.cj_bezier.specs.Gaps.{value_at, coefficient, product_low, product_high, gap_low, gap_high, apart, apart_axes, hull_gap}
 use Rattle.cj_bezier.specs.Verdicts.{choose6, share}
 use Rattle.cj_bezier.proofs.SevenLemmas.{choose6-bounds}
@@ -129,7 +131,7 @@ spread3 : (a b c r : ℤ) → (a +ℤ b +ℤ c) *ℤ r ≡ a *ℤ r +ℤ b *ℤ 
 spread3 a b c r = ring (from (a ∷ b ∷ c ∷ r ∷ [])) ((var 0 :+ var 1 :+ var 2) :* var 3) (var 0 :* var 3 :+ var 1 :* var 3 :+ var 2 :* var 3) refl
 
 -- each coefficient of the gap encloses the exact one
-pub gap-low_holds : (r : ℕ) (g : Axes) (x y z : Four) → HoldsFour r g.x x → HoldsFour r g.y y → HoldsFour r g.z z → (k : ℕ) → (gap_low g k *ℤ pos (r * r)) ≤ℤ coefficient (exact_products x y z) k
+pub gap-low_holds : (r : ℕ) (g : PlainHull) (x y z : Four) → HoldsFour r g.x x → HoldsFour r g.y y → HoldsFour r g.z z → (k : ℕ) → (gap_low g k *ℤ pos (r * r)) ≤ℤ coefficient (exact_products x y z) k
 unfolding HoldsFour
 gap-low_holds r g x y z p q s k =
     let low = λ (i j : ℕ). product_low g.x i j +ℤ product_low g.y i j +ℤ product_low g.z i j in
@@ -139,7 +141,7 @@ gap-low_holds r g x y z p q s k =
     subst (λ (t : ℤ). t ≤ℤ coefficient (exact_products x y z) k) (sym (coefficient-scale low (pos (r * r)) k))
     (coefficient-le (λ i j. low i j *ℤ pos (r * r)) (exact_products x y z) each k)
 
-pub gap-high_holds : (r : ℕ) (g : Axes) (x y z : Four) → HoldsFour r g.x x → HoldsFour r g.y y → HoldsFour r g.z z → (k : ℕ) → coefficient (exact_products x y z) k ≤ℤ (gap_high g k *ℤ pos (r * r))
+pub gap-high_holds : (r : ℕ) (g : PlainHull) (x y z : Four) → HoldsFour r g.x x → HoldsFour r g.y y → HoldsFour r g.z z → (k : ℕ) → coefficient (exact_products x y z) k ≤ℤ (gap_high g k *ℤ pos (r * r))
 unfolding HoldsFour
 gap-high_holds r g x y z p q s k =
     let high = λ (i j : ℕ). product_high g.x i j +ℤ product_high g.y i j +ℤ product_high g.z i j in
@@ -151,19 +153,19 @@ gap-high_holds r g x y z p q s k =
 
 -- ---- what a supported verdict says
 -- each lower end of a gap exceeds C(6,k) e²
-abbrev pub LowsAbove : Axes → ℕ → Type 0
+abbrev pub LowsAbove : PlainHull → ℕ → Type 0
 LowsAbove g e = (k : ℕ) → share e k <ℤ gap_low g k
 
 -- each lower end is at least C(6,k) e²
-abbrev pub LowsAtLeast : Axes → ℕ → Type 0
+abbrev pub LowsAtLeast : PlainHull → ℕ → Type 0
 LowsAtLeast g e = (k : ℕ) → share e k ≤ℤ gap_low g k
 
 -- each upper end is at most C(6,k) e²
-abbrev pub HighsAtMost : Axes → ℕ → Type 0
+abbrev pub HighsAtMost : PlainHull → ℕ → Type 0
 HighsAtMost g e = (k : ℕ) → gap_high g k ≤ℤ share e k
 
 -- a gap g, r times, round the exact differences of three axes, whose cubics have the values a, b and c at one tick
-pub record IsGapAt (r : ℕ) (g : Axes) (a b c : ℤ) : Type 0 where
+pub record IsGapAt (r : ℕ) (g : PlainHull) (a b c : ℤ) : Type 0 where
   pub i : ℕ
   pub j : ℕ
   pub x : Four
@@ -177,7 +179,7 @@ pub record IsGapAt (r : ℕ) (g : Axes) (a b c : ℤ) : Type 0 where
   pub cubic_y : IsCubic i j y b
   pub cubic_z : IsCubic i j z c
 
-pub above_of_gap : (r e : ℕ) (g : Axes) (a b c : ℤ) → 20 ≤ r * r → IsGapAt r g a b c → LowsAbove g e → pos (e * e * (r * r)) <ℤ squares a b c
+pub above_of_gap : (r e : ℕ) (g : PlainHull) (a b c : ℤ) → 20 ≤ r * r → IsGapAt r g a b c → LowsAbove g e → pos (e * e * (r * r)) <ℤ squares a b c
 above_of_gap r e g a b c large s far =
     let m = pos (e * e * (r * r) + 1) in
     let exact = coefficient (exact_products s.x s.y s.z) in
@@ -193,7 +195,7 @@ above_of_gap r e g a b c large s far =
         let fits : k * (t * q + 1) ≤ (k * t + 1) * q = omega arith in
         le_trans_ℤ _ _ _ (let o : pos (k * (t * q + 1)) ≤ℤ pos ((k * t + 1) * q) = omega (arith, ints) in o) times
 
-pub at_least_of_gap : (r e : ℕ) (g : Axes) (a b c : ℤ) → IsGapAt r g a b c → LowsAtLeast g e → pos (e * e * (r * r)) ≤ℤ squares a b c
+pub at_least_of_gap : (r e : ℕ) (g : PlainHull) (a b c : ℤ) → IsGapAt r g a b c → LowsAtLeast g e → pos (e * e * (r * r)) ≤ℤ squares a b c
 at_least_of_gap r e g a b c s low =
     let m = pos (e * e * (r * r)) in
     let exact = coefficient (exact_products s.x s.y s.z) in
@@ -207,7 +209,7 @@ at_least_of_gap r e g a b c s low =
         let same : k * t * q ≡ k * (t * q) = omega arith in
         subst (λ (n : ℕ). pos n ≤ℤ (g *ℤ pos q)) same times
 
-pub at_most_of_gap : (r e : ℕ) (g : Axes) (a b c : ℤ) → IsGapAt r g a b c → HighsAtMost g e → squares a b c ≤ℤ pos (e * e * (r * r))
+pub at_most_of_gap : (r e : ℕ) (g : PlainHull) (a b c : ℤ) → IsGapAt r g a b c → HighsAtMost g e → squares a b c ≤ℤ pos (e * e * (r * r))
 at_most_of_gap r e g a b c s near =
     let m = pos (e * e * (r * r)) in
     let exact = coefficient (exact_products s.x s.y s.z) in
@@ -232,29 +234,6 @@ difference q p q' p' = record {
   k2 = pos q' *ℤ p.k2 -ℤ pos q *ℤ p'.k2;
   k3 = pos q' *ℤ p.k3 -ℤ pos q *ℤ p'.k3;
 }
-
-apart_one : (al ah p bl bh p' : ℤ) (q q' : ℕ) → IsIn (al *ℤ pos q) (ah *ℤ pos q) p → IsIn (bl *ℤ pos q') (bh *ℤ pos q') p'
-    → IsIn ((al -ℤ bh) *ℤ pos (q * q')) ((ah -ℤ bl) *ℤ pos (q * q')) (pos q' *ℤ p -ℤ pos q *ℤ p')
-apart_one al ah p bl bh p' q q' h k =
-    let l1 = mul-le_right (al *ℤ pos q) p q' h.low in
-    let l2 = mul-le_right p' (bh *ℤ pos q') q k.high in
-    let h1 = mul-le_right p (ah *ℤ pos q) q' h.high in
-    let h2 = mul-le_right (bl *ℤ pos q') p' q k.low in
-    let el = open-out al bh (pos q) (pos q') in
-    let eh = open-out ah bl (pos q) (pos q') in
-    record {
-      low = subst (λ (t : ℤ). t ≤ℤ (pos q' *ℤ p -ℤ pos q *ℤ p')) (sym el) (minus _ _ p p' (pos q) (pos q') l1 l2);
-      high = subst (λ (t : ℤ). (pos q' *ℤ p -ℤ pos q *ℤ p') ≤ℤ t) (sym eh) (minus' _ _ p p' (pos q) (pos q') h1 h2);
-    }
-  where
-    open-out : (a b q r : ℤ) → (a -ℤ b) *ℤ (q *ℤ r) ≡ (a *ℤ q) *ℤ r -ℤ (b *ℤ r) *ℤ q
-    open-out a b q r = ring (from (a ∷ b ∷ q ∷ r ∷ [])) ((var 0 :- var 1) :* (var 2 :* var 3)) ((var 0 :* var 2) :* var 3 :- (var 1 :* var 3) :* var 2) refl
-
-    minus : (x z p p' q r : ℤ) → x ≤ℤ (p *ℤ r) → (p' *ℤ q) ≤ℤ z → (x -ℤ z) ≤ℤ (r *ℤ p -ℤ q *ℤ p')
-    minus x z p p' q r h k = omega (arith, ints)
-
-    minus' : (x z p p' q r : ℤ) → (p *ℤ r) ≤ℤ x → z ≤ℤ (p' *ℤ q) → (r *ℤ p -ℤ q *ℤ p') ≤ℤ (x -ℤ z)
-    minus' x z p p' q r h k = omega (arith, ints)
 
 holds_axis : (k k' : Four) (t t' a b a' b' : ℕ) → 0 < t → 0 < t'
     → HoldsFour (place_denominator t * place_denominator t') (apart (hull_ends k t a b) (hull_ends k' t' a' b')) (difference (place_denominator t) (polar_four k t a b) (place_denominator t') (polar_four k' t' a' b'))

@@ -1,23 +1,11 @@
--- Two boxes at one tick: what they say of the distance of the places that they hold.
-use Rattle.std.proofs.Common.{◌≡◌, ℕ, ◌+◌, ◌-◌, ◌*◌, ◌<◌, ◌≤◌, ◌⊎◌, inl, inr, arith, sym, ap, subst, refl, [], ◌∷◌}
+-- Three spans of at most six at one tick: where their squares are neither far nor near, they are in the band.
+use Rattle.std.proofs.Common.{◌≡◌, ℕ, ◌+◌, ◌-◌, ◌*◌, ◌<◌, ◌≤◌, ◌⊎◌, inl, inr, arith, ap}
 use Rattle.std.proofs.Math.Nat.{mul-le-mul_right, mul-le-mul_left}
 use Rattle.std.proofs.lemmas.Bool.{cases_lt}
 use Rattle.std.proofs.lemmas.Int.{ints}
-use Rattle.std.specs.Prelude.{ℤ, pos, ◌+ℤ◌, ◌-ℤ◌, ◌*ℤ◌, ◌≤ℤ◌, ◌<ℤ◌}
-use Rattle.cj_interval.specs.Spans.{least, greatest, IsIn}
-use Rattle.cj_interval.proofs.IntegerLemmas.{mul-le_right, le_trans_ℤ}
-use Rattle.cj_interval.proofs.RingLemmas.{ring, var, ◌:+◌, ◌:*◌, from}
-use Rattle.cj_interval.proofs.RoundingLemmas.{scaled_product_of_spans}
-use Rattle.cj_interval.proofs.SizeLemmas.{mul_pos}
+use Rattle.std.specs.Prelude.{ℤ, pos, ◌+ℤ◌, ◌*ℤ◌, ◌≤ℤ◌, ◌<ℤ◌}
+use Rattle.cj_interval.specs.Spans.{least, greatest}
 use Rattle.cj_interval.proofs.SquareLemmas.{narrow, amgm, root-le}
-use Rattle.cj_hermite.specs.declared.box3.Box3.{Box3}
-use Rattle.cj_hermite.specs.Interpolant.{Curve, IsOver, place_denominator}
-use Rattle.cj_hermite.specs.Distance.{IsFar, IsNear, IsInBand, square_distance}
-use Rattle.cj_hermite.specs.Boxes.{IsBoxNarrow, HoldsPlace}
-use Rattle.cj_hermite.proofs.DistanceLemmas.{beyond, offset_in}
-use Rattle.cj_bezier.specs.OneTick.{apart_low, apart_high}
-
--- ---- neither far nor near
 
 -- s is a sum of three squares, n the sum of their roots
 too_large : (t s n : ℕ) → 1000000000 ≤ t → s ≤ t * t + 12 * n → 2 * (n * t) ≤ s + 3 * (t * t) → (t + 1000000) * (t + 1000000) < s → ⊥
@@ -81,78 +69,3 @@ band_of_one t l1 h1 l2 h2 l3 h3 big p1 q1 p2 q2 p3 q3 notfar notnear =
         let r : t * t < a * a + b * b + c * c = omega (arith, ints) in
         let bottom = sum_large t a b c big r top in
         record { lower = omega (arith, ints); upper = omega (arith, ints) }
-
--- ---- the ends and the exact distance
-
-spread : (a b c r : ℤ) → (a +ℤ b +ℤ c) *ℤ r ≡ a *ℤ r +ℤ b *ℤ r +ℤ c *ℤ r
-spread a b c r = ring (from (a ∷ b ∷ c ∷ r ∷ [])) ((var 0 :+ var 1 :+ var 2) :* var 3) (var 0 :* var 3 :+ var 1 :* var 3 :+ var 2 :* var 3) refl
-
-sum_in : (a b c d e f x y z : ℤ) (r : ℕ) → IsIn (a *ℤ pos r) (b *ℤ pos r) x → IsIn (c *ℤ pos r) (d *ℤ pos r) y → IsIn (e *ℤ pos r) (f *ℤ pos r) z
-    → IsIn ((a +ℤ c +ℤ e) *ℤ pos r) ((b +ℤ d +ℤ f) *ℤ pos r) (x +ℤ y +ℤ z)
-sum_in a b c d e f x y z r p q s =
-    let low = spread a c e (pos r) in
-    let high = spread b d f (pos r) in
-    record {
-      low = subst (λ (t : ℤ). t ≤ℤ (x +ℤ y +ℤ z)) (sym low) (three-le _ _ _ _ _ _ p.low q.low s.low);
-      high = subst (λ (t : ℤ). (x +ℤ y +ℤ z) ≤ℤ t) (sym high) (three-le _ _ _ _ _ _ p.high q.high s.high);
-    }
-  where
-    three-le : (a b c x y z : ℤ) → a ≤ℤ x → b ≤ℤ y → c ≤ℤ z → (a +ℤ b +ℤ c) ≤ℤ (x +ℤ y +ℤ z)
-    three-le a b c x y z h j k = omega (arith, ints)
-
--- the square of both denominators
-abbrev scale : Curve → Curve → ℕ
-scale c d = place_denominator c.span * place_denominator d.span * (place_denominator c.span * place_denominator d.span)
-
-pub apart_in : (c d : Curve) (m : ℕ) (a b : Box3) → HoldsPlace c m a → HoldsPlace d m b
-    → IsIn (apart_low a b *ℤ pos (scale c d)) (apart_high a b *ℤ pos (scale c d)) (square_distance c d m)
-apart_in c d m a b h j =
-    let r = place_denominator c.span * place_denominator d.span in
-    let x = offset_in c.x d.x c.start c.span d.start d.span m a.x b.x h.x j.x in
-    let y = offset_in c.y d.y c.start c.span d.start d.span m a.y b.y h.y j.y in
-    let z = offset_in c.z d.z c.start c.span d.start d.span m a.z b.z h.z j.z in
-    sum_in _ _ _ _ _ _ _ _ _ (r * r)
-    (scaled_product_of_spans _ _ _ _ _ _ r x x) (scaled_product_of_spans _ _ _ _ _ _ r y y) (scaled_product_of_spans _ _ _ _ _ _ r z z)
-
-scale_some : (t u : ℕ) → 0 < t → 0 < u → 0 < place_denominator t * place_denominator u * (place_denominator t * place_denominator u)
-scale_some t u p q =
-    let three = λ (n : ℕ) (some : 0 < n). mul_pos 3000000 (n * n * n) (omega arith) (mul_pos (n * n) n (mul_pos n n some some) some) in
-    let both = mul_pos (place_denominator t) (place_denominator u) (three t p) (three u q) in
-    mul_pos _ _ both both
-
-pub far_at : (c d : Curve) (m thr : ℕ) (a b : Box3) → IsOver c m m → IsOver d m m → HoldsPlace c m a → HoldsPlace d m b → pos (thr * thr) <ℤ apart_low a b → IsFar c d thr m
-far_at c d m thr a b oc od h j k =
-    beyond c d thr m (exceeds (thr * thr) (scale c d) (apart_low a b) (square_distance c d m) (scale_some c.span d.span oc.some od.some) k (apart_in c d m a b h j).low)
-  where
-    exceeds : (n q : ℕ) (low s : ℤ) → 0 < q → pos n <ℤ low → (low *ℤ pos q) ≤ℤ s → pos (n * q) <ℤ s
-    exceeds n q low s some h k =
-        let more : pos (n + 1) ≤ℤ low = omega (arith, ints) in
-        let times = mul-le_right (pos (n + 1)) low q more in
-        omega (arith, ints)
-
-pub near_at : (c d : Curve) (m thr : ℕ) (a b : Box3) → HoldsPlace c m a → HoldsPlace d m b → apart_high a b ≤ℤ pos (thr * thr) → IsNear c d thr m
-near_at c d m thr a b h j k =
-    le_trans_ℤ _ _ _ (apart_in c d m a b h j).high (mul-le_right (apart_high a b) (pos (thr * thr)) (scale c d) k)
-
-difference_narrow : (a b c d : ℤ) → b ≤ℤ (a +ℤ pos 3) → d ≤ℤ (c +ℤ pos 3) → (b -ℤ c) ≤ℤ (a -ℤ d +ℤ pos 6)
-difference_narrow a b c d h k = omega (arith, ints)
-
-difference_ordered : (a b c d : ℤ) → a ≤ℤ b → c ≤ℤ d → (a -ℤ d) ≤ℤ (b -ℤ c)
-difference_ordered a b c d h k = omega (arith, ints)
-
-pub in_band_at : (c d : Curve) (m thr : ℕ) (a b : Box3) → 1000000000 ≤ thr → IsOver c m m → IsOver d m m → HoldsPlace c m a → HoldsPlace d m b → IsBoxNarrow 3 a → IsBoxNarrow 3 b
-    → apart_low a b ≤ℤ pos (thr * thr) → pos (thr * thr) <ℤ apart_high a b → IsInBand c d thr m
-in_band_at c d m thr a b big oc od h j na nb not_far not_near =
-    let band = band_of_one thr _ _ _ _ _ _ big
-    (difference_ordered a.x.lo a.x.hi b.x.lo b.x.hi a.x.ordered b.x.ordered) (difference_narrow a.x.lo a.x.hi b.x.lo b.x.hi na.x nb.x)
-    (difference_ordered a.y.lo a.y.hi b.y.lo b.y.hi a.y.ordered b.y.ordered) (difference_narrow a.y.lo a.y.hi b.y.lo b.y.hi na.y nb.y)
-    (difference_ordered a.z.lo a.z.hi b.z.lo b.z.hi a.z.ordered b.z.ordered) (difference_narrow a.z.lo a.z.hi b.z.lo b.z.hi na.z nb.z)
-    not_far not_near in
-    let low : pos ((thr - 1000000 - 1) * (thr - 1000000 - 1)) <ℤ apart_low a b = less_one (thr - 1000000) (apart_low a b) (omega arith) band.lower in
-    record { within = near_at c d m (thr + 1000000) a b h j band.upper; beyond = far_at c d m (thr - 1000000 - 1) a b oc od h j low }
-  where
-    less_one : (u : ℕ) (l : ℤ) → 0 < u → pos (u * u) ≤ℤ l → pos ((u - 1) * (u - 1)) <ℤ l
-    less_one u l some h =
-        let e : u ≡ u - 1 + 1 = omega arith in
-        let f : u * u ≡ (u - 1 + 1) * (u - 1 + 1) = ap (λ (n : ℕ). n * n) e in
-        omega (arith, ints)

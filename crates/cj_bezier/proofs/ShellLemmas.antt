@@ -18,9 +18,9 @@ use Rattle.cj_hermite.specs.Boxes.{IsSpanWithin, IsBoxWithin}
 use Rattle.cj_hermite.specs.Interpolant.{Four, Curve, IsOver, place_numerator, place_denominator}
 use Rattle.cj_hermite.specs.Levels.{exact_polar}
 use Rattle.cj_hermite.proofs.LevelLemmas.{polar-low, polar-high, exact_polar-same}
-use Rattle.cj_bezier.specs.Hulls.{Ends, Axes, ends_of, axes_of, hull_ends, hull_axes, lows, highs}
+use Rattle.cj_bezier.specs.Hulls.{Ends, PlainHull, ends_of, axes_of, hull_ends, hull_axes, lows, highs}
 use Rattle.cj_bezier.specs.Sizes.{HULL_REACH}
-use Rattle.cj_bezier.specs.Gaps.{Terms, gap_terms, value_at, product_high, coefficient, gap_high}
+use Rattle.cj_bezier.specs.Gaps.{PlainGap, gap_terms, value_at, product_high, coefficient, gap_high}
 use Rattle.cj_bezier.specs.Verdicts.{choose6, share, AreAtLeast, AreAtMost}
 use Rattle.cj_bezier.specs.Squares.{from_zero, part_down, part_up, least_part, greatest_part, least_square, greatest_square}
 use Rattle.cj_bezier.specs.Shells.{IsInner, IsOuter, IsRadiusWithin, square_radius}
@@ -146,18 +146,18 @@ le_pos : (n : ℕ) (z : ℤ) → from_zero z ≤ n → z ≤ℤ pos n
 le_pos n (pos m) h = omega (arith, ints)
 le_pos n (negsuc m) h = omega (arith, ints)
 
-pub square_of_inner : (g : Terms) (r : ℕ) → IsInner g r → r * r ≤ least_square g
+pub square_of_inner : (g : PlainGap) (r : ℕ) → IsInner g r → r * r ≤ least_square g
 square_of_inner g r (inl e) = let z : r * r ≡ 0 = ap (λ (n : ℕ). n * n) e in omega arith
 square_of_inner g r (inr h) = le-from_zero (r * r) (least_part g.low) (to_least g.low r h)
 
-pub inner_of_square : (g : Terms) (r : ℕ) → r * r ≤ least_square g → IsInner g r
+pub inner_of_square : (g : PlainGap) (r : ℕ) → r * r ≤ least_square g → IsInner g r
 inner_of_square g zero h = inl refl
 inner_of_square g (suc n) h = inr (from_least g.low (suc n) (from_zero-pos (suc n * suc n) (least_part g.low) (omega arith) h))
 
-pub square_of_outer : (g : Terms) (r : ℕ) → IsOuter g r → greatest_square g ≤ r * r
+pub square_of_outer : (g : PlainGap) (r : ℕ) → IsOuter g r → greatest_square g ≤ r * r
 square_of_outer g r h = from_zero-le (r * r) (greatest_part g.high) (to_greatest g.high r h)
 
-pub outer_of_square : (g : Terms) (r : ℕ) → greatest_square g ≤ r * r → IsOuter g r
+pub outer_of_square : (g : PlainGap) (r : ℕ) → greatest_square g ≤ r * r → IsOuter g r
 outer_of_square g r h = from_greatest g.high r (le_pos (r * r) (greatest_part g.high) h)
 
 square_up : (a b : ℕ) → a ≤ b → a * a ≤ b * b
@@ -167,7 +167,7 @@ too_large : (a b n : ℕ) → a ≤ b → b * b ≤ n → n < a * a → ⊥
 too_large a b n h s l = let q = square_up a b h in omega arith
 
 -- the greatest whole root is the greatest inner radius
-pub greatest_inner : (g : Terms) (lo r : ℕ) → least_square g < (lo + 1) * (lo + 1) → IsInner g r → r ≤ lo
+pub greatest_inner : (g : PlainGap) (lo r : ℕ) → least_square g < (lo + 1) * (lo + 1) → IsInner g r → r ≤ lo
 greatest_inner g lo r next h = by_order (cases_lt lo r)
   where
     by_order : (lo < r) ⊎ (r ≤ lo) → r ≤ lo
@@ -177,7 +177,7 @@ greatest_inner g lo r next h = by_order (cases_lt lo r)
         absurd (too_large (lo + 1) r (least_square g) (omega arith) s next)
 
 -- an inner radius is at most an outer one, where the ends are ordered
-pub inner-le_outer : (g : Terms) (lo hi : ℕ) → slice_index_or g.low 0 (pos 0) ≤ℤ slice_index_or g.high 0 (pos 0) → IsInner g lo → IsOuter g hi → lo ≤ hi
+pub inner-le_outer : (g : PlainGap) (lo hi : ℕ) → slice_index_or g.low 0 (pos 0) ≤ℤ slice_index_or g.high 0 (pos 0) → IsInner g lo → IsOuter g hi → lo ≤ hi
 unfolding AreAtLeast AreAtMost
 inner-le_outer g lo hi o (inl e) h = omega arith
 inner-le_outer g lo hi o (inr l) h = root-le lo hi (squares_le (lo * lo) (hi * hi) _ _ (l 0 (omega arith)) o (h 0 (omega arith)))
@@ -299,7 +299,7 @@ coefficient_same s (suc (suc (suc (suc zero)))) = omega (arith, ints)
 coefficient_same s (suc (suc (suc (suc (suc zero))))) = omega (arith, ints)
 coefficient_same s (suc (suc (suc (suc (suc (suc n)))))) = omega (arith, ints)
 
-outer_of_axes : (r e : ℕ) (d : Axes) → 3 * (r * r) ≤ e * e → AreWithin r d.x → AreWithin r d.y → AreWithin r d.z → IsOuter (gap_terms d) e
+outer_of_axes : (r e : ℕ) (d : PlainHull) → 3 * (r * r) ≤ e * e → AreWithin r d.x → AreWithin r d.y → AreWithin r d.z → IsOuter (gap_terms d) e
 outer_of_axes r e d wide x y z =
     are_at_most_from d e (λ k. subst (λ (t : ℤ). gap_high d k ≤ℤ t) (coefficient_same (e * e) k)
     (coefficient-le (λ i j. product_high d.x i j +ℤ product_high d.y i j +ℤ product_high d.z i j) (λ _ _. pos (e * e))

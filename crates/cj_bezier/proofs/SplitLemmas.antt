@@ -13,8 +13,8 @@ use Rattle.cj_hermite.specs.Levels.{polar}
 use Rattle.cj_hermite.specs.Distance.{BAND}
 use Rattle.cj_hermite.proofs.LevelLemmas.{polar-low, polar-high, polar-width}
 use Rattle.cj_bezier.specs.declared.kind.Kind.TheVariants as kinds
-use Rattle.cj_bezier.specs.Hulls.{Ends, Axes, hull_ends, hull_axes}
-use Rattle.cj_bezier.specs.Gaps.{Terms, value_at, coefficient, apart, apart_axes, product_low, product_high, gap_low, gap_high, gap_terms, hull_gap}
+use Rattle.cj_bezier.specs.Hulls.{Ends, PlainHull, hull_ends, hull_axes}
+use Rattle.cj_bezier.specs.Gaps.{PlainGap, value_at, coefficient, apart, apart_axes, product_low, product_high, gap_low, gap_high, gap_terms, hull_gap}
 use Rattle.cj_bezier.specs.Verdicts.{choose6, share, Supports, supported}
 use Rattle.cj_bezier.proofs.GapLemmas.{LowsAbove, LowsAtLeast, HighsAtMost}
 use Rattle.cj_bezier.proofs.OneTickLemmas.{band_of_one}
@@ -82,17 +82,17 @@ apart_one k k' t s t' s' = record { low = low; high = high }
     high (suc (suc (suc n))) = refl
 
 -- a gap of three axes whose spans are one each
-record IsOfOne (d : Axes) (l1 h1 l2 h2 l3 h3 : ℤ) : Type 0 where
+record IsOfOne (d : PlainHull) (l1 h1 l2 h2 l3 h3 : ℤ) : Type 0 where
   x : AreOne d.x l1 h1
   y : AreOne d.y l2 h2
   z : AreOne d.z l3 h3
 
-lows_one : (d : Axes) (l1 h1 l2 h2 l3 h3 : ℤ) → IsOfOne d l1 h1 l2 h2 l3 h3 → (k : ℕ) → gap_low d k ≡ pos (choose6 k) *ℤ (square_low l1 h1 +ℤ square_low l2 h2 +ℤ square_low l3 h3)
+lows_one : (d : PlainHull) (l1 h1 l2 h2 l3 h3 : ℤ) → IsOfOne d l1 h1 l2 h2 l3 h3 → (k : ℕ) → gap_low d k ≡ pos (choose6 k) *ℤ (square_low l1 h1 +ℤ square_low l2 h2 +ℤ square_low l3 h3)
 lows_one d l1 h1 l2 h2 l3 h3 o k =
     coefficient_same (λ i j. product_low d.x i j +ℤ product_low d.y i j +ℤ product_low d.z i j) _
     (λ i j. λ t. product_low-one d.x l1 h1 o.x i j t +ℤ product_low-one d.y l2 h2 o.y i j t +ℤ product_low-one d.z l3 h3 o.z i j t) k
 
-highs_one : (d : Axes) (l1 h1 l2 h2 l3 h3 : ℤ) → IsOfOne d l1 h1 l2 h2 l3 h3 → (k : ℕ) → gap_high d k ≡ pos (choose6 k) *ℤ (square_high l1 h1 +ℤ square_high l2 h2 +ℤ square_high l3 h3)
+highs_one : (d : PlainHull) (l1 h1 l2 h2 l3 h3 : ℤ) → IsOfOne d l1 h1 l2 h2 l3 h3 → (k : ℕ) → gap_high d k ≡ pos (choose6 k) *ℤ (square_high l1 h1 +ℤ square_high l2 h2 +ℤ square_high l3 h3)
 highs_one d l1 h1 l2 h2 l3 h3 o k =
     coefficient_same (λ i j. product_high d.x i j +ℤ product_high d.y i j +ℤ product_high d.z i j) _
     (λ i j. λ t. product_high-one d.x l1 h1 o.x i j t +ℤ product_high-one d.y l2 h2 o.y i j t +ℤ product_high-one d.z l3 h3 o.z i j t) k
@@ -111,13 +111,13 @@ share-lt c n l p h =
     let t = share-le c (n + 1) l more in
     omega (arith, ints)
 
-lows_above : (d : Axes) (e : ℕ) (l : ℤ) → ((k : ℕ) → gap_low d k ≡ pos (choose6 k) *ℤ l) → pos (e * e) <ℤ l → LowsAbove d e
+lows_above : (d : PlainHull) (e : ℕ) (l : ℤ) → ((k : ℕ) → gap_low d k ≡ pos (choose6 k) *ℤ l) → pos (e * e) <ℤ l → LowsAbove d e
 lows_above d e l is h k = subst (λ (z : ℤ). share e k <ℤ z) (sym (is k)) (share-lt (choose6 k) (e * e) l (choose6-bounds k).0 h)
 
-lows_at_least : (d : Axes) (e : ℕ) (l : ℤ) → ((k : ℕ) → gap_low d k ≡ pos (choose6 k) *ℤ l) → pos (e * e) ≤ℤ l → LowsAtLeast d e
+lows_at_least : (d : PlainHull) (e : ℕ) (l : ℤ) → ((k : ℕ) → gap_low d k ≡ pos (choose6 k) *ℤ l) → pos (e * e) ≤ℤ l → LowsAtLeast d e
 lows_at_least d e l is h k = subst (λ (z : ℤ). share e k ≤ℤ z) (sym (is k)) (share-le (choose6 k) (e * e) l h)
 
-highs_at_most : (d : Axes) (e : ℕ) (u : ℤ) → ((k : ℕ) → gap_high d k ≡ pos (choose6 k) *ℤ u) → u ≤ℤ pos (e * e) → HighsAtMost d e
+highs_at_most : (d : PlainHull) (e : ℕ) (u : ℤ) → ((k : ℕ) → gap_high d k ≡ pos (choose6 k) *ℤ u) → u ≤ℤ pos (e * e) → HighsAtMost d e
 highs_at_most d e u is h k = subst (λ (z : ℤ). z ≤ℤ share e k) (sym (is k)) (le-share (choose6 k) (e * e) u h)
 
 -- ---- one tick
@@ -154,7 +154,7 @@ one_tick_undecided a b thr m big oa ob not_far not_near =
     (axis_ordered a.z b.z t s t' s' oa.some ob.some) (axis_narrow a.z b.z t s t' s' oa.some ob.some q q')
     not_far not_near
   where
-    decided : (d : Axes) (thr : ℕ) (l1 h1 l2 h2 l3 h3 : ℤ) → 10 ^ 9 ≤ thr → IsOfOne d l1 h1 l2 h2 l3 h3
+    decided : (d : PlainHull) (thr : ℕ) (l1 h1 l2 h2 l3 h3 : ℤ) → 10 ^ 9 ≤ thr → IsOfOne d l1 h1 l2 h2 l3 h3
         → l1 ≤ℤ h1 → h1 ≤ℤ (l1 +ℤ pos 6) → l2 ≤ℤ h2 → h2 ≤ℤ (l2 +ℤ pos 6) → l3 ≤ℤ h3 → h3 ≤ℤ (l3 +ℤ pos 6)
         → ¬ Supports (gap_terms d) thr kinds.Far → ¬ Supports (gap_terms d) thr kinds.Near → Supports (gap_terms d) thr kinds.Undecided
     decided d thr l1 h1 l2 h2 l3 h3 big one p1 q1 p2 q2 p3 q3 not_far not_near =
@@ -168,11 +168,11 @@ one_tick_undecided a b thr m big oa ob not_far not_near =
         (are_at_least_from d (thr - BAND) (lows_at_least d (thr - BAND) low (lows_one d l1 h1 l2 h2 l3 h3 one) band.lower), are_at_most_from d (thr + BAND) (highs_at_most d (thr + BAND) high (highs_one d l1 h1 l2 h2 l3 h3 one) band.upper))
 
 -- so three tests of a gap of one tick are not all false
-pub never_split : (g : Terms) (a b : Curve) (thr m : ℕ) → 10 ^ 9 ≤ thr → IsOver a m m → IsOver b m m → g ≡ gap_terms (hull_gap a b m m)
+pub never_split : (g : PlainGap) (a b : Curve) (thr m : ℕ) → 10 ^ 9 ≤ thr → IsOver a m m → IsOver b m m → g ≡ gap_terms (hull_gap a b m m)
     → supported g thr kinds.Far ≡ false → supported g thr kinds.Near ≡ false → supported g thr kinds.Undecided ≡ false → ⊥
 never_split g a b thr m big oa ob e far near undecided =
     let h = gap_terms (hull_gap a b m m) in
-    let f : supported h thr kinds.Far ≡ false = subst (λ (x : Terms). supported x thr kinds.Far ≡ false) e far in
-    let n : supported h thr kinds.Near ≡ false = subst (λ (x : Terms). supported x thr kinds.Near ≡ false) e near in
-    let u : supported h thr kinds.Undecided ≡ false = subst (λ (x : Terms). supported x thr kinds.Undecided ≡ false) e undecided in
+    let f : supported h thr kinds.Far ≡ false = subst (λ (x : PlainGap). supported x thr kinds.Far ≡ false) e far in
+    let n : supported h thr kinds.Near ≡ false = subst (λ (x : PlainGap). supported x thr kinds.Near ≡ false) e near in
+    let u : supported h thr kinds.Undecided ≡ false = subst (λ (x : PlainGap). supported x thr kinds.Undecided ≡ false) e undecided in
     both_ways _ u ((decides_supports h thr kinds.Undecided).1 (one_tick_undecided a b thr m big oa ob (λ s. both_ways _ f ((decides_supports h thr kinds.Far).1 s)) (λ s. both_ways _ n ((decides_supports h thr kinds.Near).1 s))))

@@ -10,7 +10,7 @@ use Rattle.cj_hermite.specs.Distance.{BAND}
 use Rattle.cj_bezier.specs.declared.kind.Kind.{Kind}
 use Rattle.cj_bezier.specs.declared.kind.Kind.TheVariants as kinds
 use Rattle.cj_bezier.specs.Hulls.{lows, highs}
-use Rattle.cj_bezier.specs.Gaps.{Terms}
+use Rattle.cj_bezier.specs.Gaps.{PlainGap}
 use Rattle.cj_bezier.specs.Verdicts.{share, AreAbove, AreAtLeast, AreAtMost, Supports, SEVEN, are_above, are_at_least, are_at_most, supported}
 use Rattle.cj_bezier.proofs.SevenLemmas.{seven_cases}
 
@@ -46,7 +46,7 @@ unfolding are_at_most AreAtMost
 decides_at_most ends e = decides_seven (λ k. int_le (slice_index_or ends k (pos 0)) (share e k)) (λ k. slice_index_or ends k (pos 0) ≤ℤ share e k) (λ k. decides_le _ _)
 
 -- the test of a kind decides its support
-pub decides_supports : (g : Terms) (thr : ℕ) (kind : Kind) → Decides (supported g thr kind) (Supports g thr kind)
+pub decides_supports : (g : PlainGap) (thr : ℕ) (kind : Kind) → Decides (supported g thr kind) (Supports g thr kind)
 decides_supports g thr kinds.Far = decides_above g.low thr
 decides_supports g thr kinds.Near = decides_at_most g.high thr
 decides_supports g thr kinds.Undecided = Decides-and _ _ (decides_at_least g.low (thr - BAND)) (decides_at_most g.high (thr + BAND))

@@ -8,8 +8,8 @@ use Rattle.cj_hermite.proofs.DistanceLemmas.{beyond}
 use Rattle.cj_bezier.specs.declared.kind.Kind.{Kind}
 use Rattle.cj_bezier.specs.declared.kind.Kind.TheVariants as kinds
 use Rattle.cj_bezier.specs.declared.verdicts.Verdict.TheVariants as verdicts
-use Rattle.cj_bezier.specs.Hulls.{Axes}
-use Rattle.cj_bezier.specs.Gaps.{Terms, IsGapOver, gap_terms, gap_low, gap_high, hull_gap}
+use Rattle.cj_bezier.specs.Hulls.{PlainHull}
+use Rattle.cj_bezier.specs.Gaps.{PlainGap, IsGapOver, gap_terms, gap_low, gap_high, hull_gap}
 use Rattle.cj_bezier.specs.Verdicts.{choose6, AreAbove, AreAtLeast, AreAtMost, Supports, supported, verdict_of, HoldsThroughout}
 use Rattle.cj_bezier.proofs.GapLemmas.{LowsAbove, LowsAtLeast, HighsAtMost, beyond_at, within_at}
 use Rattle.cj_bezier.proofs.SevenLemmas.{first_seven, from_seven, choose6-bounds}
@@ -17,34 +17,34 @@ use Rattle.cj_bezier.proofs.TestLemmas.{decides_supports}
 
 -- ---- the seven ends of a gap are all its ends
 
-pub all_above : (d : Axes) (e : ℕ) → AreAbove (gap_terms d).low e → LowsAbove d e
+pub all_above : (d : PlainHull) (e : ℕ) → AreAbove (gap_terms d).low e → LowsAbove d e
 unfolding AreAbove gap_terms
 all_above d e h = from_seven (λ c z. pos (c * (e * e)) <ℤ z) (gap_low d) (λ n. refl) h
 
-pub all_at_least : (d : Axes) (e : ℕ) → AreAtLeast (gap_terms d).low e → LowsAtLeast d e
+pub all_at_least : (d : PlainHull) (e : ℕ) → AreAtLeast (gap_terms d).low e → LowsAtLeast d e
 unfolding AreAtLeast gap_terms
 all_at_least d e h = from_seven (λ c z. pos (c * (e * e)) ≤ℤ z) (gap_low d) (λ n. refl) h
 
-pub all_at_most : (d : Axes) (e : ℕ) → AreAtMost (gap_terms d).high e → HighsAtMost d e
+pub all_at_most : (d : PlainHull) (e : ℕ) → AreAtMost (gap_terms d).high e → HighsAtMost d e
 unfolding AreAtMost gap_terms
 all_at_most d e h = from_seven (λ c z. z ≤ℤ pos (c * (e * e))) (gap_high d) (λ n. refl) h
 
-pub are_above_from : (d : Axes) (e : ℕ) → LowsAbove d e → AreAbove (gap_terms d).low e
+pub are_above_from : (d : PlainHull) (e : ℕ) → LowsAbove d e → AreAbove (gap_terms d).low e
 unfolding AreAbove gap_terms
 are_above_from d e h = first_seven (λ c z. pos (c * (e * e)) <ℤ z) (gap_low d) h
 
-pub are_at_least_from : (d : Axes) (e : ℕ) → LowsAtLeast d e → AreAtLeast (gap_terms d).low e
+pub are_at_least_from : (d : PlainHull) (e : ℕ) → LowsAtLeast d e → AreAtLeast (gap_terms d).low e
 unfolding AreAtLeast gap_terms
 are_at_least_from d e h = first_seven (λ c z. pos (c * (e * e)) ≤ℤ z) (gap_low d) h
 
-pub are_at_most_from : (d : Axes) (e : ℕ) → HighsAtMost d e → AreAtMost (gap_terms d).high e
+pub are_at_most_from : (d : PlainHull) (e : ℕ) → HighsAtMost d e → AreAtMost (gap_terms d).high e
 unfolding AreAtMost gap_terms
 are_at_most_from d e h = first_seven (λ c z. z ≤ℤ pos (c * (e * e))) (gap_high d) h
 
 -- ---- a supported kind holds at each tick
 
 -- what is at least C(6,k) (e + 1)² exceeds C(6,k) e²
-above_next : (d : Axes) (e f : ℕ) → f ≡ e + 1 → LowsAtLeast d f → LowsAbove d e
+above_next : (d : PlainHull) (e f : ℕ) → f ≡ e + 1 → LowsAtLeast d f → LowsAbove d e
 above_next d e f eq h k = step (choose6 k) e f (gap_low d k) (choose6-bounds k).0 eq (h k)
   where
     more : (c e : ℕ) → 0 < c → c * (e * e) < c * ((e + 1) * (e + 1))
@@ -71,30 +71,30 @@ supported_holds a b thr first last kinds.Undecided big oa ob s m p q =
     }
 
 -- the same of a test that was true of a gap
-pub law_of : (g : Terms) (thr : ℕ) (kind : Kind) (a b : Curve) (first last : ℕ) → 10 ^ 9 ≤ thr → IsGapOver g a b first last
+pub law_of : (g : PlainGap) (thr : ℕ) (kind : Kind) (a b : Curve) (first last : ℕ) → 10 ^ 9 ≤ thr → IsGapOver g a b first last
     → supported g thr kind ≡ true → HoldsThroughout kind a b thr first last
 law_of g thr kind a b first last big of_hulls t =
     supported_holds a b thr first last kind big of_hulls.a_over of_hulls.b_over
-    ((decides_supports (gap_terms (hull_gap a b first last)) thr kind).0 (subst (λ (x : Terms). supported x thr kind ≡ true) of_hulls.terms t))
+    ((decides_supports (gap_terms (hull_gap a b first last)) thr kind).0 (subst (λ (x : PlainGap). supported x thr kind ≡ true) of_hulls.terms t))
 
 -- the answer of a test of support is exact
-pub exact_of : (r : Bool) (g : Terms) (thr : ℕ) (kind : Kind) → r ≡ supported g thr kind → (IsTrue r ↔ Supports g thr kind)
+pub exact_of : (r : Bool) (g : PlainGap) (thr : ℕ) (kind : Kind) → r ≡ supported g thr kind → (IsTrue r ↔ Supports g thr kind)
 exact_of r g thr kind e = subst (λ (x : Bool). IsTrue x ↔ Supports g thr kind) (sym e) (decides_supports g thr kind)
 
 -- ---- which verdict comes when
 
-pub far_verdict : (g : Terms) (thr : ℕ) → supported g thr kinds.Far ≡ true → verdicts.Far ≡ verdict_of g thr
+pub far_verdict : (g : PlainGap) (thr : ℕ) → supported g thr kinds.Far ≡ true → verdicts.Far ≡ verdict_of g thr
 unfolding verdict_of
 far_verdict g thr f = rw f refl
 
-pub near_verdict : (g : Terms) (thr : ℕ) → supported g thr kinds.Far ≡ false → supported g thr kinds.Near ≡ true → verdicts.Near ≡ verdict_of g thr
+pub near_verdict : (g : PlainGap) (thr : ℕ) → supported g thr kinds.Far ≡ false → supported g thr kinds.Near ≡ true → verdicts.Near ≡ verdict_of g thr
 unfolding verdict_of
 near_verdict g thr f n = rw (f, n) refl
 
-pub undecided_verdict : (g : Terms) (thr : ℕ) → supported g thr kinds.Far ≡ false → supported g thr kinds.Near ≡ false → supported g thr kinds.Undecided ≡ true → verdicts.Undecided ≡ verdict_of g thr
+pub undecided_verdict : (g : PlainGap) (thr : ℕ) → supported g thr kinds.Far ≡ false → supported g thr kinds.Near ≡ false → supported g thr kinds.Undecided ≡ true → verdicts.Undecided ≡ verdict_of g thr
 unfolding verdict_of
 undecided_verdict g thr f n u = rw (f, n, u) refl
 
-pub split_verdict : (g : Terms) (thr : ℕ) → supported g thr kinds.Far ≡ false → supported g thr kinds.Near ≡ false → supported g thr kinds.Undecided ≡ false → verdicts.Split ≡ verdict_of g thr
+pub split_verdict : (g : PlainGap) (thr : ℕ) → supported g thr kinds.Far ≡ false → supported g thr kinds.Near ≡ false → supported g thr kinds.Undecided ≡ false → verdicts.Split ≡ verdict_of g thr
 unfolding verdict_of
 split_verdict g thr f n u = rw (f, n, u) refl

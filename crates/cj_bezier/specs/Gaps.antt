@@ -4,7 +4,7 @@ use Rattle.cj_interval.specs.declared.span.Span.{Span}
 use Rattle.cj_interval.specs.Spans.{least, greatest}
 use Rattle.cj_hermite.specs.declared.box3.Box3.{Box3}
 use Rattle.cj_hermite.specs.Interpolant.{Four, Curve, IsOver}
-use Rattle.cj_bezier.specs.Hulls.{Ends, Axes, hull_axes, lows, highs}
+use Rattle.cj_bezier.specs.Hulls.{Ends, PlainHull, hull_axes, lows, highs}
 
 -- value n of four, the last for each further n
 abbrev pub value_at : Four → ℕ → ℤ
@@ -32,11 +32,11 @@ abbrev pub apart : Ends → Ends → Ends
 apart a b = record { low = less a.low b.high; high = less a.high b.low }
 
 -- the differences on each axis
-unfoldable pub apart_axes : Axes → Axes → Axes
+unfoldable pub apart_axes : PlainHull → PlainHull → PlainHull
 apart_axes a b = record { x = apart a.x b.x; y = apart a.y b.y; z = apart a.z b.z }
 
 -- the hull of one interpolant less that of another, over the ticks from first to last
-abbrev pub hull_gap : Curve → Curve → ℕ → ℕ → Axes
+abbrev pub hull_gap : Curve → Curve → ℕ → ℕ → PlainHull
 hull_gap a b first last = apart_axes (hull_axes a first last) (hull_axes b first last)
 
 -- the lower end of the product of spans i and j: the least of the four products of ends
@@ -48,27 +48,27 @@ abbrev pub product_high : Ends → ℕ → ℕ → ℤ
 product_high e i j = greatest (value_at e.low i *ℤ value_at e.low j) (value_at e.low i *ℤ value_at e.high j) (value_at e.high i *ℤ value_at e.low j) (value_at e.high i *ℤ value_at e.high j)
 
 -- the lower end of coefficient k of a gap, summed over the axes
-abbrev pub gap_low : Axes → ℕ → ℤ
+abbrev pub gap_low : PlainHull → ℕ → ℤ
 gap_low d k = coefficient (λ i j. product_low d.x i j +ℤ product_low d.y i j +ℤ product_low d.z i j) k
 
 -- the upper end
-abbrev pub gap_high : Axes → ℕ → ℤ
+abbrev pub gap_high : PlainHull → ℕ → ℤ
 gap_high d k = coefficient (λ i j. product_high d.x i j +ℤ product_high d.y i j +ℤ product_high d.z i j) k
 
 -- the ends of the seven coefficients of a gap
-pub record Terms : Type 0 where
+pub record PlainGap : Type 0 where
   pub low : List ℤ
   pub high : List ℤ
 
 -- the gap of four spans on each axis: those of a difference, or those of one hull for the gap against the origin
-unfoldable pub gap_terms : Axes → Terms
+unfoldable pub gap_terms : PlainHull → PlainGap
 gap_terms d = record {
   low = gap_low d 0 ∷ gap_low d 1 ∷ gap_low d 2 ∷ gap_low d 3 ∷ gap_low d 4 ∷ gap_low d 5 ∷ gap_low d 6 ∷ [];
   high = gap_high d 0 ∷ gap_high d 1 ∷ gap_high d 2 ∷ gap_high d 3 ∷ gap_high d 4 ∷ gap_high d 5 ∷ gap_high d 6 ∷ [];
 }
 
 -- g is the gap of the hulls of two interpolants over the ticks from first to last
-pub record IsGapOver (g : Terms) (a b : Curve) (first last : ℕ) : Type 0 where
+pub record IsGapOver (g : PlainGap) (a b : Curve) (first last : ℕ) : Type 0 where
   pub some : first ≤ last
   pub a_over : IsOver a first last
   pub b_over : IsOver b first last
@@ -77,7 +77,7 @@ pub record IsGapOver (g : Terms) (a b : Curve) (first last : ℕ) : Type 0 where
 -- ---- the same of spans and boxes
 
 -- the ends of a list of spans
-abbrev pub terms_of : List Span → Terms
+abbrev pub terms_of : List Span → PlainGap
 terms_of xs = record { low = lows xs; high = highs xs }
 
 -- the lower end of the product of two spans

@@ -13,7 +13,7 @@ pub record Ends : Type 0 where
   pub high : Four
 
 -- four spans on each axis
-pub record Axes : Type 0 where
+pub record PlainHull : Type 0 where
   pub x : Ends
   pub y : Ends
   pub z : Ends
@@ -32,7 +32,7 @@ abbrev pub hull_ends : Four → ℕ → ℕ → ℕ → Ends
 hull_ends k t a b = record { low = hull_four floor_div k t a b; high = hull_four ceil_div k t a b }
 
 -- the hull of an interpolant over the ticks from first to last
-unfoldable pub hull_axes : Curve → ℕ → ℕ → Axes
+unfoldable pub hull_axes : Curve → ℕ → ℕ → PlainHull
 hull_axes c first last = record {
   x = hull_ends c.x c.span (first - c.start) (last - c.start);
   y = hull_ends c.y c.span (first - c.start) (last - c.start);
@@ -44,7 +44,7 @@ pub record EnclosesAxis (e : Ends) (k : Four) (t u : ℕ) : Type 0 where
   pub place : IsIn (least e.low.k0 e.low.k1 e.low.k2 e.low.k3 *ℤ pos (place_denominator t)) (greatest e.high.k0 e.high.k1 e.high.k2 e.high.k3 *ℤ pos (place_denominator t)) (place_numerator k t u)
 
 -- the exact place at tick m lies between the least lower and the greatest upper end on each axis
-pub record Encloses (h : Axes) (c : Curve) (m : ℕ) : Type 0 where
+pub record Encloses (h : PlainHull) (c : Curve) (m : ℕ) : Type 0 where
   pub x : EnclosesAxis h.x c.x c.span (m - c.start)
   pub y : EnclosesAxis h.y c.y c.span (m - c.start)
   pub z : EnclosesAxis h.z c.z c.span (m - c.start)
@@ -64,7 +64,7 @@ abbrev pub ends_of : List Span → Ends
 ends_of xs = record { low = four_of (lows xs); high = four_of (highs xs) }
 
 -- the ends of four boxes on each axis
-unfoldable pub axes_of : List Box3 → Axes
+unfoldable pub axes_of : List Box3 → PlainHull
 axes_of bs = record {
   x = ends_of (map (λ b. b.x) bs);
   y = ends_of (map (λ b. b.y) bs);

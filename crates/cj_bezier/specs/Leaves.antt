@@ -1,18 +1,18 @@
 -- Leaves as plain facts: stretches of time of a pair, each with what it was found to be.
-use Rattle.std.specs.Prelude.{ℕ, List, map}
+use Rattle.std.specs.Prelude.{◌≡◌, ℕ, ◌≤◌, List, map}
 use Rattle.cj_bezier.specs.declared.kind.Kind.{Kind}
 use Rattle.cj_bezier.specs.declared.leaf.Leaf.{Leaf}
 
 -- the ticks from first to last of the objects a and b, numbered from 0
-pub record Stretch : Type 0 where
+pub record PlainLeaf : Type 0 where
   pub a : ℕ
   pub b : ℕ
   pub first : ℕ
   pub last : ℕ
   pub kind : Kind
 
-abbrev pub stretch_of : Leaf → Stretch
-stretch_of leaf = record {
+abbrev pub plain_leaf : Leaf → PlainLeaf
+plain_leaf leaf = record {
   a = leaf.cell.pair.a;
   b = leaf.cell.pair.b;
   first = leaf.cell.first.micros;
@@ -20,5 +20,23 @@ stretch_of leaf = record {
   kind = leaf.kind;
 }
 
-abbrev pub stretches_of : List Leaf → List Stretch
-stretches_of leaves = map stretch_of leaves
+abbrev pub plain_leaves : List Leaf → List PlainLeaf
+plain_leaves leaves = map plain_leaf leaves
+
+-- the tick is one of the stretch's, which is of the objects a and b
+pub record IsTickOf (a b m : ℕ) (s : PlainLeaf) : Type 0 where
+  pub first_object : s.a ≡ a
+  pub second_object : s.b ≡ b
+  pub from : s.first ≤ m
+  pub to : m ≤ s.last
+
+-- the stretch is of this kind, and the tick is one of its own
+pub record Covers (kind : Kind) (tick : ℕ) (s : PlainLeaf) : Type 0 where
+  pub same : s.kind ≡ kind
+  pub from : s.first ≤ tick
+  pub to : tick ≤ s.last
+
+-- the tick lies in this stretch, which is of this kind and of the objects a and b
+pub record LiesIn (kind : Kind) (a b tick : ℕ) (s : PlainLeaf) : Type 0 where
+  pub objects : (s.a ≡ a) × (s.b ≡ b)
+  pub covered : Covers kind tick s

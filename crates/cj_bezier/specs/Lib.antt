@@ -1,11 +1,16 @@
+pub mod Cells
+pub mod Enclosed
 pub mod Gaps
+pub mod Halving
 pub mod Hulls
 pub mod Leaves
-pub mod OneTick
+pub mod Looked
 pub mod Order
 pub mod Parts
+pub mod RootLeaves
 pub mod Shells
 pub mod Sizes
 pub mod SlotBoxes
 pub mod Squares
+pub mod Tiles
 pub mod Verdicts

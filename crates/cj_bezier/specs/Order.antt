@@ -1,17 +1,17 @@
 -- Stretches in order of pair and time.
 use Rattle.std.specs.Prelude.{◌≡◌, ◌<◌, ◌≤◌, List, All, AllPairs}
-use Rattle.cj_bezier.specs.Leaves.{Stretch}
+use Rattle.cj_bezier.specs.Leaves.{PlainLeaf}
 
 -- s lies before t: in an earlier pair, or in the same pair at earlier ticks
-pub record IsBefore (s t : Stretch) : Type 0 where
+pub record IsBefore (s t : PlainLeaf) : Type 0 where
   pub first_object : s.a ≤ t.a
   pub second_object : s.a ≡ t.a → s.b ≤ t.b
   pub ticks : s.a ≡ t.a → s.b ≡ t.b → s.last < t.first
 
 -- each stretch lies before all later ones, so that no two overlap
-abbrev pub AreInOrder : List Stretch → Type 0
+abbrev pub AreInOrder : List PlainLeaf → Type 0
 AreInOrder ss = AllPairs IsBefore ss
 
 -- each stretch has a tick
-abbrev pub HaveTicks : List Stretch → Type 0
+abbrev pub HaveTicks : List PlainLeaf → Type 0
 HaveTicks ss = All (λ s. s.first ≤ s.last) ss

@@ -1,26 +1,25 @@
 -- Parts: the runs of ticks, from one tick to another, in which each interval of an ephemeris is used, and their hulls.
-use Rattle.std.specs.Prelude.{◌≡◌, ◌≢◌, ℕ, ◌+◌, ◌-◌, ◌<◌, ◌≤◌, ◌↔◌, ◌⊎◌, ◌==◌, Bool, false, List, [], ◌∷◌, filter, Option, Some, None, slice_get}
+use Rattle.std.specs.Prelude.{◌≡◌, ℕ, ◌+◌, ◌-◌, ◌<◌, ◌≤◌, ◌↔◌, ◌==◌, Bool, false, List, [], ◌∷◌, filter, Option, Some, None, slice_get, IfSome}
 use Rattle.std.specs.List.{enumerate_from, flat_map, range_with_len}
-use Rattle.cj_oem.specs.Ephemeris.{Ephemeris}
-use Rattle.cj_hermite.specs.Interpolant.{Curve, IsOver}
-use Rattle.cj_hermite.specs.Pieces.{Interval, intervals_of, interval_index_at, curve_of_interval}
-use Rattle.cj_bezier.specs.Hulls.{Axes, hull_axes}
+use Rattle.cj_track.specs.PlainTracks.{PlainTrack}
+use Rattle.cj_hermite.specs.Pieces.{PlainPiece, intervals_of, interval_at, interval_index_at, curve_of_interval}
+use Rattle.cj_bezier.specs.Hulls.{PlainHull, hull_axes}
 
 -- a tick from `from` to `to` at which the interval with this number is the one to be used
-pub record IsUsed (e : Ephemeris) (from to index m : ℕ) : Type 0 where
+pub record IsUsed (e : PlainTrack) (from to index m : ℕ) : Type 0 where
   pub after : from ≤ m
   pub before : m ≤ to
   pub here : interval_index_at e m ≡ Some index
 
 -- the interval with this number, and the run of the ticks from `from` to `to` at which it is used: there is one
-pub record IsPart (e : Ephemeris) (from to index : ℕ) (x : Interval) (first last : ℕ) : Type 0 where
+pub record IsPart (e : PlainTrack) (from to index : ℕ) (x : PlainPiece) (first last : ℕ) : Type 0 where
   pub interval : slice_get (intervals_of e) index ≡ Some x
   pub some : first ≤ last
   pub ticks : (m : ℕ) → (first ≤ m × m ≤ last) ↔ IsUsed e from to index m
 
 -- this holds of the hull of each part
-abbrev pub OfEachHull : Ephemeris → ℕ → ℕ → (Axes → Type 0) → Type 0
-OfEachHull e from to P = (index first last : ℕ) (x : Interval) → IsPart e from to index x first last → P (hull_axes (curve_of_interval x) first last)
+abbrev pub OfEachHull : PlainTrack → ℕ → ℕ → (PlainHull → Type 0) → Type 0
+OfEachHull e from to P = (index first last : ℕ) (x : PlainPiece) → IsPart e from to index x first last → P (hull_axes (curve_of_interval x) first last)
 
 -- ---- the same as a list
 
@@ -30,7 +29,7 @@ is_number index None = false
 is_number index (Some i) = i == index
 
 -- the ticks from `from` to `to` at which the interval with this number is used
-abbrev pub ticks_used : Ephemeris → ℕ → ℕ → ℕ → List ℕ
+abbrev pub ticks_used : PlainTrack → ℕ → ℕ → ℕ → List ℕ
 ticks_used e from to index = filter (λ m. is_number index (interval_index_at e m)) (range_with_len from (to + 1 - from))
 
 -- the last of these ticks
@@ -39,53 +38,34 @@ last_tick m [] = m
 last_tick m (n ∷ ms) = last_tick n ms
 
 -- the hull of an interval over the first to the last of these ticks, if there is one
-abbrev pub hull_over : Interval → List ℕ → List Axes
+abbrev pub hull_over : PlainPiece → List ℕ → List PlainHull
 hull_over x [] = []
 hull_over x (m ∷ ms) = hull_axes (curve_of_interval x) m (last_tick m ms) ∷ []
 
 -- the hulls of the parts, in order of their intervals
-unfoldable pub hulls_of : Ephemeris → ℕ → ℕ → List Axes
+unfoldable pub hulls_of : PlainTrack → ℕ → ℕ → List PlainHull
 hulls_of e from to = flat_map (λ part. hull_over part.1 (ticks_used e from to part.0)) (enumerate_from 0 (intervals_of e))
 
 -- ---- part by part
 
 -- the interval with this number has a part
-pub record HasPart (e : Ephemeris) (from to index : ℕ) : Type 0 where
-  pub interval : Interval
+pub record HasPart (e : PlainTrack) (from to index : ℕ) : Type 0 where
+  pub interval : PlainPiece
   pub first : ℕ
   pub last : ℕ
   pub part : IsPart e from to index interval first last
 
 -- each interval that is used between two ticks has a part
-abbrev pub HaveParts : Ephemeris → ℕ → ℕ → ℕ → ℕ → Type 0
+abbrev pub HaveParts : PlainTrack → ℕ → ℕ → ℕ → ℕ → Type 0
 HaveParts e from to after upto = (m index : ℕ) → after ≤ m → m ≤ upto → interval_index_at e m ≡ Some index → HasPart e from to index
 
--- the hull of a part
-pub record IsHullOfPart (e : Ephemeris) (from to : ℕ) (h : Axes) : Type 0 where
-  pub index : ℕ
-  pub interval : Interval
-  pub first : ℕ
-  pub last : ℕ
-  pub part : IsPart e from to index interval first last
-  pub hull : h ≡ hull_axes (curve_of_interval interval) first last
+-- ---- in time
 
--- the hull of an interpolant over ticks round this one
-pub record IsHullRound (h : Axes) (c : Curve) (m : ℕ) : Type 0 where
-  pub first : ℕ
-  pub last : ℕ
-  pub over : IsOver c first last
-  pub hull : h ≡ hull_axes c first last
-  pub after : first ≤ m
-  pub before : m ≤ last
+-- the states of the interval at tick m rise in time, and no later tick has an earlier interval
+pub record IsInTime (e : PlainTrack) (m : ℕ) : Type 0 where
+  pub rises : IfSome (interval_at e m) (λ x. x.from.at < x.to.at)
+  pub later : (n i j : ℕ) → m ≤ n → interval_index_at e m ≡ Some i → interval_index_at e n ≡ Some j → i ≤ j
 
--- no interval is used both before a tick, from `from` on, and at that tick or later
-abbrev pub IsSplitAt : Ephemeris → ℕ → ℕ → Type 0
-IsSplitAt e from at = (m n index : ℕ) → from ≤ m → m < at → at ≤ n → interval_index_at e m ≡ Some index → interval_index_at e n ≢ Some index
-
--- each part up to a tick is one up to an earlier tick, or has this hull
-abbrev pub IsOneMore : Ephemeris → ℕ → ℕ → ℕ → Axes → Type 0
-IsOneMore e from before to h = (index first last : ℕ) (x : Interval) → IsPart e from to index x first last → IsPart e from before index x first last ⊎ (hull_axes (curve_of_interval x) first last ≡ h)
-
--- each part up to a tick is one up to an earlier tick
-abbrev pub IsNoMore : Ephemeris → ℕ → ℕ → ℕ → Type 0
-IsNoMore e from before to = (index first last : ℕ) (x : Interval) → IsPart e from to index x first last → IsPart e from before index x first last
+-- at each tick from one to another
+abbrev pub AreInTime : PlainTrack → ℕ → ℕ → Type 0
+AreInTime e from to = (m : ℕ) → from ≤ m → m ≤ to → IsInTime e m

@@ -1,20 +1,20 @@
 -- Shells: between which distances from the origin an interpolant stays.
 use Rattle.std.specs.Prelude.{◌≡◌, ℕ, zero, suc, ◌+◌, ◌-◌, ◌*◌, ◌<◌, ◌≤◌, ◌⊎◌, ◌==◌, min, max, nat_lt, Bool, false, ◌||◌, not, if◌then◌else◌, ℤ, pos, ◌+ℤ◌, ◌*ℤ◌, ◌≤ℤ◌, List, [], ◌∷◌, Option, Some, None, option_and_then, slice_get}
 use Rattle.std.specs.List.{list_all}
-use Rattle.cj_oem.specs.Ephemeris.{Ephemeris}
+use Rattle.cj_track.specs.PlainTracks.{PlainTrack}
 use Rattle.cj_hermite.specs.Interpolant.{Curve, place_numerator, place_denominator}
 use Rattle.cj_bezier.specs.declared.shells.Shell.{Shell}
-use Rattle.cj_bezier.specs.Gaps.{Terms, gap_terms}
-use Rattle.cj_bezier.specs.Hulls.{Axes}
+use Rattle.cj_bezier.specs.Gaps.{PlainGap, gap_terms}
+use Rattle.cj_bezier.specs.Hulls.{PlainHull}
 use Rattle.cj_bezier.specs.Parts.{OfEachHull, hulls_of}
 use Rattle.cj_bezier.specs.Verdicts.{AreAtLeast, AreAtMost, are_at_least, are_at_most}
 
 -- r may be the lower end of a shell: it is 0, or each lower end of the gap against the origin is at least C(6,k) r²
-abbrev pub IsInner : Terms → ℕ → Type 0
+abbrev pub IsInner : PlainGap → ℕ → Type 0
 IsInner g r = (r ≡ 0) ⊎ AreAtLeast g.low r
 
 -- r may be the upper end: each upper end of the gap is at most C(6,k) r²
-abbrev pub IsOuter : Terms → ℕ → Type 0
+abbrev pub IsOuter : PlainGap → ℕ → Type 0
 IsOuter g r = AreAtMost g.high r
 
 -- the square of the distance from the origin at tick m, times the square of the denominator
@@ -32,7 +32,7 @@ pub record IsRadiusWithin (c : Curve) (m lo hi : ℕ) : Type 0 where
   pub most : square_radius c m ≤ℤ pos (hi * hi * (place_denominator c.span * place_denominator c.span))
 
 -- the shell of an ephemeris from one tick to another: the greatest inner and the least outer radius that the hulls of its parts show
-pub record IsShellOf (e : Ephemeris) (from to : ℕ) (shell : Shell) : Type 0 where
+pub record IsShellOf (e : PlainTrack) (from to : ℕ) (shell : Shell) : Type 0 where
   pub inner : OfEachHull e from to (λ h. IsInner (gap_terms h) shell.lo)
   pub greatest : (r : ℕ) → OfEachHull e from to (λ h. IsInner (gap_terms h) r) → r ≤ shell.lo
   pub outer : OfEachHull e from to (λ h. IsOuter (gap_terms h) shell.hi)
@@ -54,19 +54,19 @@ unfoldable pub least_from : ℕ → ℕ → (ℕ → Bool) → ℕ
 least_from zero r test = r
 least_from (suc n) r test = if test r then r else least_from n (r + 1) test
 
-abbrev pub is_inner : List Axes → ℕ → Bool
+abbrev pub is_inner : List PlainHull → ℕ → Bool
 is_inner hs r = (r == 0) || list_all (λ h. are_at_least (gap_terms h).low r) hs
 
-abbrev pub is_outer : List Axes → ℕ → Bool
+abbrev pub is_outer : List PlainHull → ℕ → Bool
 is_outer hs r = list_all (λ h. are_at_most (gap_terms h).high r) hs
 
 -- the shell round hulls, where there are any
-unfoldable pub shell_round : List Axes → Option Shell
+unfoldable pub shell_round : List PlainHull → Option Shell
 shell_round [] = None
 shell_round (h ∷ hs) = Some (record { lo = greatest_to MAX_RADIUS (is_inner (h ∷ hs)); hi = least_from MAX_RADIUS 0 (is_outer (h ∷ hs)) })
 
 -- the shell of an ephemeris from one tick to another, where it has a state
-abbrev pub shell_of : Ephemeris → ℕ → ℕ → Option Shell
+abbrev pub shell_of : PlainTrack → ℕ → ℕ → Option Shell
 shell_of e from to = shell_round (hulls_of e from to)
 
 -- ---- two shells

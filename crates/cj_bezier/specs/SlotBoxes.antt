@@ -2,11 +2,11 @@
 use Rattle.std.specs.Prelude.{ℕ, ◌-◌, Bool, false, ◌&&◌, ℤ, pos, ◌+ℤ◌, ◌*ℤ◌, ◌≤ℤ◌, int_le, List, [], ◌∷◌, map, Option, Some, None, option_map, option_and_then, slice_get}
 use Rattle.std.specs.Int.{int_min, int_max}
 use Rattle.std.specs.List.{fold}
-use Rattle.cj_oem.specs.Ephemeris.{Ephemeris}
+use Rattle.cj_track.specs.PlainTracks.{PlainTrack}
 use Rattle.cj_interval.specs.Spans.{IsIn, least, greatest}
 use Rattle.cj_hermite.specs.Interpolant.{Four, Curve, place_numerator, place_denominator}
 use Rattle.cj_bezier.specs.declared.axis_box.AxisBox.{AxisBox}
-use Rattle.cj_bezier.specs.Hulls.{Axes, Ends}
+use Rattle.cj_bezier.specs.Hulls.{PlainHull, Ends}
 use Rattle.cj_bezier.specs.Parts.{OfEachHull, hulls_of}
 
 -- v is at most each of four values
@@ -24,14 +24,14 @@ pub record IsAtLeastEach (v : ℤ) (k : Four) : Type 0 where
   pub k3 : k.k3 ≤ℤ v
 
 -- how far the hulls of the parts of an ephemeris reach on an axis, from one tick to another
-pub record IsExtent (e : Ephemeris) (from to : ℕ) (axis : Axes → Ends) (least most : ℤ) : Type 0 where
+pub record IsExtent (e : PlainTrack) (from to : ℕ) (axis : PlainHull → Ends) (least most : ℤ) : Type 0 where
   pub low : OfEachHull e from to (λ h. IsAtMostEach least (axis h).low)
   pub greatest : (v : ℤ) → OfEachHull e from to (λ h. IsAtMostEach v (axis h).low) → v ≤ℤ least
   pub high : OfEachHull e from to (λ h. IsAtLeastEach most (axis h).high)
   pub smallest : (v : ℤ) → OfEachHull e from to (λ h. IsAtLeastEach v (axis h).high) → most ≤ℤ v
 
 -- the smallest box round the hulls of the parts of an ephemeris
-pub record IsBoxOf (e : Ephemeris) (from to : ℕ) (box : AxisBox) : Type 0 where
+pub record IsBoxOf (e : PlainTrack) (from to : ℕ) (box : AxisBox) : Type 0 where
   pub x : IsExtent e from to (λ h. h.x) box.least.x box.most.x
   pub y : IsExtent e from to (λ h. h.y) box.least.y box.most.y
   pub z : IsExtent e from to (λ h. h.z) box.least.z box.most.z
@@ -44,7 +44,7 @@ pub record Reach : Type 0 where
   pub most : ℤ
 
 -- how far something reaches on each axis
-pub record Reaches : Type 0 where
+pub record PlainBox : Type 0 where
   pub x : Reach
   pub y : Reach
   pub z : Reach
@@ -56,24 +56,24 @@ abbrev pub greatest_four : Four → ℤ
 greatest_four k = greatest k.k0 k.k1 k.k2 k.k3
 
 -- how far hulls reach on an axis, the first of them and the others
-abbrev pub reach_on : (Axes → Ends) → Axes → List Axes → Reach
+abbrev pub reach_on : (PlainHull → Ends) → PlainHull → List PlainHull → Reach
 reach_on axis h hs = record {
   least = fold int_min (least_four (axis h).low) (map (λ g. least_four (axis g).low) hs);
   most = fold int_max (greatest_four (axis h).high) (map (λ g. greatest_four (axis g).high) hs);
 }
 
 -- how far hulls reach, where there are any
-unfoldable pub reaches_round : List Axes → Option Reaches
+unfoldable pub reaches_round : List PlainHull → Option PlainBox
 reaches_round [] = None
 reaches_round (h ∷ hs) = Some (record { x = reach_on (λ g. g.x) h hs; y = reach_on (λ g. g.y) h hs; z = reach_on (λ g. g.z) h hs })
 
 -- the smallest box round the hulls of the parts of an ephemeris, where it has a state
-abbrev pub box_of : Ephemeris → ℕ → ℕ → Option Reaches
+abbrev pub box_of : PlainTrack → ℕ → ℕ → Option PlainBox
 box_of e from to = reaches_round (hulls_of e from to)
 
 -- how far a box reaches
-abbrev pub reaches_of : AxisBox → Reaches
-reaches_of box = record {
+abbrev pub plain_box : AxisBox → PlainBox
+plain_box box = record {
   x = record { least = box.least.x; most = box.most.x };
   y = record { least = box.least.y; most = box.most.y };
   z = record { least = box.least.z; most = box.most.z };
@@ -82,7 +82,7 @@ reaches_of box = record {
 -- ---- places
 
 -- the exact place at tick m lies within these reaches
-pub record IsPlaceIn (c : Curve) (m : ℕ) (r : Reaches) : Type 0 where
+pub record IsPlaceIn (c : Curve) (m : ℕ) (r : PlainBox) : Type 0 where
   pub x : IsIn (r.x.least *ℤ pos (place_denominator c.span)) (r.x.most *ℤ pos (place_denominator c.span)) (place_numerator c.x c.span (m - c.start))
   pub y : IsIn (r.y.least *ℤ pos (place_denominator c.span)) (r.y.most *ℤ pos (place_denominator c.span)) (place_numerator c.y c.span (m - c.start))
   pub z : IsIn (r.z.least *ℤ pos (place_denominator c.span)) (r.z.most *ℤ pos (place_denominator c.span)) (place_numerator c.z c.span (m - c.start))
@@ -94,26 +94,26 @@ abbrev pub reach_touches : ℕ → Reach → Reach → Bool
 reach_touches thr a b = int_le a.least (b.most +ℤ pos thr) && int_le b.least (a.most +ℤ pos thr)
 
 -- apart by at most a threshold on each axis
-abbrev pub reaches_touch : ℕ → Reaches → Reaches → Bool
+abbrev pub reaches_touch : ℕ → PlainBox → PlainBox → Bool
 reaches_touch thr a b = reach_touches thr a.x b.x && reach_touches thr a.y b.y && reach_touches thr a.z b.z
 
 abbrev pub are_touching : ℕ → AxisBox → AxisBox → Bool
-are_touching thr a b = reaches_touch thr (reaches_of a) (reaches_of b)
+are_touching thr a b = reaches_touch thr (plain_box a) (plain_box b)
 
 -- both objects have a box, and these touch
-abbrev pub both_touch : ℕ → Option Reaches → Option Reaches → Bool
+abbrev pub both_touch : ℕ → Option PlainBox → Option PlainBox → Bool
 both_touch thr None b = false
 both_touch thr (Some a) None = false
 both_touch thr (Some a) (Some b) = reaches_touch thr a b
 
 -- the box of an object, where there is one
-abbrev pub reaches_in : List (Option Reaches) → ℕ → Option Reaches
+abbrev pub reaches_in : List (Option PlainBox) → ℕ → Option PlainBox
 reaches_in boxes object = option_and_then (λ box. box) (slice_get boxes object)
 
 -- whether a pair of objects with these boxes touches
-abbrev pub touch : ℕ → List (Option Reaches) → ℕ × ℕ → Bool
+abbrev pub touch : ℕ → List (Option PlainBox) → ℕ × ℕ → Bool
 touch thr boxes pair = both_touch thr (reaches_in boxes pair.0) (reaches_in boxes pair.1)
 
 -- how far the boxes of a list reach
-abbrev pub all_reaches : List (Option AxisBox) → List (Option Reaches)
-all_reaches boxes = map (option_map reaches_of) boxes
+abbrev pub plain_boxes : List (Option AxisBox) → List (Option PlainBox)
+plain_boxes boxes = map (option_map plain_box) boxes

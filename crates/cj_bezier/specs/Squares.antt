@@ -3,7 +3,7 @@ use Rattle.std.specs.Prelude.{ℕ, ℤ, pos, negsuc, List, [], ◌∷◌, slice_
 use Rattle.std.specs.Int.{int_min, int_max}
 use Rattle.std.specs.List.{fold}
 use Rattle.cj_interval.specs.Rounding.{floor_div, ceil_div}
-use Rattle.cj_bezier.specs.Gaps.{Terms}
+use Rattle.cj_bezier.specs.Gaps.{PlainGap}
 use Rattle.cj_bezier.specs.Verdicts.{choose6}
 
 -- a whole number, 0 where it is negative
@@ -28,9 +28,9 @@ unfoldable pub greatest_part : List ℤ → ℤ
 greatest_part ends = fold int_max (part_up ends 0) (part_up ends 1 ∷ part_up ends 2 ∷ part_up ends 3 ∷ part_up ends 4 ∷ part_up ends 5 ∷ part_up ends 6 ∷ [])
 
 -- a whole number that the squared distance is not below
-abbrev pub least_square : Terms → ℕ
+abbrev pub least_square : PlainGap → ℕ
 least_square g = from_zero (least_part g.low)
 
 -- a whole number that the squared distance does not exceed
-abbrev pub greatest_square : Terms → ℕ
+abbrev pub greatest_square : PlainGap → ℕ
 greatest_square g = from_zero (greatest_part g.high)

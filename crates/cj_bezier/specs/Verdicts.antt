@@ -7,7 +7,7 @@ use Rattle.cj_bezier.specs.declared.kind.Kind.{Kind}
 use Rattle.cj_bezier.specs.declared.kind.Kind.TheVariants as kinds
 use Rattle.cj_bezier.specs.declared.verdicts.Verdict.{Verdict}
 use Rattle.cj_bezier.specs.declared.verdicts.Verdict.TheVariants as verdicts
-use Rattle.cj_bezier.specs.Gaps.{Terms, gap_terms, hull_gap}
+use Rattle.cj_bezier.specs.Gaps.{PlainGap, gap_terms, hull_gap}
 
 -- C(6,k)
 abbrev pub choose6 : ℕ → ℕ
@@ -36,7 +36,7 @@ unfoldable pub AreAtMost : List ℤ → ℕ → Type 0
 AreAtMost ends e = (k : ℕ) → k < 7 → slice_index_or ends k (pos 0) ≤ℤ share e k
 
 -- the support of a kind: what the ends of a gap are to meet
-abbrev pub Supports : Terms → ℕ → Kind → Type 0
+abbrev pub Supports : PlainGap → ℕ → Kind → Type 0
 Supports g thr kinds.Far = AreAbove g.low thr
 Supports g thr kinds.Near = AreAtMost g.high thr
 Supports g thr kinds.Undecided = AreAtLeast g.low (thr - BAND) × AreAtMost g.high (thr + BAND)
@@ -57,13 +57,13 @@ unfoldable pub are_at_most : List ℤ → ℕ → Bool
 are_at_most ends e = list_all (λ k. int_le (slice_index_or ends k (pos 0)) (share e k)) SEVEN
 
 -- whether a kind is supported
-abbrev pub supported : Terms → ℕ → Kind → Bool
+abbrev pub supported : PlainGap → ℕ → Kind → Bool
 supported g thr kinds.Far = are_above g.low thr
 supported g thr kinds.Near = are_at_most g.high thr
 supported g thr kinds.Undecided = are_at_least g.low (thr - BAND) && are_at_most g.high (thr + BAND)
 
 -- the first supported of far, near and undecided, else split
-unfoldable pub verdict_of : Terms → ℕ → Verdict
+unfoldable pub verdict_of : PlainGap → ℕ → Verdict
 verdict_of g thr =
     if supported g thr kinds.Far then verdicts.Far
     else (if supported g thr kinds.Near then verdicts.Near

@@ -1,6 +1,6 @@
 ghost use Rattle.std.specs.Prelude.{◌≤ℤ◌};
 
-use cj_oem::Vec3;
+use cj_track::Vec3;
 
 /// A box along the axes, by its least and its greatest corner in nm.
 #[derive(Clone, Copy, Debug, PartialEq, Eq)]

@@ -1,4 +1,4 @@
-ghost use Rattle.std.specs.Prelude.{◌^◌};
+ghost use Rattle.std.specs.Prelude.{◌^◌, ◌-◌};
 ghost use Rattle.std.specs.List.{All};
 ghost use Rattle.cj_bezier.specs.Sizes.{HasEndsWithin};
 
@@ -8,5 +8,5 @@ use cj_interval::Span;
 #[derive(Clone, Copy, Debug, PartialEq, Eq)]
 pub struct Gap {
     pub terms: [Span; 7],
-    pub ghost within: { All (HasEndsWithin (2 ^ 126)) terms },
+    pub ghost within: { All (HasEndsWithin (2 ^ 126 - 1)) terms },
 }

@@ -3,39 +3,37 @@
 
 mod axis_box;
 mod cell;
-mod enclosing;
 mod encounter;
+mod gap_of_hulls;
 mod gaps;
+mod hull_of_piece;
 mod hulls;
-mod judging;
 mod kind;
 mod leaf;
-mod measuring;
-mod one_tick;
 mod part;
-mod parting;
+mod parts_in_order;
 mod products;
-mod ranging;
+mod radii;
 mod shells;
 mod squares;
+mod verdict_of_gap;
 mod verdicts;
 
 pub use axis_box::AxisBox;
 pub use cell::Cell;
-pub use enclosing::hull;
 pub use encounter::{Closest, Encounter, Mark};
+pub use gap_of_hulls::{gap, gap_origin};
 pub use gaps::Gap;
+pub use hull_of_piece::{hull, hull_ready};
 pub use hulls::Hull;
-pub use judging::{supports, verdict};
 pub use kind::Kind;
 pub use leaf::Leaf;
-pub use measuring::{gap, gap_origin};
-pub use one_tick::kind_at;
 pub use part::Part;
-pub use parting::next_part;
-pub use ranging::{join, radius};
+pub use parts_in_order::next_part;
+pub use radii::{join, radius};
 pub use shells::Shell;
 pub use squares::{greatest_square, least_square};
+pub use verdict_of_gap::{supports, verdict};
 pub use verdicts::Verdict;
 
 #[cfg(test)]

@@ -1,5 +1,6 @@
 //! Whole numbers between which a gap shows the squared distance to lie.
 ghost use Rattle.std.specs.Prelude.{◌≡◌, ◌<◌, ◌≤◌, ◌^◌, pos, slice_index_or};
+ghost use Rattle.std.specs.Int.{int_min, int_max};
 ghost use Rattle.cj_interval.specs.Rounding.{floor_div, ceil_div};
 ghost use Rattle.cj_interval.specs.Spans.{IsWithin};
 ghost use Rattle.cj_bezier.specs.Hulls.{lows, highs};
@@ -29,24 +30,46 @@ fn part_up(end: i128, choose: u8) -> i128
     -(-end).div_euclid(i128::from(choose))
 }
 
-/// The lower end of a coefficient, divided by C(6,k) and rounded down.
-fn lower_part(gap: &Gap, index: usize, choose: u8) -> i128
-    requires inside { index < 7 }
-    requires some { 0 < choose }
-    ensures value { result ≡ floor_div (slice_index_or (lows gap.now.terms) index (pos 0)) choose }
+/// The lesser of two lower ends.
+fn lesser(gap: &Gap, first: usize, second: usize) -> i128
+    requires first_inside { first < 7 }
+    requires second_inside { second < 7 }
+    ensures value { result ≡ int_min (slice_index_or (lows gap.now.terms) first (pos 0)) (slice_index_or (lows gap.now.terms) second (pos 0)) }
     ensures within { IsWithin (2 ^ 126) result }
 {
-    part_down(gap.terms[index].lo, choose)
+    gap.terms[first].lo.min(gap.terms[second].lo)
 }
 
-/// The upper end of a coefficient, divided by C(6,k) and rounded up.
-fn upper_part(gap: &Gap, index: usize, choose: u8) -> i128
-    requires inside { index < 7 }
-    requires some { 0 < choose }
-    ensures value { result ≡ ceil_div (slice_index_or (highs gap.now.terms) index (pos 0)) choose }
+/// The greater of two upper ends.
+fn greater(gap: &Gap, first: usize, second: usize) -> i128
+    requires first_inside { first < 7 }
+    requires second_inside { second < 7 }
+    ensures value { result ≡ int_max (slice_index_or (highs gap.now.terms) first (pos 0)) (slice_index_or (highs gap.now.terms) second (pos 0)) }
     ensures within { IsWithin (2 ^ 126) result }
 {
-    part_up(gap.terms[index].hi, choose)
+    gap.terms[first].hi.max(gap.terms[second].hi)
+}
+
+/// The lesser of two lower ends, divided by the C(6,k) of both and rounded down.
+fn lesser_part(gap: &Gap, first: usize, second: usize, choose: u8) -> i128
+    requires first_inside { first < 7 }
+    requires second_inside { second < 7 }
+    requires some { 0 < choose }
+    ensures value { result ≡ int_min (floor_div (slice_index_or (lows gap.now.terms) first (pos 0)) choose) (floor_div (slice_index_or (lows gap.now.terms) second (pos 0)) choose) }
+    ensures within { IsWithin (2 ^ 126) result }
+{
+    part_down(lesser(gap, first, second), choose)
+}
+
+/// The greater of two upper ends, divided by the C(6,k) of both and rounded up.
+fn greater_part(gap: &Gap, first: usize, second: usize, choose: u8) -> i128
+    requires first_inside { first < 7 }
+    requires second_inside { second < 7 }
+    requires some { 0 < choose }
+    ensures value { result ≡ int_max (ceil_div (slice_index_or (highs gap.now.terms) first (pos 0)) choose) (ceil_div (slice_index_or (highs gap.now.terms) second (pos 0)) choose) }
+    ensures within { IsWithin (2 ^ 126) result }
+{
+    part_up(greater(gap, first, second), choose)
 }
 
 /// A whole number, or 0 where it is negative.
@@ -65,13 +88,10 @@ pub fn least_square(gap: &Gap) -> u128
     ensures value { result ≡ least_square (terms_of gap.now.terms) }
     ensures within { result ≤ 2 ^ 126 }
 {
-    let least = lower_part(gap, 0, 1)
-        .min(lower_part(gap, 1, 6))
-        .min(lower_part(gap, 2, 15))
-        .min(lower_part(gap, 3, 20))
-        .min(lower_part(gap, 4, 15))
-        .min(lower_part(gap, 5, 6))
-        .min(lower_part(gap, 6, 1));
+    let least = lesser(gap, 0, 6)
+        .min(lesser_part(gap, 1, 5, 6))
+        .min(lesser_part(gap, 2, 4, 15))
+        .min(lesser_part(gap, 3, 3, 20));
     from_zero(least)
 }
 
@@ -82,12 +102,9 @@ pub fn greatest_square(gap: &Gap) -> u128
     ensures value { result ≡ greatest_square (terms_of gap.now.terms) }
     ensures within { result ≤ 2 ^ 126 }
 {
-    let greatest = upper_part(gap, 0, 1)
-        .max(upper_part(gap, 1, 6))
-        .max(upper_part(gap, 2, 15))
-        .max(upper_part(gap, 3, 20))
-        .max(upper_part(gap, 4, 15))
-        .max(upper_part(gap, 5, 6))
-        .max(upper_part(gap, 6, 1));
+    let greatest = greater(gap, 0, 6)
+        .max(greater_part(gap, 1, 5, 6))
+        .max(greater_part(gap, 2, 4, 15))
+        .max(greater_part(gap, 3, 3, 20));
     from_zero(greatest)
 }

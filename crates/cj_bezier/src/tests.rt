@@ -1,11 +1,11 @@
 ghost use Rattle.std.specs.Prelude.{◌≡◌, ◌+◌, ◌≤◌};
-ghost use Rattle.cj_oem.specs.Limits.{MAX_COORDINATE, MAX_RATE, IsWithin};
+ghost use Rattle.cj_track.specs.Limits.{MAX_COORDINATE, MAX_RATE, IsWithin};
 
 use super::*;
 use cj_epoch::Tick;
 use cj_hermite::Piece;
 use cj_interval::Span;
-use cj_oem::Vec3;
+use cj_track::Vec3;
 use std::test::Fail;
 
 /// Five kilometres.
