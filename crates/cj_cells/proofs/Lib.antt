@@ -1,13 +1,6 @@
-pub mod RunLemmas
-pub mod HalvingLemmas
-pub mod RootLemmas
-pub mod SumLemmas
-pub mod OrderLemmas
-pub mod StateLemmas
-pub mod JudgeLemmas
 pub mod LeafLemmas
-pub mod RefineLemmas
-pub mod TrackLemmas
-pub mod WalkLemmas
-pub mod SlotRootLemmas
 pub mod ListingLemmas
+pub mod OrderLemmas
+pub mod RefineLemmas
+pub mod SlotRootLemmas
+pub mod WalkLemmas

@@ -1,33 +1,33 @@
 -- The one-thread list, root by root and slot by slot.
-use Rattle.std.proofs.Common.{◌≡◌, ℕ, zero, suc, ◌+◌, ◌-◌, ◌<◌, ◌≤◌, Bool, true, List, [], ◌∷◌, ◌++◌, map, length, take, drop, get_or, refl, sym, ap, subst, ◌∙◌, arith, append_assoc, append-nil, length-append, length-take}
-use Rattle.std.specs.Prelude.{filter, All, Err, IsErrOf}
+use Rattle.std.proofs.Common.{◌≡◌, ℕ, zero, suc, ◌+◌, ◌-◌, ◌<◌, ◌≤◌, Bool, List, [], ◌∷◌, ◌++◌, length, take, drop, get_or, refl, sym, ap, subst, ◌∙◌, arith, append-nil, length-append}
+use Rattle.std.specs.Prelude.{All, Err, IsErrOf}
 use Rattle.std.specs.List.{flat_map, range_with_len}
 use Rattle.std.proofs.lemmas.List.{take_more, map_push, map-append, take-append-drop, drop_more}
 use Rattle.std.proofs.lemmas.List.Concat.{flat_map-append}
 use Rattle.std.proofs.lemmas.List.Elements.{All-push, All-same}
-use Rattle.cj_hermite.specs.Cases.{Case}
-use Rattle.cj_hermite.specs.declared.pair.Pair.{Pair}
+use Rattle.cj_hermite.specs.PlainProblems.{PlainProblem}
 use Rattle.cj_bezier.specs.declared.cell.Cell.{Cell}
 use Rattle.cj_bezier.specs.declared.leaf.Leaf.{Leaf}
-use Rattle.cj_bezier.specs.Leaves.{Stretch, stretch_of, stretches_of}
+use Rattle.cj_bezier.specs.Leaves.{PlainLeaf, plain_leaf, plain_leaves}
 use Rattle.cj_hermite.specs.Slots.{slot_count}
-use Rattle.cj_hermite.specs.Pairs.{objects_of, pairs_of}
-use Rattle.cj_cells.specs.Roots.{Root, KeepIntervals, slots_of, roots_in_slot, roots_of, roots_by_slot}
-use Rattle.cj_cells.specs.Looked.{is_looked, pairs_looked}
-use Rattle.cj_cells.specs.Cells.{root_of_cell, roots_in_cells, added_roots, added_stretches}
-use Rattle.cj_cells.specs.Lists.{leaves_of_root, leaves_of_roots}
+use Rattle.cj_hermite.specs.Roots.{PlainCell, KeepIntervals, roots_in_slot, roots_of, roots_by_slot}
+use Rattle.cj_bezier.specs.Looked.{is_looked, pairs_looked}
+use Rattle.cj_bezier.specs.Cells.{plain_cell, plain_cells}
+use Rattle.cj_cells.specs.Cells.{added_roots, added_stretches}
+use Rattle.cj_bezier.specs.RootLeaves.{leaves_of_root, leaves_of_roots}
 use Rattle.cj_interval.proofs.ListLemmas.{Each, Each-weaker, All-from_each, each_from_map}
 use Rattle.cj_hermite.proofs.PairLemmas.{range_more}
-use Rattle.cj_cells.proofs.RootLemmas.{IsRootOf, Each-roots}
-use Rattle.cj_cells.proofs.LeafLemmas.{root_intervals}
-use Rattle.cj_cells.proofs.SumLemmas.{total, same_roots}
+use Rattle.cj_hermite.proofs.RootLemmas.{IsRootOf, Each-roots}
+use Rattle.cj_hermite.proofs.CurveLemmas.{root_intervals}
+use Rattle.cj_interval.proofs.SumLemmas.{total}
+use Rattle.cj_hermite.proofs.RootSumLemmas.{same_roots}
 
 -- ---- slots
 
-abbrev pub roots_to : Case → ℕ → List Root
+abbrev pub roots_to : PlainProblem → ℕ → List PlainCell
 roots_to case k = flat_map (λ slot. roots_in_slot case slot (pairs_looked case slot)) (range_with_len 0 k)
 
-pub slot_more : (case : Case) (k : ℕ) → roots_to case (k + 1) ≡ roots_to case k ++ roots_in_slot case k (pairs_looked case k)
+pub slot_more : (case : PlainProblem) (k : ℕ) → roots_to case (k + 1) ≡ roots_to case k ++ roots_in_slot case k (pairs_looked case k)
 slot_more case k =
     ap (flat_map (λ slot. roots_in_slot case slot (pairs_looked case slot))) (range_more 0 k)
     ∙ flat_map-append (λ slot. roots_in_slot case slot (pairs_looked case slot)) (range_with_len 0 k) ((0 + k) ∷ [])
@@ -35,11 +35,11 @@ slot_more case k =
     ∙ (let e : 0 + k ≡ k = omega arith in ap (λ (j : ℕ). roots_to case k ++ roots_in_slot case j (pairs_looked case j)) e)
 
 -- the roots slot by slot
-pub by_slot : (case : Case) → roots_to case (slot_count case.first case.last) ≡ roots_by_slot (is_looked case) case
+pub by_slot : (case : PlainProblem) → roots_to case (slot_count case.first case.last) ≡ roots_by_slot (is_looked case) case
 unfolding roots_by_slot
 by_slot case = refl
 
-roots_to_le : (case : Case) (j n : ℕ) → length (roots_to case j) ≤ length (roots_to case (j + n))
+roots_to_le : (case : PlainProblem) (j n : ℕ) → length (roots_to case j) ≤ length (roots_to case (j + n))
 roots_to_le case j zero = let e : j + 0 ≡ j = omega arith in rw e (omega arith)
 roots_to_le case j (suc n) =
     let e : j + suc n ≡ j + n + 1 = omega arith in
@@ -53,11 +53,11 @@ length_is [] = refl
 length_is (x ∷ xs) = let rest = length_is xs in omega arith
 
 -- slot by slot there are as many roots as in all
-pub same_count : (case : Case) → length (roots_by_slot (is_looked case) case) ≡ length (roots_of (is_looked case) case)
+pub same_count : (case : PlainProblem) → length (roots_by_slot (is_looked case) case) ≡ length (roots_of (is_looked case) case)
 same_count case = length_is (roots_by_slot (is_looked case) case) ∙ same_roots (is_looked case) case (λ r. 1) ∙ sym (length_is (roots_of (is_looked case) case))
 
 -- no slot has more roots than there are in all
-pub slots_count : (case : Case) (k : ℕ) → k < slot_count case.first case.last → length (roots_to case k) + length (roots_in_slot case k (pairs_looked case k)) ≤ length (roots_of (is_looked case) case)
+pub slots_count : (case : PlainProblem) (k : ℕ) → k < slot_count case.first case.last → length (roots_to case k) + length (roots_in_slot case k (pairs_looked case k)) ≤ length (roots_of (is_looked case) case)
 slots_count case k lt =
     let next = ap length (slot_more case k) in
     let count = slot_count case.first case.last in
@@ -68,54 +68,54 @@ slots_count case k lt =
     omega (arith, next, upto, slots, same, length-append (roots_to case k) (roots_in_slot case k (pairs_looked case k)))
 
 -- cells that were added behind others
-pub cells_more : (old new : List Cell) → take (length old) new ≡ old → roots_in_cells new ≡ roots_in_cells old ++ added_roots old new
+pub cells_more : (old new : List Cell) → take (length old) new ≡ old → plain_cells new ≡ plain_cells old ++ added_roots old new
 cells_more old new kept =
-    ap roots_in_cells (sym (take-append-drop (length old) new) ∙ ap (λ (xs : List Cell). xs ++ drop (length old) new) kept)
-    ∙ map-append root_of_cell old (drop (length old) new)
+    ap plain_cells (sym (take-append-drop (length old) new) ∙ ap (λ (xs : List Cell). xs ++ drop (length old) new) kept)
+    ∙ map-append plain_cell old (drop (length old) new)
 
 -- ---- leaves
 
-pub stretches_more : (old new : List Leaf) → take (length old) new ≡ old → stretches_of new ≡ stretches_of old ++ added_stretches old new
+pub stretches_more : (old new : List Leaf) → take (length old) new ≡ old → plain_leaves new ≡ plain_leaves old ++ added_stretches old new
 stretches_more old new kept =
-    ap stretches_of (sym (take-append-drop (length old) new) ∙ ap (λ (xs : List Leaf). xs ++ drop (length old) new) kept)
-    ∙ map-append stretch_of old (drop (length old) new)
+    ap plain_leaves (sym (take-append-drop (length old) new) ∙ ap (λ (xs : List Leaf). xs ++ drop (length old) new) kept)
+    ∙ map-append plain_leaf old (drop (length old) new)
 
-abbrev pub leaves_of_cells : Case → List Cell → List Stretch
-leaves_of_cells case cells = leaves_of_roots case (roots_in_cells cells)
+abbrev pub leaves_of_cells : PlainProblem → List Cell → List PlainLeaf
+leaves_of_cells case cells = leaves_of_roots case (plain_cells cells)
 
-pub root_more : (case : Case) (i : ℕ) (cells : List Cell) (c : Cell) → i < length cells → c ≡ get_or cells i c →
-    leaves_of_cells case (take (i + 1) cells) ≡ leaves_of_cells case (take i cells) ++ leaves_of_root case (root_of_cell c)
+pub root_more : (case : PlainProblem) (i : ℕ) (cells : List Cell) (c : Cell) → i < length cells → c ≡ get_or cells i c →
+    leaves_of_cells case (take (i + 1) cells) ≡ leaves_of_cells case (take i cells) ++ leaves_of_root case (plain_cell c)
 unfolding leaves_of_roots
 root_more case i cells c lt is =
     ap (leaves_of_cells case) (take_more cells i c lt)
-    ∙ ap (leaves_of_roots case) (map_push root_of_cell (take i cells) (get_or cells i c))
-    ∙ flat_map-append (leaves_of_root case) (roots_in_cells (take i cells)) (root_of_cell (get_or cells i c) ∷ [])
-    ∙ ap (λ (ss : List Stretch). leaves_of_cells case (take i cells) ++ ss) (append-nil (leaves_of_root case (root_of_cell (get_or cells i c))))
-    ∙ ap (λ (x : Cell). leaves_of_cells case (take i cells) ++ leaves_of_root case (root_of_cell x)) (sym is)
+    ∙ ap (leaves_of_roots case) (map_push plain_cell (take i cells) (get_or cells i c))
+    ∙ flat_map-append (leaves_of_root case) (plain_cells (take i cells)) (plain_cell (get_or cells i c) ∷ [])
+    ∙ ap (λ (ss : List PlainLeaf). leaves_of_cells case (take i cells) ++ ss) (append-nil (leaves_of_root case (plain_cell (get_or cells i c))))
+    ∙ ap (λ (x : Cell). leaves_of_cells case (take i cells) ++ leaves_of_root case (plain_cell x)) (sym is)
 
-pub roots_apart : (case : Case) (i : ℕ) (cells : List Cell) (c : Cell) → i < length cells → c ≡ get_or cells i c →
-    leaves_of_cells case cells ≡ leaves_of_cells case (take i cells) ++ (leaves_of_root case (root_of_cell c) ++ leaves_of_cells case (drop (i + 1) cells))
+pub roots_apart : (case : PlainProblem) (i : ℕ) (cells : List Cell) (c : Cell) → i < length cells → c ≡ get_or cells i c →
+    leaves_of_cells case cells ≡ leaves_of_cells case (take i cells) ++ (leaves_of_root case (plain_cell c) ++ leaves_of_cells case (drop (i + 1) cells))
 unfolding leaves_of_roots
 roots_apart case i cells c lt is =
     ap (leaves_of_cells case) (sym (take-append-drop i cells) ∙ ap (λ (xs : List Cell). take i cells ++ xs) (drop_more cells i c lt))
-    ∙ ap (leaves_of_roots case) (map-append root_of_cell (take i cells) (get_or cells i c ∷ drop (i + 1) cells))
-    ∙ flat_map-append (leaves_of_root case) (roots_in_cells (take i cells)) (roots_in_cells (get_or cells i c ∷ drop (i + 1) cells))
-    ∙ ap (λ (x : Cell). leaves_of_cells case (take i cells) ++ (leaves_of_root case (root_of_cell x) ++ leaves_of_cells case (drop (i + 1) cells))) (sym is)
+    ∙ ap (leaves_of_roots case) (map-append plain_cell (take i cells) (get_or cells i c ∷ drop (i + 1) cells))
+    ∙ flat_map-append (leaves_of_root case) (plain_cells (take i cells)) (plain_cells (get_or cells i c ∷ drop (i + 1) cells))
+    ∙ ap (λ (x : Cell). leaves_of_cells case (take i cells) ++ (leaves_of_root case (plain_cell x) ++ leaves_of_cells case (drop (i + 1) cells))) (sym is)
 
-pub described_more : (P : Root → Type 0) (i : ℕ) (cells : List Cell) (c : Cell) → i < length cells → c ≡ get_or cells i c → All P (roots_in_cells (take i cells)) → P (root_of_cell c) → All P (roots_in_cells (take (i + 1) cells))
+pub described_more : (P : PlainCell → Type 0) (i : ℕ) (cells : List Cell) (c : Cell) → i < length cells → c ≡ get_or cells i c → All P (plain_cells (take i cells)) → P (plain_cell c) → All P (plain_cells (take (i + 1) cells))
 described_more P i cells c lt is all here =
-    All-same P (roots_in_cells (take (i + 1) cells)) (roots_in_cells (take i cells) ++ root_of_cell c ∷ [])
-    (ap roots_in_cells (take_more cells i c lt) ∙ map_push root_of_cell (take i cells) (get_or cells i c) ∙ ap (λ (x : Cell). roots_in_cells (take i cells) ++ root_of_cell x ∷ []) (sym is))
-    (All-push P (roots_in_cells (take i cells)) (root_of_cell c) all here)
+    All-same P (plain_cells (take (i + 1) cells)) (plain_cells (take i cells) ++ plain_cell c ∷ [])
+    (ap plain_cells (take_more cells i c lt) ∙ map_push plain_cell (take i cells) (get_or cells i c) ∙ ap (λ (x : Cell). plain_cells (take i cells) ++ plain_cell x ∷ []) (sym is))
+    (All-push P (plain_cells (take i cells)) (plain_cell c) all here)
 
 -- the cells of all roots keep their intervals
-pub cells_keep : (looked : ℕ → ℕ → ℕ → Bool) (case : Case) (cells : List Cell) → roots_in_cells cells ≡ roots_of looked case →
+pub cells_keep : (looked : ℕ → ℕ → ℕ → Bool) (case : PlainProblem) (cells : List Cell) → plain_cells cells ≡ roots_of looked case →
     All (λ cell. KeepIntervals case cell.pair.a cell.pair.b cell.first.micros cell.last.micros) cells
 cells_keep looked case cells same =
     All-from_each (λ cell. KeepIntervals case cell.pair.a cell.pair.b cell.first.micros cell.last.micros) cells
-    (each_from_map (λ (r : Root). KeepIntervals case r.a r.b r.first r.last) root_of_cell cells
-    (subst (Each (λ (r : Root). KeepIntervals case r.a r.b r.first r.last)) (sym same)
-    (Each-weaker (IsRootOf case) (λ (r : Root). KeepIntervals case r.a r.b r.first r.last) (root_intervals case) (roots_of looked case) (Each-roots looked case))))
+    (each_from_map (λ (r : PlainCell). KeepIntervals case r.a r.b r.first r.last) plain_cell cells
+    (subst (Each (λ (r : PlainCell). KeepIntervals case r.a r.b r.first r.last)) (sym same)
+    (Each-weaker (IsRootOf case) (λ (r : PlainCell). KeepIntervals case r.a r.b r.first r.last) (root_intervals case) (roots_of looked case) (Each-roots looked case))))
 
 -- an error is the same whatever was due
 pub error_is : {S T E : Type 0} (x y : E) → IsErrOf {T = S} {E = E} (Err x) y → IsErrOf {T = T} {E = E} (Err x) y

@@ -1,21 +1,22 @@
 -- Refining: the parts of a cell that wait, the innermost first, each no longer than its place allows.
-use Rattle.std.proofs.Common.{◌≡◌, ℕ, zero, suc, ◌+◌, ◌-◌, ◌*◌, ◌/◌, ◌^◌, ◌<◌, ◌≤◌, List, [], ◌∷◌, ◌++◌, length, get_or, set, take, drop, Option, Some, None, refl, sym, ap, subst, ◌∙◌, arith, append_assoc, append-nil, length-append}
+use Rattle.std.proofs.Common.{◌≡◌, ℕ, zero, suc, ◌+◌, ◌-◌, ◌*◌, ◌^◌, ◌<◌, ◌≤◌, List, [], ◌∷◌, ◌++◌, length, get_or, set, take, drop, Option, Some, None, sym, ap, subst, ◌∙◌, arith, append_assoc, append-nil, length-append}
 use Rattle.std.specs.List.{All}
 use Rattle.std.proofs.lemmas.List.{drop_more, drop-set, drop_all, drop-append-le, take-append-le, length-take, length-drop, length-map, map_push}
 use Rattle.std.proofs.lemmas.List.Elements.{All-push}
 use Rattle.cj_epoch.specs.declared.tick.Tick.{Tick}
 use Rattle.cj_bezier.specs.declared.kind.Kind.{Kind}
 use Rattle.cj_bezier.specs.declared.leaf.Leaf.{Leaf}
-use Rattle.cj_bezier.specs.Leaves.{Stretch, stretch_of, stretches_of}
+use Rattle.cj_bezier.specs.Leaves.{PlainLeaf, plain_leaf, plain_leaves}
 use Rattle.cj_cells.specs.Cells.{added_stretches}
 use Rattle.cj_hermite.specs.Interpolant.{Curve, IsOver}
-use Rattle.cj_cells.specs.Lists.{kind_between}
-use Rattle.cj_cells.proofs.JudgeLemmas.{settled_over}
-use Rattle.cj_cells.specs.Halving.{middle, closed, leaves_within, leaves_between}
-use Rattle.cj_cells.proofs.HalvingLemmas.{IsSettled, Tile, tiles, two_ticks, leaves-closed, leaves-halved}
+use Rattle.cj_bezier.specs.RootLeaves.{kind_between}
+use Rattle.cj_bezier.proofs.JudgeLemmas.{settled_over}
+use Rattle.cj_bezier.specs.Halving.{middle, closed, leaves_within, leaves_between}
+use Rattle.cj_bezier.proofs.HalvingLemmas.{HasKind, IsSettled, tiles, two_ticks, leaves-closed, leaves-halved}
+use Rattle.cj_bezier.specs.Tiles.{Tile}
 
 -- the leaves of the parts that wait, from first on
-unfoldable pub rest : (ℕ → ℕ → Option Kind) → ℕ → ℕ → ℕ → List Tick → List Stretch
+unfoldable pub rest : (ℕ → ℕ → Option Kind) → ℕ → ℕ → ℕ → List Tick → List PlainLeaf
 rest judge a b first [] = []
 rest judge a b first (l ∷ ls) = leaves_between judge a b first l.micros ++ rest judge a b (l.micros + 1) ls
 
@@ -50,7 +51,7 @@ fit_halved end first h l m ls f lt e =
     let wide = f.1 in
     (omega arith, omega arith, (omega arith, omega arith, f.2))
 
-pub rest-closed : (judge : ℕ → ℕ → Option Kind) (a b first : ℕ) (l : Tick) (ls : List Tick) (kind : Kind) (done all : List Stretch) → judge first l.micros ≡ Some kind →
+pub rest-closed : (judge : ℕ → ℕ → Option Kind) (a b first : ℕ) (l : Tick) (ls : List Tick) (kind : Kind) (done all : List PlainLeaf) → judge first l.micros ≡ Some kind →
     done ++ rest judge a b first (l ∷ ls) ≡ all → (done ++ closed a b first l.micros kind ∷ []) ++ rest judge a b (l.micros + 1) ls ≡ all
 unfolding rest
 rest-closed judge a b first l ls kind done all is whole =
@@ -67,14 +68,14 @@ rest-halved judge a b first l m ls le settled none e =
     ∙ ap (λ ss. ss ++ rest judge a b (l.micros + 1) ls) (sym (leaves-halved judge a b first l.micros le settled none))
 
 -- a part has a leaf
-some_leaf : (judge : ℕ → ℕ → Option Kind) (a b lo hi : ℕ) (ss : List Stretch) → lo ≤ hi → Tile judge a b lo hi ss → 0 < length ss
-some_leaf judge a b lo hi [] le t = absurd (omega (arith, t))
-some_leaf judge a b lo hi (s ∷ ss) le t = omega arith
+some_leaf : (P : PlainLeaf → Type 0) (a b lo hi : ℕ) (ss : List PlainLeaf) → lo ≤ hi → Tile P a b lo hi ss → 0 < length ss
+some_leaf P a b lo hi [] le t = absurd (omega (arith, t))
+some_leaf P a b lo hi (s ∷ ss) le t = omega arith
 
 pub rest-some : (judge : ℕ → ℕ → Option Kind) (a b first : ℕ) (l : Tick) (ls : List Tick) → first ≤ l.micros → IsSettled judge first l.micros → 0 < length (rest judge a b first (l ∷ ls))
 unfolding rest leaves_between
 rest-some judge a b first l ls le settled =
-    let some = some_leaf judge a b first l.micros (leaves_within judge a b (l.micros - first) first l.micros) le (tiles judge a b (l.micros - first) first l.micros le (omega arith) settled) in
+    let some = some_leaf (HasKind judge) a b first l.micros (leaves_within judge a b (l.micros - first) first l.micros) le (tiles judge a b (l.micros - first) first l.micros le (omega arith) settled) in
     omega (arith, length-append (leaves_within judge a b (l.micros - first) first l.micros) (rest judge a b (l.micros + 1) ls))
 
 -- at the beginning the whole cell waits
@@ -127,13 +128,13 @@ halved_rest judge a b end first (suc i) lasts d m lt f more settled none e =
     rw (at, pushed lasts i m d lt, waiting lasts (suc i) d lt)
     (rest-halved judge a b first (get_or lasts (suc i) d) m (drop (suc i + 1) lasts) (omega arith) settled none e)
 
-pub closed_rest : (judge : ℕ → ℕ → Option Kind) (a b first top : ℕ) (lasts : List Tick) (d : Tick) (kind : Kind) (done all : List Stretch) → top < length lasts → judge first (get_or lasts top d).micros ≡ Some kind →
+pub closed_rest : (judge : ℕ → ℕ → Option Kind) (a b first top : ℕ) (lasts : List Tick) (d : Tick) (kind : Kind) (done all : List PlainLeaf) → top < length lasts → judge first (get_or lasts top d).micros ≡ Some kind →
     done ++ rest judge a b first (drop top lasts) ≡ all → (done ++ closed a b first (get_or lasts top d).micros kind ∷ []) ++ rest judge a b ((get_or lasts top d).micros + 1) (drop (top + 1) lasts) ≡ all
 closed_rest judge a b first top lasts d kind done all lt is whole =
     let here = waiting lasts top d lt in
     rest-closed judge a b first (get_or lasts top d) (drop (top + 1) lasts) kind done all is (subst (λ (ls : List Tick). done ++ rest judge a b first ls ≡ all) here whole)
 
-pub more_to_come : (judge : ℕ → ℕ → Option Kind) (a b end first top : ℕ) (lasts : List Tick) (d : Tick) (done all : List Stretch) → top < length lasts → Fit end first top (drop top lasts) →
+pub more_to_come : (judge : ℕ → ℕ → Option Kind) (a b end first top : ℕ) (lasts : List Tick) (d : Tick) (done all : List PlainLeaf) → top < length lasts → Fit end first top (drop top lasts) →
     IsSettled judge first (get_or lasts top d).micros → done ++ rest judge a b first (drop top lasts) ≡ all → length done < length all
 more_to_come judge a b end first top lasts d done all lt f settled whole =
     let bounds = part_bounds end first top lasts d lt f in
@@ -144,7 +145,7 @@ more_to_come judge a b end first top lasts d done all lt f settled whole =
     omega (arith, length-append done (rest judge a b first (drop top lasts)))
 
 -- once no part waits, all leaves are there
-pub nothing_waits : (judge : ℕ → ℕ → Option Kind) (a b first top : ℕ) (lasts : List Tick) (done all : List Stretch) → length lasts ≤ top → done ++ rest judge a b first (drop top lasts) ≡ all → done ≡ all
+pub nothing_waits : (judge : ℕ → ℕ → Option Kind) (a b first top : ℕ) (lasts : List Tick) (done all : List PlainLeaf) → length lasts ≤ top → done ++ rest judge a b first (drop top lasts) ≡ all → done ≡ all
 unfolding rest
 nothing_waits judge a b first top lasts done all le whole =
     let none : drop top lasts ≡ [] = drop_all top lasts le in
@@ -155,10 +156,10 @@ nothing_waits judge a b first top lasts done all le whole =
 old_length : (old xs : List Leaf) → take (length old) xs ≡ old → length old ≤ length xs
 old_length old xs kept = let same : length (take (length old) xs) ≡ length old = ap length kept in omega (arith, length-take (length old) xs)
 
-pub added_more : (old xs : List Leaf) (leaf : Leaf) → take (length old) xs ≡ old → added_stretches old (xs ++ leaf ∷ []) ≡ added_stretches old xs ++ stretch_of leaf ∷ []
+pub added_more : (old xs : List Leaf) (leaf : Leaf) → take (length old) xs ≡ old → added_stretches old (xs ++ leaf ∷ []) ≡ added_stretches old xs ++ plain_leaf leaf ∷ []
 added_more old xs leaf kept =
     let le = old_length old xs kept in
-    ap stretches_of (drop-append-le (length old) xs (leaf ∷ []) le) ∙ map_push stretch_of (drop (length old) xs) leaf
+    ap plain_leaves (drop-append-le (length old) xs (leaf ∷ []) le) ∙ map_push plain_leaf (drop (length old) xs) leaf
 
 pub kept_more : (old xs : List Leaf) (leaf : Leaf) → take (length old) xs ≡ old → take (length old) (xs ++ leaf ∷ []) ≡ old
 kept_more old xs leaf kept = let le = old_length old xs kept in take-append-le (length old) xs (leaf ∷ []) le ∙ kept
@@ -172,7 +173,7 @@ root_more root old xs leaf kept all here =
 pub added_length : (old xs : List Leaf) → take (length old) xs ≡ old → length old + length (added_stretches old xs) ≡ length xs
 added_length old xs kept =
     let le = old_length old xs kept in
-    omega (arith, length-map (drop (length old) xs) stretch_of, length-drop (length old) xs)
+    omega (arith, length-map (drop (length old) xs) plain_leaf, length-drop (length old) xs)
 
 -- ---- the same of two interpolants
 
@@ -192,7 +193,7 @@ module _ (c d : Curve) (thr a b lo hi first top : ℕ) (lasts : List Tick) where
       (settled_over c d thr first (get_or lasts top x).micros big (part_over c x oc from lt f) (part_over d x od from lt f)) none
 
   -- what waits comes to a leaf at least
-  pub more_behind : (x : Tick) (done all : List Stretch) → 10 ^ 9 ≤ thr → IsOver c lo hi → IsOver d lo hi → lo ≤ first → top < length lasts → Fit hi first top (drop top lasts) →
+  pub more_behind : (x : Tick) (done all : List PlainLeaf) → 10 ^ 9 ≤ thr → IsOver c lo hi → IsOver d lo hi → lo ≤ first → top < length lasts → Fit hi first top (drop top lasts) →
       done ++ rest (kind_between c d thr) a b first (drop top lasts) ≡ all → length done < length all
   more_behind x done all big oc od from lt f whole =
       more_to_come (kind_between c d thr) a b hi first top lasts x done all lt f

@@ -1,26 +1,31 @@
-//! The look at a cell of two pieces.
+//! The look at a cell of two pieces made ready.
 ghost use Rattle.std.specs.Prelude.{◌≡◌, ◌^◌, ◌<◌, ◌≤◌};
-ghost use Rattle.cj_hermite.specs.Interpolant.{curve_of, IsOver};
+ghost use Rattle.cj_hermite.specs.Interpolant.{IsOver};
+ghost use Rattle.cj_hermite.specs.Ready.{curve_ready};
 ghost use Rattle.cj_bezier.specs.Verdicts.{cell_verdict};
-ghost use Rattle.cj_cells.specs.Lists.{kind_between};
-ghost use Rattle.cj_cells.specs.Looks.{kind_found, IfClosed, IfHalves, AreHalves};
+ghost use Rattle.cj_bezier.specs.RootLeaves.{kind_between};
+ghost use Rattle.cj_cells.specs.Looks.{kind_found, IfClosed, IfHalves};
+ghost use Rattle.cj_bezier.specs.Cells.{AreHalves};
 
 use crate::outcome::Look;
-use cj_bezier::{Cell, Kind, Leaf, Verdict, gap, hull, verdict};
+use cj_bezier::{Cell, Kind, Leaf, Verdict, gap, hull_ready, verdict};
 use cj_epoch::Tick;
-use cj_hermite::Piece;
+use cj_hermite::Ready;
 
 #[tactic(auto, unfolding(cj_bezier::specs::Verdicts::cell_verdict))]
 /// The verdict on two pieces over the ticks from `first` to `last`, against a threshold in nm.
-fn judge(a: &Piece, b: &Piece, thr: u64, first: Tick, last: Tick) -> Verdict
+fn judge(a: &Ready, b: &Ready, thr: u64, first: Tick, last: Tick) -> Verdict
     requires order { first.micros ≤ last.micros }
-    requires first_over { IsOver (curve_of a.now) first.micros last.micros }
-    requires second_over { IsOver (curve_of b.now) first.micros last.micros }
+    requires first_over { IsOver (curve_ready a.now) first.micros last.micros }
+    requires second_over { IsOver (curve_ready b.now) first.micros last.micros }
     requires least { 10 ^ 9 ≤ thr }
     requires most { thr ≤ 10 ^ 16 }
-    ensures { result ≡ cell_verdict (curve_of a.now) (curve_of b.now) thr first.micros last.micros }
+    ensures { result ≡ cell_verdict (curve_ready a.now) (curve_ready b.now) thr first.micros last.micros }
 {
-    verdict(&gap(&hull(a, first, last), &hull(b, first, last)), thr)
+    verdict(
+        &gap(&hull_ready(a, first, last), &hull_ready(b, first, last)),
+        thr,
+    )
 }
 
 /// The halves of a cell of two ticks or more.
@@ -44,14 +49,14 @@ fn halves(cell: Cell) -> (Cell, Cell)
     (left, right)
 }
 
-#[tactic(auto, unfolding(crate::specs::Lists::kind_between))]
+#[tactic(auto, unfolding(cj_bezier::specs::RootLeaves::kind_between))]
 /// The leaf of a cell that is of one kind, or its halves.
-pub(crate) fn look_at(a: &Piece, b: &Piece, thr: u64, cell: Cell) -> Look
-    requires first_over { IsOver (curve_of a.now) cell.first.micros cell.last.micros }
-    requires second_over { IsOver (curve_of b.now) cell.first.micros cell.last.micros }
+pub(crate) fn look_at(a: &Ready, b: &Ready, thr: u64, cell: Cell) -> Look
+    requires first_over { IsOver (curve_ready a.now) cell.first.micros cell.last.micros }
+    requires second_over { IsOver (curve_ready b.now) cell.first.micros cell.last.micros }
     requires least { 10 ^ 9 ≤ thr }
     requires most { thr ≤ 10 ^ 16 }
-    ensures kind { kind_found result ≡ kind_between (curve_of a.now) (curve_of b.now) thr cell.first.micros cell.last.micros }
+    ensures kind { kind_found result ≡ kind_between (curve_ready a.now) (curve_ready b.now) thr cell.first.micros cell.last.micros }
     ensures closed { IfClosed result (λ leaf. leaf.cell ≡ cell) }
     ensures halved { IfHalves result (AreHalves cell) }
 {

@@ -6,11 +6,10 @@ mod listing;
 mod looking;
 mod ordering;
 mod outcome;
+mod preparing;
 mod refine_error;
 mod refining;
 mod rooting;
-mod stating;
-mod walking;
 
 pub use listing::{leaves_of, refine_all};
 pub use looking::look;

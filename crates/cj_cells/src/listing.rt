@@ -1,14 +1,16 @@
 //! The one-thread list of a problem.
 ghost use Rattle.std.specs.Prelude.{◌≡◌, ℕ, ◌+◌, ◌<◌, ◌≤◌, true, length, vec_len, All, Any, IfOk, OnOk, IsErrOf};
-ghost use Rattle.cj_hermite.specs.Cases.{IsCommonOf};
-ghost use Rattle.cj_hermite.specs.Problems.{case_of};
+ghost use Rattle.cj_hermite.specs.PlainProblems.{IsCommonOf};
+ghost use Rattle.cj_hermite.specs.Problems.{plain_problem};
 ghost use Rattle.cj_hermite.specs.Slots.{slot_of};
-ghost use Rattle.cj_bezier.specs.Leaves.{stretches_of};
+ghost use Rattle.cj_bezier.specs.Leaves.{plain_leaves};
 ghost use Rattle.cj_bezier.specs.Order.{AreInOrder};
-ghost use Rattle.cj_cells.specs.Looked.{is_looked};
-ghost use Rattle.cj_cells.specs.Roots.{KeepIntervals, roots_by_slot};
-ghost use Rattle.cj_cells.specs.Cells.{roots_in_cells};
-ghost use Rattle.cj_cells.specs.Lists.{leaves_of_root, leaves_of_roots, list_looked, splits_of, Describe, IsSound, IsTickOf};
+ghost use Rattle.cj_bezier.specs.Looked.{is_looked};
+ghost use Rattle.cj_hermite.specs.Roots.{KeepIntervals, roots_by_slot};
+ghost use Rattle.cj_bezier.specs.Cells.{plain_cells};
+ghost use Rattle.cj_bezier.specs.RootLeaves.{leaves_of_root, leaves_of_roots, Describe};
+ghost use Rattle.cj_cells.specs.Lists.{list_looked, splits_of, IsSound};
+ghost use Rattle.cj_bezier.specs.Leaves.{IsTickOf};
 
 use crate::ordering::order_roots;
 use crate::refine_error::RefineError;
@@ -24,14 +26,14 @@ pub fn refine_all(
     roots: &[Cell],
     limit: u64,
 ) -> Result<Vec<Leaf>, RefineError>
-    requires { All (λ cell. KeepIntervals (case_of problem.now) cell.pair.a cell.pair.b cell.first.micros cell.last.micros) roots.now }
+    requires { All (λ cell. KeepIntervals (plain_problem problem.now) cell.pair.a cell.pair.b cell.first.micros cell.last.micros) roots.now }
 
-    ensures value { IfOk result (λ leaves. stretches_of leaves.items ≡ leaves_of_roots (case_of problem.now) (roots_in_cells roots.now)) }
+    ensures value { IfOk result (λ leaves. plain_leaves leaves.items ≡ leaves_of_roots (plain_problem problem.now) (plain_cells roots.now)) }
     ensures within { IfOk result (λ leaves. vec_len leaves ≤ limit) }
-    ensures too_many { IsErrOf result RefineError.TooMany → limit < length (leaves_of_roots (case_of problem.now) (roots_in_cells roots.now)) }
+    ensures too_many { IsErrOf result RefineError.TooMany → limit < length (leaves_of_roots (plain_problem problem.now) (plain_cells roots.now)) }
 
     // The leaves of each root lie in order in it, hold each of its ticks, and each is true at each of its own.
-    ensures leaves { OnOk result (All (λ root. Describe (case_of problem.now) root (leaves_of_root (case_of problem.now) root)) (roots_in_cells roots.now)) }
+    ensures leaves { OnOk result (All (λ root. Describe (plain_problem problem.now) root (leaves_of_root (plain_problem problem.now) root)) (plain_cells roots.now)) }
 {
     let mut leaves = Vec::new(alloc);
     for root in roots {
@@ -48,21 +50,21 @@ pub fn leaves_of(
     limit: u64,
 ) -> Result<Vec<Leaf>, RefineError>
     requires few { vec_len roots ≤ 4_000_000 }
-    requires found { roots_in_cells roots.items ≡ roots_by_slot (is_looked (case_of problem.now)) (case_of problem.now) }
+    requires found { plain_cells roots.items ≡ roots_by_slot (is_looked (plain_problem problem.now)) (plain_problem problem.now) }
 
-    ensures value { IfOk result (λ leaves. stretches_of leaves.items ≡ list_looked (case_of problem.now)) }
+    ensures value { IfOk result (λ leaves. plain_leaves leaves.items ≡ list_looked (plain_problem problem.now)) }
     ensures within { IfOk result (λ leaves. vec_len leaves ≤ limit) }
-    ensures too_many { IsErrOf result RefineError.TooMany → limit < length (list_looked (case_of problem.now)) }
+    ensures too_many { IsErrOf result RefineError.TooMany → limit < length (list_looked (plain_problem problem.now)) }
 
     // Each halving makes one leaf more.
-    ensures splits { IfOk result (λ leaves. vec_len leaves ≡ vec_len roots + splits_of (case_of problem.now)) }
+    ensures splits { IfOk result (λ leaves. vec_len leaves ≡ vec_len roots + splits_of (plain_problem problem.now)) }
 
     // Each stretch of the list is true at each of its ticks, each common tick of a pair that is looked at lies in a stretch of that
     // pair, and they are in order of pair and time.
-    ensures sound { OnOk result (All (IsSound (case_of problem.now)) (list_looked (case_of problem.now))) }
-    ensures complete { OnOk result ((a b m : ℕ) → IsCommonOf (case_of problem.now) a b m → is_looked (case_of problem.now) a b (slot_of problem.now.window.first.micros m) ≡ true
-        → Any (IsTickOf a b m) (list_looked (case_of problem.now))) }
-    ensures ordered { OnOk result (AreInOrder (list_looked (case_of problem.now))) }
+    ensures sound { OnOk result (All (IsSound (plain_problem problem.now)) (list_looked (plain_problem problem.now))) }
+    ensures complete { OnOk result ((a b m : ℕ) → IsCommonOf (plain_problem problem.now) a b m → is_looked (plain_problem problem.now) a b (slot_of problem.now.window.first.micros m) ≡ true
+        → Any (IsTickOf a b m) (list_looked (plain_problem problem.now))) }
+    ensures ordered { OnOk result (AreInOrder (list_looked (plain_problem problem.now))) }
 {
     order_roots(&mut roots);
     refine_all(alloc, problem, &roots, limit)

@@ -2,16 +2,17 @@
 ghost use Rattle.std.specs.Prelude.{◌≡◌, ℕ, ◌≤◌, Bool, map, length, vec_len, AllPairs};
 ghost use Rattle.std.specs.List.{range_with_len};
 ghost use Rattle.std.specs.List.Sorted.{IsPermutation};
-ghost use Rattle.cj_hermite.specs.Cases.{Case};
-ghost use Rattle.cj_cells.specs.Roots.{IsRootUpTo, roots_of, roots_by_slot};
-ghost use Rattle.cj_cells.specs.Cells.{roots_in_cells, root_numbers};
+ghost use Rattle.cj_hermite.specs.PlainProblems.{PlainProblem};
+ghost use Rattle.cj_hermite.specs.Roots.{IsRootUpTo, roots_of, roots_by_slot};
+ghost use Rattle.cj_bezier.specs.Cells.{plain_cells};
+ghost use Rattle.cj_cells.specs.Cells.{root_numbers};
 
 use cj_bezier::Cell;
 
 /// Sorts roots by pair and first tick.
 fn sort(roots: &mut [Cell])
-    ensures permutation { IsPermutation (roots_in_cells roots.old) (roots_in_cells roots.new) }
-    ensures ordered { AllPairs IsRootUpTo (roots_in_cells roots.new) }
+    ensures permutation { IsPermutation (plain_cells roots.old) (plain_cells roots.new) }
+    ensures ordered { AllPairs IsRootUpTo (plain_cells roots.new) }
 {
     roots.sort_unstable_by_key(|cell| (cell.pair, cell.first));
 }
@@ -19,7 +20,7 @@ fn sort(roots: &mut [Cell])
 /// Gives each root its place as its number.
 fn number(roots: &mut [Cell])
     requires { length roots.old ≤ 4_000_000 }
-    ensures kept { roots_in_cells roots.new ≡ roots_in_cells roots.old }
+    ensures kept { plain_cells roots.new ≡ plain_cells roots.old }
     ensures numbered { root_numbers roots.new ≡ range_with_len 0 (length roots.new) }
 {
     for (at, root) in roots.iter_mut().enumerate() {
@@ -31,12 +32,12 @@ fn number(roots: &mut [Cell])
 pub fn order_roots(roots: &mut Vec<Cell>)
     requires { vec_len roots.old ≤ 4_000_000 }
 
-    ensures permutation { IsPermutation (roots_in_cells roots.old.items) (roots_in_cells roots.new.items) }
-    ensures ordered { AllPairs IsRootUpTo (roots_in_cells roots.new.items) }
+    ensures permutation { IsPermutation (plain_cells roots.old.items) (plain_cells roots.new.items) }
+    ensures ordered { AllPairs IsRootUpTo (plain_cells roots.new.items) }
     ensures numbered { root_numbers roots.new.items ≡ range_with_len 0 (vec_len roots.new) }
 
     // The roots that were found slot by slot are then all roots in order.
-    ensures all { (looked : ℕ → ℕ → ℕ → Bool) (case : Case) → roots_in_cells roots.old.items ≡ roots_by_slot looked case → roots_in_cells roots.new.items ≡ roots_of looked case }
+    ensures all { (looked : ℕ → ℕ → ℕ → Bool) (case : PlainProblem) → plain_cells roots.old.items ≡ roots_by_slot looked case → plain_cells roots.new.items ≡ roots_of looked case }
 {
     sort(roots);
     number(roots);

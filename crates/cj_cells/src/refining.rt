@@ -1,46 +1,48 @@
 //! The halving of a cell, until each part is of one kind.
 ghost use Rattle.std.specs.Prelude.{◌≡◌, ℕ, ◌+◌, ◌^◌, ◌<◌, ◌≤◌, length, take, drop, vec_len, All, OnOk, OnErr, IsErrOf};
-ghost use Rattle.cj_hermite.specs.Interpolant.{curve_of, IsOver};
-ghost use Rattle.cj_hermite.specs.Problems.{case_of};
-ghost use Rattle.cj_cells.specs.Roots.{KeepIntervals};
-ghost use Rattle.cj_cells.specs.Lists.{kind_between, leaves_of_root, Describe};
-ghost use Rattle.cj_cells.specs.Halving.{leaves_between};
-ghost use Rattle.cj_cells.specs.Cells.{root_of_cell, added_stretches};
+ghost use Rattle.cj_hermite.specs.Interpolant.{IsOver};
+ghost use Rattle.cj_hermite.specs.Problems.{plain_problem};
+ghost use Rattle.cj_hermite.specs.Ready.{curve_ready};
+ghost use Rattle.cj_hermite.specs.Roots.{KeepIntervals};
+ghost use Rattle.cj_bezier.specs.RootLeaves.{kind_between, leaves_of_root, Describe};
+ghost use Rattle.cj_bezier.specs.Halving.{leaves_between};
+ghost use Rattle.cj_bezier.specs.Cells.{plain_cell};
+ghost use Rattle.cj_cells.specs.Cells.{added_stretches};
 
 use crate::judging::look_at;
 use crate::outcome::Look;
+use crate::preparing::prepare;
 use crate::refine_error::RefineError;
-use crate::stating::piece_of;
 use cj_bezier::{Cell, Leaf};
 use cj_epoch::Tick;
-use cj_hermite::{Piece, Problem};
+use cj_hermite::{Problem, Ready};
 use std::alloc::Global;
 
 /// How many parts of a cell wait at most: one more than the halvings of 2^32 ticks, and a piece is shorter than that.
 const PLACES: usize = 33;
 
-/// Appends the leaves of a cell of two pieces. The parts that wait end at `lasts`, the innermost at `top`.
+/// Appends the leaves of a cell of two pieces made ready. The parts that wait end at `lasts`, the innermost at `top`.
 fn refine_between(
-    a: &Piece,
-    b: &Piece,
+    a: &Ready,
+    b: &Ready,
     thr: u64,
     cell: Cell,
     limit: u64,
     leaves: &mut Vec<Leaf>,
 ) -> Result<(), RefineError>
-    requires first_over { IsOver (curve_of a.now) cell.first.micros cell.last.micros }
-    requires second_over { IsOver (curve_of b.now) cell.first.micros cell.last.micros }
+    requires first_over { IsOver (curve_ready a.now) cell.first.micros cell.last.micros }
+    requires second_over { IsOver (curve_ready b.now) cell.first.micros cell.last.micros }
     requires least { 10 ^ 9 ≤ thr }
     requires most { thr ≤ 10 ^ 16 }
     requires room { vec_len leaves.old ≤ limit }
 
     ensures ok { OnOk result (added_stretches leaves.old.items leaves.new.items
-        ≡ leaves_between (kind_between (curve_of a.now) (curve_of b.now) thr) cell.pair.a cell.pair.b cell.first.micros cell.last.micros) }
+        ≡ leaves_between (kind_between (curve_ready a.now) (curve_ready b.now) thr) cell.pair.a cell.pair.b cell.first.micros cell.last.micros) }
     ensures within { OnOk result (vec_len leaves.new ≤ limit) }
     ensures too_many { IsErrOf result RefineError.TooMany
-        → limit < vec_len leaves.old + length (leaves_between (kind_between (curve_of a.now) (curve_of b.now) thr) cell.pair.a cell.pair.b cell.first.micros cell.last.micros) }
+        → limit < vec_len leaves.old + length (leaves_between (kind_between (curve_ready a.now) (curve_ready b.now) thr) cell.pair.a cell.pair.b cell.first.micros cell.last.micros) }
     ensures err { OnErr result (added_stretches leaves.old.items leaves.new.items
-        ≡ take (length (added_stretches leaves.old.items leaves.new.items)) (leaves_between (kind_between (curve_of a.now) (curve_of b.now) thr) cell.pair.a cell.pair.b cell.first.micros cell.last.micros)) }
+        ≡ take (length (added_stretches leaves.old.items leaves.new.items)) (leaves_between (kind_between (curve_ready a.now) (curve_ready b.now) thr) cell.pair.a cell.pair.b cell.first.micros cell.last.micros)) }
     ensures kept { take (vec_len leaves.old) leaves.new.items ≡ leaves.old.items }
     ensures root { All (λ leaf. leaf.cell.root ≡ cell.root) (drop (vec_len leaves.old) leaves.new.items) }
 {
@@ -81,24 +83,23 @@ pub fn refine(
     limit: u64,
     leaves: &mut Vec<Leaf>,
 ) -> Result<(), RefineError>
-    requires intervals { KeepIntervals (case_of problem.now) cell.pair.a cell.pair.b cell.first.micros cell.last.micros }
+    requires intervals { KeepIntervals (plain_problem problem.now) cell.pair.a cell.pair.b cell.first.micros cell.last.micros }
     requires room { vec_len leaves.old ≤ limit }
 
-    ensures ok { OnOk result (added_stretches leaves.old.items leaves.new.items ≡ leaves_of_root (case_of problem.now) (root_of_cell cell)) }
+    ensures ok { OnOk result (added_stretches leaves.old.items leaves.new.items ≡ leaves_of_root (plain_problem problem.now) (plain_cell cell)) }
     ensures within { OnOk result (vec_len leaves.new ≤ limit) }
-    ensures too_many { IsErrOf result RefineError.TooMany → limit < vec_len leaves.old + length (leaves_of_root (case_of problem.now) (root_of_cell cell)) }
+    ensures too_many { IsErrOf result RefineError.TooMany → limit < vec_len leaves.old + length (leaves_of_root (plain_problem problem.now) (plain_cell cell)) }
     ensures err { OnErr result (added_stretches leaves.old.items leaves.new.items
-        ≡ take (length (added_stretches leaves.old.items leaves.new.items)) (leaves_of_root (case_of problem.now) (root_of_cell cell))) }
+        ≡ take (length (added_stretches leaves.old.items leaves.new.items)) (leaves_of_root (plain_problem problem.now) (plain_cell cell))) }
 
     // The leaves lie in order in the cell, hold each of its ticks, and each is true at each of its own.
-    ensures leaves { Describe (case_of problem.now) (root_of_cell cell) (leaves_of_root (case_of problem.now) (root_of_cell cell)) }
+    ensures leaves { Describe (plain_problem problem.now) (plain_cell cell) (leaves_of_root (plain_problem problem.now) (plain_cell cell)) }
 
     // What was there stays, and what is appended has the cell's root.
     ensures kept { take (vec_len leaves.old) leaves.new.items ≡ leaves.old.items }
     ensures root { All (λ leaf. leaf.cell.root ≡ cell.root) (drop (vec_len leaves.old) leaves.new.items) }
 {
-    let a = piece_of(problem, cell.pair.a, cell.first);
-    let b = piece_of(problem, cell.pair.b, cell.first);
+    let (a, b) = prepare(problem, cell);
     let threshold = problem.pair_threshold(cell.pair);
     refine_between(&a, &b, threshold, cell, limit, leaves)
 }

@@ -1,152 +1,19 @@
-ghost use Rattle.std.specs.Prelude.{◌≡◌, ◌+◌, ◌*◌, ◌<◌, ◌≤◌, length, IfOk};
-ghost use Rattle.cj_oem.specs.Limits.{MAX_COORDINATE, MAX_RATE, IsWithin};
-ghost use Rattle.cj_oem.specs.Segments.{node_count};
+ghost use Rattle.std.specs.Prelude.{◌≡◌, ◌≤◌, length, IfOk};
+ghost use Rattle.cj_track.specs.Segments.{node_count};
 
 use super::*;
 use cj_bezier::{Cell, Kind, Leaf};
-use cj_epoch::{Tick, Window, leap_between};
 use cj_hermite::{Pair, Problem, Tracks};
-use cj_kvn::Text;
-use cj_oem::{Frame, Matrices, Node, Nodes, Segment, Segments, Track, Vec3};
+use cj_samples::{
+    AT_7000, AT_7005, AT_7100, REST, moving, node, rest, seconds, tick, track_of, track_of_two,
+    useable,
+};
+use cj_track::{Track, Vec3};
 use std::alloc::{AllocError, Global};
 use std::process::Abort;
 use std::test::Fail;
 
-const START: u64 = 1_735_689_600_000_000;
-
 const BOTH: [Pair; 1] = [Pair { a: 0, b: 1 }];
-
-const REST: Vec3 = Vec3 { x: 0, y: 0, z: 0 };
-
-/// 7,000 km, 7,005 km and 7,100 km from the origin.
-const AT_7000: Vec3 = Vec3 {
-    x: 7_000_000_000_000_000,
-    y: 0,
-    z: 0,
-};
-
-const AT_7005: Vec3 = Vec3 {
-    x: 7_005_000_000_000_000,
-    y: 0,
-    z: 0,
-};
-
-const AT_7100: Vec3 = Vec3 {
-    x: 7_100_000_000_000_000,
-    y: 0,
-    z: 0,
-};
-
-/// So many microseconds after the start.
-fn tick(micros: u64) -> Tick
-    requires { micros ≤ 100000000 }
-    ensures { result.micros ≡ 1735689600000000 + micros }
-{
-    Tick {
-        micros: START + micros,
-    }
-}
-
-/// A node so many seconds after the start.
-fn node(second: u64, p: Vec3, v: Vec3) -> Node
-    requires early { second ≤ 60 }
-    requires place { IsWithin MAX_COORDINATE p.x × IsWithin MAX_COORDINATE p.y × IsWithin MAX_COORDINATE p.z }
-    requires rate { IsWithin MAX_RATE v.x × IsWithin MAX_RATE v.y × IsWithin MAX_RATE v.z }
-    ensures { result.at.micros ≡ 1735689600000000 + second * 1000000 }
-{
-    Node {
-        at: tick(second * 1_000_000),
-        p,
-        v,
-    }
-}
-
-/// A segment of two nodes that is useable from one second to another, with no leap second between.
-fn segment(
-    rt: &impl Abort,
-    alloc: Global,
-    first: u64,
-    last: u64,
-    from: Node,
-    to: Node,
-) -> Result<Segment, AllocError>
-    requires some { first ≤ last }
-    requires early { last ≤ 60 }
-    requires rises { from.at.micros < to.at.micros }
-    requires short { to.at.micros ≤ from.at.micros + 3600000000 }
-    requires after { from.at.micros ≤ 1735689600000000 + first * 1000000 }
-    requires before { 1735689600000000 + last * 1000000 ≤ to.at.micros }
-    ensures first { IfOk result (λ s. s.first.micros ≡ 1735689600000000 + first * 1000000) }
-    ensures last { IfOk result (λ s. s.last.micros ≡ 1735689600000000 + last * 1000000) }
-    ensures nodes { IfOk result (λ s. length s.nodes ≡ 2) }
-{
-    assert!(rt; !leap_between(from.at, to.at));
-    Ok(Segment {
-        first: tick(first * 1_000_000),
-        last: tick(last * 1_000_000),
-        nodes: Nodes::new(vec![in alloc; from, to]?),
-        matrices: Matrices::new(Vec::new(alloc)),
-    })
-}
-
-/// A segment at rest from one second to another.
-fn rest(
-    rt: &impl Abort,
-    alloc: Global,
-    first: u64,
-    last: u64,
-    p: Vec3,
-) -> Result<Segment, AllocError>
-    requires some { first < last }
-    requires early { last ≤ 60 }
-    requires place { IsWithin MAX_COORDINATE p.x × IsWithin MAX_COORDINATE p.y × IsWithin MAX_COORDINATE p.z }
-    ensures first { IfOk result (λ s. s.first.micros ≡ 1735689600000000 + first * 1000000) }
-    ensures last { IfOk result (λ s. s.last.micros ≡ 1735689600000000 + last * 1000000) }
-    ensures nodes { IfOk result (λ s. length s.nodes ≡ 2) }
-{
-    segment(
-        rt,
-        alloc,
-        first,
-        last,
-        node(first, p, REST),
-        node(last, p, REST),
-    )
-}
-
-#[tactic(auto, unfolding(cj_oem::specs::Labels::is_file_name, cj_oem::specs::Labels::is_label))]
-fn named(alloc: Global, segments: Segments) -> Result<Track, AllocError>
-    ensures frame { IfOk result (λ track. track.frame ≡ Frame.Eme2000) }
-    ensures segments { IfOk result (λ track. track.segments ≡ segments) }
-{
-    Ok(Track {
-        file: Text::copy_of(alloc, b"a.oem")?,
-        name: Text::copy_of(alloc, b"SAT A")?,
-        id: Text::copy_of(alloc, b"2025-001A")?,
-        frame: Frame::Eme2000,
-        segments,
-    })
-}
-
-fn track_of(alloc: Global, segment: Segment) -> Result<Track, AllocError>
-    requires { length segment.nodes ≡ 2 }
-    ensures frame { IfOk result (λ track. track.frame ≡ Frame.Eme2000) }
-    ensures nodes { IfOk result (λ track. node_count track.segments ≡ 2) }
-{
-    let segments = Segments::new(alloc, vec![in alloc; segment]?)?;
-    named(alloc, segments)
-}
-
-fn track_of_two(alloc: Global, one: Segment, other: Segment) -> Result<Track, AllocError>
-    requires order { one.last.micros ≤ other.first.micros }
-    requires one { length one.nodes ≡ 2 }
-    requires other { length other.nodes ≡ 2 }
-    ensures frame { IfOk result (λ track. track.frame ≡ Frame.Eme2000) }
-    ensures nodes { IfOk result (λ track. node_count track.segments ≡ 4) }
-{
-    let segments = Segments::new(alloc, vec![in alloc; one, other]?)?;
-    named(alloc, segments)
-}
 
 /// Two tracks over a minute and one tick, by a threshold of 5 km.
 fn problem_of(alloc: Global, a: Track, b: Track) -> Result<Problem, AllocError>
@@ -157,16 +24,13 @@ fn problem_of(alloc: Global, a: Track, b: Track) -> Result<Problem, AllocError>
 {
     Ok(Problem {
         tracks: Tracks::new(vec![in alloc; a, b]?),
-        window: Window {
-            first: tick(0),
-            last: tick(60_000_000),
-        },
+        window: seconds(0, 60),
         threshold: 5_000_000_000_000,
     })
 }
 
 /// Two tracks that cross at right angles, one kilometre apart.
-fn crossing(rt: &impl Abort, alloc: Global) -> Result<Problem, AllocError>
+fn crossing(alloc: Global) -> Result<Problem, AllocError>
     ensures { IfOk result (λ problem. length problem.tracks ≡ 2) }
 {
     let along_y = Vec3 {
@@ -199,22 +63,8 @@ fn crossing(rt: &impl Abort, alloc: Global) -> Result<Problem, AllocError>
         y: 0,
         z: 225_000_000_000_000,
     };
-    let a = segment(
-        rt,
-        alloc,
-        0,
-        60,
-        node(0, a0, along_y),
-        node(60, a1, along_y),
-    )?;
-    let b = segment(
-        rt,
-        alloc,
-        0,
-        60,
-        node(0, b0, along_z),
-        node(60, b1, along_z),
-    )?;
+    let a = moving(alloc, 0, 60, a0, a1, along_y)?;
+    let b = moving(alloc, 0, 60, b0, b1, along_z)?;
     problem_of(alloc, track_of(alloc, a)?, track_of(alloc, b)?)
 }
 
@@ -227,16 +77,16 @@ fn runs_in(alloc: Global, problem: &Problem, slot: u32) -> Result<Vec<(u64, u64)
     let mut runs = Vec::new(alloc);
     for root in &roots {
         runs.push((
-            root.first.micros.saturating_sub(START),
-            root.last.micros.saturating_sub(START),
+            root.first.micros.saturating_sub(tick(0).micros),
+            root.last.micros.saturating_sub(tick(0).micros),
         ))?;
     }
     Ok(runs)
 }
 
 /// The leaves of the first root of the crossing.
-fn first_leaves(rt: &impl Abort, alloc: Global, limit: u64) -> Result<Vec<Leaf>, RefineError> {
-    let problem = crossing(rt, alloc)?;
+fn first_leaves(alloc: Global, limit: u64) -> Result<Vec<Leaf>, RefineError> {
+    let problem = crossing(alloc)?;
     let mut roots = Vec::new(alloc);
     roots_of_slot(alloc, &problem, 0, &BOTH, 1, &mut roots)?;
     refine_all(alloc, &problem, &roots, limit)
@@ -258,7 +108,7 @@ fn count(leaves: &[Leaf], kind: Kind) -> usize {
 
 #[test]
 fn tracks_that_cross_have_49_leaves_in_a_minute(rt: HostRuntime) -> Result<(), Fail> {
-    let leaves = first_leaves(&rt, rt.alloc(), 49)?;
+    let leaves = first_leaves(rt.alloc(), 49)?;
     assert_eq!(rt; leaves.len(), 49);
     assert_eq!(rt; count(&leaves, Kind::Far), 22);
     assert_eq!(rt; count(&leaves, Kind::Near), 27);
@@ -266,16 +116,13 @@ fn tracks_that_cross_have_49_leaves_in_a_minute(rt: HostRuntime) -> Result<(), F
     assert_eq!(rt; near.map(|leaf| leaf.cell.first), Some(tick(29_538_120)));
     let near = leaves.iter().rev().find(|leaf| leaf.kind == Kind::Near);
     assert_eq!(rt; near.map(|leaf| leaf.cell.last), Some(tick(30_461_880)));
-    assert_eq!(rt;
-        first_leaves(&rt, rt.alloc(), 48),
-        Err(RefineError::TooMany)
-    );
+    assert_eq!(rt; first_leaves(rt.alloc(), 48), Err(RefineError::TooMany));
     Ok(())
 }
 
 #[test]
 fn one_tick_behind_the_minute_has_a_leaf_too(rt: HostRuntime) -> Result<(), Fail> {
-    let problem = crossing(&rt, rt.alloc())?;
+    let problem = crossing(rt.alloc())?;
     assert_eq!(rt; all_leaves(rt.alloc(), &problem, 50)?.len(), 50);
     assert_eq!(rt;
         all_leaves(rt.alloc(), &problem, 49),
@@ -287,10 +134,10 @@ fn one_tick_behind_the_minute_has_a_leaf_too(rt: HostRuntime) -> Result<(), Fail
 #[test]
 fn a_shared_tick_begins_the_later_run(rt: HostRuntime) -> Result<(), Fail> {
     let alloc = rt.alloc();
-    let one = rest(&rt, alloc, 0, 30, AT_7000)?;
-    let other = rest(&rt, alloc, 30, 60, AT_7100)?;
+    let one = rest(alloc, 0, 30, AT_7000)?;
+    let other = rest(alloc, 30, 60, AT_7100)?;
     let a = track_of_two(alloc, one, other)?;
-    let b = track_of(alloc, rest(&rt, alloc, 0, 60, AT_7005)?)?;
+    let b = track_of(alloc, rest(alloc, 0, 60, AT_7005)?)?;
     let problem = problem_of(alloc, a, b)?;
     assert_eq!(rt;
         runs_in(alloc, &problem, 0)?.as_slice(),
@@ -307,10 +154,10 @@ fn a_shared_tick_begins_the_later_run(rt: HostRuntime) -> Result<(), Fail> {
 #[test]
 fn a_gap_is_in_no_run(rt: HostRuntime) -> Result<(), Fail> {
     let alloc = rt.alloc();
-    let one = rest(&rt, alloc, 0, 20, AT_7000)?;
-    let other = rest(&rt, alloc, 40, 60, AT_7000)?;
+    let one = rest(alloc, 0, 20, AT_7000)?;
+    let other = rest(alloc, 40, 60, AT_7000)?;
     let a = track_of_two(alloc, one, other)?;
-    let b = track_of(alloc, rest(&rt, alloc, 0, 60, AT_7005)?)?;
+    let b = track_of(alloc, rest(alloc, 0, 60, AT_7005)?)?;
     let problem = problem_of(alloc, a, b)?;
     assert_eq!(rt;
         runs_in(alloc, &problem, 0)?.as_slice(),
@@ -324,16 +171,14 @@ fn a_gap_is_in_no_run(rt: HostRuntime) -> Result<(), Fail> {
 #[test]
 fn spans_that_meet_at_one_tick(rt: HostRuntime) -> Result<(), Fail> {
     let alloc = rt.alloc();
-    let early = segment(
-        &rt,
+    let early = useable(
         alloc,
         0,
         30,
         node(0, AT_7000, REST),
         node(60, AT_7000, REST),
     )?;
-    let late = segment(
-        &rt,
+    let late = useable(
         alloc,
         30,
         60,
@@ -354,7 +199,7 @@ fn spans_that_meet_at_one_tick(rt: HostRuntime) -> Result<(), Fail> {
 #[test]
 fn a_look_halves_at_the_middle(rt: HostRuntime) -> Result<(), Fail> {
     let alloc = rt.alloc();
-    let problem = crossing(&rt, alloc)?;
+    let problem = crossing(alloc)?;
     let mut roots = Vec::new(alloc);
     roots_of_slot(alloc, &problem, 0, &BOTH, 1, &mut roots)?;
     assert_eq!(rt; roots.len(), 1);
@@ -375,9 +220,7 @@ fn a_look_halves_at_the_middle(rt: HostRuntime) -> Result<(), Fail> {
     Ok(())
 }
 
-fn one_tick(pair: Pair, root: u32, micros: u64) -> Cell
-    requires { micros ≤ 100000000 }
-{
+fn one_tick(pair: Pair, root: u32, micros: u32) -> Cell {
     Cell {
         pair,
         root,

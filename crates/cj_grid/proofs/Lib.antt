@@ -1,4 +1,4 @@
-pub mod BoxingLemmas
-pub mod GrowingLemmas
+pub mod JoinedBoxLemmas
 pub mod PairingLemmas
-pub mod TouchLemmas
+pub mod ReachedLemmas
+pub mod TrackBoxLemmas

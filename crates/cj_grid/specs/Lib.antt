@@ -1,1 +1,2 @@
-pub mod Growing
+pub mod JoinedBoxes
+pub mod Reached

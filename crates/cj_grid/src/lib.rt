@@ -1,16 +1,18 @@
 //! Slot boxes: the boxes round the parts of a track in a minute, and the pairs of objects whose boxes touch.
 #![tactic(auto)]
 
-mod boxing;
-mod comparing;
-mod growing;
-mod pairing;
+mod box_touch;
+mod joined_boxes;
+mod reached;
 mod steps;
+mod touching_pairs;
+mod track_box;
 
-pub use boxing::slot_box;
-pub use comparing::touches;
-pub use pairing::touching;
+pub use box_touch::touches;
+pub use cj_bezier::AxisBox;
 pub use steps::Steps;
+pub use touching_pairs::{touching, touching_of};
+pub use track_box::slot_box;
 
 #[cfg(test)]
 mod tests;

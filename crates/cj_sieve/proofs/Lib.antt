@@ -1,3 +1,2 @@
+pub mod JoinedGapLemmas
 pub mod KeptLemmas
-pub mod PartedLemmas
-pub mod RoundLemmas

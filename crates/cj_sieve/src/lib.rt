@@ -1,14 +1,14 @@
 //! The perigee and apogee filter: the shells in which tracks stay, and the pairs whose shells are not parted.
 #![tactic(auto)]
 
-mod keeping;
-mod parting;
-mod shelling;
-mod widening;
+mod joined_gaps;
+mod pair_filter;
+mod parted_shells;
+mod track_shell;
 
-pub use keeping::kept_pairs;
-pub use parting::parted;
-pub use shelling::shell;
+pub use pair_filter::kept_pairs;
+pub use parted_shells::parted;
+pub use track_shell::shell;
 
 #[cfg(test)]
 mod tests;

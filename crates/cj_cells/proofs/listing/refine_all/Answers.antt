@@ -1,12 +1,12 @@
-use Rattle.std.proofs.Common.{◌≡◌, ◌+◌, ◌<◌, ◌≤◌, ◌++◌, ℕ, List, length, take, drop, vec_len, All, refl, sym, ap, subst, ◌∙◌, arith}
+use Rattle.std.proofs.Common.{◌≡◌, ◌+◌, ◌<◌, ◌++◌, ℕ, List, length, take, drop, vec_len, All, sym, ap, subst, ◌∙◌, arith}
 use Rattle.std.proofs.lemmas.Result.{err_from_is_err_and}
 use Rattle.std.proofs.lemmas.List.{length-map, take_all}
 use Rattle.cj_bezier.specs.declared.cell.Cell.{Cell}
-use Rattle.cj_bezier.specs.Leaves.{Stretch, stretch_of, stretches_of}
-use Rattle.cj_hermite.specs.Problems.{case_of}
-use Rattle.cj_cells.specs.Roots.{KeepIntervals}
-use Rattle.cj_cells.specs.Cells.{root_of_cell, roots_in_cells, added_stretches}
-use Rattle.cj_cells.specs.Lists.{leaves_of_root, leaves_of_roots, Describe}
+use Rattle.cj_bezier.specs.Leaves.{PlainLeaf, plain_leaf, plain_leaves}
+use Rattle.cj_hermite.specs.Problems.{plain_problem}
+use Rattle.cj_bezier.specs.Cells.{plain_cell, plain_cells}
+use Rattle.cj_cells.specs.Cells.{added_stretches}
+use Rattle.cj_bezier.specs.RootLeaves.{leaves_of_root, leaves_of_roots, Describe}
 use Rattle.cj_cells.proofs.SlotRootLemmas.{count_of}
 use Rattle.cj_cells.proofs.ListingLemmas.{error_is, stretches_more, leaves_of_cells, root_more, roots_apart, described_more}
 use Rattle.cj_cells.proofs.listing.refine_all.Goals as goal
@@ -15,7 +15,7 @@ pub loop-root-init : goal.loop-root-init
 unfolding leaves_of_roots
 loop-root-init c = record {
   room = omega (arith, c.new-leaves.ensures.len);
-  found = ap stretches_of c.new-leaves.ensures.items;
+  found = ap plain_leaves c.new-leaves.ensures.items;
   leaves = λ k d lt. absurd (omega arith);
 }
 
@@ -23,19 +23,19 @@ pub returns-in_err-refine-clause-too_many : goal.returns-in_err-refine-clause-to
 returns-in_err-refine-clause-too_many c =
     let i = c.loop-root.invariant in
     let p = err_from_is_err_and c.from_residual.result c.from_residual.ensures.1 in
-    let case = case_of c.args.problem.now in
+    let case = plain_problem c.args.problem.now in
     let roots = c.args.roots.now in
     let at = c.loop-root.root-index in
     let lt : at < length roots = omega arith in
-    let count = count_of (leaves_of_cells case (take at roots)) (leaves_of_root case (root_of_cell c.root-item.result)) (leaves_of_cells case (drop (at + 1) roots)) (leaves_of_cells case roots)
+    let count = count_of (leaves_of_cells case (take at roots)) (leaves_of_root case (plain_cell c.root-item.result)) (leaves_of_cells case (drop (at + 1) roots)) (leaves_of_cells case roots)
     (roots_apart case at roots c.root-item.result lt c.root-item.is) in
     let found = ap length i.found in
-    rw (p.1, p.2) (λ is. let many = c.in_err-refine.ensures.too_many (error_is _ _ is) in omega (arith, many, count, found, length-map c.loop-root.leaves.items stretch_of, c.loop-root.leaves.ok.0))
+    rw (p.1, p.2) (λ is. let many = c.in_err-refine.ensures.too_many (error_is _ _ is) in omega (arith, many, count, found, length-map c.loop-root.leaves.items plain_leaf, c.loop-root.leaves.ok.0))
 
 pub loop-root-preserved : goal.loop-root-preserved
 loop-root-preserved c =
     let i = c.loop-root.invariant in
-    let case = case_of c.args.problem.now in
+    let case = plain_problem c.args.problem.now in
     let roots = c.args.roots.now in
     let at = c.loop-root.root-index in
     let lt : at < length roots = omega arith in
@@ -45,8 +45,8 @@ loop-root-preserved c =
     let kept = subst (λ (k : ℕ). take k new ≡ old) n c.in_ok-refine.ensures.kept in
     record {
       room = c.in_ok-refine.ensures.within;
-      found = stretches_more old new kept ∙ ap (λ (ss : List Stretch). ss ++ added_stretches old new) i.found
-          ∙ ap (λ (ss : List Stretch). leaves_of_cells case (take at roots) ++ ss) c.in_ok-refine.ensures.ok
+      found = stretches_more old new kept ∙ ap (λ (ss : List PlainLeaf). ss ++ added_stretches old new) i.found
+          ∙ ap (λ (ss : List PlainLeaf). leaves_of_cells case (take at roots) ++ ss) c.in_ok-refine.ensures.ok
           ∙ sym (root_more case at roots c.root-item.result lt c.root-item.is);
       leaves = described_more (λ root. Describe case root (leaves_of_root case root)) at roots c.root-item.result lt c.root-item.is i.leaves c.in_ok-refine.ensures.leaves;
     }
@@ -54,5 +54,5 @@ loop-root-preserved c =
 pub returns-clause-leaves : goal.returns-clause-leaves
 returns-clause-leaves c =
     let i = c.loop-root.invariant in
-    let case = case_of c.args.problem.now in
-    subst (λ (cells : List Cell). All (λ root. Describe case root (leaves_of_root case root)) (roots_in_cells cells)) (take_all c.loop-root.root-index c.args.roots.now (omega arith)) i.leaves
+    let case = plain_problem c.args.problem.now in
+    subst (λ (cells : List Cell). All (λ root. Describe case root (leaves_of_root case root)) (plain_cells cells)) (take_all c.loop-root.root-index c.args.roots.now (omega arith)) i.leaves

@@ -1,7 +1,4 @@
-use Rattle.std.proofs.Common.{refl, ◌∙◌, ◌<◌, length, arith, ap, sym}
-use Rattle.std.proofs.lemmas.List.{get_or_read}
-use Rattle.cj_bezier.specs.declared.cell.Cell.{Cell}
-use Rattle.cj_cells.specs.Cells.{root_of_cell}
+use Rattle.std.proofs.Common.{refl, ◌∙◌, ◌<◌, length, arith}
 use Rattle.cj_cells.proofs.OrderLemmas.{same_place, numbered_more}
 use Rattle.cj_cells.proofs.ordering.number.Goals as goal
 

@@ -1,15 +1,32 @@
-use Rattle.std.proofs.Common.{◌≡◌, ℕ, ◌+◌, ◌-◌, ◌<◌, ◌≤◌, List, length, ◌++◌, [], ◌∷◌, get_or, take, drop, Some, None, refl, sym, ap, ◌∙◌, subst, arith, rules}
-use Rattle.cj_hermite.specs.Interpolant.{curve_of, IsOver}
+use Rattle.std.proofs.Common.{◌≡◌, ◌+◌, ◌-◌, ◌<◌, ◌≤◌, length, ◌++◌, [], ◌∷◌, get_or, take, drop, refl, sym, ap, ◌∙◌, arith}
+use Rattle.cj_hermite.specs.Ready.{curve_ready}
 use Rattle.std.proofs.lemmas.List.{take_all, drop_all, length-set}
 use Rattle.std.proofs.lemmas.List.Elements.{All-nil, All-same}
 use Rattle.cj_bezier.specs.declared.cell.Cell.{Cell}
-use Rattle.cj_bezier.specs.Leaves.{Stretch, stretch_of, stretches_of}
-use Rattle.cj_cells.specs.Lists.{kind_between}
-use Rattle.cj_cells.specs.Halving.{leaves_between, closed}
+use Rattle.cj_bezier.specs.Leaves.{PlainLeaf, plain_leaf, plain_leaves}
+use Rattle.cj_bezier.specs.RootLeaves.{kind_between}
+use Rattle.cj_bezier.specs.Halving.{leaves_between, closed}
 use Rattle.cj_cells.specs.Cells.{added_stretches}
-use Rattle.cj_cells.proofs.JudgeLemmas.{settled_over}
-use Rattle.cj_cells.proofs.RefineLemmas.{rest, Fit, part_bounds, closed_fit, halved_place, halved_fit, halved_rest, closed_rest, part_ticks, part_halved, more_behind, added_length, nothing_waits, added_more, kept_more, root_more, rest-all, fit_all}
+use Rattle.cj_cells.proofs.RefineLemmas.{rest, part_bounds, closed_fit, halved_place, halved_fit, closed_rest, part_ticks, part_halved, more_behind, added_length, nothing_waits, added_more, kept_more, root_more, rest-all, fit_all}
 use Rattle.cj_cells.proofs.refining.refine_between.Goals as goal
+use Rattle.cj_cells.proofs.refining.refine_between.Goals.{After-index-lasts-top, In-Halves}
+
+-- the part at the top lies in the cell
+bounds : (c : After-index-lasts-top) → let last = (get_or c.loop-top.lasts c.loop-top.top c.index-lasts-top.result).micros in (c.loop-top.first ≤ last) × (last ≤ c.args.cell.last.micros)
+bounds c = part_bounds c.args.cell.last.micros c.loop-top.first c.loop-top.top c.loop-top.lasts c.index-lasts-top.result (omega arith) c.loop-top.invariant.fit
+
+-- a part that is halved has two ticks or more
+two_ticks : (c : In-Halves) → c.loop-top.first < (get_or c.loop-top.lasts c.loop-top.top c.index-lasts-top.result).micros
+two_ticks c =
+    let i = c.loop-top.invariant in
+    let cell = c.args.cell in
+    part_ticks (curve_ready c.args.a.now) (curve_ready c.args.b.now) c.args.thr cell.pair.a cell.pair.b cell.first.micros cell.last.micros c.loop-top.first c.loop-top.top c.loop-top.lasts c.index-lasts-top.result
+    c.requires.least c.requires.first_over c.requires.second_over i.from (omega arith) i.fit (sym c.in-Halves.ensures.kind)
+
+-- such a part is not at the first place
+place : (c : In-Halves) → 1 ≤ c.loop-top.top
+place c =
+    halved_place c.args.cell.last.micros c.loop-top.first c.loop-top.top c.loop-top.lasts c.index-lasts-top.result (omega arith) c.loop-top.invariant.fit (two_ticks c)
 
 pub loop-top-init : goal.loop-top-init
 loop-top-init c =
@@ -23,8 +40,8 @@ loop-top-init c =
       place = omega arith;
       room = c.requires.room;
       fit = fit_all cell.first.micros 32 cell.last cell.some (omega (arith, over.from, over.to, a.short));
-      whole = ap (λ ls. stretches_of ls ++ rest (kind_between (curve_of a) (curve_of c.args.b.now) c.args.thr) cell.pair.a cell.pair.b cell.first.micros (cell.last ∷ [])) none
-          ∙ rest-all (kind_between (curve_of a) (curve_of c.args.b.now) c.args.thr) cell.pair.a cell.pair.b cell.first.micros cell.last;
+      whole = ap (λ ls. plain_leaves ls ++ rest (kind_between (curve_ready a) (curve_ready c.args.b.now) c.args.thr) cell.pair.a cell.pair.b cell.first.micros (cell.last ∷ [])) none
+          ∙ rest-all (kind_between (curve_ready a) (curve_ready c.args.b.now) c.args.thr) cell.pair.a cell.pair.b cell.first.micros cell.last;
       kept = take_all (length c.args.leaves.now.items) c.args.leaves.now.items (omega arith);
       root = All-same (λ l. l.cell.root ≡ cell.root) _ [] none (All-nil (λ l. l.cell.root ≡ cell.root));
     }
@@ -33,8 +50,8 @@ pub returns-then-len-limit-clause-too_many : goal.returns-then-len-limit-clause-
 returns-then-len-limit-clause-too_many c _ =
     let i = c.loop-top.invariant in
     let cell = c.args.cell in
-    let a = curve_of c.args.a.now in
-    let b = curve_of c.args.b.now in
+    let a = curve_ready c.args.a.now in
+    let b = curve_ready c.args.b.now in
     let more = more_behind a b c.args.thr cell.pair.a cell.pair.b cell.first.micros cell.last.micros c.loop-top.first c.loop-top.top c.loop-top.lasts cell.last
     (added_stretches c.args.leaves.now.items c.loop-top.leaves.items) (leaves_between (kind_between a b c.args.thr) cell.pair.a cell.pair.b cell.first.micros cell.last.micros)
     c.requires.least c.requires.first_over c.requires.second_over i.from (omega arith) i.fit i.whole in
@@ -43,34 +60,31 @@ returns-then-len-limit-clause-too_many c _ =
 
 pub invariant_of-part : goal.invariant_of-part
 invariant_of-part c =
-    let i = c.loop-top.invariant in
-    let b = part_bounds c.args.cell.last.micros c.loop-top.first c.loop-top.top c.loop-top.lasts c.index-lasts-top.result (omega arith) i.fit in
+    let b = bounds (goal.at.invariant_of-part c).After-index-lasts-top in
     let cell = c.args.cell in
     record { in_range = (omega (arith, cell.first.in_range.0), omega (arith, b.0, b.1, cell.last.in_range.1)) }
 
 pub invariant_of-part-in-loop-top : goal.invariant_of-part-in-loop-top
 invariant_of-part-in-loop-top c =
-    let i = c.loop-top.invariant in
-    record { some = (part_bounds c.args.cell.last.micros c.loop-top.first c.loop-top.top c.loop-top.lasts c.index-lasts-top.result (omega arith) i.fit).0 }
+    record { some = (bounds (goal.at.invariant_of-part-in-loop-top c).After-index-lasts-top).0 }
 
 pub look_at-requires-clause-first_over : goal.look_at-requires-clause-first_over
 look_at-requires-clause-first_over c =
     let i = c.loop-top.invariant in
-    let b = part_bounds c.args.cell.last.micros c.loop-top.first c.loop-top.top c.loop-top.lasts c.index-lasts-top.result (omega arith) i.fit in
+    let b = bounds (goal.at.look_at-requires-clause-first_over c).After-index-lasts-top in
     let over = c.requires.first_over in
     record { some = over.some; from = omega (arith, over.from, i.from); to = omega (arith, over.to, b.1) }
 
 pub look_at-requires-clause-second_over : goal.look_at-requires-clause-second_over
 look_at-requires-clause-second_over c =
     let i = c.loop-top.invariant in
-    let b = part_bounds c.args.cell.last.micros c.loop-top.first c.loop-top.top c.loop-top.lasts c.index-lasts-top.result (omega arith) i.fit in
+    let b = bounds (goal.at.look_at-requires-clause-second_over c).After-index-lasts-top in
     let over = c.requires.second_over in
     record { some = over.some; from = omega (arith, over.from, i.from); to = omega (arith, over.to, b.1) }
 
 pub loop-top-smaller-in-Closed : goal.loop-top-smaller-in-Closed
 loop-top-smaller-in-Closed c =
-    let i = c.loop-top.invariant in
-    let b = part_bounds c.args.cell.last.micros c.loop-top.first c.loop-top.top c.loop-top.lasts c.index-lasts-top.result (omega arith) i.fit in
+    let b = bounds (goal.at.loop-top-smaller-in-Closed c).After-index-lasts-top in
     omega (arith, b.0, b.1)
 
 pub loop-top-preserved-in-Closed : goal.loop-top-preserved-in-Closed
@@ -80,12 +94,12 @@ loop-top-preserved-in-Closed c =
     let leaf = c.in-Closed.leaf in
     let old = c.args.leaves.now.items in
     let items = c.loop-top.leaves.items in
-    let b = part_bounds cell.last.micros c.loop-top.first c.loop-top.top c.loop-top.lasts c.index-lasts-top.result (omega arith) i.fit in
+    let b = bounds (goal.at.loop-top-preserved-in-Closed c).After-index-lasts-top in
     let same = c.in-Closed.ensures.closed in
-    let judge = kind_between (curve_of c.args.a.now) (curve_of c.args.b.now) c.args.thr in
+    let judge = kind_between (curve_ready c.args.a.now) (curve_ready c.args.b.now) c.args.thr in
     let last = (get_or c.loop-top.lasts c.loop-top.top c.index-lasts-top.result).micros in
-    let shown : stretch_of leaf ≡ closed cell.pair.a cell.pair.b c.loop-top.first last leaf.kind =
-    ap (λ (x : Cell). let s : Stretch = record { a = x.pair.a; b = x.pair.b; first = x.first.micros; last = x.last.micros; kind = leaf.kind } in s) same in
+    let shown : plain_leaf leaf ≡ closed cell.pair.a cell.pair.b c.loop-top.first last leaf.kind =
+    ap (λ (x : Cell). let s : PlainLeaf = record { a = x.pair.a; b = x.pair.b; first = x.first.micros; last = x.last.micros; kind = leaf.kind } in s) same in
     let pushed = c.in_ok-push-in-Closed.ensures.items in
     record {
       from = omega (arith, i.from, b.0);
@@ -104,32 +118,22 @@ loop-top-preserved-in-Closed c =
     }
 
 pub overflow_sub-top-in-Halves : goal.overflow_sub-top-in-Halves
-overflow_sub-top-in-Halves c =
-    let i = c.loop-top.invariant in
-    let cell = c.args.cell in
-    halved_place cell.last.micros c.loop-top.first c.loop-top.top c.loop-top.lasts c.index-lasts-top.result (omega arith) i.fit
-    (part_ticks (curve_of c.args.a.now) (curve_of c.args.b.now) c.args.thr cell.pair.a cell.pair.b cell.first.micros cell.last.micros c.loop-top.first c.loop-top.top c.loop-top.lasts c.index-lasts-top.result
-    c.requires.least c.requires.first_over c.requires.second_over i.from (omega arith) i.fit (sym c.in-Halves.ensures.kind))
+overflow_sub-top-in-Halves c = place (goal.at.overflow_sub-top-in-Halves c).In-Halves
 
 pub loop-top-smaller : goal.loop-top-smaller
 loop-top-smaller c =
-    let i = c.loop-top.invariant in
-    let cell = c.args.cell in
-    let place = halved_place cell.last.micros c.loop-top.first c.loop-top.top c.loop-top.lasts c.index-lasts-top.result (omega arith) i.fit
-    (part_ticks (curve_of c.args.a.now) (curve_of c.args.b.now) c.args.thr cell.pair.a cell.pair.b cell.first.micros cell.last.micros c.loop-top.first c.loop-top.top c.loop-top.lasts c.index-lasts-top.result
-    c.requires.least c.requires.first_over c.requires.second_over i.from (omega arith) i.fit (sym c.in-Halves.ensures.kind)) in
-    omega (arith, place)
+    let some = place (goal.at.loop-top-smaller c).In-Halves in
+    omega (arith, some)
 
 pub loop-top-preserved : goal.loop-top-preserved
 loop-top-preserved c =
     let i = c.loop-top.invariant in
     let cell = c.args.cell in
-    let a = curve_of c.args.a.now in
-    let b = curve_of c.args.b.now in
+    let a = curve_ready c.args.a.now in
+    let b = curve_ready c.args.b.now in
     let none = sym c.in-Halves.ensures.kind in
     let halves = c.in-Halves.ensures.halved in
-    let more = part_ticks a b c.args.thr cell.pair.a cell.pair.b cell.first.micros cell.last.micros c.loop-top.first c.loop-top.top c.loop-top.lasts c.index-lasts-top.result
-    c.requires.least c.requires.first_over c.requires.second_over i.from (omega arith) i.fit none in
+    let more = two_ticks (goal.at.loop-top-preserved c).In-Halves in
     record {
       from = i.from;
       places = length-set c.loop-top.lasts (c.loop-top.top - 1) c.in-Halves.left.last ∙ i.places;
@@ -146,7 +150,7 @@ loop-top-preserved c =
 
 pub returns-clause-ok : goal.returns-clause-ok
 returns-clause-ok c =
-    nothing_waits (kind_between (curve_of c.args.a.now) (curve_of c.args.b.now) c.args.thr) c.args.cell.pair.a c.args.cell.pair.b c.loop-top.first c.loop-top.top c.loop-top.lasts
+    nothing_waits (kind_between (curve_ready c.args.a.now) (curve_ready c.args.b.now) c.args.thr) c.args.cell.pair.a c.args.cell.pair.b c.loop-top.first c.loop-top.top c.loop-top.lasts
     (added_stretches c.args.leaves.now.items c.loop-top.leaves.items)
-    (leaves_between (kind_between (curve_of c.args.a.now) (curve_of c.args.b.now) c.args.thr) c.args.cell.pair.a c.args.cell.pair.b c.args.cell.first.micros c.args.cell.last.micros)
+    (leaves_between (kind_between (curve_ready c.args.a.now) (curve_ready c.args.b.now) c.args.thr) c.args.cell.pair.a c.args.cell.pair.b c.args.cell.first.micros c.args.cell.last.micros)
     (let i = c.loop-top.invariant in omega (arith, i.places)) c.loop-top.invariant.whole

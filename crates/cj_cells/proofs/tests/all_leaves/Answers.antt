@@ -1,9 +1,9 @@
 use Rattle.std.proofs.Common.{◌≡◌, ◌∙◌, ℕ, List, ◌++◌, All, vec_len, take, drop, sym, ap, subst}
 use Rattle.std.proofs.lemmas.List.{take-append-drop}
 use Rattle.std.proofs.lemmas.List.Elements.{All-nil, All-append}
-use Rattle.cj_hermite.specs.Problems.{case_of}
+use Rattle.cj_hermite.specs.Problems.{plain_problem}
 use Rattle.cj_bezier.specs.declared.cell.Cell.{Cell}
-use Rattle.cj_cells.specs.Roots.{KeepIntervals}
+use Rattle.cj_hermite.specs.Roots.{KeepIntervals}
 use Rattle.cj_cells.proofs.tests.all_leaves.Goals as goal
 
 -- what holds of the old ones and of those behind them holds of all
@@ -14,7 +14,7 @@ with_more P n old new before kept more =
 
 pub refine_all-requires : goal.refine_all-requires
 refine_all-requires c =
-    let P : Cell → Type 0 = λ cell. KeepIntervals (case_of c.args.problem.now) cell.pair.a cell.pair.b cell.first.micros cell.last.micros in
+    let P : Cell → Type 0 = λ cell. KeepIntervals (plain_problem c.args.problem.now) cell.pair.a cell.pair.b cell.first.micros cell.last.micros in
     let none = c.new-roots.result.items in
     let one = c.roots_of_slot.new.roots.items in
     let both = c.roots_of_slot-2.new.roots.items in

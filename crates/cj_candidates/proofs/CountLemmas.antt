@@ -1,0 +1,71 @@
+-- How many pairs there are, and how many of them are looked at.
+use Rattle.std.proofs.Common.{◌≡◌, ℕ, zero, suc, ◌+◌, ◌-◌, ◌*◌, ◌/◌, ◌<◌, ◌≤◌, ◌++◌, Bool, List, [], ◌∷◌, length, map, filter, refl, sym, ap, subst, ◌∙◌, arith, length-append}
+use Rattle.std.specs.List.{flat_map, range_with_len, sum_by, count_by}
+use Rattle.std.proofs.Math.Nat.{mul-suc, suc-mul}
+use Rattle.std.proofs.lemmas.Nat.{column_fits}
+use Rattle.std.proofs.lemmas.List.{length-map}
+use Rattle.std.proofs.lemmas.List.Sums.{length-filter, count_by-le-length, sum_by-append, sum_by-cons}
+use Rattle.cj_hermite.specs.PlainProblems.{PlainProblem}
+use Rattle.cj_hermite.specs.Pairs.{pairs_of}
+use Rattle.cj_hermite.proofs.PairLemmas.{pairs_from, range_more}
+use Rattle.cj_bezier.specs.Looked.{is_kept, is_looked, pairs_kept, pairs_looked}
+
+length-range : (a n : ℕ) → length (range_with_len a n) ≡ n
+length-range a zero = refl
+length-range a (suc n) = let rest = length-range (a + 1) n in omega arith
+
+-- the pairs of the last k of n objects
+rows : (n a k : ℕ) → a + k ≡ n → 2 * length (flat_map (pairs_from n) (range_with_len a k)) + k ≡ k * k
+rows n a zero e = refl
+rows n a (suc k) e =
+    let rest = rows n (a + 1) k (omega arith) in
+    let row : length (pairs_from n a) ≡ k =
+    length-map (range_with_len (a + 1) (n - (a + 1))) (λ (b : ℕ). let p : ℕ × ℕ = (a, b) in p) ∙ length-range (a + 1) (n - (a + 1)) ∙ omega arith in
+    let square : suc k * suc k ≡ k * k + k + suc k = mul-suc (suc k) k ∙ ap (λ m. m + suc k) (suc-mul k k) in
+    omega (arith, length-append (pairs_from n a) (flat_map (pairs_from n) (range_with_len (a + 1) k)))
+
+pub pair_twice : (n : ℕ) → 2 * length (pairs_of n) + n ≡ n * n
+pair_twice n = rows n 0 n (omega arith)
+
+-- the number of pairs
+pub pair_number : (n m : ℕ) → m ≡ n * (n - 1) → length (pairs_of n) ≡ m / 2
+pair_number zero m e = let twice = pair_twice 0 in omega arith
+pair_number (suc n) m e =
+    let twice = pair_twice (suc n) in
+    let square = mul-suc (suc n) n in
+    let less : suc n - 1 ≡ n = omega arith in
+    let same : m ≡ suc n * n = e ∙ ap (λ k. suc n * k) less in
+    omega arith
+
+square_few : (n : ℕ) → n ≤ 2000 → n * n ≤ 4_000_000
+square_few zero few = omega arith
+square_few (suc n) few =
+    let fits = column_fits (suc n) n 2000 2000 (omega arith) few in
+    let square = mul-suc (suc n) n in
+    omega arith
+
+-- the pairs that are looked at in a slot are few
+pub looked_few : (case : PlainProblem) (slot : ℕ) → length case.ephemerides ≤ 2000 → length (pairs_looked case slot) ≤ 4_000_000
+looked_few case slot few =
+    let n = length case.ephemerides in
+    let all = length-filter (λ pair. is_looked case pair.0 pair.1 slot) (pairs_of n) in
+    let some = count_by-le-length (λ pair. is_looked case pair.0 pair.1 slot) (pairs_of n) in
+    let twice = pair_twice n in
+    let square = square_few n few in
+    omega arith
+
+-- one slot more
+pub looked_more : (case : PlainProblem) (k : ℕ) → sum_by (λ slot. length (pairs_looked case slot)) (range_with_len 0 (k + 1)) ≡ sum_by (λ slot. length (pairs_looked case slot)) (range_with_len 0 k) + length (pairs_looked case k)
+looked_more case k =
+    let f = λ (slot : ℕ). length (pairs_looked case slot) in
+    ap (sum_by f) (range_more 0 k) ∙ sum_by-append f (range_with_len 0 k) ((0 + k) ∷ [])
+    ∙ ap (λ n. sum_by f (range_with_len 0 k) + n) (sum_by-cons f (0 + k) [])
+    ∙ (let e : f (0 + k) + sum_by f [] ≡ f k = (let same : 0 + k ≡ k = omega arith in ap (λ (j : ℕ). f j + 0) same ∙ omega arith) in ap (λ n. sum_by f (range_with_len 0 k) + n) e)
+
+-- no more pairs are kept than there are
+pub kept_le : (case : PlainProblem) (n : ℕ) → n ≡ length case.ephemerides → length (pairs_kept case) ≤ length (pairs_of n)
+kept_le case n same =
+    let all = length-filter (is_kept case) (pairs_of (length case.ephemerides)) in
+    let some = count_by-le-length (is_kept case) (pairs_of (length case.ephemerides)) in
+    let count = ap (λ (k : ℕ). length (pairs_of k)) same in
+    omega arith

@@ -1,0 +1,3 @@
+mod BoxLemmas
+pub mod CountLemmas
+mod ObjectLemmas

@@ -1,0 +1,168 @@
+-- Shells and boxes, object by object, and what they say.
+use Rattle.std.proofs.Common.{◌≡◌, ℕ, zero, suc, ◌+◌, ◌<◌, ◌≤◌, ◌++◌, ◌&&◌, Bool, true, false, cond, List, [], ◌∷◌, length, get_or, map, take, filter, Option, Some, None, refl, sym, ap, subst, ◌∙◌, arith}
+use Rattle.std.specs.Prelude.{All, IfSome, IfNone, option_map, option_and_then, slice_get}
+use Rattle.std.proofs.lemmas.List.{take_more, map-append, length-map}
+use Rattle.std.proofs.lemmas.List.Elements.{All-push, All-same}
+use Rattle.cj_interval.proofs.ListLemmas.{Each, Each-weaker, All-from_each, each_from_map}
+use Rattle.cj_track.specs.declared.track.Track.{Track}
+use Rattle.cj_track.specs.PlainTracks.{PlainTrack}
+use Rattle.cj_track.specs.Tracks.{plain_track}
+use Rattle.cj_hermite.specs.declared.pair.Pair.{Pair}
+use Rattle.cj_hermite.specs.PlainProblems.{PlainProblem}
+use Rattle.cj_hermite.specs.Pairs.{objects_of, pairs_of}
+use Rattle.cj_hermite.specs.Pieces.{interval_at, curve_of_interval}
+use Rattle.cj_hermite.specs.Slots.{slot_count, slot_first, slot_last}
+use Rattle.cj_hermite.specs.Walks.{HasNone}
+use Rattle.cj_hermite.proofs.PairLemmas.{IsPair, Each-pairs}
+use Rattle.cj_bezier.specs.declared.axis_box.AxisBox.{AxisBox}
+use Rattle.cj_bezier.specs.declared.shells.Shell.{Shell}
+use Rattle.cj_bezier.specs.Shells.{IsRadiusWithin, keeps, shell_of}
+use Rattle.cj_bezier.specs.SlotBoxes.{PlainBox, IsPlaceIn, plain_boxes, box_of, plain_box, touch}
+use Rattle.cj_bezier.specs.Looked.{boxes_in, is_kept, is_touching, is_looked, pairs_kept, pairs_looked, shells_of}
+use Rattle.cj_bezier.specs.Enclosed.{AreInBoxes, AreInShells, IsInBox, IsInShell}
+
+-- the first so many objects
+abbrev pub objects_to : ℕ → List Track → List PlainTrack
+objects_to i tracks = map plain_track (take i tracks)
+
+pub one_more : (i : ℕ) (tracks : List Track) (t : Track) → i < length tracks → t ≡ get_or tracks i t → objects_to (i + 1) tracks ≡ objects_to i tracks ++ plain_track t ∷ []
+one_more i tracks t lt is =
+    ap (λ (ts : List Track). map plain_track ts) (take_more tracks i t lt) ∙ map-append plain_track (take i tracks) (get_or tracks i t ∷ [])
+    ∙ ap (λ (x : Track). objects_to i tracks ++ plain_track x ∷ []) (sym is)
+
+-- what is made of each object
+pub made_more : {A : Type 0} (f : PlainTrack → A) (i : ℕ) (tracks : List Track) (t : Track) (old new : List A) (x : A) → i < length tracks → t ≡ get_or tracks i t
+    → old ≡ map f (objects_to i tracks) → new ≡ old ++ x ∷ [] → x ≡ f (plain_track t) → new ≡ map f (objects_to (i + 1) tracks)
+made_more f i tracks t old new x lt is before added made =
+    added ∙ ap (λ xs. xs ++ x ∷ []) before ∙ ap (λ y. map f (objects_to i tracks) ++ y ∷ []) made
+    ∙ sym (ap (map f) (one_more i tracks t lt is) ∙ map-append f (objects_to i tracks) (plain_track t ∷ []))
+
+-- what holds of each object
+pub held_more : (P : PlainTrack → Type 0) (i : ℕ) (tracks : List Track) (t : Track) → i < length tracks → t ≡ get_or tracks i t → All P (objects_to i tracks) → P (plain_track t)
+    → All P (objects_to (i + 1) tracks)
+held_more P i tracks t lt is all here =
+    All-same P (objects_to (i + 1) tracks) (objects_to i tracks ++ plain_track t ∷ []) (one_more i tracks t lt is) (All-push P (objects_to i tracks) (plain_track t) all here)
+
+held_at : (P : PlainTrack → Type 0) (es : List PlainTrack) (i : ℕ) (e : PlainTrack) → All P es → slice_get es i ≡ Some e → P e
+held_at P [] i e all is = absurd cc
+held_at P (x ∷ es) zero e all is = let same : x ≡ e = cc in subst P same (all 0 x (omega arith))
+held_at P (x ∷ es) (suc i) e all is = held_at P es i e (λ k d lt. all (suc k) d (omega arith)) is
+
+made_at : {A : Type 0} (f : PlainTrack → Option A) (es : List PlainTrack) (i : ℕ) (e : PlainTrack) → slice_get es i ≡ Some e → f e ≡ option_and_then (λ x. x) (slice_get (map f es) i)
+made_at f [] i e is = absurd cc
+made_at f (x ∷ es) zero e is = let same : e ≡ x = cc in ap f same
+made_at f (x ∷ es) (suc i) e is = made_at f es i e is
+
+-- ---- shells
+
+-- an object is in its own shell
+abbrev pub IsInOwnShell : ℕ → ℕ → PlainTrack → Type 0
+IsInOwnShell from to e = IsInShell from to e (shell_of e from to)
+
+in_shell : (e : PlainTrack) (from to : ℕ) (found : Option Shell) → IfNone found (HasNone e from to)
+    → IfSome found (λ s. (m : ℕ) → from ≤ m → m ≤ to → IfSome (interval_at e m) (λ x. IsRadiusWithin (curve_of_interval x) m s.lo s.hi)) → IsInShell from to e found
+in_shell e from to None none holds = record { none = λ is. none; holds = λ s is. absurd cc }
+in_shell e from to (Some t) none holds = record {
+  none = λ is. absurd cc;
+  holds = λ s is.
+      let same : t ≡ s = cc in
+      subst (λ (u : Shell). (m : ℕ) → from ≤ m → m ≤ to → IfSome (interval_at e m) (λ x. IsRadiusWithin (curve_of_interval x) m u.lo u.hi)) same holds;
+}
+
+-- a shell that was found
+pub in_own_shell : (e : PlainTrack) (from to : ℕ) (found : Option Shell) → found ≡ shell_of e from to → IfNone found (HasNone e from to)
+    → IfSome found (λ s. (m : ℕ) → from ≤ m → m ≤ to → IfSome (interval_at e m) (λ x. IsRadiusWithin (curve_of_interval x) m s.lo s.hi)) → IsInOwnShell from to e
+in_own_shell e from to found exact none holds = subst (λ (s : Option Shell). IsInShell from to e s) exact (in_shell e from to found none holds)
+
+pub in_shells : (case : PlainProblem) → All (IsInOwnShell case.first case.last) case.ephemerides → AreInShells case (shells_of case)
+unfolding shells_of
+in_shells case all i e is =
+    subst (λ (s : Option Shell). IsInShell case.first case.last e s) (made_at (λ z. shell_of z case.first case.last) case.ephemerides i e is)
+    (held_at (IsInOwnShell case.first case.last) case.ephemerides i e all is)
+
+-- ---- boxes
+
+-- an object is in its own box
+abbrev pub IsInOwnBox : ℕ → ℕ → PlainTrack → Type 0
+IsInOwnBox from to e = IsInBox from to e (box_of e from to)
+
+in_box : (e : PlainTrack) (from to : ℕ) (found : Option PlainBox) → IfNone found (HasNone e from to)
+    → IfSome found (λ r. (m : ℕ) → from ≤ m → m ≤ to → IfSome (interval_at e m) (λ x. IsPlaceIn (curve_of_interval x) m r)) → IsInBox from to e found
+in_box e from to None none holds = record { none = λ is. none; holds = λ r is. absurd cc }
+in_box e from to (Some t) none holds = record {
+  none = λ is. absurd cc;
+  holds = λ r is.
+      let same : t ≡ r = cc in
+      subst (λ (u : PlainBox). (m : ℕ) → from ≤ m → m ≤ to → IfSome (interval_at e m) (λ x. IsPlaceIn (curve_of_interval x) m u)) same holds;
+}
+
+-- a box that was found
+pub in_own_box : (e : PlainTrack) (from to : ℕ) (found : Option AxisBox) → option_map plain_box found ≡ box_of e from to → IfNone found (HasNone e from to)
+    → IfSome found (λ area. (m : ℕ) → from ≤ m → m ≤ to → IfSome (interval_at e m) (λ x. IsPlaceIn (curve_of_interval x) m (plain_box area))) → IsInOwnBox from to e
+in_own_box e from to None exact none holds = subst (λ (r : Option PlainBox). IsInBox from to e r) exact (in_box e from to None none tt)
+in_own_box e from to (Some area) exact none holds = subst (λ (r : Option PlainBox). IsInBox from to e r) exact (in_box e from to (Some (plain_box area)) tt holds)
+
+-- an object is in its own box in each of the first n slots of a window
+abbrev pub IsInOwnBoxes : ℕ → ℕ → ℕ → PlainTrack → Type 0
+IsInOwnBoxes first last n e = (slot : ℕ) → slot < n → IsInOwnBox (slot_first first slot) (slot_last first last slot) e
+
+pub in_boxes : (case : PlainProblem) → All (IsInOwnBoxes case.first case.last (slot_count case.first case.last)) case.ephemerides → AreInBoxes case (boxes_in case)
+unfolding boxes_in
+in_boxes case all slot i e lt is =
+    subst (λ (r : Option PlainBox). IsInBox (slot_first case.first slot) (slot_last case.first case.last slot) e r)
+    (made_at (λ z. box_of z (slot_first case.first slot) (slot_last case.first case.last slot)) case.ephemerides i e is)
+    (held_at (IsInOwnBoxes case.first case.last (slot_count case.first case.last)) case.ephemerides i e all is slot lt)
+
+-- ---- pairs that pass two tests
+
+filter_both : (p q : ℕ × ℕ → Bool) (ps : List (ℕ × ℕ)) → filter q (filter p ps) ≡ filter (λ pair. p pair && q pair) ps
+filter_both p q [] = refl
+filter_both p q (pair ∷ ps) = go (filter_both p q ps) (p pair)
+  where
+    go : filter q (filter p ps) ≡ filter (λ pair. p pair && q pair) ps → (b : Bool)
+        → filter q (cond b (pair ∷ filter p ps) (filter p ps)) ≡ cond (b && q pair) (pair ∷ filter (λ pair. p pair && q pair) ps) (filter (λ pair. p pair && q pair) ps)
+    go rest true = ap (λ (xs : List (ℕ × ℕ)). cond (q pair) (pair ∷ xs) xs) rest
+    go rest false = rest
+
+-- the pairs of a slot that are looked at: of the kept ones those that touch
+pub pairs_looked_is : (case : PlainProblem) (slot : ℕ) (found kept : List (ℕ × ℕ)) (boxes : List (Option PlainBox)) → kept ≡ pairs_kept case → boxes ≡ boxes_in case slot
+    → found ≡ filter (touch case.threshold boxes) kept → found ≡ pairs_looked case slot
+unfolding is_looked
+pairs_looked_is case slot found kept boxes all same touching =
+    touching ∙ ap (filter (touch case.threshold boxes)) all
+    ∙ ap (λ (bs : List (Option PlainBox)). filter (touch case.threshold bs) (pairs_kept case)) same
+    ∙ filter_both (is_kept case) (is_touching case slot) (pairs_of (length case.ephemerides))
+
+each_filtered : (P : ℕ × ℕ → Type 0) (p : ℕ × ℕ → Bool) (ps : List (ℕ × ℕ)) → Each P ps → Each P (filter p ps)
+each_filtered P p [] e = tt
+each_filtered P p (pair ∷ ps) e = go (each_filtered P p ps e.1) (p pair)
+  where
+    go : Each P (filter p ps) → (b : Bool) → Each P (cond b (pair ∷ filter p ps) (filter p ps))
+    go rest true = (e.0, rest)
+    go rest false = rest
+
+-- the pairs that pass a test are of existing objects
+pub pairs_within : (p : ℕ × ℕ → Bool) (n : ℕ) (pairs : List Pair) → map objects_of pairs ≡ filter p (pairs_of n) → All (λ pair. pair.b < n) pairs
+pairs_within p n pairs same =
+    All-from_each (λ pair. pair.b < n) pairs
+    (each_from_map (λ (q : ℕ × ℕ). q.1 < n) objects_of pairs
+    (subst (Each (λ (q : ℕ × ℕ). q.1 < n)) (sym same)
+    (each_filtered (λ (q : ℕ × ℕ). q.1 < n) p (pairs_of n)
+    (Each-weaker (IsPair n) (λ (q : ℕ × ℕ). q.1 < n) (λ q is. is.exists) (pairs_of n) (Each-pairs n)))))
+
+-- there is a shell and a box for each object
+pub as_many_shells : (case : PlainProblem) (shells : List (Option Shell)) → shells ≡ shells_of case → length shells ≡ length case.ephemerides
+unfolding shells_of
+as_many_shells case shells same = ap (λ (xs : List (Option Shell)). length xs) same ∙ length-map case.ephemerides (λ e. shell_of e case.first case.last)
+
+pub as_many_boxes : (case : PlainProblem) (slot : ℕ) (boxes : List (Option AxisBox)) → plain_boxes boxes ≡ boxes_in case slot → length boxes ≡ length case.ephemerides
+unfolding boxes_in
+as_many_boxes case slot boxes same =
+    sym (length-map boxes (option_map plain_box)) ∙ ap (λ (xs : List (Option PlainBox)). length xs) same
+    ∙ length-map case.ephemerides (λ e. box_of e (slot_first case.first slot) (slot_last case.first case.last slot))
+
+-- the pairs that are kept
+pub kept_is : (case : PlainProblem) (shells : List (Option Shell)) → shells ≡ shells_of case → filter (keeps case.threshold shells) (pairs_of (length shells)) ≡ pairs_kept case
+kept_is case shells same =
+    ap (λ (n : ℕ). filter (keeps case.threshold shells) (pairs_of n)) (as_many_shells case shells same)
+    ∙ ap (λ (ss : List (Option Shell)). filter (keeps case.threshold ss) (pairs_of (length case.ephemerides))) same

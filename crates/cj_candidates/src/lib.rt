@@ -1,0 +1,10 @@
+//! The candidates of a problem: in each slot the pairs of objects that shells and boxes do not show to be far, and the roots of these
+//! pairs. What is found on the way is kept.
+#![tactic(auto)]
+
+mod candidates;
+mod filtering;
+mod slot_boxes;
+
+pub use candidates::Candidates;
+pub use filtering::find_candidates;

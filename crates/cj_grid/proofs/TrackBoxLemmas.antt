@@ -1,0 +1,71 @@
+-- The box of a track, one part after another.
+use Rattle.std.proofs.Common.{◌≡◌, ℕ, ◌+◌, ◌≤◌, List, ◌∷◌, Some, arith, sym, ap, ◌∙◌, subst}
+use Rattle.cj_track.specs.PlainTracks.{PlainTrack}
+use Rattle.cj_hermite.specs.declared.box3.Box3.{Box3}
+use Rattle.cj_hermite.specs.Boxes.{IsBoxWithin}
+use Rattle.cj_hermite.specs.Walks.{HasNone}
+use Rattle.cj_bezier.specs.Hulls.{PlainHull}
+use Rattle.cj_bezier.specs.Parts.{hulls_of, AreInTime}
+use Rattle.cj_bezier.specs.Sizes.{HULL_REACH}
+use Rattle.cj_bezier.specs.SlotBoxes.{PlainBox, reaches_round, box_of}
+use Rattle.cj_bezier.proofs.HullListLemmas.{no_hulls}
+use Rattle.cj_bezier.proofs.NextPartLemmas.{none_in_time, join_time}
+use Rattle.cj_grid.specs.JoinedBoxes.{reaches_of_spans, joined_reaches, reaches_of_hull, reaches_with}
+
+-- ---- hull by hull
+
+first_hull : (all left : List PlainHull) (h : PlainHull) → all ≡ h ∷ left → reaches_round all ≡ Some (reaches_with (reaches_of_hull h) left)
+unfolding reaches_round
+first_hull all left h front = ap reaches_round front
+
+next_hull : (r : PlainBox) (left rest : List PlainHull) (h : PlainHull) → left ≡ h ∷ rest → reaches_with r left ≡ reaches_with (joined_reaches r (reaches_of_hull h)) rest
+next_hull r left rest h front = ap (reaches_with r) front
+
+-- ---- part by part
+
+-- the box of the parts up to tick `at`, of which the rest makes the whole
+pub record IsBoxUpTo (e : PlainTrack) (from at to : ℕ) (b : Box3) : Type 0 where
+  pub within : at ≤ to
+  pub area : box_of e from to ≡ Some (reaches_with (reaches_of_spans b) (hulls_of e (at + 1) to))
+  pub size : IsBoxWithin HULL_REACH b
+  pub time : AreInTime e from at
+
+pub first_part : (e : PlainTrack) (from at to : ℕ) (h : PlainHull) (b : Box3) → at ≤ to → hulls_of e from to ≡ h ∷ hulls_of e (at + 1) to → AreInTime e from at → reaches_of_spans b ≡ reaches_of_hull h → IsBoxWithin HULL_REACH b
+    → IsBoxUpTo e from at to b
+first_part e from at to h b within front time same size = record {
+  within = within;
+  area = first_hull (hulls_of e from to) (hulls_of e (at + 1) to) h front ∙ ap (λ (r : PlainBox). Some (reaches_with r (hulls_of e (at + 1) to))) (sym same);
+  size = size;
+  time = time;
+}
+
+pub one_part_more : (e : PlainTrack) (from before at to : ℕ) (h : PlainHull) (old own b : Box3) → IsBoxUpTo e from before to old → at ≤ to → hulls_of e (before + 1) to ≡ h ∷ hulls_of e (at + 1) to → AreInTime e (before + 1) at
+    → reaches_of_spans own ≡ reaches_of_hull h → IsBoxWithin HULL_REACH own → reaches_of_spans b ≡ joined_reaches (reaches_of_spans old) (reaches_of_spans own)
+    → (IsBoxWithin HULL_REACH old → IsBoxWithin HULL_REACH own → IsBoxWithin HULL_REACH b) → IsBoxUpTo e from at to b
+one_part_more e from before at to h old own b so_far within front time same small both size =
+    let grown : reaches_of_spans b ≡ joined_reaches (reaches_of_spans old) (reaches_of_hull h) = both ∙ ap (joined_reaches (reaches_of_spans old)) same in
+    record {
+      within = within;
+      area = so_far.area ∙ ap (λ (r : PlainBox). Some r) (next_hull (reaches_of_spans old) (hulls_of e (before + 1) to) (hulls_of e (at + 1) to) h front
+          ∙ ap (λ (r : PlainBox). reaches_with r (hulls_of e (at + 1) to)) (sym grown));
+      size = size so_far.size small;
+      time = join_time e from before at so_far.time time;
+    }
+
+-- where no part is left
+pub record IsBoxOfAll (e : PlainTrack) (from to : ℕ) (b : Box3) : Type 0 where
+  pub area : Some (reaches_of_spans b) ≡ box_of e from to
+  pub time : AreInTime e from to
+
+pub no_part_more : (e : PlainTrack) (from at to : ℕ) (b : Box3) → IsBoxUpTo e from at to b → HasNone e (at + 1) to → IsBoxOfAll e from to b
+no_part_more e from at to b so_far none = record {
+  area = sym (so_far.area ∙ ap (λ (hs : List PlainHull). Some (reaches_with (reaches_of_spans b) hs)) (no_hulls e (at + 1) to none));
+  time = join_time e from at to so_far.time (none_in_time e (at + 1) to none);
+}
+
+pub last_tick : (e : PlainTrack) (from at to : ℕ) (b : Box3) → IsBoxUpTo e from at to b → to ≤ at → IsBoxOfAll e from to b
+last_tick e from at to b so_far all = no_part_more e from at to b so_far (λ m low high. absurd (omega arith))
+
+-- the same of other names for the ends
+pub at_ends : (P : ℕ → ℕ → Type 0) (a b a' b' : ℕ) → a ≡ a' → b ≡ b' → P a b → P a' b'
+at_ends P a b a' b' first last holds = subst (λ (n : ℕ). P n b') first (subst (λ (n : ℕ). P a n) last holds)

@@ -1,0 +1,86 @@
+//! The box of a track in a slot.
+ghost use Rattle.std.specs.Prelude.{◌≡◌, ℕ, ◌≤◌, IfNone, IfSome, option_map};
+ghost use Rattle.cj_track.specs.Tracks.{plain_track};
+ghost use Rattle.cj_interval.specs.Sizes.{IsWithin};
+ghost use Rattle.cj_hermite.specs.Boxes.{IsBoxWithin};
+ghost use Rattle.cj_hermite.specs.Pieces.{interval_at, curve_of_interval};
+ghost use Rattle.cj_hermite.specs.Slots.{slot_first, slot_last};
+ghost use Rattle.cj_hermite.specs.Walks.{HasNone};
+ghost use Rattle.cj_bezier.specs.Parts.{AreInTime};
+ghost use Rattle.cj_bezier.specs.Sizes.{HULL_REACH};
+ghost use Rattle.cj_bezier.specs.SlotBoxes.{IsBoxOf, IsPlaceIn, box_of, plain_box};
+ghost use Rattle.cj_grid.specs.JoinedBoxes.{reaches_of_spans};
+
+use crate::joined_boxes::{box_of_hull, join_boxes};
+use cj_bezier::{AxisBox, next_part};
+use cj_epoch::{Tick, Window};
+use cj_hermite::{Box3, slot_window};
+use cj_track::{Track, Vec3};
+
+/// The smallest box round the hulls of all parts of a track in a window.
+fn box_round(track: &Track, window: Window) -> Option<Box3>
+    ensures value { option_map reaches_of_spans result ≡ box_of (plain_track track.now) window.first.micros window.last.micros }
+    ensures within { IfSome result (IsBoxWithin HULL_REACH) }
+    ensures time { AreInTime (plain_track track.now) window.first.micros window.last.micros }
+{
+    let mut part = next_part(track, window.first, window.last)?;
+    let mut area = box_of_hull(&part.hull);
+    while part.last.micros < window.last.micros {
+        let from = Tick {
+            micros: part.last.micros + 1,
+        };
+        let Some(next) = next_part(track, from, window.last) else {
+            break;
+        };
+        area = join_boxes(area, box_of_hull(&next.hull));
+        part = next;
+    }
+    Some(area)
+}
+
+/// An end of a box round hulls.
+fn coordinate(end: i128) -> i64
+    requires { IsWithin HULL_REACH end }
+    ensures { result ≡ end }
+{
+    end as i64
+}
+
+/// A box by its corners.
+fn by_corners(area: Box3) -> AxisBox
+    requires { IsBoxWithin HULL_REACH area }
+    ensures { plain_box result ≡ reaches_of_spans area }
+{
+    AxisBox {
+        least: Vec3 {
+            x: coordinate(area.x.lo),
+            y: coordinate(area.y.lo),
+            z: coordinate(area.z.lo),
+        },
+        most: Vec3 {
+            x: coordinate(area.x.hi),
+            y: coordinate(area.y.hi),
+            z: coordinate(area.z.hi),
+        },
+    }
+}
+
+/// The smallest box in nm round the hulls of a track's parts in a slot of a window, if it has a state there.
+pub fn slot_box(track: &Track, window: Window, slot: u32) -> Option<AxisBox>
+    ensures value { IfSome result (IsBoxOf (plain_track track.now) (slot_first window.first.micros slot) (slot_last window.first.micros window.last.micros slot)) }
+    ensures none { IfNone result (HasNone (plain_track track.now) (slot_first window.first.micros slot) (slot_last window.first.micros window.last.micros slot)) }
+    ensures some { IfSome result (λ area. ¬ HasNone (plain_track track.now) (slot_first window.first.micros slot) (slot_last window.first.micros window.last.micros slot)) }
+
+    ensures exact { option_map plain_box result ≡ box_of (plain_track track.now) (slot_first window.first.micros slot) (slot_last window.first.micros window.last.micros slot) }
+
+    // At each tick of the slot with a state the place lies in the box.
+    ensures holds { IfSome result (λ area. (m : ℕ) → slot_first window.first.micros slot ≤ m → m ≤ slot_last window.first.micros window.last.micros slot
+        → IfSome (interval_at (plain_track track.now) m) (λ x. IsPlaceIn (curve_of_interval x) m (plain_box area))) }
+
+    // A track's intervals come in order of time, as the laws of hulls ask.
+    ensures time { AreInTime (plain_track track.now) (slot_first window.first.micros slot) (slot_last window.first.micros window.last.micros slot) }
+{
+    let ticks = slot_window(window, slot)?;
+    let area = box_round(track, ticks)?;
+    Some(by_corners(area))
+}
