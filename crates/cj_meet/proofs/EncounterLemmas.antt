@@ -12,26 +12,26 @@ use Rattle.std.specs.List.{list_any}
 use Rattle.cj_bezier.specs.declared.encounter.Encounter.{Encounter}
 use Rattle.cj_bezier.specs.declared.encounter.Mark.{Mark}
 use Rattle.cj_bezier.specs.declared.encounter.Mark.TheVariants as mark
-use Rattle.cj_bezier.specs.Leaves.{Stretch, stretch_of, stretches_of}
+use Rattle.cj_bezier.specs.Leaves.{PlainLeaf, plain_leaf, plain_leaves}
 use Rattle.cj_bezier.specs.declared.leaf.Leaf.{Leaf}
 use Rattle.cj_meet.proofs.SpanLemmas.{leaves_have_ticks}
 use Rattle.cj_bezier.specs.Order.{AreInOrder, HaveTicks, IsBefore}
 use Rattle.cj_meet.specs.Encounters.{is_far, is_near, follows, with_front, encounters_of, first_object, second_object, first_tick, last_tick, mark_of, is_near_mark, stretches_in, groups_in, Describes, AreEncounters}
 
 -- whether a stretch goes on where these end
-abbrev pub ends : List Stretch → Stretch → Bool
+abbrev pub ends : List PlainLeaf → PlainLeaf → Bool
 ends [] x = true
 ends (s ∷ []) x = follows s x
 ends (s ∷ t ∷ ss) x = ends (t ∷ ss) x
 
 -- a stretch behind encounters: it joins the last of them where it goes on from there, else it is one of its own
-abbrev pub with_back : Stretch → List (List Stretch) → List (List Stretch)
+abbrev pub with_back : PlainLeaf → List (List PlainLeaf) → List (List PlainLeaf)
 with_back x [] = (x ∷ []) ∷ []
 with_back x (g ∷ []) = cond (ends g x) ((g ++ x ∷ []) ∷ []) (g ∷ (x ∷ []) ∷ [])
 with_back x (g ∷ h ∷ gs) = g ∷ with_back x (h ∷ gs)
 
 -- one stretch in front and one behind can be put there in either order
-with_back-with_front : (s x : Stretch) (gs : List (List Stretch)) → with_back x (with_front s gs) ≡ with_front s (with_back x gs)
+with_back-with_front : (s x : PlainLeaf) (gs : List (List PlainLeaf)) → with_back x (with_front s gs) ≡ with_front s (with_back x gs)
 with_back-with_front s x [] = elim (follows s x) as (λ b. cond b ((s ∷ x ∷ []) ∷ []) ((s ∷ []) ∷ (x ∷ []) ∷ []) ≡ cond b ((s ∷ x ∷ []) ∷ []) ((s ∷ []) ∷ (x ∷ []) ∷ [])) [ true ↦ refl | false ↦ refl ]
 with_back-with_front s x ([] ∷ []) = refl
 with_back-with_front s x ([] ∷ h ∷ gs) = refl
@@ -39,12 +39,12 @@ with_back-with_front s x ((t ∷ ts) ∷ []) = grind arith
 with_back-with_front s x ((t ∷ ts) ∷ h ∷ gs) = grind arith
 
 -- a far stretch behind the others adds nothing
-encounters_of-far : (ss : List Stretch) (x : Stretch) → is_far x ≡ true → encounters_of (ss ++ x ∷ []) ≡ encounters_of ss
+encounters_of-far : (ss : List PlainLeaf) (x : PlainLeaf) → is_far x ≡ true → encounters_of (ss ++ x ∷ []) ≡ encounters_of ss
 encounters_of-far [] x far = grind arith
 encounters_of-far (s ∷ ss) x far = rw (encounters_of-far ss x far) refl
 
 -- any other one goes behind the encounters
-encounters_of-with_back : (ss : List Stretch) (x : Stretch) → is_far x ≡ false → encounters_of (ss ++ x ∷ []) ≡ with_back x (encounters_of ss)
+encounters_of-with_back : (ss : List PlainLeaf) (x : PlainLeaf) → is_far x ≡ false → encounters_of (ss ++ x ∷ []) ≡ with_back x (encounters_of ss)
 encounters_of-with_back [] x far = grind arith
 encounters_of-with_back (s ∷ ss) x far =
     rw (encounters_of-with_back ss x far)
@@ -52,16 +52,16 @@ encounters_of-with_back (s ∷ ss) x far =
     [ true ↦ refl | false ↦ sym (with_back-with_front s x (encounters_of ss)) ])
 
 -- behind several encounters it joins the last, or follows it
-with_back-last : (x : Stretch) (gs : List (List Stretch)) (g : List Stretch) → with_back x (gs ++ g ∷ []) ≡ gs ++ with_back x (g ∷ [])
+with_back-last : (x : PlainLeaf) (gs : List (List PlainLeaf)) (g : List PlainLeaf) → with_back x (gs ++ g ∷ []) ≡ gs ++ with_back x (g ∷ [])
 with_back-last x [] g = refl
 with_back-last x (h ∷ []) g = refl
 with_back-last x (h ∷ i ∷ gs) g = ap (λ l. h ∷ l) (with_back-last x (i ∷ gs) g)
 
 -- the stretches of an encounter stay when more come behind
-stretches_in-more : (ss ts : List Stretch) (e : Encounter) → e.past ≤ length ss → stretches_in (ss ++ ts) e ≡ stretches_in ss e
+stretches_in-more : (ss ts : List PlainLeaf) (e : Encounter) → e.past ≤ length ss → stretches_in (ss ++ ts) e ≡ stretches_in ss e
 stretches_in-more ss ts e h = between_is (ss ++ ts) e.leaf e.past ∙ (ap (drop e.leaf) (take-append-le e.past ss ts h) ∙ sym (between_is ss e.leaf e.past))
 
-Describes-more : (ss ts : List Stretch) (e : Encounter) → Describes ss e → Describes (ss ++ ts) e
+Describes-more : (ss ts : List PlainLeaf) (e : Encounter) → Describes ss e → Describes (ss ++ ts) e
 Describes-more ss ts e d =
     let same = stretches_in-more ss ts e d.within in
     record {
@@ -72,25 +72,25 @@ Describes-more ss ts e d =
       mark = rw same d.mark;
     }
 
-groups_in-more : (ss ts : List Stretch) (es : List Encounter) → All (Describes ss) es → groups_in (ss ++ ts) es ≡ groups_in ss es
+groups_in-more : (ss ts : List PlainLeaf) (es : List Encounter) → All (Describes ss) es → groups_in (ss ++ ts) es ≡ groups_in ss es
 groups_in-more ss ts [] d = refl
 groups_in-more ss ts (e ∷ es) d =
     let here = All-head (Describes ss) e es d in
     rw (stretches_in-more ss ts e here.within) (ap (λ l. stretches_in ss e ∷ l) (groups_in-more ss ts es (All-tail (Describes ss) e es d)))
 
 -- a far stretch leaves the encounters as they are
-pub encounters_past_far : (ss : List Stretch) (x : Stretch) (es : List Encounter) → is_far x ≡ true → AreEncounters ss es → AreEncounters (ss ++ x ∷ []) es
+pub encounters_past_far : (ss : List PlainLeaf) (x : PlainLeaf) (es : List Encounter) → is_far x ≡ true → AreEncounters ss es → AreEncounters (ss ++ x ∷ []) es
 encounters_past_far ss x es far before = record {
   groups = groups_in-more ss (x ∷ []) es before.described ∙ (before.groups ∙ sym (encounters_of-far ss x far));
   described = All-weaker (Describes ss) (Describes (ss ++ x ∷ [])) (Describes-more ss (x ∷ [])) es before.described;
 }
 
 -- what a test of the encounter's end says of a stretch
-abbrev pub goes_on : Encounter → Stretch → Bool
+abbrev pub goes_on : Encounter → PlainLeaf → Bool
 goes_on e x = e.pair.a == x.a && (e.pair.b == x.b && e.last.micros + 1 == x.first)
 
 -- a stretch goes on where these end if it does so by their objects and their last tick
-ends-told : (a b : ℕ) (g : List Stretch) (x : Stretch) → 0 < length g → All (λ s. (s.a ≡ a) × (s.b ≡ b)) g →
+ends-told : (a b : ℕ) (g : List PlainLeaf) (x : PlainLeaf) → 0 < length g → All (λ s. (s.a ≡ a) × (s.b ≡ b)) g →
     ends g x ≡ (a == x.a && (b == x.b && last_tick g + 1 == x.first))
 ends-told a b [] x some objects = absurd (omega arith)
 ends-told a b (s ∷ []) x some objects =
@@ -98,48 +98,48 @@ ends-told a b (s ∷ []) x some objects =
     rw (here.0, here.1) refl
 ends-told a b (s ∷ t ∷ ss) x some objects = ends-told a b (t ∷ ss) x (omega arith) (All-tail (λ s. (s.a ≡ a) × (s.b ≡ b)) s (t ∷ ss) objects)
 
-last_tick-get_or : (g : List Stretch) (d : Stretch) → 0 < length g → last_tick g ≡ (get_or g (length g - 1) d).last
+last_tick-get_or : (g : List PlainLeaf) (d : PlainLeaf) → 0 < length g → last_tick g ≡ (get_or g (length g - 1) d).last
 last_tick-get_or [] d some = absurd (omega arith)
 last_tick-get_or (s ∷ []) d some = refl
 last_tick-get_or (s ∷ t ∷ ss) d some =
     let e : length (s ∷ t ∷ ss) - 1 ≡ suc (length (t ∷ ss) - 1) = omega arith in
     rw e (last_tick-get_or (t ∷ ss) d (omega arith))
 
-first_tick-push : (g : List Stretch) (x : Stretch) → 0 < length g → first_tick (g ++ x ∷ []) ≡ first_tick g
+first_tick-push : (g : List PlainLeaf) (x : PlainLeaf) → 0 < length g → first_tick (g ++ x ∷ []) ≡ first_tick g
 first_tick-push [] x some = absurd (omega arith)
 first_tick-push (s ∷ ss) x some = refl
 
-last_tick-push : (g : List Stretch) (x : Stretch) → last_tick (g ++ x ∷ []) ≡ x.last
+last_tick-push : (g : List PlainLeaf) (x : PlainLeaf) → last_tick (g ++ x ∷ []) ≡ x.last
 last_tick-push [] x = refl
 last_tick-push (s ∷ []) x = refl
 last_tick-push (s ∷ t ∷ ss) x = last_tick-push (t ∷ ss) x
 
-length-stretches_in : (ss : List Stretch) (e : Encounter) → e.past ≤ length ss → length (stretches_in ss e) ≡ e.past - e.leaf
+length-stretches_in : (ss : List PlainLeaf) (e : Encounter) → e.past ≤ length ss → length (stretches_in ss e) ≡ e.past - e.leaf
 length-stretches_in ss e h = length-between ss e.leaf e.past h
 
-stretches_in-some : (ss : List Stretch) (e : Encounter) → e.past ≤ length ss → 0 < length (stretches_in ss e)
+stretches_in-some : (ss : List PlainLeaf) (e : Encounter) → e.past ≤ length ss → 0 < length (stretches_in ss e)
 stretches_in-some ss e h = omega (arith, length-stretches_in ss e h, e.leaves)
 
-ends-goes_on : (ss : List Stretch) (e : Encounter) (x : Stretch) → Describes ss e → ends (stretches_in ss e) x ≡ goes_on e x
+ends-goes_on : (ss : List PlainLeaf) (e : Encounter) (x : PlainLeaf) → Describes ss e → ends (stretches_in ss e) x ≡ goes_on e x
 ends-goes_on ss e x d =
     rw d.last (ends-told e.pair.a e.pair.b (stretches_in ss e) x (stretches_in-some ss e d.within) d.objects)
 
 -- the last stretch of an encounter stands before the place where the encounter ends
-last-stretches_in : (ss : List Stretch) (e : Encounter) (d : Stretch) → e.past ≤ length ss →
+last-stretches_in : (ss : List PlainLeaf) (e : Encounter) (d : PlainLeaf) → e.past ≤ length ss →
     get_or (stretches_in ss e) (length (stretches_in ss e) - 1) d ≡ get_or ss (e.past - 1) d
 last-stretches_in ss e d h =
     let place : e.leaf + (e.past - e.leaf - 1) ≡ e.past - 1 = omega (arith, e.leaves) in
     rw (length-stretches_in ss e h) (get_or-between ss e.leaf e.past (e.past - e.leaf - 1) d (omega (arith, e.leaves)) ∙ rw place refl)
 
 -- no stretch lies between two of consecutive ticks
-no_gap : (l u x : Stretch) → IsBefore l u → IsBefore u x → u.first ≤ u.last → l.a ≡ x.a → l.b ≡ x.b → l.last + 1 ≡ x.first → ⊥
+no_gap : (l u x : PlainLeaf) → IsBefore l u → IsBefore u x → u.first ≤ u.last → l.a ≡ x.a → l.b ≡ x.b → l.last + 1 ≡ x.first → ⊥
 no_gap l u x before after ticks a b next =
     let a_is : l.a ≡ u.a = omega (arith, before.first_object, after.first_object) in
     let b_is : l.b ≡ u.b = omega (arith, before.second_object a_is, after.second_object (sym a_is ∙ a)) in
     omega (arith, before.ticks a_is b_is, after.ticks (sym a_is ∙ a) (sym b_is ∙ b))
 
 -- where a stretch goes on from an encounter, no other stretch lies between
-none_between : (ss : List Stretch) (e : Encounter) (x : Stretch) → HaveTicks ss → AreInOrder (ss ++ x ∷ []) → Describes ss e →
+none_between : (ss : List PlainLeaf) (e : Encounter) (x : PlainLeaf) → HaveTicks ss → AreInOrder (ss ++ x ∷ []) → Describes ss e →
     goes_on e x ≡ true → e.past < length ss → ⊥
 none_between ss e x ticks order d on short =
     let test = and_parts (e.pair.a == x.a) (e.pair.b == x.b && e.last.micros + 1 == x.first) on in
@@ -173,18 +173,18 @@ set_last : (es : List Encounter) (n : ℕ) (e : Encounter) → n ≡ length es �
 set_last es n e count some =
     set_split es (n - 1) e (omega arith) ∙ ap (λ l. take (n - 1) es ++ e ∷ l) (drop_all (suc (n - 1)) es (omega arith))
 
-mark_of-push : (g : List Stretch) (x : Stretch) → mark_of (g ++ x ∷ []) ≡ cond (is_near_mark (mark_of g)) mark.Near (mark_of (x ∷ []))
+mark_of-push : (g : List PlainLeaf) (x : PlainLeaf) → mark_of (g ++ x ∷ []) ≡ cond (is_near_mark (mark_of g)) mark.Near (mark_of (x ∷ []))
 mark_of-push g x =
     rw (list_any-append is_near g (x ∷ []))
     (elim (list_any is_near g) as (λ b. cond (b || (is_near x || false)) mark.Near mark.Undecided ≡ cond (is_near_mark (cond b mark.Near mark.Undecided)) mark.Near (cond (is_near x || false) mark.Near mark.Undecided))
     [ true ↦ refl | false ↦ refl ])
 
 -- the encounter that begins with a stretch behind the others
-begun-stretches : (ss : List Stretch) (x : Stretch) (e : Encounter) → e.leaf ≡ length ss → e.past ≡ length ss + 1 → stretches_in (ss ++ x ∷ []) e ≡ x ∷ []
+begun-stretches : (ss : List PlainLeaf) (x : PlainLeaf) (e : Encounter) → e.leaf ≡ length ss → e.past ≡ length ss + 1 → stretches_in (ss ++ x ∷ []) e ≡ x ∷ []
 begun-stretches ss x e leaf past =
     rw (leaf, past) (between_more (ss ++ x ∷ []) (length ss) (length ss) x (omega arith) (omega (arith, length-append ss (x ∷ []))) ∙ rw (between_none, get_or_push ss x x (length ss) refl) refl)
 
-pub record Begins (ss : List Stretch) (x : Stretch) (e : Encounter) : Type 0 where
+pub record Begins (ss : List PlainLeaf) (x : PlainLeaf) (e : Encounter) : Type 0 where
   pub leaf : e.leaf ≡ length ss
   pub past : e.past ≡ length ss + 1
   pub a : e.pair.a ≡ x.a
@@ -193,7 +193,7 @@ pub record Begins (ss : List Stretch) (x : Stretch) (e : Encounter) : Type 0 whe
   pub last : e.last.micros ≡ x.last
   pub mark : e.mark ≡ mark_of (x ∷ [])
 
-Describes-begun : (ss : List Stretch) (x : Stretch) (e : Encounter) → Begins ss x e → Describes (ss ++ x ∷ []) e
+Describes-begun : (ss : List PlainLeaf) (x : PlainLeaf) (e : Encounter) → Begins ss x e → Describes (ss ++ x ∷ []) e
 Describes-begun ss x e begins =
     let is = begun-stretches ss x e begins.leaf begins.past in
     record {
@@ -205,13 +205,13 @@ Describes-begun ss x e begins =
     }
 
 -- the encounter that goes on with a stretch behind the others
-joined-stretches : (ss : List Stretch) (x : Stretch) (o e : Encounter) → e.leaf ≡ o.leaf → e.past ≡ length ss + 1 → o.past ≡ length ss →
+joined-stretches : (ss : List PlainLeaf) (x : PlainLeaf) (o e : Encounter) → e.leaf ≡ o.leaf → e.past ≡ length ss + 1 → o.past ≡ length ss →
     stretches_in (ss ++ x ∷ []) e ≡ stretches_in ss o ++ x ∷ []
 joined-stretches ss x o e leaf past end =
     let before : slice_range (ss ++ x ∷ []) o.leaf (length ss) ≡ stretches_in ss o = rw (← end) (stretches_in-more ss (x ∷ []) o (omega arith)) in
     rw (leaf, past) (between_more (ss ++ x ∷ []) o.leaf (length ss) x (omega (arith, o.leaves)) (omega (arith, length-append ss (x ∷ []))) ∙ rw (before, get_or_push ss x x (length ss) refl) refl)
 
-pub record Joins (ss : List Stretch) (x : Stretch) (o e : Encounter) : Type 0 where
+pub record Joins (ss : List PlainLeaf) (x : PlainLeaf) (o e : Encounter) : Type 0 where
   pub pair : e.pair ≡ o.pair
   pub first : e.first ≡ o.first
   pub leaf : e.leaf ≡ o.leaf
@@ -219,7 +219,7 @@ pub record Joins (ss : List Stretch) (x : Stretch) (o e : Encounter) : Type 0 wh
   pub last : e.last.micros ≡ x.last
   pub mark : e.mark ≡ cond (is_near_mark o.mark) mark.Near (mark_of (x ∷ []))
 
-Describes-joined : (ss : List Stretch) (x : Stretch) (o e : Encounter) → Describes ss o → goes_on o x ≡ true → o.past ≡ length ss → Joins ss x o e → Describes (ss ++ x ∷ []) e
+Describes-joined : (ss : List PlainLeaf) (x : PlainLeaf) (o e : Encounter) → Describes ss o → goes_on o x ≡ true → o.past ≡ length ss → Joins ss x o e → Describes (ss ++ x ∷ []) e
 Describes-joined ss x o e d on end joins =
     let is = joined-stretches ss x o e joins.leaf joins.past end in
     let some = stretches_in-some ss o d.within in
@@ -234,7 +234,7 @@ Describes-joined ss x o e d on end joins =
     }
 
 -- any other stretch joins the last encounter where it goes on from there, and it is then the next leaf
-encounters_joined : (ss : List Stretch) (x : Stretch) (os : List Encounter) (o e : Encounter) → is_far x ≡ false → HaveTicks ss → AreInOrder (ss ++ x ∷ []) →
+encounters_joined : (ss : List PlainLeaf) (x : PlainLeaf) (os : List Encounter) (o e : Encounter) → is_far x ≡ false → HaveTicks ss → AreInOrder (ss ++ x ∷ []) →
     goes_on o x ≡ true → Joins ss x o e → AreEncounters ss (os ++ o ∷ []) → AreEncounters (ss ++ x ∷ []) (os ++ e ∷ [])
 encounters_joined ss x os o e far ticks order on joins before =
     let split = All-pop (Describes ss) (os ++ o ∷ []) os (Some o) refl before.described in
@@ -254,7 +254,7 @@ encounters_joined ss x os o e far ticks order on joins before =
     }
 
 -- a stretch begins an encounter where there is none before it
-pub encounters_first : (ss : List Stretch) (x : Stretch) (e : Encounter) → is_far x ≡ false → Begins ss x e →
+pub encounters_first : (ss : List PlainLeaf) (x : PlainLeaf) (e : Encounter) → is_far x ≡ false → Begins ss x e →
     AreEncounters ss [] → AreEncounters (ss ++ x ∷ []) (e ∷ [])
 encounters_first ss x e far begins before = record {
   groups = rw (begun-stretches ss x e begins.leaf begins.past) (sym (encounters_of-with_back ss x far ∙ ap (with_back x) (sym before.groups)));
@@ -262,7 +262,7 @@ encounters_first ss x e far begins before = record {
 }
 
 -- a stretch begins an encounter where it does not go on from the last one
-encounters_begun : (ss : List Stretch) (x : Stretch) (os : List Encounter) (o e : Encounter) → is_far x ≡ false → goes_on o x ≡ false → Begins ss x e →
+encounters_begun : (ss : List PlainLeaf) (x : PlainLeaf) (os : List Encounter) (o e : Encounter) → is_far x ≡ false → goes_on o x ≡ false → Begins ss x e →
     AreEncounters ss (os ++ o ∷ []) → AreEncounters (ss ++ x ∷ []) ((os ++ o ∷ []) ++ e ∷ [])
 encounters_begun ss x os o e far on begins before =
     let split = All-pop (Describes ss) (os ++ o ∷ []) os (Some o) refl before.described in
@@ -281,7 +281,7 @@ encounters_begun ss x os o e far on begins before =
     }
 
 -- what the kind of a stretch says of an encounter of its own
-pub record HasMark (x : Stretch) (m : Mark) : Type 0 where
+pub record HasMark (x : PlainLeaf) (m : Mark) : Type 0 where
   pub not_far : is_far x ≡ false
   pub mark : m ≡ mark_of (x ∷ [])
 
@@ -295,7 +295,7 @@ told_none (e ∷ es) zero is = cc
 told_none (e ∷ es) (suc k) is = omega (arith, told_none es k is)
 
 -- the last of n encounters is replaced by one that goes on
-pub encounters_extended : (ss : List Stretch) (x : Stretch) (es : List Encounter) (n : ℕ) (o e : Encounter) → n ≡ length es → 0 < n → o ≡ get_or es (n - 1) o →
+pub encounters_extended : (ss : List PlainLeaf) (x : PlainLeaf) (es : List Encounter) (n : ℕ) (o e : Encounter) → n ≡ length es → 0 < n → o ≡ get_or es (n - 1) o →
     is_far x ≡ false → HaveTicks ss → AreInOrder (ss ++ x ∷ []) → goes_on o x ≡ true → Joins ss x o e →
     AreEncounters ss es → AreEncounters (ss ++ x ∷ []) (set es (n - 1) e)
 encounters_extended ss x es n o e count some last far ticks order on joins before =
@@ -304,40 +304,40 @@ encounters_extended ss x es n o e count some last far ticks order on joins befor
     (encounters_joined ss x (take (n - 1) es) o e far ticks order on joins (subst (AreEncounters ss) split before))
 
 -- an encounter is added behind the last of n
-pub encounters_added : (ss : List Stretch) (x : Stretch) (es : List Encounter) (n : ℕ) (o e : Encounter) → n ≡ length es → 0 < n → o ≡ get_or es (n - 1) o →
+pub encounters_added : (ss : List PlainLeaf) (x : PlainLeaf) (es : List Encounter) (n : ℕ) (o e : Encounter) → n ≡ length es → 0 < n → o ≡ get_or es (n - 1) o →
     is_far x ≡ false → goes_on o x ≡ false → Begins ss x e → AreEncounters ss es → AreEncounters (ss ++ x ∷ []) (es ++ e ∷ [])
 encounters_added ss x es n o e count some last far on begins before =
     let split = last_split es n o count some last in
     subst (λ l. AreEncounters (ss ++ x ∷ []) (l ++ e ∷ [])) (sym split)
     (encounters_begun ss x (take (n - 1) es) o e far on begins (subst (AreEncounters ss) split before))
 
-in_order-take : (ss : List Stretch) (n : ℕ) → AreInOrder ss → AreInOrder (take n ss)
+in_order-take : (ss : List PlainLeaf) (n : ℕ) → AreInOrder ss → AreInOrder (take n ss)
 in_order-take ss n order = λ i j d below short.
     let cut = length-take n ss in
     rw (get_or-take n ss i d (omega (arith, cut, below, short)), get_or-take n ss j d (omega (arith, cut, short))) (order i j d below (omega (arith, cut, short)))
 
 -- the encounters of one leaf more
-pub encounters_more : (leaves : List Leaf) (at : ℕ) (leaf : Leaf) (old new : List Encounter) → AreInOrder (stretches_of leaves) → at < length leaves → leaf ≡ get_or leaves at leaf →
-    ((ss : List Stretch) → length ss ≡ at → HaveTicks ss → AreInOrder (ss ++ stretch_of leaf ∷ []) → AreEncounters ss old → AreEncounters (ss ++ stretch_of leaf ∷ []) new) →
-    AreEncounters (take at (stretches_of leaves)) old → AreEncounters (take (at + 1) (stretches_of leaves)) new
+pub encounters_more : (leaves : List Leaf) (at : ℕ) (leaf : Leaf) (old new : List Encounter) → AreInOrder (plain_leaves leaves) → at < length leaves → leaf ≡ get_or leaves at leaf →
+    ((ss : List PlainLeaf) → length ss ≡ at → HaveTicks ss → AreInOrder (ss ++ plain_leaf leaf ∷ []) → AreEncounters ss old → AreEncounters (ss ++ plain_leaf leaf ∷ []) new) →
+    AreEncounters (take at (plain_leaves leaves)) old → AreEncounters (take (at + 1) (plain_leaves leaves)) new
 encounters_more leaves at leaf old new order short is step before =
-    let all = stretches_of leaves in
-    let long : length (stretches_of leaves) ≡ length leaves = length-map leaves stretch_of in
-    let next : take (at + 1) (stretches_of leaves) ≡ take at (stretches_of leaves) ++ stretch_of leaf ∷ [] =
-    take_more (stretches_of leaves) at (stretch_of leaf) (omega (arith, long, short)) ∙
-    ap (λ s. take at (stretches_of leaves) ++ s ∷ []) (get_or-map stretch_of leaves at leaf (stretch_of leaf) short ∙ ap stretch_of (sym is)) in
+    let all = plain_leaves leaves in
+    let long : length (plain_leaves leaves) ≡ length leaves = length-map leaves plain_leaf in
+    let next : take (at + 1) (plain_leaves leaves) ≡ take at (plain_leaves leaves) ++ plain_leaf leaf ∷ [] =
+    take_more (plain_leaves leaves) at (plain_leaf leaf) (omega (arith, long, short)) ∙
+    ap (λ s. take at (plain_leaves leaves) ++ s ∷ []) (get_or-map plain_leaf leaves at leaf (plain_leaf leaf) short ∙ ap plain_leaf (sym is)) in
     subst (λ l. AreEncounters l new) (sym next)
-    (step (take at (stretches_of leaves)) (omega (arith, length-take at (stretches_of leaves), long, short)) (All-take (λ s. s.first ≤ s.last) at (stretches_of leaves) (leaves_have_ticks leaves))
-    (subst AreInOrder next (in_order-take (stretches_of leaves) (at + 1) order)) before)
+    (step (take at (plain_leaves leaves)) (omega (arith, length-take at (plain_leaves leaves), long, short)) (All-take (λ s. s.first ≤ s.last) at (plain_leaves leaves) (leaves_have_ticks leaves))
+    (subst AreInOrder next (in_order-take (plain_leaves leaves) (at + 1) order)) before)
 
-first-of_all : (a b : ℕ) (g : List Stretch) → 0 < length g → All (λ s. (s.a ≡ a) × (s.b ≡ b)) g → (first_object g ≡ a) × (second_object g ≡ b)
+first-of_all : (a b : ℕ) (g : List PlainLeaf) → 0 < length g → All (λ s. (s.a ≡ a) × (s.b ≡ b)) g → (first_object g ≡ a) × (second_object g ≡ b)
 first-of_all a b [] some all = absurd (omega arith)
 first-of_all a b (s ∷ g) some all = let here = All-head (λ s. (s.a ≡ a) × (s.b ≡ b)) s g all in (here.0, here.1)
 
 -- the objects of the stretches of an encounter are those of its pair
-pub described_objects : (ss : List Stretch) (e : Encounter) → Describes ss e → (first_object (stretches_in ss e) ≡ e.pair.a) × (second_object (stretches_in ss e) ≡ e.pair.b)
+pub described_objects : (ss : List PlainLeaf) (e : Encounter) → Describes ss e → (first_object (stretches_in ss e) ≡ e.pair.a) × (second_object (stretches_in ss e) ≡ e.pair.b)
 described_objects ss e d = first-of_all e.pair.a e.pair.b (stretches_in ss e) (stretches_in-some ss e d.within) d.objects
 
 -- the stretches of an encounter are those of its leaves
-pub stretches_in_leaves : (leaves : List Leaf) (e : Encounter) → stretches_of (slice_range leaves e.leaf e.past) ≡ stretches_in (stretches_of leaves) e
-stretches_in_leaves leaves e = sym (take-map stretch_of (e.past - e.leaf) (drop e.leaf leaves)) ∙ ap (take (e.past - e.leaf)) (sym (drop-map stretch_of e.leaf leaves))
+pub stretches_in_leaves : (leaves : List Leaf) (e : Encounter) → plain_leaves (slice_range leaves e.leaf e.past) ≡ stretches_in (plain_leaves leaves) e
+stretches_in_leaves leaves e = sym (take-map plain_leaf (e.past - e.leaf) (drop e.leaf leaves)) ∙ ap (take (e.past - e.leaf)) (sym (drop-map plain_leaf e.leaf leaves))

@@ -1,8 +1,8 @@
 -- Spans of encounters, and the ticks that lie in them.
-use Rattle.std.specs.Prelude.{◌≡◌, ◌≢◌, ◌↔◌, ℕ, ◌≤◌, Bool, true, false, ◌&&◌, if◌then◌else◌, List, [], ◌∷◌, All, Any}
+use Rattle.std.specs.Prelude.{◌≡◌, ◌≢◌, ◌↔◌, ℕ, Bool, true, false, ◌&&◌, if◌then◌else◌, List, [], ◌∷◌, All, Any}
 use Rattle.cj_bezier.specs.declared.kind.Kind.{Kind}
 use Rattle.cj_bezier.specs.declared.kind.Kind.TheVariants.{Far, Near, Undecided}
-use Rattle.cj_bezier.specs.Leaves.{Stretch}
+use Rattle.cj_bezier.specs.Leaves.{PlainLeaf, Covers, LiesIn}
 use Rattle.cj_meet.specs.Encounters.{follows, encounters_of, first_object, second_object}
 
 abbrev pub same_kind : Kind → Kind → Bool
@@ -17,33 +17,22 @@ same_kind Undecided Near = false
 same_kind Undecided Undecided = true
 
 -- a stretch in front of spans: the first of them begins with it where that follows and is of the same kind
-abbrev pub with_span : Stretch → List Stretch → List Stretch
+abbrev pub with_span : PlainLeaf → List PlainLeaf → List PlainLeaf
 with_span s [] = s ∷ []
 with_span s (t ∷ ts) = if follows s t && same_kind s.kind t.kind then record t { first = s.first } ∷ ts else s ∷ t ∷ ts
 
 -- the spans of an encounter: its stretches, those of one kind and of consecutive ticks together
-abbrev pub spans_of : List Stretch → List Stretch
+abbrev pub spans_of : List PlainLeaf → List PlainLeaf
 spans_of [] = []
 spans_of (s ∷ ss) = with_span s (spans_of ss)
 
--- the stretch is of this kind, and the tick is one of its own
-pub record Covers (kind : Kind) (tick : ℕ) (s : Stretch) : Type 0 where
-  pub same : s.kind ≡ kind
-  pub from : s.first ≤ tick
-  pub to : tick ≤ s.last
-
--- the tick lies in this stretch, which is of this kind and of the objects a and b
-pub record LiesIn (kind : Kind) (a b tick : ℕ) (s : Stretch) : Type 0 where
-  pub objects : (s.a ≡ a) × (s.b ≡ b)
-  pub covered : Covers kind tick s
-
 -- the tick lies in a span of this kind of this encounter, which is one of the objects a and b
-pub record LiesInSpan (kind : Kind) (a b tick : ℕ) (encounter : List Stretch) : Type 0 where
+pub record LiesInSpan (kind : Kind) (a b tick : ℕ) (encounter : List PlainLeaf) : Type 0 where
   pub objects : (first_object encounter ≡ a) × (second_object encounter ≡ b)
   pub span : Any (Covers kind tick) (spans_of encounter)
 
 -- the spans of the encounters of these stretches hold the ticks that they ought to, and no others
-pub record HaveExactSpans (ss : List Stretch) : Type 0 where
+pub record HaveExactSpans (ss : List PlainLeaf) : Type 0 where
   pub near : (a b tick : ℕ) → Any (LiesInSpan Near a b tick) (encounters_of ss) ↔ Any (LiesIn Near a b tick) ss
   pub undecided : (a b tick : ℕ) → Any (LiesInSpan Undecided a b tick) (encounters_of ss) ↔ Any (LiesIn Undecided a b tick) ss
   pub none_far : All (λ encounter. All (λ s. s.kind ≢ Far) (spans_of encounter)) (encounters_of ss)

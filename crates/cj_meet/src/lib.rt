@@ -3,6 +3,7 @@
 
 mod meeting;
 
+pub use cj_bezier::{Closest, Encounter, Mark};
 pub use meeting::encounters;
 
 #[cfg(test)]

@@ -1,5 +1,5 @@
 ghost use Rattle.std.specs.Prelude.{◌≡◌, ℕ, ◌+◌, ◌<◌, ◌≤◌, ◌==◌, ◌&&◌, List, [], ◌∷◌, ◌++◌, length, if◌then◌else◌, IfOk, OnOk, All};
-ghost use Rattle.cj_bezier.specs.Leaves.{Stretch, stretch_of, stretches_of};
+ghost use Rattle.cj_bezier.specs.Leaves.{PlainLeaf, plain_leaf, plain_leaves};
 ghost use Rattle.cj_bezier.specs.declared.encounter.Mark.TheVariants as Mark;
 ghost use Rattle.cj_bezier.specs.Order.{AreInOrder, HaveTicks};
 ghost use Rattle.cj_meet.specs.Encounters.{AreEncounters, encounters_of, groups_in, Describes, is_near_mark};
@@ -10,15 +10,15 @@ use std::alloc::{AllocError, Global};
 
 /// The encounters of the leaves of a run, in order of pair and time. The only error is want of memory.
 pub fn encounters(alloc: Global, leaves: &[Leaf]) -> Result<Vec<Encounter>, AllocError>
-    requires in_order { AreInOrder (stretches_of leaves.now) }
+    requires in_order { AreInOrder (plain_leaves leaves.now) }
     requires few { length leaves.now ≤ 4_000_000 }
 
     ensures groups { IfOk result (λ es.
-        groups_in (stretches_of leaves.now) es.items ≡ encounters_of (stretches_of leaves.now)) }
-    ensures described { IfOk result (λ es. All (Describes (stretches_of leaves.now)) es.items) }
+        groups_in (plain_leaves leaves.now) es.items ≡ encounters_of (plain_leaves leaves.now)) }
+    ensures described { IfOk result (λ es. All (Describes (plain_leaves leaves.now)) es.items) }
 
     // A near span of a pair holds ticks of its near leaves, and all of those lie in such spans. So with undecided ones.
-    ensures exact_spans { HaveExactSpans (stretches_of leaves.now) }
+    ensures exact_spans { HaveExactSpans (plain_leaves leaves.now) }
 {
     let mut found = Vec::new(alloc);
     for (at, leaf) in leaves.iter().enumerate() {
@@ -33,9 +33,9 @@ fn add(found: &mut Vec<Encounter>, leaf: &Leaf, at: u32) -> Result<(), AllocErro
     requires within { All (λ e. e.past ≤ at) found.old.items }
     ensures within { OnOk result (All (λ e. e.past ≤ at + 1) found.new.items) }
     // Whatever stretches come before it, if these are their encounters.
-    ensures found { OnOk result ((ss : List Stretch) →
-        length ss ≡ at → HaveTicks ss → AreInOrder (ss ++ stretch_of leaf.now ∷ []) →
-        AreEncounters ss found.old.items → AreEncounters (ss ++ stretch_of leaf.now ∷ []) found.new.items) }
+    ensures found { OnOk result ((ss : List PlainLeaf) →
+        length ss ≡ at → HaveTicks ss → AreInOrder (ss ++ plain_leaf leaf.now ∷ []) →
+        AreEncounters ss found.old.items → AreEncounters (ss ++ plain_leaf leaf.now ∷ []) found.new.items) }
 {
     let mark = match leaf.kind {
         Kind::Far => return Ok(()),

@@ -1,4 +1,4 @@
 pub mod Counts
 pub mod Report
-pub mod Runs
+pub mod SpanLines
 pub mod Summary

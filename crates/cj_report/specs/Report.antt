@@ -5,11 +5,11 @@ use Rattle.cj_bezier.specs.declared.kind.Kind.{Kind}
 use Rattle.cj_bezier.specs.declared.kind.Kind.TheVariants as kind
 use Rattle.cj_bezier.specs.declared.encounter.Mark.{Mark}
 use Rattle.cj_bezier.specs.declared.encounter.Mark.TheVariants as mark
-use Rattle.cj_bezier.specs.Leaves.{Stretch}
+use Rattle.cj_bezier.specs.Leaves.{PlainLeaf}
 use Rattle.cj_epoch.specs.Written.{epoch_of}
 use Rattle.cj_meet.specs.Encounters.{first_object, second_object, mark_of}
 use Rattle.cj_meet.specs.Spans.{spans_of}
-use Rattle.cj_oem.specs.Ephemeris.{Ephemeris}
+use Rattle.cj_track.specs.PlainTracks.{PlainTrack}
 
 -- a line: words with a space between them, and LF
 abbrev pub line : List (List ℕ) → List ℕ
@@ -21,7 +21,7 @@ numbered text n [] = []
 numbered text n (x ∷ xs) = text n x ++ numbered text (n + 1) xs
 
 -- the object with this number
-abbrev pub object_lines : ℕ → Ephemeris → List ℕ
+abbrev pub object_lines : ℕ → PlainTrack → List ℕ
 object_lines n object =
     line (codes "OBJECT" ∷ decimal n ∷ [])
     ++ line (codes "FILE" ∷ object.file ∷ [])
@@ -38,11 +38,11 @@ kind_word kind.Near = codes "NEAR"
 kind_word kind.Undecided = codes "UNDECIDED"
 
 -- the time and the distance of the closest approach, and what became of the message: none of them is told
-abbrev pub untold_approach : List (List ℕ)
-untold_approach = codes "-" ∷ codes "-" ∷ codes "-" ∷ []
+abbrev pub no_approach : List (List ℕ)
+no_approach = codes "-" ∷ codes "-" ∷ codes "-" ∷ []
 
 -- a span with its first tick and its last
-abbrev pub span_line : Stretch → List ℕ
+abbrev pub span_line : PlainLeaf → List ℕ
 span_line span = line (codes "SPAN" ∷ kind_word span.kind ∷ epoch_of span.first ∷ epoch_of span.last ∷ [])
 
 -- the encounter with this number, of the objects a and b, which are numbered from 1 in the text
@@ -51,13 +51,13 @@ encounter_line n a b mark approach =
     line (codes "ENCOUNTER" ∷ decimal n ∷ decimal (a + 1) ∷ decimal (b + 1) ∷ mark_word mark ∷ approach)
 
 -- the encounter and its spans
-abbrev pub encounter_lines : ℕ → List Stretch → List ℕ
+abbrev pub encounter_lines : ℕ → List PlainLeaf → List ℕ
 encounter_lines n encounter =
-    encounter_line n (first_object encounter) (second_object encounter) (mark_of encounter) untold_approach
+    encounter_line n (first_object encounter) (second_object encounter) (mark_of encounter) no_approach
     ++ flat_map span_line (spans_of encounter)
 
 -- the report: its window from the first tick to the last, its threshold in nm, its objects, its encounters
-abbrev pub report_of : ℕ → ℕ → ℕ → List Ephemeris → List (List Stretch) → List ℕ
+abbrev pub report_of : ℕ → ℕ → ℕ → List PlainTrack → List (List PlainLeaf) → List ℕ
 report_of first last threshold objects encounters =
     line (codes "CONJ-REPORT" ∷ codes "1" ∷ [])
     ++ line (codes "WINDOW" ∷ epoch_of first ∷ epoch_of last ∷ [])

@@ -1,13 +1,13 @@
 ghost use Rattle.std.specs.Prelude.{◌≡◌, ◌+◌, ◌++◌, flat_map, All, OnOk};
-ghost use Rattle.cj_bezier.specs.Leaves.{stretches_of};
+ghost use Rattle.cj_bezier.specs.Leaves.{plain_leaves};
 ghost use Rattle.cj_meet.specs.Encounters.{Describes, groups_in, stretches_in};
 ghost use Rattle.cj_meet.specs.Spans.{spans_of};
 ghost use Rattle.cj_report.specs.Report as spec;
-ghost use Rattle.cj_report.specs.Report.{encounter_line, encounter_lines, numbered, span_line, untold_approach};
-ghost use Rattle.cj_report.specs.Runs.{run_of};
+ghost use Rattle.cj_report.specs.Report.{encounter_line, encounter_lines, numbered, span_line, no_approach};
+ghost use Rattle.cj_report.specs.SpanLines.{stretch_of_line};
 
 use crate::lines::push_line;
-use crate::span::Span;
+use crate::span_line::SpanLine;
 use cj_bezier::{Encounter, Kind, Leaf, Mark};
 use cj_epoch::epoch_text;
 use itoa::Buffer;
@@ -19,9 +19,9 @@ pub(crate) fn push_encounters(
     leaves: &[Leaf],
     encounters: &[Encounter],
 ) -> Result<(), AllocError>
-    requires { All (Describes (stretches_of leaves.now)) encounters.now }
+    requires { All (Describes (plain_leaves leaves.now)) encounters.now }
     ensures { OnOk result (text.new.items ≡ text.old.items
-        ++ numbered encounter_lines 1 (groups_in (stretches_of leaves.now) encounters.now)) }
+        ++ numbered encounter_lines 1 (groups_in (plain_leaves leaves.now) encounters.now)) }
 {
     for (place, encounter) in encounters.iter().enumerate() {
         push_encounter(text, place + 1, leaves, encounter)?;
@@ -35,9 +35,9 @@ fn push_encounter(
     leaves: &[Leaf],
     encounter: &Encounter,
 ) -> Result<(), AllocError>
-    requires { Describes (stretches_of leaves.now) encounter.now }
+    requires { Describes (plain_leaves leaves.now) encounter.now }
     ensures { OnOk result (text.new.items ≡ text.old.items
-        ++ encounter_lines number (stretches_in (stretches_of leaves.now) encounter.now)) }
+        ++ encounter_lines number (stretches_in (plain_leaves leaves.now) encounter.now)) }
 {
     push_heading(text, number, encounter)?;
     push_spans(
@@ -49,7 +49,7 @@ fn push_encounter(
 
 fn push_heading(text: &mut Vec<u8>, number: usize, encounter: &Encounter) -> Result<(), AllocError>
     ensures { OnOk result (text.new.items ≡ text.old.items
-        ++ encounter_line number encounter.now.pair.a encounter.now.pair.b encounter.now.mark untold_approach) }
+        ++ encounter_line number encounter.now.pair.a encounter.now.pair.b encounter.now.mark no_approach) }
 {
     push_line(
         text,
@@ -71,25 +71,25 @@ fn push_heading(text: &mut Vec<u8>, number: usize, encounter: &Encounter) -> Res
 }
 
 fn push_spans(text: &mut Vec<u8>, leaves: &[Leaf]) -> Result<(), AllocError>
-    ensures { OnOk result (text.new.items ≡ text.old.items ++ flat_map span_line (spans_of (stretches_of leaves.now))) }
+    ensures { OnOk result (text.new.items ≡ text.old.items ++ flat_map span_line (spans_of (plain_leaves leaves.now))) }
 {
     let [first, others @ ..] = leaves else {
         return Ok(());
     };
-    let mut span = Span::of(first);
+    let mut span = SpanLine::of(first);
     for leaf in others {
         if span.goes_on(leaf) {
             span.last = leaf.cell.last;
         } else {
             push_span(text, &span)?;
-            span = Span::of(leaf);
+            span = SpanLine::of(leaf);
         }
     }
     push_span(text, &span)
 }
 
-fn push_span(text: &mut Vec<u8>, span: &Span) -> Result<(), AllocError>
-    ensures { OnOk result (text.new.items ≡ text.old.items ++ span_line (run_of span.now)) }
+fn push_span(text: &mut Vec<u8>, span: &SpanLine) -> Result<(), AllocError>
+    ensures { OnOk result (text.new.items ≡ text.old.items ++ span_line (stretch_of_line span.now)) }
 {
     push_line(
         text,

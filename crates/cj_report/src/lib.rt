@@ -6,7 +6,7 @@ mod encounters;
 mod lines;
 mod objects;
 mod report;
-mod span;
+mod span_line;
 mod summary;
 
 pub use counts::Counts;

@@ -1,13 +1,14 @@
-ghost use Rattle.std.specs.Prelude.{◌≡◌, ◌+◌, ◌<◌, ◌≤◌, true};
-ghost use Rattle.cj_oem.specs.Labels.{is_file_name};
+ghost use Rattle.std.specs.Prelude.{◌≡◌, ◌+◌, ◌<◌, ◌≤◌, true, IfOk};
+ghost use Rattle.cj_track.specs.Labels.{is_file_name};
+ghost use Rattle.cj_track.specs.Segments.{node_count};
 
 use crate::report_text;
 use cj_bezier::{Cell, Kind, Leaf};
 use cj_epoch::{Tick, Window, leap_between};
-use cj_hermite::Pair;
+use cj_hermite::{Pair, Problem, Tracks};
 use cj_kvn::Text;
 use cj_meet::encounters;
-use cj_oem::{Frame, Matrices, Node, Nodes, Segment, Segments, Track, Vec3};
+use cj_track::{Frame, Matrices, Node, Nodes, Segment, Segments, Track, Vec3};
 use std::alloc::{AllocError, Global};
 use std::process::Abort;
 use std::test::Fail;
@@ -52,7 +53,9 @@ fn node(at: Tick) -> Node
 }
 
 /// A minute at rest.
-fn segments(rt: &impl Abort, alloc: Global) -> Result<Segments, AllocError> {
+fn segments(rt: &impl Abort, alloc: Global) -> Result<Segments, AllocError>
+    ensures { IfOk result (λ segments. node_count segments ≡ 2) }
+{
     assert!(rt; !leap_between(tick(0), tick(60_000_000)));
     let nodes = vec![in alloc; node(tick(0)), node(tick(60_000_000))]?;
     let segment = Segment {
@@ -64,9 +67,11 @@ fn segments(rt: &impl Abort, alloc: Global) -> Result<Segments, AllocError> {
     Segments::new(alloc, vec![in alloc; segment]?)
 }
 
-#[tactic(auto, unfolding(cj_oem::specs::Labels::is_label))]
+#[tactic(auto, unfolding(cj_track::specs::Labels::is_label))]
 fn track_of(alloc: Global, file: Text, segments: Segments) -> Result<Track, AllocError>
     requires { is_file_name file ≡ true }
+    ensures frame { IfOk result (λ track. track.frame ≡ Frame.Eme2000) }
+    ensures segments { IfOk result (λ track. track.segments ≡ segments) }
 {
     Ok(Track {
         file,
@@ -77,11 +82,19 @@ fn track_of(alloc: Global, file: Text, segments: Segments) -> Result<Track, Allo
     })
 }
 
-#[tactic(auto, unfolding(cj_oem::specs::Labels::is_file_name))]
-fn tracks(rt: &impl Abort, alloc: Global) -> Result<[Track; 2], AllocError> {
-    let one = track_of(alloc, Text::copy_of(alloc, b"a.oem")?, segments(rt, alloc)?)?;
-    let other = track_of(alloc, Text::copy_of(alloc, b"b.oem")?, segments(rt, alloc)?)?;
-    Ok([one, other])
+/// A second of two tracks, by a threshold of 5 km.
+#[tactic(auto, unfolding(cj_track::specs::Labels::is_file_name))]
+fn problem(rt: &impl Abort, alloc: Global) -> Result<Problem, AllocError> {
+    let a = track_of(alloc, Text::copy_of(alloc, b"a.oem")?, segments(rt, alloc)?)?;
+    let b = track_of(alloc, Text::copy_of(alloc, b"b.oem")?, segments(rt, alloc)?)?;
+    Ok(Problem {
+        tracks: Tracks::new(vec![in alloc; a, b]?),
+        window: Window {
+            first: tick(29_500_000),
+            last: tick(30_499_999),
+        },
+        threshold: 5_000_000_000_000,
+    })
 }
 
 fn leaf(first: u64, last: u64, kind: Kind) -> Leaf
@@ -105,26 +118,15 @@ fn leaf(first: u64, last: u64, kind: Kind) -> Leaf
 
 #[test]
 fn two_tracks_cross_at_one_kilometre(rt: HostRuntime) -> Result<(), Fail> {
-    let tracks = tracks(&rt, rt.alloc())?;
+    let problem = problem(&rt, rt.alloc())?;
     let leaves = [
         leaf(29_500_000, 29_538_119, Kind::Far),
         leaf(29_538_120, 29_999_999, Kind::Near),
         leaf(30_000_000, 30_461_880, Kind::Near),
         leaf(30_461_881, 30_499_999, Kind::Far),
     ];
-    let window = Window {
-        first: tick(29_500_000),
-        last: tick(30_499_999),
-    };
     let found = encounters(rt.alloc(), &leaves)?;
-    let text = report_text(
-        rt.alloc(),
-        window,
-        5_000_000_000_000,
-        &tracks,
-        &leaves,
-        &found,
-    )?;
+    let text = report_text(rt.alloc(), &problem, &leaves, &found)?;
     assert_eq!(rt; text.as_slice(), REPORT);
     Ok(())
 }

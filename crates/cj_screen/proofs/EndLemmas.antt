@@ -6,40 +6,73 @@ use Rattle.cj_words.specs.declared.option.UsageFault.{UsageFault}
 use Rattle.cj_screen.specs.declared.status.Status.{Status}
 use Rattle.cj_screen.specs.declared.status.Status.TheVariants as status
 use Rattle.cj_screen.specs.Steps.{Stops}
-use Rattle.cj_screen.specs.Outcome.{Answers, IsFront, PartlyPut, IsPartOf, EndsWithPuts, ComesOfPuts}
-use Rattle.cj_screen.specs.Pieces.{ended}
+use Rattle.cj_screen.specs.Outcome.{Answers, IsFront, PartlyPut, IsPartOf, Leaves, Extends, ComesOfPuts, PutsNothing}
+use Rattle.cj_screen.specs.Findings.{ended}
 
-nothing_put : (due : Result (List FileBytes) Status) (old : List FileBytes) (now : Option (List FileBytes)) → now ≡ Some old → PartlyPut due old now
+-- nothing was put
+pub nothing_put : (due : Result (List FileBytes) Status) (old : List FileBytes) (now : Option (List FileBytes)) → now ≡ Some old → PartlyPut due old now
 nothing_put (Ok pieces) old now same = ([], tt, same ∙ ap (λ (ps : List FileBytes). Some ps) (sym (append-nil old)))
 nothing_put (Err s) old now same = ([], refl, same ∙ ap (λ (ps : List FileBytes). Some ps) (sym (append-nil old)))
 
--- a run that stopped before it put anything
-pub answers_stop : (read write : Type 0) (s : Status) (due : Result (List FileBytes) Status) (old : List FileBytes) (now : Option (List FileBytes))
-    → now ≡ Some old → Stops read s due → Answers read write s due old now
-answers_stop read write status.Ok due old now same stops = absurd stops
-answers_stop read write (status.Usage fault) due old now same stops = (stops, same)
-answers_stop read write (status.BadFile file line cause) due old now same stops = (stops, same)
-answers_stop read write status.ReadFault due old now same stops = (stops, same)
-answers_stop read write status.WriteFault due old now same stops = absurd stops
-answers_stop read write (status.Limit fault) due old now same stops = (stops, same)
-answers_stop read write status.OutOfMemory due old now same stops = nothing_put due old now same
+pub nothing_more : (old : List FileBytes) (now : Option (List FileBytes)) → now ≡ Some old → Extends old now
+nothing_more old now same = ([], same ∙ ap (λ (ps : List FileBytes). Some ps) (sym (append-nil old)))
 
--- ---- putting pieces
+-- ---- a run that stopped before its puts
 
--- a front of pieces that were put
-front_put : (pieces old : List FileBytes) (now : Option (List FileBytes)) (due : Result (List FileBytes) Status) → due ≡ Ok pieces → PartlyPut (Ok pieces) old now → PartlyPut due old now
-front_put pieces old now due is partly = (partly.0, subst (λ (d : Result (List FileBytes) Status). IsPartOf partly.0 d) (sym is) partly.1, partly.2)
+pub answers_stop : (read : Type 0) (s : Status) (due : Result (List FileBytes) Status) → Stops read s due → Answers read s due
+answers_stop read status.Ok due stops = absurd stops
+answers_stop read (status.Usage fault) due stops = stops
+answers_stop read (status.BadFile file line cause) due stops = stops
+answers_stop read status.ReadFault due stops = stops
+answers_stop read status.WriteFault due stops = absurd stops
+answers_stop read (status.Limit fault) due stops = stops
+answers_stop read status.OutOfMemory due stops = tt
 
--- a run that came to its puts
-pub answers_put : (read write : Type 0) (s : Status) (due : Result (List FileBytes) Status) (pieces old : List FileBytes) (now : Option (List FileBytes))
-    → due ≡ Ok pieces → EndsWithPuts write s pieces old now → Answers read write s due old now
-answers_put read write status.Ok due pieces old now is ends = (pieces, is, ends)
-answers_put read write (status.Usage fault) due pieces old now is ends = absurd ends
-answers_put read write (status.BadFile file line cause) due pieces old now is ends = absurd ends
-answers_put read write status.ReadFault due pieces old now is ends = absurd ends
-answers_put read write status.WriteFault due pieces old now is ends = (ends.0, front_put pieces old now due is ends.1)
-answers_put read write (status.Limit fault) due pieces old now is ends = absurd ends
-answers_put read write status.OutOfMemory due pieces old now is ends = front_put pieces old now due is ends
+pub leaves_stop : (read : Type 0) (s : Status) (due : Result (List FileBytes) Status) (old : List FileBytes) (now : Option (List FileBytes))
+    → now ≡ Some old → Stops read s due → Leaves s due old now
+leaves_stop read status.Ok due old now same stops = absurd stops
+leaves_stop read (status.Usage fault) due old now same stops = same
+leaves_stop read (status.BadFile file line cause) due old now same stops = same
+leaves_stop read status.ReadFault due old now same stops = same
+leaves_stop read status.WriteFault due old now same stops = absurd stops
+leaves_stop read (status.Limit fault) due old now same stops = same
+leaves_stop read status.OutOfMemory due old now same stops = nothing_put due old now same
+
+-- ---- a run that came to its puts
+
+pub answers_put : (read : Type 0) (r : Result (Unit {0}) Status) (due : Result (List FileBytes) Status) (pieces : List FileBytes) → due ≡ Ok pieces → IfErr r ComesOfPuts → Answers read (ended r) due
+answers_put read (Ok done) due pieces is comes = (pieces, is)
+answers_put read (Err status.Ok) due pieces is comes = absurd comes
+answers_put read (Err (status.Usage fault)) due pieces is comes = absurd comes
+answers_put read (Err (status.BadFile file line cause)) due pieces is comes = absurd comes
+answers_put read (Err status.ReadFault) due pieces is comes = absurd comes
+answers_put read (Err status.WriteFault) due pieces is comes = (pieces, is)
+answers_put read (Err (status.Limit fault)) due pieces is comes = absurd comes
+answers_put read (Err status.OutOfMemory) due pieces is comes = tt
+
+-- puts that did not fail were made, or memory ran out
+pub put_or_memory : (write : Type 0) (r : Result (Unit {0}) Status) → ¬ write → IfErr r ComesOfPuts → (r ≡ Err status.WriteFault → write) → (ended r ≡ status.Ok) ⊎ (ended r ≡ status.OutOfMemory)
+put_or_memory write (Ok done) calm comes rose = inl refl
+put_or_memory write (Err status.Ok) calm comes rose = absurd comes
+put_or_memory write (Err (status.Usage fault)) calm comes rose = absurd comes
+put_or_memory write (Err (status.BadFile file line cause)) calm comes rose = absurd comes
+put_or_memory write (Err status.ReadFault) calm comes rose = absurd comes
+put_or_memory write (Err status.WriteFault) calm comes rose = absurd (calm (rose refl))
+put_or_memory write (Err (status.Limit fault)) calm comes rose = absurd comes
+put_or_memory write (Err status.OutOfMemory) calm comes rose = inr refl
+
+-- puts do not end as a run that leaves its shelf alone
+pub puts_some : (r : Result (Unit {0}) Status) → IfErr r ComesOfPuts → ¬ PutsNothing (ended r)
+puts_some (Ok done) comes = λ none. none
+puts_some (Err status.Ok) comes = absurd comes
+puts_some (Err (status.Usage fault)) comes = absurd comes
+puts_some (Err (status.BadFile file line cause)) comes = absurd comes
+puts_some (Err status.ReadFault) comes = absurd comes
+puts_some (Err status.WriteFault) comes = λ none. none
+puts_some (Err (status.Limit fault)) comes = absurd comes
+puts_some (Err status.OutOfMemory) comes = λ none. none
+
+-- ---- two puts, one after another
 
 -- a front of one piece is a front of that piece and more
 front_of_more : (p q : FileBytes) (front : List FileBytes) → IsFront front (p ∷ []) → IsFront front (p ∷ q ∷ [])
@@ -53,29 +86,50 @@ front_behind p q [] is = (refl, ([], sym (append-nil p.bytes)))
 front_behind p q (f ∷ []) is = (refl, is)
 front_behind p q (f ∷ g ∷ front) is = absurd is.1
 
+-- a front of the first piece alone was put
+pub first_partly : (p q : FileBytes) (old : List FileBytes) (now : Option (List FileBytes)) → PartlyPut (Ok (p ∷ [])) old now → PartlyPut (Ok (p ∷ q ∷ [])) old now
+first_partly p q old now partly = (partly.0, front_of_more p q partly.0 partly.1, partly.2)
+
 -- the first put ended the run
-pub first_ends : (write : Type 0) (s : Status) (p q : FileBytes) (old : List FileBytes) (now : Option (List FileBytes)) → ComesOfPuts s
-    → EndsWithPuts write s (p ∷ []) old now → EndsWithPuts write s (p ∷ q ∷ []) old now
-first_ends write status.Ok p q old now failed ends = absurd failed
-first_ends write (status.Usage fault) p q old now failed ends = ends
-first_ends write (status.BadFile file line cause) p q old now failed ends = ends
-first_ends write status.ReadFault p q old now failed ends = ends
-first_ends write status.WriteFault p q old now failed ends = (ends.0, (ends.1.0, front_of_more p q ends.1.0 ends.1.1, ends.1.2))
-first_ends write (status.Limit fault) p q old now failed ends = ends
-first_ends write status.OutOfMemory p q old now failed ends = (ends.0, front_of_more p q ends.0 ends.1, ends.2)
+pub first_leaves : (s : Status) (p q : FileBytes) (old : List FileBytes) (now : Option (List FileBytes)) → ComesOfPuts s → Leaves s (Ok (p ∷ [])) old now → Leaves s (Ok (p ∷ q ∷ [])) old now
+first_leaves status.Ok p q old now comes leaves = absurd comes
+first_leaves (status.Usage fault) p q old now comes leaves = leaves
+first_leaves (status.BadFile file line cause) p q old now comes leaves = leaves
+first_leaves status.ReadFault p q old now comes leaves = leaves
+first_leaves status.WriteFault p q old now comes leaves = first_partly p q old now leaves
+first_leaves (status.Limit fault) p q old now comes leaves = leaves
+first_leaves status.OutOfMemory p q old now comes leaves = first_partly p q old now leaves
+
+-- the first piece stands
+pub first_stands : (p : FileBytes) (old : List FileBytes) (now : Option (List FileBytes)) → Leaves status.Ok (Ok (p ∷ [])) old now → now ≡ Some (old ++ p ∷ [])
+first_stands p old now leaves = let is : leaves.0 ≡ p ∷ [] = cc (leaves.1) in leaves.2 ∙ ap (λ (ps : List FileBytes). Some (old ++ ps)) is
+
+-- a front behind the first piece was put
+behind_partly : (p q : FileBytes) (old : List FileBytes) (now : Option (List FileBytes)) → PartlyPut (Ok (q ∷ [])) (old ++ p ∷ []) now → PartlyPut (Ok (p ∷ q ∷ [])) old now
+behind_partly p q old now partly = (p ∷ partly.0, front_behind p q partly.0 partly.1, partly.2 ∙ ap (λ (ps : List FileBytes). Some ps) (append_assoc old (p ∷ []) partly.0))
 
 -- the second put ended it
-pub second_ends : (write write' : Type 0) (s : Status) (p q : FileBytes) (old : List FileBytes) (now : Option (List FileBytes)) → (write' → write)
-    → EndsWithPuts write' s (q ∷ []) (old ++ p ∷ []) now → EndsWithPuts write s (p ∷ q ∷ []) old now
-second_ends write write' status.Ok p q old now wider ends = ends ∙ ap (λ (ps : List FileBytes). Some ps) (append_assoc old (p ∷ []) (q ∷ []))
-second_ends write write' (status.Usage fault) p q old now wider ends = ends
-second_ends write write' (status.BadFile file line cause) p q old now wider ends = ends
-second_ends write write' status.ReadFault p q old now wider ends = ends
-second_ends write write' status.WriteFault p q old now wider ends =
-    (wider ends.0, (p ∷ ends.1.0, front_behind p q ends.1.0 ends.1.1, ends.1.2 ∙ ap (λ (ps : List FileBytes). Some ps) (append_assoc old (p ∷ []) ends.1.0)))
-second_ends write write' (status.Limit fault) p q old now wider ends = ends
-second_ends write write' status.OutOfMemory p q old now wider ends =
-    (p ∷ ends.0, front_behind p q ends.0 ends.1, ends.2 ∙ ap (λ (ps : List FileBytes). Some ps) (append_assoc old (p ∷ []) ends.0))
+pub second_leaves : (r : Result (Unit {0}) Status) (p q : FileBytes) (old : List FileBytes) (now : Option (List FileBytes)) → IfErr r ComesOfPuts
+    → Leaves (ended r) (Ok (q ∷ [])) (old ++ p ∷ []) now → Leaves (ended r) (Ok (p ∷ q ∷ [])) old now
+second_leaves (Ok done) p q old now comes leaves =
+    (p ∷ q ∷ [], refl, first_stands q (old ++ p ∷ []) now leaves ∙ ap (λ (ps : List FileBytes). Some ps) (append_assoc old (p ∷ []) (q ∷ [])))
+second_leaves (Err status.Ok) p q old now comes leaves = absurd comes
+second_leaves (Err (status.Usage fault)) p q old now comes leaves = absurd comes
+second_leaves (Err (status.BadFile file line cause)) p q old now comes leaves = absurd comes
+second_leaves (Err status.ReadFault) p q old now comes leaves = absurd comes
+second_leaves (Err status.WriteFault) p q old now comes leaves = behind_partly p q old now leaves
+second_leaves (Err (status.Limit fault)) p q old now comes leaves = absurd comes
+second_leaves (Err status.OutOfMemory) p q old now comes leaves = behind_partly p q old now leaves
+
+-- whatever ended the puts, the old pieces stand
+pub leaves_extends : (s : Status) (due : Result (List FileBytes) Status) (old : List FileBytes) (now : Option (List FileBytes)) → Leaves s due old now → Extends old now
+leaves_extends status.Ok due old now leaves = (leaves.0, leaves.2)
+leaves_extends (status.Usage fault) due old now leaves = nothing_more old now leaves
+leaves_extends (status.BadFile file line cause) due old now leaves = nothing_more old now leaves
+leaves_extends status.ReadFault due old now leaves = nothing_more old now leaves
+leaves_extends status.WriteFault due old now leaves = (leaves.0, leaves.2)
+leaves_extends (status.Limit fault) due old now leaves = nothing_more old now leaves
+leaves_extends status.OutOfMemory due old now leaves = (leaves.0, leaves.2)
 
 -- ---- completeness
 
@@ -89,17 +143,6 @@ stopped_for read status.ReadFault due pieces is calm stops = absurd (calm stops)
 stopped_for read status.WriteFault due pieces is calm stops = absurd stops
 stopped_for read (status.Limit fault) due pieces is calm stops = absurd cc
 stopped_for read status.OutOfMemory due pieces is calm stops = refl
-
--- puts that did not fail were made, or memory ran out
-pub put_or_memory : (write : Type 0) (r : Result (Unit {0}) Status) → ¬ write → IfErr r ComesOfPuts → (r ≡ Err status.WriteFault → write) → (ended r ≡ status.Ok) ⊎ (ended r ≡ status.OutOfMemory)
-put_or_memory write (Ok done) calm comes rose = inl refl
-put_or_memory write (Err status.Ok) calm comes rose = absurd comes
-put_or_memory write (Err (status.Usage fault)) calm comes rose = absurd comes
-put_or_memory write (Err (status.BadFile file line cause)) calm comes rose = absurd comes
-put_or_memory write (Err status.ReadFault) calm comes rose = absurd comes
-put_or_memory write (Err status.WriteFault) calm comes rose = absurd (calm (rose refl))
-put_or_memory write (Err (status.Limit fault)) calm comes rose = absurd comes
-put_or_memory write (Err status.OutOfMemory) calm comes rose = inr refl
 
 -- a run that came to its puts has words of the grammar
 pub never_usage : (r : Result (Unit {0}) Status) (fault : UsageFault) → IfErr r ComesOfPuts → ¬ (ended r ≡ status.Usage fault)

@@ -1,10 +1,8 @@
-pub mod CountLemmas
 pub mod EndLemmas
-pub mod FarLemmas
-pub mod GatherLemmas
+pub mod InputFileLemmas
 pub mod ReadingLemmas
 pub mod ReportLemmas
 pub mod SortLemmas
 pub mod SplitLemmas
 pub mod StepLemmas
-pub mod TakenLemmas
+pub mod WindowLemmas

@@ -7,29 +7,29 @@ use Rattle.std.proofs.lemmas.List.{get_or_append_left, get_or_push, length-appen
 use Rattle.std.proofs.lemmas.List.Sums.{sum_by-cons, sum_by_push}
 use Rattle.cj_io.specs.declared.file.FileBytes.{FileBytes}
 use Rattle.cj_io.specs.Files.{bytes_of}
-use Rattle.cj_oem.specs.Ephemeris.{Ephemeris}
+use Rattle.cj_track.specs.PlainTracks.{PlainTrack}
 use Rattle.cj_oem.specs.Metadata.{same_frame}
-use Rattle.cj_oem.specs.Segments.{node_count}
-use Rattle.cj_oem.specs.Tracks.{ephemeris_of}
+use Rattle.cj_track.specs.Segments.{node_count}
+use Rattle.cj_track.specs.Tracks.{plain_track}
 use Rattle.cj_oem.proofs.CountLemmas.{nodes_said}
-use Rattle.cj_oem.specs.declared.frame.Frame.{Frame}
-use Rattle.cj_oem.specs.declared.frame.Frame.TheVariants as frames
-use Rattle.cj_oem.specs.declared.track.Track.{Track}
+use Rattle.cj_track.specs.declared.frame.Frame.{Frame}
+use Rattle.cj_track.specs.declared.frame.Frame.TheVariants as frames
+use Rattle.cj_track.specs.declared.track.Track.{Track}
 use Rattle.cj_hermite.specs.CaseLimits.{node_total}
 use Rattle.cj_hermite.specs.Frames.{HaveOneFrame}
 use Rattle.cj_screen.specs.declared.status.Status.{Status}
 use Rattle.cj_screen.specs.declared.status.Status.TheVariants.{BadFile, Limit}
 use Rattle.cj_screen.specs.declared.status.LimitFault.TheVariants as limit
-use Rattle.cj_screen.specs.declared.reading.Unread.{Unread}
-use Rattle.cj_screen.specs.declared.reading.Unread.TheVariants as unread
-use Rattle.cj_screen.specs.declared.taken.Entry.{Entry}
-use Rattle.cj_screen.specs.Readings.{◌>>=◌, reading_of, reading_after, readings_after, fitting, has_frame_of, nodes_of, nodes_in, Reads}
+use Rattle.cj_screen.specs.declared.reading.InputError.{InputError}
+use Rattle.cj_screen.specs.declared.reading.InputError.TheVariants as input
+use Rattle.cj_screen.specs.declared.input_files.Entry.{Entry}
+use Rattle.cj_screen.specs.Readings.{◌>>=◌, reading_of, reading_after, readings_after, checked_after, has_frame_of, nodes_of, nodes_in, Reads}
 
 -- the nodes of tracks are those of their ephemerides
-pub same_nodes : (tracks : List Track) → nodes_in (map ephemeris_of tracks) ≡ node_total tracks
+pub same_nodes : (tracks : List Track) → nodes_in (map plain_track tracks) ≡ node_total tracks
 same_nodes [] = refl
 same_nodes (track ∷ tracks) =
-    sum_by-cons nodes_of (ephemeris_of track) (map ephemeris_of tracks)
+    sum_by-cons nodes_of (plain_track track) (map plain_track tracks)
     ∙ ap₂ (λ (a b : ℕ). a + b) (nodes_said track.segments) (same_nodes tracks)
     ∙ sym (sum_by-cons (λ (t : Track). node_count t.segments) track tracks)
 
@@ -37,26 +37,26 @@ same_nodes (track ∷ tracks) =
 pub nodes_behind : (tracks : List Track) (track : Track) → node_total (tracks ++ track ∷ []) ≡ node_total tracks + node_count track.segments
 nodes_behind tracks track = sum_by_push (λ (t : Track). node_count t.segments) tracks track
 
-nodes_with : (tracks : List Track) (track : Track) → nodes_in (map ephemeris_of tracks ++ ephemeris_of track ∷ []) ≡ node_total tracks + node_count track.segments
+nodes_with : (tracks : List Track) (track : Track) → nodes_in (map plain_track tracks ++ plain_track track ∷ []) ≡ node_total tracks + node_count track.segments
 nodes_with tracks track =
-    ap nodes_in (sym (map-append ephemeris_of tracks (track ∷ []))) ∙ same_nodes (tracks ++ track ∷ []) ∙ nodes_behind tracks track
+    ap nodes_in (sym (map-append plain_track tracks (track ∷ []))) ∙ same_nodes (tracks ++ track ∷ []) ∙ nodes_behind tracks track
 
 -- a track of the same frame, which has few nodes with those before it
-pub fits : (tracks : List Track) (name : List ℕ) (track : Track) (nodes : ℕ) → has_frame_of (map ephemeris_of tracks) (ephemeris_of track) ≡ true
+pub fits : (tracks : List Track) (name : List ℕ) (track : Track) (nodes : ℕ) → has_frame_of (map plain_track tracks) (plain_track track) ≡ true
     → nodes ≡ node_total tracks + node_count track.segments → nodes ≤ 2_000_000
-    → fitting (map ephemeris_of tracks) name (ephemeris_of track) ≡ Ok (ephemeris_of track)
+    → checked_after (map plain_track tracks) name (plain_track track) ≡ Ok (plain_track track)
 fits tracks name track nodes frame is few =
     let small : nat_le nodes 2_000_000 ≡ true = grind (arith, nat_tests) in
-    let all : nodes_in (map ephemeris_of tracks ++ ephemeris_of track ∷ []) ≡ nodes = nodes_with tracks track ∙ sym is in
+    let all : nodes_in (map plain_track tracks ++ plain_track track ∷ []) ≡ nodes = nodes_with tracks track ∙ sym is in
     rw (frame, all, small) refl
 
 -- a track of the same frame, which has too many
-pub overflows : (tracks : List Track) (name : List ℕ) (track : Track) (nodes : ℕ) → has_frame_of (map ephemeris_of tracks) (ephemeris_of track) ≡ true
+pub overflows : (tracks : List Track) (name : List ℕ) (track : Track) (nodes : ℕ) → has_frame_of (map plain_track tracks) (plain_track track) ≡ true
     → nodes ≡ node_total tracks + node_count track.segments → 2_000_000 < nodes
-    → fitting (map ephemeris_of tracks) name (ephemeris_of track) ≡ Err (Limit (limit.Nodes nodes))
+    → checked_after (map plain_track tracks) name (plain_track track) ≡ Err (Limit (limit.Nodes nodes))
 overflows tracks name track nodes frame is many =
     let large : nat_le nodes 2_000_000 ≡ false = grind (arith, nat_tests) in
-    let all : nodes_in (map ephemeris_of tracks ++ ephemeris_of track ∷ []) ≡ nodes = nodes_with tracks track ∙ sym is in
+    let all : nodes_in (map plain_track tracks ++ plain_track track ∷ []) ≡ nodes = nodes_with tracks track ∙ sym is in
     rw (frame, all, large) refl
 
 frames_tied : (f g : Frame) → same_frame f g ≡ true → f ≡ g
@@ -65,12 +65,12 @@ frames_tied frames.Eme2000 frames.Gcrf e = absurd cc
 frames_tied frames.Gcrf frames.Eme2000 e = absurd cc
 frames_tied frames.Gcrf frames.Gcrf e = refl
 
-first_frame : (tracks : List Track) (track d : Track) → has_frame_of (map ephemeris_of tracks) (ephemeris_of track) ≡ true → 0 < length tracks → (get_or tracks 0 d).frame ≡ track.frame
+first_frame : (tracks : List Track) (track d : Track) → has_frame_of (map plain_track tracks) (plain_track track) ≡ true → 0 < length tracks → (get_or tracks 0 d).frame ≡ track.frame
 first_frame [] track d e some = absurd (omega arith)
 first_frame (first ∷ tracks) track d e some = frames_tied first.frame track.frame e
 
 -- one more track of the frame of the first
-pub one_frame_more : (tracks : List Track) (track : Track) → HaveOneFrame tracks → has_frame_of (map ephemeris_of tracks) (ephemeris_of track) ≡ true → HaveOneFrame (tracks ++ track ∷ [])
+pub one_frame_more : (tracks : List Track) (track : Track) → HaveOneFrame tracks → has_frame_of (map plain_track tracks) (plain_track track) ≡ true → HaveOneFrame (tracks ++ track ∷ [])
 one_frame_more tracks track one e = λ i j d below_i below_j. last i d below_i ∙ sym (last j d below_j)
   where
     at_end : (i : ℕ) (d : Track) → length tracks ≡ i → (get_or (tracks ++ track ∷ []) i d).frame ≡ track.frame
@@ -89,58 +89,58 @@ one_frame_more tracks track one e = λ i j d below_i below_j. last i d below_i �
         either (inr h) = at_end i d (omega (arith, length-append tracks (track ∷ [])))
 
 -- the reading from an entry on: that file, and then the rest
-from_on : (as_hermite3 : Bool) (files : List FileBytes) (before : List Ephemeris) (entries : List Entry) (i : ℕ) (d : Entry) → i < length entries
+from_on : (as_hermite3 : Bool) (files : List FileBytes) (before : List PlainTrack) (entries : List Entry) (i : ℕ) (d : Entry) → i < length entries
     → readings_after as_hermite3 files before (drop i entries)
     ≡ (reading_after as_hermite3 files before (get_or entries i d) >>= λ e. readings_after as_hermite3 files (before ++ e ∷ []) (drop (suc i) entries))
 from_on as_hermite3 files before [] i d below = absurd (omega arith)
 from_on as_hermite3 files before (entry ∷ entries) zero d below = refl
 from_on as_hermite3 files before (entry ∷ entries) (suc i) d below = from_on as_hermite3 files before entries i d (omega arith)
 
-here_on : (as_hermite3 : Bool) (files : List FileBytes) (before : List Ephemeris) (entries : List Entry) (i : ℕ) (entry : Entry) (r : Result Ephemeris Status) → i < length entries
+here_on : (as_hermite3 : Bool) (files : List FileBytes) (before : List PlainTrack) (entries : List Entry) (i : ℕ) (entry : Entry) (r : Result PlainTrack Status) → i < length entries
     → get_or entries i entry ≡ entry → reading_after as_hermite3 files before entry ≡ r
     → readings_after as_hermite3 files before (drop i entries) ≡ (r >>= λ e. readings_after as_hermite3 files (before ++ e ∷ []) (drop (suc i) entries))
 here_on as_hermite3 files before entries i entry r below is read =
-    let rest : Ephemeris → Result (List Ephemeris) Status = λ e. readings_after as_hermite3 files (before ++ e ∷ []) (drop (suc i) entries) in
+    let rest : PlainTrack → Result (List PlainTrack) Status = λ e. readings_after as_hermite3 files (before ++ e ∷ []) (drop (suc i) entries) in
     from_on as_hermite3 files before entries i entry below
     ∙ ap (λ (x : Entry). reading_after as_hermite3 files before x >>= rest) is
-    ∙ ap (λ (x : Result Ephemeris Status). x >>= rest) read
+    ∙ ap (λ (x : Result PlainTrack Status). x >>= rest) read
 
 -- one more file was read, and fits
-pub goes_on : (as_hermite3 : Bool) (files : List FileBytes) (tracks : List Track) (entries : List Entry) (i : ℕ) (entry : Entry) (track : Track) (more : List Track) (total : Result (List Ephemeris) Status)
+pub goes_on : (as_hermite3 : Bool) (files : List FileBytes) (tracks : List Track) (entries : List Entry) (i : ℕ) (entry : Entry) (track : Track) (more : List Track) (total : Result (List PlainTrack) Status)
     → i < length entries → get_or entries i entry ≡ entry → more ≡ tracks ++ track ∷ []
-    → reading_of as_hermite3 entry.name (bytes_of files entry.number) ≡ Ok (ephemeris_of track) → fitting (map ephemeris_of tracks) entry.name (ephemeris_of track) ≡ Ok (ephemeris_of track)
-    → readings_after as_hermite3 files (map ephemeris_of tracks) (drop i entries) ≡ total → readings_after as_hermite3 files (map ephemeris_of more) (drop (i + 1) entries) ≡ total
+    → reading_of as_hermite3 entry.name (bytes_of files entry.number) ≡ Ok (plain_track track) → checked_after (map plain_track tracks) entry.name (plain_track track) ≡ Ok (plain_track track)
+    → readings_after as_hermite3 files (map plain_track tracks) (drop i entries) ≡ total → readings_after as_hermite3 files (map plain_track more) (drop (i + 1) entries) ≡ total
 goes_on as_hermite3 files tracks entries i entry track more total below is pushed read fit so_far =
-    let before = map ephemeris_of tracks in
-    let after : reading_after as_hermite3 files before entry ≡ Ok (ephemeris_of track) = ap (λ (r : Result Ephemeris Status). r >>= fitting before entry.name) read ∙ fit in
-    let all : map ephemeris_of more ≡ before ++ ephemeris_of track ∷ [] = ap (map ephemeris_of) pushed ∙ map-append ephemeris_of tracks (track ∷ []) in
-    rw (add-one, all) (sym (here_on as_hermite3 files before entries i entry (Ok (ephemeris_of track)) below is after) ∙ so_far)
+    let before = map plain_track tracks in
+    let after : reading_after as_hermite3 files before entry ≡ Ok (plain_track track) = ap (λ (r : Result PlainTrack Status). r >>= checked_after before entry.name) read ∙ fit in
+    let all : map plain_track more ≡ before ++ plain_track track ∷ [] = ap (map plain_track) pushed ∙ map-append plain_track tracks (track ∷ []) in
+    rw (add-one, all) (sym (here_on as_hermite3 files before entries i entry (Ok (plain_track track)) below is after) ∙ so_far)
 
 -- why one file is not taken is why the reading of all ends
-ends : {X Y : Type 0} {P Q : Type 0} (view : X → Ephemeris) (all : Y → List Ephemeris) (as_hermite3 : Bool) (files : List FileBytes) (before : List Ephemeris) (entries : List Entry) (i : ℕ) (entry : Entry) (why : Unread) (total : Result (List Ephemeris) Status)
+ends : {X Y : Type 0} {P Q : Type 0} (view : X → PlainTrack) (all : Y → List PlainTrack) (as_hermite3 : Bool) (files : List FileBytes) (before : List PlainTrack) (entries : List Entry) (i : ℕ) (entry : Entry) (why : InputError) (total : Result (List PlainTrack) Status)
     → i < length entries → get_or entries i entry ≡ entry → (P → Q)
     → Reads P view (Err why) (reading_after as_hermite3 files before entry)
     → readings_after as_hermite3 files before (drop i entries) ≡ total → Reads Q all (Err why) total
-ends view all as_hermite3 files before entries i entry unread.Memory total below is rose here so_far = tt
-ends view all as_hermite3 files before entries i entry unread.Fault total below is rose here so_far = rose here
-ends view all as_hermite3 files before entries i entry (unread.Refused file line cause) total below is rose here so_far =
+ends view all as_hermite3 files before entries i entry input.Memory total below is rose here so_far = tt
+ends view all as_hermite3 files before entries i entry input.Failed total below is rose here so_far = rose here
+ends view all as_hermite3 files before entries i entry (input.Refused file line cause) total below is rose here so_far =
     sym so_far ∙ here_on as_hermite3 files before entries i entry (Err (BadFile file line cause)) below is here
-ends view all as_hermite3 files before entries i entry (unread.Beyond fault) total below is rose here so_far =
+ends view all as_hermite3 files before entries i entry (input.Limit fault) total below is rose here so_far =
     sym so_far ∙ here_on as_hermite3 files before entries i entry (Err (Limit fault)) below is here
 
-passes_on : {X Y : Type 0} (P : Type 0) (view : X → Ephemeris) (other : Y → Ephemeris) (why : Unread) (r s : Result Ephemeris Status) → ((e : Status) → r ≡ Err e → s ≡ Err e)
+passes_on : {X Y : Type 0} (P : Type 0) (view : X → PlainTrack) (other : Y → PlainTrack) (why : InputError) (r s : Result PlainTrack Status) → ((e : Status) → r ≡ Err e → s ≡ Err e)
     → Reads P view (Err why) r → Reads P other (Err why) s
-passes_on P view other unread.Memory r s on here = tt
-passes_on P view other unread.Fault r s on here = here
-passes_on P view other (unread.Refused file line cause) r s on here = on (BadFile file line cause) here
-passes_on P view other (unread.Beyond fault) r s on here = on (Limit fault) here
+passes_on P view other input.Memory r s on here = tt
+passes_on P view other input.Failed r s on here = here
+passes_on P view other (input.Refused file line cause) r s on here = on (BadFile file line cause) here
+passes_on P view other (input.Limit fault) r s on here = on (Limit fault) here
 
 -- a file was read, and does not fit
-pub is_apart : {X Y : Type 0} (Q : Type 0) (view : X → Ephemeris) (all : Y → List Ephemeris) (as_hermite3 : Bool) (files : List FileBytes) (before : List Ephemeris) (entries : List Entry) (i : ℕ) (entry : Entry) (e : Ephemeris) (why : Unread)
-    (total : Result (List Ephemeris) Status) → i < length entries → get_or entries i entry ≡ entry
-    → reading_of as_hermite3 entry.name (bytes_of files entry.number) ≡ Ok e → Reads ⊥ view (Err why) (fitting before entry.name e)
+pub is_apart : {X Y : Type 0} (Q : Type 0) (view : X → PlainTrack) (all : Y → List PlainTrack) (as_hermite3 : Bool) (files : List FileBytes) (before : List PlainTrack) (entries : List Entry) (i : ℕ) (entry : Entry) (e : PlainTrack) (why : InputError)
+    (total : Result (List PlainTrack) Status) → i < length entries → get_or entries i entry ≡ entry
+    → reading_of as_hermite3 entry.name (bytes_of files entry.number) ≡ Ok e → Reads ⊥ view (Err why) (checked_after before entry.name e)
     → readings_after as_hermite3 files before (drop i entries) ≡ total → Reads Q all (Err why) total
 is_apart Q view all as_hermite3 files before entries i entry e why total below is read here so_far =
     ends view all as_hermite3 files before entries i entry why total below is (λ none. absurd none)
-    (passes_on ⊥ view view why (fitting before entry.name e) (reading_after as_hermite3 files before entry)
-    (λ s not. ap (λ (r : Result Ephemeris Status). r >>= fitting before entry.name) read ∙ not) here) so_far
+    (passes_on ⊥ view view why (checked_after before entry.name e) (reading_after as_hermite3 files before entry)
+    (λ s not. ap (λ (r : Result PlainTrack Status). r >>= checked_after before entry.name) read ∙ not) here) so_far

@@ -6,23 +6,23 @@ use Rattle.cj_io.specs.declared.file.FileBytes.{FileBytes}
 use Rattle.cj_io.specs.declared.folder.FolderError.{FolderError}
 use Rattle.cj_io.specs.declared.folder.FolderError.TheVariants as folder
 use Rattle.cj_io.specs.Files.{names_of}
-use Rattle.cj_oem.specs.Ephemeris.{Ephemeris}
-use Rattle.cj_hermite.specs.Cases.{Case}
+use Rattle.cj_track.specs.PlainTracks.{PlainTrack}
+use Rattle.cj_hermite.specs.PlainProblems.{PlainProblem}
 use Rattle.cj_words.specs.Settings.{Asked}
 use Rattle.cj_screen.specs.declared.status.Status.{Status}
 use Rattle.cj_screen.specs.declared.status.Status.TheVariants as status
 use Rattle.cj_screen.specs.declared.status.LimitFault.TheVariants.{Objects}
-use Rattle.cj_screen.specs.declared.reading.Unread.{Unread}
-use Rattle.cj_screen.specs.declared.reading.Unread.TheVariants as unread
-use Rattle.cj_screen.specs.declared.taken.Entry.{Entry}
-use Rattle.cj_screen.specs.Taken.{taken_of}
+use Rattle.cj_screen.specs.declared.reading.InputError.{InputError}
+use Rattle.cj_screen.specs.declared.reading.InputError.TheVariants as input
+use Rattle.cj_screen.specs.declared.input_files.Entry.{Entry}
+use Rattle.cj_screen.specs.InputFiles.{inputs_of}
 use Rattle.cj_screen.specs.Readings.{◌>>=◌, readings_of, Reads}
-use Rattle.cj_screen.specs.Stopped.{folder_status, unread_status}
+use Rattle.cj_screen.specs.Errors.{folder_status, input_status}
 use Rattle.cj_screen.specs.Steps.{Stops, Gives}
 use Rattle.cj_screen.specs.Outcome.{case_asked, case_of_run, within_limits}
 
 -- more files than may be
-pub too_many : (files : List FileBytes) (settings : Asked) (entries : List Entry) → entries ≡ taken_of settings.suffix (names_of files) → 2000 < length entries
+pub too_many : (files : List FileBytes) (settings : Asked) (entries : List Entry) → entries ≡ inputs_of settings.suffix (names_of files) → 2000 < length entries
     → case_asked files settings ≡ Err (status.Limit (Objects (length entries)))
 unfolding case_asked
 too_many files settings entries same more =
@@ -30,7 +30,7 @@ too_many files settings entries same more =
     rw (← same, large) refl
 
 -- the rest, once the files are known
-pub asked_of_entries : (files : List FileBytes) (settings : Asked) (entries : List Entry) → entries ≡ taken_of settings.suffix (names_of files) → length entries ≤ 2000
+pub asked_of_entries : (files : List FileBytes) (settings : Asked) (entries : List Entry) → entries ≡ inputs_of settings.suffix (names_of files) → length entries ≤ 2000
     → case_asked files settings ≡ (readings_of settings.as_hermite3 files entries >>= λ es. within_limits (case_of_run settings es))
 unfolding case_asked
 asked_of_entries files settings entries same few =
@@ -43,12 +43,12 @@ folder_stops P folder.Memory due rose = tt
 folder_stops P folder.Failed due rose = rose refl
 
 -- a reading that was given up, as the run's cause
-pub unread_stops : {X A B : Type 0} (P Q : Type 0) (view : X → A) (why : Unread) (read : Result A Status) (f : A → Result B Status) → (P → Q)
-    → Reads P view (Err why) read → Stops Q (unread_status why) (read >>= f)
-unread_stops P Q view unread.Memory read f rose here = tt
-unread_stops P Q view unread.Fault read f rose here = rose here
-unread_stops {X} {A} {B} P Q view (unread.Refused file line cause) read f rose here = ap (λ (r : Result A Status). r >>= f) here
-unread_stops {X} {A} {B} P Q view (unread.Beyond fault) read f rose here = ap (λ (r : Result A Status). r >>= f) here
+pub input_stops : {X A B : Type 0} (P Q : Type 0) (view : X → A) (why : InputError) (read : Result A Status) (f : A → Result B Status) → (P → Q)
+    → Reads P view (Err why) read → Stops Q (input_status why) (read >>= f)
+input_stops P Q view input.Memory read f rose here = tt
+input_stops P Q view input.Failed read f rose here = rose here
+input_stops {X} {A} {B} P Q view (input.Refused file line cause) read f rose here = ap (λ (r : Result A Status). r >>= f) here
+input_stops {X} {A} {B} P Q view (input.Limit fault) read f rose here = ap (λ (r : Result A Status). r >>= f) here
 
 pub stops_wider : {A : Type 0} (P Q : Type 0) (s : Status) (due : Result A Status) → (P → Q) → Stops P s due → Stops Q s due
 stops_wider P Q status.Ok due wider ends = ends

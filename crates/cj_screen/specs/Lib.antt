@@ -1,13 +1,12 @@
-pub mod Enclosed
+pub mod Errors
 pub mod Faults
+pub mod Findings
 pub mod Headline
+pub mod InputFiles
 pub mod Orders
 pub mod Outcome
-pub mod Pieces
 pub mod Readings
 pub mod Statuses
 pub mod Steps
-pub mod Stopped
 pub mod Summaries
-pub mod Taken
 pub mod Windows

@@ -4,9 +4,9 @@ use Rattle.cj_io.specs.declared.file.FileBytes.{FileBytes}
 use Rattle.cj_io.specs.Files.{names_of, IsPrefix}
 use Rattle.cj_words.specs.declared.option.UsageFault.{UsageFault}
 use Rattle.cj_words.specs.Settings.{Asked, settings_of}
-use Rattle.cj_oem.specs.Ephemeris.{Ephemeris}
-use Rattle.cj_hermite.specs.Cases.{Case}
-use Rattle.cj_bezier.specs.Leaves.{Stretch}
+use Rattle.cj_track.specs.PlainTracks.{PlainTrack}
+use Rattle.cj_hermite.specs.PlainProblems.{PlainProblem}
+use Rattle.cj_bezier.specs.Leaves.{PlainLeaf}
 use Rattle.cj_meet.specs.Encounters.{encounters_of}
 use Rattle.cj_hermite.specs.Slots.{slot_count}
 use Rattle.cj_cells.specs.Lists.{list_looked}
@@ -15,9 +15,9 @@ use Rattle.cj_report.specs.Summary.{summary_of}
 use Rattle.cj_screen.specs.declared.status.Status.{Status}
 use Rattle.cj_screen.specs.declared.status.Status.TheVariants as status
 use Rattle.cj_screen.specs.declared.status.LimitFault.TheVariants.{Objects, Window, Slots, Cells}
-use Rattle.cj_screen.specs.declared.taken.Entry.{Entry}
+use Rattle.cj_screen.specs.declared.input_files.Entry.{Entry}
 use Rattle.cj_screen.specs.Readings.{◌>>=◌, readings_of}
-use Rattle.cj_screen.specs.Taken.{taken_of}
+use Rattle.cj_screen.specs.InputFiles.{inputs_of}
 use Rattle.cj_screen.specs.Summaries.{tally_with}
 use Rattle.cj_screen.specs.Windows.{window_first, window_last}
 
@@ -29,41 +29,45 @@ asked (Err fault) = Err (status.Usage fault)
 abbrev pub within_objects : List Entry → Result (List Entry) Status
 within_objects entries = if nat_le (length entries) 2000 then Ok entries else Err (status.Limit (Objects (length entries)))
 
-abbrev pub case_with : List Ephemeris → ℕ → ℕ → ℕ → Case
+abbrev pub case_with : List PlainTrack → ℕ → ℕ → ℕ → PlainProblem
 case_with es first last threshold = record { ephemerides = es; first = first; last = last; threshold = threshold }
 
 -- what is asked of these ephemerides
-abbrev pub case_of_run : Asked → List Ephemeris → Case
+abbrev pub case_of_run : Asked → List PlainTrack → PlainProblem
 case_of_run settings es = case_with es (window_first settings es) (window_last settings es) (settings.threshold * 1_000_000_000)
 
 -- a window of at most fourteen days
-abbrev pub within_window : Case → Result Case Status
+abbrev pub within_window : PlainProblem → Result PlainProblem Status
 within_window case = if nat_le (case.last - case.first) 1_209_600_000_000 then Ok case else Err (status.Limit (Window (case.last - case.first)))
 
-abbrev pub object_slots : Case → ℕ
+abbrev pub object_slots : PlainProblem → ℕ
 object_slots case = length case.ephemerides * slot_count case.first case.last
 
 -- at most 4,000,000 objects times slots
-abbrev pub within_slots : Case → Result Case Status
+abbrev pub within_slots : PlainProblem → Result PlainProblem Status
 within_slots case = if nat_le (object_slots case) 4_000_000 then Ok case else Err (status.Limit (Slots (object_slots case)))
 
 -- both
-abbrev pub within_limits : Case → Result Case Status
+abbrev pub within_limits : PlainProblem → Result PlainProblem Status
 within_limits case = within_window case >>= within_slots
 
 -- at most so many leaves
-abbrev pub within_cells : ℕ → List Stretch → Result (List Stretch) Status
+abbrev pub within_cells : ℕ → List PlainLeaf → Result (List PlainLeaf) Status
 within_cells limit leaves = if nat_le (length leaves) limit then Ok leaves else Err (status.Limit (Cells limit))
 
 abbrev pub piece : List ℕ → List ℕ → FileBytes
 piece name bytes = record { name = name; bytes = bytes }
 
+-- the encounters of a case: those of its one-thread list
+abbrev pub encounters_in : PlainProblem → List (List PlainLeaf)
+encounters_in case = encounters_of (list_looked case)
+
 -- the report of a case with these leaves
-abbrev pub report_bytes : Case → List Stretch → List ℕ
+abbrev pub report_bytes : PlainProblem → List PlainLeaf → List ℕ
 report_bytes case leaves = report_of case.first case.last case.threshold case.ephemerides (encounters_of leaves)
 
 -- its summary
-abbrev pub summary_bytes : Case → List Stretch → List ℕ
+abbrev pub summary_bytes : PlainProblem → List PlainLeaf → List ℕ
 summary_bytes case leaves = summary_of (tally_with case leaves)
 
 abbrev pub report_piece : List ℕ → FileBytes
@@ -73,17 +77,17 @@ abbrev pub summary_piece : List ℕ → FileBytes
 summary_piece bytes = piece (codes "-") bytes
 
 -- the pieces of a case with these leaves: the report, and the summary for standard output
-abbrev pub pieces_with : Case → List Stretch → List FileBytes
+abbrev pub pieces_with : PlainProblem → List PlainLeaf → List FileBytes
 pieces_with case leaves = report_piece (report_bytes case leaves) ∷ summary_piece (summary_bytes case leaves) ∷ []
 
 -- the pieces of a case, where it has at most so many leaves
-unfoldable pub pieces_within : ℕ → Case → Result (List FileBytes) Status
+unfoldable pub pieces_within : ℕ → PlainProblem → Result (List FileBytes) Status
 pieces_within limit case = within_cells limit (list_looked case) >>= λ leaves. Ok (pieces_with case leaves)
 
 -- the case that is asked of the files, or the first cause for which there is none
-unfoldable pub case_asked : List FileBytes → Asked → Result Case Status
+unfoldable pub case_asked : List FileBytes → Asked → Result PlainProblem Status
 case_asked files settings = do
-  entries ← within_objects (taken_of settings.suffix (names_of files))
+  entries ← within_objects (inputs_of settings.suffix (names_of files))
   es ← readings_of settings.as_hermite3 files entries
   within_limits (case_of_run settings es)
 
@@ -110,27 +114,45 @@ IsPartOf front (Err s) = front ≡ []
 abbrev pub PartlyPut : Result (List FileBytes) Status → List FileBytes → Option (List FileBytes) → Type 0
 PartlyPut due old new = (front : List FileBytes) × IsPartOf front due × (new ≡ Some (old ++ front))
 
--- How a run over told files ends. Status 0: all that is due stands behind the old pieces. A cause: nothing was put. A write fault, for
--- which the shelf's count rose, or want of memory: a front of what is due was put, the last piece perhaps cut.
-abbrev pub Answers : Type 0 → Type 0 → Status → Result (List FileBytes) Status → List FileBytes → Option (List FileBytes) → Type 0
-Answers read write status.Ok due old new = (pieces : List FileBytes) × (due ≡ Ok pieces) × (new ≡ Some (old ++ pieces))
-Answers read write (status.Usage fault) due old new = (due ≡ Err (status.Usage fault)) × (new ≡ Some old)
-Answers read write (status.BadFile file line cause) due old new = (due ≡ Err (status.BadFile file line cause)) × (new ≡ Some old)
-Answers read write status.ReadFault due old new = read × (new ≡ Some old)
-Answers read write status.WriteFault due old new = write × PartlyPut due old new
-Answers read write (status.Limit fault) due old new = (due ≡ Err (status.Limit fault)) × (new ≡ Some old)
-Answers read write status.OutOfMemory due old new = PartlyPut due old new
+-- there is no cause to put none
+abbrev pub ArePieces : Result (List FileBytes) Status → Type 0
+ArePieces due = (pieces : List FileBytes) × (due ≡ Ok pieces)
 
--- How a run ends that puts these pieces, its last step: all of them stand behind the old ones; or, for a write fault or want of memory,
--- a front of them, the last one perhaps cut.
-abbrev pub EndsWithPuts : Type 0 → Status → List FileBytes → List FileBytes → Option (List FileBytes) → Type 0
-EndsWithPuts write status.Ok pieces old new = new ≡ Some (old ++ pieces)
-EndsWithPuts write (status.Usage fault) pieces old new = ⊥
-EndsWithPuts write (status.BadFile file line cause) pieces old new = ⊥
-EndsWithPuts write status.ReadFault pieces old new = ⊥
-EndsWithPuts write status.WriteFault pieces old new = write × PartlyPut (Ok pieces) old new
-EndsWithPuts write (status.Limit fault) pieces old new = ⊥
-EndsWithPuts write status.OutOfMemory pieces old new = PartlyPut (Ok pieces) old new
+-- Which status comes of a run over told files. Status 0 or a write fault: pieces were due. A cause: it is the first. A read fault: the
+-- folder's count rose. Want of memory: whatever is due.
+abbrev pub Answers : Type 0 → Status → Result (List FileBytes) Status → Type 0
+Answers read status.Ok due = ArePieces due
+Answers read (status.Usage fault) due = due ≡ Err (status.Usage fault)
+Answers read (status.BadFile file line cause) due = due ≡ Err (status.BadFile file line cause)
+Answers read status.ReadFault due = read
+Answers read status.WriteFault due = ArePieces due
+Answers read (status.Limit fault) due = due ≡ Err (status.Limit fault)
+Answers read status.OutOfMemory due = Unit {0}
+
+-- a run that ends so has not touched its shelf
+abbrev pub PutsNothing : Status → Type 0
+PutsNothing status.Ok = ⊥
+PutsNothing (status.Usage fault) = Unit {0}
+PutsNothing (status.BadFile file line cause) = Unit {0}
+PutsNothing status.ReadFault = Unit {0}
+PutsNothing status.WriteFault = ⊥
+PutsNothing (status.Limit fault) = Unit {0}
+PutsNothing status.OutOfMemory = ⊥
+
+-- more pieces, or none, stand behind the old ones
+abbrev pub Extends : List FileBytes → Option (List FileBytes) → Type 0
+Extends old new = (more : List FileBytes) × (new ≡ Some (old ++ more))
+
+-- What a run over told files leaves on its shelf. Status 0: all that is due stands behind the old pieces. A write fault or want of
+-- memory: a front of what is due, the last piece perhaps cut. Else nothing.
+abbrev pub Leaves : Status → Result (List FileBytes) Status → List FileBytes → Option (List FileBytes) → Type 0
+Leaves status.Ok due old new = (pieces : List FileBytes) × (due ≡ Ok pieces) × (new ≡ Some (old ++ pieces))
+Leaves (status.Usage fault) due old new = new ≡ Some old
+Leaves (status.BadFile file line cause) due old new = new ≡ Some old
+Leaves status.ReadFault due old new = new ≡ Some old
+Leaves status.WriteFault due old new = PartlyPut due old new
+Leaves (status.Limit fault) due old new = new ≡ Some old
+Leaves status.OutOfMemory due old new = PartlyPut due old new
 
 -- what may end the putting of pieces
 abbrev pub ComesOfPuts : Status → Type 0

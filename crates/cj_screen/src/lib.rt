@@ -1,17 +1,16 @@
 //! The screener's one call: from the words of a command line over a folder to the pieces on a shelf.
 #![tactic(auto)]
 
+mod counting;
+mod errors;
 mod fault_line;
-mod gathering;
-mod pieces;
+mod findings;
+mod input_files;
 mod preparing;
-mod putting;
 mod reading;
+mod reporting;
 mod screening;
 mod status;
-mod stops;
-mod taken;
-mod telling;
 mod top;
 mod window;
 

@@ -4,21 +4,20 @@ ghost use Rattle.cj_io.specs.Faults.{Rose};
 ghost use Rattle.cj_io.specs.declared.file.FileBytes.{FileBytes};
 ghost use Rattle.cj_hermite.specs.CaseLimits.{AreFewNodes};
 ghost use Rattle.cj_hermite.specs.Frames.{HaveOneFrame};
-ghost use Rattle.cj_hermite.specs.Slots.{slot_count};
-ghost use Rattle.cj_hermite.specs.Problems.{case_of};
-ghost use Rattle.cj_oem.specs.Tracks.{ephemeris_of};
+ghost use Rattle.cj_hermite.specs.Problems.{plain_problem};
+ghost use Rattle.cj_track.specs.Tracks.{plain_track};
 ghost use Rattle.cj_words.specs.Settings.{asked_of};
 ghost use Rattle.cj_screen.specs.Outcome as spec;
 ghost use Rattle.cj_screen.specs.Steps.{Gives, ComesBetween, IsLimit};
 
+use crate::input_files::{Entry, list_inputs};
 use crate::reading::read_tracks;
 use crate::status::{LimitFault, Status};
-use crate::taken::{Entry, taken};
 use crate::window::window_of;
 use cj_epoch::Window;
-use cj_hermite::{Problem, Tracks};
+use cj_hermite::{Problem, Tracks, slot_count};
 use cj_io::Folder;
-use cj_oem::Track;
+use cj_track::Track;
 use cj_words::Settings;
 use std::alloc::Global;
 
@@ -31,9 +30,6 @@ const MAX_LENGTH: u64 = 1_209_600_000_000;
 /// The greatest number of objects times slots.
 const MAX_SLOTS: u64 = 4_000_000;
 
-/// The ticks of a slot.
-const SLOT: u64 = 60_000_000;
-
 /// Reads the files that are taken, and puts them with the window and the threshold that are asked for.
 #[tactic(auto, unfolding(crate::specs::Outcome::case_asked))]
 pub fn prepare<F: Folder>(
@@ -44,16 +40,19 @@ pub fn prepare<F: Folder>(
     ensures between { IfErr result ComesBetween }
     ensures read { result ≡ Err Status.ReadFault → Rose (F.faults folder.old) (F.faults folder.new) }
     ensures told { (files : List FileBytes) → F.files folder.old ≡ Some files
-        → Gives (Rose (F.faults folder.old) (F.faults folder.new)) case_of result (spec.case_asked files (asked_of settings.now)) }
+        → Gives (Rose (F.faults folder.old) (F.faults folder.new)) plain_problem result (spec.case_asked files (asked_of settings.now)) }
+
+    ensures files { F.files folder.new ≡ F.files folder.old }
+    ensures later { F.faults folder.old ≤ F.faults folder.new }
 {
     let names = folder.names(alloc)?;
-    let entries = taken(alloc, &names, settings.suffix)?;
+    let entries = list_inputs(alloc, &names, settings.suffix)?;
     if entries.len() > MAX_OBJECTS {
         return Err(too_many_objects(entries.len() as u32));
     }
     let tracks = read_tracks(alloc, folder, &entries, settings.as_hermite3)?;
     let window = window_of(settings, &tracks);
-    pose(tracks, window, settings.threshold * 1_000_000_000)
+    make_problem(tracks, window, settings.threshold * 1_000_000_000)
 }
 
 fn too_many_objects(count: u32) -> Status
@@ -63,20 +62,20 @@ fn too_many_objects(count: u32) -> Status
 }
 
 /// The problem of these tracks, where its window is within the limits.
-fn pose(tracks: Vec<Track>, window: Window, threshold: u64) -> Result<Problem, Status>
+fn make_problem(tracks: Vec<Track>, window: Window, threshold: u64) -> Result<Problem, Status>
     requires few { length tracks.items ≤ 2000 }
     requires frame { HaveOneFrame tracks.items }
     requires nodes { AreFewNodes tracks.items }
     requires least { 10 ^ 9 ≤ threshold }
     requires most { threshold ≤ 10 ^ 15 }
     ensures limit { IfErr result IsLimit }
-    ensures told { Gives ⊥ case_of result (spec.within_limits (spec.case_with (map ephemeris_of tracks.items) window.first.micros window.last.micros threshold)) }
+    ensures told { Gives ⊥ plain_problem result (spec.within_limits (spec.case_with (map plain_track tracks.items) window.first.micros window.last.micros threshold)) }
 {
     let length = window.last.micros.saturating_sub(window.first.micros);
     if length > MAX_LENGTH {
         return Err(Status::Limit(LimitFault::Window { length }));
     }
-    let count = tracks.len() as u64 * slots(window);
+    let count = tracks.len() as u64 * u64::from(slot_count(window));
     if count > MAX_SLOTS {
         return Err(Status::Limit(LimitFault::Slots { count }));
     }
@@ -85,13 +84,4 @@ fn pose(tracks: Vec<Track>, window: Window, threshold: u64) -> Result<Problem, S
         window,
         threshold,
     })
-}
-
-/// How many slots the window has.
-fn slots(window: Window) -> u64
-    ensures { result ≡ slot_count window.first.micros window.last.micros }
-{
-    (window.last.micros + 1)
-        .saturating_sub(window.first.micros)
-        .div_ceil(SLOT)
 }

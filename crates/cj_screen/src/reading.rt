@@ -6,25 +6,26 @@ ghost use Rattle.cj_io.specs.Files.{bytes_of};
 ghost use Rattle.cj_io.specs.declared.file.FileBytes.{FileBytes};
 ghost use Rattle.cj_hermite.specs.CaseLimits.{AreFewNodes, node_total};
 ghost use Rattle.cj_hermite.specs.Frames.{HaveOneFrame};
-ghost use Rattle.cj_oem.specs.Segments.{node_count as the_count};
-ghost use Rattle.cj_oem.specs.Tracks.{ephemeris_of};
+ghost use Rattle.cj_track.specs.Segments.{node_count as the_count};
+ghost use Rattle.cj_track.specs.Tracks.{plain_track};
 ghost use Rattle.cj_screen.specs.Readings as spec;
 ghost use Rattle.cj_screen.specs.Readings.{Reads};
-ghost use Rattle.cj_screen.specs.declared.reading.Unread.TheVariants.{Memory};
+ghost use Rattle.cj_screen.specs.declared.reading.InputError.TheVariants.{Memory};
 
+use crate::input_files::Entry;
 use crate::status::{FileCause, LimitFault};
-use crate::taken::Entry;
 use cj_io::{Folder, Name, ReadError, read_whole};
-use cj_oem::{OemFault, Track, read_oem};
+use cj_oem::{OemFault, read_oem};
+use cj_track::Track;
 use std::alloc::{AllocError, AllocFailed, Global};
 
 /// Why files were not read.
 #[derive(Debug, Drop)]
-pub enum Unread {
+pub enum InputError {
     /// There was no memory.
     Memory,
     /// The folder failed.
-    Fault,
+    Failed,
     /// A file was refused.
     Refused {
         file: Name,
@@ -32,22 +33,22 @@ pub enum Unread {
         cause: FileCause,
     },
     /// A limit was exceeded.
-    Beyond(LimitFault),
+    Limit(LimitFault),
 }
 
-impl From<AllocError> for Unread {
+impl From<AllocError> for InputError {
     ghost from_gives = { λ _ e. e ≡ Memory };
 
     fn from(_: AllocError) -> Self {
-        Unread::Memory
+        InputError::Memory
     }
 }
 
-impl<T: Drop> From<AllocFailed<T>> for Unread {
+impl<T: Drop> From<AllocFailed<T>> for InputError {
     ghost from_gives = { λ _ e. e ≡ Memory };
 
     fn from(_: AllocFailed<T>) -> Self {
-        Unread::Memory
+        InputError::Memory
     }
 }
 
@@ -63,12 +64,12 @@ pub fn read_tracks<F: Folder>(
     folder: &mut F,
     entries: &[Entry],
     as_hermite3: bool,
-) -> Result<Vec<Track>, Unread>
+) -> Result<Vec<Track>, InputError>
     requires { All (λ entry. entry.number < F.count folder.old) entries.now }
 
-    ensures fault { result ≡ Err Unread.Fault → Rose (F.faults folder.old) (F.faults folder.new) }
+    ensures fault { result ≡ Err InputError.Failed → Rose (F.faults folder.old) (F.faults folder.new) }
     ensures told { (files : List FileBytes) → F.files folder.old ≡ Some files
-        → Reads (Rose (F.faults folder.old) (F.faults folder.new)) (λ tracks. map ephemeris_of tracks.items) result (spec.readings_of as_hermite3 files entries.now) }
+        → Reads (Rose (F.faults folder.old) (F.faults folder.new)) (λ tracks. map plain_track tracks.items) result (spec.readings_of as_hermite3 files entries.now) }
 
     ensures many { IfOk result (λ tracks. length tracks.items ≡ length entries.now) }
     ensures frame { IfOk result (λ tracks. HaveOneFrame tracks.items) }
@@ -82,7 +83,7 @@ pub fn read_tracks<F: Folder>(
     for entry in entries {
         let track = read_track(alloc, folder, entry, as_hermite3)?;
         nodes += node_count(&track);
-        fit(alloc, &tracks, entry.name.as_slice(), &track, nodes)?;
+        check_limits(alloc, &tracks, entry.name.as_slice(), &track, nodes)?;
         tracks.push(track)?;
     }
     Ok(tracks)
@@ -94,29 +95,32 @@ fn read_track<F: Folder>(
     folder: &mut F,
     entry: &Entry,
     as_hermite3: bool,
-) -> Result<Track, Unread>
+) -> Result<Track, InputError>
     requires { entry.now.number < F.count folder.old }
 
-    ensures fault { result ≡ Err Unread.Fault → Rose (F.faults folder.old) (F.faults folder.new) }
+    ensures fault { result ≡ Err InputError.Failed → Rose (F.faults folder.old) (F.faults folder.new) }
     ensures told { (files : List FileBytes) → F.files folder.old ≡ Some files
-        → Reads (Rose (F.faults folder.old) (F.faults folder.new)) ephemeris_of result (spec.reading_of as_hermite3 entry.now.name (bytes_of files entry.now.number)) }
+        → Reads (Rose (F.faults folder.old) (F.faults folder.new)) plain_track result (spec.reading_of as_hermite3 entry.now.name (bytes_of files entry.now.number)) }
 
     ensures count { F.count folder.new ≡ F.count folder.old }
     ensures files { F.files folder.new ≡ F.files folder.old }
     ensures later { F.faults folder.old ≤ F.faults folder.new }
 {
-    let file = Name::copy_of(alloc, entry.name.as_slice())?;
+    let name = entry.name.as_slice();
     let bytes = match read_whole(alloc, folder, entry.number, MAX_BYTES) {
         Ok(bytes) => bytes,
-        Err(ReadError::Memory) => return Err(Unread::Memory),
-        Err(ReadError::Failed) => return Err(Unread::Fault),
-        Err(ReadError::TooLarge) => return Err(Unread::Beyond(LimitFault::FileBytes { file })),
+        Err(ReadError::Memory) => return Err(InputError::Memory),
+        Err(ReadError::Failed) => return Err(InputError::Failed),
+        Err(ReadError::TooLarge) => {
+            let file = Name::copy_of(alloc, name)?;
+            return Err(InputError::Limit(LimitFault::FileBytes { file }));
+        }
     };
-    match read_oem(alloc, file.as_slice(), &bytes, as_hermite3) {
+    match read_oem(alloc, name, &bytes, as_hermite3) {
         Ok(track) => Ok(track),
-        Err(OemFault::Memory) => Err(Unread::Memory),
-        Err(OemFault::At { line, cause }) => Err(Unread::Refused {
-            file,
+        Err(OemFault::Memory) => Err(InputError::Memory),
+        Err(OemFault::At { line, cause }) => Err(InputError::Refused {
+            file: Name::copy_of(alloc, name)?,
             line,
             cause: FileCause::Oem(cause),
         }),
@@ -136,34 +140,34 @@ fn node_count(track: &Track) -> u64
 }
 
 /// Refuses a track of the file with this name that may not stand behind those before it. With it there are so many nodes in all.
-fn fit(
+fn check_limits(
     alloc: Global,
     before: &[Track],
     name: &[u8],
     track: &Track,
     nodes: u64,
-) -> Result<(), Unread>
+) -> Result<(), InputError>
     requires { nodes ≡ node_total before.now + the_count track.now.segments }
-    ensures told { Reads ⊥ (λ done. ephemeris_of track.now) result (spec.fitting (map ephemeris_of before.now) name.now (ephemeris_of track.now)) }
-    ensures frame { OnOk result (spec.has_frame_of (map ephemeris_of before.now) (ephemeris_of track.now) ≡ true) }
+    ensures told { Reads ⊥ (λ done. plain_track track.now) result (spec.checked_after (map plain_track before.now) name.now (plain_track track.now)) }
+    ensures frame { OnOk result (spec.has_frame_of (map plain_track before.now) (plain_track track.now) ≡ true) }
     ensures nodes { OnOk result (nodes ≤ 2_000_000) }
 {
     if !has_frame_of(before, track) {
-        return Err(Unread::Refused {
+        return Err(InputError::Refused {
             file: Name::copy_of(alloc, name)?,
             line: 0,
             cause: FileCause::MixedFrames,
         });
     }
     if nodes > MAX_NODES {
-        return Err(Unread::Beyond(LimitFault::Nodes { count: nodes }));
+        return Err(InputError::Limit(LimitFault::Nodes { count: nodes }));
     }
     Ok(())
 }
 
 /// Whether a track has the frame of the first of those before it.
 fn has_frame_of(before: &[Track], track: &Track) -> bool
-    ensures { result ≡ spec.has_frame_of (map ephemeris_of before.now) (ephemeris_of track.now) }
+    ensures { result ≡ spec.has_frame_of (map plain_track before.now) (plain_track track.now) }
 {
     match before.first() {
         None => true,

@@ -1,8 +1,7 @@
 //! Runs of the top call over folders and shelves in memory.
-mod encounters;
 mod failures;
 mod lines;
 mod refusals;
+mod results;
 mod runs;
-mod summaries;
-mod texts;
+mod scenes;

@@ -4,15 +4,15 @@ ghost use Rattle.cj_io.specs.Faults.{Rose};
 ghost use Rattle.cj_io.specs.declared.file.FileBytes.{FileBytes};
 ghost use Rattle.cj_words.specs.declared.option.UsageFault.{UsageFault};
 ghost use Rattle.cj_words.specs.Settings.{settings_of};
-ghost use Rattle.cj_screen.specs.Outcome as spec;
-ghost use Rattle.cj_screen.specs.Outcome.{Answers};
-ghost use Rattle.cj_screen.specs.Pieces.{ended, pieces_in};
+ghost use Rattle.cj_screen.specs.Findings.{AreFound, ended, pieces_in, report_in};
 ghost use Rattle.cj_screen.specs.Headline.{IsScreened, Reports};
+ghost use Rattle.cj_screen.specs.Outcome as spec;
+ghost use Rattle.cj_screen.specs.Outcome.{Answers, Extends, Leaves, PutsNothing};
 ghost use Rattle.cj_screen.specs.Steps.{Gives, ComesBefore};
 
-use crate::pieces::Pieces;
+use crate::findings::Findings;
 use crate::preparing::prepare;
-use crate::putting::put_pieces;
+use crate::reporting::put_pieces;
 use crate::screening::screen;
 use crate::status::Status;
 use cj_epoch::Tick;
@@ -39,12 +39,9 @@ pub fn conj<R: Threads + Wait + Sync, F: Folder, S: Shelf, G: Gate + Sync>(
     ensures read { result ≡ Status.ReadFault → Rose (F.faults folder.old) (F.faults folder.new) }
     ensures write { result ≡ Status.WriteFault → Rose (S.faults shelf.old) (S.faults shelf.new) }
 
-    // Over a folder and a shelf that tell what they hold: which status comes, and what was put.
-    ensures told { (files pieces : List FileBytes) → F.files folder.old ≡ Some files → S.pieces shelf.old ≡ Some pieces
-        → Answers (Rose (F.faults folder.old) (F.faults folder.new)) (Rose (S.faults shelf.old) (S.faults shelf.new))
-        result (spec.pieces_of words.now files) pieces (S.pieces shelf.new) }
-
-    // Where pieces are due and nothing fails, they are put, or memory ran out.
+    // Over a folder that tells what it holds: which status comes. Where pieces are due and nothing fails, they are put, or memory ran out.
+    ensures told { (files : List FileBytes) → F.files folder.old ≡ Some files
+        → Answers (Rose (F.faults folder.old) (F.faults folder.new)) result (spec.pieces_of words.now files) }
     ensures complete { (files due : List FileBytes) → F.files folder.old ≡ Some files → spec.pieces_of words.now files ≡ Ok due
         → ¬ Rose (F.faults folder.old) (F.faults folder.new) → ¬ Rose (S.faults shelf.old) (S.faults shelf.new)
         → (result ≡ Status.Ok) ⊎ (result ≡ Status.OutOfMemory) }
@@ -52,9 +49,20 @@ pub fn conj<R: Threads + Wait + Sync, F: Folder, S: Shelf, G: Gate + Sync>(
     // With status 0 the report's spans split the common ticks of every pair by the exact distance.
     ensures headline { (files pieces : List FileBytes) → F.files folder.old ≡ Some files → S.pieces shelf.old ≡ Some pieces
         → result ≡ Status.Ok → IsScreened words.now files pieces (S.pieces shelf.new) }
+
+    // What is put: whatever the folder tells, nothing where the status says so, and no piece that stood is lost; and what is due.
+    ensures untouched { PutsNothing result → S.pieces shelf.new ≡ S.pieces shelf.old }
+    ensures kept { (pieces : List FileBytes) → S.pieces shelf.old ≡ Some pieces → Extends pieces (S.pieces shelf.new) }
+    ensures put { (files pieces : List FileBytes) → F.files folder.old ≡ Some files → S.pieces shelf.old ≡ Some pieces
+        → Leaves result (spec.pieces_of words.now files) pieces (S.pieces shelf.new) }
+
+    // The folder's files stay, and no count of faults falls.
+    ensures files { F.files folder.new ≡ F.files folder.old }
+    ensures folder_later { F.faults folder.old ≤ F.faults folder.new }
+    ensures shelf_later { S.faults shelf.old ≤ S.faults shelf.new }
 {
-    match pieces_of(alloc, words, folder) {
-        Ok(pieces) => end(put_pieces(alloc, shelf, &pieces)),
+    match find(alloc, words, folder) {
+        Ok(found) => end(put_pieces(alloc, shelf, &found)),
         Err(status) => status,
     }
 }
@@ -65,21 +73,26 @@ fn end(put: Result<(), Status>) -> Status
 {
     match put {
         Ok(()) => Status::Ok,
-        Err(status) => status,
+        Err(failed) => failed,
     }
 }
 
-/// The pieces that the words ask for.
+/// What the words ask for, found in the folder's files.
 #[tactic(auto, unfolding(crate::specs::Outcome::pieces_of))]
-fn pieces_of<F: Folder>(alloc: Global, words: &[Word], folder: &mut F) -> Result<Pieces, Status>
+fn find<F: Folder>(alloc: Global, words: &[Word], folder: &mut F) -> Result<Findings, Status>
     ensures usage { (fault : UsageFault) → (result ≡ Err (Status.Usage fault)) ↔ (settings_of words.now ≡ Err fault) }
     ensures before { IfErr result ComesBefore }
     ensures read { result ≡ Err Status.ReadFault → Rose (F.faults folder.old) (F.faults folder.new) }
-    ensures reports { (files : List FileBytes) → F.files folder.old ≡ Some files → IfOk result (λ pieces. Reports words.now files pieces.report.items) }
+
     ensures told { (files : List FileBytes) → F.files folder.old ≡ Some files
         → Gives (Rose (F.faults folder.old) (F.faults folder.new)) pieces_in result (spec.pieces_of words.now files) }
+    ensures found { IfOk result AreFound }
+    ensures reports { (files : List FileBytes) → F.files folder.old ≡ Some files → IfOk result (λ found. Reports words.now files (report_in found).bytes) }
+
+    ensures files { F.files folder.new ≡ F.files folder.old }
+    ensures later { F.faults folder.old ≤ F.faults folder.new }
 {
     let settings = read_settings(words)?;
     let problem = prepare(alloc, folder, &settings)?;
-    screen(alloc, &problem, settings.cells)
+    screen(alloc, problem, settings.cells)
 }

@@ -49,7 +49,8 @@ Reads the ephemerides in the directory DIR, one object in each file whose name
 has the suffix (CCSDS 502.0-B-2 OEM in KVN form, UTC, cubic Hermite states),
 finds every approach of every pair of objects that comes within the threshold at
 a microsecond of the window, writes the report DIR/screen.report, and prints a
-summary. It is proved that no such approach of the interpolated tracks is missed.
+summary. It is proved that no such approach of the interpolated tracks is missed,
+where DIR gives the bytes that it holds and keeps those that it is given.
 
 Options, in any order after DIR, each at most once:
   --threshold METRES  miss distance to report, 1 to 1000000 (default 5000)

@@ -1,6 +1,6 @@
 //! Folders and shelves that fail.
 use super::runs::{failing, piece_of, words};
-use super::texts::crossing;
+use super::scenes::{Scene, files_of};
 use crate::{Status, conj, fault_text};
 use cj_epoch::Tick;
 use cj_io::{CalmShelf, MemShelf, OpenGate, Shelf};
@@ -17,7 +17,7 @@ fn run_over<R: Threads + Wait + Sync, S: Shelf>(
     shelf: &mut S,
 ) -> Result<Status, AllocError> {
     let words = words(alloc, "screen .")?;
-    let mut folder = failing(alloc, crossing(alloc)?, calls);
+    let mut folder = failing(alloc, files_of(alloc, Scene::Crossing)?, calls);
     Ok(conj(
         rt,
         alloc,

@@ -1,5 +1,5 @@
 //! Runs of the top call.
-use crate::{Status, conj, fault_text};
+use crate::{Status, conj};
 use cj_epoch::Tick;
 use cj_io::{CalmFolder, CalmShelf, FileBytes, MemFolder, OpenGate};
 use cj_kvn::Text;
@@ -79,19 +79,4 @@ pub fn run<R: Threads + Wait + Sync>(
         report: Vec::from_slice(alloc, piece_of(pieces, b"screen.report"))?,
         summary: Vec::from_slice(alloc, piece_of(pieces, b"-"))?,
     })
-}
-
-/// The fault line of a run that puts nothing.
-pub fn fault<R: Threads + Wait + Sync>(
-    rt: &R,
-    alloc: Global,
-    line: &str,
-    files: Vec<FileBytes>,
-) -> Result<Vec<u8>, AllocError> {
-    let ran = run(rt, alloc, line, files)?;
-    if ran.pieces == 0 {
-        fault_text(alloc, &ran.status)
-    } else {
-        Vec::from_slice(alloc, b"a piece was put")
-    }
 }

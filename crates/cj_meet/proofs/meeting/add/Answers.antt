@@ -1,6 +1,6 @@
 use Rattle.std.proofs.Common.{arith, ◌≡◌, ◌-◌, length, slice_get, refl, sym, ◌∙◌, subst, ap, [], ◌∷◌, ◌++◌, cond}
 use Rattle.cj_bezier.specs.declared.encounter.Mark.TheVariants as Mark
-use Rattle.cj_bezier.specs.Leaves.{stretch_of}
+use Rattle.cj_bezier.specs.Leaves.{plain_leaf}
 use Rattle.cj_meet.specs.Encounters.{AreEncounters, is_near_mark}
 use Rattle.cj_meet.proofs.EncounterLemmas.{HasMark, Begins, encounters_past_far, encounters_extended, encounters_first, encounters_added, told_there, told_none}
 use Rattle.std.proofs.lemmas.List.{nil_from_length}
@@ -9,11 +9,11 @@ use Rattle.cj_meet.proofs.meeting.add.Goals.{in-Near, in-Undecided, in_default-v
 
 pub returns-in-Far-clause-found : goal.returns-in-Far-clause-found
 returns-in-Far-clause-found c = λ ss len ticks order before.
-    encounters_past_far ss (stretch_of c.args.leaf.now) c.args.found.now.items (rw c.in-Far.is refl) before
+    encounters_past_far ss (plain_leaf c.args.leaf.now) c.args.found.now.items (rw c.in-Far.is refl) before
 
 pub returns-in-Some-clause-found : goal.returns-in-Some-clause-found
 returns-in-Some-clause-found c = λ ss len ticks order before.
-    let x = stretch_of c.args.leaf.now in
+    let x = plain_leaf c.args.leaf.now in
     let es = c.args.found.now.items in
     let marked : HasMark x c.match-leaf.mark = elim c.match-leaf.branch [
       | in-Near w ↦ record { not_far = rw w.in-Near.is refl; mark = w.mark-is ∙ rw w.in-Near.is refl }
@@ -34,7 +34,7 @@ returns-in-Some-clause-found c = λ ss len ticks order before.
 
 pub returns-in_ok-push-in_default-clause-found : goal.returns-in_ok-push-in_default-clause-found
 returns-in_ok-push-in_default-clause-found c = λ ss len ticks order before.
-    let x = stretch_of c.args.leaf.now in
+    let x = plain_leaf c.args.leaf.now in
     let es = c.args.found.now.items in
     let marked : HasMark x c.match-leaf.mark = elim c.match-leaf.branch [
       | in-Near w ↦ record { not_far = rw w.in-Near.is refl; mark = w.mark-is ∙ rw w.in-Near.is refl }

@@ -1,9 +1,9 @@
 use Rattle.std.proofs.Common.{arith, rules, ◌-◌, ◌++◌, length, take, drop, ap, sym, ◌∙◌}
 use Rattle.std.specs.Prelude.{flat_map}
-use Rattle.cj_bezier.specs.Leaves.{stretches_of}
+use Rattle.cj_bezier.specs.Leaves.{plain_leaves}
 use Rattle.cj_meet.specs.Spans.{spans_of}
 use Rattle.cj_report.specs.Report.{span_line}
-use Rattle.cj_report.specs.Runs.{run_of}
+use Rattle.cj_report.specs.SpanLines.{stretch_of_line}
 use Rattle.cj_report.proofs.RunLemmas.{step_longer, step_parted}
 use Rattle.cj_report.proofs.encounters.push_spans.Goals as goal
 use Rattle.cj_report.proofs.encounters.push_spans.Goals.{then-goes_on, else-goes_on+in_ok-push_span}
@@ -11,14 +11,14 @@ use Rattle.cj_report.proofs.encounters.push_spans.Goals.{then-goes_on, else-goes
 pub loop-leaf-preserved : goal.loop-leaf-preserved
 loop-leaf-preserved c =
     let others = take (length c.args.leaves.now - 1) (drop 1 c.args.leaves.now) in
-    let whole = c.args.text.now.items ++ flat_map span_line (spans_of (stretches_of c.args.leaves.now)) in
+    let whole = c.args.text.now.items ++ flat_map span_line (spans_of (plain_leaves c.args.leaves.now)) in
     elim c.if-goes_on.branch [
       | then-goes_on w ↦
-          step_longer c.loop-leaf.text.items c.if-goes_on.text.items whole (run_of c.loop-leaf.span) (run_of c.if-goes_on.span) others c.loop-leaf.leaf-index c.leaf-item.result
-          (omega arith) (search rules) (sym c.goes_on.ensures ∙ w.if-goes_on.true) (ap run_of w.span-is)
+          step_longer c.loop-leaf.text.items c.if-goes_on.text.items whole (stretch_of_line c.loop-leaf.span) (stretch_of_line c.if-goes_on.span) others c.loop-leaf.leaf-index c.leaf-item.result
+          (omega arith) (search rules) (sym c.goes_on.ensures ∙ w.if-goes_on.true) (ap stretch_of_line w.span-is)
           (ap (λ t. t.items) w.text-is) c.loop-leaf.invariant
       | else-goes_on+in_ok-push_span w ↦
-          step_parted c.loop-leaf.text.items c.if-goes_on.text.items whole (run_of c.loop-leaf.span) (run_of c.if-goes_on.span) others c.loop-leaf.leaf-index c.leaf-item.result
-          (omega arith) (search rules) (sym c.goes_on.ensures ∙ w.if-goes_on.false) (ap run_of w.span-is ∙ w.of-span-else-goes_on.ensures)
+          step_parted c.loop-leaf.text.items c.if-goes_on.text.items whole (stretch_of_line c.loop-leaf.span) (stretch_of_line c.if-goes_on.span) others c.loop-leaf.leaf-index c.leaf-item.result
+          (omega arith) (search rules) (sym c.goes_on.ensures ∙ w.if-goes_on.false) (ap stretch_of_line w.span-is ∙ w.of-span-else-goes_on.ensures)
           (ap (λ t. t.items) w.text-is ∙ w.in_ok-push_span.ensures) c.loop-leaf.invariant
     ]

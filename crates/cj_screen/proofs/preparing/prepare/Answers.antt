@@ -1,5 +1,5 @@
 use Rattle.std.proofs.Common.{arith, ◌<◌, subst, ap, List, length, get_or}
-use Rattle.cj_screen.specs.declared.taken.Entry.{Entry}
+use Rattle.cj_screen.specs.declared.input_files.Entry.{Entry}
 use Rattle.cj_screen.proofs.preparing.prepare.Goals as goal
 
 pub overflow_cast-len : goal.overflow_cast-len
@@ -12,5 +12,5 @@ read_tracks-requires g c = λ k d below.
     let same = ap (λ (es : List Entry). (get_or es k d).number) c.deref-2.ensures.value in
     omega (arith, here, same, c.deref.ensures.len, c.in_ok-names.ensures.count)
 
-pub pose-requires-clause-few : goal.pose-requires-clause-few
-pose-requires-clause-few g c = omega (arith, c.in_ok-tracks.ensures.many, c.deref-2.ensures.len, c.len.ensures, c.if-len-gt-MAX_OBJECTS.false)
+pub make_problem-requires-clause-few : goal.make_problem-requires-clause-few
+make_problem-requires-clause-few g c = omega (arith, c.in_ok-tracks.ensures.many, c.deref-2.ensures.len, c.len.ensures, c.if-len-gt-MAX_OBJECTS.false)

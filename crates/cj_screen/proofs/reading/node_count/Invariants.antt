@@ -1,5 +1,5 @@
 use Rattle.std.proofs.Common.{◌≡◌, sum_by, take, length}
-use Rattle.cj_oem.specs.declared.segment.Segment.{Segment}
+use Rattle.cj_track.specs.declared.segment.Segment.{Segment}
 use Rattle.cj_screen.proofs.reading.node_count.Given as goal
 
 abbrev pub invariant-loop-segment : goal.invariant-loop-segment

@@ -1,0 +1,12 @@
+-- What a line SPAN tells, as a stretch.
+use Rattle.cj_bezier.specs.Leaves.{PlainLeaf}
+use Rattle.cj_report.specs.declared.span_line.SpanLine.{SpanLine}
+
+abbrev pub stretch_of_line : SpanLine → PlainLeaf
+stretch_of_line span = record {
+  a = span.pair.a;
+  b = span.pair.b;
+  first = span.first.micros;
+  last = span.last.micros;
+  kind = span.kind;
+}

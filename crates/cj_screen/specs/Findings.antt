@@ -1,0 +1,48 @@
+-- What is found in a problem, and what is put of it.
+use Rattle.std.specs.Prelude.{◌≡◌, List, [], ◌∷◌, map, Result, Ok, Err}
+use Rattle.cj_io.specs.declared.file.FileBytes.{FileBytes}
+use Rattle.cj_hermite.specs.PlainProblems.{PlainProblem}
+use Rattle.cj_hermite.specs.Pairs.{objects_of}
+use Rattle.cj_hermite.specs.Problems.{plain_problem}
+use Rattle.cj_bezier.specs.Leaves.{plain_leaves}
+use Rattle.cj_bezier.specs.SlotBoxes.{plain_boxes}
+use Rattle.cj_cells.specs.Lists.{list_looked}
+use Rattle.cj_bezier.specs.Looked.{shells_of, pairs_kept}
+use Rattle.cj_candidates.specs.Boxes.{boxes_of}
+use Rattle.cj_meet.specs.Encounters.{AreEncounters}
+use Rattle.cj_report.specs.Counts.{tally_of}
+use Rattle.cj_screen.specs.declared.findings.Findings.{Findings}
+use Rattle.cj_screen.specs.declared.status.Status.{Status}
+use Rattle.cj_screen.specs.declared.status.Status.TheVariants as status
+use Rattle.cj_screen.specs.Outcome.{pieces_with, report_bytes, report_piece, summary_bytes, summary_piece}
+use Rattle.cj_screen.specs.Summaries.{tally_with}
+
+-- the case whose findings they are
+abbrev pub case_in : Findings → PlainProblem
+case_in found = plain_problem found.problem
+
+-- they are what the definitions give of that case
+pub record AreFound (found : Findings) : Type 0 where
+  pub shells : found.shells.items ≡ shells_of (case_in found)
+  pub boxes : plain_boxes found.boxes.items ≡ boxes_of (case_in found)
+  pub kept : map objects_of found.kept.items ≡ pairs_kept (case_in found)
+  pub leaves : plain_leaves found.leaves.items ≡ list_looked (case_in found)
+  pub encounters : AreEncounters (plain_leaves found.leaves.items) found.encounters.items
+  pub counts : tally_of found.counts ≡ tally_with (case_in found) (plain_leaves found.leaves.items)
+
+-- the piece of the report
+abbrev pub report_in : Findings → FileBytes
+report_in found = report_piece (report_bytes (case_in found) (plain_leaves found.leaves.items))
+
+-- the piece of the summary
+abbrev pub summary_in : Findings → FileBytes
+summary_in found = summary_piece (summary_bytes (case_in found) (plain_leaves found.leaves.items))
+
+-- all pieces, in the order in which they are put
+abbrev pub pieces_in : Findings → List FileBytes
+pieces_in found = pieces_with (case_in found) (plain_leaves found.leaves.items)
+
+-- how a run ends by its last step
+abbrev pub ended : Result (Unit {0}) Status → Status
+ended (Ok done) = status.Ok
+ended (Err s) = s

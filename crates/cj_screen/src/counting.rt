@@ -1,0 +1,80 @@
+//! What the summary of a problem counts.
+ghost use Rattle.std.specs.Prelude.{◌≡◌, ◌+◌, ◌≤◌, length, count_by};
+ghost use Rattle.cj_bezier.specs.Leaves.{plain_leaves};
+ghost use Rattle.cj_candidates.specs.Counts.{looked_count};
+ghost use Rattle.cj_cells.specs.Lists.{splits_of};
+ghost use Rattle.cj_bezier.specs.Looked.{is_looked};
+ghost use Rattle.cj_hermite.specs.Roots.{roots_of};
+ghost use Rattle.cj_hermite.specs.Pairs.{pairs_of};
+ghost use Rattle.cj_hermite.specs.Problems.{plain_problem};
+ghost use Rattle.cj_meet.specs.Encounters.{encounters_of};
+ghost use Rattle.cj_report.specs.Counts.{tally_of};
+ghost use Rattle.cj_screen.specs.Summaries as spec;
+
+use cj_bezier::{Kind, Leaf};
+use cj_hermite::Problem;
+use cj_report::Counts;
+
+/// What is counted before any cell is halved.
+#[derive(Clone, Copy, Debug)]
+pub struct CandidateCounts {
+    pub kept: u64,
+    pub touching: u64,
+    pub roots: u64,
+}
+
+/// What the summary of a problem with these leaves counts.
+pub fn count(
+    problem: &Problem,
+    leaves: &[Leaf],
+    encounters: u64,
+    candidates: CandidateCounts,
+) -> Counts
+    requires few { length leaves.now ≤ 4_000_000 }
+    requires kept { candidates.kept ≡ spec.kept_count (plain_problem problem.now) }
+    requires touching { candidates.touching ≡ looked_count (plain_problem problem.now) }
+    requires roots { candidates.roots ≡ length (roots_of (is_looked (plain_problem problem.now)) (plain_problem problem.now)) }
+    requires splits { length leaves.now ≡ candidates.roots + splits_of (plain_problem problem.now) }
+    requires encounters { encounters ≡ length (encounters_of (plain_leaves leaves.now)) }
+    ensures { tally_of result ≡ spec.tally_with (plain_problem problem.now) (plain_leaves leaves.now) }
+{
+    let objects = problem.tracks.as_slice().len() as u64;
+    let pairs = pairs(objects);
+    let all = leaves.len() as u64;
+    Counts {
+        objects,
+        pairs,
+        parted: pairs - candidates.kept,
+        touching: candidates.touching,
+        roots: candidates.roots,
+        splits: all - candidates.roots,
+        leaves: all,
+        far: count_kind(leaves, Kind::Far),
+        near: count_kind(leaves, Kind::Near),
+        undecided: count_kind(leaves, Kind::Undecided),
+        encounters,
+        messages: 0,
+    }
+}
+
+/// How many pairs there are of so many objects.
+fn pairs(objects: u64) -> u64
+    requires { objects ≤ 2000 }
+    ensures { result ≡ length (pairs_of objects) }
+{
+    objects * objects.saturating_sub(1) / 2
+}
+
+/// How many leaves are of a kind.
+fn count_kind(leaves: &[Leaf], kind: Kind) -> u64
+    requires { length leaves.now ≤ 4_000_000 }
+    ensures { result ≡ count_by (spec.is_of kind) (plain_leaves leaves.now) }
+{
+    let mut count = 0;
+    for leaf in leaves {
+        if leaf.kind == kind {
+            count += 1;
+        }
+    }
+    count
+}

@@ -1,0 +1,21 @@
+use cj_bezier::{AxisBox, Encounter, Leaf, Shell};
+use cj_hermite::{Pair, Problem};
+use cj_report::Counts;
+
+/// All that is found in a problem. After it a run can fail only for want of memory or in a write.
+#[derive(Debug, Drop)]
+pub struct Findings {
+    pub problem: Problem,
+    /// The shell of each object in the window.
+    pub shells: Vec<Option<Shell>>,
+    /// The box of each object in each slot, in order of object and slot.
+    pub boxes: Vec<Option<AxisBox>>,
+    /// The pairs whose shells are not parted, in order.
+    pub kept: Vec<Pair>,
+    /// The leaves of all pairs that are looked at, in order of pair and time.
+    pub leaves: Vec<Leaf>,
+    /// The encounters of the leaves.
+    pub encounters: Vec<Encounter>,
+    /// What the summary tells.
+    pub counts: Counts,
+}

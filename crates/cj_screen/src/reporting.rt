@@ -1,0 +1,62 @@
+//! Putting what is due of the findings onto a shelf, piece by piece.
+ghost use Rattle.std.specs.Prelude.{◌≡◌, ◌≤◌, List, [], ◌∷◌, Some, Err, IfErr};
+ghost use Rattle.cj_io.specs.Faults.{Rose};
+ghost use Rattle.cj_io.specs.declared.file.FileBytes.{FileBytes};
+ghost use Rattle.cj_screen.specs.Findings.{AreFound, ended, pieces_in, report_in, summary_in};
+ghost use Rattle.cj_screen.specs.Outcome.{ComesOfPuts, Leaves, piece};
+
+use crate::findings::Findings;
+use crate::status::Status;
+use cj_io::{PutError, Shelf};
+use cj_report::{report_text, summary_text};
+use std::alloc::Global;
+
+/// Makes and puts the pieces one after another. Each is dropped after its put.
+pub fn put_pieces<S: Shelf>(alloc: Global, shelf: &mut S, found: &Findings) -> Result<(), Status>
+    requires { AreFound found.now }
+    ensures comes { IfErr result ComesOfPuts }
+    ensures write { result ≡ Err Status.WriteFault → Rose (S.faults shelf.old) (S.faults shelf.new) }
+    ensures leaves { (old : List FileBytes) → S.pieces shelf.old ≡ Some old → Leaves (ended result) (Ok (pieces_in found.now)) old (S.pieces shelf.new) }
+    ensures later { S.faults shelf.old ≤ S.faults shelf.new }
+{
+    put_report(alloc, shelf, found)?;
+    put_summary(alloc, shelf, found)
+}
+
+/// Puts the report.
+fn put_report<S: Shelf>(alloc: Global, shelf: &mut S, found: &Findings) -> Result<(), Status>
+    requires { AreFound found.now }
+    ensures comes { IfErr result ComesOfPuts }
+    ensures write { result ≡ Err Status.WriteFault → Rose (S.faults shelf.old) (S.faults shelf.new) }
+    ensures leaves { (old : List FileBytes) → S.pieces shelf.old ≡ Some old → Leaves (ended result) (Ok (report_in found.now ∷ [])) old (S.pieces shelf.new) }
+    ensures later { S.faults shelf.old ≤ S.faults shelf.new }
+{
+    let report = report_text(alloc, &found.problem, &found.leaves, &found.encounters)?;
+    put(alloc, shelf, b"screen.report", &report)
+}
+
+/// Puts the summary.
+fn put_summary<S: Shelf>(alloc: Global, shelf: &mut S, found: &Findings) -> Result<(), Status>
+    requires { AreFound found.now }
+    ensures comes { IfErr result ComesOfPuts }
+    ensures write { result ≡ Err Status.WriteFault → Rose (S.faults shelf.old) (S.faults shelf.new) }
+    ensures leaves { (old : List FileBytes) → S.pieces shelf.old ≡ Some old → Leaves (ended result) (Ok (summary_in found.now ∷ [])) old (S.pieces shelf.new) }
+    ensures later { S.faults shelf.old ≤ S.faults shelf.new }
+{
+    let summary = summary_text(alloc, &found.counts)?;
+    put(alloc, shelf, b"-", &summary)
+}
+
+/// Puts one piece.
+fn put<S: Shelf>(alloc: Global, shelf: &mut S, name: &[u8], bytes: &[u8]) -> Result<(), Status>
+    ensures comes { IfErr result ComesOfPuts }
+    ensures write { result ≡ Err Status.WriteFault → Rose (S.faults shelf.old) (S.faults shelf.new) }
+    ensures leaves { (old : List FileBytes) → S.pieces shelf.old ≡ Some old → Leaves (ended result) (Ok (piece name.now bytes.now ∷ [])) old (S.pieces shelf.new) }
+    ensures later { S.faults shelf.old ≤ S.faults shelf.new }
+{
+    match shelf.put(alloc, name, bytes) {
+        Ok(()) => Ok(()),
+        Err(PutError::Memory) => Err(Status::OutOfMemory),
+        Err(PutError::Failed) => Err(Status::WriteFault),
+    }
+}
