@@ -1,5 +1,6 @@
 -- Decimal numbers of 18 significant digits, and their one text.
-use Rattle.std.specs.Prelude.{◌≡◌, ℕ, ◌-◌, ◌*◌, ◌/◌, ◌^◌, Bool, false, ◌==◌, nat_eq, nat_lt, nat_le, if◌then◌else◌, List, [], ◌∷◌, ◌++◌, length, take, drop, Result, Ok, Err, ℤ, pos, ◌+ℤ◌, unsigned_abs, int_lt, decimal}
+use Rattle.std.specs.Prelude.{◌≡◌, ℕ, ◌-◌, ◌*◌, ◌/◌, ◌^◌, Bool, false, ◌==◌, nat_eq, nat_lt, nat_le, if◌then◌else◌, ℤ, pos, ◌+ℤ◌, unsigned_abs, int_lt}
+use Rattle.std.specs.Prelude.{List, [], ◌∷◌, ◌++◌, length, take, drop, Result, Ok, Err, decimal}
 use Rattle.std.specs.Int.Digits.{digits_of}
 use Rattle.std.specs.List.{suffix_len}
 use Rattle.cj_kvn.specs.Numbers.{Number, numerator, denominator, is_number, nearest, number, parts_of, ten_above, ten_below}

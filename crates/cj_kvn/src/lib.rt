@@ -22,7 +22,7 @@ mod words;
 
 pub use decimals::Decimal;
 pub use fields::{RowFields, field, row_fields};
-pub use lines::{KvnFault, Line, LineKind, MarkKind};
+pub use lines::{KvnCause, KvnFault, Line, LineKind, MarkKind};
 pub use numbers::{NumFault, read_scaled};
 pub use printing::decimal_text;
 pub use range::Range32;

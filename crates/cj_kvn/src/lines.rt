@@ -57,3 +57,12 @@ impl<T: Drop> From<AllocFailed<T>> for KvnFault {
         KvnFault::Memory
     }
 }
+
+/// Why a line is none of key-value notation.
+#[derive(Clone, Copy, Debug, PartialEq, Eq)]
+pub enum KvnCause {
+    /// It has a byte that may stand in comments alone.
+    NotPrintable,
+    /// Its key is not one or more of A to Z, 0 to 9 and `_`.
+    NoLineForm,
+}

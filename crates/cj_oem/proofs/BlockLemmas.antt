@@ -10,13 +10,13 @@ use Rattle.cj_oem.specs.declared.fault.OemCause.TheVariants as causes
 use Rattle.cj_oem.specs.CovarianceRows.{Covariances, NO_COVARIANCES, closed, with_matrix_pair, with_matrix_row}
 use Rattle.cj_track.specs.PlainTracks.{PlainSegment, PlainMatrix, PlainNode}
 use Rattle.cj_oem.specs.Grammar.{AreBlocks, AreCovariances, Entry, HasNoCovariances, IsBlock, IsUseable, last, more, pair_lines, row_lines}
-use Rattle.cj_oem.specs.Metadata.{◌>>=◌, EMPTY, Object, Metadata, MetadataDraft, plan_of, unless, with_pair}
+use Rattle.cj_oem.specs.Metadata.{◌>>=◌, EMPTY, Object, Metadata, MetadataDraft, metadata_of, unless, with_pair}
 use Rattle.cj_oem.specs.NodeRows.{state_of_row}
 use Rattle.cj_oem.specs.Stages.{Body, Meta, Data, Cov, After, OpenSegment, close_nodes, end_of, finished, first_state, is_useable, last_state, with_arc}
 use Rattle.cj_oem.proofs.MatrixLemmas.{covariances_from, matrices_again, matrices_are, with_line}
 use Rattle.cj_oem.proofs.MetadataLemmas.{Suits, metadata_again, metadata_is, metadata_suits, sheet_from}
 use Rattle.cj_oem.proofs.NodeRowLemmas.{states_again, states_are, states_from}
-use Rattle.cj_oem.proofs.RunLemmas.{end_push, last_push, run, run_covariances, run_meta, run_rows, stretch}
+use Rattle.cj_oem.proofs.RunLemmas.{end_push, last_push, run, run_covariances, run_meta, run_rows, open_segment}
 use Rattle.cj_oem.proofs.StepLemmas.{bind_into, bind_ok, le_holds, lt_fails, not_false, unless_ok}
 
 -- ---- the end of the nodes
@@ -40,25 +40,25 @@ useable_again start stop None z some after before = absurd after
 useable_again start stop (Some a) None some after before = absurd before
 useable_again start stop (Some a) (Some z) some after before = grind (arith, nat_tests)
 
--- the nodes of a stretch are closed
+-- the nodes of a open_segment are closed
 record IsClosed (b : Body) (s : OpenSegment) : Type 0 where
   enough : 2 ≤ length s.states
-  useable : IsUseable s.plan.first s.plan.last s.states
-  later : end_of b.arcs ≤ s.plan.first
+  useable : IsUseable s.metadata.first s.metadata.last s.states
+  later : end_of b.arcs ≤ s.metadata.first
 
 closed_nodes : (b : Body) (s : OpenSegment) (u : Unit {0}) → close_nodes b s ≡ Ok u → IsClosed b s
 unfolding close_nodes
 closed_nodes b s u e =
     let few = unless (nat_lt (length s.states) 2) causes.TooFewNodes in
-    let span = unless (not (is_useable s.plan.first s.plan.last (first_state s.states) (last_state s.states))) causes.UseableSpan in
-    let overlap = unless (nat_lt s.plan.first (end_of b.arcs)) causes.SegmentsOverlap in
+    let span = unless (not (is_useable s.metadata.first s.metadata.last (first_state s.states) (last_state s.states))) causes.UseableSpan in
+    let overlap = unless (nat_lt s.metadata.first (end_of b.arcs)) causes.SegmentsOverlap in
     let one = bind_ok few (λ _. span >>= λ _. overlap) u e in
     let two = bind_ok span (λ _. overlap) u one.2 in
-    let ends = useable_ends s.plan.first s.plan.last (first_state s.states) (last_state s.states) (not_false _ (unless_ok _ causes.UseableSpan two.0 two.1)) in
+    let ends = useable_ends s.metadata.first s.metadata.last (first_state s.states) (last_state s.states) (not_false _ (unless_ok _ causes.UseableSpan two.0 two.1)) in
     record {
       enough = lt_fails (length s.states) 2 (unless_ok _ causes.TooFewNodes one.0 one.1);
       useable = record { some = ends.0; after = ends.1; before = ends.2 };
-      later = lt_fails s.plan.first (end_of b.arcs) (unless_ok _ causes.SegmentsOverlap u two.2);
+      later = lt_fails s.metadata.first (end_of b.arcs) (unless_ok _ causes.SegmentsOverlap u two.2);
     }
 
 close_again : (b : Body) (s : OpenSegment) → IsClosed b s → close_nodes b s ≡ Ok tt
@@ -67,8 +67,8 @@ close_again b s c =
     let enough = c.enough in
     let later = c.later in
     let a : nat_lt (length s.states) 2 ≡ false = grind (arith, nat_tests) in
-    let d : is_useable s.plan.first s.plan.last (first_state s.states) (last_state s.states) ≡ true = useable_again s.plan.first s.plan.last _ _ c.useable.some c.useable.after c.useable.before in
-    let f : nat_lt s.plan.first (end_of b.arcs) ≡ false = grind (arith, nat_tests) in
+    let d : is_useable s.metadata.first s.metadata.last (first_state s.states) (last_state s.states) ≡ true = useable_again s.metadata.first s.metadata.last _ _ c.useable.some c.useable.after c.useable.before in
+    let f : nat_lt s.metadata.first (end_of b.arcs) ≡ false = grind (arith, nat_tests) in
     rw (a, d, f) refl
 
 -- ---- the parts of a block, as a reader finds them
@@ -77,19 +77,19 @@ close_again b s c =
 record IsMetaRead (as_hermite3 : Bool) (b : Body) (s : MetadataDraft) (forms : List Form) (body : Body) : Type 0 where
   entries : List Entry
   end : MetadataDraft
-  plan : Metadata
+  metadata : Metadata
   rest : List Form
   shape : forms ≡ pair_lines entries ++ Mark MetaStop ∷ rest
   read : sheet_from b.object s entries ≡ Ok end
-  whole : plan_of as_hermite3 end ≡ Ok plan
-  next : run as_hermite3 (Data b (stretch plan [])) rest ≡ Ok body
+  whole : metadata_of as_hermite3 end ≡ Ok metadata
+  next : run as_hermite3 (Data b (open_segment metadata [])) rest ≡ Ok body
 
 meta_more : (as_hermite3 : Bool) (b : Body) (s next : MetadataDraft) (key value : List ℕ) (forms : List Form) (body : Body) → with_pair b.object s key value ≡ Ok next
     → IsMetaRead as_hermite3 b next forms body → IsMetaRead as_hermite3 b s (Pair key value ∷ forms) body
 meta_more as_hermite3 b s next key value forms body e m = record {
   entries = record { key = key; value = value } ∷ m.entries;
   end = m.end;
-  plan = m.plan;
+  metadata = m.metadata;
   rest = m.rest;
   shape = ap (λ (fs : List Form). Pair key value ∷ fs) m.shape;
   read = ap (λ (r : Result MetadataDraft OemCause). r >>= λ n. sheet_from b.object n m.entries) e ∙ m.read;
@@ -104,12 +104,12 @@ meta_read as_hermite3 b (Blank ∷ forms) s body e = absurd cc
 meta_read as_hermite3 b (Comment ∷ forms) s body e = absurd cc
 meta_read as_hermite3 b (Mark MetaStart ∷ forms) s body e = absurd cc
 meta_read as_hermite3 b (Mark MetaStop ∷ forms) s body e =
-    let step = bind_into (plan_of as_hermite3 s) (λ plan. Data b (stretch plan [])) (λ next. run as_hermite3 next forms) body e in
-    record { entries = []; end = s; plan = step.0; rest = forms; shape = refl; read = refl; whole = step.1; next = step.2 }
+    let step = bind_into (metadata_of as_hermite3 s) (λ metadata. Data b (open_segment metadata [])) (λ next. run as_hermite3 next forms) body e in
+    record { entries = []; end = s; metadata = step.0; rest = forms; shape = refl; read = refl; whole = step.1; next = step.2 }
 meta_read as_hermite3 b (Mark CovarianceStart ∷ forms) s body e = absurd cc
 meta_read as_hermite3 b (Mark CovarianceStop ∷ forms) s body e = absurd cc
 meta_read as_hermite3 b (Pair key value ∷ forms) s body e =
-    let step = bind_into (with_pair b.object s key value) (λ sheet. Meta b sheet) (λ next. run as_hermite3 next forms) body e in
+    let step = bind_into (with_pair b.object s key value) (λ draft. Meta b draft) (λ next. run as_hermite3 next forms) body e in
     meta_more as_hermite3 b s step.0 key value forms body step.1 (meta_read as_hermite3 b forms step.0 body step.2)
 meta_read as_hermite3 b (Row text ∷ forms) s body e = absurd cc
 
@@ -123,18 +123,18 @@ NoRow (Pair key value ∷ forms) = Unit {0}
 NoRow (Row text ∷ forms) = ⊥
 
 -- rows up to another line
-record IsDataRead (as_hermite3 : Bool) (b : Body) (plan : Metadata) (before : List PlainNode) (forms : List Form) (body : Body) : Type 0 where
+record IsDataRead (as_hermite3 : Bool) (b : Body) (metadata : Metadata) (before : List PlainNode) (forms : List Form) (body : Body) : Type 0 where
   rows : List (List ℕ)
   states : List PlainNode
   rest : List Form
   shape : forms ≡ row_lines rows ++ rest
   read : states_from (last_state before) rows ≡ Ok states
   all : NoRow rest
-  next : run as_hermite3 (Data b (stretch plan (before ++ states))) rest ≡ Ok body
+  next : run as_hermite3 (Data b (open_segment metadata (before ++ states))) rest ≡ Ok body
 
-data_more : (as_hermite3 : Bool) (b : Body) (plan : Metadata) (before : List PlainNode) (state : PlainNode) (text : List ℕ) (forms : List Form) (body : Body)
-    → state_of_row (last_state before) text ≡ Ok state → IsDataRead as_hermite3 b plan (before ++ state ∷ []) forms body → IsDataRead as_hermite3 b plan before (Row text ∷ forms) body
-data_more as_hermite3 b plan before state text forms body e d = record {
+data_more : (as_hermite3 : Bool) (b : Body) (metadata : Metadata) (before : List PlainNode) (state : PlainNode) (text : List ℕ) (forms : List Form) (body : Body)
+    → state_of_row (last_state before) text ≡ Ok state → IsDataRead as_hermite3 b metadata (before ++ state ∷ []) forms body → IsDataRead as_hermite3 b metadata before (Row text ∷ forms) body
+data_more as_hermite3 b metadata before state text forms body e d = record {
   rows = text ∷ d.rows;
   states = state ∷ d.states;
   rest = d.rest;
@@ -144,31 +144,31 @@ data_more as_hermite3 b plan before state text forms body e d = record {
       ap (λ (r : Result PlainNode OemCause). r >>= λ s. states_from (Some s) d.rows >>= λ others. Ok (s ∷ others)) e
       ∙ ap (λ (r : Result (List PlainNode) OemCause). r >>= λ others. Ok (state ∷ others)) later;
   all = d.all;
-  next = ap (λ (all : List PlainNode). run as_hermite3 (Data b (stretch plan all)) d.rest) (sym (append_assoc before (state ∷ []) d.states)) ∙ d.next;
+  next = ap (λ (all : List PlainNode). run as_hermite3 (Data b (open_segment metadata all)) d.rest) (sym (append_assoc before (state ∷ []) d.states)) ∙ d.next;
 }
 
-data_end : (as_hermite3 : Bool) (b : Body) (plan : Metadata) (before : List PlainNode) (forms : List Form) (body : Body) → NoRow forms
-    → run as_hermite3 (Data b (stretch plan before)) forms ≡ Ok body → IsDataRead as_hermite3 b plan before forms body
-data_end as_hermite3 b plan before forms body none e = record {
+data_end : (as_hermite3 : Bool) (b : Body) (metadata : Metadata) (before : List PlainNode) (forms : List Form) (body : Body) → NoRow forms
+    → run as_hermite3 (Data b (open_segment metadata before)) forms ≡ Ok body → IsDataRead as_hermite3 b metadata before forms body
+data_end as_hermite3 b metadata before forms body none e = record {
   rows = [];
   states = [];
   rest = forms;
   shape = refl;
   read = refl;
   all = none;
-  next = ap (λ (all : List PlainNode). run as_hermite3 (Data b (stretch plan all)) forms) (append-nil before) ∙ e;
+  next = ap (λ (all : List PlainNode). run as_hermite3 (Data b (open_segment metadata all)) forms) (append-nil before) ∙ e;
 }
 
-data_read : (as_hermite3 : Bool) (b : Body) (plan : Metadata) (forms : List Form) (before : List PlainNode) (body : Body) → run as_hermite3 (Data b (stretch plan before)) forms ≡ Ok body
-    → IsDataRead as_hermite3 b plan before forms body
-data_read as_hermite3 b plan [] before body e = data_end as_hermite3 b plan before [] body tt e
-data_read as_hermite3 b plan (Blank ∷ forms) before body e = data_end as_hermite3 b plan before (Blank ∷ forms) body tt e
-data_read as_hermite3 b plan (Comment ∷ forms) before body e = data_end as_hermite3 b plan before (Comment ∷ forms) body tt e
-data_read as_hermite3 b plan (Mark mark ∷ forms) before body e = data_end as_hermite3 b plan before (Mark mark ∷ forms) body tt e
-data_read as_hermite3 b plan (Pair key value ∷ forms) before body e = data_end as_hermite3 b plan before (Pair key value ∷ forms) body tt e
-data_read as_hermite3 b plan (Row text ∷ forms) before body e =
-    let step = bind_into (state_of_row (last_state before) text) (λ state. Data b (stretch plan (before ++ state ∷ []))) (λ next. run as_hermite3 next forms) body e in
-    data_more as_hermite3 b plan before step.0 text forms body step.1 (data_read as_hermite3 b plan forms (before ++ step.0 ∷ []) body step.2)
+data_read : (as_hermite3 : Bool) (b : Body) (metadata : Metadata) (forms : List Form) (before : List PlainNode) (body : Body) → run as_hermite3 (Data b (open_segment metadata before)) forms ≡ Ok body
+    → IsDataRead as_hermite3 b metadata before forms body
+data_read as_hermite3 b metadata [] before body e = data_end as_hermite3 b metadata before [] body tt e
+data_read as_hermite3 b metadata (Blank ∷ forms) before body e = data_end as_hermite3 b metadata before (Blank ∷ forms) body tt e
+data_read as_hermite3 b metadata (Comment ∷ forms) before body e = data_end as_hermite3 b metadata before (Comment ∷ forms) body tt e
+data_read as_hermite3 b metadata (Mark mark ∷ forms) before body e = data_end as_hermite3 b metadata before (Mark mark ∷ forms) body tt e
+data_read as_hermite3 b metadata (Pair key value ∷ forms) before body e = data_end as_hermite3 b metadata before (Pair key value ∷ forms) body tt e
+data_read as_hermite3 b metadata (Row text ∷ forms) before body e =
+    let step = bind_into (state_of_row (last_state before) text) (λ state. Data b (open_segment metadata (before ++ state ∷ []))) (λ next. run as_hermite3 next forms) body e in
+    data_more as_hermite3 b metadata before step.0 text forms body step.1 (data_read as_hermite3 b metadata forms (before ++ step.0 ∷ []) body step.2)
 
 -- covariances up to their end
 record IsCovRead (as_hermite3 : Bool) (b : Body) (s : OpenSegment) (m : Covariances) (forms : List Form) (body : Body) : Type 0 where
@@ -289,27 +289,27 @@ lines_behind entries rows front rest =
     sym (append_assoc (pair_lines entries) (Mark MetaStop ∷ row_lines rows) (front ++ rest))
     ∙ sym (append_assoc (pair_lines entries ++ Mark MetaStop ∷ row_lines rows) front rest))
 
-block_is : (as_hermite3 : Bool) (b : Body) (forms : List Form) (body : Body) (m : IsMetaRead as_hermite3 b EMPTY forms body) (d : IsDataRead as_hermite3 b m.plan [] m.rest body)
-    → IsEndRead as_hermite3 b (stretch m.plan d.states) d.rest body → IsBlockRead as_hermite3 b (Mark MetaStart ∷ forms) body
+block_is : (as_hermite3 : Bool) (b : Body) (forms : List Form) (body : Body) (m : IsMetaRead as_hermite3 b EMPTY forms body) (d : IsDataRead as_hermite3 b m.metadata [] m.rest body)
+    → IsEndRead as_hermite3 b (open_segment m.metadata d.states) d.rest body → IsBlockRead as_hermite3 b (Mark MetaStart ∷ forms) body
 block_is as_hermite3 b forms body m d e =
-    let s = stretch m.plan d.states in
+    let s = open_segment m.metadata d.states in
     let closed = closed_nodes b s tt e.closed in
     let states = states_are d.rows d.states d.read in
     record {
       block = lines_of m.entries d.rows e.front;
       rest = e.rest;
-      object = m.plan.object;
-      arc = record { first = m.plan.first; last = m.plan.last; states = d.states; covariances = e.covariances };
+      object = m.metadata.object;
+      arc = record { first = m.metadata.first; last = m.metadata.last; states = d.states; covariances = e.covariances };
       shape =
           ap (λ (fs : List Form). Mark MetaStart ∷ fs) (m.shape ∙ ap (λ (fs : List Form). pair_lines m.entries ++ Mark MetaStop ∷ fs) (d.shape ∙ ap (λ (fs : List Form). row_lines d.rows ++ fs) e.shape))
           ∙ lines_behind m.entries d.rows e.front e.rest;
-      suits = metadata_suits as_hermite3 b.object m.entries m.end m.plan m.read m.whole;
+      suits = metadata_suits as_hermite3 b.object m.entries m.end m.metadata m.read m.whole;
       said = record {
         entries = m.entries;
         rows = d.rows;
         rest = e.front;
         shape = refl;
-        metadata = metadata_is as_hermite3 b.object m.entries m.end m.plan m.read m.whole;
+        metadata = metadata_is as_hermite3 b.object m.entries m.end m.metadata m.read m.whole;
         states = states.0;
         steps = states.1;
         enough = closed.enough;
@@ -323,8 +323,8 @@ block_is as_hermite3 b forms body m d e =
 block_read : (as_hermite3 : Bool) (b : Body) (forms : List Form) (body : Body) → run as_hermite3 (Meta b EMPTY) forms ≡ Ok body → IsBlockRead as_hermite3 b (Mark MetaStart ∷ forms) body
 block_read as_hermite3 b forms body e =
     let m = meta_read as_hermite3 b forms EMPTY body e in
-    let d = data_read as_hermite3 b m.plan m.rest [] body m.next in
-    block_is as_hermite3 b forms body m d (end_read as_hermite3 b (stretch m.plan d.states) d.rest body d.all d.next)
+    let d = data_read as_hermite3 b m.metadata m.rest [] body m.next in
+    block_is as_hermite3 b forms body m d (end_read as_hermite3 b (open_segment m.metadata d.states) d.rest body d.all d.next)
 
 -- ---- all blocks
 
@@ -451,16 +451,16 @@ run_end_none as_hermite3 b s front rest covariances e n may =
 run_block : (as_hermite3 : Bool) (b : Body) (lines rest : List Form) (object : Object) (arc : PlainSegment) → Suits b.object object → IsBlock as_hermite3 object (end_of b.arcs) lines arc
     → MayFollow rest → run as_hermite3 (After b) (lines ++ rest) ≡ run as_hermite3 (After (with_segment b object arc)) rest
 run_block as_hermite3 b lines rest object arc suits block may =
-    let plan : Metadata = record { object = object; first = arc.first; last = arc.last } in
-    let s = stretch plan arc.states in
+    let metadata : Metadata = record { object = object; first = arc.first; last = arc.last } in
+    let s = open_segment metadata arc.states in
     let closed = close_again b s (record { enough = block.enough; useable = block.useable; later = block.later }) in
-    let metadata = metadata_again as_hermite3 b.object block.entries object arc.first arc.last suits block.metadata in
+    let again = metadata_again as_hermite3 b.object block.entries object arc.first arc.last suits block.metadata in
     let behind = row_lines block.rows ++ (block.rest ++ rest) in
     ap (λ (fs : List Form). run as_hermite3 (After b) (fs ++ rest)) block.shape
     ∙ ap (run as_hermite3 (After b)) (sym (lines_behind block.entries block.rows block.rest rest))
-    ∙ run_meta as_hermite3 b block.entries EMPTY metadata.0 (Mark MetaStop ∷ behind) metadata.1
-    ∙ ap (λ (r : Result Metadata OemCause). (r >>= λ p. Ok (Data b (stretch p []))) >>= λ next. run as_hermite3 next behind) metadata.2
-    ∙ run_rows as_hermite3 b plan block.rows [] arc.states (block.rest ++ rest) (states_again block.rows arc.states block.states block.steps)
+    ∙ run_meta as_hermite3 b block.entries EMPTY again.0 (Mark MetaStop ∷ behind) again.1
+    ∙ ap (λ (r : Result Metadata OemCause). (r >>= λ p. Ok (Data b (open_segment p []))) >>= λ next. run as_hermite3 next behind) again.2
+    ∙ run_rows as_hermite3 b metadata block.rows [] arc.states (block.rest ++ rest) (states_again block.rows arc.states block.states block.steps)
     ∙ ⊎_elim
     (λ some. run_end_some as_hermite3 b s block.rest rest arc.covariances closed some)
     (λ none. run_end_none as_hermite3 b s block.rest rest arc.covariances closed none may)

@@ -15,7 +15,7 @@ use Rattle.cj_track.specs.declared.segment.Segment.{Segment}
 use Rattle.cj_oem.specs.declared.fault.OemCause.{OemCause}
 use Rattle.cj_track.specs.PlainTracks.{PlainSegment, PlainMatrix}
 use Rattle.cj_oem.specs.Words.{is_text}
-use Rattle.cj_oem.specs.Metadata.{MetadataDraft, plan_of, with_pair}
+use Rattle.cj_oem.specs.Metadata.{MetadataDraft, metadata_of, with_pair}
 use Rattle.cj_oem.specs.NodeRows.{state_of_row}
 use Rattle.cj_oem.specs.CovarianceRows.{Covariances, closed, with_matrix_pair, with_matrix_row}
 use Rattle.cj_oem.specs.Reading as reader
@@ -54,10 +54,10 @@ IsSound (After b) = IsWhole b
 -- ---- one line
 
 nodes_with_arc : (b : Body) (s : OpenSegment) (covariances : List PlainMatrix) → nodes_in (with_arc b s covariances).arcs ≡ nodes_in b.arcs + length s.states
-nodes_with_arc b s covariances = sum_by_push (λ (arc : PlainSegment). length arc.states) b.arcs (record { first = s.plan.first; last = s.plan.last; states = s.states; covariances = covariances })
+nodes_with_arc b s covariances = sum_by_push (λ (arc : PlainSegment). length arc.states) b.arcs (record { first = s.metadata.first; last = s.metadata.last; states = s.states; covariances = covariances })
 
 whole_with_arc : (b : Body) (s : OpenSegment) (covariances : List PlainMatrix) → IsWhole (with_arc b s covariances)
-whole_with_arc b s covariances = (refl, omega (arith, length-append b.arcs (record { first = s.plan.first; last = s.plan.last; states = s.states; covariances = covariances } ∷ [])))
+whole_with_arc b s covariances = (refl, omega (arith, length-append b.arcs (record { first = s.metadata.first; last = s.metadata.last; states = s.states; covariances = covariances } ∷ [])))
 
 -- what a line leads to has at most one node more, and is sound
 record IsNext (nodes : ℕ) (next : Stage) : Type 0 where
@@ -97,10 +97,10 @@ meta_step : (as_hermite3 : Bool) (b : Body) (s : MetadataDraft) (form : Form) �
 meta_step as_hermite3 b s Blank = tt
 meta_step as_hermite3 b s Comment = tt
 meta_step as_hermite3 b s (Mark MetaStart) = tt
-meta_step as_hermite3 b s (Mark MetaStop) = if_ok_then (IsNext (nodes_in b.arcs)) (plan_of as_hermite3 s) _ (λ plan. record { few = omega arith; sound = tt })
+meta_step as_hermite3 b s (Mark MetaStop) = if_ok_then (IsNext (nodes_in b.arcs)) (metadata_of as_hermite3 s) _ (λ metadata. record { few = omega arith; sound = tt })
 meta_step as_hermite3 b s (Mark CovarianceStart) = tt
 meta_step as_hermite3 b s (Mark CovarianceStop) = tt
-meta_step as_hermite3 b s (Pair key value) = if_ok_then (IsNext (nodes_in b.arcs)) (with_pair b.object s key value) _ (λ sheet. record { few = omega arith; sound = tt })
+meta_step as_hermite3 b s (Pair key value) = if_ok_then (IsNext (nodes_in b.arcs)) (with_pair b.object s key value) _ (λ draft. record { few = omega arith; sound = tt })
 meta_step as_hermite3 b s (Row text) = tt
 
 data_step : (b : Body) (s : OpenSegment) (form : Form) → IfOk (in_data b s form) (IsNext (nodes_in b.arcs + length s.states))

@@ -15,7 +15,7 @@ use Rattle.cj_track.specs.declared.frame.Frame.TheVariants as frames
 use Rattle.cj_track.specs.PlainTracks.{PlainSegment, PlainTrack}
 use Rattle.cj_track.specs.Labels.{is_label, is_visible}
 use Rattle.cj_oem.specs.Words.{is_word}
-use Rattle.cj_oem.specs.Metadata.{EMPTY, Object, Metadata, MetadataDraft, frame_kept, frame_named, frame_of, id_of, key_of, parse_label, name_of, plan_of, text_differs, with_pair, with_value}
+use Rattle.cj_oem.specs.Metadata.{EMPTY, Object, Metadata, MetadataDraft, frame_kept, frame_named, frame_of, id_of, key_of, parse_label, name_of, metadata_of, text_differs, with_pair, with_value}
 use Rattle.cj_oem.specs.Stages.{Body, Data, Head, Header, Meta, Start, follows}
 use Rattle.cj_oem.proofs.PrintedLineLemmas.{Tells, told_append, told_line}
 use Rattle.cj_oem.proofs.PrintedPairLemmas.{meta_start, meta_stop, pair_line, pair_text}
@@ -143,10 +143,10 @@ metadata_told e arc name id =
     let t9 = told_append _ _ _ _ t8 (fixed_told (codes "INTERPOLATION_DEGREE") (codes "3") refl refl refl refl refl) in
     told_append _ _ _ _ t9 (told_line (codes "META_STOP") (Mark MetaStop) meta_stop)
 
-abbrev pub plan : Object → ℕ → ℕ → Metadata
-plan o first last = record { object = o; first = first; last = last }
+abbrev pub metadata : Object → ℕ → ℕ → Metadata
+metadata o first last = record { object = o; first = first; last = last }
 
--- the sheet with the object
+-- the draft with the object
 abbrev named : Object → MetadataDraft
 named o = record EMPTY { name = Some o.name; id = Some o.id; center = true; frame = Some o.frame; time_system = true }
 
@@ -190,12 +190,12 @@ stop_follows b o first last tick = rw (epoch_again last tick) refl
 
 cubic_walk : (b : Body) (o : Object) (first last : ℕ)
     → walk (Meta b (record (named o) { start = Some first; stop = Some last })) (Pair (codes "INTERPOLATION") (codes "HERMITE") ∷ Pair (codes "INTERPOLATION_DEGREE") (codes "3") ∷ Mark MetaStop ∷ [])
-    ≡ Ok (Data b (record { plan = plan o first last; states = [] }))
-unfolding follows with_pair key_of with_value plan_of is_word
+    ≡ Ok (Data b (record { metadata = metadata o first last; states = [] }))
+unfolding follows with_pair key_of with_value metadata_of is_word
 cubic_walk b o first last = refl
 
 pub meta_walk : (b : Body) (o : Object) (first last : ℕ) → IsKnown b.object o → IsNeat o.name → IsNeat o.id → IsTick first → IsTick last
-    → walk (Meta b EMPTY) (meta_pairs o first last) ≡ Ok (Data b (record { plan = plan o first last; states = [] }))
+    → walk (Meta b EMPTY) (meta_pairs o first last) ≡ Ok (Data b (record { metadata = metadata o first last; states = [] }))
 meta_walk b o first last known name id start stop =
     let cubic = Pair (codes "INTERPOLATION") (codes "HERMITE") ∷ Pair (codes "INTERPOLATION_DEGREE") (codes "3") ∷ Mark MetaStop ∷ [] in
     let r7 = Pair (codes "STOP_TIME") (epoch_of last) ∷ cubic in

@@ -15,7 +15,7 @@ use Rattle.cj_oem.specs.declared.key.Key.{Key}
 use Rattle.cj_oem.specs.declared.key.Key.TheVariants as keys
 use Rattle.cj_oem.specs.Grammar.{AreCubic, Entry, Has, HasEpoch, SaysText, IsMetadata, IsWord, Lacks, HasEpochOr, METADATA_KEYS}
 use Rattle.cj_oem.specs.Words.{is_text, is_word}
-use Rattle.cj_oem.specs.Metadata.{◌>>=◌, EMPTY, Object, Metadata, MetadataDraft, epoch_or, parse_epoch, frame_kept, frame_named, frame_of, id_of, is_cubic, is_given, key_of, parse_label, name_of, needed, plan_of, same_frame, text_differs, unless, with_key, with_pair, with_value}
+use Rattle.cj_oem.specs.Metadata.{◌>>=◌, EMPTY, Object, Metadata, MetadataDraft, epoch_or, parse_epoch, frame_kept, frame_named, frame_of, id_of, is_cubic, is_given, key_of, parse_label, name_of, needed, metadata_of, same_frame, text_differs, unless, with_key, with_pair, with_value}
 use Rattle.cj_oem.proofs.ElementLemmas.{any_all, any_at, any_cases, any_here, any_later, any_none, any_weaker, contains_cases, contains_none, pairs_head, pairs_tail}
 use Rattle.cj_oem.proofs.StepLemmas.{bind_ok, not_false, ok_is, text_is, text_self, unless_not, unwanted, wanted}
 
@@ -109,7 +109,7 @@ known_as text among = known_from KEYS text among
 
 -- ---- what a key gives
 
--- what a sheet takes from the line of a key
+-- what a draft takes from the line of a key
 data Value : Type 0 where
   Name : List ℕ → Value
   Id : List ℕ → Value
@@ -138,7 +138,7 @@ key_at (UseableStop at) = keys.UseableStopTime
 key_at (Hermite is) = keys.Interpolation
 key_at (Cubic is) = keys.InterpolationDegree
 
--- the sheet with this value
+-- the draft with this value
 abbrev put : MetadataDraft → Value → MetadataDraft
 put s (Name name) = record s { name = Some name }
 put s (Id id) = record s { id = Some id }
@@ -153,7 +153,7 @@ put s (UseableStop at) = record s { useable_stop = Some at }
 put s (Hermite is) = record s { hermite = Some is }
 put s (Cubic is) = record s { cubic = Some is }
 
--- the sheet has this value
+-- the draft has this value
 abbrev Holds : MetadataDraft → Value → Type 0
 Holds s (Name name) = s.name ≡ Some name
 Holds s (Id id) = s.id ≡ Some id
@@ -252,7 +252,7 @@ holds_more s u v lacks e = e
 some_one : {A : Type 0} (a b : A) → Some a ≡ Some b → a ≡ b
 some_one a b e = cc
 
--- what the sheet has is new, or it had it
+-- what the draft has is new, or it had it
 held : (s : MetadataDraft) (u v : Value) → Holds (put s u) v → (u ≡ v) ⊎ Holds s v
 held s (Name a) (Name b) e = inl (ap (λ x. Name x) (some_one a b e))
 held s (Id a) (Id b) e = inl (ap (λ x. Id x) (some_one a b e))
@@ -303,7 +303,7 @@ value_put first s (UseableStop at) text e = rw e refl
 value_put first s (Hermite is) text e = rw e refl
 value_put first s (Cubic is) text e = rw e refl
 
--- a value that the text says, and the sheet with it
+-- a value that the text says, and the draft with it
 record IsTaken (first : Option Object) (s : MetadataDraft) (k : Key) (text : List ℕ) (next : MetadataDraft) : Type 0 where
   value : Value
   key : key_at value ≡ k
@@ -400,10 +400,10 @@ lacking s k not = by (is_given k s) not
 
 -- what the keys of a block say, one after another
 abbrev pub sheet_from : Option Object → MetadataDraft → List Entry → Result MetadataDraft OemCause
-sheet_from first sheet [] = Ok sheet
-sheet_from first sheet (entry ∷ entries) = with_pair first sheet entry.key entry.value >>= λ next. sheet_from first next entries
+sheet_from first draft [] = Ok draft
+sheet_from first draft (entry ∷ entries) = with_pair first draft entry.key entry.value >>= λ next. sheet_from first next entries
 
--- reading the keys ends at a sheet that holds just what they say
+-- reading the keys ends at a draft that holds just what they say
 record IsSheeted (first : Option Object) (s : MetadataDraft) (entries : List Entry) (end : MetadataDraft) : Type 0 where
   lines : All (IsSayable first) entries
   once : AllPairs (λ a b. a.key ≢ b.key) entries
@@ -543,9 +543,9 @@ has_value (entry ∷ entries) key value P once has line = ⊎_elim
     (any_cases (λ e. (e.key ≡ key) × (e.value ≡ value)) entry entries line))
     (any_cases (λ e. (e.key ≡ key) × P e.value) entry entries has)
 
--- ---- a whole sheet
+-- ---- a whole draft
 
--- what a sheet with all that is needed says
+-- what a draft with all that is needed says
 record IsWhole (as_hermite3 : Bool) (s : MetadataDraft) (object : Object) (first last : ℕ) : Type 0 where
   name : s.name ≡ Some object.name
   id : s.id ≡ Some object.id
@@ -564,18 +564,18 @@ needed_some : {A : Type 0} (o : Option A) (x : A) → needed o ≡ Ok x → o �
 needed_some None x e = absurd cc
 needed_some (Some y) x e = ap (λ z. Some z) (ok_is y x e)
 
-whole_is : (as_hermite3 : Bool) (s : MetadataDraft) (plan : Metadata) → plan_of as_hermite3 s ≡ Ok plan → IsWhole as_hermite3 s plan.object plan.first plan.last
-unfolding plan_of
-whole_is as_hermite3 s plan e =
-    let name = bind_ok (needed s.name) _ plan e in
-    let id = bind_ok (needed s.id) _ plan name.2 in
-    let center = bind_ok (unless (not s.center) causes.Missing) _ plan id.2 in
-    let frame = bind_ok (needed s.frame) _ plan center.2 in
-    let time_system = bind_ok (unless (not s.time_system) causes.Missing) _ plan frame.2 in
-    let start = bind_ok (needed s.start) _ plan time_system.2 in
-    let stop = bind_ok (needed s.stop) _ plan start.2 in
-    let cubic = bind_ok (unless (not (as_hermite3 || is_cubic s)) causes.Interpolation) _ plan stop.2 in
-    subst (λ (p : Metadata). IsWhole as_hermite3 s p.object p.first p.last) (ok_is _ plan cubic.2) (record {
+whole_is : (as_hermite3 : Bool) (s : MetadataDraft) (metadata : Metadata) → metadata_of as_hermite3 s ≡ Ok metadata → IsWhole as_hermite3 s metadata.object metadata.first metadata.last
+unfolding metadata_of
+whole_is as_hermite3 s metadata e =
+    let name = bind_ok (needed s.name) _ metadata e in
+    let id = bind_ok (needed s.id) _ metadata name.2 in
+    let center = bind_ok (unless (not s.center) causes.Missing) _ metadata id.2 in
+    let frame = bind_ok (needed s.frame) _ metadata center.2 in
+    let time_system = bind_ok (unless (not s.time_system) causes.Missing) _ metadata frame.2 in
+    let start = bind_ok (needed s.start) _ metadata time_system.2 in
+    let stop = bind_ok (needed s.stop) _ metadata start.2 in
+    let cubic = bind_ok (unless (not (as_hermite3 || is_cubic s)) causes.Interpolation) _ metadata stop.2 in
+    subst (λ (p : Metadata). IsWhole as_hermite3 s p.object p.first p.last) (ok_is _ metadata cubic.2) (record {
       name = needed_some s.name name.0 name.1;
       id = needed_some s.id id.0 id.1;
       center = unless_not s.center causes.Missing center.0 center.1;
@@ -591,8 +591,8 @@ whole_is as_hermite3 s plan e =
     })
 
 whole_again : (as_hermite3 : Bool) (s : MetadataDraft) (object : Object) (first last : ℕ) → IsWhole as_hermite3 s object first last
-    → plan_of as_hermite3 s ≡ Ok (record { object = object; first = first; last = last })
-unfolding plan_of
+    → metadata_of as_hermite3 s ≡ Ok (record { object = object; first = first; last = last })
+unfolding metadata_of
 whole_again as_hermite3 s object first last w =
     rw (w.name, w.id, w.center, w.frame, w.time_system, w.start_time, w.stop_time, w.cubic, w.useable_start, w.useable_stop) refl
 
@@ -612,7 +612,7 @@ holds_none (UseableStop at) e = absurd cc
 holds_none (Hermite is) e = absurd cc
 holds_none (Cubic is) e = absurd cc
 
--- what a sheet holds is what a line says
+-- what a draft holds is what a line says
 said_by : (first : Option Object) (entries : List Entry) (end : MetadataDraft) → IsSheeted first EMPTY entries end → (v : Value) → Holds end v → Has entries (key_text (key_at v)) (IsSaid first v)
 said_by first entries end h v e = ⊎_elim (λ before. absurd (holds_none v before)) (λ has. has) (h.found v e)
 
@@ -646,33 +646,33 @@ cubic_is false first entries end h e =
     })
 
 -- keys that are read from the start, with all that is needed, are the metadata that they say
-pub metadata_is : (as_hermite3 : Bool) (first : Option Object) (entries : List Entry) (sheet : MetadataDraft) (plan : Metadata) → sheet_from first EMPTY entries ≡ Ok sheet
-    → plan_of as_hermite3 sheet ≡ Ok plan → IsMetadata as_hermite3 entries plan.object plan.first plan.last
-metadata_is as_hermite3 first entries sheet plan read whole =
-    let h = sheeted first entries EMPTY sheet read in
-    let w = whole_is as_hermite3 sheet plan whole in
-    let o = plan.object in
+pub metadata_is : (as_hermite3 : Bool) (first : Option Object) (entries : List Entry) (draft : MetadataDraft) (metadata : Metadata) → sheet_from first EMPTY entries ≡ Ok draft
+    → metadata_of as_hermite3 draft ≡ Ok metadata → IsMetadata as_hermite3 entries metadata.object metadata.first metadata.last
+metadata_is as_hermite3 first entries draft metadata read whole =
+    let h = sheeted first entries EMPTY draft read in
+    let w = whole_is as_hermite3 draft metadata whole in
+    let o = metadata.object in
     let epoch = λ (key : List ℕ) (at : ℕ). has_weaker entries key (λ value. parse_epoch value ≡ Ok at) (λ value. reading_of value ≡ Ok at) (λ value e. epoch_is (reading_of value) at e) in
     record {
       known = All-weaker (IsSayable first) (λ e. Contains METADATA_KEYS e.key) (λ e line. subst (Contains METADATA_KEYS) (sym line.1) (known_key (key_at line.0))) entries h.lines;
       once = h.once;
       name = has_weaker entries (codes "OBJECT_NAME") (IsSaid first (Name o.name)) (SaysText o.name) (λ value e. label_is (name_of first) o.name value e)
-          (said_by first entries sheet h (Name o.name) w.name);
+          (said_by first entries draft h (Name o.name) w.name);
       id = has_weaker entries (codes "OBJECT_ID") (IsSaid first (Id o.id)) (SaysText o.id) (λ value e. label_is (id_of first) o.id value e)
-          (said_by first entries sheet h (Id o.id) w.id);
-      center = said_by first entries sheet h Center w.center;
+          (said_by first entries draft h (Id o.id) w.id);
+      center = said_by first entries draft h Center w.center;
       frame = has_weaker entries (codes "REF_FRAME") (IsSaid first (InFrame o.frame)) (λ value. frame_named value ≡ Some o.frame) (λ value e. frame_is (frame_of first) (frame_named value) o.frame e)
-          (said_by first entries sheet h (InFrame o.frame) w.frame);
-      time_system = said_by first entries sheet h TimeSystem w.time_system;
+          (said_by first entries draft h (InFrame o.frame) w.frame);
+      time_system = said_by first entries draft h TimeSystem w.time_system;
       start = w.start;
       stop = w.stop;
-      start_time = epoch (codes "START_TIME") w.start (said_by first entries sheet h (Start w.start) w.start_time);
-      stop_time = epoch (codes "STOP_TIME") w.stop (said_by first entries sheet h (Stop w.stop) w.stop_time);
-      useable_start = useable_is entries (codes "USEABLE_START_TIME") sheet.useable_start w.start plan.first w.useable_start (lost first entries EMPTY sheet h keys.UseableStartTime)
-          (λ at e. epoch (codes "USEABLE_START_TIME") at (said_by first entries sheet h (UseableStart at) e));
-      useable_stop = useable_is entries (codes "USEABLE_STOP_TIME") sheet.useable_stop w.stop plan.last w.useable_stop (lost first entries EMPTY sheet h keys.UseableStopTime)
-          (λ at e. epoch (codes "USEABLE_STOP_TIME") at (said_by first entries sheet h (UseableStop at) e));
-      interpolation = cubic_is as_hermite3 first entries sheet h w.cubic;
+      start_time = epoch (codes "START_TIME") w.start (said_by first entries draft h (Start w.start) w.start_time);
+      stop_time = epoch (codes "STOP_TIME") w.stop (said_by first entries draft h (Stop w.stop) w.stop_time);
+      useable_start = useable_is entries (codes "USEABLE_START_TIME") draft.useable_start w.start metadata.first w.useable_start (lost first entries EMPTY draft h keys.UseableStartTime)
+          (λ at e. epoch (codes "USEABLE_START_TIME") at (said_by first entries draft h (UseableStart at) e));
+      useable_stop = useable_is entries (codes "USEABLE_STOP_TIME") draft.useable_stop w.stop metadata.last w.useable_stop (lost first entries EMPTY draft h keys.UseableStopTime)
+          (λ at e. epoch (codes "USEABLE_STOP_TIME") at (said_by first entries draft h (UseableStop at) e));
+      interpolation = cubic_is as_hermite3 first entries draft h w.cubic;
     }
 
 -- ---- the first segment's object
@@ -704,21 +704,21 @@ has_then entries key P (k, entry, within, at, there) h = h entry.value there.1
 one_object : (o : Object) (name id : List ℕ) (frame : Frame) → name ≡ o.name → id ≡ o.id → frame ≡ o.frame → o ≡ record { name = name; id = id; frame = frame }
 one_object o name id frame a b c = rw (a, b, c) refl
 
-object_kept : (as_hermite3 : Bool) (o object : Object) (entries : List Entry) (sheet : MetadataDraft) (first last : ℕ) → IsSheeted (Some o) EMPTY entries sheet
-    → IsWhole as_hermite3 sheet object first last → o ≡ object
-object_kept as_hermite3 o object entries sheet first last h w =
+object_kept : (as_hermite3 : Bool) (o object : Object) (entries : List Entry) (draft : MetadataDraft) (first last : ℕ) → IsSheeted (Some o) EMPTY entries draft
+    → IsWhole as_hermite3 draft object first last → o ≡ object
+object_kept as_hermite3 o object entries draft first last h w =
     one_object o object.name object.id object.frame
-    (has_then entries (codes "OBJECT_NAME") (IsSaid (Some o) (Name object.name)) (said_by (Some o) entries sheet h (Name object.name) w.name) (label_kept o.name object.name))
-    (has_then entries (codes "OBJECT_ID") (IsSaid (Some o) (Id object.id)) (said_by (Some o) entries sheet h (Id object.id) w.id) (label_kept o.id object.id))
-    (has_then entries (codes "REF_FRAME") (IsSaid (Some o) (InFrame object.frame)) (said_by (Some o) entries sheet h (InFrame object.frame) w.frame)
+    (has_then entries (codes "OBJECT_NAME") (IsSaid (Some o) (Name object.name)) (said_by (Some o) entries draft h (Name object.name) w.name) (label_kept o.name object.name))
+    (has_then entries (codes "OBJECT_ID") (IsSaid (Some o) (Id object.id)) (said_by (Some o) entries draft h (Id object.id) w.id) (label_kept o.id object.id))
+    (has_then entries (codes "REF_FRAME") (IsSaid (Some o) (InFrame object.frame)) (said_by (Some o) entries draft h (InFrame object.frame) w.frame)
     (λ value e. frame_same o.frame (frame_named value) object.frame e))
 
 -- what is read behind the first segment is of its object
-pub metadata_suits : (as_hermite3 : Bool) (first : Option Object) (entries : List Entry) (sheet : MetadataDraft) (plan : Metadata) → sheet_from first EMPTY entries ≡ Ok sheet
-    → plan_of as_hermite3 sheet ≡ Ok plan → Suits first plan.object
-metadata_suits as_hermite3 None entries sheet plan read whole = tt
-metadata_suits as_hermite3 (Some o) entries sheet plan read whole =
-    object_kept as_hermite3 o plan.object entries sheet plan.first plan.last (sheeted (Some o) entries EMPTY sheet read) (whole_is as_hermite3 sheet plan whole)
+pub metadata_suits : (as_hermite3 : Bool) (first : Option Object) (entries : List Entry) (draft : MetadataDraft) (metadata : Metadata) → sheet_from first EMPTY entries ≡ Ok draft
+    → metadata_of as_hermite3 draft ≡ Ok metadata → Suits first metadata.object
+metadata_suits as_hermite3 None entries draft metadata read whole = tt
+metadata_suits as_hermite3 (Some o) entries draft metadata read whole =
+    object_kept as_hermite3 o metadata.object entries draft metadata.first metadata.last (sheeted (Some o) entries EMPTY draft read) (whole_is as_hermite3 draft metadata whole)
 
 -- ---- and back again
 
@@ -806,16 +806,16 @@ cubic_again as_hermite3 first entries end h (inr c) =
 
 -- the metadata of an object, the first segment's where there is one, are read from the start, with all that is needed
 pub metadata_again : (as_hermite3 : Bool) (first : Option Object) (entries : List Entry) (object : Object) (a b : ℕ) → Suits first object → IsMetadata as_hermite3 entries object a b
-    → (sheet : MetadataDraft) × (sheet_from first EMPTY entries ≡ Ok sheet) × (plan_of as_hermite3 sheet ≡ Ok (record { object = object; first = a; last = b }))
+    → (draft : MetadataDraft) × (sheet_from first EMPTY entries ≡ Ok draft) × (metadata_of as_hermite3 draft ≡ Ok (record { object = object; first = a; last = b }))
 metadata_again as_hermite3 first entries object a b suits m =
     let read = read_again first entries EMPTY (lines_sayable as_hermite3 first entries object a b suits m) m.once (λ v h. absurd (holds_none v h)) in
-    let sheet = read.0 in
-    let h = sheeted first entries EMPTY sheet read.1 in
+    let draft = read.0 in
+    let h = sheeted first entries EMPTY draft read.1 in
     let said = λ (key : List ℕ) (at : ℕ). has_weaker entries key (λ value. reading_of value ≡ Ok at) (λ value. parse_epoch value ≡ Ok at) (λ value e. ap epoch_or e) in
     let epoch = λ (key : List ℕ) (at : ℕ). has_weaker entries key (λ value. parse_epoch value ≡ Ok at) (λ value. reading_of value ≡ Ok at) (λ value e. epoch_is (reading_of value) at e) in (
-      sheet,
+      draft,
       read.1,
-      whole_again as_hermite3 sheet object a b (record {
+      whole_again as_hermite3 draft object a b (record {
         name = h.there (Name object.name) (has_weaker entries (codes "OBJECT_NAME") (SaysText object.name) (IsSaid first (Name object.name))
             (λ value l. label_again (name_of first) object.name value (name_suits first object suits) l) m.name);
         id = h.there (Id object.id) (has_weaker entries (codes "OBJECT_ID") (SaysText object.id) (IsSaid first (Id object.id))
@@ -828,12 +828,12 @@ metadata_again as_hermite3 first entries object a b suits m =
         stop = m.stop;
         start_time = h.there (Start m.start) (said (codes "START_TIME") m.start m.start_time);
         stop_time = h.there (Stop m.stop) (said (codes "STOP_TIME") m.stop m.stop_time);
-        cubic = cubic_again as_hermite3 first entries sheet h m.interpolation;
-        useable_start = useable_again entries (codes "USEABLE_START_TIME") sheet.useable_start m.start a m.useable_start
+        cubic = cubic_again as_hermite3 first entries draft h m.interpolation;
+        useable_start = useable_again entries (codes "USEABLE_START_TIME") draft.useable_start m.start a m.useable_start
             (λ at has. h.there (UseableStart at) (said (codes "USEABLE_START_TIME") at has))
-            (λ at e. epoch (codes "USEABLE_START_TIME") at (said_by first entries sheet h (UseableStart at) e));
-        useable_stop = useable_again entries (codes "USEABLE_STOP_TIME") sheet.useable_stop m.stop b m.useable_stop
+            (λ at e. epoch (codes "USEABLE_START_TIME") at (said_by first entries draft h (UseableStart at) e));
+        useable_stop = useable_again entries (codes "USEABLE_STOP_TIME") draft.useable_stop m.stop b m.useable_stop
             (λ at has. h.there (UseableStop at) (said (codes "USEABLE_STOP_TIME") at has))
-            (λ at e. epoch (codes "USEABLE_STOP_TIME") at (said_by first entries sheet h (UseableStop at) e));
+            (λ at e. epoch (codes "USEABLE_STOP_TIME") at (said_by first entries draft h (UseableStop at) e));
       }),
     )

@@ -80,27 +80,27 @@ pub run_meta : (as_hermite3 : Bool) (b : Body) (entries : List Entry) (s end : M
 run_meta as_hermite3 b [] s end rest e = let same : s ≡ end = cc in ap (λ (t : MetadataDraft). run as_hermite3 (Meta b t) rest) same
 run_meta as_hermite3 b (entry ∷ entries) s end rest e =
     let step = bind_ok (with_pair b.object s entry.key entry.value) (λ next. sheet_from b.object next entries) end e in
-    ap (λ (r : Result MetadataDraft OemCause). (r >>= λ sheet. Ok (Meta b sheet)) >>= λ next. run as_hermite3 next (pair_lines entries ++ rest)) step.1
+    ap (λ (r : Result MetadataDraft OemCause). (r >>= λ draft. Ok (Meta b draft)) >>= λ next. run as_hermite3 next (pair_lines entries ++ rest)) step.1
     ∙ run_meta as_hermite3 b entries step.0 end rest step.2
 
--- a stretch with its states
-abbrev pub stretch : Metadata → List PlainNode → OpenSegment
-stretch plan states = record { plan = plan; states = states }
+-- a open_segment with its states
+abbrev pub open_segment : Metadata → List PlainNode → OpenSegment
+open_segment metadata states = record { metadata = metadata; states = states }
 
-pub run_rows : (as_hermite3 : Bool) (b : Body) (plan : Metadata) (rows : List (List ℕ)) (states more : List PlainNode) (rest : List Form) → states_from (last_state states) rows ≡ Ok more
-    → run as_hermite3 (Data b (stretch plan states)) (row_lines rows ++ rest) ≡ run as_hermite3 (Data b (stretch plan (states ++ more))) rest
-run_rows as_hermite3 b plan [] states more rest e =
+pub run_rows : (as_hermite3 : Bool) (b : Body) (metadata : Metadata) (rows : List (List ℕ)) (states more : List PlainNode) (rest : List Form) → states_from (last_state states) rows ≡ Ok more
+    → run as_hermite3 (Data b (open_segment metadata states)) (row_lines rows ++ rest) ≡ run as_hermite3 (Data b (open_segment metadata (states ++ more))) rest
+run_rows as_hermite3 b metadata [] states more rest e =
     let none : [] ≡ more = cc in
-    ap (λ (all : List PlainNode). run as_hermite3 (Data b (stretch plan all)) rest) (sym (append-nil states) ∙ ap (λ (xs : List PlainNode). states ++ xs) none)
-run_rows as_hermite3 b plan (row ∷ rows) states more rest e =
+    ap (λ (all : List PlainNode). run as_hermite3 (Data b (open_segment metadata all)) rest) (sym (append-nil states) ∙ ap (λ (xs : List PlainNode). states ++ xs) none)
+run_rows as_hermite3 b metadata (row ∷ rows) states more rest e =
     let step = bind_ok (state_of_row (last_state states) row) (λ state. states_from (Some state) rows >>= λ others. Ok (state ∷ others)) more e in
     let state = step.0 in
     let later = bind_ok (states_from (Some state) rows) (λ others. Ok (state ∷ others)) more step.2 in
     let whole : state ∷ later.0 ≡ more = cc (later.2) in
     let read : states_from (last_state (states ++ state ∷ [])) rows ≡ Ok later.0 = ap (λ (o : Option PlainNode). states_from o rows) (last_push None states state) ∙ later.1 in
-    ap (λ (r : Result PlainNode OemCause). (r >>= λ s. Ok (Data b (stretch plan (states ++ s ∷ [])))) >>= λ next. run as_hermite3 next (row_lines rows ++ rest)) step.1
-    ∙ run_rows as_hermite3 b plan rows (states ++ state ∷ []) later.0 rest read
-    ∙ ap (λ (all : List PlainNode). run as_hermite3 (Data b (stretch plan all)) rest) (append_assoc states (state ∷ []) later.0 ∙ ap (λ (xs : List PlainNode). states ++ xs) whole)
+    ap (λ (r : Result PlainNode OemCause). (r >>= λ s. Ok (Data b (open_segment metadata (states ++ s ∷ [])))) >>= λ next. run as_hermite3 next (row_lines rows ++ rest)) step.1
+    ∙ run_rows as_hermite3 b metadata rows (states ++ state ∷ []) later.0 rest read
+    ∙ ap (λ (all : List PlainNode). run as_hermite3 (Data b (open_segment metadata all)) rest) (append_assoc states (state ∷ []) later.0 ∙ ap (λ (xs : List PlainNode). states ++ xs) whole)
 
 run_covariance : (as_hermite3 : Bool) (b : Body) (s : OpenSegment) (line : Form) (m next : Covariances) (rest : List Form) → with_line m line ≡ Ok next
     → run as_hermite3 (Cov b s m) (line ∷ rest) ≡ run as_hermite3 (Cov b s next) rest

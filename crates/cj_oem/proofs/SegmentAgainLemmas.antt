@@ -14,7 +14,7 @@ use Rattle.cj_track.specs.PlainTracks.{PlainSegment, PlainMatrix, PlainTrack, Pl
 use Rattle.cj_oem.specs.Metadata.{EMPTY, Object}
 use Rattle.cj_oem.specs.Stages.{After, Body, Cov, Data, Meta, Stage, OpenSegment, close_nodes, end_of, finished, first_state, follows, is_useable, last_state, with_arc}
 use Rattle.cj_oem.proofs.CovarianceAgainLemmas.{AllRead, IsCovariance, covariance_forms, covariance_told, covariances_walk}
-use Rattle.cj_oem.proofs.MetadataAgainLemmas.{IsKnown, IsNeat, known_same, meta_forms, meta_pairs, meta_walk, metadata_told, object_of, plan}
+use Rattle.cj_oem.proofs.MetadataAgainLemmas.{IsKnown, IsNeat, known_same, meta_forms, meta_pairs, meta_walk, metadata_told, object_of, metadata}
 use Rattle.cj_oem.proofs.PrintedLineLemmas.{Tells, none, told_append, told_each, told_line}
 use Rattle.cj_oem.proofs.PrintedPairLemmas.{covariance_start, covariance_stop}
 use Rattle.cj_oem.proofs.StateAgainLemmas.{Follow, IsState, state_forms, state_told, states_walk}
@@ -63,20 +63,20 @@ pub record Rests (stage : Stage) (b : Body) : Type 0 where
   pub more : follows false stage (Mark MetaStart) ≡ Ok (Meta b EMPTY)
   pub done : finished stage ≡ Ok b
 
-abbrev stretch : Object → PlainSegment → OpenSegment
-stretch o arc = record { plan = plan o arc.first arc.last; states = arc.states }
+abbrev open_segment : Object → PlainSegment → OpenSegment
+open_segment o arc = record { metadata = metadata o arc.first arc.last; states = arc.states }
 
 abbrev pub body : Object → List PlainSegment → Body
 body o arcs = record { object = Some o; arcs = arcs }
 
-closes : (b : Body) (o : Object) (arc : PlainSegment) → IsArc arc → end_of b.arcs ≤ arc.first → close_nodes b (stretch o arc) ≡ Ok tt
+closes : (b : Body) (o : Object) (arc : PlainSegment) → IsArc arc → end_of b.arcs ≤ arc.first → close_nodes b (open_segment o arc) ≡ Ok tt
 unfolding close_nodes
 closes b o arc is later =
     let many : nat_lt (length arc.states) 2 ≡ false = le-ltb _ _ is.enough in
     let behind : nat_lt arc.first (end_of b.arcs) ≡ false = le-ltb _ _ later in
     rw (many, is.useable, behind) refl
 
-data_rests : (b : Body) (o : Object) (arc : PlainSegment) → IsArc arc → end_of b.arcs ≤ arc.first → Rests (Data b (stretch o arc)) (with_arc b (stretch o arc) [])
+data_rests : (b : Body) (o : Object) (arc : PlainSegment) → IsArc arc → end_of b.arcs ≤ arc.first → Rests (Data b (open_segment o arc)) (with_arc b (open_segment o arc) [])
 unfolding follows finished
 data_rests b o arc is later =
     let close = closes b o arc is later in
@@ -87,7 +87,7 @@ unfolding follows finished
 after_rests b = record { more = refl; done = refl }
 
 start_follows : (b : Body) (o : Object) (arc : PlainSegment) → IsArc arc → end_of b.arcs ≤ arc.first
-    → follows false (Data b (stretch o arc)) (Mark CovarianceStart) ≡ Ok (Cov b (stretch o arc) NO_COVARIANCES)
+    → follows false (Data b (open_segment o arc)) (Mark CovarianceStart) ≡ Ok (Cov b (open_segment o arc) NO_COVARIANCES)
 unfolding follows
 start_follows b o arc is later = rw (closes b o arc is later) refl
 
@@ -109,13 +109,13 @@ pub record Passes (stage : Stage) (forms : List Form) (b : Body) : Type 0 where
 -- the covariances of a segment
 covariances_pass : (b : Body) (o : Object) (first last : ℕ) (states : List PlainNode) (cs : List PlainMatrix) →
     let arc : PlainSegment = record { first = first; last = last; states = states; covariances = cs } in
-    IsArc arc → end_of b.arcs ≤ first → Passes (Data b (stretch o arc)) (covariances_forms cs) (body o (b.arcs ++ arc ∷ []))
+    IsArc arc → end_of b.arcs ≤ first → Passes (Data b (open_segment o arc)) (covariances_forms cs) (body o (b.arcs ++ arc ∷ []))
 covariances_pass b o first last states [] is later =
     let arc : PlainSegment = record { first = first; last = last; states = states; covariances = [] } in
-    record { end = Data b (stretch o arc); walked = refl; rests = data_rests b o arc is later }
+    record { end = Data b (open_segment o arc); walked = refl; rests = data_rests b o arc is later }
 covariances_pass b o first last states (c ∷ cs) is later =
     let arc : PlainSegment = record { first = first; last = last; states = states; covariances = c ∷ cs } in
-    let s = stretch o arc in
+    let s = open_segment o arc in
     let inner = flat_map covariance_forms (c ∷ cs) in
     let all = covariances_walk b s NO_COVARIANCES [] (c ∷ cs) none_closed is.covariances in
     let stop = Mark CovarianceStop ∷ [] in
@@ -136,13 +136,13 @@ segment_pass stage b o arc meta known name id is later =
     let rows = flat_map state_forms arc.states in
     let behind = covariances_forms arc.covariances in
     let metas = meta_forms o arc.first arc.last in
-    let start : Stage = Data b (record { plan = plan o arc.first arc.last; states = [] }) in
+    let start : Stage = Data b (record { metadata = metadata o arc.first arc.last; states = [] }) in
     let read_meta : walk stage metas ≡ Ok start = walk_step stage (Meta b EMPTY) (Mark MetaStart) (meta_pairs o arc.first arc.last) meta ∙ meta_walk b o arc.first arc.last known name id is.first is.last in
-    let read_rows : walk stage (metas ++ rows) ≡ Ok (Data b (stretch o arc)) =
-    walk_append stage start metas rows read_meta ∙ states_walk b (plan o arc.first arc.last) [] arc.states is.states is.steps in
+    let read_rows : walk stage (metas ++ rows) ≡ Ok (Data b (open_segment o arc)) =
+    walk_append stage start metas rows read_meta ∙ states_walk b (metadata o arc.first arc.last) [] arc.states is.states is.steps in
     record {
       end = passes.end;
-      walked = walk_append stage (Data b (stretch o arc)) (metas ++ rows) behind read_rows ∙ passes.walked;
+      walked = walk_append stage (Data b (open_segment o arc)) (metas ++ rows) behind read_rows ∙ passes.walked;
       rests = passes.rests;
     }
 

@@ -133,23 +133,23 @@ last_behind : (o : Option PlainNode) (states : List PlainNode) (s : PlainNode) �
 last_behind o [] s = refl
 last_behind o (t ∷ states) s = last_behind (Some t) states s
 
-abbrev stretch : Metadata → List PlainNode → OpenSegment
-stretch plan states = record { plan = plan; states = states }
+abbrev open_segment : Metadata → List PlainNode → OpenSegment
+open_segment metadata states = record { metadata = metadata; states = states }
 
-state_follows : (b : Body) (plan : Metadata) (front : List PlainNode) (s : PlainNode) → IsState s → following (last_state front) s ≡ Ok s
-    → follows false (Data b (stretch plan front)) (Row (row_content s)) ≡ Ok (Data b (stretch plan (front ++ s ∷ [])))
+state_follows : (b : Body) (metadata : Metadata) (front : List PlainNode) (s : PlainNode) → IsState s → following (last_state front) s ≡ Ok s
+    → follows false (Data b (open_segment metadata front)) (Row (row_content s)) ≡ Ok (Data b (open_segment metadata (front ++ s ∷ [])))
 unfolding follows
-state_follows b plan front s is follows_on = rw (row_again (last_state front) s is follows_on) refl
+state_follows b metadata front s is follows_on = rw (row_again (last_state front) s is follows_on) refl
 
-pub states_walk : (b : Body) (plan : Metadata) (front states : List PlainNode) → All IsState states → Follow (last_state front) states
-    → walk (Data b (stretch plan front)) (flat_map state_forms states) ≡ Ok (Data b (stretch plan (front ++ states)))
-states_walk b plan front [] all follow = ap (λ ss. Ok (Data b (stretch plan ss))) (sym (append-nil front))
-states_walk b plan front (s ∷ states) all follow =
+pub states_walk : (b : Body) (metadata : Metadata) (front states : List PlainNode) → All IsState states → Follow (last_state front) states
+    → walk (Data b (open_segment metadata front)) (flat_map state_forms states) ≡ Ok (Data b (open_segment metadata (front ++ states)))
+states_walk b metadata front [] all follow = ap (λ ss. Ok (Data b (open_segment metadata ss))) (sym (append-nil front))
+states_walk b metadata front (s ∷ states) all follow =
     let next = front ++ s ∷ [] in
-    walk_step (Data b (stretch plan front)) (Data b (stretch plan next)) (Row (row_content s)) (flat_map state_forms states)
-    (state_follows b plan front s (All-head IsState s states all) follow.0)
-    ∙ states_walk b plan next states (All-tail IsState s states all) (subst (λ o. Follow o states) (sym (last_behind None front s)) follow.1)
-    ∙ ap (λ ss. Ok (Data b (stretch plan ss))) (append_assoc front (s ∷ []) states)
+    walk_step (Data b (open_segment metadata front)) (Data b (open_segment metadata next)) (Row (row_content s)) (flat_map state_forms states)
+    (state_follows b metadata front s (All-head IsState s states all) follow.0)
+    ∙ states_walk b metadata next states (All-tail IsState s states all) (subst (λ o. Follow o states) (sym (last_behind None front s)) follow.1)
+    ∙ ap (λ ss. Ok (Data b (open_segment metadata ss))) (append_assoc front (s ∷ []) states)
 
 -- ---- epochs as values
 

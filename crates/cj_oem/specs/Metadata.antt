@@ -144,7 +144,7 @@ abbrev pub frame_of : Option Object → Option Frame
 frame_of None = None
 frame_of (Some object) = Some object.frame
 
--- the sheet with what a key says that was not given
+-- the draft with what a key says that was not given
 unfoldable pub with_value : Option Object → MetadataDraft → Key → List ℕ → Result MetadataDraft OemCause
 with_value first s keys.ObjectName value = parse_label (name_of first) value >>= λ name. Ok (record s { name = Some name })
 with_value first s keys.ObjectId value = parse_label (id_of first) value >>= λ id. Ok (record s { id = Some id })
@@ -159,7 +159,7 @@ with_value first s keys.UseableStopTime value = parse_epoch value >>= λ at. Ok 
 with_value first s keys.Interpolation value = Ok (record s { hermite = Some (is_word (codes "HERMITE") value) })
 with_value first s keys.InterpolationDegree value = Ok (record s { cubic = Some (is_text (codes "3") value) })
 
--- the sheet with a further pair
+-- the draft with a further pair
 abbrev pub with_key : Option Object → MetadataDraft → Option Key → List ℕ → Result MetadataDraft OemCause
 with_key first s None value = Err causes.Unknown
 with_key first s (Some key) value = if is_given key s then Err causes.Twice else with_value first s key value
@@ -182,9 +182,9 @@ needed (Some x) = Ok x
 abbrev pub is_cubic : MetadataDraft → Bool
 is_cubic s = unwrap_or s.hermite false && unwrap_or s.cubic false
 
--- what a whole sheet says; the cubic may be taken where the file declares another interpolation or none
-unfoldable pub plan_of : Bool → MetadataDraft → Result Metadata OemCause
-plan_of as_hermite3 s = do
+-- what a whole draft says; the cubic may be taken where the file declares another interpolation or none
+unfoldable pub metadata_of : Bool → MetadataDraft → Result Metadata OemCause
+metadata_of as_hermite3 s = do
   name ← needed s.name
   id ← needed s.id
   _ ← unless (not s.center) causes.Missing

@@ -1,4 +1,4 @@
--- What the sheet of a program says.
+-- What the draft of a program says.
 use Rattle.std.specs.Prelude.{◌≡◌, ◌⊎◌, ℕ, true, List, length, map}
 use Rattle.std.specs.Option.{option_map}
 use Rattle.cj_kvn.specs.Lines.{Form, Blank, Comment, Mark, Pair, Row, spaced}
@@ -31,8 +31,8 @@ metadata_draft_of s = record {
   cubic = s.cubic;
 }
 
-abbrev pub plan_of : Metadata → spec.Metadata
-plan_of plan = record { object = object_of plan.object; first = plan.first.micros; last = plan.last.micros }
+abbrev pub metadata_of : Metadata → spec.Metadata
+metadata_of metadata = record { object = object_of metadata.object; first = metadata.first.micros; last = metadata.last.micros }
 
 -- a value that is not empty is a label, once its tabs are read as spaces
 abbrev pub IsLabelled : List ℕ → Type 0

@@ -6,11 +6,11 @@ use Rattle.cj_kvn.specs.declared.lines.KvnFault.TheVariants as lines
 use Rattle.cj_oem.specs.Stages as spec
 use Rattle.cj_oem.specs.Drafts.{covariances_of}
 use Rattle.cj_oem.specs.Reading.{Fault}
-use Rattle.cj_oem.specs.MetadataDrafts.{object_of, plan_of, metadata_draft_of}
+use Rattle.cj_oem.specs.MetadataDrafts.{object_of, metadata_of, metadata_draft_of}
 use Rattle.cj_track.specs.Tracks.{plain_segment, plain_node}
 use Rattle.cj_oem.specs.declared.body.Body.{Body}
 use Rattle.cj_oem.specs.declared.body.OpenSegment.{OpenSegment}
-use Rattle.cj_oem.specs.declared.fault.KvnCause.TheVariants as kvn
+use Rattle.cj_kvn.specs.declared.lines.KvnCause.TheVariants as kvn
 use Rattle.cj_oem.specs.declared.fault.OemCause.TheVariants as causes
 use Rattle.cj_oem.specs.declared.fault.OemFault.{OemFault}
 use Rattle.cj_oem.specs.declared.fault.OemFault.TheVariants.{Memory, At}
@@ -27,14 +27,14 @@ abbrev pub body_of : Body → spec.Body
 body_of body = record { object = option_map object_of body.object; arcs = map plain_segment body.segments }
 
 abbrev pub open_segment_of : OpenSegment → spec.OpenSegment
-open_segment_of stretch = record { plan = plan_of stretch.plan; states = map plain_node stretch.nodes }
+open_segment_of open_segment = record { metadata = metadata_of open_segment.metadata; states = map plain_node open_segment.nodes }
 
 abbrev pub stage_of : Stage → spec.Stage
 stage_of stages.Start = spec.Start
 stage_of (stages.Header head) = spec.Header (head_of head)
-stage_of (stages.Meta body sheet) = spec.Meta (body_of body) (metadata_draft_of sheet)
-stage_of (stages.Data body stretch) = spec.Data (body_of body) (open_segment_of stretch)
-stage_of (stages.Cov closed covariances) = spec.Cov (body_of closed.body) (open_segment_of closed.stretch) (covariances_of covariances)
+stage_of (stages.Meta body draft) = spec.Meta (body_of body) (metadata_draft_of draft)
+stage_of (stages.Data body open_segment) = spec.Data (body_of body) (open_segment_of open_segment)
+stage_of (stages.Cov closed covariances) = spec.Cov (body_of closed.body) (open_segment_of closed.open_segment) (covariances_of covariances)
 stage_of (stages.After body) = spec.After (body_of body)
 
 -- what a reader answers is what the file says, or the fault at its line; for want of memory nothing is told

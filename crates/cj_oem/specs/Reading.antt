@@ -7,7 +7,7 @@ use Rattle.cj_kvn.specs.declared.lines.KvnFault.TheVariants as faults
 use Rattle.cj_track.specs.declared.track.Track.{Track}
 use Rattle.cj_oem.specs.declared.fault.OemCause.{OemCause}
 use Rattle.cj_oem.specs.declared.fault.OemCause.TheVariants as causes
-use Rattle.cj_oem.specs.declared.fault.KvnCause.TheVariants.{NotPrintable, NoLineForm}
+use Rattle.cj_kvn.specs.declared.lines.KvnCause.TheVariants.{NotPrintable, NoLineForm}
 use Rattle.cj_oem.specs.declared.fault.OemFault.{OemFault}
 use Rattle.cj_oem.specs.declared.fault.OemFault.TheVariants.{Memory, At}
 use Rattle.cj_track.specs.PlainTracks.{PlainTrack}

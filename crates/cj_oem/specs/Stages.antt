@@ -8,7 +8,7 @@ use Rattle.cj_oem.specs.declared.fault.OemCause.TheVariants as causes
 use Rattle.cj_oem.specs.Words.{is_text}
 use Rattle.cj_track.specs.PlainTracks.{PlainNode, PlainSegment, PlainMatrix}
 pub use Rattle.cj_track.specs.PlainTracks.{first_state, last_state}
-use Rattle.cj_oem.specs.Metadata.{◌>>=◌, unless, Object, MetadataDraft, EMPTY, Metadata, with_pair, plan_of}
+use Rattle.cj_oem.specs.Metadata.{◌>>=◌, unless, Object, MetadataDraft, EMPTY, Metadata, with_pair, metadata_of}
 use Rattle.cj_oem.specs.NodeRows.{state_of_row}
 use Rattle.cj_oem.specs.CovarianceRows.{Covariances, NO_COVARIANCES, closed, with_matrix_pair, with_matrix_row}
 
@@ -32,7 +32,7 @@ NO_BODY = record { object = None; arcs = [] }
 
 -- a segment so far: what its metadata says, and its states
 pub record OpenSegment : Type 0 where
-  pub plan : Metadata
+  pub metadata : Metadata
   pub states : List PlainNode
 
 -- where a reader stands
@@ -79,8 +79,8 @@ in_header h form = Err causes.Order
 -- ---- metadata
 
 abbrev pub in_meta : Bool → Body → MetadataDraft → Form → Result Stage OemCause
-in_meta as_hermite3 b s (Pair key value) = with_pair b.object s key value >>= λ sheet. Ok (Meta b sheet)
-in_meta as_hermite3 b s (Mark MetaStop) = plan_of as_hermite3 s >>= λ plan. Ok (Data b (record { plan = plan; states = [] }))
+in_meta as_hermite3 b s (Pair key value) = with_pair b.object s key value >>= λ draft. Ok (Meta b draft)
+in_meta as_hermite3 b s (Mark MetaStop) = metadata_of as_hermite3 s >>= λ metadata. Ok (Data b (record { metadata = metadata; states = [] }))
 in_meta as_hermite3 b s form = Err causes.Order
 
 -- ---- nodes
@@ -99,14 +99,14 @@ end_of arcs = unwrap_or (last_or None (map (λ arc. arc.last) arcs)) 0
 unfoldable pub close_nodes : Body → OpenSegment → Result (Unit {0}) OemCause
 close_nodes b s = do
   _ ← unless (nat_lt (length s.states) 2) causes.TooFewNodes
-  _ ← unless (not (is_useable s.plan.first s.plan.last (first_state s.states) (last_state s.states))) causes.UseableSpan
-  unless (nat_lt s.plan.first (end_of b.arcs)) causes.SegmentsOverlap
+  _ ← unless (not (is_useable s.metadata.first s.metadata.last (first_state s.states) (last_state s.states))) causes.UseableSpan
+  unless (nat_lt s.metadata.first (end_of b.arcs)) causes.SegmentsOverlap
 
 -- the segments with a further one
 abbrev pub with_arc : Body → OpenSegment → List PlainMatrix → Body
 with_arc b s covariances = record {
-  object = Some s.plan.object;
-  arcs = b.arcs ++ record { first = s.plan.first; last = s.plan.last; states = s.states; covariances = covariances } ∷ [];
+  object = Some s.metadata.object;
+  arcs = b.arcs ++ record { first = s.metadata.first; last = s.metadata.last; states = s.states; covariances = covariances } ∷ [];
 }
 
 abbrev pub in_data : Body → OpenSegment → Form → Result Stage OemCause

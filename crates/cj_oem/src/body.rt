@@ -1,7 +1,7 @@
 //! The segments of a file so far.
 ghost use Rattle.std.specs.Prelude.{◌≡◌, []};
 ghost use Rattle.cj_oem.specs.Readers.{body_of, open_segment_of};
-ghost use Rattle.cj_oem.specs.MetadataDrafts.{plan_of};
+ghost use Rattle.cj_oem.specs.MetadataDrafts.{metadata_of};
 ghost use Rattle.cj_oem.specs.Stages as spec;
 
 use crate::node_list::NodeList;
@@ -31,16 +31,16 @@ impl Body {
 /// A segment so far: what its metadata says, and its nodes.
 #[derive(Debug, Drop)]
 pub(crate) struct OpenSegment {
-    pub(crate) plan: Metadata,
+    pub(crate) metadata: Metadata,
     pub(crate) nodes: NodeList,
 }
 
 impl OpenSegment {
-    pub(crate) fn new(alloc: Global, plan: Metadata) -> Self
-        ensures { open_segment_of result ≡ record { plan = plan_of plan; states = [] } }
+    pub(crate) fn new(alloc: Global, metadata: Metadata) -> Self
+        ensures { open_segment_of result ≡ record { metadata = metadata_of metadata; states = [] } }
     {
         OpenSegment {
-            plan,
+            metadata,
             nodes: NodeList::new(alloc),
         }
     }

@@ -13,11 +13,11 @@ use std::alloc::AllocError;
 #[derive(Debug, Drop)]
 pub(crate) struct CompleteNodes {
     pub(crate) body: Body,
-    pub(crate) stretch: OpenSegment,
-    pub(crate) ghost enough: { 2 ≤ length stretch.nodes },
-    pub(crate) ghost some: { stretch.plan.first.micros ≤ stretch.plan.last.micros },
-    pub(crate) ghost within: { LiesWithin stretch.plan.first.micros stretch.plan.last.micros stretch.nodes },
-    pub(crate) ghost later: { spec.end_of (map plain_segment body.segments) ≤ stretch.plan.first.micros },
+    pub(crate) open_segment: OpenSegment,
+    pub(crate) ghost enough: { 2 ≤ length open_segment.nodes },
+    pub(crate) ghost some: { open_segment.metadata.first.micros ≤ open_segment.metadata.last.micros },
+    pub(crate) ghost within: { LiesWithin open_segment.metadata.first.micros open_segment.metadata.last.micros open_segment.nodes },
+    pub(crate) ghost later: { spec.end_of (map plain_segment body.segments) ≤ open_segment.metadata.first.micros },
 }
 
 impl CompleteNodes {
@@ -28,38 +28,42 @@ impl CompleteNodes {
 
     /// Closes the nodes of a segment.
     #[tactic(auto, unfolding(crate::specs::Stages::close_nodes))]
-    pub(crate) fn new(body: Body, stretch: OpenSegment) -> Result<Self, OemCause>
-        ensures exact { Tells (λ _. tt) result (spec.close_nodes (body_of body) (open_segment_of stretch)) }
+    pub(crate) fn new(body: Body, open_segment: OpenSegment) -> Result<Self, OemCause>
+        ensures exact { Tells (λ _. tt) result (spec.close_nodes (body_of body) (open_segment_of open_segment)) }
         ensures body { IfOk result (λ closed. closed.body ≡ body) }
-        ensures stretch { IfOk result (λ closed. closed.stretch ≡ stretch) }
+        ensures open_segment { IfOk result (λ closed. closed.open_segment ≡ open_segment) }
     {
-        let nodes = stretch.nodes.as_slice();
+        let nodes = open_segment.nodes.as_slice();
         if nodes.len() < 2 {
             return Err(OemCause::TooFewNodes);
         }
-        if !is_useable(stretch.plan.first, stretch.plan.last, nodes) {
+        if !is_useable(
+            open_segment.metadata.first,
+            open_segment.metadata.last,
+            nodes,
+        ) {
             return Err(OemCause::UseableSpan);
         }
-        if stretch.plan.first.micros < body.segments.end() {
+        if open_segment.metadata.first.micros < body.segments.end() {
             return Err(OemCause::SegmentsOverlap);
         }
-        Ok(CompleteNodes { body, stretch })
+        Ok(CompleteNodes { body, open_segment })
     }
 
     /// The segments with this one, which has these covariances.
     pub(crate) fn with(self, covariances: Vec<Matrix>) -> Result<Body, AllocError>
-        ensures { IfOk result (λ body. body_of body ≡ spec.with_arc (body_of self.body) (open_segment_of self.stretch) (map plain_matrix covariances.items)) }
+        ensures { IfOk result (λ body. body_of body ≡ spec.with_arc (body_of self.body) (open_segment_of self.open_segment) (map plain_matrix covariances.items)) }
     {
-        let CompleteNodes { body, stretch } = self;
+        let CompleteNodes { body, open_segment } = self;
         let mut segments = body.segments;
         segments.push(Segment {
-            first: stretch.plan.first,
-            last: stretch.plan.last,
-            nodes: stretch.nodes.into_nodes(),
+            first: open_segment.metadata.first,
+            last: open_segment.metadata.last,
+            nodes: open_segment.nodes.into_nodes(),
             matrices: Matrices::new(covariances),
         })?;
         Ok(Body {
-            object: Some(stretch.plan.object),
+            object: Some(open_segment.metadata.object),
             segments,
         })
     }

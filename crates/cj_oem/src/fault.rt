@@ -3,7 +3,7 @@ ghost use Rattle.std.specs.Prelude.{◌≡◌};
 ghost use Rattle.cj_oem.specs.declared.fault.OemFault.TheVariants.{Memory};
 
 use cj_epoch::EpochFault;
-use cj_kvn::KvnFault;
+use cj_kvn::{KvnCause, KvnFault};
 use std::alloc::AllocError;
 
 /// Why an ephemeris is not read.
@@ -94,13 +94,4 @@ pub enum OemCause {
     SegmentsOverlap,
     /// A matrix does not have its six rows of 1 to 6 fields, or its frame stands elsewhere or twice.
     MatrixForm,
-}
-
-/// Why a line is none of key-value notation.
-#[derive(Clone, Copy, Debug, PartialEq, Eq)]
-pub enum KvnCause {
-    /// It has a byte that may stand in comments alone.
-    NotPrintable,
-    /// Its key is not one or more of A to Z, 0 to 9 and `_`.
-    NoLineForm,
 }

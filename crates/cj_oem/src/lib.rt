@@ -24,7 +24,7 @@ mod values;
 mod word;
 
 pub use cj_track::{Frame, Matrices, Matrix, Node, Nodes, Segment, Segments, Track, Vec3};
-pub use fault::{KvnCause, OemCause, OemFault};
+pub use fault::{OemCause, OemFault};
 pub use printing::oem_text;
 pub use reader::read_oem;
 

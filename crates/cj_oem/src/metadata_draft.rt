@@ -41,7 +41,7 @@ impl MetadataDraft {
     ghost use Rattle.std.specs.Option.{option_copied, option_map};
     ghost use Rattle.cj_oem.specs.Answers.{Gives, Tells};
     ghost use Rattle.cj_oem.specs.Metadata as spec;
-    ghost use Rattle.cj_oem.specs.MetadataDrafts.{IsLabelled, object_of, plan_of, metadata_draft_of};
+    ghost use Rattle.cj_oem.specs.MetadataDrafts.{IsLabelled, object_of, metadata_of, metadata_draft_of};
 
     /// No key was given.
     pub(crate) fn new() -> Self
@@ -156,10 +156,10 @@ impl MetadataDraft {
         Ok(())
     }
 
-    /// What a whole sheet says. The cubic may be taken where the file declares another interpolation or none.
-    #[tactic(auto, unfolding(crate::specs::Metadata::plan_of))]
-    pub(crate) fn plan(self, as_hermite3: bool) -> Result<Metadata, OemCause>
-        ensures { Tells plan_of result (spec.plan_of as_hermite3 (metadata_draft_of self)) }
+    /// What a whole draft says. The cubic may be taken where the file declares another interpolation or none.
+    #[tactic(auto, unfolding(crate::specs::Metadata::metadata_of))]
+    pub(crate) fn metadata(self, as_hermite3: bool) -> Result<Metadata, OemCause>
+        ensures { Tells metadata_of result (spec.metadata_of as_hermite3 (metadata_draft_of self)) }
     {
         let is_cubic = self.is_cubic();
         let name = self.name.ok_or(OemCause::Missing)?;

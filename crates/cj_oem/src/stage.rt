@@ -66,9 +66,9 @@ impl Stage {
         ensures { (as_hermite3 : Bool) → Gives (λ _. stage_of self.new) result (spec.led as_hermite3 (stage_of self.old) (Row (text_at bytes.now text))) }
     {
         match self {
-            Stage::Data(_, stretch) => {
-                let node = node_of_row(bytes, text, stretch.nodes.last())?;
-                stretch.nodes.push(node)?;
+            Stage::Data(_, open_segment) => {
+                let node = node_of_row(bytes, text, open_segment.nodes.last())?;
+                open_segment.nodes.push(node)?;
                 Ok(())
             }
             Stage::Cov(_, covariances) => {
@@ -94,7 +94,7 @@ impl Stage {
                 *head = head.with(key)?;
                 Ok(())
             }
-            Stage::Meta(body, sheet) => sheet.take_pair(alloc, body.object.as_ref(), key, value),
+            Stage::Meta(body, draft) => draft.take_pair(alloc, body.object.as_ref(), key, value),
             Stage::Cov(_, covariances) => covariances.pair(key, value),
             _ => Err(Refused::Because(OemCause::Order)),
         }
@@ -109,16 +109,16 @@ impl Stage {
                 Ok(Stage::Meta(Body::new(alloc), MetadataDraft::new()))
             }
             (Stage::Header(_), MarkKind::MetaStart) => Err(Refused::Because(OemCause::Missing)),
-            (Stage::Meta(body, sheet), MarkKind::MetaStop) => {
-                let stretch = OpenSegment::new(alloc, sheet.plan(as_hermite3)?);
-                Ok(Stage::Data(body, stretch))
+            (Stage::Meta(body, draft), MarkKind::MetaStop) => {
+                let open_segment = OpenSegment::new(alloc, draft.metadata(as_hermite3)?);
+                Ok(Stage::Data(body, open_segment))
             }
-            (Stage::Data(body, stretch), MarkKind::MetaStart) => {
-                let body = CompleteNodes::new(body, stretch)?.with(Vec::new(alloc))?;
+            (Stage::Data(body, open_segment), MarkKind::MetaStart) => {
+                let body = CompleteNodes::new(body, open_segment)?.with(Vec::new(alloc))?;
                 Ok(Stage::Meta(body, MetadataDraft::new()))
             }
-            (Stage::Data(body, stretch), MarkKind::CovarianceStart) => {
-                let closed = CompleteNodes::new(body, stretch)?;
+            (Stage::Data(body, open_segment), MarkKind::CovarianceStart) => {
+                let closed = CompleteNodes::new(body, open_segment)?;
                 Ok(Stage::Cov(closed, Covariances::new(alloc)))
             }
             (Stage::Cov(closed, covariances), MarkKind::CovarianceStop) => {
@@ -138,8 +138,8 @@ impl Stage {
         ensures { Gives body_of result (spec.finished (stage_of self)) }
     {
         match self {
-            Stage::Data(body, stretch) => {
-                Ok(CompleteNodes::new(body, stretch)?.with(Vec::new(alloc))?)
+            Stage::Data(body, open_segment) => {
+                Ok(CompleteNodes::new(body, open_segment)?.with(Vec::new(alloc))?)
             }
             Stage::After(body) => Ok(body),
             _ => Err(Refused::Because(OemCause::Missing)),

@@ -6,7 +6,7 @@ use Rattle.std.specs.Cmp.Lexicographic.{slice_cmp}
 use Rattle.std.specs.Ordering.{nat_cmp}
 use Rattle.cj_kvn.specs.declared.lines.KvnFault.{KvnFault}
 use Rattle.cj_kvn.specs.declared.lines.KvnFault.TheVariants as lines
-use Rattle.cj_sizes.specs.declared.fault.KvnCause.TheVariants as kvn
+use Rattle.cj_kvn.specs.declared.lines.KvnCause.TheVariants as kvn
 use Rattle.cj_sizes.specs.declared.fault.SizesCause.{SizesCause}
 use Rattle.cj_sizes.specs.declared.fault.SizesCause.TheVariants as causes
 use Rattle.cj_sizes.specs.declared.fault.SizesFault.{SizesFault}

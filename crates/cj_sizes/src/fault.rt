@@ -2,7 +2,7 @@
 ghost use Rattle.std.specs.Prelude.{◌≡◌};
 ghost use Rattle.cj_sizes.specs.declared.fault.SizesFault.TheVariants.{Memory};
 
-use cj_kvn::KvnFault;
+use cj_kvn::{KvnCause, KvnFault};
 use std::alloc::AllocError;
 
 /// Why a file of sizes is not read.
@@ -55,13 +55,4 @@ pub enum SizesCause {
     Range,
     /// A radius was given for this designator before.
     Twice,
-}
-
-/// Why a line is none of key-value notation.
-#[derive(Clone, Copy, Debug, PartialEq, Eq)]
-pub enum KvnCause {
-    /// It has a byte that may stand in comments alone.
-    NotPrintable,
-    /// Its key is not one or more of A to Z, 0 to 9 and `_`.
-    NoLineForm,
 }

@@ -1,4 +1,5 @@
-use crate::{KvnCause, SizesCause, SizesFault, radii_of, radius_of, read_sizes};
+use crate::{SizesCause, SizesFault, radii_of, radius_of, read_sizes};
+use cj_kvn::KvnCause;
 use std::test::Fail;
 
 #[test]

@@ -1,8 +1,12 @@
+ghost use Rattle.std.specs.Prelude.{◌<◌};
+
 use super::texts::{
-    Fault, base_with, counts_of, fault_in, fault_with, matrix_tick, read, two_with, value_of,
+    Change, Changed, Fault, Valued, base_with, counts_of, fault_in, has_values, matrix_tick, read,
+    two_with, wrong_with,
 };
-use crate::{KvnCause, OemCause, OemFault};
+use crate::{OemCause, OemFault};
 use cj_epoch::EpochFault;
+use cj_kvn::KvnCause;
 use std::alloc::{AllocError, Global};
 use std::test::Fail;
 
@@ -61,35 +65,56 @@ const KEPT: [(&[&[u8]], usize); 9] = [
     ),
 ];
 
+/// The first case in which the file does not keep so many matrices.
+fn first_miscounted(alloc: Global, cases: &[(&[&[u8]], usize)]) -> Result<Option<usize>, OemFault> {
+    for (i, (parts, count)) in cases.iter().enumerate() {
+        let text = with_covariances(alloc, parts)?;
+        let track = read(alloc, &text, false)?;
+        if counts_of(&track, 0) != Some((2, *count)) {
+            return Ok(Some(i));
+        }
+    }
+    Ok(None)
+}
+
 #[test]
 fn a_matrix_is_kept_in_the_frame_rtn_alone(rt: HostRuntime) -> Result<(), Fail> {
-    for (parts, count) in KEPT {
-        let text = with_covariances(rt.alloc(), parts)?;
-        let track = read(rt.alloc(), &text, false)?;
-        assert_eq!(rt; counts_of(&track, 0), Some((2, count)));
-    }
+    assert_eq!(rt; first_miscounted(rt.alloc(), KEPT.as_slice())?, None);
     Ok(())
+}
+
+const SIX: [Valued; 7] = [
+    (0, false, 25, -2),
+    (1, false, 0, 0),
+    (2, false, 1, 0),
+    (5, false, 1, 0),
+    (9, false, 1, 0),
+    (14, false, 1, 0),
+    (20, true, 3, -4),
+];
+
+#[test]
+fn the_values_of_a_matrix_are_read(rt: HostRuntime) -> Result<(), Fail> {
+    let text = with_covariances(rt.alloc(), &[EPOCH, RTN, SIX_ROWS, STOP])?;
+    let track = read(rt.alloc(), &text, false)?;
+    assert_eq!(rt; matrix_tick(&track, 0, 0), Some(1_735_689_600_000_000));
+    assert!(rt; has_values(&track, 0, SIX.as_slice()));
+    Ok(())
+}
+
+/// The value at an index of the matrix of odd numbers.
+fn odd_at(index: usize) -> Valued
+    requires { index < 21 }
+{
+    (index, false, 2 * index as u64 + 1, 0)
 }
 
 #[test]
 fn the_values_of_a_matrix_stand_row_by_row(rt: HostRuntime) -> Result<(), Fail> {
-    let text = with_covariances(rt.alloc(), &[EPOCH, RTN, SIX_ROWS, STOP])?;
-    let track = read(rt.alloc(), &text, false)?;
-    assert_eq!(rt; matrix_tick(&track, 0, 0), Some(1_735_689_600_000_000));
-    assert_eq!(rt; value_of(&track, 0, 0, 0), Some((false, 25, -2)));
-    assert_eq!(rt; value_of(&track, 0, 0, 1), Some((false, 0, 0)));
-    for diagonal in [2, 5, 9, 14] {
-        assert_eq!(rt; value_of(&track, 0, 0, diagonal), Some((false, 1, 0)));
-    }
-    assert_eq!(rt; value_of(&track, 0, 0, 20), Some((true, 3, -4)));
     let text = with_covariances(rt.alloc(), &[EPOCH, RTN, ODD_NUMBERS, STOP])?;
     let track = read(rt.alloc(), &text, false)?;
-    for index in 0..21u32 {
-        let odd = u64::from(2 * index + 1);
-        assert_eq!(rt;
-            value_of(&track, 0, 0, index as usize),
-            Some((false, odd, 0))
-        );
+    for index in 0..21 {
+        assert!(rt; has_values(&track, 0, &[odd_at(index)]));
     }
     Ok(())
 }
@@ -206,31 +231,37 @@ fn only_a_further_segment_follows_covariances(rt: HostRuntime) -> Result<(), Fai
     Ok(())
 }
 
+/// The last node of the first segment, and a covariance.
+const ONE_MATRIX: Change = (
+    16,
+    b"2025-01-01T00:01:00 7000 225 0 0 7.5 0
+COVARIANCE_START
+EPOCH = 2025-01-01T00:00:00
+COV_REF_FRAME = RTN
+0.25
+0 1
+0 0 1
+0 0 0 1
+0 0 0 0 1
+0 0 0 0 0 1
+COVARIANCE_STOP",
+);
+
 #[test]
 fn covariances_belong_to_their_segment(rt: HostRuntime) -> Result<(), Fail> {
-    let mut lines = Vec::from_slice(
-        rt.alloc(),
-        b"2025-01-01T00:01:00 7000 225 0 0 7.5 0\nCOVARIANCE_START\n",
-    )?;
-    lines.extend_from_slice(EPOCH)?;
-    lines.extend_from_slice(RTN)?;
-    lines.extend_from_slice(SIX_ROWS)?;
-    lines.extend_from_slice(STOP)?;
-    let text = two_with(rt.alloc(), &[(16, &lines)])?;
+    let text = two_with(rt.alloc(), &[ONE_MATRIX])?;
     let track = read(rt.alloc(), &text, false)?;
     assert_eq!(rt; counts_of(&track, 0), Some((2, 1)));
     assert_eq!(rt; counts_of(&track, 1), Some((2, 0)));
     Ok(())
 }
 
-#[test]
-fn covariances_close_the_nodes(rt: HostRuntime) -> Result<(), Fail> {
-    assert_eq!(rt;
-        fault_with(rt.alloc(), 16, b"COVARIANCE_START")?,
-        Some((16, OemCause::TooFewNodes))
-    );
-    let text = base_with(
-        rt.alloc(),
+const CLOSING: [Changed<'static>; 2] = [
+    (
+        &[(16, b"COVARIANCE_START")],
+        Some((16, OemCause::TooFewNodes)),
+    ),
+    (
         &[
             (11, b"STOP_TIME = 2025-01-01T00:01:01"),
             (
@@ -238,10 +269,12 @@ fn covariances_close_the_nodes(rt: HostRuntime) -> Result<(), Fail> {
                 b"2025-01-01T00:01:00 7000 225 0 0 7.5 0\nCOVARIANCE_START",
             ),
         ],
-    )?;
-    assert_eq!(rt;
-        fault_in(rt.alloc(), &text)?,
-        Some((17, OemCause::UseableSpan))
-    );
+        Some((17, OemCause::UseableSpan)),
+    ),
+];
+
+#[test]
+fn covariances_close_the_nodes(rt: HostRuntime) -> Result<(), Fail> {
+    assert_eq!(rt; wrong_with(rt.alloc(), CLOSING.as_slice())?, None);
     Ok(())
 }

@@ -1,66 +1,62 @@
 use super::texts::{
-    base_with, counts_of, fault_in, fault_of, fault_with, matrix_tick, node_of, read, span_of,
-    value_of,
+    Change, Changed, Fault, Span, Stated, base_with, begins_with, counts_of, fault_in, fault_of,
+    has_spans, has_values, is_of, matrix_tick, read, wrong_with,
 };
-use crate::{Frame, KvnCause, OemCause, read_oem};
+use crate::{Frame, OemCause, OemFault, read_oem};
+use cj_kvn::KvnCause;
+use std::alloc::Global;
 use std::test::Fail;
+
+const BASE_SPANS: [Span; 1] = [(1_735_689_600_000_000, 1_735_689_660_000_000)];
+
+const BASE_NODES: [Stated; 2] = [
+    (
+        1_735_689_600_000_000,
+        [
+            7_000_000_000_000_000,
+            -225_000_000_000_000,
+            0,
+            0,
+            7_500_000_000_000,
+            0,
+        ],
+    ),
+    (
+        1_735_689_660_000_000,
+        [
+            7_000_000_000_000_000,
+            225_000_000_000_000,
+            0,
+            0,
+            7_500_000_000_000,
+            0,
+        ],
+    ),
+];
 
 #[test]
 fn the_base_file_is_read(rt: HostRuntime) -> Result<(), Fail> {
     let text = base_with(rt.alloc(), &[])?;
     let track = read(rt.alloc(), &text, false)?;
     assert_eq!(rt; track.file.as_slice(), b"a.oem".as_slice());
-    assert_eq!(rt; track.name.as_slice(), b"SAT A".as_slice());
-    assert_eq!(rt; track.id.as_slice(), b"2025-001A".as_slice());
-    assert_eq!(rt; track.frame, Frame::Eme2000);
-    assert_eq!(rt;
-        span_of(&track, 0),
-        Some((1_735_689_600_000_000, 1_735_689_660_000_000))
-    );
-    assert_eq!(rt; span_of(&track, 1), None);
+    assert!(rt; is_of(&track, b"SAT A", b"2025-001A", Frame::Eme2000));
+    assert!(rt; has_spans(&track, BASE_SPANS.as_slice()));
+    assert_eq!(rt; counts_of(&track, 0), Some((2, 0)));
+    assert!(rt; begins_with(&track, 0, BASE_NODES.as_slice()));
     Ok(())
 }
 
-#[test]
-fn the_nodes_of_the_base_file_are_read(rt: HostRuntime) -> Result<(), Fail> {
-    let text = base_with(rt.alloc(), &[])?;
-    let track = read(rt.alloc(), &text, false)?;
-    let from = [
-        7_000_000_000_000_000,
-        -225_000_000_000_000,
-        0,
-        0,
-        7_500_000_000_000,
-        0,
-    ];
-    let to = [
-        7_000_000_000_000_000,
-        225_000_000_000_000,
-        0,
-        0,
-        7_500_000_000_000,
-        0,
-    ];
-    assert_eq!(rt; counts_of(&track, 0), Some((2, 0)));
-    assert_eq!(rt; node_of(&track, 0, 0), Some((1_735_689_600_000_000, from)));
-    assert_eq!(rt; node_of(&track, 0, 1), Some((1_735_689_660_000_000, to)));
-    Ok(())
-}
+const OTHER_TEXTS: [Change; 3] = [
+    (5, b"OBJECT_NAME = \tA =\tB  C \t"),
+    (6, b"OBJECT_ID=x"),
+    (8, b"REF_FRAME = Gcrf"),
+];
 
 #[test]
 fn texts_and_frames_are_as_the_file_gives_them(rt: HostRuntime) -> Result<(), Fail> {
-    let text = base_with(
-        rt.alloc(),
-        &[
-            (5, b"OBJECT_NAME = \tA =\tB  C \t"),
-            (6, b"OBJECT_ID=x"),
-            (8, b"REF_FRAME = Gcrf"),
-        ],
-    )?;
+    let text = base_with(rt.alloc(), OTHER_TEXTS.as_slice())?;
     let track = read(rt.alloc(), &text, false)?;
-    assert_eq!(rt; track.name.as_slice(), b"A = B  C".as_slice());
-    assert_eq!(rt; track.id.as_slice(), b"x".as_slice());
-    assert_eq!(rt; track.frame, Frame::Gcrf);
+    assert!(rt; is_of(&track, b"A = B  C", b"x", Frame::Gcrf));
     Ok(())
 }
 
@@ -99,57 +95,52 @@ COV_REF_FRAME = RTN\r
 COVARIANCE_STOP\r
 ";
 
+const USUAL_SPANS: [Span; 1] = [(1_735_689_630_000_000, 1_735_689_720_000_000)];
+
+const USUAL_NODES: [Stated; 3] = [
+    (
+        1_735_689_600_000_000,
+        [7_000_000_000_000_000, 0, 0, 0, 7_500_000_000_000, 0],
+    ),
+    (
+        1_735_689_660_000_000,
+        [
+            6_985_800_000_000_000,
+            449_700_000_000_000,
+            0,
+            -480_000_000_000,
+            7_480_000_000_000,
+            0,
+        ],
+    ),
+    (
+        1_735_689_720_000_000,
+        [
+            6_943_200_000_000_000,
+            897_500_000_000_000,
+            0,
+            -960_000_000_000,
+            7_440_000_000_000,
+            0,
+        ],
+    ),
+];
+
 #[test]
 fn a_file_of_a_usual_tool_is_read(rt: HostRuntime) -> Result<(), Fail> {
     let track = read(rt.alloc(), USUAL, false)?;
-    assert_eq!(rt; track.name.as_slice(), b"DEMO SAT".as_slice());
-    assert_eq!(rt; track.id.as_slice(), b"2025-007B".as_slice());
-    assert_eq!(rt; track.frame, Frame::Eme2000);
-    assert_eq!(rt;
-        span_of(&track, 0),
-        Some((1_735_689_630_000_000, 1_735_689_720_000_000))
-    );
-    assert_eq!(rt; span_of(&track, 1), None);
+    assert!(rt; is_of(&track, b"DEMO SAT", b"2025-007B", Frame::Eme2000));
+    assert!(rt; has_spans(&track, USUAL_SPANS.as_slice()));
     assert_eq!(rt; counts_of(&track, 0), Some((3, 1)));
-    Ok(())
-}
-
-#[test]
-fn the_nodes_of_a_usual_tool_are_read(rt: HostRuntime) -> Result<(), Fail> {
-    let track = read(rt.alloc(), USUAL, false)?;
-    let first = [7_000_000_000_000_000, 0, 0, 0, 7_500_000_000_000, 0];
-    let second = [
-        6_985_800_000_000_000,
-        449_700_000_000_000,
-        0,
-        -480_000_000_000,
-        7_480_000_000_000,
-        0,
-    ];
-    let third = [
-        6_943_200_000_000_000,
-        897_500_000_000_000,
-        0,
-        -960_000_000_000,
-        7_440_000_000_000,
-        0,
-    ];
-    assert_eq!(rt; node_of(&track, 0, 0), Some((1_735_689_600_000_000, first)));
-    assert_eq!(rt;
-        node_of(&track, 0, 1),
-        Some((1_735_689_660_000_000, second))
-    );
-    assert_eq!(rt; node_of(&track, 0, 2), Some((1_735_689_720_000_000, third)));
-    Ok(())
-}
-
-#[test]
-fn the_covariance_of_a_usual_tool_is_read(rt: HostRuntime) -> Result<(), Fail> {
-    let track = read(rt.alloc(), USUAL, false)?;
+    assert!(rt; begins_with(&track, 0, USUAL_NODES.as_slice()));
     assert_eq!(rt; matrix_tick(&track, 0, 0), Some(1_735_689_600_000_000));
-    assert_eq!(rt; value_of(&track, 0, 0, 0), Some((false, 1, -4)));
-    assert_eq!(rt; value_of(&track, 0, 0, 1), Some((false, 0, 0)));
-    assert_eq!(rt; value_of(&track, 0, 0, 20), Some((false, 1, -10)));
+    assert!(rt;
+        has_values(
+            &track,
+            0,
+            &[(0, false, 1, -4), (1, false, 0, 0), (20, false, 1, -10)]
+        )
+    );
     Ok(())
 }
 
@@ -166,87 +157,99 @@ fn of_all_beginnings_of_a_file_only_its_whole_text_is_accepted(
     Ok(())
 }
 
+/// How many bytes are left of the file with one segment, and its fault.
+const CUTS: [(usize, Fault); 5] = [
+    (0, (1, OemCause::Missing)),
+    // The header's first line alone, and the header with the first line of the metadata.
+    (21, (2, OemCause::Missing)),
+    (86, (5, OemCause::Missing)),
+    // All but the last line, and all but the last fields of it.
+    (350, (16, OemCause::TooFewNodes)),
+    (377, (16, OemCause::Fields)),
+];
+
 #[test]
 fn a_file_that_is_cut_has_its_fault_at_the_cut(rt: HostRuntime) -> Result<(), Fail> {
-    assert_eq!(rt; fault_in(rt.alloc(), b"")?, Some((1, OemCause::Missing)));
-    assert_eq!(rt;
-        fault_in(rt.alloc(), b"CCSDS_OEM_VERS = 2.0\n")?,
-        Some((2, OemCause::Missing))
-    );
     let text = base_with(rt.alloc(), &[])?;
-    // META_START is the fourth line, and META_STOP the fourteenth
-    assert_eq!(rt;
-        fault_in(
-            rt.alloc(),
-            b"CCSDS_OEM_VERS = 2.0\nCREATION_DATE = A\nORIGINATOR = B\nMETA_START"
-        )?,
-        Some((5, OemCause::Missing))
-    );
-    // 12 bytes are `5 0 0 7.5 0` and the line feed, 39 the last line
-    if text.len() > 100 {
-        let cut = &text[..text.len() - 12];
-        assert_eq!(rt; fault_in(rt.alloc(), cut)?, Some((16, OemCause::Fields)));
-        let cut = &text[..text.len() - 39];
-        assert_eq!(rt;
-            fault_in(rt.alloc(), cut)?,
-            Some((16, OemCause::TooFewNodes))
-        );
+    for (len, fault) in &CUTS {
+        let front = text.get(..*len).unwrap_or(&text);
+        assert_eq!(rt; fault_in(rt.alloc(), front)?, Some(*fault));
     }
     Ok(())
 }
 
+const FORMS: [Changed<'static>; 5] = [
+    // The form of all lines is judged before what they say.
+    (
+        &[(1, b"CCSDS_OEM_VERS = 9.9"), (16, b"a\x7f")],
+        Some((16, OemCause::Kvn(KvnCause::NotPrintable))),
+    ),
+    (
+        &[(1, b"CCSDS_OEM_VERS = 9.9"), (16, b"a = b")],
+        Some((16, OemCause::Kvn(KvnCause::NoLineForm))),
+    ),
+    (
+        &[(2, b"CREATION_DATE = A\r\r"), (16, b"a = b")],
+        Some((2, OemCause::Kvn(KvnCause::NotPrintable))),
+    ),
+    // The useable span is judged by the last of all nodes.
+    (
+        &[(16, b"2025-01-01T00:00:30 7000 0 0 0 7.5 0")],
+        Some((17, OemCause::UseableSpan)),
+    ),
+    (
+        &[(
+            16,
+            b"2025-01-01T00:00:30 7000 0 0 0 7.5 0\n2025-01-01T00:01:00 7000 225 0 0 7.5 0",
+        )],
+        None,
+    ),
+];
+
 #[test]
-fn the_last_of_three_nodes_is_missed_by_the_useable_span(rt: HostRuntime) -> Result<(), Fail> {
-    let middle = b"2025-01-01T00:00:30 7000 0 0 0 7.5 0";
-    assert_eq!(rt;
-        fault_with(rt.alloc(), 16, middle)?,
-        Some((17, OemCause::UseableSpan))
-    );
-    let three = b"2025-01-01T00:00:30 7000 0 0 0 7.5 0\n2025-01-01T00:01:00 7000 225 0 0 7.5 0";
-    assert_eq!(rt; fault_with(rt.alloc(), 16, three)?, None);
+fn lines_are_judged_in_two_passes(rt: HostRuntime) -> Result<(), Fail> {
+    assert_eq!(rt; wrong_with(rt.alloc(), FORMS.as_slice())?, None);
     Ok(())
 }
 
-#[test]
-fn the_form_of_all_lines_is_judged_before_what_they_say(rt: HostRuntime) -> Result<(), Fail> {
-    let text = base_with(rt.alloc(), &[(1, b"CCSDS_OEM_VERS = 9.9"), (16, b"a\x7f")])?;
-    assert_eq!(rt;
-        fault_in(rt.alloc(), &text)?,
-        Some((16, OemCause::Kvn(KvnCause::NotPrintable)))
-    );
-    let text = base_with(rt.alloc(), &[(1, b"CCSDS_OEM_VERS = 9.9"), (16, b"a = b")])?;
-    assert_eq!(rt;
-        fault_in(rt.alloc(), &text)?,
-        Some((16, OemCause::Kvn(KvnCause::NoLineForm)))
-    );
-    let text = base_with(rt.alloc(), &[(2, b"CREATION_DATE = A\r\r"), (16, b"a = b")])?;
-    assert_eq!(rt;
-        fault_in(rt.alloc(), &text)?,
-        Some((2, OemCause::Kvn(KvnCause::NotPrintable)))
-    );
-    Ok(())
-}
-
-#[test]
-fn a_name_has_one_to_two_hundred_printable_bytes(rt: HostRuntime) -> Result<(), Fail> {
-    let text = base_with(rt.alloc(), &[])?;
+/// The fault of a short file of this name.
+fn fault_named(alloc: Global, name: &[u8], text: &[u8]) -> Result<Option<Fault>, OemFault> {
     if text.len() > 100_000 {
-        return Ok(());
+        return Err(OemFault::Memory);
     }
-    let bad = Some((0, OemCause::Name));
-    let long = [b'~'; 201];
-    let cases: [(&[u8], Option<(u32, OemCause)>); 7] = [
-        (b"", bad),
-        (b" ", None),
-        (b"a\x1f", bad),
-        (b"a\x7f", bad),
-        (b"a\tb", bad),
-        (&long, bad),
-        (&long[..200], None),
-    ];
-    for (name, fault) in cases {
-        assert_eq!(rt; fault_of(read_oem(rt.alloc(), name, &text, false))?, fault);
+    fault_of(read_oem(alloc, name, text, false))
+}
+
+const BAD_NAME: Option<Fault> = Some((0, OemCause::Name));
+
+const NAMES: [(&[u8], Option<Fault>); 5] = [
+    (b"", BAD_NAME),
+    (b" ", None),
+    (b"a\x1f", BAD_NAME),
+    (b"a\x7f", BAD_NAME),
+    (b"a\tb", BAD_NAME),
+];
+
+#[test]
+fn a_name_has_printable_bytes(rt: HostRuntime) -> Result<(), Fail> {
+    let text = base_with(rt.alloc(), &[])?;
+    for (name, fault) in &NAMES {
+        assert_eq!(rt; fault_named(rt.alloc(), name, &text)?, *fault);
     }
-    assert_eq!(rt; fault_of(read_oem(rt.alloc(), b"", b"a = b", false))?, bad);
+    // Whatever the file says.
+    assert_eq!(rt; fault_named(rt.alloc(), b"", b"a = b")?, BAD_NAME);
+    Ok(())
+}
+
+#[test]
+fn a_name_has_two_hundred_bytes_at_most(rt: HostRuntime) -> Result<(), Fail> {
+    let text = base_with(rt.alloc(), &[])?;
+    let mut name = Vec::new(rt.alloc());
+    for _ in 0..200 {
+        name.push(b'~')?;
+    }
+    assert_eq!(rt; fault_named(rt.alloc(), &name, &text)?, None);
+    name.push(b'~')?;
+    assert_eq!(rt; fault_named(rt.alloc(), &name, &text)?, BAD_NAME);
     Ok(())
 }

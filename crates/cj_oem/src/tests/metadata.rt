@@ -1,9 +1,11 @@
-use super::texts::{PlainProblem, base_with, fault_in, fault_of, fault_with, read, wrong_in_base};
-use crate::{KvnCause, OemCause};
+use super::texts::{Case, Change, Changed, base_with, fault_of, read, wrong_in_base, wrong_with};
+use crate::{OemCause, OemFault};
 use cj_epoch::EpochFault;
+use cj_kvn::KvnCause;
+use std::alloc::Global;
 use std::test::Fail;
 
-const HEADERS: [PlainProblem<'static>; 22] = [
+const HEADERS: [Case<'static>; 22] = [
     (1, b"CCSDS_OEM_VERS = 1.0", None),
     (1, b"CCSDS_OEM_VERS = 3.0", None),
     (1, b"CCSDS_OEM_VERS = 4.0", Some((1, OemCause::Version))),
@@ -62,7 +64,7 @@ fn the_header_takes_its_keys_once(rt: HostRuntime) -> Result<(), Fail> {
     Ok(())
 }
 
-const VALUES: [PlainProblem<'static>; 24] = [
+const VALUES: [Case<'static>; 24] = [
     (5, b"OBJECT_NAME =", Some((5, OemCause::Missing))),
     (6, b"OBJECT_ID = \t", Some((6, OemCause::Missing))),
     (6, b"OBJECT = 2025-001A", Some((6, OemCause::Unknown))),
@@ -123,99 +125,136 @@ fn each_value_of_metadata_is_judged_at_its_line(rt: HostRuntime) -> Result<(), F
     Ok(())
 }
 
-const TWICE: [(usize, &[u8]); 12] = [
-    (5, b"OBJECT_NAME = SAT A\nOBJECT_NAME = SAT A"),
-    (6, b"OBJECT_ID = 2025-001A\nOBJECT_ID = 2025-001A"),
-    (7, b"CENTER_NAME = EARTH\nCENTER_NAME = EARTH"),
-    (8, b"REF_FRAME = EME2000\nREF_FRAME = EME2000"),
-    (8, b"REF_FRAME_EPOCH = A\nREF_FRAME_EPOCH = A"),
-    (9, b"TIME_SYSTEM = UTC\nTIME_SYSTEM = UTC"),
+const TWICE: [Case<'static>; 14] = [
+    (
+        5,
+        b"OBJECT_NAME = SAT A\nOBJECT_NAME = SAT A",
+        Some((6, OemCause::Twice)),
+    ),
+    (
+        6,
+        b"OBJECT_ID = 2025-001A\nOBJECT_ID = 2025-001A",
+        Some((7, OemCause::Twice)),
+    ),
+    (
+        7,
+        b"CENTER_NAME = EARTH\nCENTER_NAME = EARTH",
+        Some((8, OemCause::Twice)),
+    ),
+    (
+        8,
+        b"REF_FRAME = EME2000\nREF_FRAME = EME2000",
+        Some((9, OemCause::Twice)),
+    ),
+    (
+        8,
+        b"REF_FRAME_EPOCH = A\nREF_FRAME_EPOCH = A",
+        Some((9, OemCause::Twice)),
+    ),
+    (
+        9,
+        b"TIME_SYSTEM = UTC\nTIME_SYSTEM = UTC",
+        Some((10, OemCause::Twice)),
+    ),
     (
         10,
         b"START_TIME = 2025-01-01T00:00:00\nSTART_TIME = 2025-01-01T00:00:00",
+        Some((11, OemCause::Twice)),
     ),
     (
         11,
         b"STOP_TIME = 2025-01-01T00:01:00\nSTOP_TIME = 2025-01-01T00:01:00",
+        Some((12, OemCause::Twice)),
     ),
     (
         11,
         b"USEABLE_START_TIME = 2025-01-01T00:00:30\nUSEABLE_START_TIME = 2025-01-01T00:00:30",
+        Some((12, OemCause::Twice)),
     ),
     (
         11,
         b"USEABLE_STOP_TIME = 2025-01-01T00:00:30\nUSEABLE_STOP_TIME = 2025-01-01T00:00:30",
+        Some((12, OemCause::Twice)),
     ),
-    (12, b"INTERPOLATION = HERMITE\nINTERPOLATION = HERMITE"),
-    (13, b"INTERPOLATION_DEGREE = 3\nINTERPOLATION_DEGREE = 3"),
+    (
+        12,
+        b"INTERPOLATION = HERMITE\nINTERPOLATION = HERMITE",
+        Some((13, OemCause::Twice)),
+    ),
+    (
+        13,
+        b"INTERPOLATION_DEGREE = 3\nINTERPOLATION_DEGREE = 3",
+        Some((14, OemCause::Twice)),
+    ),
+    // Whatever the second value is.
+    (
+        7,
+        b"CENTER_NAME = EARTH\nCENTER_NAME = MARS",
+        Some((8, OemCause::Twice)),
+    ),
+    (
+        10,
+        b"START_TIME = 2025-01-01T00:00:00\nSTART_TIME = now",
+        Some((11, OemCause::Twice)),
+    ),
 ];
 
 #[test]
 fn each_key_of_metadata_is_taken_once(rt: HostRuntime) -> Result<(), Fail> {
-    for (number, changed) in TWICE {
-        let second = number as u32 + 1;
-        assert_eq!(rt;
-            fault_with(rt.alloc(), number, changed)?,
-            Some((second, OemCause::Twice))
-        );
-    }
+    assert_eq!(rt; wrong_in_base(rt.alloc(), TWICE.as_slice())?, None);
     Ok(())
 }
 
-#[test]
-fn a_key_given_twice_is_a_fault_whatever_its_value(rt: HostRuntime) -> Result<(), Fail> {
-    let changed = b"CENTER_NAME = EARTH\nCENTER_NAME = MARS";
-    assert_eq!(rt;
-        fault_with(rt.alloc(), 7, changed)?,
-        Some((8, OemCause::Twice))
-    );
-    let changed = b"START_TIME = 2025-01-01T00:00:00\nSTART_TIME = now";
-    assert_eq!(rt;
-        fault_with(rt.alloc(), 10, changed)?,
-        Some((11, OemCause::Twice))
-    );
-    Ok(())
-}
+const MISSING: [Changed<'static>; 8] = [
+    (&[(5, b"")], Some((14, OemCause::Missing))),
+    (&[(6, b"")], Some((14, OemCause::Missing))),
+    (&[(7, b"")], Some((14, OemCause::Missing))),
+    (&[(8, b"")], Some((14, OemCause::Missing))),
+    (&[(9, b"")], Some((14, OemCause::Missing))),
+    (&[(10, b"")], Some((14, OemCause::Missing))),
+    (&[(11, b"")], Some((14, OemCause::Missing))),
+    // It comes before the interpolation.
+    (&[(11, b""), (12, b"")], Some((14, OemCause::Missing))),
+];
 
 #[test]
 fn each_needed_key_is_missed_where_the_metadata_stop(rt: HostRuntime) -> Result<(), Fail> {
-    for number in [5, 6, 7, 8, 9, 10, 11] {
-        assert_eq!(rt;
-            fault_with(rt.alloc(), number, b"")?,
-            Some((14, OemCause::Missing))
-        );
-    }
+    assert_eq!(rt; wrong_with(rt.alloc(), MISSING.as_slice())?, None);
+    assert_eq!(rt; wrong_as_hermite3(rt.alloc(), MISSING.as_slice())?, None);
     Ok(())
 }
+
+/// The first case in which the file does not have its fault where it is taken as if it declared the cubic.
+fn wrong_as_hermite3(alloc: Global, cases: &[Changed]) -> Result<Option<usize>, OemFault> {
+    for (i, (changes, fault)) in cases.iter().enumerate() {
+        let text = base_with(alloc, changes)?;
+        if fault_of(read(alloc, &text, true))? != *fault {
+            return Ok(Some(i));
+        }
+    }
+    Ok(None)
+}
+
+const LAGRANGE: Change = (12, b"INTERPOLATION = LAGRANGE");
+
+const SEVENTH: Change = (13, b"INTERPOLATION_DEGREE = 7");
+
+const OTHERS: [&[Change]; 6] = [
+    &[LAGRANGE, SEVENTH],
+    &[SEVENTH],
+    &[(13, b"INTERPOLATION_DEGREE = 03")],
+    &[LAGRANGE],
+    &[(12, b"")],
+    &[(13, b"")],
+];
 
 #[test]
 fn another_interpolation_is_taken_only_where_it_is_asked_for(rt: HostRuntime) -> Result<(), Fail> {
-    let cases: [(&[u8], &[u8]); 6] = [
-        (b"INTERPOLATION = LAGRANGE", b"INTERPOLATION_DEGREE = 7"),
-        (b"INTERPOLATION = HERMITE", b"INTERPOLATION_DEGREE = 7"),
-        (b"INTERPOLATION = HERMITE", b"INTERPOLATION_DEGREE = 03"),
-        (b"INTERPOLATION = LAGRANGE", b"INTERPOLATION_DEGREE = 3"),
-        (b"", b"INTERPOLATION_DEGREE = 3"),
-        (b"INTERPOLATION = HERMITE", b""),
-    ];
-    for (kind, degree) in cases {
-        let text = base_with(rt.alloc(), &[(12, kind), (13, degree)])?;
-        assert_eq!(rt;
-            fault_in(rt.alloc(), &text)?,
-            Some((14, OemCause::Interpolation))
-        );
-        assert_eq!(rt; fault_of(read(rt.alloc(), &text, true))?, None);
+    let alloc = rt.alloc();
+    for changes in &OTHERS {
+        let refused = [(*changes, Some((14, OemCause::Interpolation)))];
+        assert_eq!(rt; wrong_with(alloc, refused.as_slice())?, None);
+        assert_eq!(rt; wrong_as_hermite3(alloc, &[(*changes, None)])?, None);
     }
-    Ok(())
-}
-
-#[test]
-fn a_missing_key_comes_before_the_interpolation(rt: HostRuntime) -> Result<(), Fail> {
-    let text = base_with(rt.alloc(), &[(11, b""), (12, b"")])?;
-    assert_eq!(rt; fault_in(rt.alloc(), &text)?, Some((14, OemCause::Missing)));
-    assert_eq!(rt;
-        fault_of(read(rt.alloc(), &text, true))?,
-        Some((14, OemCause::Missing))
-    );
     Ok(())
 }

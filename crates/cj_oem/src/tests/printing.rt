@@ -1,5 +1,8 @@
-use super::texts::{base_with, matrix_tick, node_of, read, span_of, value_of};
-use crate::oem_text;
+use super::texts::{
+    Change, Span, Stated, base_with, begins_with, has_spans, has_values, matrix_tick, read,
+};
+use crate::{OemFault, Track, oem_text};
+use std::alloc::Global;
 use std::test::Fail;
 
 /// One segment.
@@ -63,71 +66,88 @@ COV_REF_FRAME = RTN
 COVARIANCE_STOP
 ";
 
+/// Whether the track of a canonical text has this text.
+fn is_written_again(alloc: Global, text: &[u8]) -> Result<bool, OemFault> {
+    let track = read(alloc, text, false)?;
+    Ok(oem_text(alloc, &track)?.as_slice() == text)
+}
+
 #[test]
 fn canonical_texts_are_read_and_written_again(rt: HostRuntime) -> Result<(), Fail> {
-    for text in [ONE, TWO] {
-        let track = read(rt.alloc(), text, false)?;
-        assert_eq!(rt; oem_text(rt.alloc(), &track)?.as_slice(), text);
-    }
+    assert!(rt; is_written_again(rt.alloc(), ONE)?);
+    assert!(rt; is_written_again(rt.alloc(), TWO)?);
     Ok(())
 }
+
+const FIRST_OF_TWO: [Stated; 2] = [
+    (
+        1_735_689_600_000_000,
+        [
+            -1,
+            0,
+            1_000_000_000_001,
+            -500_000_000_000,
+            20_000_000_000,
+            -7_000_000_000_000,
+        ],
+    ),
+    (
+        1_735_689_660_000_000,
+        [
+            -500_000_000_000_000_000,
+            499_999_999_999_999_999,
+            10_000_000_000_000,
+            20_000_000_000_000,
+            -19_999_999_999_999,
+            10,
+        ],
+    ),
+];
+
+const SPANS_OF_TWO: [Span; 2] = [
+    (1_735_689_610_000_000, 1_735_689_650_000_001),
+    (1_735_689_720_000_000, 1_735_689_780_000_000),
+];
 
 #[test]
 fn numbers_near_0_and_at_their_limits(rt: HostRuntime) -> Result<(), Fail> {
     let track = read(rt.alloc(), TWO, false)?;
-    let near = [
-        -1,
-        0,
-        1_000_000_000_001,
-        -500_000_000_000,
-        20_000_000_000,
-        -7_000_000_000_000,
-    ];
-    let far = [
-        -500_000_000_000_000_000,
-        499_999_999_999_999_999,
-        10_000_000_000_000,
-        20_000_000_000_000,
-        -19_999_999_999_999,
-        10,
-    ];
-    assert_eq!(rt; node_of(&track, 0, 0), Some((1_735_689_600_000_000, near)));
-    assert_eq!(rt; node_of(&track, 0, 1), Some((1_735_689_660_000_000, far)));
-    assert_eq!(rt;
-        span_of(&track, 0),
-        Some((1_735_689_610_000_000, 1_735_689_650_000_001))
-    );
+    assert!(rt; begins_with(&track, 0, FIRST_OF_TWO.as_slice()));
+    assert!(rt; has_spans(&track, SPANS_OF_TWO.as_slice()));
     assert_eq!(rt; matrix_tick(&track, 1, 0), Some(1_735_689_750_000_000));
-    assert_eq!(rt; value_of(&track, 1, 0, 1), Some((true, 25, -6)));
+    assert!(rt; has_values(&track, 1, &[(1, true, 25, -6)]));
     Ok(())
 }
 
-/// Changes of the file with one segment, and whether its track stays the same.
-const CHANGES: [(usize, &[u8], bool); 7] = [
-    (3, b"ORIGINATOR = ANOTHER", true),
+/// A change of the file with one segment, and whether its track stays the same.
+const CHANGES: [(Change, bool); 7] = [
+    ((3, b"ORIGINATOR = ANOTHER"), true),
     (
-        16,
-        b"2025-001T00:01:00.000Z +7.0e3 225.0 0 0 7.5 0 1 2 3",
+        (16, b"2025-001T00:01:00.000Z +7.0e3 225.0 0 0 7.5 0 1 2 3"),
         true,
     ),
     (
-        16,
-        b"2025-01-01T00:01:00 7000.000000000001 225 0 0 7.5 0",
+        (16, b"2025-01-01T00:01:00 7000.000000000001 225 0 0 7.5 0"),
         false,
     ),
-    (5, b"OBJECT_NAME = SAT B", false),
-    (6, b"OBJECT_ID = 2025-001B", false),
-    (8, b"REF_FRAME = GCRF", false),
-    (11, b"STOP_TIME = 2025-01-01T00:00:59", false),
+    ((5, b"OBJECT_NAME = SAT B"), false),
+    ((6, b"OBJECT_ID = 2025-001B"), false),
+    ((8, b"REF_FRAME = GCRF"), false),
+    ((11, b"STOP_TIME = 2025-01-01T00:00:59"), false),
 ];
+
+/// Whether a file with one segment has this track.
+fn is_read_as(alloc: Global, changes: &[Change], track: &Track) -> Result<bool, OemFault> {
+    let text = base_with(alloc, changes)?;
+    Ok(read(alloc, &text, false)? == *track)
+}
 
 #[test]
 fn tracks_are_the_same_where_all_they_say_is(rt: HostRuntime) -> Result<(), Fail> {
     let base = base_with(rt.alloc(), &[])?;
     let track = read(rt.alloc(), &base, false)?;
-    for (number, changed, same) in CHANGES {
-        let text = base_with(rt.alloc(), &[(number, changed)])?;
-        assert_eq!(rt; read(rt.alloc(), &text, false)? == track, same);
+    for (change, same) in &CHANGES {
+        assert_eq!(rt; is_read_as(rt.alloc(), &[*change], &track)?, *same);
     }
     Ok(())
 }

@@ -1,9 +1,11 @@
-use super::texts::{PlainProblem, base_with, fault_in, node_of, read, wrong_in_base};
+use super::texts::{
+    Case, Change, Changed, Stated, base_with, begins_with, read, wrong_in_base, wrong_with,
+};
 use crate::OemCause;
 use cj_epoch::EpochFault;
 use std::test::Fail;
 
-const ROWS: [PlainProblem<'static>; 29] = [
+const ROWS: [Case<'static>; 29] = [
     (
         15,
         b"2025-01-01T00:00:00 7000 -225 0 0 7.5",
@@ -133,7 +135,7 @@ fn a_row_has_its_first_fault(rt: HostRuntime) -> Result<(), Fail> {
     Ok(())
 }
 
-const TIMES: [PlainProblem<'static>; 5] = [
+const TIMES: [Case<'static>; 5] = [
     (
         16,
         b"2024-12-31T23:59:59 0 0 0 21 0 0",
@@ -167,90 +169,97 @@ fn the_times_of_nodes_rise(rt: HostRuntime) -> Result<(), Fail> {
     Ok(())
 }
 
-#[test]
-fn nodes_stand_an_hour_apart_and_no_more(rt: HostRuntime) -> Result<(), Fail> {
-    let stop = (11, b"STOP_TIME = 2025-01-01T01:00:00".as_slice());
-    let text = base_with(
-        rt.alloc(),
-        &[stop, (16, b"2025-01-01T01:00:00 7000 225 0 0 7.5 0")],
-    )?;
-    assert_eq!(rt; fault_in(rt.alloc(), &text)?, None);
-    let text = base_with(
-        rt.alloc(),
-        &[stop, (16, b"2025-01-01T01:00:00.000001 7000 225 0 0 7.5 0")],
-    )?;
-    assert_eq!(rt;
-        fault_in(rt.alloc(), &text)?,
-        Some((16, OemCause::StepTooLong))
-    );
-    Ok(())
-}
+const START: Change = (10, b"START_TIME = 2016-12-31T23:59:30");
 
-#[test]
-fn no_leap_second_lies_between_nodes(rt: HostRuntime) -> Result<(), Fail> {
-    let start = (10, b"START_TIME = 2016-12-31T23:59:30".as_slice());
-    let stop = (11, b"STOP_TIME = 2017-01-01T00:00:30".as_slice());
-    let first = (15, b"2016-12-31T23:59:30 7000 -225 0 0 7.5 0".as_slice());
-    let cases: [(&[u8], OemCause); 4] = [
-        (
-            b"2017-01-01T00:00:30 7000 225 0 0 7.5 0",
-            OemCause::LeapSecond,
-        ),
-        (
-            b"2016-12-31T23:59:60 7000 225 0 0 7.5 0",
-            OemCause::Epoch(EpochFault::SecondSixty),
-        ),
-        (
-            b"2017-01-01T01:00:30 7000 225 0 0 7.5 0",
-            OemCause::StepTooLong,
-        ),
-        (b"2017-01-01T01:00:00 0 0 0 0 0 0", OemCause::StepTooLong),
-    ];
-    for (last, cause) in cases {
-        let text = base_with(rt.alloc(), &[start, stop, first, (16, last)])?;
-        assert_eq!(rt; fault_in(rt.alloc(), &text)?, Some((16, cause)));
-    }
-    Ok(())
-}
+const STOP: Change = (11, b"STOP_TIME = 2017-01-01T00:00:30");
 
-#[test]
-fn a_node_at_the_first_tick_after_a_leap_second_begins_a_segment(
-    rt: HostRuntime,
-) -> Result<(), Fail> {
-    let text = base_with(
-        rt.alloc(),
+const FIRST: Change = (15, b"2016-12-31T23:59:30 7000 -225 0 0 7.5 0");
+
+const HOUR: Change = (11, b"STOP_TIME = 2025-01-01T01:00:00");
+
+const STEPS: [Changed<'static>; 7] = [
+    // Nodes stand at most an hour apart.
+    (
+        &[HOUR, (16, b"2025-01-01T01:00:00 7000 225 0 0 7.5 0")],
+        None,
+    ),
+    (
+        &[HOUR, (16, b"2025-01-01T01:00:00.000001 7000 225 0 0 7.5 0")],
+        Some((16, OemCause::StepTooLong)),
+    ),
+    // No leap second lies between them.
+    (
+        &[
+            START,
+            STOP,
+            FIRST,
+            (16, b"2017-01-01T00:00:30 7000 225 0 0 7.5 0"),
+        ],
+        Some((16, OemCause::LeapSecond)),
+    ),
+    (
+        &[
+            START,
+            STOP,
+            FIRST,
+            (16, b"2016-12-31T23:59:60 7000 225 0 0 7.5 0"),
+        ],
+        Some((16, OemCause::Epoch(EpochFault::SecondSixty))),
+    ),
+    (
+        &[
+            START,
+            STOP,
+            FIRST,
+            (16, b"2017-01-01T01:00:30 7000 225 0 0 7.5 0"),
+        ],
+        Some((16, OemCause::StepTooLong)),
+    ),
+    (
+        &[START, STOP, FIRST, (16, b"2017-01-01T01:00:00 0 0 0 0 0 0")],
+        Some((16, OemCause::StepTooLong)),
+    ),
+    // A node at the first tick after a leap second begins a segment.
+    (
         &[
             (10, b"START_TIME = 2017-01-01T00:00:00"),
-            (11, b"STOP_TIME = 2017-01-01T00:00:30"),
+            STOP,
             (15, b"2017-01-01T00:00:00 7000 -225 0 0 7.5 0"),
             (16, b"2017-01-01T00:00:30 7000 225 0 0 7.5 0"),
         ],
-    )?;
-    assert_eq!(rt; fault_in(rt.alloc(), &text)?, None);
+        None,
+    ),
+];
+
+#[test]
+fn nodes_stand_an_hour_apart_at_most_and_on_one_side_of_a_leap_second(
+    rt: HostRuntime,
+) -> Result<(), Fail> {
+    assert_eq!(rt; wrong_with(rt.alloc(), STEPS.as_slice())?, None);
     Ok(())
 }
 
-#[test]
-fn numbers_of_every_form_are_read(rt: HostRuntime) -> Result<(), Fail> {
-    let text = base_with(
-        rt.alloc(),
-        &[(
-            15,
-            b"2025-01-01T00:00:00 7000 -225.5  0.25\t1e-3 7.5 -.5e-11",
-        )],
-    )?;
-    let track = read(rt.alloc(), &text, false)?;
-    let numbers = [
+const FORMS: Change = (
+    15,
+    b"2025-01-01T00:00:00 7000 -225.5  0.25\t1e-3 7.5 -.5e-11",
+);
+
+const NUMBERS: [Stated; 1] = [(
+    1_735_689_600_000_000,
+    [
         7_000_000_000_000_000,
         -225_500_000_000_000,
         250_000_000_000,
         1_000_000_000,
         7_500_000_000_000,
         -5,
-    ];
-    assert_eq!(rt;
-        node_of(&track, 0, 0),
-        Some((1_735_689_600_000_000, numbers))
-    );
+    ],
+)];
+
+#[test]
+fn numbers_of_every_form_are_read(rt: HostRuntime) -> Result<(), Fail> {
+    let text = base_with(rt.alloc(), &[FORMS])?;
+    let track = read(rt.alloc(), &text, false)?;
+    assert!(rt; begins_with(&track, 0, NUMBERS.as_slice()));
     Ok(())
 }

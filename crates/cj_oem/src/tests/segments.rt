@@ -1,11 +1,11 @@
 use super::texts::{
-    PlainProblem, base_with, counts_of, fault_in, fault_with, node_of, read, span_of, two_with,
-    wrong_in_base, wrong_in_two,
+    Case, Change, Changed, Stated, begins_with, counts_of, has_spans, read, two_with,
+    wrong_in_base, wrong_in_two, wrong_with,
 };
 use crate::OemCause;
 use std::test::Fail;
 
-const SPANS: [PlainProblem<'static>; 9] = [
+const SPANS: [Case<'static>; 9] = [
     (
         10,
         b"START_TIME = 2024-12-31T23:59:59.999999",
@@ -51,85 +51,77 @@ fn the_useable_span_lies_from_the_first_node_to_the_last(rt: HostRuntime) -> Res
     Ok(())
 }
 
+const FEW: [Changed<'static>; 4] = [
+    (&[(16, b"")], Some((17, OemCause::TooFewNodes))),
+    (&[(16, b"META_START")], Some((16, OemCause::TooFewNodes))),
+    (
+        &[(16, b"COVARIANCE_START")],
+        Some((16, OemCause::TooFewNodes)),
+    ),
+    (
+        &[(10, b"START_TIME = 2025-01-01T09:00:00"), (16, b"")],
+        Some((17, OemCause::TooFewNodes)),
+    ),
+];
+
 #[test]
 fn a_segment_has_two_nodes(rt: HostRuntime) -> Result<(), Fail> {
-    assert_eq!(rt;
-        fault_with(rt.alloc(), 16, b"")?,
-        Some((17, OemCause::TooFewNodes))
-    );
-    assert_eq!(rt;
-        fault_with(rt.alloc(), 16, b"META_START")?,
-        Some((16, OemCause::TooFewNodes))
-    );
-    assert_eq!(rt;
-        fault_with(rt.alloc(), 16, b"COVARIANCE_START")?,
-        Some((16, OemCause::TooFewNodes))
-    );
-    let text = base_with(
-        rt.alloc(),
-        &[(10, b"START_TIME = 2025-01-01T09:00:00"), (16, b"")],
-    )?;
-    assert_eq!(rt;
-        fault_in(rt.alloc(), &text)?,
-        Some((17, OemCause::TooFewNodes))
-    );
+    assert_eq!(rt; wrong_with(rt.alloc(), FEW.as_slice())?, None);
     Ok(())
 }
 
-#[test]
-fn neighbouring_spans_share_one_tick_at_most(rt: HostRuntime) -> Result<(), Fail> {
-    let early = (28, b"2025-01-01T00:00:30 7100 0 0 0 0 0".as_slice());
-    let cases: [(&[u8], Option<(u32, OemCause)>); 3] = [
-        (b"START_TIME = 2025-01-01T00:01:00", None),
-        (b"START_TIME = 2025-01-01T00:01:30", None),
-        (
-            b"START_TIME = 2025-01-01T00:00:59.999999",
-            Some((30, OemCause::SegmentsOverlap)),
-        ),
-    ];
-    for (start, fault) in cases {
-        let text = two_with(rt.alloc(), &[(23, start), early])?;
-        assert_eq!(rt; fault_in(rt.alloc(), &text)?, fault);
-    }
-    Ok(())
-}
+/// A node of the second segment before the end of the first.
+const EARLY: Change = (28, b"2025-01-01T00:00:30 7100 0 0 0 0 0");
 
-#[test]
-fn a_useable_span_is_judged_before_an_overlap(rt: HostRuntime) -> Result<(), Fail> {
-    let text = two_with(rt.alloc(), &[(23, b"START_TIME = 2025-01-01T00:00:30")])?;
-    assert_eq!(rt;
-        fault_in(rt.alloc(), &text)?,
-        Some((30, OemCause::UseableSpan))
-    );
-    Ok(())
-}
-
-const OBJECTS: [PlainProblem<'static>; 9] = [
+const TWO: [Changed<'static>; 6] = [
+    // Neighbouring spans share one tick at most.
+    (&[(23, b"START_TIME = 2025-01-01T00:01:00"), EARLY], None),
+    (&[(23, b"START_TIME = 2025-01-01T00:01:30"), EARLY], None),
     (
-        18,
-        b"OBJECT_NAME = SAT B",
+        &[(23, b"START_TIME = 2025-01-01T00:00:59.999999"), EARLY],
+        Some((30, OemCause::SegmentsOverlap)),
+    ),
+    // A useable span is judged before an overlap.
+    (
+        &[(23, b"START_TIME = 2025-01-01T00:00:30")],
+        Some((30, OemCause::UseableSpan)),
+    ),
+    // The first segment is closed where the next begins.
+    (&[(16, b"")], Some((17, OemCause::TooFewNodes))),
+    (
+        &[(11, b"STOP_TIME = 2025-01-01T00:01:01")],
+        Some((17, OemCause::UseableSpan)),
+    ),
+];
+
+#[test]
+fn each_of_two_segments_is_closed_before_the_next(rt: HostRuntime) -> Result<(), Fail> {
+    assert_eq!(rt; wrong_in_two(rt.alloc(), TWO.as_slice())?, None);
+    Ok(())
+}
+
+const OBJECTS: [Changed<'static>; 9] = [
+    (
+        &[(18, b"OBJECT_NAME = SAT B")],
         Some((18, OemCause::ObjectChanged)),
     ),
     (
-        18,
-        b"OBJECT_NAME = sat a",
+        &[(18, b"OBJECT_NAME = sat a")],
         Some((18, OemCause::ObjectChanged)),
     ),
-    (18, b"OBJECT_NAME =", Some((18, OemCause::Missing))),
-    (18, b"OBJECT_NAME = SAT\tA", None),
+    (&[(18, b"OBJECT_NAME =")], Some((18, OemCause::Missing))),
+    (&[(18, b"OBJECT_NAME = SAT\tA")], None),
     (
-        19,
-        b"OBJECT_ID = 2025-001B",
+        &[(19, b"OBJECT_ID = 2025-001B")],
         Some((19, OemCause::ObjectChanged)),
     ),
     (
-        19,
-        b"OBJECT_ID = 2025-001",
+        &[(19, b"OBJECT_ID = 2025-001")],
         Some((19, OemCause::ObjectChanged)),
     ),
-    (21, b"REF_FRAME = GCRF", Some((21, OemCause::Frame))),
-    (21, b"REF_FRAME = eme2000", None),
-    (18, b"", Some((27, OemCause::Missing))),
+    (&[(21, b"REF_FRAME = GCRF")], Some((21, OemCause::Frame))),
+    (&[(21, b"REF_FRAME = eme2000")], None),
+    (&[(18, b"")], Some((27, OemCause::Missing))),
 ];
 
 #[test]
@@ -138,36 +130,32 @@ fn a_file_has_one_object(rt: HostRuntime) -> Result<(), Fail> {
     Ok(())
 }
 
+const SECOND: [Stated; 2] = [
+    (
+        1_735_689_660_000_000,
+        [7_100_000_000_000_000, 0, 0, 0, 0, 0],
+    ),
+    (
+        1_735_689_720_000_000,
+        [7_100_000_000_000_000, 0, 0, 0, 0, 0],
+    ),
+];
+
 #[test]
 fn two_segments_are_two(rt: HostRuntime) -> Result<(), Fail> {
     let text = two_with(rt.alloc(), &[])?;
     let track = read(rt.alloc(), &text, false)?;
-    assert_eq!(rt;
-        span_of(&track, 0),
-        Some((1_735_689_600_000_000, 1_735_689_660_000_000))
+    let middle = 1_735_689_660_000_000;
+    assert!(rt;
+        has_spans(
+            &track,
+            &[
+                (1_735_689_600_000_000, middle),
+                (middle, 1_735_689_720_000_000)
+            ]
+        )
     );
-    assert_eq!(rt;
-        span_of(&track, 1),
-        Some((1_735_689_660_000_000, 1_735_689_720_000_000))
-    );
-    assert_eq!(rt; span_of(&track, 2), None);
     assert_eq!(rt; counts_of(&track, 0), Some((2, 0)));
-    let place = [7_100_000_000_000_000, 0, 0, 0, 0, 0];
-    assert_eq!(rt; node_of(&track, 1, 0), Some((1_735_689_660_000_000, place)));
-    Ok(())
-}
-
-#[test]
-fn the_first_segment_is_closed_where_the_next_begins(rt: HostRuntime) -> Result<(), Fail> {
-    let text = two_with(rt.alloc(), &[(16, b"")])?;
-    assert_eq!(rt;
-        fault_in(rt.alloc(), &text)?,
-        Some((17, OemCause::TooFewNodes))
-    );
-    let text = two_with(rt.alloc(), &[(11, b"STOP_TIME = 2025-01-01T00:01:01")])?;
-    assert_eq!(rt;
-        fault_in(rt.alloc(), &text)?,
-        Some((17, OemCause::UseableSpan))
-    );
+    assert!(rt; begins_with(&track, 1, SECOND.as_slice()));
     Ok(())
 }

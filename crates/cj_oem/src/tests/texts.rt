@@ -1,5 +1,5 @@
 //! Files for the tests.
-use crate::{Matrix, Node, OemCause, OemFault, Segment, Track, read_oem};
+use crate::{Frame, Matrix, Node, OemCause, OemFault, Segment, Track, read_oem};
 use std::alloc::{AllocError, Global};
 
 /// The lines of a file with one segment of two nodes.
@@ -101,7 +101,10 @@ pub fn fault_of(read: Result<Track, OemFault>) -> Result<Option<Fault>, OemFault
 pub type Fault = (u32, OemCause);
 
 /// A line's number, the text in its place, and the fault that the file then has.
-pub type PlainProblem<'a> = (usize, &'a [u8], Option<Fault>);
+pub type Case<'a> = (usize, &'a [u8], Option<Fault>);
+
+/// Changes of several lines, and the fault that the file then has.
+pub type Changed<'a> = (&'a [Change<'a>], Option<Fault>);
 
 /// The fault of the file with one segment where one line is changed.
 pub fn fault_with(alloc: Global, number: usize, changed: &[u8]) -> Result<Option<Fault>, OemFault> {
@@ -110,7 +113,7 @@ pub fn fault_with(alloc: Global, number: usize, changed: &[u8]) -> Result<Option
 }
 
 /// The first case in which the file with one segment does not have its fault.
-pub fn wrong_in_base(alloc: Global, cases: &[PlainProblem]) -> Result<Option<usize>, OemFault> {
+pub fn wrong_in_base(alloc: Global, cases: &[Case]) -> Result<Option<usize>, OemFault> {
     for (i, (number, changed, fault)) in cases.iter().enumerate() {
         if fault_with(alloc, *number, changed)? != *fault {
             return Ok(Some(i));
@@ -119,10 +122,10 @@ pub fn wrong_in_base(alloc: Global, cases: &[PlainProblem]) -> Result<Option<usi
     Ok(None)
 }
 
-/// The first case in which the file with two segments does not have its fault.
-pub fn wrong_in_two(alloc: Global, cases: &[PlainProblem]) -> Result<Option<usize>, OemFault> {
-    for (i, (number, changed, fault)) in cases.iter().enumerate() {
-        let text = two_with(alloc, &[(*number, *changed)])?;
+/// The same where several lines are changed.
+pub fn wrong_with(alloc: Global, cases: &[Changed]) -> Result<Option<usize>, OemFault> {
+    for (i, (changes, fault)) in cases.iter().enumerate() {
+        let text = base_with(alloc, changes)?;
         if fault_in(alloc, &text)? != *fault {
             return Ok(Some(i));
         }
@@ -130,14 +133,42 @@ pub fn wrong_in_two(alloc: Global, cases: &[PlainProblem]) -> Result<Option<usiz
     Ok(None)
 }
 
+/// The same of the file with two segments.
+pub fn wrong_in_two(alloc: Global, cases: &[Changed]) -> Result<Option<usize>, OemFault> {
+    for (i, (changes, fault)) in cases.iter().enumerate() {
+        let text = two_with(alloc, changes)?;
+        if fault_in(alloc, &text)? != *fault {
+            return Ok(Some(i));
+        }
+    }
+    Ok(None)
+}
+
+/// Whether a track has this name, this designator and this frame.
+pub fn is_of(track: &Track, name: &[u8], id: &[u8], frame: Frame) -> bool {
+    track.name.as_slice() == name && track.id.as_slice() == id && track.frame == frame
+}
+
 fn segment_of(track: &Track, segment: usize) -> Option<&Segment> {
     track.segments.as_slice().get(segment)
 }
 
-/// The useable span of a segment.
-pub fn span_of(track: &Track, segment: usize) -> Option<(u64, u64)> {
+/// The first and the last tick of a useable span.
+pub type Span = (u64, u64);
+
+fn span_of(track: &Track, segment: usize) -> Option<Span> {
     let segment = segment_of(track, segment)?;
     Some((segment.first.micros, segment.last.micros))
+}
+
+/// Whether a track has segments of these useable spans, and no other.
+pub fn has_spans(track: &Track, spans: &[Span]) -> bool {
+    for (i, span) in spans.iter().enumerate() {
+        if span_of(track, i) != Some(*span) {
+            return false;
+        }
+    }
+    track.segments.as_slice().len() == spans.len()
 }
 
 /// How many nodes and covariances a segment has.
@@ -149,10 +180,22 @@ pub fn counts_of(track: &Track, segment: usize) -> Option<(usize, usize)> {
     ))
 }
 
-/// The tick, the place and the rate of a node.
-pub fn node_of(track: &Track, segment: usize, node: usize) -> Option<(u64, [i64; 6])> {
+/// The tick of a node, and its place and its rate.
+pub type Stated = (u64, [i64; 6]);
+
+fn node_of(track: &Track, segment: usize, node: usize) -> Option<Stated> {
     let Node { at, p, v, .. } = *segment_of(track, segment)?.nodes.as_slice().get(node)?;
     Some((at.micros, [p.x, p.y, p.z, v.x, v.y, v.z]))
+}
+
+/// Whether the nodes of a segment begin with these.
+pub fn begins_with(track: &Track, segment: usize, nodes: &[Stated]) -> bool {
+    for (i, node) in nodes.iter().enumerate() {
+        if node_of(track, segment, i) != Some(*node) {
+            return false;
+        }
+    }
+    true
 }
 
 fn matrix_of(track: &Track, segment: usize, matrix: usize) -> Option<&Matrix> {
@@ -164,16 +207,20 @@ pub fn matrix_tick(track: &Track, segment: usize, matrix: usize) -> Option<u64> 
     Some(matrix_of(track, segment, matrix)?.at.micros)
 }
 
-/// A value of a covariance: its sign, its digits, its exponent.
-pub fn value_of(
-    track: &Track,
-    segment: usize,
-    matrix: usize,
-    index: usize,
-) -> Option<(bool, u64, i32)> {
-    let value = matrix_of(track, segment, matrix)?
-        .values
-        .as_slice()
-        .get(index)?;
-    Some((value.negative, value.digits, value.exponent))
+/// A value's index in a covariance, its sign, its digits and its exponent.
+pub type Valued = (usize, bool, u64, i32);
+
+fn value_of(track: &Track, segment: usize, index: usize) -> Option<Valued> {
+    let value = matrix_of(track, segment, 0)?.values.as_slice().get(index)?;
+    Some((index, value.negative, value.digits, value.exponent))
+}
+
+/// Whether the first covariance of a segment has these values.
+pub fn has_values(track: &Track, segment: usize, values: &[Valued]) -> bool {
+    for value in values {
+        if value_of(track, segment, value.0) != Some(*value) {
+            return false;
+        }
+    }
+    true
 }

@@ -7,9 +7,9 @@ use Rattle.cj_oem.proofs.complete_nodes.CompleteNodes.new.Goals as goal
 
 pub invariant_of-result : goal.invariant_of-result
 invariant_of-result c =
-    let first = c.args.stretch.plan.first.micros in
-    let last = c.args.stretch.plan.last.micros in
-    let enough : 2 ≤ length c.args.stretch.nodes = omega (arith, ap length c.as_slice-nodes.ensures) in
+    let first = c.args.open_segment.metadata.first.micros in
+    let last = c.args.open_segment.metadata.last.micros in
+    let enough : 2 ≤ length c.args.open_segment.nodes = omega (arith, ap length c.as_slice-nodes.ensures) in
     let later : end_of (map plain_segment c.args.body.segments) ≤ first = omega (arith, c.end.ensures) in
     record {
       enough = enough;

@@ -10,7 +10,7 @@ returns-in_default c = elim c.in_default.branch [
   | in_default-via-in-Header+in_default w ↦ rw w.in_default.is-0 (header_ends (head_of w.in_default.field-0-0) c.args.mark w.in_default.not-MetaStart-1)
   | in_default-via-in-Meta+in_default w ↦ rw w.in_default.is-0 (meta_ends c.args.as_hermite3 _ _ c.args.mark w.in_default.not-MetaStop-1)
   | in_default-via-in-Data+in_default w ↦ rw w.in_default.is-0 (data_ends _ _ c.args.mark w.in_default.not-MetaStart-1 w.in_default.not-CovarianceStart-1)
-  | in_default-via-in-Cov+in_default w ↦ rw w.in_default.is-0 (cov_ends (body_of w.in_default.field-0-0.body) (open_segment_of w.in_default.field-0-0.stretch) (covariances_of w.in_default.field-1-0) c.args.mark w.in_default.not-CovarianceStop-1)
+  | in_default-via-in-Cov+in_default w ↦ rw w.in_default.is-0 (cov_ends (body_of w.in_default.field-0-0.body) (open_segment_of w.in_default.field-0-0.open_segment) (covariances_of w.in_default.field-1-0) c.args.mark w.in_default.not-CovarianceStop-1)
   | in_default-via-in-After+in_default w ↦ rw w.in_default.is-0 (block_ends _ c.args.mark w.in_default.not-MetaStart-1)
   | in_default-via-in_default w ↦ rw w.in_default.is-0 refl
 ]
