@@ -5,6 +5,7 @@ pub mod CurveLemmas
 pub mod DistanceLemmas
 pub mod LaterLemmas
 pub mod LevelLemmas
+pub mod NextRunLemmas
 pub mod ObjectLemmas
 pub mod PairLemmas
 pub mod PieceLemmas

@@ -12,6 +12,7 @@ use Rattle.cj_track.specs.PlainTracks.{PlainNode, PlainSegment, PlainTrack}
 use Rattle.cj_track.specs.Nodes.{IsStep, AreSteps, AreNodes}
 use Rattle.cj_track.specs.Segments.{AreSegments, AreInOrder, node_count, piece_count, starts_from}
 use Rattle.cj_track.specs.Tracks.{plain_node, plain_segment}
+use Rattle.cj_hermite.specs.declared.found_pieces.FoundPiece.{FoundPiece}
 use Rattle.cj_hermite.specs.declared.pieces.Piece.{Piece}
 use Rattle.cj_hermite.specs.Interpolant.{curve_of}
 use Rattle.cj_hermite.specs.Pieces.{PlainPiece, intervals_between, intervals_of_arc, intervals_of, last_covering, interval_at, interval_index_at, curve_of_interval}
@@ -308,19 +309,21 @@ in_segment e index k (a ∷ segments) same below exists last =
     }
 
 -- the place of the piece with this number
-pub place_from : (index k : ℕ) (segments : List Segment) (s : Segment) → k < length segments → index < length (intervals_through segments) → IsLastStarted index (starts_from 0 segments) k
-    → s ≡ get_or segments k s → IsPlace index segments s (index - get_or (starts_from 0 segments) k 0)
-place_from index k segments s exists below last e =
-    let count : piece_count s ≡ piece_count (get_or segments k s) = ap (λ (t : Segment). piece_count t) e in
-    let until = in_started 0 k index segments s exists last.started (λ more. last.next (omega (arith, length-starts 0 segments))) (omega (arith, below)) in
-    record { segment = k; exists = exists; is = e; number = omega (arith, last.started); within = omega (arith, last.started) }
+pub place_from : (index k node : ℕ) (segments : List Segment) → k < length segments → index < length (intervals_through segments) → IsLastStarted index (starts_from 0 segments) k
+    → node ≡ index - get_or (starts_from 0 segments) k 0 → IsPlace segments (record { index = index; segment = k; node = node })
+place_from index k node segments exists below last e = record {
+  exists = exists;
+  number = omega (arith, last.started);
+  within = λ d.
+      let until = in_started 0 k index segments d exists last.started (λ more. last.next (omega (arith, length-starts 0 segments))) (omega (arith, below)) in
+      omega (arith, last.started);
+}
 
-pub at_place : (index i : ℕ) (segments : List Segment) (s : Segment) → IsPlace index segments s i
-    → slice_get (intervals_through segments) index ≡ slice_get (intervals_of_arc (plain_segment s)) i
-at_place index i segments s place =
-    let count : piece_count s ≡ piece_count (get_or segments place.segment s) = ap (λ (t : Segment). piece_count t) place.is in
-    in_all 0 place.segment i index segments s place.exists (omega (arith, place.number)) (omega (arith, place.within))
-    ∙ ap (λ (t : Segment). slice_get (intervals_of_arc (plain_segment t)) i) (sym place.is)
+pub at_place : (segments : List Segment) (found : FoundPiece) (s : Segment) → IsPlace segments found → s ≡ get_or segments found.segment s
+    → slice_get (intervals_through segments) found.index ≡ slice_get (intervals_of_arc (plain_segment s)) found.node
+at_place segments found s place is =
+    in_all 0 found.segment found.node found.index segments s place.exists (omega (arith, place.number)) (omega (arith, place.within s))
+    ∙ ap (λ (t : Segment). slice_get (intervals_of_arc (plain_segment t)) found.node) (sym is)
 
 -- the two nodes of a piece, as they are read
 record AreRead (nodes : List Node) (i : ℕ) (a b : Node) : Type 0 where

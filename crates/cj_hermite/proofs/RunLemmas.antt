@@ -1,8 +1,7 @@
 -- The ticks at which a piece is the one to be used.
-use Rattle.std.proofs.Common.{◌≡◌, ◌≢◌, ℕ, suc, ◌-◌, ◌<◌, ◌≤◌, ◌⊎◌, max, min, inl, inr, eq-or-lt_of_le, List, length, get_or, Option, Some, None, true, false, eqb, eq-eqb, refl, sym, ap, ◌∙◌, subst, arith}
+use Rattle.std.proofs.Common.{◌≡◌, ◌≢◌, ℕ, suc, ◌-◌, ◌<◌, ◌≤◌, ◌⊎◌, max, min, inl, inr, eq-or-lt_of_le, List, length, get_or, Option, Some, None, refl, sym, ap, ◌∙◌, subst, arith}
 use Rattle.std.specs.Prelude.{◌↔◌, option_map, IsSomeAnd, slice_get}
-use Rattle.std.specs.Option.{option_eq}
-use Rattle.std.proofs.lemmas.Bool.{eqb-true, cases_lt}
+use Rattle.std.proofs.lemmas.Bool.{cases_lt}
 use Rattle.std.proofs.lemmas.List.{get_or_default}
 use Rattle.cj_epoch.specs.declared.tick.Window.{Window}
 use Rattle.cj_track.specs.declared.node.Node.{Node}
@@ -11,6 +10,7 @@ use Rattle.cj_track.specs.PlainTracks.{PlainTrack}
 use Rattle.cj_track.specs.Nodes.{AreNodes}
 use Rattle.cj_track.specs.Segments.{AreSegments}
 use Rattle.cj_track.specs.Tracks.{plain_segment}
+use Rattle.cj_hermite.specs.declared.found_pieces.FoundPiece.{FoundPiece}
 use Rattle.cj_hermite.specs.declared.pieces.Piece.{Piece}
 use Rattle.cj_hermite.specs.Pieces.{PlainPiece, intervals_of_arc, intervals_of, last_covering, interval_index_at}
 use Rattle.cj_hermite.specs.PiecesOfTracks.{Covers, CoversBoth, interval_with}
@@ -135,26 +135,28 @@ same_ticks first last first' last' a b piece h =
     (ap (λ (x : PlainPiece). x.from.at) same, ap (λ (x : PlainPiece). x.to.at) same)
 
 -- a tick before the last that the piece covers
-pub own_tick : (m index i : ℕ) (segments : List Segment) (s : Segment) (piece : Piece) → AreSegments segments → AreNodes s.nodes → IsPlace index segments s i
-    → slice_get (intervals_of_arc (plain_segment s)) i ≡ Some (interval_with s.first.micros s.last.micros piece)
+pub own_tick : (m : ℕ) (segments : List Segment) (found : FoundPiece) (s : Segment) (piece : Piece) → AreSegments segments → AreNodes s.nodes → IsPlace segments found → s ≡ get_or segments found.segment s
+    → slice_get (intervals_of_arc (plain_segment s)) found.node ≡ Some (interval_with s.first.micros s.last.micros piece)
     → s.first.micros ≤ m → piece.t0.micros ≤ m → m < s.last.micros → m < piece.t1.micros
-    → IsLastFound m index (intervals_through segments)
-own_tick m index i segments s piece are nodes place value after from before to =
-    let k = place.segment in
+    → IsLastFound m found.index (intervals_through segments)
+own_tick m segments found s piece are nodes place is value after from before to =
+    let k = found.segment in
+    let i = found.node in
     let begun : IsLastBegun m segments k = record {
       exists = place.exists;
-      begun = λ d. subst (λ (t : Segment). t.first.micros ≤ m) (place.is ∙ get_or_default segments k s d place.exists) after;
+      begun = λ d. subst (λ (t : Segment). t.first.micros ≤ m) (is ∙ get_or_default segments k s d place.exists) after;
       next = λ d below.
-          let here : m < (get_or segments k d).last.micros = subst (λ (t : Segment). m < t.last.micros) (place.is ∙ get_or_default segments k s d place.exists) before in
+          let here : m < (get_or segments k d).last.micros = subst (λ (t : Segment). m < t.last.micros) (is ∙ get_or_default segments k s d place.exists) before in
           omega (arith, in_order segments k (suc k) d are.order (omega arith) below);
     } in
-    let below : suc i < length s.nodes = omega (arith, place.within) in
+    let count : length s.nodes ≡ length (get_or segments k s).nodes = ap (λ (t : Segment). length t.nodes) is in
+    let below : suc i < length s.nodes = omega (arith, place.within s) in
     let node : (d : Node) → IsFromNode m s.nodes i d = λ d.
     let ticks = same_ticks s.first.micros s.last.micros s.first.micros s.last.micros (get_or s.nodes i d) (get_or s.nodes (suc i) d) piece
     (sym (from_node s.first.micros s.last.micros i s.nodes d below) ∙ value) in
     record { exists = below; from = omega (arith, ticks.0); to = omega (arith, ticks.1); next = λ more. omega (arith, ticks.1) } in
-    let found = found_in m k i segments s are.order begun place.is (omega arith) nodes node in
-    subst (λ (number : ℕ). IsLastFound m number (intervals_through segments)) (sym place.number) found
+    let last = found_in m k i segments s are.order begun is (omega arith) nodes node in
+    subst (λ (number : ℕ). IsLastFound m number (intervals_through segments)) (sym place.number) last
 
 -- the ticks between the nodes, within the useable span
 pub between_ends : (first last : ℕ) (piece : Piece) (window : Window) (z : Option PlainPiece) → z ≡ Some (interval_with first last piece) → window.first.micros ≡ max piece.t0.micros first
@@ -164,12 +166,3 @@ between_ends first last piece window z same from to =
       λ h. record { from = omega (arith, from, h.after); to = omega (arith, to, h.before); first = omega (arith, from, h.after); last = omega (arith, to, h.before) },
       λ h. record { after = omega (arith, from, h.from, h.first); before = omega (arith, to, h.to, h.last) },
     ))
-
--- what a comparison of numbers tells
-pub same_number : (found : Option ℕ) (index : ℕ) → option_eq eqb found (Some index) ≡ true → found ≡ Some index
-same_number None index h = absurd cc
-same_number (Some number) index h = ap (λ (n : ℕ). Some n) (eqb-true number index h)
-
-pub other_number : (found : Option ℕ) (index : ℕ) → option_eq eqb found (Some index) ≡ false → found ≢ Some index
-other_number None index h e = cc
-other_number (Some number) index h e = let same : number ≡ index = cc in let true_here : eqb number index ≡ true = eq-eqb number index same in cc

@@ -1,9 +1,10 @@
 -- Segments and nodes are in order, and what a binary search over them finds.
-use Rattle.std.proofs.Common.{◌≡◌, ℕ, zero, suc, ◌+◌, ◌-◌, ◌<◌, ◌≤◌, inl, inr, eq-or-lt_of_le, min, List, [], ◌∷◌, length, get_or, true, false, Option, Some, None, refl, ap, arith, leb}
-use Rattle.std.specs.Prelude.{MatchOption}
+use Rattle.std.proofs.Common.{◌≡◌, ℕ, zero, suc, ◌+◌, ◌-◌, ◌<◌, ◌≤◌, inl, inr, eq-or-lt_of_le, min, List, [], ◌∷◌, length, get_or, Bool, true, false, not, Option, Some, None, refl, ap, ◌∙◌, subst, arith, leb}
+use Rattle.std.specs.Prelude.{MatchOption, ◌↔◌}
 use Rattle.std.specs.Option.{SomeIff}
 use Rattle.std.specs.List.Sorted.{IsNonDecreasing, IsNonDecreasingBy, IsPartitionPoint}
-use Rattle.std.proofs.lemmas.Bool.{cases_lt}
+use Rattle.std.proofs.lemmas.Bool.{cases_lt, leb-true, le-leb}
+use Rattle.std.proofs.lemmas.List.{get_or_default}
 use Rattle.std.proofs.lemmas.List.Sorted.{IsNonDecreasingBy-from_default}
 use Rattle.std.proofs.lemmas.Bool.Decides.{nat_tests}
 use Rattle.cj_track.specs.declared.node.Node.{Node}
@@ -11,7 +12,7 @@ use Rattle.cj_track.specs.declared.segment.Segment.{Segment}
 use Rattle.cj_track.specs.Nodes.{AreSteps, AreNodes}
 use Rattle.cj_track.specs.Segments.{AreInOrder, piece_count, starts_from}
 use Rattle.cj_track.specs.Useable.{LiesWithin, last_tick}
-use Rattle.cj_hermite.specs.Searches.{IsLastBegun, AllLater, AreReached, IsFromNode}
+use Rattle.cj_hermite.specs.Searches.{IsLastBegun, AllLater, AreReached, HasBegun, IsFromNode, IsReached}
 
 after_head : (a : Segment) (segments : List Segment) (j : ℕ) (d : Segment) → AreInOrder (a ∷ segments) → j < length segments → a.last.micros ≤ (get_or segments j d).first.micros
 after_head a [] j d order below = absurd (omega arith)
@@ -41,6 +42,35 @@ begun_from m p segments (Some k) some bound point = record {
   exists = omega (arith, some.0, some.1);
   begun = λ d. let here = point.0 k d (omega arith) (omega (arith, some.0, some.1)) in grind (arith, nat_tests);
   next = λ d below. let here = point.1 (suc k) d (omega (arith, some.0, some.1)) below in grind (arith, nat_tests);
+}
+
+-- what a test of a segment tells
+pub begun_is : (m k : ℕ) (segments : List Segment) (d : Segment) → k < length segments → (leb (get_or segments k d).first.micros m ≡ true) ↔ HasBegun m segments k
+begun_is m k segments d below = (
+  λ h. record {
+    exists = below;
+    begun = λ e. omega (arith, leb-true (get_or segments k d).first.micros m h, ap (λ (t : Segment). t.first.micros) (get_or_default segments k d e below));
+  },
+  λ has. le-leb (get_or segments k d).first.micros m (has.begun d),
+)
+
+pub not_begun : (m k : ℕ) (segments : List Segment) (test : Bool) → test ≡ false → length segments ≤ k → (test ≡ true) ↔ HasBegun m segments k
+not_begun m k segments test failed past = (λ h. absurd cc, λ has. absurd (omega (arith, has.exists)))
+
+-- and the next has not
+pub last_begun_is : (m k : ℕ) (segments : List Segment) → HasBegun m segments k → ¬ HasBegun m segments (k + 1) → IsLastBegun m segments k
+last_begun_is m k segments has past = record {
+  exists = has.exists;
+  begun = has.begun;
+  next = λ d below. elim (cases_lt m (get_or segments (suc k) d).first.micros) [
+    | inl later ↦ later
+    | inr begun ↦
+        let one_more : suc k ≡ k + 1 = omega arith in
+        absurd (past (subst (λ (j : ℕ). HasBegun m segments j) one_more (record {
+          exists = below;
+          begun = λ e. omega (arith, begun, ap (λ (t : Segment). t.first.micros) (get_or_default segments (suc k) d e below));
+        })))
+  ];
 }
 
 above_head : (a : Node) (nodes : List Node) (j : ℕ) (d : Node) → AreSteps (a ∷ nodes) → j < length nodes → a.at.micros < (get_or nodes j d).at.micros
@@ -102,6 +132,39 @@ from_reached m p i nodes d are within reached bound e =
       to = to_next m i nodes d within next (omega (arith, are.enough));
       next = next;
     }
+
+-- what a test of a node tells
+pub reached_is : (m k : ℕ) (nodes : List Node) (d : Node) → suc k < length nodes → (leb (get_or nodes k d).at.micros m ≡ true) ↔ IsReached m nodes k
+reached_is m k nodes d below = (
+  λ h. record {
+    exists = below;
+    before = λ e. omega (arith, leb-true (get_or nodes k d).at.micros m h, ap (λ (b : Node). b.at.micros) (get_or_default nodes k d e (omega arith)));
+  },
+  λ reached. le-leb (get_or nodes k d).at.micros m (reached.before d),
+)
+
+pub not_reached : (m k : ℕ) (nodes : List Node) (test : Bool) → test ≡ false → length nodes ≤ suc k → (test ≡ true) ↔ IsReached m nodes k
+not_reached m k nodes test failed past = (λ h. absurd cc, λ reached. absurd (omega (arith, reached.exists)))
+
+-- and the next is not, or it is the last
+pub from_node_is : (m k : ℕ) (nodes : List Node) (d : Node) → LiesWithin m m nodes → IsReached m nodes k → ¬ IsReached m nodes (k + 1) → IsFromNode m nodes k d
+from_node_is m k nodes d within reached past =
+    let next : suc (suc k) < length nodes → m < (get_or nodes (suc k) d).at.micros = λ below. elim (cases_lt m (get_or nodes (suc k) d).at.micros) [
+      | inl later ↦ later
+      | inr before ↦
+          let one_more : suc k ≡ k + 1 = omega arith in
+          absurd (past (subst (λ (j : ℕ). IsReached m nodes j) one_more (record {
+            exists = below;
+            before = λ e. omega (arith, before, ap (λ (b : Node). b.at.micros) (get_or_default nodes (suc k) d e (omega arith)));
+          })))
+    ] in
+    record { exists = reached.exists; from = reached.before d; to = to_next m k nodes d within next reached.exists; next = next }
+
+-- by the tests of both
+pub from_tests : (m k : ℕ) (nodes : List Node) (d : Node) (here next : Bool) → LiesWithin m m nodes → ((here ≡ true) ↔ IsReached m nodes k) → ((next ≡ true) ↔ IsReached m nodes (k + 1))
+    → here ≡ true → not next ≡ true → IsFromNode m nodes k d
+from_tests m k nodes d here true within first behind h n = absurd cc
+from_tests m k nodes d here false within first behind h n = from_node_is m k nodes d within (first.0 h) (λ reached. let own = behind.1 reached in absurd cc)
 
 -- the numbers of the first pieces rise
 pub starts_at_least : (n j : ℕ) (segments : List Segment) → j < length (starts_from n segments) → n ≤ get_or (starts_from n segments) j 0

@@ -1,19 +1,25 @@
 -- Cases: what a run is asked, apart from how a program keeps it.
-use Rattle.std.specs.Prelude.{ℕ, ◌^◌, ◌<◌, ◌≤◌, List, All, Option, option_map, option_and_then, slice_get, IsSomeAnd}
+use Rattle.std.specs.Prelude.{ℕ, ◌+◌, ◌<◌, ◌≤◌, List, Option, option_map, option_and_then, slice_get, slice_index, IsSomeAnd}
 use Rattle.cj_track.specs.PlainTracks.{PlainTrack}
 use Rattle.cj_hermite.specs.Interpolant.{Curve}
-use Rattle.cj_hermite.specs.Pieces.{intervals_of, interval_at, interval_index_at, curve_of_interval, OfBothAt}
+use Rattle.cj_hermite.specs.Pieces.{interval_at, interval_index_at, curve_of_interval, OfBothAt}
 
--- the ephemerides of the objects, which are numbered from 0; the window from its first to its last tick; the threshold in nm
+-- The ephemerides of the objects, which are numbered from 0; the window from its first to its last tick; the threshold in nm; the size of
+-- each object, a radius in nm.
 pub record PlainProblem : Type 0 where
   pub ephemerides : List PlainTrack
   pub first : ℕ
   pub last : ℕ
   pub threshold : ℕ
+  pub sizes : List ℕ
+
+-- a threshold between the objects a and b with these sizes: so far beyond both radii
+abbrev pub threshold_between : ℕ → List ℕ → ℕ → ℕ → ℕ
+threshold_between thr sizes a b = thr + slice_index sizes a + slice_index sizes b
 
 -- the threshold of the objects a and b in nm
 abbrev pub threshold_of : PlainProblem → ℕ → ℕ → ℕ
-threshold_of case a b = case.threshold
+threshold_of case a b = threshold_between case.threshold case.sizes a b
 
 -- the number of the interval in which an object is at a tick, or none where it has no state
 unfoldable pub number_at : PlainProblem → ℕ → ℕ → Option ℕ
@@ -33,13 +39,3 @@ pub record IsCommonOf (case : PlainProblem) (a b m : ℕ) : Type 0 where
   pub after : case.first ≤ m
   pub before : m ≤ case.last
   pub states : OfObjectsAt case a b m (λ c d. Unit {0})
-
--- the states of each segment rise in time
-abbrev pub IsRising : PlainTrack → Type 0
-IsRising e = All (λ x. x.from.at < x.to.at) (intervals_of e)
-
--- ephemerides that rise in time, and a threshold from 1 m to 10,000 km
-pub record IsProper (case : PlainProblem) : Type 0 where
-  pub rising : All IsRising case.ephemerides
-  pub least : 10 ^ 9 ≤ case.threshold
-  pub most : case.threshold ≤ 10 ^ 16

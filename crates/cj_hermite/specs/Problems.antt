@@ -10,4 +10,5 @@ plain_problem problem = record {
   first = problem.window.first.micros;
   last = problem.window.last.micros;
   threshold = problem.threshold;
+  sizes = problem.sizes;
 }

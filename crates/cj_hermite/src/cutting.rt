@@ -1,11 +1,13 @@
 //! The run of ticks at which a piece is the one to be used.
-ghost use Rattle.std.specs.Prelude.{◌≡◌, ◌≢◌, ℕ, ◌<◌, ◌↔◌, length, IfNone, IfSome, IsSomeAnd, slice_get, Some};
+ghost use Rattle.std.specs.Prelude.{◌≡◌, ◌≢◌, ℕ, ◌<◌, ◌↔◌, length, IfNone, IfSome, IsSomeAnd, IsTrue, slice_get, Some};
 ghost use Rattle.cj_track.specs.Tracks.{plain_track};
 ghost use Rattle.cj_hermite.specs.Pieces.{intervals_of, interval_index_at};
 ghost use Rattle.cj_hermite.specs.PiecesOfTracks.{Covers, CoversBoth};
 ghost use Rattle.cj_hermite.specs.Runs.{Holds, IsOfPiece, IsRun};
+ghost use Rattle.cj_hermite.specs.Searches.{IsPlace};
 
-use crate::finding::{piece_at, piece_of, place};
+use crate::finding::{by_number, find, found_segment, piece_of};
+use crate::found_pieces::FoundPiece;
 use cj_epoch::{Tick, Window};
 use cj_track::Track;
 
@@ -18,13 +20,24 @@ pub fn cut(track: &Track, index: u32, range: Window) -> Option<Window>
     // A run that ends before the range does is the piece's last.
     ensures ended { IfSome result (λ run. run.last.micros < range.last.micros → (m : ℕ) → run.last.micros < m → interval_index_at (plain_track track.now) m ≢ Some index) }
 {
-    let covered = covered(track, index);
+    cut_found(track, by_number(track, index), range)
+}
+
+/// The same for a piece that was found.
+pub fn cut_found(track: &Track, found: FoundPiece, range: Window) -> Option<Window>
+    requires { IsPlace track.now.segments found }
+    ensures none { IfNone result ((m : ℕ) → ¬ IsOfPiece (plain_track track.now) found.index range m) }
+    ensures run { IfSome result (IsRun (plain_track track.now) found.index range) }
+    ensures covered { IfSome result (λ run. IsSomeAnd (slice_get (intervals_of (plain_track track.now)) found.index) (CoversBoth run.first.micros run.last.micros)) }
+    ensures ended { IfSome result (λ run. run.last.micros < range.last.micros → (m : ℕ) → run.last.micros < m → interval_index_at (plain_track track.now) m ≢ Some found.index) }
+{
+    let covered = covered(track, found);
     let first = covered.first.later(range.first);
     let last = covered.last.earlier(range.last);
     if last.micros < first.micros {
         return None;
     }
-    if piece_at(track, last) == Some(index) {
+    if is_at(track, last, found) {
         return Some(Window { first, last });
     }
     // The last tick belongs to a later piece.
@@ -37,14 +50,24 @@ pub fn cut(track: &Track, index: u32, range: Window) -> Option<Window>
     Some(Window { first, last })
 }
 
-/// The ticks between the nodes of the piece, within its useable span. All but the last are its own.
-fn covered(track: &Track, index: u32) -> Window
-    requires { index < length (intervals_of (plain_track track.now)) }
-    ensures ticks { IsSomeAnd (slice_get (intervals_of (plain_track track.now)) index) (λ x. (m : ℕ) → Holds result m ↔ Covers m x) }
-    ensures own { (m : ℕ) → Holds result m → m < result.last.micros → interval_index_at (plain_track track.now) m ≡ Some index }
+/// Whether the track is at the piece that was found.
+fn is_at(track: &Track, at: Tick, found: FoundPiece) -> bool
+    ensures { IsTrue result ↔ interval_index_at (plain_track track.now) at.micros ≡ Some found.index }
 {
-    let (segment, number) = place(track, index);
-    let piece = piece_of(segment, number);
+    match find(track, at, found.hint()) {
+        Some(other) => other.index == found.index,
+        None => false,
+    }
+}
+
+/// The ticks between the nodes of the piece, within its useable span. All but the last are its own.
+fn covered(track: &Track, found: FoundPiece) -> Window
+    requires { IsPlace track.now.segments found }
+    ensures ticks { IsSomeAnd (slice_get (intervals_of (plain_track track.now)) found.index) (λ x. (m : ℕ) → Holds result m ↔ Covers m x) }
+    ensures own { (m : ℕ) → Holds result m → m < result.last.micros → interval_index_at (plain_track track.now) m ≡ Some found.index }
+{
+    let segment = found_segment(track, found);
+    let piece = piece_of(segment, found.node as usize);
     Window {
         first: piece.t0.later(segment.first),
         last: piece.t1.earlier(segment.last),

@@ -1,5 +1,5 @@
 //! The pieces of a track: which one a tick falls into, and what it is.
-ghost use Rattle.std.specs.Prelude.{◌≡◌, ℕ, ◌+◌, ◌^◌, ◌<◌, ◌≤◌, length, Some, IfSome, IsSomeAnd, slice_get};
+ghost use Rattle.std.specs.Prelude.{◌≡◌, ℕ, ◌+◌, ◌^◌, ◌<◌, ◌≤◌, length, Some, IfSome, IsSomeAnd, option_map, slice_get, slice_index_or};
 ghost use Rattle.cj_track.specs.Nodes.{IsStep, AreNodes};
 ghost use Rattle.cj_track.specs.Segments.{AreSegments, starts_from};
 ghost use Rattle.cj_track.specs.Tracks.{plain_node, plain_segment, plain_track};
@@ -8,10 +8,38 @@ ghost use Rattle.cj_hermite.specs.Pieces.{intervals_of_arc, intervals_of, interv
 ghost use Rattle.cj_hermite.specs.PiecesOfTracks.{Covers, Spans, IsInSegment, first_state, last_state, interval_with};
 ghost use Rattle.cj_hermite.specs.Searches.{IsLastStarted, IsPlace};
 
+use crate::found_pieces::FoundPiece;
+use crate::hints::Hint;
 use crate::pieces::Piece;
-use crate::searches::{last_begun, last_reached, last_started};
+use crate::searches::{last_begun_from, last_reached_from, last_started};
 use cj_epoch::Tick;
 use cj_track::{Node, Segment, Track};
+
+/// The piece in which a track is at a tick, or none where it has no state. The hint and what follows it are looked at first.
+pub fn find(track: &Track, at: Tick, hint: Hint) -> Option<FoundPiece>
+    ensures value { option_map (λ found. found.index) result ≡ interval_index_at (plain_track track.now) at.micros }
+    ensures place { IfSome result (IsPlace track.now.segments) }
+    ensures exists { IfSome result (λ found. found.index < length (intervals_of (plain_track track.now))) }
+    ensures interval { IfSome result (λ found. slice_get (intervals_of (plain_track track.now)) found.index ≡ interval_at (plain_track track.now) at.micros) }
+    ensures covered { IfSome result (λ found. IsSomeAnd (interval_at (plain_track track.now) at.micros) (Covers at.micros)) }
+
+    // No later tick has an earlier piece.
+    ensures later { IfSome result (λ found. (m number : ℕ) → at.micros ≤ m → interval_index_at (plain_track track.now) m ≡ Some number → found.index ≤ number) }
+{
+    let segments = track.segments.as_slice();
+    let number = last_begun_from(segments, at, hint.segment)?;
+    let segment = &segments[number];
+    if segment.last.micros < at.micros {
+        return None;
+    }
+    let start = track.segments.starts()[number];
+    let node = last_reached_from(segment.nodes.as_slice(), at, hint.node) as u32;
+    Some(FoundPiece {
+        index: start + node,
+        segment: number as u32,
+        node,
+    })
+}
 
 /// The number of the piece at a tick, or none where the track has no state.
 pub fn piece_at(track: &Track, at: Tick) -> Option<u32>
@@ -23,14 +51,8 @@ pub fn piece_at(track: &Track, at: Tick) -> Option<u32>
     // No later tick has an earlier piece.
     ensures later { IfSome result (λ index. (m number : ℕ) → at.micros ≤ m → interval_index_at (plain_track track.now) m ≡ Some number → index ≤ number) }
 {
-    let segments = track.segments.as_slice();
-    let number = last_begun(segments, at)?;
-    let segment = &segments[number];
-    if segment.last.micros < at.micros {
-        return None;
-    }
-    let start = track.segments.starts()[number];
-    Some(start + last_reached(segment.nodes.as_slice(), at) as u32)
+    let found = find(track, at, Hint::default())?;
+    Some(found.index)
 }
 
 /// The piece with this number.
@@ -39,19 +61,41 @@ pub fn piece(track: &Track, index: u32) -> Piece
     ensures states { IsSomeAnd (slice_get (intervals_of (plain_track track.now)) index) (Spans result) }
     ensures curve { IsSomeAnd (slice_get (intervals_of (plain_track track.now)) index) (λ x. curve_of result ≡ curve_of_interval x) }
 {
-    let (segment, number) = place(track, index);
-    piece_of(segment, number)
+    found_piece(track, by_number(track, index))
 }
 
-/// The segment in which the piece with this number lies, and the piece's number in it.
-pub fn place(track: &Track, index: u32) -> (&Segment, usize)
+/// Where the piece with this number is.
+pub fn by_number(track: &Track, index: u32) -> FoundPiece
     requires { index < length (intervals_of (plain_track track.now)) }
-    ensures place { IsPlace index track.now.segments result.0.now result.1 }
+    ensures same { result.index ≡ index }
+    ensures place { IsPlace track.now.segments result }
+{
+    let segment = segment_number(track, index);
+    let start = track.segments.starts()[segment];
+    FoundPiece {
+        index,
+        segment: segment as u32,
+        node: index - start,
+    }
+}
+
+/// The piece that was found.
+pub fn found_piece(track: &Track, found: FoundPiece) -> Piece
+    requires { IsPlace track.now.segments found }
+    ensures states { IsSomeAnd (slice_get (intervals_of (plain_track track.now)) found.index) (Spans result) }
+    ensures curve { IsSomeAnd (slice_get (intervals_of (plain_track track.now)) found.index) (λ x. curve_of result ≡ curve_of_interval x) }
+{
+    piece_of(found_segment(track, found), found.node as usize)
+}
+
+/// The segment in which a piece was found.
+pub fn found_segment(track: &Track, found: FoundPiece) -> &Segment
+    requires { IsPlace track.now.segments found }
+    ensures is { result.now ≡ slice_index_or track.now.segments found.segment result.now }
+    ensures within { found.node + 1 < length result.now.nodes }
     ensures kept { AreSegments track.now.segments }
 {
-    let number = segment_number(track, index);
-    let start = track.segments.starts()[number];
-    (&track.segments.as_slice()[number], (index - start) as usize)
+    &track.segments.as_slice()[found.segment as usize]
 }
 
 /// The piece of a segment with this number, counted from the segment's first.

@@ -6,7 +6,8 @@ ghost use Rattle.cj_hermite.specs.Pieces.{interval_at, interval_index_at, curve_
 ghost use Rattle.cj_hermite.specs.PlainProblems.{number_at, curve_at};
 ghost use Rattle.cj_hermite.specs.Problems.{plain_problem};
 
-use crate::finding::{piece, piece_at};
+use crate::finding::{find, found_piece};
+use crate::hints::Hint;
 use crate::pieces::Piece;
 use crate::problem::Problem;
 use cj_epoch::Tick;
@@ -17,8 +18,8 @@ pub(crate) fn piece_of_track(track: &Track, at: Tick) -> Piece
     requires { is_some (interval_index_at (plain_track track.now) at.micros) ≡ true }
     ensures { option_map curve_of_interval (interval_at (plain_track track.now) at.micros) ≡ Some (curve_of result) }
 {
-    match piece_at(track, at) {
-        Some(index) => piece(track, index),
+    match find(track, at, Hint::default()) {
+        Some(found) => found_piece(track, found),
         None => unreachable!(),
     }
 }

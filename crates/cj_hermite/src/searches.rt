@@ -1,11 +1,11 @@
 //! Binary searches over the segments and the nodes of a track.
-ghost use Rattle.std.specs.Prelude.{ℕ, ◌+◌, ◌<◌, ◌≤◌, length, MatchOption, slice_index};
+ghost use Rattle.std.specs.Prelude.{ℕ, ◌+◌, ◌<◌, ◌≤◌, ◌↔◌, length, IsTrue, MatchOption, slice_index};
 ghost use Rattle.std.specs.List.Sorted.{IsNonDecreasing};
 ghost use Rattle.cj_track.specs.declared.node.Node.{Node};
 ghost use Rattle.cj_track.specs.Nodes.{AreNodes};
 ghost use Rattle.cj_track.specs.Segments.{AreInOrder};
 ghost use Rattle.cj_track.specs.Useable.{LiesWithin};
-ghost use Rattle.cj_hermite.specs.Searches.{IsLastBegun, AllLater, AreReached, IsFromNode, IsLastStarted};
+ghost use Rattle.cj_hermite.specs.Searches.{IsLastBegun, AllLater, AreReached, HasBegun, IsFromNode, IsLastStarted, IsReached};
 
 use cj_epoch::Tick;
 use cj_track::{Node, Segment};
@@ -20,6 +20,36 @@ pub fn last_begun(segments: &[Segment], at: Tick) -> Option<usize>
         .checked_sub(1)
 }
 
+/// The same. The segment with this number and the next are looked at first.
+pub fn last_begun_from(segments: &[Segment], at: Tick, hint: u32) -> Option<usize>
+    requires { AreInOrder segments.now }
+    ensures { MatchOption result (AllLater at.micros segments.now) (IsLastBegun at.micros segments.now) }
+{
+    let hint = hint as usize;
+    if is_last_begun(segments, at, hint) {
+        return Some(hint);
+    }
+    if is_last_begun(segments, at, hint + 1) {
+        return Some(hint + 1);
+    }
+    last_begun(segments, at)
+}
+
+/// Whether this is the last segment that begins at the tick or before.
+#[tactic(auto, using(crate::proofs::SearchLemmas::last_begun_is))]
+fn is_last_begun(segments: &[Segment], at: Tick, number: usize) -> bool
+    ensures { IsTrue result → IsLastBegun at.micros segments.now number }
+{
+    has_begun(segments, at, number) && !has_begun(segments, at, number + 1)
+}
+
+/// Whether there is a segment with this number, and it begins at the tick or before.
+fn has_begun(segments: &[Segment], at: Tick, number: usize) -> bool
+    ensures { IsTrue result ↔ HasBegun at.micros segments.now number }
+{
+    number < segments.len() && segments[number].first.micros <= at.micros
+}
+
 /// The node from which the piece at the tick begins.
 pub fn last_reached(nodes: &[Node], at: Tick) -> usize
     requires nodes { AreNodes nodes.now }
@@ -28,6 +58,41 @@ pub fn last_reached(nodes: &[Node], at: Tick) -> usize
     ensures from { (d : Node) → IsFromNode at.micros nodes.now result d }
 {
     (reached(nodes, at) - 1).min(nodes.len() - 2)
+}
+
+/// The same. The node with this number and the next are looked at first.
+pub fn last_reached_from(nodes: &[Node], at: Tick, hint: u32) -> usize
+    requires nodes { AreNodes nodes.now }
+    requires within { LiesWithin at.micros at.micros nodes.now }
+    ensures exists { result + 1 < length nodes.now }
+    ensures from { (d : Node) → IsFromNode at.micros nodes.now result d }
+{
+    let hint = hint as usize;
+    if is_last_reached(nodes, at, hint) {
+        return hint;
+    }
+    if is_last_reached(nodes, at, hint + 1) {
+        return hint + 1;
+    }
+    last_reached(nodes, at)
+}
+
+/// Whether this is the node from which the piece at the tick begins.
+fn is_last_reached(nodes: &[Node], at: Tick, number: usize) -> bool
+    requires nodes { AreNodes nodes.now }
+    requires within { LiesWithin at.micros at.micros nodes.now }
+    ensures exists { IsTrue result → number + 1 < length nodes.now }
+    ensures from { IsTrue result → (d : Node) → IsFromNode at.micros nodes.now number d }
+{
+    is_reached(nodes, at, number) && !is_reached(nodes, at, number + 1)
+}
+
+/// Whether there is a node with this number, not the last, and it stands at the tick or before.
+fn is_reached(nodes: &[Node], at: Tick, number: usize) -> bool
+    requires { AreNodes nodes.now }
+    ensures { IsTrue result ↔ IsReached at.micros nodes.now number }
+{
+    number < nodes.len() - 1 && nodes[number].at.micros <= at.micros
 }
 
 /// How many nodes stand at the tick or before.

@@ -227,3 +227,37 @@ fn a_cut_leaves_what_belongs_to_a_later_piece(rt: HostRuntime) -> Result<(), Fai
     assert_eq!(rt; cut(&track, 2, late), None);
     Ok(())
 }
+
+#[test]
+fn a_hint_changes_no_run(rt: HostRuntime) -> Result<(), Fail> {
+    let track = track(&rt, rt.alloc())?;
+    let before = |millis: u64| Tick::nearest(1_735_689_600_000_000 + millis * 1000 - 1);
+    let runs = [
+        (0, Some((at(0), before(30_000), 0))),
+        (30_000, Some((at(30_000), before(45_000), 2))),
+        (50_000, Some((at(50_000), at(60_000), 3))),
+        (60_001, Some((at(90_000), before(95_000), 4))),
+        (95_000, Some((at(95_000), at(100_000), 5))),
+        (100_001, None),
+    ];
+    let hints = [
+        (0, 0),
+        (0, 1),
+        (1, 0),
+        (2, 0),
+        (2, 1),
+        (3, 0),
+        (3, 9),
+        (4, 0),
+        (u32::MAX, u32::MAX),
+    ];
+    for (from, expected) in runs {
+        for (segment, node) in hints {
+            let mut hint = Hint { segment, node };
+            let run = run_from(&track, at(from), at(200_000), &mut hint);
+            let told = run.map(|run| (run.ticks.first, run.ticks.last, run.index));
+            assert_eq!(rt; told, expected, "from {from} at {segment}, {node}");
+        }
+    }
+    Ok(())
+}

@@ -9,16 +9,16 @@ use Rattle.cj_hermite.proofs.cutting.covered.Goals as goal
 pub returns-clause-ticks : goal.returns-clause-ticks
 returns-clause-ticks c =
     let segments = c.args.track.now.segments in
-    let s = c.place-number.result.0.now in
+    let s = c.found_segment-segment.result.now in
     between_ends s.first.micros s.last.micros c.piece_of-piece.result (record { first = c.later.result; last = c.earlier.result })
-    (slice_get (intervals_of (plain_track c.args.track.now)) c.args.index)
-    (at_place c.args.index c.place-number.result.1 segments s c.place-number.ensures.place ∙ c.piece_of-piece.ensures.value) c.later.ensures c.earlier.ensures
+    (slice_get (intervals_of (plain_track c.args.track.now)) c.args.found.index)
+    (at_place segments c.args.found s c.requires c.found_segment-segment.ensures.is ∙ c.piece_of-piece.ensures.value) c.later.ensures c.earlier.ensures
 
 pub returns-clause-own : goal.returns-clause-own
 returns-clause-own c = λ m held before.
-    let s = c.place-number.result.0.now in
+    let s = c.found_segment-segment.result.now in
     let piece = c.piece_of-piece.result in
-    let found = own_tick m c.args.index c.place-number.result.1 c.args.track.now.segments s piece c.place-number.ensures.kept c.piece_of-piece.ensures.nodes c.place-number.ensures.place
+    let found = own_tick m c.args.track.now.segments c.args.found s piece c.found_segment-segment.ensures.kept c.piece_of-piece.ensures.nodes c.requires c.found_segment-segment.ensures.is
     c.piece_of-piece.ensures.value (omega (arith, held.after, c.later.ensures)) (omega (arith, held.after, c.later.ensures)) (omega (arith, before, c.earlier.ensures))
     (omega (arith, before, c.earlier.ensures)) in
-    sym (is_at (plain_track c.args.track.now) m c.args.index found).index
+    sym (is_at (plain_track c.args.track.now) m c.args.found.index found).index

@@ -8,14 +8,14 @@ use Rattle.cj_hermite.specs.Pieces.{intervals_of, interval_index_at}
 use Rattle.cj_hermite.specs.Searches.{IsFromNode}
 use Rattle.cj_hermite.proofs.CoverLemmas.{Misses}
 use Rattle.cj_hermite.proofs.LaterLemmas.{later_than_found}
-use Rattle.cj_hermite.proofs.PieceLemmas.{intervals_through, all_later, all_apart, none_at, IsLastFound, IsAt, is_at, found_in, length-starts, number_fits}
-use Rattle.cj_hermite.proofs.finding.piece_at.Goals as goal
+use Rattle.cj_hermite.proofs.PieceLemmas.{intervals_through, all_later, all_apart, none_at, IsLastFound, IsAt, is_at, found_in, length-starts, number_fits, segment_fits}
+use Rattle.cj_hermite.proofs.finding.find.Goals as goal
 
 pub returns-in_err-number-clause-value : goal.returns-in_err-number-clause-value
 returns-in_err-number-clause-value c =
     let m = c.args.at.micros in
     let misses = subst (λ (s : List Segment). Misses m (intervals_through s)) c.as_slice-segments.ensures.value (all_later m c.as_slice-segments.result.now c.in_err-number.ensures) in
-    c.from_residual.ensures ∙ sym (none_at (plain_track c.args.track.now) m misses)
+    rw c.from_residual.ensures (sym (none_at (plain_track c.args.track.now) m misses))
 
 pub returns-then-segment-at-clause-value : goal.returns-then-segment-at-clause-value
 returns-then-segment-at-clause-value c =
@@ -36,29 +36,32 @@ bounds-starts-number c =
     )
 
 -- the number is that of a piece
-fits : (c : goal.After-last_reached) → get_or c.starts.result.now c.in_ok-number.number 0 + c.last_reached.result < 2 ^ 32
+fits : (c : goal.After-last_reached_from-node) → get_or c.starts.result.now c.in_ok-number.number 0 + c.last_reached_from-node.result < 2 ^ 32
 fits c =
     let number = c.in_ok-number.number in
-    let below : c.last_reached.result + 1 < length c.index-segments-number.result.nodes = omega (arith, c.last_reached.ensures.exists, ap (λ (nodes : List Node). length nodes) c.as_slice.ensures.value) in
-    let here = number_fits number c.last_reached.result c.as_slice-segments.result.now c.index-segments-number.result c.as_slice-segments.ensures.kept c.in_ok-number.ensures.exists
+    let below : c.last_reached_from-node.result + 1 < length c.index-segments-number.result.nodes = omega (arith, c.last_reached_from-node.ensures.exists, ap (λ (nodes : List Node). length nodes) c.as_slice.ensures.value) in
+    let here = number_fits number c.last_reached_from-node.result c.as_slice-segments.result.now c.index-segments-number.result c.as_slice-segments.ensures.kept c.in_ok-number.ensures.exists
     c.index-segments-number.is below in
     let starts : c.starts.result.now ≡ starts_from 0 c.as_slice-segments.result.now = c.starts.ensures.value ∙ ap (λ (s : List Segment). starts_from 0 s) (sym c.as_slice-segments.ensures.value) in
-    subst (λ (xs : List ℕ). get_or xs number 0 + c.last_reached.result < 2 ^ 32) (sym starts) here
+    subst (λ (xs : List ℕ). get_or xs number 0 + c.last_reached_from-node.result < 2 ^ 32) (sym starts) here
 
-place : (c : goal.After-last_reached) → IsAt (plain_track c.args.track.now) c.args.at.micros (get_or c.starts.result.now c.in_ok-number.number 0 + c.last_reached.result)
+place : (c : goal.After-last_reached_from-node) → IsAt (plain_track c.args.track.now) c.args.at.micros (get_or c.starts.result.now c.in_ok-number.number 0 + c.last_reached_from-node.result)
 place c =
     let m = c.args.at.micros in
     let k = c.in_ok-number.number in
-    let i = c.last_reached.result in
-    let from = subst (λ (nodes : List Node). (d : Node) → IsFromNode m nodes i d) c.as_slice.ensures.value c.last_reached.ensures.from in
+    let i = c.last_reached_from-node.result in
+    let from = subst (λ (nodes : List Node). (d : Node) → IsFromNode m nodes i d) c.as_slice.ensures.value c.last_reached_from-node.ensures.from in
     let found = found_in m k i c.as_slice-segments.result.now c.index-segments-number.result c.as_slice-segments.ensures.kept.order c.in_ok-number.ensures c.index-segments-number.is c.if-segment-at.false
     (subst (λ (nodes : List Node). AreNodes nodes) c.as_slice.ensures.value c.as_slice.ensures.kept) from in
     let of_track = subst (λ (s : List Segment). IsLastFound m (get_or (starts_from 0 s) k 0 + i) (intervals_through s)) c.as_slice-segments.ensures.value found in
     subst (λ (starts : List ℕ). IsAt (plain_track c.args.track.now) m (get_or starts k 0 + i)) (sym c.starts.ensures.value)
     (is_at (plain_track c.args.track.now) m (get_or (starts_from 0 c.args.track.now.segments) k 0 + i) of_track)
 
+pub overflow_cast-node : goal.overflow_cast-node
+overflow_cast-node c = omega (arith, fits c)
+
 pub overflow_cast-result : goal.overflow_cast-result
-overflow_cast-result c = omega (arith, fits c)
+overflow_cast-result c = omega (arith, segment_fits c.in_ok-number.number c.as_slice-segments.result.now c.as_slice-segments.ensures.kept c.in_ok-number.ensures.exists)
 
 pub overflow_add-result : goal.overflow_add-result
 overflow_add-result c = omega (arith, fits c)
@@ -80,12 +83,12 @@ returns-clause-later c =
     let e = plain_track c.args.track.now in
     let m = c.args.at.micros in
     let k = c.in_ok-number.number in
-    let i = c.last_reached.result in
+    let i = c.last_reached_from-node.result in
     let segments = c.as_slice-segments.result.now in
     let all : intervals_of e ≡ intervals_through segments = ap (λ (s : List Segment). intervals_through s) (sym c.as_slice-segments.ensures.value) in
     let starts : c.starts.result.now ≡ starts_from 0 segments = c.starts.ensures.value ∙ ap (λ (s : List Segment). starts_from 0 s) (sym c.as_slice-segments.ensures.value) in
     let number : get_or c.starts.result.now k 0 + i ≡ get_or (starts_from 0 segments) k 0 + i = ap (λ (xs : List ℕ). get_or xs k 0 + i) starts in
-    let from = subst (λ (nodes : List Node). (d : Node) → IsFromNode m nodes i d) c.as_slice.ensures.value c.last_reached.ensures.from in
+    let from = subst (λ (nodes : List Node). (d : Node) → IsFromNode m nodes i d) c.as_slice.ensures.value c.last_reached_from-node.ensures.from in
     subst (λ (index : ℕ). (n j : ℕ) → m ≤ n → interval_index_at e n ≡ Some j → index ≤ j) (sym number)
     (later_than_found m k i e segments c.index-segments-number.result all c.as_slice-segments.ensures.kept.order c.in_ok-number.ensures c.index-segments-number.is
     (subst (λ (nodes : List Node). AreNodes nodes) c.as_slice.ensures.value c.as_slice.ensures.kept) from

@@ -1,7 +1,7 @@
 use Rattle.std.proofs.Common.{◌≡◌, ◌≤◌, ◌+◌, ◌-◌}
 use Rattle.cj_track.specs.Tracks.{plain_track}
 use Rattle.cj_hermite.specs.CommonRuns.{runs_between, both_numbers}
-use Rattle.cj_hermite.proofs.common_runs.next_common.Given as goal
+use Rattle.cj_hermite.proofs.common_runs.next_common_pieces.Given as goal
 
 -- no common run begins before the tick that is reached
 abbrev pub invariant-loop-x : goal.invariant-loop-x
