@@ -1,13 +1,13 @@
 -- Pairs that are not looked at in a slot, by shells and boxes that hold their objects, are far at each of its common ticks.
-use Rattle.std.proofs.Common.{◌≡◌, ℕ, ◌<◌, ◌≤◌, Bool, true, false, ◌&&◌, not, List, Option, Some, None, refl, subst, arith}
+use Rattle.std.proofs.Common.{◌≡◌, ℕ, ◌<◌, ◌≤◌, Bool, true, false, ◌&&◌, not, List, Option, Some, None, refl, subst}
 use Rattle.std.specs.Prelude.{IfSome, IsSomeAnd, slice_get}
 use Rattle.cj_track.specs.PlainTracks.{PlainTrack}
-use Rattle.cj_hermite.specs.PlainProblems.{PlainProblem, threshold_of, OfObjectsAt}
+use Rattle.cj_hermite.specs.PlainProblems.{PlainProblem, threshold_of}
 use Rattle.cj_hermite.specs.Distance.{IsFar}
 use Rattle.cj_hermite.specs.Pieces.{PlainPiece, interval_at, curve_of_interval, OfBothAt}
 use Rattle.cj_hermite.specs.Slots.{slot_first, slot_last, slot_of}
 use Rattle.cj_hermite.specs.Walks.{HasNone}
-use Rattle.cj_hermite.proofs.StateLemmas.{IsState, has, lacks, state}
+use Rattle.cj_hermite.proofs.StateLemmas.{has, lacks, state}
 use Rattle.cj_hermite.proofs.SlotLemmas.{slot_exists, slot_begins, slot_ends}
 use Rattle.cj_bezier.specs.declared.shells.Shell.{Shell}
 use Rattle.cj_bezier.specs.Looked.{looked_by}

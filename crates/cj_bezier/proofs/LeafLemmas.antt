@@ -1,5 +1,5 @@
 -- The leaves of a root: they lie in it in order, hold each of its ticks, and each is true at each of its own.
-use Rattle.std.proofs.Common.{◌≡◌, ℕ, zero, suc, ◌+◌, ◌-◌, ◌^◌, ◌<◌, ◌≤◌, List, [], ◌∷◌, ◌++◌, length, Option, Some, None, refl, ap, ◌∙◌, arith, length-append}
+use Rattle.std.proofs.Common.{◌≡◌, ℕ, zero, suc, ◌+◌, ◌-◌, ◌^◌, ◌<◌, ◌≤◌, List, [], ◌∷◌, ◌++◌, length, Option, Some, None, refl, sym, ap, subst, ◌∙◌, arith, length-append}
 use Rattle.std.specs.List.{flat_map}
 use Rattle.cj_hermite.specs.Interpolant.{Curve, IsOver}
 use Rattle.cj_hermite.specs.PlainProblems.{PlainProblem, curve_at, threshold_of}
@@ -21,7 +21,7 @@ use Rattle.cj_bezier.proofs.JudgeLemmas.{kind_holds, settled_over}
 -- ---- by its two interpolants
 
 pub leaves_are : (case : PlainProblem) (r : PlainCell) (c d : Curve) → r.first ≤ r.last → HaveCurves case r.a r.b r.first r.last c d →
-    leaves_of_root case r ≡ leaves_between (kind_between c d case.threshold) r.a r.b r.first r.last
+    leaves_of_root case r ≡ leaves_between (kind_between c d (threshold_of case r.a r.b)) r.a r.b r.first r.last
 unfolding leaves_of_root
 leaves_are case r c d le have =
     let first = have.first_curve r.first (omega arith) le in
@@ -33,15 +33,17 @@ over_part : (c : Curve) (first last from to : ℕ) → IsOver c first last → f
 over_part c first last from to over low high = record { some = over.some; from = omega (arith, over.from); to = omega (arith, over.to) }
 
 true_leaf : (case : PlainProblem) (r : PlainCell) (c d : Curve) → 10 ^ 9 ≤ case.threshold → IsOver c r.first r.last → IsOver d r.first r.last → HaveCurves case r.a r.b r.first r.last c d → (s : PlainLeaf) →
-    IsLeaf (HasKind (kind_between c d case.threshold)) r.a r.b r.first r.last s → IsTrueThroughout case s
+    IsLeaf (HasKind (kind_between c d (threshold_of case r.a r.b))) r.a r.b r.first r.last s → IsTrueThroughout case s
 true_leaf case r c d big oc od have s leaf m low high =
     let a : s.a ≡ r.a = leaf.first_object in
     let b : s.b ≡ r.b = leaf.second_object in
-    of_objects case s.a s.b m c d (λ x y. Holds s.kind x y case.threshold m)
+    let same : threshold_of case r.a r.b ≡ threshold_of case s.a s.b = λ i. threshold_of case (sym a i) (sym b i) in
+    of_objects case s.a s.b m c d (λ x y. Holds s.kind x y (threshold_of case s.a s.b) m)
     (ap (λ (x : ℕ). curve_at case x m) a ∙ have.first_curve m (omega (arith, leaf.from)) (omega (arith, leaf.to)))
     (ap (λ (x : ℕ). curve_at case x m) b ∙ have.second_curve m (omega (arith, leaf.from)) (omega (arith, leaf.to)))
-    (kind_holds c d case.threshold s.first s.last m s.kind big
-    (over_part c r.first r.last s.first s.last oc leaf.from leaf.to) (over_part d r.first r.last s.first s.last od leaf.from leaf.to) leaf.judged low high)
+    (subst (λ (thr : ℕ). Holds s.kind c d thr m) same
+    (kind_holds c d (threshold_of case r.a r.b) s.first s.last m s.kind (omega arith)
+    (over_part c r.first r.last s.first s.last oc leaf.from leaf.to) (over_part d r.first r.last s.first s.last od leaf.from leaf.to) leaf.judged low high))
 
 -- the leaves of a root describe it
 pub described : (case : PlainProblem) (r : PlainCell) (c d : Curve) → 10 ^ 9 ≤ case.threshold → r.first ≤ r.last → IsOver c r.first r.last → IsOver d r.first r.last → HaveCurves case r.a r.b r.first r.last c d →
@@ -49,10 +51,10 @@ pub described : (case : PlainProblem) (r : PlainCell) (c d : Curve) → 10 ^ 9 �
 unfolding leaves_between
 described case r c d big le oc od have =
     let ss = leaves_of_root case r in
-    let judge = kind_between c d case.threshold in
+    let judge = kind_between c d (threshold_of case r.a r.b) in
     let tile : Tile (HasKind judge) r.a r.b r.first r.last (leaves_of_root case r) =
     let same = leaves_are case r c d le have in
-    rw same (tiles judge r.a r.b (r.last - r.first) r.first r.last le (omega arith) (settled_over c d case.threshold r.first r.last big oc od)) in
+    rw same (tiles judge r.a r.b (r.last - r.first) r.first r.last le (omega arith) (settled_over c d (threshold_of case r.a r.b) r.first r.last (omega arith) oc od)) in
     let leaves : Each (IsLeaf (HasKind judge) r.a r.b r.first r.last) ss = Each-tile (HasKind judge) r.a r.b r.first r.first r.last ss (omega arith) tile in
     let parts : Each (IsPartOf r) ss =
     Each-weaker (IsLeaf (HasKind judge) r.a r.b r.first r.last) (IsPartOf r)
@@ -96,12 +98,12 @@ some_leaf : (case : PlainProblem) (r : PlainCell) → IsRootOf case r → 0 < le
 unfolding leaves_of_root leaves_between
 some_leaf case r is = go (curves_of case r.a r.b r.first r.last (root_intervals case r is))
   where
-    go : Curves case r.a r.b r.first r.last → 0 < length (leaves_of_curves r case.threshold (curve_at case r.a r.first) (curve_at case r.b r.first))
+    go : Curves case r.a r.b r.first r.last → 0 < length (leaves_of_curves r (threshold_of case r.a r.b) (curve_at case r.a r.first) (curve_at case r.b r.first))
     go (curves c d have) =
         let root = is.root in
         let first = have.first_curve r.first (omega arith) root.some in
         let second = have.second_curve r.first (omega arith) root.some in
-        rw (first, second) (some_within (kind_between c d case.threshold) r.a r.b (r.last - r.first) r.first r.last)
+        rw (first, second) (some_within (kind_between c d (threshold_of case r.a r.b)) r.a r.b (r.last - r.first) r.first r.last)
 
 pub fewer_roots : (case : PlainProblem) (rs : List PlainCell) → Each (IsRootOf case) rs → length rs ≤ length (leaves_of_roots case rs)
 unfolding leaves_of_roots

@@ -91,6 +91,13 @@ from_node e from last first to piece is =
     let node : piece.t0.micros ≡ is.interval.from.at = ap (λ (s : PlainNode). s.at) is.spans.from in
     omega (arith, covers.from)
 
+pub to_node : (e : PlainTrack) (from last first to : ℕ) (piece : Piece) → IsPieceOf e from last first to piece → to ≤ piece.t1.micros
+to_node e from last first to piece is =
+    let run = is.run in
+    let covers = (of_number e to is.index is.interval run.interval (run.here to run.some (omega arith))).covers in
+    let node : piece.t1.micros ≡ is.interval.to.at = ap (λ (s : PlainNode). s.at) is.spans.to in
+    omega (arith, covers.to)
+
 -- ---- in time
 
 in_time_none : (e : PlainTrack) (m : ℕ) → interval_index_at e m ≡ None → IsInTime e m

@@ -1,11 +1,11 @@
 -- What is looked at: in each slot the pairs of objects whose shells are not parted and whose boxes touch.
 use Rattle.std.specs.Prelude.{ℕ, Bool, ◌&&◌, List, map, filter, length, Option}
-use Rattle.cj_hermite.specs.PlainProblems.{PlainProblem, threshold_of}
+use Rattle.cj_hermite.specs.PlainProblems.{PlainProblem}
 use Rattle.cj_hermite.specs.Pairs.{pairs_of}
 use Rattle.cj_hermite.specs.Slots.{slot_first, slot_last}
 use Rattle.cj_bezier.specs.declared.shells.Shell.{Shell}
-use Rattle.cj_bezier.specs.Shells.{shell_of, keeps}
-use Rattle.cj_bezier.specs.SlotBoxes.{PlainBox, box_of, touch}
+use Rattle.cj_bezier.specs.Shells.{shell_of, keeps_between}
+use Rattle.cj_bezier.specs.SlotBoxes.{PlainBox, box_of, touch_between}
 
 -- the shells of all objects in the window
 unfoldable pub shells_of : PlainProblem → List (Option Shell)
@@ -17,15 +17,15 @@ boxes_in case slot = map (λ e. box_of e (slot_first case.first slot) (slot_last
 
 -- the shells of a pair are not parted
 abbrev pub is_kept : PlainProblem → ℕ × ℕ → Bool
-is_kept case pair = keeps (threshold_of case pair.0 pair.1) (shells_of case) pair
+is_kept case = keeps_between case.threshold case.sizes (shells_of case)
 
 -- the boxes of a pair touch in a slot
 abbrev pub is_touching : PlainProblem → ℕ → ℕ × ℕ → Bool
-is_touching case slot pair = touch (threshold_of case pair.0 pair.1) (boxes_in case slot) pair
+is_touching case slot = touch_between case.threshold case.sizes (boxes_in case slot)
 
 -- a pair is looked at in a slot, by these shells and these boxes in each slot: its shells are not parted, and its boxes touch
 abbrev pub looked_by : PlainProblem → List (Option Shell) → (ℕ → List (Option PlainBox)) → ℕ → ℕ → ℕ → Bool
-looked_by case shells boxes a b slot = keeps (threshold_of case a b) shells (a, b) && touch (threshold_of case a b) (boxes slot) (a, b)
+looked_by case shells boxes a b slot = keeps_between case.threshold case.sizes shells (a, b) && touch_between case.threshold case.sizes (boxes slot) (a, b)
 
 -- by the shells and boxes of its objects
 unfoldable pub is_looked : PlainProblem → ℕ → ℕ → ℕ → Bool

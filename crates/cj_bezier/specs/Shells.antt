@@ -1,8 +1,10 @@
 -- Shells: between which distances from the origin an interpolant stays.
-use Rattle.std.specs.Prelude.{◌≡◌, ℕ, zero, suc, ◌+◌, ◌-◌, ◌*◌, ◌<◌, ◌≤◌, ◌⊎◌, ◌==◌, min, max, nat_lt, Bool, false, ◌||◌, not, if◌then◌else◌, ℤ, pos, ◌+ℤ◌, ◌*ℤ◌, ◌≤ℤ◌, List, [], ◌∷◌, Option, Some, None, option_and_then, slice_get}
+use Rattle.std.specs.Prelude.{◌≡◌, ℕ, zero, suc, ◌+◌, ◌-◌, ◌*◌, ◌<◌, ◌≤◌, ◌⊎◌, ◌==◌, min, max, nat_lt, Bool, false, ◌||◌, not, if◌then◌else◌}
+use Rattle.std.specs.Prelude.{ℤ, pos, ◌+ℤ◌, ◌*ℤ◌, ◌≤ℤ◌, List, [], ◌∷◌, Option, Some, None, option_and_then, slice_get}
 use Rattle.std.specs.List.{list_all}
 use Rattle.cj_track.specs.PlainTracks.{PlainTrack}
 use Rattle.cj_hermite.specs.Interpolant.{Curve, place_numerator, place_denominator}
+use Rattle.cj_hermite.specs.PlainProblems.{threshold_between}
 use Rattle.cj_bezier.specs.declared.shells.Shell.{Shell}
 use Rattle.cj_bezier.specs.Gaps.{PlainGap, gap_terms}
 use Rattle.cj_bezier.specs.Hulls.{PlainHull}
@@ -88,3 +90,7 @@ shell_in shells object = option_and_then (λ shell. shell) (slice_get shells obj
 -- whether a pair of objects with these shells is kept
 abbrev pub keeps : ℕ → List (Option Shell) → ℕ × ℕ → Bool
 keeps thr shells pair = are_kept thr (shell_in shells pair.0) (shell_in shells pair.1)
+
+-- the same, by the threshold between the two, which have these sizes
+abbrev pub keeps_between : ℕ → List ℕ → List (Option Shell) → ℕ × ℕ → Bool
+keeps_between thr sizes shells pair = keeps (threshold_between thr sizes pair.0 pair.1) shells pair

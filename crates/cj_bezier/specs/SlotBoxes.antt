@@ -5,6 +5,7 @@ use Rattle.std.specs.List.{fold}
 use Rattle.cj_track.specs.PlainTracks.{PlainTrack}
 use Rattle.cj_interval.specs.Spans.{IsIn, least, greatest}
 use Rattle.cj_hermite.specs.Interpolant.{Four, Curve, place_numerator, place_denominator}
+use Rattle.cj_hermite.specs.PlainProblems.{threshold_between}
 use Rattle.cj_bezier.specs.declared.axis_box.AxisBox.{AxisBox}
 use Rattle.cj_bezier.specs.Hulls.{PlainHull, Ends}
 use Rattle.cj_bezier.specs.Parts.{OfEachHull, hulls_of}
@@ -113,6 +114,10 @@ reaches_in boxes object = option_and_then (λ box. box) (slice_get boxes object)
 -- whether a pair of objects with these boxes touches
 abbrev pub touch : ℕ → List (Option PlainBox) → ℕ × ℕ → Bool
 touch thr boxes pair = both_touch thr (reaches_in boxes pair.0) (reaches_in boxes pair.1)
+
+-- the same, by the threshold between the two, which have these sizes
+abbrev pub touch_between : ℕ → List ℕ → List (Option PlainBox) → ℕ × ℕ → Bool
+touch_between thr sizes boxes pair = touch (threshold_between thr sizes pair.0 pair.1) boxes pair
 
 -- how far the boxes of a list reach
 abbrev pub plain_boxes : List (Option AxisBox) → List (Option PlainBox)

@@ -8,11 +8,11 @@ ghost use Rattle.cj_bezier.specs.Parts.{AreInTime, hulls_of};
 use crate::hull_of_piece::hull;
 use crate::part::Part;
 use cj_epoch::Tick;
-use cj_hermite::{next_run, piece, piece_at};
+use cj_hermite::{Hint, run_from};
 use cj_track::Track;
 
-/// The first part of a track from one tick to another.
-pub fn next_part(track: &Track, from: Tick, last: Tick) -> Option<Part>
+/// The first part of a track from one tick to another. The hint then says where it is.
+pub fn next_part(track: &Track, from: Tick, last: Tick, hint: &mut Hint) -> Option<Part>
     // There is none exactly where the track has no state.
     ensures none { IfNone result (HasNone (plain_track track.now) from.micros last.micros) }
 
@@ -25,10 +25,9 @@ pub fn next_part(track: &Track, from: Tick, last: Tick) -> Option<Part>
     // A track's intervals come in order of time.
     ensures time { IfSome result (λ part. AreInTime (plain_track track.now) from.micros part.last.micros) }
 {
-    let run = next_run(track, from, last)?;
-    let index = piece_at(track, run.last)?;
+    let run = run_from(track, from, last, hint)?;
     Some(Part {
-        hull: hull(&piece(track, index), run.first, run.last),
-        last: run.last,
+        hull: hull(&run.piece, run.ticks.first, run.ticks.last),
+        last: run.ticks.last,
     })
 }

@@ -16,8 +16,8 @@ use Rattle.cj_hermite.specs.Walks.{HasNone}
 use Rattle.cj_hermite.proofs.PairLemmas.{IsPair, Each-pairs}
 use Rattle.cj_bezier.specs.declared.axis_box.AxisBox.{AxisBox}
 use Rattle.cj_bezier.specs.declared.shells.Shell.{Shell}
-use Rattle.cj_bezier.specs.Shells.{IsRadiusWithin, keeps, shell_of}
-use Rattle.cj_bezier.specs.SlotBoxes.{PlainBox, IsPlaceIn, plain_boxes, box_of, plain_box, touch}
+use Rattle.cj_bezier.specs.Shells.{IsRadiusWithin, keeps_between, shell_of}
+use Rattle.cj_bezier.specs.SlotBoxes.{PlainBox, IsPlaceIn, plain_boxes, box_of, plain_box, touch_between}
 use Rattle.cj_bezier.specs.Looked.{boxes_in, is_kept, is_touching, is_looked, pairs_kept, pairs_looked, shells_of}
 use Rattle.cj_bezier.specs.Enclosed.{AreInBoxes, AreInShells, IsInBox, IsInShell}
 
@@ -125,12 +125,13 @@ filter_both p q (pair ∷ ps) = go (filter_both p q ps) (p pair)
     go rest false = rest
 
 -- the pairs of a slot that are looked at: of the kept ones those that touch
-pub pairs_looked_is : (case : PlainProblem) (slot : ℕ) (found kept : List (ℕ × ℕ)) (boxes : List (Option PlainBox)) → kept ≡ pairs_kept case → boxes ≡ boxes_in case slot
-    → found ≡ filter (touch case.threshold boxes) kept → found ≡ pairs_looked case slot
+pub pairs_looked_is : (case : PlainProblem) (slot : ℕ) (found kept : List (ℕ × ℕ)) (boxes : List (Option PlainBox)) (sizes : List ℕ) → kept ≡ pairs_kept case → boxes ≡ boxes_in case slot → sizes ≡ case.sizes
+    → found ≡ filter (touch_between case.threshold sizes boxes) kept → found ≡ pairs_looked case slot
 unfolding is_looked
-pairs_looked_is case slot found kept boxes all same touching =
-    touching ∙ ap (filter (touch case.threshold boxes)) all
-    ∙ ap (λ (bs : List (Option PlainBox)). filter (touch case.threshold bs) (pairs_kept case)) same
+pairs_looked_is case slot found kept boxes sizes all same sized touching =
+    touching ∙ ap (filter (touch_between case.threshold sizes boxes)) all
+    ∙ ap (λ (bs : List (Option PlainBox)). filter (touch_between case.threshold sizes bs) (pairs_kept case)) same
+    ∙ ap (λ (ss : List ℕ). filter (touch_between case.threshold ss (boxes_in case slot)) (pairs_kept case)) sized
     ∙ filter_both (is_kept case) (is_touching case slot) (pairs_of (length case.ephemerides))
 
 each_filtered : (P : ℕ × ℕ → Type 0) (p : ℕ × ℕ → Bool) (ps : List (ℕ × ℕ)) → Each P ps → Each P (filter p ps)
@@ -162,7 +163,9 @@ as_many_boxes case slot boxes same =
     ∙ length-map case.ephemerides (λ e. box_of e (slot_first case.first slot) (slot_last case.first case.last slot))
 
 -- the pairs that are kept
-pub kept_is : (case : PlainProblem) (shells : List (Option Shell)) → shells ≡ shells_of case → filter (keeps case.threshold shells) (pairs_of (length shells)) ≡ pairs_kept case
-kept_is case shells same =
-    ap (λ (n : ℕ). filter (keeps case.threshold shells) (pairs_of n)) (as_many_shells case shells same)
-    ∙ ap (λ (ss : List (Option Shell)). filter (keeps case.threshold ss) (pairs_of (length case.ephemerides))) same
+pub kept_is : (case : PlainProblem) (shells : List (Option Shell)) (sizes : List ℕ) → shells ≡ shells_of case → sizes ≡ case.sizes
+    → filter (keeps_between case.threshold sizes shells) (pairs_of (length shells)) ≡ pairs_kept case
+kept_is case shells sizes same sized =
+    ap (λ (n : ℕ). filter (keeps_between case.threshold sizes shells) (pairs_of n)) (as_many_shells case shells same)
+    ∙ ap (λ (ss : List (Option Shell)). filter (keeps_between case.threshold sizes ss) (pairs_of (length case.ephemerides))) same
+    ∙ ap (λ (ss : List ℕ). filter (keeps_between case.threshold ss (shells_of case)) (pairs_of (length case.ephemerides))) sized

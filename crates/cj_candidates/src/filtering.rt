@@ -16,7 +16,7 @@ use crate::slot_boxes::{all_boxes, boxes_in_slot};
 use cj_bezier::{AxisBox, Shell};
 use cj_cells::{RefineError, roots_of_slot};
 use cj_grid::touching_of;
-use cj_hermite::{Pair, Problem, slot_count};
+use cj_hermite::{Hints, Pair, Problem, slot_count};
 use cj_sieve::{kept_pairs, shell};
 use std::alloc::{AllocError, Global};
 
@@ -42,13 +42,15 @@ pub fn find_candidates(
     let shells = all_shells(alloc, problem)?;
     let slots = slot_count(problem.window);
     let boxes = all_boxes(alloc, problem, slots)?;
-    let kept = kept_pairs(alloc, &shells, problem.threshold)?;
+    let sizes = problem.sizes.as_slice();
+    let kept = kept_pairs(alloc, &shells, sizes, problem.threshold)?;
+    let mut hints = Hints::new(alloc, problem.tracks.as_slice().len())?;
     let mut roots = Vec::new(alloc);
     let mut touching = 0;
     for slot in 0..slots {
         let pairs = looked_pairs(alloc, problem, &boxes, &kept, slots, slot)?;
         touching += pairs.len() as u64;
-        roots_of_slot(alloc, problem, slot, &pairs, limit, &mut roots)?;
+        roots_of_slot(alloc, problem, slot, &pairs, limit, &mut hints, &mut roots)?;
     }
     Ok(Candidates {
         shells,
@@ -75,7 +77,8 @@ fn looked_pairs(
     ensures { IfOk result (λ pairs. map objects_of pairs.items ≡ pairs_looked (plain_problem problem.now) slot) }
 {
     let here = boxes_in_slot(alloc, problem, boxes, slots, slot)?;
-    touching_of(alloc, kept, &here, problem.threshold)
+    let sizes = problem.sizes.as_slice();
+    touching_of(alloc, kept, &here, sizes, problem.threshold)
 }
 
 /// The shells of all objects in the window.

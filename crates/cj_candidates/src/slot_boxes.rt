@@ -11,7 +11,7 @@ ghost use Rattle.cj_bezier.specs.Enclosed.{AreInBoxes, IsInBox};
 use cj_bezier::AxisBox;
 use cj_epoch::Window;
 use cj_grid::slot_box;
-use cj_hermite::Problem;
+use cj_hermite::{Hint, Problem};
 use cj_track::Track;
 use std::alloc::{AllocError, Global};
 
@@ -45,8 +45,9 @@ fn append_boxes(
     ensures hold { OnOk result ((slot : ℕ) → slot < slots → let from = slot_first window.first.micros slot in let to = slot_last window.first.micros window.last.micros slot in
         IsInBox from to (plain_track track.now) (box_of (plain_track track.now) from to)) }
 {
+    let mut hint = Hint::default();
     for slot in 0..slots {
-        boxes.push(slot_box(track, window, slot))?;
+        boxes.push(slot_box(track, window, slot, &mut hint))?;
     }
     Ok(())
 }

@@ -1,13 +1,13 @@
 -- The one-thread list: its stretches are sound and in order, and hold each common tick that is looked at.
-use Rattle.std.proofs.Common.{◌≡◌, ℕ, ◌+◌, ◌-◌, Bool, true, List, [], ◌∷◌, length, refl, ◌∙◌, arith, length-append}
-use Rattle.std.specs.Prelude.{All, Any, AllPairs}
+use Rattle.std.proofs.Common.{◌≡◌, ℕ, ◌+◌, ◌-◌, ◌≤◌, Bool, true, List, [], ◌∷◌, length, refl, sym, ap, subst, ◌∙◌, arith, length-append}
+use Rattle.std.specs.Prelude.{All, Any, AllPairs, is_some}
 use Rattle.std.specs.List.{flat_map, sum_by}
 use Rattle.std.proofs.lemmas.List.Sums.{sum_by-cons}
-use Rattle.cj_hermite.specs.PlainProblems.{PlainProblem, number_at, curve_at, IsCommonOf}
+use Rattle.cj_hermite.specs.PlainProblems.{PlainProblem, number_at, curve_at, threshold_of, IsCommonOf}
 use Rattle.cj_bezier.specs.Halving.{leaves_between}
 use Rattle.cj_hermite.specs.Slots.{slot_of}
 use Rattle.cj_bezier.specs.Looked.{is_looked}
-use Rattle.cj_hermite.specs.Roots.{PlainCell, roots_of, IsRootBefore}
+use Rattle.cj_hermite.specs.Roots.{PlainCell, KeepIntervals, roots_of, IsRootBefore}
 use Rattle.cj_bezier.specs.Order.{IsBefore}
 use Rattle.cj_bezier.specs.RootLeaves.{kind_between, leaves_of_curves, leaves_of_root, leaves_of_roots, IsTrueThroughout, IsPartOf, Describe}
 use Rattle.cj_cells.specs.Lists.{list_of, list_looked, splits_of_curves, splits_of_root, splits_of, IsSound}
@@ -69,6 +69,24 @@ root_across case r q is is' before =
     }) (leaves_of_root case q) (root_parts case q is'))
     (leaves_of_root case r) (root_parts case r is)
 
+-- a part of ticks that keep their intervals keeps them
+keep_part : (case : PlainProblem) (a b first last from to : ℕ) → KeepIntervals case a b first last → first ≤ from → from ≤ to → to ≤ last → KeepIntervals case a b from to
+keep_part case a b first last from to keep low some high =
+    let here = keep.same from low (omega arith) in
+    record {
+      same = λ m after before. keep.same m (omega arith) (omega arith) ∙ sym here;
+      states = ap is_some here ∙ keep.states;
+    }
+
+root_keeps : (case : PlainProblem) (r : PlainCell) → IsDescribed case r → Each (λ s. KeepIntervals case s.a s.b s.first s.last) (leaves_of_root case r)
+root_keeps case r is =
+    Each-weaker (IsPartOf r) (λ s. KeepIntervals case s.a s.b s.first s.last)
+    (λ s part.
+    subst (λ (a : ℕ). KeepIntervals case a s.b s.first s.last) (sym part.first_object)
+    (subst (λ (b : ℕ). KeepIntervals case r.a b s.first s.last) (sym part.second_object)
+    (keep_part case r.a r.b r.first r.last s.first s.last (root_intervals case r is.root) part.from part.some part.to)))
+    (leaves_of_root case r) (root_parts case r is)
+
 module _ (looked : ℕ → ℕ → ℕ → Bool) (case : PlainProblem) (leaves : All (λ r. Describe case r (leaves_of_root case r)) (roots_of looked case)) where
   each_described : Each (IsDescribed case) (roots_of looked case)
   each_described = both_facts case (roots_of looked case) (Each-roots looked case) (each_from_All (λ r. Describe case r (leaves_of_root case r)) (roots_of looked case) leaves)
@@ -79,6 +97,13 @@ module _ (looked : ℕ → ℕ → ℕ → Bool) (case : PlainProblem) (leaves :
       All-from_each (IsSound case) (flat_map (leaves_of_root case) (roots_of looked case))
       (Each-flat_map (IsSound case) (leaves_of_root case) (roots_of looked case)
       (Each-weaker (IsDescribed case) (λ r. Each (IsSound case) (leaves_of_root case r)) (root_sound case) (roots_of looked case) each_described))
+
+  pub list_keeps : All (λ s. KeepIntervals case s.a s.b s.first s.last) (list_of looked case)
+  unfolding list_of leaves_of_roots
+  list_keeps =
+      All-from_each (λ s. KeepIntervals case s.a s.b s.first s.last) (flat_map (leaves_of_root case) (roots_of looked case))
+      (Each-flat_map (λ s. KeepIntervals case s.a s.b s.first s.last) (leaves_of_root case) (roots_of looked case)
+      (Each-weaker (IsDescribed case) (λ r. Each (λ s. KeepIntervals case s.a s.b s.first s.last) (leaves_of_root case r)) (root_keeps case) (roots_of looked case) each_described))
 
   pub list_ordered : AllPairs IsBefore (list_of looked case)
   unfolding list_of leaves_of_roots
@@ -104,12 +129,12 @@ root_split : (case : PlainProblem) (r : PlainCell) → IsRootOf case r → lengt
 unfolding leaves_of_root leaves_between splits_of_root
 root_split case r is = go (curves_of case r.a r.b r.first r.last (root_intervals case r is))
   where
-    go : Curves case r.a r.b r.first r.last → length (leaves_of_curves r case.threshold (curve_at case r.a r.first) (curve_at case r.b r.first)) ≡ 1 + splits_of_curves r case.threshold (curve_at case r.a r.first) (curve_at case r.b r.first)
+    go : Curves case r.a r.b r.first r.last → length (leaves_of_curves r (threshold_of case r.a r.b) (curve_at case r.a r.first) (curve_at case r.b r.first)) ≡ 1 + splits_of_curves r (threshold_of case r.a r.b) (curve_at case r.a r.first) (curve_at case r.b r.first)
     go (curves c d have) =
         let root = is.root in
         let first = have.first_curve r.first (omega arith) root.some in
         let second = have.second_curve r.first (omega arith) root.some in
-        rw (first, second) (leaves_split (kind_between c d case.threshold) r.a r.b (r.last - r.first) r.first r.last)
+        rw (first, second) (leaves_split (kind_between c d (threshold_of case r.a r.b)) r.a r.b (r.last - r.first) r.first r.last)
 
 roots_split : (case : PlainProblem) (rs : List PlainCell) → Each (IsRootOf case) rs → length (leaves_of_roots case rs) ≡ length rs + sum_by (splits_of_root case) rs
 unfolding leaves_of_roots

@@ -1,12 +1,12 @@
 //! Cells: the roots of a run, their halving, and the leaves that they come to.
 #![tactic(auto)]
 
-mod judging;
 mod listing;
 mod looking;
 mod ordering;
 mod outcome;
 mod preparing;
+mod ready_look;
 mod refine_error;
 mod refining;
 mod rooting;

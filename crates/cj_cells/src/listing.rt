@@ -65,6 +65,9 @@ pub fn leaves_of(
     ensures complete { OnOk result ((a b m : ℕ) → IsCommonOf (plain_problem problem.now) a b m → is_looked (plain_problem problem.now) a b (slot_of problem.now.window.first.micros m) ≡ true
         → Any (IsTickOf a b m) (list_looked (plain_problem problem.now))) }
     ensures ordered { OnOk result (AreInOrder (list_looked (plain_problem problem.now))) }
+
+    // Over each stretch both its objects are in one interval.
+    ensures intervals { OnOk result (All (λ s. KeepIntervals (plain_problem problem.now) s.a s.b s.first s.last) (list_looked (plain_problem problem.now))) }
 {
     order_roots(&mut roots);
     refine_all(alloc, problem, &roots, limit)

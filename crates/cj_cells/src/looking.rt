@@ -7,9 +7,9 @@ ghost use Rattle.cj_cells.specs.Looks.{kind_found, IfClosed, IfHalves};
 ghost use Rattle.cj_bezier.specs.Cells.{AreHalves};
 ghost use Rattle.cj_hermite.specs.Roots.{KeepIntervals};
 
-use crate::judging::look_at;
 use crate::outcome::Look;
 use crate::preparing::prepare;
+use crate::ready_look::look_at;
 use cj_bezier::Cell;
 use cj_hermite::Problem;
 

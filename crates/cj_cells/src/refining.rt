@@ -9,9 +9,9 @@ ghost use Rattle.cj_bezier.specs.Halving.{leaves_between};
 ghost use Rattle.cj_bezier.specs.Cells.{plain_cell};
 ghost use Rattle.cj_cells.specs.Cells.{added_stretches};
 
-use crate::judging::look_at;
 use crate::outcome::Look;
 use crate::preparing::prepare;
+use crate::ready_look::look_at;
 use crate::refine_error::RefineError;
 use cj_bezier::{Cell, Leaf};
 use cj_epoch::Tick;

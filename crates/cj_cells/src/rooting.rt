@@ -11,7 +11,7 @@ ghost use Rattle.cj_cells.specs.Cells.{added_roots};
 use crate::refine_error::RefineError;
 use cj_bezier::Cell;
 use cj_epoch::Window;
-use cj_hermite::{Pair, Problem, next_common, slot_window};
+use cj_hermite::{Hints, Pair, PairHint, Problem, next_common, slot_window};
 use cj_track::Track;
 use std::alloc::Global;
 
@@ -45,6 +45,7 @@ fn walk(
     b: &Track,
     slot: Window,
     limit: u64,
+    hint: &mut PairHint,
     roots: &mut Vec<Cell>,
 ) -> Result<(), RefineError>
     requires some { slot.first.micros ≤ slot.last.micros }
@@ -61,7 +62,7 @@ fn walk(
     ensures root { All (λ cell. cell.root ≡ 0) (drop (vec_len roots.old) roots.new.items) }
 {
     let mut from = slot.first;
-    while let Some(ticks) = next_common(a, b, from, slot.last) {
+    while let Some(ticks) = next_common(a, b, from, slot.last, hint) {
         append(pair, ticks, limit, roots)?;
         if ticks.last.micros == slot.last.micros {
             return Ok(());
@@ -72,12 +73,14 @@ fn walk(
 }
 
 /// Appends the roots of pairs of existing objects in a slot, with root number 0. After a refusal a prefix of them is appended.
+/// The hints say where the objects are in this slot, as good ones for the next.
 pub fn roots_of_slot(
     _alloc: Global,
     problem: &Problem,
     slot: u32,
     pairs: &[Pair],
     limit: u64,
+    hints: &mut Hints,
     roots: &mut Vec<Cell>,
 ) -> Result<(), RefineError>
     requires exist { All (λ pair. pair.b < length problem.now.tracks) pairs.now }
@@ -103,7 +106,9 @@ pub fn roots_of_slot(
     for pair in pairs {
         let a = &tracks[pair.a as usize];
         let b = &tracks[pair.b as usize];
-        walk(*pair, a, b, ticks, limit, roots)?;
+        let mut hint = hints.of_pair(*pair);
+        walk(*pair, a, b, ticks, limit, &mut hint, roots)?;
+        hints.keep(*pair, hint);
     }
     Ok(())
 }

@@ -1,9 +1,10 @@
 ghost use Rattle.std.specs.Prelude.{◌≡◌, ◌≤◌, length, IfOk};
 ghost use Rattle.cj_track.specs.Segments.{node_count};
+ghost use Rattle.cj_hermite.specs.Limits.{MAX_SIZE};
 
 use super::*;
 use cj_bezier::{Cell, Kind, Leaf};
-use cj_hermite::{Pair, Problem, Tracks};
+use cj_hermite::{Hints, Pair, Problem, Sizes, Tracks};
 use cj_samples::{
     AT_7000, AT_7005, AT_7100, REST, moving, node, rest, seconds, tick, track_of, track_of_two,
     useable,
@@ -15,17 +16,30 @@ use std::test::Fail;
 
 const BOTH: [Pair; 1] = [Pair { a: 0, b: 1 }];
 
-/// Two tracks over a minute and one tick, by a threshold of 5 km.
+/// Two tracks of points over a minute and one tick, by a threshold of 5 km.
 fn problem_of(alloc: Global, a: Track, b: Track) -> Result<Problem, AllocError>
     requires frame { a.frame ≡ b.frame }
     requires few_of_a { node_count a.segments ≤ 4 }
     requires few_of_b { node_count b.segments ≤ 4 }
     ensures { IfOk result (λ problem. length problem.tracks ≡ 2) }
 {
+    sized(alloc, a, b, 0, 0)
+}
+
+/// The same of objects of these sizes.
+fn sized(alloc: Global, a: Track, b: Track, size_a: u64, size_b: u64) -> Result<Problem, AllocError>
+    requires frame { a.frame ≡ b.frame }
+    requires few_of_a { node_count a.segments ≤ 4 }
+    requires few_of_b { node_count b.segments ≤ 4 }
+    requires small_a { size_a ≤ MAX_SIZE }
+    requires small_b { size_b ≤ MAX_SIZE }
+    ensures { IfOk result (λ problem. length problem.tracks ≡ 2) }
+{
     Ok(Problem {
         tracks: Tracks::new(vec![in alloc; a, b]?),
         window: seconds(0, 60),
         threshold: 5_000_000_000_000,
+        sizes: Sizes::new(vec![in alloc; size_a, size_b]?),
     })
 }
 
@@ -72,8 +86,9 @@ fn crossing(alloc: Global) -> Result<Problem, AllocError>
 fn runs_in(alloc: Global, problem: &Problem, slot: u32) -> Result<Vec<(u64, u64)>, RefineError>
     requires { length problem.now.tracks ≡ 2 }
 {
+    let mut hints = Hints::new(alloc, 2)?;
     let mut roots = Vec::new(alloc);
-    roots_of_slot(alloc, problem, slot, &BOTH, 10, &mut roots)?;
+    roots_of_slot(alloc, problem, slot, &BOTH, 10, &mut hints, &mut roots)?;
     let mut runs = Vec::new(alloc);
     for root in &roots {
         runs.push((
@@ -87,8 +102,9 @@ fn runs_in(alloc: Global, problem: &Problem, slot: u32) -> Result<Vec<(u64, u64)
 /// The leaves of the first root of the crossing.
 fn first_leaves(alloc: Global, limit: u64) -> Result<Vec<Leaf>, RefineError> {
     let problem = crossing(alloc)?;
+    let mut hints = Hints::new(alloc, 2)?;
     let mut roots = Vec::new(alloc);
-    roots_of_slot(alloc, &problem, 0, &BOTH, 1, &mut roots)?;
+    roots_of_slot(alloc, &problem, 0, &BOTH, 1, &mut hints, &mut roots)?;
     refine_all(alloc, &problem, &roots, limit)
 }
 
@@ -96,9 +112,10 @@ fn first_leaves(alloc: Global, limit: u64) -> Result<Vec<Leaf>, RefineError> {
 fn all_leaves(alloc: Global, problem: &Problem, limit: u64) -> Result<Vec<Leaf>, RefineError>
     requires { length problem.now.tracks ≡ 2 }
 {
+    let mut hints = Hints::new(alloc, 2)?;
     let mut roots = Vec::new(alloc);
-    roots_of_slot(alloc, problem, 0, &BOTH, 10, &mut roots)?;
-    roots_of_slot(alloc, problem, 1, &BOTH, 10, &mut roots)?;
+    roots_of_slot(alloc, problem, 0, &BOTH, 10, &mut hints, &mut roots)?;
+    roots_of_slot(alloc, problem, 1, &BOTH, 10, &mut hints, &mut roots)?;
     refine_all(alloc, problem, &roots, limit)
 }
 
@@ -196,12 +213,42 @@ fn spans_that_meet_at_one_tick(rt: HostRuntime) -> Result<(), Fail> {
     Ok(())
 }
 
+/// The kind of the only leaf of two objects at rest, 5.003 km apart, of these sizes.
+fn kind_at_rest(alloc: Global, size_a: u64, size_b: u64) -> Result<Option<Kind>, RefineError>
+    requires small_a { size_a ≤ MAX_SIZE }
+    requires small_b { size_b ≤ MAX_SIZE }
+{
+    let beyond = Vec3 {
+        x: 7_005_003_000_000_000,
+        y: 0,
+        z: 0,
+    };
+    let a = track_of(alloc, rest(alloc, 0, 59, AT_7000)?)?;
+    let b = track_of(alloc, rest(alloc, 0, 59, beyond)?)?;
+    let problem = sized(alloc, a, b, size_a, size_b)?;
+    let leaves = all_leaves(alloc, &problem, 1)?;
+    Ok(leaves.first().map(|leaf| leaf.kind))
+}
+
+#[test]
+fn the_sizes_of_both_objects_count(rt: HostRuntime) -> Result<(), Fail> {
+    let alloc = rt.alloc();
+    let metre = 1_000_000_000;
+    assert_eq!(rt; kind_at_rest(alloc, 0, 0)?, Some(Kind::Far));
+    assert_eq!(rt; kind_at_rest(alloc, 3 * metre, 0)?, Some(Kind::Near));
+    assert_eq!(rt; kind_at_rest(alloc, 0, 3 * metre)?, Some(Kind::Near));
+    assert_eq!(rt; kind_at_rest(alloc, metre, 2 * metre)?, Some(Kind::Near));
+    assert_eq!(rt; kind_at_rest(alloc, metre, metre)?, Some(Kind::Far));
+    Ok(())
+}
+
 #[test]
 fn a_look_halves_at_the_middle(rt: HostRuntime) -> Result<(), Fail> {
     let alloc = rt.alloc();
     let problem = crossing(alloc)?;
+    let mut hints = Hints::new(alloc, 2)?;
     let mut roots = Vec::new(alloc);
-    roots_of_slot(alloc, &problem, 0, &BOTH, 1, &mut roots)?;
+    roots_of_slot(alloc, &problem, 0, &BOTH, 1, &mut hints, &mut roots)?;
     assert_eq!(rt; roots.len(), 1);
     let root = roots[0];
     let left = Cell {

@@ -1,7 +1,8 @@
-ghost use Rattle.std.specs.Prelude.{◌≡◌, ◌+◌, ◌<◌, ◌≤◌, ◌≤ℤ◌, count_by, is_some};
+ghost use Rattle.std.specs.Prelude.{◌≡◌, ◌+◌, ◌<◌, ◌≤◌, ◌≤ℤ◌, All, count_by, is_some};
+ghost use Rattle.cj_hermite.specs.Limits.{MAX_SIZE};
 
 use super::*;
-use cj_hermite::Pair;
+use cj_hermite::{Hint, Pair};
 use cj_samples::{REST, moving, rest, track_of, track_of_two, window};
 use cj_track::{Track, Vec3};
 use std::alloc::{AllocError, Global};
@@ -68,6 +69,7 @@ fn corners(least: Vec3, most: Vec3) -> AxisBox
 fn a_straight_track_has_its_ends_in_the_slot(rt: HostRuntime) -> Result<(), Fail> {
     let track = straight(rt.alloc())?;
     let place = |x, y| Vec3 { x, y, z: 17 };
+    let mut hint = Hint::default();
     for (ticks, slot, least, most) in [
         (
             window(0, 90_000_000),
@@ -88,7 +90,7 @@ fn a_straight_track_has_its_ends_in_the_slot(rt: HostRuntime) -> Result<(), Fail
             place(7_201_000_003_000_000, 99_000_000_000_000),
         ),
     ] {
-        let area = slot_box(&track, ticks, slot);
+        let area = slot_box(&track, ticks, slot, &mut hint);
         assert_eq!(rt; area.map(|area| area.least), Some(least));
         assert_eq!(rt; area.map(|area| area.most), Some(most));
     }
@@ -110,6 +112,7 @@ fn a_box_goes_round_the_segments_of_its_slot(rt: HostRuntime) -> Result<(), Fail
     };
     let high = Some(corners(HIGH, HIGH));
     let low = Some(corners(LOW, LOW));
+    let mut hint = Hint::default();
     for (ticks, slot, expected) in [
         (window(0, 90_000_000), 0, Some(corners(least, most))),
         (window(0, 90_000_000), 1, low),
@@ -120,7 +123,7 @@ fn a_box_goes_round_the_segments_of_its_slot(rt: HostRuntime) -> Result<(), Fail
         (window(20_000_001, 40_000_000), 0, low),
         (window(90_000_000, 0), 0, None),
     ] {
-        assert_eq!(rt; slot_box(&track, ticks, slot), expected);
+        assert_eq!(rt; slot_box(&track, ticks, slot, &mut hint), expected);
     }
     Ok(())
 }
@@ -191,7 +194,7 @@ fn boxes_touch_up_to_the_threshold(rt: HostRuntime) -> Result<(), Fail> {
     ] {
         assert_eq!(rt; look::<Brand>(Blank::new(1), &a, &b), (expected, expected));
         let pair = [Pair { a: 0, b: 1 }];
-        let found = touching_of(rt.alloc(), &pair, &[Some(a), Some(b)], THRESHOLD)?;
+        let found = touching_of(rt.alloc(), &pair, &[Some(a), Some(b)], &[0, 0], THRESHOLD)?;
         assert_eq!(rt; found.len(), usize::from(expected));
     }
     Ok(())
@@ -201,26 +204,30 @@ fn boxes_touch_up_to_the_threshold(rt: HostRuntime) -> Result<(), Fail> {
 fn pairs_of_four<L: Ledger>(
     alloc: Global,
     boxes: &[Option<AxisBox>; 4],
+    sizes: &[u64; 4],
     steps: &mut Steps<L>,
 ) -> Result<Vec<Pair>, AllocError>
-    requires { count_by is_some boxes.now ≡ 3 }
+    requires three { count_by is_some boxes.now ≡ 3 }
+    requires small { All (λ size. size ≤ MAX_SIZE) sizes.now }
     ensures { steps.new ≤ steps.old + 9 }
 {
-    touching(alloc, boxes, THRESHOLD, steps)
+    touching(alloc, boxes, sizes, THRESHOLD, steps)
 }
 
 fn counted<L: Ledger>(
     blank: Blank,
     alloc: Global,
     boxes: &[Option<AxisBox>; 4],
+    sizes: &[u64; 4],
 ) -> Result<Vec<Pair>, AllocError>
     requires name { blank.name ≡ L.name }
     requires parts { blank.parts ≡ L.parts }
     requires some { 0 < blank.parts }
     requires three { count_by is_some boxes.now ≡ 3 }
+    requires small { All (λ size. size ≤ MAX_SIZE) sizes.now }
 {
     let mut steps = Steps::<L>::new(blank);
-    pairs_of_four(alloc, boxes, &mut steps)
+    pairs_of_four(alloc, boxes, sizes, &mut steps)
 }
 
 #[test]
@@ -228,7 +235,7 @@ fn touching_boxes_give_their_pairs_in_order(rt: HostRuntime) -> Result<(), Fail>
     let third = point(5_000_000_000_010, 0, 0);
     let fourth = point(10_000_000_000_010, 0, 0);
     let boxes = [Some(OWN), None, Some(third), Some(fourth)];
-    let found = counted::<Brand>(Blank::new(1), rt.alloc(), &boxes)?;
+    let found = counted::<Brand>(Blank::new(1), rt.alloc(), &boxes, &[0; 4])?;
     let expected = [Pair { a: 0, b: 2 }, Pair { a: 2, b: 3 }];
     assert_eq!(rt; found.as_slice(), expected.as_slice());
     Ok(())
@@ -245,8 +252,65 @@ fn of_kept_pairs_those_that_touch_are_found(rt: HostRuntime) -> Result<(), Fail>
         Pair { a: 3, b: 4 },
         Pair { a: 0, b: 1 },
     ];
-    let found = touching_of(rt.alloc(), &kept, &boxes, THRESHOLD)?;
+    let found = touching_of(rt.alloc(), &kept, &boxes, &[0; 4], THRESHOLD)?;
     let expected = [Pair { a: 1, b: 3 }, Pair { a: 0, b: 1 }];
+    assert_eq!(rt; found.as_slice(), expected.as_slice());
+    Ok(())
+}
+
+/// The pairs of three objects at a corner, three metres beyond the threshold from it, and at the other end of all numbers; the
+/// two calls agree.
+fn touching_with(alloc: Global, sizes: &[u64; 4]) -> Result<Vec<Pair>, AllocError>
+    requires { All (λ size. size ≤ MAX_SIZE) sizes.now }
+{
+    let corner = Some(corners(LEAST, LEAST));
+    let beyond = i64::MIN + 5_003_000_000_000;
+    let beside = Some(point(i64::MIN, beyond, i64::MIN));
+    let boxes = [corner, beside, None, Some(corners(MOST, MOST))];
+    let kept = [
+        Pair { a: 0, b: 1 },
+        Pair { a: 0, b: 2 },
+        Pair { a: 0, b: 3 },
+        Pair { a: 1, b: 3 },
+    ];
+    touching_of(alloc, &kept, &boxes, sizes, THRESHOLD)
+}
+
+/// The radii of two objects bridge three metres, or a nanometre less than that.
+#[test]
+fn sizes_let_a_pair_touch_beyond_the_threshold(rt: HostRuntime) -> Result<(), Fail> {
+    let alloc = rt.alloc();
+    let pair = Pair { a: 0, b: 1 };
+    assert!(rt; touching_with(alloc, &[0; 4])?.is_empty());
+    let both = touching_with(alloc, &[1_000_000_000, 2_000_000_000, 0, 0])?;
+    assert_eq!(rt; both.as_slice(), [pair].as_slice());
+    assert!(rt; touching_with(alloc, &[1_000_000_000, 1_999_999_999, 9, 9])?.is_empty());
+    let one = touching_with(alloc, &[0, 3_000_000_000, 0, 1_000_000_000_000])?;
+    assert_eq!(rt; one.as_slice(), [pair].as_slice());
+    Ok(())
+}
+
+/// The same by looking at all pairs.
+#[test]
+fn sizes_count_where_all_pairs_are_looked_at(rt: HostRuntime) -> Result<(), Fail> {
+    let boxes = [
+        Some(OWN),
+        None,
+        Some(point(5_003_000_000_010, 0, 0)),
+        Some(OWN),
+    ];
+    let sizes = [
+        1_000_000_000,
+        1_000_000_000_000,
+        2_000_000_000,
+        1_999_999_999,
+    ];
+    let found = counted::<Brand>(Blank::new(1), rt.alloc(), &boxes, &sizes)?;
+    let expected = [
+        Pair { a: 0, b: 2 },
+        Pair { a: 0, b: 3 },
+        Pair { a: 2, b: 3 },
+    ];
     assert_eq!(rt; found.as_slice(), expected.as_slice());
     Ok(())
 }

@@ -14,22 +14,22 @@ ghost use Rattle.cj_grid.specs.JoinedBoxes.{reaches_of_spans};
 use crate::joined_boxes::{box_of_hull, join_boxes};
 use cj_bezier::{AxisBox, next_part};
 use cj_epoch::{Tick, Window};
-use cj_hermite::{Box3, slot_window};
+use cj_hermite::{Box3, Hint, slot_window};
 use cj_track::{Track, Vec3};
 
 /// The smallest box round the hulls of all parts of a track in a window.
-fn box_round(track: &Track, window: Window) -> Option<Box3>
+fn box_round(track: &Track, window: Window, hint: &mut Hint) -> Option<Box3>
     ensures value { option_map reaches_of_spans result ≡ box_of (plain_track track.now) window.first.micros window.last.micros }
     ensures within { IfSome result (IsBoxWithin HULL_REACH) }
     ensures time { AreInTime (plain_track track.now) window.first.micros window.last.micros }
 {
-    let mut part = next_part(track, window.first, window.last)?;
+    let mut part = next_part(track, window.first, window.last, hint)?;
     let mut area = box_of_hull(&part.hull);
     while part.last.micros < window.last.micros {
         let from = Tick {
             micros: part.last.micros + 1,
         };
-        let Some(next) = next_part(track, from, window.last) else {
+        let Some(next) = next_part(track, from, window.last, hint) else {
             break;
         };
         area = join_boxes(area, box_of_hull(&next.hull));
@@ -66,7 +66,8 @@ fn by_corners(area: Box3) -> AxisBox
 }
 
 /// The smallest box in nm round the hulls of a track's parts in a slot of a window, if it has a state there.
-pub fn slot_box(track: &Track, window: Window, slot: u32) -> Option<AxisBox>
+/// The hint then says where the last of them is.
+pub fn slot_box(track: &Track, window: Window, slot: u32, hint: &mut Hint) -> Option<AxisBox>
     ensures value { IfSome result (IsBoxOf (plain_track track.now) (slot_first window.first.micros slot) (slot_last window.first.micros window.last.micros slot)) }
     ensures none { IfNone result (HasNone (plain_track track.now) (slot_first window.first.micros slot) (slot_last window.first.micros window.last.micros slot)) }
     ensures some { IfSome result (λ area. ¬ HasNone (plain_track track.now) (slot_first window.first.micros slot) (slot_last window.first.micros window.last.micros slot)) }
@@ -81,6 +82,6 @@ pub fn slot_box(track: &Track, window: Window, slot: u32) -> Option<AxisBox>
     ensures time { AreInTime (plain_track track.now) (slot_first window.first.micros slot) (slot_last window.first.micros window.last.micros slot) }
 {
     let ticks = slot_window(window, slot)?;
-    let area = box_round(track, ticks)?;
+    let area = box_round(track, ticks, hint)?;
     Some(by_corners(area))
 }

@@ -1,3 +1,6 @@
+ghost use Rattle.std.specs.Prelude.{◌≤◌, All};
+ghost use Rattle.cj_hermite.specs.Limits.{MAX_SIZE};
+
 use super::*;
 use cj_bezier::Shell;
 use cj_hermite::Pair;
@@ -128,8 +131,35 @@ fn kept_pairs_come_in_order(rt: HostRuntime) -> Result<(), Fail> {
         Pair { a: 0, b: 4 },
         Pair { a: 2, b: 4 },
     ];
-    let kept = kept_pairs(rt.alloc(), &shells, THRESHOLD)?;
+    let kept = kept_pairs(rt.alloc(), &shells, &[0; 6], THRESHOLD)?;
     assert_eq!(rt; kept.as_slice(), expected.as_slice());
-    assert!(rt; kept_pairs(rt.alloc(), &[], THRESHOLD)?.is_empty());
+    assert!(rt; kept_pairs(rt.alloc(), &[], &[], THRESHOLD)?.is_empty());
+    Ok(())
+}
+
+/// The pairs of three objects, the second of them three metres beyond the threshold from the others.
+fn kept_with(alloc: Global, sizes: &[u64; 3]) -> Result<Vec<Pair>, AllocError>
+    requires { All (λ size. size ≤ MAX_SIZE) sizes.now }
+{
+    let low = Some(thin(7_000_000_000_000_000));
+    let high = Some(thin(7_005_003_000_000_000));
+    kept_pairs(alloc, &[low, high, low], sizes, THRESHOLD)
+}
+
+/// The radii of two objects bridge three metres, or a nanometre less than that.
+#[test]
+fn sizes_keep_a_pair_beyond_the_threshold(rt: HostRuntime) -> Result<(), Fail> {
+    let alloc = rt.alloc();
+    let first = Pair { a: 0, b: 1 };
+    let same = Pair { a: 0, b: 2 };
+    let last = Pair { a: 1, b: 2 };
+    let without = kept_with(alloc, &[0, 0, 0])?;
+    assert_eq!(rt; without.as_slice(), [same].as_slice());
+    let both = kept_with(alloc, &[1_500_000_000, 1_500_000_000, 0])?;
+    assert_eq!(rt; both.as_slice(), [first, same].as_slice());
+    let less = kept_with(alloc, &[1_499_999_999, 1_500_000_000, 1_500_000_000])?;
+    assert_eq!(rt; less.as_slice(), [same, last].as_slice());
+    let greatest = kept_with(alloc, &[1_000_000_000_000, 0, 1_000_000_000_000])?;
+    assert_eq!(rt; greatest.as_slice(), [first, same, last].as_slice());
     Ok(())
 }

@@ -11,6 +11,7 @@ ghost use Rattle.cj_sieve.specs.JoinedGaps.{IsGapRound};
 use crate::joined_gaps::join_gaps;
 use cj_bezier::{Gap, Shell, gap_origin, greatest_square, least_square, next_part};
 use cj_epoch::{Tick, Window};
+use cj_hermite::Hint;
 use cj_interval::{isqrt_down, isqrt_up};
 use cj_track::Track;
 
@@ -22,13 +23,14 @@ fn gap_round(track: &Track, window: Window) -> Option<Gap>
     ensures time { AreInTime (plain_track track.now) window.first.micros window.last.micros }
     ensures bounded { IfSome result (λ gap. IsOuter (terms_of gap.terms) (10 ^ 18)) }
 {
-    let mut part = next_part(track, window.first, window.last)?;
+    let mut hint = Hint::default();
+    let mut part = next_part(track, window.first, window.last, &mut hint)?;
     let mut gap = gap_origin(&part.hull);
     while part.last.micros < window.last.micros {
         let from = Tick {
             micros: part.last.micros + 1,
         };
-        let Some(next) = next_part(track, from, window.last) else {
+        let Some(next) = next_part(track, from, window.last, &mut hint) else {
             break;
         };
         gap = join_gaps(gap, &gap_origin(&next.hull));

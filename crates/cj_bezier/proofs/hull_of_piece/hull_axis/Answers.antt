@@ -1,4 +1,4 @@
-use Rattle.std.proofs.Common.{ℕ, ◌≤◌, arith}
+use Rattle.std.proofs.Common.{◌≤◌, arith}
 use Rattle.std.proofs.lemmas.Grind.{common_steps}
 use Rattle.cj_hermite.specs.Ready.{controls_ready}
 use Rattle.cj_bezier.proofs.HullLemmas.{hull_narrow}

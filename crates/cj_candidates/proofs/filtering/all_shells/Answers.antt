@@ -1,4 +1,4 @@
-use Rattle.std.proofs.Common.{◌≡◌, ◌≤◌, ◌∙◌, List, map, All, sym, ap, subst, arith}
+use Rattle.std.proofs.Common.{◌∙◌, List, map, All, ap, subst, arith}
 use Rattle.std.proofs.lemmas.List.{take_all}
 use Rattle.cj_track.specs.declared.track.Track.{Track}
 use Rattle.cj_track.specs.Tracks.{plain_track}

@@ -1,11 +1,11 @@
-use Rattle.std.proofs.Common.{◌≡◌, ◌+◌, ◌*◌, ◌<◌, ◌≤◌, ◌++◌, ℕ, List, length, take, map, vec_len, All, refl, sym, ap, subst, ◌∙◌, arith}
+use Rattle.std.proofs.Common.{◌≡◌, ◌+◌, ◌<◌, ◌++◌, ℕ, List, length, take, map, vec_len, All, sym, ap, subst, ◌∙◌, arith}
 use Rattle.std.specs.Prelude.{Option}
 use Rattle.std.specs.List.{sum_by, range_with_len}
 use Rattle.std.proofs.lemmas.Result.{err_from_is_err_and}
 use Rattle.std.proofs.lemmas.List.{length-map}
 use Rattle.cj_track.specs.Tracks.{plain_track}
 use Rattle.cj_hermite.specs.declared.pair.Pair.{Pair}
-use Rattle.cj_hermite.specs.Pairs.{objects_of, pairs_of}
+use Rattle.cj_hermite.specs.Pairs.{objects_of}
 use Rattle.cj_hermite.specs.Problems.{plain_problem}
 use Rattle.cj_hermite.specs.Slots.{slot_count}
 use Rattle.cj_bezier.specs.declared.shells.Shell.{Shell}
@@ -27,6 +27,13 @@ kept_pairs-requires-clause-few c =
     let few = c.args.problem.now.few in
     omega (arith, count, ap (λ (xs : List (Option Shell)). length xs) c.deref.ensures.value, length-map c.args.problem.now.tracks plain_track)
 
+pub kept_pairs-requires-clause-sized : goal.kept_pairs-requires-clause-sized
+kept_pairs-requires-clause-sized c =
+    let problem = c.args.problem.now in
+    let count = as_many_shells (plain_problem problem) c.in_ok-shells.shells.items c.in_ok-shells.ensures.value in
+    let sized = problem.sized in
+    omega (arith, count, sized, ap (λ (xs : List ℕ). length xs) c.as_slice-sizes.ensures.value, ap (λ (xs : List (Option Shell)). length xs) c.deref.ensures.value, length-map problem.tracks plain_track)
+
 pub looked_pairs-requires-clause-boxes : goal.looked_pairs-requires-clause-boxes
 looked_pairs-requires-clause-boxes c = ap plain_boxes c.deref-in-loop-slot.ensures.value ∙ c.in_ok-boxes.ensures.value
 
@@ -34,7 +41,7 @@ pub looked_pairs-requires-clause-kept : goal.looked_pairs-requires-clause-kept
 looked_pairs-requires-clause-kept c =
     let case = plain_problem c.args.problem.now in
     ap (map objects_of) c.deref-in-loop-slot-2.ensures.value ∙ c.in_ok-kept.ensures.value
-    ∙ kept_is case c.deref.result.now (c.deref.ensures.value ∙ c.in_ok-shells.ensures.value)
+    ∙ kept_is case c.deref.result.now c.as_slice-sizes.result.now (c.deref.ensures.value ∙ c.in_ok-shells.ensures.value) c.as_slice-sizes.ensures.value
 
 pub roots_of_slot-requires-clause-exist : goal.roots_of_slot-requires-clause-exist
 roots_of_slot-requires-clause-exist c =
@@ -84,7 +91,7 @@ loop-slot-preserved c =
 pub returns-clause-kept : goal.returns-clause-kept
 returns-clause-kept c =
     let case = plain_problem c.args.problem.now in
-    c.in_ok-kept.ensures.value ∙ kept_is case c.deref.result.now (c.deref.ensures.value ∙ c.in_ok-shells.ensures.value)
+    c.in_ok-kept.ensures.value ∙ kept_is case c.deref.result.now c.as_slice-sizes.result.now (c.deref.ensures.value ∙ c.in_ok-shells.ensures.value) c.as_slice-sizes.ensures.value
 
 pub returns-clause-roots : goal.returns-clause-roots
 returns-clause-roots c =

@@ -1,4 +1,4 @@
-use Rattle.std.proofs.Common.{◌≡◌, ◌*◌, ◌<◌, ◌≤◌, ℕ, length, vec_len, All}
+use Rattle.std.proofs.Common.{◌≡◌, ◌*◌, ◌≤◌, length, vec_len}
 use Rattle.std.specs.List.{sum_by, range_with_len}
 use Rattle.cj_hermite.specs.Problems.{plain_problem}
 use Rattle.cj_bezier.specs.Cells.{plain_cells}

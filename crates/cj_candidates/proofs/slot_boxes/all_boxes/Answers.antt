@@ -1,4 +1,4 @@
-use Rattle.std.proofs.Common.{◌≡◌, ◌+◌, ◌*◌, ◌≤◌, ◌++◌, ◌∙◌, ℕ, List, [], ◌∷◌, map, length, All, sym, ap, subst, arith}
+use Rattle.std.proofs.Common.{◌++◌, ◌∙◌, ℕ, List, map, All, ap, subst, arith}
 use Rattle.std.specs.Prelude.{Option}
 use Rattle.std.specs.List.{flat_map}
 use Rattle.std.proofs.lemmas.List.{take_all}
@@ -6,7 +6,6 @@ use Rattle.cj_track.specs.declared.track.Track.{Track}
 use Rattle.cj_track.specs.PlainTracks.{PlainTrack}
 use Rattle.cj_track.specs.Tracks.{plain_track}
 use Rattle.cj_hermite.specs.Problems.{plain_problem}
-use Rattle.cj_hermite.specs.Slots.{slot_count}
 use Rattle.cj_bezier.specs.SlotBoxes.{PlainBox, plain_boxes}
 use Rattle.cj_candidates.specs.Boxes.{boxes_of, boxes_over}
 use Rattle.cj_candidates.proofs.ObjectLemmas.{IsInOwnBoxes, held_more, in_boxes}

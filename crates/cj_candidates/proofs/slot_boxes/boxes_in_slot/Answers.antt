@@ -1,12 +1,11 @@
-use Rattle.std.proofs.Common.{◌≡◌, ◌+◌, ◌*◌, ◌<◌, ◌∙◌, ◌++◌, ℕ, List, [], ◌∷◌, length, get_or, take, map, sym, ap, subst, arith}
+use Rattle.std.proofs.Common.{◌≡◌, ◌+◌, ◌*◌, ◌<◌, ◌∙◌, ◌++◌, ℕ, List, [], ◌∷◌, length, get_or, ap, arith}
 use Rattle.std.specs.Prelude.{Option, option_map}
 use Rattle.std.proofs.lemmas.List.{take_all, map-append, length-map}
 use Rattle.cj_track.specs.declared.track.Track.{Track}
 use Rattle.cj_track.specs.Tracks.{plain_track}
 use Rattle.cj_hermite.specs.Problems.{plain_problem}
-use Rattle.cj_hermite.specs.Slots.{slot_count, slot_first, slot_last}
-use Rattle.cj_bezier.specs.declared.axis_box.AxisBox.{AxisBox}
-use Rattle.cj_bezier.specs.SlotBoxes.{PlainBox, plain_boxes, plain_box, box_of}
+use Rattle.cj_hermite.specs.Slots.{slot_count}
+use Rattle.cj_bezier.specs.SlotBoxes.{PlainBox, plain_boxes, plain_box}
 use Rattle.cj_bezier.specs.Looked.{boxes_in}
 use Rattle.cj_candidates.proofs.BoxLemmas.{boxes_count, place_within, slot_more, objects_in_slot}
 use Rattle.cj_candidates.proofs.slot_boxes.boxes_in_slot.Goals as goal

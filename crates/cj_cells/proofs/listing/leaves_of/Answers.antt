@@ -13,7 +13,7 @@ use Rattle.cj_hermite.specs.Roots.{PlainCell, KeepIntervals, roots_of}
 use Rattle.cj_bezier.specs.Cells.{plain_cell, plain_cells}
 use Rattle.cj_bezier.specs.RootLeaves.{leaves_of_root, leaves_of_roots, Describe}
 use Rattle.cj_cells.specs.Lists.{list_of, list_looked, splits_of}
-use Rattle.cj_cells.proofs.LeafLemmas.{list_split, list_sound, list_ordered, list_has}
+use Rattle.cj_cells.proofs.LeafLemmas.{list_split, list_sound, list_keeps, list_ordered, list_has}
 use Rattle.cj_cells.proofs.ListingLemmas.{same_count, cells_keep}
 use Rattle.cj_cells.proofs.listing.leaves_of.Goals as goal
 
@@ -62,6 +62,13 @@ returns-clause-ordered c =
     let same = ap plain_cells c.deref.ensures.value ∙ c.order_roots.ensures.all (is_looked case) case c.requires.found in
     on_ok_weaker c.refine_all.result
     (λ leaves. list_ordered (is_looked case) case (subst (λ (rs : List PlainCell). All (λ r. Describe case r (leaves_of_root case r)) rs) same leaves)) c.refine_all.ensures.leaves
+
+pub returns-clause-intervals : goal.returns-clause-intervals
+returns-clause-intervals c =
+    let case = plain_problem c.args.problem.now in
+    let same = ap plain_cells c.deref.ensures.value ∙ c.order_roots.ensures.all (is_looked case) case c.requires.found in
+    on_ok_weaker c.refine_all.result
+    (λ leaves. list_keeps (is_looked case) case (subst (λ (rs : List PlainCell). All (λ r. Describe case r (leaves_of_root case r)) rs) same leaves)) c.refine_all.ensures.leaves
 
 pub returns-clause-splits : goal.returns-clause-splits
 unfolding list_of

@@ -1,6 +1,6 @@
 use Rattle.cj_hermite.specs.Ready.{curve_ready}
 use Rattle.cj_bezier.proofs.JudgeLemmas.{split_has_two}
-use Rattle.cj_cells.proofs.judging.look_at.Goals as goal
+use Rattle.cj_cells.proofs.ready_look.look_at.Goals as goal
 
 pub halves-requires : goal.halves-requires
 halves-requires c =
