@@ -1,3 +1,12 @@
+pub mod ApproachListLemmas
+pub mod CandidateLemmas
+pub mod ClosestLemmas
 pub mod EncounterLemmas
+pub mod NearerLemmas
 pub mod OrderLemmas
+pub mod RootLemmas
+pub mod SearchLemmas
 pub mod SpanLemmas
+pub mod SquareBoundLemmas
+pub mod TestLemmas
+pub mod TickLemmas

@@ -1,2 +1,5 @@
+pub mod Closest
 pub mod Encounters
+pub mod Flat
+pub mod Searches
 pub mod Spans

@@ -1,0 +1,221 @@
+ghost use Rattle.std.specs.Prelude.{◌≡◌, ◌<◌, ◌≤◌, length, IfOk, IfSome};
+ghost use Rattle.cj_track.specs.Segments.{node_count};
+ghost use Rattle.cj_hermite.specs.Problems.{plain_problem};
+ghost use Rattle.cj_hermite.specs.Roots.{KeepIntervals};
+
+use crate::{closest, encounters};
+use cj_bezier::{Cell, Kind, Leaf};
+use cj_hermite::{Pair, PairHint, Problem, Sizes, Tracks, next_common};
+use cj_samples::{AT_7000, AT_7005, AT_7100, moving, rest, seconds, tick, track_of, track_of_two};
+use cj_track::{Track, Vec3};
+use std::alloc::{AllocError, Global};
+use std::process::Abort;
+use std::test::Fail;
+
+const AB: Pair = Pair { a: 0, b: 1 };
+
+/// A second in microseconds.
+const SECOND: u32 = 1_000_000;
+
+/// Two tracks over a minute, by a threshold of 5 km.
+fn problem_of(alloc: Global, a: Track, b: Track) -> Result<Problem, AllocError>
+    requires frame { a.frame ≡ b.frame }
+    requires few_of_a { node_count a.segments ≤ 4 }
+    requires few_of_b { node_count b.segments ≤ 4 }
+    ensures { IfOk result (λ problem. length problem.tracks ≡ 2) }
+{
+    Ok(Problem {
+        tracks: Tracks::new(vec![in alloc; a, b]?),
+        window: seconds(0, 60),
+        threshold: 5_000_000_000_000,
+        sizes: Sizes::new(vec![in alloc; 0, 0]?),
+    })
+}
+
+/// Two tracks that cross at right angles, one kilometre apart.
+fn crossing(alloc: Global) -> Result<Problem, AllocError>
+    ensures { IfOk result (λ problem. length problem.tracks ≡ 2) }
+{
+    let along_y = Vec3 {
+        x: 0,
+        y: 7_500_000_000_000,
+        z: 0,
+    };
+    let along_z = Vec3 {
+        x: 0,
+        y: 0,
+        z: 7_500_000_000_000,
+    };
+    let a0 = Vec3 {
+        x: 7_000_000_000_000_000,
+        y: -225_000_000_000_000,
+        z: 0,
+    };
+    let a1 = Vec3 {
+        x: 7_000_000_000_000_000,
+        y: 225_000_000_000_000,
+        z: 0,
+    };
+    let b0 = Vec3 {
+        x: 7_001_000_000_000_000,
+        y: 0,
+        z: -225_000_000_000_000,
+    };
+    let b1 = Vec3 {
+        x: 7_001_000_000_000_000,
+        y: 0,
+        z: 225_000_000_000_000,
+    };
+    let a = moving(alloc, 0, 60, a0, a1, along_y)?;
+    let b = moving(alloc, 0, 60, b0, b1, along_z)?;
+    problem_of(alloc, track_of(alloc, a)?, track_of(alloc, b)?)
+}
+
+/// Two tracks side by side at the threshold, at one nanometre in a second.
+fn side_by_side(alloc: Global) -> Result<Problem, AllocError>
+    ensures { IfOk result (λ problem. length problem.tracks ≡ 2) }
+{
+    let rate = Vec3 { x: 0, y: 1, z: 0 };
+    let a1 = Vec3 {
+        x: 7_000_000_000_000_000,
+        y: 60,
+        z: 0,
+    };
+    let b1 = Vec3 {
+        x: 7_005_000_000_000_000,
+        y: 60,
+        z: 0,
+    };
+    let a = moving(alloc, 0, 60, AT_7000, a1, rate)?;
+    let b = moving(alloc, 0, 60, AT_7005, b1, rate)?;
+    problem_of(alloc, track_of(alloc, a)?, track_of(alloc, b)?)
+}
+
+/// The first run of ticks from one microsecond to another at which both tracks are at one piece, as a leaf.
+fn leaf(problem: &Problem, from: u32, last: u32, kind: Kind) -> Option<Leaf>
+    requires { length problem.now.tracks ≡ 2 }
+    ensures keeps { IfSome result (λ leaf. KeepIntervals (plain_problem problem.now) 0 1 leaf.cell.first.micros leaf.cell.last.micros) }
+    ensures first_object { IfSome result (λ leaf. leaf.cell.pair.a ≡ 0) }
+    ensures second_object { IfSome result (λ leaf. leaf.cell.pair.b ≡ 1) }
+{
+    let tracks = problem.tracks.as_slice();
+    let mut hint = PairHint::default();
+    let run = next_common(&tracks[0], &tracks[1], tick(from), tick(last), &mut hint)?;
+    Some(Leaf {
+        cell: Cell {
+            pair: AB,
+            root: 0,
+            first: run.first,
+            last: run.last,
+        },
+        kind,
+    })
+}
+
+/// The closest approach of the encounter that two leaves are, from one microsecond to before another, and from there to a last
+/// one: the microsecond, and the bound in nm.
+fn approach(
+    alloc: Global,
+    problem: &Problem,
+    from: u32,
+    next: u32,
+    last: u32,
+) -> Result<Option<(u64, u64)>, AllocError>
+    requires two { length problem.now.tracks ≡ 2 }
+    requires early { from < next }
+    requires late { next ≤ last }
+{
+    let Some(one) = leaf(problem, from, next - 1, Kind::Undecided) else {
+        return Ok(None);
+    };
+    let Some(other) = leaf(problem, next, last, Kind::Near) else {
+        return Ok(None);
+    };
+    if other.cell.first.micros <= one.cell.last.micros {
+        return Ok(None);
+    }
+    let leaves = [one, other];
+    let found = encounters(alloc, &leaves)?;
+    let Some(encounter) = found.first() else {
+        return Ok(None);
+    };
+    let at = closest(problem, &leaves, encounter);
+    Ok(Some((at.tick.micros.saturating_sub(tick(0).micros), at.high)))
+}
+
+#[test]
+fn two_tracks_cross_at_one_kilometre(rt: HostRuntime) -> Result<(), Fail> {
+    let problem = crossing(rt.alloc())?;
+    let found = approach(rt.alloc(), &problem, 29_538_120, 30 * SECOND, 30_461_880)?;
+    assert_eq!(rt; found, Some((30_000_000, 1_000_000_000_000)));
+    Ok(())
+}
+
+/// The minute has sixty million flat cells of one tick each: to look at all of them takes minutes.
+#[test]
+fn a_minute_of_crossing_tracks_ends_at_once(rt: HostRuntime) -> Result<(), Fail> {
+    let problem = crossing(rt.alloc())?;
+    let found = approach(rt.alloc(), &problem, 0, 30 * SECOND, 60 * SECOND)?;
+    assert_eq!(rt; found, Some((30_000_000, 1_000_000_000_000)));
+    Ok(())
+}
+
+#[test]
+fn exactly_at_the_threshold_the_first_tick_is_taken(rt: HostRuntime) -> Result<(), Fail> {
+    let alloc = rt.alloc();
+    let a = track_of(alloc, rest(alloc, 0, 60, AT_7000)?)?;
+    let b = track_of(alloc, rest(alloc, 0, 60, AT_7005)?)?;
+    let problem = problem_of(alloc, a, b)?;
+    let found = approach(alloc, &problem, 0, 60 * SECOND, 60 * SECOND)?;
+    assert_eq!(rt; found, Some((0, 5_000_000_000_000)));
+    Ok(())
+}
+
+#[test]
+fn at_one_place_the_bound_is_0(rt: HostRuntime) -> Result<(), Fail> {
+    let alloc = rt.alloc();
+    let a = track_of(alloc, rest(alloc, 0, 60, AT_7000)?)?;
+    let b = track_of(alloc, rest(alloc, 0, 60, AT_7000)?)?;
+    let problem = problem_of(alloc, a, b)?;
+    let found = approach(alloc, &problem, 0, 60 * SECOND, 60 * SECOND)?;
+    assert_eq!(rt; found, Some((0, 0)));
+    Ok(())
+}
+
+#[test]
+fn between_nodes_the_bound_is_rounded_up(rt: HostRuntime) -> Result<(), Fail> {
+    let problem = side_by_side(rt.alloc())?;
+    let whole = approach(rt.alloc(), &problem, 0, 60 * SECOND, 60 * SECOND)?;
+    assert_eq!(rt; whole, Some((0, 5_000_000_000_000)));
+    let within = approach(rt.alloc(), &problem, 1, 20_500_000, 59_900_000)?;
+    assert_eq!(rt; within, Some((1, 5_000_000_000_001)));
+    Ok(())
+}
+
+#[test]
+fn a_shared_tick_is_not_of_the_earlier_encounter(rt: HostRuntime) -> Result<(), Fail> {
+    let alloc = rt.alloc();
+    let near = rest(alloc, 0, 30, AT_7000)?;
+    let far = rest(alloc, 30, 60, AT_7100)?;
+    let a = track_of_two(alloc, near, far)?;
+    let b = track_of(alloc, rest(alloc, 0, 60, AT_7005)?)?;
+    let problem = problem_of(alloc, a, b)?;
+    let found = approach(alloc, &problem, 0, 20 * SECOND, 30 * SECOND)?;
+    assert_eq!(rt; found, Some((0, 5_000_000_000_000)));
+    Ok(())
+}
+
+#[test]
+fn each_encounter_of_separate_segments_has_its_own(rt: HostRuntime) -> Result<(), Fail> {
+    let alloc = rt.alloc();
+    let early = rest(alloc, 0, 20, AT_7000)?;
+    let late = rest(alloc, 40, 60, AT_7000)?;
+    let a = track_of_two(alloc, early, late)?;
+    let b = track_of(alloc, rest(alloc, 0, 60, AT_7005)?)?;
+    let problem = problem_of(alloc, a, b)?;
+    let first = approach(alloc, &problem, 0, 10 * SECOND, 20 * SECOND)?;
+    assert_eq!(rt; first, Some((0, 5_000_000_000_000)));
+    let second = approach(alloc, &problem, 30 * SECOND, 50 * SECOND, 60 * SECOND)?;
+    assert_eq!(rt; second, Some((40_000_000, 5_000_000_000_000)));
+    Ok(())
+}
