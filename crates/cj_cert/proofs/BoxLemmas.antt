@@ -1,0 +1,166 @@
+-- The line of a box, by its six ends, and of a cell.
+use Rattle.std.proofs.Common.{◌≡◌, ℕ, ◌-◌, ◌^◌, ◌<◌, ◌≤◌, List, [], ◌∷◌, drop, get_or, take, arith, ap, sym, ◌∙◌, refl, subst, true, false, Bool, ℤ, pos, Option, Some, Result, Ok, Err, length}
+use Rattle.std.specs.Prelude.{◌&&◌, int_le, int_lt, unsigned_abs}
+use Rattle.std.proofs.lemmas.Bool.{and_from, and_left, and_right}
+use Rattle.std.proofs.lemmas.Int.{ints}
+use Rattle.std.proofs.lemmas.List.{take_all}
+use Rattle.cj_epoch.specs.Ticks.{FIRST_TICK, LAST_TICK}
+use Rattle.cj_bezier.specs.declared.kind.Kind.{Kind}
+use Rattle.cj_cert.specs.declared.fault.CertCause.{CertCause}
+use Rattle.cj_cert.specs.declared.fault.CertCause.TheVariants as causes
+use Rattle.cj_cert.specs.Certificates.{PlainBoxLine}
+use Rattle.cj_cert.specs.Lines as spec
+use Rattle.cj_cert.specs.Lines.{Box, Cell, MAX_OBJECTS, PlainLine, in_range, is_from, is_object, is_reach, is_slot, is_tick, object_of}
+use Rattle.cj_cert.proofs.LineLemmas.{box_test, from_range, into_range, le_of, the_box}
+
+-- the slots of a box in their order
+pub slots_ordered : (first last : ℤ) → is_slot first ≡ true → is_from (unsigned_abs first) (2 ^ 32 - 1) last ≡ true → (is_slot last ≡ true) × (int_le first last ≡ true)
+slots_ordered first last low high =
+    let f = from_range 0 (2 ^ 32 - 1) first low in
+    let l = from_range (unsigned_abs first) (2 ^ 32 - 1) last high in (
+      subst (λ z. is_slot z ≡ true) (sym l.value) (into_range 0 (2 ^ 32 - 1) (unsigned_abs last) (omega arith) l.high),
+      subst (λ z. int_le z last ≡ true) (sym f.value) (subst (λ z. int_le (pos (unsigned_abs first)) z ≡ true) (sym l.value) (le_of (unsigned_abs first) (unsigned_abs last) l.low)),
+    )
+
+abbrev pub at : List ℤ → ℕ → ℤ
+at ns k = get_or ns k (pos 0)
+
+-- a box with six ends
+pub six_ends : (i first last : ℤ) (ns : List ℤ) → 6 ≤ length ns → length ns < 7
+    → spec.box_of i first last ns ≡ in_range (box_test i first last (at ns 0) (at ns 1) (at ns 2) (at ns 3) (at ns 4) (at ns 5)) (Box (the_box i first last (at ns 0) (at ns 1) (at ns 2) (at ns 3) (at ns 4) (at ns 5)))
+six_ends i first last [] least most = absurd (omega arith)
+six_ends i first last (a ∷ []) least most = absurd (omega arith)
+six_ends i first last (a ∷ b ∷ []) least most = absurd (omega arith)
+six_ends i first last (a ∷ b ∷ c ∷ []) least most = absurd (omega arith)
+six_ends i first last (a ∷ b ∷ c ∷ d ∷ []) least most = absurd (omega arith)
+six_ends i first last (a ∷ b ∷ c ∷ d ∷ e ∷ []) least most = absurd (omega arith)
+six_ends i first last (a ∷ b ∷ c ∷ d ∷ e ∷ f ∷ []) least most = refl
+six_ends i first last (a ∷ b ∷ c ∷ d ∷ e ∷ f ∷ g ∷ ns) least most = absurd (omega arith)
+
+pub one_slot : (ns : List ℤ) → 2 ≤ length ns → spec.box_1 ns ≡ spec.box_of (at ns 0) (at ns 1) (at ns 1) (take (length ns - 2) (drop 2 ns))
+one_slot [] least = absurd (omega arith)
+one_slot (a ∷ []) least = absurd (omega arith)
+one_slot (a ∷ b ∷ ns) least = ap (spec.box_of a b b) (sym (take_all (length (a ∷ b ∷ ns) - 2) ns (omega arith)))
+
+pub two_slots : (ns : List ℤ) → 3 ≤ length ns → spec.box_2 ns ≡ spec.box_of (at ns 0) (at ns 1) (at ns 2) (take (length ns - 3) (drop 3 ns))
+two_slots [] least = absurd (omega arith)
+two_slots (a ∷ []) least = absurd (omega arith)
+two_slots (a ∷ b ∷ []) least = absurd (omega arith)
+two_slots (a ∷ b ∷ c ∷ ns) least = ap (spec.box_of a b c) (sym (take_all (length (a ∷ b ∷ c ∷ ns) - 3) ns (omega arith)))
+
+-- ---- what the tests of a box decide
+
+abbrev pub ends_at : ℤ → ℤ → ℤ → List ℤ → Bool
+ends_at i first last ns = box_test i first last (at ns 0) (at ns 1) (at ns 2) (at ns 3) (at ns 4) (at ns 5)
+
+-- the tests in front of the ends
+pub record HasSlots (i first last : ℤ) : Type 0 where
+  pub object : is_object i ≡ true
+  pub from : is_slot first ≡ true
+  pub to : is_from (unsigned_abs first) (2 ^ 32 - 1) last ≡ true
+
+pub x_refused : (i first last : ℤ) (ns : List ℤ) → 6 ≤ length ns → length ns < 7 → HasSlots i first last → is_reach (at ns 0) (at ns 1) ≡ false → spec.box_of i first last ns ≡ Err causes.Range
+x_refused i first last ns least most slots x =
+    let ordered = slots_ordered first last slots.from slots.to in
+    let test : ends_at i first last ns ≡ false = rw (slots.object, slots.from, ordered.0, ordered.1, x) refl in
+    six_ends i first last ns least most ∙ ap (λ (b : Bool). in_range b (Box (the_box i first last (at ns 0) (at ns 1) (at ns 2) (at ns 3) (at ns 4) (at ns 5)))) test
+
+pub y_refused : (i first last : ℤ) (ns : List ℤ) → 6 ≤ length ns → length ns < 7 → HasSlots i first last → is_reach (at ns 0) (at ns 1) ≡ true → is_reach (at ns 2) (at ns 3) ≡ false
+    → spec.box_of i first last ns ≡ Err causes.Range
+y_refused i first last ns least most slots x y =
+    let ordered = slots_ordered first last slots.from slots.to in
+    let test : ends_at i first last ns ≡ false = rw (slots.object, slots.from, ordered.0, ordered.1, x, y) refl in
+    six_ends i first last ns least most ∙ ap (λ (b : Bool). in_range b (Box (the_box i first last (at ns 0) (at ns 1) (at ns 2) (at ns 3) (at ns 4) (at ns 5)))) test
+
+pub z_refused : (i first last : ℤ) (ns : List ℤ) → 6 ≤ length ns → length ns < 7 → HasSlots i first last → is_reach (at ns 0) (at ns 1) ≡ true → is_reach (at ns 2) (at ns 3) ≡ true → is_reach (at ns 4) (at ns 5) ≡ false
+    → spec.box_of i first last ns ≡ Err causes.Range
+z_refused i first last ns least most slots x y z =
+    let ordered = slots_ordered first last slots.from slots.to in
+    let test : ends_at i first last ns ≡ false = rw (slots.object, slots.from, ordered.0, ordered.1, x, y, z) refl in
+    six_ends i first last ns least most ∙ ap (λ (b : Bool). in_range b (Box (the_box i first last (at ns 0) (at ns 1) (at ns 2) (at ns 3) (at ns 4) (at ns 5)))) test
+
+pub box_taken : (i first last : ℤ) (ns : List ℤ) → 6 ≤ length ns → length ns < 7 → HasSlots i first last → is_reach (at ns 0) (at ns 1) ≡ true → is_reach (at ns 2) (at ns 3) ≡ true → is_reach (at ns 4) (at ns 5) ≡ true
+    → spec.box_of i first last ns ≡ Ok (Box (the_box i first last (at ns 0) (at ns 1) (at ns 2) (at ns 3) (at ns 4) (at ns 5)))
+box_taken i first last ns least most slots x y z =
+    let ordered = slots_ordered first last slots.from slots.to in
+    let test : ends_at i first last ns ≡ true = rw (slots.object, slots.from, ordered.0, ordered.1, x, y, z) refl in
+    six_ends i first last ns least most ∙ ap (λ (b : Bool). in_range b (Box (the_box i first last (at ns 0) (at ns 1) (at ns 2) (at ns 3) (at ns 4) (at ns 5)))) test
+
+abbrev box_from : ℕ → ℕ → ℕ → ℤ → ℤ → ℤ → ℤ → ℤ → ℤ → PlainBoxLine
+box_from o f l a b c d e g = record { object = o; first = f; last = l; area = record { x = record { least = a; most = b }; y = record { least = c; most = d }; z = record { least = e; most = g } } }
+
+-- boxes of the same numbers
+pub same_box : (o o' f f' l l' : ℕ) (a a' b b' c c' d d' e e' g g' : ℤ) → o ≡ o' → f ≡ f' → l ≡ l' → a ≡ a' → b ≡ b' → c ≡ c' → d ≡ d' → e ≡ e' → g ≡ g'
+    → box_from o f l a b c d e g ≡ box_from o' f' l' a' b' c' d' e' g'
+same_box o o' f f' l l' a a' b b' c c' d d' e e' g g' eo ef el ea eb ec ed ee eg = λ i. box_from (eo i) (ef i) (el i) (ea i) (eb i) (ec i) (ed i) (ee i) (eg i)
+
+pub as_cause : (x : Result PlainLine CertCause) (cause : CertCause) → x ≡ Err causes.Range → cause ≡ causes.Range → x ≡ Err cause
+as_cause x cause refused same = refused ∙ ap (λ (k : CertCause). Err k) (sym same)
+
+-- ---- cells
+
+pub four_numbers : (ns : List ℤ) (kind : Option Kind) → 4 ≤ length ns → length ns < 5 → spec.cell ns kind ≡ spec.cell_of (at ns 0) (at ns 1) (at ns 2) (at ns 3) kind
+four_numbers [] kind least most = absurd (omega arith)
+four_numbers (a ∷ []) kind least most = absurd (omega arith)
+four_numbers (a ∷ b ∷ []) kind least most = absurd (omega arith)
+four_numbers (a ∷ b ∷ c ∷ []) kind least most = absurd (omega arith)
+four_numbers (a ∷ b ∷ c ∷ d ∷ []) kind least most = refl
+four_numbers (a ∷ b ∷ c ∷ d ∷ e ∷ ns) kind least most = absurd (omega arith)
+
+abbrev cell_test : ℤ → ℤ → ℤ → ℤ → Bool
+cell_test a b first last = is_object a && is_object b && int_lt a b && is_tick first && is_tick last && int_le first last
+
+abbrev the_cell : ℤ → ℤ → ℤ → ℤ → Kind → PlainLine
+the_cell a b first last kind = Cell (record { a = object_of a; b = object_of b; first = unsigned_abs first; last = unsigned_abs last; kind = kind })
+
+refused_by : (a b first last : ℤ) (kind : Kind) → cell_test a b first last ≡ false → spec.cell_of a b first last (Some kind) ≡ Err causes.Range
+refused_by a b first last kind test = ap (λ (t : Bool). in_range t (the_cell a b first last kind)) test
+
+pub last_refused : (a b first last : ℤ) (kind : Kind) → is_tick last ≡ false → spec.cell_of a b first last (Some kind) ≡ Err causes.Range
+last_refused a b first last kind none = refused_by a b first last kind (and_left _ _ (and_right _ _ none))
+
+-- the objects and ticks of a cell are there
+pub record HasCell (a b first last : ℤ) : Type 0 where
+  pub one : is_object a ≡ true
+  pub other : is_object b ≡ true
+  pub from : is_tick first ≡ true
+  pub to : is_tick last ≡ true
+
+less_not : (m n : ℕ) → n ≤ m → int_lt (pos m) (pos n) ≡ false
+less_not m n h = grind (arith, ints)
+
+less_is : (m n : ℕ) → m < n → int_lt (pos m) (pos n) ≡ true
+less_is m n h = grind (arith, ints)
+
+most_not : (m n : ℕ) → n < m → int_le (pos m) (pos n) ≡ false
+most_not m n h = grind (arith, ints)
+
+pub objects_refused : (a b first last : ℤ) (kind : Kind) → HasCell a b first last → object_of b ≤ object_of a → spec.cell_of a b first last (Some kind) ≡ Err causes.Range
+objects_refused a b first last kind has order =
+    let x = from_range 1 MAX_OBJECTS a has.one in
+    let y = from_range 1 MAX_OBJECTS b has.other in
+    let less : int_lt a b ≡ false = ap (λ (z : ℤ). int_lt z b) x.value ∙ ap (int_lt (pos (unsigned_abs a))) y.value ∙ less_not (unsigned_abs a) (unsigned_abs b) (omega (arith, x.low, y.low)) in
+    refused_by a b first last kind (and_left _ _ (and_left _ _ (and_left _ _ (and_right _ _ less))))
+
+pub ticks_refused : (a b first last : ℤ) (kind : Kind) → HasCell a b first last → unsigned_abs last < unsigned_abs first → spec.cell_of a b first last (Some kind) ≡ Err causes.Range
+ticks_refused a b first last kind has order =
+    let x = from_range FIRST_TICK LAST_TICK first has.from in
+    let y = from_range FIRST_TICK LAST_TICK last has.to in
+    let none : int_le first last ≡ false = ap (λ (z : ℤ). int_le z last) x.value ∙ ap (int_le (pos (unsigned_abs first))) y.value ∙ most_not (unsigned_abs first) (unsigned_abs last) order in
+    refused_by a b first last kind (and_right _ _ none)
+
+pub cell_taken : (a b first last : ℤ) (kind : Kind) → HasCell a b first last → object_of a < object_of b → unsigned_abs first ≤ unsigned_abs last → spec.cell_of a b first last (Some kind) ≡ Ok (the_cell a b first last kind)
+cell_taken a b first last kind has objects ticks =
+    let xa = from_range 1 MAX_OBJECTS a has.one in
+    let xb = from_range 1 MAX_OBJECTS b has.other in
+    let xf = from_range FIRST_TICK LAST_TICK first has.from in
+    let xl = from_range FIRST_TICK LAST_TICK last has.to in
+    let less : int_lt a b ≡ true = ap (λ (z : ℤ). int_lt z b) xa.value ∙ ap (int_lt (pos (unsigned_abs a))) xb.value ∙ less_is (unsigned_abs a) (unsigned_abs b) (omega (arith, xa.low, xb.low)) in
+    let ordered : int_le first last ≡ true = ap (λ (z : ℤ). int_le z last) xf.value ∙ ap (int_le (pos (unsigned_abs first))) xl.value ∙ le_of (unsigned_abs first) (unsigned_abs last) ticks in
+    let test : cell_test a b first last ≡ true = and_from _ _ (and_from _ _ (and_from _ _ (and_from _ _ (and_from _ _ has.one has.other) less) has.from) has.to) ordered in
+    ap (λ (t : Bool). in_range t (the_cell a b first last kind)) test
+
+-- cells of the same numbers
+pub same_cell : (a a' b b' f f' l l' : ℕ) (kind : Kind) → a ≡ a' → b ≡ b' → f ≡ f' → l ≡ l'
+    → Cell (record { a = a; b = b; first = f; last = l; kind = kind }) ≡ Cell (record { a = a'; b = b'; first = f'; last = l'; kind = kind })
+same_cell a a' b b' f f' l l' kind ea eb ef el = λ i. Cell (record { a = ea i; b = eb i; first = ef i; last = el i; kind = kind })

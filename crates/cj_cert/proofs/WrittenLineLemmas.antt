@@ -1,0 +1,224 @@
+-- The lines of a written certificate, one by one.
+use Rattle.std.proofs.Common.{◌≡◌, ℕ, zero, suc, ◌+◌, ◌*◌, ◌<◌, true, eqb, List, [], ◌∷◌, ◌++◌, length}
+use Rattle.std.proofs.Common.{get_or, map, Option, Some, None, refl, sym, ap, ◌∙◌, subst, arith, append_assoc, append-nil, length-append}
+use Rattle.std.specs.Prelude.{◌==◌, option_map, option_and_then, slice_get}
+use Rattle.std.specs.List.{cons_option, enumerate_from, filter_map, flat_map, list_all, range_with_len}
+use Rattle.std.proofs.Math.Nat.{suc-mul}
+use Rattle.std.proofs.lemmas.Bool.{and_parts, eq-eqb}
+use Rattle.std.proofs.lemmas.List.{map-append, length-map}
+use Rattle.std.proofs.lemmas.List.Concat.{flat_map-append}
+use Rattle.std.proofs.lemmas.List.Elements.{filter_map-append}
+use Rattle.std.proofs.lemmas.List.FromFn.{length-range_with_len}
+use Rattle.std.proofs.lemmas.Option.{slice_get-get_or, slice_get-map}
+use Rattle.cj_interval.proofs.ListLemmas.{Each, Each-range}
+use Rattle.cj_track.specs.PlainTracks.{PlainTrack}
+use Rattle.cj_hermite.specs.PlainProblems.{PlainProblem}
+use Rattle.cj_hermite.specs.Roots.{slots_of}
+use Rattle.cj_hermite.specs.Slots.{slot_count}
+use Rattle.cj_hermite.proofs.PairLemmas.{range_more}
+use Rattle.cj_bezier.specs.declared.axis_box.AxisBox.{AxisBox}
+use Rattle.cj_bezier.specs.declared.shells.Shell.{Shell}
+use Rattle.cj_bezier.specs.Leaves.{PlainLeaf}
+use Rattle.cj_bezier.specs.Looked.{shells_of}
+use Rattle.cj_bezier.specs.Shells.{shell_in, shell_of}
+use Rattle.cj_bezier.specs.SlotBoxes.{PlainBox, plain_box, plain_boxes, reaches_in}
+use Rattle.cj_cert.specs.declared.cert_lines.ShellLine.{ShellLine}
+use Rattle.cj_cert.specs.declared.cert_lines.BoxLine.{BoxLine}
+use Rattle.cj_cert.specs.declared.cert_lines.SizeOfLine.{SizeOfLine}
+use Rattle.cj_cert.specs.Certificates.{PlainBoxLine, PlainCertificate}
+use Rattle.cj_cert.specs.Written.{shell_line, box_in, boxes_in_order, line_of_box, line_in_slot, box_lines, line_by_shells, line_by_boxes, lines_by_boxes, leaves_in_order, written}
+use Rattle.cj_cert.proofs.ListedLemmas.{range_at}
+
+-- ---- one line more
+
+-- what is made of the numbers up to the next one
+map_more : {A : Type 0} (f : ℕ → A) (n : ℕ) → map f (range_with_len 0 (n + 1)) ≡ map f (range_with_len 0 n) ++ f n ∷ []
+map_more f n =
+    let at : 0 + n ≡ n = omega arith in
+    ap (map f) (range_more 0 n) ∙ map-append f (range_with_len 0 n) ((0 + n) ∷ []) ∙ ap (λ (k : ℕ). map f (range_with_len 0 n) ++ f k ∷ []) at
+
+pub flat_map_more : {A : Type 0} (f : ℕ → List A) (n : ℕ) → flat_map f (range_with_len 0 (n + 1)) ≡ flat_map f (range_with_len 0 n) ++ f n
+flat_map_more f n =
+    let at : 0 + n ≡ n = omega arith in
+    ap (flat_map f) (range_more 0 n) ∙ flat_map-append f (range_with_len 0 n) ((0 + n) ∷ []) ∙ ap (λ (xs : List _). flat_map f (range_with_len 0 n) ++ xs) (append-nil (f (0 + n)))
+    ∙ ap (λ (k : ℕ). flat_map f (range_with_len 0 n) ++ f k) at
+
+filter_map_more : {A : Type 0} (f : ℕ → Option A) (n : ℕ) → filter_map f (range_with_len 0 (n + 1)) ≡ filter_map f (range_with_len 0 n) ++ cons_option (f n) []
+filter_map_more f n =
+    let at : 0 + n ≡ n = omega arith in
+    ap (filter_map f) (range_more 0 n) ∙ filter_map-append f (range_with_len 0 n) ((0 + n) ∷ []) ∙ ap (λ (k : ℕ). filter_map f (range_with_len 0 n) ++ cons_option (f k) []) at
+
+pub shell_more : (shells : List (Option Shell)) (i object : ℕ) (lines : List ShellLine) → i < length shells → object ≡ i → lines ≡ map (line_by_shells shells) (range_with_len 0 i)
+    → lines ++ record { object = object; shell = get_or shells i None } ∷ [] ≡ map (line_by_shells shells) (range_with_len 0 (i + 1))
+shell_more shells i object lines lt number before =
+    let here : get_or shells i None ≡ shell_in shells i = sym (ap (λ (o : Option (Option Shell)). option_and_then (λ t. t) o) (slice_get-get_or shells i None lt)) in
+    ap (λ (ls : List ShellLine). ls ++ record { object = object; shell = get_or shells i None } ∷ []) before
+    ∙ (λ j. map (line_by_shells shells) (range_with_len 0 i) ++ record { object = number j; shell = here j } ∷ [])
+    ∙ sym (map_more (line_by_shells shells) i)
+
+-- the box at a place
+pub box_at : (boxes : List (Option AxisBox)) (place : ℕ) (d found : Option AxisBox) → place < length boxes → get_or boxes place d ≡ found
+    → reaches_in (plain_boxes boxes) place ≡ option_map plain_box found
+box_at boxes place d found lt is =
+    ap (λ (o : Option (Option PlainBox)). option_and_then (λ b. b) o)
+    (slice_get-map (option_map plain_box) boxes place ∙ ap (λ (o : Option (Option AxisBox)). option_map (option_map plain_box) o) (slice_get-get_or boxes place d lt) ∙ ap
+    (λ (b : Option AxisBox). Some (option_map plain_box b)) is)
+
+pub box_more : (boxes : List (Option PlainBox)) (slots object slot : ℕ) (area : PlainBox) (done : List PlainBoxLine) → reaches_in boxes (object * slots + slot) ≡ Some area
+    → (done ++ lines_by_boxes boxes slots slot object) ++ line_of_box object slot area ∷ [] ≡ done ++ lines_by_boxes boxes slots (slot + 1) object
+box_more boxes slots object slot area done is =
+    let here : line_by_boxes boxes slots object slot ≡ Some (line_of_box object slot area) = ap (λ (o : Option PlainBox). option_map (line_of_box object slot) o) is in
+    append_assoc done (lines_by_boxes boxes slots slot object) (line_of_box object slot area ∷ [])
+    ∙ ap (λ (o : Option PlainBoxLine). done ++ (lines_by_boxes boxes slots slot object ++ cons_option o [])) (sym here)
+    ∙ ap (λ (ls : List PlainBoxLine). done ++ ls) (sym (filter_map_more (line_by_boxes boxes slots object) slot))
+
+pub box_missing : (boxes : List (Option PlainBox)) (slots object slot : ℕ) → reaches_in boxes (object * slots + slot) ≡ None
+    → lines_by_boxes boxes slots slot object ≡ lines_by_boxes boxes slots (slot + 1) object
+box_missing boxes slots object slot is =
+    let here : line_by_boxes boxes slots object slot ≡ None = ap (λ (o : Option PlainBox). option_map (line_of_box object slot) o) is in
+    sym (append-nil (lines_by_boxes boxes slots slot object))
+    ∙ ap (λ (o : Option PlainBoxLine). lines_by_boxes boxes slots slot object ++ cons_option o []) (sym here)
+    ∙ sym (filter_map_more (line_by_boxes boxes slots object) slot)
+
+-- ---- all lines
+
+map_numbered : {A : Type 0} (f : ℕ → A) (g : ℕ × PlainTrack → A) (n : ℕ) (es : List PlainTrack) → ((i : ℕ) (e : PlainTrack) → slice_get es i ≡ Some e → f (n + i) ≡ g (n + i, e))
+    → map f (range_with_len n (length es)) ≡ map g (enumerate_from n es)
+map_numbered f g n [] same = refl
+map_numbered f g n (e ∷ es) same =
+    let at : n + 0 ≡ n = omega arith in
+    let here : f n ≡ g (n, e) = subst (λ (k : ℕ). f k ≡ g (k, e)) at (same 0 e refl) in
+    let rest = map_numbered f g (n + 1) es (λ i d is. let next : n + suc i ≡ n + 1 + i = omega arith in subst (λ (k : ℕ). f k ≡ g (k, d)) next (same (suc i) d is)) in
+    λ i. here i ∷ rest i
+
+flat_map_numbered : {A : Type 0} (f : ℕ → List A) (g : ℕ × PlainTrack → List A) (n : ℕ) (es : List PlainTrack) → ((i : ℕ) (e : PlainTrack) → slice_get es i ≡ Some e → f (n + i) ≡ g (n + i, e))
+    → flat_map f (range_with_len n (length es)) ≡ flat_map g (enumerate_from n es)
+flat_map_numbered f g n [] same = refl
+flat_map_numbered f g n (e ∷ es) same =
+    let at : n + 0 ≡ n = omega arith in
+    let here : f n ≡ g (n, e) = subst (λ (k : ℕ). f k ≡ g (k, e)) at (same 0 e refl) in
+    let rest = flat_map_numbered f g (n + 1) es (λ i d is. let next : n + suc i ≡ n + 1 + i = omega arith in subst (λ (k : ℕ). f k ≡ g (k, d)) next (same (suc i) d is)) in
+    λ i. here i ++ rest i
+
+pub shells_count : (case : PlainProblem) → length (shells_of case) ≡ length case.ephemerides
+unfolding shells_of
+shells_count case = length-map case.ephemerides (λ e. shell_of e case.first case.last)
+
+pub shells_are : (case : PlainProblem) (shells : List (Option Shell)) → shells ≡ shells_of case
+    → map (line_by_shells shells) (range_with_len 0 (length shells)) ≡ map (shell_line case) (enumerate_from 0 case.ephemerides)
+unfolding shells_of
+shells_are case shells same =
+    ap (λ (ss : List (Option Shell)). map (line_by_shells ss) (range_with_len 0 (length ss))) same
+    ∙ ap (λ (n : ℕ). map (line_by_shells (map (λ e. shell_of e case.first case.last) case.ephemerides)) (range_with_len 0 n)) (length-map case.ephemerides (λ e. shell_of e case.first case.last))
+    ∙ map_numbered (line_by_shells (map (λ e. shell_of e case.first case.last) case.ephemerides)) (shell_line case) 0 case.ephemerides (λ i e is.
+    let at : 0 + i ≡ i = omega arith in
+    let there : slice_get case.ephemerides (0 + i) ≡ Some e = subst (λ (k : ℕ). slice_get case.ephemerides k ≡ Some e) (sym at) is in
+    let here : shell_in (map (λ e. shell_of e case.first case.last) case.ephemerides) (0 + i) ≡ shell_of e case.first case.last =
+    ap (λ (o : Option (Option Shell)). option_and_then (λ t. t) o)
+    (slice_get-map (λ e. shell_of e case.first case.last) case.ephemerides (0 + i) ∙ ap (λ (o : Option PlainTrack). option_map (λ e. shell_of e case.first case.last) o) there) in
+    ap (λ (s : Option Shell). let line : ShellLine = record { object = 0 + i; shell = s } in line) here)
+
+-- the box of an object in a slot stands in its row
+row_length : (case : PlainProblem) (e : PlainTrack) → length (map (box_in case e) (slots_of case)) ≡ slot_count case.first case.last
+row_length case e = length-map (slots_of case) (box_in case e) ∙ length-range_with_len 0 (slot_count case.first case.last)
+
+rows_length : (case : PlainProblem) (es : List PlainTrack) → length (flat_map (λ e. map (box_in case e) (slots_of case)) es) ≡ length es * slot_count case.first case.last
+rows_length case [] = omega arith
+rows_length case (e ∷ es) =
+    let here = row_length case e in
+    let there = rows_length case es in
+    let all : suc (length es) * slot_count case.first case.last ≡ length es * slot_count case.first case.last + slot_count case.first case.last = suc-mul (length es)
+    (slot_count case.first case.last) in
+    omega (arith, length-append (map (box_in case e) (slots_of case)) (flat_map (λ e. map (box_in case e) (slots_of case)) es))
+
+pub boxes_count : (case : PlainProblem) (boxes : List (Option AxisBox)) → plain_boxes boxes ≡ boxes_in_order case → length boxes ≡ length case.ephemerides * slot_count case.first case.last
+unfolding boxes_in_order
+boxes_count case boxes same = sym (length-map boxes (option_map plain_box)) ∙ ap (λ (bs : List (Option PlainBox)). length bs) same ∙ rows_length case case.ephemerides
+
+get_left : {A : Type 0} (xs ys : List A) (i : ℕ) → i < length xs → slice_get (xs ++ ys) i ≡ slice_get xs i
+get_left [] ys i lt = absurd (omega arith)
+get_left (x ∷ xs) ys zero lt = refl
+get_left (x ∷ xs) ys (suc i) lt = get_left xs ys i (omega arith)
+
+get_right : {A : Type 0} (xs ys : List A) (i j : ℕ) → j ≡ length xs + i → slice_get (xs ++ ys) j ≡ slice_get ys i
+get_right [] ys i j e = ap (λ (k : ℕ). slice_get ys k) (omega arith)
+get_right (x ∷ xs) ys i zero e = absurd (omega arith)
+get_right (x ∷ xs) ys i (suc j) e = get_right xs ys i j (omega arith)
+
+in_row : (case : PlainProblem) (es : List PlainTrack) (i slot : ℕ) (e : PlainTrack) → slot < slot_count case.first case.last → slice_get es i ≡ Some e
+    → slice_get (flat_map (λ e. map (box_in case e) (slots_of case)) es) (i * slot_count case.first case.last + slot) ≡ Some (box_in case e slot)
+in_row case [] i slot e lt is = absurd cc
+in_row case (f ∷ es) zero slot e lt is =
+    let n = slot_count case.first case.last in
+    let same : f ≡ e = cc in
+    let at : 0 * n + slot ≡ slot = omega arith in
+    let first : 0 + slot ≡ slot = omega arith in
+    ap (λ (k : ℕ). slice_get (map (box_in case f) (slots_of case) ++ flat_map (λ e. map (box_in case e) (slots_of case)) es) k) at
+    ∙ get_left (map (box_in case f) (slots_of case)) (flat_map (λ e. map (box_in case e) (slots_of case)) es) slot (omega (arith, row_length case f))
+    ∙ slice_get-map (box_in case f) (slots_of case) slot
+    ∙ ap (λ (o : Option ℕ). option_map (box_in case f) o) (range_at 0 n slot lt)
+    ∙ ap (λ (k : ℕ). Some (box_in case f k)) first
+    ∙ ap (λ (d : PlainTrack). Some (box_in case d slot)) same
+in_row case (f ∷ es) (suc i) slot e lt is =
+    let n = slot_count case.first case.last in
+    let more : suc i * n ≡ i * n + n = suc-mul i n in
+    get_right (map (box_in case f) (slots_of case)) (flat_map (λ e. map (box_in case e) (slots_of case)) es) (i * n + slot) (suc i * n + slot) (omega (arith, row_length case f))
+    ∙ in_row case es i slot e lt is
+
+filter_map_same : {A : Type 0} (f g : ℕ → Option A) (ks : List ℕ) → Each (λ k. f k ≡ g k) ks → filter_map f ks ≡ filter_map g ks
+filter_map_same f g [] same = refl
+filter_map_same f g (k ∷ ks) same = let here = same.0 in let rest = filter_map_same f g ks same.1 in λ i. cons_option (here i) (rest i)
+
+pub boxes_are : (case : PlainProblem) (boxes : List (Option PlainBox)) (n : ℕ) → boxes ≡ boxes_in_order case → n ≡ slot_count case.first case.last
+    → flat_map (lines_by_boxes boxes n n) (range_with_len 0 (length case.ephemerides)) ≡ flat_map (box_lines case) (enumerate_from 0 case.ephemerides)
+unfolding boxes_in_order
+boxes_are case boxes n same count =
+    ap (λ (bs : List (Option PlainBox)). flat_map (lines_by_boxes bs n n) (range_with_len 0 (length case.ephemerides))) same
+    ∙ ap (λ (k : ℕ). flat_map (lines_by_boxes all k k) (range_with_len 0 (length case.ephemerides))) count
+    ∙ flat_map_numbered (lines_by_boxes all slots slots) (box_lines case) 0 case.ephemerides of_object
+  where
+    slots : ℕ
+    slots = slot_count case.first case.last
+
+    all : List (Option PlainBox)
+    all = flat_map (λ e. map (box_in case e) (slots_of case)) case.ephemerides
+
+    of_object : (i : ℕ) (e : PlainTrack) → slice_get case.ephemerides i ≡ Some e → lines_by_boxes all slots slots (0 + i) ≡ box_lines case (0 + i, e)
+    of_object i e is =
+        let at : 0 + i ≡ i = omega arith in
+        let there : slice_get case.ephemerides (0 + i) ≡ Some e = subst (λ (k : ℕ). slice_get case.ephemerides k ≡ Some e) (sym at) is in
+        filter_map_same (line_by_boxes all slots (0 + i)) (line_in_slot case (0 + i, e)) (slots_of case)
+        (Each-range (λ k. line_by_boxes all slots (0 + i) k ≡ line_in_slot case (0 + i, e) k) 0 slots (λ k low high.
+        let here : reaches_in all ((0 + i) * slots + k) ≡ box_in case e k =
+        ap (λ (o : Option (Option PlainBox)). option_and_then (λ b. b) o) (in_row case case.ephemerides (0 + i) k e (omega arith) there) in
+        ap (λ (o : Option PlainBox). option_map (line_of_box (0 + i) k) o) here))
+
+-- a certificate of version 1 with these lines
+abbrev pub of_lines : PlainProblem → ℕ → List SizeOfLine → List ShellLine → List PlainBoxLine → List PlainLeaf → PlainCertificate
+of_lines case objects sizes shells boxes cells = record {
+  version = 1;
+  first = case.first;
+  last = case.last;
+  threshold = case.threshold;
+  objects = objects;
+  sizes = sizes;
+  shells = shells;
+  boxes = boxes;
+  cells = cells;
+}
+
+pub certificate_is : (case : PlainProblem) (objects : ℕ) (sizes : List SizeOfLine) (shells : List ShellLine) (boxes : List PlainBoxLine) (cells : List PlainLeaf)
+    → objects ≡ length case.ephemerides → sizes ≡ []
+    → shells ≡ map (shell_line case) (enumerate_from 0 case.ephemerides) → boxes ≡ flat_map (box_lines case) (enumerate_from 0 case.ephemerides) → cells ≡ leaves_in_order case
+    → of_lines case objects sizes shells boxes cells ≡ written case
+unfolding written
+certificate_is case objects sizes shells boxes cells p q r s t = λ i. of_lines case (p i) (q i) (r i) (s i) (t i)
+
+-- one line of one slot more
+pub single_more : (lines new : List BoxLine) (line : BoxLine) → new ≡ lines ++ line ∷ [] → line.first ≡ line.last → list_all (λ (b : BoxLine). b.first == b.last) lines ≡ true
+    → list_all (λ (b : BoxLine). b.first == b.last) new ≡ true
+single_more lines new line added one all = subst (λ (ls : List BoxLine). list_all (λ (b : BoxLine). b.first == b.last) ls ≡ true) (sym added) (more lines all)
+  where
+    more : (ls : List BoxLine) → list_all (λ (b : BoxLine). b.first == b.last) ls ≡ true → list_all (λ (b : BoxLine). b.first == b.last) (ls ++ line ∷ []) ≡ true
+    more [] all = let e : eqb line.first line.last ≡ true = eq-eqb line.first line.last one in rw e refl
+    more (b ∷ ls) all = let both = and_parts (b.first == b.last) (list_all (λ (b : BoxLine). b.first == b.last) ls) all in let here = both.0 in let rest = more ls both.1 in rw (here, rest) refl

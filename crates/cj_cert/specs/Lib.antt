@@ -1,0 +1,13 @@
+pub mod Versions
+pub mod Certificates
+pub mod Texts
+pub mod Numbers
+pub mod Ranks
+pub mod Lines
+pub mod Reading
+pub mod Readers
+pub mod Fits
+pub mod Listed
+pub mod Accepted
+pub mod Splits
+pub mod Written

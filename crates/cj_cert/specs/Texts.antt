@@ -1,0 +1,80 @@
+-- The text of a certificate. Objects are numbered from 1 in it.
+use Rattle.std.specs.Prelude.{ℕ, ◌+◌, ◌==◌, if◌then◌else◌, ℤ, pos, List, [], ◌∷◌, ◌++◌, codes, flat_map, map, Option, Some, None}
+use Rattle.std.specs.Fmt.{signed_decimal}
+use Rattle.std.specs.List.{join_with_byte}
+use Rattle.cj_bezier.specs.declared.kind.Kind.{Kind}
+use Rattle.cj_bezier.specs.declared.kind.Kind.TheVariants as kind
+use Rattle.cj_bezier.specs.declared.shells.Shell.{Shell}
+use Rattle.cj_bezier.specs.Leaves.{PlainLeaf}
+use Rattle.cj_bezier.specs.SlotBoxes.{PlainBox}
+use Rattle.cj_cert.specs.declared.cert_lines.ShellLine.{ShellLine}
+use Rattle.cj_cert.specs.declared.cert_lines.SizeOfLine.{SizeOfLine}
+use Rattle.cj_cert.specs.Certificates.{PlainBoxLine, PlainCertificate}
+
+-- a line: words with a space between them, and LF
+abbrev pub line : List (List ℕ) → List ℕ
+line words = join_with_byte 32 words ++ 10 ∷ []
+
+-- numbers, each with a space before it
+abbrev pub spaced_numbers : List ℤ → List ℕ
+spaced_numbers numbers = flat_map (λ z. 32 ∷ signed_decimal z) numbers
+
+-- a line of a word and numbers
+unfoldable pub row : List ℕ → List ℤ → List ℕ
+row word numbers = line (word ∷ map signed_decimal numbers)
+
+-- a line of a word, numbers and a last word
+unfoldable pub row_ended : List ℕ → List ℤ → List ℕ → List ℕ
+row_ended word numbers last = line (word ∷ (map signed_decimal numbers ++ last ∷ []))
+
+-- the number of an object in the text
+abbrev pub number : ℕ → ℤ
+number object = pos (object + 1)
+
+-- the first four lines
+abbrev pub head_text : PlainCertificate → List ℕ
+head_text c =
+    row (codes "CONJ-CERT") (pos c.version ∷ [])
+    ++ row (codes "WINDOW") (pos c.first ∷ pos c.last ∷ [])
+    ++ row (codes "THRESHOLD") (pos c.threshold ∷ [])
+    ++ row (codes "OBJECTS") (pos c.objects ∷ [])
+
+abbrev pub size_text : SizeOfLine → List ℕ
+size_text s = row (codes "SIZE") (number s.object ∷ pos s.size ∷ [])
+
+-- the shell of an object, where there is one
+abbrev pub shell_row : ℕ → Option Shell → List ℕ
+shell_row object None = row_ended (codes "SHELL") (number object ∷ []) (codes "NONE")
+shell_row object (Some s) = row (codes "SHELL") (number object ∷ pos s.lo ∷ pos s.hi ∷ [])
+
+abbrev pub shell_text : ShellLine → List ℕ
+shell_text s = shell_row s.object s.shell
+
+-- the slots of a box: in version 1 the one, later the first and the last
+abbrev pub slots : ℕ → PlainBoxLine → List ℤ
+slots version b = if version == 1 then pos b.first ∷ [] else pos b.first ∷ pos b.last ∷ []
+
+-- the ends of a box, axis by axis
+abbrev pub ends : PlainBox → List ℤ
+ends r = r.x.least ∷ r.x.most ∷ r.y.least ∷ r.y.most ∷ r.z.least ∷ r.z.most ∷ []
+
+abbrev pub box_text : ℕ → PlainBoxLine → List ℕ
+box_text version b = row (codes "BOX") (number b.object ∷ (slots version b ++ ends b.area))
+
+abbrev pub kind_word : Kind → List ℕ
+kind_word kind.Far = codes "F"
+kind_word kind.Near = codes "N"
+kind_word kind.Undecided = codes "U"
+
+abbrev pub cell_text : PlainLeaf → List ℕ
+cell_text s = row_ended (codes "CELL") (number s.a ∷ number s.b ∷ pos s.first ∷ pos s.last ∷ []) (kind_word s.kind)
+
+-- the text of a certificate, by its version
+unfoldable pub text_of : PlainCertificate → List ℕ
+text_of c =
+    head_text c
+    ++ flat_map size_text c.sizes
+    ++ flat_map shell_text c.shells
+    ++ flat_map (box_text c.version) c.boxes
+    ++ flat_map cell_text c.cells
+    ++ row (codes "END") []

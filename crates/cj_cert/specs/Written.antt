@@ -1,0 +1,71 @@
+-- The certificate that a run writes for a problem: exact shells and boxes, and the one-thread list.
+use Rattle.std.specs.Prelude.{ℕ, ◌+◌, ◌*◌, List, [], map, length, Option, option_map}
+use Rattle.std.specs.List.{enumerate_from, filter_map, flat_map, range_with_len}
+use Rattle.cj_track.specs.PlainTracks.{PlainTrack}
+use Rattle.cj_hermite.specs.PlainProblems.{PlainProblem}
+use Rattle.cj_hermite.specs.Roots.{roots_of, slots_of}
+use Rattle.cj_hermite.specs.Slots.{slot_first, slot_last}
+use Rattle.cj_bezier.specs.Leaves.{PlainLeaf}
+use Rattle.cj_bezier.specs.Looked.{is_looked}
+use Rattle.cj_bezier.specs.RootLeaves.{leaves_of_roots}
+use Rattle.cj_bezier.specs.declared.shells.Shell.{Shell}
+use Rattle.cj_bezier.specs.Shells.{shell_in, shell_of}
+use Rattle.cj_bezier.specs.SlotBoxes.{PlainBox, box_of, reaches_in}
+use Rattle.cj_cert.specs.declared.cert_lines.ShellLine.{ShellLine}
+use Rattle.cj_cert.specs.Certificates.{PlainBoxLine, PlainCertificate}
+
+-- the line of an object with its shell
+abbrev pub shell_line : PlainProblem → ℕ × PlainTrack → ShellLine
+shell_line case object = record { object = object.0; shell = shell_of object.1 case.first case.last }
+
+-- the box of an object in a slot
+abbrev pub box_in : PlainProblem → PlainTrack → ℕ → Option PlainBox
+box_in case e slot = box_of e (slot_first case.first slot) (slot_last case.first case.last slot)
+
+-- the boxes of all objects in each slot, in order of object and slot
+unfoldable pub boxes_in_order : PlainProblem → List (Option PlainBox)
+boxes_in_order case = flat_map (λ e. map (box_in case e) (slots_of case)) case.ephemerides
+
+-- the line of a box
+abbrev pub line_of_box : ℕ → ℕ → PlainBox → PlainBoxLine
+line_of_box object slot area = record { object = object; first = slot; last = slot; area = area }
+
+-- the line of an object in a slot, if it has a state there
+abbrev pub line_in_slot : PlainProblem → ℕ × PlainTrack → ℕ → Option PlainBoxLine
+line_in_slot case object slot = option_map (line_of_box object.0 slot) (box_in case object.1 slot)
+
+-- a line for each slot in which an object has a state
+abbrev pub box_lines : PlainProblem → ℕ × PlainTrack → List PlainBoxLine
+box_lines case object = filter_map (line_in_slot case object) (slots_of case)
+
+-- the leaves of all pairs that are looked at, in order of pair and time
+unfoldable pub leaves_in_order : PlainProblem → List PlainLeaf
+leaves_in_order case = leaves_of_roots case (roots_of (is_looked case) case)
+
+-- in version 1
+unfoldable pub written : PlainProblem → PlainCertificate
+written case = record {
+  version = 1;
+  first = case.first;
+  last = case.last;
+  threshold = case.threshold;
+  objects = length case.ephemerides;
+  sizes = [];
+  shells = map (shell_line case) (enumerate_from 0 case.ephemerides);
+  boxes = flat_map (box_lines case) (enumerate_from 0 case.ephemerides);
+  cells = leaves_in_order case;
+}
+
+-- ---- the same lines from lists of shells and boxes
+
+-- the line of an object by the shells of all
+abbrev pub line_by_shells : List (Option Shell) → ℕ → ShellLine
+line_by_shells shells object = record { object = object; shell = shell_in shells object }
+
+-- the line of an object in a slot by the boxes of all objects in so many slots, in order of object and slot
+abbrev pub line_by_boxes : List (Option PlainBox) → ℕ → ℕ → ℕ → Option PlainBoxLine
+line_by_boxes boxes slots object slot = option_map (line_of_box object slot) (reaches_in boxes (object * slots + slot))
+
+-- the lines of an object in the first n of the slots
+abbrev pub lines_by_boxes : List (Option PlainBox) → ℕ → ℕ → ℕ → List PlainBoxLine
+lines_by_boxes boxes slots n object = filter_map (line_by_boxes boxes slots object) (range_with_len 0 n)

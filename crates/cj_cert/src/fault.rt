@@ -1,0 +1,41 @@
+//! Why a text is not read as a certificate.
+ghost use Rattle.std.specs.Prelude.{◌≡◌};
+ghost use Rattle.cj_cert.specs.declared.fault.CertFault.TheVariants.{Memory};
+
+use std::alloc::{AllocError, AllocFailed};
+
+/// Why a text is not read as a certificate.
+#[derive(Clone, Copy, Debug, PartialEq, Eq)]
+pub enum CertFault {
+    /// Memory ran out.
+    Memory,
+    /// The first fault of the text, at its line. Lines are counted from 1.
+    At { line: u32, cause: CertCause },
+}
+
+impl From<AllocError> for CertFault {
+    ghost from_gives = { λ _ e. e ≡ Memory };
+
+    fn from(_: AllocError) -> Self {
+        CertFault::Memory
+    }
+}
+
+impl<T: Drop> From<AllocFailed<T>> for CertFault {
+    ghost from_gives = { λ _ e. e ≡ Memory };
+
+    fn from(_: AllocFailed<T>) -> Self {
+        CertFault::Memory
+    }
+}
+
+/// What is wrong with a line.
+#[derive(Clone, Copy, Debug, PartialEq, Eq)]
+pub enum CertCause {
+    /// It is none of the lines that may stand there.
+    Form,
+    /// A number is out of its range.
+    Range,
+    /// The text ends too early, or goes on behind its last line.
+    End,
+}

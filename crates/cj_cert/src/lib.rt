@@ -1,0 +1,30 @@
+//! The certificate of a run: a reason for every span that the report leaves out; its text, and how it is read; which certificates are
+//! accepted, and what this says.
+#![tactic(auto)]
+
+mod accepting;
+mod cert_line;
+mod cert_lines;
+mod certificate;
+mod draft;
+mod fault;
+mod line_said;
+mod line_text;
+mod number;
+mod printing;
+mod rank;
+mod reading;
+mod rows;
+mod words;
+mod written;
+
+pub use accepting::acceptance;
+pub use cert_lines::{BoxLine, CellLine, ShellLine, SizeOfLine};
+pub use certificate::Certificate;
+pub use fault::{CertCause, CertFault};
+pub use printing::cert_text;
+pub use reading::read_cert;
+pub use written::written_certificate;
+
+#[cfg(test)]
+mod tests;
