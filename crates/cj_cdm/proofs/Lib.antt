@@ -1,0 +1,6 @@
+pub mod ElementLemmas
+pub mod MessageLemmas
+pub mod NumberLemmas
+pub mod SegmentLemmas
+pub mod SideLemmas
+pub mod TextLemmas

@@ -1,0 +1,22 @@
+use Rattle.std.proofs.Common.{◌≡◌, ◌<◌, map, length, get_or, ap, sym, ◌∙◌, arith}
+use Rattle.std.proofs.Math.ListN.{get_or-map}
+use Rattle.std.proofs.lemmas.List.{length-map}
+use Rattle.cj_kvn.specs.Decimals.{number_of}
+use Rattle.cj_cdm.specs.Building.{in_square_metres}
+use Rattle.cj_cdm.specs.Elements.{element_of}
+use Rattle.cj_cdm.proofs.ElementLemmas.{written_more}
+use Rattle.cj_cdm.proofs.printing.covariance.push_elements.Goals as goal
+
+pub loop-index-preserved : goal.loop-index-preserved
+loop-index-preserved c =
+    let given = c.args.values.now in
+    let numbers = map number_of given in
+    let i = c.loop-index.index in
+    let value = c.index-values-index.result in
+    let whole : length (map in_square_metres numbers) ≡ 21 = omega (arith, length-map numbers in_square_metres, length-map given number_of, c.requires.whole) in
+    let short : i < 21 = omega (arith, c.requires.whole) in
+    let number = ap number_of c.index-values-index.is ∙ sym (get_or-map number_of given i value) in
+    let here = ap in_square_metres number ∙ sym (get_or-map in_square_metres numbers i (number_of value)) in
+    written_more (map in_square_metres numbers) i (element_of c.element_at-element.result) (in_square_metres (number_of value))
+    c.args.text.now.items c.loop-index.text.items c.push_element.new.text.items
+    whole short c.element_at-element.ensures here c.loop-index.invariant c.in_ok-push_element.ensures

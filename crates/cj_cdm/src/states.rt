@@ -1,0 +1,51 @@
+//! Places and rates in whole nm and nm/s.
+ghost use Rattle.std.specs.Prelude.{◌≡◌, ◌≤◌};
+ghost use Rattle.cj_interval.specs.Sizes.{IsWithin};
+ghost use Rattle.cj_hermite.specs.Boxes.{IsSpanWithin, IsBoxWithin};
+ghost use Rattle.cj_hermite.specs.Interpolant.{curve_of};
+ghost use Rattle.cj_hermite.specs.Limits.{REACH, RATE_REACH};
+ghost use Rattle.cj_cdm.specs.States as spec;
+
+use crate::vector::Vector;
+use cj_epoch::Tick;
+use cj_hermite::{Box3, Piece, point, rate};
+use cj_interval::Span;
+
+/// The place of a piece at one of its ticks, in nm.
+#[tactic(auto, unfolding(crate::specs::States::place_at))]
+pub(crate) fn place_at(piece: &Piece, at: Tick) -> Vector
+    requires after { piece.now.t0.micros ≤ at.micros }
+    requires before { at.micros ≤ piece.now.t1.micros }
+    ensures { result ≡ spec.place_at (curve_of piece.now) at.micros }
+{
+    middle_of_box(point(piece, at))
+}
+
+/// The rate of a piece at one of its ticks, in nm/s.
+#[tactic(auto, unfolding(crate::specs::States::rate_at))]
+pub(crate) fn rate_at(piece: &Piece, at: Tick) -> Vector
+    requires after { piece.now.t0.micros ≤ at.micros }
+    requires before { at.micros ≤ piece.now.t1.micros }
+    ensures { result ≡ spec.rate_at (curve_of piece.now) at.micros }
+{
+    middle_of_box(rate(piece, at))
+}
+
+fn middle_of_box(spans: Box3) -> Vector
+    requires { IsBoxWithin RATE_REACH spans }
+    ensures { result ≡ spec.middle_of_box spans }
+{
+    Vector {
+        x: middle(spans.x),
+        y: middle(spans.y),
+        z: middle(spans.z),
+    }
+}
+
+/// The middle of a span, rounded down.
+fn middle(span: Span) -> i128
+    requires { IsSpanWithin RATE_REACH span.lo span.hi }
+    ensures { result ≡ spec.middle span.lo span.hi }
+{
+    Span::between(span.lo, span.hi, 1, 2, 1).lo
+}
