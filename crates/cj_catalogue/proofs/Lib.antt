@@ -1,0 +1,7 @@
+mod BoundLemmas
+mod FigureLemmas
+mod LengthLemmas
+mod LineLemmas
+mod NodeLemmas
+mod StampLemmas
+mod TrackLemmas

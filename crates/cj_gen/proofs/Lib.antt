@@ -1,0 +1,5 @@
+mod DrawLemmas
+mod OrbitLemmas
+pub mod PlaneLemmas
+mod RoundingLemmas
+mod TextLemmas

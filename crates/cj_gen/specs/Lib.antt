@@ -1,0 +1,4 @@
+pub mod Catalogues
+pub mod Draws
+pub mod Orbits
+pub mod Texts
