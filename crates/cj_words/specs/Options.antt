@@ -3,7 +3,7 @@ use Rattle.std.specs.Prelude.{ℕ, Bool, true, false, not, ◌&&◌, ◌||◌, �
 use Rattle.std.specs.List.{list_all, before_first, after_first}
 use Rattle.std.specs.Str.{bytes_eq}
 use Rattle.cj_words.specs.declared.option.Opt.{Opt}
-use Rattle.cj_words.specs.declared.option.Opt.TheVariants.{Threshold, From, To, Suffix, Cells, AsHermite3}
+use Rattle.cj_words.specs.declared.option.Opt.TheVariants.{Threshold, From, To, Suffix, Cells, AsHermite3, Sizes}
 
 abbrev pub name_of : Opt → List ℕ
 name_of Threshold = codes "--threshold"
@@ -12,6 +12,7 @@ name_of To = codes "--to"
 name_of Suffix = codes "--suffix"
 name_of Cells = codes "--cells"
 name_of AsHermite3 = codes "--as-hermite3"
+name_of Sizes = codes "--sizes"
 
 -- an option on the command line: its name and its value, empty for a flag
 pub record Given : Type 0 where
@@ -27,7 +28,8 @@ is_name name =
     bytes_eq name (name_of Threshold)
     || (bytes_eq name (name_of From)
     || (bytes_eq name (name_of To)
-    || (bytes_eq name (name_of Suffix) || (bytes_eq name (name_of Cells) || bytes_eq name (name_of AsHermite3)))))
+    || (bytes_eq name (name_of Suffix)
+    || (bytes_eq name (name_of Cells) || (bytes_eq name (name_of AsHermite3) || bytes_eq name (name_of Sizes))))))
 
 -- the name of a flag: an option that has no value
 abbrev pub is_flag : List ℕ → Bool
@@ -114,7 +116,8 @@ is_single option givens = nat_le (count_of option givens) 1
 abbrev pub are_single : List Given → Bool
 are_single givens =
     is_single Threshold givens
-    && (is_single From givens && (is_single To givens && (is_single Suffix givens && (is_single Cells givens && is_single AsHermite3 givens))))
+    && (is_single From givens
+    && (is_single To givens && (is_single Suffix givens && (is_single Cells givens && (is_single AsHermite3 givens && is_single Sizes givens)))))
 
 -- each is known and stands at most once
 abbrev pub are_options : List Given → Bool

@@ -1,7 +1,7 @@
 -- What the words of a command line ask for.
 use Rattle.std.specs.Prelude.{ℕ, Bool, true, not, ◌&&◌, ◌==◌, nat_le, length, if◌then◌else◌, List, [], ◌∷◌, Option, Some, None, Result, Ok, Err, codes}
 use Rattle.std.specs.List.{list_all}
-use Rattle.std.specs.Option.{option_map}
+use Rattle.std.specs.Option.{option_map, option_copied}
 use Rattle.std.specs.Char.{is_ascii_digit}
 use Rattle.std.specs.Str.{bytes_eq}
 use Rattle.std.specs.Str.Parse.{digits_value}
@@ -11,12 +11,13 @@ use Rattle.cj_epoch.specs.declared.fault.EpochFault.{EpochFault}
 use Rattle.cj_words.specs.declared.option.Opt.{Opt}
 use Rattle.cj_words.specs.declared.option.UsageFault.{UsageFault}
 use Rattle.cj_words.specs.declared.option.UsageFault.TheVariants.{Words, Value}
-use Rattle.cj_words.specs.declared.option.Opt.TheVariants.{Threshold, From, To, Suffix, Cells, AsHermite3}
+use Rattle.cj_words.specs.declared.option.Opt.TheVariants.{Threshold, From, To, Suffix, Cells, AsHermite3, Sizes}
 use Rattle.cj_words.specs.declared.settings.Settings.{Settings}
 use Rattle.cj_words.specs.Options.{Given, given_of, is_value, are_accepted, listed, value_of, is_given}
 
 -- settings: the threshold in metres, the ends of the window in ticks, where they are given, what the names of the files that are taken
--- end with, the greatest number of leaves, and whether each file is taken as if it declared the cubic
+-- end with, the greatest number of leaves, whether each file is taken as if it declared the cubic, and the name of the file of sizes,
+-- where it is given
 pub record Asked : Type 0 where
   pub threshold : ℕ
   pub from : Option ℕ
@@ -24,6 +25,7 @@ pub record Asked : Type 0 where
   pub suffix : List ℕ
   pub cells : ℕ
   pub as_hermite3 : Bool
+  pub sizes : Option (List ℕ)
 
 abbrev pub micros_of : Tick → ℕ
 micros_of tick = tick.micros
@@ -37,6 +39,7 @@ asked_of s = record {
   suffix = s.suffix.now;
   cells = s.cells;
   as_hermite3 = s.as_hermite3;
+  sizes = option_copied s.sizes;
 }
 
 abbrev pub said : Result Settings UsageFault → Result Asked UsageFault
@@ -90,6 +93,11 @@ abbrev pub file_text_or : ℕ → List ℕ → Option (List ℕ) → Option (Lis
 file_text_or longest left_out None = Some left_out
 file_text_or longest left_out (Some text) = if is_file_text longest text then Some text else None
 
+-- the name of a file, which may be left out
+abbrev pub name_or : Option (List ℕ) → Option (Option (List ℕ))
+name_or None = Some None
+name_or (Some text) = if is_file_text 200 text then Some (Some text) else None
+
 -- the value of an option, which is out of its range where there is none
 abbrev pub in_range : {A : Type 0} → Opt → Option A → Result A UsageFault
 in_range option None = Err (Value option)
@@ -109,7 +117,8 @@ values_of givens = do
   to ← in_range To (not_before from (epoch_or (value_of To givens)))
   suffix ← in_range Suffix (file_text_or 20 (codes ".oem") (value_of Suffix givens))
   cells ← in_range Cells (number_or 1 4_000_000 4_000_000 (value_of Cells givens))
-  Ok (record { threshold = threshold; from = from; to = to; suffix = suffix; cells = cells; as_hermite3 = is_given AsHermite3 givens })
+  sizes ← in_range Sizes (name_or (value_of Sizes givens))
+  Ok (record { threshold = threshold; from = from; to = to; suffix = suffix; cells = cells; as_hermite3 = is_given AsHermite3 givens; sizes = sizes })
 
 -- the settings that options give
 abbrev pub settings_with : Option (List Given) → Result Asked UsageFault

@@ -25,6 +25,7 @@ fn are_single(words: &[Word]) -> bool
         && is_single(words, Opt::Suffix)
         && is_single(words, Opt::Cells)
         && is_single(words, Opt::AsHermite3)
+        && is_single(words, Opt::Sizes)
 }
 
 fn is_single(words: &[Word], option: Opt) -> bool
@@ -56,6 +57,7 @@ fn is_known(name: &[u8]) -> bool
         || name == option_name(Opt::Suffix)
         || name == option_name(Opt::Cells)
         || name == option_name(Opt::AsHermite3)
+        || name == option_name(Opt::Sizes)
 }
 
 /// Whether the option stands.

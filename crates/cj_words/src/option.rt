@@ -16,6 +16,8 @@ pub enum Opt {
     Cells,
     /// Whether a file that does not declare the cubic is taken as if it did; a flag.
     AsHermite3,
+    /// The file of the sizes of objects.
+    Sizes,
 }
 
 /// What is wrong with a command line.
@@ -38,5 +40,6 @@ pub fn option_name(option: Opt) -> &'static [u8]
         Opt::Suffix => b"--suffix",
         Opt::Cells => b"--cells",
         Opt::AsHermite3 => b"--as-hermite3",
+        Opt::Sizes => b"--sizes",
     }
 }

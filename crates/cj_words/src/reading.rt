@@ -75,6 +75,9 @@ fn values_of(words: &[Word]) -> Result<Settings<'_>, UsageFault>
     let Some(cells) = number_or(value_of(words, Opt::Cells), 4_000_000, 4_000_000) else {
         return Err(out_of_range(Opt::Cells));
     };
+    let Some(sizes) = name_or(value_of(words, Opt::Sizes)) else {
+        return Err(out_of_range(Opt::Sizes));
+    };
     Ok(Settings {
         threshold,
         from,
@@ -82,6 +85,7 @@ fn values_of(words: &[Word]) -> Result<Settings<'_>, UsageFault>
         suffix,
         cells,
         as_hermite3: is_given(words, Opt::AsHermite3),
+        sizes,
     })
 }
 
@@ -146,6 +150,17 @@ fn file_text_or<'w>(value: Option<&'w [u8]>, longest: usize, left_out: &'w [u8])
     match value {
         None => Some(left_out),
         Some(text) if is_file_text(text, longest) => Some(text),
+        Some(_) => None,
+    }
+}
+
+/// The name of a file that a value says, none where it is left out.
+fn name_or(value: Option<&[u8]>) -> Option<Option<&[u8]>>
+    ensures { option_map (λ name. option_copied name) result ≡ spec.name_or (option_copied value.entry) }
+{
+    match value {
+        None => Some(None),
+        Some(text) if is_file_text(text, 200) => Some(Some(text)),
         Some(_) => None,
     }
 }

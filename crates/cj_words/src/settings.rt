@@ -7,7 +7,7 @@ use cj_kvn::Text;
 /// A word of the command line.
 pub type Word = Text;
 
-/// What a command line asks for. The suffix is lent by the words.
+/// What a command line asks for. The suffix and the name of the file of sizes are lent by the words.
 #[derive(Clone, Copy, Debug, PartialEq, Eq)]
 pub struct Settings<'w> {
     /// The greatest miss distance that is reported, in metres, from 1 to 1,000,000.
@@ -22,6 +22,8 @@ pub struct Settings<'w> {
     pub cells: u64,
     /// Whether a file that does not declare the cubic is taken as if it did.
     pub as_hermite3: bool,
+    /// The name of the file of sizes, where it is given: 1 to 200 such bytes. Without it no object has a size.
+    pub sizes: Option<&'w [u8]>,
     pub ghost some: { 1 ≤ threshold },
     pub ghost most: { threshold ≤ 1_000_000 },
     pub ghost some_cells: { 1 ≤ cells },

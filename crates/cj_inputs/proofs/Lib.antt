@@ -1,0 +1,5 @@
+pub mod InputFileLemmas
+pub mod ReadingLemmas
+pub mod SortLemmas
+pub mod StepLemmas
+pub mod WindowLemmas

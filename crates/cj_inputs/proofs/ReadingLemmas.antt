@@ -1,0 +1,155 @@
+-- Reading files one after another.
+use Rattle.std.proofs.Common.{◌≡◌, ℕ, zero, suc, ◌+◌, ◌<◌, ◌≤◌, ◌⊎◌, inl, inr, List, [], ◌∷◌, ◌++◌, length, map, drop, get_or, Ok, Err, Result, Bool, true, false, refl, sym, ap, ap₂, ◌∙◌, arith, add-one}
+use Rattle.std.specs.Prelude.{nat_le}
+use Rattle.std.proofs.lemmas.Bool.Decides.{nat_tests}
+use Rattle.std.proofs.lemmas.Bool.{cases_lt}
+use Rattle.std.proofs.lemmas.List.{get_or_append_left, get_or_push, length-append, map-append}
+use Rattle.std.proofs.lemmas.List.Sums.{sum_by-cons, sum_by_push}
+use Rattle.cj_io.specs.declared.file.FileBytes.{FileBytes}
+use Rattle.cj_io.specs.Files.{bytes_of}
+use Rattle.cj_track.specs.PlainTracks.{PlainTrack}
+use Rattle.cj_oem.specs.Metadata.{same_frame}
+use Rattle.cj_track.specs.Segments.{node_count}
+use Rattle.cj_track.specs.Tracks.{plain_track}
+use Rattle.cj_oem.proofs.CountLemmas.{nodes_said}
+use Rattle.cj_track.specs.declared.frame.Frame.{Frame}
+use Rattle.cj_track.specs.declared.frame.Frame.TheVariants as frames
+use Rattle.cj_track.specs.declared.track.Track.{Track}
+use Rattle.cj_hermite.specs.CaseLimits.{node_total}
+use Rattle.cj_hermite.specs.Frames.{HaveOneFrame}
+use Rattle.cj_status.specs.declared.status.Status.{Status}
+use Rattle.cj_status.specs.declared.status.Status.TheVariants.{BadFile, Limit}
+use Rattle.cj_status.specs.declared.status.LimitFault.TheVariants as limit
+use Rattle.cj_inputs.specs.declared.reading.InputError.{InputError}
+use Rattle.cj_inputs.specs.declared.reading.InputError.TheVariants as input
+use Rattle.cj_inputs.specs.declared.input_files.Entry.{Entry}
+use Rattle.cj_status.specs.Steps.{◌>>=◌}
+use Rattle.cj_inputs.specs.Readings.{reading_of, reading_after, readings_after, checked_after, has_frame_of, nodes_of, nodes_in, Reads}
+
+-- a reading that was given up, as one that goes on from it
+pub reads_on : {X Y A B : Type 0} (P : Type 0) (view : X → A) (seen : Y → B) (why : InputError) (read : Result A Status) (f : A → Result B Status)
+    → Reads P view (Err why) read → Reads P seen (Err why) (read >>= f)
+reads_on P view seen input.Memory read f here = tt
+reads_on P view seen input.Failed read f here = here
+reads_on {X} {Y} {A} {B} P view seen (input.Refused file line cause) read f here = ap (λ (r : Result A Status). r >>= f) here
+reads_on {X} {Y} {A} {B} P view seen (input.Limit fault) read f here = ap (λ (r : Result A Status). r >>= f) here
+
+-- the nodes of tracks are those of their ephemerides
+pub same_nodes : (tracks : List Track) → nodes_in (map plain_track tracks) ≡ node_total tracks
+same_nodes [] = refl
+same_nodes (track ∷ tracks) =
+    sum_by-cons nodes_of (plain_track track) (map plain_track tracks)
+    ∙ ap₂ (λ (a b : ℕ). a + b) (nodes_said track.segments) (same_nodes tracks)
+    ∙ sym (sum_by-cons (λ (t : Track). node_count t.segments) track tracks)
+
+-- one more track
+pub nodes_behind : (tracks : List Track) (track : Track) → node_total (tracks ++ track ∷ []) ≡ node_total tracks + node_count track.segments
+nodes_behind tracks track = sum_by_push (λ (t : Track). node_count t.segments) tracks track
+
+nodes_with : (tracks : List Track) (track : Track) → nodes_in (map plain_track tracks ++ plain_track track ∷ []) ≡ node_total tracks + node_count track.segments
+nodes_with tracks track =
+    ap nodes_in (sym (map-append plain_track tracks (track ∷ []))) ∙ same_nodes (tracks ++ track ∷ []) ∙ nodes_behind tracks track
+
+-- a track of the same frame, which has few nodes with those before it
+pub fits : (tracks : List Track) (name : List ℕ) (track : Track) (nodes : ℕ) → has_frame_of (map plain_track tracks) (plain_track track) ≡ true
+    → nodes ≡ node_total tracks + node_count track.segments → nodes ≤ 2_000_000
+    → checked_after (map plain_track tracks) name (plain_track track) ≡ Ok (plain_track track)
+fits tracks name track nodes frame is few =
+    let small : nat_le nodes 2_000_000 ≡ true = grind (arith, nat_tests) in
+    let all : nodes_in (map plain_track tracks ++ plain_track track ∷ []) ≡ nodes = nodes_with tracks track ∙ sym is in
+    rw (frame, all, small) refl
+
+-- a track of the same frame, which has too many
+pub overflows : (tracks : List Track) (name : List ℕ) (track : Track) (nodes : ℕ) → has_frame_of (map plain_track tracks) (plain_track track) ≡ true
+    → nodes ≡ node_total tracks + node_count track.segments → 2_000_000 < nodes
+    → checked_after (map plain_track tracks) name (plain_track track) ≡ Err (Limit (limit.Nodes nodes))
+overflows tracks name track nodes frame is many =
+    let large : nat_le nodes 2_000_000 ≡ false = grind (arith, nat_tests) in
+    let all : nodes_in (map plain_track tracks ++ plain_track track ∷ []) ≡ nodes = nodes_with tracks track ∙ sym is in
+    rw (frame, all, large) refl
+
+frames_tied : (f g : Frame) → same_frame f g ≡ true → f ≡ g
+frames_tied frames.Eme2000 frames.Eme2000 e = refl
+frames_tied frames.Eme2000 frames.Gcrf e = absurd cc
+frames_tied frames.Gcrf frames.Eme2000 e = absurd cc
+frames_tied frames.Gcrf frames.Gcrf e = refl
+
+first_frame : (tracks : List Track) (track d : Track) → has_frame_of (map plain_track tracks) (plain_track track) ≡ true → 0 < length tracks → (get_or tracks 0 d).frame ≡ track.frame
+first_frame [] track d e some = absurd (omega arith)
+first_frame (first ∷ tracks) track d e some = frames_tied first.frame track.frame e
+
+-- one more track of the frame of the first
+pub one_frame_more : (tracks : List Track) (track : Track) → HaveOneFrame tracks → has_frame_of (map plain_track tracks) (plain_track track) ≡ true → HaveOneFrame (tracks ++ track ∷ [])
+one_frame_more tracks track one e = λ i j d below_i below_j. last i d below_i ∙ sym (last j d below_j)
+  where
+    at_end : (i : ℕ) (d : Track) → length tracks ≡ i → (get_or (tracks ++ track ∷ []) i d).frame ≡ track.frame
+    at_end i d here = ap (λ (t : Track). t.frame) (get_or_push tracks track d i here)
+
+    within : (i : ℕ) (d : Track) → i < length tracks → (get_or (tracks ++ track ∷ []) i d).frame ≡ track.frame
+    within i d below =
+        ap (λ (t : Track). t.frame) (get_or_append_left tracks (track ∷ []) d i below)
+        ∙ one i 0 d below (omega arith) ∙ first_frame tracks track d e (omega arith)
+
+    last : (i : ℕ) (d : Track) → i < length (tracks ++ track ∷ []) → (get_or (tracks ++ track ∷ []) i d).frame ≡ track.frame
+    last i d below = either (cases_lt i (length tracks))
+      where
+        either : (i < length tracks) ⊎ (length tracks ≤ i) → (get_or (tracks ++ track ∷ []) i d).frame ≡ track.frame
+        either (inl h) = within i d h
+        either (inr h) = at_end i d (omega (arith, length-append tracks (track ∷ [])))
+
+-- the reading from an entry on: that file, and then the rest
+from_on : (as_hermite3 : Bool) (files : List FileBytes) (before : List PlainTrack) (entries : List Entry) (i : ℕ) (d : Entry) → i < length entries
+    → readings_after as_hermite3 files before (drop i entries)
+    ≡ (reading_after as_hermite3 files before (get_or entries i d) >>= λ e. readings_after as_hermite3 files (before ++ e ∷ []) (drop (suc i) entries))
+from_on as_hermite3 files before [] i d below = absurd (omega arith)
+from_on as_hermite3 files before (entry ∷ entries) zero d below = refl
+from_on as_hermite3 files before (entry ∷ entries) (suc i) d below = from_on as_hermite3 files before entries i d (omega arith)
+
+here_on : (as_hermite3 : Bool) (files : List FileBytes) (before : List PlainTrack) (entries : List Entry) (i : ℕ) (entry : Entry) (r : Result PlainTrack Status) → i < length entries
+    → get_or entries i entry ≡ entry → reading_after as_hermite3 files before entry ≡ r
+    → readings_after as_hermite3 files before (drop i entries) ≡ (r >>= λ e. readings_after as_hermite3 files (before ++ e ∷ []) (drop (suc i) entries))
+here_on as_hermite3 files before entries i entry r below is read =
+    let rest : PlainTrack → Result (List PlainTrack) Status = λ e. readings_after as_hermite3 files (before ++ e ∷ []) (drop (suc i) entries) in
+    from_on as_hermite3 files before entries i entry below
+    ∙ ap (λ (x : Entry). reading_after as_hermite3 files before x >>= rest) is
+    ∙ ap (λ (x : Result PlainTrack Status). x >>= rest) read
+
+-- one more file was read, and fits
+pub goes_on : (as_hermite3 : Bool) (files : List FileBytes) (tracks : List Track) (entries : List Entry) (i : ℕ) (entry : Entry) (track : Track) (more : List Track) (total : Result (List PlainTrack) Status)
+    → i < length entries → get_or entries i entry ≡ entry → more ≡ tracks ++ track ∷ []
+    → reading_of as_hermite3 entry.name (bytes_of files entry.number) ≡ Ok (plain_track track) → checked_after (map plain_track tracks) entry.name (plain_track track) ≡ Ok (plain_track track)
+    → readings_after as_hermite3 files (map plain_track tracks) (drop i entries) ≡ total → readings_after as_hermite3 files (map plain_track more) (drop (i + 1) entries) ≡ total
+goes_on as_hermite3 files tracks entries i entry track more total below is pushed read fit so_far =
+    let before = map plain_track tracks in
+    let after : reading_after as_hermite3 files before entry ≡ Ok (plain_track track) = ap (λ (r : Result PlainTrack Status). r >>= checked_after before entry.name) read ∙ fit in
+    let all : map plain_track more ≡ before ++ plain_track track ∷ [] = ap (map plain_track) pushed ∙ map-append plain_track tracks (track ∷ []) in
+    rw (add-one, all) (sym (here_on as_hermite3 files before entries i entry (Ok (plain_track track)) below is after) ∙ so_far)
+
+-- why one file is not taken is why the reading of all ends
+ends : {X Y : Type 0} {P Q : Type 0} (view : X → PlainTrack) (all : Y → List PlainTrack) (as_hermite3 : Bool) (files : List FileBytes) (before : List PlainTrack) (entries : List Entry) (i : ℕ) (entry : Entry) (why : InputError) (total : Result (List PlainTrack) Status)
+    → i < length entries → get_or entries i entry ≡ entry → (P → Q)
+    → Reads P view (Err why) (reading_after as_hermite3 files before entry)
+    → readings_after as_hermite3 files before (drop i entries) ≡ total → Reads Q all (Err why) total
+ends view all as_hermite3 files before entries i entry input.Memory total below is rose here so_far = tt
+ends view all as_hermite3 files before entries i entry input.Failed total below is rose here so_far = rose here
+ends view all as_hermite3 files before entries i entry (input.Refused file line cause) total below is rose here so_far =
+    sym so_far ∙ here_on as_hermite3 files before entries i entry (Err (BadFile file line cause)) below is here
+ends view all as_hermite3 files before entries i entry (input.Limit fault) total below is rose here so_far =
+    sym so_far ∙ here_on as_hermite3 files before entries i entry (Err (Limit fault)) below is here
+
+passes_on : {X Y : Type 0} (P : Type 0) (view : X → PlainTrack) (other : Y → PlainTrack) (why : InputError) (r s : Result PlainTrack Status) → ((e : Status) → r ≡ Err e → s ≡ Err e)
+    → Reads P view (Err why) r → Reads P other (Err why) s
+passes_on P view other input.Memory r s on here = tt
+passes_on P view other input.Failed r s on here = here
+passes_on P view other (input.Refused file line cause) r s on here = on (BadFile file line cause) here
+passes_on P view other (input.Limit fault) r s on here = on (Limit fault) here
+
+-- a file was read, and does not fit
+pub is_apart : {X Y : Type 0} (Q : Type 0) (view : X → PlainTrack) (all : Y → List PlainTrack) (as_hermite3 : Bool) (files : List FileBytes) (before : List PlainTrack) (entries : List Entry) (i : ℕ) (entry : Entry) (e : PlainTrack) (why : InputError)
+    (total : Result (List PlainTrack) Status) → i < length entries → get_or entries i entry ≡ entry
+    → reading_of as_hermite3 entry.name (bytes_of files entry.number) ≡ Ok e → Reads ⊥ view (Err why) (checked_after before entry.name e)
+    → readings_after as_hermite3 files before (drop i entries) ≡ total → Reads Q all (Err why) total
+is_apart Q view all as_hermite3 files before entries i entry e why total below is read here so_far =
+    ends view all as_hermite3 files before entries i entry why total below is (λ none. absurd none)
+    (passes_on ⊥ view view why (checked_after before entry.name e) (reading_after as_hermite3 files before entry)
+    (λ s not. ap (λ (r : Result PlainTrack Status). r >>= checked_after before entry.name) read ∙ not) here) so_far

@@ -1,0 +1,52 @@
+-- The case that is asked of the files of a folder.
+use Rattle.std.specs.Prelude.{ℕ, ◌-◌, ◌*◌, nat_le, if◌then◌else◌, List, length, Result, Ok, Err}
+use Rattle.cj_io.specs.declared.file.FileBytes.{FileBytes}
+use Rattle.cj_io.specs.Files.{names_of}
+use Rattle.cj_sizes.specs.Sizes.{Size}
+use Rattle.cj_words.specs.Settings.{Asked}
+use Rattle.cj_track.specs.PlainTracks.{PlainTrack}
+use Rattle.cj_hermite.specs.PlainProblems.{PlainProblem}
+use Rattle.cj_hermite.specs.Slots.{slot_count}
+use Rattle.cj_status.specs.declared.status.Status.{Status}
+use Rattle.cj_status.specs.declared.status.Status.TheVariants as status
+use Rattle.cj_status.specs.declared.status.LimitFault.TheVariants.{Objects, Window, Slots}
+use Rattle.cj_status.specs.Steps.{◌>>=◌}
+use Rattle.cj_inputs.specs.declared.input_files.Entry.{Entry}
+use Rattle.cj_inputs.specs.Readings.{readings_of}
+use Rattle.cj_inputs.specs.InputFiles.{inputs_of}
+use Rattle.cj_inputs.specs.ObjectSizes.{sizes_asked, object_sizes}
+use Rattle.cj_inputs.specs.Windows.{window_first, window_last}
+
+-- at most 2,000 objects
+abbrev pub within_objects : List Entry → Result (List Entry) Status
+within_objects entries = if nat_le (length entries) 2000 then Ok entries else Err (status.Limit (Objects (length entries)))
+
+abbrev pub case_with : List PlainTrack → ℕ → ℕ → ℕ → List ℕ → PlainProblem
+case_with es first last threshold sizes = record { ephemerides = es; first = first; last = last; threshold = threshold; sizes = sizes }
+
+-- what is asked of these ephemerides, where these sizes are given
+abbrev pub case_of_run : Asked → List PlainTrack → List Size → PlainProblem
+case_of_run settings es sizes = case_with es (window_first settings es) (window_last settings es) (settings.threshold * 1_000_000_000) (object_sizes sizes es)
+
+-- a window of at most fourteen days
+abbrev pub within_window : PlainProblem → Result PlainProblem Status
+within_window case = if nat_le (case.last - case.first) 1_209_600_000_000 then Ok case else Err (status.Limit (Window (case.last - case.first)))
+
+abbrev pub object_slots : PlainProblem → ℕ
+object_slots case = length case.ephemerides * slot_count case.first case.last
+
+-- at most 4,000,000 objects times slots
+abbrev pub within_slots : PlainProblem → Result PlainProblem Status
+within_slots case = if nat_le (object_slots case) 4_000_000 then Ok case else Err (status.Limit (Slots (object_slots case)))
+
+-- both
+abbrev pub within_limits : PlainProblem → Result PlainProblem Status
+within_limits case = within_window case >>= within_slots
+
+-- the case that is asked of the files, or the first cause for which there is none
+unfoldable pub case_asked : List FileBytes → Asked → Result PlainProblem Status
+case_asked files settings = do
+  entries ← within_objects (inputs_of settings.suffix settings.sizes (names_of files))
+  es ← readings_of settings.as_hermite3 files entries
+  sizes ← sizes_asked files settings.sizes
+  within_limits (case_of_run settings es sizes)

@@ -1,0 +1,7 @@
+pub mod Cases
+pub mod Errors
+pub mod InputFiles
+pub mod ObjectSizes
+pub mod Orders
+pub mod Readings
+pub mod Windows

@@ -1,0 +1,97 @@
+//! From the settings and a folder to the problem that is to be screened.
+ghost use Rattle.std.specs.Prelude.{◌≡◌, ◌<◌, ◌≤◌, ◌^◌, List, Some, Err, IfErr, map, length};
+ghost use Rattle.cj_io.specs.Faults.{Rose};
+ghost use Rattle.cj_io.specs.declared.file.FileBytes.{FileBytes};
+ghost use Rattle.cj_hermite.specs.CaseLimits.{AreFewNodes};
+ghost use Rattle.cj_hermite.specs.Frames.{HaveOneFrame};
+ghost use Rattle.cj_hermite.specs.Problems.{plain_problem};
+ghost use Rattle.cj_track.specs.Tracks.{plain_track};
+ghost use Rattle.cj_words.specs.Settings.{asked_of};
+ghost use Rattle.cj_inputs.specs.Cases as spec;
+ghost use Rattle.cj_status.specs.Steps.{Gives, ComesBetween, IsLimit};
+
+use crate::input_files::{Entry, list_inputs};
+use crate::object_sizes::{read_size_lines, sizes_of_tracks};
+use crate::reading::read_tracks;
+use crate::window::window_of;
+use cj_epoch::Window;
+use cj_hermite::{Problem, Sizes, Tracks, slot_count};
+use cj_io::Folder;
+use cj_status::{LimitFault, Status};
+use cj_track::Track;
+use cj_words::Settings;
+use std::alloc::Global;
+
+/// The greatest number of objects.
+const MAX_OBJECTS: usize = 2000;
+
+/// The greatest length of a window in ticks: fourteen days.
+const MAX_LENGTH: u64 = 1_209_600_000_000;
+
+/// The greatest number of objects times slots.
+const MAX_SLOTS: u64 = 4_000_000;
+
+/// Reads the files that are taken and the sizes of their objects, and puts them with the window and the threshold that are asked for.
+#[tactic(auto, unfolding(crate::specs::Cases::case_asked))]
+pub fn prepare<F: Folder>(
+    alloc: Global,
+    folder: &mut F,
+    settings: &Settings,
+) -> Result<Problem, Status>
+    ensures between { IfErr result ComesBetween }
+    ensures read { result ≡ Err Status.ReadFault → Rose (F.faults folder.old) (F.faults folder.new) }
+    ensures told { (files : List FileBytes) → F.files folder.old ≡ Some files
+        → Gives (Rose (F.faults folder.old) (F.faults folder.new)) plain_problem result (spec.case_asked files (asked_of settings.now)) }
+
+    ensures files { F.files folder.new ≡ F.files folder.old }
+    ensures later { F.faults folder.old ≤ F.faults folder.new }
+{
+    let names = folder.names(alloc)?;
+    let entries = list_inputs(alloc, &names, settings.suffix, settings.sizes)?;
+    if entries.len() > MAX_OBJECTS {
+        return Err(too_many_objects(entries.len() as u32));
+    }
+    let tracks = read_tracks(alloc, folder, &entries, settings.as_hermite3)?;
+    let lines = read_size_lines(alloc, folder, &names, settings.sizes)?;
+    let sizes = sizes_of_tracks(alloc, &lines, &tracks)?;
+    let window = window_of(settings, &tracks);
+    make_problem(tracks, sizes, window, settings.threshold * 1_000_000_000)
+}
+
+fn too_many_objects(count: u32) -> Status
+    ensures { result ≡ Status.Limit (LimitFault.Objects count) }
+{
+    Status::Limit(LimitFault::Objects { count })
+}
+
+/// The problem of these tracks, whose objects have these sizes, where its window is within the limits.
+fn make_problem(
+    tracks: Vec<Track>,
+    sizes: Sizes,
+    window: Window,
+    threshold: u64,
+) -> Result<Problem, Status>
+    requires few { length tracks.items ≤ 2000 }
+    requires frame { HaveOneFrame tracks.items }
+    requires nodes { AreFewNodes tracks.items }
+    requires sized { length sizes ≡ length tracks.items }
+    requires least { 10 ^ 9 ≤ threshold }
+    requires most { threshold ≤ 10 ^ 15 }
+    ensures limit { IfErr result IsLimit }
+    ensures told { Gives ⊥ plain_problem result (spec.within_limits (spec.case_with (map plain_track tracks.items) window.first.micros window.last.micros threshold sizes)) }
+{
+    let length = window.last.micros.saturating_sub(window.first.micros);
+    if length > MAX_LENGTH {
+        return Err(Status::Limit(LimitFault::Window { length }));
+    }
+    let count = tracks.len() as u64 * u64::from(slot_count(window));
+    if count > MAX_SLOTS {
+        return Err(Status::Limit(LimitFault::Slots { count }));
+    }
+    Ok(Problem {
+        tracks: Tracks::new(tracks),
+        window,
+        threshold,
+        sizes,
+    })
+}

@@ -1,0 +1,106 @@
+-- The lines that say why a run failed.
+use Rattle.std.specs.Prelude.{ℕ, List, [], ◌∷◌, ◌++◌, codes}
+use Rattle.std.specs.Fmt.{decimal}
+use Rattle.cj_epoch.specs.declared.fault.EpochFault.{EpochFault}
+use Rattle.cj_epoch.specs.declared.fault.EpochFault.TheVariants as epoch
+use Rattle.cj_kvn.specs.declared.lines.KvnCause.{KvnCause}
+use Rattle.cj_kvn.specs.declared.lines.KvnCause.TheVariants as kvn
+use Rattle.cj_oem.specs.declared.fault.OemCause.{OemCause}
+use Rattle.cj_oem.specs.declared.fault.OemCause.TheVariants as oem
+use Rattle.cj_sizes.specs.declared.fault.SizesCause.{SizesCause}
+use Rattle.cj_sizes.specs.declared.fault.SizesCause.TheVariants as sizes
+use Rattle.cj_words.specs.declared.option.UsageFault.{UsageFault}
+use Rattle.cj_words.specs.declared.option.UsageFault.TheVariants.{Words, Value}
+use Rattle.cj_words.specs.Options.{name_of}
+use Rattle.cj_status.specs.declared.status.Status.{Status}
+use Rattle.cj_status.specs.declared.status.Status.TheVariants as status
+use Rattle.cj_status.specs.declared.status.FileCause.{FileCause}
+use Rattle.cj_status.specs.declared.status.FileCause.TheVariants.{Oem, MixedFrames, Sizes, NoSizes}
+use Rattle.cj_status.specs.declared.status.LimitFault.{LimitFault}
+use Rattle.cj_status.specs.declared.status.LimitFault.TheVariants.{Objects, FileBytes, Nodes, Window, Slots, Cells}
+
+abbrev pub usage_text : UsageFault → List ℕ
+usage_text Words = codes "Words"
+usage_text (Value option) = codes "Value " ++ name_of option
+
+abbrev pub kvn_text : KvnCause → List ℕ
+kvn_text kvn.NotPrintable = codes "NotPrintable"
+kvn_text kvn.NoLineForm = codes "NoLineForm"
+
+abbrev pub epoch_text : EpochFault → List ℕ
+epoch_text epoch.Form = codes "Form"
+epoch_text epoch.Range = codes "Range"
+epoch_text epoch.SecondSixty = codes "SecondSixty"
+epoch_text epoch.TooFine = codes "TooFine"
+
+-- the name of a cause, and behind it that of another that it carries
+abbrev pub oem_text : OemCause → List ℕ
+oem_text oem.Name = codes "Name"
+oem_text (oem.Kvn cause) = codes "Kvn " ++ kvn_text cause
+oem_text oem.Order = codes "Order"
+oem_text oem.Version = codes "Version"
+oem_text oem.Twice = codes "Twice"
+oem_text oem.Unknown = codes "Unknown"
+oem_text oem.Missing = codes "Missing"
+oem_text oem.Interpolation = codes "Interpolation"
+oem_text oem.ObjectChanged = codes "ObjectChanged"
+oem_text oem.Center = codes "Center"
+oem_text oem.Frame = codes "Frame"
+oem_text oem.TimeSystem = codes "TimeSystem"
+oem_text (oem.Epoch fault) = codes "Epoch " ++ epoch_text fault
+oem_text oem.Fields = codes "Fields"
+oem_text oem.Number = codes "Number"
+oem_text oem.CoordinateRange = codes "CoordinateRange"
+oem_text oem.RateRange = codes "RateRange"
+oem_text oem.TimesFall = codes "TimesFall"
+oem_text oem.StepTooLong = codes "StepTooLong"
+oem_text oem.LeapSecond = codes "LeapSecond"
+oem_text oem.TooFewNodes = codes "TooFewNodes"
+oem_text oem.UseableSpan = codes "UseableSpan"
+oem_text oem.SegmentsOverlap = codes "SegmentsOverlap"
+oem_text oem.MatrixForm = codes "MatrixForm"
+
+-- the same of a file of sizes
+abbrev pub sizes_text : SizesCause → List ℕ
+sizes_text (sizes.Kvn cause) = codes "Kvn " ++ kvn_text cause
+sizes_text sizes.Form = codes "Form"
+sizes_text sizes.Number = codes "Number"
+sizes_text sizes.Range = codes "Range"
+sizes_text sizes.Twice = codes "Twice"
+
+abbrev pub cause_text : FileCause → List ℕ
+cause_text (Oem cause) = oem_text cause
+cause_text MixedFrames = codes "MixedFrames"
+cause_text (Sizes cause) = codes "Sizes " ++ sizes_text cause
+cause_text NoSizes = codes "NoSizes"
+
+abbrev pub limit_text : LimitFault → List ℕ
+limit_text (Objects count) = codes "Objects " ++ decimal count
+limit_text (FileBytes file) = codes "FileBytes " ++ file
+limit_text (Nodes count) = codes "Nodes " ++ decimal count
+limit_text (Window length) = codes "Window " ++ decimal length
+limit_text (Slots count) = codes "Slots " ++ decimal count
+limit_text (Cells limit) = codes "Cells " ++ decimal limit
+
+-- what stands between `conj: ` and the end of the line
+abbrev pub fault_body : Status → List ℕ
+fault_body status.Ok = []
+fault_body (status.Usage fault) = codes "usage: " ++ usage_text fault
+fault_body (status.BadFile file line cause) = file ++ codes ": line " ++ decimal line ++ codes ": " ++ cause_text cause
+fault_body status.ReadFault = codes "read fault"
+fault_body status.WriteFault = codes "write fault"
+fault_body (status.Limit fault) = codes "limit: " ++ limit_text fault
+fault_body status.OutOfMemory = codes "out of memory"
+
+abbrev pub line_with : List ℕ → List ℕ
+line_with body = codes "conj: " ++ body ++ 10 ∷ []
+
+-- the line of a status, empty where all went well
+abbrev pub line_of : Status → List ℕ
+line_of status.Ok = []
+line_of (status.Usage fault) = line_with (fault_body (status.Usage fault))
+line_of (status.BadFile file line cause) = line_with (fault_body (status.BadFile file line cause))
+line_of status.ReadFault = line_with (fault_body status.ReadFault)
+line_of status.WriteFault = line_with (fault_body status.WriteFault)
+line_of (status.Limit fault) = line_with (fault_body (status.Limit fault))
+line_of status.OutOfMemory = line_with (fault_body status.OutOfMemory)

@@ -1,0 +1,179 @@
+//! The line that says on standard error why a run failed.
+ghost use Rattle.std.specs.Prelude.{◌≡◌, ◌++◌, IfOk, OnOk, codes};
+ghost use Rattle.std.specs.Fmt.{decimal};
+ghost use Rattle.cj_status.specs.Faults.{line_of, fault_body, usage_text, limit_text, cause_text, oem_text, kvn_text, epoch_text, sizes_text};
+
+use crate::status::{FileCause, LimitFault, Status};
+use cj_epoch::EpochFault;
+use cj_kvn::KvnCause;
+use cj_oem::OemCause;
+use cj_sizes::SizesCause;
+use cj_words::{UsageFault, option_name};
+use std::alloc::{AllocError, Global};
+
+/// The line for standard error, with its end; empty where all went well.
+pub fn fault_text(alloc: Global, status: &Status) -> Result<Vec<u8>, AllocError>
+    ensures { IfOk result (λ text. text.items ≡ line_of status.now) }
+{
+    let mut text = Vec::new(alloc);
+    match status {
+        Status::Ok => Ok(text),
+        failed => {
+            text.extend_from_slice(b"conj: ")?;
+            push_fault(alloc, &mut text, failed)?;
+            text.push(b'\n')?;
+            Ok(text)
+        }
+    }
+}
+
+fn push_fault(alloc: Global, text: &mut Vec<u8>, status: &Status) -> Result<(), AllocError>
+    ensures { OnOk result (text.new.items ≡ text.old.items ++ fault_body status.now) }
+{
+    match status {
+        Status::Ok => Ok(()),
+        Status::Usage(fault) => push_usage(text, fault),
+        Status::BadFile { file, line, cause } => {
+            text.extend_from_slice(file.as_slice())?;
+            text.extend_from_slice(b": line ")?;
+            push_number(alloc, text, u64::from(*line))?;
+            text.extend_from_slice(b": ")?;
+            text.extend_from_slice(cause_name(*cause))
+        }
+        Status::ReadFault => text.extend_from_slice(b"read fault"),
+        Status::WriteFault => text.extend_from_slice(b"write fault"),
+        Status::Limit(fault) => push_limit(alloc, text, fault),
+        Status::OutOfMemory => text.extend_from_slice(b"out of memory"),
+    }
+}
+
+fn cause_name(cause: FileCause) -> &'static [u8]
+    ensures { result.now ≡ cause_text cause }
+{
+    match cause {
+        FileCause::Oem(cause) => oem_name(cause),
+        FileCause::MixedFrames => b"MixedFrames",
+        FileCause::Sizes(cause) => sizes_name(cause),
+        FileCause::NoSizes => b"NoSizes",
+    }
+}
+
+/// The name of a cause in a file of sizes, behind the word for all such.
+fn sizes_name(cause: SizesCause) -> &'static [u8]
+    ensures { result.now ≡ codes "Sizes " ++ sizes_text cause }
+{
+    match cause {
+        SizesCause::Kvn(cause) => sizes_kvn_name(cause),
+        SizesCause::Form => b"Sizes Form",
+        SizesCause::Number => b"Sizes Number",
+        SizesCause::Range => b"Sizes Range",
+        SizesCause::Twice => b"Sizes Twice",
+    }
+}
+
+fn sizes_kvn_name(cause: KvnCause) -> &'static [u8]
+    ensures { result.now ≡ codes "Sizes Kvn " ++ kvn_text cause }
+{
+    match cause {
+        KvnCause::NotPrintable => b"Sizes Kvn NotPrintable",
+        KvnCause::NoLineForm => b"Sizes Kvn NoLineForm",
+    }
+}
+
+fn oem_name(cause: OemCause) -> &'static [u8]
+    ensures { result.now ≡ oem_text cause }
+{
+    match cause {
+        OemCause::Name => b"Name",
+        OemCause::Kvn(cause) => kvn_name(cause),
+        OemCause::Order => b"Order",
+        OemCause::Version => b"Version",
+        OemCause::Twice => b"Twice",
+        OemCause::Unknown => b"Unknown",
+        OemCause::Missing => b"Missing",
+        OemCause::Interpolation => b"Interpolation",
+        OemCause::ObjectChanged => b"ObjectChanged",
+        OemCause::Center => b"Center",
+        OemCause::Frame => b"Frame",
+        OemCause::TimeSystem => b"TimeSystem",
+        OemCause::Epoch(fault) => epoch_name(fault),
+        OemCause::Fields => b"Fields",
+        OemCause::Number => b"Number",
+        OemCause::CoordinateRange => b"CoordinateRange",
+        OemCause::RateRange => b"RateRange",
+        OemCause::TimesFall => b"TimesFall",
+        OemCause::StepTooLong => b"StepTooLong",
+        OemCause::LeapSecond => b"LeapSecond",
+        OemCause::TooFewNodes => b"TooFewNodes",
+        OemCause::UseableSpan => b"UseableSpan",
+        OemCause::SegmentsOverlap => b"SegmentsOverlap",
+        OemCause::MatrixForm => b"MatrixForm",
+    }
+}
+
+/// The name of a cause among lines, behind the word for all such.
+fn kvn_name(cause: KvnCause) -> &'static [u8]
+    ensures { result.now ≡ codes "Kvn " ++ kvn_text cause }
+{
+    match cause {
+        KvnCause::NotPrintable => b"Kvn NotPrintable",
+        KvnCause::NoLineForm => b"Kvn NoLineForm",
+    }
+}
+
+/// The name of a fault of an epoch, behind the word for all such.
+fn epoch_name(fault: EpochFault) -> &'static [u8]
+    ensures { result.now ≡ codes "Epoch " ++ epoch_text fault }
+{
+    match fault {
+        EpochFault::Form => b"Epoch Form",
+        EpochFault::Range => b"Epoch Range",
+        EpochFault::SecondSixty => b"Epoch SecondSixty",
+        EpochFault::TooFine => b"Epoch TooFine",
+    }
+}
+
+fn push_usage(text: &mut Vec<u8>, fault: &UsageFault) -> Result<(), AllocError>
+    ensures { OnOk result (text.new.items ≡ text.old.items ++ (codes "usage: " ++ usage_text fault.now)) }
+{
+    text.extend_from_slice(b"usage: ")?;
+    match fault {
+        UsageFault::Words => text.extend_from_slice(b"Words"),
+        UsageFault::Value { option } => {
+            text.extend_from_slice(b"Value ")?;
+            text.extend_from_slice(option_name(*option))
+        }
+    }
+}
+
+fn push_limit(alloc: Global, text: &mut Vec<u8>, fault: &LimitFault) -> Result<(), AllocError>
+    ensures { OnOk result (text.new.items ≡ text.old.items ++ (codes "limit: " ++ limit_text fault.now)) }
+{
+    text.extend_from_slice(b"limit: ")?;
+    match fault {
+        LimitFault::Objects { count } => push_count(alloc, text, b"Objects ", u64::from(*count)),
+        LimitFault::FileBytes { file } => {
+            text.extend_from_slice(b"FileBytes ")?;
+            text.extend_from_slice(file.as_slice())
+        }
+        LimitFault::Nodes { count } => push_count(alloc, text, b"Nodes ", *count),
+        LimitFault::Window { length } => push_count(alloc, text, b"Window ", *length),
+        LimitFault::Slots { count } => push_count(alloc, text, b"Slots ", *count),
+        LimitFault::Cells { limit } => push_count(alloc, text, b"Cells ", *limit),
+    }
+}
+
+/// A number behind its name.
+fn push_count(alloc: Global, text: &mut Vec<u8>, name: &[u8], number: u64) -> Result<(), AllocError>
+    ensures { OnOk result (text.new.items ≡ text.old.items ++ (name.now ++ decimal number)) }
+{
+    text.extend_from_slice(name)?;
+    push_number(alloc, text, number)
+}
+
+fn push_number(alloc: Global, text: &mut Vec<u8>, number: u64) -> Result<(), AllocError>
+    ensures { OnOk result (text.new.items ≡ text.old.items ++ decimal number) }
+{
+    let digits = format!(in alloc; "{number}")?;
+    text.extend_from_slice(digits.as_bytes())
+}

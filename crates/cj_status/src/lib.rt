@@ -1,0 +1,12 @@
+//! How a run ends: its status, what that is called, and the line that says why.
+#![tactic(auto)]
+
+mod errors;
+mod fault_line;
+mod status;
+
+pub use fault_line::fault_text;
+pub use status::{FileCause, LimitFault, Status};
+
+#[cfg(test)]
+mod tests;

@@ -1,0 +1,70 @@
+ghost use Rattle.std.specs.Prelude.{◌≡◌};
+ghost use Rattle.cj_status.specs.Statuses.{number_of};
+
+use cj_io::Name;
+use cj_oem::OemCause;
+use cj_sizes::SizesCause;
+use cj_words::UsageFault;
+
+/// Why a file was refused.
+#[derive(Clone, Copy, Debug, PartialEq, Eq)]
+pub enum FileCause {
+    /// It is not an ephemeris that can be read.
+    Oem(OemCause),
+    /// Its frame is not that of the first file.
+    MixedFrames,
+    /// It is not a file of sizes.
+    Sizes(SizesCause),
+    /// No file has this name, which was given for the file of sizes.
+    NoSizes,
+}
+
+/// What is beyond its limit.
+#[derive(Debug, PartialEq, Eq, Drop)]
+pub enum LimitFault {
+    /// There are so many objects, more than 2,000.
+    Objects { count: u32 },
+    /// This file has more than 67,108,864 bytes.
+    FileBytes { file: Name },
+    /// The files up to one of them have so many nodes, more than 2,000,000.
+    Nodes { count: u64 },
+    /// The last tick of the window less the first is so much, more than fourteen days.
+    Window { length: u64 },
+    /// The objects times the slots of the window are so many, more than 4,000,000.
+    Slots { count: u64 },
+    /// There are more leaves than this limit.
+    Cells { limit: u64 },
+}
+
+/// How a run ended.
+#[derive(Debug, Drop)]
+pub enum Status {
+    Ok,
+    Usage(UsageFault),
+    BadFile {
+        file: Name,
+        line: u32,
+        cause: FileCause,
+    },
+    ReadFault,
+    WriteFault,
+    Limit(LimitFault),
+    OutOfMemory,
+}
+
+impl Status {
+    /// The exit status of the program.
+    pub fn number(&self) -> u8
+        ensures { result ≡ number_of self.now }
+    {
+        match self {
+            Status::Ok => 0,
+            Status::Usage(_) => 2,
+            Status::BadFile { .. } => 3,
+            Status::ReadFault => 4,
+            Status::WriteFault => 5,
+            Status::Limit(_) => 6,
+            Status::OutOfMemory => 7,
+        }
+    }
+}
