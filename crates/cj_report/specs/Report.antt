@@ -1,5 +1,5 @@
 -- The text of a report.
-use Rattle.std.specs.Prelude.{ℕ, ◌+◌, List, [], ◌∷◌, ◌++◌, codes, decimal, flat_map}
+use Rattle.std.specs.Prelude.{ℕ, ◌+◌, ◌-◌, Bool, if◌then◌else◌, List, [], ◌∷◌, ◌++◌, Option, Some, None, codes, decimal, flat_map, slice_get}
 use Rattle.std.specs.List.{join_with_byte}
 use Rattle.cj_bezier.specs.declared.kind.Kind.{Kind}
 use Rattle.cj_bezier.specs.declared.kind.Kind.TheVariants as kind
@@ -7,6 +7,7 @@ use Rattle.cj_bezier.specs.declared.encounter.Mark.{Mark}
 use Rattle.cj_bezier.specs.declared.encounter.Mark.TheVariants as mark
 use Rattle.cj_bezier.specs.Leaves.{PlainLeaf}
 use Rattle.cj_epoch.specs.Written.{epoch_of}
+use Rattle.cj_meet.specs.Closest.{PlainClosest}
 use Rattle.cj_meet.specs.Encounters.{first_object, second_object, mark_of}
 use Rattle.cj_meet.specs.Spans.{spans_of}
 use Rattle.cj_track.specs.PlainTracks.{PlainTrack}
@@ -20,13 +21,22 @@ abbrev pub numbered : {A : Type 0} → (ℕ → A → List ℕ) → ℕ → List
 numbered text n [] = []
 numbered text n (x ∷ xs) = text n x ++ numbered text (n + 1) xs
 
+-- a size in nm, where it is told
+abbrev pub size_line : Option ℕ → List ℕ
+size_line None = []
+size_line (Some size) = line (codes "SIZE" ∷ decimal size ∷ [])
+
 -- the object with this number
-abbrev pub object_lines : ℕ → PlainTrack → List ℕ
-object_lines n object =
+abbrev pub name_lines : ℕ → PlainTrack → List ℕ
+name_lines n object =
     line (codes "OBJECT" ∷ decimal n ∷ [])
     ++ line (codes "FILE" ∷ object.file ∷ [])
     ++ line (codes "ID" ∷ object.id ∷ [])
     ++ line (codes "NAME" ∷ object.name ∷ [])
+
+-- the same with its size, where these sizes are told; numbers count from 1
+abbrev pub object_lines : List ℕ → ℕ → PlainTrack → List ℕ
+object_lines sizes n object = name_lines n object ++ size_line (slice_get sizes (n - 1))
 
 abbrev pub mark_word : Mark → List ℕ
 mark_word mark.Near = codes "NEAR"
@@ -37,9 +47,11 @@ kind_word kind.Far = codes "FAR"
 kind_word kind.Near = codes "NEAR"
 kind_word kind.Undecided = codes "UNDECIDED"
 
--- the time and the distance of the closest approach, and what became of the message: none of them is told
-abbrev pub no_approach : List (List ℕ)
-no_approach = codes "-" ∷ codes "-" ∷ codes "-" ∷ []
+-- the time of the closest approach and the bound of the distance there in nm, where there is one, and what became of the message, which
+-- is not told
+abbrev pub approach_words : Option PlainClosest → List (List ℕ)
+approach_words None = codes "-" ∷ codes "-" ∷ codes "-" ∷ []
+approach_words (Some closest) = epoch_of closest.tick ∷ decimal closest.high ∷ codes "-" ∷ []
 
 -- a span with its first tick and its last
 abbrev pub span_line : PlainLeaf → List ℕ
@@ -50,18 +62,23 @@ abbrev pub encounter_line : ℕ → ℕ → ℕ → Mark → List (List ℕ) →
 encounter_line n a b mark approach =
     line (codes "ENCOUNTER" ∷ decimal n ∷ decimal (a + 1) ∷ decimal (b + 1) ∷ mark_word mark ∷ approach)
 
--- the encounter and its spans
-abbrev pub encounter_lines : ℕ → List PlainLeaf → List ℕ
-encounter_lines n encounter =
-    encounter_line n (first_object encounter) (second_object encounter) (mark_of encounter) no_approach
+-- the encounter, with the closest approach that it has by this function, and its spans
+abbrev pub encounter_lines : (List PlainLeaf → Option PlainClosest) → ℕ → List PlainLeaf → List ℕ
+encounter_lines approach n encounter =
+    encounter_line n (first_object encounter) (second_object encounter) (mark_of encounter) (approach_words (approach encounter))
     ++ flat_map span_line (spans_of encounter)
 
--- the report: its window from the first tick to the last, its threshold in nm, its objects, its encounters
-abbrev pub report_of : ℕ → ℕ → ℕ → List PlainTrack → List (List PlainLeaf) → List ℕ
-report_of first last threshold objects encounters =
+-- the sizes that a report tells
+abbrev pub told : Bool → List ℕ → List ℕ
+told with_sizes sizes = if with_sizes then sizes else []
+
+-- the report: its window from the first tick to the last, its threshold in nm, its objects, the sizes that are told, its encounters
+-- with the closest approaches that they have by this function
+abbrev pub report_of : ℕ → ℕ → ℕ → List PlainTrack → List ℕ → (List PlainLeaf → Option PlainClosest) → List (List PlainLeaf) → List ℕ
+report_of first last threshold objects sizes approach encounters =
     line (codes "CONJ-REPORT" ∷ codes "1" ∷ [])
     ++ line (codes "WINDOW" ∷ epoch_of first ∷ epoch_of last ∷ [])
     ++ line (codes "THRESHOLD" ∷ decimal threshold ∷ [])
-    ++ numbered object_lines 1 objects
-    ++ numbered encounter_lines 1 encounters
+    ++ numbered (object_lines sizes) 1 objects
+    ++ numbered (encounter_lines approach) 1 encounters
     ++ line (codes "END" ∷ [])

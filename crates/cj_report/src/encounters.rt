@@ -1,30 +1,34 @@
-ghost use Rattle.std.specs.Prelude.{◌≡◌, ◌+◌, ◌++◌, flat_map, All, OnOk};
-ghost use Rattle.cj_bezier.specs.Leaves.{plain_leaves};
+ghost use Rattle.std.specs.Prelude.{◌≡◌, ◌+◌, ◌++◌, List, Option, length, map, flat_map, All, OnOk};
+ghost use Rattle.cj_bezier.specs.Leaves.{PlainLeaf, plain_leaves};
+ghost use Rattle.cj_meet.specs.Closest.{PlainClosest, some_closest};
 ghost use Rattle.cj_meet.specs.Encounters.{Describes, groups_in, stretches_in};
 ghost use Rattle.cj_meet.specs.Spans.{spans_of};
 ghost use Rattle.cj_report.specs.Report as spec;
-ghost use Rattle.cj_report.specs.Report.{encounter_line, encounter_lines, numbered, span_line, no_approach};
+ghost use Rattle.cj_report.specs.Report.{encounter_line, encounter_lines, numbered, span_line, approach_words};
 ghost use Rattle.cj_report.specs.SpanLines.{stretch_of_line};
 
 use crate::lines::push_line;
 use crate::span_line::SpanLine;
-use cj_bezier::{Encounter, Kind, Leaf, Mark};
+use cj_bezier::{Closest, Encounter, Kind, Leaf, Mark};
 use cj_epoch::epoch_text;
 use itoa::Buffer;
 use std::alloc::AllocError;
 
-/// Adds the lines of all encounters of the leaves.
+/// Adds the lines of all encounters of the leaves, each with its closest approach.
 pub(crate) fn push_encounters(
     text: &mut Vec<u8>,
     leaves: &[Leaf],
     encounters: &[Encounter],
+    approaches: &[Closest],
 ) -> Result<(), AllocError>
-    requires { All (Describes (plain_leaves leaves.now)) encounters.now }
-    ensures { OnOk result (text.new.items ≡ text.old.items
-        ++ numbered encounter_lines 1 (groups_in (plain_leaves leaves.now) encounters.now)) }
+    requires described { All (Describes (plain_leaves leaves.now)) encounters.now }
+    requires one_each { length approaches.now ≡ length encounters.now }
+    // By whatever function these are their closest approaches.
+    ensures { OnOk result ((approach : List PlainLeaf → Option PlainClosest) → map some_closest approaches.now ≡ map approach (groups_in (plain_leaves leaves.now) encounters.now)
+        → text.new.items ≡ text.old.items ++ numbered (encounter_lines approach) 1 (groups_in (plain_leaves leaves.now) encounters.now)) }
 {
     for (place, encounter) in encounters.iter().enumerate() {
-        push_encounter(text, place + 1, leaves, encounter)?;
+        push_encounter(text, place + 1, leaves, encounter, &approaches[place])?;
     }
     Ok(())
 }
@@ -34,12 +38,13 @@ fn push_encounter(
     number: usize,
     leaves: &[Leaf],
     encounter: &Encounter,
+    closest: &Closest,
 ) -> Result<(), AllocError>
     requires { Describes (plain_leaves leaves.now) encounter.now }
     ensures { OnOk result (text.new.items ≡ text.old.items
-        ++ encounter_lines number (stretches_in (plain_leaves leaves.now) encounter.now)) }
+        ++ encounter_lines (λ _. some_closest closest.now) number (stretches_in (plain_leaves leaves.now) encounter.now)) }
 {
-    push_heading(text, number, encounter)?;
+    push_heading(text, number, encounter, closest)?;
     push_spans(
         text,
         &leaves[encounter.leaf as usize..encounter.past as usize],
@@ -47,9 +52,14 @@ fn push_encounter(
     Ok(())
 }
 
-fn push_heading(text: &mut Vec<u8>, number: usize, encounter: &Encounter) -> Result<(), AllocError>
+fn push_heading(
+    text: &mut Vec<u8>,
+    number: usize,
+    encounter: &Encounter,
+    closest: &Closest,
+) -> Result<(), AllocError>
     ensures { OnOk result (text.new.items ≡ text.old.items
-        ++ encounter_line number encounter.now.pair.a encounter.now.pair.b encounter.now.mark no_approach) }
+        ++ encounter_line number encounter.now.pair.a encounter.now.pair.b encounter.now.mark (approach_words (some_closest closest.now))) }
 {
     push_line(
         text,
@@ -63,8 +73,8 @@ fn push_heading(text: &mut Vec<u8>, number: usize, encounter: &Encounter) -> Res
                 .format(u64::from(encounter.pair.b) + 1)
                 .as_bytes(),
             mark_word(encounter.mark),
-            b"-",
-            b"-",
+            &epoch_text(closest.tick),
+            Buffer::new().format(closest.high).as_bytes(),
             b"-",
         ],
     )

@@ -1,28 +1,35 @@
-ghost use Rattle.std.specs.Prelude.{◌≡◌, All, IfOk};
-ghost use Rattle.cj_bezier.specs.Leaves.{plain_leaves};
+ghost use Rattle.std.specs.Prelude.{◌≡◌, List, Option, length, map, All, IfOk};
+ghost use Rattle.cj_bezier.specs.Leaves.{PlainLeaf, plain_leaves};
+ghost use Rattle.cj_meet.specs.Closest.{PlainClosest, some_closest};
 ghost use Rattle.cj_meet.specs.Encounters.{Describes, groups_in};
 ghost use Rattle.cj_hermite.specs.Problems.{plain_problem};
-ghost use Rattle.cj_report.specs.Report.{report_of};
+ghost use Rattle.cj_report.specs.Report.{report_of, told};
 
 use crate::encounters::push_encounters;
 use crate::lines::push_line;
 use crate::objects::push_objects;
-use cj_bezier::{Encounter, Leaf};
+use cj_bezier::{Closest, Encounter, Leaf};
 use cj_epoch::epoch_text;
 use cj_hermite::Problem;
 use itoa::Buffer;
 use std::alloc::{AllocError, Global};
 
-/// The report of a problem: its window, its threshold in nm, its objects, and the encounters of its leaves.
+/// The report of a problem: its window, its threshold in nm, its objects, with their sizes where these are told, and the encounters
+/// of its leaves, each with its closest approach.
 pub fn report_text(
     alloc: Global,
     problem: &Problem,
+    with_sizes: bool,
     leaves: &[Leaf],
     encounters: &[Encounter],
+    approaches: &[Closest],
 ) -> Result<Vec<u8>, AllocError>
-    requires { All (Describes (plain_leaves leaves.now)) encounters.now }
-    ensures { let case = plain_problem problem.now in IfOk result (λ text.
-        text.items ≡ report_of case.first case.last case.threshold case.ephemerides (groups_in (plain_leaves leaves.now) encounters.now)) }
+    requires described { All (Describes (plain_leaves leaves.now)) encounters.now }
+    requires one_each { length approaches.now ≡ length encounters.now }
+    // By whatever function these are the closest approaches.
+    ensures { let case = plain_problem problem.now in IfOk result (λ text. (approach : List PlainLeaf → Option PlainClosest)
+        → map some_closest approaches.now ≡ map approach (groups_in (plain_leaves leaves.now) encounters.now)
+        → text.items ≡ report_of case.first case.last case.threshold case.ephemerides (told with_sizes case.sizes) approach (groups_in (plain_leaves leaves.now) encounters.now)) }
 {
     let mut text = Vec::with_capacity(alloc, usual_length(problem, encounters))?;
     push_line(&mut text, b"CONJ-REPORT", &[b"1"])?;
@@ -39,10 +46,22 @@ pub fn report_text(
         b"THRESHOLD",
         &[Buffer::new().format(problem.threshold).as_bytes()],
     )?;
-    push_objects(&mut text, problem.tracks.as_slice())?;
-    push_encounters(&mut text, leaves, encounters)?;
+    let sizes = sizes_told(problem, with_sizes);
+    push_objects(&mut text, problem.tracks.as_slice(), sizes)?;
+    push_encounters(&mut text, leaves, encounters, approaches)?;
     push_line(&mut text, b"END", &[])?;
     Ok(text)
+}
+
+/// The sizes that the report tells.
+fn sizes_told(problem: &Problem, with_sizes: bool) -> &[u64]
+    ensures { result.now ≡ told with_sizes problem.now.sizes }
+{
+    if with_sizes {
+        problem.sizes.as_slice()
+    } else {
+        &[]
+    }
 }
 
 /// How many bytes a report has where names are short and each encounter has one span.

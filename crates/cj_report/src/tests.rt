@@ -3,9 +3,9 @@ ghost use Rattle.cj_track.specs.Labels.{is_file_name};
 ghost use Rattle.cj_track.specs.Segments.{node_count};
 
 use crate::report_text;
-use cj_bezier::{Cell, Kind, Leaf};
+use cj_bezier::{Cell, Closest, Kind, Leaf};
 use cj_epoch::{Tick, Window, leap_between};
-use cj_hermite::{Pair, Problem, Tracks};
+use cj_hermite::{Pair, Problem, Sizes, Tracks};
 use cj_kvn::Text;
 use cj_meet::encounters;
 use cj_track::{Frame, Matrices, Node, Nodes, Segment, Segments, Track, Vec3};
@@ -27,7 +27,25 @@ OBJECT 2
 FILE b.oem
 ID 2025-001A
 NAME SAT A
-ENCOUNTER 1 1 2 NEAR - - -
+ENCOUNTER 1 1 2 NEAR 2025-01-01T00:00:30.000000 1000000000000 -
+SPAN NEAR 2025-01-01T00:00:29.538120 2025-01-01T00:00:30.461880
+END
+";
+
+const SIZED_REPORT: &[u8] = b"CONJ-REPORT 1
+WINDOW 2025-01-01T00:00:29.500000 2025-01-01T00:00:30.499999
+THRESHOLD 5000000000000
+OBJECT 1
+FILE a.oem
+ID 2025-001A
+NAME SAT A
+SIZE 1500000000
+OBJECT 2
+FILE b.oem
+ID 2025-001A
+NAME SAT A
+SIZE 0
+ENCOUNTER 1 1 2 NEAR 2025-01-01T00:00:30.000000 1000000000000 -
 SPAN NEAR 2025-01-01T00:00:29.538120 2025-01-01T00:00:30.461880
 END
 ";
@@ -94,6 +112,7 @@ fn problem(rt: &impl Abort, alloc: Global) -> Result<Problem, AllocError> {
             last: tick(30_499_999),
         },
         threshold: 5_000_000_000_000,
+        sizes: Sizes::new(vec![in alloc; 1_500_000_000, 0]?),
     })
 }
 
@@ -126,7 +145,14 @@ fn two_tracks_cross_at_one_kilometre(rt: HostRuntime) -> Result<(), Fail> {
         leaf(30_461_881, 30_499_999, Kind::Far),
     ];
     let found = encounters(rt.alloc(), &leaves)?;
-    let text = report_text(rt.alloc(), &problem, &leaves, &found)?;
+    assert!(rt; found.len() == 1);
+    let approaches = [Closest {
+        tick: tick(30_000_000),
+        high: 1_000_000_000_000,
+    }];
+    let text = report_text(rt.alloc(), &problem, false, &leaves, &found, &approaches)?;
     assert_eq!(rt; text.as_slice(), REPORT);
+    let text = report_text(rt.alloc(), &problem, true, &leaves, &found, &approaches)?;
+    assert_eq!(rt; text.as_slice(), SIZED_REPORT);
     Ok(())
 }

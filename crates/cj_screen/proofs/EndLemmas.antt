@@ -3,9 +3,9 @@ use Rattle.std.proofs.Common.{◌≡◌, List, [], ◌∷◌, ◌++◌, Option, 
 use Rattle.std.specs.Prelude.{IfErr}
 use Rattle.cj_io.specs.declared.file.FileBytes.{FileBytes}
 use Rattle.cj_words.specs.declared.option.UsageFault.{UsageFault}
-use Rattle.cj_screen.specs.declared.status.Status.{Status}
-use Rattle.cj_screen.specs.declared.status.Status.TheVariants as status
-use Rattle.cj_screen.specs.Steps.{Stops}
+use Rattle.cj_status.specs.declared.status.Status.{Status}
+use Rattle.cj_status.specs.declared.status.Status.TheVariants as status
+use Rattle.cj_status.specs.Steps.{Stops}
 use Rattle.cj_screen.specs.Outcome.{Answers, IsFront, PartlyPut, IsPartOf, Leaves, Extends, ComesOfPuts, PutsNothing}
 use Rattle.cj_screen.specs.Findings.{ended}
 
@@ -72,54 +72,55 @@ puts_some (Err status.WriteFault) comes = λ none. none
 puts_some (Err (status.Limit fault)) comes = absurd comes
 puts_some (Err status.OutOfMemory) comes = λ none. none
 
--- ---- two puts, one after another
+-- ---- puts, one after another
 
 -- a front of one piece is a front of that piece and more
-front_of_more : (p q : FileBytes) (front : List FileBytes) → IsFront front (p ∷ []) → IsFront front (p ∷ q ∷ [])
-front_of_more p q [] is = tt
-front_of_more p q (f ∷ []) is = is
-front_of_more p q (f ∷ g ∷ front) is = absurd is.1
+front_of_more : (p : FileBytes) (more front : List FileBytes) → IsFront front (p ∷ []) → IsFront front (p ∷ more)
+front_of_more p more [] is = tt
+front_of_more p more (f ∷ []) is = is
+front_of_more p more (f ∷ g ∷ front) is = absurd is.1
 
 -- a front behind a first piece
-front_behind : (p q : FileBytes) (front : List FileBytes) → IsFront front (q ∷ []) → IsFront (p ∷ front) (p ∷ q ∷ [])
-front_behind p q [] is = (refl, ([], sym (append-nil p.bytes)))
-front_behind p q (f ∷ []) is = (refl, is)
-front_behind p q (f ∷ g ∷ front) is = absurd is.1
+front_behind : (p : FileBytes) (more front : List FileBytes) → IsFront front more → IsFront (p ∷ front) (p ∷ more)
+front_behind p more [] is = (refl, ([], sym (append-nil p.bytes)))
+front_behind p more (f ∷ front) is = (refl, is)
 
 -- a front of the first piece alone was put
-pub first_partly : (p q : FileBytes) (old : List FileBytes) (now : Option (List FileBytes)) → PartlyPut (Ok (p ∷ [])) old now → PartlyPut (Ok (p ∷ q ∷ [])) old now
-first_partly p q old now partly = (partly.0, front_of_more p q partly.0 partly.1, partly.2)
+pub first_partly : (p : FileBytes) (more old : List FileBytes) (now : Option (List FileBytes)) → PartlyPut (Ok (p ∷ [])) old now → PartlyPut (Ok (p ∷ more)) old now
+first_partly p more old now partly = (partly.0, front_of_more p more partly.0 partly.1, partly.2)
 
 -- the first put ended the run
-pub first_leaves : (s : Status) (p q : FileBytes) (old : List FileBytes) (now : Option (List FileBytes)) → ComesOfPuts s → Leaves s (Ok (p ∷ [])) old now → Leaves s (Ok (p ∷ q ∷ [])) old now
-first_leaves status.Ok p q old now comes leaves = absurd comes
-first_leaves (status.Usage fault) p q old now comes leaves = leaves
-first_leaves (status.BadFile file line cause) p q old now comes leaves = leaves
-first_leaves status.ReadFault p q old now comes leaves = leaves
-first_leaves status.WriteFault p q old now comes leaves = first_partly p q old now leaves
-first_leaves (status.Limit fault) p q old now comes leaves = leaves
-first_leaves status.OutOfMemory p q old now comes leaves = first_partly p q old now leaves
+pub first_leaves : (s : Status) (p : FileBytes) (more old : List FileBytes) (now : Option (List FileBytes)) → ComesOfPuts s → Leaves s (Ok (p ∷ [])) old now → Leaves s (Ok (p ∷ more)) old now
+first_leaves status.Ok p more old now comes leaves = absurd comes
+first_leaves (status.Usage fault) p more old now comes leaves = leaves
+first_leaves (status.BadFile file line cause) p more old now comes leaves = leaves
+first_leaves status.ReadFault p more old now comes leaves = leaves
+first_leaves status.WriteFault p more old now comes leaves = first_partly p more old now leaves
+first_leaves (status.Limit fault) p more old now comes leaves = leaves
+first_leaves status.OutOfMemory p more old now comes leaves = first_partly p more old now leaves
 
 -- the first piece stands
 pub first_stands : (p : FileBytes) (old : List FileBytes) (now : Option (List FileBytes)) → Leaves status.Ok (Ok (p ∷ [])) old now → now ≡ Some (old ++ p ∷ [])
 first_stands p old now leaves = let is : leaves.0 ≡ p ∷ [] = cc (leaves.1) in leaves.2 ∙ ap (λ (ps : List FileBytes). Some (old ++ ps)) is
 
 -- a front behind the first piece was put
-behind_partly : (p q : FileBytes) (old : List FileBytes) (now : Option (List FileBytes)) → PartlyPut (Ok (q ∷ [])) (old ++ p ∷ []) now → PartlyPut (Ok (p ∷ q ∷ [])) old now
-behind_partly p q old now partly = (p ∷ partly.0, front_behind p q partly.0 partly.1, partly.2 ∙ ap (λ (ps : List FileBytes). Some ps) (append_assoc old (p ∷ []) partly.0))
+behind_partly : (p : FileBytes) (more old : List FileBytes) (now : Option (List FileBytes)) → PartlyPut (Ok more) (old ++ p ∷ []) now → PartlyPut (Ok (p ∷ more)) old now
+behind_partly p more old now partly =
+    (p ∷ partly.0, front_behind p more partly.0 partly.1, partly.2 ∙ ap (λ (ps : List FileBytes). Some ps) (append_assoc old (p ∷ []) partly.0))
 
--- the second put ended it
-pub second_leaves : (r : Result (Unit {0}) Status) (p q : FileBytes) (old : List FileBytes) (now : Option (List FileBytes)) → IfErr r ComesOfPuts
-    → Leaves (ended r) (Ok (q ∷ [])) (old ++ p ∷ []) now → Leaves (ended r) (Ok (p ∷ q ∷ [])) old now
-second_leaves (Ok done) p q old now comes leaves =
-    (p ∷ q ∷ [], refl, first_stands q (old ++ p ∷ []) now leaves ∙ ap (λ (ps : List FileBytes). Some ps) (append_assoc old (p ∷ []) (q ∷ [])))
-second_leaves (Err status.Ok) p q old now comes leaves = absurd comes
-second_leaves (Err (status.Usage fault)) p q old now comes leaves = absurd comes
-second_leaves (Err (status.BadFile file line cause)) p q old now comes leaves = absurd comes
-second_leaves (Err status.ReadFault) p q old now comes leaves = absurd comes
-second_leaves (Err status.WriteFault) p q old now comes leaves = behind_partly p q old now leaves
-second_leaves (Err (status.Limit fault)) p q old now comes leaves = absurd comes
-second_leaves (Err status.OutOfMemory) p q old now comes leaves = behind_partly p q old now leaves
+-- the puts behind the first ended it
+pub second_leaves : (r : Result (Unit {0}) Status) (p : FileBytes) (more old : List FileBytes) (now : Option (List FileBytes)) → IfErr r ComesOfPuts
+    → Leaves (ended r) (Ok more) (old ++ p ∷ []) now → Leaves (ended r) (Ok (p ∷ more)) old now
+second_leaves (Ok done) p more old now comes leaves =
+    let is : more ≡ leaves.0 = cc (leaves.1) in
+    (p ∷ leaves.0, ap (λ (ps : List FileBytes). Ok (p ∷ ps)) is, leaves.2 ∙ ap (λ (ps : List FileBytes). Some ps) (append_assoc old (p ∷ []) leaves.0))
+second_leaves (Err status.Ok) p more old now comes leaves = absurd comes
+second_leaves (Err (status.Usage fault)) p more old now comes leaves = absurd comes
+second_leaves (Err (status.BadFile file line cause)) p more old now comes leaves = absurd comes
+second_leaves (Err status.ReadFault) p more old now comes leaves = absurd comes
+second_leaves (Err status.WriteFault) p more old now comes leaves = behind_partly p more old now leaves
+second_leaves (Err (status.Limit fault)) p more old now comes leaves = absurd comes
+second_leaves (Err status.OutOfMemory) p more old now comes leaves = behind_partly p more old now leaves
 
 -- whatever ended the puts, the old pieces stand
 pub leaves_extends : (s : Status) (due : Result (List FileBytes) Status) (old : List FileBytes) (now : Option (List FileBytes)) → Leaves s due old now → Extends old now

@@ -9,12 +9,13 @@ use Rattle.cj_bezier.specs.SlotBoxes.{plain_boxes}
 use Rattle.cj_cells.specs.Lists.{list_looked}
 use Rattle.cj_bezier.specs.Looked.{shells_of, pairs_kept}
 use Rattle.cj_candidates.specs.Boxes.{boxes_of}
-use Rattle.cj_meet.specs.Encounters.{AreEncounters}
+use Rattle.cj_meet.specs.Closest.{closest_of, some_closest}
+use Rattle.cj_meet.specs.Encounters.{AreEncounters, groups_in}
 use Rattle.cj_report.specs.Counts.{tally_of}
 use Rattle.cj_screen.specs.declared.findings.Findings.{Findings}
-use Rattle.cj_screen.specs.declared.status.Status.{Status}
-use Rattle.cj_screen.specs.declared.status.Status.TheVariants as status
-use Rattle.cj_screen.specs.Outcome.{pieces_with, report_bytes, report_piece, summary_bytes, summary_piece}
+use Rattle.cj_status.specs.declared.status.Status.{Status}
+use Rattle.cj_status.specs.declared.status.Status.TheVariants as status
+use Rattle.cj_screen.specs.Outcome.{cert_bytes, cert_piece, pieces_with, report_bytes, report_piece, summary_bytes, summary_piece}
 use Rattle.cj_screen.specs.Summaries.{tally_with}
 
 -- the case whose findings they are
@@ -28,11 +29,16 @@ pub record AreFound (found : Findings) : Type 0 where
   pub kept : map objects_of found.kept.items ≡ pairs_kept (case_in found)
   pub leaves : plain_leaves found.leaves.items ≡ list_looked (case_in found)
   pub encounters : AreEncounters (plain_leaves found.leaves.items) found.encounters.items
+  pub closest : map some_closest found.closest.items ≡ map (closest_of (case_in found)) (groups_in (plain_leaves found.leaves.items) found.encounters.items)
   pub counts : tally_of found.counts ≡ tally_with (case_in found) (plain_leaves found.leaves.items)
 
 -- the piece of the report
 abbrev pub report_in : Findings → FileBytes
-report_in found = report_piece (report_bytes (case_in found) (plain_leaves found.leaves.items))
+report_in found = report_piece (report_bytes found.with_sizes (case_in found) (plain_leaves found.leaves.items))
+
+-- the piece of the certificate
+abbrev pub cert_in : Findings → FileBytes
+cert_in found = cert_piece (cert_bytes (case_in found))
 
 -- the piece of the summary
 abbrev pub summary_in : Findings → FileBytes
@@ -40,7 +46,7 @@ summary_in found = summary_piece (summary_bytes (case_in found) (plain_leaves fo
 
 -- all pieces, in the order in which they are put
 abbrev pub pieces_in : Findings → List FileBytes
-pieces_in found = pieces_with (case_in found) (plain_leaves found.leaves.items)
+pieces_in found = pieces_with found.with_sizes (case_in found) (plain_leaves found.leaves.items)
 
 -- how a run ends by its last step
 abbrev pub ended : Result (Unit {0}) Status → Status

@@ -1,14 +1,20 @@
 -- The headline: what the report of a run says of each common tick of each pair.
-use Rattle.std.specs.Prelude.{◌≡◌, ℕ, List, ◌∷◌, ◌++◌, Option, Some, Ok, Any}
+use Rattle.std.specs.Prelude.{◌≡◌, ℕ, List, ◌∷◌, ◌++◌, Option, Some, Ok, All, Any}
 use Rattle.cj_io.specs.declared.file.FileBytes.{FileBytes}
 use Rattle.cj_hermite.specs.Distance.{IsNear, IsFar, IsInBand}
 use Rattle.cj_hermite.specs.PlainProblems.{PlainProblem, threshold_of, IsCommonOf, OfObjectsAt}
 use Rattle.cj_bezier.specs.declared.kind.Kind.TheVariants.{Near, Undecided}
 use Rattle.cj_bezier.specs.Leaves.{PlainLeaf}
+use Rattle.cj_meet.specs.Closest.{HasNearest, closest_of}
 use Rattle.cj_meet.specs.Spans.{LiesInSpan}
-use Rattle.cj_report.specs.Report.{report_of}
+use Rattle.cj_report.specs.Report.{report_of, told}
+use Rattle.cj_cert.specs.Accepted.{Accepted}
+use Rattle.cj_cert.specs.Certificates.{PlainCertificate}
+use Rattle.cj_cert.specs.Splits.{AcceptedSplits}
+use Rattle.cj_cert.specs.Texts.{text_of}
 use Rattle.cj_words.specs.Settings.{Asked, settings_of}
-use Rattle.cj_screen.specs.Outcome.{case_asked, encounters_in, report_piece}
+use Rattle.cj_inputs.specs.Cases.{case_asked}
+use Rattle.cj_screen.specs.Outcome.{cert_piece, encounters_in, report_piece, tells_sizes}
 
 -- The spans of these encounters split the common ticks of every pair of objects a and b. A span holds common ticks only.
 pub record SplitsTicks (case : PlainProblem) (encounters : List (List PlainLeaf)) : Type 0 where
@@ -22,19 +28,31 @@ pub record SplitsTicks (case : PlainProblem) (encounters : List (List PlainLeaf)
   pub outside : (a b m : ℕ) → IsCommonOf case a b m → ¬ Any (LiesInSpan Near a b m) encounters → ¬ Any (LiesInSpan Undecided a b m) encounters
       → OfObjectsAt case a b m (λ c d. IsFar c d (threshold_of case a b) m)
 
--- The bytes are the report of the case that was asked, with the encounters of its one-thread list. Their spans split the common ticks of
--- every pair.
-pub record Reports (words : List (List ℕ)) (files : List FileBytes) (bytes : List ℕ) : Type 0 where
+-- The bytes are the text of a certificate that is accepted for the case. Whatever certificate is accepted for it, the certificate's cells
+-- split the common ticks of every pair.
+pub record Certifies (case : PlainProblem) (bytes : List ℕ) : Type 0 where
+  pub certificate : PlainCertificate
+  pub text : bytes ≡ text_of certificate
+  pub accepted : Accepted case certificate
+  pub implies : AcceptedSplits case
+
+-- The first bytes are the report of the case that was asked, with the encounters of its one-thread list and the closest approach of each.
+-- Their spans split the common ticks of every pair. Each pair is within its bound at its closest approach, and at no tick of the encounter
+-- more than one millimetre nearer. The second bytes are an accepted certificate of the case.
+pub record Reports (words : List (List ℕ)) (files : List FileBytes) (bytes certificate : List ℕ) : Type 0 where
   pub settings : Asked
   pub asked : settings_of words ≡ Ok settings
   pub case : PlainProblem
   pub read : case_asked files settings ≡ Ok case
-  pub text : bytes ≡ report_of case.first case.last case.threshold case.ephemerides (encounters_in case)
+  pub text : bytes ≡ report_of case.first case.last case.threshold case.ephemerides (told (tells_sizes settings) case.sizes) (closest_of case) (encounters_in case)
   pub split : SplitsTicks case (encounters_in case)
+  pub nearest : All (HasNearest case) (encounters_in case)
+  pub certified : Certifies case certificate
 
--- The new pieces are such a report, followed by further pieces.
+-- The new pieces are such a report and such a certificate, followed by further pieces.
 pub record IsScreened (words : List (List ℕ)) (files old : List FileBytes) (new : Option (List FileBytes)) : Type 0 where
   pub bytes : List ℕ
-  pub report : Reports words files bytes
+  pub certificate : List ℕ
+  pub report : Reports words files bytes certificate
   pub further : List FileBytes
-  pub put : new ≡ Some (old ++ report_piece bytes ∷ further)
+  pub put : new ≡ Some (old ++ report_piece bytes ∷ cert_piece certificate ∷ further)

@@ -1,12 +1,5 @@
 pub mod Errors
-pub mod Faults
 pub mod Findings
 pub mod Headline
-pub mod InputFiles
-pub mod Orders
 pub mod Outcome
-pub mod Readings
-pub mod Statuses
-pub mod Steps
 pub mod Summaries
-pub mod Windows

@@ -1,55 +1,28 @@
 -- How a run over told files ends, and what it puts.
-use Rattle.std.specs.Prelude.{◌≡◌, ℕ, ◌-◌, ◌*◌, nat_le, if◌then◌else◌, List, [], ◌∷◌, ◌++◌, length, Option, Some, Result, Ok, Err, codes}
+use Rattle.std.specs.Prelude.{◌≡◌, ℕ, ◌-◌, Bool, nat_le, if◌then◌else◌, List, [], ◌∷◌, ◌++◌, length, Option, Some, is_some, Result, Ok, Err, codes}
 use Rattle.cj_io.specs.declared.file.FileBytes.{FileBytes}
-use Rattle.cj_io.specs.Files.{names_of, IsPrefix}
+use Rattle.cj_io.specs.Files.{IsPrefix}
 use Rattle.cj_words.specs.declared.option.UsageFault.{UsageFault}
 use Rattle.cj_words.specs.Settings.{Asked, settings_of}
-use Rattle.cj_track.specs.PlainTracks.{PlainTrack}
 use Rattle.cj_hermite.specs.PlainProblems.{PlainProblem}
+use Rattle.cj_inputs.specs.Cases.{case_asked}
 use Rattle.cj_bezier.specs.Leaves.{PlainLeaf}
+use Rattle.cj_meet.specs.Closest.{closest_of}
 use Rattle.cj_meet.specs.Encounters.{encounters_of}
-use Rattle.cj_hermite.specs.Slots.{slot_count}
 use Rattle.cj_cells.specs.Lists.{list_looked}
-use Rattle.cj_report.specs.Report.{report_of}
+use Rattle.cj_report.specs.Report.{report_of, told}
 use Rattle.cj_report.specs.Summary.{summary_of}
-use Rattle.cj_screen.specs.declared.status.Status.{Status}
-use Rattle.cj_screen.specs.declared.status.Status.TheVariants as status
-use Rattle.cj_screen.specs.declared.status.LimitFault.TheVariants.{Objects, Window, Slots, Cells}
-use Rattle.cj_screen.specs.declared.input_files.Entry.{Entry}
-use Rattle.cj_screen.specs.Readings.{◌>>=◌, readings_of}
-use Rattle.cj_screen.specs.InputFiles.{inputs_of}
+use Rattle.cj_cert.specs.Texts.{text_of}
+use Rattle.cj_cert.specs.Written.{written}
+use Rattle.cj_status.specs.declared.status.Status.{Status}
+use Rattle.cj_status.specs.declared.status.Status.TheVariants as status
+use Rattle.cj_status.specs.declared.status.LimitFault.TheVariants.{Cells}
+use Rattle.cj_status.specs.Steps.{◌>>=◌}
 use Rattle.cj_screen.specs.Summaries.{tally_with}
-use Rattle.cj_screen.specs.Windows.{window_first, window_last}
 
 abbrev pub asked : Result Asked UsageFault → Result Asked Status
 asked (Ok settings) = Ok settings
 asked (Err fault) = Err (status.Usage fault)
-
--- at most 2,000 objects
-abbrev pub within_objects : List Entry → Result (List Entry) Status
-within_objects entries = if nat_le (length entries) 2000 then Ok entries else Err (status.Limit (Objects (length entries)))
-
-abbrev pub case_with : List PlainTrack → ℕ → ℕ → ℕ → PlainProblem
-case_with es first last threshold = record { ephemerides = es; first = first; last = last; threshold = threshold }
-
--- what is asked of these ephemerides
-abbrev pub case_of_run : Asked → List PlainTrack → PlainProblem
-case_of_run settings es = case_with es (window_first settings es) (window_last settings es) (settings.threshold * 1_000_000_000)
-
--- a window of at most fourteen days
-abbrev pub within_window : PlainProblem → Result PlainProblem Status
-within_window case = if nat_le (case.last - case.first) 1_209_600_000_000 then Ok case else Err (status.Limit (Window (case.last - case.first)))
-
-abbrev pub object_slots : PlainProblem → ℕ
-object_slots case = length case.ephemerides * slot_count case.first case.last
-
--- at most 4,000,000 objects times slots
-abbrev pub within_slots : PlainProblem → Result PlainProblem Status
-within_slots case = if nat_le (object_slots case) 4_000_000 then Ok case else Err (status.Limit (Slots (object_slots case)))
-
--- both
-abbrev pub within_limits : PlainProblem → Result PlainProblem Status
-within_limits case = within_window case >>= within_slots
 
 -- at most so many leaves
 abbrev pub within_cells : ℕ → List PlainLeaf → Result (List PlainLeaf) Status
@@ -62,9 +35,13 @@ piece name bytes = record { name = name; bytes = bytes }
 abbrev pub encounters_in : PlainProblem → List (List PlainLeaf)
 encounters_in case = encounters_of (list_looked case)
 
--- the report of a case with these leaves
-abbrev pub report_bytes : PlainProblem → List PlainLeaf → List ℕ
-report_bytes case leaves = report_of case.first case.last case.threshold case.ephemerides (encounters_of leaves)
+-- the report of a case with these leaves, which may tell the sizes
+abbrev pub report_bytes : Bool → PlainProblem → List PlainLeaf → List ℕ
+report_bytes with_sizes case leaves = report_of case.first case.last case.threshold case.ephemerides (told with_sizes case.sizes) (closest_of case) (encounters_of leaves)
+
+-- its certificate
+abbrev pub cert_bytes : PlainProblem → List ℕ
+cert_bytes case = text_of (written case)
 
 -- its summary
 abbrev pub summary_bytes : PlainProblem → List PlainLeaf → List ℕ
@@ -73,30 +50,31 @@ summary_bytes case leaves = summary_of (tally_with case leaves)
 abbrev pub report_piece : List ℕ → FileBytes
 report_piece bytes = piece (codes "screen.report") bytes
 
+abbrev pub cert_piece : List ℕ → FileBytes
+cert_piece bytes = piece (codes "screen.cert") bytes
+
 abbrev pub summary_piece : List ℕ → FileBytes
 summary_piece bytes = piece (codes "-") bytes
 
--- the pieces of a case with these leaves: the report, and the summary for standard output
-abbrev pub pieces_with : PlainProblem → List PlainLeaf → List FileBytes
-pieces_with case leaves = report_piece (report_bytes case leaves) ∷ summary_piece (summary_bytes case leaves) ∷ []
+-- the pieces of a case with these leaves: the report, the certificate, and the summary for standard output
+abbrev pub pieces_with : Bool → PlainProblem → List PlainLeaf → List FileBytes
+pieces_with with_sizes case leaves =
+    report_piece (report_bytes with_sizes case leaves) ∷ cert_piece (cert_bytes case) ∷ summary_piece (summary_bytes case leaves) ∷ []
 
 -- the pieces of a case, where it has at most so many leaves
-unfoldable pub pieces_within : ℕ → PlainProblem → Result (List FileBytes) Status
-pieces_within limit case = within_cells limit (list_looked case) >>= λ leaves. Ok (pieces_with case leaves)
+unfoldable pub pieces_within : ℕ → Bool → PlainProblem → Result (List FileBytes) Status
+pieces_within limit with_sizes case = within_cells limit (list_looked case) >>= λ leaves. Ok (pieces_with with_sizes case leaves)
 
--- the case that is asked of the files, or the first cause for which there is none
-unfoldable pub case_asked : List FileBytes → Asked → Result PlainProblem Status
-case_asked files settings = do
-  entries ← within_objects (inputs_of settings.suffix (names_of files))
-  es ← readings_of settings.as_hermite3 files entries
-  within_limits (case_of_run settings es)
+-- the report is to tell the sizes
+abbrev pub tells_sizes : Asked → Bool
+tells_sizes settings = is_some settings.sizes
 
 -- the pieces that the words ask of the files, or the first cause for which there is none
 unfoldable pub pieces_of : List (List ℕ) → List FileBytes → Result (List FileBytes) Status
 pieces_of words files = do
   settings ← asked (settings_of words)
   case ← case_asked files settings
-  pieces_within settings.cells case
+  pieces_within settings.cells (tells_sizes settings) case
 
 -- fronts of the pieces, the last one perhaps cut
 abbrev pub IsFront : List FileBytes → List FileBytes → Type 0

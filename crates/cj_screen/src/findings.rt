@@ -1,4 +1,4 @@
-use cj_bezier::{AxisBox, Encounter, Leaf, Shell};
+use cj_bezier::{AxisBox, Closest, Encounter, Leaf, Shell};
 use cj_hermite::{Pair, Problem};
 use cj_report::Counts;
 
@@ -6,6 +6,8 @@ use cj_report::Counts;
 #[derive(Debug, Drop)]
 pub struct Findings {
     pub problem: Problem,
+    /// Whether the report tells the sizes of its objects.
+    pub with_sizes: bool,
     /// The shell of each object in the window.
     pub shells: Vec<Option<Shell>>,
     /// The box of each object in each slot, in order of object and slot.
@@ -16,6 +18,8 @@ pub struct Findings {
     pub leaves: Vec<Leaf>,
     /// The encounters of the leaves.
     pub encounters: Vec<Encounter>,
+    /// The closest approach of each encounter.
+    pub closest: Vec<Closest>,
     /// What the summary tells.
     pub counts: Counts,
 }

@@ -2,13 +2,14 @@
 ghost use Rattle.std.specs.Prelude.{◌≡◌, ◌≤◌, List, [], ◌∷◌, Some, Err, IfErr};
 ghost use Rattle.cj_io.specs.Faults.{Rose};
 ghost use Rattle.cj_io.specs.declared.file.FileBytes.{FileBytes};
-ghost use Rattle.cj_screen.specs.Findings.{AreFound, ended, pieces_in, report_in, summary_in};
+ghost use Rattle.cj_screen.specs.Findings.{AreFound, cert_in, ended, pieces_in, report_in, summary_in};
 ghost use Rattle.cj_screen.specs.Outcome.{ComesOfPuts, Leaves, piece};
 
 use crate::findings::Findings;
-use crate::status::Status;
+use cj_cert::{cert_text, written_certificate};
 use cj_io::{PutError, Shelf};
 use cj_report::{report_text, summary_text};
+use cj_status::Status;
 use std::alloc::Global;
 
 /// Makes and puts the pieces one after another. Each is dropped after its put.
@@ -20,6 +21,19 @@ pub fn put_pieces<S: Shelf>(alloc: Global, shelf: &mut S, found: &Findings) -> R
     ensures later { S.faults shelf.old ≤ S.faults shelf.new }
 {
     put_report(alloc, shelf, found)?;
+    put_behind(alloc, shelf, found)
+}
+
+/// Makes and puts the pieces behind the report.
+fn put_behind<S: Shelf>(alloc: Global, shelf: &mut S, found: &Findings) -> Result<(), Status>
+    requires { AreFound found.now }
+    ensures comes { IfErr result ComesOfPuts }
+    ensures write { result ≡ Err Status.WriteFault → Rose (S.faults shelf.old) (S.faults shelf.new) }
+    ensures leaves { (old : List FileBytes) → S.pieces shelf.old ≡ Some old
+        → Leaves (ended result) (Ok (cert_in found.now ∷ summary_in found.now ∷ [])) old (S.pieces shelf.new) }
+    ensures later { S.faults shelf.old ≤ S.faults shelf.new }
+{
+    put_certificate(alloc, shelf, found)?;
     put_summary(alloc, shelf, found)
 }
 
@@ -31,8 +45,34 @@ fn put_report<S: Shelf>(alloc: Global, shelf: &mut S, found: &Findings) -> Resul
     ensures leaves { (old : List FileBytes) → S.pieces shelf.old ≡ Some old → Leaves (ended result) (Ok (report_in found.now ∷ [])) old (S.pieces shelf.new) }
     ensures later { S.faults shelf.old ≤ S.faults shelf.new }
 {
-    let report = report_text(alloc, &found.problem, &found.leaves, &found.encounters)?;
+    let report = report_text(
+        alloc,
+        &found.problem,
+        found.with_sizes,
+        &found.leaves,
+        &found.encounters,
+        &found.closest,
+    )?;
     put(alloc, shelf, b"screen.report", &report)
+}
+
+/// Puts the certificate.
+fn put_certificate<S: Shelf>(alloc: Global, shelf: &mut S, found: &Findings) -> Result<(), Status>
+    requires { AreFound found.now }
+    ensures comes { IfErr result ComesOfPuts }
+    ensures write { result ≡ Err Status.WriteFault → Rose (S.faults shelf.old) (S.faults shelf.new) }
+    ensures leaves { (old : List FileBytes) → S.pieces shelf.old ≡ Some old → Leaves (ended result) (Ok (cert_in found.now ∷ [])) old (S.pieces shelf.new) }
+    ensures later { S.faults shelf.old ≤ S.faults shelf.new }
+{
+    let certificate = written_certificate(
+        alloc,
+        &found.problem,
+        &found.shells,
+        &found.boxes,
+        &found.leaves,
+    )?;
+    let text = cert_text(alloc, &certificate)?;
+    put(alloc, shelf, b"screen.cert", &text)
 }
 
 /// Puts the summary.

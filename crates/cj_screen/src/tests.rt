@@ -1,6 +1,6 @@
 //! Runs of the top call over folders and shelves in memory.
+mod certificates;
 mod failures;
-mod lines;
 mod refusals;
 mod results;
 mod runs;

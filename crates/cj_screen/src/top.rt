@@ -3,21 +3,21 @@ ghost use Rattle.std.specs.Prelude.{◌≡◌, ◌↔◌, ◌⊎◌, ◌≤◌, 
 ghost use Rattle.cj_io.specs.Faults.{Rose};
 ghost use Rattle.cj_io.specs.declared.file.FileBytes.{FileBytes};
 ghost use Rattle.cj_words.specs.declared.option.UsageFault.{UsageFault};
-ghost use Rattle.cj_words.specs.Settings.{settings_of};
-ghost use Rattle.cj_screen.specs.Findings.{AreFound, ended, pieces_in, report_in};
+ghost use Rattle.cj_words.specs.Settings.{asked_of, settings_of};
+ghost use Rattle.cj_screen.specs.Findings.{AreFound, cert_in, ended, pieces_in, report_in};
 ghost use Rattle.cj_screen.specs.Headline.{IsScreened, Reports};
 ghost use Rattle.cj_screen.specs.Outcome as spec;
 ghost use Rattle.cj_screen.specs.Outcome.{Answers, Extends, Leaves, PutsNothing};
-ghost use Rattle.cj_screen.specs.Steps.{Gives, ComesBefore};
+ghost use Rattle.cj_status.specs.Steps.{Gives, ComesBefore};
 
 use crate::findings::Findings;
-use crate::preparing::prepare;
 use crate::reporting::put_pieces;
 use crate::screening::screen;
-use crate::status::Status;
 use cj_epoch::Tick;
+use cj_inputs::prepare;
 use cj_io::{Folder, Gate, Shelf};
-use cj_words::{Word, read_settings};
+use cj_status::Status;
+use cj_words::{Settings, Word, read_settings};
 use std::alloc::Global;
 use std::sync::Wait;
 use std::thread::Threads;
@@ -46,7 +46,8 @@ pub fn conj<R: Threads + Wait + Sync, F: Folder, S: Shelf, G: Gate + Sync>(
         → ¬ Rose (F.faults folder.old) (F.faults folder.new) → ¬ Rose (S.faults shelf.old) (S.faults shelf.new)
         → (result ≡ Status.Ok) ⊎ (result ≡ Status.OutOfMemory) }
 
-    // With status 0 the report's spans split the common ticks of every pair by the exact distance.
+    // With status 0 the report's spans split the common ticks of every pair by the exact distance. The certificate is accepted, and acceptance
+    // implies such a split.
     ensures headline { (files pieces : List FileBytes) → F.files folder.old ≡ Some files → S.pieces shelf.old ≡ Some pieces
         → result ≡ Status.Ok → IsScreened words.now files pieces (S.pieces shelf.new) }
 
@@ -87,12 +88,19 @@ fn find<F: Folder>(alloc: Global, words: &[Word], folder: &mut F) -> Result<Find
     ensures told { (files : List FileBytes) → F.files folder.old ≡ Some files
         → Gives (Rose (F.faults folder.old) (F.faults folder.new)) pieces_in result (spec.pieces_of words.now files) }
     ensures found { IfOk result AreFound }
-    ensures reports { (files : List FileBytes) → F.files folder.old ≡ Some files → IfOk result (λ found. Reports words.now files (report_in found).bytes) }
+    ensures reports { (files : List FileBytes) → F.files folder.old ≡ Some files → IfOk result (λ found. Reports words.now files (report_in found).bytes (cert_in found).bytes) }
 
     ensures files { F.files folder.new ≡ F.files folder.old }
     ensures later { F.faults folder.old ≤ F.faults folder.new }
 {
     let settings = read_settings(words)?;
     let problem = prepare(alloc, folder, &settings)?;
-    screen(alloc, problem, settings.cells)
+    screen(alloc, problem, tells_sizes(&settings), settings.cells)
+}
+
+/// Whether the report tells the sizes: the command line names a file of them.
+fn tells_sizes(settings: &Settings) -> bool
+    ensures { result ≡ spec.tells_sizes (asked_of settings.now) }
+{
+    settings.sizes.is_some()
 }

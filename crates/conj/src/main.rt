@@ -8,7 +8,8 @@ mod request;
 mod shelf;
 
 use cj_io::OpenGate;
-use cj_screen::{Status, conj, fault_text};
+use cj_screen::conj;
+use cj_status::{Status, fault_text};
 use folder::DirFolder;
 use notice::print_notice;
 use request::{Request, read_request};

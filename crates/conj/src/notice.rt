@@ -1,7 +1,7 @@
 ghost use Rattle.std.specs.Prelude.{◌≡◌};
 ghost use Rattle.conj.specs.CommandLine.{notice_of};
 
-use cj_screen::Status;
+use cj_status::Status;
 use cj_words::Word;
 use std::io::Write;
 
@@ -48,9 +48,10 @@ Usage:
 Reads the ephemerides in the directory DIR, one object in each file whose name
 has the suffix (CCSDS 502.0-B-2 OEM in KVN form, UTC, cubic Hermite states),
 finds every approach of every pair of objects that comes within the threshold at
-a microsecond of the window, writes the report DIR/screen.report, and prints a
-summary. It is proved that no such approach of the interpolated tracks is missed,
-where DIR gives the bytes that it holds and keeps those that it is given.
+a microsecond of the window, writes the report DIR/screen.report and its reasons,
+the certificate DIR/screen.cert, and prints a summary. It is proved that no such
+approach of the interpolated tracks is missed, where DIR gives the bytes that it
+holds and keeps those that it is given.
 
 Options, in any order after DIR, each at most once:
   --threshold METRES  miss distance to report, 1 to 1000000 (default 5000)
@@ -63,13 +64,16 @@ Options, in any order after DIR, each at most once:
                       1 to 4000000 (default 4000000)
   --as-hermite3       screen a file that declares another interpolation, or none,
                       by the cubic through its nodes
+  --sizes NAME        file of DIR with the radius of each object in metres; the
+                      miss distance of a pair is then measured from surface to
+                      surface (default: all objects are points)
 An EPOCH is UTC, as 2025-01-01T00:00:00.000000 or 2025-001T00:00:00Z. An option
 with a value may also be one word, as --threshold=1000.
 
 Exit status:
   0  done
   2  usage: the words are not as above, or a value is out of its range
-  3  an ephemeris was refused
+  3  an ephemeris or the file of sizes was refused
   4  a file of DIR could not be read
   5  a result could not be written
   6  a limit was exceeded

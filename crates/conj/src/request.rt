@@ -2,7 +2,7 @@ ghost use Rattle.std.specs.Prelude.{◌≡◌};
 ghost use Rattle.conj.specs.CommandLine as spec;
 
 use crate::notice::{Notice, asked_notice};
-use cj_screen::Status;
+use cj_status::Status;
 use cj_words::{UsageFault, Word};
 use std::alloc::{AllocError, Global};
 use std::env;

@@ -1,9 +1,10 @@
 //! Folders and shelves that fail.
 use super::runs::{failing, piece_of, words};
-use super::scenes::{Scene, files_of};
-use crate::{Status, conj, fault_text};
+use super::scenes::{CROSSING, files_of};
+use crate::conj;
 use cj_epoch::Tick;
 use cj_io::{CalmShelf, MemShelf, OpenGate, Shelf};
+use cj_status::{Status, fault_text};
 use std::alloc::{AllocError, Global};
 use std::sync::Wait;
 use std::test::Fail;
@@ -17,7 +18,7 @@ fn run_over<R: Threads + Wait + Sync, S: Shelf>(
     shelf: &mut S,
 ) -> Result<Status, AllocError> {
     let words = words(alloc, "screen .")?;
-    let mut folder = failing(alloc, files_of(alloc, Scene::Crossing)?, calls);
+    let mut folder = failing(alloc, files_of(alloc, CROSSING)?, calls);
     Ok(conj(
         rt,
         alloc,
@@ -65,5 +66,21 @@ fn the_report_stands_whole_where_the_second_put_fails(rt: HostRuntime) -> Result
     assert_eq!(rt; shelf.written().len(), 1);
     let report = piece_of(shelf.written(), b"screen.report");
     assert_eq!(rt; report.ends_with(b"\nEND\n"), true);
+    Ok(())
+}
+
+#[test]
+fn report_and_certificate_stand_whole_where_the_third_put_fails(
+    rt: HostRuntime,
+) -> Result<(), Fail> {
+    let alloc = rt.alloc();
+    let mut shelf = MemShelf::new(alloc, Vec::from_array(alloc, [3])?);
+    let status = run_over(&rt, alloc, Vec::new(alloc), &mut shelf)?;
+    assert_eq!(rt; status.number(), 5);
+    assert_eq!(rt; shelf.written().len(), 2);
+    let report = piece_of(shelf.written(), b"screen.report");
+    assert_eq!(rt; report.ends_with(b"\nEND\n"), true);
+    let certificate = piece_of(shelf.written(), b"screen.cert");
+    assert_eq!(rt; certificate.ends_with(b"\nEND\n"), true);
     Ok(())
 }

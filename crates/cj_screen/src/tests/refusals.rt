@@ -1,67 +1,86 @@
 //! Words, files and problems that are refused.
 use super::runs::{Ran, run};
-use super::scenes::{GCRF, Scene, base_text, copies, files_of};
-use crate::fault_text;
+use super::scenes::{CROSSING, Content, GCRF, OF_DEGREE_SEVEN, Scene, base_text, copies, files_of};
 use cj_io::FileBytes;
+use cj_status::fault_text;
 use std::alloc::{AllocError, Global};
 use std::sync::Wait;
 use std::test::Fail;
 use std::thread::Threads;
 
 /// Two nodes thirty seconds before and after the leap second at the end of 2016.
-const LEAP_SECOND: Scene = Scene::Changed(&[
-    (10, b"START_TIME = 2016-12-31T23:59:30"),
-    (11, b"STOP_TIME = 2017-01-01T00:00:30"),
-    (15, b"2016-12-31T23:59:30 7000 0 0 0 0 0"),
-    (16, b"2017-01-01T00:00:30 7000 0 0 0 0 0"),
-]);
+const LEAP_SECOND: Scene = &[(
+    "a.oem",
+    Content::One(&[
+        (10, b"START_TIME = 2016-12-31T23:59:30"),
+        (11, b"STOP_TIME = 2017-01-01T00:00:30"),
+        (15, b"2016-12-31T23:59:30 7000 0 0 0 0 0"),
+        (16, b"2017-01-01T00:00:30 7000 0 0 0 0 0"),
+    ]),
+)];
 
 /// A node at the sixtieth second before it.
-const SECOND_SIXTY: Scene = Scene::Changed(&[
-    (10, b"START_TIME = 2016-12-31T23:59:30"),
-    (11, b"STOP_TIME = 2017-01-01T00:00:30"),
-    (15, b"2016-12-31T23:59:30 7000 0 0 0 0 0"),
-    (16, b"2016-12-31T23:59:60 7000 0 0 0 0 0"),
-]);
+const SECOND_SIXTY: Scene = &[(
+    "a.oem",
+    Content::One(&[
+        (10, b"START_TIME = 2016-12-31T23:59:30"),
+        (11, b"STOP_TIME = 2017-01-01T00:00:30"),
+        (15, b"2016-12-31T23:59:30 7000 0 0 0 0 0"),
+        (16, b"2016-12-31T23:59:60 7000 0 0 0 0 0"),
+    ]),
+)];
 
-const CASES: [(&str, Scene, &[u8]); 14] = [
-    // Words that are not of the grammar.
+/// Two files in different frames; that of the first name is the second in the folder.
+const MIXED: Scene = &[
+    ("b.oem", Content::One(&[GCRF])),
+    ("a.oem", Content::One(&[])),
+];
+
+/// A command line, the files of its folder, and the line that tells why it is refused.
+type Case<'a> = (&'a str, Scene, &'a [u8]);
+
+const WORDS: [Case; 7] = [
     (
         "screen DIR --threshold 0",
-        Scene::Crossing,
+        CROSSING,
         b"conj: usage: Value --threshold\n",
     ),
     (
         "screen DIR --threshold 5 --threshold 5",
-        Scene::Crossing,
+        CROSSING,
         b"conj: usage: Words\n",
     ),
-    ("screen", Scene::Crossing, b"conj: usage: Words\n"),
-    ("fly DIR", Scene::Crossing, b"conj: usage: Words\n"),
+    ("screen", CROSSING, b"conj: usage: Words\n"),
+    ("fly DIR", CROSSING, b"conj: usage: Words\n"),
     (
         "screen DIR --cells=4000001",
-        Scene::Crossing,
+        CROSSING,
         b"conj: usage: Value --cells\n",
     ),
     (
         "screen DIR --from 2025-366T00:00:00",
-        Scene::Crossing,
+        CROSSING,
         b"conj: usage: Value --from\n",
     ),
     (
         "screen DIR --from 2025-001T00:00:01Z --to 2025-01-01T00:00:00",
-        Scene::Crossing,
+        CROSSING,
         b"conj: usage: Value --to\n",
     ),
-    // Files.
+];
+
+const FILES: [Case; 7] = [
     (
         "screen .",
-        Scene::Changed(&[(15, b"2025-01-01T00:00:00 7000 X 0 0 0 0")]),
+        &[(
+            "a.oem",
+            Content::One(&[(15, b"2025-01-01T00:00:00 7000 X 0 0 0 0")]),
+        )],
         b"conj: a.oem: line 15: Number\n",
     ),
     (
         "screen .",
-        Scene::OfDegreeSeven,
+        OF_DEGREE_SEVEN,
         b"conj: a.oem: line 14: Interpolation\n",
     ),
     (
@@ -74,21 +93,57 @@ const CASES: [(&str, Scene, &[u8]); 14] = [
         LEAP_SECOND,
         b"conj: a.oem: line 16: LeapSecond\n",
     ),
-    (
-        "screen .",
-        Scene::TwoChanged(&[], &[GCRF]),
-        b"conj: b.oem: line 0: MixedFrames\n",
-    ),
+    ("screen .", MIXED, b"conj: b.oem: line 0: MixedFrames\n"),
     // Limits.
-    (
-        "screen . --cells 48",
-        Scene::Crossing,
-        b"conj: limit: Cells 48\n",
-    ),
+    ("screen . --cells 48", CROSSING, b"conj: limit: Cells 48\n"),
     (
         "screen . --from 2025-01-01T00:00:00 --to 2025-01-15T00:00:00.000001",
-        Scene::Nothing,
+        &[],
         b"conj: limit: Window 1209600000001\n",
+    ),
+];
+
+/// A line that names a file of sizes.
+const SIZED: &str = "screen . --sizes sizes.txt";
+
+const SIZES: [Case; 9] = [
+    (
+        SIZED,
+        &[("sizes.txt", Content::Text("2025-001A\n"))],
+        b"conj: sizes.txt: line 1: Sizes Form\n",
+    ),
+    (
+        SIZED,
+        &[("sizes.txt", Content::Text("2025-001A x\n"))],
+        b"conj: sizes.txt: line 1: Sizes Number\n",
+    ),
+    (
+        SIZED,
+        &[("sizes.txt", Content::Text("2025-001A -1\n"))],
+        b"conj: sizes.txt: line 1: Sizes Range\n",
+    ),
+    (
+        SIZED,
+        &[("sizes.txt", Content::Text("2025-001A 1000.000000001\n"))],
+        b"conj: sizes.txt: line 1: Sizes Range\n",
+    ),
+    (
+        SIZED,
+        &[("sizes.txt", Content::Text("A 1\nA 1\n"))],
+        b"conj: sizes.txt: line 2: Sizes Twice\n",
+    ),
+    (SIZED, CROSSING, b"conj: sizes.txt: line 0: NoSizes\n"),
+    (
+        "screen . --sizes a/b",
+        CROSSING,
+        b"conj: usage: Value --sizes\n",
+    ),
+    // They come behind the ephemerides and before the window.
+    (SIZED, MIXED, b"conj: b.oem: line 0: MixedFrames\n"),
+    (
+        "screen . --from 1972-01-01T00:00:00 --sizes sizes.txt",
+        CROSSING,
+        b"conj: sizes.txt: line 0: NoSizes\n",
     ),
 ];
 
@@ -101,13 +156,27 @@ fn line_of(alloc: Global, ran: &Ran) -> Result<Vec<u8>, AllocError> {
     }
 }
 
+/// The place of the first case in which another line is told.
+fn first_wrong<R: Threads + Wait + Sync>(
+    rt: &R,
+    alloc: Global,
+    cases: &[Case],
+) -> Result<Option<usize>, AllocError> {
+    for (place, (line, scene, told)) in cases.iter().enumerate() {
+        let ran = run(rt, alloc, line, files_of(alloc, scene)?)?;
+        if line_of(alloc, &ran)?.as_slice() != *told {
+            return Ok(Some(place));
+        }
+    }
+    Ok(None)
+}
+
 #[test]
 fn what_is_refused_is_told(rt: HostRuntime) -> Result<(), Fail> {
     let alloc = rt.alloc();
-    for (line, scene, told) in CASES {
-        let ran = run(&rt, alloc, line, files_of(alloc, scene)?)?;
-        assert_eq!(rt; line_of(alloc, &ran)?.as_slice(), told);
-    }
+    assert_eq!(rt; first_wrong(&rt, alloc, WORDS.as_slice())?, None);
+    assert_eq!(rt; first_wrong(&rt, alloc, FILES.as_slice())?, None);
+    assert_eq!(rt; first_wrong(&rt, alloc, SIZES.as_slice())?, None);
     Ok(())
 }
 
@@ -123,7 +192,7 @@ fn refusal<R: Threads + Wait + Sync>(
 }
 
 #[test]
-fn limits_are_told_and_may_be_reached(rt: HostRuntime) -> Result<(), Fail> {
+fn limits_on_files_are_told_and_may_be_reached(rt: HostRuntime) -> Result<(), Fail> {
     let alloc = rt.alloc();
     let (number, text) = refusal(&rt, alloc, "screen .", copies(alloc, 2001, b"")?)?;
     assert_eq!(rt; number, 6);
@@ -131,6 +200,12 @@ fn limits_are_told_and_may_be_reached(rt: HostRuntime) -> Result<(), Fail> {
     // So many files are read, and the first is refused.
     let (number, _) = refusal(&rt, alloc, "screen .", copies(alloc, 2000, b"")?)?;
     assert_eq!(rt; number, 3);
+    Ok(())
+}
+
+#[test]
+fn limits_on_the_window_are_told_and_may_be_reached(rt: HostRuntime) -> Result<(), Fail> {
+    let alloc = rt.alloc();
     let line = "screen . --from 2025-01-01T00:00:00 --to 2025-01-15T00:00:00";
     let (number, _) = refusal(&rt, alloc, line, Vec::new(alloc))?;
     assert_eq!(rt; number, 0);

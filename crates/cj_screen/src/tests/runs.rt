@@ -1,8 +1,9 @@
 //! Runs of the top call.
-use crate::{Status, conj};
+use crate::conj;
 use cj_epoch::Tick;
 use cj_io::{CalmFolder, CalmShelf, FileBytes, MemFolder, OpenGate};
 use cj_kvn::Text;
+use cj_status::Status;
 use cj_words::Word;
 use std::alloc::{AllocError, Global};
 use std::sync::Wait;
@@ -40,6 +41,7 @@ pub struct Ran {
     pub status: Status,
     pub pieces: usize,
     pub report: Vec<u8>,
+    pub certificate: Vec<u8>,
     pub summary: Vec<u8>,
 }
 
@@ -77,6 +79,7 @@ pub fn run<R: Threads + Wait + Sync>(
         status,
         pieces: pieces.len(),
         report: Vec::from_slice(alloc, piece_of(pieces, b"screen.report"))?,
+        certificate: Vec::from_slice(alloc, piece_of(pieces, b"screen.cert"))?,
         summary: Vec::from_slice(alloc, piece_of(pieces, b"-"))?,
     })
 }

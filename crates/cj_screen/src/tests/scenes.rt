@@ -1,4 +1,4 @@
-//! Files for the tests.
+//! Folders for the tests.
 use cj_io::{Bytes, FileBytes, Name};
 use std::alloc::{AllocError, Global};
 
@@ -40,51 +40,133 @@ const NEXT: [&[u8]; 13] = [
 ];
 
 /// A line's number and the text in its place.
-pub type Change<'a> = (usize, &'a [u8]);
+pub type Change = (usize, &'static [u8]);
 
 /// The line of another frame.
-pub const GCRF: Change<'static> = (8, b"REF_FRAME = GCRF");
+pub const GCRF: Change = (8, b"REF_FRAME = GCRF");
 
-/// What a folder holds.
+/// What a file holds.
 #[derive(Clone, Copy, Debug)]
-pub enum Scene {
-    /// No file.
-    Nothing,
-    /// One object at rest.
-    Alone,
-    /// Two objects at rest at these places.
-    AtRest(&'static str, &'static str),
-    Crossing,
-    InTheBand,
-    SharingOneTick,
-    Jumping,
-    Pausing,
-    ThreeInARow,
-    OfDegreeSeven,
-    /// One file, with other texts in place of some lines.
-    Changed(&'static [Change<'static>]),
-    /// Two files, each with other texts in place of some lines.
-    TwoChanged(&'static [Change<'static>], &'static [Change<'static>]),
+pub enum Content {
+    /// An object at rest at this place for one minute.
+    Rest(&'static str),
+    /// An object that goes from one place and rate to another in one minute; some lines are changed.
+    Minute(&'static str, &'static str, &'static [Change]),
+    /// One segment, some lines of which are changed.
+    One(&'static [Change]),
+    /// Two segments, some lines of which are changed.
+    Two(&'static [Change]),
+    /// This text.
+    Text(&'static str),
 }
 
-/// The files of a scene.
+/// The files of a folder with their names, in the folder's order.
+pub type Scene = &'static [(&'static str, Content)];
+
+/// Two tracks that cross at one kilometre in the middle of a minute.
+pub const CROSSING: Scene = &[
+    (
+        "a.oem",
+        Content::Minute("7000 -225 0 0 7.5 0", "7000 225 0 0 7.5 0", &[]),
+    ),
+    (
+        "b.oem",
+        Content::Minute("7001 0 -225 0 0 7.5", "7001 0 225 0 0 7.5", &[]),
+    ),
+];
+
+/// Two objects at the threshold; the first file asks for a polynomial of degree seven.
+pub const OF_DEGREE_SEVEN: Scene = &[
+    (
+        "a.oem",
+        Content::One(&[
+            (12, b"INTERPOLATION = LAGRANGE"),
+            (13, b"INTERPOLATION_DEGREE = 7"),
+        ]),
+    ),
+    ("b.oem", Content::Rest("7005 0 0")),
+];
+
+/// Two objects at the threshold whose useable spans share the tick in the middle of the minute.
+pub const SHARING_ONE_TICK: Scene = &[
+    (
+        "a.oem",
+        Content::Minute(
+            "7000 0 0 0 0 0",
+            "7000 0 0 0 0 0",
+            &[(
+                11,
+                b"STOP_TIME = 2025-01-01T00:01:00\nUSEABLE_STOP_TIME = 2025-01-01T00:00:30",
+            )],
+        ),
+    ),
+    (
+        "b.oem",
+        Content::Minute(
+            "7005 0 0 0 0 0",
+            "7005 0 0 0 0 0",
+            &[(
+                11,
+                b"STOP_TIME = 2025-01-01T00:01:00\nUSEABLE_START_TIME = 2025-01-01T00:00:30",
+            )],
+        ),
+    ),
+];
+
+/// The files of a folder.
 pub fn files_of(alloc: Global, scene: Scene) -> Result<Vec<FileBytes>, AllocError> {
-    match scene {
-        Scene::Nothing => Ok(Vec::new(alloc)),
-        Scene::Alone => Ok(Vec::from_array(alloc, [rest(alloc, "a.oem", "7000 0 0")?])?),
-        Scene::AtRest(first, second) => two_at_rest(alloc, first, second),
-        Scene::Crossing => crossing(alloc),
-        Scene::InTheBand => in_the_band(alloc),
-        Scene::SharingOneTick => sharing_one_tick(alloc),
-        Scene::Jumping => jumping(alloc),
-        Scene::Pausing => pausing(alloc),
-        Scene::ThreeInARow => three_in_a_row(alloc),
-        Scene::OfDegreeSeven => of_degree_seven(alloc),
-        Scene::Changed(changes) => {
-            Ok(Vec::from_array(alloc, [base_with(alloc, "a.oem", changes)?])?)
-        }
-        Scene::TwoChanged(first, second) => two_changed(alloc, first, second),
+    let mut files = Vec::new(alloc);
+    for (name, content) in scene {
+        let bytes = bytes_of(alloc, *content)?;
+        files.push(file(alloc, name, &bytes)?)?;
     }
+    Ok(files)
+}
+
+/// A file of these bytes.
+fn file(alloc: Global, name: &str, bytes: &[u8]) -> Result<FileBytes, AllocError> {
+    Ok(FileBytes {
+        name: Name::copy_of(alloc, name.as_bytes())?,
+        bytes: Bytes::copy_of(alloc, bytes)?,
+    })
+}
+
+fn bytes_of(alloc: Global, content: Content) -> Result<Vec<u8>, AllocError> {
+    match content {
+        Content::Rest(place) => {
+            let state = format!(in alloc; "{place} 0 0 0")?;
+            minute(alloc, state.as_str(), state.as_str(), &[])
+        }
+        Content::Minute(first, last, changes) => minute(alloc, first, last, changes),
+        Content::One(changes) => one_with(alloc, changes),
+        Content::Two(changes) => {
+            let mut text = one_with(alloc, changes)?;
+            append(&mut text, 16, NEXT.as_slice(), changes)?;
+            Ok(text)
+        }
+        Content::Text(text) => Vec::from_slice(alloc, text.as_bytes()),
+    }
+}
+
+/// The lines of one segment with other texts in place of some.
+fn one_with(alloc: Global, changes: &[Change]) -> Result<Vec<u8>, AllocError> {
+    let mut text = Vec::new(alloc);
+    append(&mut text, 0, BASE.as_slice(), changes)?;
+    Ok(text)
+}
+
+/// One segment from one place and rate to another.
+fn minute(
+    alloc: Global,
+    first: &str,
+    last: &str,
+    changes: &[Change],
+) -> Result<Vec<u8>, AllocError> {
+    let mut text = Vec::new(alloc);
+    append(&mut text, 0, &BASE[..14], changes)?;
+    let states = format!(in alloc; "2025-01-01T00:00:00 {first}\n2025-01-01T00:01:00 {last}\n")?;
+    text.extend_from_slice(states.as_bytes())?;
+    Ok(text)
 }
 
 /// Appends lines, which are numbered on from those before them, some of them changed.
@@ -107,161 +189,6 @@ fn append(
     Ok(())
 }
 
-/// A file of these bytes.
-fn file(alloc: Global, name: &str, bytes: &[u8]) -> Result<FileBytes, AllocError> {
-    Ok(FileBytes {
-        name: Name::copy_of(alloc, name.as_bytes())?,
-        bytes: Bytes::copy_of(alloc, bytes)?,
-    })
-}
-
-/// A file of one segment, with other texts in place of some lines.
-fn base_with(alloc: Global, name: &str, changes: &[Change]) -> Result<FileBytes, AllocError> {
-    let mut text = Vec::new(alloc);
-    append(&mut text, 0, BASE.as_slice(), changes)?;
-    file(alloc, name, &text)
-}
-
-/// A file of two segments, with other texts in place of some lines.
-fn two_with(alloc: Global, name: &str, changes: &[Change]) -> Result<FileBytes, AllocError> {
-    let mut text = Vec::new(alloc);
-    append(&mut text, 0, BASE.as_slice(), changes)?;
-    append(&mut text, 16, NEXT.as_slice(), changes)?;
-    file(alloc, name, &text)
-}
-
-/// A file of one minute from one place and rate to another, with another text in place of a line.
-fn minute_with(
-    alloc: Global,
-    name: &str,
-    first: &str,
-    last: &str,
-    change: Change,
-) -> Result<FileBytes, AllocError> {
-    let first = format!(in alloc; "2025-01-01T00:00:00 {first}")?;
-    let last = format!(in alloc; "2025-01-01T00:01:00 {last}")?;
-    base_with(
-        alloc,
-        name,
-        &[(15, first.as_bytes()), (16, last.as_bytes()), change],
-    )
-}
-
-/// A file of one minute from one place and rate to another.
-fn minute(alloc: Global, name: &str, first: &str, last: &str) -> Result<FileBytes, AllocError> {
-    minute_with(alloc, name, first, last, (1, b"CCSDS_OEM_VERS = 2.0"))
-}
-
-/// A file of an object at rest.
-pub fn rest(alloc: Global, name: &str, place: &str) -> Result<FileBytes, AllocError> {
-    let state = format!(in alloc; "{place} 0 0 0")?;
-    minute(alloc, name, state.as_str(), state.as_str())
-}
-
-/// Two objects at rest.
-fn two_at_rest(alloc: Global, first: &str, second: &str) -> Result<Vec<FileBytes>, AllocError> {
-    let a = rest(alloc, "a.oem", first)?;
-    let b = rest(alloc, "b.oem", second)?;
-    Ok(Vec::from_array(alloc, [a, b])?)
-}
-
-/// Two tracks that cross at one kilometre in the middle of a minute.
-fn crossing(alloc: Global) -> Result<Vec<FileBytes>, AllocError> {
-    let a = minute(alloc, "a.oem", "7000 -225 0 0 7.5 0", "7000 225 0 0 7.5 0")?;
-    let b = minute(alloc, "b.oem", "7001 0 -225 0 0 7.5", "7001 0 225 0 0 7.5")?;
-    Ok(Vec::from_array(alloc, [a, b])?)
-}
-
-/// Two tracks that stay within a nanometre of the threshold and come to it at their last tick.
-fn in_the_band(alloc: Global) -> Result<Vec<FileBytes>, AllocError> {
-    let rate = "0 0.000000000001 0";
-    let first = format!(in alloc; "7000 0 0 {rate}")?;
-    let last = format!(in alloc; "7000 0.00000000006 0 {rate}")?;
-    let a = minute(alloc, "a.oem", first.as_str(), last.as_str())?;
-    let first = format!(in alloc; "7005 0 0 {rate}")?;
-    let last = format!(in alloc; "7005 0.00000000006 0 {rate}")?;
-    let b = minute(alloc, "b.oem", first.as_str(), last.as_str())?;
-    Ok(Vec::from_array(alloc, [a, b])?)
-}
-
-/// Two objects at the threshold whose useable spans share the tick in the middle of the minute.
-fn sharing_one_tick(alloc: Global) -> Result<Vec<FileBytes>, AllocError> {
-    let stop = b"STOP_TIME = 2025-01-01T00:01:00\nUSEABLE_STOP_TIME = 2025-01-01T00:00:30";
-    let start = b"STOP_TIME = 2025-01-01T00:01:00\nUSEABLE_START_TIME = 2025-01-01T00:00:30";
-    let a = "7000 0 0 0 0 0";
-    let a = minute_with(alloc, "a.oem", a, a, (11, stop))?;
-    let b = "7005 0 0 0 0 0";
-    let b = minute_with(alloc, "b.oem", b, b, (11, start))?;
-    Ok(Vec::from_array(alloc, [a, b])?)
-}
-
-/// An object that is elsewhere from the middle of the minute on, and one at the threshold of its first place.
-fn jumping(alloc: Global) -> Result<Vec<FileBytes>, AllocError> {
-    let a = two_with(
-        alloc,
-        "a.oem",
-        &[
-            (11, b"STOP_TIME = 2025-01-01T00:00:30"),
-            (16, b"2025-01-01T00:00:30 7000 0 0 0 0 0"),
-        ],
-    )?;
-    let b = rest(alloc, "b.oem", "7005 0 0")?;
-    Ok(Vec::from_array(alloc, [a, b])?)
-}
-
-/// An object that is unknown for twenty seconds, and one at the threshold of its place.
-fn pausing(alloc: Global) -> Result<Vec<FileBytes>, AllocError> {
-    let a = two_with(
-        alloc,
-        "a.oem",
-        &[
-            (11, b"STOP_TIME = 2025-01-01T00:00:20"),
-            (16, b"2025-01-01T00:00:20 7000 0 0 0 0 0"),
-            (23, b"START_TIME = 2025-01-01T00:00:40"),
-            (28, b"2025-01-01T00:00:40 7000 0 0 0 0 0"),
-            (29, b"2025-01-01T00:01:00 7000 0 0 0 0 0"),
-        ],
-    )?;
-    let b = rest(alloc, "b.oem", "7005 0 0")?;
-    Ok(Vec::from_array(alloc, [a, b])?)
-}
-
-/// Three objects of which each is three kilometres from the next, not in the order of their names, and a file of notes.
-fn three_in_a_row(alloc: Global) -> Result<Vec<FileBytes>, AllocError> {
-    let row = [
-        rest(alloc, "c.oem", "7006 0 0")?,
-        rest(alloc, "notes.txt", "7000 0 0")?,
-        rest(alloc, "a.oem", "7000 0 0")?,
-        rest(alloc, "b.oem", "7003 0 0")?,
-    ];
-    Ok(Vec::from_array(alloc, row)?)
-}
-
-/// Two objects at the threshold; the first file asks for a polynomial of degree seven.
-fn of_degree_seven(alloc: Global) -> Result<Vec<FileBytes>, AllocError> {
-    let a = base_with(
-        alloc,
-        "a.oem",
-        &[
-            (12, b"INTERPOLATION = LAGRANGE"),
-            (13, b"INTERPOLATION_DEGREE = 7"),
-        ],
-    )?;
-    let b = rest(alloc, "b.oem", "7005 0 0")?;
-    Ok(Vec::from_array(alloc, [a, b])?)
-}
-
-/// Two files with other texts in place of some lines; the second stands first in the folder.
-fn two_changed(
-    alloc: Global,
-    first: &[Change],
-    second: &[Change],
-) -> Result<Vec<FileBytes>, AllocError> {
-    let a = base_with(alloc, "a.oem", first)?;
-    let b = base_with(alloc, "b.oem", second)?;
-    Ok(Vec::from_array(alloc, [b, a])?)
-}
-
 /// So many files of the same name.
 pub fn copies(alloc: Global, count: usize, bytes: &[u8]) -> Result<Vec<FileBytes>, AllocError> {
     let mut files = Vec::new(alloc);
@@ -271,9 +198,7 @@ pub fn copies(alloc: Global, count: usize, bytes: &[u8]) -> Result<Vec<FileBytes
     Ok(files)
 }
 
-/// The text of the file of one segment.
+/// The text of a file of one segment.
 pub fn base_text(alloc: Global) -> Result<Vec<u8>, AllocError> {
-    let mut text = Vec::new(alloc);
-    append(&mut text, 0, BASE.as_slice(), &[])?;
-    Ok(text)
+    one_with(alloc, &[])
 }

@@ -1,11 +1,11 @@
 use Rattle.std.proofs.Common.{◌≡◌, ◌⊎◌, ◌++◌, ◌∷◌, [], inr, Some, Ok, Err, List, Result, sym, ap, subst, ◌∙◌}
 use Rattle.cj_io.specs.Faults.{Rose}
 use Rattle.cj_io.specs.declared.file.FileBytes.{FileBytes}
-use Rattle.cj_screen.specs.declared.status.Status.{Status}
-use Rattle.cj_screen.specs.declared.status.Status.TheVariants as status
+use Rattle.cj_status.specs.declared.status.Status.{Status}
+use Rattle.cj_status.specs.declared.status.Status.TheVariants as status
 use Rattle.cj_screen.specs.Outcome as spec
 use Rattle.cj_screen.specs.Outcome.{Answers, Leaves, PutsNothing}
-use Rattle.cj_screen.specs.Findings.{ended, pieces_in, report_in, summary_in}
+use Rattle.cj_screen.specs.Findings.{cert_in, ended, pieces_in, report_in, summary_in}
 use Rattle.cj_screen.proofs.EndLemmas.{answers_put, answers_stop, leaves_extends, leaves_stop, never_usage, nothing_more, put_or_memory, puts_some, stopped_for}
 use Rattle.cj_screen.proofs.top.conj.Goals as goal
 
@@ -36,6 +36,7 @@ returns-in-Ok-clause-headline g c = λ files pieces told stood ok.
     let is : leaves.0 ≡ pieces_in c.in-Ok.found = cc (leaves.1) in
     record {
       bytes = (report_in c.in-Ok.found).bytes;
+      certificate = (cert_in c.in-Ok.found).bytes;
       report = c.in-Ok.ensures.reports files told;
       further = summary_in c.in-Ok.found ∷ [];
       put = leaves.2 ∙ ap (λ (ps : List FileBytes). Some (pieces ++ ps)) is;

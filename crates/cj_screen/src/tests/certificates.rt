@@ -1,0 +1,81 @@
+//! The certificates of runs.
+use super::runs::run;
+use super::scenes::{Content, SHARING_ONE_TICK, Scene, files_of};
+use std::alloc::{AllocError, Global};
+use std::sync::Wait;
+use std::test::Fail;
+use std::thread::Threads;
+
+/// The files of a run, and its certificate.
+type Certified = (Scene, &'static [u8]);
+
+const CERTIFICATES: [Certified; 3] = [
+    (
+        &[],
+        b"CONJ-CERT 1
+WINDOW 63072000000000 63072000000000
+THRESHOLD 5000000000000
+OBJECTS 0
+END
+",
+    ),
+    (
+        &[
+            ("a.oem", Content::Rest("7000 0 0")),
+            ("b.oem", Content::Rest("7005 0 0")),
+        ],
+        b"CONJ-CERT 1
+WINDOW 1735689600000000 1735689660000000
+THRESHOLD 5000000000000
+OBJECTS 2
+SHELL 1 7000000000000000 7000000000000000
+SHELL 2 7005000000000000 7005000000000000
+BOX 1 0 7000000000000000 7000000000000000 0 0 0 0
+BOX 1 1 7000000000000000 7000000000000000 0 0 0 0
+BOX 2 0 7005000000000000 7005000000000000 0 0 0 0
+BOX 2 1 7005000000000000 7005000000000000 0 0 0 0
+CELL 1 2 1735689600000000 1735689659999999 N
+CELL 1 2 1735689660000000 1735689660000000 N
+END
+",
+    ),
+    (
+        SHARING_ONE_TICK,
+        b"CONJ-CERT 1
+WINDOW 1735689600000000 1735689660000000
+THRESHOLD 5000000000000
+OBJECTS 2
+SHELL 1 7000000000000000 7000000000000000
+SHELL 2 7005000000000000 7005000000000000
+BOX 1 0 7000000000000000 7000000000000000 0 0 0 0
+BOX 2 0 7005000000000000 7005000000000000 0 0 0 0
+BOX 2 1 7005000000000000 7005000000000000 0 0 0 0
+CELL 1 2 1735689630000000 1735689630000000 N
+END
+",
+    ),
+];
+
+/// The place of the first case with another certificate.
+fn first_other<R: Threads + Wait + Sync>(
+    rt: &R,
+    alloc: Global,
+    cases: &[Certified],
+) -> Result<Option<usize>, AllocError> {
+    for (place, (scene, certificate)) in cases.iter().enumerate() {
+        let ran = run(rt, alloc, "screen .", files_of(alloc, scene)?)?;
+        if ran.certificate.as_slice() != *certificate {
+            return Ok(Some(place));
+        }
+    }
+    Ok(None)
+}
+
+#[test]
+fn whole_certificates(rt: HostRuntime) -> Result<(), Fail> {
+    assert_eq!(rt;
+        first_other(&rt, rt.alloc(), CERTIFICATES.as_slice())?,
+        None
+    );
+    Ok(())
+}
