@@ -13,3 +13,15 @@ pub struct Cell {
     pub last: Tick,
     pub ghost some: { first.micros ≤ last.micros },
 }
+
+impl Default for Cell {
+    /// A cell that only fills a place: the first tick of all, of the first two objects.
+    fn default() -> Cell {
+        Cell {
+            pair: Pair { a: 0, b: 1 },
+            root: 0,
+            first: Tick::FIRST,
+            last: Tick::FIRST,
+        }
+    }
+}

@@ -18,7 +18,8 @@ use Rattle.cj_bezier.specs.declared.axis_box.AxisBox.{AxisBox}
 use Rattle.cj_bezier.specs.SlotBoxes.{PlainBox, plain_boxes, box_of, plain_box}
 use Rattle.cj_bezier.specs.Looked.{boxes_in}
 use Rattle.cj_candidates.specs.Boxes.{boxes_of, boxes_over}
-use Rattle.cj_candidates.proofs.ObjectLemmas.{IsInOwnBox, IsInOwnBoxes, objects_to, one_more}
+use Rattle.cj_candidates.specs.ObjectRuns.{IsInOwnBox, IsInOwnBoxes}
+use Rattle.cj_candidates.proofs.ObjectLemmas.{objects_to, one_more}
 
 -- ---- object by object
 

@@ -2,7 +2,7 @@
 use Rattle.std.proofs.Common.{◌≡◌, ℕ, zero, suc, ◌+◌, ◌<◌, ◌≤◌, ◌++◌, ◌&&◌, Bool, true, false, cond, List, [], ◌∷◌, length, get_or, map, take, filter, Option, Some, None, refl, sym, ap, subst, ◌∙◌, arith}
 use Rattle.std.specs.Prelude.{All, IfSome, IfNone, option_map, option_and_then, slice_get}
 use Rattle.std.proofs.lemmas.List.{take_more, map-append, length-map}
-use Rattle.std.proofs.lemmas.List.Elements.{All-push, All-same}
+use Rattle.std.proofs.lemmas.List.Elements.{All-push, All-same, filter_agree}
 use Rattle.cj_interval.proofs.ListLemmas.{Each, Each-weaker, All-from_each, each_from_map}
 use Rattle.cj_track.specs.declared.track.Track.{Track}
 use Rattle.cj_track.specs.PlainTracks.{PlainTrack}
@@ -20,6 +20,7 @@ use Rattle.cj_bezier.specs.Shells.{IsRadiusWithin, keeps_between, shell_of}
 use Rattle.cj_bezier.specs.SlotBoxes.{PlainBox, IsPlaceIn, plain_boxes, box_of, plain_box, touch_between}
 use Rattle.cj_bezier.specs.Looked.{boxes_in, is_kept, is_touching, is_looked, pairs_kept, pairs_looked, shells_of}
 use Rattle.cj_bezier.specs.Enclosed.{AreInBoxes, AreInShells, IsInBox, IsInShell}
+use Rattle.cj_candidates.specs.ObjectRuns.{IsInOwnShell, IsInOwnBox, IsInOwnBoxes}
 
 -- the first so many objects
 abbrev pub objects_to : ℕ → List Track → List PlainTrack
@@ -55,10 +56,6 @@ made_at f (x ∷ es) (suc i) e is = made_at f es i e is
 
 -- ---- shells
 
--- an object is in its own shell
-abbrev pub IsInOwnShell : ℕ → ℕ → PlainTrack → Type 0
-IsInOwnShell from to e = IsInShell from to e (shell_of e from to)
-
 in_shell : (e : PlainTrack) (from to : ℕ) (found : Option Shell) → IfNone found (HasNone e from to)
     → IfSome found (λ s. (m : ℕ) → from ≤ m → m ≤ to → IfSome (interval_at e m) (λ x. IsRadiusWithin (curve_of_interval x) m s.lo s.hi)) → IsInShell from to e found
 in_shell e from to None none holds = record { none = λ is. none; holds = λ s is. absurd cc }
@@ -82,10 +79,6 @@ in_shells case all i e is =
 
 -- ---- boxes
 
--- an object is in its own box
-abbrev pub IsInOwnBox : ℕ → ℕ → PlainTrack → Type 0
-IsInOwnBox from to e = IsInBox from to e (box_of e from to)
-
 in_box : (e : PlainTrack) (from to : ℕ) (found : Option PlainBox) → IfNone found (HasNone e from to)
     → IfSome found (λ r. (m : ℕ) → from ≤ m → m ≤ to → IfSome (interval_at e m) (λ x. IsPlaceIn (curve_of_interval x) m r)) → IsInBox from to e found
 in_box e from to None none holds = record { none = λ is. none; holds = λ r is. absurd cc }
@@ -101,10 +94,6 @@ pub in_own_box : (e : PlainTrack) (from to : ℕ) (found : Option AxisBox) → o
     → IfSome found (λ area. (m : ℕ) → from ≤ m → m ≤ to → IfSome (interval_at e m) (λ x. IsPlaceIn (curve_of_interval x) m (plain_box area))) → IsInOwnBox from to e
 in_own_box e from to None exact none holds = subst (λ (r : Option PlainBox). IsInBox from to e r) exact (in_box e from to None none tt)
 in_own_box e from to (Some area) exact none holds = subst (λ (r : Option PlainBox). IsInBox from to e r) exact (in_box e from to (Some (plain_box area)) tt holds)
-
--- an object is in its own box in each of the first n slots of a window
-abbrev pub IsInOwnBoxes : ℕ → ℕ → ℕ → PlainTrack → Type 0
-IsInOwnBoxes first last n e = (slot : ℕ) → slot < n → IsInOwnBox (slot_first first slot) (slot_last first last slot) e
 
 pub in_boxes : (case : PlainProblem) → All (IsInOwnBoxes case.first case.last (slot_count case.first case.last)) case.ephemerides → AreInBoxes case (boxes_in case)
 unfolding boxes_in
@@ -124,15 +113,22 @@ filter_both p q (pair ∷ ps) = go (filter_both p q ps) (p pair)
     go rest true = ap (λ (xs : List (ℕ × ℕ)). cond (q pair) (pair ∷ xs) xs) rest
     go rest false = rest
 
--- the pairs of a slot that are looked at: of the kept ones those that touch
-pub pairs_looked_is : (case : PlainProblem) (slot : ℕ) (found kept : List (ℕ × ℕ)) (boxes : List (Option PlainBox)) (sizes : List ℕ) → kept ≡ pairs_kept case → boxes ≡ boxes_in case slot → sizes ≡ case.sizes
-    → found ≡ filter (touch_between case.threshold sizes boxes) kept → found ≡ pairs_looked case slot
+both_orders : (a b : Bool) → (a && b) ≡ (b && a)
+both_orders true true = refl
+both_orders true false = refl
+both_orders false true = refl
+both_orders false false = refl
+
+-- the pairs of a slot that are looked at: of those that touch the ones that are kept
+pub pairs_looked_is : (case : PlainProblem) (slot n : ℕ) (found touching : List (ℕ × ℕ)) (shells : List (Option Shell)) (boxes : List (Option PlainBox)) (sizes : List ℕ)
+    → n ≡ length case.ephemerides → shells ≡ shells_of case → boxes ≡ boxes_in case slot → sizes ≡ case.sizes
+    → touching ≡ filter (touch_between case.threshold sizes boxes) (pairs_of n) → found ≡ filter (keeps_between case.threshold sizes shells) touching → found ≡ pairs_looked case slot
 unfolding is_looked
-pairs_looked_is case slot found kept boxes sizes all same sized touching =
-    touching ∙ ap (filter (touch_between case.threshold sizes boxes)) all
-    ∙ ap (λ (bs : List (Option PlainBox)). filter (touch_between case.threshold sizes bs) (pairs_kept case)) same
-    ∙ ap (λ (ss : List ℕ). filter (touch_between case.threshold ss (boxes_in case slot)) (pairs_kept case)) sized
-    ∙ filter_both (is_kept case) (is_touching case slot) (pairs_of (length case.ephemerides))
+pairs_looked_is case slot n found touching shells boxes sizes count in_shells in_boxes sized near kept =
+    kept ∙ ap (filter (keeps_between case.threshold sizes shells)) near
+    ∙ (λ i. filter (keeps_between case.threshold (sized i) (in_shells i)) (filter (touch_between case.threshold (sized i) (in_boxes i)) (pairs_of (count i))))
+    ∙ filter_both (is_touching case slot) (is_kept case) (pairs_of (length case.ephemerides))
+    ∙ filter_agree (λ pair. is_touching case slot pair && is_kept case pair) (λ pair. is_kept case pair && is_touching case slot pair) (λ pair. both_orders (is_touching case slot pair) (is_kept case pair)) (pairs_of (length case.ephemerides))
 
 each_filtered : (P : ℕ × ℕ → Type 0) (p : ℕ × ℕ → Bool) (ps : List (ℕ × ℕ)) → Each P ps → Each P (filter p ps)
 each_filtered P p [] e = tt

@@ -1,2 +1,4 @@
 pub mod Boxes
 pub mod Counts
+pub mod ObjectRuns
+pub mod SlotRuns

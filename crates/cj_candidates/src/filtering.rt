@@ -12,18 +12,23 @@ ghost use Rattle.cj_candidates.specs.Counts.{looked_count};
 ghost use Rattle.cj_bezier.specs.Enclosed.{AreInShells, UnlookedAreFar};
 
 use crate::candidates::Candidates;
-use crate::slot_boxes::{all_boxes, boxes_in_slot};
-use cj_bezier::{AxisBox, Shell};
-use cj_cells::{RefineError, roots_of_slot};
-use cj_grid::touching_of;
-use cj_hermite::{Hints, Pair, Problem, slot_count};
-use cj_sieve::{kept_pairs, shell};
-use std::alloc::{AllocError, Global};
+use crate::ground::Ground;
+use crate::object_run::ObjectRun;
+use crate::objects_measured::measure_objects;
+use crate::slot_run::SlotRun;
+use crate::slots_searched::search_slots;
+use cj_cells::RefineError;
+use cj_hermite::{Problem, slot_count};
+use cj_sieve::kept_pairs;
+use std::alloc::Global;
+use std::thread::Threads;
 
 /// The candidates of a problem, with at most so many roots.
-pub fn find_candidates(
+pub fn find_candidates<R: Threads + Sync>(
+    rt: &R,
     alloc: Global,
     problem: &Problem,
+    workers: u32,
     limit: u64,
 ) -> Result<Candidates, RefineError>
     requires { limit ≤ 4_000_000 }
@@ -39,19 +44,25 @@ pub fn find_candidates(
     // What is not looked at is far.
     ensures far { OnOk result (UnlookedAreFar (plain_problem problem.now) (is_looked (plain_problem problem.now))) }
 {
-    let shells = all_shells(alloc, problem)?;
+    let tracks = problem.tracks.as_slice();
     let slots = slot_count(problem.window);
-    let boxes = all_boxes(alloc, problem, slots)?;
+    let ObjectRun { shells, boxes } = measure_objects(
+        rt,
+        alloc,
+        tracks,
+        problem.window,
+        slots,
+        workers,
+    )?;
     let sizes = problem.sizes.as_slice();
     let kept = kept_pairs(alloc, &shells, sizes, problem.threshold)?;
-    let mut hints = Hints::new(alloc, problem.tracks.as_slice().len())?;
-    let mut roots = Vec::new(alloc);
-    let mut touching = 0;
-    for slot in 0..slots {
-        let pairs = looked_pairs(alloc, problem, &boxes, &kept, slots, slot)?;
-        touching += pairs.len() as u64;
-        roots_of_slot(alloc, problem, slot, &pairs, limit, &mut hints, &mut roots)?;
-    }
+    let ground = Ground {
+        problem,
+        shells: &shells,
+        boxes: &boxes,
+        slots,
+    };
+    let SlotRun { roots, touching } = search_slots(rt, alloc, &ground, 0, slots, workers, limit)?;
     Ok(Candidates {
         shells,
         boxes,
@@ -59,37 +70,4 @@ pub fn find_candidates(
         roots,
         touching,
     })
-}
-
-/// The pairs that are looked at in a slot: of the kept ones those whose boxes touch.
-fn looked_pairs(
-    alloc: Global,
-    problem: &Problem,
-    boxes: &[Option<AxisBox>],
-    kept: &[Pair],
-    slots: u32,
-    slot: u32,
-) -> Result<Vec<Pair>, AllocError>
-    requires boxes { plain_boxes boxes.now ≡ boxes_of (plain_problem problem.now) }
-    requires kept { map objects_of kept.now ≡ pairs_kept (plain_problem problem.now) }
-    requires slots { slots ≡ slot_count problem.now.window.first.micros problem.now.window.last.micros }
-    requires exists { slot < slots }
-    ensures { IfOk result (λ pairs. map objects_of pairs.items ≡ pairs_looked (plain_problem problem.now) slot) }
-{
-    let here = boxes_in_slot(alloc, problem, boxes, slots, slot)?;
-    let sizes = problem.sizes.as_slice();
-    touching_of(alloc, kept, &here, sizes, problem.threshold)
-}
-
-/// The shells of all objects in the window.
-fn all_shells(alloc: Global, problem: &Problem) -> Result<Vec<Option<Shell>>, AllocError>
-    ensures value { IfOk result (λ shells. shells.items ≡ shells_of (plain_problem problem.now)) }
-    ensures hold { OnOk result (AreInShells (plain_problem problem.now) (shells_of (plain_problem problem.now))) }
-{
-    let tracks = problem.tracks.as_slice();
-    let mut shells = Vec::with_capacity(alloc, tracks.len())?;
-    for track in tracks {
-        shells.push(shell(track, problem.window))?;
-    }
-    Ok(shells)
 }

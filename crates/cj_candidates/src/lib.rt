@@ -4,7 +4,13 @@
 
 mod candidates;
 mod filtering;
+mod ground;
+mod keeping;
+mod object_run;
+mod objects_measured;
 mod slot_boxes;
+mod slot_run;
+mod slots_searched;
 
 pub use candidates::Candidates;
 pub use filtering::find_candidates;

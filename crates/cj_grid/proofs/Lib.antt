@@ -1,4 +1,7 @@
+pub mod BucketLemmas
+pub mod EntryLemmas
+pub mod FoundLemmas
 pub mod JoinedBoxLemmas
 pub mod PairingLemmas
-pub mod ReachedLemmas
+pub mod RowLemmas
 pub mod TrackBoxLemmas

@@ -1,79 +1,83 @@
--- The pairs whose boxes touch, object by object, and the steps that they take.
-use Rattle.std.proofs.Common.{◌≡◌, ℕ, ◌+◌, ◌*◌, ◌<◌, ◌≤◌, cond, true, false, List, [], ◌∷◌, ◌++◌, map, filter, Bool, length, take, get_or, Option, Some, None, append-nil, arith, refl, sym, ap, ◌∙◌}
-use Rattle.std.specs.Prelude.{count_by, is_some, option_map, option_and_then, slice_get}
-use Rattle.std.proofs.lemmas.List.Sums.{count_by_more_yes, count_by_more_no, sum_by-take-le}
-use Rattle.std.proofs.lemmas.List.{take_more, map_push}
-use Rattle.std.proofs.lemmas.List.Elements.{filter-append}
-use Rattle.std.proofs.lemmas.Option.{slice_get-map, slice_get_read}
+-- Pairs that are appended where they touch, entry by entry and object by object.
+use Rattle.std.proofs.Common.{◌≡◌, ◌⊎◌, inl, inr, ℕ, ◌<◌, ◌≤◌, true, false, List, [], ◌∷◌, ◌++◌, length, map, Option, sym, ap, subst, ◌∙◌, arith}
+use Rattle.std.specs.Prelude.{◌&&◌, nat_eq, nat_lt}
+use Rattle.std.specs.List.{Contains}
+use Rattle.std.specs.List.Sorted.{IsPermutation}
+use Rattle.std.proofs.lemmas.Bool.{cases_lt}
+use Rattle.std.proofs.lemmas.Bool.Decides.{nat_tests}
+use Rattle.std.proofs.lemmas.List.{map_push}
+use Rattle.std.proofs.lemmas.List.Elements.{All-push, Contains-append_left, Contains-push}
+use Rattle.std.proofs.lemmas.List.Sorted.{Contains-permutation}
 use Rattle.cj_hermite.specs.declared.pair.Pair.{Pair}
 use Rattle.cj_hermite.specs.Pairs.{objects_of}
-use Rattle.cj_hermite.specs.PlainProblems.{threshold_between}
 use Rattle.cj_bezier.specs.declared.axis_box.AxisBox.{AxisBox}
-use Rattle.cj_bezier.specs.SlotBoxes.{plain_box, plain_boxes, reaches_in, are_touching, touch_between}
+use Rattle.cj_bezier.specs.SlotBoxes.{plain_boxes, touch_between}
+use Rattle.cj_grid.specs.declared.entries.Entry.{Entry}
+use Rattle.cj_grid.specs.Found.{AreTouching, AreKept, HasPair, AreInOrder, entry_at}
+use Rattle.cj_grid.proofs.BucketLemmas.{AreTogether, entry}
+use Rattle.cj_grid.proofs.EntryLemmas.{any_default}
+use Rattle.cj_grid.proofs.FoundLemmas.{Contains-from_exists}
 
--- ---- the boxes of two objects
+-- ---- one pair more
 
-reaches_there : (boxes : List (Option AxisBox)) (k : ℕ) (o : Option AxisBox) → slice_get boxes k ≡ Some o → reaches_in (plain_boxes boxes) k ≡ option_map plain_box o
-reaches_there boxes k o is =
-    ap (option_and_then (λ box. box)) (slice_get-map (option_map plain_box) boxes k ∙ ap (option_map (option_map plain_box)) is)
+pub touching_more : (thr : ℕ) (sizes : List ℕ) (boxes : List (Option AxisBox)) (old : List Pair) (p : Pair) → touch_between thr sizes (plain_boxes boxes) (objects_of p) ≡ true
+    → AreTouching thr sizes boxes old → AreTouching thr sizes boxes (old ++ p ∷ [])
+touching_more thr sizes boxes old p touches all = All-push (λ pair. touch_between thr sizes (plain_boxes boxes) (objects_of pair) ≡ true) old p all touches
 
--- an object's box, as it is read
-pub box_there : (boxes : List (Option AxisBox)) (k : ℕ) (found o : Option AxisBox) → k < length boxes → found ≡ get_or boxes k found → found ≡ o → slice_get boxes k ≡ Some o
-box_there boxes k found o lt is same = slice_get_read boxes (length boxes) k found refl lt is ∙ ap Some same
+pub kept_more : (old : List Pair) (p : Pair) → AreKept old (old ++ p ∷ [])
+kept_more old p a b has = subst (λ (ps : List (ℕ × ℕ)). Contains ps (a, b)) (sym (map_push objects_of old p)) (Contains-append_left (map objects_of old) (objects_of p ∷ []) (a, b) has)
 
-pub touch_there : (thr : ℕ) (sizes : List ℕ) (boxes : List (Option AxisBox)) (a b : ℕ) (own other : AxisBox) (t : ℕ) → slice_get boxes a ≡ Some (Some own) → slice_get boxes b ≡ Some (Some other)
-    → t ≡ threshold_between thr sizes a b → touch_between thr sizes (plain_boxes boxes) (a, b) ≡ are_touching t own other
-touch_there thr sizes boxes a b own other t here there is = rw (reaches_there boxes a (Some own) here, reaches_there boxes b (Some other) there, is) refl
+pub has_pushed : (old : List Pair) (p : Pair) → HasPair (old ++ p ∷ []) p.a p.b
+has_pushed old p = subst (λ (ps : List (ℕ × ℕ)). Contains ps (objects_of p)) (sym (map_push objects_of old p)) (Contains-push (map objects_of old) (objects_of p))
 
-pub touch_none : (thr : ℕ) (sizes : List ℕ) (boxes : List (Option AxisBox)) (a b : ℕ) (own : AxisBox) → slice_get boxes a ≡ Some (Some own) → slice_get boxes b ≡ Some None
-    → touch_between thr sizes (plain_boxes boxes) (a, b) ≡ false
-touch_none thr sizes boxes a b own here there = rw (reaches_there boxes a (Some own) here, reaches_there boxes b None there) refl
+-- ---- entry by entry
 
-pub touch_absent : (thr : ℕ) (sizes : List ℕ) (boxes : List (Option AxisBox)) (a : ℕ) → slice_get boxes a ≡ Some None → (b : ℕ) → touch_between thr sizes (plain_boxes boxes) (a, b) ≡ false
-touch_absent thr sizes boxes a none b = rw (reaches_there boxes a None none) refl
+-- the objects of two entries are found where they touch
+abbrev pub AreFoundAt : ℕ → List ℕ → List (Option AxisBox) → List Entry → ℕ → ℕ → List Pair → Type 0
+AreFoundAt thr sizes boxes entries j k pairs =
+    (a b : ℕ) → a ≡ (entry_at entries j).object → b ≡ (entry_at entries k).object → a < b → touch_between thr sizes (plain_boxes boxes) (a, b) ≡ true → HasPair pairs a b
 
--- ---- steps
+pub in_bucket : (next n b bucket : ℕ) → (nat_lt next n && nat_eq b bucket) ≡ true → (next < n) × (b ≡ bucket)
+in_bucket next n b bucket h = (grind (arith, nat_tests), grind (arith, nat_tests))
 
--- how many of the first k boxes are there
-abbrev pub boxes_to : List (Option AxisBox) → ℕ → ℕ
-boxes_to boxes k = count_by is_some (take k boxes)
+-- no entry of the bucket stands behind the first one that is of another
+pub none_behind : (entries : List Entry) (at next k bucket : ℕ) → AreInOrder entries → at < next → k < length entries → (entry_at entries at).bucket ≡ bucket → (entry_at entries at).bucket ≡ (entry_at entries k).bucket
+    → (nat_lt next (length entries) && nat_eq (entry_at entries next).bucket bucket) ≡ false → k < next
+none_behind entries at next k bucket order above lt own same out = go (cases_lt k next)
+  where
+    go : (k < next) ⊎ (next ≤ k) → k < next
+    go (inl before) = before
+    go (inr behind) =
+        let low = order.buckets at next (omega arith) (omega arith) in
+        let high = order.buckets next k behind lt in
+        let here : (entry_at entries next).bucket ≡ bucket = omega arith in
+        let there : next < length entries = omega arith in
+        absurd (contradiction (entry_at entries next).bucket there here out)
+      where
+        contradiction : (b : ℕ) → next < length entries → b ≡ bucket → (nat_lt next (length entries) && nat_eq b bucket) ≡ false → ⊥
+        contradiction b there here out = grind (arith, nat_tests)
 
-pub one_box_more : (boxes : List (Option AxisBox)) (k : ℕ) (found : Option AxisBox) (own : AxisBox) → k < length boxes → found ≡ get_or boxes k found → found ≡ Some own → boxes_to boxes (k + 1) ≡ boxes_to boxes k + 1
-one_box_more boxes k found own lt is same = count_by_more_yes is_some boxes k found lt (ap is_some (sym is ∙ same))
+-- where the entries of two objects in one bucket stand
+pub record ArePlaces (entries : List Entry) (a b : ℕ) : Type 0 where
+  pub first : ℕ
+  pub second : ℕ
+  pub ordered : first < second
+  pub exists : second < length entries
+  pub bucket : (entry_at entries first).bucket ≡ (entry_at entries second).bucket
+  pub one : a ≡ (entry_at entries first).object
+  pub other : b ≡ (entry_at entries second).object
 
-pub no_box_more : (boxes : List (Option AxisBox)) (k : ℕ) (found : Option AxisBox) → k < length boxes → found ≡ get_or boxes k found → found ≡ None → boxes_to boxes (k + 1) ≡ boxes_to boxes k
-no_box_more boxes k found lt is same = count_by_more_no is_some boxes k found lt (ap is_some (sym is ∙ same))
-
--- they are at most all that are there
-pub boxes_to-le : (boxes : List (Option AxisBox)) (k : ℕ) → boxes_to boxes k ≤ count_by is_some boxes
-boxes_to-le boxes k = sum_by-take-le (λ box. cond (is_some box) 1 0) boxes k
-
--- a row more takes at most as many steps as there are boxes
-pub row_steps : (s t u n k m : ℕ) → t ≤ s + k * n → u ≤ t + n → m ≡ k + 1 → u ≤ s + m * n
-row_steps s t u n k m so_far more one = rw one (omega arith)
-
--- ---- the given pairs, one after another
-
--- the first k of them
-abbrev pub objects_to : List Pair → ℕ → List (ℕ × ℕ)
-objects_to pairs k = map objects_of (take k pairs)
-
-one_pair_more : (p : ℕ × ℕ → Bool) (pairs : List Pair) (k : ℕ) (pair : Pair) → k < length pairs → pair ≡ get_or pairs k pair →
-    filter p (objects_to pairs k) ++ cond (p (objects_of pair)) (objects_of pair ∷ []) [] ≡ filter p (objects_to pairs (k + 1))
-one_pair_more p pairs k pair lt is =
-    let more : objects_to pairs (k + 1) ≡ objects_to pairs k ++ objects_of pair ∷ [] =
-    ap (map objects_of) (take_more pairs k pair lt) ∙ map_push objects_of (take k pairs) (get_or pairs k pair) ∙ ap (λ (x : Pair). objects_to pairs k ++ objects_of x ∷ []) (sym is) in
-    sym (ap (filter p) more ∙ filter-append p (objects_to pairs k) (objects_of pair ∷ []))
-
--- one more of them passes
-pub pair_found : (p : ℕ × ℕ → Bool) (pairs found new : List Pair) (k : ℕ) (pair : Pair) → k < length pairs → pair ≡ get_or pairs k pair → p (objects_of pair) ≡ true
-    → new ≡ found ++ pair ∷ [] → map objects_of found ≡ filter p (objects_to pairs k) → map objects_of new ≡ filter p (objects_to pairs (k + 1))
-pair_found p pairs found new k pair lt is passes more so_far =
-    ap (map objects_of) more ∙ map_push objects_of found pair ∙ ap (λ (qs : List (ℕ × ℕ)). qs ++ objects_of pair ∷ []) so_far
-    ∙ ap (λ (c : Bool). filter p (objects_to pairs k) ++ cond c (objects_of pair ∷ []) []) (sym passes) ∙ one_pair_more p pairs k pair lt is
-
--- or does not
-pub pair_passed : (p : ℕ × ℕ → Bool) (pairs found : List Pair) (k : ℕ) (pair : Pair) → k < length pairs → pair ≡ get_or pairs k pair → p (objects_of pair) ≡ false
-    → map objects_of found ≡ filter p (objects_to pairs k) → map objects_of found ≡ filter p (objects_to pairs (k + 1))
-pair_passed p pairs found k pair lt is fails so_far =
-    so_far ∙ sym (append-nil (filter p (objects_to pairs k))) ∙ ap (λ (c : Bool). filter p (objects_to pairs k) ++ cond c (objects_of pair ∷ []) []) (sym fails) ∙ one_pair_more p pairs k pair lt is
+pub places : (old new : List Entry) (a b : ℕ) → IsPermutation old new → AreInOrder new → a < b → AreTogether old a b → ArePlaces new a b
+places old new a b moved order lt both =
+    let one = Contains-permutation old new (entry both.bucket a) moved (Contains-from_exists old (entry both.bucket a) both.one) in
+    let other = Contains-permutation old new (entry both.bucket b) moved (Contains-from_exists old (entry both.bucket b) both.other) in
+    let first : entry_at new one.0 ≡ entry both.bucket a = any_default new one.0 (record { bucket = 0; object = 0 }) (entry both.bucket a) one.1 ∙ one.2 in
+    let second : entry_at new other.0 ≡ entry both.bucket b = any_default new other.0 (record { bucket = 0; object = 0 }) (entry both.bucket b) other.1 ∙ other.2 in
+    let same : (entry_at new one.0).bucket ≡ (entry_at new other.0).bucket = ap (λ (e : Entry). e.bucket) first ∙ sym (ap (λ (e : Entry). e.bucket) second) in
+    let is_a : a ≡ (entry_at new one.0).object = sym (ap (λ (e : Entry). e.object) first) in
+    let is_b : b ≡ (entry_at new other.0).object = sym (ap (λ (e : Entry). e.object) second) in
+    record { first = one.0; second = other.0; ordered = ordered one.0 other.0 one.1 same is_a is_b (cases_lt one.0 other.0); exists = other.1; bucket = same; one = is_a; other = is_b }
+  where
+    ordered : (j k : ℕ) → j < length new → (entry_at new j).bucket ≡ (entry_at new k).bucket → a ≡ (entry_at new j).object → b ≡ (entry_at new k).object → (j < k) ⊎ (k ≤ j) → j < k
+    ordered j k below same is_a is_b (inl before) = before
+    ordered j k below same is_a is_b (inr behind) = let up = order.objects k j behind below (sym same) in absurd (omega arith)

@@ -1,2 +1,4 @@
+pub mod Buckets
+pub mod Found
 pub mod JoinedBoxes
-pub mod Reached
+pub mod Rows

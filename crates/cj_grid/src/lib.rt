@@ -1,9 +1,13 @@
-//! Slot boxes: the boxes round the parts of a track in a minute, and the pairs of objects whose boxes touch.
+//! Slot boxes: the boxes round the parts of a track in a minute, and the pairs of objects whose boxes touch, found by the buckets that
+//! the boxes meet.
 #![tactic(auto)]
 
 mod box_touch;
+mod bucket_pairs;
+mod bucket_ranges;
+mod buckets;
+mod entries;
 mod joined_boxes;
-mod reached;
 mod steps;
 mod touching_pairs;
 mod track_box;
@@ -11,7 +15,7 @@ mod track_box;
 pub use box_touch::touches;
 pub use cj_bezier::AxisBox;
 pub use steps::Steps;
-pub use touching_pairs::{touching, touching_of};
+pub use touching_pairs::{find_touching, touching};
 pub use track_box::slot_box;
 
 #[cfg(test)]

@@ -1,5 +1,6 @@
-ghost use Rattle.std.specs.Prelude.{◌≡◌, ◌+◌, ◌<◌, ◌≤◌, ◌≤ℤ◌, All, count_by, is_some};
-ghost use Rattle.cj_hermite.specs.Limits.{MAX_SIZE};
+ghost use Rattle.std.specs.Prelude.{◌≡◌, ◌+◌, ◌<◌, ◌≤◌, ◌≤ℤ◌, ◌*◌, ◌^◌, ◌-ℤ◌, pos, length, replicate, IfOk};
+ghost use Rattle.cj_bezier.specs.SlotBoxes.{plain_box, plain_boxes};
+ghost use Rattle.cj_grid.specs.Rows.{box_in_row, boxes_in_row};
 
 use super::*;
 use cj_hermite::{Hint, Pair};
@@ -193,41 +194,10 @@ fn boxes_touch_up_to_the_threshold(rt: HostRuntime) -> Result<(), Fail> {
         (whole, corners(MOST, MOST), true),
     ] {
         assert_eq!(rt; look::<Brand>(Blank::new(1), &a, &b), (expected, expected));
-        let pair = [Pair { a: 0, b: 1 }];
-        let found = touching_of(rt.alloc(), &pair, &[Some(a), Some(b)], &[0, 0], THRESHOLD)?;
+        let found = find_touching(rt.alloc(), &[Some(a), Some(b)], &[0, 0], THRESHOLD)?;
         assert_eq!(rt; found.len(), usize::from(expected));
     }
     Ok(())
-}
-
-/// The pairs of four boxes, the second of them absent. Three boxes take at most nine steps.
-fn pairs_of_four<L: Ledger>(
-    alloc: Global,
-    boxes: &[Option<AxisBox>; 4],
-    sizes: &[u64; 4],
-    steps: &mut Steps<L>,
-) -> Result<Vec<Pair>, AllocError>
-    requires three { count_by is_some boxes.now ≡ 3 }
-    requires small { All (λ size. size ≤ MAX_SIZE) sizes.now }
-    ensures { steps.new ≤ steps.old + 9 }
-{
-    touching(alloc, boxes, sizes, THRESHOLD, steps)
-}
-
-fn counted<L: Ledger>(
-    blank: Blank,
-    alloc: Global,
-    boxes: &[Option<AxisBox>; 4],
-    sizes: &[u64; 4],
-) -> Result<Vec<Pair>, AllocError>
-    requires name { blank.name ≡ L.name }
-    requires parts { blank.parts ≡ L.parts }
-    requires some { 0 < blank.parts }
-    requires three { count_by is_some boxes.now ≡ 3 }
-    requires small { All (λ size. size ≤ MAX_SIZE) sizes.now }
-{
-    let mut steps = Steps::<L>::new(blank);
-    pairs_of_four(alloc, boxes, sizes, &mut steps)
 }
 
 #[test]
@@ -235,64 +205,15 @@ fn touching_boxes_give_their_pairs_in_order(rt: HostRuntime) -> Result<(), Fail>
     let third = point(5_000_000_000_010, 0, 0);
     let fourth = point(10_000_000_000_010, 0, 0);
     let boxes = [Some(OWN), None, Some(third), Some(fourth)];
-    let found = counted::<Brand>(Blank::new(1), rt.alloc(), &boxes, &[0; 4])?;
+    let found = find_touching(rt.alloc(), &boxes, &[0; 4], THRESHOLD)?;
     let expected = [Pair { a: 0, b: 2 }, Pair { a: 2, b: 3 }];
     assert_eq!(rt; found.as_slice(), expected.as_slice());
     Ok(())
 }
 
-/// The given pairs alone are looked at; an object without a box, or with none in the list, touches nothing.
-#[test]
-fn of_kept_pairs_those_that_touch_are_found(rt: HostRuntime) -> Result<(), Fail> {
-    let boxes = [Some(OWN), Some(OWN), None, Some(OWN)];
-    let kept = [
-        Pair { a: 1, b: 3 },
-        Pair { a: 0, b: 2 },
-        Pair { a: 2, b: 3 },
-        Pair { a: 3, b: 4 },
-        Pair { a: 0, b: 1 },
-    ];
-    let found = touching_of(rt.alloc(), &kept, &boxes, &[0; 4], THRESHOLD)?;
-    let expected = [Pair { a: 1, b: 3 }, Pair { a: 0, b: 1 }];
-    assert_eq!(rt; found.as_slice(), expected.as_slice());
-    Ok(())
-}
-
-/// The pairs of three objects at a corner, three metres beyond the threshold from it, and at the other end of all numbers; the
-/// two calls agree.
-fn touching_with(alloc: Global, sizes: &[u64; 4]) -> Result<Vec<Pair>, AllocError>
-    requires { All (λ size. size ≤ MAX_SIZE) sizes.now }
-{
-    let corner = Some(corners(LEAST, LEAST));
-    let beyond = i64::MIN + 5_003_000_000_000;
-    let beside = Some(point(i64::MIN, beyond, i64::MIN));
-    let boxes = [corner, beside, None, Some(corners(MOST, MOST))];
-    let kept = [
-        Pair { a: 0, b: 1 },
-        Pair { a: 0, b: 2 },
-        Pair { a: 0, b: 3 },
-        Pair { a: 1, b: 3 },
-    ];
-    touching_of(alloc, &kept, &boxes, sizes, THRESHOLD)
-}
-
 /// The radii of two objects bridge three metres, or a nanometre less than that.
 #[test]
 fn sizes_let_a_pair_touch_beyond_the_threshold(rt: HostRuntime) -> Result<(), Fail> {
-    let alloc = rt.alloc();
-    let pair = Pair { a: 0, b: 1 };
-    assert!(rt; touching_with(alloc, &[0; 4])?.is_empty());
-    let both = touching_with(alloc, &[1_000_000_000, 2_000_000_000, 0, 0])?;
-    assert_eq!(rt; both.as_slice(), [pair].as_slice());
-    assert!(rt; touching_with(alloc, &[1_000_000_000, 1_999_999_999, 9, 9])?.is_empty());
-    let one = touching_with(alloc, &[0, 3_000_000_000, 0, 1_000_000_000_000])?;
-    assert_eq!(rt; one.as_slice(), [pair].as_slice());
-    Ok(())
-}
-
-/// The same by looking at all pairs.
-#[test]
-fn sizes_count_where_all_pairs_are_looked_at(rt: HostRuntime) -> Result<(), Fail> {
     let boxes = [
         Some(OWN),
         None,
@@ -305,12 +226,231 @@ fn sizes_count_where_all_pairs_are_looked_at(rt: HostRuntime) -> Result<(), Fail
         2_000_000_000,
         1_999_999_999,
     ];
-    let found = counted::<Brand>(Blank::new(1), rt.alloc(), &boxes, &sizes)?;
+    let found = find_touching(rt.alloc(), &boxes, &sizes, THRESHOLD)?;
     let expected = [
         Pair { a: 0, b: 2 },
         Pair { a: 0, b: 3 },
         Pair { a: 2, b: 3 },
     ];
     assert_eq!(rt; found.as_slice(), expected.as_slice());
+    Ok(())
+}
+
+/// A place on the corner of a bucket or a nanometre below it, seen across the threshold: a bucket holds its least corner and not its
+/// greatest.
+#[test]
+fn objects_on_both_sides_of_a_corner_are_found(rt: HostRuntime) -> Result<(), Fail> {
+    for corner in [-2_000_000_000_000_000, 0, 2_000_000_000_000_000] {
+        let boxes = [
+            Some(point(corner - 1, 0, 0)),
+            Some(point(corner + 5_000_000_000_000, 0, 0)),
+            Some(point(corner + 4_999_999_999_999, 0, 0)),
+            Some(point(corner, 0, 0)),
+        ];
+        let found = find_touching(rt.alloc(), &boxes, &[0; 4], THRESHOLD)?;
+        let expected = [
+            Pair { a: 0, b: 2 },
+            Pair { a: 0, b: 3 },
+            Pair { a: 1, b: 2 },
+            Pair { a: 1, b: 3 },
+            Pair { a: 2, b: 3 },
+        ];
+        assert_eq!(rt; found.as_slice(), expected.as_slice());
+    }
+    Ok(())
+}
+
+/// A box of 10,000 km on each side is wide. It is looked at with all others, wide or not.
+#[test]
+fn wide_boxes_are_found(rt: HostRuntime) -> Result<(), Fail> {
+    let far = 10_000_000_000_000_000;
+    let wide = Some(corners(
+        REST,
+        Vec3 {
+            x: far,
+            y: far,
+            z: far,
+        },
+    ));
+    let boxes = [
+        Some(point(far, far, far)),
+        wide,
+        Some(point(-far, 0, 0)),
+        wide,
+        Some(OWN),
+    ];
+    let found = find_touching(rt.alloc(), &boxes, &[0; 5], THRESHOLD)?;
+    let expected = [
+        Pair { a: 0, b: 1 },
+        Pair { a: 0, b: 3 },
+        Pair { a: 1, b: 3 },
+        Pair { a: 1, b: 4 },
+        Pair { a: 3, b: 4 },
+    ];
+    assert_eq!(rt; found.as_slice(), expected.as_slice());
+    Ok(())
+}
+
+/// A place by coordinates that are counted from 6,000 km below 0 on each axis.
+fn place(x: u64, y: u64, z: u64) -> Vec3
+    requires x { x ≤ 10 ^ 17 }
+    requires y { y ≤ 10 ^ 17 }
+    requires z { z ≤ 10 ^ 17 }
+    ensures x { result.x ≡ pos x -ℤ pos 6_000_000_000_000_000 }
+    ensures y { result.y ≡ pos y -ℤ pos 6_000_000_000_000_000 }
+    ensures z { result.z ≡ pos z -ℤ pos 6_000_000_000_000_000 }
+{
+    Vec3 {
+        x: x as i64 - 6_000_000_000_000_000,
+        y: y as i64 - 6_000_000_000_000_000,
+        z: z as i64 - 6_000_000_000_000_000,
+    }
+}
+
+/// How long a box is along x, by a draw: its side, or nine times that.
+fn length_along_x(draw: u64, side: u64) -> u64
+    requires { side ≤ 2 * 10 ^ 15 }
+    ensures { result ≤ 18 * 10 ^ 15 }
+{
+    if draw % 8 == 0 { 9 * side } else { side }
+}
+
+/// A box by a draw, or none. Sides are at most 2,000 km, one of them in some boxes at most 18,000 km.
+fn made_box(draw: u64) -> Option<AxisBox> {
+    if draw % 7 == 0 {
+        return None;
+    }
+    let side = draw / 7 % 8 * 285_571_428_571_429;
+    let long = length_along_x(draw / 11, side);
+    let x = draw / 64 % 13 * 1_000_000_000_000_000;
+    let y = draw / 1024 % 13 * 1_000_000_000_000_000;
+    let z = draw / 16_384 % 13 * 1_000_000_000_000_000;
+    let least = place(x, y, z);
+    let most = place(x + long, y + side, z + side);
+    Some(corners(least, most))
+}
+
+/// The pairs of boxes that touch, each pair looked at.
+fn by_each_pair<L: Ledger>(
+    blank: Blank,
+    alloc: Global,
+    boxes: &[Option<AxisBox>],
+) -> Result<Vec<Pair>, AllocError>
+    requires name { blank.name ≡ L.name }
+    requires parts { blank.parts ≡ L.parts }
+    requires some { 0 < blank.parts }
+    requires few { length boxes.now ≤ 2000 }
+{
+    let mut steps = Steps::<L>::new(blank);
+    let mut pairs = Vec::new(alloc);
+    for a in 0..boxes.len() {
+        for b in a + 1..boxes.len() {
+            if let (Some(one), Some(other)) = (&boxes[a], &boxes[b]) {
+                if touches(one, other, THRESHOLD, &mut steps) {
+                    pairs.push(Pair {
+                        a: a as u32,
+                        b: b as u32,
+                    })?;
+                }
+            }
+        }
+    }
+    Ok(pairs)
+}
+
+/// Fifty boxes by draws of a fixed row of numbers.
+fn made_boxes(seed: u64) -> [Option<AxisBox>; 50] {
+    let mut draw = seed;
+    let mut boxes = [None; 50];
+    for area in &mut boxes {
+        draw = draw
+            .wrapping_mul(6_364_136_223_846_793_005)
+            .wrapping_add(1_442_695_040_888_963_407);
+        *area = made_box(draw >> 24);
+    }
+    boxes
+}
+
+/// By buckets the same pairs are found as by a look at each pair.
+#[test]
+fn buckets_give_the_pairs_that_touch(rt: HostRuntime) -> Result<(), Fail> {
+    for seed in 0..20 {
+        let boxes = made_boxes(seed);
+        let found = find_touching(rt.alloc(), &boxes, &[0; 50], THRESHOLD)?;
+        let expected = by_each_pair::<Brand>(Blank::new(1), rt.alloc(), &boxes)?;
+        assert!(rt; !expected.is_empty());
+        assert_eq!(rt; found.as_slice(), expected.as_slice());
+    }
+    Ok(())
+}
+
+/// How far along x the object at a place of a row stands.
+fn along(place: u32) -> i64
+    requires { place ≤ 50 }
+    ensures { result ≡ pos (place * 10_000_000_000_000_000) }
+{
+    i64::from(place) * 10_000_000_000_000_000
+}
+
+/// The box of one point there.
+fn point_in_row(place: u32) -> AxisBox
+    requires { place ≤ 50 }
+    ensures { plain_box result ≡ box_in_row place }
+{
+    let x = along(place);
+    let at = Vec3 { x, y: 0, z: 0 };
+    AxisBox {
+        least: at,
+        most: at,
+    }
+}
+
+/// So many of them.
+fn points_in_row(alloc: Global, count: u32) -> Result<Vec<Option<AxisBox>>, AllocError>
+    requires { count ≤ 50 }
+    ensures { IfOk result (λ boxes. plain_boxes boxes.items ≡ boxes_in_row count) }
+{
+    let mut boxes = Vec::new(alloc);
+    for place in 0..count {
+        boxes.push(Some(point_in_row(place)))?;
+    }
+    Ok(boxes)
+}
+
+/// The pairs of fifty boxes in a row. Each meets eight buckets of its own, so that these are at most 400 steps.
+fn pairs_in_row<L: Ledger>(
+    alloc: Global,
+    boxes: &[Option<AxisBox>],
+    sizes: &[u64],
+    steps: &mut Steps<L>,
+) -> Result<Vec<Pair>, AllocError>
+    requires row { plain_boxes boxes.now ≡ boxes_in_row 50 }
+    requires sizes { sizes.now ≡ replicate 50 0 }
+    ensures { steps.new ≤ steps.old + 400 }
+{
+    touching(alloc, boxes, sizes, THRESHOLD, steps)
+}
+
+fn counted_in_row<L: Ledger>(
+    blank: Blank,
+    alloc: Global,
+    boxes: &[Option<AxisBox>],
+    sizes: &[u64],
+) -> Result<Vec<Pair>, AllocError>
+    requires name { blank.name ≡ L.name }
+    requires parts { blank.parts ≡ L.parts }
+    requires some { 0 < blank.parts }
+    requires row { plain_boxes boxes.now ≡ boxes_in_row 50 }
+    requires sizes { sizes.now ≡ replicate 50 0 }
+{
+    let mut steps = Steps::<L>::new(blank);
+    pairs_in_row(alloc, boxes, sizes, &mut steps)
+}
+
+#[test]
+fn fifty_boxes_in_a_row_touch_in_no_pair(rt: HostRuntime) -> Result<(), Fail> {
+    let boxes = points_in_row(rt.alloc(), 50)?;
+    let found = counted_in_row::<Brand>(Blank::new(1), rt.alloc(), &boxes, &[0; 50])?;
+    assert!(rt; found.is_empty());
     Ok(())
 }

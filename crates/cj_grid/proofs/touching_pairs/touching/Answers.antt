@@ -1,36 +1,21 @@
-use Rattle.std.proofs.Common.{◌+◌, ◌<◌, Vec, Global, None, map, length, ap, ◌∙◌, arith}
-use Rattle.std.specs.Prelude.{count_by, is_some}
+use Rattle.std.proofs.Common.{◌≡◌, List, Result, Ok, Err, Vec, Global, map, filter, length, ap, ◌∙◌}
+use Rattle.std.specs.Prelude.{IfOk, None}
+use Rattle.std.specs.declared.alloc.AllocError.{AllocError}
 use Rattle.cj_hermite.specs.declared.pair.Pair.{Pair}
-use Rattle.cj_hermite.specs.Pairs.{objects_of}
-use Rattle.cj_hermite.proofs.PairLemmas.{row_taken, row_left}
+use Rattle.cj_hermite.specs.Pairs.{objects_of, pairs_of}
 use Rattle.cj_bezier.specs.SlotBoxes.{plain_boxes, touch_between}
-use Rattle.cj_grid.proofs.PairingLemmas.{touch_absent, box_there, one_box_more, no_box_more, boxes_to, row_steps}
+use Rattle.cj_grid.specs.Found.{unrepeated}
+use Rattle.cj_grid.proofs.FoundLemmas.{found_sorted}
 use Rattle.cj_grid.proofs.touching_pairs.touching.Goals as goal
-use Rattle.cj_grid.proofs.touching_pairs.touching.Goals.{in-Some+in_ok-append_row, in_default}
 
-pub loop-a-preserved : goal.loop-a-preserved
-loop-a-preserved g c =
-    let boxes = c.args.boxes.now in
-    let a = c.loop-a.a in
-    let n = count_by is_some boxes in
-    let i = c.loop-a.invariant in
-    let found = c.index-boxes-a.result in
-    let is = c.index-boxes-a.is in
-    let lt : a < length boxes = omega arith in
-    elim c.match-boxes-a.branch [
-      | in-Some+in_ok-append_row w ↦
-          let told = w.in_ok-append_row.ensures in
-          let more = one_box_more boxes a found w.in-Some.own lt is w.in-Some.is in
-          record {
-            pairs = row_taken (touch_between c.args.thr c.args.sizes.now (plain_boxes boxes)) (length boxes) a (map objects_of c.loop-a.pairs.items) _ (ap (λ (v : Vec Pair Global). map objects_of v.items) w.pairs-is ∙ told.pairs) i.pairs;
-            no_fewer = omega (arith, w.steps-is, told.no_fewer, i.no_fewer);
-            steps = row_steps c.args.steps.now c.loop-a.steps c.match-boxes-a.steps n (boxes_to boxes a) (boxes_to boxes (a + 1)) i.steps (omega (arith, w.steps-is, told.steps)) more;
-          }
-      | in_default w ↦
-          let same = no_box_more boxes a found lt is w.in_default.is in
-          record {
-            pairs = ap (λ (v : Vec Pair Global). map objects_of v.items) w.pairs-is ∙ row_left (touch_between c.args.thr c.args.sizes.now (plain_boxes boxes)) (length boxes) a (map objects_of c.loop-a.pairs.items) (touch_absent c.args.thr c.args.sizes.now boxes a (box_there boxes a found None lt is w.in_default.is)) i.pairs;
-            no_fewer = omega (arith, w.steps-is, i.no_fewer);
-            steps = rw same (omega (arith, w.steps-is, i.steps));
-          }
-    ]
+pub returns-clause-value : goal.returns-clause-value
+returns-clause-value g c = go c.without_repeats.result c.without_repeats.ensures
+  where
+    sorted : unrepeated None (map objects_of c.deref.result.now) ≡ filter (touch_between c.args.thr c.args.sizes.now (plain_boxes c.args.boxes.now)) (pairs_of (length c.args.boxes.now))
+    sorted = ap (λ (ps : List Pair). unrepeated None (map objects_of ps)) c.deref.ensures.value
+        ∙ found_sorted c.args.thr c.args.sizes.now c.args.boxes.now c.in_ok-found.found.items c.sort.new.self.items c.sort.ensures.permutation c.in_ok-sort.ensures.sorted c.in_ok-found.ensures.touching c.in_ok-found.ensures.found
+
+    go : (r : Result (Vec Pair Global) AllocError) → IfOk r (λ pairs. map objects_of pairs.items ≡ unrepeated None (map objects_of c.deref.result.now))
+        → IfOk r (λ pairs. map objects_of pairs.items ≡ filter (touch_between c.args.thr c.args.sizes.now (plain_boxes c.args.boxes.now)) (pairs_of (length c.args.boxes.now)))
+    go (Err e) h = tt
+    go (Ok pairs) h = h ∙ sorted

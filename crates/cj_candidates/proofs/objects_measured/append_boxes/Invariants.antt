@@ -1,0 +1,12 @@
+use Rattle.std.proofs.Common.{◌≡◌, ◌++◌}
+use Rattle.cj_track.specs.Tracks.{plain_track}
+use Rattle.cj_bezier.specs.SlotBoxes.{plain_boxes}
+use Rattle.cj_candidates.specs.Boxes.{boxes_over}
+use Rattle.cj_candidates.specs.ObjectRuns.{IsInOwnBoxes}
+use Rattle.cj_candidates.proofs.objects_measured.append_boxes.Given as goal
+
+abbrev pub invariant-loop-slot : goal.invariant-loop-slot
+invariant-loop-slot l = record {
+  value : plain_boxes l.boxes.items ≡ plain_boxes l.initial.boxes.items ++ boxes_over (plain_track l.track) l.window.first.micros l.window.last.micros l.slot;
+  hold : IsInOwnBoxes l.window.first.micros l.window.last.micros l.slot (plain_track l.track);
+}

@@ -1,0 +1,65 @@
+use Rattle.std.proofs.Common.{◌≡◌, ◌+◌, ◌-◌, ◌<◌, ◌++◌, ℕ, List, length, take, map, vec_len, All, sym, ap, subst, ◌∙◌, arith}
+use Rattle.std.proofs.lemmas.Result.{err_from_is_err_and}
+use Rattle.std.proofs.lemmas.List.{length-map}
+use Rattle.cj_track.specs.Tracks.{plain_track}
+use Rattle.cj_hermite.specs.declared.pair.Pair.{Pair}
+use Rattle.cj_hermite.specs.Pairs.{objects_of}
+use Rattle.cj_hermite.specs.Problems.{plain_problem}
+use Rattle.cj_hermite.specs.Roots.{PlainCell, roots_in_slot}
+use Rattle.cj_bezier.specs.Cells.{plain_cell}
+use Rattle.cj_bezier.specs.Looked.{is_looked, pairs_looked}
+use Rattle.cj_cells.specs.Cells.{added_roots}
+use Rattle.cj_cells.proofs.ListingLemmas.{error_is, cells_more}
+use Rattle.cj_candidates.specs.SlotRuns.{roots_over, looked_over}
+use Rattle.cj_candidates.proofs.CountLemmas.{looked_few}
+use Rattle.cj_candidates.proofs.ObjectLemmas.{pairs_within}
+use Rattle.cj_candidates.proofs.SlotRunLemmas.{slots_more, counts_more, roots_upto}
+use Rattle.cj_candidates.proofs.slots_searched.search_in_turn.Goals as goal
+
+pub roots_of_slot-requires-clause-exist : goal.roots_of_slot-requires-clause-exist
+roots_of_slot-requires-clause-exist c =
+    let problem = c.args.ground.now.problem.now in
+    let case = plain_problem problem in
+    let within = pairs_within (λ pair. is_looked case pair.0 pair.1 c.loop-slot.slot) (length case.ephemerides) c.in_ok-pairs.pairs.items c.in_ok-pairs.ensures in
+    subst (λ (ps : List Pair). All (λ pair. pair.b < length problem.tracks) ps) (sym c.deref.ensures.value)
+    (subst (λ (n : ℕ). All (λ pair. pair.b < n) c.in_ok-pairs.pairs.items) (length-map problem.tracks plain_track) within)
+
+pub returns-in_err-roots_of_slot : goal.returns-in_err-roots_of_slot
+returns-in_err-roots_of_slot c =
+    let i = c.loop-slot.invariant in
+    let p = err_from_is_err_and c.from_residual-in_err-roots_of_slot.result c.from_residual-in_err-roots_of_slot.ensures.1 in
+    let case = plain_problem c.args.ground.now.problem.now in
+    let slot = c.loop-slot.slot in
+    let pairs : map objects_of c.deref.result.now ≡ pairs_looked case slot = ap (map objects_of) c.deref.ensures.value ∙ c.in_ok-pairs.ensures in
+    let here : length (roots_in_slot case slot (map objects_of c.deref.result.now)) ≡ length (roots_in_slot case slot (pairs_looked case slot)) =
+    ap (λ (ps : List (ℕ × ℕ)). length (roots_in_slot case slot ps)) pairs in
+    let count = roots_upto case c.args.from slot c.args.count (omega arith) (omega arith) in
+    let found = ap (λ (rs : List PlainCell). length rs) i.found in
+    rw (p.1, p.2) (record {
+      too_many = λ is. let many = c.in_err-roots_of_slot.ensures.too_many (error_is _ _ is) in omega (arith, many, count, found, here, length-map c.loop-slot.roots.items plain_cell, c.loop-slot.roots.ok.0);
+      found = tt;
+    })
+
+pub loop-slot-preserved : goal.loop-slot-preserved
+loop-slot-preserved c =
+    let i = c.loop-slot.invariant in
+    let problem = c.args.ground.now.problem.now in
+    let case = plain_problem problem in
+    let from = c.args.from in
+    let slot = c.loop-slot.slot in
+    let pairs : map objects_of c.deref.result.now ≡ pairs_looked case slot = ap (map objects_of) c.deref.ensures.value ∙ c.in_ok-pairs.ensures in
+    let old = c.loop-slot.roots.items in
+    let new = c.roots_of_slot.new.roots.items in
+    let n : vec_len c.loop-slot.roots ≡ length old = omega (arith, c.loop-slot.roots.ok.0) in
+    let kept = subst (λ (k : ℕ). take k new ≡ old) n c.in_ok-roots_of_slot.ensures.kept in
+    let size : c.len.result ≡ length (pairs_looked case slot) =
+    c.len.ensures ∙ omega (arith, c.in_ok-pairs.pairs.ok.0) ∙ sym (length-map c.in_ok-pairs.pairs.items objects_of) ∙ ap (λ (ps : List (ℕ × ℕ)). length ps) c.in_ok-pairs.ensures in
+    let few = problem.few in
+    record {
+      room = c.in_ok-roots_of_slot.ensures.within;
+      found = cells_more old new kept ∙ ap (λ (rs : List PlainCell). rs ++ added_roots old new) i.found
+          ∙ ap (λ (rs : List PlainCell). roots_over case from (slot - from) ++ rs) (c.in_ok-roots_of_slot.ensures.ok ∙ ap (roots_in_slot case slot) pairs)
+          ∙ sym (slots_more case from slot (omega arith));
+      counted = ap (λ k. k + c.len.result) i.counted ∙ ap (λ k. looked_over case from (slot - from) + k) size ∙ sym (counts_more case from slot (omega arith));
+      small = omega (arith, i.small, size, looked_few case slot (omega (arith, length-map problem.tracks plain_track)));
+    }

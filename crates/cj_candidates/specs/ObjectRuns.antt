@@ -1,0 +1,31 @@
+-- What is found of each of some objects.
+use Rattle.std.specs.Prelude.{◌≡◌, ℕ, ◌<◌, List, map, All}
+use Rattle.std.specs.List.{flat_map}
+use Rattle.cj_track.specs.declared.track.Track.{Track}
+use Rattle.cj_track.specs.PlainTracks.{PlainTrack}
+use Rattle.cj_track.specs.Tracks.{plain_track}
+use Rattle.cj_hermite.specs.Slots.{slot_first, slot_last}
+use Rattle.cj_bezier.specs.Shells.{shell_of}
+use Rattle.cj_bezier.specs.SlotBoxes.{plain_boxes, box_of}
+use Rattle.cj_bezier.specs.Enclosed.{IsInBox, IsInShell}
+use Rattle.cj_candidates.specs.Boxes.{boxes_over}
+use Rattle.cj_candidates.specs.declared.object_run.ObjectRun.{ObjectRun}
+
+-- an object is in its own shell
+abbrev pub IsInOwnShell : ℕ → ℕ → PlainTrack → Type 0
+IsInOwnShell from to e = IsInShell from to e (shell_of e from to)
+
+-- an object is in its own box
+abbrev pub IsInOwnBox : ℕ → ℕ → PlainTrack → Type 0
+IsInOwnBox from to e = IsInBox from to e (box_of e from to)
+
+-- in each of the first n slots of a window
+abbrev pub IsInOwnBoxes : ℕ → ℕ → ℕ → PlainTrack → Type 0
+IsInOwnBoxes first last n e = (slot : ℕ) → slot < n → IsInOwnBox (slot_first first slot) (slot_last first last slot) e
+
+-- they are the shells of these objects in a window and their boxes in its first n slots, and each object is in its own
+pub record AreMeasured (tracks : List Track) (first last n : ℕ) (run : ObjectRun) : Type 0 where
+  pub shells : run.shells.items ≡ map (λ e. shell_of e first last) (map plain_track tracks)
+  pub boxes : plain_boxes run.boxes.items ≡ flat_map (λ e. boxes_over e first last n) (map plain_track tracks)
+  pub in_shells : All (IsInOwnShell first last) (map plain_track tracks)
+  pub in_boxes : All (IsInOwnBoxes first last n) (map plain_track tracks)

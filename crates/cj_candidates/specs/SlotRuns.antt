@@ -1,0 +1,30 @@
+-- What is found in a run of slots.
+use Rattle.std.specs.Prelude.{◌≡◌, ℕ, ◌*◌, ◌<◌, ◌≤◌, List, length, vec_len, Result, IfOk, IsErrOf}
+use Rattle.std.specs.List.{flat_map, range_with_len, sum_by}
+use Rattle.cj_hermite.specs.PlainProblems.{PlainProblem}
+use Rattle.cj_hermite.specs.Roots.{PlainCell, roots_in_slot}
+use Rattle.cj_bezier.specs.Cells.{plain_cells}
+use Rattle.cj_bezier.specs.Looked.{pairs_looked}
+use Rattle.cj_cells.specs.declared.refine_error.RefineError.{RefineError}
+use Rattle.cj_cells.specs.declared.refine_error.RefineError.TheVariants.{TooMany}
+use Rattle.cj_candidates.specs.declared.slot_run.SlotRun.{SlotRun}
+
+-- the roots of the pairs that are looked at in so many slots from one on, slot by slot
+abbrev pub roots_over : PlainProblem → ℕ → ℕ → List PlainCell
+roots_over case from count = flat_map (λ slot. roots_in_slot case slot (pairs_looked case slot)) (range_with_len from count)
+
+-- how many pairs are looked at there, summed over the slots
+abbrev pub looked_over : PlainProblem → ℕ → ℕ → ℕ
+looked_over case from count = sum_by (λ slot. length (pairs_looked case slot)) (range_with_len from count)
+
+-- these are found, at most so many
+pub record IsFound (case : PlainProblem) (from count limit : ℕ) (run : SlotRun) : Type 0 where
+  pub roots : plain_cells run.roots.items ≡ roots_over case from count
+  pub few : vec_len run.roots ≤ limit
+  pub touching : run.touching ≡ looked_over case from count
+  pub small : run.touching ≤ count * 4_000_000
+
+-- they are found, or there are more, or memory ran out
+pub record AreSought (case : PlainProblem) (from count limit : ℕ) (result : Result SlotRun RefineError) : Type 0 where
+  pub too_many : IsErrOf result TooMany → limit < length (roots_over case from count)
+  pub found : IfOk result (IsFound case from count limit)

@@ -1,0 +1,23 @@
+ghost use Rattle.std.specs.Prelude.{◌≡◌};
+ghost use Rattle.cj_hermite.specs.Problems.{plain_problem};
+ghost use Rattle.cj_hermite.specs.Slots.{slot_count};
+ghost use Rattle.cj_bezier.specs.SlotBoxes.{plain_boxes};
+ghost use Rattle.cj_bezier.specs.Looked.{shells_of};
+ghost use Rattle.cj_candidates.specs.Boxes.{boxes_of};
+
+use cj_bezier::{AxisBox, Shell};
+use cj_hermite::Problem;
+
+/// What is known of the objects of a problem before their pairs are looked at: their shells, and their boxes in all slots.
+#[derive(Clone, Copy)]
+pub struct Ground<'g> {
+    pub problem: &'g Problem,
+    pub shells: &'g [Option<Shell>],
+    /// In order of object and slot.
+    pub boxes: &'g [Option<AxisBox>],
+    /// How many slots the window has.
+    pub slots: u32,
+    pub ghost in_shells: { shells.now ≡ shells_of (plain_problem problem.now) },
+    pub ghost in_boxes: { plain_boxes boxes.now ≡ boxes_of (plain_problem problem.now) },
+    pub ghost counted: { slots ≡ slot_count problem.now.window.first.micros problem.now.window.last.micros },
+}

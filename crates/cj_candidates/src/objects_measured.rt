@@ -1,0 +1,91 @@
+//! The shells and boxes of some objects: one object after another, or half of the objects on another thread.
+ghost use Rattle.std.specs.Prelude.{◌≡◌, ℕ, ◌<◌, ◌++◌, IfOk, OnOk};
+ghost use Rattle.std.specs.Thread.{IsSync};
+ghost use Rattle.cj_track.specs.Tracks.{plain_track};
+ghost use Rattle.cj_bezier.specs.SlotBoxes.{plain_boxes};
+ghost use Rattle.cj_candidates.specs.Boxes.{boxes_over};
+ghost use Rattle.cj_candidates.specs.ObjectRuns.{AreMeasured, IsInOwnBoxes};
+
+use crate::object_run::ObjectRun;
+use cj_bezier::AxisBox;
+use cj_epoch::Window;
+use cj_grid::slot_box;
+use cj_hermite::Hint;
+use cj_sieve::shell;
+use cj_track::Track;
+use std::alloc::{AllocError, Global};
+use std::thread::{Threads, join};
+
+/// Appends the boxes of an object in so many slots.
+fn append_boxes(
+    track: &Track,
+    window: Window,
+    slots: u32,
+    boxes: &mut Vec<Option<AxisBox>>,
+) -> Result<(), AllocError>
+    ensures value { OnOk result (plain_boxes boxes.new.items
+        ≡ plain_boxes boxes.old.items ++ boxes_over (plain_track track.now) window.first.micros window.last.micros slots) }
+    ensures hold { OnOk result (IsInOwnBoxes window.first.micros window.last.micros slots (plain_track track.now)) }
+{
+    let mut hint = Hint::default();
+    for slot in 0..slots {
+        boxes.push(slot_box(track, window, slot, &mut hint))?;
+    }
+    Ok(())
+}
+
+/// Some objects, one after another.
+fn measure_in_turn(
+    alloc: Global,
+    tracks: &[Track],
+    window: Window,
+    slots: u32,
+) -> Result<ObjectRun, AllocError>
+    ensures { IfOk result (AreMeasured tracks.now window.first.micros window.last.micros slots) }
+{
+    let mut shells = Vec::with_capacity(alloc, tracks.len())?;
+    let mut boxes = Vec::with_capacity(alloc, tracks.len().saturating_mul(slots as usize))?;
+    for track in tracks {
+        shells.push(shell(track, window))?;
+        append_boxes(track, window, slots, &mut boxes)?;
+    }
+    Ok(ObjectRun { shells, boxes })
+}
+
+/// What is found of some objects and of those behind them.
+fn joined(mut front: ObjectRun, mut back: ObjectRun) -> Result<ObjectRun, AllocError>
+    ensures shells { IfOk result (λ run. run.shells.items ≡ front.shells.items ++ back.shells.items) }
+    ensures boxes { IfOk result (λ run. plain_boxes run.boxes.items ≡ plain_boxes front.boxes.items ++ plain_boxes back.boxes.items) }
+{
+    front.shells.append(&mut back.shells)?;
+    front.boxes.append(&mut back.boxes)?;
+    Ok(front)
+}
+
+/// The shells of some objects in a window, and their boxes in so many of its slots, by as many threads as there are workers.
+#[cycle(objects)]
+pub fn measure_objects<R: Threads + Sync>(
+    rt: &R,
+    alloc: Global,
+    tracks: &[Track],
+    window: Window,
+    slots: u32,
+    workers: u32,
+) -> Result<ObjectRun, AllocError>
+    ensures { IfOk result (AreMeasured tracks.now window.first.micros window.last.micros slots) }
+{
+    if workers < 2 || tracks.len() < 2 {
+        return measure_in_turn(alloc, tracks, window, slots);
+    }
+    let (some, others) = tracks.split_at(tracks.len() / 2);
+    let first = || -> Result<ObjectRun, AllocError>
+        requires { IsSync R.row }
+        ensures { IfOk result (AreMeasured some.entry.now window.first.micros window.last.micros slots) }
+    { measure_objects(rt, alloc, some, window, slots, workers / 2) };
+    let second = || -> Result<ObjectRun, AllocError>
+        requires { IsSync R.row }
+        ensures { IfOk result (AreMeasured others.entry.now window.first.micros window.last.micros slots) }
+    { measure_objects(rt, alloc, others, window, slots, workers - workers / 2) };
+    let (front, back) = join(rt, first, second);
+    joined(front?, back?)
+}

@@ -1,0 +1,41 @@
+use Rattle.std.proofs.Common.{◌≡◌, ℕ, ◌<◌, length, arith, below_more}
+use Rattle.std.proofs.lemmas.List.Sums.{sum_by_more, sum_by_more_le}
+use Rattle.cj_grid.specs.declared.entries.Entry.{Entry}
+use Rattle.cj_grid.specs.Buckets.{entered_in}
+use Rattle.cj_grid.specs.Found.{entry_at}
+use Rattle.cj_grid.proofs.PairingLemmas.{AreFoundAt}
+use Rattle.cj_grid.proofs.bucket_pairs.append_shared.Goals as goal
+
+pub loop-at-init : goal.loop-at-init
+loop-at-init g c = record {
+  touching = λ all. all;
+  kept = λ a b has. has;
+  found = λ j lt. absurd (omega arith);
+  no_fewer = omega arith;
+  steps = omega arith;
+}
+
+pub loop-at-preserved : goal.loop-at-preserved
+loop-at-preserved g c =
+    let i = c.loop-at.invariant in
+    let entries = c.args.entries.now in
+    let at = c.loop-at.at in
+    let told = c.in_ok-append_row.ensures in
+    let more = sum_by_more (λ (e : Entry). entered_in e.bucket entries) entries at (record { bucket = 0; object = 0 }) (omega arith) in
+    record {
+      touching = λ all. told.touching (i.touching all);
+      kept = λ a b has. told.kept a b (i.kept a b has);
+      found = below_more (λ j. (k : ℕ) → j < k → k < length entries → (entry_at entries j).bucket ≡ (entry_at entries k).bucket → AreFoundAt c.args.thr c.args.sizes.now c.args.boxes.now entries j k c.append_row.new.pairs.items) at
+          (λ j lt k above below same a b is_a is_b up touch. told.kept a b (i.found j lt k above below same a b is_a is_b up touch))
+          (λ k above below same a b is_a is_b up touch. told.found k a b above below same is_a is_b up touch);
+      no_fewer = let so_far = i.no_fewer in let now = told.no_fewer in omega arith;
+      steps = let so_far = i.steps in let now = told.steps in omega arith;
+    }
+
+pub returns-in_err-append_row-clause-steps : goal.returns-in_err-append_row-clause-steps
+returns-in_err-append_row-clause-steps g c =
+    let entries = c.args.entries.now in
+    let so_far = c.loop-at.invariant.steps in
+    let now = c.append_row.ensures.steps in
+    let all = sum_by_more_le (λ (e : Entry). entered_in e.bucket entries) entries c.loop-at.at (record { bucket = 0; object = 0 }) (omega arith) in
+    omega arith

@@ -1,0 +1,24 @@
+use Rattle.std.proofs.Common.{◌≡◌, ℕ, Vec, Global, filter, length, ap, sym, arith, ◌∙◌}
+use Rattle.std.specs.List.{range_with_len}
+use Rattle.cj_grid.specs.Buckets.{is_wide_one, block_in, wide_of}
+use Rattle.cj_grid.proofs.EntryLemmas.{one_passes, one_fails}
+use Rattle.cj_grid.proofs.entries.wide_objects.Goals as goal
+use Rattle.cj_grid.proofs.entries.wide_objects.Goals.{then-has_wide_box+in_ok-push, else-has_wide_box}
+
+pub loop-object-preserved : goal.loop-object-preserved
+loop-object-preserved c =
+    let p = λ (k : ℕ). is_wide_one (block_in c.args.thr c.args.sizes.now c.args.boxes.now k) in
+    let k = c.loop-object.object in
+    let is : c.has_wide_box.result ≡ p k = c.has_wide_box.ensures ∙ ap is_wide_one c.block_of_object.ensures in
+    elim c.if-has_wide_box.branch [
+      | then-has_wide_box+in_ok-push w ↦
+          one_passes p k c.loop-object.wide.items _ (sym is ∙ w.if-has_wide_box.true) c.loop-object.invariant (ap (λ (v : Vec ℕ Global). v.items) w.wide-is ∙ w.in_ok-push.ensures.items)
+      | else-has_wide_box w ↦
+          ap (λ (v : Vec ℕ Global). v.items) w.wide-is ∙ one_fails p k c.loop-object.wide.items (sym is ∙ w.if-has_wide_box.false) c.loop-object.invariant
+    ]
+
+pub returns : goal.returns
+unfolding wide_of
+returns c =
+    let end : c.loop-object.object ≡ length c.args.boxes.now = omega arith in
+    c.loop-object.invariant ∙ ap (λ (n : ℕ). filter (λ k. is_wide_one (block_in c.args.thr c.args.sizes.now c.args.boxes.now k)) (range_with_len 0 n)) end
