@@ -1,6 +1,7 @@
 -- The words of a line that fits say the line again.
 use Rattle.std.proofs.Common.{◌≡◌, ℕ, ◌-◌, ◌^◌, ◌<◌, ◌≤◌, [], ◌∷◌, ◌++◌, arith, ap, ap₂, sym, ◌∙◌, refl, true, false, Bool, cond, pos, Option, Some, None, Ok}
 use Rattle.std.specs.Prelude.{◌==◌, ◌&&◌, if◌then◌else◌, codes, int_le, int_lt}
+use Rattle.std.proofs.lemmas.Bool.{and_from}
 use Rattle.std.proofs.lemmas.Bool.Decides.{nat_tests}
 use Rattle.std.proofs.lemmas.Int.{ints}
 use Rattle.cj_epoch.specs.Ticks.{FIRST_TICK, LAST_TICK}
@@ -15,7 +16,8 @@ use Rattle.cj_cert.specs.declared.rank.Rank.TheVariants as rank
 use Rattle.cj_cert.specs.Certificates.{PlainBoxLine}
 use Rattle.cj_cert.specs.Fits.{FitsSize, FitsShell, FitsBox, FitsCell}
 use Rattle.cj_cert.specs.Lines as spec
-use Rattle.cj_cert.specs.Lines.{PlainLine, Heading, Window, Threshold, Objects, Size, Shell, Box, Cell, End, rank_of, said_by, in_range, is_from, is_tick, is_object, is_slot, is_radius, is_coordinate, is_reach, object_of, MAX_OBJECTS, MAX_SIZE, MAX_THRESHOLD}
+use Rattle.cj_cert.specs.Lines.{PlainLine, Heading, Window, Threshold, Objects, Size, Shell, Box, Cell, End, rank_of, said_by, in_range, is_from, is_tick, is_object, is_slot}
+use Rattle.cj_cert.specs.Lines.{is_radius, is_coordinate, is_reach, object_of, MAX_OBJECTS, MAX_SIZE, MAX_THRESHOLD}
 use Rattle.cj_cert.specs.Readers.{HasNoNumber}
 use Rattle.cj_cert.specs.Texts.{number, ends, kind_word}
 use Rattle.cj_cert.proofs.WordLemmas.{AreAbove, AreSmall, AreWords, texts_words, nothing_first, other_first}
@@ -24,35 +26,41 @@ use Rattle.cj_cert.proofs.LineLemmas.{FitsLine, numbers_of, others_of, word_of, 
 in_range_of : (b : Bool) (line l : PlainLine) → b ≡ true → line ≡ l → in_range b line ≡ Ok l
 in_range_of b line l is same = ap (λ (t : Bool). in_range t line) is ∙ ap (λ (k : PlainLine). Ok k) same
 
-and_of : (x y : Bool) → x ≡ true → y ≡ true → (x && y) ≡ true
-and_of x y ex ey = ap (λ (b : Bool). b && y) ex ∙ ey
-
 heading_again : (v : ℕ) → spec.heading v (pos v ∷ []) ≡ Ok Heading
 heading_again v = let same = le_of v v (omega arith) in rw same refl
 
 size_again : (s : SizeOfLine) → FitsSize s → spec.size 2 (number s.object ∷ pos s.size ∷ []) ≡ Ok (Size s)
 size_again s fits =
     in_range_of (is_object (number s.object) && is_from 0 MAX_SIZE (pos s.size)) _ (Size s)
-    (and_of _ _ (is_object_of s.object fits.object) (into_range 0 MAX_SIZE s.size (omega arith) fits.size))
+    (and_from _ _ (is_object_of s.object fits.object) (into_range 0 MAX_SIZE s.size (omega arith) fits.size))
     (ap (λ (o : ℕ). Size (record { object = o; size = s.size })) (object_back s.object))
 
-radii_again : (o lo hi : ℕ) → o < MAX_OBJECTS → lo ≤ hi → hi ≤ MAX_RADIUS → spec.shell (number o ∷ pos lo ∷ pos hi ∷ []) ≡ Ok (Shell (record { object = o; shell = Some (record { lo = lo; hi = hi }) }))
+radii_again : (o lo hi : ℕ) → o < MAX_OBJECTS → lo ≤ hi → hi ≤ MAX_RADIUS → spec.shell (number o ∷ pos lo ∷ pos hi ∷ []) ≡ Ok (Shell (record {
+  object =
+      o;
+  shell = Some (record { lo = lo; hi = hi });
+}))
 radii_again o lo hi object ordered most =
     in_range_of (is_object (number o) && is_radius (pos lo) && is_radius (pos hi) && int_le (pos lo) (pos hi)) _ _
-    (and_of _ _ (and_of _ _ (and_of _ _ (is_object_of o object) (into_range 0 MAX_RADIUS lo (omega arith) (omega arith))) (into_range 0 MAX_RADIUS hi (omega arith) most)) (le_of lo hi ordered))
+    (and_from _ _ (and_from _ _ (and_from _ _ (is_object_of o object) (into_range 0 MAX_RADIUS lo (omega arith) (omega arith))) (into_range 0 MAX_RADIUS hi (omega arith) most)) (le_of lo hi ordered))
     (ap (λ (n : ℕ). Shell (record { object = n; shell = Some (record { lo = lo; hi = hi }) })) (object_back o))
 
 no_shell_again : (o : ℕ) → o < MAX_OBJECTS → spec.no_shell (number o ∷ []) (codes "NONE" ∷ []) ≡ Ok (Shell (record { object = o; shell = None }))
 no_shell_again o object = in_range_of (is_object (number o)) _ _ (is_object_of o object) (ap (λ (n : ℕ). Shell (record { object = n; shell = None })) (object_back o))
 
-shell_again : (o : ℕ) (shell : Option Radii) → FitsShell (record { object = o; shell = shell }) → said_by 1 rank.Shell (numbers_of 1 (Shell (record { object = o; shell = shell }))) (others_of (Shell (record { object = o; shell = shell }))) ≡ Ok (Shell (record { object = o; shell = shell }))
+shell_again : (o : ℕ) (shell : Option Radii) → FitsShell (record {
+  object =
+      o;
+  shell = shell;
+}) → said_by 1 rank.Shell (numbers_of 1 (Shell (record { object = o; shell = shell }))) (others_of (Shell
+    (record { object = o; shell = shell }))) ≡ Ok (Shell (record { object = o; shell = shell }))
 shell_again o None fits = no_shell_again o fits.object
 shell_again o (Some r) fits = radii_again o r.lo r.hi fits.object fits.radii.0 fits.radii.1
 
 box_of_again : (b : PlainBoxLine) → FitsBox b → spec.box_of (number b.object) (pos b.first) (pos b.last) (ends b.area) ≡ Ok (Box b)
 box_of_again b fits =
     in_range_of (box_test (number b.object) (pos b.first) (pos b.last) b.area.x.least b.area.x.most b.area.y.least b.area.y.most b.area.z.least b.area.z.most) _ (Box b)
-    (and_of _ _ (and_of _ _ (and_of _ _ (and_of _ _ (and_of _ _ (and_of _ _
+    (and_from _ _ (and_from _ _ (and_from _ _ (and_from _ _ (and_from _ _ (and_from _ _
     (is_object_of b.object fits.object)
     (into_range 0 (2 ^ 32 - 1) b.first (omega arith) (omega (arith, fits.some, fits.last))))
     (into_range 0 (2 ^ 32 - 1) b.last (omega arith) (omega (arith, fits.last))))
@@ -68,7 +76,7 @@ box_again v b false is same fits = box_of_again b fits
 
 cell_again : (s : PlainLeaf) (kind : Kind) → s.kind ≡ kind → FitsCell s → spec.cell (numbers_of 1 (Cell s)) (spec.kind_of (kind_word kind ∷ [])) ≡ Ok (Cell s)
 cell_again s kind same fits = ap (spec.cell (numbers_of 1 (Cell s))) (known kind) ∙ in_range_of _ _ (Cell s)
-    (and_of _ _ (and_of _ _ (and_of _ _ (and_of _ _ (and_of _ _
+    (and_from _ _ (and_from _ _ (and_from _ _ (and_from _ _ (and_from _ _
     (is_object_of s.a (omega (arith, fits.ordered, fits.objects)))
     (is_object_of s.b fits.objects))
     (let less = fits.ordered in lower s.a s.b less))
@@ -89,7 +97,7 @@ cell_again s kind same fits = ap (spec.cell (numbers_of 1 (Cell s))) (known kind
 pub said_again : (v : ℕ) (l : PlainLine) → FitsLine v l → said_by v (rank_of l) (numbers_of v l) (others_of l) ≡ Ok l
 said_again v Heading fits = heading_again v
 said_again v (Window first last) fits =
-    in_range_of (is_tick (pos first) && is_tick (pos last)) _ _ (and_of _ _ (into_range FIRST_TICK LAST_TICK first fits.0.0 fits.0.1) (into_range FIRST_TICK LAST_TICK last fits.1.0 fits.1.1)) refl
+    in_range_of (is_tick (pos first) && is_tick (pos last)) _ _ (and_from _ _ (into_range FIRST_TICK LAST_TICK first fits.0.0 fits.0.1) (into_range FIRST_TICK LAST_TICK last fits.1.0 fits.1.1)) refl
 said_again v (Threshold threshold) fits = in_range_of (is_from 1 MAX_THRESHOLD (pos threshold)) _ _ (into_range 1 MAX_THRESHOLD threshold fits.0 fits.1) refl
 said_again v (Objects count) fits = in_range_of (is_from 0 MAX_OBJECTS (pos count)) _ _ (into_range 0 MAX_OBJECTS count (omega arith) fits) refl
 said_again v (Size s) fits = ap (λ (k : ℕ). spec.size k (number s.object ∷ pos s.size ∷ [])) fits.0 ∙ size_again s fits.1

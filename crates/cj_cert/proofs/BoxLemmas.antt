@@ -27,7 +27,8 @@ at ns k = get_or ns k (pos 0)
 
 -- a box with six ends
 pub six_ends : (i first last : ℤ) (ns : List ℤ) → 6 ≤ length ns → length ns < 7
-    → spec.box_of i first last ns ≡ in_range (box_test i first last (at ns 0) (at ns 1) (at ns 2) (at ns 3) (at ns 4) (at ns 5)) (Box (the_box i first last (at ns 0) (at ns 1) (at ns 2) (at ns 3) (at ns 4) (at ns 5)))
+    → spec.box_of i first last ns ≡ in_range (box_test i first last (at ns 0) (at ns 1) (at ns 2) (at ns 3) (at ns 4) (at ns 5))
+    (Box (the_box i first last (at ns 0) (at ns 1) (at ns 2) (at ns 3) (at ns 4) (at ns 5)))
 six_ends i first last [] least most = absurd (omega arith)
 six_ends i first last (a ∷ []) least most = absurd (omega arith)
 six_ends i first last (a ∷ b ∷ []) least most = absurd (omega arith)
@@ -49,6 +50,13 @@ two_slots (a ∷ b ∷ []) least = absurd (omega arith)
 two_slots (a ∷ b ∷ c ∷ ns) least = ap (spec.box_of a b c) (sym (take_all (length (a ∷ b ∷ c ∷ ns) - 3) ns (omega arith)))
 
 -- ---- what the tests of a box decide
+
+-- how far a box reaches on an axis is out of range, or is taken
+abbrev pub IsRefused : ℤ → ℤ → CertCause → Type 0
+IsRefused least most cause = (is_reach least most ≡ false) × (cause ≡ causes.Range)
+
+abbrev pub IsTaken : ℤ → ℤ → ℤ → ℤ → Type 0
+IsTaken least most from to = (is_reach least most ≡ true) × ◌≡◌ {A = ℤ × ℤ} (from, to) (least, most)
 
 abbrev pub ends_at : ℤ → ℤ → ℤ → List ℤ → Bool
 ends_at i first last ns = box_test i first last (at ns 0) (at ns 1) (at ns 2) (at ns 3) (at ns 4) (at ns 5)
@@ -72,14 +80,16 @@ y_refused i first last ns least most slots x y =
     let test : ends_at i first last ns ≡ false = rw (slots.object, slots.from, ordered.0, ordered.1, x, y) refl in
     six_ends i first last ns least most ∙ ap (λ (b : Bool). in_range b (Box (the_box i first last (at ns 0) (at ns 1) (at ns 2) (at ns 3) (at ns 4) (at ns 5)))) test
 
-pub z_refused : (i first last : ℤ) (ns : List ℤ) → 6 ≤ length ns → length ns < 7 → HasSlots i first last → is_reach (at ns 0) (at ns 1) ≡ true → is_reach (at ns 2) (at ns 3) ≡ true → is_reach (at ns 4) (at ns 5) ≡ false
+pub z_refused : (i first last : ℤ) (ns : List ℤ) → 6 ≤ length ns → length ns < 7 → HasSlots i first last → is_reach (at ns 0) (at ns 1) ≡ true → is_reach (at ns 2) (at ns 3) ≡ true
+    → is_reach (at ns 4) (at ns 5) ≡ false
     → spec.box_of i first last ns ≡ Err causes.Range
 z_refused i first last ns least most slots x y z =
     let ordered = slots_ordered first last slots.from slots.to in
     let test : ends_at i first last ns ≡ false = rw (slots.object, slots.from, ordered.0, ordered.1, x, y, z) refl in
     six_ends i first last ns least most ∙ ap (λ (b : Bool). in_range b (Box (the_box i first last (at ns 0) (at ns 1) (at ns 2) (at ns 3) (at ns 4) (at ns 5)))) test
 
-pub box_taken : (i first last : ℤ) (ns : List ℤ) → 6 ≤ length ns → length ns < 7 → HasSlots i first last → is_reach (at ns 0) (at ns 1) ≡ true → is_reach (at ns 2) (at ns 3) ≡ true → is_reach (at ns 4) (at ns 5) ≡ true
+pub box_taken : (i first last : ℤ) (ns : List ℤ) → 6 ≤ length ns → length ns < 7 → HasSlots i first last → is_reach (at ns 0) (at ns 1) ≡ true → is_reach (at ns 2) (at ns 3) ≡ true
+    → is_reach (at ns 4) (at ns 5) ≡ true
     → spec.box_of i first last ns ≡ Ok (Box (the_box i first last (at ns 0) (at ns 1) (at ns 2) (at ns 3) (at ns 4) (at ns 5)))
 box_taken i first last ns least most slots x y z =
     let ordered = slots_ordered first last slots.from slots.to in
@@ -149,7 +159,8 @@ ticks_refused a b first last kind has order =
     let none : int_le first last ≡ false = ap (λ (z : ℤ). int_le z last) x.value ∙ ap (int_le (pos (unsigned_abs first))) y.value ∙ most_not (unsigned_abs first) (unsigned_abs last) order in
     refused_by a b first last kind (and_right _ _ none)
 
-pub cell_taken : (a b first last : ℤ) (kind : Kind) → HasCell a b first last → object_of a < object_of b → unsigned_abs first ≤ unsigned_abs last → spec.cell_of a b first last (Some kind) ≡ Ok (the_cell a b first last kind)
+pub cell_taken : (a b first last : ℤ) (kind : Kind) → HasCell a b first last → object_of a < object_of b → unsigned_abs first ≤ unsigned_abs last
+    → spec.cell_of a b first last (Some kind) ≡ Ok (the_cell a b first last kind)
 cell_taken a b first last kind has objects ticks =
     let xa = from_range 1 MAX_OBJECTS a has.one in
     let xb = from_range 1 MAX_OBJECTS b has.other in

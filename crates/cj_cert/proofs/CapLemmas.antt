@@ -1,5 +1,6 @@
 -- Numbers up to the greatest that is kept, and one more than a line has of them, say the same line.
-use Rattle.std.proofs.Common.{◌≡◌, ℕ, ◌-◌, ◌^◌, ◌<◌, ◌≤◌, inl, inr, List, [], ◌∷◌, take, map, arith, ap, ap₂, sym, ◌∙◌, refl, true, false, Bool, cond, ℤ, pos, negsuc, Option, Some, None, Result, Ok, Err, length}
+use Rattle.std.proofs.Common.{◌≡◌, ℕ, ◌-◌, ◌^◌, ◌<◌, ◌≤◌, inl, inr, List, [], ◌∷◌, take, map, arith, ap, ap₂, sym, ◌∙◌, refl, true, false, Bool, cond, ℤ, pos, negsuc, Option, Some}
+use Rattle.std.proofs.Common.{None, Result, Ok, Err, length}
 use Rattle.std.specs.Prelude.{◌==◌, ◌&&◌, unsigned_abs, codes, int_le, int_lt}
 use Rattle.std.specs.Str.{bytes_eq}
 use Rattle.std.proofs.lemmas.Bool.{and_parts}
@@ -73,7 +74,12 @@ heading_kept v (z ∷ []) small =
     same e = ap (λ (x : ℤ). int_le x (pos v) && int_le (pos v) x) e
 
     is_below : (y : ℤ) → (int_le y (pos v) && int_le (pos v) y) ≡ true → unsigned_abs y < 2 ^ 64 - 1
-    is_below y t = let parts = and_parts (int_le y (pos v)) (int_le (pos v) y) t in let low = parts.0 in let high = parts.1 in let equal : y ≡ pos v = grind (arith, ints) in omega (arith, ap unsigned_abs equal)
+    is_below y t =
+        let parts = and_parts (int_le y (pos v)) (int_le (pos v) y) t in
+        let low = parts.0 in
+        let high = parts.1 in
+        let equal : y ≡ pos v = grind (arith, ints) in
+        omega (arith, ap unsigned_abs equal)
 
     is_version : (y : ℤ) → (int_le y (pos v) && int_le (pos v) y) ≡ true → unsigned_abs y < 2 ^ 64
     is_version y t = omega (arith, is_below y t)
@@ -141,7 +147,8 @@ radii_kept (i ∷ lo ∷ []) = refl
 radii_kept (i ∷ lo ∷ hi ∷ []) =
     settle (is_object i && is_radius lo && is_radius hi && int_le lo hi) (is_object (capped i) && is_radius (capped lo) && is_radius (capped hi) && int_le (capped lo) (capped hi)) _ _
     (λ t. let p = shell_tests i lo hi t in same (kept_from 1 MAX_OBJECTS i (omega arith) p.object) (kept_from 0 MAX_RADIUS lo (omega arith) p.low) (kept_from 0 MAX_RADIUS hi (omega arith) p.high))
-    (λ t. let p = shell_tests (capped i) (capped lo) (capped hi) t in same (was_kept_from 1 MAX_OBJECTS i (omega arith) p.object) (was_kept_from 0 MAX_RADIUS lo (omega arith) p.low) (was_kept_from 0 MAX_RADIUS hi (omega arith) p.high))
+    (λ t. let p = shell_tests (capped i) (capped lo) (capped hi) t in
+    same (was_kept_from 1 MAX_OBJECTS i (omega arith) p.object) (was_kept_from 0 MAX_RADIUS lo (omega arith) p.low) (was_kept_from 0 MAX_RADIUS hi (omega arith) p.high))
   where
     same : capped i ≡ i → capped lo ≡ lo → capped hi ≡ hi → spec.shell (capped i ∷ capped lo ∷ capped hi ∷ []) ≡ spec.shell (i ∷ lo ∷ hi ∷ [])
     same ei el eh = ap (λ (x : ℤ). spec.shell (x ∷ capped lo ∷ capped hi ∷ [])) ei ∙ ap₂ (λ (x y : ℤ). spec.shell (i ∷ x ∷ y ∷ [])) el eh
@@ -240,9 +247,11 @@ cell_of_kept a b first last (Some kind) =
     settle (is_object a && is_object b && int_lt a b && is_tick first && is_tick last && int_le first last)
     (is_object (capped a) && is_object (capped b) && int_lt (capped a) (capped b) && is_tick (capped first) && is_tick (capped last) && int_le (capped first) (capped last)) _ _
     (λ t. let p = cell_tests a b first last t in
-    same (kept_from 1 MAX_OBJECTS a (omega arith) p.one) (kept_from 1 MAX_OBJECTS b (omega arith) p.other) (kept_from FIRST_TICK LAST_TICK first (omega arith) p.from) (kept_from FIRST_TICK LAST_TICK last (omega arith) p.to))
+    same (kept_from 1 MAX_OBJECTS a (omega arith) p.one) (kept_from 1 MAX_OBJECTS b (omega arith) p.other) (kept_from FIRST_TICK LAST_TICK first (omega arith) p.from)
+    (kept_from FIRST_TICK LAST_TICK last (omega arith) p.to))
     (λ t. let p = cell_tests (capped a) (capped b) (capped first) (capped last) t in
-    same (was_kept_from 1 MAX_OBJECTS a (omega arith) p.one) (was_kept_from 1 MAX_OBJECTS b (omega arith) p.other) (was_kept_from FIRST_TICK LAST_TICK first (omega arith) p.from) (was_kept_from FIRST_TICK LAST_TICK last (omega arith) p.to))
+    same (was_kept_from 1 MAX_OBJECTS a (omega arith) p.one) (was_kept_from 1 MAX_OBJECTS b (omega arith) p.other) (was_kept_from FIRST_TICK LAST_TICK first (omega arith) p.from)
+    (was_kept_from FIRST_TICK LAST_TICK last (omega arith) p.to))
   where
     some : Option Kind
     some = Some kind
@@ -302,7 +311,8 @@ too_many v rank.Box a b c d e f g h i j ns words = ap (spec.alone words) (form_b
 too_many v rank.Cell a b c d e f g h i j ns words = refl
 too_many v rank.End a b c d e f g h i j ns words = form_alone words
 
-few_kept : (v : ℕ) (r : Rank) (numbers : List ℤ) (words others : List (List ℕ)) → v < 2 ^ 64 - 1 → length numbers < 10 → words ≡ others → said_by v r (take 10 (map capped numbers)) words ≡ said_by v r numbers others
+few_kept : (v : ℕ) (r : Rank) (numbers : List ℤ) (words others : List (List ℕ)) → v < 2 ^ 64 - 1 → length numbers < 10 → words ≡ others
+    → said_by v r (take 10 (map capped numbers)) words ≡ said_by v r numbers others
 few_kept v r numbers words others small few same =
     let long = length-map numbers capped in
     ap (λ (ns : List ℤ). said_by v r ns words) (take_all 10 (map capped numbers) (omega arith)) ∙ all_kept v r numbers words small ∙ ap (said_by v r numbers) same

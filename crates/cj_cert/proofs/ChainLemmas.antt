@@ -1,5 +1,6 @@
 -- The text of a certificate that fits is read as the certificate.
-use Rattle.std.proofs.Common.{◌≡◌, ℕ, ◌+◌, ◌^◌, ◌<◌, ◌⊎◌, inl, inr, List, [], ◌∷◌, ◌++◌, All, map, arith, ap, ap₂, sym, ◌∙◌, refl, subst, true, false, Bool, cond, ℤ, pos, Option, Some, None, Result, Ok, Err, length, append_assoc, append-nil}
+use Rattle.std.proofs.Common.{◌≡◌, ℕ, ◌+◌, ◌^◌, ◌<◌, ◌⊎◌, inl, inr, List, [], ◌∷◌, ◌++◌, All, map, arith, ap, ap₂, sym, ◌∙◌, refl, subst, true, false, Bool, cond, ℤ, pos, Option}
+use Rattle.std.proofs.Common.{Some, None, Result, Ok, Err, length, append_assoc, append-nil}
 use Rattle.std.specs.Prelude.{◌==◌, flat_map, codes}
 use Rattle.std.specs.List.{join_with_byte, slice_split}
 use Rattle.std.specs.Fmt.{decimal}
@@ -23,7 +24,7 @@ use Rattle.cj_cert.specs.Reading.{and_then, at_line, ends_at, nothing_said, read
 use Rattle.cj_cert.specs.Texts.{row, size_text, shell_text, box_text, cell_text, text_of}
 use Rattle.cj_cert.proofs.AgainLemmas.{line_words, numbers_small, others_last, said_again}
 use Rattle.cj_cert.proofs.LineLemmas.{FitsLine, numbers_of, others_of, word_of, word_ranks, words_of}
-use Rattle.cj_cert.proofs.ReadLemmas.{line_text, text_is_told, told}
+use Rattle.cj_cert.proofs.ReadLemmas.{line_text, small_version, text_is_told, told}
 use Rattle.cj_cert.proofs.WordLemmas.{joined_above, joined_again, line_first, words_again}
 
 -- ---- one line
@@ -118,11 +119,13 @@ with_sizes c (x ∷ xs) rest = with_sizes (record c { sizes = c.sizes ++ x ∷ [
 
 with_shells : (c : PlainCertificate) (xs : List ShellLine) (rest : List PlainLine) → with_lines c (map Shell xs ++ rest) ≡ with_lines (record c { shells = c.shells ++ xs }) rest
 with_shells c [] rest = ap (λ (ys : List ShellLine). with_lines (record c { shells = ys }) rest) (sym (append-nil c.shells))
-with_shells c (x ∷ xs) rest = with_shells (record c { shells = c.shells ++ x ∷ [] }) xs rest ∙ ap (λ (ys : List ShellLine). with_lines (record c { shells = ys }) rest) (append_assoc c.shells (x ∷ []) xs)
+with_shells c (x ∷ xs) rest =
+    with_shells (record c { shells = c.shells ++ x ∷ [] }) xs rest ∙ ap (λ (ys : List ShellLine). with_lines (record c { shells = ys }) rest) (append_assoc c.shells (x ∷ []) xs)
 
 with_boxes : (c : PlainCertificate) (xs : List PlainBoxLine) (rest : List PlainLine) → with_lines c (map Box xs ++ rest) ≡ with_lines (record c { boxes = c.boxes ++ xs }) rest
 with_boxes c [] rest = ap (λ (ys : List PlainBoxLine). with_lines (record c { boxes = ys }) rest) (sym (append-nil c.boxes))
-with_boxes c (x ∷ xs) rest = with_boxes (record c { boxes = c.boxes ++ x ∷ [] }) xs rest ∙ ap (λ (ys : List PlainBoxLine). with_lines (record c { boxes = ys }) rest) (append_assoc c.boxes (x ∷ []) xs)
+with_boxes c (x ∷ xs) rest =
+    with_boxes (record c { boxes = c.boxes ++ x ∷ [] }) xs rest ∙ ap (λ (ys : List PlainBoxLine). with_lines (record c { boxes = ys }) rest) (append_assoc c.boxes (x ∷ []) xs)
 
 with_cells : (c : PlainCertificate) (xs : List PlainLeaf) (rest : List PlainLine) → with_lines c (map Cell xs ++ rest) ≡ with_lines (record c { cells = c.cells ++ xs }) rest
 with_cells c [] rest = ap (λ (ys : List PlainLeaf). with_lines (record c { cells = ys }) rest) (sym (append-nil c.cells))
@@ -130,13 +133,14 @@ with_cells c (x ∷ xs) rest = with_cells (record c { cells = c.cells ++ x ∷ [
 
 lines_together : (c : PlainCertificate) → with_lines (nothing_said c.version) (lines_of c) ≡ c
 lines_together c =
-    with_sizes (record (nothing_said c.version) { first = c.first; last = c.last; threshold = c.threshold; objects = c.objects }) c.sizes (shell_lines c)
-    ∙ with_shells (record (nothing_said c.version) { first = c.first; last = c.last; threshold = c.threshold; objects = c.objects; sizes = c.sizes }) c.shells (box_lines c)
-    ∙ with_boxes (record (nothing_said c.version) { first = c.first; last = c.last; threshold = c.threshold; objects = c.objects; sizes = c.sizes; shells = c.shells }) c.boxes (cell_lines c)
-    ∙ with_cells (record (nothing_said c.version) { first = c.first; last = c.last; threshold = c.threshold; objects = c.objects; sizes = c.sizes; shells = c.shells; boxes = c.boxes }) c.cells last_line
+    with_sizes (record c { sizes = []; shells = []; boxes = []; cells = [] }) c.sizes (shell_lines c)
+    ∙ with_shells (record c { shells = []; boxes = []; cells = [] }) c.shells (box_lines c)
+    ∙ with_boxes (record c { boxes = []; cells = [] }) c.boxes (cell_lines c)
+    ∙ with_cells (record c { cells = [] }) c.cells last_line
 
 -- lines of one kind, and then others
-more_lines : {A : Type 0} (v : ℕ) (say : A → PlainLine) (r : Rank) (xs : List A) (rest : List PlainLine) (before : Option Rank) → ((x : A) → rank_of (say x) ≡ r) → All (λ x. FitsLine v (say x)) xs
+more_lines : {A : Type 0} (v : ℕ) (say : A → PlainLine) (r : Rank) (xs : List A) (rest : List PlainLine) (before : Option Rank) → ((x : A) → rank_of (say x) ≡ r)
+    → All (λ x. FitsLine v (say x)) xs
     → may_follow r (Some r) ≡ true → has_ended (Some r) ≡ false → may_follow r before ≡ true → has_ended before ≡ false
     → AreInOrder v before rest → AreInOrder v (Some r) rest → AreInOrder v before (map say xs ++ rest)
 more_lines v say r [] rest before kind fits again open_again follows open_end others behind = others
@@ -156,23 +160,28 @@ cells_in_order : (c : PlainCertificate) (r : Rank) → All FitsCell c.cells → 
 cells_in_order c r fits open_end ends follows =
     more_lines c.version Cell rank.Cell c.cells last_line (Some r) (λ x. refl) fits refl refl follows open_end (last_in_order c.version r open_end ends) (last_in_order c.version rank.Cell refl refl)
 
-boxes_in_order : (c : PlainCertificate) (r : Rank) → Fits c → has_ended (Some r) ≡ false → may_follow rank.End (Some r) ≡ true → may_follow rank.Cell (Some r) ≡ true → may_follow rank.Box (Some r) ≡ true
+boxes_in_order : (c : PlainCertificate) (r : Rank) → Fits c → has_ended (Some r) ≡ false → may_follow rank.End (Some r) ≡ true → may_follow rank.Cell (Some r) ≡ true
+    → may_follow rank.Box (Some r) ≡ true
     → All (λ b. FitsLine c.version (Box b)) c.boxes → AreInOrder c.version (Some r) (box_lines c)
 boxes_in_order c r fits open_end ends cells follows each =
-    more_lines c.version Box rank.Box c.boxes (cell_lines c) (Some r) (λ x. refl) each refl refl follows open_end (cells_in_order c r fits.cells open_end ends cells) (cells_in_order c rank.Box fits.cells refl refl refl)
+    more_lines c.version Box rank.Box c.boxes (cell_lines c) (Some r) (λ x. refl) each refl refl follows open_end (cells_in_order c r fits.cells open_end ends cells)
+    (cells_in_order c rank.Box fits.cells refl refl refl)
 
-shells_in_order : (c : PlainCertificate) (r : Rank) → Fits c → has_ended (Some r) ≡ false → may_follow rank.End (Some r) ≡ true → may_follow rank.Cell (Some r) ≡ true → may_follow rank.Box (Some r) ≡ true
+shells_in_order : (c : PlainCertificate) (r : Rank) → Fits c → has_ended (Some r) ≡ false → may_follow rank.End (Some r) ≡ true → may_follow rank.Cell (Some r) ≡ true
+    → may_follow rank.Box (Some r) ≡ true
     → may_follow rank.Shell (Some r) ≡ true → All (λ b. FitsLine c.version (Box b)) c.boxes → AreInOrder c.version (Some r) (shell_lines c)
 shells_in_order c r fits open_end ends cells boxes follows each =
     more_lines c.version Shell rank.Shell c.shells (box_lines c) (Some r) (λ x. refl) fits.shells refl refl follows open_end
     (boxes_in_order c r fits open_end ends cells boxes each) (boxes_in_order c rank.Shell fits refl refl refl refl each)
 
 -- what the version says of sizes and boxes
-sizes_of_version : (v : ℕ) (xs : List SizeOfLine) (boxes : List PlainBoxLine) → ((v ≡ 1) × (xs ≡ []) × All (λ b. b.first ≡ b.last) boxes) ⊎ (v ≡ 2) → All FitsSize xs → All (λ s. FitsLine v (Size s)) xs
+sizes_of_version : (v : ℕ) (xs : List SizeOfLine) (boxes : List PlainBoxLine) → ((v ≡ 1) × (xs ≡ []) × All (λ b. b.first ≡ b.last) boxes) ⊎ (v ≡ 2) → All FitsSize xs
+    → All (λ s. FitsLine v (Size s)) xs
 sizes_of_version v xs boxes (inl one) fits = λ k d less. absurd (let none : length xs ≡ 0 = ap length one.1 in omega arith)
 sizes_of_version v xs boxes (inr two) fits = λ k d less. (two, fits k d less)
 
-boxes_of_version : (v : ℕ) (xs : List SizeOfLine) (boxes : List PlainBoxLine) → ((v ≡ 1) × (xs ≡ []) × All (λ b. b.first ≡ b.last) boxes) ⊎ (v ≡ 2) → All FitsBox boxes → All (λ b. FitsLine v (Box b)) boxes
+boxes_of_version : (v : ℕ) (xs : List SizeOfLine) (boxes : List PlainBoxLine) → ((v ≡ 1) × (xs ≡ []) × All (λ b. b.first ≡ b.last) boxes) ⊎ (v ≡ 2) → All FitsBox boxes
+    → All (λ b. FitsLine v (Box b)) boxes
 boxes_of_version v xs boxes (inl one) fits = λ k d less. (fits k d less, λ _. one.2 k d less)
 boxes_of_version v xs boxes (inr two) fits = λ k d less. (fits k d less, λ one. absurd (omega arith))
 
@@ -232,7 +241,8 @@ version_text c is = by is
   where
     version_by : List ℕ → ℕ
     version_by digits = version_of (
-        ((codes "CONJ-CERT" ++ 32 ∷ digits) ++ 10 ∷ []) ++ row (codes "WINDOW") (pos c.first ∷ pos c.last ∷ []) ++ row (codes "THRESHOLD") (pos c.threshold ∷ []) ++ row (codes "OBJECTS") (pos c.objects ∷ [])
+        ((codes "CONJ-CERT" ++ 32 ∷ digits) ++ 10 ∷ []) ++ row (codes "WINDOW") (pos c.first ∷ pos c.last ∷ []) ++ row (codes "THRESHOLD") (pos c.threshold ∷ []) ++ row
+        (codes "OBJECTS") (pos c.objects ∷ [])
         ++ flat_map size_text c.sizes ++ flat_map shell_text c.shells ++ flat_map (box_text c.version) c.boxes ++ flat_map cell_text c.cells ++ row (codes "END") []
         )
 
@@ -246,10 +256,6 @@ version_fits c fits = by fits.version
     by : ((c.version ≡ 1) × (c.sizes ≡ []) × All (λ b. b.first ≡ b.last) c.boxes) ⊎ (c.version ≡ 2) → (c.version ≡ 1) ⊎ (c.version ≡ 2)
     by (inl one) = inl one.0
     by (inr two) = inr two
-
-small_version : (v : ℕ) → (v ≡ 1) ⊎ (v ≡ 2) → v < 2 ^ 64
-small_version v (inl one) = omega arith
-small_version v (inr two) = omega arith
 
 -- the text of a certificate that fits is read as it
 pub reading_again : (c : PlainCertificate) → Fits c → reading (text_of c) ≡ Ok c

@@ -5,11 +5,14 @@ mod BoxLemmas
 mod CapLemmas
 mod ChainLemmas
 mod CountLemmas
+mod EnterLemmas
+mod InBlocksLemmas
 mod LineLemmas
 mod ListedLemmas
 mod NumberLemmas
 mod ReadLemmas
 mod ReaderLemmas
+mod RewrittenLemmas
 mod RowLemmas
 mod SaidLemmas
 mod SplitLemmas

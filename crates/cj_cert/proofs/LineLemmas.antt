@@ -1,5 +1,6 @@
 -- What a line says, and the line that says it.
-use Rattle.std.proofs.Common.{◌≡◌, ℕ, ◌+◌, ◌-◌, ◌^◌, ◌<◌, ◌≤◌, List, [], ◌∷◌, ◌++◌, arith, ap, ap₂, sym, ◌∙◌, refl, subst, true, false, Bool, cond, ℤ, pos, negsuc, Option, Some, None, Result, Ok, Err}
+use Rattle.std.proofs.Common.{◌≡◌, ℕ, ◌+◌, ◌-◌, ◌^◌, ◌<◌, ◌≤◌, List, [], ◌∷◌, ◌++◌, arith, ap, ap₂, sym, ◌∙◌, refl, subst, true, false, Bool, cond, ℤ, pos, negsuc, Option, Some}
+use Rattle.std.proofs.Common.{None, Result, Ok, Err}
 use Rattle.std.specs.Prelude.{◌==◌, ◌&&◌, if◌then◌else◌, unsigned_abs, codes, int_le, int_lt, neg_ℤ}
 use Rattle.std.specs.Str.{bytes_eq}
 use Rattle.std.proofs.lemmas.Bool.{and_parts, eqb-true, eq-eqb, le-leb, leb-true}
@@ -19,7 +20,8 @@ use Rattle.cj_cert.specs.declared.rank.Rank.TheVariants as rank
 use Rattle.cj_cert.specs.Certificates.{PlainBoxLine}
 use Rattle.cj_cert.specs.Fits.{FitsSize, FitsShell, FitsBox, FitsCell}
 use Rattle.cj_cert.specs.Lines as spec
-use Rattle.cj_cert.specs.Lines.{PlainLine, Heading, Window, Threshold, Objects, Size, Shell, Box, Cell, End, rank_of, said_by, in_range, is_from, is_tick, is_object, is_slot, is_radius, is_coordinate, is_reach, object_of, MAX_OBJECTS, MAX_SIZE, MAX_THRESHOLD}
+use Rattle.cj_cert.specs.Lines.{PlainLine, Heading, Window, Threshold, Objects, Size, Shell, Box, Cell, End, rank_of, said_by, in_range, is_from, is_tick, is_object, is_slot}
+use Rattle.cj_cert.specs.Lines.{is_radius, is_coordinate, is_reach, object_of, MAX_OBJECTS, MAX_SIZE, MAX_THRESHOLD}
 use Rattle.cj_cert.specs.Ranks.{rank_of_word}
 use Rattle.cj_cert.specs.Texts.{line, number, slots, ends, kind_word}
 use Rattle.cj_cert.proofs.WordLemmas.{texts}
@@ -410,7 +412,8 @@ box_said v numbers l h = by (v == 1) refl h
 
 -- ---- cells
 
-kind_by : (word : List ℕ) (kind : Kind) (k : Kind) (more : Option Kind) (b : Bool) → bytes_eq word (kind_word k) ≡ b → cond b (Some k) more ≡ Some kind → (more ≡ Some kind → word ≡ kind_word kind) → word ≡ kind_word kind
+kind_by : (word : List ℕ) (kind : Kind) (k : Kind) (more : Option Kind) (b : Bool) → bytes_eq word (kind_word k) ≡ b → cond b (Some k) more ≡ Some kind
+    → (more ≡ Some kind → word ≡ kind_word kind) → word ≡ kind_word kind
 kind_by word kind k more true e h rest = (bytes_eq-Decides word (kind_word k)).0 e ∙ ap kind_word (let same : k ≡ kind = cc in same)
 kind_by word kind k more false e h rest = rest h
 

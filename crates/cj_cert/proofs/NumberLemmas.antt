@@ -1,5 +1,6 @@
 -- Numbers in their texts, and back.
-use Rattle.std.proofs.Common.{◌≡◌, ℕ, zero, suc, ◌-◌, ◌^◌, ◌<◌, ◌≤◌, List, [], ◌∷◌, length, get_or, arith, ap, sym, ◌∙◌, refl, subst, true, false, Bool, cond, ℤ, pos, negsuc, neg_ℤ, decimal, Some, None}
+use Rattle.std.proofs.Common.{◌≡◌, ℕ, zero, suc, ◌-◌, ◌^◌, ◌<◌, ◌≤◌, List, [], ◌∷◌, length, get_or, arith, ap, sym, ◌∙◌, refl, subst, true, false, Bool, cond, ℤ, pos, negsuc}
+use Rattle.std.proofs.Common.{neg_ℤ, decimal, Some, None}
 use Rattle.std.specs.Prelude.{◌==◌, ◌&&◌, not, codes, if◌then◌else◌, unsigned_abs}
 use Rattle.std.specs.Char.{is_ascii_digit, digit_value}
 use Rattle.std.specs.Fmt.{signed_decimal}
@@ -102,7 +103,8 @@ no_sign (c ∷ ds) some all =
     let plus : (c == 43) ≡ false = grind (arith, nat_tests) in
     record { minus = minus; rest = rw (minus, plus) refl; bare = rw minus refl; other = rw minus refl }
 
-signed_by : (ds rest : List ℕ) (b : Bool) → starts_with_minus ds ≡ b → without_leading_sign ds ≡ rest → signed_digits_value 10 ds ≡ cond b (neg_ℤ (pos (digits_value 10 rest))) (pos (digits_value 10 rest))
+signed_by : (ds rest : List ℕ) (b : Bool) → starts_with_minus ds ≡ b → without_leading_sign ds ≡ rest
+    → signed_digits_value 10 ds ≡ cond b (neg_ℤ (pos (digits_value 10 rest))) (pos (digits_value 10 rest))
 signed_by ds rest b minus behind =
     ap (λ (t : Bool). cond t (neg_ℤ (pos (digits_value 10 (without_leading_sign ds)))) (pos (digits_value 10 (without_leading_sign ds)))) minus
     ∙ ap (λ (r : List ℕ). cond b (neg_ℤ (pos (digits_value 10 r))) (pos (digits_value 10 r))) behind

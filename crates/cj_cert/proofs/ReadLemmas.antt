@@ -1,5 +1,6 @@
 -- A text that is read is the text of what is read, which fits.
-use Rattle.std.proofs.Common.{◌≡◌, ℕ, ◌+◌, ◌^◌, ◌<◌, ◌≤◌, ◌⊎◌, inl, inr, List, [], ◌∷◌, ◌++◌, All, arith, ap, ap₂, sym, ◌∙◌, refl, subst, true, false, Bool, cond, ℤ, pos, Option, Some, None, Result, Ok, Err, append_assoc, append-nil}
+use Rattle.std.proofs.Common.{◌≡◌, ℕ, ◌+◌, ◌^◌, ◌<◌, ◌≤◌, ◌⊎◌, inl, inr, List, [], ◌∷◌, ◌++◌, All, arith, ap, ap₂, sym, ◌∙◌, refl, subst, true, false, Bool, cond, ℤ, pos, Option}
+use Rattle.std.proofs.Common.{Some, None, Result, Ok, Err, append_assoc, append-nil}
 use Rattle.std.specs.Prelude.{◌==◌, if◌then◌else◌, flat_map, codes}
 use Rattle.std.specs.List.{join_with_byte, slice_split}
 use Rattle.std.proofs.lemmas.Grind.{flat_map-append}
@@ -214,11 +215,12 @@ goes None c Heading none e f = record { text = refl; later = none }
 goes (Some rank.Heading) c (Window first last) none e f = record { text = refl; later = record { sizes = none.sizes; shells = none.shells; boxes = none.boxes; cells = none.cells } }
 goes (Some rank.Window) c (Threshold threshold) none e f = record { text = refl; later = record { sizes = none.sizes; shells = none.shells; boxes = none.boxes; cells = none.cells } }
 goes (Some rank.Threshold) c (Objects count) none e f = record {
-  text = objects_more (told c.version Heading) (told c.version (Window c.first c.last)) (told c.version (Threshold c.threshold)) (told c.version (Objects count)) c.version c.sizes c.shells c.boxes c.cells
-      none.sizes none.shells none.boxes none.cells;
+  text = objects_more (told c.version Heading) (told c.version (Window c.first c.last)) (told c.version (Threshold c.threshold)) (told c.version (Objects count))
+      c.version c.sizes c.shells c.boxes c.cells none.sizes none.shells none.boxes none.cells;
   later = record { sizes = none.sizes; shells = none.shells; boxes = none.boxes; cells = none.cells };
 }
-goes (Some rank.Objects) c (Size s) none e f = record { text = size_more (head_text c) c.version c.sizes s c.shells c.boxes c.cells none.shells none.boxes none.cells; later = (none.shells, none.boxes, none.cells) }
+goes (Some rank.Objects) c (Size s) none e f =
+    record { text = size_more (head_text c) c.version c.sizes s c.shells c.boxes c.cells none.shells none.boxes none.cells; later = (none.shells, none.boxes, none.cells) }
 goes (Some rank.Size) c (Size s) none e f = record { text = size_more (head_text c) c.version c.sizes s c.shells c.boxes c.cells none.0 none.1 none.2; later = none }
 goes (Some rank.Objects) c (Shell s) none e f = record { text = shell_more (head_text c) c.version c.sizes c.shells s c.boxes c.cells none.boxes none.cells; later = (none.boxes, none.cells) }
 goes (Some rank.Size) c (Shell s) none e f = record { text = shell_more (head_text c) c.version c.sizes c.shells s c.boxes c.cells none.1 none.2; later = (none.1, none.2) }
@@ -408,7 +410,7 @@ fits_whole c so some = record {
     of_version (inl one) = inl (one, so.no_sizes one, so.one_slot one)
     of_version (inr two) = inr two
 
-small_version : (v : ℕ) → (v ≡ 1) ⊎ (v ≡ 2) → v < 2 ^ 64
+pub small_version : (v : ℕ) → (v ≡ 1) ⊎ (v ≡ 2) → v < 2 ^ 64
 small_version v (inl one) = omega arith
 small_version v (inr two) = omega arith
 

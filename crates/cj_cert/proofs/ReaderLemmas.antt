@@ -28,11 +28,13 @@ Read = Result PlainCertificate Fault
 
 -- ---- what is given
 
-pub gives_only : (bytes : List ℕ) (r : Result Certificate CertFault) → Gives plain_certificate r (reading bytes) → IfOk r (λ c. (bytes ≡ text_of (plain_certificate c)) × Fits (plain_certificate c))
+pub gives_only : (bytes : List ℕ) (r : Result Certificate CertFault) → Gives plain_certificate r (reading bytes)
+    → IfOk r (λ c. (bytes ≡ text_of (plain_certificate c)) × Fits (plain_certificate c))
 gives_only bytes (Ok c) is = reading_only bytes (plain_certificate c) is
 gives_only bytes (Err fault) is = tt
 
-pub gives_again : (bytes : List ℕ) (r : Result Certificate CertFault) → Gives plain_certificate r (reading bytes) → (c : PlainCertificate) → Fits c → bytes ≡ text_of c → Gives plain_certificate r (Ok c)
+pub gives_again : (bytes : List ℕ) (r : Result Certificate CertFault) → Gives plain_certificate r (reading bytes) → (c : PlainCertificate) → Fits c → bytes ≡ text_of c
+    → Gives plain_certificate r (Ok c)
 gives_again bytes r is c fits same = subst (Gives plain_certificate r) (ap reading same ∙ reading_again c fits) is
 
 pub gives_few : (bytes : List ℕ) (r : Result Certificate CertFault) → Gives plain_certificate r (reading bytes) → IfOk r (λ c. line_count (plain_certificate c) ≤ length bytes)
@@ -46,7 +48,8 @@ gives_few bytes (Err fault) is = tt
 split_some : (bytes : List ℕ) → 0 < length (slice_split (λ b. b == 10) bytes)
 split_some bytes = omega (arith, length-slice_split (λ b. b == 10) bytes)
 
-on_parts : (number : ℕ) (before : Option Rank) (c : PlainCertificate) (text : List ℕ) (parts : List (List ℕ)) (x : Result PlainLine CertCause) → 0 < length parts → line_said c.version before text ≡ x
+on_parts : (number : ℕ) (before : Option Rank) (c : PlainCertificate) (text : List ℕ) (parts : List (List ℕ)) (x : Result PlainLine CertCause) → 0 < length parts
+    → line_said c.version before text ≡ x
     → reads_on number before c (text ∷ parts) ≡ and_then (at_line number x) (λ l. reads_on (number + 1) (Some (rank_of l)) (with_line c l) parts)
 unfolding reads_on
 on_parts number before c text [] x some is = absurd (omega arith)
@@ -68,7 +71,8 @@ line_refused number before c rest text behind cause parts is =
     ap (reads_on number before c) parts ∙ on_parts number before c text (slice_split (λ b. b == 10) behind) (Err cause) (split_some behind) is
 
 -- what stands behind the last LF
-pub last_part : (number : ℕ) (before : Option Rank) (c : PlainCertificate) (rest : List ℕ) → slice_split (λ b. b == 10) rest ≡ rest ∷ [] → reads_on number before c (slice_split (λ b. b == 10) rest) ≡ behind_lines number before c rest
+pub last_part : (number : ℕ) (before : Option Rank) (c : PlainCertificate) (rest : List ℕ) → slice_split (λ b. b == 10) rest ≡ rest ∷ []
+    → reads_on number before c (slice_split (λ b. b == 10) rest) ≡ behind_lines number before c rest
 unfolding reads_on
 last_part number before c rest parts = ap (reads_on number before c) parts
 
@@ -97,7 +101,10 @@ line_length v before text l most is =
 
 all_same : (boxes : List BoxLine) → All (λ b. b.first ≡ b.last) (map plain_box_line boxes) → list_all (λ (b : BoxLine). b.first == b.last) boxes ≡ true
 all_same [] all = refl
-all_same (b ∷ bs) all = rw (eq-eqb b.first b.last (All-head (λ x. x.first ≡ x.last) (plain_box_line b) (map plain_box_line bs) all), all_same bs (All-tail (λ x. x.first ≡ x.last) (plain_box_line b) (map plain_box_line bs) all)) refl
+all_same (b ∷ bs) all =
+    let here = All-head (λ x. x.first ≡ x.last) (plain_box_line b) (map plain_box_line bs) all in
+    let others = All-tail (λ x. x.first ≡ x.last) (plain_box_line b) (map plain_box_line bs) all in
+    rw (eq-eqb b.first b.last here, all_same bs others) refl
 
 -- a certificate that fits has what its version allows
 pub version_allows : (c : PlainCertificate) (boxes : List BoxLine) → c.boxes ≡ map plain_box_line boxes → Fits c → is_of_version c.version c.sizes boxes ≡ true

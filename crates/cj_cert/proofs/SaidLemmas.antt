@@ -25,7 +25,8 @@ shell_left numbers [] h = absurd cc
 shell_left numbers (word ∷ words) h = refl
 
 -- a line of another kind has no words behind its numbers
-pub words_left : (v : ℕ) (r : Rank) (numbers : List ℤ) (words : List (List ℕ)) → (length words == 0) ≡ false → (r ≡ rank.Shell → ⊥) → (r ≡ rank.Cell → ⊥) → said_by v r numbers words ≡ Err causes.Form
+pub words_left : (v : ℕ) (r : Rank) (numbers : List ℤ) (words : List (List ℕ)) → (length words == 0) ≡ false → (r ≡ rank.Shell → ⊥) → (r ≡ rank.Cell → ⊥)
+    → said_by v r numbers words ≡ Err causes.Form
 words_left v r numbers [] some no_shell no_cell = absurd cc
 words_left v rank.Heading numbers (word ∷ words) some no_shell no_cell = refl
 words_left v rank.Window numbers (word ∷ words) some no_shell no_cell = refl
@@ -55,7 +56,8 @@ tells_kept v r words others kept x most same behind h =
 
 -- ---- behind the last LF
 
-pub behind_refused : (number : ℕ) (before : Option Rank) (c : PlainCertificate) (v : ℕ) (rest : List ℕ) (cause : CertCause) → (length rest == 0) ≡ false → c.version ≡ v → line_said v before rest ≡ Err cause
+pub behind_refused : (number : ℕ) (before : Option Rank) (c : PlainCertificate) (v : ℕ) (rest : List ℕ) (cause : CertCause) → (length rest == 0) ≡ false → c.version ≡ v
+    → line_said v before rest ≡ Err cause
     → behind_lines number before c rest ≡ Err (record { line = number; cause = cause })
 behind_refused number before c v [] cause some same is = absurd cc
 behind_refused number before c v (b ∷ bs) cause some same is = rw (same, is) refl
@@ -65,7 +67,8 @@ pub behind_taken : (number : ℕ) (before : Option Rank) (c : PlainCertificate) 
 behind_taken number before c v [] l some same is = absurd cc
 behind_taken number before c v (b ∷ bs) l some same is = rw (same, is) refl
 
-pub behind_nothing : (number : ℕ) (before : Option Rank) (c : PlainCertificate) (rest : List ℕ) → (length rest == 0) ≡ true → has_ended before ≡ false → behind_lines number before c rest ≡ ends_at number
+pub behind_nothing : (number : ℕ) (before : Option Rank) (c : PlainCertificate) (rest : List ℕ) → (length rest == 0) ≡ true → has_ended before ≡ false
+    → behind_lines number before c rest ≡ ends_at number
 behind_nothing number before c [] none open_end = ap (λ (b : Bool). cond b (Ok c) (ends_at number)) open_end
 behind_nothing number before c (b ∷ bs) none open_end = absurd (let e = eqb-true (length (b ∷ bs)) 0 none in omega arith)
 

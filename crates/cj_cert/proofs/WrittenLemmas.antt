@@ -62,10 +62,10 @@ numbered_from {X = X} P n (x ∷ xs) f =
     )
 
 -- each object stands at its number
-abbrev IsAtNumber : PlainProblem → ℕ × PlainTrack → Type 0
+abbrev pub IsAtNumber : PlainProblem → ℕ × PlainTrack → Type 0
 IsAtNumber case object = slice_get case.ephemerides object.0 ≡ Some object.1
 
-numbered : (case : PlainProblem) → Each (IsAtNumber case) (enumerate_from 0 case.ephemerides)
+pub numbered : (case : PlainProblem) → Each (IsAtNumber case) (enumerate_from 0 case.ephemerides)
 numbered case = numbered_from (IsAtNumber case) 0 case.ephemerides (λ i e is. let same : i ≡ 0 + i = omega arith in subst (λ (k : ℕ). slice_get case.ephemerides k ≡ Some e) same is)
 
 -- ---- shells
@@ -279,11 +279,11 @@ listed_shells_same case n [] = refl
 listed_shells_same case n (e ∷ es) = ap (λ (ss : List (Option Shell)). shell_of e case.first case.last ∷ ss) (listed_shells_same case (n + 1) es)
 
 -- the lines of all boxes
-abbrev lines_of : PlainProblem → List PlainBoxLine
+abbrev pub lines_of : PlainProblem → List PlainBoxLine
 lines_of case = flat_map (box_lines case) (enumerate_from 0 case.ephemerides)
 
 -- the listed box of an object in a slot is its own
-box_is : (case : PlainProblem) (e : PlainTrack) (i slot : ℕ) → AreAllInTime case → slice_get case.ephemerides i ≡ Some e → slot < slot_count case.first case.last
+pub box_is : (case : PlainProblem) (e : PlainTrack) (i slot : ℕ) → AreAllInTime case → slice_get case.ephemerides i ≡ Some e → slot < slot_count case.first case.last
     → box_listed (lines_of case) slot i ≡ box_in case e slot
 box_is case e i slot time is lt = go (find (is_line_of i slot) (lines_of case)) refl
   where
@@ -318,7 +318,7 @@ listed_boxes_same case slot time lt =
     map_range (box_listed (lines_of case) slot) (λ e. box_in case e slot) 0 case.ephemerides
     (λ i e is. let own : 0 + i ≡ i = omega arith in ap (box_listed (lines_of case) slot) own ∙ box_is case e i slot time is lt)
 
-shells_same : (case : PlainProblem) → shells_listed (written case) ≡ shells_of case
+pub shells_same : (case : PlainProblem) → shells_listed (written case) ≡ shells_of case
 unfolding written shells_of
 shells_same case = listed_shells_same case 0 case.ephemerides
 
@@ -328,7 +328,7 @@ looked_same case a b slot time lt =
     ap (λ (ss : List (Option Shell)). looked_by case ss (boxes_listed (written case)) a b slot) (shells_same case)
     ∙ ap (λ (bs : List (Option PlainBox)). looked_by case (shells_of case) (λ k. bs) a b slot) (listed_boxes_same case slot time lt)
 
-flat_map_same : {X Y : Type 0} (f g : X → List Y) (xs : List X) → Each (λ x. f x ≡ g x) xs → flat_map f xs ≡ flat_map g xs
+pub flat_map_same : {X Y : Type 0} (f g : X → List Y) (xs : List X) → Each (λ x. f x ≡ g x) xs → flat_map f xs ≡ flat_map g xs
 flat_map_same f g [] same = refl
 flat_map_same f g (x ∷ xs) same = let here = same.0 in let rest = flat_map_same f g xs same.1 in λ i. here i ++ rest i
 

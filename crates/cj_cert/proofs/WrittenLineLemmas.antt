@@ -91,7 +91,7 @@ map_numbered f g n (e ∷ es) same =
     let rest = map_numbered f g (n + 1) es (λ i d is. let next : n + suc i ≡ n + 1 + i = omega arith in subst (λ (k : ℕ). f k ≡ g (k, d)) next (same (suc i) d is)) in
     λ i. here i ∷ rest i
 
-flat_map_numbered : {A : Type 0} (f : ℕ → List A) (g : ℕ × PlainTrack → List A) (n : ℕ) (es : List PlainTrack) → ((i : ℕ) (e : PlainTrack) → slice_get es i ≡ Some e → f (n + i) ≡ g (n + i, e))
+pub flat_map_numbered : {A : Type 0} (f : ℕ → List A) (g : ℕ × PlainTrack → List A) (n : ℕ) (es : List PlainTrack) → ((i : ℕ) (e : PlainTrack) → slice_get es i ≡ Some e → f (n + i) ≡ g (n + i, e))
     → flat_map f (range_with_len n (length es)) ≡ flat_map g (enumerate_from n es)
 flat_map_numbered f g n [] same = refl
 flat_map_numbered f g n (e ∷ es) same =
@@ -135,12 +135,12 @@ pub boxes_count : (case : PlainProblem) (boxes : List (Option AxisBox)) → plai
 unfolding boxes_in_order
 boxes_count case boxes same = sym (length-map boxes (option_map plain_box)) ∙ ap (λ (bs : List (Option PlainBox)). length bs) same ∙ rows_length case case.ephemerides
 
-get_left : {A : Type 0} (xs ys : List A) (i : ℕ) → i < length xs → slice_get (xs ++ ys) i ≡ slice_get xs i
+pub get_left : {A : Type 0} (xs ys : List A) (i : ℕ) → i < length xs → slice_get (xs ++ ys) i ≡ slice_get xs i
 get_left [] ys i lt = absurd (omega arith)
 get_left (x ∷ xs) ys zero lt = refl
 get_left (x ∷ xs) ys (suc i) lt = get_left xs ys i (omega arith)
 
-get_right : {A : Type 0} (xs ys : List A) (i j : ℕ) → j ≡ length xs + i → slice_get (xs ++ ys) j ≡ slice_get ys i
+pub get_right : {A : Type 0} (xs ys : List A) (i j : ℕ) → j ≡ length xs + i → slice_get (xs ++ ys) j ≡ slice_get ys i
 get_right [] ys i j e = ap (λ (k : ℕ). slice_get ys k) (omega arith)
 get_right (x ∷ xs) ys i zero e = absurd (omega arith)
 get_right (x ∷ xs) ys i (suc j) e = get_right xs ys i j (omega arith)

@@ -7,6 +7,8 @@ ghost use Rattle.cj_bezier.specs.Gaps.{gap_terms};
 ghost use Rattle.cj_bezier.specs.Parts.{AreInTime, hulls_of};
 ghost use Rattle.cj_bezier.specs.Shells.{IsOuter};
 ghost use Rattle.cj_cert.specs.Accepted.{Accepted};
+ghost use Rattle.cj_cert.specs.Certificates.{PlainCertificate};
+ghost use Rattle.cj_cert.specs.Rewritten.{in_version_2, written_in};
 ghost use Rattle.cj_cert.specs.Splits.{AcceptedSplits};
 ghost use Rattle.cj_cert.specs.Written.{written};
 
@@ -20,6 +22,12 @@ pub fn acceptance(problem: &Problem)
 
     // Exact shells and boxes and the one-thread list make a certificate that is accepted.
     ensures written { Accepted (plain_problem problem.now) (written (plain_problem problem.now)) }
+
+    // So they do in either version.
+    ensures in_version { (version : ℕ) → Accepted (plain_problem problem.now) (written_in version (plain_problem problem.now)) }
+
+    // An accepted certificate is accepted in version 2.
+    ensures rewritten { (c : PlainCertificate) → Accepted (plain_problem problem.now) c → Accepted (plain_problem problem.now) (in_version_2 (plain_problem problem.now) c) }
 {
     let tracks = problem.tracks.as_slice();
     for track in tracks {

@@ -3,13 +3,16 @@
 #![tactic(auto)]
 
 mod accepting;
+mod block_lines;
 mod cert_line;
 mod cert_lines;
 mod certificate;
 mod draft;
 mod fault;
+mod in_blocks;
 mod line_said;
 mod line_text;
+mod listed_boxes;
 mod number;
 mod printing;
 mod rank;
@@ -22,6 +25,7 @@ pub use accepting::acceptance;
 pub use cert_lines::{BoxLine, CellLine, ShellLine, SizeOfLine};
 pub use certificate::Certificate;
 pub use fault::{CertCause, CertFault};
+pub use in_blocks::{certificate_in_blocks, in_version_2, listed_shells};
 pub use printing::cert_text;
 pub use reading::read_cert;
 pub use written::written_certificate;

@@ -1,6 +1,9 @@
-ghost use Rattle.std.specs.Prelude.{◌≡◌, ◌≤◌, true};
+ghost use Rattle.std.specs.Prelude.{◌≡◌, ◌≤◌, true, [], ◌∷◌, Some, IfOk};
+ghost use Rattle.cj_cert.specs.Certificates.{plain_certificate};
+ghost use Rattle.cj_cert.specs.Listed.{shells_listed};
 ghost use Rattle.cj_cert.specs.Versions.{is_of_version};
 
+mod blocks;
 mod faults;
 
 use crate::{BoxLine, CellLine, Certificate, ShellLine, SizeOfLine, cert_text, read_cert};
@@ -84,7 +87,9 @@ fn place(x: i64) -> AxisBox {
     }
 }
 
-fn at_rest_on(object: u32, radius: u64) -> ShellLine {
+fn at_rest_on(object: u32, radius: u64) -> ShellLine
+    ensures { result.shell ≡ Some (record { lo = radius; hi = radius }) }
+{
     ShellLine {
         object,
         shell: Some(Shell {
@@ -126,6 +131,8 @@ fn at_rest(
     requires least { 1 ≤ version }
     requires most { version ≤ 2 }
     requires of_version { is_of_version version sizes.items boxes.items ≡ true }
+    ensures shells { IfOk result (λ cert. shells_listed (plain_certificate cert)
+        ≡ Some (record { lo = 7000000000000000; hi = 7000000000000000 }) ∷ Some (record { lo = 7005000000000000; hi = 7005000000000000 }) ∷ []) }
 {
     let before_last = Tick {
         micros: LAST.micros - 1,
@@ -148,7 +155,10 @@ fn at_rest(
     })
 }
 
-fn at_rest_1(alloc: Global) -> Result<Certificate, AllocError> {
+fn at_rest_1(alloc: Global) -> Result<Certificate, AllocError>
+    ensures shells { IfOk result (λ cert. shells_listed (plain_certificate cert)
+        ≡ Some (record { lo = 7000000000000000; hi = 7000000000000000 }) ∷ Some (record { lo = 7005000000000000; hi = 7005000000000000 }) ∷ []) }
+{
     let boxes = vec![in alloc;
         box_of(0, 0, 0, 7_000_000_000_000_000),
         box_of(0, 1, 1, 7_000_000_000_000_000),
@@ -158,7 +168,10 @@ fn at_rest_1(alloc: Global) -> Result<Certificate, AllocError> {
     at_rest(alloc, 1, Vec::new(alloc), boxes)
 }
 
-fn at_rest_2(alloc: Global) -> Result<Certificate, AllocError> {
+fn at_rest_2(alloc: Global) -> Result<Certificate, AllocError>
+    ensures shells { IfOk result (λ cert. shells_listed (plain_certificate cert)
+        ≡ Some (record { lo = 7000000000000000; hi = 7000000000000000 }) ∷ Some (record { lo = 7005000000000000; hi = 7005000000000000 }) ∷ []) }
+{
     let sizes = vec![in alloc;
         SizeOfLine { object: 0, size: 0 },
         SizeOfLine { object: 1, size: 0 },

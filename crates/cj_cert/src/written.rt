@@ -50,7 +50,7 @@ pub fn written_certificate(
 }
 
 /// A line for each object with its shell.
-fn shell_lines(alloc: Global, shells: &[Option<Shell>]) -> Result<Vec<ShellLine>, AllocError>
+pub fn shell_lines(alloc: Global, shells: &[Option<Shell>]) -> Result<Vec<ShellLine>, AllocError>
     requires { length shells.now < 2 ^ 32 }
     ensures { IfOk result (λ lines. lines.items ≡ map (line_by_shells shells.now) (range_with_len 0 (length shells.now))) }
 {
@@ -109,7 +109,7 @@ fn append_box_lines(
 }
 
 /// A line for each leaf.
-fn cell_lines(alloc: Global, leaves: &[Leaf]) -> Result<Vec<CellLine>, AllocError>
+pub fn cell_lines(alloc: Global, leaves: &[Leaf]) -> Result<Vec<CellLine>, AllocError>
     ensures { IfOk result (λ lines. map plain_cell_line lines.items ≡ plain_leaves leaves.now) }
 {
     let mut lines = Vec::with_capacity(alloc, leaves.len())?;

@@ -1,92 +1,110 @@
-use Rattle.std.proofs.Common.{Ok, ap, false, of_z, rules, sym, to_z, to_z-of_z, true, ◌≡◌, ◌∙◌, ◌-◌, ◌^◌, ℤ}
+use Rattle.std.proofs.Common.{Ok, ap, of_z, rules, sym, to_z, to_z-of_z, true, ◌≡◌, ◌∙◌, ◌-◌, ◌^◌, ℤ}
 use Rattle.std.proofs.lemmas.Result.{err_from_is_err_and}
 use Rattle.std.specs.Int.{w64, w128}
-use Rattle.cj_cert.specs.declared.fault.CertCause.TheVariants.{Range}
-use Rattle.cj_cert.specs.Lines.{Box, is_from, is_reach}
 use Rattle.cj_cert.specs.Certificates.{PlainBoxLine}
-use Rattle.cj_cert.proofs.BoxLemmas.{HasSlots, as_cause, at, box_taken, same_box, x_refused, y_refused, z_refused}
+use Rattle.cj_cert.specs.Lines.{Box, is_from}
+use Rattle.cj_cert.proofs.BoxLemmas.{HasSlots, IsRefused, IsTaken, as_cause, at, box_taken, same_box, x_refused, y_refused, z_refused}
 use Rattle.cj_cert.proofs.line_text.area_of.Goals as goal
+
+-- a number as it is passed on
+abbrev passed : ℤ → ℤ
+passed z = to_z w128 (of_z w128 z)
+
+abbrev stored : ℤ → ℤ
+stored z = to_z w64 (of_z w64 z)
 
 pub returns-in_err-x_least : goal.returns-in_err-x_least
 returns-in_err-x_least c =
     let ns = c.args.ends.now in
-    let e0 : to_z w128 (of_z w128 (at ns 0)) ≡ at ns 0 = search (rules, to_z-of_z) in
-    let e1 : to_z w128 (of_z w128 (at ns 1)) ≡ at ns 1 = search (rules, to_z-of_z) in
-    let x : (is_reach (to_z w128 (of_z w128 (at ns 0))) (to_z w128 (of_z w128 (at ns 1))) ≡ false) × (c.in_err-x_least.field-0.0 ≡ Range) = c.in_err-x_least.ensures.value in
+    let e0 : passed (at ns 0) ≡ at ns 0 = search (rules, to_z-of_z) in
+    let e1 : passed (at ns 1) ≡ at ns 1 = search (rules, to_z-of_z) in
+    let x : IsRefused (passed (at ns 0)) (passed (at ns 1)) c.in_err-x_least.field-0.0 = c.in_err-x_least.ensures.value in
     let last : is_from c.in_ok-first.first (2 ^ 32 - 1) c.args.last ≡ true = rw (c.from.ensures, c.from-2.ensures, to_z-of_z c.ranges.last) at c.in_ok-last.ensures.0 in
     let slots : HasSlots c.args.number c.args.first c.args.last = record {
       object = rw (to_z-of_z c.ranges.number) at c.in_ok-object.ensures.0;
       from = rw (to_z-of_z c.ranges.first) at c.in_ok-first.ensures.0;
       to = rw (c.in_ok-first.ensures.1, to_z-of_z c.ranges.first) at last;
     } in
+    let refused = x_refused c.args.number c.args.first c.args.last ns c.in-len6.len_at_least c.in-len6.len_below slots (rw (e0, e1) at x.0) in
     let p = err_from_is_err_and c.from_residual-in_err-x_least.result c.from_residual-in_err-x_least.ensures.1 in
-    rw (p.1, p.2) (as_cause _ c.in_err-x_least.field-0.0 (x_refused c.args.number c.args.first c.args.last ns c.in-len6.len_at_least c.in-len6.len_below slots (rw (e0, e1) at x.0)) x.1)
+    rw (p.1, p.2) (as_cause _ c.in_err-x_least.field-0.0 refused x.1)
 
 pub returns-in_err-y_least : goal.returns-in_err-y_least
 returns-in_err-y_least c =
     let ns = c.args.ends.now in
-    let e0 : to_z w128 (of_z w128 (at ns 0)) ≡ at ns 0 = search (rules, to_z-of_z) in
-    let e1 : to_z w128 (of_z w128 (at ns 1)) ≡ at ns 1 = search (rules, to_z-of_z) in
-    let e2 : to_z w128 (of_z w128 (at ns 2)) ≡ at ns 2 = search (rules, to_z-of_z) in
-    let e3 : to_z w128 (of_z w128 (at ns 3)) ≡ at ns 3 = search (rules, to_z-of_z) in
-    let x : (is_reach (to_z w128 (of_z w128 (at ns 0))) (to_z w128 (of_z w128 (at ns 1))) ≡ true) × ((c.in_ok-x_least.x_least, c.in_ok-x_least.x_most) ≡ (to_z w128 (of_z w128 (at ns 0)), to_z w128 (of_z w128 (at ns 1)))) = c.in_ok-x_least.ensures.value in
-    let y : (is_reach (to_z w128 (of_z w128 (at ns 2))) (to_z w128 (of_z w128 (at ns 3))) ≡ false) × (c.in_err-y_least.field-0.0 ≡ Range) = c.in_err-y_least.ensures.value in
+    let e0 : passed (at ns 0) ≡ at ns 0 = search (rules, to_z-of_z) in
+    let e1 : passed (at ns 1) ≡ at ns 1 = search (rules, to_z-of_z) in
+    let e2 : passed (at ns 2) ≡ at ns 2 = search (rules, to_z-of_z) in
+    let e3 : passed (at ns 3) ≡ at ns 3 = search (rules, to_z-of_z) in
+    let x : IsTaken (passed (at ns 0)) (passed (at ns 1)) c.in_ok-x_least.x_least c.in_ok-x_least.x_most = c.in_ok-x_least.ensures.value in
+    let y : IsRefused (passed (at ns 2)) (passed (at ns 3)) c.in_err-y_least.field-0.0 = c.in_err-y_least.ensures.value in
     let last : is_from c.in_ok-first.first (2 ^ 32 - 1) c.args.last ≡ true = rw (c.from.ensures, c.from-2.ensures, to_z-of_z c.ranges.last) at c.in_ok-last.ensures.0 in
     let slots : HasSlots c.args.number c.args.first c.args.last = record {
       object = rw (to_z-of_z c.ranges.number) at c.in_ok-object.ensures.0;
       from = rw (to_z-of_z c.ranges.first) at c.in_ok-first.ensures.0;
       to = rw (c.in_ok-first.ensures.1, to_z-of_z c.ranges.first) at last;
     } in
+    let refused = y_refused c.args.number c.args.first c.args.last ns c.in-len6.len_at_least c.in-len6.len_below slots (rw (e0, e1) at x.0) (rw (e2, e3) at y.0) in
     let p = err_from_is_err_and c.from_residual-in_err-y_least.result c.from_residual-in_err-y_least.ensures.1 in
-    rw (p.1, p.2) (as_cause _ c.in_err-y_least.field-0.0 (y_refused c.args.number c.args.first c.args.last ns c.in-len6.len_at_least c.in-len6.len_below slots (rw (e0, e1) at x.0) (rw (e2, e3) at y.0)) y.1)
+    rw (p.1, p.2) (as_cause _ c.in_err-y_least.field-0.0 refused y.1)
 
 pub returns-in_err-z_least : goal.returns-in_err-z_least
 returns-in_err-z_least c =
     let ns = c.args.ends.now in
-    let e0 : to_z w128 (of_z w128 (at ns 0)) ≡ at ns 0 = search (rules, to_z-of_z) in
-    let e1 : to_z w128 (of_z w128 (at ns 1)) ≡ at ns 1 = search (rules, to_z-of_z) in
-    let e2 : to_z w128 (of_z w128 (at ns 2)) ≡ at ns 2 = search (rules, to_z-of_z) in
-    let e3 : to_z w128 (of_z w128 (at ns 3)) ≡ at ns 3 = search (rules, to_z-of_z) in
-    let e4 : to_z w128 (of_z w128 (at ns 4)) ≡ at ns 4 = search (rules, to_z-of_z) in
-    let e5 : to_z w128 (of_z w128 (at ns 5)) ≡ at ns 5 = search (rules, to_z-of_z) in
-    let x : (is_reach (to_z w128 (of_z w128 (at ns 0))) (to_z w128 (of_z w128 (at ns 1))) ≡ true) × ((c.in_ok-x_least.x_least, c.in_ok-x_least.x_most) ≡ (to_z w128 (of_z w128 (at ns 0)), to_z w128 (of_z w128 (at ns 1)))) = c.in_ok-x_least.ensures.value in
-    let y : (is_reach (to_z w128 (of_z w128 (at ns 2))) (to_z w128 (of_z w128 (at ns 3))) ≡ true) × ((c.in_ok-y_least.y_least, c.in_ok-y_least.y_most) ≡ (to_z w128 (of_z w128 (at ns 2)), to_z w128 (of_z w128 (at ns 3)))) = c.in_ok-y_least.ensures.value in
-    let z : (is_reach (to_z w128 (of_z w128 (at ns 4))) (to_z w128 (of_z w128 (at ns 5))) ≡ false) × (c.in_err-z_least.field-0.0 ≡ Range) = c.in_err-z_least.ensures.value in
+    let e0 : passed (at ns 0) ≡ at ns 0 = search (rules, to_z-of_z) in
+    let e1 : passed (at ns 1) ≡ at ns 1 = search (rules, to_z-of_z) in
+    let e2 : passed (at ns 2) ≡ at ns 2 = search (rules, to_z-of_z) in
+    let e3 : passed (at ns 3) ≡ at ns 3 = search (rules, to_z-of_z) in
+    let e4 : passed (at ns 4) ≡ at ns 4 = search (rules, to_z-of_z) in
+    let e5 : passed (at ns 5) ≡ at ns 5 = search (rules, to_z-of_z) in
+    let x : IsTaken (passed (at ns 0)) (passed (at ns 1)) c.in_ok-x_least.x_least c.in_ok-x_least.x_most = c.in_ok-x_least.ensures.value in
+    let y : IsTaken (passed (at ns 2)) (passed (at ns 3)) c.in_ok-y_least.y_least c.in_ok-y_least.y_most = c.in_ok-y_least.ensures.value in
+    let z : IsRefused (passed (at ns 4)) (passed (at ns 5)) c.in_err-z_least.field-0.0 = c.in_err-z_least.ensures.value in
     let last : is_from c.in_ok-first.first (2 ^ 32 - 1) c.args.last ≡ true = rw (c.from.ensures, c.from-2.ensures, to_z-of_z c.ranges.last) at c.in_ok-last.ensures.0 in
     let slots : HasSlots c.args.number c.args.first c.args.last = record {
       object = rw (to_z-of_z c.ranges.number) at c.in_ok-object.ensures.0;
       from = rw (to_z-of_z c.ranges.first) at c.in_ok-first.ensures.0;
       to = rw (c.in_ok-first.ensures.1, to_z-of_z c.ranges.first) at last;
     } in
+    let refused = z_refused c.args.number c.args.first c.args.last ns c.in-len6.len_at_least c.in-len6.len_below slots (rw (e0, e1) at x.0) (rw (e2, e3) at y.0) (rw (e4, e5) at z.0) in
     let p = err_from_is_err_and c.from_residual-in_err-z_least.result c.from_residual-in_err-z_least.ensures.1 in
-    rw (p.1, p.2) (as_cause _ c.in_err-z_least.field-0.0 (z_refused c.args.number c.args.first c.args.last ns c.in-len6.len_at_least c.in-len6.len_below slots (rw (e0, e1) at x.0) (rw (e2, e3) at y.0) (rw (e4, e5) at z.0)) z.1)
+    rw (p.1, p.2) (as_cause _ c.in_err-z_least.field-0.0 refused z.1)
 
 pub returns : goal.returns
 returns c =
     let ns = c.args.ends.now in
-    let e0 : to_z w128 (of_z w128 (at ns 0)) ≡ at ns 0 = search (rules, to_z-of_z) in
-    let e1 : to_z w128 (of_z w128 (at ns 1)) ≡ at ns 1 = search (rules, to_z-of_z) in
-    let e2 : to_z w128 (of_z w128 (at ns 2)) ≡ at ns 2 = search (rules, to_z-of_z) in
-    let e3 : to_z w128 (of_z w128 (at ns 3)) ≡ at ns 3 = search (rules, to_z-of_z) in
-    let e4 : to_z w128 (of_z w128 (at ns 4)) ≡ at ns 4 = search (rules, to_z-of_z) in
-    let e5 : to_z w128 (of_z w128 (at ns 5)) ≡ at ns 5 = search (rules, to_z-of_z) in
-    let x : (is_reach (to_z w128 (of_z w128 (at ns 0))) (to_z w128 (of_z w128 (at ns 1))) ≡ true) × ((c.in_ok-x_least.x_least, c.in_ok-x_least.x_most) ≡ (to_z w128 (of_z w128 (at ns 0)), to_z w128 (of_z w128 (at ns 1)))) = c.in_ok-x_least.ensures.value in
-    let y : (is_reach (to_z w128 (of_z w128 (at ns 2))) (to_z w128 (of_z w128 (at ns 3))) ≡ true) × ((c.in_ok-y_least.y_least, c.in_ok-y_least.y_most) ≡ (to_z w128 (of_z w128 (at ns 2)), to_z w128 (of_z w128 (at ns 3)))) = c.in_ok-y_least.ensures.value in
-    let z : (is_reach (to_z w128 (of_z w128 (at ns 4))) (to_z w128 (of_z w128 (at ns 5))) ≡ true) × ((c.in_ok-z_least.z_least, c.in_ok-z_least.z_most) ≡ (to_z w128 (of_z w128 (at ns 4)), to_z w128 (of_z w128 (at ns 5)))) = c.in_ok-z_least.ensures.value in
-    let x_least : to_z w64 (of_z w64 c.in_ok-x_least.x_least) ≡ c.in_ok-x_least.x_least = search (rules, to_z-of_z) in
-    let x_most : to_z w64 (of_z w64 c.in_ok-x_least.x_most) ≡ c.in_ok-x_least.x_most = search (rules, to_z-of_z) in
-    let y_least : to_z w64 (of_z w64 c.in_ok-y_least.y_least) ≡ c.in_ok-y_least.y_least = search (rules, to_z-of_z) in
-    let y_most : to_z w64 (of_z w64 c.in_ok-y_least.y_most) ≡ c.in_ok-y_least.y_most = search (rules, to_z-of_z) in
-    let z_least : to_z w64 (of_z w64 c.in_ok-z_least.z_least) ≡ c.in_ok-z_least.z_least = search (rules, to_z-of_z) in
-    let z_most : to_z w64 (of_z w64 c.in_ok-z_least.z_most) ≡ c.in_ok-z_least.z_most = search (rules, to_z-of_z) in
+    let e0 : passed (at ns 0) ≡ at ns 0 = search (rules, to_z-of_z) in
+    let e1 : passed (at ns 1) ≡ at ns 1 = search (rules, to_z-of_z) in
+    let e2 : passed (at ns 2) ≡ at ns 2 = search (rules, to_z-of_z) in
+    let e3 : passed (at ns 3) ≡ at ns 3 = search (rules, to_z-of_z) in
+    let e4 : passed (at ns 4) ≡ at ns 4 = search (rules, to_z-of_z) in
+    let e5 : passed (at ns 5) ≡ at ns 5 = search (rules, to_z-of_z) in
+    let x : IsTaken (passed (at ns 0)) (passed (at ns 1)) c.in_ok-x_least.x_least c.in_ok-x_least.x_most = c.in_ok-x_least.ensures.value in
+    let y : IsTaken (passed (at ns 2)) (passed (at ns 3)) c.in_ok-y_least.y_least c.in_ok-y_least.y_most = c.in_ok-y_least.ensures.value in
+    let z : IsTaken (passed (at ns 4)) (passed (at ns 5)) c.in_ok-z_least.z_least c.in_ok-z_least.z_most = c.in_ok-z_least.ensures.value in
+    let x_least : stored c.in_ok-x_least.x_least ≡ c.in_ok-x_least.x_least = search (rules, to_z-of_z) in
+    let x_most : stored c.in_ok-x_least.x_most ≡ c.in_ok-x_least.x_most = search (rules, to_z-of_z) in
+    let y_least : stored c.in_ok-y_least.y_least ≡ c.in_ok-y_least.y_least = search (rules, to_z-of_z) in
+    let y_most : stored c.in_ok-y_least.y_most ≡ c.in_ok-y_least.y_most = search (rules, to_z-of_z) in
+    let z_least : stored c.in_ok-z_least.z_least ≡ c.in_ok-z_least.z_least = search (rules, to_z-of_z) in
+    let z_most : stored c.in_ok-z_least.z_most ≡ c.in_ok-z_least.z_most = search (rules, to_z-of_z) in
     let last : is_from c.in_ok-first.first (2 ^ 32 - 1) c.args.last ≡ true = rw (c.from.ensures, c.from-2.ensures, to_z-of_z c.ranges.last) at c.in_ok-last.ensures.0 in
     let slots : HasSlots c.args.number c.args.first c.args.last = record {
       object = rw (to_z-of_z c.ranges.number) at c.in_ok-object.ensures.0;
       from = rw (to_z-of_z c.ranges.first) at c.in_ok-first.ensures.0;
       to = rw (c.in_ok-first.ensures.1, to_z-of_z c.ranges.first) at last;
     } in
-    box_taken c.args.number c.args.first c.args.last ns c.in-len6.len_at_least c.in-len6.len_below slots (rw (e0, e1) at x.0) (rw (e2, e3) at y.0) (rw (e4, e5) at z.0)
+    let object = sym (rw (to_z-of_z c.ranges.number) at c.in_ok-object.ensures.1) in
+    let from = sym (rw (to_z-of_z c.ranges.first) at c.in_ok-first.ensures.1) in
+    let to = sym (rw (to_z-of_z c.ranges.last) at c.in_ok-last.ensures.1) in
+    let taken = box_taken c.args.number c.args.first c.args.last ns c.in-len6.len_at_least c.in-len6.len_below slots (rw (e0, e1) at x.0) (rw (e2, e3) at y.0) (rw (e4, e5) at z.0) in
+    taken
     ∙ ap (λ (b : PlainBoxLine). Ok (Box b)) (
-    same_box _ _ _ _ _ _ _ _ _ _ _ _ _ _ _ _ _ _ (sym (rw (to_z-of_z c.ranges.number) at c.in_ok-object.ensures.1)) (sym (rw (to_z-of_z c.ranges.first) at c.in_ok-first.ensures.1)) (sym (rw (to_z-of_z c.ranges.last) at c.in_ok-last.ensures.1))
-    (sym (x_least ∙ (ap (λ (q : ℤ × ℤ). q.0) x.1 ∙ e0))) (sym (x_most ∙ (ap (λ (q : ℤ × ℤ). q.1) x.1 ∙ e1))) (sym (y_least ∙ (ap (λ (q : ℤ × ℤ). q.0) y.1 ∙ e2))) (sym (y_most ∙ (ap (λ (q : ℤ × ℤ). q.1) y.1 ∙ e3))) (sym (z_least ∙ (ap (λ (q : ℤ × ℤ). q.0) z.1 ∙ e4))) (sym (z_most ∙ (ap (λ (q : ℤ × ℤ). q.1) z.1 ∙ e5)))
+    same_box _ _ _ _ _ _ _ _ _ _ _ _ _ _ _ _ _ _ object from to
+    (sym (x_least ∙ (ap (λ (q : ℤ × ℤ). q.0) x.1 ∙ e0)))
+    (sym (x_most ∙ (ap (λ (q : ℤ × ℤ). q.1) x.1 ∙ e1)))
+    (sym (y_least ∙ (ap (λ (q : ℤ × ℤ). q.0) y.1 ∙ e2)))
+    (sym (y_most ∙ (ap (λ (q : ℤ × ℤ). q.1) y.1 ∙ e3)))
+    (sym (z_least ∙ (ap (λ (q : ℤ × ℤ). q.0) z.1 ∙ e4)))
+    (sym (z_most ∙ (ap (λ (q : ℤ × ℤ). q.1) z.1 ∙ e5)))
     )

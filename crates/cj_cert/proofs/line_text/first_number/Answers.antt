@@ -15,5 +15,7 @@ pub returns-clause-some : goal.returns-clause-some
 returns-clause-some c =
     let z = c.in_ok-read_number.field-0 in
     let fits : FitsSigned w128 z = search rules in
-    let first = subst (λ (ws : List (List ℕ)). LeadsTo ws z (words_in c.in_ok-word.behind.rest)) (sym c.in_ok-word.ensures) (read_first c.in_ok-word.word.now (words_in c.in_ok-word.behind.rest) z c.in_ok-read_number.ensures) in
+    let words = words_in c.in_ok-word.behind.rest in
+    let read = read_first c.in_ok-word.word.now words z c.in_ok-read_number.ensures in
+    let first = subst (λ (ws : List (List ℕ)). LeadsTo ws z words) (sym c.in_ok-word.ensures) read in
     subst (λ y. LeadsTo (words_in c.args.words.rest) y (words_in c.in_ok-word.behind.rest)) (sym (to_z-of_z fits)) first

@@ -1,0 +1,9 @@
+pub mod CurrentLemmas
+pub mod EnteredLemmas
+pub mod FillLemmas
+pub mod FoundLemmas
+pub mod JoinLemmas
+pub mod RoundLemmas
+pub mod RowLemmas
+pub mod RunLemmas
+pub mod TreatedLemmas

@@ -1,0 +1,51 @@
+use Rattle.std.proofs.Common.{◌≡◌, ◌∙◌, ◌+◌, ◌-◌, ℕ, Bool, true, false, option_map, sym, subst, arith}
+use Rattle.std.specs.List.{list_all, range_with_len}
+use Rattle.cj_bezier.specs.SlotBoxes.{plain_box, plain_boxes}
+use Rattle.cj_blocks.specs.Blocks.{touches_only_as}
+use Rattle.cj_blocks.specs.BoxRows.{box_at}
+use Rattle.cj_blocks.proofs.JoinLemmas.{one_fails, one_passes}
+use Rattle.cj_blocks.proofs.RowLemmas.{box_found}
+use Rattle.cj_blocks.proofs.joining.touches_as_own.Goals as goal
+
+pub returns-then-not-touches_only_as : goal.returns-then-not-touches_only_as
+returns-then-not-touches_only_as c =
+    let s = c.args.slots in
+    let slot = c.loop-slot.slot in
+    let within = s.within in
+    let later = c.loop-slot.invariant.later in
+    let all = c.requires.own in
+    let all' = c.requires.other in
+    let place = c.place.ensures in
+    let place' = c.place-in-loop-slot.ensures in
+    let own = box_found s.all c.args.object slot c.place.result c.args.boxes.now c.index-boxes-place.result c.index-boxes-place.result place (omega arith) (sym c.index-boxes-place.is) in
+    let other =
+    box_found s.all c.args.partner slot c.place-in-loop-slot.result c.args.current.now c.index-current-place.result c.index-current-place.result place' (omega arith) (sym c.index-current-place.is) in
+    let fails : c.touches_only_as.result ≡ false = cc in
+    let test : ℕ → Bool =
+    λ slot. touches_only_as c.args.thr (option_map plain_box c.args.round.now) (box_at s.all (plain_boxes c.args.boxes.now) c.args.object slot) (box_at s.all (plain_boxes c.args.current.now) c.args.partner slot) in
+    sym (one_fails test s.first s.count slot (omega arith) (omega arith)
+    ((λ i. touches_only_as c.args.thr (option_map plain_box c.args.round.now) (own i) (other i)) ∙ sym c.touches_only_as.ensures ∙ fails))
+
+pub loop-slot-preserved : goal.loop-slot-preserved
+loop-slot-preserved c = record {
+  later = let later = c.loop-slot.invariant.later in omega arith;
+  so_far =
+      let s = c.args.slots in
+      let slot = c.loop-slot.slot in
+      let within = s.within in
+      let later = c.loop-slot.invariant.later in
+      let all = c.requires.own in
+      let all' = c.requires.other in
+      let place = c.place.ensures in
+      let place' = c.place-in-loop-slot.ensures in
+      let own = box_found s.all c.args.object slot c.place.result c.args.boxes.now c.index-boxes-place.result c.index-boxes-place.result place (omega arith) (sym c.index-boxes-place.is) in
+      let other =
+      box_found s.all c.args.partner slot c.place-in-loop-slot.result c.args.current.now c.index-current-place.result c.index-current-place.result place' (omega arith) (sym c.index-current-place.is) in
+      let passes : c.touches_only_as.result ≡ true = cc in
+      let test : ℕ → Bool =
+      λ slot. touches_only_as c.args.thr (option_map plain_box c.args.round.now) (box_at s.all (plain_boxes c.args.boxes.now) c.args.object slot) (box_at s.all (plain_boxes c.args.current.now) c.args.partner slot) in
+      let next : slot - s.first + 1 ≡ slot + 1 - s.first = omega arith in
+      subst (λ (n : ℕ). list_all test (range_with_len s.first n) ≡ true) next
+      (one_passes test s.first (slot - s.first) slot (omega arith) c.loop-slot.invariant.so_far
+      ((λ i. touches_only_as c.args.thr (option_map plain_box c.args.round.now) (own i) (other i)) ∙ sym c.touches_only_as.ensures ∙ passes));
+}

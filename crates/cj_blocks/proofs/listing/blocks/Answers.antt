@@ -1,0 +1,69 @@
+use Rattle.std.proofs.Common.{◌≡◌, ◌∙◌, ◌+◌, ◌<◌, ◌++◌, ℕ, suc, List, filter, get_or, length, map, ap, sym, subst, arith}
+use Rattle.std.specs.List.{flat_map, range_with_len}
+use Rattle.cj_hermite.specs.declared.pair.Pair.{Pair}
+use Rattle.cj_hermite.specs.Pairs.{objects_of}
+use Rattle.cj_bezier.specs.SlotBoxes.{plain_boxes}
+use Rattle.cj_blocks.specs.Blocks.{PlainBlock, TouchAsGiven, block_count, blocks_in, is_pair_of}
+use Rattle.cj_blocks.specs.BoxRows.{box_at}
+use Rattle.cj_blocks.specs.Listed.{block_of, given, plain_block}
+use Rattle.cj_blocks.proofs.CurrentLemmas.{not_yet}
+use Rattle.cj_blocks.proofs.RunLemmas.{touch_listed}
+use Rattle.cj_blocks.proofs.TreatedLemmas.{AreCurrent, all_listed, flat_map_more, kept_exist, kept_ordered, list_at, object_listed, one_object_more, pairs_exist, treated}
+use Rattle.cj_blocks.proofs.listing.blocks.Goals as goal
+
+pub loop-object-init : goal.loop-object-init
+loop-object-init c =
+    let a = c.args in
+    let g = given a.kept.now a.objects a.slots a.boxes.now a.sizes.now a.thr in
+    record {
+      count = c.in_ok-current.ensures.len;
+      current = λ other slot lt. ap (λ (bs : List _). box_at a.slots (plain_boxes bs) other slot) c.in_ok-current.ensures.items ∙ sym (not_yet g 0 other slot (omega arith));
+      blocks = ap (map plain_block) c.new-found.ensures.items;
+    }
+
+pub list_object-requires-clause-exist : goal.list_object-requires-clause-exist
+list_object-requires-clause-exist c =
+    let a = c.args in
+    let n = c.loop-object.object in
+    let sized = c.requires.sized in
+    let same : map objects_of c.deref.result.now ≡ filter (is_pair_of n) (map objects_of a.kept.now) =
+    ap (map objects_of) (c.deref.ensures.value ∙ sym (list_at c.in_ok-lists.lists.items n c.index.result.now (omega (arith, c.in_ok-lists.ensures.count)) c.index.ensures))
+    ∙ c.in_ok-lists.ensures.value n (omega arith) in
+    pairs_exist n (length a.sizes.now) a.kept.now c.deref.result.now same (subst (λ (m : ℕ). (k : ℕ) (d : Pair) → k < length a.kept.now → (get_or a.kept.now k d).b < m) (sym sized) c.requires.exist)
+
+pub loop-object-preserved : goal.loop-object-preserved
+loop-object-preserved c =
+    let a = c.args in
+    let n = c.loop-object.object in
+    let i = c.loop-object.invariant in
+    let g = given a.kept.now a.objects a.slots a.boxes.now a.sizes.now a.thr in
+    let pairs = c.deref.result.now in
+    let current = c.loop-object.current.items in
+    let new = c.list_object.new.current.items in
+    let same : map objects_of pairs ≡ filter (is_pair_of n) (map objects_of a.kept.now) =
+    ap (map objects_of) (c.deref.ensures.value ∙ sym (list_at c.in_ok-lists.lists.items n c.index.result.now (omega (arith, c.in_ok-lists.ensures.count)) c.index.ensures))
+    ∙ c.in_ok-lists.ensures.value n (omega arith) in
+    let next : suc n ≡ n + 1 = omega arith in
+    let of_object = λ (object : ℕ). flat_map (blocks_in g object) (range_with_len 0 (block_count a.slots)) in
+    let listed = flat_map (block_of (treated a.kept.now pairs a.objects a.slots a.boxes.now current a.sizes.now a.thr) n) (range_with_len 0 (block_count a.slots)) in
+    record {
+      count = c.in_ok-list_object.ensures.count ∙ i.count;
+      current = subst (λ (m : ℕ). AreCurrent g m new) next
+          (one_object_more a.kept.now pairs a.objects a.slots a.boxes.now current new a.sizes.now a.thr n same i.current c.in_ok-list_object.ensures.current);
+      blocks = c.in_ok-list_object.ensures.blocks
+          ∙ ap (λ (bs : List PlainBlock). bs ++ listed) i.blocks
+          ∙ ap (λ (bs : List PlainBlock). flat_map of_object (range_with_len 0 n) ++ bs) (object_listed a.kept.now pairs a.objects a.slots a.boxes.now current a.sizes.now a.thr n same i.current)
+          ∙ sym (flat_map_more of_object n);
+    }
+
+pub returns-clause-value : goal.returns-clause-value
+returns-clause-value c =
+    let a = c.args in
+    let end = c.loop-object.auto in
+    all_listed (given a.kept.now a.objects a.slots a.boxes.now a.sizes.now a.thr) c.loop-object.object (map plain_block c.loop-object.found.items) (omega arith) c.loop-object.invariant.blocks
+
+pub returns-clause-touch : goal.returns-clause-touch
+returns-clause-touch c =
+    let a = c.args in
+    let g = given a.kept.now a.objects a.slots a.boxes.now a.sizes.now a.thr in
+    subst (λ (bs : List PlainBlock). TouchAsGiven g bs) (sym (returns-clause-value c)) (touch_listed g (kept_ordered a.kept.now) (kept_exist a.objects a.kept.now c.requires.exist))

@@ -1,0 +1,4 @@
+pub mod BoxRows
+pub mod Blocks
+pub mod PairsByObject
+pub mod Listed

@@ -1,0 +1,102 @@
+//! Whether the slots of an object are joined.
+ghost use Rattle.std.specs.Prelude.{◌≡◌, ℕ, ◌+◌, ◌*◌, ◌^◌, ◌<◌, ◌≤◌, All, length, option_map};
+ghost use Rattle.std.specs.List.{list_all, range_with_len};
+ghost use Rattle.cj_hermite.specs.Limits.{MAX_SIZE};
+ghost use Rattle.cj_hermite.specs.Pairs.{objects_of};
+ghost use Rattle.cj_bezier.specs.SlotBoxes as touch;
+ghost use Rattle.cj_bezier.specs.SlotBoxes.{plain_box, plain_boxes};
+ghost use Rattle.cj_blocks.specs.Blocks as spec;
+ghost use Rattle.cj_blocks.specs.BoxRows.{box_at};
+ghost use Rattle.cj_blocks.specs.Listed.{Treated, joined_of};
+
+use crate::block_slots::BlockSlots;
+use crate::box_touch::box_touches;
+use crate::round_boxes::box_round;
+use cj_bezier::AxisBox;
+use cj_hermite::{Pair, threshold_between};
+
+/// Whether two boxes are there and apart by at most a threshold on each axis.
+fn both_touch(a: &Option<AxisBox>, b: &Option<AxisBox>, thr: u64) -> bool
+    ensures { result ≡ touch.both_touch thr (option_map plain_box a.now) (option_map plain_box b.now) }
+{
+    match (a, b) {
+        (Some(a), Some(b)) => box_touches(a, b, thr),
+        _ => false,
+    }
+}
+
+/// Whether a box touches another's only where the own box does.
+fn touches_only_as(
+    round: &Option<AxisBox>,
+    own: &Option<AxisBox>,
+    other: &Option<AxisBox>,
+    thr: u64,
+) -> bool
+    ensures { result ≡ spec.touches_only_as thr (option_map plain_box round.now) (option_map plain_box own.now) (option_map plain_box other.now) }
+{
+    !both_touch(round, other, thr) || both_touch(own, other, thr)
+}
+
+/// The other object of a pair of an object.
+fn partner_of(object: u32, pair: Pair) -> u32
+    ensures value { result ≡ spec.partner_of object (objects_of pair) }
+    ensures most { result ≤ pair.b }
+{
+    if pair.a == object { pair.b } else { pair.a }
+}
+
+/// Whether in each of these slots a box touches only such current boxes of a partner as the object's own one does.
+fn touches_as_own(
+    round: &Option<AxisBox>,
+    object: u32,
+    partner: u32,
+    slots: BlockSlots,
+    boxes: &[Option<AxisBox>],
+    current: &[Option<AxisBox>],
+    thr: u64,
+) -> bool
+    requires own { object * slots.all + slots.all ≤ length boxes.now }
+    requires other { partner * slots.all + slots.all ≤ length current.now }
+    ensures { result ≡ list_all (λ slot. spec.touches_only_as thr (option_map plain_box round.now)
+        (box_at slots.all (plain_boxes boxes.now) object slot) (box_at slots.all (plain_boxes current.now) partner slot)) (range_with_len slots.first slots.count) }
+{
+    for slot in slots.first..slots.first + slots.count {
+        let own = &boxes[slots.place(object, slot)];
+        let other = &current[slots.place(partner, slot)];
+        if !touches_only_as(round, own, other, thr) {
+            return false;
+        }
+    }
+    true
+}
+
+/// The box of an object round its boxes in some slots, where it has one in each, and where that box touches, of all partners in its
+/// pairs, only such current boxes as the object's own one of the slot does.
+pub fn joined_box(
+    object: u32,
+    pairs: &[Pair],
+    slots: BlockSlots,
+    boxes: &[Option<AxisBox>],
+    current: &[Option<AxisBox>],
+    sizes: &[u64],
+    thr: u64,
+) -> Option<AxisBox>
+    requires exists { object < length sizes.now }
+    requires exist { All (λ pair. pair.b < length sizes.now) pairs.now }
+    requires all { length boxes.now ≡ length sizes.now * slots.all }
+    requires same { length current.now ≡ length sizes.now * slots.all }
+    requires small { All (λ size. size ≤ MAX_SIZE) sizes.now }
+    requires most { thr ≤ 10 ^ 15 }
+    ensures { option_map plain_box result ≡ joined_of (record { pairs = pairs.now; slots = slots.all; boxes = boxes.now; current = current.now; sizes = sizes.now; threshold = thr })
+        object slots.first slots.count }
+{
+    let round = Some(box_round(boxes, object, slots)?);
+    for pair in pairs {
+        let between = threshold_between(sizes, thr, *pair);
+        let partner = partner_of(object, *pair);
+        if !touches_as_own(&round, object, partner, slots, boxes, current, between) {
+            return None;
+        }
+    }
+    round
+}

@@ -1,0 +1,84 @@
+-- Certificates of version 2 from their parts.
+use Rattle.std.proofs.Common.{◌≡◌, ℕ, ◌<◌, Bool, cond, List, length, map, filter, Option, sym, ap, ◌∙◌, subst}
+use Rattle.std.specs.Prelude.{All}
+use Rattle.std.specs.List.{enumerate_from, flat_map, range_with_len}
+use Rattle.std.proofs.lemmas.Bool.{eq-eqb}
+use Rattle.cj_interval.proofs.ListLemmas.{Each, Each-weaker, All-from_each, each_from_map}
+use Rattle.cj_hermite.specs.declared.pair.Pair.{Pair}
+use Rattle.cj_hermite.specs.Pairs.{objects_of, pairs_of}
+use Rattle.cj_hermite.specs.PlainProblems.{PlainProblem}
+use Rattle.cj_hermite.specs.Slots.{slot_count}
+use Rattle.cj_hermite.proofs.PairLemmas.{IsPair, Each-pairs}
+use Rattle.cj_bezier.specs.Leaves.{PlainLeaf}
+use Rattle.cj_bezier.specs.Looked.{pairs_kept}
+use Rattle.cj_bezier.specs.SlotBoxes.{PlainBox}
+use Rattle.cj_blocks.specs.Blocks.{blocks_of}
+use Rattle.cj_cert.specs.declared.cert_lines.ShellLine.{ShellLine}
+use Rattle.cj_cert.specs.declared.cert_lines.SizeOfLine.{SizeOfLine}
+use Rattle.cj_cert.specs.Certificates.{PlainBoxLine, PlainCertificate}
+use Rattle.cj_cert.specs.Listed.{box_listed}
+use Rattle.cj_cert.specs.Rewritten.{size_lines, line_of_block, boxes_by_lines, pairs_by_shells, given_of, with_blocks, rewritten, in_version_2, written_in}
+use Rattle.cj_cert.specs.Written.{boxes_in_order, leaves_in_order, shell_line, written}
+use Rattle.cj_cert.proofs.RewrittenLemmas.{each_left}
+
+-- pairs that are left of all are of the objects
+pub pairs_of_objects : (n m : ℕ) (test : ℕ × ℕ → Bool) (kept : List Pair) → map objects_of kept ≡ filter test (pairs_of n) → n ≡ m → All (λ pair. pair.b < m) kept
+pairs_of_objects n m test kept same count =
+    subst (λ (k : ℕ). All (λ pair. pair.b < k) kept) count
+    (All-from_each (λ pair. pair.b < n) kept
+    (each_from_map (λ pair. pair.1 < n) objects_of kept
+    (subst (λ (ps : List (ℕ × ℕ)). Each (λ pair. pair.1 < n) ps) (sym same)
+    (Each-weaker (IsPair n) (λ pair. pair.1 < n) (λ pair is. is.exists) (filter test (pairs_of n)) (each_left (IsPair n) test (pairs_of n) (Each-pairs n))))))
+
+-- a certificate in version 2 with these sizes and boxes
+abbrev with_lines : PlainCertificate → List SizeOfLine → List PlainBoxLine → PlainCertificate
+with_lines c sizes boxes = record {
+  version = 2;
+  first = c.first;
+  last = c.last;
+  threshold = c.threshold;
+  objects = c.objects;
+  sizes = sizes;
+  shells = c.shells;
+  boxes = boxes;
+  cells = c.cells;
+}
+
+-- the lines of the blocks over boxes and kept pairs that are the listed ones
+abbrev lines_over : PlainProblem → List (Option PlainBox) → List (ℕ × ℕ) → List PlainBoxLine
+lines_over case boxes kept = map line_of_block (blocks_of (given_of case boxes kept))
+
+pub listed_in_order : (case : PlainProblem) (lines : List PlainBoxLine) (objects slots : ℕ) → objects ≡ length case.ephemerides → slots ≡ slot_count case.first case.last
+    → flat_map (λ object. map (λ slot. box_listed lines slot object) (range_with_len 0 slots)) (range_with_len 0 objects) ≡ boxes_by_lines case lines
+unfolding boxes_by_lines
+listed_in_order case lines objects slots many wide = λ i. flat_map (λ object. map (λ slot. box_listed lines slot object) (range_with_len 0 (wide i))) (range_with_len 0 (many i))
+
+pub rewritten_is : (case : PlainProblem) (c : PlainCertificate) (sizes : List SizeOfLine) (lines : List PlainBoxLine) (boxes : List (Option PlainBox)) (kept : List (ℕ × ℕ)) → c.version ≡ 1
+    → sizes ≡ size_lines case.sizes → lines ≡ lines_over case boxes kept → boxes ≡ boxes_by_lines case c.boxes → kept ≡ pairs_by_shells case c → with_lines c sizes lines ≡ in_version_2 case c
+unfolding with_blocks
+rewritten_is case c sizes lines boxes kept first same are by_lines by_shells =
+    (λ i. with_lines c (same i) (are i))
+    ∙ (λ i. with_lines c (size_lines case.sizes) (lines_over case (by_lines i) (by_shells i)))
+    ∙ ap (λ (b : Bool). cond b (rewritten case c) c) (sym (eq-eqb c.version 1 first))
+
+-- what a run writes in version 2
+abbrev of_lines_2 : PlainProblem → ℕ → List SizeOfLine → List ShellLine → List PlainBoxLine → List PlainLeaf → PlainCertificate
+of_lines_2 case objects sizes shells boxes cells = record {
+  version = 2;
+  first = case.first;
+  last = case.last;
+  threshold = case.threshold;
+  objects = objects;
+  sizes = sizes;
+  shells = shells;
+  boxes = boxes;
+  cells = cells;
+}
+
+pub written_is : (case : PlainProblem) (objects : ℕ) (sizes : List SizeOfLine) (shells : List ShellLine) (lines : List PlainBoxLine) (cells : List PlainLeaf) (boxes : List (Option PlainBox)) (kept : List (ℕ × ℕ))
+    → objects ≡ length case.ephemerides → sizes ≡ size_lines case.sizes → shells ≡ map (shell_line case) (enumerate_from 0 case.ephemerides) → lines ≡ lines_over case boxes kept
+    → boxes ≡ boxes_in_order case → kept ≡ pairs_kept case → cells ≡ leaves_in_order case → of_lines_2 case objects sizes shells lines cells ≡ written_in 2 case
+unfolding with_blocks written
+written_is case objects sizes shells lines cells boxes kept many same rounds are by_place by_pair leaves =
+    (λ i. of_lines_2 case (many i) (same i) (rounds i) (are i) (leaves i))
+    ∙ (λ i. of_lines_2 case (length case.ephemerides) (size_lines case.sizes) (map (shell_line case) (enumerate_from 0 case.ephemerides)) (lines_over case (by_place i) (by_pair i)) (leaves_in_order case))

@@ -1,0 +1,67 @@
+ghost use Rattle.std.specs.Prelude.{◌≡◌, [], ◌∷◌, Some, length, IfOk};
+ghost use Rattle.cj_cert.specs.Certificates.{plain_certificate};
+ghost use Rattle.cj_cert.specs.Listed.{shells_listed};
+
+use super::{AT_REST_2, at_rest_1, at_rest_2};
+use crate::{Certificate, cert_text, in_version_2, listed_shells};
+use cj_hermite::{Pair, Problem, Sizes, Tracks};
+use cj_samples::{rest, seconds, track_of};
+use cj_track::Vec3;
+use std::alloc::{AllocError, Global};
+use std::test::Fail;
+
+/// Two objects at rest, exactly the threshold of 5 km apart, for a minute.
+fn resting(alloc: Global) -> Result<Problem, AllocError>
+    ensures tracks { IfOk result (λ problem. length problem.tracks ≡ 2) }
+    ensures threshold { IfOk result (λ problem. problem.threshold ≡ 5000000000000) }
+    ensures sizes { IfOk result (λ problem. problem.sizes ≡ 0 ∷ 0 ∷ []) }
+{
+    let here = Vec3 {
+        x: 7_000_000_000_000_000,
+        y: 0,
+        z: 0,
+    };
+    let there = Vec3 {
+        x: 7_005_000_000_000_000,
+        y: 0,
+        z: 0,
+    };
+    let a = track_of(alloc, rest(alloc, 0, 60, here)?)?;
+    let b = track_of(alloc, rest(alloc, 0, 60, there)?)?;
+    Ok(Problem {
+        tracks: Tracks::new(vec![in alloc; a, b]?),
+        window: seconds(0, 60),
+        threshold: 5_000_000_000_000,
+        sizes: Sizes::new(vec![in alloc; 0, 0]?),
+    })
+}
+
+/// A certificate of these objects in version 2, by their only pair.
+fn rewritten(alloc: Global, problem: &Problem, cert: Certificate) -> Result<Certificate, AllocError>
+    requires tracks { length problem.now.tracks ≡ 2 }
+    requires threshold { problem.now.threshold ≡ 5000000000000 }
+    requires sizes { problem.now.sizes ≡ 0 ∷ 0 ∷ [] }
+    requires shells { shells_listed (plain_certificate cert)
+        ≡ Some (record { lo = 7000000000000000; hi = 7000000000000000 }) ∷ Some (record { lo = 7005000000000000; hi = 7005000000000000 }) ∷ [] }
+{
+    in_version_2(alloc, problem, cert, &[Pair { a: 0, b: 1 }])
+}
+
+#[test]
+fn objects_at_rest_have_one_box_each_in_version_2(rt: HostRuntime) -> Result<(), Fail> {
+    let alloc = rt.alloc();
+    let problem = resting(alloc)?;
+    let new = rewritten(alloc, &problem, at_rest_1(alloc)?)?;
+    assert_eq!(rt; cert_text(alloc, &new)?.as_slice(), AT_REST_2);
+    let same = rewritten(alloc, &problem, at_rest_2(alloc)?)?;
+    assert_eq!(rt; cert_text(alloc, &same)?.as_slice(), AT_REST_2);
+    Ok(())
+}
+
+#[test]
+fn a_certificate_lists_shells(rt: HostRuntime) -> Result<(), Fail> {
+    let alloc = rt.alloc();
+    let shells = listed_shells(alloc, &at_rest_1(alloc)?)?;
+    assert_eq!(rt; shells.len(), 2);
+    Ok(())
+}
