@@ -1,0 +1,314 @@
+-- Keys that were found, in order, are the keys of their rows, and their roots are the roots of these rows.
+use Rattle.std.proofs.Common.{◌≡◌, ℕ, zero, suc, ◌+◌, ◌-◌, ◌<◌, ◌≤◌, Bool, true, false, cond, List, [], ◌∷◌, ◌++◌, map, length, get_or, refl, sym, ap, ◌∙◌, subst, inl, inr, arith, append-nil}
+use Rattle.std.specs.List.{Contains, flat_map, range_with_len}
+use Rattle.std.proofs.lemmas.List.Concat.{flat_map-append}
+use Rattle.cj_interval.proofs.ListLemmas.{Each, Exists, Ordered, Each-weaker, Each-map, Each-flat_map, Each-range, Each-taken, Exists-weaker, Exists-map, Exists-flat_map, Exists-range, Exists-taken, Ordered-flat_map, Ordered-range, Ordered-taken, All-from_each, each_from_All, each_from_map, ordered_from_AllPairs}
+use Rattle.cj_hermite.specs.Pairs.{pairs_of}
+use Rattle.cj_hermite.specs.PlainProblems.{PlainProblem}
+use Rattle.cj_hermite.specs.Roots.{roots_in, slots_of, roots_of}
+use Rattle.cj_hermite.specs.Slots.{slot_count}
+use Rattle.cj_hermite.proofs.PairLemmas.{IsPair, PairBefore, pairs_from, Each-pairs, Ordered-pairs}
+use Rattle.cj_checker.specs.declared.keys.Key.{Key}
+use Rattle.cj_checker.specs.Keys.{PlainKey, plain_key, pairs_in_rows, keys_of_pair, keys_in_rows, roots_of_keys, roots_in_rows, IsKeyIn, AreKeysIn, HasKey, IsKeyBefore, AreInOrder}
+
+-- ---- lists
+
+-- lists of lists, one after another
+joined : {X Y Z : Type 0} (g : Y → List Z) (f : X → List Y) (xs : List X) → flat_map g (flat_map f xs) ≡ flat_map (λ x. flat_map g (f x)) xs
+joined g f [] = refl
+joined g f (x ∷ xs) = flat_map-append g (f x) (flat_map f xs) ∙ ap (λ zs. flat_map g (f x) ++ zs) (joined g f xs)
+
+range_split : (a k l : ℕ) → range_with_len a (k + l) ≡ range_with_len a k ++ range_with_len (a + k) l
+range_split a zero l =
+    let at : a ≡ a + 0 = omega arith in
+    let len : 0 + l ≡ l = omega arith in
+    λ i. range_with_len (at i) (len i)
+range_split a (suc k) l =
+    let len : suc k + l ≡ suc (k + l) = omega arith in
+    let at : a + 1 + k ≡ a + suc k = omega arith in
+    ap (range_with_len a) len ∙ ap (λ (ns : List ℕ). a ∷ ns) (range_split (a + 1) k l ∙ ap (λ (b : ℕ). range_with_len (a + 1) k ++ range_with_len b l) at)
+
+ordered_left : {X : Type 0} (R : X → X → Type 0) (xs ys : List X) → Ordered R (xs ++ ys) → Ordered R xs
+ordered_left R [] ys o = tt
+ordered_left {X = X} R (x ∷ xs) ys o = (go xs o.0, ordered_left R xs ys o.1)
+  where
+    go : (zs : List X) → Each (R x) (zs ++ ys) → Each (R x) zs
+    go [] e = tt
+    go (z ∷ zs) e = (e.0, go zs e.1)
+
+ordered_right : {X : Type 0} (R : X → X → Type 0) (xs ys : List X) → Ordered R (xs ++ ys) → Ordered R ys
+ordered_right R [] ys o = o
+ordered_right R (x ∷ xs) ys o = ordered_right R xs ys o.1
+
+each_left : {X : Type 0} (P : X → Type 0) (xs ys : List X) → Each P (xs ++ ys) → Each P xs
+each_left P [] ys e = tt
+each_left P (x ∷ xs) ys e = (e.0, each_left P xs ys e.1)
+
+each_right : {X : Type 0} (P : X → Type 0) (xs ys : List X) → Each P (xs ++ ys) → Each P ys
+each_right P [] ys e = e
+each_right P (x ∷ xs) ys e = each_right P xs ys e.1
+
+-- ---- rows
+
+abbrev rows_of : ℕ → ℕ → ℕ → List (ℕ × ℕ)
+rows_of n first len = flat_map (pairs_from n) (range_with_len first len)
+
+-- the rows before one, and those from it on
+rows_apart : (n first mid end : ℕ) → first ≤ mid → mid ≤ end → pairs_in_rows n first end ≡ pairs_in_rows n first mid ++ pairs_in_rows n mid end
+rows_apart n first mid end low high =
+    let len : end - first ≡ (mid - first) + (end - mid) = omega arith in
+    let at : first + (mid - first) ≡ mid = omega arith in
+    ap (λ (l : ℕ). rows_of n first l) len
+    ∙ ap (flat_map (pairs_from n)) (range_split first (mid - first) (end - mid))
+    ∙ flat_map-append (pairs_from n) (range_with_len first (mid - first)) (range_with_len (first + (mid - first)) (end - mid))
+    ∙ ap (λ (k : ℕ). rows_of n first (mid - first) ++ rows_of n k (end - mid)) at
+
+all_rows : (n : ℕ) → pairs_in_rows n 0 n ≡ pairs_of n
+all_rows n = let len : n - 0 ≡ n = omega arith in ap (λ (l : ℕ). rows_of n 0 l) len
+
+-- all pairs: those of rows before, of these and of those behind
+rows_within : (n first end : ℕ) → first ≤ end → end ≤ n → pairs_of n ≡ pairs_in_rows n 0 first ++ (pairs_in_rows n first end ++ pairs_in_rows n end n)
+rows_within n first end low high =
+    sym (all_rows n) ∙ rows_apart n 0 first n (omega arith) (omega arith) ∙ ap (λ (ps : List (ℕ × ℕ)). pairs_in_rows n 0 first ++ ps) (rows_apart n first end n low high)
+
+Each-rows : (n first end : ℕ) → first ≤ end → end ≤ n → Each (IsPair n) (pairs_in_rows n first end)
+Each-rows n first end low high =
+    each_left (IsPair n) (pairs_in_rows n first end) (pairs_in_rows n end n)
+    (each_right (IsPair n) (pairs_in_rows n 0 first) (pairs_in_rows n first end ++ pairs_in_rows n end n)
+    (subst (Each (IsPair n)) (rows_within n first end low high) (Each-pairs n)))
+
+Ordered-rows : (n first end : ℕ) → first ≤ end → end ≤ n → Ordered PairBefore (pairs_in_rows n first end)
+Ordered-rows n first end low high =
+    ordered_left PairBefore (pairs_in_rows n first end) (pairs_in_rows n end n)
+    (ordered_right PairBefore (pairs_in_rows n 0 first) (pairs_in_rows n first end ++ pairs_in_rows n end n)
+    (subst (Ordered PairBefore) (rows_within n first end low high) (Ordered-pairs n)))
+
+-- the first objects of the pairs of some rows are theirs
+Each-first : (n first end : ℕ) → Each (λ p. (first ≤ p.0) × (p.0 < end)) (pairs_in_rows n first end)
+Each-first n first end =
+    Each-flat_map (λ p. (first ≤ p.0) × (p.0 < end)) (pairs_from n) (range_with_len first (end - first))
+    (Each-range (λ a. Each (λ p. (first ≤ p.0) × (p.0 < end)) (pairs_from n a)) first (end - first)
+    (λ a low high. Each-map (λ p. (first ≤ p.0) × (p.0 < end)) (λ (b : ℕ). let p : ℕ × ℕ = (a, b) in p) (range_with_len (a + 1) (n - (a + 1)))
+    (Each-range (λ b. (first ≤ a) × (a < end)) (a + 1) (n - (a + 1)) (λ b above below. (low, omega arith)))))
+
+Exists-rows : (n first end a b : ℕ) → first ≤ a → a < end → a < b → b < n → Exists (λ p. p ≡ (a, b)) (pairs_in_rows n first end)
+Exists-rows n first end a b low high ordered exists =
+    Exists-flat_map (λ p. p ≡ (a, b)) (pairs_from n) (range_with_len first (end - first))
+    (Exists-weaker (λ c. c ≡ a) (λ c. Exists (λ p. p ≡ (a, b)) (pairs_from n c))
+    (λ c e. rw e
+    (Exists-map (λ p. p ≡ (a, b)) (λ (d : ℕ). let p : ℕ × ℕ = (a, d) in p) (range_with_len (a + 1) (n - (a + 1)))
+    (Exists-weaker (λ d. d ≡ b) (λ d. ◌≡◌ {A = ℕ × ℕ} (a, d) (a, b)) (λ d e. ap (λ (x : ℕ). let p : ℕ × ℕ = (a, x) in p) e) (range_with_len (a + 1) (n - (a + 1)))
+    (Exists-range (a + 1) (n - (a + 1)) b (omega arith) (omega arith)))))
+    (range_with_len first (end - first)) (Exists-range first (end - first) a low (omega arith)))
+
+-- ---- the keys of rows
+
+abbrev key : ℕ → ℕ → ℕ → PlainKey
+key a b slot = record { a = a; b = b; slot = slot }
+
+abbrev taken : (ℕ → ℕ → ℕ → Bool) → ℕ × ℕ → ℕ → List PlainKey
+taken looked pair slot = cond (looked pair.0 pair.1 slot) (key pair.0 pair.1 slot ∷ []) []
+
+-- a key of one pair
+abbrev IsOfPair : ℕ × ℕ → PlainKey → Type 0
+IsOfPair pair k = (k.a ≡ pair.0) × (k.b ≡ pair.1)
+
+Each-of_pair : (looked : ℕ → ℕ → ℕ → Bool) (case : PlainProblem) (pair : ℕ × ℕ) → Each (IsOfPair pair) (keys_of_pair looked case pair)
+Each-of_pair looked case pair =
+    Each-flat_map (IsOfPair pair) (taken looked pair) (slots_of case)
+    (Each-range (λ slot. Each (IsOfPair pair) (taken looked pair slot)) 0 (slot_count case.first case.last)
+    (λ slot low high. Each-taken (IsOfPair pair) (looked pair.0 pair.1 slot) (key pair.0 pair.1 slot ∷ []) ((refl, refl), tt)))
+
+Ordered-pair : (looked : ℕ → ℕ → ℕ → Bool) (case : PlainProblem) (pair : ℕ × ℕ) → Ordered IsKeyBefore (keys_of_pair looked case pair)
+Ordered-pair looked case pair =
+    Ordered-flat_map IsKeyBefore (λ j k. j < k) (λ slot. Unit {0}) (taken looked pair)
+    (λ slot _. Ordered-taken IsKeyBefore (looked pair.0 pair.1 slot) (key pair.0 pair.1 slot ∷ []) (tt, tt))
+    (λ j k _ _ lt. Each-taken (λ x. Each (IsKeyBefore x) (taken looked pair k)) (looked pair.0 pair.1 j) (key pair.0 pair.1 j ∷ [])
+    (Each-taken (IsKeyBefore (key pair.0 pair.1 j)) (looked pair.0 pair.1 k) (key pair.0 pair.1 k ∷ []) (record { first_object = omega arith; second_object = λ e. omega arith; later = λ e f. lt }, tt), tt))
+    (slots_of case) (Each-range (λ slot. Unit {0}) 0 (slot_count case.first case.last) (λ k low high. tt)) (Ordered-range 0 (slot_count case.first case.last))
+
+pub Ordered-keys : (looked : ℕ → ℕ → ℕ → Bool) (case : PlainProblem) (first end : ℕ) → first ≤ end → end ≤ length case.ephemerides → Ordered IsKeyBefore (keys_in_rows looked case first end)
+unfolding keys_in_rows
+Ordered-keys looked case first end low high =
+    Ordered-flat_map IsKeyBefore PairBefore (λ p. Unit {0}) (keys_of_pair looked case)
+    (λ pair _. Ordered-pair looked case pair)
+    (λ p q _ _ before. Each-weaker (IsOfPair p) (λ k. Each (IsKeyBefore k) (keys_of_pair looked case q))
+    (λ k is. Each-weaker (IsOfPair q) (IsKeyBefore k)
+    (λ l later.
+    let a : k.a ≡ p.0 = is.0 in
+    let b : k.b ≡ p.1 = is.1 in
+    let c : l.a ≡ q.0 = later.0 in
+    let d : l.b ≡ q.1 = later.1 in
+    let up = before.first_object in
+    record {
+      first_object = omega arith;
+      second_object = λ e. let lt = before.second_object (omega arith) in omega arith;
+      later = λ e f. let lt = before.second_object (omega arith) in absurd (omega arith);
+    }) (keys_of_pair looked case q) (Each-of_pair looked case q))
+    (keys_of_pair looked case p) (Each-of_pair looked case p))
+    (pairs_in_rows (length case.ephemerides) first end)
+    (Each-weaker (IsPair (length case.ephemerides)) (λ p. Unit {0}) (λ p is. tt) (pairs_in_rows (length case.ephemerides) first end) (Each-rows (length case.ephemerides) first end low high))
+    (Ordered-rows (length case.ephemerides) first end low high)
+
+-- each key of the rows is one
+pub Each-keys : (looked : ℕ → ℕ → ℕ → Bool) (case : PlainProblem) (first end : ℕ) → first ≤ end → end ≤ length case.ephemerides
+    → Each (IsKeyIn looked first end (length case.ephemerides) (slot_count case.first case.last)) (keys_in_rows looked case first end)
+unfolding keys_in_rows
+Each-keys looked case first end low high =
+    Each-flat_map (IsKeyIn looked first end (length case.ephemerides) (slot_count case.first case.last)) (keys_of_pair looked case) (pairs_in_rows (length case.ephemerides) first end)
+    (both (pairs_in_rows (length case.ephemerides) first end) (Each-rows (length case.ephemerides) first end low high) (Each-first (length case.ephemerides) first end))
+  where
+    taken_is : (pair : ℕ × ℕ) (slot : ℕ) (c : Bool) → IsPair (length case.ephemerides) pair → first ≤ pair.0 → pair.0 < end → slot < slot_count case.first case.last → looked pair.0 pair.1 slot ≡ c
+        → Each (IsKeyIn looked first end (length case.ephemerides) (slot_count case.first case.last)) (cond c (key pair.0 pair.1 slot ∷ []) [])
+    taken_is pair slot true is from to lt yes' = (record { ordered = is.ordered; exists = is.exists; from = from; to = to; slot = lt; looked_at = yes' }, tt)
+    taken_is pair slot false is from to lt no' = tt
+
+    of_pair : (pair : ℕ × ℕ) → IsPair (length case.ephemerides) pair → (first ≤ pair.0) × (pair.0 < end)
+        → Each (IsKeyIn looked first end (length case.ephemerides) (slot_count case.first case.last)) (keys_of_pair looked case pair)
+    of_pair pair is row =
+        Each-flat_map (IsKeyIn looked first end (length case.ephemerides) (slot_count case.first case.last)) (taken looked pair) (slots_of case)
+        (Each-range (λ slot. Each (IsKeyIn looked first end (length case.ephemerides) (slot_count case.first case.last)) (taken looked pair slot)) 0 (slot_count case.first case.last)
+        (λ slot low' high'. taken_is pair slot (looked pair.0 pair.1 slot) is row.0 row.1 (omega arith) refl))
+
+    both : (ps : List (ℕ × ℕ)) → Each (IsPair (length case.ephemerides)) ps → Each (λ p. (first ≤ p.0) × (p.0 < end)) ps
+        → Each (λ p. Each (IsKeyIn looked first end (length case.ephemerides) (slot_count case.first case.last)) (keys_of_pair looked case p)) ps
+    both [] are rows = tt
+    both (p ∷ ps) are rows = (of_pair p are.0 rows.0, both ps are.1 rows.1)
+
+-- and each one is there
+pub Exists-keys : (looked : ℕ → ℕ → ℕ → Bool) (case : PlainProblem) (first end : ℕ) (k : PlainKey) → IsKeyIn looked first end (length case.ephemerides) (slot_count case.first case.last) k
+    → Exists (λ x. x ≡ k) (keys_in_rows looked case first end)
+unfolding keys_in_rows
+Exists-keys looked case first end k is =
+    Exists-flat_map (λ x. x ≡ k) (keys_of_pair looked case) (pairs_in_rows (length case.ephemerides) first end)
+    (Exists-weaker (λ p. p ≡ (k.a, k.b)) (λ p. Exists (λ x. x ≡ k) (keys_of_pair looked case p))
+    (λ p e. rw e (Exists-flat_map (λ x. x ≡ k) (taken looked (k.a, k.b)) (slots_of case)
+    (Exists-weaker (λ slot. slot ≡ k.slot) (λ slot. Exists (λ x. x ≡ k) (taken looked (k.a, k.b) slot))
+    (λ slot f. rw f (Exists-taken (λ x. x ≡ k) (looked k.a k.b k.slot) (key k.a k.b k.slot ∷ []) is.looked_at (inl refl)))
+    (slots_of case) (Exists-range 0 (slot_count case.first case.last) k.slot (omega arith) (let lt = is.slot in omega arith)))))
+    (pairs_in_rows (length case.ephemerides) first end)
+    (Exists-rows (length case.ephemerides) first end k.a k.b is.from is.to is.ordered is.exists))
+
+-- ---- lists in order with the same keys are one
+
+abbrev Within : List PlainKey → List PlainKey → Type 0
+Within ks ls = (x : PlainKey) → Exists (λ y. y ≡ x) ks → Exists (λ y. y ≡ x) ls
+
+each_at : (P : PlainKey → Type 0) (xs : List PlainKey) (x : PlainKey) → Each P xs → Exists (λ y. y ≡ x) xs → P x
+each_at P [] x all e = absurd e
+each_at P (y ∷ ys) x all (inl e) = subst P e all.0
+each_at P (y ∷ ys) x all (inr e) = each_at P ys x all.1 e
+
+not_both : (k l : PlainKey) → IsKeyBefore k l → IsKeyBefore l k → ⊥
+not_both k l h j =
+    let a = h.first_object in
+    let b = j.first_object in
+    let c = h.second_object (omega arith) in
+    let d = j.second_object (omega arith) in
+    let e = h.later (omega arith) (omega arith) in
+    let f = j.later (omega arith) (omega arith) in
+    omega arith
+
+not_itself : (k l : PlainKey) → k ≡ l → IsKeyBefore k l → ⊥
+not_itself k l e h =
+    let f = h.later (ap (λ (x : PlainKey). x.a) e) (ap (λ (x : PlainKey). x.b) e) in
+    let g : k.slot ≡ l.slot = ap (λ (x : PlainKey). x.slot) e in
+    omega arith
+
+heads : (k l : PlainKey) (ks ls : List PlainKey) → Each (IsKeyBefore k) ks → Each (IsKeyBefore l) ls → Exists (λ y. y ≡ k) (l ∷ ls) → Exists (λ y. y ≡ l) (k ∷ ks) → k ≡ l
+heads k l ks ls rest rest' (inl e) there' = sym e
+heads k l ks ls rest rest' (inr there) (inl e) = e
+heads k l ks ls rest rest' (inr there) (inr there') = absurd (not_both k l (each_at (IsKeyBefore k) ks l rest there') (each_at (IsKeyBefore l) ls k rest' there))
+
+tail : (k l : PlainKey) (ks ls : List PlainKey) → k ≡ l → Each (IsKeyBefore k) ks → Within (k ∷ ks) (l ∷ ls) → Within ks ls
+tail k l ks ls same rest within x there = go (within x (inr there))
+  where
+    go : Exists (λ y. y ≡ x) (l ∷ ls) → Exists (λ y. y ≡ x) ls
+    go (inl e) = absurd (not_itself k x (same ∙ e) (each_at (IsKeyBefore k) ks x rest there))
+    go (inr later) = later
+
+same_keys : (ks ls : List PlainKey) → Ordered IsKeyBefore ks → Ordered IsKeyBefore ls → Within ks ls → Within ls ks → ks ≡ ls
+same_keys [] [] o o' there back = refl
+same_keys [] (l ∷ ls) o o' there back = absurd (back l (inl refl))
+same_keys (k ∷ ks) [] o o' there back = absurd (there k (inl refl))
+same_keys (k ∷ ks) (l ∷ ls) o o' there back =
+    let first : k ≡ l = heads k l ks ls o.0 o'.0 (there k (inl refl)) (back l (inl refl)) in
+    let rest : ks ≡ ls = same_keys ks ls o.1 o'.1 (tail k l ks ls first o.0 there) (tail l k ls ks (sym first) o'.0 back) in
+    λ i. first i ∷ rest i
+
+pub exists_from_Contains : {X : Type 0} (xs : List X) (x : X) → Contains xs x → Exists (λ y. y ≡ x) xs
+exists_from_Contains {X} xs x has = at xs has.0 has.1 has.2
+  where
+    at : (xs : List X) (k : ℕ) → k < length xs → get_or xs k x ≡ x → Exists (λ y. y ≡ x) xs
+    at [] k lt is = absurd (omega arith)
+    at (y ∷ ys) zero lt is = inl is
+    at (y ∷ ys) (suc k) lt is = inr (at ys k (omega arith) is)
+
+pub Contains-from_exists : {X : Type 0} (xs : List X) (x : X) → Exists (λ y. y ≡ x) xs → Contains xs x
+Contains-from_exists [] x e = absurd e
+Contains-from_exists (y ∷ ys) x (inl e) = (0, omega arith, e)
+Contains-from_exists (y ∷ ys) x (inr e) = let there = Contains-from_exists ys x e in (suc there.0, (let lt = there.1 in omega arith), there.2)
+
+-- keys that were found and put in order: from found ones, with each of the rows among them
+pub found_keys : (looked : ℕ → ℕ → ℕ → Bool) (case : PlainProblem) (first end : ℕ) (found keys : List Key) → first ≤ end → end ≤ length case.ephemerides
+    → AreKeysIn looked first end (length case.ephemerides) (slot_count case.first case.last) found
+    → ((a b slot : ℕ) → IsKeyIn looked first end (length case.ephemerides) (slot_count case.first case.last) (key a b slot) → HasKey found a b slot)
+    → AreInOrder keys → ((a b slot : ℕ) → HasKey keys a b slot → HasKey found a b slot) → ((a b slot : ℕ) → HasKey found a b slot → HasKey keys a b slot)
+    → map plain_key keys ≡ keys_in_rows looked case first end
+found_keys looked case first end found keys low high are each order from kept =
+    same_keys (map plain_key keys) (keys_in_rows looked case first end) (ordered_from_AllPairs IsKeyBefore (map plain_key keys) order) (Ordered-keys looked case first end low high)
+    (λ x there. Exists-keys looked case first end x
+    (each_at (IsKeyIn looked first end (length case.ephemerides) (slot_count case.first case.last)) (map plain_key found) x
+    (Each-map (IsKeyIn looked first end (length case.ephemerides) (slot_count case.first case.last)) plain_key found
+    (each_from_All (λ k. IsKeyIn looked first end (length case.ephemerides) (slot_count case.first case.last) (plain_key k)) found are))
+    (exists_from_Contains (map plain_key found) x (from x.a x.b x.slot (Contains-from_exists (map plain_key keys) x there)))))
+    (λ x there. exists_from_Contains (map plain_key keys) x
+    (kept x.a x.b x.slot (each x.a x.b x.slot
+    (each_at (IsKeyIn looked first end (length case.ephemerides) (slot_count case.first case.last)) (keys_in_rows looked case first end) x (Each-keys looked case first end low high) there))))
+
+-- ---- the roots of rows
+
+roots_taken : (case : PlainProblem) (a b slot : ℕ) (c : Bool) → roots_of_keys case (cond c (key a b slot ∷ []) []) ≡ cond c (roots_in case slot a b) []
+roots_taken case a b slot true = append-nil (roots_in case slot a b)
+roots_taken case a b slot false = refl
+
+roots_of_pair : (looked : ℕ → ℕ → ℕ → Bool) (case : PlainProblem) (pair : ℕ × ℕ)
+    → roots_of_keys case (keys_of_pair looked case pair) ≡ flat_map (λ slot. cond (looked pair.0 pair.1 slot) (roots_in case slot pair.0 pair.1) []) (slots_of case)
+roots_of_pair looked case pair =
+    joined (λ (k : PlainKey). roots_in case k.slot k.a k.b) (taken looked pair) (slots_of case)
+    ∙ (λ i. flat_map (λ slot. roots_taken case pair.0 pair.1 slot (looked pair.0 pair.1 slot) i) (slots_of case))
+
+-- all roots are those of all rows
+pub roots_are : (looked : ℕ → ℕ → ℕ → Bool) (case : PlainProblem) → roots_of looked case ≡ roots_in_rows looked case 0 (length case.ephemerides)
+unfolding roots_of roots_in_rows keys_in_rows
+roots_are looked case =
+    let n = length case.ephemerides in
+    (λ i. flat_map (λ pair. sym (roots_of_pair looked case pair) i) (pairs_of n))
+    ∙ sym (joined (λ (k : PlainKey). roots_in case k.slot k.a k.b) (keys_of_pair looked case) (pairs_of n))
+    ∙ ap (λ (ps : List (ℕ × ℕ)). roots_of_keys case (flat_map (keys_of_pair looked case) ps)) (sym (all_rows n))
+
+-- those of some rows in front of those behind
+pub roots_apart : (looked : ℕ → ℕ → ℕ → Bool) (case : PlainProblem) (first mid : ℕ) → first ≤ mid → mid ≤ length case.ephemerides
+    → roots_in_rows looked case first (length case.ephemerides) ≡ roots_of_keys case (keys_in_rows looked case first mid) ++ roots_in_rows looked case mid (length case.ephemerides)
+unfolding roots_in_rows keys_in_rows
+roots_apart looked case first mid low high =
+    let n = length case.ephemerides in
+    ap (λ (ps : List (ℕ × ℕ)). roots_of_keys case (flat_map (keys_of_pair looked case) ps)) (rows_apart n first mid n low high)
+    ∙ ap (roots_of_keys case) (flat_map-append (keys_of_pair looked case) (pairs_in_rows n first mid) (pairs_in_rows n mid n))
+    ∙ flat_map-append (λ (k : PlainKey). roots_in case k.slot k.a k.b) (flat_map (keys_of_pair looked case) (pairs_in_rows n first mid)) (flat_map (keys_of_pair looked case) (pairs_in_rows n mid n))
+
+-- behind the last row there are none
+pub roots_none_left : (looked : ℕ → ℕ → ℕ → Bool) (case : PlainProblem) (first : ℕ) → length case.ephemerides ≤ first → roots_in_rows looked case first (length case.ephemerides) ≡ []
+unfolding roots_in_rows keys_in_rows
+roots_none_left looked case first past =
+    let n = length case.ephemerides in
+    let len : n - first ≡ 0 = omega arith in
+    ap (λ (l : ℕ). roots_of_keys case (flat_map (keys_of_pair looked case) (rows_of n first l))) len
+
+-- what the keys of some rows are
+pub keys_are : (looked : ℕ → ℕ → ℕ → Bool) (case : PlainProblem) (first end : ℕ) (keys : List Key) → first ≤ end → end ≤ length case.ephemerides → map plain_key keys ≡ keys_in_rows looked case first end
+    → AreKeysIn looked first end (length case.ephemerides) (slot_count case.first case.last) keys
+keys_are looked case first end keys low high are =
+    All-from_each (λ k. IsKeyIn looked first end (length case.ephemerides) (slot_count case.first case.last) (plain_key k)) keys
+    (each_from_map (IsKeyIn looked first end (length case.ephemerides) (slot_count case.first case.last)) plain_key keys
+    (subst (Each (IsKeyIn looked first end (length case.ephemerides) (slot_count case.first case.last))) (sym are) (Each-keys looked case first end low high)))

@@ -1,0 +1,14 @@
+mod BoundLemmas
+mod BoxLemmas
+mod CauseLemmas
+mod CheckLemmas
+mod FirstLemmas
+mod HullLemmas
+mod KeyLemmas
+mod PlaceLemmas
+mod RoundLemmas
+mod SweepLemmas
+mod TableLemmas
+mod TestLemmas
+mod TilingLemmas
+mod UnfitLemmas

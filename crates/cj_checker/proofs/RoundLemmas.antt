@@ -1,0 +1,150 @@
+-- Keys that are collected slot by slot, and put in order.
+use Rattle.std.proofs.Common.{◌≡◌, ℕ, zero, suc, ◌+◌, ◌<◌, ◌≤◌, Bool, true, List, [], ◌∷◌, ◌++◌, map, length, get_or, Option, sym, ap, ◌∙◌, subst, inl, inr, arith, nat_cmp}
+use Rattle.std.specs.Prelude.{option_map, nat_eq, ◌&&◌}
+use Rattle.std.specs.Ordering.{ordering_then, eq_by_cmp, is_eq}
+use Rattle.std.specs.declared.cmp.Ordering.{Ordering}
+use Rattle.std.specs.declared.cmp.Ordering.TheVariants.{Less}
+use Rattle.std.specs.Cmp.{IsTotalOrder, IsEquivalence}
+use Rattle.std.specs.List.{AllByRecursion, Contains, dedup, range_with_len}
+use Rattle.std.specs.List.Sorted.{IsSorted, IsStrictlySortedBy, IsPermutation}
+use Rattle.std.proofs.lemmas.Cmp.{then_total, on_total, nat_cmp_total, eq_by_cmp_equiv}
+use Rattle.std.proofs.lemmas.Bool.Decides.{nat_tests}
+use Rattle.std.proofs.lemmas.List.Kept.{Contains-dedup, Contains-from_dedup, IsStrictlySortedBy-dedup}
+use Rattle.std.proofs.lemmas.List.Sorted.{Contains-permutation, IsPermutation-sym}
+use Rattle.std.proofs.lemmas.List.{length-map, map_push}
+use Rattle.std.proofs.lemmas.List.FromFn.{length-range_with_len}
+use Rattle.std.proofs.lemmas.List.Elements.{Contains-append_left}
+use Rattle.cj_interval.proofs.ListLemmas.{Each, Exists, Ordered, AllPairs-from_ordered}
+use Rattle.cj_hermite.proofs.PairLemmas.{range_more}
+use Rattle.cj_hermite.specs.declared.pair.Pair.{Pair}
+use Rattle.cj_hermite.specs.Pairs.{objects_of}
+use Rattle.cj_bezier.specs.declared.axis_box.AxisBox.{AxisBox}
+use Rattle.cj_bezier.specs.SlotBoxes.{PlainBox, plain_box, plain_boxes}
+use Rattle.cj_hermite.specs.PlainProblems.{PlainProblem}
+use Rattle.cj_cert.specs.declared.cert_lines.ShellLine.{ShellLine}
+use Rattle.cj_cert.specs.Certificates.{PlainCertificate}
+use Rattle.cj_cert.specs.Listed.{boxes_listed, is_looked_listed}
+use Rattle.cj_checker.proofs.KeyLemmas.{exists_from_Contains, Contains-from_exists}
+use Rattle.cj_checker.specs.declared.keys.Key.{Key}
+use Rattle.cj_checker.specs.Keys.{PlainKey, plain_key, HasKey, AreKeysKept, IsKeyBefore, AreInOrder, looked_with}
+
+-- ---- one more
+
+pub keys_more : (old : List Key) (k : Key) → AreKeysKept old (old ++ k ∷ [])
+keys_more old k a b slot has =
+    let own : PlainKey = record { a = a; b = b; slot = slot } in
+    subst (λ (ks : List PlainKey). Contains ks own) (sym (map_push plain_key old k)) (Contains-append_left (map plain_key old) (plain_key k ∷ []) own has)
+
+pub boxes_more : (f : ℕ → Option PlainBox) (n : ℕ) (old : List (Option AxisBox)) (x : Option AxisBox) → plain_boxes old ≡ map f (range_with_len 0 n) → option_map plain_box x ≡ f n
+    → plain_boxes (old ++ x ∷ []) ≡ map f (range_with_len 0 (n + 1))
+boxes_more f n old x are is =
+    let at : 0 + n ≡ n = omega arith in
+    map_push (option_map plain_box) old x
+    ∙ (λ i. are i ++ is i ∷ [])
+    ∙ ap (λ (k : ℕ). map f (range_with_len 0 n) ++ f k ∷ []) (sym at)
+    ∙ sym (map_push f (range_with_len 0 n) (0 + n))
+    ∙ ap (map f) (sym (range_more 0 n))
+
+-- a pair of a list, by its place
+pub pair_read : (pairs : List Pair) (k : ℕ) (p : Pair) (a b : ℕ) → k < length pairs → p ≡ get_or pairs k p → get_or (map objects_of pairs) k (a, b) ≡ (a, b) → (p.a ≡ a) × (p.b ≡ b)
+pair_read [] k p a b lt is at = absurd (omega arith)
+pair_read (q ∷ pairs) zero p a b lt is at =
+    let same : ◌≡◌ {A = ℕ × ℕ} (p.a, p.b) (a, b) = ap objects_of is ∙ at in
+    (ap (λ (x : ℕ × ℕ). x.0) same, ap (λ (x : ℕ × ℕ). x.1) same)
+pair_read (q ∷ pairs) (suc k) p a b lt is at = pair_read pairs k p a b (omega arith) is at
+
+-- ---- in order, each once
+
+abbrev pub key_cmp : Key → Key → Ordering
+key_cmp k l = ordering_then (nat_cmp k.a l.a) (ordering_then (nat_cmp k.b l.b) (nat_cmp k.slot l.slot))
+
+abbrev pub key_eq : Key → Key → Bool
+key_eq k l = nat_eq k.a l.a && (nat_eq k.b l.b && nat_eq k.slot l.slot)
+
+keys_total : IsTotalOrder key_cmp
+keys_total = then_total (on_total (λ (k : Key). k.a) nat_cmp_total) (then_total (on_total (λ (k : Key). k.b) nat_cmp_total) (on_total (λ (k : Key). k.slot) nat_cmp_total))
+
+ties : (k l : Key) → key_eq k l ≡ eq_by_cmp key_cmp k l
+ties k l = numbers k.a k.b k.slot l.a l.b l.slot
+  where
+    numbers : (a b s a' b' s' : ℕ) → (nat_eq a a' && (nat_eq b b' && nat_eq s s')) ≡ is_eq (ordering_then (nat_cmp a a') (ordering_then (nat_cmp b b') (nat_cmp s s')))
+    numbers a b s a' b' s' = grind (arith, nat_tests)
+
+exact : (k l : Key) → key_eq k l ≡ true → k ≡ l
+exact k l h = λ i. record { a = first i; b = second i; slot = third i }
+  where
+    first : k.a ≡ l.a
+    first = grind (arith, nat_tests)
+
+    second : k.b ≡ l.b
+    second = grind (arith, nat_tests)
+
+    third : k.slot ≡ l.slot
+    third = grind (arith, nat_tests)
+
+equivalence : IsEquivalence key_eq
+equivalence = subst (λ (e : Key → Key → Bool). IsEquivalence e) (λ i k l. sym (ties k l) i) (eq_by_cmp_equiv keys_total)
+
+before : (k l : Key) → key_cmp k l ≡ Less → IsKeyBefore (plain_key k) (plain_key l)
+before k l h = record { first_object = a; second_object = b; later = s }
+  where
+    a : k.a ≤ l.a
+    a = grind (arith, nat_tests)
+
+    b : k.a ≡ l.a → k.b ≤ l.b
+    b e = grind (arith, nat_tests)
+
+    s : k.a ≡ l.a → k.b ≡ l.b → k.slot < l.slot
+    s e f = grind (arith, nat_tests)
+
+strictly : (keys : List Key) → IsStrictlySortedBy key_cmp keys → Ordered IsKeyBefore (map plain_key keys)
+unfolding IsStrictlySortedBy
+strictly [] up = tt
+strictly (k ∷ keys) up = (behind keys up.0, strictly keys up.1)
+  where
+    behind : (ls : List Key) → AllByRecursion (λ l. key_cmp k l ≡ Less) ls → Each (IsKeyBefore (plain_key k)) (map plain_key ls)
+    behind [] all = tt
+    behind (l ∷ ls) all = (before k l all.0, behind ls all.1)
+
+pub deduped_in_order : (keys : List Key) → IsSorted key_cmp keys → AreInOrder (dedup key_eq keys)
+deduped_in_order keys up =
+    AllPairs-from_ordered IsKeyBefore (map plain_key (dedup key_eq keys)) (strictly (dedup key_eq keys) (IsStrictlySortedBy-dedup keys_total ties keys up))
+
+-- ---- which keys a list has
+
+to_key : (keys : List Key) (a b slot : ℕ) → HasKey keys a b slot → Contains keys (record { a = a; b = b; slot = slot })
+to_key keys a b slot has = Contains-from_exists keys (record { a = a; b = b; slot = slot }) (go keys (exists_from_Contains (map plain_key keys) (record { a = a; b = b; slot = slot }) has))
+  where
+    go : (ks : List Key) → Exists (λ y. y ≡ record { a = a; b = b; slot = slot }) (map plain_key ks) → Exists (λ (y : Key). y ≡ record { a = a; b = b; slot = slot }) ks
+    go [] e = absurd e
+    go (k ∷ ks) (inl e) = inl (λ i. record { a = (e i).a; b = (e i).b; slot = (e i).slot })
+    go (k ∷ ks) (inr later) = inr (go ks later)
+
+from_key : (keys : List Key) (a b slot : ℕ) → Contains keys (record { a = a; b = b; slot = slot }) → HasKey keys a b slot
+from_key keys a b slot has = Contains-from_exists (map plain_key keys) (record { a = a; b = b; slot = slot }) (go keys (exists_from_Contains keys (record { a = a; b = b; slot = slot }) has))
+  where
+    go : (ks : List Key) → Exists (λ (y : Key). y ≡ record { a = a; b = b; slot = slot }) ks → Exists (λ y. y ≡ record { a = a; b = b; slot = slot }) (map plain_key ks)
+    go [] e = absurd e
+    go (k ∷ ks) (inl e) = inl (ap plain_key e)
+    go (k ∷ ks) (inr later) = inr (go ks later)
+
+pub ordered_has : (old sorted new : List Key) → IsPermutation old sorted → new ≡ dedup key_eq sorted → AreKeysKept old new
+ordered_has old sorted new moved is a b slot has =
+    from_key new a b slot (subst (λ (ks : List Key). Contains ks (record { a = a; b = b; slot = slot })) (sym is)
+    (Contains-dedup equivalence exact sorted (record { a = a; b = b; slot = slot }) (Contains-permutation old sorted (record { a = a; b = b; slot = slot }) moved (to_key old a b slot has))))
+
+pub ordered_from : (old sorted new : List Key) → IsPermutation old sorted → new ≡ dedup key_eq sorted → AreKeysKept new old
+ordered_from old sorted new moved is a b slot has =
+    from_key old a b slot (Contains-permutation sorted old (record { a = a; b = b; slot = slot }) (IsPermutation-sym old sorted moved)
+    (Contains-from_dedup key_eq sorted (record { a = a; b = b; slot = slot }) (subst (λ (ks : List Key). Contains ks (record { a = a; b = b; slot = slot })) is (to_key new a b slot has))))
+
+-- ---- what a pair is looked at by
+
+pub filled_length : (f : ℕ → Option PlainBox) (n : ℕ) (areas : List (Option AxisBox)) → plain_boxes areas ≡ map f (range_with_len 0 n) → length areas ≡ n
+filled_length f n areas are =
+    sym (length-map areas (option_map plain_box)) ∙ ap length are ∙ length-map (range_with_len 0 n) f ∙ length-range_with_len 0 n
+
+pub looked_listed : (case : PlainProblem) (c : PlainCertificate) (shells : List ShellLine) (areas : List (Option PlainBox)) (slot : ℕ) → shells ≡ c.shells → areas ≡ boxes_listed c slot
+    → (a b : ℕ) → looked_with case (map (λ line. line.shell) shells) areas (a, b) ≡ is_looked_listed case c a b slot
+unfolding is_looked_listed
+looked_listed case c shells areas slot same are a b = λ i. looked_with case (map (λ line. line.shell) (same i)) (are i) (a, b)

@@ -1,0 +1,31 @@
+use Rattle.std.proofs.Common.{◌≡◌, ℕ, ◌<◌, ◌≤◌, true, map, length, get_or, subst, sym, arith, below_more}
+use Rattle.cj_hermite.specs.declared.pair.Pair.{Pair}
+use Rattle.cj_hermite.specs.Pairs.{objects_of}
+use Rattle.cj_checker.specs.Keys.{HasKey}
+use Rattle.cj_checker.proofs.RoundLemmas.{pair_read}
+use Rattle.cj_checker.proofs.rounds.append_keys.Goals as goal
+
+pub loop-pair-preserved : goal.loop-pair-preserved
+loop-pair-preserved c =
+    let i = c.loop-pair.invariant in
+    let at = c.loop-pair.pair-index in
+    let told = c.in_ok-append_key.ensures in
+    let pair = c.pair-item.result in
+    let pairs = c.args.pairs.now in
+    let slot = c.args.slot in
+    let lt : at < length pairs = omega arith in
+    record {
+      keys = λ looked objects slots below exist all old.
+          told.keys looked objects slots below
+          (subst (λ (p : Pair). p.b < objects) (sym c.pair-item.is) (exist at pair lt))
+          (subst (λ (p : Pair). looked p.a p.b slot ≡ true) (sym c.pair-item.is) (all at pair lt))
+          (i.keys looked objects slots below exist all old);
+      kept = λ a b s has. told.kept a b s (i.kept a b s has);
+      found = below_more (λ k. (a b : ℕ) → get_or (map objects_of pairs) k (a, b) ≡ (a, b) → c.args.first ≤ a → a < c.args.end → HasKey c.append_key.new.keys.items a b slot) at
+          (λ k before a b is low high. told.kept a b slot (i.found k before a b is low high))
+          (λ a b is low high.
+          let same = pair_read pairs at pair a b lt c.pair-item.is is in
+          subst (λ (x : ℕ). HasKey c.append_key.new.keys.items x b slot) same.0
+          (subst (λ (y : ℕ). HasKey c.append_key.new.keys.items pair.a y slot) same.1
+          (told.found (subst (λ (x : ℕ). c.args.first ≤ x) (sym same.0) low) (subst (λ (x : ℕ). x < c.args.end) (sym same.0) high))));
+    }

@@ -1,0 +1,36 @@
+use Rattle.std.proofs.Common.{◌≡◌, ℕ, ◌<◌, ◌≤◌, List, true, length, sym, subst, arith, below_more}
+use Rattle.std.specs.Prelude.{All}
+use Rattle.cj_hermite.specs.declared.pair.Pair.{Pair}
+use Rattle.cj_hermite.specs.Problems.{plain_problem}
+use Rattle.cj_hermite.specs.Slots.{slot_count}
+use Rattle.cj_cert.specs.Certificates.{plain_certificate}
+use Rattle.cj_cert.specs.Listed.{is_looked_listed}
+use Rattle.cj_checker.specs.Keys.{HasKey, HasPair, IsKeyIn}
+use Rattle.cj_checker.proofs.rounds.collect.Goals as goal
+
+pub append_keys-requires : goal.append_keys-requires
+append_keys-requires c =
+    record {
+      few = subst (λ (ps : List Pair). All (λ pair. pair.b ≤ 2000) ps) (sym c.deref.ensures.value)
+          (λ k d lt. let there = c.in_ok-find_pairs.ensures.exist k d lt in omega (arith, there, c.args.problem.now.few));
+    }
+
+pub loop-slot-preserved : goal.loop-slot-preserved
+loop-slot-preserved c =
+    let i = c.loop-slot.invariant in
+    let slot = c.loop-slot.slot in
+    let told = c.in_ok-append_keys.ensures in
+    let found = c.in_ok-find_pairs.ensures in
+    let case = plain_problem c.args.problem.now in
+    let looked = is_looked_listed case (plain_certificate c.args.cert.now) in
+    let slots = slot_count case.first case.last in
+    let n = length c.args.problem.now.tracks in
+    record {
+      keys = told.keys looked n slots (omega arith)
+          (subst (λ (ps : List Pair). All (λ pair. pair.b < n) ps) (sym c.deref.ensures.value) found.exist)
+          (subst (λ (ps : List Pair). All (λ pair. looked pair.a pair.b slot ≡ true) ps) (sym c.deref.ensures.value) found.looked)
+          i.keys;
+      found = below_more (λ k. (a b : ℕ) → IsKeyIn looked c.args.first c.args.end n slots (record { a = a; b = b; slot = k }) → HasKey c.append_keys.new.keys.items a b k) slot
+          (λ k lt a b is. told.kept a b k (i.found k lt a b is))
+          (λ a b is. told.found a b (subst (λ (ps : List Pair). HasPair ps a b) (sym c.deref.ensures.value) (found.found a b is.ordered is.looked_at)) is.from is.to);
+    }

@@ -1,0 +1,39 @@
+use Rattle.std.proofs.Common.{◌≡◌, ℕ, ◌<◌, true, map, get_or, sym, subst, ◌∙◌, arith, below_more}
+use Rattle.cj_hermite.specs.Problems.{plain_problem}
+use Rattle.cj_bezier.specs.SlotBoxes.{plain_boxes}
+use Rattle.cj_cert.specs.declared.cert_lines.ShellLine.{ShellLine}
+use Rattle.cj_checker.specs.declared.reach.Reach.{Reach}
+use Rattle.cj_checker.specs.Keys.{HasPair, looked_with}
+use Rattle.cj_checker.specs.Sweeps.{AreBoth}
+use Rattle.cj_checker.proofs.SweepLemmas.{any_default}
+use Rattle.cj_checker.proofs.sweep.append_row.Goals as goal
+
+pub loop-other-init : goal.loop-other-init
+loop-other-init c = record {
+  looked = λ all. all;
+  kept = λ a b has. has;
+  found = λ k lt. absurd (omega arith);
+}
+
+pub loop-other-preserved : goal.loop-other-preserved
+loop-other-preserved c =
+    let i = c.loop-other.invariant in
+    let at = c.loop-other.other-index in
+    let told = c.in_ok-append_pair.ensures in
+    let case = plain_problem c.args.problem.now in
+    let shells = map (λ (line : ShellLine). line.shell) c.args.shells.now in
+    let areas = plain_boxes c.args.boxes.now in
+    record {
+      looked = λ all. told.looked (i.looked all);
+      kept = λ a b has. told.kept a b (i.kept a b has);
+      found = below_more (λ k. (reach : Reach) → get_or c.args.active.now k reach ≡ reach → (a b : ℕ) → a < b → AreBoth c.args.one reach.object a b
+          → looked_with case shells areas (a, b) ≡ true → HasPair c.append_pair.new.pairs.items a b) at
+          (λ k lt reach is a b up both looked. told.kept a b (i.found k lt reach is a b up both looked))
+          (λ reach is a b up both looked.
+          told.found a b up (subst (λ (r : Reach). AreBoth c.args.one r.object a b) (sym (any_default c.args.active.now at _ reach (omega arith) ∙ is)) both) looked);
+    }
+
+pub returns-clause-found : goal.returns-clause-found
+returns-clause-found c reach has a b up both looked =
+    let lt = has.1 in
+    c.loop-other.invariant.found has.0 (omega arith) reach has.2 a b up both looked

@@ -1,0 +1,20 @@
+use Rattle.std.proofs.Common.{◌≡◌, ℕ, ◌<◌, true, map, get_or}
+use Rattle.cj_hermite.specs.Problems.{plain_problem}
+use Rattle.cj_bezier.specs.SlotBoxes.{plain_boxes}
+use Rattle.cj_cert.specs.declared.cert_lines.ShellLine.{ShellLine}
+use Rattle.cj_checker.specs.declared.reach.Reach.{Reach}
+use Rattle.cj_checker.specs.Keys.{HasPair, looked_with}
+use Rattle.cj_checker.specs.Sweeps.{AreBoth, AreLooked, ArePairsKept}
+use Rattle.cj_checker.proofs.sweep.append_row.Given as goal
+
+abbrev pub invariant-loop-other : goal.invariant-loop-other
+invariant-loop-other l =
+    let case = plain_problem l.problem in
+    let shells = map (λ (line : ShellLine). line.shell) l.shells in
+    let areas = plain_boxes l.boxes in
+    record {
+      looked : AreLooked case shells areas l.initial.pairs.items → AreLooked case shells areas l.pairs.items;
+      kept : ArePairsKept l.initial.pairs.items l.pairs.items;
+      found : (k : ℕ) → k < l.other-index → (reach : Reach) → get_or l.active k reach ≡ reach → (a b : ℕ) → a < b → AreBoth l.one reach.object a b
+          → looked_with case shells areas (a, b) ≡ true → HasPair l.pairs.items a b;
+    }

@@ -1,0 +1,23 @@
+use Rattle.std.proofs.Common.{◌≡◌, ℕ, ◌+◌, ◌-◌, ◌≤◌, List, ◌++◌, drop, length, map}
+use Rattle.cj_hermite.specs.Problems.{plain_problem}
+use Rattle.cj_hermite.specs.Roots.{PlainCell, roots_between}
+use Rattle.cj_cert.specs.Certificates.{plain_cell_line}
+use Rattle.cj_checker.specs.First.{cells_from}
+use Rattle.cj_checker.proofs.tiling.tile_ticks.Given as goal
+
+-- what is left fails as the whole
+abbrev pub invariant-loop-run : goal.invariant-loop-run
+invariant-loop-run l =
+    let case = plain_problem l.problem in
+    let a = l.pair.a in
+    let b = l.pair.b in
+    record {
+      within : l.from.micros ≤ l.ticks.last.micros;
+      place : l.at ≤ length l.cells;
+      rest : (line : ℕ) (left : List PlainCell)
+          → cells_from case (line + l.initial.at) (roots_between case a b l.ticks.first.micros l.ticks.last.micros ++ left) (drop l.initial.at (map plain_cell_line l.cells))
+          ≡ cells_from case (line + l.at) (roots_between case a b l.from.micros l.ticks.last.micros ++ left) (drop l.at (map plain_cell_line l.cells));
+    }
+
+abbrev pub decreases-loop-run : goal.decreases-loop-run
+decreases-loop-run l = l.ticks.last.micros - l.from.micros

@@ -1,0 +1,102 @@
+-- Keys: pairs that are looked at, each with the slot. A row is the pairs with one first object.
+use Rattle.std.specs.Prelude.{◌≡◌, ℕ, ◌+◌, ◌-◌, ◌<◌, ◌≤◌, true, Bool, if◌then◌else◌, ◌&&◌, List, [], ◌∷◌, map, length, All, Option}
+use Rattle.std.specs.List.{AllPairs, Contains, flat_map, range_with_len}
+use Rattle.cj_hermite.specs.declared.pair.Pair.{Pair}
+use Rattle.cj_hermite.specs.declared.problem.Problem.{Problem}
+use Rattle.cj_hermite.specs.Pairs.{objects_of}
+use Rattle.cj_hermite.specs.PlainProblems.{PlainProblem}
+use Rattle.cj_hermite.specs.Problems.{plain_problem}
+use Rattle.cj_hermite.specs.Roots.{PlainCell, roots_in, slots_of}
+use Rattle.cj_hermite.specs.Slots.{slot_count}
+use Rattle.cj_bezier.specs.declared.axis_box.AxisBox.{AxisBox}
+use Rattle.cj_bezier.specs.declared.shells.Shell.{Shell}
+use Rattle.cj_bezier.specs.Shells.{keeps_between}
+use Rattle.cj_bezier.specs.SlotBoxes.{PlainBox, plain_boxes, touch_between}
+use Rattle.cj_cert.specs.declared.cert_lines.ShellLine.{ShellLine}
+use Rattle.cj_cert.specs.declared.certificate.Certificate.{Certificate}
+use Rattle.cj_cert.specs.Certificates.{plain_certificate}
+use Rattle.cj_cert.specs.Listed.{is_looked_listed}
+use Rattle.cj_checker.specs.declared.keys.Key.{Key}
+
+pub record PlainKey : Type 0 where
+  pub a : ℕ
+  pub b : ℕ
+  pub slot : ℕ
+
+abbrev pub plain_key : Key → PlainKey
+plain_key key = record { a = key.a; b = key.b; slot = key.slot }
+
+-- the pairs of n objects in the rows from one to another, in order
+abbrev pub pairs_in_rows : ℕ → ℕ → ℕ → List (ℕ × ℕ)
+pairs_in_rows n first end = flat_map (λ a. map (λ b. (a, b)) (range_with_len (a + 1) (n - (a + 1)))) (range_with_len first (end - first))
+
+-- the keys of a pair, in order of its slots
+abbrev pub keys_of_pair : (ℕ → ℕ → ℕ → Bool) → PlainProblem → ℕ × ℕ → List PlainKey
+keys_of_pair looked case pair = flat_map (λ slot. if looked pair.0 pair.1 slot then record { a = pair.0; b = pair.1; slot = slot } ∷ [] else []) (slots_of case)
+
+-- the keys of some rows, in order of pair and slot
+unfoldable pub keys_in_rows : (ℕ → ℕ → ℕ → Bool) → PlainProblem → ℕ → ℕ → List PlainKey
+keys_in_rows looked case first end = flat_map (keys_of_pair looked case) (pairs_in_rows (length case.ephemerides) first end)
+
+-- the roots of keys, one key after another
+abbrev pub roots_of_keys : PlainProblem → List PlainKey → List PlainCell
+roots_of_keys case keys = flat_map (λ key. roots_in case key.slot key.a key.b) keys
+
+-- the roots of some rows
+unfoldable pub roots_in_rows : (ℕ → ℕ → ℕ → Bool) → PlainProblem → ℕ → ℕ → List PlainCell
+roots_in_rows looked case first end = roots_of_keys case (keys_in_rows looked case first end)
+
+-- ---- as they are found
+
+-- a key of a pair of so many objects in these rows that is looked at in one of the slots
+pub record IsKeyIn (looked : ℕ → ℕ → ℕ → Bool) (first end objects slots : ℕ) (key : PlainKey) : Type 0 where
+  pub ordered : key.a < key.b
+  pub exists : key.b < objects
+  pub from : first ≤ key.a
+  pub to : key.a < end
+  pub slot : key.slot < slots
+  pub looked_at : looked key.a key.b key.slot ≡ true
+
+abbrev pub AreKeysIn : (ℕ → ℕ → ℕ → Bool) → ℕ → ℕ → ℕ → ℕ → List Key → Type 0
+AreKeysIn looked first end objects slots keys = All (λ key. IsKeyIn looked first end objects slots (plain_key key)) keys
+
+abbrev pub HasKey : List Key → ℕ → ℕ → ℕ → Type 0
+HasKey keys a b slot = Contains (map plain_key keys) (record { a = a; b = b; slot = slot })
+
+-- each key of a list is in a later one too
+abbrev pub AreKeysKept : List Key → List Key → Type 0
+AreKeysKept old new = (a b slot : ℕ) → HasKey old a b slot → HasKey new a b slot
+
+-- a pair is looked at in a slot by what a certificate lists
+abbrev pub is_listed : Problem → Certificate → ℕ → ℕ → ℕ → Bool
+is_listed problem cert = is_looked_listed (plain_problem problem) (plain_certificate cert)
+
+-- a key by what a certificate lists
+abbrev pub IsKeyOf : Problem → Certificate → ℕ → ℕ → PlainKey → Type 0
+IsKeyOf problem cert first end = IsKeyIn (is_listed problem cert) first end (length problem.tracks) (slot_count problem.window.first.micros problem.window.last.micros)
+
+-- the keys that a certificate gives in some rows, in order
+abbrev pub keys_listed : Problem → Certificate → ℕ → ℕ → List PlainKey
+keys_listed problem cert first end = keys_in_rows (is_listed problem cert) (plain_problem problem) first end
+
+-- in order of pair and slot, each once
+pub record IsKeyBefore (k l : PlainKey) : Type 0 where
+  pub first_object : k.a ≤ l.a
+  pub second_object : k.a ≡ l.a → k.b ≤ l.b
+  pub later : k.a ≡ l.a → k.b ≡ l.b → k.slot < l.slot
+
+abbrev pub AreInOrder : List Key → Type 0
+AreInOrder keys = AllPairs IsKeyBefore (map plain_key keys)
+
+-- ---- the pairs of a slot
+
+-- a pair is looked at by these shells, and by these boxes of a slot
+abbrev pub looked_with : PlainProblem → List (Option Shell) → List (Option PlainBox) → ℕ × ℕ → Bool
+looked_with case shells boxes pair = keeps_between case.threshold case.sizes shells pair && touch_between case.threshold case.sizes boxes pair
+
+-- the same, as a program keeps them
+abbrev pub looks : Problem → List ShellLine → List (Option AxisBox) → ℕ × ℕ → Bool
+looks problem shells boxes = looked_with (plain_problem problem) (map (λ line. line.shell) shells) (plain_boxes boxes)
+
+abbrev pub HasPair : List Pair → ℕ → ℕ → Type 0
+HasPair pairs a b = Contains (map objects_of pairs) (a, b)

@@ -1,0 +1,10 @@
+pub mod Tests
+pub mod Bounds
+pub mod First
+pub mod Places
+pub mod Tables
+pub mod ListedBoxes
+pub mod Answers
+pub mod Tiling
+pub mod Keys
+pub mod Sweeps

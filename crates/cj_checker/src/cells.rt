@@ -1,0 +1,79 @@
+//! The lines of cells.
+ghost use Rattle.std.specs.Prelude.{◌≡◌, ◌+◌, ◌-◌, ◌^◌, ◌<◌, ◌≤◌, None, length, vec_len, IfOk};
+ghost use Rattle.cj_hermite.specs.Problems.{plain_problem};
+ghost use Rattle.cj_cert.specs.Certificates.{plain_certificate};
+ghost use Rattle.cj_cert.specs.Fits.{line_count};
+ghost use Rattle.cj_cert.specs.Listed.{box_listed};
+ghost use Rattle.cj_checker.specs.ListedBoxes.{table_of};
+ghost use Rattle.cj_checker.specs.First.{box_failure, cell_failure as the_failure, failed, first_cell_line};
+
+use crate::cell_fault::CellFault;
+use crate::check_cause::CheckCause;
+use crate::failure::{FIRST_LINE, Failure};
+use crate::listed::Listed;
+use crate::rounds::round_from;
+use crate::tiling::tile_keys;
+use cj_cert::Certificate;
+use cj_hermite::Problem;
+use std::alloc::{AllocError, Global};
+
+/// A fault of a cell at its line.
+fn failure_at(cert: &Certificate, fault: CellFault) -> Option<Failure>
+    requires few { line_count (plain_certificate cert.now) < 2 ^ 32 - 5 }
+    requires place { fault.at ≤ vec_len cert.now.cells }
+    ensures { result ≡ failed (first_cell_line (plain_certificate cert.now) + fault.at) fault.cause }
+{
+    let before = cert.sizes.len() + cert.shells.len() + cert.boxes.len() + fault.at;
+    Some(Failure {
+        line: FIRST_LINE + before as u32,
+        cause: fault.cause,
+    })
+}
+
+/// The first line of a cell that does not tile the roots in order, by the table of the listed boxes.
+fn first_fault(
+    alloc: Global,
+    problem: &Problem,
+    cert: &Certificate,
+    listed: &Listed,
+) -> Result<Option<Failure>, AllocError>
+    requires few { line_count (plain_certificate cert.now) < 2 ^ 32 - 5 }
+    requires objects { cert.now.objects ≡ length problem.now.tracks }
+    requires shells { length cert.now.shells.items ≡ length problem.now.tracks }
+    requires boxes { table_of listed.now ≡ box_listed (plain_certificate cert.now).boxes }
+    ensures { IfOk result (λ found. found ≡ the_failure (plain_problem problem.now) (plain_certificate cert.now)) }
+{
+    let objects = problem.tracks.as_slice().len() as u32;
+    let mut first = 0;
+    let mut at = 0;
+    while first < objects {
+        let round = round_from(alloc, problem, cert, listed, first)?;
+        match tile_keys(problem, &round.keys, &cert.cells, at) {
+            Ok(next) => at = next,
+            Err(fault) => return Ok(failure_at(cert, fault)),
+        }
+        first = round.end;
+    }
+    if at < cert.cells.len() {
+        let cause = CheckCause::Stranger;
+        return Ok(failure_at(cert, CellFault { at, cause }));
+    }
+    Ok(None)
+}
+
+/// The first line of a cell that does not tile the roots in order, or whose kind its hulls do not show. Lines that are missing are
+/// found at the line behind.
+pub(crate) fn cell_failure(
+    alloc: Global,
+    problem: &Problem,
+    cert: &Certificate,
+) -> Result<Option<Failure>, AllocError>
+    requires few { line_count (plain_certificate cert.now) < 2 ^ 32 - 5 }
+    requires objects { cert.now.objects ≡ length problem.now.tracks }
+    requires shells { length cert.now.shells.items ≡ length problem.now.tracks }
+    requires boxes { box_failure (plain_problem problem.now) (plain_certificate cert.now) ≡ None }
+    ensures { IfOk result (λ found. found ≡ the_failure (plain_problem problem.now) (plain_certificate cert.now)) }
+{
+    let listed = Listed::new(alloc, problem, cert)?;
+    first_fault(alloc, problem, cert, &listed)
+}

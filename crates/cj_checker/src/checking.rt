@@ -1,0 +1,86 @@
+//! The checker.
+ghost use Rattle.std.specs.Prelude.{◌≡◌, ◌↔◌, ◌+◌, ◌-◌, ◌^◌, ◌<◌, IfOk};
+ghost use Rattle.std.specs.Option.{option_or};
+ghost use Rattle.cj_hermite.specs.Problems.{plain_problem};
+ghost use Rattle.cj_cert.specs.Accepted.{Accepted};
+ghost use Rattle.cj_cert.specs.Certificates.{plain_certificate};
+ghost use Rattle.cj_cert.specs.Fits.{line_count};
+ghost use Rattle.cj_cert.specs.Splits.{AcceptedSplits};
+ghost use Rattle.cj_checker.specs.Answers.{failure_of};
+ghost use Rattle.cj_checker.specs.First as first;
+
+use crate::answer::Answer;
+use crate::boxes::box_failure;
+use crate::cells::cell_failure;
+use crate::failure::Failure;
+use crate::header::header_failure;
+use crate::shells::shell_failure;
+use crate::sizes::size_failure;
+use cj_cert::{Certificate, acceptance};
+use cj_hermite::Problem;
+use std::alloc::{AllocError, Global};
+
+/// The first failure of what is said of the run and of each object.
+fn object_failure(problem: &Problem, cert: &Certificate) -> Option<Failure>
+    requires few { line_count (plain_certificate cert.now) < 2 ^ 32 - 5 }
+    ensures { result ≡ option_or (first.header_failure (plain_problem problem.now) (plain_certificate cert.now))
+        (option_or (first.size_failure (plain_problem problem.now) (plain_certificate cert.now))
+        (option_or (first.shell_failure (plain_problem problem.now) (plain_certificate cert.now))
+        (first.box_failure (plain_problem problem.now) (plain_certificate cert.now)))) }
+{
+    let header = header_failure(problem, cert);
+    if header.is_some() {
+        return header;
+    }
+    let size = size_failure(problem, cert);
+    if size.is_some() {
+        return size;
+    }
+    let shell = shell_failure(problem, cert);
+    if shell.is_some() {
+        return shell;
+    }
+    box_failure(problem, cert)
+}
+
+/// The first failure of a certificate.
+fn first_failure(
+    alloc: Global,
+    problem: &Problem,
+    cert: &Certificate,
+) -> Result<Option<Failure>, AllocError>
+    requires few { line_count (plain_certificate cert.now) < 2 ^ 32 - 5 }
+    ensures { IfOk result (λ found. found ≡ first.first_failure (plain_problem problem.now) (plain_certificate cert.now)) }
+{
+    let found = object_failure(problem, cert);
+    if found.is_some() {
+        return Ok(found);
+    }
+    cell_failure(alloc, problem, cert)
+}
+
+fn answer_of(found: Option<Failure>) -> Answer
+    ensures { failure_of result ≡ found }
+{
+    match found {
+        None => Answer::Accepted,
+        Some(Failure { line, cause }) => Answer::Refused { line, cause },
+    }
+}
+
+/// Whether a certificate is accepted for a problem, or else the first line at which it is not, and why. It rests on no work of the
+/// run that wrote the certificate: each shell, box and cell is compared with the hulls of the tracks.
+pub fn check(alloc: Global, problem: &Problem, cert: &Certificate) -> Result<Answer, AllocError>
+    requires few { line_count (plain_certificate cert.now) < 2 ^ 32 - 5 }
+
+    // The line and the cause are the first ones, and there are none exactly where it is accepted.
+    ensures value { IfOk result (λ answer. failure_of answer ≡ first.first_failure (plain_problem problem.now) (plain_certificate cert.now)) }
+    ensures exact { IfOk result (λ answer. (answer ≡ Answer.Accepted) ↔ Accepted (plain_problem problem.now) (plain_certificate cert.now)) }
+
+    // The cells of whatever certificate is accepted for the problem split all its common ticks.
+    ensures law { AcceptedSplits (plain_problem problem.now) }
+{
+    acceptance(problem);
+    let found = first_failure(alloc, problem, cert)?;
+    Ok(answer_of(found))
+}

@@ -1,0 +1,37 @@
+ghost use Rattle.std.specs.Prelude.{◌≡◌, ◌<◌, ◌≤◌};
+
+use cj_hermite::Pair;
+
+/// A pair that is looked at in a slot, in eight bytes. Objects are numbered below 2,000.
+#[derive(Clone, Copy, Debug, PartialEq, Eq, PartialOrd, Ord)]
+pub(crate) struct Key {
+    pub a: u16,
+    pub b: u16,
+    pub slot: u32,
+}
+
+impl Key {
+    pub(crate) fn new(pair: Pair, slot: u32) -> Self
+        requires { pair.b ≤ 2000 }
+        ensures a { result.a ≡ pair.a }
+        ensures b { result.b ≡ pair.b }
+        ensures slot { result.slot ≡ slot }
+    {
+        Key {
+            a: pair.a as u16,
+            b: pair.b as u16,
+            slot,
+        }
+    }
+
+    pub(crate) fn pair(self) -> Pair
+        requires { self.a < self.b }
+        ensures a { result.a ≡ self.a }
+        ensures b { result.b ≡ self.b }
+    {
+        Pair {
+            a: u32::from(self.a),
+            b: u32::from(self.b),
+        }
+    }
+}

@@ -1,0 +1,42 @@
+//! The checker of certificates: whether one is accepted for a problem, or else at which line it first fails, and why.
+#![tactic(auto)]
+
+mod answer;
+mod bound;
+mod boxes;
+mod cell_fault;
+mod cells;
+mod check_cause;
+mod checking;
+mod failure;
+mod header;
+mod hulls_met;
+mod keys;
+mod laws;
+mod listed;
+mod looked;
+mod places;
+mod reach;
+mod root;
+mod rounds;
+mod shells;
+mod sizes;
+mod sweep;
+mod tiling;
+
+pub use answer::Answer;
+pub use boxes::box_failure;
+pub use check_cause::CheckCause;
+pub use checking::check;
+pub use failure::Failure;
+pub use header::header_failure;
+pub use laws::acceptance;
+pub use shells::shell_failure;
+pub use sizes::size_failure;
+
+#[cfg(test)]
+mod cell_tests;
+#[cfg(test)]
+mod line_tests;
+#[cfg(test)]
+mod row_tests;
