@@ -1,0 +1,118 @@
+-- What a look at the cell of a turn gives.
+use Rattle.std.proofs.Common.{◌≡◌, ℕ, ◌+◌, ◌≤◌, List, [], ◌∷◌, ◌++◌, inl, inr, length, sym, ap, ◌∙◌, subst, arith, length-append}
+use Rattle.std.specs.Prelude.{All, Some, None}
+use Rattle.std.proofs.lemmas.List.Elements.{All-push}
+use Rattle.cj_hermite.specs.PlainProblems.{PlainProblem}
+use Rattle.cj_bezier.specs.declared.cell.Cell.{Cell}
+use Rattle.cj_bezier.specs.declared.kind.Kind.{Kind}
+use Rattle.cj_bezier.specs.declared.leaf.Leaf.{Leaf}
+use Rattle.cj_bezier.specs.Cells.{plain_cell, AreHalves}
+use Rattle.cj_bezier.specs.RootLeaves.{kind_of_cell}
+use Rattle.cj_ledger.specs.declared.count.Count.{Count}
+use Rattle.cj_pool.specs.declared.account.Account.{Account}
+use Rattle.cj_pool.specs.Accounts.{Settled}
+use Rattle.cj_pool.specs.Hands.{RefinerySeen, HandSeen}
+use Rattle.cj_pool.specs.Narrow.{Narrow}
+use Rattle.cj_pool.specs.Passes.{around}
+use Rattle.cj_pool.specs.RootLists.{IsKept, AreRoots}
+use Rattle.cj_pool.specs.Tree.{InTree, IsLeafOf, Halved}
+use Rattle.cj_pool.specs.Turns.{CellCame, SameCells, MadeLeaf, MadeHalves, KeptBoth, Wanted, FoundNone, SetsCells}
+use Rattle.cj_pool.specs.Weights.{weigh}
+use Rattle.cj_pool.proofs.NarrowLemmas.{narrow_length}
+use Rattle.cj_pool.proofs.TreeLemmas.{tree_keeps, tree_halves}
+
+-- what holds of the run's problem holds of the hand's
+pub keeps_here : (case case' : PlainProblem) (roots : List Cell) (c : Cell) → case' ≡ case → AreRoots case roots → InTree case roots c → IsKept case' c
+keeps_here case case' roots c same are tree = subst (λ (k : PlainProblem). IsKept k c) (sym same) (tree_keeps case roots c are tree)
+
+-- a cell that the look halved
+pub halved_here : (case case' : PlainProblem) (c l r : Cell) → case' ≡ case → AreHalves c l r → None ≡ kind_of_cell case' (plain_cell c) → Halved case c l r
+halved_here case case' c l r same halves kind = record {
+  halves = halves;
+  open_cell = ap (λ (k : PlainProblem). kind_of_cell k (plain_cell c)) (sym same) ∙ sym kind;
+}
+
+-- and a cell that it closed
+pub closed_here : (case case' : PlainProblem) (c d : Cell) (kind : Kind) → case' ≡ case → d ≡ c → Some kind ≡ kind_of_cell case' (plain_cell c) → kind_of_cell case (plain_cell d) ≡ Some kind
+closed_here case case' c d kind same cell is = ap (λ (k : PlainProblem). kind_of_cell k (plain_cell d)) (sym same) ∙ ap (λ (x : Cell). kind_of_cell case' (plain_cell x)) cell ∙ sym is
+
+-- the first half is in the tree, beside the kept cells
+pub keeps_first : (case : PlainProblem) (roots kept : List Cell) (c l r : Cell) → All (InTree case roots) kept → InTree case roots c → Halved case c l r → All (InTree case roots) (kept ++ l ∷ [])
+keeps_first case roots kept c l r trees tree halved = All-push (InTree case roots) kept l trees (tree_halves case roots c l r tree halved).0
+
+-- both halves are
+pub keeps_both : (case : PlainProblem) (roots kept : List Cell) (c l r : Cell) → All (InTree case roots) kept → InTree case roots c → Halved case c l r → All (InTree case roots) ((kept ++ r ∷ []) ++ l ∷ [])
+keeps_both case roots kept c l r trees tree halved =
+    let halves = tree_halves case roots c l r tree halved in
+    All-push (InTree case roots) (kept ++ r ∷ []) l (All-push (InTree case roots) kept r trees halves.1) halves.0
+
+-- there is room for two more beside the cells below a cell
+pub room : (kept : List Cell) (c : Cell) → Narrow 26 (kept ++ c ∷ []) → length kept ≤ 26
+room kept c narrow = omega (arith, narrow_length 26 (kept ++ c ∷ []) narrow, length-append kept (c ∷ []))
+
+-- a leaf that the look made
+pub leaf_here : (case case' : PlainProblem) (roots : List Cell) (c : Cell) (leaf : Leaf) → case' ≡ case → InTree case roots c → leaf.cell ≡ c → Some leaf.kind ≡ kind_of_cell case' (plain_cell c) → IsLeafOf case roots leaf
+leaf_here case case' roots c leaf same tree cell is = record {
+  tree = subst (InTree case roots) (sym cell) tree;
+  kind = closed_here case case' c leaf.cell leaf.kind same cell is;
+}
+
+-- the cell by another name
+pub came_as : (kept : List Cell) (old new : List (List Cell)) (c d : Cell) (rest : List Cell) → d ≡ c → CellCame kept old new c rest → CellCame kept old new d rest
+came_as kept old new c d rest same came = subst (λ (x : Cell). CellCame kept old new x rest) (sym same) came
+
+-- what a split tells is told after what was told before it
+pub sets_after : (limit : ℕ) (old mid new : Count) → mid.cells ≡ old.cells → mid.leaves ≡ old.leaves → SetsCells limit mid new → SetsCells limit old new
+sets_after limit old mid new cells leaves (inl (kept, inl same)) = inl (kept ∙ cells, inl (same ∙ leaves))
+sets_after limit old mid new cells leaves (inl (kept, inr told)) = inl (kept ∙ cells, inr (omega (arith, told.0, ap (λ l. l.times) leaves), told.1))
+sets_after limit old mid new cells leaves (inr told) = inr (omega (arith, told.0, cells), omega (arith, told.1, ap (λ l. l.times) leaves), told.2)
+
+-- what was taken, by another name
+pub came_to : (kept : List Cell) (old new new' : List (List Cell)) (c : Cell) (rest : List Cell) → new' ≡ new → CellCame kept old new c rest → CellCame kept old new' c rest
+came_to kept old new new' c rest same came = subst (λ (x : List (List Cell)). CellCame kept old x c rest) (sym same) came
+
+-- a hand that is alone has a pass of its own deque only
+alone_taken : (w : Cell → ℕ) (below : List (List Cell)) (own : List Cell) (above : List (List Cell)) → length (around below own above) ≡ 1 → weigh (weigh w) (around below own above) ≡ weigh w own
+alone_taken w [] own [] one = omega arith
+alone_taken w [] own (x ∷ xs) one = absurd (omega arith)
+alone_taken w (x ∷ xs) own above one = absurd (omega (arith, one, length-append xs (own ∷ above)))
+
+-- and it knows that nothing is left in it
+pub alone_settled : (n : ℕ) (v : Account) (below above : List (List Cell)) → v.parts ≡ 1 → v.all ≡ n → Settled v [] → length (around below v.taken above) ≡ n → n ≡ 1 → (w : Cell → ℕ)
+    → weigh w v.opening + weigh w v.pushed ≡ weigh (weigh w) (around below v.taken above)
+alone_settled n v below above parts all settled long one w =
+    let all_taken = settled (parts ∙ sym (all ∙ one)) w in
+    omega (arith, all_taken, alone_taken w below v.taken above (long ∙ one))
+
+-- what a turn made, of the hand as it was seen before
+pub leaf_of : (case : PlainProblem) (old old' new : HandSeen) → old' ≡ old → MadeLeaf case old' new → MadeLeaf case old new
+leaf_of case old old' new same made = subst (λ (h : HandSeen). MadeLeaf case h new) same made
+
+pub halves_of : (case : PlainProblem) (old old' new : HandSeen) → old' ≡ old → MadeHalves case old' new → MadeHalves case old new
+halves_of case old old' new same made = subst (λ (h : HandSeen). MadeHalves case h new) same made
+
+pub both_of : (case : PlainProblem) (old old' new : HandSeen) → old' ≡ old → KeptBoth case old' new → Wanted case old new
+both_of case old old' new same made = subst (λ (h : HandSeen). Wanted case h new) same (inr made)
+
+pub none_of : (r : RefinerySeen) (old old' new : HandSeen) (live : ℕ) → old' ≡ old → FoundNone r old' new live → FoundNone r old new live
+none_of r old old' new live same made = subst (λ (h : HandSeen). FoundNone r h new live) same made
+
+-- a turn that wanted memory, of a hand with the same cells
+pub wanted_same : (case : PlainProblem) (old new new' : HandSeen) → SameCells new new' → Wanted case old new → Wanted case old new'
+wanted_same case old new new' same (inl cells) = inl (record {
+  taken = same.taken ∙ cells.taken;
+  closed = same.closed ∙ cells.closed;
+  pushed = same.pushed ∙ cells.pushed;
+  kept = same.kept ∙ cells.kept;
+})
+wanted_same case old new new' same (inr both) = inr (record {
+  cell = both.cell;
+  left = both.left;
+  right = both.right;
+  rest = both.rest;
+  came = came_to old.kept old.taken new.taken new'.taken both.cell both.rest same.taken both.came;
+  halved = both.halved;
+  kept = same.kept ∙ both.kept;
+  pushed = same.pushed ∙ both.pushed;
+  closed = same.closed ∙ both.closed;
+})

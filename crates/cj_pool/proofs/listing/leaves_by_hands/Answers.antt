@@ -1,0 +1,30 @@
+use Rattle.std.proofs.Common.{◌≡◌, List, length, All, sym, ap, subst, ◌∙◌, arith}
+use Rattle.std.specs.List.{range_with_len}
+use Rattle.cj_hermite.specs.declared.problem.Problem.{Problem}
+use Rattle.cj_hermite.specs.Problems.{plain_problem}
+use Rattle.cj_bezier.specs.declared.cell.Cell.{Cell}
+use Rattle.cj_bezier.specs.Cells.{plain_cells}
+use Rattle.cj_bezier.specs.RootLeaves.{leaves_of_root, Describe}
+use Rattle.cj_pool.proofs.ListingLemmas.{back_all, back_numbers}
+use Rattle.cj_pool.proofs.listing.leaves_by_hands.Goals as goal
+
+pub finish-requires-clause-hands : goal.finish-requires-clause-hands
+finish-requires-clause-hands g c =
+    let hands = c.in_ok-refinery.hands in
+    let done = c.in_ok-hands.hands in
+    let long : length done.items ≡ length hands.items = omega (arith, c.in_ok-hands.ensures.len, hands.ok.0, done.ok.0) in
+    back_all c.in_ok-refinery.refinery hands.items done.items long (λ i d e lt. c.in_ok-hands.ensures.each i d e (omega (arith, lt, hands.ok.0)))
+
+pub finish-requires-clause-all : goal.finish-requires-clause-all
+finish-requires-clause-all g c =
+    let hands = c.in_ok-refinery.hands in
+    let done = c.in_ok-hands.hands in
+    let long : length done.items ≡ length hands.items = omega (arith, c.in_ok-hands.ensures.len, hands.ok.0, done.ok.0) in
+    back_numbers c.in_ok-refinery.refinery hands.items done.items long (λ i d e lt. c.in_ok-hands.ensures.each i d e (omega (arith, lt, hands.ok.0)))
+    ∙ c.in_ok-refinery.ensures.numbers ∙ ap (range_with_len 0) (sym c.in_ok-refinery.ensures.seen.3)
+
+pub returns-in-Ok-clause-leaves : goal.returns-in-Ok-clause-leaves
+returns-in-Ok-clause-leaves g c =
+    let seen = c.in_ok-refinery.ensures.seen in
+    subst (λ (p : Problem). All (λ root. Describe (plain_problem p) root (leaves_of_root (plain_problem p) root)) (plain_cells c.args.roots.items)) seen.0
+    (subst (λ (cells : List Cell). All (λ root. Describe (plain_problem c.in_ok-refinery.refinery.problem) root (leaves_of_root (plain_problem c.in_ok-refinery.refinery.problem) root)) (plain_cells cells)) seen.1 c.finish.ensures.describe)

@@ -1,0 +1,78 @@
+use Rattle.std.proofs.Common.{◌≡◌, List, length, sym, ap, ◌∙◌, subst, arith}
+use Rattle.std.specs.Prelude.{All}
+use Rattle.std.proofs.lemmas.List.{with_items_is, length-map}
+use Rattle.cj_hermite.specs.Problems.{plain_problem}
+use Rattle.cj_hermite.specs.declared.problem.Problem.{Problem}
+use Rattle.cj_bezier.specs.declared.cell.Cell.{Cell}
+use Rattle.cj_ledger.specs.Shares.{ShareSeen, IsOf, IsNew}
+use Rattle.cj_pool.specs.Hands.{HandSeen}
+use Rattle.cj_pool.specs.RootLists.{AreRoots}
+use Rattle.cj_pool.specs.Stations.{AreDealt, AreStations, IsUnused, own_deque, own_deques}
+use Rattle.cj_pool.proofs.SeatLemmas.{all_of_map, share_sum}
+use Rattle.cj_pool.proofs.refinery.Refinery.new.Goals as goal
+
+pub seat-requires-clause-stations : goal.seat-requires-clause-stations
+seat-requires-clause-stations g c =
+    let v = c.in_ok-stations.stations in
+    let ss = c.deal.new.stations in
+    let len : length ss ≡ v.len = omega (arith, c.deal.auto.stations, ap length c.deref_mut.ensures.value, v.ok.0) in
+    subst (AreStations g.K.Run.workers) (sym (with_items_is v ss len)) c.deal.ensures.stations
+
+pub seat-requires-clause-unused : goal.seat-requires-clause-unused
+seat-requires-clause-unused g c =
+    let v = c.in_ok-stations.stations in
+    let ss = c.deal.new.stations in
+    let len : length ss ≡ v.len = omega (arith, c.deal.auto.stations, ap length c.deref_mut.ensures.value, v.ok.0) in
+    subst (All IsUnused) (sym (with_items_is v ss len)) (c.deal.ensures.unused
+    (subst (All IsUnused) (sym c.deref_mut.ensures.value) c.in_ok-stations.ensures.unused))
+
+pub seat-requires-clause-dealt : goal.seat-requires-clause-dealt
+seat-requires-clause-dealt g c =
+    let v = c.in_ok-stations.stations in
+    let ss = c.deal.new.stations in
+    let len : length ss ≡ v.len = omega (arith, c.deal.auto.stations, ap length c.deref_mut.ensures.value, v.ok.0) in
+    let roots = c.deref.ensures.value ∙ c.requires.roots in
+    subst (AreDealt g.K.Run.roots) (sym (with_items_is v ss len)) (subst (λ (rs : List Cell). AreDealt rs ss) roots c.in_ok-deal.ensures.dealt)
+
+pub invariant_of-refinery : goal.invariant_of-refinery
+invariant_of-refinery g c =
+    let r = c.requires in
+    let v = c.in_ok-stations.stations in
+    let ss = c.deal.new.stations in
+    let len : length ss ≡ v.len = omega (arith, c.deal.auto.stations, ap length c.deref_mut.ensures.value, v.ok.0) in
+    let seen : length c.deref-2.result.now ≡ length ss = ap length (c.deref-2.ensures.value ∙ with_items_is v ss len) in
+    let thieves : length c.in_ok-thieves_of.field-0.items ≡ length c.deref-2.result.now =
+    sym (length-map c.in_ok-thieves_of.field-0.items _) ∙ ap length c.in_ok-thieves_of.ensures ∙ length-map c.deref-2.result.now own_deque in
+    let same_roots : length c.args.roots.items ≡ length g.K.Run.roots = ap length r.roots in
+    let count : c.len.result ≡ length g.K.Run.roots = omega (arith, c.len.ensures, c.args.roots.ok.0, same_roots) in
+    let opening : c.in_ok-ledger.ledger.opening ≡ record { roots = length g.K.Run.roots; shares = g.K.Run.workers } =
+    c.in_ok-ledger.ensures.opening ∙ (λ i. record { roots = count i; shares = r.workers i }) in (
+      r.problem,
+      subst (λ (p : Problem). AreRoots (plain_problem p) g.K.Run.roots) r.problem
+          (subst (AreRoots (plain_problem c.args.problem.now)) r.roots r.are_roots),
+      omega (arith, r.few_roots, same_roots),
+      r.few_leaves,
+      omega (arith, r.some, r.workers),
+      omega (arith, r.few_workers, r.workers),
+      omega (arith, thieves, seen, len, v.ok.0, c.in_ok-stations.ensures.len, r.workers),
+      opening,
+    )
+
+pub returns-clause-hands : goal.returns-clause-hands
+returns-clause-hands g c k d lt =
+    let hands = c.in_ok-hands.ensures in
+    let shares = all_of_map (IsOf c.in_ok-ledger.ledger) (λ (h : HandSeen). h.share) c.in_ok-hands.hands.items c.in_ok-ledger.shares.items
+    hands.shares c.in_ok-ledger.ensures.mine in
+    (hands.deques k d lt ∙ sym (ap own_deques c.deref-2.ensures.value) ∙ sym c.in_ok-thieves_of.ensures, shares k d lt)
+
+pub returns-clause-fresh : goal.returns-clause-fresh
+returns-clause-fresh g c k d lt =
+    let hands = c.in_ok-hands.ensures in
+    let shares = all_of_map (IsNew c.in_ok-ledger.ledger) (λ (h : HandSeen). h.share) c.in_ok-hands.hands.items c.in_ok-ledger.shares.items
+    hands.shares c.in_ok-ledger.ensures.new in
+    record { unstarted = hands.unstarted k d lt; share = shares k d lt; opening = hands.opening k d lt }
+
+pub returns-clause-shares : goal.returns-clause-shares
+returns-clause-shares g c =
+    share_sum (λ (s : ShareSeen). s.count.roots) c.in_ok-hands.hands.items c.in_ok-ledger.shares.items c.in_ok-hands.ensures.shares ∙
+    c.in_ok-ledger.ensures.roots ∙ omega (arith, c.len.ensures, c.args.roots.ok.0)

@@ -1,0 +1,53 @@
+-- The balance of one deque.
+use Rattle.std.specs.Prelude.{◌≡◌, ℕ, ◌+◌, ◌-◌, ◌<◌, List, [], ◌++◌}
+use mathlib.Core.Option.{some}
+use lib.ListN.{get_elem?}
+use Rattle.cj_bezier.specs.declared.cell.Cell.{Cell}
+use Rattle.cj_pool.specs.declared.account.Account.{Account}
+use Rattle.cj_pool.specs.Weights.{weigh}
+
+abbrev pub account : ℕ → ℕ → List Cell → List Cell → List Cell → Account
+account parts all opening pushed taken = record { parts = parts; all = all; opening = opening; pushed = pushed; taken = taken }
+
+-- no part, and nothing done
+abbrev pub nobody : Account
+nobody = account 0 0 [] [] []
+
+-- the worker's, at the start
+abbrev pub whole : ℕ → Account
+whole n = account n n [] [] []
+
+-- a pass without parts has done nothing, and each other knows how many parts there are
+abbrev pub Fits : ℕ → Account → Type 0
+Fits n v = (v.parts ≡ 0 → v ≡ nobody) × (0 < v.parts → v.all ≡ n)
+
+-- However cells are weighed, the opening roots and the later pushes weigh what the taken cells and those in the queue weigh.
+pub record Balanced (n : ℕ) (items : List Cell) (views : List Account) : Type 0 where
+  pub parts : weigh (λ v. v.parts) views ≡ n
+  pub weights : (w : Cell → ℕ) → weigh (λ v. weigh w v.opening) views + weigh (λ v. weigh w v.pushed) views ≡ weigh (λ v. weigh w v.taken) views + weigh w items
+  pub idle : (i : ℕ) (v : Account) → get_elem? views i ≡ some v → Fits n v
+
+abbrev pub with_opening : Account → List Cell → Account
+with_opening v cells = record v { opening = v.opening ++ cells }
+
+abbrev pub with_pushed : Account → List Cell → Account
+with_pushed v cells = record v { pushed = v.pushed ++ cells }
+
+abbrev pub with_taken : Account → List Cell → Account
+with_taken v cells = record v { taken = v.taken ++ cells }
+
+-- the account of a worker that gave a part away
+abbrev pub less_a_part : Account → Account
+less_a_part v = record v { parts = v.parts - 1 }
+
+-- the account of a new pass
+abbrev pub new_pass : Account → Account
+new_pass v = account 1 v.all [] [] []
+
+-- two accounts together
+abbrev pub both : Account → Account → Account
+both v w = account (v.parts + w.parts) v.all (v.opening ++ w.opening) (v.pushed ++ w.pushed) (v.taken ++ w.taken)
+
+-- what the one pass with all parts knows of the cells in the queue
+abbrev pub Settled : Account → List Cell → Type 0
+Settled v items = v.parts ≡ v.all → (w : Cell → ℕ) → weigh w v.opening + weigh w v.pushed ≡ weigh w v.taken + weigh w items

@@ -1,0 +1,12 @@
+pub mod Accounts
+pub mod Hands
+pub mod Lengths
+pub mod Narrow
+pub mod Passes
+pub mod Refined
+pub mod RootLists
+pub mod Runs
+pub mod Stations
+pub mod Tree
+pub mod Turns
+pub mod Weights

@@ -1,0 +1,142 @@
+//! The leaves of a refinery, from what its hands have done.
+ghost use Rattle.std.specs.Prelude.{◌≡◌, ℕ, ◌+◌, ◌^◌, ◌<◌, ◌≤◌, ◌++◌, List, length, take, vec_len, All, AllPairs, Contains, IfOk, IfErr, OnOk};
+ghost use Rattle.std.specs.List.{range_with_len};
+ghost use Rattle.std.specs.List.Sorted.{IsPermutation};
+ghost use Rattle.cj_hermite.specs.Problems.{plain_problem};
+ghost use Rattle.cj_bezier.specs.declared.cell.Cell.{Cell};
+ghost use Rattle.cj_bezier.specs.Cells.{plain_cells};
+ghost use Rattle.cj_bezier.specs.Leaves.{plain_leaves};
+ghost use Rattle.cj_bezier.specs.RootLeaves.{leaves_of_root, leaves_of_roots, Describe};
+ghost use Rattle.cj_hermite.specs.Roots.{IsRootUpTo};
+ghost use Rattle.cj_pool.specs.Hands.{IsHandOf, cells_of};
+ghost use Rattle.cj_pool.specs.Lengths.{HaveLengths};
+ghost use Rattle.cj_pool.specs.declared.refined.FinishError.TheVariants.{Memory, TooMany};
+ghost use Rattle.cj_pool.specs.Refined.{AreLeft, IsTooMany, Stands, TotalsOf, leaves_wanted, numbers_of};
+ghost use Rattle.cj_pool.specs.RootLists.{AreRoots, IsKept};
+ghost use Rattle.cj_pool.specs.Tree.{InTree, IsLeafOf};
+ghost use Rattle.cj_pool.specs.Weights.{weigh, has};
+
+use crate::hand::Hand;
+use crate::joining::gather;
+use crate::lengths::have_lengths;
+use crate::refined::{FinishError, Refined};
+use crate::refinery::Refinery;
+use crate::run::Run;
+use crate::taking::take_apart;
+use cj_bezier::{Cell, Leaf};
+use cj_cells::{RefineError, refine};
+use cj_hermite::Problem;
+use cj_ledger::Totals;
+use std::alloc::Global;
+
+/// What a cell that could not be refined says of all.
+fn refusal(error: RefineError, limit: u64) -> FinishError
+    ensures memory { error ≡ RefineError.Memory → result ≡ Memory }
+    ensures too_many { error ≡ RefineError.TooMany → result ≡ TooMany limit }
+{
+    match error {
+        RefineError::Memory => FinishError::Memory,
+        RefineError::TooMany => FinishError::TooMany { limit },
+    }
+}
+
+/// Appends the leaves of cells that are still open.
+fn refine_open(
+    alloc: Global,
+    problem: &Problem,
+    cells: &[Cell],
+    limit: u64,
+    leaves: &mut Vec<Leaf>,
+) -> Result<(), FinishError>
+    requires kept { All (IsKept (plain_problem problem.now)) cells.now }
+    requires lengths { HaveLengths (plain_problem problem.now) }
+    ensures ok { OnOk result (plain_leaves leaves.new.items
+        ≡ plain_leaves leaves.old.items ++ leaves_of_roots (plain_problem problem.now) (plain_cells cells.now)) }
+    ensures within { OnOk result (vec_len leaves.new ≤ limit) }
+    ensures kept { take (vec_len leaves.old) leaves.new.items ≡ leaves.old.items }
+    ensures judged { OnOk result ((roots : List Cell) → AreRoots (plain_problem problem.now) roots
+        → All (InTree (plain_problem problem.now) roots) cells.now
+        → All (IsLeafOf (plain_problem problem.now) roots) leaves.old.items → All (IsLeafOf (plain_problem problem.now) roots) leaves.new.items) }
+    ensures too_many { IfErr result (IsTooMany limit (vec_len leaves.old
+        + length (leaves_of_roots (plain_problem problem.now) (plain_cells cells.now)))) }
+{
+    if leaves.len() as u64 > limit {
+        return Err(FinishError::TooMany { limit });
+    }
+    for cell in cells {
+        match refine(alloc, problem, *cell, limit, leaves) {
+            Ok(()) => (),
+            Err(error) => return Err(refusal(error, limit)),
+        }
+    }
+    Ok(())
+}
+
+/// Puts leaves in order of pair and tick.
+fn sort(leaves: &mut [Leaf])
+    ensures permutation { IsPermutation leaves.old leaves.new }
+    ensures ordered { AllPairs IsRootUpTo (plain_cells (cells_of leaves.new)) }
+{
+    leaves.sort_unstable_by_key(|leaf| (leaf.cell.pair, leaf.cell.first));
+}
+
+/// What was counted once so many open cells have come to so many leaves.
+fn totals_with(totals: Totals, refined: u64, added: u64) -> Totals
+    requires enough { refined ≤ added }
+    requires few_splits { totals.splits + added < 2 ^ 64 }
+    requires few_closes { totals.closes + added < 2 ^ 64 }
+    ensures roots { result.roots ≡ totals.roots }
+    ensures splits { result.splits + refined ≡ totals.splits + added }
+    ensures closes { result.closes ≡ totals.closes + added }
+{
+    Totals {
+        roots: totals.roots,
+        splits: totals.splits + (added - refined),
+        closes: totals.closes + added,
+    }
+}
+
+impl<'p, K: Run> Refinery<'p, K> {
+    /// The leaves of all roots, in order, from all hands of the refinery. Cells that are left are refined here.
+    pub fn finish(self, alloc: Global, hands: Vec<Hand<'p, K>>) -> Result<Refined, FinishError>
+        requires hands { All (IsHandOf self) hands.items }
+        requires all { numbers_of hands.items ≡ range_with_len 0 self.hands }
+
+        // It refuses for memory, or exactly where there are more leaves than the limit.
+        ensures refused { IfErr result (Stands self.entry) }
+        ensures within { IfOk result (λ r. length r.leaves.items ≤ self.entry.limit) }
+
+        // The leaves are those of the roots, each is what its cell was found to be, and those that the hands closed are among them.
+        ensures value { IfOk result (λ r. plain_leaves r.leaves.items ≡ leaves_wanted self.entry) }
+        ensures judged { IfOk result (λ r. All (IsLeafOf (plain_problem self.entry.problem) self.entry.roots) r.leaves.items) }
+        ensures closed { IfOk result (λ r. All (λ h. All (λ leaf. Contains r.leaves.items leaf) h.closed) hands.entry.items) }
+        ensures totals { IfOk result (λ r. TotalsOf (length self.entry.roots) (length r.leaves.items) r.totals) }
+
+        // No cell was lost or made twice: each tick of a root is in just one cell.
+        ensures once { OnOk result ((left : List Cell) × AreLeft self.entry hands.entry.items left) }
+        ensures single { (r : Cell) (m : ℕ) → Contains self.entry.roots r → r.first.micros ≤ m → m ≤ r.last.micros
+            → weigh (has r.pair.a r.pair.b m) self.entry.roots ≡ 1 }
+
+        // The leaves of each root lie in order in it, hold each of its ticks, and each is true at each of its own.
+        ensures describe { All (λ root. Describe (plain_problem self.entry.problem) root (leaves_of_root (plain_problem self.entry.problem) root)) (plain_cells self.entry.roots) }
+    {
+        have_lengths(self.problem);
+        let parts = take_apart(alloc, &self, hands)?;
+        let Refinery {
+            problem,
+            limit,
+            thieves: _,
+            ledger,
+            of: _,
+        } = self;
+        let mut leaves = parts.leaves;
+        let mut cells = parts.kept;
+        gather(parts.stations, &mut cells)?;
+        let closed = leaves.len() as u64;
+        refine_open(alloc, problem, &cells, limit, &mut leaves)?;
+        sort(&mut leaves);
+        let added = leaves.len() as u64 - closed;
+        let totals = totals_with(ledger.total(parts.shares), cells.len() as u64, added);
+        Ok(Refined { leaves, totals })
+    }
+}

@@ -1,0 +1,100 @@
+//! The one-thread list of a problem, by several hands.
+ghost use Rattle.std.specs.Prelude.{◌≡◌, ℕ, ◌+◌, ◌<◌, ◌≤◌, true, length, vec_len, All, Any, IfOk, OnOk, IsErrOf};
+ghost use Rattle.cj_hermite.specs.PlainProblems.{IsCommonOf};
+ghost use Rattle.cj_hermite.specs.Problems.{plain_problem};
+ghost use Rattle.cj_hermite.specs.Roots.{KeepIntervals, roots_by_slot};
+ghost use Rattle.cj_hermite.specs.Slots.{slot_of};
+ghost use Rattle.cj_bezier.specs.Cells.{plain_cells};
+ghost use Rattle.cj_bezier.specs.Leaves.{plain_leaves, IsTickOf};
+ghost use Rattle.cj_bezier.specs.Looked.{is_looked};
+ghost use Rattle.cj_bezier.specs.Order.{AreInOrder};
+ghost use Rattle.cj_bezier.specs.RootLeaves.{leaves_of_root, leaves_of_roots, Describe};
+ghost use Rattle.cj_cells.specs.Lists.{list_looked, splits_of, IsSound};
+ghost use Rattle.cj_pool.specs.RootLists.{AreRoots};
+
+use crate::crew::run_hands;
+use crate::refined::FinishError;
+use crate::refinery::Refinery;
+use crate::run::Run;
+use cj_bezier::{Cell, Leaf};
+use cj_cells::{RefineError, leaves_of, order_roots};
+use cj_hermite::Problem;
+use cj_io::Gate;
+use std::alloc::Global;
+use std::marker::Brand;
+use std::sync::Wait;
+use std::thread::Threads;
+
+/// The leaves of roots in order, by so many hands on threads.
+pub(crate) fn leaves_by_hands<K: Run + Send + Sync, R: Threads + Wait + Sync, G: Gate + Sync>(
+    rt: &R,
+    alloc: Global,
+    gate: &G,
+    problem: &Problem,
+    roots: Vec<Cell>,
+    workers: u32,
+    limit: u64,
+) -> Result<Vec<Leaf>, RefineError>
+    requires problem { problem.now ≡ K.problem }
+    requires roots { roots.items ≡ K.roots }
+    requires workers { workers ≡ K.workers }
+    requires are_roots { AreRoots (plain_problem problem.now) roots.items }
+    requires some { 1 ≤ workers }
+    requires few_workers { workers ≤ 16 }
+    requires few_roots { length roots.items ≤ limit }
+    requires few_leaves { limit ≤ 4_000_000 }
+
+    ensures value { IfOk result (λ leaves. plain_leaves leaves.items ≡ leaves_of_roots (plain_problem problem.now) (plain_cells roots.items)) }
+    ensures within { IfOk result (λ leaves. vec_len leaves ≤ limit) }
+    ensures too_many { IsErrOf result RefineError.TooMany → limit < length (leaves_of_roots (plain_problem problem.now) (plain_cells roots.items)) }
+    ensures leaves { OnOk result (All (λ root. Describe (plain_problem problem.now) root (leaves_of_root (plain_problem problem.now) root)) (plain_cells roots.items)) }
+{
+    let (refinery, hands) = Refinery::<K>::new(alloc, problem, roots, workers, limit)?;
+    let hands = run_hands(rt, alloc, &refinery, gate, hands)?;
+    match refinery.finish(alloc, hands) {
+        Ok(refined) => Ok(refined.leaves),
+        Err(FinishError::Memory) => Err(RefineError::Memory),
+        Err(FinishError::TooMany { limit: _ }) => Err(RefineError::TooMany),
+    }
+}
+
+/// The one-thread list, by so many workers, of the roots of the pairs that are looked at, as they are found slot by slot. Each
+/// worker calls the gate before each of its turns.
+pub fn leaves_by_workers<R: Threads + Wait + Sync, G: Gate + Sync>(
+    rt: &R,
+    alloc: Global,
+    gate: &G,
+    problem: &Problem,
+    mut roots: Vec<Cell>,
+    workers: u32,
+    limit: u64,
+) -> Result<Vec<Leaf>, RefineError>
+    requires few { vec_len roots ≤ limit }
+    requires limit { limit ≤ 4_000_000 }
+    requires some { 1 ≤ workers }
+    requires few_workers { workers ≤ 16 }
+    requires found { plain_cells roots.items ≡ roots_by_slot (is_looked (plain_problem problem.now)) (plain_problem problem.now) }
+
+    ensures value { IfOk result (λ leaves. plain_leaves leaves.items ≡ list_looked (plain_problem problem.now)) }
+    ensures within { IfOk result (λ leaves. vec_len leaves ≤ limit) }
+    ensures too_many { IsErrOf result RefineError.TooMany → limit < length (list_looked (plain_problem problem.now)) }
+
+    // Each halving makes one leaf more.
+    ensures splits { IfOk result (λ leaves. vec_len leaves ≡ vec_len roots + splits_of (plain_problem problem.now)) }
+
+    // Each stretch of the list is true at each of its ticks, each common tick of a pair that is looked at lies in a stretch of that
+    // pair, and they are in order of pair and time.
+    ensures sound { OnOk result (All (IsSound (plain_problem problem.now)) (list_looked (plain_problem problem.now))) }
+    ensures complete { OnOk result ((a b m : ℕ) → IsCommonOf (plain_problem problem.now) a b m → is_looked (plain_problem problem.now) a b (slot_of problem.now.window.first.micros m) ≡ true
+        → Any (IsTickOf a b m) (list_looked (plain_problem problem.now))) }
+    ensures ordered { OnOk result (AreInOrder (list_looked (plain_problem problem.now))) }
+
+    // Over each stretch both its objects are in one interval.
+    ensures intervals { OnOk result (All (λ s. KeepIntervals (plain_problem problem.now) s.a s.b s.first s.last) (list_looked (plain_problem problem.now))) }
+{
+    if workers == 1 {
+        return leaves_of(alloc, problem, roots, limit);
+    }
+    order_roots(&mut roots);
+    leaves_by_hands::<Brand, R, G>(rt, alloc, gate, problem, roots, workers, limit)
+}

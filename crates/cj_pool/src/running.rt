@@ -1,0 +1,71 @@
+//! The run of a hand.
+ghost use Rattle.std.specs.Prelude.{◌≡◌, ◌⊎◌, ◌+◌, ◌<◌, true, MatchBool};
+ghost use Rattle.cj_pool.specs.Hands.{IsHandOf, SameHand};
+ghost use Rattle.cj_pool.specs.Turns.{Ended, Rose, SetsCells};
+
+use crate::hand::Hand;
+use crate::refinery::Refinery;
+use crate::run::Run;
+use crate::turn::Turn;
+use cj_io::Gate;
+use cj_ledger::Why;
+use std::alloc::Global;
+use std::sync::Wait;
+use std::thread;
+
+impl<'p, K: Run> Hand<'p, K> {
+    /// A turn, and whether it was the last one. Where it wants memory, it tells the others to stop.
+    fn step(&mut self, alloc: Global, refinery: &Refinery<'p, K>) -> bool
+        requires { IsHandOf refinery.now self.old }
+        ensures hand { IsHandOf refinery.now self.new × SameHand self.old self.new }
+
+        // The last turn was told of the end, or told the others; each other one wanted no memory.
+        ensures ended { MatchBool result (Ended self.new) (self.new.wants ≡ self.old.wants) }
+        ensures memory { MatchBool result ((self.new.share.count.memory ≡ self.old.share.count.memory) ⊎ Rose self.old.wants self.new.wants) (self.new.share.count.memory ≡ self.old.share.count.memory) }
+        ensures cells { SetsCells refinery.now.limit self.old.share.count self.new.share.count }
+        ensures halts { 0 < self.old.share.count.cells + self.old.share.count.memory → (result ≡ true) × (self.new.share.count.leaves ≡ self.old.share.count.leaves) }
+    {
+        match self.turn(alloc, refinery) {
+            Ok(Turn::Closed) => false,
+            Ok(Turn::Split) => false,
+            Ok(Turn::Idle { live: _ }) => {
+                thread::yield_now();
+                false
+            }
+            Ok(Turn::Done) => true,
+            Ok(Turn::Halted { why: _ }) => true,
+            Err(_) => {
+                refinery.ledger.halt(&mut self.share, Why::Memory);
+                true
+            }
+        }
+    }
+
+    /// Takes turns until the cells are done or the hands are to stop. Where a turn wants memory, it tells the others to stop.
+    pub fn run<R: Wait, G: Gate>(
+        mut self,
+        rt: &R,
+        alloc: Global,
+        refinery: &Refinery<'p, K>,
+        gate: &G,
+    ) -> Hand<'p, K>
+        requires { IsHandOf refinery.now self }
+
+        ensures hand { IsHandOf refinery.now result × SameHand self.entry result }
+        ensures ended { Ended result }
+
+        // It stops the others for want of memory only where it wanted some, and for too many cells only where a turn does.
+        ensures memory { (result.share.count.memory ≡ self.entry.share.count.memory) ⊎ Rose self.entry.wants result.wants }
+        ensures cells { (result.share.count.cells ≡ self.entry.share.count.cells) ⊎ ((refinery.now.limit < result.share.count.leaves.last) × (self.entry.share.count.leaves.times < result.share.count.leaves.times)) }
+    {
+        let mut number: u64 = 0;
+        for _ in rt.forever() {
+            number = number.saturating_add(1);
+            gate.enter(rt, self.station.number, number);
+            if self.step(alloc, refinery) {
+                return self;
+            }
+        }
+        unreachable!()
+    }
+}

@@ -1,0 +1,64 @@
+//! A refinery and its hands.
+ghost use Rattle.std.specs.Prelude.{◌≡◌, ◌≤◌, length, All, IfOk};
+ghost use Rattle.std.specs.List.{range_with_len};
+ghost use Rattle.cj_hermite.specs.Problems.{plain_problem};
+ghost use Rattle.cj_pool.specs.Hands.{IsHandOf, IsFresh};
+ghost use Rattle.cj_pool.specs.Refined.{numbers_of};
+ghost use Rattle.cj_pool.specs.RootLists.{AreRoots};
+ghost use Rattle.cj_pool.specs.Weights.{weigh};
+
+use crate::dealing::deal;
+use crate::growing::{new_stations, thieves_of};
+use crate::hand::Hand;
+use crate::refinery::Refinery;
+use crate::run::Run;
+use crate::seating::seat;
+use cj_bezier::Cell;
+use cj_hermite::Problem;
+use cj_ledger::Ledger;
+use std::alloc::{AllocError, Global};
+use std::marker::PhantomData;
+
+/// Room in each deque for halves, beside the roots.
+const ROOM: usize = 64;
+
+impl<'p, K: Run> Refinery<'p, K> {
+    /// A refinery of these roots, for so many workers, which is to stop at more leaves than the limit, and its hands. The root at
+    /// place `i` is pushed to the deque of the hand with the number `i` modulo `workers`.
+    pub fn new(
+        alloc: Global,
+        problem: &'p Problem,
+        roots: Vec<Cell>,
+        workers: u32,
+        limit: u64,
+    ) -> Result<(Refinery<'p, K>, Vec<Hand<'p, K>>), AllocError>
+        requires problem { problem.now ≡ K.problem }
+        requires roots { roots.items ≡ K.roots }
+        requires workers { workers ≡ K.workers }
+        requires are_roots { AreRoots (plain_problem problem.now) roots.items }
+        requires some { 1 ≤ workers }
+        requires few_workers { workers ≤ 16 }
+        requires few_roots { length roots.items ≤ limit }
+        requires few_leaves { limit ≤ 4_000_000 }
+
+        ensures seen { IfOk result (λ r. (r.0.problem ≡ problem.now) × (r.0.roots ≡ roots.items) × (r.0.limit ≡ limit) × (r.0.hands ≡ workers)) }
+        ensures hands { IfOk result (λ r. All (IsHandOf r.0) r.1.items) }
+        ensures numbers { IfOk result (λ r. numbers_of r.1.items ≡ range_with_len 0 workers) }
+        ensures fresh { IfOk result (λ r. All (IsFresh r.0) r.1.items) }
+        ensures shares { IfOk result (λ r. weigh (λ h. h.share.count.roots) r.1.items ≡ length roots.items) }
+    {
+        let (ledger, shares) = Ledger::start(alloc, roots.len() as u64, workers)?;
+        let room = roots.len() / workers as usize + ROOM;
+        let mut stations = new_stations(alloc, workers, room)?;
+        deal(&mut stations, &roots)?;
+        let refinery = Refinery {
+            problem,
+            limit,
+            thieves: thieves_of(alloc, &stations)?,
+            ledger,
+            of: PhantomData,
+        };
+        let hands = seat(alloc, problem, stations, shares)?;
+        Ok((refinery, hands))
+    }
+}

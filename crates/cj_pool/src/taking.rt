@@ -1,0 +1,89 @@
+//! Hands taken apart.
+ghost use Rattle.cj_pool.specs.declared.station.Station.{Station};
+ghost use Rattle.std.specs.Prelude.{◌≡◌, ℕ, ◌+◌, [], ◌∷◌, ◌++◌, List, length, map, All, IfOk, OnOk};
+ghost use Rattle.std.specs.List.{flat_map, range_with_len};
+ghost use Rattle.cj_bezier.specs.declared.cell.Cell.{Cell};
+ghost use Rattle.cj_hermite.specs.Problems.{plain_problem};
+ghost use Rattle.cj_pool.specs.Hands.{Accounts, IsHandOf};
+ghost use Rattle.cj_pool.specs.Refined.{numbers_of};
+ghost use Rattle.cj_pool.specs.Stations.{AreStations, IsStationOf, weigh_all_taken, weigh_given};
+ghost use Rattle.cj_pool.specs.Weights.{weigh};
+
+use crate::hand::Hand;
+use crate::refinery::Refinery;
+use crate::run::Run;
+use crate::station::Station;
+use cj_bezier::{Cell, Leaf};
+use cj_ledger::Share;
+use std::alloc::{AllocError, Global};
+
+/// What hands are made of.
+#[derive(Drop)]
+pub(crate) struct Parts<K: Run> {
+    pub stations: Vec<Station<K>>,
+    pub shares: Vec<Share>,
+    /// The leaves that they have closed.
+    pub leaves: Vec<Leaf>,
+    /// The cells that they keep.
+    pub kept: Vec<Cell>,
+}
+
+/// Adds the parts of one hand.
+fn take_one<'p, K: Run>(parts: &mut Parts<K>, hand: Hand<'p, K>) -> Result<(), AllocError>
+    ensures shares { OnOk result (parts.new.shares.items ≡ parts.old.shares.items ++ hand.entry.share ∷ []) }
+    ensures leaves { OnOk result (parts.new.leaves.items ≡ parts.old.leaves.items ++ hand.entry.closed) }
+    ensures kept { OnOk result (parts.new.kept.items ≡ parts.old.kept.items ++ hand.entry.kept) }
+    ensures station { OnOk result ((s : Station K) × (parts.new.stations.items ≡ parts.old.stations.items ++ s ∷ [])
+        × IsStationOf K.workers hand.entry s) }
+    ensures account { Accounts (plain_problem K.problem) K.roots K.workers hand.entry }
+{
+    let Hand {
+        problem: _,
+        station,
+        kept,
+        leaves,
+        share,
+        wants: _,
+        of: _,
+    } = hand;
+    parts.stations.push(station)?;
+    parts.shares.push(share)?;
+    parts.leaves.extend_from_slice(&leaves)?;
+    parts.kept.extend_from_slice(kept.as_slice())?;
+    Ok(())
+}
+
+/// Takes hands apart, in their order.
+pub(crate) fn take_apart<'p, K: Run>(
+    alloc: Global,
+    _refinery: &Refinery<'p, K>,
+    mut hands: Vec<Hand<'p, K>>,
+) -> Result<Parts<K>, AllocError>
+    requires hands { All (IsHandOf _refinery.now) hands.items }
+    requires all { numbers_of hands.items ≡ range_with_len 0 K.workers }
+
+    // The stations are those of all hands, with what was given to them and what they have taken.
+    ensures stations { IfOk result (λ parts. AreStations K.workers parts.stations.items) }
+    ensures len { IfOk result (λ parts. length parts.stations.items ≡ K.workers) }
+    ensures given { IfOk result (λ parts. (w : Cell → ℕ) → weigh_given w parts.stations.items
+        ≡ weigh (λ h. weigh w h.opening + weigh w h.pushed) hands.entry.items) }
+    ensures taken { IfOk result (λ parts. (w : Cell → ℕ) → weigh_all_taken w parts.stations.items
+        ≡ weigh (λ h. weigh (weigh w) h.taken) hands.entry.items) }
+
+    // The shares, leaves and kept cells are those of the hands, in their order.
+    ensures shares { IfOk result (λ parts. parts.shares.items ≡ map (λ h. h.share) hands.entry.items) }
+    ensures leaves { IfOk result (λ parts. parts.leaves.items ≡ flat_map (λ h. h.closed) hands.entry.items) }
+    ensures kept { IfOk result (λ parts. parts.kept.items ≡ flat_map (λ h. h.kept) hands.entry.items) }
+    ensures accounts { OnOk result (All (Accounts (plain_problem K.problem) K.roots K.workers) hands.entry.items) }
+{
+    let mut parts = Parts {
+        stations: Vec::new(alloc),
+        shares: Vec::new(alloc),
+        leaves: Vec::new(alloc),
+        kept: Vec::new(alloc),
+    };
+    while !hands.is_empty() {
+        take_one(&mut parts, hands.remove(0))?;
+    }
+    Ok(parts)
+}

@@ -1,0 +1,16 @@
+use cj_ledger::Why;
+
+/// What a turn of a hand came to.
+#[derive(Clone, Copy, Debug, PartialEq, Eq)]
+pub enum Turn {
+    /// A cell became a leaf.
+    Closed,
+    /// A cell was halved: one half is kept, and the other was pushed.
+    Split,
+    /// No cell was found, and so many are live.
+    Idle { live: u64 },
+    /// No cell is live.
+    Done,
+    /// The hands are to stop.
+    Halted { why: Why },
+}

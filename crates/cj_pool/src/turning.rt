@@ -1,0 +1,112 @@
+//! One turn of a hand.
+ghost use Rattle.std.specs.Prelude.{◌≡◌, ℕ, ◌+◌, ◌<◌, ◌≤◌, MatchResult, Ok};
+ghost use Rattle.cj_hermite.specs.Problems.{plain_problem};
+ghost use Rattle.cj_ledger.specs.declared.why.Why.{Why};
+ghost use Rattle.cj_ledger.specs.Counts.{after_split, after_halt};
+ghost use Rattle.cj_ledger.specs.Shares.{IsOf};
+ghost use Rattle.cj_pool.specs.declared.turn.Turn.TheVariants.{Halted};
+ghost use Rattle.cj_pool.specs.Hands.{IsHandOf, SameHand};
+ghost use Rattle.cj_pool.specs.Turns.{Made, Wanted, SetsCells, one_want_more};
+
+use crate::hand::Hand;
+use crate::picking::pick;
+use crate::refinery::Refinery;
+use crate::run::Run;
+use crate::steps::put;
+use crate::turn::Turn;
+use crate::work::Work;
+use cj_cells::{Look, look};
+use cj_ledger::{Ledger, Share, Why};
+use std::alloc::{AllocError, Global};
+
+/// Counts a halving, and tells all hands to stop where there are then more leaves than the limit.
+fn count_halving(ledger: &Ledger, share: &mut Share, limit: u64)
+    requires { IsOf ledger.now share.old }
+    ensures ledger { IsOf ledger.now share.new }
+    ensures firsts { share.new.count.firsts ≡ share.old.count.firsts + 1 }
+    ensures closes { share.new.count.closes ≡ share.old.count.closes }
+    ensures roots { share.new.count.roots ≡ share.old.count.roots }
+    ensures memory { share.new.count.memory ≡ share.old.count.memory }
+    ensures told { share.new.count.leaves.times ≡ share.old.count.leaves.times + 1 }
+    ensures cells { SetsCells limit share.old.count share.new.count }
+{
+    if ledger.split(share) > limit {
+        ledger.halt(share, Why::Cells);
+    }
+}
+
+impl<'p, K: Run> Hand<'p, K> {
+    /// A turn, whose want of memory is not counted yet.
+    fn attempt(&mut self, refinery: &Refinery<'p, K>) -> Result<Turn, AllocError>
+        requires { IsHandOf refinery.now self.old }
+        ensures hand { IsHandOf refinery.now self.new × SameHand self.old self.new }
+        ensures made { MatchResult result (Made (plain_problem K.problem) refinery.now self.old self.new) (λ _. Wanted (plain_problem K.problem) self.old self.new) }
+        ensures wants { self.new.wants ≡ self.old.wants }
+        ensures cells { SetsCells refinery.now.limit self.old.share.count self.new.share.count }
+        ensures memory { self.new.share.count.memory ≡ self.old.share.count.memory }
+        ensures halts { 0 < self.old.share.count.cells + self.old.share.count.memory → (why : Why) × (result ≡ Ok (Halted why)) }
+    {
+        if let Some(why) = refinery.ledger.halted(&mut self.share) {
+            return Ok(Turn::Halted { why });
+        }
+        self.leaves.reserve(1)?;
+        let picked = pick(
+            &mut self.kept,
+            &mut self.station,
+            refinery.thieves.as_slice(),
+        );
+        let Some(cell) = picked else {
+            let live = refinery.ledger.live(&mut self.share);
+            if live == 0 {
+                return Ok(Turn::Done);
+            }
+            return Ok(Turn::Idle { live });
+        };
+        match look(self.problem, cell) {
+            Look::Closed(leaf) => {
+                self.leaves.push_reserved(leaf);
+                refinery.ledger.close(&mut self.share);
+                Ok(Turn::Closed)
+            }
+            Look::Halves(first, second) => {
+                count_halving(&refinery.ledger, &mut self.share, refinery.limit);
+                match put(&mut self.station.own, &self.share, Work::new(second)) {
+                    Ok(()) => {
+                        self.kept.push(first);
+                        Ok(Turn::Split)
+                    }
+                    Err(work) => {
+                        self.kept.push(work.into_cell());
+                        self.kept.push(first);
+                        Err(AllocError)
+                    }
+                }
+            }
+        }
+    }
+
+    /// One turn. It looks at one cell at most, and waits for nobody. A turn that is refused memory leaves every cell with the hand.
+    pub fn turn(&mut self, _alloc: Global, refinery: &Refinery<'p, K>) -> Result<Turn, AllocError>
+        requires { IsHandOf refinery.now self.old }
+
+        // The hand stays what it is.
+        ensures hand { IsHandOf refinery.now self.new × SameHand self.old self.new }
+
+        // What the answer says was done.
+        ensures made { MatchResult result (Made (plain_problem K.problem) refinery.now self.old self.new) (λ _. Wanted (plain_problem K.problem) self.old self.new) }
+        ensures wants { MatchResult result (λ _. self.new.wants ≡ self.old.wants) (λ _. self.new.wants ≡ one_want_more self.old.wants) }
+
+        // It stops the others only for too many cells, and it stops where its hand has told the others to.
+        ensures cells { SetsCells refinery.now.limit self.old.share.count self.new.share.count }
+        ensures memory { self.new.share.count.memory ≡ self.old.share.count.memory }
+        ensures halts { 0 < self.old.share.count.cells + self.old.share.count.memory → (why : Why) × (result ≡ Ok (Halted why)) }
+    {
+        match self.attempt(refinery) {
+            Ok(turn) => Ok(turn),
+            Err(want) => {
+                self.wants = self.wants.saturating_add(1);
+                Err(want)
+            }
+        }
+    }
+}
