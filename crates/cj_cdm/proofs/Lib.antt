@@ -1,6 +1,14 @@
+pub mod DigitLemmas
 pub mod ElementLemmas
+pub mod ExactLemmas
+pub mod FigureLemmas
+pub mod FitsLemmas
+pub mod GrammarLemmas
+pub mod LineLemmas
 pub mod MessageLemmas
 pub mod NumberLemmas
+pub mod ReaderLemmas
 pub mod SegmentLemmas
 pub mod SideLemmas
 pub mod TextLemmas
+pub mod ValueLemmas

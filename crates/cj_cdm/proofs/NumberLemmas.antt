@@ -1,6 +1,9 @@
 -- The digits of numbers, written one behind another, and the exponents of numbers in other units.
-use Rattle.std.proofs.Common.{◌≡◌, ℕ, zero, suc, ◌+◌, ◌-◌, ◌/◌, ◌%◌, ◌<◌, ◌≤◌, true, false, Bool, List, [], ◌∷◌, ◌++◌, ap, sym, ◌∙◌, refl, arith}
+use Rattle.std.proofs.Common.{◌≡◌, ℕ, zero, suc, ◌+◌, ◌-◌, ◌/◌, ◌%◌, ◌^◌, ◌<◌, ◌≤◌, length, decimal, true, false, Bool, List, [], ◌∷◌, ◌++◌, ap, sym, ◌∙◌, refl, arith}
+use Rattle.std.proofs.Math.Nat.{div-le_self}
+use Rattle.std.proofs.lemmas.Fmt.{decimal_digit, decimal_step_wide, length-decimal-le_wide}
 use Rattle.std.proofs.lemmas.Int.{ints}
+use Rattle.std.proofs.lemmas.List.{length-append}
 use Rattle.std.specs.Prelude.{◌==◌, if◌then◌else◌, ℤ, pos, neg_ℤ, ◌+ℤ◌, ◌≤ℤ◌}
 use Rattle.cj_kvn.specs.declared.decimals.Decimal.{Decimal}
 use Rattle.cj_kvn.specs.Decimals.{IsReadable, number_of, shifted}
@@ -36,3 +39,23 @@ shifted_within d s readable e =
     let within = power_within (d.digits == 0) (number_of d) bounds.0 bounds.1 in
     let same : s.exponent ≡ (shifted (number_of d) (pos 6)).power = ap (λ (n : Number). n.power) e in
     rw same within
+
+-- a number in decimal, digit behind digit
+pub length_digit : (n : ℕ) → n < 10 → length (decimal n) ≡ 1
+length_digit n small = ap length (decimal_digit n small)
+
+pub length_step : (n : ℕ) → 10 ≤ n → n < 2 ^ 128 → length (decimal n) ≡ length (decimal (n / 10)) + 1
+length_step n large fits = omega (arith, ap length (decimal_step_wide n large (omega arith)), length-append (decimal (n / 10)) ((48 + n % 10) ∷ []))
+
+pub decimal_one : (old new : List ℕ) (n : ℕ) → n < 10 → new ≡ old ++ (48 + n) ∷ [] → new ≡ old ++ decimal n
+decimal_one old new n small e = e ∙ ap (λ (ds : List ℕ). old ++ ds) (sym (decimal_digit n small))
+
+pub decimal_more : (old mid new : List ℕ) (n : ℕ) → 10 ≤ n → n < 2 ^ 128 → mid ≡ old ++ decimal (n / 10) → new ≡ mid ++ (48 + n % 10) ∷ [] → new ≡ old ++ decimal n
+decimal_more old mid new n large fits first last =
+    joined old mid new (decimal (n / 10)) ((48 + n % 10) ∷ []) first last ∙ ap (λ (ds : List ℕ). old ++ ds) (sym (decimal_step_wide n large (omega arith)))
+
+pub decimal_length : (n : ℕ) → n < 2 ^ 128 → length (decimal n) ≤ 40
+decimal_length n fits = length-decimal-le_wide 40 n (omega arith) (omega arith) (omega arith)
+
+pub quotient_length : (n d : ℕ) → n < 2 ^ 128 → length (decimal (n / d)) ≤ 40
+quotient_length n d fits = decimal_length (n / d) (omega (arith, div-le_self n d))

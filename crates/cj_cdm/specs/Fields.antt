@@ -4,6 +4,7 @@ use Rattle.cj_kvn.specs.Decimals.{number_of}
 use Rattle.cj_cdm.specs.declared.stamp.Stamp.{Stamp}
 use Rattle.cj_cdm.specs.declared.fields.SideFields.{SideFields}
 use Rattle.cj_cdm.specs.declared.fields.MessageFields.{MessageFields}
+use Rattle.cj_cdm.specs.Fits.{IsShort}
 use Rattle.cj_cdm.specs.Building.{in_square_metres}
 use Rattle.cj_cdm.specs.Designators.{designator_of}
 use Rattle.cj_cdm.specs.Messages.{PlainSide, PlainStamp, PlainMessage}
@@ -23,6 +24,10 @@ side_of_fields side = record {
   epoch = side.matrix.now.at.micros;
   values = map in_square_metres (map number_of side.matrix.now.values);
 }
+
+-- the coordinates of a side are below 10^36
+abbrev pub AreShort : SideFields → Type 0
+AreShort side = IsShort side.place × IsShort side.rate
 
 abbrev pub message_of_fields : MessageFields → PlainMessage
 message_of_fields fields = record {

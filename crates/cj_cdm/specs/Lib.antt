@@ -6,3 +6,8 @@ pub mod States
 pub mod Building
 pub mod Fields
 pub mod Elements
+pub mod Names
+pub mod Values
+pub mod Reading
+pub mod Fits
+pub mod Read

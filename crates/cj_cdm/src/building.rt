@@ -1,9 +1,9 @@
 //! The fields of a message, from a problem.
-ghost use Rattle.std.specs.Prelude.{◌≡◌, option_map};
+ghost use Rattle.std.specs.Prelude.{◌≡◌, IfSome, option_map};
 ghost use Rattle.cj_track.specs.Tracks.{plain_track};
 ghost use Rattle.cj_hermite.specs.Problems.{plain_problem};
 ghost use Rattle.cj_cdm.specs.Building.{message_of, object_side, side_of};
-ghost use Rattle.cj_cdm.specs.Fields.{message_of_fields, side_of_fields, stamp_of};
+ghost use Rattle.cj_cdm.specs.Fields.{AreShort, message_of_fields, side_of_fields, stamp_of};
 
 use crate::covariances::covariance_at;
 use crate::fields::{MessageFields, SideFields};
@@ -22,7 +22,9 @@ pub(crate) fn fields_of<'a>(
     miss: u64,
     stamp: Stamp<'a>,
 ) -> Option<MessageFields<'a>>
-    ensures { option_map message_of_fields result ≡ message_of (plain_problem problem.now) pair.a pair.b tca.micros miss (stamp_of stamp.entry) }
+    ensures value { option_map message_of_fields result ≡ message_of (plain_problem problem.now) pair.a pair.b tca.micros miss (stamp_of stamp.entry) }
+    ensures short { IfSome result (λ fields. AreShort fields.first × AreShort fields.second) }
+    ensures miss { IfSome result (λ fields. fields.miss ≡ miss) }
 {
     let first = side_of_object(problem, pair.a, tca)?;
     let second = side_of_object(problem, pair.b, tca)?;
@@ -37,7 +39,8 @@ pub(crate) fn fields_of<'a>(
 }
 
 fn side_of_object(problem: &Problem, object: u32, at: Tick) -> Option<SideFields<'_>>
-    ensures { option_map side_of_fields result ≡ object_side (plain_problem problem.now) object at.micros }
+    ensures value { option_map side_of_fields result ≡ object_side (plain_problem problem.now) object at.micros }
+    ensures short { IfSome result AreShort }
 {
     let track = problem.tracks.as_slice().get(object as usize)?;
     side_of_track(track, at)
@@ -46,7 +49,8 @@ fn side_of_object(problem: &Problem, object: u32, at: Tick) -> Option<SideFields
 /// What a message says of a track at a tick.
 #[tactic(auto, unfolding(crate::specs::Building::side_of))]
 fn side_of_track(track: &Track, at: Tick) -> Option<SideFields<'_>>
-    ensures { option_map side_of_fields result ≡ side_of (plain_track track.now) at.micros }
+    ensures value { option_map side_of_fields result ≡ side_of (plain_track track.now) at.micros }
+    ensures short { IfSome result AreShort }
 {
     let index = piece_at(track, at)?;
     let matrix = covariance_at(track, at)?;

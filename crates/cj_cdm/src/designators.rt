@@ -14,7 +14,7 @@ pub(crate) fn designator_of(id: &[u8]) -> &[u8]
 
 /// The year of a launch, its number in that year, and the piece, as `YYYY-NNNP`.
 #[tactic(auto, unfolding(crate::specs::Designators::is_designator))]
-fn is_designator(text: &[u8]) -> bool
+pub(crate) fn is_designator(text: &[u8]) -> bool
     ensures { result ≡ spec.is_designator text.now }
 {
     text.len() >= 9

@@ -12,6 +12,7 @@ mod side;
 
 use crate::fields::MessageFields;
 use heading::push_heading;
+pub(crate) use numbers::{fixed_text, number_text};
 use side::push_side;
 use std::alloc::AllocError;
 

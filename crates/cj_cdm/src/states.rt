@@ -1,10 +1,12 @@
 //! Places and rates in whole nm and nm/s.
-ghost use Rattle.std.specs.Prelude.{◌≡◌, ◌≤◌};
+ghost use Rattle.std.specs.Prelude.{◌≡◌, ◌≤◌, true};
 ghost use Rattle.cj_interval.specs.Sizes.{IsWithin};
 ghost use Rattle.cj_hermite.specs.Boxes.{IsSpanWithin, IsBoxWithin};
 ghost use Rattle.cj_hermite.specs.Interpolant.{curve_of};
 ghost use Rattle.cj_hermite.specs.Limits.{REACH, RATE_REACH};
+ghost use Rattle.cj_cdm.specs.Fits.{IsShort};
 ghost use Rattle.cj_cdm.specs.States as spec;
+ghost use Rattle.cj_cdm.specs.Values.{is_short};
 
 use crate::vector::Vector;
 use cj_epoch::Tick;
@@ -16,7 +18,8 @@ use cj_interval::Span;
 pub(crate) fn place_at(piece: &Piece, at: Tick) -> Vector
     requires after { piece.now.t0.micros ≤ at.micros }
     requires before { at.micros ≤ piece.now.t1.micros }
-    ensures { result ≡ spec.place_at (curve_of piece.now) at.micros }
+    ensures value { result ≡ spec.place_at (curve_of piece.now) at.micros }
+    ensures short { IsShort result }
 {
     middle_of_box(point(piece, at))
 }
@@ -26,14 +29,16 @@ pub(crate) fn place_at(piece: &Piece, at: Tick) -> Vector
 pub(crate) fn rate_at(piece: &Piece, at: Tick) -> Vector
     requires after { piece.now.t0.micros ≤ at.micros }
     requires before { at.micros ≤ piece.now.t1.micros }
-    ensures { result ≡ spec.rate_at (curve_of piece.now) at.micros }
+    ensures value { result ≡ spec.rate_at (curve_of piece.now) at.micros }
+    ensures short { IsShort result }
 {
     middle_of_box(rate(piece, at))
 }
 
 fn middle_of_box(spans: Box3) -> Vector
     requires { IsBoxWithin RATE_REACH spans }
-    ensures { result ≡ spec.middle_of_box spans }
+    ensures value { result ≡ spec.middle_of_box spans }
+    ensures short { IsShort result }
 {
     Vector {
         x: middle(spans.x),
@@ -45,7 +50,8 @@ fn middle_of_box(spans: Box3) -> Vector
 /// The middle of a span, rounded down.
 fn middle(span: Span) -> i128
     requires { IsSpanWithin RATE_REACH span.lo span.hi }
-    ensures { result ≡ spec.middle span.lo span.hi }
+    ensures value { result ≡ spec.middle span.lo span.hi }
+    ensures short { is_short result ≡ true }
 {
     Span::between(span.lo, span.hi, 1, 2, 1).lo
 }

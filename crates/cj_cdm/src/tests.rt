@@ -4,102 +4,21 @@ ghost use Rattle.cj_track.specs.Limits.{MAX_COORDINATE, MAX_RATE, IsWithin};
 ghost use Rattle.cj_track.specs.Labels.{is_file_name, is_label};
 ghost use Rattle.cj_track.specs.Segments.{node_count};
 
+mod expected;
+mod reading;
+
 use crate::{Stamp, has_message, message};
 use cj_epoch::{Tick, Window, leap_between};
 use cj_hermite::{Pair, Problem, Sizes, Tracks};
 use cj_kvn::{Decimal, Text, read_decimal};
 use cj_track::{Frame, Matrices, Matrix, Node, Nodes, Segment, Segments, Track, Vec3};
+use expected::crossing;
 use std::alloc::{AllocError, Global};
 use std::process::Abort;
 use std::test::Fail;
 
 /// 2025-01-01T00:00:00 in microseconds.
 const START: u64 = 1_735_689_600_000_000;
-
-/// Two tracks cross at one kilometre.
-const MESSAGE: &[u8] = b"CCSDS_CDM_VERS = 1.0
-CREATION_DATE = 2025-01-02T00:00:00.000000
-ORIGINATOR = CONJ
-MESSAGE_ID = CONJ_000001
-TCA = 2025-01-01T00:00:30.000000
-MISS_DISTANCE = 1000.000000000 [m]
-START_SCREEN_PERIOD = 2025-01-01T00:00:00.000000
-STOP_SCREEN_PERIOD = 2025-01-01T00:01:00.000000
-OBJECT = OBJECT1
-OBJECT_DESIGNATOR = 2025-001A
-CATALOG_NAME = OEM
-OBJECT_NAME = SAT A
-INTERNATIONAL_DESIGNATOR = 2025-001A
-EPHEMERIS_NAME = a.oem
-COVARIANCE_METHOD = CALCULATED
-MANEUVERABLE = N/A
-REF_FRAME = EME2000
-X = 7000.000000000000 [km]
-Y = 0.000000000000 [km]
-Z = 0.000000000000 [km]
-X_DOT = 0.000000000000 [km/s]
-Y_DOT = 7.500000000000 [km/s]
-Z_DOT = 0.000000000000 [km/s]
-COMMENT COVARIANCE EPOCH 2025-01-01T00:00:00.000000
-CR_R = 3.3313494E+02 [m**2]
-CT_R = 4.6189273E+02 [m**2]
-CT_T = 6.7824216E+02 [m**2]
-CN_R = 0.0E+00 [m**2]
-CN_T = 0.0E+00 [m**2]
-CN_N = 0.0E+00 [m**2]
-CRDOT_R = 0.0E+00 [m**2/s]
-CRDOT_T = 0.0E+00 [m**2/s]
-CRDOT_N = 0.0E+00 [m**2/s]
-CRDOT_RDOT = 0.0E+00 [m**2/s**2]
-CTDOT_R = 0.0E+00 [m**2/s]
-CTDOT_T = 0.0E+00 [m**2/s]
-CTDOT_N = 0.0E+00 [m**2/s]
-CTDOT_RDOT = 0.0E+00 [m**2/s**2]
-CTDOT_TDOT = 0.0E+00 [m**2/s**2]
-CNDOT_R = 0.0E+00 [m**2/s]
-CNDOT_T = 0.0E+00 [m**2/s]
-CNDOT_N = 0.0E+00 [m**2/s]
-CNDOT_RDOT = 0.0E+00 [m**2/s**2]
-CNDOT_TDOT = 0.0E+00 [m**2/s**2]
-CNDOT_NDOT = 0.0E+00 [m**2/s**2]
-OBJECT = OBJECT2
-OBJECT_DESIGNATOR = 2025-002A
-CATALOG_NAME = OEM
-OBJECT_NAME = SAT B
-INTERNATIONAL_DESIGNATOR = 2025-002A
-EPHEMERIS_NAME = b.oem
-COVARIANCE_METHOD = CALCULATED
-MANEUVERABLE = N/A
-REF_FRAME = EME2000
-X = 7001.000000000000 [km]
-Y = 0.000000000000 [km]
-Z = 0.000000000000 [km]
-X_DOT = 0.000000000000 [km/s]
-Y_DOT = 0.000000000000 [km/s]
-Z_DOT = 7.500000000000 [km/s]
-COMMENT COVARIANCE EPOCH 2025-01-01T00:00:00.000000
-CR_R = 1.0E+06 [m**2]
-CT_R = 0.0E+00 [m**2]
-CT_T = 0.0E+00 [m**2]
-CN_R = 0.0E+00 [m**2]
-CN_T = 0.0E+00 [m**2]
-CN_N = 0.0E+00 [m**2]
-CRDOT_R = 0.0E+00 [m**2/s]
-CRDOT_T = 0.0E+00 [m**2/s]
-CRDOT_N = 0.0E+00 [m**2/s]
-CRDOT_RDOT = 0.0E+00 [m**2/s**2]
-CTDOT_R = 0.0E+00 [m**2/s]
-CTDOT_T = 0.0E+00 [m**2/s]
-CTDOT_N = 0.0E+00 [m**2/s]
-CTDOT_RDOT = 0.0E+00 [m**2/s**2]
-CTDOT_TDOT = 0.0E+00 [m**2/s**2]
-CNDOT_R = 0.0E+00 [m**2/s]
-CNDOT_T = 0.0E+00 [m**2/s]
-CNDOT_N = 0.0E+00 [m**2/s]
-CNDOT_RDOT = 0.0E+00 [m**2/s**2]
-CNDOT_TDOT = 0.0E+00 [m**2/s**2]
-CNDOT_NDOT = 0.0E+00 [m**2/s**2]
-";
 
 fn tick(after: u64) -> Tick
     requires { after < 100_000_000_000 }
@@ -257,7 +176,8 @@ fn two_tracks_cross_at_one_kilometre(rt: HostRuntime) -> Result<(), Fail> {
     let pair = Pair { a: 0, b: 1 };
     let tca = tick(30_000_000);
     let text = message(alloc, &problem, pair, tca, 1_000_000_000_000, stamp())?;
-    assert_eq!(rt; text.as_deref(), Some(MESSAGE));
+    let expected = crossing(alloc)?;
+    assert_eq!(rt; text.as_deref(), Some(expected.as_slice()));
     assert!(rt; has_message(&problem, pair, tca));
     Ok(())
 }

@@ -1,8 +1,11 @@
 //! The message of an encounter.
-ghost use Rattle.std.specs.Prelude.{◌≡◌, IfOk, is_some, option_map};
+ghost use Rattle.std.specs.Prelude.{◌≡◌, IfOk, IfSome, Ok, Some, is_some, option_map};
 ghost use Rattle.cj_hermite.specs.Problems.{plain_problem};
 ghost use Rattle.cj_cdm.specs.Building.{have_covariances, message_of, object_covariance};
 ghost use Rattle.cj_cdm.specs.Fields.{stamp_of};
+ghost use Rattle.cj_cdm.specs.Fits.{HasNames};
+ghost use Rattle.cj_cdm.specs.Messages.{PlainMessage};
+ghost use Rattle.cj_cdm.specs.Reading.{reading};
 ghost use Rattle.cj_cdm.specs.Texts.{text_of};
 
 use crate::building::fields_of;
@@ -27,6 +30,9 @@ pub fn message(
     ensures text { IfOk result (λ text. option_map (λ t. t.items) text
         ≡ option_map text_of (message_of (plain_problem problem.now) pair.a pair.b tca.micros miss (stamp_of stamp.entry))) }
     ensures some { IfOk result (λ text. is_some text ≡ have_covariances (plain_problem problem.now) pair.a pair.b tca.micros) }
+    // The text is read again as the message, where what the message has from outside is of its form.
+    ensures again { IfOk result (λ text. IfSome text (λ t. (m : PlainMessage)
+        → message_of (plain_problem problem.now) pair.a pair.b tca.micros miss (stamp_of stamp.entry) ≡ Some m → HasNames m → reading t.items ≡ Ok m)) }
 {
     let Some(fields) = fields_of(problem, pair, tca, miss, stamp) else {
         return Ok(None);

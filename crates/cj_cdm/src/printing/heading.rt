@@ -1,11 +1,12 @@
 //! The lines of a message that stand before its objects.
 ghost use Rattle.std.specs.Prelude.{◌≡◌, ◌++◌, codes, OnOk};
 ghost use Rattle.cj_cdm.specs.Fields.{message_of_fields};
-ghost use Rattle.cj_cdm.specs.Texts.{entry, heading_text, number_text};
+ghost use Rattle.cj_cdm.specs.Texts as spec;
+ghost use Rattle.cj_cdm.specs.Texts.{entry, heading_text};
 
 use crate::fields::MessageFields;
 use crate::printing::lines::push_entry;
-use crate::printing::numbers::{push_metres, push_number};
+use crate::printing::numbers::{number_text, push_metres};
 use cj_epoch::epoch_text;
 use std::alloc::AllocError;
 
@@ -31,12 +32,12 @@ pub(crate) fn push_heading(text: &mut Vec<u8>, fields: &MessageFields) -> Result
 /// Adds the id of a message.
 fn push_id(text: &mut Vec<u8>, originator: &[u8], number: u32) -> Result<(), AllocError>
     ensures { OnOk result (text.new.items ≡ text.old.items
-        ++ entry (codes "MESSAGE_ID") (originator.now ++ codes "_" ++ number_text number)) }
+        ++ entry (codes "MESSAGE_ID") (originator.now ++ codes "_" ++ spec.number_text number)) }
 {
     text.extend_from_slice(b"MESSAGE_ID = ")?;
     text.extend_from_slice(originator)?;
     text.push(b'_')?;
-    push_number(text, number)?;
+    text.extend_from_slice(&number_text(number))?;
     text.push(b'\n')?;
     Ok(())
 }

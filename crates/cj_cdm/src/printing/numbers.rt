@@ -1,11 +1,13 @@
 //! Numbers with their keys and units.
-ghost use Rattle.std.specs.Prelude.{◌≡◌, ◌≤◌, ◌<◌, ◌^◌, [], ◌∷◌, ◌++◌, if◌then◌else◌, int_lt, pos, codes, OnOk};
+ghost use Rattle.std.specs.Prelude.{◌≡◌, ◌+◌, ◌≤◌, ◌<◌, decimal, length, [], ◌∷◌, ◌++◌, if◌then◌else◌, int_lt, pos, codes, OnOk};
 ghost use Rattle.cj_kvn.specs.Decimals.{IsReadable, decimal_text_of, number_of, shifted};
 ghost use Rattle.cj_cdm.specs.Building.{in_square_metres};
-ghost use Rattle.cj_cdm.specs.Texts.{fixed_text, kilometres, last_digits, metres, number_text, quantity};
+ghost use Rattle.arrayvec.specs.ArrayVec.{array_vec_len};
+ghost use Rattle.cj_cdm.specs.Texts as spec;
+ghost use Rattle.cj_cdm.specs.Texts.{kilometres, last_digits, metres, quantity};
 
+use arrayvec::ArrayVec;
 use cj_kvn::{Decimal, decimal_text};
-use itoa::Buffer;
 use std::alloc::AllocError;
 
 /// Adds a number of nm in metres, all its digits.
@@ -13,7 +15,7 @@ pub(crate) fn push_metres(text: &mut Vec<u8>, key: &[u8], nm: u64) -> Result<(),
     ensures { OnOk result (text.new.items ≡ text.old.items ++ quantity key.now (metres (pos nm)) (codes "m")) }
 {
     push_front(text, key)?;
-    push_fixed(text, i128::from(nm), 1_000_000_000, 9)?;
+    text.extend_from_slice(&fixed_text(i128::from(nm), 9))?;
     push_unit(text, b"m")
 }
 
@@ -27,7 +29,7 @@ pub(crate) fn push_kilometres(
     ensures { OnOk result (text.new.items ≡ text.old.items ++ quantity key.now (kilometres nm) unit.now) }
 {
     push_front(text, key)?;
-    push_fixed(text, nm, 1_000_000_000_000, 12)?;
+    text.extend_from_slice(&fixed_text(nm, 12))?;
     push_unit(text, unit)
 }
 
@@ -63,46 +65,71 @@ fn push_unit(text: &mut Vec<u8>, unit: &[u8]) -> Result<(), AllocError>
     text.extend_from_slice(b"]\n")
 }
 
-/// Adds a whole number of units of 10^-places with so many decimals, where 10^places is given.
+/// The text of a number, with room for every number.
+pub(crate) type Figures = ArrayVec<u8, 64>;
+
+/// A whole number of units of 10^-places, as a decimal fraction with so many decimals.
 #[tactic(auto, unfolding(crate::specs::Texts::fixed_text))]
-fn push_fixed(text: &mut Vec<u8>, number: i128, whole: u128, places: u32) -> Result<(), AllocError>
-    requires some { 0 < whole }
-    requires decimals { 1 ≤ places }
-    requires power { whole ≡ 10 ^ places }
-    ensures { OnOk result (text.new.items ≡ text.old.items ++ fixed_text places number) }
+pub(crate) fn fixed_text(number: i128, places: u32) -> Figures
+    requires some { 1 ≤ places }
+    requires few { places ≤ 12 }
+    ensures { result.items ≡ spec.fixed_text places number }
 {
     let size = number.unsigned_abs();
-    text.extend_from_slice(sign(number))?;
-    text.extend_from_slice(Buffer::new().format(size / whole).as_bytes())?;
-    text.push(b'.')?;
-    push_digits(text, size, places)
+    let mut text = Figures::new();
+    push_sign(&mut text, number);
+    push_decimal(&mut text, size / 10_u128.pow(places));
+    text.push(b'.');
+    push_digits(&mut text, size, places);
+    text
 }
 
-fn sign(number: i128) -> &'static [u8]
-    ensures { result.now ≡ (if int_lt number (pos 0) then 45 ∷ [] else []) }
+/// The number of a message, with six digits or more.
+pub(crate) fn number_text(number: u32) -> Figures
+    ensures { result.items ≡ spec.number_text number }
 {
-    if number < 0 { b"-" } else { b"" }
+    let mut text = Figures::new();
+    if number < 1_000_000 {
+        push_digits(&mut text, u128::from(number), 6);
+    } else {
+        push_decimal(&mut text, u128::from(number));
+    }
+    text
 }
 
-/// Adds the last so many digits of a number.
-fn push_digits(text: &mut Vec<u8>, number: u128, count: u32) -> Result<(), AllocError>
-    requires { 1 ≤ count }
-    ensures { OnOk result (text.new.items ≡ text.old.items ++ last_digits count number) }
+fn push_sign(text: &mut Figures, number: i128)
+    requires { array_vec_len text.old < 64 }
+    ensures appended { text.new.items ≡ text.old.items ++ (if int_lt number (pos 0) then 45 ∷ [] else []) }
+    ensures len { array_vec_len text.new ≤ array_vec_len text.old + 1 }
+{
+    if number < 0 {
+        text.push(b'-');
+    }
+}
+
+/// Appends a number in decimal.
+fn push_decimal(text: &mut Figures, number: u128)
+    requires { array_vec_len text.old + length (decimal number) ≤ 64 }
+    ensures appended { text.new.items ≡ text.old.items ++ decimal number }
+    ensures len { array_vec_len text.new ≡ array_vec_len text.old + length (decimal number) }
+{
+    if number < 10 {
+        text.push(b'0' + number as u8);
+    } else {
+        push_decimal(text, number / 10);
+        text.push(b'0' + (number % 10) as u8);
+    }
+}
+
+/// Appends the last so many digits of a number.
+fn push_digits(text: &mut Figures, number: u128, count: u32)
+    requires some { 1 ≤ count }
+    requires room { array_vec_len text.old + count ≤ 64 }
+    ensures appended { text.new.items ≡ text.old.items ++ last_digits count number }
+    ensures len { array_vec_len text.new ≡ array_vec_len text.old + count }
 {
     if count > 1 {
-        push_digits(text, number / 10, count - 1)?;
+        push_digits(text, number / 10, count - 1);
     }
-    text.push(b'0' + (number % 10) as u8)?;
-    Ok(())
-}
-
-/// Adds the number of a message, with six digits or more.
-pub(crate) fn push_number(text: &mut Vec<u8>, number: u32) -> Result<(), AllocError>
-    ensures { OnOk result (text.new.items ≡ text.old.items ++ number_text number) }
-{
-    if number < 1_000_000 {
-        push_digits(text, u128::from(number), 6)
-    } else {
-        text.extend_from_slice(Buffer::new().format(number).as_bytes())
-    }
+    text.push(b'0' + (number % 10) as u8);
 }

@@ -8,16 +8,16 @@ use Rattle.cj_cdm.specs.States.{place_at}
 use Rattle.cj_cdm.proofs.SideLemmas.{side_built, side_nowhere}
 use Rattle.cj_cdm.proofs.building.side_of_track.Goals as goal
 
-pub returns-in_err-index : goal.returns-in_err-index
-returns-in_err-index c = rw c.from_residual.ensures (sym (side_nowhere (plain_track c.args.track.now) c.args.at.micros (sym c.in_err-index.ensures.value)))
+pub returns-in_err-index-clause-value : goal.returns-in_err-index-clause-value
+returns-in_err-index-clause-value c = rw c.from_residual.ensures (sym (side_nowhere (plain_track c.args.track.now) c.args.at.micros (sym c.in_err-index.ensures.value)))
 
-pub returns : goal.returns
-returns c =
+pub returns-clause-value : goal.returns-clause-value
+returns-clause-value c =
     let e = plain_track c.args.track.now in
     let m = c.args.at.micros in
     let matrix = c.in_ok-matrix.matrix in
     let with_place = λ (p : Vector). Some (side_of_fields (record { track = c.args.track; place = p; rate = c.rate_at.result; matrix = matrix })) in
     let built = side_built e m _ (plain_matrix matrix.now) (curve_of c.piece-piece.result) (sym c.in_ok-index.ensures.interval) c.piece-piece.ensures.curve (sym c.in_ok-matrix.ensures) in
-    ap with_place c.place_at.ensures
-    ∙ ap (λ (v : Vector). Some (side_of_fields (record { track = c.args.track; place = place_at (curve_of c.piece-piece.result) m; rate = v; matrix = matrix }))) c.rate_at.ensures
+    ap with_place c.place_at.ensures.value
+    ∙ ap (λ (v : Vector). Some (side_of_fields (record { track = c.args.track; place = place_at (curve_of c.piece-piece.result) m; rate = v; matrix = matrix }))) c.rate_at.ensures.value
     ∙ sym built

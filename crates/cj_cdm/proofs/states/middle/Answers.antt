@@ -1,15 +1,17 @@
-use Rattle.std.proofs.Common.{◌≡◌, ap, ◌∙◌, arith, to_z, of_z}
+use Rattle.std.proofs.Common.{◌≡◌, ◌<◌, ◌^◌, ap, ◌∙◌, arith, to_z, of_z, true}
 use Rattle.std.proofs.lemmas.Int.{ints}
-use Rattle.std.specs.Prelude.{pos, ◌+ℤ◌, ◌*ℤ◌}
+use Rattle.std.specs.Prelude.{pos, unsigned_abs, ◌+ℤ◌, ◌*ℤ◌}
+use Rattle.std.proofs.lemmas.Bool.Decides.{nat_tests}
+use Rattle.cj_cdm.specs.Values.{is_short}
 use mir.Syntax.{w128}
 use Rattle.cj_interval.specs.Rounding.{floor_div}
 use Rattle.cj_interval.proofs.RoundingLemmas.{floor_div-gt, floor_div-le}
 use Rattle.cj_cdm.specs.States.{middle}
 use Rattle.cj_cdm.proofs.states.middle.Goals as goal
 
-pub returns : goal.returns
+pub returns-clause-value : goal.returns-clause-value
 unfolding middle
-returns c =
+returns-clause-value c =
     let lo = c.args.span.lo in
     let hi = c.args.span.hi in
     let low : to_z w128 (of_z w128 lo) ≡ lo = omega (arith, ints, c.requires.low) in
@@ -24,3 +26,22 @@ returns c =
     let above = floor_div-gt (lo +ℤ hi) 2 (omega arith) in
     let back : to_z w128 (of_z w128 c.between.result.lo) ≡ c.between.result.lo = omega (arith, ints, value, below, above, c.requires.low, c.requires.high) in
     back ∙ value
+
+pub returns-clause-short : goal.returns-clause-short
+returns-clause-short c =
+    let lo = c.args.span.lo in
+    let hi = c.args.span.hi in
+    let r = c.between.result.lo in
+    let low : to_z w128 (of_z w128 lo) ≡ lo = omega (arith, ints, c.requires.low) in
+    let high : to_z w128 (of_z w128 hi) ≡ hi = omega (arith, ints, c.requires.high) in
+    let sum : lo *ℤ pos 1 +ℤ hi *ℤ pos 1 ≡ lo +ℤ hi = omega (arith, ints) in
+    let value : r ≡ floor_div (lo +ℤ hi) 2 =
+    c.between.ensures.lower
+    ∙ ap (λ z. floor_div (z *ℤ pos 1 +ℤ to_z w128 (of_z w128 hi) *ℤ pos 1) 2) low
+    ∙ ap (λ z. floor_div (lo *ℤ pos 1 +ℤ z *ℤ pos 1) 2) high
+    ∙ ap (λ z. floor_div z 2) sum in
+    let below = floor_div-le (lo +ℤ hi) 2 (omega arith) in
+    let above = floor_div-gt (lo +ℤ hi) 2 (omega arith) in
+    let back : to_z w128 (of_z w128 r) ≡ r = omega (arith, ints, value, below, above, c.requires.low, c.requires.high) in
+    let small : unsigned_abs r < 10 ^ 36 = omega (arith, ints, value, below, above, c.requires.low, c.requires.high) in
+    ap is_short back ∙ (let e : is_short r ≡ true = grind (arith, nat_tests) in e)

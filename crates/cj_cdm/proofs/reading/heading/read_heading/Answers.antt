@@ -1,0 +1,20 @@
+use Rattle.std.proofs.Common.{refl, sym}
+use Rattle.std.proofs.lemmas.Result.{err_from_is_err_and}
+use Rattle.cj_cdm.specs.Reading.{heading_said}
+use Rattle.cj_cdm.proofs.reading.heading.read_heading.Goals as goal
+
+pub returns-in_err-start : goal.returns-in_err-start
+unfolding heading_said
+returns-in_err-start c =
+    let p = err_from_is_err_and c.from_residual-in_err-start.result c.from_residual-in_err-start.ensures.1 in
+    rw (p.1, p.2) (rw (sym c.in_ok-stamp.ensures, sym c.in_ok-tca.ensures, sym c.in_ok-miss.ensures, sym c.in_err-start.ensures) refl)
+
+pub returns-in_err-stop : goal.returns-in_err-stop
+unfolding heading_said
+returns-in_err-stop c =
+    let p = err_from_is_err_and c.from_residual-in_err-stop.result c.from_residual-in_err-stop.ensures.1 in
+    rw (p.1, p.2) (rw (sym c.in_ok-stamp.ensures, sym c.in_ok-tca.ensures, sym c.in_ok-miss.ensures, sym c.in_ok-start.ensures, sym c.in_err-stop.ensures) refl)
+
+pub returns : goal.returns
+unfolding heading_said
+returns c = rw (sym c.in_ok-stamp.ensures, sym c.in_ok-tca.ensures, sym c.in_ok-miss.ensures, sym c.in_ok-start.ensures, sym c.in_ok-stop.ensures) refl

@@ -1,0 +1,14 @@
+use Rattle.std.proofs.Common.{refl, sym}
+use Rattle.std.proofs.lemmas.Result.{err_from_is_err_and}
+use Rattle.cj_cdm.specs.Reading.{stamp_said}
+use Rattle.cj_cdm.proofs.reading.heading.read_stamp.Goals as goal
+
+pub returns-in_err-number : goal.returns-in_err-number
+unfolding stamp_said
+returns-in_err-number c =
+    let p = err_from_is_err_and c.from_residual-in_err-number.result c.from_residual-in_err-number.ensures.1 in
+    rw (p.1, p.2) (rw (sym c.in_ok-rest.ensures, sym c.in_ok-created.ensures, sym c.in_ok-originator.ensures, sym c.in_err-number.ensures) refl)
+
+pub returns : goal.returns
+unfolding stamp_said
+returns c = rw (sym c.in_ok-rest.ensures, sym c.in_ok-created.ensures, sym c.in_ok-originator.ensures, sym c.in_ok-number.ensures) refl

@@ -1,0 +1,96 @@
+-- How readers answer.
+use Rattle.std.specs.Prelude.{◌≡◌, ℕ, List, map, Option, Result, Ok, Err}
+use Rattle.std.specs.Borrow.{Bor}
+use Rattle.cj_kvn.specs.Decimals.{number_of}
+use Rattle.cj_cdm.specs.declared.cdm.Cdm.{Cdm}
+use Rattle.cj_cdm.specs.declared.cdm.Side.{Side}
+use Rattle.cj_cdm.specs.declared.fault.CdmFault.{CdmFault}
+use Rattle.cj_cdm.specs.declared.fault.CdmFault.TheVariants.{Memory, At}
+use Rattle.cj_cdm.specs.declared.fault.LineFault.{LineFault}
+use Rattle.cj_cdm.specs.declared.reading.rest.Rest.{Rest as Left}
+use Rattle.cj_cdm.specs.declared.reading.said.HeadingSaid.{HeadingSaid}
+use Rattle.cj_cdm.specs.declared.reading.said.MessageSaid.{MessageSaid}
+use Rattle.cj_cdm.specs.declared.reading.said.ObjectSaid.{ObjectSaid}
+use Rattle.cj_cdm.specs.declared.reading.said.SideSaid.{SideSaid}
+use Rattle.cj_cdm.specs.Fields.{stamp_of}
+use Rattle.cj_cdm.specs.Messages.{PlainSide, PlainMessage}
+use Rattle.cj_cdm.specs.Reading.{Fault, Heading, Object, Rest}
+
+abbrev pub plain_side : Side → PlainSide
+plain_side s = record {
+  id = s.id;
+  name = s.name;
+  designator = s.designator;
+  file = s.file;
+  frame = s.frame;
+  place = s.place;
+  rate = s.rate;
+  epoch = s.epoch.micros;
+  values = map number_of s.values;
+}
+
+-- what a message says that was read
+abbrev pub plain_cdm : Cdm → PlainMessage
+plain_cdm c = record {
+  stamp = record { created = c.created.micros; originator = c.originator; number = c.number };
+  tca = c.tca.micros;
+  miss = c.miss;
+  start = c.start.micros;
+  stop = c.stop.micros;
+  object1 = plain_side c.first;
+  object2 = plain_side c.second;
+}
+
+-- what is found is what is said, or memory ran out
+abbrev pub Gives : {X Y : Type 0} → (X → Y) → Result X CdmFault → Result Y Fault → Type 0
+Gives view (Ok x) said = said ≡ Ok (view x)
+Gives view (Err (At line cause)) said = said ≡ Err (record { line = line; cause = cause })
+Gives view (Err Memory) said = Unit {0}
+
+abbrev pub bytes_of : Bor (List ℕ) → List ℕ
+bytes_of text = text.now
+
+abbrev pub plain_rest : Left → Rest
+plain_rest rest = record { text = rest.text.now; line = rest.line }
+
+abbrev pub plain_fault : LineFault → Fault
+plain_fault fault = record { line = fault.line; cause = fault.cause }
+
+abbrev pub plain_object : ObjectSaid → Object
+plain_object o = record { id = o.id.now; name = o.name.now; designator = o.designator.now; file = o.file.now; frame = o.frame }
+
+abbrev pub plain_heading : HeadingSaid → Heading
+plain_heading h = record { stamp = stamp_of h.stamp; tca = h.tca.micros; miss = h.miss; start = h.start.micros; stop = h.stop.micros }
+
+abbrev pub side_of_said : SideSaid → PlainSide
+side_of_said s = record {
+  id = s.object.id.now;
+  name = s.object.name.now;
+  designator = s.object.designator.now;
+  file = s.object.file.now;
+  frame = s.object.frame;
+  place = s.place;
+  rate = s.rate;
+  epoch = s.epoch.micros;
+  values = map number_of s.values;
+}
+
+abbrev pub message_of_said : MessageSaid → PlainMessage
+message_of_said m = record {
+  stamp = stamp_of m.heading.stamp;
+  tca = m.heading.tca.micros;
+  miss = m.heading.miss;
+  start = m.heading.start.micros;
+  stop = m.heading.stop.micros;
+  object1 = side_of_said m.first;
+  object2 = side_of_said m.second;
+}
+
+-- an answer in the words of the definitions
+abbrev pub plain : {X Y : Type 0} → (X → Y) → Result X LineFault → Result Y Fault
+plain view (Ok x) = Ok (view x)
+plain view (Err fault) = Err (plain_fault fault)
+
+-- the same with what is left
+abbrev pub with_rest : {X Y : Type 0} → (X → Y) → X × Left → Y × Rest
+with_rest view x = (view x.0, plain_rest x.1)

@@ -1,0 +1,192 @@
+-- How a message is read: line by line, each with the key in its place.
+use Rattle.std.specs.Prelude.{ℕ, ◌+◌, Bool, true, false, ◌==◌, if◌then◌else◌, List, [], ◌∷◌, ◌++◌, codes, Option, Some, None, option_map, Result, Ok, Err}
+use Rattle.std.specs.List.{after_first, before_first, list_any}
+use Rattle.cj_kvn.specs.Numbers.{Number}
+use Rattle.cj_track.specs.declared.frame.Frame.{Frame}
+use Rattle.cj_cdm.specs.declared.fault.CdmCause.{CdmCause}
+use Rattle.cj_cdm.specs.declared.fault.CdmCause.TheVariants as causes
+use Rattle.cj_cdm.specs.declared.vector.Vector.{Vector}
+use Rattle.cj_cdm.specs.Messages.{PlainSide, PlainStamp, PlainMessage}
+use Rattle.cj_cdm.specs.Texts.{elements}
+use Rattle.cj_cdm.specs.Values.{behind_front, constant_said, designator_said, element_said, epoch_said, frame_said, id_said, kilometres_said, label_said, miss_said, only_if, originator_said}
+
+-- what is left of a message, and the number of its next line
+pub record Rest : Type 0 where
+  pub text : List ℕ
+  pub line : ℕ
+
+-- a fault at its line
+pub record Fault : Type 0 where
+  pub line : ℕ
+  pub cause : CdmCause
+
+abbrev pub fault_at : {A : Type 0} → ℕ → CdmCause → Result A Fault
+fault_at line cause = Err (record { line = line; cause = cause })
+
+-- a reader takes what it reads off the front of the rest
+abbrev pub Reading : Type 0 → Type 0
+Reading A = Rest → Result (A × Rest) Fault
+
+abbrev pub and_then : {A B : Type 0} → Result A Fault → (A → Result B Fault) → Result B Fault
+and_then (Ok x) f = f x
+and_then (Err e) f = Err e
+
+infixl 10 ◌>>=◌
+abbrev pub ◌>>=◌ : {A B : Type 0} → Reading A → (A → Reading B) → Reading B
+(p >>= f) rest = and_then (p rest) (λ x. f x.0 x.1)
+
+-- nothing more is taken
+abbrev pub give : {A : Type 0} → A → Reading A
+give x rest = Ok (x, rest)
+
+abbrev pub is_feed : ℕ → Bool
+is_feed b = b == 10
+
+abbrev pub is_none_left : List ℕ → Bool
+is_none_left [] = true
+is_none_left (b ∷ bs) = false
+
+abbrev pub or_fault : {A : Type 0} → ℕ → CdmCause → Option A → Result A Fault
+or_fault line cause (Some x) = Ok x
+or_fault line cause None = fault_at line cause
+
+-- what stands behind this front in the next line
+unfoldable pub value_in : List ℕ → Rest → Result (List ℕ) Fault
+value_in front rest =
+    if is_none_left rest.text then fault_at rest.line causes.End
+    else or_fault rest.line causes.Key (behind_front front (before_first is_feed rest.text))
+
+-- what stands behind the first line of a text, where that has an end
+abbrev pub behind_feed : List ℕ → Option (List ℕ)
+behind_feed text = only_if (list_any is_feed text) (after_first is_feed text)
+
+-- the rest behind the next line
+unfoldable pub behind_line : Rest → Result Rest Fault
+behind_line rest = or_fault (rest.line + 1) causes.End (option_map (λ text. record { text = text; line = rest.line + 1 }) (behind_feed rest.text))
+
+-- what was read of the next line, where that is something, and what follows the line
+unfoldable pub taken : {A : Type 0} → Rest → Option A → Result (A × Rest) Fault
+taken rest said = and_then (or_fault rest.line causes.Value said) (λ x. and_then (behind_line rest) (λ behind. Ok (x, behind)))
+
+-- a line with this front, whose value is read so
+unfoldable pub line_said : {A : Type 0} → List ℕ → (List ℕ → Option A) → Reading A
+line_said front said rest = and_then (value_in front rest) (λ value. taken rest (said value))
+
+-- a key with its value
+abbrev pub entry_said : {A : Type 0} → List ℕ → (List ℕ → Option A) → Reading A
+entry_said key said = line_said (key ++ codes " = ") said
+
+unfoldable pub stamp_said : Reading PlainStamp
+stamp_said = do
+  version ← entry_said (codes "CCSDS_CDM_VERS") (constant_said (codes "1.0"))
+  created ← entry_said (codes "CREATION_DATE") epoch_said
+  originator ← entry_said (codes "ORIGINATOR") originator_said
+  number ← entry_said (codes "MESSAGE_ID") (id_said originator)
+  give (record { created = created; originator = originator; number = number })
+
+-- what the lines before the objects say
+pub record Heading : Type 0 where
+  pub stamp : PlainStamp
+  pub tca : ℕ
+  pub miss : ℕ
+  pub start : ℕ
+  pub stop : ℕ
+
+unfoldable pub heading_said : Reading Heading
+heading_said = do
+  stamp ← stamp_said
+  tca ← entry_said (codes "TCA") epoch_said
+  miss ← entry_said (codes "MISS_DISTANCE") miss_said
+  start ← entry_said (codes "START_SCREEN_PERIOD") epoch_said
+  stop ← entry_said (codes "STOP_SCREEN_PERIOD") epoch_said
+  give (record { stamp = stamp; tca = tca; miss = miss; start = start; stop = stop })
+
+-- what an object is
+pub record Object : Type 0 where
+  pub id : List ℕ
+  pub name : List ℕ
+  pub designator : List ℕ
+  pub file : List ℕ
+  pub frame : Frame
+
+-- an object that is called by this word
+unfoldable pub object_said : List ℕ → Reading Object
+object_said called = do
+  object ← entry_said (codes "OBJECT") (constant_said called)
+  id ← entry_said (codes "OBJECT_DESIGNATOR") label_said
+  catalog ← entry_said (codes "CATALOG_NAME") (constant_said (codes "OEM"))
+  name ← entry_said (codes "OBJECT_NAME") label_said
+  designator ← entry_said (codes "INTERNATIONAL_DESIGNATOR") designator_said
+  file ← entry_said (codes "EPHEMERIS_NAME") label_said
+  method ← entry_said (codes "COVARIANCE_METHOD") (constant_said (codes "CALCULATED"))
+  maneuverable ← entry_said (codes "MANEUVERABLE") (constant_said (codes "N/A"))
+  frame ← entry_said (codes "REF_FRAME") frame_said
+  give (record { id = id; name = name; designator = designator; file = file; frame = frame })
+
+-- a place, in km
+unfoldable pub place_said : Reading Vector
+place_said = do
+  x ← entry_said (codes "X") (kilometres_said (codes "km"))
+  y ← entry_said (codes "Y") (kilometres_said (codes "km"))
+  z ← entry_said (codes "Z") (kilometres_said (codes "km"))
+  give (record { x = x; y = y; z = z })
+
+-- a rate, in km/s
+unfoldable pub rate_said : Reading Vector
+rate_said = do
+  x ← entry_said (codes "X_DOT") (kilometres_said (codes "km/s"))
+  y ← entry_said (codes "Y_DOT") (kilometres_said (codes "km/s"))
+  z ← entry_said (codes "Z_DOT") (kilometres_said (codes "km/s"))
+  give (record { x = x; y = y; z = z })
+
+-- elements of a covariance with these keys and units
+unfoldable pub elements_said : List (List ℕ × List ℕ) → Reading (List Number)
+elements_said [] = give []
+elements_said (element ∷ more) = do
+  value ← entry_said element.0 (element_said element.1)
+  values ← elements_said more
+  give (value ∷ values)
+
+-- one object of a message, which is called by this word
+unfoldable pub side_said : List ℕ → Reading PlainSide
+side_said called = do
+  object ← object_said called
+  place ← place_said
+  rate ← rate_said
+  epoch ← line_said (codes "COMMENT COVARIANCE EPOCH ") epoch_said
+  values ← elements_said elements
+  give (record {
+    id = object.id;
+    name = object.name;
+    designator = object.designator;
+    file = object.file;
+    frame = object.frame;
+    place = place;
+    rate = rate;
+    epoch = epoch;
+    values = values;
+  })
+
+-- all lines of a message
+unfoldable pub message_said : Reading PlainMessage
+message_said = do
+  heading ← heading_said
+  object1 ← side_said (codes "OBJECT1")
+  object2 ← side_said (codes "OBJECT2")
+  give (record {
+    stamp = heading.stamp;
+    tca = heading.tca;
+    miss = heading.miss;
+    start = heading.start;
+    stop = heading.stop;
+    object1 = object1;
+    object2 = object2;
+  })
+
+-- nothing is left
+abbrev pub ended : {A : Type 0} → A × Rest → Result A Fault
+ended x = if is_none_left x.1.text then Ok x.0 else fault_at x.1.line causes.End
+
+-- the message that a text is, or its first fault
+unfoldable pub reading : List ℕ → Result PlainMessage Fault
+reading text = and_then (message_said (record { text = text; line = 1 })) ended

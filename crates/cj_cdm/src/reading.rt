@@ -1,0 +1,98 @@
+//! Reading a message.
+ghost use Rattle.std.specs.Prelude.{◌≡◌, ◌<◌, ◌^◌, length, IfOk, Ok};
+ghost use Rattle.cj_cdm.specs.Fits.{Fits};
+ghost use Rattle.cj_cdm.specs.Messages.{PlainMessage};
+ghost use Rattle.cj_cdm.specs.Read.{Gives, message_of_said, plain, plain_cdm, plain_side, side_of_said};
+ghost use Rattle.cj_cdm.specs.Reading as spec;
+ghost use Rattle.cj_cdm.specs.Texts.{text_of};
+
+mod entries;
+mod figures;
+mod heading;
+mod object;
+mod rest;
+mod said;
+mod taking;
+mod values;
+
+use crate::cdm::{Cdm, Side};
+use crate::fault::{CdmCause, CdmFault, LineFault};
+use cj_kvn::Text;
+use heading::read_heading;
+use object::read_side;
+use rest::Rest;
+use said::{MessageSaid, SideSaid};
+use std::alloc::{AllocError, Global};
+
+/// The message that a text is, which has exactly the form in which messages are written.
+///
+/// # Errors
+///
+/// The first line that is not of this form: `Key` where it does not begin with the key in its place, else `Value`; `End` where the
+/// text ends early or goes on.
+pub fn read_cdm(alloc: Global, bytes: &[u8]) -> Result<Cdm, CdmFault>
+    requires { length bytes.now < 2 ^ 32 }
+    ensures value { Gives plain_cdm result (spec.reading bytes.now) }
+    // What is read is the text of the message, to the byte.
+    ensures only { IfOk result (λ c. (bytes.now ≡ text_of (plain_cdm c)) × Fits (plain_cdm c)) }
+    ensures again { (m : PlainMessage) → Fits m → bytes.now ≡ text_of m → Gives plain_cdm result (Ok m) }
+{
+    let said = said_by(bytes)?;
+    Ok(message_of(alloc, &said)?)
+}
+
+/// What a message says, lent by its text.
+#[tactic(auto, unfolding(crate::specs::Reading::reading, crate::specs::Reading::message_said))]
+fn said_by(bytes: &[u8]) -> Result<MessageSaid<'_>, LineFault>
+    requires { length bytes.now < 2 ^ 32 }
+    ensures { plain message_of_said result ≡ spec.reading bytes.now }
+{
+    let rest = Rest {
+        text: bytes,
+        line: 1,
+    };
+    let (heading, rest) = read_heading(rest)?;
+    let (first, rest) = read_side(b"OBJECT1", rest)?;
+    let (second, rest) = read_side(b"OBJECT2", rest)?;
+    if !rest.text.is_empty() {
+        return Err(rest.fault(CdmCause::End));
+    }
+    Ok(MessageSaid {
+        heading,
+        first,
+        second,
+    })
+}
+
+/// A message of its own.
+fn message_of(alloc: Global, said: &MessageSaid) -> Result<Cdm, AllocError>
+    ensures { IfOk result (λ c. plain_cdm c ≡ message_of_said said.now) }
+{
+    Ok(Cdm {
+        created: said.heading.stamp.created,
+        originator: Text::copy_of(alloc, said.heading.stamp.originator)?,
+        number: said.heading.stamp.number,
+        tca: said.heading.tca,
+        miss: said.heading.miss,
+        start: said.heading.start,
+        stop: said.heading.stop,
+        first: side_of(alloc, &said.first)?,
+        second: side_of(alloc, &said.second)?,
+    })
+}
+
+fn side_of(alloc: Global, said: &SideSaid) -> Result<Side, AllocError>
+    ensures { IfOk result (λ s. plain_side s ≡ side_of_said said.now) }
+{
+    Ok(Side {
+        id: Text::copy_of(alloc, said.object.id)?,
+        name: Text::copy_of(alloc, said.object.name)?,
+        designator: Text::copy_of(alloc, said.object.designator)?,
+        file: Text::copy_of(alloc, said.object.file)?,
+        frame: said.object.frame,
+        place: said.place,
+        rate: said.rate,
+        epoch: said.epoch,
+        values: said.values,
+    })
+}

@@ -1,0 +1,94 @@
+//! The lines of one object.
+ghost use Rattle.std.specs.Prelude.{◌≡◌, map};
+ghost use Rattle.cj_kvn.specs.Decimals.{number_of};
+ghost use Rattle.cj_cdm.specs.Read.{plain, plain_object, plain_rest, side_of_said, with_rest};
+ghost use Rattle.cj_cdm.specs.Reading.{elements_said, object_said, place_said, rate_said, side_said};
+ghost use Rattle.cj_cdm.specs.Texts.{elements};
+
+use crate::elements::element_at;
+use crate::fault::LineFault;
+use crate::reading::rest::Rest;
+use crate::reading::said::{ObjectSaid, SideSaid};
+use crate::vector::Vector;
+use cj_kvn::Decimal;
+
+/// The lines of an object that is called by this word.
+#[tactic(auto, unfolding(crate::specs::Reading::side_said))]
+pub(crate) fn read_side<'a>(
+    called: &[u8],
+    rest: Rest<'a>,
+) -> Result<(SideSaid<'a>, Rest<'a>), LineFault>
+    ensures { plain (with_rest side_of_said) result ≡ side_said called.now (plain_rest rest.entry) }
+{
+    let (object, rest) = read_object(called, rest)?;
+    let (place, rest) = read_place(rest)?;
+    let (rate, rest) = read_rate(rest)?;
+    let (epoch, rest) = rest.epoch_behind(b"COMMENT COVARIANCE EPOCH ")?;
+    let (values, rest) = read_elements(rest)?;
+    let side = SideSaid {
+        object,
+        place,
+        rate,
+        epoch,
+        values,
+    };
+    Ok((side, rest))
+}
+
+#[tactic(auto, unfolding(crate::specs::Reading::object_said))]
+fn read_object<'a>(called: &[u8], rest: Rest<'a>) -> Result<(ObjectSaid<'a>, Rest<'a>), LineFault>
+    ensures { plain (with_rest plain_object) result ≡ object_said called.now (plain_rest rest.entry) }
+{
+    let ((), rest) = rest.constant(b"OBJECT", called)?;
+    let (id, rest) = rest.label(b"OBJECT_DESIGNATOR")?;
+    let ((), rest) = rest.constant(b"CATALOG_NAME", b"OEM")?;
+    let (name, rest) = rest.label(b"OBJECT_NAME")?;
+    let (designator, rest) = rest.designator(b"INTERNATIONAL_DESIGNATOR")?;
+    let (file, rest) = rest.label(b"EPHEMERIS_NAME")?;
+    let ((), rest) = rest.constant(b"COVARIANCE_METHOD", b"CALCULATED")?;
+    let ((), rest) = rest.constant(b"MANEUVERABLE", b"N/A")?;
+    let (frame, rest) = rest.frame(b"REF_FRAME")?;
+    let object = ObjectSaid {
+        id,
+        name,
+        designator,
+        file,
+        frame,
+    };
+    Ok((object, rest))
+}
+
+#[tactic(auto, unfolding(crate::specs::Reading::place_said))]
+fn read_place(rest: Rest<'_>) -> Result<(Vector, Rest<'_>), LineFault>
+    ensures { plain (with_rest (λ v. v)) result ≡ place_said (plain_rest rest.entry) }
+{
+    let (x, rest) = rest.kilometres(b"X", b"km")?;
+    let (y, rest) = rest.kilometres(b"Y", b"km")?;
+    let (z, rest) = rest.kilometres(b"Z", b"km")?;
+    Ok((Vector { x, y, z }, rest))
+}
+
+#[tactic(auto, unfolding(crate::specs::Reading::rate_said))]
+fn read_rate(rest: Rest<'_>) -> Result<(Vector, Rest<'_>), LineFault>
+    ensures { plain (with_rest (λ v. v)) result ≡ rate_said (plain_rest rest.entry) }
+{
+    let (x, rest) = rest.kilometres(b"X_DOT", b"km/s")?;
+    let (y, rest) = rest.kilometres(b"Y_DOT", b"km/s")?;
+    let (z, rest) = rest.kilometres(b"Z_DOT", b"km/s")?;
+    Ok((Vector { x, y, z }, rest))
+}
+
+/// The elements of a covariance.
+fn read_elements(rest: Rest<'_>) -> Result<([Decimal; 21], Rest<'_>), LineFault>
+    ensures { plain (with_rest (λ values. map number_of values)) result ≡ elements_said elements (plain_rest rest.entry) }
+{
+    let mut values = [Decimal::ZERO; 21];
+    let mut left = rest;
+    for index in 0..21 {
+        let element = element_at(index);
+        let (value, behind) = left.element(element.key, element.unit)?;
+        values[index] = value;
+        left = behind;
+    }
+    Ok((values, left))
+}
