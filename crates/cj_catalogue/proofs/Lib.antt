@@ -4,4 +4,4 @@ mod LengthLemmas
 mod LineLemmas
 mod NodeLemmas
 mod StampLemmas
-mod TrackLemmas
+pub mod TrackLemmas

@@ -1,6 +1,6 @@
 -- The order of a folder's entries.
-use Rattle.std.proofs.Common.{◌≡◌, ap, ℕ, ◌+◌, ◌<◌, ◌≤◌, List, [], ◌∷◌, length, Bool, true, false, cond, Option, arith, refl}
-use Rattle.std.specs.Prelude.{All}
+use Rattle.std.proofs.Common.{◌≡◌, ◌∙◌, ap, sym, ℕ, zero, suc, ◌+◌, ◌<◌, ◌≤◌, List, [], ◌∷◌, length, Bool, true, false, cond, Option, Some, get_or, arith, refl}
+use Rattle.std.specs.Prelude.{All, slice_get}
 use Rattle.std.specs.List.{AllByRecursion}
 use Rattle.std.proofs.lemmas.List.Elements.{All-from_recursion}
 use Rattle.std.specs.Cmp.{IsTotalOrder}
@@ -49,33 +49,48 @@ pub few_inputs : (suffix : List ℕ) (sizes : Option (List ℕ)) (names : List (
 unfolding inputs_of
 few_inputs suffix sizes names = omega (arith, length_sorted entry_cmp (entries_from suffix sizes 0 names), length_entries suffix sizes 0 names)
 
-abbrev Below : ℕ → Entry → Type 0
-Below n e = e.number < n
+-- an entry has the name that stands at its number
+abbrev pub Stands : List (List ℕ) → Entry → Type 0
+Stands names e = slice_get names e.number ≡ Some e.name
 
-below_inserted : (n : ℕ) (x : Entry) (ys : List Entry) → Below n x → AllByRecursion (Below n) ys → AllByRecursion (Below n) (inserted entry_cmp x ys)
-below_inserted n x [] h all = (h, tt)
-below_inserted n x (y ∷ ys) h all = chosen (is_lt (entry_cmp y x)) (below_inserted n x ys h all.1)
+stands_inserted : (names : List (List ℕ)) (x : Entry) (ys : List Entry) → Stands names x → AllByRecursion (Stands names) ys → AllByRecursion (Stands names) (inserted entry_cmp x ys)
+stands_inserted names x [] h all = (h, tt)
+stands_inserted names x (y ∷ ys) h all = chosen (is_lt (entry_cmp y x)) (stands_inserted names x ys h all.1)
   where
-    chosen : (b : Bool) → AllByRecursion (Below n) (inserted entry_cmp x ys) → AllByRecursion (Below n) (cond b (y ∷ inserted entry_cmp x ys) (x ∷ y ∷ ys))
+    chosen : (b : Bool) → AllByRecursion (Stands names) (inserted entry_cmp x ys) → AllByRecursion (Stands names) (cond b (y ∷ inserted entry_cmp x ys) (x ∷ y ∷ ys))
     chosen true later = (all.0, later)
     chosen false later = (h, all)
 
-below_sorted : (n : ℕ) (xs : List Entry) → AllByRecursion (Below n) xs → AllByRecursion (Below n) (sorted entry_cmp xs)
-below_sorted n [] all = tt
-below_sorted n (x ∷ xs) all = below_inserted n x (sorted entry_cmp xs) all.0 (below_sorted n xs all.1)
+stands_sorted : (names : List (List ℕ)) (xs : List Entry) → AllByRecursion (Stands names) xs → AllByRecursion (Stands names) (sorted entry_cmp xs)
+stands_sorted names [] all = tt
+stands_sorted names (x ∷ xs) all = stands_inserted names x (sorted entry_cmp xs) all.0 (stands_sorted names xs all.1)
 
-below_entries : (suffix : List ℕ) (sizes : Option (List ℕ)) (n total : ℕ) (names : List (List ℕ)) → n + length names ≤ total → AllByRecursion (Below total) (entries_from suffix sizes n names)
-below_entries suffix sizes n total [] h = tt
-below_entries suffix sizes n total (name ∷ names) h = chosen (is_taken suffix sizes name) (below_entries suffix sizes (n + 1) total names (omega arith))
+stands_entries : (suffix : List ℕ) (sizes : Option (List ℕ)) (all : List (List ℕ)) (n : ℕ) (names : List (List ℕ)) → ((i : ℕ) → slice_get names i ≡ slice_get all (n + i))
+    → AllByRecursion (Stands all) (entries_from suffix sizes n names)
+stands_entries suffix sizes all n [] places = tt
+stands_entries suffix sizes all n (name ∷ names) places =
+    chosen (is_taken suffix sizes name) (stands_entries suffix sizes all (n + 1) names (λ i. let k : n + suc i ≡ n + 1 + i = omega arith in places (suc i) ∙ ap (slice_get all) k))
   where
-    chosen : (b : Bool) → AllByRecursion (Below total) (entries_from suffix sizes (n + 1) names)
-        → AllByRecursion (Below total) (cond b (record { name = name; number = n } ∷ entries_from suffix sizes (n + 1) names) (entries_from suffix sizes (n + 1) names))
-    chosen true later = (omega arith, later)
+    here : slice_get all n ≡ Some name
+    here = let k : n + 0 ≡ n = omega arith in ap (slice_get all) (sym k) ∙ sym (places 0)
+
+    chosen : (b : Bool) → AllByRecursion (Stands all) (entries_from suffix sizes (n + 1) names)
+        → AllByRecursion (Stands all) (cond b (record { name = name; number = n } ∷ entries_from suffix sizes (n + 1) names) (entries_from suffix sizes (n + 1) names))
+    chosen true later = (here, later)
     chosen false later = later
 
 -- each that is taken is one of the folder's
-pub numbers_of_inputs : (suffix : List ℕ) (sizes : Option (List ℕ)) (names : List (List ℕ)) → All (λ e. e.number < length names) (inputs_of suffix sizes names)
+pub inputs_stand : (suffix : List ℕ) (sizes : Option (List ℕ)) (names : List (List ℕ)) → AllByRecursion (Stands names) (inputs_of suffix sizes names)
 unfolding inputs_of
-numbers_of_inputs suffix sizes names =
-    All-from_recursion (Below (length names)) (sorted entry_cmp (entries_from suffix sizes 0 names))
-    (below_sorted (length names) (entries_from suffix sizes 0 names) (below_entries suffix sizes 0 (length names) names (omega arith)))
+inputs_stand suffix sizes names =
+    stands_sorted names (entries_from suffix sizes 0 names) (stands_entries suffix sizes names 0 names (λ i. ap (slice_get names) (omega arith)))
+
+pub numbers_of_inputs : (suffix : List ℕ) (sizes : Option (List ℕ)) (names : List (List ℕ)) → All (λ e. e.number < length names) (inputs_of suffix sizes names)
+numbers_of_inputs suffix sizes names i d below =
+    let here = All-from_recursion (Stands names) (inputs_of suffix sizes names) (inputs_stand suffix sizes names) i d below in
+    below_of names (get_or (inputs_of suffix sizes names) i d).number (get_or (inputs_of suffix sizes names) i d).name here
+  where
+    below_of : (xs : List (List ℕ)) (n : ℕ) (name : List ℕ) → slice_get xs n ≡ Some name → n < length xs
+    below_of [] n name h = absurd cc
+    below_of (x ∷ xs) zero name h = omega arith
+    below_of (x ∷ xs) (suc n) name h = omega (arith, below_of xs n name h)

@@ -54,6 +54,7 @@ input_stops {X} {A} {B} P Q view (input.Limit fault) read f rose here = ap (λ (
 
 pub stops_wider : {A : Type 0} (P Q : Type 0) (s : Status) (due : Result A Status) → (P → Q) → Stops P s due → Stops Q s due
 stops_wider P Q status.Ok due wider ends = ends
+stops_wider P Q (status.NotAccepted line cause) due wider ends = ends
 stops_wider P Q (status.Usage fault) due wider ends = ends
 stops_wider P Q (status.BadFile file line cause) due wider ends = ends
 stops_wider P Q status.ReadFault due wider ends = wider ends

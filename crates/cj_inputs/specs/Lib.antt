@@ -1,4 +1,5 @@
 pub mod Cases
+pub mod CheckInputs
 pub mod Errors
 pub mod InputFiles
 pub mod ObjectSizes

@@ -14,9 +14,13 @@ use Rattle.cj_inputs.specs.declared.reading.InputError.{InputError}
 use Rattle.cj_inputs.specs.declared.reading.InputError.TheVariants as input
 use Rattle.cj_inputs.specs.declared.input_files.Entry.{Entry}
 
+-- at most so many bytes of the file with this name
+abbrev pub within : ℕ → List ℕ → List ℕ → Result (List ℕ) Status
+within most name bytes = if nat_le (length bytes) most then Ok bytes else Err (Limit (limit.FileBytes name))
+
 -- at most 67,108,864 bytes
 abbrev pub within_bytes : List ℕ → List ℕ → Result (List ℕ) Status
-within_bytes name bytes = if nat_le (length bytes) 67_108_864 then Ok bytes else Err (Limit (limit.FileBytes name))
+within_bytes name bytes = within 67_108_864 name bytes
 
 -- a fault of the file with this name, as the run's cause
 abbrev pub refused_of : List ℕ → Result PlainTrack Fault → Result PlainTrack Status

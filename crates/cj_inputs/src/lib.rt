@@ -1,6 +1,8 @@
 //! From the words and the files of a folder to the problem that is to be screened.
 #![tactic(auto)]
 
+mod certificates;
+mod check_inputs;
 mod errors;
 mod input_files;
 mod object_sizes;
@@ -8,4 +10,6 @@ mod preparing;
 mod reading;
 mod window;
 
+pub use certificates::prepare_check;
+pub use check_inputs::CheckInputs;
 pub use preparing::prepare;

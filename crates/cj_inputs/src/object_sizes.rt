@@ -32,6 +32,7 @@ pub fn read_size_lines<F: Folder>(
     ensures told { (files : List FileBytes) → F.files folder.old ≡ Some files → names.now ≡ names_of files
         → Reads (Rose (F.faults folder.old) (F.faults folder.new)) (λ lines. sizes_of lines.items) result (spec.sizes_asked files (option_copied file.entry)) }
 
+    ensures count { F.count folder.new ≡ F.count folder.old }
     ensures files { F.files folder.new ≡ F.files folder.old }
     ensures later { F.faults folder.old ≤ F.faults folder.new }
 {
@@ -49,7 +50,7 @@ pub fn read_size_lines<F: Folder>(
 }
 
 /// The number of the first file with a name.
-fn first_named(names: &[Name], name: &[u8]) -> Option<u32>
+pub fn first_named(names: &[Name], name: &[u8]) -> Option<u32>
     requires { length names.now < 2 ^ 32 }
     ensures value { result ≡ spec.first_named name.now names.now }
     ensures within { IfSome result (λ number. number < length names.now) }
@@ -78,6 +79,7 @@ fn lines_of_file<F: Folder>(
     ensures told { (files : List FileBytes) → F.files folder.old ≡ Some files
         → Reads (Rose (F.faults folder.old) (F.faults folder.new)) (λ lines. sizes_of lines.items) result (spec.sizes_of_file name.now (bytes_of files number)) }
 
+    ensures count { F.count folder.new ≡ F.count folder.old }
     ensures files { F.files folder.new ≡ F.files folder.old }
     ensures later { F.faults folder.old ≤ F.faults folder.new }
 {

@@ -1,6 +1,7 @@
 //! From the settings and a folder to the problem that is to be screened.
 ghost use Rattle.std.specs.Prelude.{◌≡◌, ◌<◌, ◌≤◌, ◌^◌, List, Some, Err, IfErr, map, length};
 ghost use Rattle.cj_io.specs.Faults.{Rose};
+ghost use Rattle.cj_io.specs.Files.{names_of};
 ghost use Rattle.cj_io.specs.declared.file.FileBytes.{FileBytes};
 ghost use Rattle.cj_hermite.specs.CaseLimits.{AreFewNodes};
 ghost use Rattle.cj_hermite.specs.Frames.{HaveOneFrame};
@@ -16,7 +17,7 @@ use crate::reading::read_tracks;
 use crate::window::window_of;
 use cj_epoch::Window;
 use cj_hermite::{Problem, Sizes, Tracks, slot_count};
-use cj_io::Folder;
+use cj_io::{Folder, Name};
 use cj_status::{LimitFault, Status};
 use cj_track::Track;
 use cj_words::Settings;
@@ -32,7 +33,6 @@ const MAX_LENGTH: u64 = 1_209_600_000_000;
 const MAX_SLOTS: u64 = 4_000_000;
 
 /// Reads the files that are taken and the sizes of their objects, and puts them with the window and the threshold that are asked for.
-#[tactic(auto, unfolding(crate::specs::Cases::case_asked))]
 pub fn prepare<F: Folder>(
     alloc: Global,
     folder: &mut F,
@@ -47,12 +47,35 @@ pub fn prepare<F: Folder>(
     ensures later { F.faults folder.old ≤ F.faults folder.new }
 {
     let names = folder.names(alloc)?;
-    let entries = list_inputs(alloc, &names, settings.suffix, settings.sizes)?;
+    prepare_listed(alloc, folder, &names, settings)
+}
+
+/// The same of a folder with these names.
+#[tactic(auto, unfolding(crate::specs::Cases::case_asked))]
+pub fn prepare_listed<F: Folder>(
+    alloc: Global,
+    folder: &mut F,
+    names: &[Name],
+    settings: &Settings,
+) -> Result<Problem, Status>
+    requires many { length names.now < 2 ^ 32 }
+    requires count { F.count folder.old ≡ length names.now }
+
+    ensures between { IfErr result ComesBetween }
+    ensures read { result ≡ Err Status.ReadFault → Rose (F.faults folder.old) (F.faults folder.new) }
+    ensures told { (files : List FileBytes) → F.files folder.old ≡ Some files → names.now ≡ names_of files
+        → Gives (Rose (F.faults folder.old) (F.faults folder.new)) plain_problem result (spec.case_asked files (asked_of settings.now)) }
+
+    ensures count { F.count folder.new ≡ F.count folder.old }
+    ensures files { F.files folder.new ≡ F.files folder.old }
+    ensures later { F.faults folder.old ≤ F.faults folder.new }
+{
+    let entries = list_inputs(alloc, names, settings.suffix, settings.sizes)?;
     if entries.len() > MAX_OBJECTS {
         return Err(too_many_objects(entries.len() as u32));
     }
     let tracks = read_tracks(alloc, folder, &entries, settings.as_hermite3)?;
-    let lines = read_size_lines(alloc, folder, &names, settings.sizes)?;
+    let lines = read_size_lines(alloc, folder, names, settings.sizes)?;
     let sizes = sizes_of_tracks(alloc, &lines, &tracks)?;
     let window = window_of(settings, &tracks);
     make_problem(tracks, sizes, window, settings.threshold * 1_000_000_000)

@@ -138,7 +138,29 @@ pub fn read_file<F: Folder>(
     ensures files { F.files folder.new ≡ F.files folder.old }
     ensures later { F.faults folder.old ≤ F.faults folder.new }
 {
-    match read_whole(alloc, folder, number, MAX_BYTES) {
+    read_within(alloc, folder, number, name, MAX_BYTES)
+}
+
+/// The bytes of a file, which has this name, where they are at most so many.
+pub fn read_within<F: Folder>(
+    alloc: Global,
+    folder: &mut F,
+    number: u32,
+    name: &[u8],
+    most: u64,
+) -> Result<Vec<u8>, InputError>
+    requires { number < F.count folder.old }
+
+    ensures fault { result ≡ Err InputError.Failed → Rose (F.faults folder.old) (F.faults folder.new) }
+    ensures told { (files : List FileBytes) → F.files folder.old ≡ Some files
+        → Reads (Rose (F.faults folder.old) (F.faults folder.new)) (λ bytes. bytes.items) result (spec.within most name.now (bytes_of files number)) }
+    ensures small { IfOk result (λ bytes. length bytes.items ≤ most) }
+
+    ensures count { F.count folder.new ≡ F.count folder.old }
+    ensures files { F.files folder.new ≡ F.files folder.old }
+    ensures later { F.faults folder.old ≤ F.faults folder.new }
+{
+    match read_whole(alloc, folder, number, most) {
         Ok(bytes) => Ok(bytes),
         Err(ReadError::Memory) => Err(InputError::Memory),
         Err(ReadError::Failed) => Err(InputError::Failed),

@@ -1,5 +1,5 @@
 -- The lines that say why a run failed.
-use Rattle.std.specs.Prelude.{ℕ, List, [], ◌∷◌, ◌++◌, codes}
+use Rattle.std.specs.Prelude.{ℕ, ◌&&◌, nat_le, if◌then◌else◌, List, [], ◌∷◌, ◌++◌, map, codes}
 use Rattle.std.specs.Fmt.{decimal}
 use Rattle.cj_epoch.specs.declared.fault.EpochFault.{EpochFault}
 use Rattle.cj_epoch.specs.declared.fault.EpochFault.TheVariants as epoch
@@ -9,11 +9,17 @@ use Rattle.cj_oem.specs.declared.fault.OemCause.{OemCause}
 use Rattle.cj_oem.specs.declared.fault.OemCause.TheVariants as oem
 use Rattle.cj_sizes.specs.declared.fault.SizesCause.{SizesCause}
 use Rattle.cj_sizes.specs.declared.fault.SizesCause.TheVariants as sizes
+use Rattle.cj_cert.specs.declared.fault.CertCause.{CertCause}
+use Rattle.cj_cert.specs.declared.fault.CertCause.TheVariants as certs
+use Rattle.cj_checker.specs.declared.check_cause.CheckCause.{CheckCause}
+use Rattle.cj_checker.specs.declared.check_cause.CheckCause.TheVariants as checks
 use Rattle.cj_words.specs.declared.option.UsageFault.{UsageFault}
 use Rattle.cj_words.specs.declared.option.UsageFault.TheVariants.{Words, Value}
 use Rattle.cj_words.specs.Options.{name_of}
 use Rattle.cj_status.specs.declared.status.Status.{Status}
 use Rattle.cj_status.specs.declared.status.Status.TheVariants as status
+use Rattle.cj_status.specs.declared.status.CertificateCause.{CertificateCause}
+use Rattle.cj_status.specs.declared.status.CertificateCause.TheVariants.{NoFile, Text, Refused}
 use Rattle.cj_status.specs.declared.status.FileCause.{FileCause}
 use Rattle.cj_status.specs.declared.status.FileCause.TheVariants.{Oem, MixedFrames, Sizes, NoSizes}
 use Rattle.cj_status.specs.declared.status.LimitFault.{LimitFault}
@@ -74,9 +80,39 @@ cause_text MixedFrames = codes "MixedFrames"
 cause_text (Sizes cause) = codes "Sizes " ++ sizes_text cause
 cause_text NoSizes = codes "NoSizes"
 
+-- the same of the text of a certificate
+abbrev pub cert_text : CertCause → List ℕ
+cert_text certs.Form = codes "Form"
+cert_text certs.Range = codes "Range"
+cert_text certs.End = codes "End"
+
+-- and of one that is not accepted for the files
+abbrev pub check_text : CheckCause → List ℕ
+check_text checks.Header = codes "Header"
+check_text checks.SizeOf = codes "SizeOf"
+check_text checks.ShellOf = codes "ShellOf"
+check_text checks.BoxOf = codes "BoxOf"
+check_text checks.Untiled = codes "Untiled"
+check_text checks.Stranger = codes "Stranger"
+check_text checks.NotFar = codes "NotFar"
+check_text checks.NotNear = codes "NotNear"
+check_text checks.NotBand = codes "NotBand"
+
+abbrev pub certificate_text : CertificateCause → List ℕ
+certificate_text NoFile = codes "NoFile"
+certificate_text (Text cause) = codes "Text " ++ cert_text cause
+certificate_text (Refused cause) = check_text cause
+
+-- a name of a file as it is shown: each byte that is not printable as ?, so that no name breaks the line
+abbrev pub shown_byte : ℕ → ℕ
+shown_byte b = if nat_le 32 b && nat_le b 126 then b else 63
+
+abbrev pub shown_name : List ℕ → List ℕ
+shown_name name = map shown_byte name
+
 abbrev pub limit_text : LimitFault → List ℕ
 limit_text (Objects count) = codes "Objects " ++ decimal count
-limit_text (FileBytes file) = codes "FileBytes " ++ file
+limit_text (FileBytes file) = codes "FileBytes " ++ shown_name file
 limit_text (Nodes count) = codes "Nodes " ++ decimal count
 limit_text (Window length) = codes "Window " ++ decimal length
 limit_text (Slots count) = codes "Slots " ++ decimal count
@@ -85,8 +121,9 @@ limit_text (Cells limit) = codes "Cells " ++ decimal limit
 -- what stands between `conj: ` and the end of the line
 abbrev pub fault_body : Status → List ℕ
 fault_body status.Ok = []
+fault_body (status.NotAccepted line cause) = codes "not accepted: line " ++ decimal line ++ codes ": " ++ certificate_text cause
 fault_body (status.Usage fault) = codes "usage: " ++ usage_text fault
-fault_body (status.BadFile file line cause) = file ++ codes ": line " ++ decimal line ++ codes ": " ++ cause_text cause
+fault_body (status.BadFile file line cause) = shown_name file ++ codes ": line " ++ decimal line ++ codes ": " ++ cause_text cause
 fault_body status.ReadFault = codes "read fault"
 fault_body status.WriteFault = codes "write fault"
 fault_body (status.Limit fault) = codes "limit: " ++ limit_text fault
@@ -98,6 +135,7 @@ line_with body = codes "conj: " ++ body ++ 10 ∷ []
 -- the line of a status, empty where all went well
 abbrev pub line_of : Status → List ℕ
 line_of status.Ok = []
+line_of (status.NotAccepted line cause) = line_with (fault_body (status.NotAccepted line cause))
 line_of (status.Usage fault) = line_with (fault_body (status.Usage fault))
 line_of (status.BadFile file line cause) = line_with (fault_body (status.BadFile file line cause))
 line_of status.ReadFault = line_with (fault_body status.ReadFault)

@@ -5,6 +5,7 @@ use Rattle.cj_status.specs.declared.status.Status.TheVariants as status
 
 abbrev pub number_of : Status → ℕ
 number_of status.Ok = 0
+number_of (status.NotAccepted line cause) = 1
 number_of (status.Usage fault) = 2
 number_of (status.BadFile file line cause) = 3
 number_of status.ReadFault = 4

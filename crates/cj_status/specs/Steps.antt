@@ -12,6 +12,7 @@ abbrev pub ◌>>=◌ : {A B : Type 0} → Result A Status → (A → Result B St
 -- why it gave up: for want of memory, for a fault of the folder, or for the cause that is due
 abbrev pub Stops : {A : Type 0} → Type 0 → Status → Result A Status → Type 0
 Stops read status.Ok due = ⊥
+Stops read (status.NotAccepted line cause) due = due ≡ Err (status.NotAccepted line cause)
 Stops read (status.Usage fault) due = due ≡ Err (status.Usage fault)
 Stops read (status.BadFile file line cause) due = due ≡ Err (status.BadFile file line cause)
 Stops read status.ReadFault due = read
@@ -27,6 +28,7 @@ Gives read view (Err s) due = Stops read s due
 -- what may end a run between its words and its writes
 abbrev pub ComesBetween : Status → Type 0
 ComesBetween status.Ok = ⊥
+ComesBetween (status.NotAccepted line cause) = Unit {0}
 ComesBetween (status.Usage fault) = ⊥
 ComesBetween (status.BadFile file line cause) = Unit {0}
 ComesBetween status.ReadFault = Unit {0}
@@ -37,6 +39,7 @@ ComesBetween status.OutOfMemory = Unit {0}
 -- what may end a run before its writes
 abbrev pub ComesBefore : Status → Type 0
 ComesBefore status.Ok = ⊥
+ComesBefore (status.NotAccepted line cause) = Unit {0}
 ComesBefore (status.Usage fault) = Unit {0}
 ComesBefore (status.BadFile file line cause) = Unit {0}
 ComesBefore status.ReadFault = Unit {0}
@@ -47,6 +50,7 @@ ComesBefore status.OutOfMemory = Unit {0}
 -- a limit is exceeded
 abbrev pub IsLimit : Status → Type 0
 IsLimit status.Ok = ⊥
+IsLimit (status.NotAccepted line cause) = ⊥
 IsLimit (status.Usage fault) = ⊥
 IsLimit (status.BadFile file line cause) = ⊥
 IsLimit status.ReadFault = ⊥

@@ -1,9 +1,12 @@
 //! The line that says on standard error why a run failed.
 ghost use Rattle.std.specs.Prelude.{◌≡◌, ◌++◌, IfOk, OnOk, codes};
 ghost use Rattle.std.specs.Fmt.{decimal};
-ghost use Rattle.cj_status.specs.Faults.{line_of, fault_body, usage_text, limit_text, cause_text, oem_text, kvn_text, epoch_text, sizes_text};
+ghost use Rattle.cj_status.specs.Faults.{line_of, fault_body, usage_text, limit_text, shown_byte, shown_name};
+ghost use Rattle.cj_status.specs.Faults.{cause_text, certificate_text, cert_text, check_text, oem_text, kvn_text, epoch_text, sizes_text};
 
-use crate::status::{FileCause, LimitFault, Status};
+use crate::status::{CertificateCause, FileCause, LimitFault, Status};
+use cj_cert::CertCause;
+use cj_checker::CheckCause;
 use cj_epoch::EpochFault;
 use cj_kvn::KvnCause;
 use cj_oem::OemCause;
@@ -32,9 +35,15 @@ fn push_fault(alloc: Global, text: &mut Vec<u8>, status: &Status) -> Result<(), 
 {
     match status {
         Status::Ok => Ok(()),
+        Status::NotAccepted { line, cause } => {
+            text.extend_from_slice(b"not accepted: line ")?;
+            push_number(alloc, text, u64::from(*line))?;
+            text.extend_from_slice(b": ")?;
+            text.extend_from_slice(certificate_cause_name(*cause))
+        }
         Status::Usage(fault) => push_usage(text, fault),
         Status::BadFile { file, line, cause } => {
-            text.extend_from_slice(file.as_slice())?;
+            push_name(text, file.as_slice())?;
             text.extend_from_slice(b": line ")?;
             push_number(alloc, text, u64::from(*line))?;
             text.extend_from_slice(b": ")?;
@@ -44,6 +53,43 @@ fn push_fault(alloc: Global, text: &mut Vec<u8>, status: &Status) -> Result<(), 
         Status::WriteFault => text.extend_from_slice(b"write fault"),
         Status::Limit(fault) => push_limit(alloc, text, fault),
         Status::OutOfMemory => text.extend_from_slice(b"out of memory"),
+    }
+}
+
+fn certificate_cause_name(cause: CertificateCause) -> &'static [u8]
+    ensures { result.now ≡ certificate_text cause }
+{
+    match cause {
+        CertificateCause::NoFile => b"NoFile",
+        CertificateCause::Text(cause) => cert_name(cause),
+        CertificateCause::Refused(cause) => check_name(cause),
+    }
+}
+
+/// The name of a cause in the text of a certificate, behind the word for all such.
+fn cert_name(cause: CertCause) -> &'static [u8]
+    ensures { result.now ≡ codes "Text " ++ cert_text cause }
+{
+    match cause {
+        CertCause::Form => b"Text Form",
+        CertCause::Range => b"Text Range",
+        CertCause::End => b"Text End",
+    }
+}
+
+fn check_name(cause: CheckCause) -> &'static [u8]
+    ensures { result.now ≡ check_text cause }
+{
+    match cause {
+        CheckCause::Header => b"Header",
+        CheckCause::SizeOf => b"SizeOf",
+        CheckCause::ShellOf => b"ShellOf",
+        CheckCause::BoxOf => b"BoxOf",
+        CheckCause::Untiled => b"Untiled",
+        CheckCause::Stranger => b"Stranger",
+        CheckCause::NotFar => b"NotFar",
+        CheckCause::NotNear => b"NotNear",
+        CheckCause::NotBand => b"NotBand",
     }
 }
 
@@ -154,12 +200,32 @@ fn push_limit(alloc: Global, text: &mut Vec<u8>, fault: &LimitFault) -> Result<(
         LimitFault::Objects { count } => push_count(alloc, text, b"Objects ", u64::from(*count)),
         LimitFault::FileBytes { file } => {
             text.extend_from_slice(b"FileBytes ")?;
-            text.extend_from_slice(file.as_slice())
+            push_name(text, file.as_slice())
         }
         LimitFault::Nodes { count } => push_count(alloc, text, b"Nodes ", *count),
         LimitFault::Window { length } => push_count(alloc, text, b"Window ", *length),
         LimitFault::Slots { count } => push_count(alloc, text, b"Slots ", *count),
         LimitFault::Cells { limit } => push_count(alloc, text, b"Cells ", *limit),
+    }
+}
+
+/// The name of a file, of which each byte that is not printable is shown as `?`.
+fn push_name(text: &mut Vec<u8>, name: &[u8]) -> Result<(), AllocError>
+    ensures { OnOk result (text.new.items ≡ text.old.items ++ shown_name name.now) }
+{
+    for byte in name {
+        text.push(shown(*byte))?;
+    }
+    Ok(())
+}
+
+fn shown(byte: u8) -> u8
+    ensures { result ≡ shown_byte byte }
+{
+    if 32 <= byte && byte <= 126 {
+        byte
+    } else {
+        b'?'
     }
 }
 

@@ -6,7 +6,7 @@ mod fault_line;
 mod status;
 
 pub use fault_line::fault_text;
-pub use status::{FileCause, LimitFault, Status};
+pub use status::{CertificateCause, FileCause, LimitFault, Status};
 
 #[cfg(test)]
 mod tests;

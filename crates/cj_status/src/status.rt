@@ -1,6 +1,8 @@
 ghost use Rattle.std.specs.Prelude.{◌≡◌};
 ghost use Rattle.cj_status.specs.Statuses.{number_of};
 
+use cj_cert::CertCause;
+use cj_checker::CheckCause;
 use cj_io::Name;
 use cj_oem::OemCause;
 use cj_sizes::SizesCause;
@@ -19,12 +21,23 @@ pub enum FileCause {
     NoSizes,
 }
 
+/// Why a certificate was not accepted.
+#[derive(Clone, Copy, Debug, PartialEq, Eq)]
+pub enum CertificateCause {
+    /// No file has its name.
+    NoFile,
+    /// It is not a certificate that can be read.
+    Text(CertCause),
+    /// It is not accepted for the files.
+    Refused(CheckCause),
+}
+
 /// What is beyond its limit.
 #[derive(Debug, PartialEq, Eq, Drop)]
 pub enum LimitFault {
     /// There are so many objects, more than 2,000.
     Objects { count: u32 },
-    /// This file has more than 67,108,864 bytes.
+    /// This file has more than 67,108,864 bytes, or it is the certificate and has more than 1,073,741,824.
     FileBytes { file: Name },
     /// The files up to one of them have so many nodes, more than 2,000,000.
     Nodes { count: u64 },
@@ -40,6 +53,11 @@ pub enum LimitFault {
 #[derive(Debug, Drop)]
 pub enum Status {
     Ok,
+    /// The certificate that was to be checked is not accepted; lines are counted from 1, and 0 stands for the whole.
+    NotAccepted {
+        line: u32,
+        cause: CertificateCause,
+    },
     Usage(UsageFault),
     BadFile {
         file: Name,
@@ -59,6 +77,7 @@ impl Status {
     {
         match self {
             Status::Ok => 0,
+            Status::NotAccepted { .. } => 1,
             Status::Usage(_) => 2,
             Status::BadFile { .. } => 3,
             Status::ReadFault => 4,

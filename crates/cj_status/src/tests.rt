@@ -1,5 +1,7 @@
 //! The lines that say why a run failed.
-use crate::{FileCause, LimitFault, Status, fault_text};
+use crate::{CertificateCause, FileCause, LimitFault, Status, fault_text};
+use cj_cert::CertCause;
+use cj_checker::CheckCause;
 use cj_epoch::EpochFault;
 use cj_io::Name;
 use cj_kvn::KvnCause;
@@ -9,7 +11,7 @@ use std::test::Fail;
 
 #[test]
 fn the_cause_of_a_refused_file_is_told_by_its_name(rt: HostRuntime) -> Result<(), Fail> {
-    let cases: [(&[u8], u32, FileCause, &[u8]); 6] = [
+    let cases: [(&[u8], u32, FileCause, &[u8]); 7] = [
         (
             b"sizes.txt",
             5,
@@ -34,6 +36,13 @@ fn the_cause_of_a_refused_file_is_told_by_its_name(rt: HostRuntime) -> Result<()
             FileCause::Oem(OemCause::Epoch(EpochFault::SecondSixty)),
             b"conj: a.oem: line 16: Epoch SecondSixty\n",
         ),
+        // A byte that is not printable is shown as `?`.
+        (
+            b"c\n.oem",
+            0,
+            FileCause::Oem(OemCause::Name),
+            b"conj: c?.oem: line 0: Name\n",
+        ),
         (
             b"b.oem",
             0,
@@ -50,6 +59,44 @@ fn the_cause_of_a_refused_file_is_told_by_its_name(rt: HostRuntime) -> Result<()
     for (file, line, cause, told) in cases {
         let file = Name::copy_of(rt.alloc(), file)?;
         let text = fault_text(rt.alloc(), &Status::BadFile { file, line, cause })?;
+        assert_eq!(rt; text.as_slice(), told);
+    }
+    Ok(())
+}
+
+#[test]
+fn the_cause_of_a_refused_certificate_is_told_by_its_name(rt: HostRuntime) -> Result<(), Fail> {
+    let cases: [(u32, CertificateCause, &[u8]); 5] = [
+        (
+            0,
+            CertificateCause::NoFile,
+            b"conj: not accepted: line 0: NoFile\n",
+        ),
+        (
+            13,
+            CertificateCause::Text(CertCause::End),
+            b"conj: not accepted: line 13: Text End\n",
+        ),
+        (
+            2,
+            CertificateCause::Text(CertCause::Range),
+            b"conj: not accepted: line 2: Text Range\n",
+        ),
+        (
+            11,
+            CertificateCause::Refused(CheckCause::Untiled),
+            b"conj: not accepted: line 11: Untiled\n",
+        ),
+        (
+            7,
+            CertificateCause::Refused(CheckCause::BoxOf),
+            b"conj: not accepted: line 7: BoxOf\n",
+        ),
+    ];
+    for (line, cause, told) in cases {
+        let status = Status::NotAccepted { line, cause };
+        assert_eq!(rt; status.number(), 1);
+        let text = fault_text(rt.alloc(), &status)?;
         assert_eq!(rt; text.as_slice(), told);
     }
     Ok(())

@@ -3,14 +3,22 @@ use Rattle.std.specs.Prelude.{ℕ, Bool, true, false, not, ◌&&◌, ◌||◌, �
 use Rattle.std.specs.List.{list_all, before_first, after_first}
 use Rattle.std.specs.Str.{bytes_eq}
 use Rattle.cj_words.specs.declared.option.Opt.{Opt}
-use Rattle.cj_words.specs.declared.option.Opt.TheVariants.{Threshold, From, To, Suffix, Cells, AsHermite3, Sizes}
+use Rattle.cj_words.specs.declared.option.Opt.TheVariants.{Threshold, Workers, From, To, Suffix, Cert, Originator, Cells, Seed, Objects, Minutes, AsHermite3, Sizes}
+use Rattle.cj_words.specs.declared.command.Verb.{Verb}
+use Rattle.cj_words.specs.declared.command.Verb.TheVariants.{Screen, Check, Generate, Selfrun}
 
 abbrev pub name_of : Opt → List ℕ
 name_of Threshold = codes "--threshold"
+name_of Workers = codes "--workers"
 name_of From = codes "--from"
 name_of To = codes "--to"
 name_of Suffix = codes "--suffix"
+name_of Cert = codes "--cert"
+name_of Originator = codes "--originator"
 name_of Cells = codes "--cells"
+name_of Seed = codes "--seed"
+name_of Objects = codes "--objects"
+name_of Minutes = codes "--minutes"
 name_of AsHermite3 = codes "--as-hermite3"
 name_of Sizes = codes "--sizes"
 
@@ -22,14 +30,23 @@ pub record Given : Type 0 where
 abbrev pub is_named : Opt → Given → Bool
 is_named option given = bytes_eq given.name (name_of option)
 
--- the name of an option of this program
-abbrev pub is_name : List ℕ → Bool
-is_name name =
+-- the name of an option of each command that reads the files of a directory
+abbrev pub is_directory_name : List ℕ → Bool
+is_directory_name name =
     bytes_eq name (name_of Threshold)
     || (bytes_eq name (name_of From)
-    || (bytes_eq name (name_of To)
-    || (bytes_eq name (name_of Suffix)
-    || (bytes_eq name (name_of Cells) || (bytes_eq name (name_of AsHermite3) || bytes_eq name (name_of Sizes))))))
+    || (bytes_eq name (name_of To) || (bytes_eq name (name_of Suffix) || (bytes_eq name (name_of AsHermite3) || bytes_eq name (name_of Sizes)))))
+
+-- one of each command that makes up a catalogue
+abbrev pub is_catalogue_name : List ℕ → Bool
+is_catalogue_name name = bytes_eq name (name_of Seed) || (bytes_eq name (name_of Objects) || bytes_eq name (name_of Minutes))
+
+-- the name of an option of the command
+abbrev pub is_name : Verb → List ℕ → Bool
+is_name Screen name = is_directory_name name || (bytes_eq name (name_of Workers) || (bytes_eq name (name_of Originator) || bytes_eq name (name_of Cells)))
+is_name Check name = is_directory_name name || bytes_eq name (name_of Cert)
+is_name Generate name = is_catalogue_name name
+is_name Selfrun name = bytes_eq name (name_of Threshold) || (bytes_eq name (name_of Workers) || (bytes_eq name (name_of Cells) || is_catalogue_name name))
 
 -- the name of a flag: an option that has no value
 abbrev pub is_flag : List ℕ → Bool
@@ -100,9 +117,9 @@ abbrev pub none_next : List (List ℕ) → Bool
 none_next [] = true
 none_next (word ∷ words) = not (is_value word)
 
--- it is an option of this program
-abbrev pub is_known : Given → Bool
-is_known given = is_name given.name
+-- it is an option of the command
+abbrev pub is_known : Verb → Given → Bool
+is_known verb given = is_name verb given.name
 
 -- how often an option stands
 abbrev pub count_of : Opt → List Given → ℕ
@@ -112,16 +129,34 @@ count_of option givens = count_by (is_named option) givens
 abbrev pub is_single : Opt → List Given → Bool
 is_single option givens = nat_le (count_of option givens) 1
 
--- so does each
-abbrev pub are_single : List Given → Bool
-are_single givens =
+-- so does each option of the commands that read the files of a directory
+abbrev pub are_directory_single : List Given → Bool
+are_directory_single givens =
     is_single Threshold givens
     && (is_single From givens
-    && (is_single To givens && (is_single Suffix givens && (is_single Cells givens && (is_single AsHermite3 givens && is_single Sizes givens)))))
+    && (is_single To givens
+    && (is_single Suffix givens
+    && (is_single AsHermite3 givens
+    && is_single Sizes givens))))
+
+-- so does each other option
+abbrev pub are_others_single : List Given → Bool
+are_others_single givens =
+    is_single Workers givens
+    && (is_single Cert givens
+    && (is_single Originator givens
+    && (is_single Cells givens
+    && (is_single Seed givens
+    && (is_single Objects givens
+    && is_single Minutes givens)))))
+
+-- so does each
+abbrev pub are_single : List Given → Bool
+are_single givens = are_directory_single givens && are_others_single givens
 
 -- each is known and stands at most once
-abbrev pub are_options : List Given → Bool
-are_options givens = list_all is_known givens && are_single givens
+abbrev pub are_options : Verb → List Given → Bool
+are_options verb givens = list_all (is_known verb) givens && are_single givens
 
 abbrev pub value_in : Option Given → Option (List ℕ)
 value_in None = None
@@ -135,17 +170,22 @@ value_of option givens = value_in (find (is_named option) givens)
 abbrev pub is_given : Opt → List Given → Bool
 is_given option givens = nat_le 1 (count_of option givens)
 
--- the words are options, and each is known
-abbrev pub are_known : Option (List Given) → Bool
-are_known None = false
-are_known (Some givens) = list_all is_known givens
+-- the words are options with their values
+abbrev pub are_listed : Option (List Given) → Bool
+are_listed None = false
+are_listed (Some givens) = true
+
+-- and each is one of the command
+abbrev pub are_known : Verb → Option (List Given) → Bool
+are_known verb None = false
+are_known verb (Some givens) = list_all (is_known verb) givens
 
 -- the options, none where the words are not of that form
 abbrev pub listed : Option (List Given) → List Given
 listed None = []
 listed (Some givens) = givens
 
--- the words are options, each known and given at most once
-abbrev pub are_accepted : Option (List Given) → Bool
-are_accepted None = false
-are_accepted (Some givens) = are_options givens
+-- the words are options, each one of the command and given at most once
+abbrev pub are_accepted : Verb → Option (List Given) → Bool
+are_accepted verb None = false
+are_accepted verb (Some givens) = are_options verb givens

@@ -1,29 +1,26 @@
 -- What the words of a command line ask for.
-use Rattle.std.specs.Prelude.{ℕ, Bool, true, not, ◌&&◌, ◌==◌, nat_le, length, if◌then◌else◌, List, [], ◌∷◌, Option, Some, None, Result, Ok, Err, codes}
+use Rattle.std.specs.Prelude.{ℕ, Bool, true, not, ◌&&◌, ◌||◌, ◌==◌, nat_le, length, if◌then◌else◌, List, [], ◌∷◌, Option, Some, None, Result, Ok, Err, codes}
 use Rattle.std.specs.List.{list_all}
 use Rattle.std.specs.Option.{option_map, option_copied}
-use Rattle.std.specs.Char.{is_ascii_digit}
-use Rattle.std.specs.Str.{bytes_eq}
+use Rattle.std.specs.Char.{is_ascii_alphanumeric, is_ascii_digit}
 use Rattle.std.specs.Str.Parse.{digits_value}
 use Rattle.cj_epoch.specs.declared.tick.Tick.{Tick}
 use Rattle.cj_epoch.specs.Reading.{reading_of}
 use Rattle.cj_epoch.specs.declared.fault.EpochFault.{EpochFault}
 use Rattle.cj_words.specs.declared.option.Opt.{Opt}
 use Rattle.cj_words.specs.declared.option.UsageFault.{UsageFault}
-use Rattle.cj_words.specs.declared.option.UsageFault.TheVariants.{Words, Value}
-use Rattle.cj_words.specs.declared.option.Opt.TheVariants.{Threshold, From, To, Suffix, Cells, AsHermite3, Sizes}
+use Rattle.cj_words.specs.declared.option.UsageFault.TheVariants.{Value}
+use Rattle.cj_words.specs.declared.option.Opt.TheVariants.{Threshold, From, To, Suffix, AsHermite3, Sizes}
 use Rattle.cj_words.specs.declared.settings.Settings.{Settings}
-use Rattle.cj_words.specs.Options.{Given, given_of, is_value, are_accepted, listed, value_of, is_given}
+use Rattle.cj_words.specs.Options.{Given, value_of, is_given}
 
 -- settings: the threshold in metres, the ends of the window in ticks, where they are given, what the names of the files that are taken
--- end with, the greatest number of leaves, whether each file is taken as if it declared the cubic, and the name of the file of sizes,
--- where it is given
+-- end with, whether each file is taken as if it declared the cubic, and the name of the file of sizes, where it is given
 pub record Asked : Type 0 where
   pub threshold : ℕ
   pub from : Option ℕ
   pub to : Option ℕ
   pub suffix : List ℕ
-  pub cells : ℕ
   pub as_hermite3 : Bool
   pub sizes : Option (List ℕ)
 
@@ -37,14 +34,14 @@ asked_of s = record {
   from = option_map micros_of s.from;
   to = option_map micros_of s.to;
   suffix = s.suffix.now;
-  cells = s.cells;
   as_hermite3 = s.as_hermite3;
   sizes = option_copied s.sizes;
 }
 
-abbrev pub said : Result Settings UsageFault → Result Asked UsageFault
-said (Ok s) = Ok (asked_of s)
-said (Err fault) = Err fault
+-- what is read, seen by `view`
+abbrev pub said : {A B : Type 0} → (A → B) → Result A UsageFault → Result B UsageFault
+said view (Ok x) = Ok (view x)
+said view (Err fault) = Err fault
 
 -- one to twenty decimal digits
 abbrev pub is_number : List ℕ → Bool
@@ -93,6 +90,19 @@ abbrev pub file_text_or : ℕ → List ℕ → Option (List ℕ) → Option (Lis
 file_text_or longest left_out None = Some left_out
 file_text_or longest left_out (Some text) = if is_file_text longest text then Some text else None
 
+-- a byte of A-Z a-z 0-9 _ -
+abbrev pub is_originator_byte : ℕ → Bool
+is_originator_byte b = is_ascii_alphanumeric b || (b == 95 || b == 45)
+
+-- who makes messages: one to forty of them
+abbrev pub is_originator : List ℕ → Bool
+is_originator text = nat_le 1 (length text) && (nat_le (length text) 40 && list_all is_originator_byte text)
+
+-- the same, which may be left out
+abbrev pub originator_or : List ℕ → Option (List ℕ) → Option (List ℕ)
+originator_or left_out None = Some left_out
+originator_or left_out (Some text) = if is_originator text then Some text else None
+
 -- the name of a file, which may be left out
 abbrev pub name_or : Option (List ℕ) → Option (Option (List ℕ))
 name_or None = Some None
@@ -109,28 +119,20 @@ abbrev pub ◌>>=◌ : {A B : Type 0} → Result A UsageFault → (A → Result 
 (Ok x) >>= f = f x
 (Err fault) >>= f = Err fault
 
--- the settings that accepted options give, or the first option whose value is out of its range
-unfoldable pub values_of : List Given → Result Asked UsageFault
-values_of givens = do
-  threshold ← in_range Threshold (number_or 1 1_000_000 5000 (value_of Threshold givens))
+-- the threshold in metres
+abbrev pub threshold_of : List Given → Result ℕ UsageFault
+threshold_of givens = in_range Threshold (number_or 1 1_000_000 5000 (value_of Threshold givens))
+
+-- the settings with this threshold that options give but for the file of sizes, or the first of these options whose value is out of its range
+unfoldable pub unsized_of : ℕ → List Given → Result Asked UsageFault
+unsized_of threshold givens = do
   from ← in_range From (epoch_or (value_of From givens))
   to ← in_range To (not_before from (epoch_or (value_of To givens)))
   suffix ← in_range Suffix (file_text_or 20 (codes ".oem") (value_of Suffix givens))
-  cells ← in_range Cells (number_or 1 4_000_000 4_000_000 (value_of Cells givens))
+  Ok (record { threshold = threshold; from = from; to = to; suffix = suffix; as_hermite3 = is_given AsHermite3 givens; sizes = None })
+
+-- these settings with the file of sizes that options name, where they name one
+unfoldable pub sized_of : Asked → List Given → Result Asked UsageFault
+sized_of asked givens = do
   sizes ← in_range Sizes (name_or (value_of Sizes givens))
-  Ok (record { threshold = threshold; from = from; to = to; suffix = suffix; cells = cells; as_hermite3 = is_given AsHermite3 givens; sizes = sizes })
-
--- the settings that options give
-abbrev pub settings_with : Option (List Given) → Result Asked UsageFault
-settings_with givens = if are_accepted givens then values_of (listed givens) else Err Words
-
--- the command, and a word that may be a directory
-abbrev pub is_screen : List ℕ → List ℕ → Bool
-is_screen command directory = bytes_eq command (codes "screen") && is_value directory
-
--- the settings of a command line: a command, a directory and options; or the fault that is found first
-unfoldable pub settings_of : List (List ℕ) → Result Asked UsageFault
-settings_of [] = Err Words
-settings_of (command ∷ []) = Err Words
-settings_of (command ∷ directory ∷ words) =
-    if is_screen command directory then settings_with (given_of words) else Err Words
+  Ok (record asked { sizes = sizes })

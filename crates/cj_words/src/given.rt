@@ -4,43 +4,66 @@ ghost use Rattle.std.specs.Option.{option_copied};
 ghost use Rattle.cj_words.specs.Options as spec;
 ghost use Rattle.cj_words.specs.Options.{given_of, listed};
 
+use crate::command::Verb;
 use crate::front::front_of;
 use crate::option::{Opt, option_name};
 use crate::settings::Word;
 
-/// Whether the words are options, each known and given at most once.
-pub fn are_options(words: &[Word]) -> bool
-    ensures { result ≡ spec.are_accepted (given_of words.now) }
+/// Whether the words are options, each one of the command and given at most once.
+#[tactic(auto, using(crate::proofs::FrontLemmas::known_listed))]
+pub fn are_options(words: &[Word], verb: Verb) -> bool
+    ensures { result ≡ spec.are_accepted verb (given_of words.now) }
 {
-    are_known(words) && are_single(words)
+    are_known(words, verb) && are_single(words)
 }
 
 fn are_single(words: &[Word]) -> bool
-    requires { IsTrue (spec.are_known (given_of words.now)) }
+    requires { IsTrue (spec.are_listed (given_of words.now)) }
     ensures { result ≡ spec.are_single (listed (given_of words.now)) }
+{
+    are_directory_single(words) && are_others_single(words)
+}
+
+/// Whether each option of the commands that read the files of a directory stands at most once.
+fn are_directory_single(words: &[Word]) -> bool
+    requires { IsTrue (spec.are_listed (given_of words.now)) }
+    ensures { result ≡ spec.are_directory_single (listed (given_of words.now)) }
 {
     is_single(words, Opt::Threshold)
         && is_single(words, Opt::From)
         && is_single(words, Opt::To)
         && is_single(words, Opt::Suffix)
-        && is_single(words, Opt::Cells)
         && is_single(words, Opt::AsHermite3)
         && is_single(words, Opt::Sizes)
 }
 
+/// Whether each other option does.
+fn are_others_single(words: &[Word]) -> bool
+    requires { IsTrue (spec.are_listed (given_of words.now)) }
+    ensures { result ≡ spec.are_others_single (listed (given_of words.now)) }
+{
+    is_single(words, Opt::Workers)
+        && is_single(words, Opt::Cert)
+        && is_single(words, Opt::Originator)
+        && is_single(words, Opt::Cells)
+        && is_single(words, Opt::Seed)
+        && is_single(words, Opt::Objects)
+        && is_single(words, Opt::Minutes)
+}
+
 fn is_single(words: &[Word], option: Opt) -> bool
-    requires { IsTrue (spec.are_known (given_of words.now)) }
+    requires { IsTrue (spec.are_listed (given_of words.now)) }
     ensures { result ≡ spec.is_single option (listed (given_of words.now)) }
 {
     count_of(words, option) <= 1
 }
 
-fn are_known(words: &[Word]) -> bool
-    ensures { result ≡ spec.are_known (given_of words.now) }
+fn are_known(words: &[Word], verb: Verb) -> bool
+    ensures { result ≡ spec.are_known verb (given_of words.now) }
 {
     let mut rest = words;
     while let Some(front) = front_of(rest) {
-        if !is_known(front.name) {
+        if !is_known(front.name, verb) {
             return false;
         }
         rest = front.rest;
@@ -48,28 +71,58 @@ fn are_known(words: &[Word]) -> bool
     rest.is_empty()
 }
 
-fn is_known(name: &[u8]) -> bool
-    ensures { result ≡ spec.is_name name.now }
+fn is_known(name: &[u8], verb: Verb) -> bool
+    ensures { result ≡ spec.is_name verb name.now }
+{
+    match verb {
+        Verb::Screen => {
+            is_of_directory(name)
+                || name == option_name(Opt::Workers)
+                || name == option_name(Opt::Originator)
+                || name == option_name(Opt::Cells)
+        }
+        Verb::Check => is_of_directory(name) || name == option_name(Opt::Cert),
+        Verb::Generate => is_of_catalogue(name),
+        Verb::Selfrun => {
+            name == option_name(Opt::Threshold)
+                || name == option_name(Opt::Workers)
+                || name == option_name(Opt::Cells)
+                || is_of_catalogue(name)
+        }
+    }
+}
+
+/// Whether it is an option of each command that reads the files of a directory.
+fn is_of_directory(name: &[u8]) -> bool
+    ensures { result ≡ spec.is_directory_name name.now }
 {
     name == option_name(Opt::Threshold)
         || name == option_name(Opt::From)
         || name == option_name(Opt::To)
         || name == option_name(Opt::Suffix)
-        || name == option_name(Opt::Cells)
         || name == option_name(Opt::AsHermite3)
         || name == option_name(Opt::Sizes)
 }
 
+/// Whether it is an option of each command that makes up a catalogue.
+fn is_of_catalogue(name: &[u8]) -> bool
+    ensures { result ≡ spec.is_catalogue_name name.now }
+{
+    name == option_name(Opt::Seed)
+        || name == option_name(Opt::Objects)
+        || name == option_name(Opt::Minutes)
+}
+
 /// Whether the option stands.
 pub fn is_given(words: &[Word], option: Opt) -> bool
-    requires { IsTrue (spec.are_known (given_of words.now)) }
+    requires { IsTrue (spec.are_listed (given_of words.now)) }
     ensures { result ≡ spec.is_given option (listed (given_of words.now)) }
 {
     1 <= count_of(words, option)
 }
 
 fn count_of(words: &[Word], option: Opt) -> usize
-    requires { IsTrue (spec.are_known (given_of words.now)) }
+    requires { IsTrue (spec.are_listed (given_of words.now)) }
     ensures { result ≡ spec.count_of option (listed (given_of words.now)) }
 {
     let mut count = 0;
@@ -85,7 +138,7 @@ fn count_of(words: &[Word], option: Opt) -> usize
 
 /// The value of an option, where it stands.
 pub fn value_of(words: &[Word], option: Opt) -> Option<&[u8]>
-    requires { IsTrue (spec.are_known (given_of words.now)) }
+    requires { IsTrue (spec.are_listed (given_of words.now)) }
     ensures { option_copied result ≡ spec.value_of option (listed (given_of words.now)) }
 {
     let mut rest = words;

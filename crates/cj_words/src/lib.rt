@@ -1,15 +1,20 @@
-//! The words of a command line, and the settings that they ask for.
+//! The words of a command line, and the command that they ask for.
 #![tactic(auto)]
 
+mod command;
+mod commands;
 mod digits;
 mod front;
 mod given;
+mod numbers;
 mod option;
 mod reading;
 mod settings;
+mod texts;
 
+pub use command::{Checking, Command, Recipe, Screening, Trial};
+pub use commands::read_command;
 pub use option::{Opt, UsageFault, option_name};
-pub use reading::read_settings;
 pub use settings::{Settings, Word};
 
 #[cfg(test)]

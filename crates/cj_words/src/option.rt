@@ -6,14 +6,26 @@ ghost use Rattle.cj_words.specs.Options.{name_of};
 pub enum Opt {
     /// The greatest miss distance that is reported, in metres.
     Threshold,
+    /// How many workers share the work.
+    Workers,
     /// The first tick of the window.
     From,
     /// The last tick of the window.
     To,
     /// What the names of the files that are taken end with.
     Suffix,
+    /// The file of the certificate that is checked.
+    Cert,
+    /// Who makes the messages.
+    Originator,
     /// The greatest number of leaves.
     Cells,
+    /// What a made-up catalogue is drawn from.
+    Seed,
+    /// How many objects it has.
+    Objects,
+    /// How many minutes it covers.
+    Minutes,
     /// Whether a file that does not declare the cubic is taken as if it did; a flag.
     AsHermite3,
     /// The file of the sizes of objects.
@@ -35,10 +47,16 @@ pub fn option_name(option: Opt) -> &'static [u8]
 {
     match option {
         Opt::Threshold => b"--threshold",
+        Opt::Workers => b"--workers",
         Opt::From => b"--from",
         Opt::To => b"--to",
         Opt::Suffix => b"--suffix",
+        Opt::Cert => b"--cert",
+        Opt::Originator => b"--originator",
         Opt::Cells => b"--cells",
+        Opt::Seed => b"--seed",
+        Opt::Objects => b"--objects",
+        Opt::Minutes => b"--minutes",
         Opt::AsHermite3 => b"--as-hermite3",
         Opt::Sizes => b"--sizes",
     }

@@ -1,65 +1,39 @@
-//! From the words of a command line to its settings.
-ghost use Rattle.std.specs.Prelude.{◌≡◌, ◌≤◌, IsTrue, Option, Some, None, IfSome, option_map};
-ghost use Rattle.std.specs.List.{list_all};
+//! From options to the settings over the files of a directory.
+ghost use Rattle.std.specs.Prelude.{◌≡◌, ◌≤◌, IsTrue, Option, Some, None, IfOk, option_map};
 ghost use Rattle.std.specs.Option.{option_copied};
 ghost use Rattle.cj_words.specs.Options as options;
 ghost use Rattle.cj_words.specs.Options.{given_of, listed};
 ghost use Rattle.cj_words.specs.Settings as spec;
-ghost use Rattle.cj_words.specs.Settings.{micros_of, said};
+ghost use Rattle.cj_words.specs.Settings.{asked_of, micros_of, said};
 
-use crate::digits::read_number;
-use crate::front::is_value;
-use crate::given::{are_options, is_given, value_of};
+use crate::given::{is_given, value_of};
+use crate::numbers::{number_or, out_of_range};
 use crate::option::{Opt, UsageFault};
 use crate::settings::{Settings, Word};
+use crate::texts::{file_text_or, name_or};
 use cj_epoch::{Tick, read_epoch};
 
-/// Reads the words of a command line, without the program's name.
-///
-/// # Errors
-///
-/// `Words` where they are not of the grammar, else `Value` with the first option whose value is out of its range, in the order
-/// of `Opt`.
-#[tactic(auto, unfolding(crate::specs::Settings::settings_of))]
-pub fn read_settings(words: &[Word]) -> Result<Settings<'_>, UsageFault>
-    ensures { said result ≡ spec.settings_of words.now }
+/// The greatest miss distance that is reported, in metres.
+pub fn threshold_of(words: &[Word]) -> Result<u64, UsageFault>
+    requires { IsTrue (options.are_listed (given_of words.now)) }
+    ensures value { result ≡ spec.threshold_of (listed (given_of words.now)) }
+    ensures some { IfOk result (λ n. 1 ≤ n) }
+    ensures most { IfOk result (λ n. n ≤ 1_000_000) }
 {
-    match words {
-        [command, directory, options @ ..] => {
-            if is_screen(command.as_slice(), directory.as_slice()) {
-                settings_with(options)
-            } else {
-                Err(UsageFault::Words)
-            }
-        }
-        _ => Err(UsageFault::Words),
+    match number_or(value_of(words, Opt::Threshold), 1, 1_000_000, 5000) {
+        Some(threshold) => Ok(threshold),
+        None => Err(out_of_range(Opt::Threshold)),
     }
 }
 
-fn is_screen(command: &[u8], directory: &[u8]) -> bool
-    ensures { result ≡ spec.is_screen command.now directory.now }
+/// The settings with this threshold but for the file of sizes, which stands behind the other options.
+#[tactic(auto, unfolding(crate::specs::Settings::unsized_of))]
+pub fn unsized_of(words: &[Word], threshold: u64) -> Result<Settings<'_>, UsageFault>
+    requires listed { IsTrue (options.are_listed (given_of words.now)) }
+    requires some { 1 ≤ threshold }
+    requires most { threshold ≤ 1_000_000 }
+    ensures { said asked_of result ≡ spec.unsized_of threshold (listed (given_of words.now)) }
 {
-    command == b"screen".as_slice() && is_value(directory)
-}
-
-fn settings_with(words: &[Word]) -> Result<Settings<'_>, UsageFault>
-    ensures { said result ≡ spec.settings_with (given_of words.now) }
-{
-    if are_options(words) {
-        values_of(words)
-    } else {
-        Err(UsageFault::Words)
-    }
-}
-
-#[tactic(auto, unfolding(crate::specs::Settings::values_of))]
-fn values_of(words: &[Word]) -> Result<Settings<'_>, UsageFault>
-    requires { IsTrue (options.are_known (given_of words.now)) }
-    ensures { said result ≡ spec.values_of (listed (given_of words.now)) }
-{
-    let Some(threshold) = number_or(value_of(words, Opt::Threshold), 1_000_000, 5000) else {
-        return Err(out_of_range(Opt::Threshold));
-    };
     let Some(from) = epoch_or(value_of(words, Opt::From)) else {
         return Err(out_of_range(Opt::From));
     };
@@ -72,52 +46,30 @@ fn values_of(words: &[Word]) -> Result<Settings<'_>, UsageFault>
     let Some(suffix) = file_text_or(value_of(words, Opt::Suffix), 20, b".oem") else {
         return Err(out_of_range(Opt::Suffix));
     };
-    let Some(cells) = number_or(value_of(words, Opt::Cells), 4_000_000, 4_000_000) else {
-        return Err(out_of_range(Opt::Cells));
-    };
-    let Some(sizes) = name_or(value_of(words, Opt::Sizes)) else {
-        return Err(out_of_range(Opt::Sizes));
-    };
     Ok(Settings {
         threshold,
         from,
         to,
         suffix,
-        cells,
         as_hermite3: is_given(words, Opt::AsHermite3),
-        sizes,
+        sizes: None,
     })
 }
 
-fn out_of_range(option: Opt) -> UsageFault
-    ensures { result ≡ UsageFault.Value option }
+/// These settings with the file of sizes that the options name, where they name one.
+#[tactic(auto, unfolding(crate::specs::Settings::sized_of))]
+pub fn sized_of<'w>(
+    mut settings: Settings<'w>,
+    words: &'w [Word],
+) -> Result<Settings<'w>, UsageFault>
+    requires { IsTrue (options.are_listed (given_of words.now)) }
+    ensures { said asked_of result ≡ spec.sized_of (asked_of settings.entry) (listed (given_of words.now)) }
 {
-    UsageFault::Value { option }
-}
-
-/// The number that a value says, from 1 up to the greatest, or the one that stands for a value that is left out.
-fn number_or(value: Option<&[u8]>, greatest: u64, left_out: u64) -> Option<u64>
-    requires some { 1 ≤ left_out }
-    requires most { left_out ≤ greatest }
-    ensures value { result ≡ spec.number_or 1 greatest left_out (option_copied value.entry) }
-    ensures some { IfSome result (λ n. 1 ≤ n) }
-    ensures most { IfSome result (λ n. n ≤ greatest) }
-{
-    match value {
-        None => Some(left_out),
-        Some(text) => number_in(text, greatest),
-    }
-}
-
-fn number_in(text: &[u8], greatest: u64) -> Option<u64>
-    ensures value { result ≡ spec.number_in 1 greatest text.now }
-    ensures some { IfSome result (λ n. 1 ≤ n) }
-    ensures most { IfSome result (λ n. n ≤ greatest) }
-{
-    match read_number(text) {
-        Some(number) if 1 <= number && number <= u128::from(greatest) => Some(number as u64),
-        _ => None,
-    }
+    let Some(sizes) = name_or(value_of(words, Opt::Sizes)) else {
+        return Err(out_of_range(Opt::Sizes));
+    };
+    settings.sizes = sizes;
+    Ok(settings)
 }
 
 /// The tick that a value says, none where it is left out.
@@ -140,39 +92,4 @@ fn are_in_order(from: Option<Tick>, to: Option<Tick>) -> bool
         (Some(from), Some(to)) => from.micros <= to.micros,
         _ => true,
     }
-}
-
-/// The text that a value says, of bytes that may stand in the name of a file and at most so many, or the one that stands for a value
-/// that is left out.
-fn file_text_or<'w>(value: Option<&'w [u8]>, longest: usize, left_out: &'w [u8]) -> Option<&'w [u8]>
-    ensures { option_copied result ≡ spec.file_text_or longest left_out.now (option_copied value.entry) }
-{
-    match value {
-        None => Some(left_out),
-        Some(text) if is_file_text(text, longest) => Some(text),
-        Some(_) => None,
-    }
-}
-
-/// The name of a file that a value says, none where it is left out.
-fn name_or(value: Option<&[u8]>) -> Option<Option<&[u8]>>
-    ensures { option_map (λ name. option_copied name) result ≡ spec.name_or (option_copied value.entry) }
-{
-    match value {
-        None => Some(None),
-        Some(text) if is_file_text(text, 200) => Some(Some(text)),
-        Some(_) => None,
-    }
-}
-
-fn is_file_text(text: &[u8], longest: usize) -> bool
-    ensures { result ≡ spec.is_file_text longest text.now }
-{
-    1 <= text.len() && text.len() <= longest && are_file_bytes(text)
-}
-
-fn are_file_bytes(text: &[u8]) -> bool
-    ensures { result ≡ list_all spec.is_file_byte text.now }
-{
-    text.iter().all(|b| 33 <= *b && *b <= 126 && *b != b'/')
 }

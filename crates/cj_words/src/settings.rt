@@ -7,7 +7,7 @@ use cj_kvn::Text;
 /// A word of the command line.
 pub type Word = Text;
 
-/// What a command line asks for. The suffix and the name of the file of sizes are lent by the words.
+/// What a command line asks for of the files of a directory. The suffix and the name of the file of sizes are lent by the words.
 #[derive(Clone, Copy, Debug, PartialEq, Eq)]
 pub struct Settings<'w> {
     /// The greatest miss distance that is reported, in metres, from 1 to 1,000,000.
@@ -18,14 +18,10 @@ pub struct Settings<'w> {
     pub to: Option<Tick>,
     /// What the names of the files that are taken end with: 1 to 20 bytes from 33 to 126, none of them `/`.
     pub suffix: &'w [u8],
-    /// The greatest number of leaves, from 1 to 4,000,000.
-    pub cells: u64,
     /// Whether a file that does not declare the cubic is taken as if it did.
     pub as_hermite3: bool,
     /// The name of the file of sizes, where it is given: 1 to 200 such bytes. Without it no object has a size.
     pub sizes: Option<&'w [u8]>,
     pub ghost some: { 1 ≤ threshold },
     pub ghost most: { threshold ≤ 1_000_000 },
-    pub ghost some_cells: { 1 ≤ cells },
-    pub ghost most_cells: { cells ≤ 4_000_000 },
 }

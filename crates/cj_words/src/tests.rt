@@ -1,4 +1,8 @@
-use crate::{Opt, Settings, UsageFault, Word, option_name, read_settings};
+use crate::{
+    Checking, Command, Opt, Recipe, Screening, Settings, Trial, UsageFault, Word, option_name,
+    read_command,
+};
+use cj_epoch::{Tick, read_epoch};
 use cj_kvn::Text;
 use std::alloc::{AllocError, Global};
 use std::test::Fail;
@@ -15,7 +19,12 @@ fn words(alloc: Global, line: &str) -> Result<Vec<Word>, AllocError> {
 /// What is wrong with a command line, where anything is.
 fn fault(alloc: Global, line: &str) -> Result<Option<UsageFault>, AllocError> {
     let words = words(alloc, line)?;
-    Ok(read_settings(&words).err())
+    Ok(read_command(&words).err())
+}
+
+/// The tick that an epoch says.
+fn tick(text: &[u8]) -> Tick {
+    read_epoch(text).unwrap_or(Tick::FIRST)
 }
 
 /// A command line, and what is wrong with it.
@@ -34,7 +43,10 @@ fn first_wrong(alloc: Global, cases: &[Case]) -> Result<Option<usize>, AllocErro
 /// Whether a command line asks for files whose names end with this suffix.
 fn asks_for(alloc: Global, line: &str, suffix: &[u8]) -> Result<bool, AllocError> {
     let words = words(alloc, line)?;
-    Ok(read_settings(&words).is_ok_and(|settings| settings.suffix == suffix))
+    match read_command(&words) {
+        Ok(Command::Screen(screening)) => Ok(screening.settings.suffix == suffix),
+        _ => Ok(false),
+    }
 }
 
 const WORDS: Option<UsageFault> = Some(UsageFault::Words);
@@ -55,36 +67,118 @@ const BAD_CELLS: Option<UsageFault> = Some(UsageFault::Value { option: Opt::Cell
 
 const BAD_SIZES: Option<UsageFault> = Some(UsageFault::Value { option: Opt::Sizes });
 
+const BAD_WORKERS: Option<UsageFault> = Some(UsageFault::Value {
+    option: Opt::Workers,
+});
+
+const BAD_CERT: Option<UsageFault> = Some(UsageFault::Value { option: Opt::Cert });
+
+const BAD_ORIGINATOR: Option<UsageFault> = Some(UsageFault::Value {
+    option: Opt::Originator,
+});
+
+const BAD_SEED: Option<UsageFault> = Some(UsageFault::Value { option: Opt::Seed });
+
+const BAD_OBJECTS: Option<UsageFault> = Some(UsageFault::Value {
+    option: Opt::Objects,
+});
+
+const BAD_MINUTES: Option<UsageFault> = Some(UsageFault::Value {
+    option: Opt::Minutes,
+});
+
+/// The settings where all options are left out.
+const USUAL: Settings = Settings {
+    threshold: 5000,
+    from: None,
+    to: None,
+    suffix: b".oem",
+    as_hermite3: false,
+    sizes: None,
+};
+
+const USUAL_RECIPE: Recipe = Recipe {
+    seed: 1,
+    objects: 50,
+    minutes: 120,
+};
+
 #[test]
 fn what_is_left_out(rt: HostRuntime) -> Result<(), Fail> {
-    let words = words(rt.alloc(), "screen .")?;
-    let expected = Settings {
-        threshold: 5000,
-        from: None,
-        to: None,
-        suffix: b".oem",
-        cells: 4_000_000,
-        as_hermite3: false,
-        sizes: None,
-    };
-    assert_eq!(rt; read_settings(&words), Ok(expected));
+    let cases = [
+        (
+            "screen .",
+            Command::Screen(Screening {
+                settings: USUAL,
+                workers: 1,
+                originator: b"CONJ",
+                cells: 4_000_000,
+            }),
+        ),
+        (
+            "check .",
+            Command::Check(Checking {
+                settings: USUAL,
+                certificate: b"screen.cert",
+            }),
+        ),
+        ("generate .", Command::Generate(USUAL_RECIPE)),
+        (
+            "selfrun",
+            Command::Selfrun(Trial {
+                threshold: 5000,
+                workers: 1,
+                cells: 4_000_000,
+                recipe: USUAL_RECIPE,
+            }),
+        ),
+    ];
+    for (line, expected) in cases {
+        let words = words(rt.alloc(), line)?;
+        assert_eq!(rt; read_command(&words), Ok(expected), "{line}");
+    }
     Ok(())
 }
 
 #[test]
-fn all_that_can_be_asked_in_any_order(rt: HostRuntime) -> Result<(), Fail> {
-    let line = "screen . --cells 9 --sizes r.txt --as-hermite3 --suffix .txt --threshold=7";
+fn all_that_can_be_asked_of_a_screening(rt: HostRuntime) -> Result<(), Fail> {
+    let line = "screen . --cells 9 --sizes r.txt --originator=MY_site-1 --workers 16 --as-hermite3 \
+        --to 2025-01-01T00:00:01 --from=2025-001T00:00:00Z --suffix .txt --threshold=7";
     let words = words(rt.alloc(), line)?;
-    let expected = Settings {
-        threshold: 7,
-        from: None,
-        to: None,
-        suffix: b".txt",
+    let screening = Screening {
+        settings: Settings {
+            threshold: 7,
+            from: Some(tick(b"2025-01-01T00:00:00")),
+            to: Some(tick(b"2025-01-01T00:00:01")),
+            suffix: b".txt",
+            as_hermite3: true,
+            sizes: Some(b"r.txt"),
+        },
+        workers: 16,
+        originator: b"MY_site-1",
         cells: 9,
-        as_hermite3: true,
-        sizes: Some(b"r.txt"),
     };
-    assert_eq!(rt; read_settings(&words), Ok(expected));
+    assert_eq!(rt; read_command(&words), Ok(Command::Screen(screening)));
+    Ok(())
+}
+
+#[test]
+fn all_that_can_be_asked_of_a_check(rt: HostRuntime) -> Result<(), Fail> {
+    let line =
+        "check . --sizes=r.txt --cert other.cert --suffix .txt --as-hermite3 --threshold 1000000";
+    let words = words(rt.alloc(), line)?;
+    let checking = Checking {
+        settings: Settings {
+            threshold: 1_000_000,
+            from: None,
+            to: None,
+            suffix: b".txt",
+            as_hermite3: true,
+            sizes: Some(b"r.txt"),
+        },
+        certificate: b"other.cert",
+    };
+    assert_eq!(rt; read_command(&words), Ok(Command::Check(checking)));
     Ok(())
 }
 
@@ -139,7 +233,7 @@ fn suffixes_that_are_not_taken(rt: HostRuntime) -> Result<(), Fail> {
 fn fault_of(alloc: Global, option: &str, value: &[u8]) -> Result<Option<UsageFault>, AllocError> {
     let mut words = words(alloc, option)?;
     words.push(Text::copy_of(alloc, value)?)?;
-    Ok(read_settings(&words).err())
+    Ok(read_command(&words).err())
 }
 
 #[test]
@@ -227,6 +321,11 @@ fn the_names_of_fault_lines(rt: HostRuntime) -> Result<(), Fail> {
     assert_eq!(rt; option_name(Opt::Suffix), b"--suffix".as_slice());
     assert_eq!(rt; option_name(Opt::AsHermite3), b"--as-hermite3".as_slice());
     assert_eq!(rt; option_name(Opt::Sizes), b"--sizes".as_slice());
+    assert_eq!(rt; option_name(Opt::Cert), b"--cert".as_slice());
+    assert_eq!(rt; option_name(Opt::Originator), b"--originator".as_slice());
+    assert_eq!(rt; option_name(Opt::Seed), b"--seed".as_slice());
+    assert_eq!(rt; option_name(Opt::Objects), b"--objects".as_slice());
+    assert_eq!(rt; option_name(Opt::Minutes), b"--minutes".as_slice());
     Ok(())
 }
 
@@ -260,5 +359,157 @@ fn a_file_of_sizes_is_named_by_two_hundred_bytes_at_most(rt: HostRuntime) -> Res
         let name = name_of(alloc, count)?;
         assert_eq!(rt; fault_of(alloc, "screen . --sizes", &name)?, expected);
     }
+    Ok(())
+}
+
+const TEXTS: [Case; 14] = [
+    ("check . --cert ~", None),
+    ("check . --cert=!", None),
+    ("check . --cert a/b", BAD_CERT),
+    ("check . --cert=", WORDS),
+    ("check . --cert é", BAD_CERT),
+    ("screen . --originator a", None),
+    ("screen . --originator=-", None),
+    ("screen . --originator _9Z", None),
+    ("screen . --originator a.b", BAD_ORIGINATOR),
+    ("screen . --originator=a=b", BAD_ORIGINATOR),
+    ("screen . --originator é", BAD_ORIGINATOR),
+    ("screen . --originator -", WORDS),
+    (
+        "screen . --originator abcdefghijabcdefghijabcdefghijabcdefghij",
+        None,
+    ),
+    (
+        "screen . --originator abcdefghijabcdefghijabcdefghijabcdefghijk",
+        BAD_ORIGINATOR,
+    ),
+];
+
+#[test]
+fn certificates_and_originators(rt: HostRuntime) -> Result<(), Fail> {
+    assert_eq!(rt; first_wrong(rt.alloc(), TEXTS.as_slice())?, None);
+    Ok(())
+}
+
+#[test]
+fn a_certificate_is_named_by_two_hundred_bytes_at_most(rt: HostRuntime) -> Result<(), Fail> {
+    let alloc = rt.alloc();
+    for (count, expected) in [(200, None), (201, BAD_CERT)] {
+        let name = name_of(alloc, count)?;
+        assert_eq!(rt; fault_of(alloc, "check . --cert", &name)?, expected);
+    }
+    assert_eq!(rt; fault_of(alloc, "check . --cert", b"a b")?, BAD_CERT);
+    Ok(())
+}
+
+#[test]
+fn what_a_catalogue_is_made_of(rt: HostRuntime) -> Result<(), Fail> {
+    let line = "generate . --minutes 1 --seed=18446744073709551615 --objects 02000";
+    let given = words(rt.alloc(), line)?;
+    let asked = Recipe {
+        seed: u64::MAX,
+        objects: 2000,
+        minutes: 1,
+    };
+    assert_eq!(rt; read_command(&given), Ok(Command::Generate(asked)));
+    Ok(())
+}
+
+#[test]
+fn how_a_catalogue_is_screened(rt: HostRuntime) -> Result<(), Fail> {
+    let words = words(
+        rt.alloc(),
+        "selfrun --cells 9 --minutes 1440 --threshold=7 --seed 0 --workers=4",
+    )?;
+    let recipe = Recipe {
+        seed: 0,
+        objects: 50,
+        minutes: 1440,
+    };
+    let trial = Trial {
+        threshold: 7,
+        workers: 4,
+        cells: 9,
+        recipe,
+    };
+    assert_eq!(rt; read_command(&words), Ok(Command::Selfrun(trial)));
+    Ok(())
+}
+
+const COMMANDS: [Case; 32] = [
+    ("screen . --cert x", WORDS),
+    ("screen . --seed 1", WORDS),
+    ("screen . --objects 1", WORDS),
+    ("screen . --minutes 1", WORDS),
+    ("check . --workers 1", WORDS),
+    ("generate . --workers 1", WORDS),
+    ("check . --originator x", WORDS),
+    ("check . --cells 1", WORDS),
+    ("check . --seed 1", WORDS),
+    ("check . --threshold 0", BAD_THRESHOLD),
+    ("check . --from x", BAD_FROM),
+    ("check . --to x", BAD_TO),
+    ("check . --suffix /", BAD_SUFFIX),
+    ("check . --sizes /", BAD_SIZES),
+    ("check . --cert x --cert x", WORDS),
+    ("check", WORDS),
+    ("check --cert x", WORDS),
+    ("generate . --threshold 5", WORDS),
+    ("generate . --cells 5", WORDS),
+    ("generate . --as-hermite3", WORDS),
+    ("generate . --sizes x", WORDS),
+    ("generate", WORDS),
+    ("generate --seed 1", WORDS),
+    ("generate .x --objects 1 --objects 2", WORDS),
+    ("selfrun .", WORDS),
+    ("selfrun --suffix .oem", WORDS),
+    ("selfrun --from 2025-01-01T00:00:00", WORDS),
+    ("selfrun --cert x", WORDS),
+    ("selfrun --originator x", WORDS),
+    ("generates .", WORDS),
+    ("Check .", WORDS),
+    ("", WORDS),
+];
+
+#[test]
+fn each_command_has_its_own_options(rt: HostRuntime) -> Result<(), Fail> {
+    assert_eq!(rt; first_wrong(rt.alloc(), COMMANDS.as_slice())?, None);
+    Ok(())
+}
+
+const RANGES: [Case; 27] = [
+    ("screen . --threshold 1000000", None),
+    ("screen . --threshold 1000001", BAD_THRESHOLD),
+    ("screen . --threshold 00000000000000000005", None),
+    ("screen . --threshold 000000000000000000005", BAD_THRESHOLD),
+    ("screen . --threshold=+5", BAD_THRESHOLD),
+    ("screen . --cells 4000001", BAD_CELLS),
+    ("screen . --workers 0", BAD_WORKERS),
+    ("screen . --workers 17", BAD_WORKERS),
+    ("selfrun --workers=x", BAD_WORKERS),
+    ("screen . --from x --workers 0", BAD_WORKERS),
+    ("screen . --threshold 0 --workers 0", BAD_THRESHOLD),
+    ("generate . --seed 18446744073709551616", BAD_SEED),
+    ("generate . --seed 99999999999999999999", BAD_SEED),
+    ("generate . --seed 000000000000000000001", BAD_SEED),
+    ("generate . --seed=-1", BAD_SEED),
+    ("generate . --objects 0", BAD_OBJECTS),
+    ("generate . --objects 2001", BAD_OBJECTS),
+    ("generate . --minutes 0", BAD_MINUTES),
+    ("generate . --minutes 1441", BAD_MINUTES),
+    ("generate . --minutes 1x", BAD_MINUTES),
+    // Of several wrong values that of the first option of the table, and the words before every value.
+    ("generate . --minutes 0 --objects 0", BAD_OBJECTS),
+    ("generate . --objects 0 --seed x", BAD_SEED),
+    ("selfrun --seed x --cells 0", BAD_CELLS),
+    ("selfrun --cells 0 --threshold 0", BAD_THRESHOLD),
+    ("selfrun --seed x --sizes y", WORDS),
+    ("check . --sizes / --cert /", BAD_CERT),
+    ("screen . --cells 0 --originator .", BAD_ORIGINATOR),
+];
+
+#[test]
+fn the_ranges_of_values_and_their_order(rt: HostRuntime) -> Result<(), Fail> {
+    assert_eq!(rt; first_wrong(rt.alloc(), RANGES.as_slice())?, None);
     Ok(())
 }

@@ -1,11 +1,11 @@
 use Rattle.std.proofs.Common.{◌≡◌, length}
 use Rattle.std.specs.Prelude.{IsTrue}
-use Rattle.cj_words.specs.Options.{given_of, listed, are_known, value_of}
+use Rattle.cj_words.specs.Options.{given_of, listed, are_listed, value_of}
 use Rattle.cj_words.proofs.given.value_of.Given as goal
 
 abbrev pub invariant-loop-front : goal.invariant-loop-front
 invariant-loop-front l = record {
-  known : IsTrue (are_known (given_of l.rest));
+  known : IsTrue (are_listed (given_of l.rest));
   same : value_of l.option (listed (given_of l.rest)) ≡ value_of l.option (listed (given_of l.words));
 }
 

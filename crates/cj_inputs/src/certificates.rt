@@ -1,0 +1,74 @@
+//! From the files of a folder to a certificate and the problem for which it is to be checked.
+ghost use Rattle.std.specs.Prelude.{◌≡◌, ◌<◌, ◌≤◌, ◌^◌, List, Some, Err, IfErr, IfOk, length};
+ghost use Rattle.cj_io.specs.Faults.{Rose};
+ghost use Rattle.cj_io.specs.Files.{names_of};
+ghost use Rattle.cj_io.specs.declared.file.FileBytes.{FileBytes};
+ghost use Rattle.cj_words.specs.Commands.{plain_checking};
+ghost use Rattle.cj_inputs.specs.CheckInputs as spec;
+ghost use Rattle.cj_status.specs.Steps.{Gives, ComesBetween};
+
+use crate::check_inputs::CheckInputs;
+use crate::object_sizes::first_named;
+use crate::preparing::prepare_listed;
+use crate::reading::read_within;
+use cj_io::{Folder, Name};
+use cj_status::{CertificateCause, Status};
+use cj_words::Checking;
+use std::alloc::Global;
+
+/// The greatest number of bytes of a certificate.
+const MAX_BYTES: u64 = 1_073_741_824;
+
+/// Prepares the problem that the settings ask for, and then reads the first file with the certificate's name.
+#[tactic(auto, unfolding(crate::specs::CheckInputs::inputs_asked))]
+pub fn prepare_check<F: Folder>(
+    alloc: Global,
+    folder: &mut F,
+    checking: &Checking,
+) -> Result<CheckInputs, Status>
+    ensures between { IfErr result ComesBetween }
+    ensures read { result ≡ Err Status.ReadFault → Rose (F.faults folder.old) (F.faults folder.new) }
+    ensures told { (files : List FileBytes) → F.files folder.old ≡ Some files
+        → Gives (Rose (F.faults folder.old) (F.faults folder.new)) spec.plain_inputs result (spec.inputs_asked files (plain_checking checking.now)) }
+    ensures small { IfOk result (λ inputs. length inputs.certificate.items ≤ 1_073_741_824) }
+
+    ensures files { F.files folder.new ≡ F.files folder.old }
+    ensures later { F.faults folder.old ≤ F.faults folder.new }
+{
+    let names = folder.names(alloc)?;
+    let problem = prepare_listed(alloc, folder, &names, &checking.settings)?;
+    let certificate = read_certificate(alloc, folder, &names, checking.certificate)?;
+    Ok(CheckInputs {
+        problem,
+        certificate,
+    })
+}
+
+/// The bytes of the first file with the certificate's name. These are the names of the folder.
+#[tactic(auto, unfolding(crate::specs::CheckInputs::certificate_named))]
+fn read_certificate<F: Folder>(
+    alloc: Global,
+    folder: &mut F,
+    names: &[Name],
+    certificate: &[u8],
+) -> Result<Vec<u8>, Status>
+    requires many { length names.now < 2 ^ 32 }
+    requires count { F.count folder.old ≡ length names.now }
+
+    ensures between { IfErr result ComesBetween }
+    ensures read { result ≡ Err Status.ReadFault → Rose (F.faults folder.old) (F.faults folder.new) }
+    ensures told { (files : List FileBytes) → F.files folder.old ≡ Some files → names.now ≡ names_of files
+        → Gives (Rose (F.faults folder.old) (F.faults folder.new)) (λ bytes. bytes.items) result (spec.certificate_named files certificate.now) }
+    ensures small { IfOk result (λ bytes. length bytes.items ≤ 1_073_741_824) }
+
+    ensures files { F.files folder.new ≡ F.files folder.old }
+    ensures later { F.faults folder.old ≤ F.faults folder.new }
+{
+    match first_named(names, certificate) {
+        Some(number) => Ok(read_within(alloc, folder, number, certificate, MAX_BYTES)?),
+        None => Err(Status::NotAccepted {
+            line: 0,
+            cause: CertificateCause::NoFile,
+        }),
+    }
+}

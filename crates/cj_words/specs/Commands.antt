@@ -1,0 +1,154 @@
+-- The commands of the program, and what the words of a command line ask for.
+use Rattle.std.specs.Prelude.{ℕ, ◌-◌, ◌^◌, if◌then◌else◌, List, [], ◌∷◌, Option, Some, None, Result, Ok, Err, codes}
+use Rattle.std.specs.Str.{bytes_eq}
+use Rattle.cj_words.specs.declared.command.Checking as kept_checking
+use Rattle.cj_words.specs.declared.command.Command.{Command}
+use Rattle.cj_words.specs.declared.command.Command.TheVariants as commands
+use Rattle.cj_words.specs.declared.command.Recipe as kept_recipe
+use Rattle.cj_words.specs.declared.command.Screening as kept_screening
+use Rattle.cj_words.specs.declared.command.Trial as kept_trial
+use Rattle.cj_words.specs.declared.command.Verb.{Verb}
+use Rattle.cj_words.specs.declared.command.Verb.TheVariants.{Screen, Check, Generate, Selfrun}
+use Rattle.cj_words.specs.declared.option.Opt.TheVariants.{Workers, Cert, Originator, Cells, Seed, Objects, Minutes}
+use Rattle.cj_words.specs.declared.option.UsageFault.{UsageFault}
+use Rattle.cj_words.specs.declared.option.UsageFault.TheVariants.{Words}
+use Rattle.cj_words.specs.Options.{Given, given_of, is_value, are_accepted, listed, value_of}
+use Rattle.cj_words.specs.Settings.{◌>>=◌, Asked, asked_of, file_text_or, in_range, number_or, originator_or, sized_of, threshold_of, unsized_of}
+
+-- how files are screened: how many workers share the work, who makes the messages, the greatest number of leaves
+pub record Screening : Type 0 where
+  pub settings : Asked
+  pub workers : ℕ
+  pub originator : List ℕ
+  pub cells : ℕ
+
+-- what is checked against files: the certificate in the file with this name
+pub record Checking : Type 0 where
+  pub settings : Asked
+  pub certificate : List ℕ
+
+-- how a catalogue is made up: what it is drawn from, how many objects it has, how many minutes it covers
+pub record Recipe : Type 0 where
+  pub seed : ℕ
+  pub objects : ℕ
+  pub minutes : ℕ
+
+-- how such a catalogue is screened: the threshold in metres, how many workers share the work, the greatest number of leaves
+pub record Trial : Type 0 where
+  pub threshold : ℕ
+  pub workers : ℕ
+  pub cells : ℕ
+  pub recipe : Recipe
+
+-- what a command line asks for: files are screened, a certificate is checked, a catalogue is written, or one is screened
+pub data Asking : Type 0 where
+  Screens : Screening → Asking
+  Checks : Checking → Asking
+  Generates : Recipe → Asking
+  Tries : Trial → Asking
+
+-- ---- what a command says
+
+abbrev pub plain_screening : kept_screening.Screening → Screening
+plain_screening s = record { settings = asked_of s.settings; workers = s.workers; originator = s.originator.now; cells = s.cells }
+
+abbrev pub plain_checking : kept_checking.Checking → Checking
+plain_checking c = record { settings = asked_of c.settings; certificate = c.certificate.now }
+
+abbrev pub plain_recipe : kept_recipe.Recipe → Recipe
+plain_recipe r = record { seed = r.seed; objects = r.objects; minutes = r.minutes }
+
+abbrev pub plain_trial : kept_trial.Trial → Trial
+plain_trial t = record { threshold = t.threshold; workers = t.workers; cells = t.cells; recipe = plain_recipe t.recipe }
+
+abbrev pub plain_command : Command → Asking
+plain_command (commands.Screen screening) = Screens (plain_screening screening)
+plain_command (commands.Check checking) = Checks (plain_checking checking)
+plain_command (commands.Generate recipe) = Generates (plain_recipe recipe)
+plain_command (commands.Selfrun trial) = Tries (plain_trial trial)
+
+-- ---- what words ask for
+
+-- how many workers share the work
+abbrev pub workers_of : List Given → Result ℕ UsageFault
+workers_of givens = in_range Workers (number_or 1 16 1 (value_of Workers givens))
+
+-- the values of the options of a screening, or the first option whose value is out of its range
+unfoldable pub screening_of : List Given → Result Screening UsageFault
+screening_of givens = do
+  threshold ← threshold_of givens
+  workers ← workers_of givens
+  unsized ← unsized_of threshold givens
+  originator ← in_range Originator (originator_or (codes "CONJ") (value_of Originator givens))
+  cells ← in_range Cells (number_or 1 4_000_000 4_000_000 (value_of Cells givens))
+  settings ← sized_of unsized givens
+  Ok (record { settings = settings; workers = workers; originator = originator; cells = cells })
+
+-- the same of a check
+unfoldable pub checking_of : List Given → Result Checking UsageFault
+checking_of givens = do
+  threshold ← threshold_of givens
+  unsized ← unsized_of threshold givens
+  certificate ← in_range Cert (file_text_or 200 (codes "screen.cert") (value_of Cert givens))
+  settings ← sized_of unsized givens
+  Ok (record { settings = settings; certificate = certificate })
+
+-- the same of a catalogue
+unfoldable pub recipe_of : List Given → Result Recipe UsageFault
+recipe_of givens = do
+  seed ← in_range Seed (number_or 0 (2 ^ 64 - 1) 1 (value_of Seed givens))
+  objects ← in_range Objects (number_or 1 2000 50 (value_of Objects givens))
+  minutes ← in_range Minutes (number_or 1 1440 120 (value_of Minutes givens))
+  Ok (record { seed = seed; objects = objects; minutes = minutes })
+
+-- the same of a catalogue's screening
+unfoldable pub trial_of : List Given → Result Trial UsageFault
+trial_of givens = do
+  threshold ← threshold_of givens
+  workers ← workers_of givens
+  cells ← in_range Cells (number_or 1 4_000_000 4_000_000 (value_of Cells givens))
+  recipe ← recipe_of givens
+  Ok (record { threshold = threshold; workers = workers; cells = cells; recipe = recipe })
+
+-- what the options of a command ask for
+abbrev pub asking_of : Verb → List Given → Result Asking UsageFault
+asking_of Screen givens = screening_of givens >>= λ screening. Ok (Screens screening)
+asking_of Check givens = checking_of givens >>= λ checking. Ok (Checks checking)
+asking_of Generate givens = recipe_of givens >>= λ recipe. Ok (Generates recipe)
+asking_of Selfrun givens = trial_of givens >>= λ trial. Ok (Tries trial)
+
+-- the command that a word names
+abbrev pub verb_of : List ℕ → Option Verb
+verb_of word =
+    if bytes_eq word (codes "screen") then Some Screen
+    else if bytes_eq word (codes "check") then Some Check
+    else if bytes_eq word (codes "generate") then Some Generate
+    else if bytes_eq word (codes "selfrun") then Some Selfrun
+    else None
+
+-- the words behind a directory, none where no word is one
+abbrev pub behind_directory : List (List ℕ) → Option (List (List ℕ))
+behind_directory [] = None
+behind_directory (directory ∷ words) = if is_value directory then Some words else None
+
+-- the words behind the directory, where the command has one
+abbrev pub options_behind : Verb → List (List ℕ) → Option (List (List ℕ))
+options_behind Screen words = behind_directory words
+options_behind Check words = behind_directory words
+options_behind Generate words = behind_directory words
+options_behind Selfrun words = Some words
+
+-- what words ask for that are to be the options of a command
+abbrev pub asked_with : Verb → Option (List (List ℕ)) → Result Asking UsageFault
+asked_with verb None = Err Words
+asked_with verb (Some words) = if are_accepted verb (given_of words) then asking_of verb (listed (given_of words)) else Err Words
+
+-- what the words behind a command ask for
+abbrev pub asked_behind : Option Verb → List (List ℕ) → Result Asking UsageFault
+asked_behind None words = Err Words
+asked_behind (Some verb) words = asked_with verb (options_behind verb words)
+
+-- what a command line asks for: a command, a directory where the command has one, and options; or the fault that is found first
+unfoldable pub command_of : List (List ℕ) → Result Asking UsageFault
+command_of [] = Err Words
+command_of (word ∷ words) = asked_behind (verb_of word) words

@@ -1,0 +1,82 @@
+ghost use Rattle.std.specs.Prelude.{◌≤◌};
+
+use crate::settings::Settings;
+
+/// The command that the first word of a command line names.
+#[derive(Clone, Copy, Debug, PartialEq, Eq)]
+pub enum Verb {
+    Screen,
+    Check,
+    Generate,
+    Selfrun,
+}
+
+/// What a command line asks for.
+#[derive(Clone, Copy, Debug, PartialEq, Eq)]
+pub enum Command<'w> {
+    /// The files of a directory are screened.
+    Screen(Screening<'w>),
+    /// The certificate in a directory is checked against its files.
+    Check(Checking<'w>),
+    /// A made-up catalogue is written into a directory.
+    Generate(Recipe),
+    /// A made-up catalogue is screened.
+    Selfrun(Trial),
+}
+
+/// How the files of a directory are screened. The originator is lent by the words.
+#[derive(Clone, Copy, Debug, PartialEq, Eq)]
+pub struct Screening<'w> {
+    pub settings: Settings<'w>,
+    /// How many workers share the work, from 1 to 16.
+    pub workers: u32,
+    /// Who makes the messages: 1 to 40 letters, digits, `_` or `-`.
+    pub originator: &'w [u8],
+    /// The greatest number of leaves, from 1 to 4,000,000.
+    pub cells: u64,
+    pub ghost some_workers: { 1 ≤ workers },
+    pub ghost most_workers: { workers ≤ 16 },
+    pub ghost some_cells: { 1 ≤ cells },
+    pub ghost most_cells: { cells ≤ 4_000_000 },
+}
+
+/// Which certificate is checked against the files of a directory. Its name is lent by the words.
+#[derive(Clone, Copy, Debug, PartialEq, Eq)]
+pub struct Checking<'w> {
+    pub settings: Settings<'w>,
+    /// The name of the certificate's file: 1 to 200 bytes from 33 to 126, none of them `/`.
+    pub certificate: &'w [u8],
+}
+
+/// How a catalogue is made up.
+#[derive(Clone, Copy, Debug, PartialEq, Eq)]
+pub struct Recipe {
+    /// What its objects are drawn from.
+    pub seed: u64,
+    /// How many objects it has, from 1 to 2,000.
+    pub objects: u32,
+    /// How many minutes it covers, from 1 to 1,440.
+    pub minutes: u32,
+    pub ghost some_objects: { 1 ≤ objects },
+    pub ghost most_objects: { objects ≤ 2000 },
+    pub ghost some_minutes: { 1 ≤ minutes },
+    pub ghost most_minutes: { minutes ≤ 1440 },
+}
+
+/// How a made-up catalogue is screened.
+#[derive(Clone, Copy, Debug, PartialEq, Eq)]
+pub struct Trial {
+    /// The greatest miss distance that is reported, in metres, from 1 to 1,000,000.
+    pub threshold: u64,
+    /// How many workers share the work, from 1 to 16.
+    pub workers: u32,
+    /// The greatest number of leaves, from 1 to 4,000,000.
+    pub cells: u64,
+    pub recipe: Recipe,
+    pub ghost some_workers: { 1 ≤ workers },
+    pub ghost most_workers: { workers ≤ 16 },
+    pub ghost some: { 1 ≤ threshold },
+    pub ghost most: { threshold ≤ 1_000_000 },
+    pub ghost some_cells: { 1 ≤ cells },
+    pub ghost most_cells: { cells ≤ 4_000_000 },
+}

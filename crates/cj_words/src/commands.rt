@@ -1,0 +1,188 @@
+//! From the words of a command line to its command.
+ghost use Rattle.std.specs.Prelude.{◌≡◌, ◌≤◌, IfOk, IsTrue};
+ghost use Rattle.std.specs.Option.{option_copied};
+ghost use Rattle.cj_words.specs.Commands as spec;
+ghost use Rattle.cj_words.specs.Commands.{plain_checking, plain_command, plain_recipe, plain_screening, plain_trial};
+ghost use Rattle.cj_words.specs.Options as options;
+ghost use Rattle.cj_words.specs.Options.{given_of, listed};
+ghost use Rattle.cj_words.specs.Settings.{said};
+
+use crate::command::{Checking, Command, Recipe, Screening, Trial, Verb};
+use crate::front::is_value;
+use crate::given::{are_options, value_of};
+use crate::numbers::{number_or, out_of_range};
+use crate::option::{Opt, UsageFault};
+use crate::reading::{sized_of, threshold_of, unsized_of};
+use crate::settings::Word;
+use crate::texts::{file_text_or, originator_or};
+
+/// Reads the words of a command line, without the program's name.
+///
+/// # Errors
+///
+/// `Words` where they are not of the grammar of a command, else `Value` with the first option whose value is out of its range,
+/// in the order of `Opt`.
+#[tactic(auto, unfolding(crate::specs::Commands::command_of))]
+pub fn read_command(words: &[Word]) -> Result<Command<'_>, UsageFault>
+    ensures { said plain_command result ≡ spec.command_of words.now }
+{
+    let [word, rest @ ..] = words else {
+        return Err(UsageFault::Words);
+    };
+    match verb_of(word.as_slice()) {
+        Some(verb) => command_behind(rest, verb),
+        None => Err(UsageFault::Words),
+    }
+}
+
+/// The command that a word names.
+fn verb_of(word: &[u8]) -> Option<Verb>
+    ensures { result ≡ spec.verb_of word.now }
+{
+    if word == b"screen".as_slice() {
+        Some(Verb::Screen)
+    } else if word == b"check".as_slice() {
+        Some(Verb::Check)
+    } else if word == b"generate".as_slice() {
+        Some(Verb::Generate)
+    } else if word == b"selfrun".as_slice() {
+        Some(Verb::Selfrun)
+    } else {
+        None
+    }
+}
+
+/// What the words behind a command ask for.
+#[tactic(auto, using(crate::proofs::FrontLemmas::accepted_listed))]
+fn command_behind(words: &[Word], verb: Verb) -> Result<Command<'_>, UsageFault>
+    ensures { said plain_command result ≡ spec.asked_with verb (spec.options_behind verb words.now) }
+{
+    match options_behind(words, verb) {
+        Some(options) if are_options(options, verb) => command_of(options, verb),
+        _ => Err(UsageFault::Words),
+    }
+}
+
+/// The words behind the directory, where the command has one.
+fn options_behind(words: &[Word], verb: Verb) -> Option<&[Word]>
+    ensures { option_copied result ≡ spec.options_behind verb words.now }
+{
+    match verb {
+        Verb::Screen | Verb::Check | Verb::Generate => behind_directory(words),
+        Verb::Selfrun => Some(words),
+    }
+}
+
+fn behind_directory(words: &[Word]) -> Option<&[Word]>
+    ensures { option_copied result ≡ spec.behind_directory words.now }
+{
+    match words {
+        [directory, options @ ..] if is_value(directory.as_slice()) => Some(options),
+        _ => None,
+    }
+}
+
+fn command_of(words: &[Word], verb: Verb) -> Result<Command<'_>, UsageFault>
+    requires { IsTrue (options.are_listed (given_of words.now)) }
+    ensures { said plain_command result ≡ spec.asking_of verb (listed (given_of words.now)) }
+{
+    match verb {
+        Verb::Screen => Ok(Command::Screen(screening_of(words)?)),
+        Verb::Check => Ok(Command::Check(checking_of(words)?)),
+        Verb::Generate => Ok(Command::Generate(recipe_of(words)?)),
+        Verb::Selfrun => Ok(Command::Selfrun(trial_of(words)?)),
+    }
+}
+
+/// How many workers share the work.
+fn workers_of(words: &[Word]) -> Result<u32, UsageFault>
+    requires { IsTrue (options.are_listed (given_of words.now)) }
+    ensures value { result ≡ spec.workers_of (listed (given_of words.now)) }
+    ensures some { IfOk result (λ n. 1 ≤ n) }
+    ensures most { IfOk result (λ n. n ≤ 16) }
+{
+    match number_or(value_of(words, Opt::Workers), 1, 16, 1) {
+        Some(workers) => Ok(workers as u32),
+        None => Err(out_of_range(Opt::Workers)),
+    }
+}
+
+#[tactic(auto, unfolding(crate::specs::Commands::screening_of))]
+fn screening_of(words: &[Word]) -> Result<Screening<'_>, UsageFault>
+    requires { IsTrue (options.are_listed (given_of words.now)) }
+    ensures { said plain_screening result ≡ spec.screening_of (listed (given_of words.now)) }
+{
+    let threshold = threshold_of(words)?;
+    let workers = workers_of(words)?;
+    let unsized_settings = unsized_of(words, threshold)?;
+    let Some(originator) = originator_or(value_of(words, Opt::Originator), b"CONJ") else {
+        return Err(out_of_range(Opt::Originator));
+    };
+    let Some(cells) = number_or(value_of(words, Opt::Cells), 1, 4_000_000, 4_000_000) else {
+        return Err(out_of_range(Opt::Cells));
+    };
+    let settings = sized_of(unsized_settings, words)?;
+    Ok(Screening {
+        settings,
+        workers,
+        originator,
+        cells,
+    })
+}
+
+#[tactic(auto, unfolding(crate::specs::Commands::checking_of))]
+fn checking_of(words: &[Word]) -> Result<Checking<'_>, UsageFault>
+    requires { IsTrue (options.are_listed (given_of words.now)) }
+    ensures { said plain_checking result ≡ spec.checking_of (listed (given_of words.now)) }
+{
+    let threshold = threshold_of(words)?;
+    let unsized_settings = unsized_of(words, threshold)?;
+    let Some(certificate) = file_text_or(value_of(words, Opt::Cert), 200, b"screen.cert") else {
+        return Err(out_of_range(Opt::Cert));
+    };
+    let settings = sized_of(unsized_settings, words)?;
+    Ok(Checking {
+        settings,
+        certificate,
+    })
+}
+
+#[tactic(auto, unfolding(crate::specs::Commands::recipe_of))]
+fn recipe_of(words: &[Word]) -> Result<Recipe, UsageFault>
+    requires { IsTrue (options.are_listed (given_of words.now)) }
+    ensures { said plain_recipe result ≡ spec.recipe_of (listed (given_of words.now)) }
+{
+    let Some(seed) = number_or(value_of(words, Opt::Seed), 0, u64::MAX, 1) else {
+        return Err(out_of_range(Opt::Seed));
+    };
+    let Some(objects) = number_or(value_of(words, Opt::Objects), 1, 2000, 50) else {
+        return Err(out_of_range(Opt::Objects));
+    };
+    let Some(minutes) = number_or(value_of(words, Opt::Minutes), 1, 1440, 120) else {
+        return Err(out_of_range(Opt::Minutes));
+    };
+    Ok(Recipe {
+        seed,
+        objects: objects as u32,
+        minutes: minutes as u32,
+    })
+}
+
+#[tactic(auto, unfolding(crate::specs::Commands::trial_of))]
+fn trial_of(words: &[Word]) -> Result<Trial, UsageFault>
+    requires { IsTrue (options.are_listed (given_of words.now)) }
+    ensures { said plain_trial result ≡ spec.trial_of (listed (given_of words.now)) }
+{
+    let threshold = threshold_of(words)?;
+    let workers = workers_of(words)?;
+    let Some(cells) = number_or(value_of(words, Opt::Cells), 1, 4_000_000, 4_000_000) else {
+        return Err(out_of_range(Opt::Cells));
+    };
+    let recipe = recipe_of(words)?;
+    Ok(Trial {
+        threshold,
+        workers,
+        cells,
+        recipe,
+    })
+}

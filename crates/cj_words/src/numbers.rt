@@ -1,0 +1,41 @@
+//! Numbers as values of options.
+ghost use Rattle.std.specs.Prelude.{◌≡◌, ◌≤◌, Option, IfSome};
+ghost use Rattle.std.specs.Option.{option_copied};
+ghost use Rattle.cj_words.specs.Settings as spec;
+
+use crate::digits::read_number;
+use crate::option::{Opt, UsageFault};
+
+/// What is wrong where the value of the option is out of its range.
+pub fn out_of_range(option: Opt) -> UsageFault
+    ensures { result ≡ UsageFault.Value option }
+{
+    UsageFault::Value { option }
+}
+
+/// The number that a value says, from the least up to the greatest, or the one that stands for a value that is left out.
+pub fn number_or(value: Option<&[u8]>, least: u64, greatest: u64, left_out: u64) -> Option<u64>
+    requires some { least ≤ left_out }
+    requires most { left_out ≤ greatest }
+    ensures value { result ≡ spec.number_or least greatest left_out (option_copied value.entry) }
+    ensures some { IfSome result (λ n. least ≤ n) }
+    ensures most { IfSome result (λ n. n ≤ greatest) }
+{
+    match value {
+        None => Some(left_out),
+        Some(text) => number_in(text, least, greatest),
+    }
+}
+
+fn number_in(text: &[u8], least: u64, greatest: u64) -> Option<u64>
+    ensures value { result ≡ spec.number_in least greatest text.now }
+    ensures some { IfSome result (λ n. least ≤ n) }
+    ensures most { IfSome result (λ n. n ≤ greatest) }
+{
+    match read_number(text) {
+        Some(number) if u128::from(least) <= number && number <= u128::from(greatest) => {
+            Some(number as u64)
+        }
+        _ => None,
+    }
+}

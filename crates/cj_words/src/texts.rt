@@ -1,0 +1,68 @@
+//! Texts as values of options: parts of the names of files, and who makes messages.
+ghost use Rattle.std.specs.Prelude.{◌≡◌, option_map};
+ghost use Rattle.std.specs.List.{list_all};
+ghost use Rattle.std.specs.Option.{option_copied};
+ghost use Rattle.cj_words.specs.Settings as spec;
+
+/// The text that a value says, of bytes that may stand in the name of a file and at most so many, or the one that stands for a value
+/// that is left out.
+pub fn file_text_or<'w>(
+    value: Option<&'w [u8]>,
+    longest: usize,
+    left_out: &'w [u8],
+) -> Option<&'w [u8]>
+    ensures { option_copied result ≡ spec.file_text_or longest left_out.now (option_copied value.entry) }
+{
+    match value {
+        None => Some(left_out),
+        Some(text) if is_file_text(text, longest) => Some(text),
+        Some(_) => None,
+    }
+}
+
+/// The name of a file that a value says, none where it is left out.
+pub fn name_or(value: Option<&[u8]>) -> Option<Option<&[u8]>>
+    ensures { option_map (λ name. option_copied name) result ≡ spec.name_or (option_copied value.entry) }
+{
+    match value {
+        None => Some(None),
+        Some(text) if is_file_text(text, 200) => Some(Some(text)),
+        Some(_) => None,
+    }
+}
+
+fn is_file_text(text: &[u8], longest: usize) -> bool
+    ensures { result ≡ spec.is_file_text longest text.now }
+{
+    1 <= text.len() && text.len() <= longest && are_file_bytes(text)
+}
+
+fn are_file_bytes(text: &[u8]) -> bool
+    ensures { result ≡ list_all spec.is_file_byte text.now }
+{
+    text.iter().all(|b| 33 <= *b && *b <= 126 && *b != b'/')
+}
+
+/// The originator that a value says, or the one that stands for a value that is left out.
+pub fn originator_or<'w>(value: Option<&'w [u8]>, left_out: &'w [u8]) -> Option<&'w [u8]>
+    ensures { option_copied result ≡ spec.originator_or left_out.now (option_copied value.entry) }
+{
+    match value {
+        None => Some(left_out),
+        Some(text) if is_originator(text) => Some(text),
+        Some(_) => None,
+    }
+}
+
+fn is_originator(text: &[u8]) -> bool
+    ensures { result ≡ spec.is_originator text.now }
+{
+    1 <= text.len() && text.len() <= 40 && are_originator_bytes(text)
+}
+
+fn are_originator_bytes(text: &[u8]) -> bool
+    ensures { result ≡ list_all spec.is_originator_byte text.now }
+{
+    text.iter()
+        .all(|b| b.is_ascii_alphanumeric() || *b == b'_' || *b == b'-')
+}
