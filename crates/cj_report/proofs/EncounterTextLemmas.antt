@@ -1,5 +1,5 @@
 -- The lines of an encounter, by what it says of itself and by its leaves.
-use Rattle.std.proofs.Common.{◌≡◌, ℕ, ◌+◌, ◌<◌, List, ◌++◌, length, map, take, get_or, Option, None, ap, sym, ◌∙◌, append_assoc, arith}
+use Rattle.std.proofs.Common.{◌≡◌, ℕ, Bool, false, ◌+◌, ◌<◌, List, ◌++◌, length, map, take, get_or, Option, None, ap, sym, ◌∙◌, append_assoc, arith}
 use Rattle.std.proofs.lemmas.List.{get_or-map, length-map}
 use Rattle.std.specs.Prelude.{flat_map, slice_range}
 use Rattle.cj_bezier.specs.declared.encounter.Encounter.{Encounter}
@@ -23,13 +23,13 @@ encounter_line-told ss e n words d =
     ap (λ m. encounter_line n (first_object (stretches_in ss e)) (second_object (stretches_in ss e)) m words) d.mark)
 
 -- the text after the first line of an encounter and after its spans
-pub encounter_written : (leaves : List Leaf) (e : Encounter) (closest : Closest) (n : ℕ) (old was now : List ℕ) → Describes (plain_leaves leaves) e →
-    was ≡ old ++ encounter_line n e.pair.a e.pair.b e.mark (approach_words (some_closest closest)) →
+pub encounter_written : (leaves : List Leaf) (e : Encounter) (closest : Closest) (has_message : Bool) (n : ℕ) (old was now : List ℕ) → Describes (plain_leaves leaves) e →
+    was ≡ old ++ encounter_line n e.pair.a e.pair.b e.mark (approach_words (some_closest closest) has_message) →
     now ≡ was ++ flat_map span_line (spans_of (plain_leaves (slice_range leaves e.leaf e.past))) →
-    now ≡ old ++ encounter_lines (λ _. some_closest closest) n (stretches_in (plain_leaves leaves) e)
-encounter_written leaves e closest n old was now d first spans =
+    now ≡ old ++ encounter_lines (λ _. some_closest closest) (λ _. has_message) n (stretches_in (plain_leaves leaves) e)
+encounter_written leaves e closest has_message n old was now d first spans =
     let group = stretches_in (plain_leaves leaves) e in
-    let words = approach_words (some_closest closest) in
+    let words = approach_words (some_closest closest) has_message in
     let heading = encounter_line n (first_object group) (second_object group) (mark_of group) words in
     spans ∙
     (ap (λ t. t ++ flat_map span_line (spans_of (plain_leaves (slice_range leaves e.leaf e.past)))) (first ∙ ap (λ t. old ++ t) (encounter_line-told (plain_leaves leaves) e n words d)) ∙
@@ -37,7 +37,7 @@ encounter_written leaves e closest n old was now d first spans =
     append_assoc old heading (flat_map span_line (spans_of group))))
 
 -- the closest approach at a place is the one that its encounter has
-approach_at : (approach : List PlainLeaf → Option PlainClosest) (ss : List PlainLeaf) (es : List Encounter) (xs : List Closest) (i : ℕ) (e : Encounter) (x : Closest) → i < length es → length xs ≡ length es →
+pub approach_at : (approach : List PlainLeaf → Option PlainClosest) (ss : List PlainLeaf) (es : List Encounter) (xs : List Closest) (i : ℕ) (e : Encounter) (x : Closest) → i < length es → length xs ≡ length es →
     e ≡ get_or es i e → x ≡ get_or xs i x → map some_closest xs ≡ map approach (groups_in ss es) → some_closest x ≡ approach (stretches_in ss e)
 approach_at approach ss es xs i e x lt same e_is x_is each =
     let none : Option PlainClosest = None in
@@ -48,13 +48,28 @@ approach_at approach ss es xs i e x lt same e_is x_is each =
     ∙ ap approach (get_or-map (stretches_in ss) es i e (stretches_in ss e) lt)
     ∙ ap (λ (y : Encounter). approach (stretches_in ss y)) (sym e_is)
 
+-- so is whether there is a message
+message_at : (has_message : List PlainLeaf → Bool) (ss : List PlainLeaf) (es : List Encounter) (bs : List Bool) (i : ℕ) (e : Encounter) → i < length es → e ≡ get_or es i e →
+    bs ≡ map has_message (groups_in ss es) → get_or bs i false ≡ has_message (stretches_in ss e)
+message_at has_message ss es bs i e lt e_is each =
+    ap (λ (ys : List Bool). get_or ys i false) each
+    ∙ get_or-map has_message (groups_in ss es) i (stretches_in ss e) false (omega (arith, length-map es (stretches_in ss), lt))
+    ∙ ap has_message (get_or-map (stretches_in ss) es i e (stretches_in ss e) lt)
+    ∙ ap (λ (y : Encounter). has_message (stretches_in ss y)) (sym e_is)
+
 -- the text after the encounters before place i, and then after that one
-pub encounters_step : (approach : List PlainLeaf → Option PlainClosest) (ss : List PlainLeaf) (es : List Encounter) (xs : List Closest) (i : ℕ) (e : Encounter) (x : Closest) (old was now : List ℕ) →
-    i < length es → length xs ≡ length es → e ≡ get_or es i e → x ≡ get_or xs i x → map some_closest xs ≡ map approach (groups_in ss es) →
-    was ≡ old ++ numbered (encounter_lines approach) 1 (groups_in ss (take i es)) → now ≡ was ++ encounter_lines (λ _. some_closest x) (i + 1) (stretches_in ss e) →
-    now ≡ old ++ numbered (encounter_lines approach) 1 (groups_in ss (take (i + 1) es))
-encounters_step approach ss es xs i e x old was now lt same e_is x_is each before step =
-    let here = approach_at approach ss es xs i e x lt same e_is x_is each in
-    let told : now ≡ was ++ encounter_lines approach (i + 1) (stretches_in ss e) =
-    step ∙ ap (λ (a : Option PlainClosest). was ++ (encounter_line (i + 1) (first_object (stretches_in ss e)) (second_object (stretches_in ss e)) (mark_of (stretches_in ss e)) (approach_words a) ++ flat_map span_line (spans_of (stretches_in ss e)))) here in
-    numbered_step (encounter_lines approach) (stretches_in ss) es i e old was now lt e_is before told
+pub encounters_step : (approach : List PlainLeaf → Option PlainClosest) (has_message : List PlainLeaf → Bool) (ss : List PlainLeaf) (es : List Encounter) (xs : List Closest) (bs : List Bool)
+    (i : ℕ) (e : Encounter) (x : Closest) (old was now : List ℕ) → i < length es → length xs ≡ length es → e ≡ get_or es i e → x ≡ get_or xs i x →
+    map some_closest xs ≡ map approach (groups_in ss es) → bs ≡ map has_message (groups_in ss es) →
+    was ≡ old ++ numbered (encounter_lines approach has_message) 1 (groups_in ss (take i es)) →
+    now ≡ was ++ encounter_lines (λ _. some_closest x) (λ _. get_or bs i false) (i + 1) (stretches_in ss e) →
+    now ≡ old ++ numbered (encounter_lines approach has_message) 1 (groups_in ss (take (i + 1) es))
+encounters_step approach has_message ss es xs bs i e x old was now lt same e_is x_is each noted before step =
+    let group = stretches_in ss e in
+    let lines : Option PlainClosest → Bool → List ℕ =
+    λ a m. encounter_line (i + 1) (first_object group) (second_object group) (mark_of group) (approach_words a m) ++ flat_map span_line (spans_of group) in
+    let told : now ≡ was ++ encounter_lines approach has_message (i + 1) group =
+    step
+    ∙ ap (λ (a : Option PlainClosest). was ++ lines a (get_or bs i false)) (approach_at approach ss es xs i e x lt same e_is x_is each)
+    ∙ ap (λ (m : Bool). was ++ lines (approach group) m) (message_at has_message ss es bs i e lt e_is noted) in
+    numbered_step (encounter_lines approach has_message) (stretches_in ss) es i e old was now lt e_is before told

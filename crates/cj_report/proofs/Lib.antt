@@ -1,4 +1,4 @@
-mod EncounterTextLemmas
+pub mod EncounterTextLemmas
 mod LineLemmas
-mod NumberLemmas
+pub mod NumberLemmas
 mod RunLemmas

@@ -1,5 +1,5 @@
 -- The text of a report.
-use Rattle.std.specs.Prelude.{ℕ, ◌+◌, ◌-◌, Bool, if◌then◌else◌, List, [], ◌∷◌, ◌++◌, Option, Some, None, codes, decimal, flat_map, slice_get}
+use Rattle.std.specs.Prelude.{ℕ, ◌+◌, ◌-◌, Bool, true, false, if◌then◌else◌, List, [], ◌∷◌, ◌++◌, Option, Some, None, codes, decimal, flat_map, slice_get}
 use Rattle.std.specs.List.{join_with_byte}
 use Rattle.cj_bezier.specs.declared.kind.Kind.{Kind}
 use Rattle.cj_bezier.specs.declared.kind.Kind.TheVariants as kind
@@ -16,10 +16,10 @@ use Rattle.cj_track.specs.PlainTracks.{PlainTrack}
 abbrev pub line : List (List ℕ) → List ℕ
 line words = join_with_byte 32 words ++ 10 ∷ []
 
--- the texts of several things, which have the numbers from n on
-abbrev pub numbered : {A : Type 0} → (ℕ → A → List ℕ) → ℕ → List A → List ℕ
-numbered text n [] = []
-numbered text n (x ∷ xs) = text n x ++ numbered text (n + 1) xs
+-- what several things give, as texts, where they have the numbers from n on
+abbrev pub numbered : {A B : Type 0} → (ℕ → A → List B) → ℕ → List A → List B
+numbered given n [] = []
+numbered given n (x ∷ xs) = given n x ++ numbered given (n + 1) xs
 
 -- a size in nm, where it is told
 abbrev pub size_line : Option ℕ → List ℕ
@@ -47,11 +47,15 @@ kind_word kind.Far = codes "FAR"
 kind_word kind.Near = codes "NEAR"
 kind_word kind.Undecided = codes "UNDECIDED"
 
--- the time of the closest approach and the bound of the distance there in nm, where there is one, and what became of the message, which
--- is not told
-abbrev pub approach_words : Option PlainClosest → List (List ℕ)
-approach_words None = codes "-" ∷ codes "-" ∷ codes "-" ∷ []
-approach_words (Some closest) = epoch_of closest.tick ∷ decimal closest.high ∷ codes "-" ∷ []
+-- whether an encounter has a message, or there is none for want of a covariance
+abbrev pub message_word : Bool → List ℕ
+message_word true = codes "CDM"
+message_word false = codes "NOCOV"
+
+-- the time of the closest approach and the bound of the distance there in nm, where there is one, and whether there is a message
+abbrev pub approach_words : Option PlainClosest → Bool → List (List ℕ)
+approach_words None has_message = codes "-" ∷ codes "-" ∷ message_word has_message ∷ []
+approach_words (Some closest) has_message = epoch_of closest.tick ∷ decimal closest.high ∷ message_word has_message ∷ []
 
 -- a span with its first tick and its last
 abbrev pub span_line : PlainLeaf → List ℕ
@@ -62,10 +66,10 @@ abbrev pub encounter_line : ℕ → ℕ → ℕ → Mark → List (List ℕ) →
 encounter_line n a b mark approach =
     line (codes "ENCOUNTER" ∷ decimal n ∷ decimal (a + 1) ∷ decimal (b + 1) ∷ mark_word mark ∷ approach)
 
--- the encounter, with the closest approach that it has by this function, and its spans
-abbrev pub encounter_lines : (List PlainLeaf → Option PlainClosest) → ℕ → List PlainLeaf → List ℕ
-encounter_lines approach n encounter =
-    encounter_line n (first_object encounter) (second_object encounter) (mark_of encounter) (approach_words (approach encounter))
+-- the encounter, with the closest approach that it has by the one function and the message that it has by the other, and its spans
+abbrev pub encounter_lines : (List PlainLeaf → Option PlainClosest) → (List PlainLeaf → Bool) → ℕ → List PlainLeaf → List ℕ
+encounter_lines approach has_message n encounter =
+    encounter_line n (first_object encounter) (second_object encounter) (mark_of encounter) (approach_words (approach encounter) (has_message encounter))
     ++ flat_map span_line (spans_of encounter)
 
 -- the sizes that a report tells
@@ -73,12 +77,12 @@ abbrev pub told : Bool → List ℕ → List ℕ
 told with_sizes sizes = if with_sizes then sizes else []
 
 -- the report: its window from the first tick to the last, its threshold in nm, its objects, the sizes that are told, its encounters
--- with the closest approaches that they have by this function
-abbrev pub report_of : ℕ → ℕ → ℕ → List PlainTrack → List ℕ → (List PlainLeaf → Option PlainClosest) → List (List PlainLeaf) → List ℕ
-report_of first last threshold objects sizes approach encounters =
+-- with the closest approaches that they have by the one function and the messages that they have by the other
+abbrev pub report_of : ℕ → ℕ → ℕ → List PlainTrack → List ℕ → (List PlainLeaf → Option PlainClosest) → (List PlainLeaf → Bool) → List (List PlainLeaf) → List ℕ
+report_of first last threshold objects sizes approach has_message encounters =
     line (codes "CONJ-REPORT" ∷ codes "1" ∷ [])
     ++ line (codes "WINDOW" ∷ epoch_of first ∷ epoch_of last ∷ [])
     ++ line (codes "THRESHOLD" ∷ decimal threshold ∷ [])
     ++ numbered (object_lines sizes) 1 objects
-    ++ numbered (encounter_lines approach) 1 encounters
+    ++ numbered (encounter_lines approach has_message) 1 encounters
     ++ line (codes "END" ∷ [])

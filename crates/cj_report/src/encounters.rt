@@ -1,4 +1,4 @@
-ghost use Rattle.std.specs.Prelude.{◌≡◌, ◌+◌, ◌++◌, List, Option, length, map, flat_map, All, OnOk};
+ghost use Rattle.std.specs.Prelude.{◌≡◌, ◌+◌, ◌++◌, Bool, List, Option, length, map, flat_map, All, OnOk};
 ghost use Rattle.cj_bezier.specs.Leaves.{PlainLeaf, plain_leaves};
 ghost use Rattle.cj_meet.specs.Closest.{PlainClosest, some_closest};
 ghost use Rattle.cj_meet.specs.Encounters.{Describes, groups_in, stretches_in};
@@ -14,21 +14,32 @@ use cj_epoch::epoch_text;
 use itoa::Buffer;
 use std::alloc::AllocError;
 
-/// Adds the lines of all encounters of the leaves, each with its closest approach.
+/// Adds the lines of all encounters of the leaves, each with its closest approach and whether it has a message.
 pub(crate) fn push_encounters(
     text: &mut Vec<u8>,
     leaves: &[Leaf],
     encounters: &[Encounter],
     approaches: &[Closest],
+    messages: &[bool],
 ) -> Result<(), AllocError>
     requires described { All (Describes (plain_leaves leaves.now)) encounters.now }
     requires one_each { length approaches.now ≡ length encounters.now }
-    // By whatever function these are their closest approaches.
-    ensures { OnOk result ((approach : List PlainLeaf → Option PlainClosest) → map some_closest approaches.now ≡ map approach (groups_in (plain_leaves leaves.now) encounters.now)
-        → text.new.items ≡ text.old.items ++ numbered (encounter_lines approach) 1 (groups_in (plain_leaves leaves.now) encounters.now)) }
+    requires each_noted { length messages.now ≡ length encounters.now }
+    // By whatever functions these are their closest approaches and say whether there is a message.
+    ensures { OnOk result ((approach : List PlainLeaf → Option PlainClosest) (has_message : List PlainLeaf → Bool)
+        → map some_closest approaches.now ≡ map approach (groups_in (plain_leaves leaves.now) encounters.now)
+        → messages.now ≡ map has_message (groups_in (plain_leaves leaves.now) encounters.now)
+        → text.new.items ≡ text.old.items ++ numbered (encounter_lines approach has_message) 1 (groups_in (plain_leaves leaves.now) encounters.now)) }
 {
     for (place, encounter) in encounters.iter().enumerate() {
-        push_encounter(text, place + 1, leaves, encounter, &approaches[place])?;
+        push_encounter(
+            text,
+            place + 1,
+            leaves,
+            encounter,
+            &approaches[place],
+            messages[place],
+        )?;
     }
     Ok(())
 }
@@ -39,12 +50,13 @@ fn push_encounter(
     leaves: &[Leaf],
     encounter: &Encounter,
     closest: &Closest,
+    has_message: bool,
 ) -> Result<(), AllocError>
     requires { Describes (plain_leaves leaves.now) encounter.now }
     ensures { OnOk result (text.new.items ≡ text.old.items
-        ++ encounter_lines (λ _. some_closest closest.now) number (stretches_in (plain_leaves leaves.now) encounter.now)) }
+        ++ encounter_lines (λ _. some_closest closest.now) (λ _. has_message) number (stretches_in (plain_leaves leaves.now) encounter.now)) }
 {
-    push_heading(text, number, encounter, closest)?;
+    push_heading(text, number, encounter, closest, has_message)?;
     push_spans(
         text,
         &leaves[encounter.leaf as usize..encounter.past as usize],
@@ -57,9 +69,10 @@ fn push_heading(
     number: usize,
     encounter: &Encounter,
     closest: &Closest,
+    has_message: bool,
 ) -> Result<(), AllocError>
     ensures { OnOk result (text.new.items ≡ text.old.items
-        ++ encounter_line number encounter.now.pair.a encounter.now.pair.b encounter.now.mark (approach_words (some_closest closest.now))) }
+        ++ encounter_line number encounter.now.pair.a encounter.now.pair.b encounter.now.mark (approach_words (some_closest closest.now) has_message)) }
 {
     push_line(
         text,
@@ -75,7 +88,7 @@ fn push_heading(
             mark_word(encounter.mark),
             &epoch_text(closest.tick),
             Buffer::new().format(closest.high).as_bytes(),
-            b"-",
+            message_word(has_message),
         ],
     )
 }
@@ -110,6 +123,12 @@ fn push_span(text: &mut Vec<u8>, span: &SpanLine) -> Result<(), AllocError>
             &epoch_text(span.last),
         ],
     )
+}
+
+fn message_word(has_message: bool) -> &'static [u8]
+    ensures { result.now ≡ spec.message_word has_message }
+{
+    if has_message { b"CDM" } else { b"NOCOV" }
 }
 
 fn mark_word(mark: Mark) -> &'static [u8]

@@ -1,4 +1,4 @@
-ghost use Rattle.std.specs.Prelude.{◌≡◌, List, Option, length, map, All, IfOk};
+ghost use Rattle.std.specs.Prelude.{◌≡◌, Bool, List, Option, length, map, All, IfOk};
 ghost use Rattle.cj_bezier.specs.Leaves.{PlainLeaf, plain_leaves};
 ghost use Rattle.cj_meet.specs.Closest.{PlainClosest, some_closest};
 ghost use Rattle.cj_meet.specs.Encounters.{Describes, groups_in};
@@ -15,7 +15,7 @@ use itoa::Buffer;
 use std::alloc::{AllocError, Global};
 
 /// The report of a problem: its window, its threshold in nm, its objects, with their sizes where these are told, and the encounters
-/// of its leaves, each with its closest approach.
+/// of its leaves, each with its closest approach and whether it has a message.
 pub fn report_text(
     alloc: Global,
     problem: &Problem,
@@ -23,13 +23,17 @@ pub fn report_text(
     leaves: &[Leaf],
     encounters: &[Encounter],
     approaches: &[Closest],
+    messages: &[bool],
 ) -> Result<Vec<u8>, AllocError>
     requires described { All (Describes (plain_leaves leaves.now)) encounters.now }
     requires one_each { length approaches.now ≡ length encounters.now }
-    // By whatever function these are the closest approaches.
-    ensures { let case = plain_problem problem.now in IfOk result (λ text. (approach : List PlainLeaf → Option PlainClosest)
+    requires each_noted { length messages.now ≡ length encounters.now }
+    // By whatever functions these are the closest approaches and say whether there is a message.
+    ensures { let case = plain_problem problem.now in IfOk result (λ text. (approach : List PlainLeaf → Option PlainClosest) (has_message : List PlainLeaf → Bool)
         → map some_closest approaches.now ≡ map approach (groups_in (plain_leaves leaves.now) encounters.now)
-        → text.items ≡ report_of case.first case.last case.threshold case.ephemerides (told with_sizes case.sizes) approach (groups_in (plain_leaves leaves.now) encounters.now)) }
+        → messages.now ≡ map has_message (groups_in (plain_leaves leaves.now) encounters.now)
+        → text.items ≡ report_of case.first case.last case.threshold case.ephemerides (told with_sizes case.sizes) approach has_message
+        (groups_in (plain_leaves leaves.now) encounters.now)) }
 {
     let mut text = Vec::with_capacity(alloc, usual_length(problem, encounters))?;
     push_line(&mut text, b"CONJ-REPORT", &[b"1"])?;
@@ -48,7 +52,7 @@ pub fn report_text(
     )?;
     let sizes = sizes_told(problem, with_sizes);
     push_objects(&mut text, problem.tracks.as_slice(), sizes)?;
-    push_encounters(&mut text, leaves, encounters, approaches)?;
+    push_encounters(&mut text, leaves, encounters, approaches, messages)?;
     push_line(&mut text, b"END", &[])?;
     Ok(text)
 }

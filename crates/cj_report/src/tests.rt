@@ -27,7 +27,7 @@ OBJECT 2
 FILE b.oem
 ID 2025-001A
 NAME SAT A
-ENCOUNTER 1 1 2 NEAR 2025-01-01T00:00:30.000000 1000000000000 -
+ENCOUNTER 1 1 2 NEAR 2025-01-01T00:00:30.000000 1000000000000 NOCOV
 SPAN NEAR 2025-01-01T00:00:29.538120 2025-01-01T00:00:30.461880
 END
 ";
@@ -45,7 +45,7 @@ FILE b.oem
 ID 2025-001A
 NAME SAT A
 SIZE 0
-ENCOUNTER 1 1 2 NEAR 2025-01-01T00:00:30.000000 1000000000000 -
+ENCOUNTER 1 1 2 NEAR 2025-01-01T00:00:30.000000 1000000000000 CDM
 SPAN NEAR 2025-01-01T00:00:29.538120 2025-01-01T00:00:30.461880
 END
 ";
@@ -150,9 +150,25 @@ fn two_tracks_cross_at_one_kilometre(rt: HostRuntime) -> Result<(), Fail> {
         tick: tick(30_000_000),
         high: 1_000_000_000_000,
     }];
-    let text = report_text(rt.alloc(), &problem, false, &leaves, &found, &approaches)?;
+    let text = report_text(
+        rt.alloc(),
+        &problem,
+        false,
+        &leaves,
+        &found,
+        &approaches,
+        &[false],
+    )?;
     assert_eq!(rt; text.as_slice(), REPORT);
-    let text = report_text(rt.alloc(), &problem, true, &leaves, &found, &approaches)?;
+    let text = report_text(
+        rt.alloc(),
+        &problem,
+        true,
+        &leaves,
+        &found,
+        &approaches,
+        &[true],
+    )?;
     assert_eq!(rt; text.as_slice(), SIZED_REPORT);
     Ok(())
 }

@@ -1,9 +1,9 @@
 -- What the pieces that are due say.
-use Rattle.std.proofs.Common.{◌≡◌, ℕ, ◌+◌, ◌<◌, Option, map, List, [], ◌∷◌, Bool, true, false, Result, Ok, Err, refl, sym, ap, subst, ◌∙◌, length, cond, ◌≤◌, arith}
+use Rattle.std.proofs.Common.{◌≡◌, ℕ, ◌<◌, Option, map, List, Bool, true, false, Result, Ok, Err, refl, sym, ap, subst, ◌∙◌, length, ◌≤◌, arith}
 use Rattle.std.specs.Prelude.{nat_le, All, IfOk, OnOk}
 use Rattle.std.proofs.lemmas.Bool.Decides.{nat_tests}
 use Rattle.cj_io.specs.declared.file.FileBytes.{FileBytes}
-use Rattle.cj_words.specs.Settings.{Asked, settings_of}
+use Rattle.cj_words.specs.Settings.{Asked}
 use Rattle.cj_hermite.specs.PlainProblems.{PlainProblem}
 use Rattle.cj_bezier.specs.declared.encounter.Closest.{Closest}
 use Rattle.cj_bezier.specs.declared.encounter.Encounter.{Encounter}
@@ -19,33 +19,34 @@ use Rattle.cj_screen.specs.declared.findings.Findings.{Findings}
 use Rattle.cj_status.specs.declared.status.Status.{Status}
 use Rattle.cj_status.specs.Steps.{Stops}
 use Rattle.cj_screen.specs.Errors.{refined_status}
+use Rattle.cj_screen.specs.Messages.{PlainOrigin, has_message}
 use Rattle.cj_inputs.specs.Cases.{case_asked}
 use Rattle.cj_screen.specs.Outcome.{cert_bytes, encounters_in, pieces_with, pieces_within, report_bytes, tells_sizes}
 use Rattle.cj_screen.specs.Findings.{AreFound, case_in, cert_in, report_in}
 use Rattle.cj_screen.specs.Headline.{Certifies, Reports, SplitsTicks}
 
 -- the pieces of a case with few leaves
-pub due_of : (limit : ℕ) (with_sizes : Bool) (case : PlainProblem) → length (list_looked case) ≤ limit → pieces_within limit with_sizes case ≡ Ok (pieces_with with_sizes case (list_looked case))
+pub due_of : (limit : ℕ) (with_sizes : Bool) (origin : PlainOrigin) (case : PlainProblem) → length (list_looked case) ≤ limit →
+    pieces_within limit with_sizes origin case ≡ Ok (pieces_with with_sizes origin case (list_looked case))
 unfolding pieces_within
-due_of limit with_sizes case few = let small : nat_le (length (list_looked case)) limit ≡ true = grind (arith, nat_tests) in rw small refl
+due_of limit with_sizes origin case few = let small : nat_le (length (list_looked case)) limit ≡ true = grind (arith, nat_tests) in rw small refl
 
 -- a list of leaves that is not whole
-pub stops_refined : (limit : ℕ) (with_sizes : Bool) (case : PlainProblem) (e : RefineError) → (e ≡ refine.TooMany → limit < length (list_looked case)) → Stops ⊥ (refined_status limit e) (pieces_within limit with_sizes case)
+pub stops_refined : (limit : ℕ) (with_sizes : Bool) (origin : PlainOrigin) (case : PlainProblem) (e : RefineError) → (e ≡ refine.TooMany → limit < length (list_looked case)) →
+    Stops ⊥ (refined_status limit e) (pieces_within limit with_sizes origin case)
 unfolding pieces_within
-stops_refined limit with_sizes case refine.Memory many = tt
-stops_refined limit with_sizes case refine.TooMany many =
+stops_refined limit with_sizes origin case refine.Memory many = tt
+stops_refined limit with_sizes origin case refine.TooMany many =
     let more = many refl in
     let large : nat_le (length (list_looked case)) limit ≡ false = grind (arith, nat_tests) in
     rw large refl
 
 -- the report of findings is that of the case that was asked
-pub reports : (words : List (List ℕ)) (files : List FileBytes) (settings : Asked) (case : PlainProblem) → settings_of words ≡ Ok settings → case_asked files settings ≡ Ok case
+pub reports : (files : List FileBytes) (settings : Asked) (case : PlainProblem) → case_asked files settings ≡ Ok case
     → (r : Result Findings Status) → IfOk r (λ found. case_in found ≡ case) → IfOk r (λ found. found.with_sizes ≡ tells_sizes settings) → IfOk r AreFound → OnOk r (SplitsTicks case (encounters_in case))
     → OnOk r (Certifies case (cert_bytes case)) → OnOk r (All (HasNearest case) (encounters_in case))
-    → IfOk r (λ found. Reports words files (report_in found).bytes (cert_in found).bytes)
-reports words files settings case asked read (Ok found) same tells are split certified nearest = record {
-  settings = settings;
-  asked = asked;
+    → IfOk r (λ found. Reports settings files (report_in found).bytes (cert_in found).bytes)
+reports files settings case read (Ok found) same tells are split certified nearest = record {
   case = case;
   read = read;
   text = ap (report_bytes found.with_sizes (case_in found)) are.leaves ∙ ap (λ (c : PlainProblem). report_bytes found.with_sizes c (list_looked c)) same
@@ -54,18 +55,22 @@ reports words files settings case asked read (Ok found) same tells are split cer
   certified = subst (λ (c : PlainProblem). Certifies case (cert_bytes c)) (sym same) certified;
   nearest = nearest;
 }
-reports words files settings case asked read (Err s) same tells are split certified nearest = tt
+reports files settings case read (Err s) same tells are split certified nearest = tt
 
 -- the text that is made of findings is their report
-pub report_is : (found : Findings) (leaves : List Leaf) (es : List Encounter) (xs : List Closest) (text : List ℕ) → AreFound found → leaves ≡ found.leaves.items → es ≡ found.encounters.items → xs ≡ found.closest.items
-    → (let case = case_in found in (approach : List PlainLeaf → Option PlainClosest) → map some_closest xs ≡ map approach (groups_in (plain_leaves leaves) es)
-    → text ≡ report_of case.first case.last case.threshold case.ephemerides (told found.with_sizes case.sizes) approach (groups_in (plain_leaves leaves) es))
+pub report_is : (found : Findings) (leaves : List Leaf) (es : List Encounter) (xs : List Closest) (bs : List Bool) (text : List ℕ) → AreFound found →
+    leaves ≡ found.leaves.items → es ≡ found.encounters.items → xs ≡ found.closest.items → bs ≡ found.messages.items
+    → (let case = case_in found in (approach : List PlainLeaf → Option PlainClosest) (has : List PlainLeaf → Bool) → map some_closest xs ≡ map approach (groups_in (plain_leaves leaves) es)
+    → bs ≡ map has (groups_in (plain_leaves leaves) es)
+    → text ≡ report_of case.first case.last case.threshold case.ephemerides (told found.with_sizes case.sizes) approach has (groups_in (plain_leaves leaves) es))
     → text ≡ report_bytes found.with_sizes (case_in found) (plain_leaves found.leaves.items)
-report_is found leaves es xs text are p q r given =
+report_is found leaves es xs bs text are p q r b given =
     let case = case_in found in
     let groups : groups_in (plain_leaves leaves) es ≡ encounters_of (plain_leaves found.leaves.items) = (λ i. groups_in (plain_leaves (p i)) (q i)) ∙ are.encounters.groups in
     let each = ap (map some_closest) r ∙ are.closest ∙ sym (λ i. map (closest_of case) (groups_in (plain_leaves (p i)) (q i))) in
-    given (closest_of case) each ∙ ap (report_of case.first case.last case.threshold case.ephemerides (told found.with_sizes case.sizes) (closest_of case)) groups
+    let noted = b ∙ are.messages ∙ sym (λ i. map (has_message case) (groups_in (plain_leaves (p i)) (q i))) in
+    given (closest_of case) (has_message case) each noted
+    ∙ ap (report_of case.first case.last case.threshold case.ephemerides (told found.with_sizes case.sizes) (closest_of case) (has_message case)) groups
 
 -- the closest approaches of the encounters of the one-thread list say what they say of the distance
 pub nearest_in : (case : PlainProblem) (leaves : List Leaf) (es : List Encounter) → plain_leaves leaves ≡ list_looked case → groups_in (plain_leaves leaves) es ≡ encounters_of (plain_leaves leaves)

@@ -12,8 +12,9 @@ use Rattle.cj_cert.specs.Accepted.{Accepted}
 use Rattle.cj_cert.specs.Certificates.{PlainCertificate}
 use Rattle.cj_cert.specs.Splits.{AcceptedSplits}
 use Rattle.cj_cert.specs.Texts.{text_of}
-use Rattle.cj_words.specs.Settings.{Asked, settings_of}
+use Rattle.cj_words.specs.Settings.{Asked}
 use Rattle.cj_inputs.specs.Cases.{case_asked}
+use Rattle.cj_screen.specs.Messages.{has_message}
 use Rattle.cj_screen.specs.Outcome.{cert_piece, encounters_in, report_piece, tells_sizes}
 
 -- The spans of these encounters split the common ticks of every pair of objects a and b. A span holds common ticks only.
@@ -36,23 +37,23 @@ pub record Certifies (case : PlainProblem) (bytes : List ℕ) : Type 0 where
   pub accepted : Accepted case certificate
   pub implies : AcceptedSplits case
 
--- The first bytes are the report of the case that was asked, with the encounters of its one-thread list and the closest approach of each.
+-- The first bytes are the report of the case that was asked, with the encounters of its one-thread list, the closest approach of each
+-- and whether it has a message.
 -- Their spans split the common ticks of every pair. Each pair is within its bound at its closest approach, and at no tick of the encounter
 -- more than one millimetre nearer. The second bytes are an accepted certificate of the case.
-pub record Reports (words : List (List ℕ)) (files : List FileBytes) (bytes certificate : List ℕ) : Type 0 where
-  pub settings : Asked
-  pub asked : settings_of words ≡ Ok settings
+pub record Reports (settings : Asked) (files : List FileBytes) (bytes certificate : List ℕ) : Type 0 where
   pub case : PlainProblem
   pub read : case_asked files settings ≡ Ok case
-  pub text : bytes ≡ report_of case.first case.last case.threshold case.ephemerides (told (tells_sizes settings) case.sizes) (closest_of case) (encounters_in case)
+  pub text : bytes ≡ report_of case.first case.last case.threshold case.ephemerides (told (tells_sizes settings) case.sizes)
+      (closest_of case) (has_message case) (encounters_in case)
   pub split : SplitsTicks case (encounters_in case)
   pub nearest : All (HasNearest case) (encounters_in case)
   pub certified : Certifies case certificate
 
 -- The new pieces are such a report and such a certificate, followed by further pieces.
-pub record IsScreened (words : List (List ℕ)) (files old : List FileBytes) (new : Option (List FileBytes)) : Type 0 where
+pub record IsScreened (settings : Asked) (files old : List FileBytes) (new : Option (List FileBytes)) : Type 0 where
   pub bytes : List ℕ
   pub certificate : List ℕ
-  pub report : Reports words files bytes certificate
+  pub report : Reports settings files bytes certificate
   pub further : List FileBytes
   pub put : new ≡ Some (old ++ report_piece bytes ∷ cert_piece certificate ∷ further)

@@ -1,5 +1,9 @@
+pub mod Checks
 pub mod Errors
 pub mod Findings
 pub mod Headline
+pub mod Messages
+pub mod Origins
 pub mod Outcome
+pub mod Results
 pub mod Summaries

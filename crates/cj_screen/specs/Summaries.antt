@@ -11,6 +11,7 @@ use Rattle.cj_cells.specs.Lists.{splits_of}
 use Rattle.cj_candidates.specs.Counts.{looked_count}
 use Rattle.cj_meet.specs.Encounters.{encounters_of}
 use Rattle.cj_report.specs.Summary.{Tally}
+use Rattle.cj_screen.specs.Messages.{has_message}
 
 abbrev pub is_kind : Kind → Kind → Bool
 is_kind Far Far = true
@@ -48,5 +49,5 @@ tally_with case leaves = record {
   near = count_by (is_of Near) leaves;
   undecided = count_by (is_of Undecided) leaves;
   encounters = length (encounters_of leaves);
-  messages = 0;
+  messages = count_by (has_message case) (encounters_of leaves);
 }

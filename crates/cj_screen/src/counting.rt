@@ -1,5 +1,5 @@
 //! What the summary of a problem counts.
-ghost use Rattle.std.specs.Prelude.{◌≡◌, ◌+◌, ◌≤◌, length, count_by};
+ghost use Rattle.std.specs.Prelude.{◌≡◌, ◌+◌, ◌≤◌, length, map, count_by};
 ghost use Rattle.cj_bezier.specs.Leaves.{plain_leaves};
 ghost use Rattle.cj_candidates.specs.Counts.{looked_count};
 ghost use Rattle.cj_cells.specs.Lists.{splits_of};
@@ -9,6 +9,7 @@ ghost use Rattle.cj_hermite.specs.Pairs.{pairs_of};
 ghost use Rattle.cj_hermite.specs.Problems.{plain_problem};
 ghost use Rattle.cj_meet.specs.Encounters.{encounters_of};
 ghost use Rattle.cj_report.specs.Counts.{tally_of};
+ghost use Rattle.cj_screen.specs.Messages.{has_message};
 ghost use Rattle.cj_screen.specs.Summaries as spec;
 
 use cj_bezier::{Kind, Leaf};
@@ -23,11 +24,11 @@ pub struct CandidateCounts {
     pub roots: u64,
 }
 
-/// What the summary of a problem with these leaves counts.
+/// What the summary of a problem with these leaves counts, where each of their encounters has a message or not.
 pub fn count(
     problem: &Problem,
     leaves: &[Leaf],
-    encounters: u64,
+    messages: &[bool],
     candidates: CandidateCounts,
 ) -> Counts
     requires few { length leaves.now ≤ 4_000_000 }
@@ -35,7 +36,7 @@ pub fn count(
     requires touching { candidates.touching ≡ looked_count (plain_problem problem.now) }
     requires roots { candidates.roots ≡ length (roots_of (is_looked (plain_problem problem.now)) (plain_problem problem.now)) }
     requires splits { length leaves.now ≡ candidates.roots + splits_of (plain_problem problem.now) }
-    requires encounters { encounters ≡ length (encounters_of (plain_leaves leaves.now)) }
+    requires messages { messages.now ≡ map (has_message (plain_problem problem.now)) (encounters_of (plain_leaves leaves.now)) }
     ensures { tally_of result ≡ spec.tally_with (plain_problem problem.now) (plain_leaves leaves.now) }
 {
     let objects = problem.tracks.as_slice().len() as u64;
@@ -52,8 +53,8 @@ pub fn count(
         far: count_kind(leaves, Kind::Far),
         near: count_kind(leaves, Kind::Near),
         undecided: count_kind(leaves, Kind::Undecided),
-        encounters,
-        messages: 0,
+        encounters: messages.len() as u64,
+        messages: count_set(messages),
     }
 }
 
@@ -73,6 +74,19 @@ fn count_kind(leaves: &[Leaf], kind: Kind) -> u64
     let mut count = 0;
     for leaf in leaves {
         if leaf.kind == kind {
+            count += 1;
+        }
+    }
+    count
+}
+
+/// How many of these are true.
+fn count_set(flags: &[bool]) -> u64
+    ensures { result ≡ count_by (λ flag. flag) flags.now }
+{
+    let mut count = 0;
+    for flag in flags {
+        if *flag {
             count += 1;
         }
     }

@@ -20,6 +20,8 @@ pub struct Findings {
     pub encounters: Vec<Encounter>,
     /// The closest approach of each encounter.
     pub closest: Vec<Closest>,
+    /// Whether each encounter has a message.
+    pub messages: Vec<bool>,
     /// What the summary tells.
     pub counts: Counts,
 }

@@ -3,37 +3,36 @@ ghost use Rattle.std.specs.Prelude.{◌≡◌, ◌≤◌, List, [], ◌∷◌, S
 ghost use Rattle.cj_io.specs.Faults.{Rose};
 ghost use Rattle.cj_io.specs.declared.file.FileBytes.{FileBytes};
 ghost use Rattle.cj_screen.specs.Findings.{AreFound, cert_in, ended, pieces_in, report_in, summary_in};
-ghost use Rattle.cj_screen.specs.Outcome.{ComesOfPuts, Leaves, piece};
+ghost use Rattle.cj_screen.specs.Origins.{plain_origin};
+ghost use Rattle.cj_screen.specs.Outcome.{ComesOfPuts, Leaves};
 
 use crate::findings::Findings;
+use crate::messages::put_messages;
+use crate::origin::Origin;
+use crate::putting::put;
 use cj_cert::{cert_text, written_certificate};
-use cj_io::{PutError, Shelf};
+use cj_io::Shelf;
 use cj_report::{report_text, summary_text};
 use cj_status::Status;
 use std::alloc::Global;
 
-/// Makes and puts the pieces one after another. Each is dropped after its put.
-pub fn put_pieces<S: Shelf>(alloc: Global, shelf: &mut S, found: &Findings) -> Result<(), Status>
-    requires { AreFound found.now }
-    ensures comes { IfErr result ComesOfPuts }
-    ensures write { result ≡ Err Status.WriteFault → Rose (S.faults shelf.old) (S.faults shelf.new) }
-    ensures leaves { (old : List FileBytes) → S.pieces shelf.old ≡ Some old → Leaves (ended result) (Ok (pieces_in found.now)) old (S.pieces shelf.new) }
-    ensures later { S.faults shelf.old ≤ S.faults shelf.new }
-{
-    put_report(alloc, shelf, found)?;
-    put_behind(alloc, shelf, found)
-}
-
-/// Makes and puts the pieces behind the report.
-fn put_behind<S: Shelf>(alloc: Global, shelf: &mut S, found: &Findings) -> Result<(), Status>
+/// Makes and puts the pieces one after another, messages with this origin. Each is dropped after its put.
+pub fn put_pieces<S: Shelf>(
+    alloc: Global,
+    shelf: &mut S,
+    found: &Findings,
+    origin: Origin,
+) -> Result<(), Status>
     requires { AreFound found.now }
     ensures comes { IfErr result ComesOfPuts }
     ensures write { result ≡ Err Status.WriteFault → Rose (S.faults shelf.old) (S.faults shelf.new) }
     ensures leaves { (old : List FileBytes) → S.pieces shelf.old ≡ Some old
-        → Leaves (ended result) (Ok (cert_in found.now ∷ summary_in found.now ∷ [])) old (S.pieces shelf.new) }
+        → Leaves (ended result) (Ok (pieces_in (plain_origin origin.entry) found.now)) old (S.pieces shelf.new) }
     ensures later { S.faults shelf.old ≤ S.faults shelf.new }
 {
+    put_report(alloc, shelf, found)?;
     put_certificate(alloc, shelf, found)?;
+    put_messages(alloc, shelf, found, origin)?;
     put_summary(alloc, shelf, found)
 }
 
@@ -52,6 +51,7 @@ fn put_report<S: Shelf>(alloc: Global, shelf: &mut S, found: &Findings) -> Resul
         &found.leaves,
         &found.encounters,
         &found.closest,
+        &found.messages,
     )?;
     put(alloc, shelf, b"screen.report", &report)
 }
@@ -85,18 +85,4 @@ fn put_summary<S: Shelf>(alloc: Global, shelf: &mut S, found: &Findings) -> Resu
 {
     let summary = summary_text(alloc, &found.counts)?;
     put(alloc, shelf, b"-", &summary)
-}
-
-/// Puts one piece.
-fn put<S: Shelf>(alloc: Global, shelf: &mut S, name: &[u8], bytes: &[u8]) -> Result<(), Status>
-    ensures comes { IfErr result ComesOfPuts }
-    ensures write { result ≡ Err Status.WriteFault → Rose (S.faults shelf.old) (S.faults shelf.new) }
-    ensures leaves { (old : List FileBytes) → S.pieces shelf.old ≡ Some old → Leaves (ended result) (Ok (piece name.now bytes.now ∷ [])) old (S.pieces shelf.new) }
-    ensures later { S.faults shelf.old ≤ S.faults shelf.new }
-{
-    match shelf.put(alloc, name, bytes) {
-        Ok(()) => Ok(()),
-        Err(PutError::Memory) => Err(Status::OutOfMemory),
-        Err(PutError::Failed) => Err(Status::WriteFault),
-    }
 }

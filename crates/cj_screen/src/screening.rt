@@ -5,32 +5,46 @@ ghost use Rattle.cj_meet.specs.Closest.{HasNearest};
 ghost use Rattle.cj_screen.specs.Errors.{refined_status};
 ghost use Rattle.cj_screen.specs.Findings.{AreFound, pieces_in};
 ghost use Rattle.cj_screen.specs.Headline.{Certifies, SplitsTicks};
+ghost use Rattle.cj_screen.specs.Messages.{PlainOrigin};
 ghost use Rattle.cj_screen.specs.Outcome as spec;
 ghost use Rattle.cj_screen.specs.Outcome.{cert_bytes, encounters_in};
 ghost use Rattle.cj_status.specs.Steps.{Gives, ComesBetween};
 
 use crate::counting::{CandidateCounts, count};
 use crate::findings::Findings;
+use crate::messages::note_messages;
 use cj_candidates::{Candidates, find_candidates};
-use cj_cells::{RefineError, leaves_of};
+use cj_cells::RefineError;
 use cj_cert::acceptance;
 use cj_hermite::Problem;
+use cj_io::Gate;
 use cj_meet::{closest_approaches, encounters};
+use cj_pool::leaves_by_workers;
 use cj_status::{LimitFault, Status};
 use std::alloc::Global;
+use std::sync::Wait;
+use std::thread::Threads;
 
-/// All that is found in a problem, where it has at most so many leaves. The report is to tell the sizes, or not.
+/// All that is found in a problem by so many workers, where it has at most so many leaves. The report is to tell the sizes, or not.
+///
+/// No clause names the workers: what is found is the same, however many there are.
 #[tactic(auto, unfolding(crate::specs::Outcome::pieces_within))]
-pub fn screen(
+pub fn screen<R: Threads + Wait + Sync, G: Gate + Sync>(
+    rt: &R,
     alloc: Global,
+    gate: &G,
     problem: Problem,
     with_sizes: bool,
+    workers: u32,
     cells: u64,
 ) -> Result<Findings, Status>
-    requires { cells ≤ 4_000_000 }
+    requires some { 1 ≤ workers }
+    requires few_workers { workers ≤ 16 }
+    requires few_cells { cells ≤ 4_000_000 }
     ensures between { IfErr result ComesBetween }
     ensures read { result ≢ Err Status.ReadFault }
-    ensures told { Gives ⊥ pieces_in result (spec.pieces_within cells with_sizes (plain_problem problem)) }
+    // Whenever and by whomever messages are made.
+    ensures told { (origin : PlainOrigin) → Gives ⊥ (pieces_in origin) result (spec.pieces_within cells with_sizes origin (plain_problem problem)) }
     ensures same { IfOk result (λ found. plain_problem found.problem ≡ plain_problem problem) }
     ensures tells { IfOk result (λ found. found.with_sizes ≡ with_sizes) }
     ensures found { IfOk result AreFound }
@@ -39,7 +53,7 @@ pub fn screen(
     ensures nearest { OnOk result (All (HasNearest (plain_problem problem)) (encounters_in (plain_problem problem))) }
 {
     acceptance(&problem);
-    let candidates = match find_candidates(alloc, &problem, cells) {
+    let candidates = match find_candidates(rt, alloc, &problem, workers, cells) {
         Ok(candidates) => candidates,
         Err(error) => return Err(refused(error, cells)),
     };
@@ -55,13 +69,14 @@ pub fn screen(
         touching,
         roots: roots.len() as u64,
     };
-    let leaves = match leaves_of(alloc, &problem, roots, cells) {
+    let leaves = match leaves_by_workers(rt, alloc, gate, &problem, roots, workers, cells) {
         Ok(leaves) => leaves,
         Err(error) => return Err(refused(error, cells)),
     };
     let encounters = encounters(alloc, &leaves)?;
     let closest = closest_approaches(alloc, &problem, &leaves, &encounters)?;
-    let counts = count(&problem, &leaves, encounters.len() as u64, counted);
+    let messages = note_messages(alloc, &problem, &encounters, &closest)?;
+    let counts = count(&problem, &leaves, &messages, counted);
     Ok(Findings {
         problem,
         with_sizes,
@@ -71,6 +86,7 @@ pub fn screen(
         leaves,
         encounters,
         closest,
+        messages,
         counts,
     })
 }

@@ -1,23 +1,28 @@
 //! The one call that does all that the program does.
-ghost use Rattle.std.specs.Prelude.{◌≡◌, ◌↔◌, ◌⊎◌, ◌≤◌, List, Some, Ok, Err, IfOk, IfErr};
+ghost use Rattle.std.specs.Prelude.{◌≡◌, ◌↔◌, ◌⊎◌, ◌≤◌, List, Some, Ok, Err, IfErr};
 ghost use Rattle.cj_io.specs.Faults.{Rose};
 ghost use Rattle.cj_io.specs.declared.file.FileBytes.{FileBytes};
 ghost use Rattle.cj_words.specs.declared.option.UsageFault.{UsageFault};
-ghost use Rattle.cj_words.specs.Settings.{asked_of, settings_of};
-ghost use Rattle.cj_screen.specs.Findings.{AreFound, cert_in, ended, pieces_in, report_in};
-ghost use Rattle.cj_screen.specs.Headline.{IsScreened, Reports};
+ghost use Rattle.cj_words.specs.Commands as asks;
+ghost use Rattle.cj_words.specs.Commands.{Checks, Screens, Tries, command_of};
+ghost use Rattle.cj_status.specs.declared.status.Status.{Status as Ends};
+ghost use Rattle.cj_screen.specs.Checks.{IsChecked};
+ghost use Rattle.cj_screen.specs.Findings.{ended};
+ghost use Rattle.cj_screen.specs.Headline.{IsScreened};
 ghost use Rattle.cj_screen.specs.Outcome as spec;
-ghost use Rattle.cj_screen.specs.Outcome.{Answers, Extends, Leaves, PutsNothing};
-ghost use Rattle.cj_status.specs.Steps.{Gives, ComesBefore};
+ghost use Rattle.cj_screen.specs.Outcome.{Answers, ComesOfPuts, Extends, Leaves, EndsTrial, PutsNothing};
+ghost use Rattle.cj_screen.specs.Results.{AreDue, pieces_due};
 
-use crate::findings::Findings;
+use crate::catalogues::put_catalogue;
+use crate::finding::find;
+use crate::putting::put;
 use crate::reporting::put_pieces;
-use crate::screening::screen;
+use crate::results::Results;
+use crate::trying::put_trial;
 use cj_epoch::Tick;
-use cj_inputs::prepare;
 use cj_io::{Folder, Gate, Shelf};
 use cj_status::Status;
-use cj_words::{Settings, Word, read_settings};
+use cj_words::Word;
 use std::alloc::Global;
 use std::sync::Wait;
 use std::thread::Threads;
@@ -26,44 +31,54 @@ use std::thread::Threads;
 ///
 /// `Status` says how it ended; `fault_text` gives the line for standard error.
 pub fn conj<R: Threads + Wait + Sync, F: Folder, S: Shelf, G: Gate + Sync>(
-    _rt: &R,
+    rt: &R,
     alloc: Global,
     words: &[Word],
     folder: &mut F,
     shelf: &mut S,
-    _now: Tick,
-    _gate: &G,
+    now: Tick,
+    gate: &G,
 ) -> Status
     // The words alone say whether they are wrong.
-    ensures usage { (fault : UsageFault) → (result ≡ Status.Usage fault) ↔ (settings_of words.now ≡ Err fault) }
+    ensures usage { (fault : UsageFault) → (result ≡ Status.Usage fault) ↔ (command_of words.now ≡ Err fault) }
     ensures read { result ≡ Status.ReadFault → Rose (F.faults folder.old) (F.faults folder.new) }
     ensures write { result ≡ Status.WriteFault → Rose (S.faults shelf.old) (S.faults shelf.new) }
 
     // Over a folder that tells what it holds: which status comes. Where pieces are due and nothing fails, they are put, or memory ran out.
     ensures told { (files : List FileBytes) → F.files folder.old ≡ Some files
-        → Answers (Rose (F.faults folder.old) (F.faults folder.new)) result (spec.pieces_of words.now files) }
-    ensures complete { (files due : List FileBytes) → F.files folder.old ≡ Some files → spec.pieces_of words.now files ≡ Ok due
+        → Answers (Rose (F.faults folder.old) (F.faults folder.new)) result (spec.pieces_of words.now files now.micros) }
+    ensures complete { (files due : List FileBytes) → F.files folder.old ≡ Some files → spec.pieces_of words.now files now.micros ≡ Ok due
         → ¬ Rose (F.faults folder.old) (F.faults folder.new) → ¬ Rose (S.faults shelf.old) (S.faults shelf.new)
         → (result ≡ Status.Ok) ⊎ (result ≡ Status.OutOfMemory) }
 
-    // With status 0 the report's spans split the common ticks of every pair by the exact distance. The certificate is accepted, and acceptance
-    // implies such a split.
-    ensures headline { (files pieces : List FileBytes) → F.files folder.old ≡ Some files → S.pieces shelf.old ≡ Some pieces
-        → result ≡ Status.Ok → IsScreened words.now files pieces (S.pieces shelf.new) }
+    // With status 0 of a screening the report's spans split the common ticks of every pair by the exact distance. The certificate is accepted,
+    // and acceptance implies such a split.
+    ensures headline { (files pieces : List FileBytes) (screening : asks.Screening) → F.files folder.old ≡ Some files → S.pieces shelf.old ≡ Some pieces
+        → command_of words.now ≡ Ok (Screens screening) → result ≡ Status.Ok → IsScreened screening.settings files pieces (S.pieces shelf.new) }
+
+    // Status 0 of a check says that the named file is an accepted certificate, whose cells split the common ticks of every pair. Where a cause is
+    // due, status 1 for a certificate among them, and no count rose, that cause comes, or memory ran out.
+    ensures checked { (files pieces : List FileBytes) (checking : asks.Checking) → F.files folder.old ≡ Some files → S.pieces shelf.old ≡ Some pieces
+        → command_of words.now ≡ Ok (Checks checking) → result ≡ Status.Ok → IsChecked checking files pieces (S.pieces shelf.new) }
+    ensures refused { (files : List FileBytes) (cause : Ends) → F.files folder.old ≡ Some files → spec.pieces_of words.now files now.micros ≡ Err cause
+        → ¬ Rose (F.faults folder.old) (F.faults folder.new) → (result ≡ cause) ⊎ (result ≡ Status.OutOfMemory) }
+
+    // A made-up catalogue that is screened ends so whatever the folder does.
+    ensures tried { (trial : asks.Trial) → command_of words.now ≡ Ok (Tries trial) → EndsTrial result }
 
     // What is put: whatever the folder tells, nothing where the status says so, and no piece that stood is lost; and what is due.
     ensures untouched { PutsNothing result → S.pieces shelf.new ≡ S.pieces shelf.old }
     ensures kept { (pieces : List FileBytes) → S.pieces shelf.old ≡ Some pieces → Extends pieces (S.pieces shelf.new) }
     ensures put { (files pieces : List FileBytes) → F.files folder.old ≡ Some files → S.pieces shelf.old ≡ Some pieces
-        → Leaves result (spec.pieces_of words.now files) pieces (S.pieces shelf.new) }
+        → Leaves result (spec.pieces_of words.now files now.micros) pieces (S.pieces shelf.new) }
 
     // The folder's files stay, and no count of faults falls.
     ensures files { F.files folder.new ≡ F.files folder.old }
     ensures folder_later { F.faults folder.old ≤ F.faults folder.new }
     ensures shelf_later { S.faults shelf.old ≤ S.faults shelf.new }
 {
-    match find(alloc, words, folder) {
-        Ok(found) => end(put_pieces(alloc, shelf, &found)),
+    match find(rt, alloc, gate, words, folder, now) {
+        Ok(results) => end(put_results(alloc, shelf, &results)),
         Err(status) => status,
     }
 }
@@ -78,29 +93,18 @@ fn end(put: Result<(), Status>) -> Status
     }
 }
 
-/// What the words ask for, found in the folder's files.
-#[tactic(auto, unfolding(crate::specs::Outcome::pieces_of))]
-fn find<F: Folder>(alloc: Global, words: &[Word], folder: &mut F) -> Result<Findings, Status>
-    ensures usage { (fault : UsageFault) → (result ≡ Err (Status.Usage fault)) ↔ (settings_of words.now ≡ Err fault) }
-    ensures before { IfErr result ComesBefore }
-    ensures read { result ≡ Err Status.ReadFault → Rose (F.faults folder.old) (F.faults folder.new) }
-
-    ensures told { (files : List FileBytes) → F.files folder.old ≡ Some files
-        → Gives (Rose (F.faults folder.old) (F.faults folder.new)) pieces_in result (spec.pieces_of words.now files) }
-    ensures found { IfOk result AreFound }
-    ensures reports { (files : List FileBytes) → F.files folder.old ≡ Some files → IfOk result (λ found. Reports words.now files (report_in found).bytes (cert_in found).bytes) }
-
-    ensures files { F.files folder.new ≡ F.files folder.old }
-    ensures later { F.faults folder.old ≤ F.faults folder.new }
+/// Makes and puts all that is due.
+fn put_results<S: Shelf>(alloc: Global, shelf: &mut S, results: &Results) -> Result<(), Status>
+    requires { AreDue results.now }
+    ensures comes { IfErr result ComesOfPuts }
+    ensures write { result ≡ Err Status.WriteFault → Rose (S.faults shelf.old) (S.faults shelf.new) }
+    ensures leaves { (old : List FileBytes) → S.pieces shelf.old ≡ Some old → Leaves (ended result) (Ok (pieces_due results.now)) old (S.pieces shelf.new) }
+    ensures later { S.faults shelf.old ≤ S.faults shelf.new }
 {
-    let settings = read_settings(words)?;
-    let problem = prepare(alloc, folder, &settings)?;
-    screen(alloc, problem, tells_sizes(&settings), settings.cells)
-}
-
-/// Whether the report tells the sizes: the command line names a file of them.
-fn tells_sizes(settings: &Settings) -> bool
-    ensures { result ≡ spec.tells_sizes (asked_of settings.now) }
-{
-    settings.sizes.is_some()
+    match results {
+        Results::Screened(found, origin) => put_pieces(alloc, shelf, found, *origin),
+        Results::Checked => put(alloc, shelf, b"-", b"ACCEPTED\n"),
+        Results::Made(files) => put_catalogue(alloc, shelf, files),
+        Results::Tried(found) => put_trial(alloc, shelf, found),
+    }
 }

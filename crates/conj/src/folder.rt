@@ -1,5 +1,6 @@
 ghost use Rattle.std.specs.Prelude.{◌≡◌, ◌≤◌, ◌<◌, length, None, IfOk};
 
+use crate::system_fault::SystemFault;
 use cj_io::{Failed, Folder, FolderError, Name};
 use std::alloc::{AllocError, Global};
 use std::fs::DirEntry;
@@ -14,6 +15,7 @@ pub struct DirFolder<'a> {
     directory: &'a str,
     files: Vec<DirEntry>,
     faults: u64,
+    last_fault: Option<SystemFault>,
 }
 
 impl<'a> DirFolder<'a> {
@@ -23,7 +25,13 @@ impl<'a> DirFolder<'a> {
             directory,
             files: Vec::new(rt.alloc()),
             faults: 0,
+            last_fault: None,
         }
+    }
+
+    /// The last file that could not be read, or the directory that could not be listed.
+    pub fn last_fault(&self) -> Option<&SystemFault> {
+        self.last_fault.as_ref()
     }
 }
 
@@ -40,9 +48,14 @@ impl Folder for DirFolder<'_> {
                 self.files = files;
                 Ok(names_of(alloc, &self.files)?)
             }
-            Err(error) if error.kind() == ErrorKind::OutOfMemory => Err(FolderError::Memory),
-            _ => {
+            Ok(_) => {
                 self.faults = self.faults.saturating_add(1);
+                Err(FolderError::Failed)
+            }
+            Err(error) if error.kind() == ErrorKind::OutOfMemory => Err(FolderError::Memory),
+            Err(error) => {
+                self.faults = self.faults.saturating_add(1);
+                self.last_fault = SystemFault::of(self.rt.alloc(), self.directory, error);
                 Err(FolderError::Failed)
             }
         }
@@ -50,10 +63,12 @@ impl Folder for DirFolder<'_> {
 
     fn read(&mut self, file: u32, at: u64, buf: &mut [u8]) -> Result<u32, Failed> {
         let most = buf.len().min(u32::MAX as usize);
-        match read_at(self.rt, &self.files[file as usize], at, &mut buf[..most]) {
+        let file = &self.files[file as usize];
+        match read_at(self.rt, file, at, &mut buf[..most]) {
             Ok(count) => Ok(count as u32),
-            Err(_) => {
+            Err(error) => {
                 self.faults = self.faults.saturating_add(1);
+                self.last_fault = SystemFault::of(self.rt.alloc(), file.path().as_str(), error);
                 Err(Failed)
             }
         }
@@ -82,8 +97,12 @@ fn names_of(alloc: Global, files: &[DirEntry]) -> Result<Vec<Name>, AllocError>
     Ok(names)
 }
 
+// Only a regular file is read: to open a pipe would wait for its writer.
 fn read_at(rt: &HostRuntime, file: &DirEntry, at: u64, buf: &mut [u8]) -> io::Result<usize>
     ensures { IfOk result (λ count. count ≤ length buf.new) }
 {
+    if !fs::metadata(rt, file.path())?.is_file() {
+        return Err(io::Error::new(ErrorKind::InvalidInput, "not a regular file"));
+    }
     fs::open(rt, file.path())?.read_at(buf, at)
 }

@@ -6,6 +6,7 @@ mod folder;
 mod notice;
 mod request;
 mod shelf;
+mod system_fault;
 
 use cj_io::OpenGate;
 use cj_screen::conj;
@@ -16,23 +17,53 @@ use request::{Request, read_request};
 use shelf::DirShelf;
 use std::io::Write;
 use std::process::ExitCode;
+use system_fault::SystemFault;
 
 fn main(rt: HostRuntime) -> ExitCode {
     let status = match read_request(&rt) {
-        Ok(Request::Run { words, directory }) => conj(
-            &rt,
-            rt.alloc(),
-            &words,
-            &mut DirFolder::new(&rt, directory.as_str()),
-            &mut DirShelf::new(&rt, directory.as_str()),
-            clock::now(&rt),
-            &OpenGate,
-        ),
-        Ok(Request::Show(notice)) => print_notice(&rt, notice),
-        Err(status) => status,
+        Ok(Request::Run { words, directory }) => {
+            let mut folder = DirFolder::new(&rt, directory.as_str());
+            let mut shelf = DirShelf::new(&rt, directory.as_str());
+            let status = conj(
+                &rt,
+                rt.alloc(),
+                &words,
+                &mut folder,
+                &mut shelf,
+                clock::now(&rt),
+                &OpenGate,
+            );
+            let fault = known_fault(&status, &folder, &shelf);
+            end(&rt, status, fault)
+        }
+        Ok(Request::Show(notice)) => end(&rt, print_notice(&rt, notice), None),
+        Err(status) => end(&rt, status, None),
     };
-    print_fault(&rt, &status);
     ExitCode::from(status.number())
+}
+
+// Of a read or write fault the file and the system's reason.
+fn known_fault<'f>(
+    status: &Status,
+    folder: &'f DirFolder<'_>,
+    shelf: &'f DirShelf<'_>,
+) -> Option<&'f SystemFault> {
+    match status {
+        Status::ReadFault => folder.last_fault(),
+        Status::WriteFault => shelf.last_fault(),
+        _ => None,
+    }
+}
+
+// Tells on standard error why a run failed: its fault line, and behind it the file and the system's reason where they are known.
+fn end(rt: &HostRuntime, status: Status, fault: Option<&SystemFault>) -> Status {
+    print_fault(rt, &status);
+    if let Some(fault) = fault {
+        if let Ok(line) = fault.line(rt.alloc()) {
+            let _ = rt.stderr().write_all(&line);
+        }
+    }
+    status
 }
 
 // Where the line itself wants memory that is not there, the line that says so stands for it.

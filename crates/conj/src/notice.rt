@@ -42,36 +42,56 @@ conj 0.1.0 - certified all-on-all conjunction screening of ephemerides
 
 Usage:
   conj screen DIR [OPTIONS]
+  conj check DIR [OPTIONS]
+  conj generate DIR [OPTIONS]
+  conj selfrun [OPTIONS]
   conj --help
   conj --version
 
-Reads the ephemerides in the directory DIR, one object in each file whose name
-has the suffix (CCSDS 502.0-B-2 OEM in KVN form, UTC, cubic Hermite states),
-finds every approach of every pair of objects that comes within the threshold at
-a microsecond of the window, writes the report DIR/screen.report and its reasons,
-the certificate DIR/screen.cert, and prints a summary. It is proved that no such
-approach of the interpolated tracks is missed, where DIR gives the bytes that it
-holds and keeps those that it is given.
+screen reads the ephemerides in the directory DIR, one object in each file whose
+name has the suffix (CCSDS 502.0-B-2 OEM in KVN form, UTC, cubic Hermite
+states), finds every approach of every pair of objects that comes within the
+threshold at a microsecond of the window, writes the report DIR/screen.report
+and its reasons, the certificate DIR/screen.cert, and prints a summary. Where
+both objects have a covariance it writes a conjunction data message (CCSDS
+508.0-B-1), DIR/000001.cdm for encounter 1. It is proved that no such approach
+of the interpolated tracks is missed, where DIR gives the bytes that it holds
+and keeps those that it is given.
 
-Options, in any order after DIR, each at most once:
+check reads the same ephemerides and the certificate, and decides anew whether
+it is accepted for them. generate writes a made-up catalogue into DIR, one
+ephemeris for each object. selfrun screens such a catalogue in memory, has the
+certificate checked, and prints the summary.
+
+Options of screen and check, in any order after DIR, each at most once:
   --threshold METRES  miss distance to report, 1 to 1000000 (default 5000)
+  --workers N         of screen: how many threads share the work, 1 to 16
+                      (default 1)
   --from EPOCH        first instant of the window (default: where the first
                       ephemeris begins to be useable)
   --to EPOCH          last instant of the window (default: where the last
                       ephemeris ends to be useable)
   --suffix TEXT       how names of ephemerides end, 1 to 20 bytes (default .oem)
-  --cells N           greatest number of stretches of time that are told apart,
-                      1 to 4000000 (default 4000000)
-  --as-hermite3       screen a file that declares another interpolation, or none,
+  --cells N           of screen: greatest number of stretches of time that are
+                      told apart, 1 to 4000000 (default 4000000)
+  --as-hermite3       take a file that declares another interpolation, or none,
                       by the cubic through its nodes
   --sizes NAME        file of DIR with the radius of each object in metres; the
                       miss distance of a pair is then measured from surface to
                       surface (default: all objects are points)
+  --cert NAME         of check: the certificate's file (default screen.cert)
+  --originator TEXT   of screen: who makes messages, 1 to 40 letters, digits, _
+                      and - (default CONJ)
+Options of generate and selfrun; selfrun has --threshold, --workers, --cells too:
+  --seed N            what the objects are drawn from (default 1)
+  --objects N         how many, 1 to 2000 (default 50)
+  --minutes N         the time that they cover, 1 to 1440 (default 120)
 An EPOCH is UTC, as 2025-01-01T00:00:00.000000 or 2025-001T00:00:00Z. An option
 with a value may also be one word, as --threshold=1000.
 
 Exit status:
   0  done
+  1  the certificate is not accepted
   2  usage: the words are not as above, or a value is out of its range
   3  an ephemeris or the file of sizes was refused
   4  a file of DIR could not be read

@@ -1,7 +1,11 @@
 use super::*;
 use cj_io::{Folder, FolderError, PutError, Shelf, read_whole};
+use cj_words::Word;
+use std::alloc::{AllocError, Global};
 use std::fs;
+use std::sync::Wait;
 use std::test::Fail;
+use std::thread::Threads;
 
 #[test]
 fn files_of_a_directory_are_read(rt: HostRuntime) -> Result<(), Fail> {
@@ -19,6 +23,13 @@ fn files_of_a_directory_are_read(rt: HostRuntime) -> Result<(), Fail> {
     );
     fs::remove_dir_all(&rt, "read_here")?;
     assert_eq!(rt; folder.names(alloc).err(), Some(FolderError::Failed));
+    assert!(rt;
+        is_told(
+            alloc,
+            folder.last_fault(),
+            b"conj: read_here: No such file or directory (os error 2)\n"
+        )
+    );
     Ok(())
 }
 
@@ -42,5 +53,108 @@ fn pieces_are_written_to_a_directory(rt: HostRuntime) -> Result<(), Fail> {
         shelf.put(alloc, b"screen.report", b"text"),
         Err(PutError::Failed)
     );
+    assert!(rt;
+        is_told(
+            alloc,
+            shelf.last_fault(),
+            b"conj: written_here/screen.report: No such file or directory (os error 2)\n"
+        )
+    );
+    Ok(())
+}
+
+#[test]
+fn a_piece_that_cannot_take_its_name_leaves_nothing(rt: HostRuntime) -> Result<(), Fail> {
+    let alloc = rt.alloc();
+    fs::create_dir(&rt, "taken_here")?;
+    fs::create_dir(&rt, "taken_here/screen.report")?;
+    let mut shelf = DirShelf::new(&rt, "taken_here");
+    assert_eq!(rt;
+        shelf.put(alloc, b"screen.report", b"text"),
+        Err(PutError::Failed)
+    );
+    assert!(rt;
+        is_told(
+            alloc,
+            shelf.last_fault(),
+            b"conj: taken_here/screen.report: Is a directory (os error 21)\n"
+        )
+    );
+    assert_eq!(rt; fs::exists(&rt, "taken_here/.screen.report.part")?, false);
+    fs::remove_dir_all(&rt, "taken_here")?;
+    Ok(())
+}
+
+fn is_told(alloc: Global, fault: Option<&SystemFault>, line: &[u8]) -> bool {
+    match fault.map(|fault| fault.line(alloc)) {
+        Some(Ok(told)) => told.as_slice() == line,
+        _ => false,
+    }
+}
+
+/// An object that goes from one place and rate to another in one minute.
+fn ephemeris(alloc: Global, object: &str, first: &str, last: &str) -> Result<String, AllocError> {
+    format!(in alloc;
+        "CCSDS_OEM_VERS = 2.0
+CREATION_DATE = 2025-01-01T00:00:00
+ORIGINATOR = TEST
+META_START
+OBJECT_NAME = {object}
+OBJECT_ID = {object}
+CENTER_NAME = EARTH
+REF_FRAME = EME2000
+TIME_SYSTEM = UTC
+START_TIME = 2025-01-01T00:00:00
+STOP_TIME = 2025-01-01T00:01:00
+INTERPOLATION = HERMITE
+INTERPOLATION_DEGREE = 3
+META_STOP
+2025-01-01T00:00:00 {first}
+2025-01-01T00:01:00 {last}
+"
+    )
+}
+
+/// The exit status of a command over a directory.
+fn exit_of<R: Threads + Wait + Sync>(
+    threads: &R,
+    rt: &HostRuntime,
+    command: &[u8],
+    directory: &str,
+) -> Result<u8, AllocError> {
+    let alloc = rt.alloc();
+    let mut words = Vec::new(alloc);
+    for word in [command, directory.as_bytes()] {
+        words.push(Word::copy_of(alloc, word)?)?;
+    }
+    let status = conj(
+        threads,
+        alloc,
+        &words,
+        &mut DirFolder::new(rt, directory),
+        &mut DirShelf::new(rt, directory),
+        clock::now(rt),
+        &OpenGate,
+    );
+    Ok(status.number())
+}
+
+#[test]
+fn a_directory_is_screened_and_its_certificate_is_checked(rt: HostRuntime) -> Result<(), Fail> {
+    let alloc = rt.alloc();
+    fs::create_dir(&rt, "screened_here")?;
+    let a = ephemeris(alloc, "A", "7000 -225 0 0 7.5 0", "7000 225 0 0 7.5 0")?;
+    let b = ephemeris(alloc, "B", "7001 0 -225 0 0 7.5", "7001 0 225 0 0 7.5")?;
+    fs::write(&rt, "screened_here/a.oem", a.as_bytes())?;
+    fs::write(&rt, "screened_here/b.oem", b.as_bytes())?;
+    assert_eq!(rt; exit_of(&rt, &rt, b"screen", "screened_here")?, 0);
+    let report = fs::read_to_string(&rt, "screened_here/screen.report")?;
+    assert!(rt;
+        report.ends_with("\nSPAN NEAR 2025-01-01T00:00:29.538120 2025-01-01T00:00:30.461880\nEND\n")
+    );
+    assert_eq!(rt; exit_of(&rt, &rt, b"check", "screened_here")?, 0);
+    fs::write(&rt, "screened_here/screen.cert", "CONJ-CERT 1\n")?;
+    assert_eq!(rt; exit_of(&rt, &rt, b"check", "screened_here")?, 1);
+    fs::remove_dir_all(&rt, "screened_here")?;
     Ok(())
 }

@@ -1,8 +1,7 @@
 //! Words, files and problems that are refused.
-use super::runs::{Ran, run};
+use super::runs::{line_of, run};
 use super::scenes::{CROSSING, Content, GCRF, OF_DEGREE_SEVEN, Scene, base_text, copies, files_of};
 use cj_io::FileBytes;
-use cj_status::fault_text;
 use std::alloc::{AllocError, Global};
 use std::sync::Wait;
 use std::test::Fail;
@@ -146,15 +145,6 @@ const SIZES: [Case; 9] = [
         b"conj: sizes.txt: line 0: NoSizes\n",
     ),
 ];
-
-/// The fault line of a run that put nothing.
-fn line_of(alloc: Global, ran: &Ran) -> Result<Vec<u8>, AllocError> {
-    if ran.pieces == 0 {
-        fault_text(alloc, &ran.status)
-    } else {
-        Vec::from_slice(alloc, b"a piece was put")
-    }
-}
 
 /// The place of the first case in which another line is told.
 fn first_wrong<R: Threads + Wait + Sync>(

@@ -3,7 +3,7 @@ use crate::conj;
 use cj_epoch::Tick;
 use cj_io::{CalmFolder, CalmShelf, FileBytes, MemFolder, OpenGate};
 use cj_kvn::Text;
-use cj_status::Status;
+use cj_status::{Status, fault_text};
 use cj_words::Word;
 use std::alloc::{AllocError, Global};
 use std::sync::Wait;
@@ -18,7 +18,8 @@ pub fn words(alloc: Global, line: &str) -> Result<Vec<Word>, AllocError> {
     Ok(words)
 }
 
-fn calm(alloc: Global, files: Vec<FileBytes>) -> CalmFolder {
+/// A folder that never fails.
+pub fn calm(alloc: Global, files: Vec<FileBytes>) -> CalmFolder {
     if files.len() < 10_000 {
         CalmFolder::new(files)
     } else {
@@ -55,6 +56,21 @@ pub fn piece_of<'p>(pieces: &'p [FileBytes], name: &[u8]) -> &'p [u8] {
     b""
 }
 
+/// Runs a command line over these files at this time. It gives how the run ended, and the shelf with what it put.
+pub fn run_at<R: Threads + Wait + Sync>(
+    rt: &R,
+    alloc: Global,
+    line: &str,
+    files: Vec<FileBytes>,
+    now: Tick,
+) -> Result<(Status, CalmShelf), AllocError> {
+    let words = words(alloc, line)?;
+    let mut folder = calm(alloc, files);
+    let mut shelf = CalmShelf::new(alloc);
+    let status = conj(rt, alloc, &words, &mut folder, &mut shelf, now, &OpenGate);
+    Ok((status, shelf))
+}
+
 /// Runs a command line over these files.
 pub fn run<R: Threads + Wait + Sync>(
     rt: &R,
@@ -62,18 +78,7 @@ pub fn run<R: Threads + Wait + Sync>(
     line: &str,
     files: Vec<FileBytes>,
 ) -> Result<Ran, AllocError> {
-    let words = words(alloc, line)?;
-    let mut folder = calm(alloc, files);
-    let mut shelf = CalmShelf::new(alloc);
-    let status = conj(
-        rt,
-        alloc,
-        &words,
-        &mut folder,
-        &mut shelf,
-        Tick::FIRST,
-        &OpenGate,
-    );
+    let (status, shelf) = run_at(rt, alloc, line, files, Tick::FIRST)?;
     let pieces = shelf.written();
     Ok(Ran {
         status,
@@ -82,4 +87,13 @@ pub fn run<R: Threads + Wait + Sync>(
         certificate: Vec::from_slice(alloc, piece_of(pieces, b"screen.cert"))?,
         summary: Vec::from_slice(alloc, piece_of(pieces, b"-"))?,
     })
+}
+
+/// The fault line of a run that put nothing.
+pub fn line_of(alloc: Global, ran: &Ran) -> Result<Vec<u8>, AllocError> {
+    if ran.pieces == 0 {
+        fault_text(alloc, &ran.status)
+    } else {
+        Vec::from_slice(alloc, b"a piece was put")
+    }
 }

@@ -56,6 +56,8 @@ pub enum Content {
     One(&'static [Change]),
     /// Two segments, some lines of which are changed.
     Two(&'static [Change]),
+    /// An object that goes from one place and rate to another in one minute, some lines changed, with these lines behind.
+    Covered(&'static str, &'static str, &'static [Change], &'static str),
     /// This text.
     Text(&'static str),
 }
@@ -72,6 +74,49 @@ pub const CROSSING: Scene = &[
     (
         "b.oem",
         Content::Minute("7001 0 -225 0 0 7.5", "7001 0 225 0 0 7.5", &[]),
+    ),
+];
+
+/// A covariance at the first tick, of three elements and zeros.
+pub const COVARIANCE: &str = "COVARIANCE_START
+EPOCH = 2025-01-01T00:00:00
+COV_REF_FRAME = RTN
+3.3313494e-04
+4.6189273e-04 6.7824216e-04
+0 0 0
+0 0 0 0
+0 0 0 0 0
+0 0 0 0 0 0
+COVARIANCE_STOP
+";
+
+/// A covariance at the first tick, of one element and zeros.
+pub const OF_ONE_ELEMENT: &str = "COVARIANCE_START
+EPOCH = 2025-01-01T00:00:00
+COV_REF_FRAME = RTN
+1
+0 0
+0 0 0
+0 0 0 0
+0 0 0 0 0
+0 0 0 0 0 0
+COVARIANCE_STOP
+";
+
+/// The same crossing of objects that have a covariance each.
+pub const COVERED: Scene = &[
+    (
+        "a.oem",
+        Content::Covered("7000 -225 0 0 7.5 0", "7000 225 0 0 7.5 0", &[], COVARIANCE),
+    ),
+    (
+        "b.oem",
+        Content::Covered(
+            "7001 0 -225 0 0 7.5",
+            "7001 0 225 0 0 7.5",
+            &[(5, b"OBJECT_NAME = SAT B"), (6, b"OBJECT_ID = 2025-002A")],
+            OF_ONE_ELEMENT,
+        ),
     ),
 ];
 
@@ -139,6 +184,11 @@ fn bytes_of(alloc: Global, content: Content) -> Result<Vec<u8>, AllocError> {
         }
         Content::Minute(first, last, changes) => minute(alloc, first, last, changes),
         Content::One(changes) => one_with(alloc, changes),
+        Content::Covered(first, last, changes, behind) => {
+            let mut text = minute(alloc, first, last, changes)?;
+            text.extend_from_slice(behind.as_bytes())?;
+            Ok(text)
+        }
         Content::Two(changes) => {
             let mut text = one_with(alloc, changes)?;
             append(&mut text, 16, NEXT.as_slice(), changes)?;

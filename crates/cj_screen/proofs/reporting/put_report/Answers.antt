@@ -7,5 +7,5 @@ use Rattle.cj_screen.proofs.reporting.put_report.Goals as goal
 pub returns-clause-leaves : goal.returns-clause-leaves
 returns-clause-leaves g c = λ old stood.
     subst (λ (bytes : List ℕ). Leaves (ended c.put.result) (Ok (report_piece bytes ∷ [])) old (g.S.Shelf.pieces c.put.new.shelf))
-    (c.deref-4.ensures.value ∙ report_is c.args.found.now c.deref.result.now c.deref-2.result.now c.deref-3.result.now c.in_ok-report.report.items c.requires
-    c.deref.ensures.value c.deref-2.ensures.value c.deref-3.ensures.value c.in_ok-report.ensures) (c.put.ensures.leaves old stood)
+    (c.deref-5.ensures.value ∙ report_is c.args.found.now c.deref.result.now c.deref-2.result.now c.deref-3.result.now c.deref-4.result.now c.in_ok-report.report.items c.requires
+    c.deref.ensures.value c.deref-2.ensures.value c.deref-3.ensures.value c.deref-4.ensures.value c.in_ok-report.ensures) (c.put.ensures.leaves old stood)

@@ -1,4 +1,4 @@
-use Rattle.std.proofs.Common.{◌≡◌, Bool, Result, Ok, Err, sym, ◌∙◌}
+use Rattle.std.proofs.Common.{◌≡◌, Bool, Result, Ok, Err, ◌∙◌}
 use Rattle.std.specs.Prelude.{IfOk}
 use Rattle.cj_hermite.specs.Problems.{plain_problem}
 use Rattle.cj_words.specs.Settings.{asked_of}
@@ -6,7 +6,7 @@ use Rattle.cj_screen.specs.declared.findings.Findings.{Findings}
 use Rattle.cj_status.specs.declared.status.Status.{Status}
 use Rattle.cj_screen.specs.Outcome.{tells_sizes}
 use Rattle.cj_screen.proofs.ReportLemmas.{reports}
-use Rattle.cj_screen.proofs.top.find.Goals as goal
+use Rattle.cj_screen.proofs.finding.find_encounters.Goals as goal
 
 tells : (b d : Bool) → b ≡ d → (r : Result Findings Status) → IfOk r (λ found. found.with_sizes ≡ b) → IfOk r (λ found. found.with_sizes ≡ d)
 tells b d same (Ok found) is = is ∙ same
@@ -14,7 +14,7 @@ tells b d same (Err s) is = tt
 
 pub returns-clause-reports : goal.returns-clause-reports
 returns-clause-reports g c = λ files told.
-    let asked = asked_of c.in_ok-settings.settings in
-    reports c.args.words.now files asked (plain_problem c.in_ok-problem.problem) (sym c.in_ok-settings.ensures) (c.in_ok-problem.ensures.told files told)
+    let asked = asked_of c.args.screening.now.settings in
+    reports files asked (plain_problem c.in_ok-problem.problem) (c.in_ok-problem.ensures.told files told)
     c.screen.result c.screen.ensures.same (tells c.tells_sizes.result (tells_sizes asked) c.tells_sizes.ensures c.screen.result c.screen.ensures.tells)
     c.screen.ensures.found c.screen.ensures.split c.screen.ensures.certified c.screen.ensures.nearest

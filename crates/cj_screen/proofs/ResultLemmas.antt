@@ -1,0 +1,67 @@
+-- What is due of a command.
+use Rattle.std.proofs.Common.{◌≡◌, List, ◌∷◌, [], ◌++◌, Option, Some, Result, Ok, Err, subst}
+use Rattle.std.specs.Prelude.{IfErr}
+use Rattle.cj_io.specs.declared.file.FileBytes.{FileBytes}
+use Rattle.cj_words.specs.declared.option.UsageFault.{UsageFault}
+use Rattle.cj_words.specs.Commands.{Checking}
+use Rattle.cj_words.specs.Settings.{Asked}
+use Rattle.cj_screen.specs.Checks.{IsChecked}
+use Rattle.cj_screen.specs.declared.results.Results.{Results}
+use Rattle.cj_screen.specs.declared.results.Results.TheVariants.{Screened, Checked, Made, Tried}
+use Rattle.cj_status.specs.declared.status.Status.{Status}
+use Rattle.cj_status.specs.declared.status.Status.TheVariants as status
+use Rattle.cj_status.specs.Steps.{ComesBetween}
+use Rattle.cj_screen.specs.Findings.{cert_in, ended, messages_in, report_in, summary_in}
+use Rattle.cj_screen.specs.Headline.{IsScreened}
+use Rattle.cj_screen.specs.Origins.{plain_origin}
+use Rattle.cj_screen.specs.Outcome.{ComesOfPuts, ComesOfTrial, EndsTrial}
+use Rattle.cj_screen.specs.Results.{ReportsDue, VouchesDue, pieces_due}
+
+-- the report and the certificate of a screening stand in front
+pub screened : (settings : Asked) (files old : List FileBytes) (new : Option (List FileBytes)) (results : Results)
+    → ReportsDue settings files results → new ≡ Some (old ++ pieces_due results) → IsScreened settings files old new
+screened settings files old new (Screened found origin) reports put = record {
+  bytes = (report_in found).bytes;
+  certificate = (cert_in found).bytes;
+  report = reports;
+  further = messages_in (plain_origin origin) found ++ summary_in found ∷ [];
+  put = put;
+}
+screened settings files old new Checked reports put = absurd reports
+screened settings files old new (Made catalogue) reports put = absurd reports
+screened settings files old new (Tried found) reports put = absurd reports
+
+-- the one piece of a check
+pub checked : (checking : Checking) (files old : List FileBytes) (new : Option (List FileBytes)) (results : Results)
+    → VouchesDue checking files results → new ≡ Some (old ++ pieces_due results) → IsChecked checking files old new
+checked checking files old new (Screened found origin) vouches put = absurd vouches
+checked checking files old new Checked vouches put = record { vouched = vouches; put = put }
+checked checking files old new (Made catalogue) vouches put = absurd vouches
+checked checking files old new (Tried found) vouches put = absurd vouches
+
+-- what comes behind the words is no fault of theirs
+pub never_of_words : (r : Result Results Status) (fault : UsageFault) → IfErr r ComesBetween → ¬ (r ≡ Err (status.Usage fault))
+never_of_words (Ok results) fault comes = λ e. absurd cc
+never_of_words (Err s) fault comes = λ e. let is : s ≡ status.Usage fault = cc in subst ComesBetween is comes
+
+-- a made-up catalogue's screening that ends before its put, or by it
+pub ends_before : (s : Status) → ComesOfTrial s → EndsTrial s
+ends_before status.Ok comes = absurd comes
+ends_before (status.NotAccepted line cause) comes = comes
+ends_before (status.Usage fault) comes = comes
+ends_before (status.BadFile file line cause) comes = comes
+ends_before status.ReadFault comes = comes
+ends_before status.WriteFault comes = absurd comes
+ends_before (status.Limit fault) comes = tt
+ends_before status.OutOfMemory comes = tt
+
+pub ends_put : (r : Result (Unit {0}) Status) → IfErr r ComesOfPuts → EndsTrial (ended r)
+ends_put (Ok done) comes = tt
+ends_put (Err status.Ok) comes = tt
+ends_put (Err (status.NotAccepted line cause)) comes = comes
+ends_put (Err (status.Usage fault)) comes = comes
+ends_put (Err (status.BadFile file line cause)) comes = comes
+ends_put (Err status.ReadFault) comes = comes
+ends_put (Err status.WriteFault) comes = tt
+ends_put (Err (status.Limit fault)) comes = tt
+ends_put (Err status.OutOfMemory) comes = tt

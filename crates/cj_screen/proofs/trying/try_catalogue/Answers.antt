@@ -1,0 +1,40 @@
+use Rattle.std.proofs.Common.{◌≡◌, ◌∙◌, List, Result, Ok, Err, [], false, sym, subst}
+use Rattle.std.proofs.lemmas.Result.{err_from_is_err_and}
+use Rattle.cj_io.specs.declared.file.FileBytes.{FileBytes}
+use Rattle.cj_hermite.specs.Problems.{plain_problem}
+use Rattle.cj_words.specs.Commands.{plain_trial}
+use Rattle.cj_status.specs.declared.status.Status.{Status}
+use Rattle.cj_status.specs.Steps.{Stops}
+use Rattle.cj_screen.specs.Findings.{pieces_in}
+use Rattle.cj_screen.specs.Messages.{PlainOrigin}
+use Rattle.cj_screen.specs.Outcome.{pieces_within}
+use Rattle.cj_screen.proofs.TrialLemmas.{comes_of_trial, tried_after, tried_of, within_limits_of}
+use Rattle.cj_screen.proofs.trying.try_catalogue.Goals as goal
+
+-- nothing is made of it here
+nobody : PlainOrigin
+nobody = record { created = 0; originator = [] }
+
+pub returns-in_err-found-clause-ends : goal.returns-in_err-found-clause-ends
+returns-in_err-found-clause-ends g c =
+    let case = plain_problem c.in_ok-problem.problem in
+    let cells = c.args.trial.now.cells in
+    let p = err_from_is_err_and c.from_residual-in_err-found.result c.from_residual-in_err-found.ensures.1 in
+    rw (p.1, p.2) (comes_of_trial ⊥ (pieces_in nobody) (Err c.in_err-found.field-0.0) (pieces_within cells false nobody case) (λ none. none)
+    (c.in_err-found.ensures.told nobody) (within_limits_of cells false nobody case))
+
+pub returns-in_err-found-clause-told : goal.returns-in_err-found-clause-told
+returns-in_err-found-clause-told g c =
+    let case = plain_problem c.in_ok-problem.problem in
+    let trial = plain_trial c.args.trial.now in
+    let s = c.in_err-found.field-0.0 in
+    let within = tried_of trial.cells false nobody case (Err s) (c.in_err-found.ensures.told nobody) tt tt in
+    let p = err_from_is_err_and c.from_residual-in_err-found.result c.from_residual-in_err-found.ensures.1 in
+    rw (p.1, p.2) (subst (λ (due : Result (List FileBytes) Status). Stops ⊥ s due) (sym (tried_after trial case c.in_ok-problem.ensures.told)) within)
+
+pub returns-clause-told : goal.returns-clause-told
+returns-clause-told g c =
+    let case = plain_problem c.in_ok-problem.problem in
+    let trial = plain_trial c.args.trial.now in
+    tried_after trial case c.in_ok-problem.ensures.told
+    ∙ tried_of trial.cells false nobody case (Ok c.in_ok-found.found) (c.in_ok-found.ensures.told nobody) c.in_ok-found.ensures.same c.in_ok-found.ensures.found

@@ -1,0 +1,44 @@
+-- The messages of a case: one for each encounter at whose closest approach both objects have a covariance.
+use Rattle.std.specs.Prelude.{ℕ, Bool, false, List, Option, option_map, option_and_then, option_to_list}
+use Rattle.std.specs.Option.{option_map_or}
+use Rattle.cj_io.specs.declared.file.FileBytes.{FileBytes}
+use Rattle.cj_hermite.specs.PlainProblems.{PlainProblem}
+use Rattle.cj_bezier.specs.Leaves.{PlainLeaf}
+use Rattle.cj_meet.specs.Closest.{closest_of}
+use Rattle.cj_meet.specs.Encounters.{first_object, second_object}
+use Rattle.cj_cdm.specs.Building.{have_covariances, message_of}
+use Rattle.cj_cdm.specs.Messages.{PlainMessage, PlainStamp}
+use Rattle.cj_cdm.specs.Names.{name_of}
+use Rattle.cj_cdm.specs.Texts.{text_of}
+use Rattle.cj_report.specs.Report.{numbered}
+
+-- at which tick the messages of a run are made, and by whom
+pub record PlainOrigin : Type 0 where
+  pub created : ℕ
+  pub originator : List ℕ
+
+-- the stamp of the message with this number
+abbrev pub stamp_from : PlainOrigin → ℕ → PlainStamp
+stamp_from origin number = record { created = origin.created; originator = origin.originator; number = number }
+
+-- both objects of an encounter have a covariance at its closest approach
+abbrev pub has_message : PlainProblem → List PlainLeaf → Bool
+has_message case encounter =
+    option_map_or (λ at. have_covariances case (first_object encounter) (second_object encounter) at.tick) (closest_of case encounter) false
+
+-- the message of the encounter with this number, where it has one
+abbrev pub message_in : PlainProblem → PlainOrigin → ℕ → List PlainLeaf → Option PlainMessage
+message_in case origin number encounter =
+    option_and_then (λ at. message_of case (first_object encounter) (second_object encounter) at.tick at.high (stamp_from origin number)) (closest_of case encounter)
+
+-- the piece of a message with its number
+abbrev pub message_piece : ℕ → PlainMessage → FileBytes
+message_piece number message = record { name = name_of number; bytes = text_of message }
+
+-- the piece of the message of an encounter, where it has one
+abbrev pub pieces_at : PlainProblem → PlainOrigin → ℕ → List PlainLeaf → List FileBytes
+pieces_at case origin number encounter = option_to_list (option_map (message_piece number) (message_in case origin number encounter))
+
+-- the pieces of the messages of these encounters, which are numbered from 1
+abbrev pub message_pieces : PlainProblem → PlainOrigin → List (List PlainLeaf) → List FileBytes
+message_pieces case origin encounters = numbered (pieces_at case origin) 1 encounters

@@ -1,0 +1,40 @@
+-- What a run is to put.
+use Rattle.std.specs.Prelude.{List, [], ◌∷◌, Ok}
+use Rattle.cj_io.specs.declared.file.FileBytes.{FileBytes}
+use Rattle.cj_words.specs.Commands.{Checking}
+use Rattle.cj_words.specs.Settings.{Asked}
+use Rattle.cj_screen.specs.declared.results.Results.{Results}
+use Rattle.cj_screen.specs.declared.results.Results.TheVariants.{Screened, Checked, Made, Tried}
+use Rattle.cj_screen.specs.Findings.{AreFound, cert_in, pieces_in, report_in, tried_in}
+use Rattle.cj_screen.specs.Checks.{Vouches}
+use Rattle.cj_screen.specs.Headline.{Reports}
+use Rattle.cj_screen.specs.Origins.{plain_origin}
+use Rattle.cj_screen.specs.Outcome.{accepted_piece, pieces_made}
+
+-- the pieces of it, in the order in which they are put
+abbrev pub pieces_due : Results → List FileBytes
+pieces_due (Screened found origin) = pieces_in (plain_origin origin) found
+pieces_due Checked = accepted_piece ∷ []
+pieces_due (Made catalogue) = pieces_made catalogue.items
+pieces_due (Tried found) = tried_in found ∷ []
+
+-- what is found is what the definitions give
+abbrev pub AreDue : Results → Type 0
+AreDue (Screened found origin) = AreFound found
+AreDue Checked = Unit {0}
+AreDue (Made catalogue) = Unit {0}
+AreDue (Tried found) = AreFound found
+
+-- the first two pieces are the report and the certificate of files that are screened with these settings
+abbrev pub ReportsDue : Asked → List FileBytes → Results → Type 0
+ReportsDue settings files (Screened found origin) = Reports settings files (report_in found).bytes (cert_in found).bytes
+ReportsDue settings files Checked = ⊥
+ReportsDue settings files (Made catalogue) = ⊥
+ReportsDue settings files (Tried found) = ⊥
+
+-- the certificate that was named is accepted
+abbrev pub VouchesDue : Checking → List FileBytes → Results → Type 0
+VouchesDue checking files (Screened found origin) = ⊥
+VouchesDue checking files Checked = Vouches checking files
+VouchesDue checking files (Made catalogue) = ⊥
+VouchesDue checking files (Tried found) = ⊥

@@ -1,0 +1,16 @@
+use crate::findings::Findings;
+use crate::origin::Origin;
+use cj_io::FileBytes;
+
+/// What a run is to put. From here on it can fail only for want of memory or in a write.
+#[derive(Debug, Drop)]
+pub enum Results<'w> {
+    /// What is found in the files that are screened, with the origin of its messages.
+    Screened(Findings, Origin<'w>),
+    /// The certificate that was to be checked is accepted.
+    Checked,
+    /// The files of a made-up catalogue.
+    Made(Vec<FileBytes>),
+    /// What is found in a made-up catalogue, whose certificate is accepted.
+    Tried(Findings),
+}

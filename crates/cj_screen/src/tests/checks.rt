@@ -1,0 +1,282 @@
+//! Certificates that are checked.
+use super::runs::{failing, line_of, run, words};
+use super::scenes::{Content, Scene, files_of};
+use crate::conj;
+use cj_epoch::Tick;
+use cj_io::{Bytes, CalmShelf, FileBytes, Name, OpenGate};
+use cj_status::Status;
+use std::alloc::{AllocError, Global};
+use std::sync::Wait;
+use std::test::Fail;
+use std::thread::Threads;
+
+/// Two objects that rest at the threshold from each other.
+const RESTING: Scene = &[
+    ("a.oem", Content::Rest("7000 0 0")),
+    ("b.oem", Content::Rest("7005 0 0")),
+];
+
+/// The lines of their certificate.
+const LINES: [&[u8]; 13] = [
+    b"CONJ-CERT 1",
+    b"WINDOW 1735689600000000 1735689660000000",
+    b"THRESHOLD 5000000000000",
+    b"OBJECTS 2",
+    b"SHELL 1 7000000000000000 7000000000000000",
+    b"SHELL 2 7005000000000000 7005000000000000",
+    b"BOX 1 0 7000000000000000 7000000000000000 0 0 0 0",
+    b"BOX 1 1 7000000000000000 7000000000000000 0 0 0 0",
+    b"BOX 2 0 7005000000000000 7005000000000000 0 0 0 0",
+    b"BOX 2 1 7005000000000000 7005000000000000 0 0 0 0",
+    b"CELL 1 2 1735689600000000 1735689659999999 N",
+    b"CELL 1 2 1735689660000000 1735689660000000 N",
+    b"END",
+];
+
+/// What is done to a certificate. Lines are counted from 1.
+#[derive(Clone, Copy, Debug)]
+enum Change {
+    /// It is left as it is.
+    Nothing,
+    /// A line is left out.
+    Without(usize),
+    /// A line stands twice.
+    Twice(usize),
+    /// Another line stands in its place.
+    With(usize, &'static [u8]),
+}
+
+/// The text of the certificate with a change.
+fn certificate(alloc: Global, change: Change) -> Result<Vec<u8>, AllocError> {
+    let mut text = Vec::new(alloc);
+    for (place, line) in LINES.iter().enumerate() {
+        match change {
+            Change::Without(number) if number == place + 1 => {}
+            Change::With(number, other) if number == place + 1 => push_line(&mut text, other)?,
+            Change::Twice(number) if number == place + 1 => {
+                push_line(&mut text, line)?;
+                push_line(&mut text, line)?;
+            }
+            _ => push_line(&mut text, line)?,
+        }
+    }
+    Ok(text)
+}
+
+fn push_line(text: &mut Vec<u8>, line: &[u8]) -> Result<(), AllocError> {
+    text.extend_from_slice(line)?;
+    text.push(b'\n')?;
+    Ok(())
+}
+
+/// The resting objects, and files with certificates of these names and changes behind them.
+fn with_certificates(
+    alloc: Global,
+    certificates: &[(&str, Change)],
+) -> Result<Vec<FileBytes>, AllocError> {
+    let mut files = files_of(alloc, RESTING)?;
+    for (name, change) in certificates {
+        files.push(FileBytes {
+            name: Name::copy_of(alloc, name.as_bytes())?,
+            bytes: Bytes::copy_of(alloc, &certificate(alloc, *change)?)?,
+        })?;
+    }
+    Ok(files)
+}
+
+/// A command line, what is done to the certificate, and what is told: on standard output, or of the failure.
+type Case<'a> = (&'a str, Change, &'a [u8]);
+
+const ACCEPTED: &[u8] = b"ACCEPTED\n";
+
+const CASES: [Case; 22] = [
+    ("check .", Change::Nothing, ACCEPTED),
+    // The text.
+    (
+        "check .",
+        Change::Without(13),
+        b"conj: not accepted: line 13: Text End\n",
+    ),
+    (
+        "check .",
+        Change::Twice(13),
+        b"conj: not accepted: line 14: Text End\n",
+    ),
+    (
+        "check .",
+        Change::Without(3),
+        b"conj: not accepted: line 3: Text Form\n",
+    ),
+    (
+        "check .",
+        Change::With(11, b"CELL 1 2 1735689600000000 1735689659999999 X"),
+        b"conj: not accepted: line 11: Text Form\n",
+    ),
+    (
+        "check .",
+        Change::With(2, b"WINDOW 1735689600000000 4102444800000000"),
+        b"conj: not accepted: line 2: Text Range\n",
+    ),
+    // What it is a certificate of.
+    (
+        "check . --from 2025-01-01T00:00:01",
+        Change::Nothing,
+        b"conj: not accepted: line 2: Header\n",
+    ),
+    (
+        "check . --threshold 4999",
+        Change::Nothing,
+        b"conj: not accepted: line 3: Header\n",
+    ),
+    (
+        "check .",
+        Change::With(4, b"OBJECTS 3"),
+        b"conj: not accepted: line 4: Header\n",
+    ),
+    // Shells and boxes.
+    (
+        "check .",
+        Change::Without(5),
+        b"conj: not accepted: line 5: ShellOf\n",
+    ),
+    (
+        "check .",
+        Change::With(6, b"SHELL 2 NONE"),
+        b"conj: not accepted: line 6: ShellOf\n",
+    ),
+    (
+        "check .",
+        Change::With(5, b"SHELL 1 7000000000000001 7000000000000001"),
+        b"conj: not accepted: line 5: ShellOf\n",
+    ),
+    (
+        "check .",
+        Change::Without(7),
+        b"conj: not accepted: line 7: BoxOf\n",
+    ),
+    (
+        "check .",
+        Change::Twice(8),
+        b"conj: not accepted: line 9: BoxOf\n",
+    ),
+    (
+        "check .",
+        Change::With(10, b"BOX 2 1 7005000000000001 7005000000000001 0 0 0 0"),
+        b"conj: not accepted: line 10: BoxOf\n",
+    ),
+    // Cells.
+    (
+        "check .",
+        Change::Without(11),
+        b"conj: not accepted: line 11: Untiled\n",
+    ),
+    (
+        "check .",
+        Change::Without(12),
+        b"conj: not accepted: line 12: Untiled\n",
+    ),
+    (
+        "check .",
+        Change::Twice(11),
+        b"conj: not accepted: line 12: Stranger\n",
+    ),
+    (
+        "check .",
+        Change::With(11, b"CELL 1 2 1735689600000000 1735689659999998 N"),
+        b"conj: not accepted: line 12: Untiled\n",
+    ),
+    (
+        "check .",
+        Change::With(11, b"CELL 1 2 1735689600000000 1735689659999999 F"),
+        b"conj: not accepted: line 11: NotFar\n",
+    ),
+    // The window comes before the certificate, and another name has none.
+    (
+        "check . --from 2025-01-01T00:00:00 --to 2025-01-15T00:00:00.000001",
+        Change::Without(13),
+        b"conj: limit: Window 1209600000001\n",
+    ),
+    (
+        "check . --cert other.cert",
+        Change::Nothing,
+        b"conj: not accepted: line 0: NoFile\n",
+    ),
+];
+
+/// What a check puts, or the line that tells why it put nothing.
+fn told<R: Threads + Wait + Sync>(
+    rt: &R,
+    alloc: Global,
+    line: &str,
+    certificates: &[(&str, Change)],
+) -> Result<Vec<u8>, AllocError> {
+    let ran = run(rt, alloc, line, with_certificates(alloc, certificates)?)?;
+    match ran.status {
+        Status::Ok => Vec::from_slice(alloc, &ran.summary),
+        _ => line_of(alloc, &ran),
+    }
+}
+
+/// The place of the first case in which something else is told.
+fn first_other<R: Threads + Wait + Sync>(
+    rt: &R,
+    alloc: Global,
+    cases: &[Case],
+) -> Result<Option<usize>, AllocError> {
+    for (place, (line, change, expected)) in cases.iter().enumerate() {
+        let told = told(rt, alloc, line, &[("screen.cert", *change)])?;
+        if told.as_slice() != *expected {
+            return Ok(Some(place));
+        }
+    }
+    Ok(None)
+}
+
+#[test]
+fn a_certificate_is_accepted_or_its_first_failure_is_told(rt: HostRuntime) -> Result<(), Fail> {
+    assert_eq!(rt; first_other(&rt, rt.alloc(), CASES.as_slice())?, None);
+    Ok(())
+}
+
+#[test]
+fn the_first_file_of_the_name_is_checked(rt: HostRuntime) -> Result<(), Fail> {
+    let alloc = rt.alloc();
+    let good = ("a.cert", Change::Nothing);
+    let bad = ("a.cert", Change::Without(11));
+    let line = "check . --cert=a.cert";
+    assert_eq!(rt; told(&rt, alloc, line, &[good, bad])?.as_slice(), ACCEPTED);
+    assert_eq!(rt;
+        told(&rt, alloc, line, &[bad, good])?.as_slice(),
+        b"conj: not accepted: line 11: Untiled\n".as_slice()
+    );
+    Ok(())
+}
+
+#[test]
+fn nothing_is_put_where_the_folder_fails_at_any_call(rt: HostRuntime) -> Result<(), Fail> {
+    let alloc = rt.alloc();
+    let mut status = 4;
+    let mut call = 0;
+    while status == 4 && call < 100 {
+        call += 1;
+        let files = with_certificates(alloc, &[("screen.cert", Change::Nothing)])?;
+        let mut folder = failing(alloc, files, Vec::from_array(alloc, [call])?);
+        let mut shelf = CalmShelf::new(alloc);
+        let ended = conj(
+            &rt,
+            alloc,
+            &words(alloc, "check .")?,
+            &mut folder,
+            &mut shelf,
+            Tick::FIRST,
+            &OpenGate,
+        );
+        status = ended.number();
+        let put = if status == 0 { 1 } else { 0 };
+        assert_eq!(rt; shelf.written().len(), put);
+    }
+    assert_eq!(rt; status, 0);
+    // The listing, and of each of three files at least its bytes and its end.
+    assert!(rt; call > 6);
+    Ok(())
+}

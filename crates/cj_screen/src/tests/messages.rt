@@ -1,0 +1,240 @@
+//! The messages of runs.
+use super::runs::{piece_of, run_at};
+use super::scenes::{COVARIANCE, COVERED, CROSSING, Content, OF_ONE_ELEMENT, Scene, files_of};
+use cj_epoch::Tick;
+use cj_io::{CalmShelf, FileBytes};
+use std::alloc::{AllocError, Global};
+use std::sync::Wait;
+use std::test::Fail;
+use std::thread::Threads;
+
+/// 2025-01-02T00:00:00.
+const NOW: Tick = Tick {
+    micros: 1_735_776_000_000_000,
+};
+
+/// The message of the crossing whose objects have a covariance each.
+const MESSAGE: &[u8] = b"CCSDS_CDM_VERS = 1.0
+CREATION_DATE = 2025-01-02T00:00:00.000000
+ORIGINATOR = CONJ
+MESSAGE_ID = CONJ_000001
+TCA = 2025-01-01T00:00:30.000000
+MISS_DISTANCE = 1000.000000000 [m]
+START_SCREEN_PERIOD = 2025-01-01T00:00:00.000000
+STOP_SCREEN_PERIOD = 2025-01-01T00:01:00.000000
+OBJECT = OBJECT1
+OBJECT_DESIGNATOR = 2025-001A
+CATALOG_NAME = OEM
+OBJECT_NAME = SAT A
+INTERNATIONAL_DESIGNATOR = 2025-001A
+EPHEMERIS_NAME = a.oem
+COVARIANCE_METHOD = CALCULATED
+MANEUVERABLE = N/A
+REF_FRAME = EME2000
+X = 7000.000000000000 [km]
+Y = 0.000000000000 [km]
+Z = 0.000000000000 [km]
+X_DOT = 0.000000000000 [km/s]
+Y_DOT = 7.500000000000 [km/s]
+Z_DOT = 0.000000000000 [km/s]
+COMMENT COVARIANCE EPOCH 2025-01-01T00:00:00.000000
+CR_R = 3.3313494E+02 [m**2]
+CT_R = 4.6189273E+02 [m**2]
+CT_T = 6.7824216E+02 [m**2]
+CN_R = 0.0E+00 [m**2]
+CN_T = 0.0E+00 [m**2]
+CN_N = 0.0E+00 [m**2]
+CRDOT_R = 0.0E+00 [m**2/s]
+CRDOT_T = 0.0E+00 [m**2/s]
+CRDOT_N = 0.0E+00 [m**2/s]
+CRDOT_RDOT = 0.0E+00 [m**2/s**2]
+CTDOT_R = 0.0E+00 [m**2/s]
+CTDOT_T = 0.0E+00 [m**2/s]
+CTDOT_N = 0.0E+00 [m**2/s]
+CTDOT_RDOT = 0.0E+00 [m**2/s**2]
+CTDOT_TDOT = 0.0E+00 [m**2/s**2]
+CNDOT_R = 0.0E+00 [m**2/s]
+CNDOT_T = 0.0E+00 [m**2/s]
+CNDOT_N = 0.0E+00 [m**2/s]
+CNDOT_RDOT = 0.0E+00 [m**2/s**2]
+CNDOT_TDOT = 0.0E+00 [m**2/s**2]
+CNDOT_NDOT = 0.0E+00 [m**2/s**2]
+OBJECT = OBJECT2
+OBJECT_DESIGNATOR = 2025-002A
+CATALOG_NAME = OEM
+OBJECT_NAME = SAT B
+INTERNATIONAL_DESIGNATOR = 2025-002A
+EPHEMERIS_NAME = b.oem
+COVARIANCE_METHOD = CALCULATED
+MANEUVERABLE = N/A
+REF_FRAME = EME2000
+X = 7001.000000000000 [km]
+Y = 0.000000000000 [km]
+Z = 0.000000000000 [km]
+X_DOT = 0.000000000000 [km/s]
+Y_DOT = 0.000000000000 [km/s]
+Z_DOT = 7.500000000000 [km/s]
+COMMENT COVARIANCE EPOCH 2025-01-01T00:00:00.000000
+CR_R = 1.0E+06 [m**2]
+CT_R = 0.0E+00 [m**2]
+CT_T = 0.0E+00 [m**2]
+CN_R = 0.0E+00 [m**2]
+CN_T = 0.0E+00 [m**2]
+CN_N = 0.0E+00 [m**2]
+CRDOT_R = 0.0E+00 [m**2/s]
+CRDOT_T = 0.0E+00 [m**2/s]
+CRDOT_N = 0.0E+00 [m**2/s]
+CRDOT_RDOT = 0.0E+00 [m**2/s**2]
+CTDOT_R = 0.0E+00 [m**2/s]
+CTDOT_T = 0.0E+00 [m**2/s]
+CTDOT_N = 0.0E+00 [m**2/s]
+CTDOT_RDOT = 0.0E+00 [m**2/s**2]
+CTDOT_TDOT = 0.0E+00 [m**2/s**2]
+CNDOT_R = 0.0E+00 [m**2/s]
+CNDOT_T = 0.0E+00 [m**2/s]
+CNDOT_N = 0.0E+00 [m**2/s]
+CNDOT_RDOT = 0.0E+00 [m**2/s**2]
+CNDOT_TDOT = 0.0E+00 [m**2/s**2]
+CNDOT_NDOT = 0.0E+00 [m**2/s**2]
+";
+
+/// The crossing, one of whose objects has a covariance.
+const ONE_COVERED: Scene = &[
+    (
+        "a.oem",
+        Content::Covered("7000 -225 0 0 7.5 0", "7000 225 0 0 7.5 0", &[], COVARIANCE),
+    ),
+    (
+        "b.oem",
+        Content::Minute("7001 0 -225 0 0 7.5", "7001 0 225 0 0 7.5", &[]),
+    ),
+];
+
+/// Three objects in a row, each near the next, of which the last two have a covariance.
+const TWO_OF_THREE: Scene = &[
+    ("a.oem", Content::Rest("7000 0 0")),
+    (
+        "b.oem",
+        Content::Covered("7003 0 0 0 0 0", "7003 0 0 0 0 0", &[], COVARIANCE),
+    ),
+    (
+        "c.oem",
+        Content::Covered("7006 0 0 0 0 0", "7006 0 0 0 0 0", &[], OF_ONE_ELEMENT),
+    ),
+];
+
+/// A folder, the names of the pieces that a run puts, the last fields of the report's encounters, and the end of the summary.
+type Told = (
+    Scene,
+    &'static [&'static str],
+    &'static [&'static str],
+    &'static str,
+);
+
+const TOLD: [Told; 4] = [
+    (
+        COVERED,
+        &["screen.report", "screen.cert", "000001.cdm", "-"],
+        &["CDM"],
+        "ENCOUNTERS 1\nMESSAGES 1\n",
+    ),
+    (
+        CROSSING,
+        &["screen.report", "screen.cert", "-"],
+        &["NOCOV"],
+        "ENCOUNTERS 1\nMESSAGES 0\n",
+    ),
+    (
+        ONE_COVERED,
+        &["screen.report", "screen.cert", "-"],
+        &["NOCOV"],
+        "ENCOUNTERS 1\nMESSAGES 0\n",
+    ),
+    // A message bears the number of its encounter.
+    (
+        TWO_OF_THREE,
+        &["screen.report", "screen.cert", "000002.cdm", "-"],
+        &["NOCOV", "CDM"],
+        "ENCOUNTERS 2\nMESSAGES 1\n",
+    ),
+];
+
+/// Runs the whole folder of a scene at this time.
+fn shelf_of<R: Threads + Wait + Sync>(
+    rt: &R,
+    alloc: Global,
+    scene: Scene,
+) -> Result<CalmShelf, AllocError> {
+    let (_, shelf) = run_at(rt, alloc, "screen .", files_of(alloc, scene)?, NOW)?;
+    Ok(shelf)
+}
+
+/// Whether the pieces have these names, in order.
+fn are_named(pieces: &[FileBytes], names: &[&str]) -> bool {
+    pieces.len() == names.len()
+        && pieces
+            .iter()
+            .zip(names)
+            .all(|(piece, name)| piece.name.as_slice() == name.as_bytes())
+}
+
+/// Whether the encounters of a report have these last fields, in order.
+fn are_told(report: &[u8], fields: &[&str]) -> bool {
+    let mut left = fields.iter();
+    for line in report.split(|byte| *byte == b'\n') {
+        if line.starts_with(b"ENCOUNTER ") {
+            match left.next() {
+                Some(field) if line.ends_with(field.as_bytes()) => {}
+                _ => return false,
+            }
+        }
+    }
+    left.next().is_none()
+}
+
+/// The place of the first case with other pieces, fields or counts.
+fn first_other<R: Threads + Wait + Sync>(
+    rt: &R,
+    alloc: Global,
+    cases: &[Told],
+) -> Result<Option<usize>, AllocError> {
+    for (place, (scene, names, fields, counts)) in cases.iter().enumerate() {
+        let shelf = shelf_of(rt, alloc, scene)?;
+        let pieces = shelf.written();
+        if !are_named(pieces, names)
+            || !are_told(piece_of(pieces, b"screen.report"), fields)
+            || !piece_of(pieces, b"-").ends_with(counts.as_bytes())
+        {
+            return Ok(Some(place));
+        }
+    }
+    Ok(None)
+}
+
+#[test]
+fn encounters_with_both_covariances_have_a_message(rt: HostRuntime) -> Result<(), Fail> {
+    assert_eq!(rt; first_other(&rt, rt.alloc(), TOLD.as_slice())?, None);
+    Ok(())
+}
+
+#[test]
+fn two_tracks_cross_at_one_kilometre(rt: HostRuntime) -> Result<(), Fail> {
+    let shelf = shelf_of(&rt, rt.alloc(), COVERED)?;
+    assert_eq!(rt; piece_of(shelf.written(), b"000001.cdm"), MESSAGE);
+    Ok(())
+}
+
+#[test]
+fn a_message_names_its_originator(rt: HostRuntime) -> Result<(), Fail> {
+    let alloc = rt.alloc();
+    let line = "screen . --originator Ops_7-b";
+    let (_, shelf) = run_at(&rt, alloc, line, files_of(alloc, COVERED)?, NOW)?;
+    let message = piece_of(shelf.written(), b"000001.cdm");
+    let front = b"CCSDS_CDM_VERS = 1.0
+CREATION_DATE = 2025-01-02T00:00:00.000000
+ORIGINATOR = Ops_7-b
+MESSAGE_ID = Ops_7-b_000001
+";
+    assert!(rt; message.starts_with(front));
+    Ok(())
+}

@@ -1,0 +1,100 @@
+//! A made-up catalogue that is screened in memory.
+ghost use Rattle.std.specs.Prelude.{◌≡◌, ◌≤◌, ◌++◌, List, [], ◌∷◌, Some, Ok, Err, IfErr, IfOk};
+ghost use Rattle.cj_io.specs.Faults.{Rose};
+ghost use Rattle.cj_io.specs.declared.file.FileBytes.{FileBytes};
+ghost use Rattle.cj_hermite.specs.Problems.{plain_problem};
+ghost use Rattle.cj_words.specs.Commands.{plain_trial};
+ghost use Rattle.cj_words.specs.Settings.{asked_of};
+ghost use Rattle.cj_screen.specs.Findings.{AreFound, case_in, ended, tried_in};
+ghost use Rattle.cj_screen.specs.Outcome as spec;
+ghost use Rattle.cj_screen.specs.Outcome.{ComesOfPuts, ComesOfTrial, Leaves};
+ghost use Rattle.cj_status.specs.Steps.{Gives};
+
+use crate::findings::Findings;
+use crate::putting::put;
+use crate::screening::screen;
+use cj_cert::written_certificate;
+use cj_checker::{Answer, check};
+use cj_gen::catalogue;
+use cj_hermite::Problem;
+use cj_inputs::prepare;
+use cj_io::{CalmFolder, Gate, Shelf};
+use cj_report::summary_text;
+use cj_status::Status;
+use cj_words::{Settings, Trial};
+use std::alloc::{AllocError, Global};
+use std::sync::Wait;
+use std::thread::Threads;
+
+/// Screens a made-up catalogue over its whole span, and checks the certificate of what is found.
+#[tactic(auto, unfolding(crate::specs::Outcome::pieces_tried))]
+pub fn try_catalogue<R: Threads + Wait + Sync, G: Gate + Sync>(
+    rt: &R,
+    alloc: Global,
+    gate: &G,
+    trial: &Trial,
+) -> Result<Findings, Status>
+    ensures ends { IfErr result ComesOfTrial }
+    ensures told { Gives ⊥ (λ found. tried_in found ∷ []) result (spec.pieces_tried (plain_trial trial.now)) }
+    ensures found { IfOk result AreFound }
+{
+    let problem = prepare_catalogue(alloc, trial)?;
+    let found = screen(rt, alloc, gate, problem, false, trial.workers, trial.cells)?;
+    confirm(alloc, &found)?;
+    Ok(found)
+}
+
+/// The problem of a made-up catalogue: its files are read as those of a folder are.
+#[tactic(auto, unfolding(crate::specs::Outcome::case_tried))]
+fn prepare_catalogue(alloc: Global, trial: &Trial) -> Result<Problem, Status>
+    ensures ends { IfErr result ComesOfTrial }
+    ensures told { Gives ⊥ plain_problem result (spec.case_tried (plain_trial trial.now)) }
+{
+    let recipe = trial.recipe;
+    let files = catalogue(alloc, recipe.seed, recipe.objects, recipe.minutes)?;
+    prepare(alloc, &mut CalmFolder::new(files), &settings_of(trial))
+}
+
+/// The settings of a made-up catalogue.
+fn settings_of(trial: &Trial) -> Settings<'static>
+    ensures { asked_of result ≡ spec.settings_tried (plain_trial trial.now) }
+{
+    Settings {
+        threshold: trial.threshold,
+        from: None,
+        to: None,
+        suffix: b".oem",
+        as_hermite3: false,
+        sizes: None,
+    }
+}
+
+/// Has the certificate of what is found checked. It is accepted.
+fn confirm(alloc: Global, found: &Findings) -> Result<(), AllocError>
+    requires { AreFound found.now }
+{
+    let certificate = written_certificate(
+        alloc,
+        &found.problem,
+        &found.shells,
+        &found.boxes,
+        &found.leaves,
+    )?;
+    match check(alloc, &found.problem, &certificate)? {
+        Answer::Accepted => Ok(()),
+        Answer::Refused { .. } => unreachable!(),
+    }
+}
+
+/// Puts the summary, and that the certificate is accepted.
+pub fn put_trial<S: Shelf>(alloc: Global, shelf: &mut S, found: &Findings) -> Result<(), Status>
+    requires { AreFound found.now }
+    ensures comes { IfErr result ComesOfPuts }
+    ensures write { result ≡ Err Status.WriteFault → Rose (S.faults shelf.old) (S.faults shelf.new) }
+    ensures leaves { (old : List FileBytes) → S.pieces shelf.old ≡ Some old → Leaves (ended result) (Ok (tried_in found.now ∷ [])) old (S.pieces shelf.new) }
+    ensures later { S.faults shelf.old ≤ S.faults shelf.new }
+{
+    let mut text = summary_text(alloc, &found.counts)?;
+    text.extend_from_slice(b"CHECK ACCEPTED\n")?;
+    put(alloc, shelf, b"-", &text)
+}
