@@ -186,6 +186,10 @@ seen_described r seen same is = subst (λ (x : RefinerySeen). All
     (λ root. Describe (plain_problem x.problem) root (leaves_of_root (plain_problem x.problem) root)) (plain_cells x.roots)) same
     (sound_described r is)
 
+-- the interpolants of a refinery have lengths, as it is seen or as it is kept
+pub still_long : (r seen : RefinerySeen) → r ≡ seen → HaveLengths (plain_problem seen.problem) → HaveLengths (plain_problem r.problem)
+still_long r seen same long = subst (λ (x : RefinerySeen). HaveLengths (plain_problem x.problem)) (sym same) long
+
 pub seen_single : (r seen : RefinerySeen) → r ≡ seen → IsSound r → (c : Cell) (m : ℕ) → Contains seen.roots c → c.first.micros ≤ m →
     m ≤ c.last.micros → weigh (has c.pair.a c.pair.b m) seen.roots ≡ 1
 seen_single r seen same is = subst (λ (x : RefinerySeen). (c : Cell) (m : ℕ) → Contains x.roots c → c.first.micros ≤ m → m ≤ c.last.micros → weigh

@@ -97,6 +97,15 @@ fn totals_with(totals: Totals, refined: u64, added: u64) -> Totals
 }
 
 impl<'p, K: Run> Refinery<'p, K> {
+    /// What is so of the roots, whatever the hands have done: it does nothing else than to look at the tracks.
+    fn have_roots(&self)
+        ensures lengths { HaveLengths (plain_problem self.now.problem) }
+        ensures single { (r : Cell) (m : ℕ) → Contains self.now.roots r → r.first.micros ≤ m → m ≤ r.last.micros → weigh (has r.pair.a r.pair.b m) self.now.roots ≡ 1 }
+        ensures describe { All (λ root. Describe (plain_problem self.now.problem) root (leaves_of_root (plain_problem self.now.problem) root)) (plain_cells self.now.roots) }
+    {
+        have_lengths(self.problem);
+    }
+
     /// The leaves of all roots, in order, from all hands of the refinery. Cells that are left are refined here.
     pub fn finish(self, alloc: Global, hands: Vec<Hand<'p, K>>) -> Result<Refined, FinishError>
         requires hands { All (IsHandOf self) hands.items }
@@ -120,7 +129,7 @@ impl<'p, K: Run> Refinery<'p, K> {
         // The leaves of each root lie in order in it, hold each of its ticks, and each is true at each of its own.
         ensures describe { All (λ root. Describe (plain_problem self.entry.problem) root (leaves_of_root (plain_problem self.entry.problem) root)) (plain_cells self.entry.roots) }
     {
-        have_lengths(self.problem);
+        self.have_roots();
         let parts = take_apart(alloc, &self, hands)?;
         let Refinery {
             problem,

@@ -20,130 +20,10 @@ use Rattle.cj_pool.specs.Refined.{AreLeft, IsTooMany, Stands, TotalsOf, leaves_w
 use Rattle.cj_pool.specs.RootLists.{AreRoots, IsKept}
 use Rattle.cj_pool.specs.Stations.{weigh_given, weigh_all_taken}
 use Rattle.cj_pool.specs.Tree.{InTree, IsLeafOf}
-use Rattle.cj_pool.proofs.EndLemmas.{AreAll, AreCounts, refinery_of, run_of, run_sound, run_numbers, seen_described, seen_single, all_value, all_refused, all_left, all_judged, all_mine, few_splits, few_closes, all_counts, found_length, fewer}
+use Rattle.cj_pool.proofs.EndLemmas.{AreAll, AreCounts, refinery_of, run_of, run_sound, run_numbers, still_long, all_value, all_refused, all_left, all_judged, all_mine, few_splits, few_closes, all_counts, found_length, fewer}
 use Rattle.cj_pool.proofs.FinishLemmas.{are_open, closed_found, kept_trees, trees_keep}
 use Rattle.cj_pool.proofs.HandSumLemmas.{leaves_in, left_of}
 use Rattle.cj_pool.proofs.refinery.Refinery.finish.Goals as goal
-
-pub returns-in_err-parts-clause-single : goal.returns-in_err-parts-clause-single
-returns-in_err-parts-clause-single g c =
-    let P0 = c.self.inside.problem.now in
-    let P = g.K.Run.problem in
-    let roots = g.K.Run.roots in
-    let n = g.K.Run.workers in
-    let limit = c.self.inside.limit in
-    let deques = deques_of c.self.inside.thieves.items in
-    let ledger = c.self.inside.ledger in
-    let inv = c.self.invariant in
-    let r = run_of P roots limit n deques ledger in
-    let same = refinery_of P0 P roots limit n deques ledger c.args.self inv.0 c.self.view_is in
-    let sound = run_sound P0 P roots limit n deques ledger inv.0 c.have_lengths.ensures inv.1 inv.2 inv.3 inv.4 in
-    seen_single r c.args.self same sound
-
-pub returns-in_err-parts-clause-describe : goal.returns-in_err-parts-clause-describe
-returns-in_err-parts-clause-describe g c =
-    let P0 = c.self.inside.problem.now in
-    let P = g.K.Run.problem in
-    let roots = g.K.Run.roots in
-    let n = g.K.Run.workers in
-    let limit = c.self.inside.limit in
-    let deques = deques_of c.self.inside.thieves.items in
-    let ledger = c.self.inside.ledger in
-    let inv = c.self.invariant in
-    let r = run_of P roots limit n deques ledger in
-    let same = refinery_of P0 P roots limit n deques ledger c.args.self inv.0 c.self.view_is in
-    let sound = run_sound P0 P roots limit n deques ledger inv.0 c.have_lengths.ensures inv.1 inv.2 inv.3 inv.4 in
-    seen_described r c.args.self same sound
-
-pub returns-in_err-gather-clause-single : goal.returns-in_err-gather-clause-single
-returns-in_err-gather-clause-single g c =
-    let P0 = c.self.inside.problem.now in
-    let P = g.K.Run.problem in
-    let roots = g.K.Run.roots in
-    let n = g.K.Run.workers in
-    let limit = c.self.inside.limit in
-    let deques = deques_of c.self.inside.thieves.items in
-    let ledger = c.self.inside.ledger in
-    let inv = c.self.invariant in
-    let r = run_of P roots limit n deques ledger in
-    let same = refinery_of P0 P roots limit n deques ledger c.args.self inv.0 c.self.view_is in
-    let sound = run_sound P0 P roots limit n deques ledger inv.0 c.have_lengths.ensures inv.1 inv.2 inv.3 inv.4 in
-    seen_single r c.args.self same sound
-
-pub returns-in_err-gather-clause-describe : goal.returns-in_err-gather-clause-describe
-returns-in_err-gather-clause-describe g c =
-    let P0 = c.self.inside.problem.now in
-    let P = g.K.Run.problem in
-    let roots = g.K.Run.roots in
-    let n = g.K.Run.workers in
-    let limit = c.self.inside.limit in
-    let deques = deques_of c.self.inside.thieves.items in
-    let ledger = c.self.inside.ledger in
-    let inv = c.self.invariant in
-    let r = run_of P roots limit n deques ledger in
-    let same = refinery_of P0 P roots limit n deques ledger c.args.self inv.0 c.self.view_is in
-    let sound = run_sound P0 P roots limit n deques ledger inv.0 c.have_lengths.ensures inv.1 inv.2 inv.3 inv.4 in
-    seen_described r c.args.self same sound
-
-pub returns-in_err-refine_open-clause-single : goal.returns-in_err-refine_open-clause-single
-returns-in_err-refine_open-clause-single g c =
-    let P0 = c.self.inside.problem.now in
-    let P = g.K.Run.problem in
-    let roots = g.K.Run.roots in
-    let n = g.K.Run.workers in
-    let limit = c.self.inside.limit in
-    let deques = deques_of c.self.inside.thieves.items in
-    let ledger = c.self.inside.ledger in
-    let inv = c.self.invariant in
-    let r = run_of P roots limit n deques ledger in
-    let same = refinery_of P0 P roots limit n deques ledger c.args.self inv.0 c.self.view_is in
-    let sound = run_sound P0 P roots limit n deques ledger inv.0 c.have_lengths.ensures inv.1 inv.2 inv.3 inv.4 in
-    seen_single r c.args.self same sound
-
-pub returns-in_err-refine_open-clause-describe : goal.returns-in_err-refine_open-clause-describe
-returns-in_err-refine_open-clause-describe g c =
-    let P0 = c.self.inside.problem.now in
-    let P = g.K.Run.problem in
-    let roots = g.K.Run.roots in
-    let n = g.K.Run.workers in
-    let limit = c.self.inside.limit in
-    let deques = deques_of c.self.inside.thieves.items in
-    let ledger = c.self.inside.ledger in
-    let inv = c.self.invariant in
-    let r = run_of P roots limit n deques ledger in
-    let same = refinery_of P0 P roots limit n deques ledger c.args.self inv.0 c.self.view_is in
-    let sound = run_sound P0 P roots limit n deques ledger inv.0 c.have_lengths.ensures inv.1 inv.2 inv.3 inv.4 in
-    seen_described r c.args.self same sound
-
-pub returns-clause-single : goal.returns-clause-single
-returns-clause-single g c =
-    let P0 = c.self.inside.problem.now in
-    let P = g.K.Run.problem in
-    let roots = g.K.Run.roots in
-    let n = g.K.Run.workers in
-    let limit = c.self.inside.limit in
-    let deques = deques_of c.self.inside.thieves.items in
-    let ledger = c.self.inside.ledger in
-    let inv = c.self.invariant in
-    let r = run_of P roots limit n deques ledger in
-    let same = refinery_of P0 P roots limit n deques ledger c.args.self inv.0 c.self.view_is in
-    let sound = run_sound P0 P roots limit n deques ledger inv.0 c.have_lengths.ensures inv.1 inv.2 inv.3 inv.4 in
-    seen_single r c.args.self same sound
-
-pub returns-clause-describe : goal.returns-clause-describe
-returns-clause-describe g c =
-    let P0 = c.self.inside.problem.now in
-    let P = g.K.Run.problem in
-    let roots = g.K.Run.roots in
-    let n = g.K.Run.workers in
-    let limit = c.self.inside.limit in
-    let deques = deques_of c.self.inside.thieves.items in
-    let ledger = c.self.inside.ledger in
-    let inv = c.self.invariant in
-    let r = run_of P roots limit n deques ledger in
-    let same = refinery_of P0 P roots limit n deques ledger c.args.self inv.0 c.self.view_is in
-    let sound = run_sound P0 P roots limit n deques ledger inv.0 c.have_lengths.ensures inv.1 inv.2 inv.3 inv.4 in
-    seen_described r c.args.self same sound
 
 pub gather-requires-clause-tree : goal.gather-requires-clause-tree
 gather-requires-clause-tree g c =
@@ -157,7 +37,7 @@ gather-requires-clause-tree g c =
     let inv = c.self.invariant in
     let r = run_of P roots limit n deques ledger in
     let same = refinery_of P0 P roots limit n deques ledger c.args.self inv.0 c.self.view_is in
-    let sound = run_sound P0 P roots limit n deques ledger inv.0 c.have_lengths.ensures inv.1 inv.2 inv.3 inv.4 in
+    let sound = run_sound P0 P roots limit n deques ledger inv.0 (still_long _ c.args.self c.self.view_is c.have_roots.ensures.lengths) inv.1 inv.2 inv.3 inv.4 in
     let hands = c.args.hands.items in
     let p = c.in_ok-parts.ensures in
     let parts = c.in_ok-parts.parts in
@@ -176,7 +56,7 @@ refine_open-requires-clause-kept g c =
     let inv = c.self.invariant in
     let r = run_of P roots limit n deques ledger in
     let same = refinery_of P0 P roots limit n deques ledger c.args.self inv.0 c.self.view_is in
-    let sound = run_sound P0 P roots limit n deques ledger inv.0 c.have_lengths.ensures inv.1 inv.2 inv.3 inv.4 in
+    let sound = run_sound P0 P roots limit n deques ledger inv.0 (still_long _ c.args.self c.self.view_is c.have_roots.ensures.lengths) inv.1 inv.2 inv.3 inv.4 in
     let trees = subst (All (InTree (plain_problem P) roots)) (sym c.deref.ensures.value) c.gather.ensures.tree in
     subst (λ (q : Problem). All (IsKept (plain_problem q)) c.deref.result.now) (sym inv.0)
     (trees_keep (plain_problem P) roots c.deref.result.now inv.1 trees)
@@ -193,7 +73,7 @@ returns-in_err-refine_open-clause-refused g c =
     let inv = c.self.invariant in
     let r = run_of P roots limit n deques ledger in
     let same = refinery_of P0 P roots limit n deques ledger c.args.self inv.0 c.self.view_is in
-    let sound = run_sound P0 P roots limit n deques ledger inv.0 c.have_lengths.ensures inv.1 inv.2 inv.3 inv.4 in
+    let sound = run_sound P0 P roots limit n deques ledger inv.0 (still_long _ c.args.self c.self.view_is c.have_roots.ensures.lengths) inv.1 inv.2 inv.3 inv.4 in
     let hands = c.args.hands.items in
     let p = c.in_ok-parts.ensures in
     let parts = c.in_ok-parts.parts in
@@ -236,7 +116,7 @@ total-requires-clause-mine g c =
     let inv = c.self.invariant in
     let r = run_of P roots limit n deques ledger in
     let same = refinery_of P0 P roots limit n deques ledger c.args.self inv.0 c.self.view_is in
-    let sound = run_sound P0 P roots limit n deques ledger inv.0 c.have_lengths.ensures inv.1 inv.2 inv.3 inv.4 in
+    let sound = run_sound P0 P roots limit n deques ledger inv.0 (still_long _ c.args.self c.self.view_is c.have_roots.ensures.lengths) inv.1 inv.2 inv.3 inv.4 in
     let hands = c.args.hands.items in
     let p = c.in_ok-parts.ensures in
     let parts = c.in_ok-parts.parts in
@@ -257,7 +137,7 @@ total-requires-clause-all g c =
     let inv = c.self.invariant in
     let r = run_of P roots limit n deques ledger in
     let same = refinery_of P0 P roots limit n deques ledger c.args.self inv.0 c.self.view_is in
-    let sound = run_sound P0 P roots limit n deques ledger inv.0 c.have_lengths.ensures inv.1 inv.2 inv.3 inv.4 in
+    let sound = run_sound P0 P roots limit n deques ledger inv.0 (still_long _ c.args.self c.self.view_is c.have_roots.ensures.lengths) inv.1 inv.2 inv.3 inv.4 in
     let hands = c.args.hands.items in
     let p = c.in_ok-parts.ensures in
     let parts = c.in_ok-parts.parts in
@@ -279,7 +159,7 @@ totals_with-totals-requires-clause-enough g c =
     let inv = c.self.invariant in
     let r = run_of P roots limit n deques ledger in
     let same = refinery_of P0 P roots limit n deques ledger c.args.self inv.0 c.self.view_is in
-    let sound = run_sound P0 P roots limit n deques ledger inv.0 c.have_lengths.ensures inv.1 inv.2 inv.3 inv.4 in
+    let sound = run_sound P0 P roots limit n deques ledger inv.0 (still_long _ c.args.self c.self.view_is c.have_roots.ensures.lengths) inv.1 inv.2 inv.3 inv.4 in
     let hands = c.args.hands.items in
     let p = c.in_ok-parts.ensures in
     let parts = c.in_ok-parts.parts in
@@ -335,7 +215,7 @@ totals_with-totals-requires-clause-few_splits g c =
     let inv = c.self.invariant in
     let r = run_of P roots limit n deques ledger in
     let same = refinery_of P0 P roots limit n deques ledger c.args.self inv.0 c.self.view_is in
-    let sound = run_sound P0 P roots limit n deques ledger inv.0 c.have_lengths.ensures inv.1 inv.2 inv.3 inv.4 in
+    let sound = run_sound P0 P roots limit n deques ledger inv.0 (still_long _ c.args.self c.self.view_is c.have_roots.ensures.lengths) inv.1 inv.2 inv.3 inv.4 in
     let hands = c.args.hands.items in
     let p = c.in_ok-parts.ensures in
     let parts = c.in_ok-parts.parts in
@@ -391,7 +271,7 @@ totals_with-totals-requires-clause-few_closes g c =
     let inv = c.self.invariant in
     let r = run_of P roots limit n deques ledger in
     let same = refinery_of P0 P roots limit n deques ledger c.args.self inv.0 c.self.view_is in
-    let sound = run_sound P0 P roots limit n deques ledger inv.0 c.have_lengths.ensures inv.1 inv.2 inv.3 inv.4 in
+    let sound = run_sound P0 P roots limit n deques ledger inv.0 (still_long _ c.args.self c.self.view_is c.have_roots.ensures.lengths) inv.1 inv.2 inv.3 inv.4 in
     let hands = c.args.hands.items in
     let p = c.in_ok-parts.ensures in
     let parts = c.in_ok-parts.parts in
@@ -447,7 +327,7 @@ returns-clause-value g c =
     let inv = c.self.invariant in
     let r = run_of P roots limit n deques ledger in
     let same = refinery_of P0 P roots limit n deques ledger c.args.self inv.0 c.self.view_is in
-    let sound = run_sound P0 P roots limit n deques ledger inv.0 c.have_lengths.ensures inv.1 inv.2 inv.3 inv.4 in
+    let sound = run_sound P0 P roots limit n deques ledger inv.0 (still_long _ c.args.self c.self.view_is c.have_roots.ensures.lengths) inv.1 inv.2 inv.3 inv.4 in
     let hands = c.args.hands.items in
     let p = c.in_ok-parts.ensures in
     let parts = c.in_ok-parts.parts in
@@ -495,7 +375,7 @@ returns-clause-judged g c =
     let inv = c.self.invariant in
     let r = run_of P roots limit n deques ledger in
     let same = refinery_of P0 P roots limit n deques ledger c.args.self inv.0 c.self.view_is in
-    let sound = run_sound P0 P roots limit n deques ledger inv.0 c.have_lengths.ensures inv.1 inv.2 inv.3 inv.4 in
+    let sound = run_sound P0 P roots limit n deques ledger inv.0 (still_long _ c.args.self c.self.view_is c.have_roots.ensures.lengths) inv.1 inv.2 inv.3 inv.4 in
     let hands = c.args.hands.items in
     let p = c.in_ok-parts.ensures in
     let parts = c.in_ok-parts.parts in
@@ -548,7 +428,7 @@ returns-clause-closed g c =
     let inv = c.self.invariant in
     let r = run_of P roots limit n deques ledger in
     let same = refinery_of P0 P roots limit n deques ledger c.args.self inv.0 c.self.view_is in
-    let sound = run_sound P0 P roots limit n deques ledger inv.0 c.have_lengths.ensures inv.1 inv.2 inv.3 inv.4 in
+    let sound = run_sound P0 P roots limit n deques ledger inv.0 (still_long _ c.args.self c.self.view_is c.have_roots.ensures.lengths) inv.1 inv.2 inv.3 inv.4 in
     let hands = c.args.hands.items in
     let p = c.in_ok-parts.ensures in
     let parts = c.in_ok-parts.parts in
@@ -598,7 +478,7 @@ returns-clause-totals g c =
     let inv = c.self.invariant in
     let r = run_of P roots limit n deques ledger in
     let same = refinery_of P0 P roots limit n deques ledger c.args.self inv.0 c.self.view_is in
-    let sound = run_sound P0 P roots limit n deques ledger inv.0 c.have_lengths.ensures inv.1 inv.2 inv.3 inv.4 in
+    let sound = run_sound P0 P roots limit n deques ledger inv.0 (still_long _ c.args.self c.self.view_is c.have_roots.ensures.lengths) inv.1 inv.2 inv.3 inv.4 in
     let hands = c.args.hands.items in
     let p = c.in_ok-parts.ensures in
     let parts = c.in_ok-parts.parts in
@@ -664,7 +544,7 @@ returns-clause-once g c =
     let inv = c.self.invariant in
     let r = run_of P roots limit n deques ledger in
     let same = refinery_of P0 P roots limit n deques ledger c.args.self inv.0 c.self.view_is in
-    let sound = run_sound P0 P roots limit n deques ledger inv.0 c.have_lengths.ensures inv.1 inv.2 inv.3 inv.4 in
+    let sound = run_sound P0 P roots limit n deques ledger inv.0 (still_long _ c.args.self c.self.view_is c.have_roots.ensures.lengths) inv.1 inv.2 inv.3 inv.4 in
     let hands = c.args.hands.items in
     let p = c.in_ok-parts.ensures in
     let parts = c.in_ok-parts.parts in
