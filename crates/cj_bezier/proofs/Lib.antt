@@ -1,3 +1,4 @@
+pub mod AllBoxLemmas
 pub mod BoxLemmas
 pub mod BoxRoundLemmas
 pub mod FarLemmas

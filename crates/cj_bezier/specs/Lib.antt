@@ -1,3 +1,4 @@
+pub mod AllBoxes
 pub mod Cells
 pub mod Enclosed
 pub mod Gaps

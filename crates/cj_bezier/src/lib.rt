@@ -2,6 +2,7 @@
 #![tactic(auto)]
 
 mod axis_box;
+mod box_touch;
 mod cell;
 mod encounter;
 mod gap_of_hulls;
@@ -20,6 +21,7 @@ mod verdict_of_gap;
 mod verdicts;
 
 pub use axis_box::AxisBox;
+pub use box_touch::box_touches;
 pub use cell::Cell;
 pub use encounter::{Closest, Encounter, Mark};
 pub use gap_of_hulls::{gap, gap_origin};

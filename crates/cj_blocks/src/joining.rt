@@ -10,9 +10,8 @@ ghost use Rattle.cj_blocks.specs.BoxRows.{box_at};
 ghost use Rattle.cj_blocks.specs.Listed.{Treated, joined_of};
 
 use crate::block_slots::BlockSlots;
-use crate::box_touch::box_touches;
 use crate::round_boxes::box_round;
-use cj_bezier::AxisBox;
+use cj_bezier::{AxisBox, box_touches};
 use cj_hermite::{Pair, threshold_between};
 
 /// Whether two boxes are there and apart by at most a threshold on each axis.

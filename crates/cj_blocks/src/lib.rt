@@ -4,7 +4,6 @@
 
 mod block;
 mod block_slots;
-mod box_touch;
 mod joining;
 mod listing;
 mod pairs_by_object;

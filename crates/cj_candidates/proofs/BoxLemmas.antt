@@ -5,8 +5,8 @@ use Rattle.std.specs.List.{flat_map, range_with_len}
 use Rattle.std.proofs.Math.Nat.{suc-mul}
 use Rattle.std.proofs.lemmas.Bool.{cases_eq}
 use Rattle.std.proofs.lemmas.Grind.{flat_map-append}
-use Rattle.std.proofs.lemmas.List.{take_more, map-append, length-map, length-append, get_or-map, get_or_append_left, get_or-append-add}
-use Rattle.std.proofs.lemmas.List.FromFn.{length-range_with_len, get_or-map-range_with_len}
+use Rattle.std.proofs.lemmas.List.{take_more, map-append, length-map, get_or-map, get_or_append_left, get_or-append-add}
+use Rattle.std.proofs.lemmas.List.FromFn.{get_or-map-range_with_len}
 use Rattle.std.proofs.lemmas.Nat.{row_fits}
 use Rattle.cj_track.specs.declared.track.Track.{Track}
 use Rattle.cj_track.specs.PlainTracks.{PlainTrack}
@@ -17,7 +17,8 @@ use Rattle.cj_hermite.proofs.PairLemmas.{range_more}
 use Rattle.cj_bezier.specs.declared.axis_box.AxisBox.{AxisBox}
 use Rattle.cj_bezier.specs.SlotBoxes.{PlainBox, plain_boxes, box_of, plain_box}
 use Rattle.cj_bezier.specs.Looked.{boxes_in}
-use Rattle.cj_candidates.specs.Boxes.{boxes_of, boxes_over}
+use Rattle.cj_bezier.proofs.AllBoxLemmas.{row_length, boxes_count}
+use Rattle.cj_bezier.specs.AllBoxes.{boxes_of, boxes_over}
 use Rattle.cj_candidates.specs.ObjectRuns.{IsInOwnBox, IsInOwnBoxes}
 use Rattle.cj_candidates.proofs.ObjectLemmas.{objects_to, one_more}
 
@@ -47,18 +48,6 @@ objects_more f i tracks t lt is =
 
 -- ---- the boxes of one slot
 
-row_length : (e : PlainTrack) (first last n : ℕ) → length (boxes_over e first last n) ≡ n
-row_length e first last n = length-map (range_with_len 0 n) (λ slot. box_of e (slot_first first slot) (slot_last first last slot)) ∙ length-range_with_len 0 n
-
-rows_length : (es : List PlainTrack) (first last n : ℕ) → length (flat_map (λ e. boxes_over e first last n) es) ≡ length es * n
-rows_length [] first last n = omega arith
-rows_length (e ∷ es) first last n =
-    let rest = flat_map (λ e. boxes_over e first last n) es in
-    let here = row_length e first last n in
-    let there = rows_length es first last n in
-    let all : suc (length es) * n ≡ length es * n + n = suc-mul (length es) n in
-    omega (arith, length-append (boxes_over e first last n) rest)
-
 -- the box of an object in a slot stands in its row
 in_row : (es : List PlainTrack) (first last n i slot : ℕ) (d : Option PlainBox) → slot < n → i < length es
     → get_or (flat_map (λ e. boxes_over e first last n) es) (i * n + slot) d ≡ get_or (map (λ e. box_of e (slot_first first slot) (slot_last first last slot)) es) i d
@@ -76,13 +65,6 @@ in_row (e ∷ es) first last n (suc i) slot d lt below =
     ap (λ (k : ℕ). get_or (boxes_over e first last n ++ rest) k d) at
     ∙ get_or-append-add (boxes_over e first last n) rest (i * n + slot) d
     ∙ in_row es first last n i slot d lt (omega arith)
-
--- how many boxes there are
-pub boxes_count : (case : PlainProblem) (boxes : List (Option AxisBox)) → plain_boxes boxes ≡ boxes_of case → length boxes ≡ length case.ephemerides * slot_count case.first case.last
-unfolding boxes_of
-boxes_count case boxes same =
-    sym (length-map boxes (option_map plain_box)) ∙ ap (λ (bs : List (Option PlainBox)). length bs) same
-    ∙ rows_length case.ephemerides case.first case.last (slot_count case.first case.last)
 
 -- an object's place in a list of rows
 pub place_within : (i objects n slot : ℕ) → i < objects → slot < n → i * n + slot < objects * n

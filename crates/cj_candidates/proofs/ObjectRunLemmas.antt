@@ -15,7 +15,7 @@ use Rattle.cj_bezier.specs.Shells.{shell_of}
 use Rattle.cj_bezier.specs.SlotBoxes.{PlainBox, plain_boxes}
 use Rattle.cj_bezier.specs.Enclosed.{AreInBoxes, AreInShells}
 use Rattle.cj_bezier.specs.Looked.{boxes_in, shells_of}
-use Rattle.cj_candidates.specs.Boxes.{boxes_of, boxes_over}
+use Rattle.cj_bezier.specs.AllBoxes.{boxes_of, boxes_over}
 use Rattle.cj_candidates.specs.declared.object_run.ObjectRun.{ObjectRun}
 use Rattle.cj_candidates.specs.ObjectRuns.{AreMeasured, IsInOwnShell, IsInOwnBoxes}
 use Rattle.cj_candidates.proofs.ObjectLemmas.{objects_to, in_shells, in_boxes}

@@ -1,4 +1,3 @@
-pub mod Boxes
 pub mod Counts
 pub mod ObjectRuns
 pub mod SlotRuns

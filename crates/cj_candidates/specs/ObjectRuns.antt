@@ -8,7 +8,7 @@ use Rattle.cj_hermite.specs.Slots.{slot_first, slot_last}
 use Rattle.cj_bezier.specs.Shells.{shell_of}
 use Rattle.cj_bezier.specs.SlotBoxes.{plain_boxes, box_of}
 use Rattle.cj_bezier.specs.Enclosed.{IsInBox, IsInShell}
-use Rattle.cj_candidates.specs.Boxes.{boxes_over}
+use Rattle.cj_bezier.specs.AllBoxes.{boxes_over}
 use Rattle.cj_candidates.specs.declared.object_run.ObjectRun.{ObjectRun}
 
 -- an object is in its own shell

@@ -7,7 +7,7 @@ ghost use Rattle.cj_bezier.specs.SlotBoxes.{plain_boxes};
 ghost use Rattle.cj_bezier.specs.Cells.{plain_cells};
 ghost use Rattle.cj_bezier.specs.Looked.{shells_of, is_looked, pairs_kept, pairs_looked};
 ghost use Rattle.cj_hermite.specs.Roots.{roots_of, roots_by_slot};
-ghost use Rattle.cj_candidates.specs.Boxes.{boxes_of};
+ghost use Rattle.cj_bezier.specs.AllBoxes.{boxes_of};
 ghost use Rattle.cj_candidates.specs.Counts.{looked_count};
 ghost use Rattle.cj_bezier.specs.Enclosed.{AreInShells, UnlookedAreFar};
 

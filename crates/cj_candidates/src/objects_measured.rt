@@ -3,7 +3,7 @@ ghost use Rattle.std.specs.Prelude.{◌≡◌, ℕ, ◌<◌, ◌++◌, IfOk, OnO
 ghost use Rattle.std.specs.Thread.{IsSync};
 ghost use Rattle.cj_track.specs.Tracks.{plain_track};
 ghost use Rattle.cj_bezier.specs.SlotBoxes.{plain_boxes};
-ghost use Rattle.cj_candidates.specs.Boxes.{boxes_over};
+ghost use Rattle.cj_bezier.specs.AllBoxes.{boxes_over};
 ghost use Rattle.cj_candidates.specs.ObjectRuns.{AreMeasured, IsInOwnBoxes};
 
 use crate::object_run::ObjectRun;

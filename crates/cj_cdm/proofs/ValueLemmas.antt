@@ -14,13 +14,14 @@ use Rattle.cj_epoch.specs.Ticks.{FIRST_TICK, IsTick, LAST_TICK, DAY, HOUR, MINUT
 use Rattle.cj_epoch.specs.Calendar.{Civil, civil_of}
 use Rattle.cj_epoch.specs.Written.{clock_text, date_text, epoch_of, four, six, two}
 use Rattle.cj_epoch.proofs.WrittenLemmas.{epoch_of-read}
+use Rattle.cj_kvn.specs.Originators.{is_originator, is_originator_byte}
 use Rattle.cj_track.specs.Labels.{is_label, is_visible}
 use Rattle.cj_track.specs.declared.frame.Frame.{Frame}
 use Rattle.cj_track.specs.declared.frame.Frame.TheVariants as frames
 use Rattle.cj_cdm.specs.Designators.{is_designator, is_launch_piece}
 use Rattle.cj_cdm.specs.Reading.{is_feed}
 use Rattle.cj_cdm.specs.Texts.{frame_text}
-use Rattle.cj_cdm.specs.Values.{as_written, before_ending, before_unit, constant_said, designator_said, epoch_said, frame_said, is_international, is_originator, is_originator_byte, is_tick, kept, label_said, only_if, originator_said, same}
+use Rattle.cj_cdm.specs.Values.{as_written, before_ending, before_unit, constant_said, designator_said, epoch_said, frame_said, is_international, is_tick, kept, label_said, only_if, originator_said, same}
 use Rattle.cj_cdm.proofs.ExactLemmas.{Anything}
 use Rattle.cj_cdm.proofs.LineLemmas.{IsSaid, only_if_is, option_same, same_itself}
 

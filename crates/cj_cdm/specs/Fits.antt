@@ -3,7 +3,8 @@ use Rattle.std.specs.Prelude.{◌≡◌, true, length}
 use Rattle.std.specs.List.{list_all}
 use Rattle.cj_track.specs.Labels.{is_label}
 use Rattle.cj_cdm.specs.Messages.{PlainSide, PlainStamp, PlainMessage}
-use Rattle.cj_cdm.specs.Values.{is_decimal, is_international, is_miss, is_number, is_originator, is_short, is_tick}
+use Rattle.cj_kvn.specs.Originators.{is_originator}
+use Rattle.cj_cdm.specs.Values.{is_decimal, is_international, is_miss, is_number, is_short, is_tick}
 use Rattle.cj_cdm.specs.declared.vector.Vector.{Vector}
 
 -- made at a tick, by an originator, with a number from 1 to 2^32 - 1

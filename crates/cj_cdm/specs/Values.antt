@@ -1,14 +1,14 @@
 -- What the values of a message's lines say.
 use Rattle.std.specs.Prelude.{ℕ, ◌-◌, ◌%◌, ◌^◌, Bool, ◌&&◌, ◌||◌, not, ◌==◌, nat_eq, nat_le, nat_lt, if◌then◌else◌, List, ◌++◌, length, take, drop, codes, Option, Some, None, option_map, option_and_then, ℤ, pos, negsuc, unsigned_abs}
-use Rattle.std.specs.Char.{is_ascii_alphanumeric}
 use Rattle.std.specs.Cmp.Lexicographic.{pointwise}
-use Rattle.std.specs.List.{before_first, after_first, list_all}
+use Rattle.std.specs.List.{before_first, after_first}
 use Rattle.std.specs.Result.{result_ok}
 use Rattle.cj_epoch.specs.Reading.{reading_of}
 use Rattle.cj_epoch.specs.Ticks.{FIRST_TICK, LAST_TICK}
 use Rattle.cj_epoch.specs.Written.{epoch_of}
 use Rattle.cj_kvn.specs.Numbers.{Number, scaled_of}
 use Rattle.cj_kvn.specs.Decimals.{decimal_of, decimal_text_of, shifted}
+use Rattle.cj_kvn.specs.Originators.{is_originator}
 use Rattle.cj_track.specs.Labels.{is_label}
 use Rattle.cj_track.specs.declared.frame.Frame.{Frame}
 use Rattle.cj_track.specs.declared.frame.Frame.TheVariants as frames
@@ -51,14 +51,7 @@ frame_said text =
     else if same text (codes "GCRF") then Some frames.Gcrf
     else None
 
--- a letter, a digit, `_` or `-`
-abbrev pub is_originator_byte : ℕ → Bool
-is_originator_byte b = is_ascii_alphanumeric b || (b == 95) || (b == 45)
-
--- who made a message: 1 to 40 such bytes
-unfoldable pub is_originator : List ℕ → Bool
-is_originator text = nat_le 1 (length text) && nat_le (length text) 40 && list_all is_originator_byte text
-
+-- who made a message
 abbrev pub originator_said : List ℕ → Option (List ℕ)
 originator_said text = only_if (is_originator text) text
 

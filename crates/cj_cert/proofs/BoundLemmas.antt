@@ -15,6 +15,7 @@ use Rattle.cj_track.specs.Limits.{IsWithin as IsAtMost, MAX_COORDINATE, MAX_RATE
 use Rattle.cj_track.specs.Nodes.{IsStep, AreSteps, AreNodes}
 use Rattle.cj_track.specs.PlainTracks.{PlainTrack}
 use Rattle.cj_track.specs.Tracks.{plain_segment}
+use Rattle.cj_hermite.specs.Lengths.{Rises}
 use Rattle.cj_hermite.specs.declared.box3.Box3.{Box3}
 use Rattle.cj_hermite.specs.Boxes.{IsBoxWithin}
 use Rattle.cj_hermite.specs.Interpolant.{Four, Curve, AreBounded, IsOver, controls_of, place_denominator}
@@ -31,7 +32,6 @@ use Rattle.cj_bezier.specs.Sizes.{HULL_REACH}
 use Rattle.cj_bezier.proofs.HullListLemmas.{each_hull, have_parts, of_number}
 use Rattle.cj_bezier.proofs.ShellLemmas.{outer_of_hull}
 use Rattle.cj_cert.proofs.ListedLemmas.{each_at}
-use Rattle.cj_cert.proofs.TimesLemmas.{Rises}
 
 -- ---- the interpolants
 

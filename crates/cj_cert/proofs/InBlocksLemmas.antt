@@ -18,7 +18,8 @@ use Rattle.cj_cert.specs.declared.cert_lines.SizeOfLine.{SizeOfLine}
 use Rattle.cj_cert.specs.Certificates.{PlainBoxLine, PlainCertificate}
 use Rattle.cj_cert.specs.Listed.{box_listed}
 use Rattle.cj_cert.specs.Rewritten.{size_lines, line_of_block, boxes_by_lines, pairs_by_shells, given_of, with_blocks, rewritten, in_version_2, written_in}
-use Rattle.cj_cert.specs.Written.{boxes_in_order, leaves_in_order, shell_line, written}
+use Rattle.cj_bezier.specs.AllBoxes.{boxes_of}
+use Rattle.cj_cert.specs.Written.{leaves_in_order, shell_line, written}
 use Rattle.cj_cert.proofs.RewrittenLemmas.{each_left}
 
 -- pairs that are left of all are of the objects
@@ -77,7 +78,7 @@ of_lines_2 case objects sizes shells boxes cells = record {
 
 pub written_is : (case : PlainProblem) (objects : ℕ) (sizes : List SizeOfLine) (shells : List ShellLine) (lines : List PlainBoxLine) (cells : List PlainLeaf) (boxes : List (Option PlainBox)) (kept : List (ℕ × ℕ))
     → objects ≡ length case.ephemerides → sizes ≡ size_lines case.sizes → shells ≡ map (shell_line case) (enumerate_from 0 case.ephemerides) → lines ≡ lines_over case boxes kept
-    → boxes ≡ boxes_in_order case → kept ≡ pairs_kept case → cells ≡ leaves_in_order case → of_lines_2 case objects sizes shells lines cells ≡ written_in 2 case
+    → boxes ≡ boxes_of case → kept ≡ pairs_kept case → cells ≡ leaves_in_order case → of_lines_2 case objects sizes shells lines cells ≡ written_in 2 case
 unfolding with_blocks written
 written_is case objects sizes shells lines cells boxes kept many same rounds are by_place by_pair leaves =
     (λ i. of_lines_2 case (many i) (same i) (rounds i) (are i) (leaves i))

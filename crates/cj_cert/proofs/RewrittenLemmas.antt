@@ -34,7 +34,8 @@ use Rattle.cj_cert.specs.Accepted.{IsHullIn, has_state_in, slots_with_states, Ho
 use Rattle.cj_cert.specs.Certificates.{PlainBoxLine, PlainCertificate}
 use Rattle.cj_cert.specs.Listed.{slots_of_line, is_line_of, box_listed, boxes_listed, shells_listed, is_looked_listed}
 use Rattle.cj_cert.specs.Rewritten.{size_line, line_of_block, boxes_by_lines, pairs_by_shells, given_of, with_blocks, rewritten, in_version_2, written_in_blocks, written_in}
-use Rattle.cj_cert.specs.Written.{box_in, boxes_in_order, written}
+use Rattle.cj_bezier.specs.AllBoxes.{boxes_of}
+use Rattle.cj_cert.specs.Written.{box_in, written}
 use Rattle.cj_cert.proofs.ListedLemmas.{AreAllInTime, told_by, find_some, in_one_box, range_at}
 use Rattle.cj_cert.proofs.WrittenLemmas.{AreAllWithin, IsAtNumber, numbered, lines_of, box_is, shells_same, flat_map_same, written_accepted}
 use Rattle.cj_cert.proofs.WrittenLineLemmas.{flat_map_numbered, get_left, get_right}
@@ -373,8 +374,8 @@ in_version_2_accepted case c time accepted = go (c.version == 1)
 -- ---- what a run writes
 
 rows_same : (case : PlainProblem) (lines : List PlainBoxLine) → ((i : ℕ) (e : PlainTrack) → slice_get case.ephemerides i ≡ Some e → (slot : ℕ) → slot < slot_count case.first case.last → box_listed lines slot i ≡ box_in case e slot)
-    → boxes_by_lines case lines ≡ boxes_in_order case
-unfolding boxes_by_lines boxes_in_order
+    → boxes_by_lines case lines ≡ boxes_of case
+unfolding boxes_by_lines boxes_of
 rows_same case lines same = each_row 0 case.ephemerides (λ i e is slot lt. let at : 0 + i ≡ i = omega arith in ap (box_listed lines slot) at ∙ same i e is slot lt)
   where
     map_alike : (f g : ℕ → Option PlainBox) (ks : List ℕ) → Each (λ k. f k ≡ g k) ks → map f ks ≡ map g ks

@@ -11,6 +11,7 @@ use Rattle.cj_track.specs.Nodes.{AreSteps, AreNodes}
 use Rattle.cj_track.specs.PlainTracks.{PlainNode, PlainTrack}
 use Rattle.cj_track.specs.Segments.{AreInOrder}
 use Rattle.cj_track.specs.Tracks.{plain_node, plain_segment}
+use Rattle.cj_hermite.specs.Lengths.{Rises}
 use Rattle.cj_hermite.specs.Pieces.{PlainPiece, intervals_between, intervals_of_arc, intervals_of, interval_index_at}
 use Rattle.cj_hermite.proofs.PieceLemmas.{interval_between, intervals_in, intervals_through}
 use Rattle.cj_hermite.proofs.StateLemmas.{has, lacks, state}
@@ -20,9 +21,6 @@ use Rattle.cj_cert.proofs.ListedLemmas.{each_at}
 -- y ends before x begins, or as it does: in its states, or in its useable span
 abbrev pub EndsBefore : PlainPiece → PlainPiece → Type 0
 EndsBefore y x = (y.to.at ≤ x.from.at) ⊎ (y.last ≤ x.first)
-
-abbrev pub Rises : PlainPiece → Type 0
-Rises x = x.from.at < x.to.at
 
 -- ---- in a segment
 
@@ -41,11 +39,6 @@ in_segment first last (a ∷ b ∷ nodes) steps = (
   Each-weaker (λ x. b.at.micros ≤ x.from.at) (EndsBefore (interval_between first last a b)) (λ x h. inl h) (intervals_in first last (b ∷ nodes)) (from_on first last b nodes steps.1),
   in_segment first last (b ∷ nodes) steps.1,
 )
-
-rise_in : (first last : ℕ) (nodes : List Node) → AreSteps nodes → Each Rises (intervals_in first last nodes)
-rise_in first last [] steps = tt
-rise_in first last (a ∷ []) steps = tt
-rise_in first last (a ∷ b ∷ nodes) steps = (steps.0.rises, rise_in first last (b ∷ nodes) steps.1)
 
 -- they have its useable span
 begin_with : (first last : ℕ) (states : List PlainNode) → Each (λ x. x.first ≡ first) (intervals_between first last states)
@@ -81,10 +74,6 @@ in_order (a ∷ b ∷ segments) order nodes =
     (λ x e. Each-weaker (λ y. b.first.micros ≤ y.first) (EndsBefore x) (λ y le. inr (omega (arith, order.0))) (intervals_through (b ∷ segments))
     (begin_later b.first.micros b segments order.1 (omega arith)))
     (intervals_of_arc (plain_segment a)) (end_with a.first.micros a.last.micros (map plain_node a.nodes)))
-
-pub rise : (segments : List Segment) → Each (λ s. AreNodes s.nodes) segments → Each Rises (intervals_through segments)
-rise [] nodes = tt
-rise (a ∷ segments) nodes = Each-append Rises (intervals_of_arc (plain_segment a)) (intervals_through segments) (rise_in a.first.micros a.last.micros a.nodes nodes.0.steps) (rise segments nodes.1)
 
 -- ---- at a tick
 

@@ -26,7 +26,9 @@ use Rattle.cj_cert.specs.declared.cert_lines.ShellLine.{ShellLine}
 use Rattle.cj_cert.specs.declared.cert_lines.BoxLine.{BoxLine}
 use Rattle.cj_cert.specs.declared.cert_lines.SizeOfLine.{SizeOfLine}
 use Rattle.cj_cert.specs.Certificates.{PlainBoxLine, PlainCertificate}
-use Rattle.cj_cert.specs.Written.{shell_line, box_in, boxes_in_order, line_of_box, line_in_slot, box_lines, line_by_shells, line_by_boxes, lines_by_boxes, leaves_in_order, written}
+use Rattle.cj_bezier.specs.AllBoxes.{boxes_of}
+use Rattle.cj_bezier.proofs.AllBoxLemmas.{row_length}
+use Rattle.cj_cert.specs.Written.{shell_line, box_in, line_of_box, line_in_slot, box_lines, line_by_shells, line_by_boxes, lines_by_boxes, leaves_in_order, written}
 use Rattle.cj_cert.proofs.ListedLemmas.{range_at}
 
 -- ---- one line more
@@ -119,22 +121,6 @@ shells_are case shells same =
     ap (λ (s : Option Shell). let line : ShellLine = record { object = 0 + i; shell = s } in line) here)
 
 -- the box of an object in a slot stands in its row
-row_length : (case : PlainProblem) (e : PlainTrack) → length (map (box_in case e) (slots_of case)) ≡ slot_count case.first case.last
-row_length case e = length-map (slots_of case) (box_in case e) ∙ length-range_with_len 0 (slot_count case.first case.last)
-
-rows_length : (case : PlainProblem) (es : List PlainTrack) → length (flat_map (λ e. map (box_in case e) (slots_of case)) es) ≡ length es * slot_count case.first case.last
-rows_length case [] = omega arith
-rows_length case (e ∷ es) =
-    let here = row_length case e in
-    let there = rows_length case es in
-    let all : suc (length es) * slot_count case.first case.last ≡ length es * slot_count case.first case.last + slot_count case.first case.last = suc-mul (length es)
-    (slot_count case.first case.last) in
-    omega (arith, length-append (map (box_in case e) (slots_of case)) (flat_map (λ e. map (box_in case e) (slots_of case)) es))
-
-pub boxes_count : (case : PlainProblem) (boxes : List (Option AxisBox)) → plain_boxes boxes ≡ boxes_in_order case → length boxes ≡ length case.ephemerides * slot_count case.first case.last
-unfolding boxes_in_order
-boxes_count case boxes same = sym (length-map boxes (option_map plain_box)) ∙ ap (λ (bs : List (Option PlainBox)). length bs) same ∙ rows_length case case.ephemerides
-
 pub get_left : {A : Type 0} (xs ys : List A) (i : ℕ) → i < length xs → slice_get (xs ++ ys) i ≡ slice_get xs i
 get_left [] ys i lt = absurd (omega arith)
 get_left (x ∷ xs) ys zero lt = refl
@@ -154,7 +140,7 @@ in_row case (f ∷ es) zero slot e lt is =
     let at : 0 * n + slot ≡ slot = omega arith in
     let first : 0 + slot ≡ slot = omega arith in
     ap (λ (k : ℕ). slice_get (map (box_in case f) (slots_of case) ++ flat_map (λ e. map (box_in case e) (slots_of case)) es) k) at
-    ∙ get_left (map (box_in case f) (slots_of case)) (flat_map (λ e. map (box_in case e) (slots_of case)) es) slot (omega (arith, row_length case f))
+    ∙ get_left (map (box_in case f) (slots_of case)) (flat_map (λ e. map (box_in case e) (slots_of case)) es) slot (omega (arith, row_length f case.first case.last n))
     ∙ slice_get-map (box_in case f) (slots_of case) slot
     ∙ ap (λ (o : Option ℕ). option_map (box_in case f) o) (range_at 0 n slot lt)
     ∙ ap (λ (k : ℕ). Some (box_in case f k)) first
@@ -162,16 +148,16 @@ in_row case (f ∷ es) zero slot e lt is =
 in_row case (f ∷ es) (suc i) slot e lt is =
     let n = slot_count case.first case.last in
     let more : suc i * n ≡ i * n + n = suc-mul i n in
-    get_right (map (box_in case f) (slots_of case)) (flat_map (λ e. map (box_in case e) (slots_of case)) es) (i * n + slot) (suc i * n + slot) (omega (arith, row_length case f))
+    get_right (map (box_in case f) (slots_of case)) (flat_map (λ e. map (box_in case e) (slots_of case)) es) (i * n + slot) (suc i * n + slot) (omega (arith, row_length f case.first case.last n))
     ∙ in_row case es i slot e lt is
 
 filter_map_same : {A : Type 0} (f g : ℕ → Option A) (ks : List ℕ) → Each (λ k. f k ≡ g k) ks → filter_map f ks ≡ filter_map g ks
 filter_map_same f g [] same = refl
 filter_map_same f g (k ∷ ks) same = let here = same.0 in let rest = filter_map_same f g ks same.1 in λ i. cons_option (here i) (rest i)
 
-pub boxes_are : (case : PlainProblem) (boxes : List (Option PlainBox)) (n : ℕ) → boxes ≡ boxes_in_order case → n ≡ slot_count case.first case.last
+pub boxes_are : (case : PlainProblem) (boxes : List (Option PlainBox)) (n : ℕ) → boxes ≡ boxes_of case → n ≡ slot_count case.first case.last
     → flat_map (lines_by_boxes boxes n n) (range_with_len 0 (length case.ephemerides)) ≡ flat_map (box_lines case) (enumerate_from 0 case.ephemerides)
-unfolding boxes_in_order
+unfolding boxes_of
 boxes_are case boxes n same count =
     ap (λ (bs : List (Option PlainBox)). flat_map (lines_by_boxes bs n n) (range_with_len 0 (length case.ephemerides))) same
     ∙ ap (λ (k : ℕ). flat_map (lines_by_boxes all k k) (range_with_len 0 (length case.ephemerides))) count

@@ -12,7 +12,8 @@ use Rattle.cj_blocks.specs.Blocks.{PlainBlock, Given, blocks_of}
 use Rattle.cj_cert.specs.declared.cert_lines.SizeOfLine.{SizeOfLine}
 use Rattle.cj_cert.specs.Certificates.{PlainBoxLine, PlainCertificate}
 use Rattle.cj_cert.specs.Listed.{box_listed, shells_listed}
-use Rattle.cj_cert.specs.Written.{boxes_in_order, written}
+use Rattle.cj_bezier.specs.AllBoxes.{boxes_of}
+use Rattle.cj_cert.specs.Written.{written}
 
 -- ---- lines
 
@@ -72,7 +73,7 @@ in_version_2 case c = if c.version == 1 then rewritten case c else c
 
 -- what a run writes in version 2: blocks over the exact boxes and the pairs that are kept
 abbrev pub written_in_blocks : PlainProblem → PlainCertificate
-written_in_blocks case = with_blocks case (given_of case (boxes_in_order case) (pairs_kept case)) (written case)
+written_in_blocks case = with_blocks case (given_of case (boxes_of case) (pairs_kept case)) (written case)
 
 -- what a run writes in a version
 abbrev pub written_in : ℕ → PlainProblem → PlainCertificate

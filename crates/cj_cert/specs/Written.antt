@@ -22,10 +22,6 @@ shell_line case object = record { object = object.0; shell = shell_of object.1 c
 abbrev pub box_in : PlainProblem → PlainTrack → ℕ → Option PlainBox
 box_in case e slot = box_of e (slot_first case.first slot) (slot_last case.first case.last slot)
 
--- the boxes of all objects in each slot, in order of object and slot
-unfoldable pub boxes_in_order : PlainProblem → List (Option PlainBox)
-boxes_in_order case = flat_map (λ e. map (box_in case e) (slots_of case)) case.ephemerides
-
 -- the line of a box
 abbrev pub line_of_box : ℕ → ℕ → PlainBox → PlainBoxLine
 line_of_box object slot area = record { object = object; first = slot; last = slot; area = area }

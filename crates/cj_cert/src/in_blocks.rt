@@ -10,7 +10,8 @@ ghost use Rattle.cj_cert.specs.Certificates.{plain_certificate};
 ghost use Rattle.cj_cert.specs.Listed.{shells_listed};
 ghost use Rattle.cj_cert.specs.Rewritten as spec;
 ghost use Rattle.cj_cert.specs.Rewritten.{pairs_by_shells, written_in};
-ghost use Rattle.cj_cert.specs.Written.{boxes_in_order, leaves_in_order};
+ghost use Rattle.cj_bezier.specs.AllBoxes.{boxes_of};
+ghost use Rattle.cj_cert.specs.Written.{leaves_in_order};
 
 use crate::accepting::acceptance;
 use crate::block_lines::{block_lines, size_lines};
@@ -33,7 +34,7 @@ pub fn certificate_in_blocks(
     leaves: &[Leaf],
 ) -> Result<Certificate, AllocError>
     requires shells { shells.now ≡ shells_of (plain_problem problem.now) }
-    requires boxes { plain_boxes boxes.now ≡ boxes_in_order (plain_problem problem.now) }
+    requires boxes { plain_boxes boxes.now ≡ boxes_of (plain_problem problem.now) }
     requires kept { map objects_of kept.now ≡ pairs_kept (plain_problem problem.now) }
     requires leaves { plain_leaves leaves.now ≡ leaves_in_order (plain_problem problem.now) }
     ensures value { IfOk result (λ cert. plain_certificate cert ≡ written_in 2 (plain_problem problem.now)) }

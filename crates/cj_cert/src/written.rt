@@ -8,7 +8,8 @@ ghost use Rattle.cj_bezier.specs.SlotBoxes.{plain_boxes};
 ghost use Rattle.cj_cert.specs.Accepted.{Accepted};
 ghost use Rattle.cj_cert.specs.Certificates.{plain_box_line, plain_cell_line, plain_certificate};
 ghost use Rattle.cj_cert.specs.Versions.{is_of_version};
-ghost use Rattle.cj_cert.specs.Written.{boxes_in_order, leaves_in_order, line_by_shells, lines_by_boxes, written};
+ghost use Rattle.cj_bezier.specs.AllBoxes.{boxes_of};
+ghost use Rattle.cj_cert.specs.Written.{leaves_in_order, line_by_shells, lines_by_boxes, written};
 
 use crate::accepting::acceptance;
 use crate::cert_lines::{BoxLine, CellLine, ShellLine};
@@ -27,7 +28,7 @@ pub fn written_certificate(
     leaves: &[Leaf],
 ) -> Result<Certificate, AllocError>
     requires shells { shells.now ≡ shells_of (plain_problem problem.now) }
-    requires boxes { plain_boxes boxes.now ≡ boxes_in_order (plain_problem problem.now) }
+    requires boxes { plain_boxes boxes.now ≡ boxes_of (plain_problem problem.now) }
     requires leaves { plain_leaves leaves.now ≡ leaves_in_order (plain_problem problem.now) }
     ensures value { IfOk result (λ cert. plain_certificate cert ≡ written (plain_problem problem.now)) }
     ensures accepted { IfOk result (λ cert. Accepted (plain_problem problem.now) (plain_certificate cert)) }

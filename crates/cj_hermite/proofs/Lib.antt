@@ -4,6 +4,7 @@ pub mod CubicLemmas
 pub mod CurveLemmas
 pub mod DistanceLemmas
 pub mod LaterLemmas
+pub mod LengthLemmas
 pub mod LevelLemmas
 pub mod NextRunLemmas
 pub mod ObjectLemmas

@@ -5,6 +5,7 @@ pub mod CommonRuns
 pub mod Distance
 pub mod Frames
 pub mod Interpolant
+pub mod Lengths
 pub mod Levels
 pub mod Limits
 pub mod Pairs

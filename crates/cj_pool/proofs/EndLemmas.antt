@@ -21,7 +21,7 @@ use Rattle.cj_ledger.specs.Shares.{LedgerSeen, ShareSeen, IsOf}
 use Rattle.cj_ledger.specs.declared.totals.Totals.{Totals}
 use Rattle.cj_pool.specs.declared.refined.FinishError.{FinishError}
 use Rattle.cj_pool.specs.Hands.{RefinerySeen, HandSeen, Accounts, IsHandOf, cells_of}
-use Rattle.cj_pool.specs.Lengths.{HaveLengths}
+use Rattle.cj_hermite.specs.Lengths.{HaveLengths}
 use Rattle.cj_pool.specs.Refined.{AreLeft, IsTooMany, Stands, TotalsOf, leaves_wanted, numbers_of}
 use Rattle.cj_pool.specs.RootLists.{IsKept, AreRoots}
 use Rattle.cj_pool.specs.Tree.{InTree, IsLeafOf}

@@ -20,7 +20,7 @@ use Rattle.cj_bezier.specs.Leaves.{PlainLeaf, plain_leaf, plain_leaves}
 use Rattle.cj_bezier.specs.Order.{IsBefore}
 use Rattle.cj_bezier.specs.RootLeaves.{leaves_of_root, leaves_of_roots, Describe}
 use Rattle.cj_pool.specs.Hands.{HandSeen, Accounts, cells_of}
-use Rattle.cj_pool.specs.Lengths.{HaveLengths}
+use Rattle.cj_hermite.specs.Lengths.{HaveLengths}
 use Rattle.cj_ledger.specs.declared.totals.Totals.{Totals}
 use Rattle.cj_pool.specs.Refined.{TotalsOf, numbers_of}
 use Rattle.cj_pool.specs.RootLists.{IsKept, AreRoots}

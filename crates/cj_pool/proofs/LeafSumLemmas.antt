@@ -18,7 +18,7 @@ use Rattle.cj_bezier.proofs.HalvingLemmas.{leaves-closed, leaves-halved}
 use Rattle.cj_bezier.proofs.JudgeLemmas.{settled_over}
 use Rattle.cj_bezier.proofs.LeafLemmas.{leaves_are, described, kind_of}
 use Rattle.cj_pool.specs.Hands.{cells_of}
-use Rattle.cj_pool.specs.Lengths.{HaveLengths}
+use Rattle.cj_hermite.specs.Lengths.{HaveLengths}
 use Rattle.cj_pool.specs.RootLists.{IsKept, AreRoots}
 use Rattle.cj_pool.specs.Tree.{IsLeafOf, IsShared, Halved}
 use Rattle.cj_pool.specs.Weights.{weigh}

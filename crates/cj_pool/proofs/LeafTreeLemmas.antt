@@ -17,7 +17,7 @@ use Rattle.cj_bezier.specs.RootLeaves.{kind_between, leaves_of_root}
 use Rattle.cj_bezier.proofs.HalvingLemmas.{IsSettled, two_ticks}
 use Rattle.cj_bezier.proofs.JudgeLemmas.{settled_over}
 use Rattle.cj_bezier.proofs.LeafLemmas.{leaves_are, kind_of}
-use Rattle.cj_pool.specs.Lengths.{HaveLengths}
+use Rattle.cj_hermite.specs.Lengths.{HaveLengths}
 use Rattle.cj_pool.specs.RootLists.{AreRoots}
 use Rattle.cj_pool.specs.Tree.{ticks_kind, InTree, IsLeafOf}
 use Rattle.cj_pool.proofs.LengthLemmas.{first_over, second_over}

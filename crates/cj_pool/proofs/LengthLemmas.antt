@@ -1,41 +1,16 @@
 -- Interpolants have lengths, since the times of nodes rise.
-use Rattle.std.proofs.Common.{◌≡◌, ℕ, ◌<◌, ◌≤◌, List, [], ◌∷◌, Option, Some, None, refl, subst, arith}
+use Rattle.std.proofs.Common.{◌≡◌, ℕ, ◌<◌, ◌≤◌, Option, Some, None, refl, subst, arith}
 use Rattle.std.specs.Prelude.{All, IfSome, slice_get, option_map, option_and_then}
-use Rattle.cj_interval.proofs.ListLemmas.{Each, Each-append, All-from_each, each_from_All}
-use Rattle.cj_track.specs.declared.node.Node.{Node}
-use Rattle.cj_track.specs.declared.segment.Segment.{Segment}
-use Rattle.cj_track.specs.declared.track.Track.{Track}
-use Rattle.cj_track.specs.Nodes.{AreSteps, AreNodes}
+use Rattle.cj_interval.proofs.ListLemmas.{each_from_All}
 use Rattle.cj_track.specs.PlainTracks.{PlainTrack}
-use Rattle.cj_track.specs.Tracks.{plain_segment, plain_track}
 use Rattle.cj_hermite.specs.Interpolant.{Curve, IsOver}
-use Rattle.cj_hermite.specs.Pieces.{intervals_of_arc, intervals_of, interval_at, curve_of_interval}
+use Rattle.cj_hermite.specs.Pieces.{intervals_of, interval_at, curve_of_interval}
 use Rattle.cj_hermite.specs.PlainProblems.{PlainProblem, curve_at}
 use Rattle.cj_hermite.proofs.CurveLemmas.{HaveCurves}
 use Rattle.cj_hermite.proofs.ObjectLemmas.{within_at}
-use Rattle.cj_hermite.proofs.PieceLemmas.{intervals_in, intervals_through}
 use Rattle.cj_hermite.proofs.StateLemmas.{has, lacks, state}
-use Rattle.cj_pool.specs.Lengths.{Rises, IsRising, HaveLengths}
+use Rattle.cj_hermite.specs.Lengths.{Rises, IsRising, HaveLengths}
 use Rattle.cj_pool.proofs.TreeLemmas.{at_all}
-
--- ---- in a track
-
-rise_in : (first last : ℕ) (nodes : List Node) → AreSteps nodes → Each Rises (intervals_in first last nodes)
-rise_in first last [] steps = tt
-rise_in first last (a ∷ []) steps = tt
-rise_in first last (a ∷ b ∷ nodes) steps = (steps.0.rises, rise_in first last (b ∷ nodes) steps.1)
-
-rise_through : (segments : List Segment) → Each (λ s. AreNodes s.nodes) segments → Each Rises (intervals_through segments)
-rise_through [] nodes = tt
-rise_through (a ∷ segments) nodes =
-    Each-append Rises (intervals_of_arc (plain_segment a)) (intervals_through segments) (rise_in a.first.micros a.last.micros a.nodes nodes.0.steps)
-    (rise_through segments nodes.1)
-
-pub track_rises : (track : Track) → All (λ s. AreNodes s.nodes) track.segments → IsRising (plain_track track)
-track_rises track nodes =
-    All-from_each Rises (intervals_of (plain_track track)) (rise_through track.segments (each_from_All (λ s. AreNodes s.nodes) track.segments nodes))
-
--- ---- of a problem
 
 curve_long : (e : PlainTrack) (m : ℕ) → IsRising e → IfSome (option_map curve_of_interval (interval_at e m)) (λ c. 0 < c.span)
 curve_long e m rising = elim (state e m) [

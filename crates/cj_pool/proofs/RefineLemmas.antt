@@ -17,7 +17,7 @@ use Rattle.cj_pool.specs.declared.refined.FinishError.TheVariants.{Memory, TooMa
 use Rattle.cj_pool.specs.Refined.{IsTooMany}
 use Rattle.cj_cells.proofs.ListingLemmas.{stretches_more, leaves_of_cells, root_more, roots_apart}
 use Rattle.cj_cells.proofs.SlotRootLemmas.{count_of}
-use Rattle.cj_pool.specs.Lengths.{HaveLengths}
+use Rattle.cj_hermite.specs.Lengths.{HaveLengths}
 use Rattle.cj_pool.specs.RootLists.{AreRoots}
 use Rattle.cj_pool.specs.Tree.{InTree, IsLeafOf}
 use Rattle.cj_pool.proofs.LeafTreeLemmas.{added_in_tree}

@@ -1,6 +1,5 @@
 pub mod Accounts
 pub mod Hands
-pub mod Lengths
 pub mod Narrow
 pub mod Passes
 pub mod Refined

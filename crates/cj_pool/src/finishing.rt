@@ -9,7 +9,7 @@ ghost use Rattle.cj_bezier.specs.Leaves.{plain_leaves};
 ghost use Rattle.cj_bezier.specs.RootLeaves.{leaves_of_root, leaves_of_roots, Describe};
 ghost use Rattle.cj_hermite.specs.Roots.{IsRootUpTo};
 ghost use Rattle.cj_pool.specs.Hands.{IsHandOf, cells_of};
-ghost use Rattle.cj_pool.specs.Lengths.{HaveLengths};
+ghost use Rattle.cj_hermite.specs.Lengths.{HaveLengths};
 ghost use Rattle.cj_pool.specs.declared.refined.FinishError.TheVariants.{Memory, TooMany};
 ghost use Rattle.cj_pool.specs.Refined.{AreLeft, IsTooMany, Stands, TotalsOf, leaves_wanted, numbers_of};
 ghost use Rattle.cj_pool.specs.RootLists.{AreRoots, IsKept};

@@ -1,6 +1,6 @@
 //! The interpolants of a problem have lengths.
 ghost use Rattle.cj_hermite.specs.Problems.{plain_problem};
-ghost use Rattle.cj_pool.specs.Lengths.{HaveLengths, IsRising};
+ghost use Rattle.cj_hermite.specs.Lengths.{HaveLengths, IsRising};
 ghost use Rattle.cj_track.specs.Tracks.{plain_track};
 
 use cj_hermite::Problem;

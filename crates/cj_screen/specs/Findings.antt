@@ -8,7 +8,7 @@ use Rattle.cj_bezier.specs.Leaves.{plain_leaves}
 use Rattle.cj_bezier.specs.SlotBoxes.{plain_boxes}
 use Rattle.cj_cells.specs.Lists.{list_looked}
 use Rattle.cj_bezier.specs.Looked.{shells_of, pairs_kept}
-use Rattle.cj_candidates.specs.Boxes.{boxes_of}
+use Rattle.cj_bezier.specs.AllBoxes.{boxes_of}
 use Rattle.cj_meet.specs.Closest.{closest_of, some_closest}
 use Rattle.cj_meet.specs.Encounters.{AreEncounters, encounters_of, groups_in}
 use Rattle.cj_report.specs.Counts.{tally_of}

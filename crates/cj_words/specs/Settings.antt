@@ -2,8 +2,9 @@
 use Rattle.std.specs.Prelude.{ℕ, Bool, true, not, ◌&&◌, ◌||◌, ◌==◌, nat_le, length, if◌then◌else◌, List, [], ◌∷◌, Option, Some, None, Result, Ok, Err, codes}
 use Rattle.std.specs.List.{list_all}
 use Rattle.std.specs.Option.{option_map, option_copied}
-use Rattle.std.specs.Char.{is_ascii_alphanumeric, is_ascii_digit}
+use Rattle.std.specs.Char.{is_ascii_digit}
 use Rattle.std.specs.Str.Parse.{digits_value}
+use Rattle.cj_kvn.specs.Originators.{is_originator}
 use Rattle.cj_epoch.specs.declared.tick.Tick.{Tick}
 use Rattle.cj_epoch.specs.Reading.{reading_of}
 use Rattle.cj_epoch.specs.declared.fault.EpochFault.{EpochFault}
@@ -90,15 +91,7 @@ abbrev pub file_text_or : ℕ → List ℕ → Option (List ℕ) → Option (Lis
 file_text_or longest left_out None = Some left_out
 file_text_or longest left_out (Some text) = if is_file_text longest text then Some text else None
 
--- a byte of A-Z a-z 0-9 _ -
-abbrev pub is_originator_byte : ℕ → Bool
-is_originator_byte b = is_ascii_alphanumeric b || (b == 95 || b == 45)
-
--- who makes messages: one to forty of them
-abbrev pub is_originator : List ℕ → Bool
-is_originator text = nat_le 1 (length text) && (nat_le (length text) 40 && list_all is_originator_byte text)
-
--- the same, which may be left out
+-- who makes messages, which may be left out
 abbrev pub originator_or : List ℕ → Option (List ℕ) → Option (List ℕ)
 originator_or left_out None = Some left_out
 originator_or left_out (Some text) = if is_originator text then Some text else None

@@ -4,6 +4,8 @@ ghost use Rattle.std.specs.List.{list_all};
 ghost use Rattle.std.specs.Option.{option_copied};
 ghost use Rattle.cj_words.specs.Settings as spec;
 
+use cj_kvn::is_originator;
+
 /// The text that a value says, of bytes that may stand in the name of a file and at most so many, or the one that stands for a value
 /// that is left out.
 pub fn file_text_or<'w>(
@@ -52,17 +54,4 @@ pub fn originator_or<'w>(value: Option<&'w [u8]>, left_out: &'w [u8]) -> Option<
         Some(text) if is_originator(text) => Some(text),
         Some(_) => None,
     }
-}
-
-fn is_originator(text: &[u8]) -> bool
-    ensures { result ≡ spec.is_originator text.now }
-{
-    1 <= text.len() && text.len() <= 40 && are_originator_bytes(text)
-}
-
-fn are_originator_bytes(text: &[u8]) -> bool
-    ensures { result ≡ list_all spec.is_originator_byte text.now }
-{
-    text.iter()
-        .all(|b| b.is_ascii_alphanumeric() || *b == b'_' || *b == b'-')
 }

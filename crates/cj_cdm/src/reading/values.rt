@@ -5,10 +5,11 @@ ghost use Rattle.cj_track.specs.Labels as labels;
 ghost use Rattle.cj_track.specs.Labels.{is_visible};
 ghost use Rattle.cj_cdm.specs.Read.{bytes_of};
 ghost use Rattle.cj_cdm.specs.Values as spec;
-ghost use Rattle.cj_cdm.specs.Values.{constant_said, designator_said, epoch_said, frame_said, is_originator_byte, label_said, originator_said};
+ghost use Rattle.cj_cdm.specs.Values.{constant_said, designator_said, epoch_said, frame_said, label_said, originator_said};
 
 use crate::designators::is_designator;
 use cj_epoch::{Tick, epoch_text, read_epoch};
+use cj_kvn::is_originator;
 use cj_track::Frame;
 
 /// The place of the first such byte.
@@ -91,20 +92,6 @@ pub(crate) fn originator(value: &[u8]) -> Option<&[u8]>
     } else {
         None
     }
-}
-
-#[tactic(auto, unfolding(crate::specs::Values::is_originator))]
-fn is_originator(text: &[u8]) -> bool
-    ensures { result ≡ spec.is_originator text.now }
-{
-    1 <= text.len() && text.len() <= 40 && are_originator_bytes(text)
-}
-
-fn are_originator_bytes(text: &[u8]) -> bool
-    ensures { result ≡ list_all is_originator_byte text.now }
-{
-    text.iter()
-        .all(|b| b.is_ascii_alphanumeric() || *b == b'_' || *b == b'-')
 }
 
 /// An epoch in the form in which it is written.

@@ -3,7 +3,7 @@ use Rattle.std.specs.Prelude.{Option, option_map}
 use Rattle.std.proofs.lemmas.List.{map-append}
 use Rattle.cj_track.specs.Tracks.{plain_track}
 use Rattle.cj_bezier.specs.SlotBoxes.{PlainBox, plain_boxes, plain_box}
-use Rattle.cj_candidates.specs.Boxes.{boxes_over}
+use Rattle.cj_bezier.specs.AllBoxes.{boxes_over}
 use Rattle.cj_candidates.specs.ObjectRuns.{IsInOwnBoxes}
 use Rattle.cj_candidates.proofs.ObjectLemmas.{in_own_box}
 use Rattle.cj_candidates.proofs.BoxLemmas.{boxes_more, in_boxes_more}

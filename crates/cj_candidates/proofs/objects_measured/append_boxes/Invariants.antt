@@ -1,7 +1,7 @@
 use Rattle.std.proofs.Common.{◌≡◌, ◌++◌}
 use Rattle.cj_track.specs.Tracks.{plain_track}
 use Rattle.cj_bezier.specs.SlotBoxes.{plain_boxes}
-use Rattle.cj_candidates.specs.Boxes.{boxes_over}
+use Rattle.cj_bezier.specs.AllBoxes.{boxes_over}
 use Rattle.cj_candidates.specs.ObjectRuns.{IsInOwnBoxes}
 use Rattle.cj_candidates.proofs.objects_measured.append_boxes.Given as goal
 

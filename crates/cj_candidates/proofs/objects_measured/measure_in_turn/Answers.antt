@@ -5,7 +5,7 @@ use Rattle.cj_track.specs.PlainTracks.{PlainTrack}
 use Rattle.cj_track.specs.Tracks.{plain_track}
 use Rattle.cj_bezier.specs.Shells.{shell_of}
 use Rattle.cj_bezier.specs.SlotBoxes.{PlainBox, plain_boxes}
-use Rattle.cj_candidates.specs.Boxes.{boxes_over}
+use Rattle.cj_bezier.specs.AllBoxes.{boxes_over}
 use Rattle.cj_candidates.specs.ObjectRuns.{IsInOwnShell, IsInOwnBoxes}
 use Rattle.cj_candidates.proofs.ObjectLemmas.{made_more, held_more, in_own_shell}
 use Rattle.cj_candidates.proofs.ObjectRunLemmas.{measured_to}

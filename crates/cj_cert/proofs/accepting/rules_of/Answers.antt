@@ -6,11 +6,12 @@ use Rattle.cj_track.specs.declared.segment.Segment.{Segment}
 use Rattle.cj_track.specs.Nodes.{AreNodes}
 use Rattle.cj_track.specs.Segments.{AreInOrder}
 use Rattle.cj_track.specs.Tracks.{plain_track}
+use Rattle.cj_hermite.proofs.LengthLemmas.{rise_through}
 use Rattle.cj_bezier.specs.Gaps.{gap_terms}
 use Rattle.cj_bezier.specs.Parts.{hulls_of}
 use Rattle.cj_bezier.specs.Shells.{IsOuter}
 use Rattle.cj_cert.proofs.BoundLemmas.{bounded, hulls_outer}
-use Rattle.cj_cert.proofs.TimesLemmas.{in_order, rise, in_time, one_more}
+use Rattle.cj_cert.proofs.TimesLemmas.{in_order, in_time, one_more}
 use Rattle.cj_cert.proofs.accepting.rules_of.Goals as goal
 
 pub loop-segment-init : goal.loop-segment-init
@@ -33,10 +34,10 @@ pub returns-clause-time : goal.returns-clause-time
 returns-clause-time c =
     in_time (plain_track c.args.track.now)
     (in_order c.args.track.now.segments (subst (λ (xs : List Segment). AreInOrder xs) c.as_slice-segments.ensures.value c.as_slice-segments.ensures.kept.order) (all_nodes c))
-    (rise c.args.track.now.segments (all_nodes c))
+    (rise_through c.args.track.now.segments (all_nodes c))
 
 pub returns-clause-within : goal.returns-clause-within
 returns-clause-within c from to =
     let e = plain_track c.args.track.now in
     All-from_each (λ h. IsOuter (gap_terms h) (10 ^ 18)) (hulls_of e from to)
-    (hulls_outer e from to (returns-clause-time c from to) (rise c.args.track.now.segments (all_nodes c)) (bounded c.args.track.now.segments (all_nodes c)))
+    (hulls_outer e from to (returns-clause-time c from to) (rise_through c.args.track.now.segments (all_nodes c)) (bounded c.args.track.now.segments (all_nodes c)))

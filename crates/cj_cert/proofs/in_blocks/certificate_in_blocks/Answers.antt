@@ -13,7 +13,8 @@ use Rattle.cj_cert.specs.Accepted.{Accepted}
 use Rattle.cj_cert.specs.Certificates.{PlainCertificate, plain_box_line, plain_cell_line}
 use Rattle.cj_cert.specs.Rewritten.{size_lines}
 use Rattle.cj_cert.proofs.InBlocksLemmas.{pairs_of_objects, written_is}
-use Rattle.cj_cert.proofs.WrittenLineLemmas.{shells_count, shells_are, boxes_count}
+use Rattle.cj_bezier.proofs.AllBoxLemmas.{boxes_count}
+use Rattle.cj_cert.proofs.WrittenLineLemmas.{shells_count, shells_are}
 use Rattle.cj_cert.proofs.in_blocks.certificate_in_blocks.Goals as goal
 
 -- as many objects as there are tracks

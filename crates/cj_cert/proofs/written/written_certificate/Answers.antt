@@ -11,7 +11,8 @@ use Rattle.cj_bezier.specs.SlotBoxes.{plain_boxes}
 use Rattle.cj_cert.specs.Accepted.{Accepted}
 use Rattle.cj_cert.specs.Certificates.{PlainCertificate}
 use Rattle.cj_cert.specs.Written.{lines_by_boxes}
-use Rattle.cj_cert.proofs.WrittenLineLemmas.{shells_count, shells_are, boxes_count, boxes_are, certificate_is}
+use Rattle.cj_bezier.proofs.AllBoxLemmas.{boxes_count}
+use Rattle.cj_cert.proofs.WrittenLineLemmas.{shells_count, shells_are, boxes_are, certificate_is}
 use Rattle.cj_cert.proofs.written.written_certificate.Goals as goal
 
 pub shell_lines-requires : goal.shell_lines-requires

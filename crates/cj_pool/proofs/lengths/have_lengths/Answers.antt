@@ -4,7 +4,7 @@ use Rattle.std.proofs.lemmas.List.Elements.{All-map}
 use Rattle.cj_track.specs.declared.track.Track.{Track}
 use Rattle.cj_track.specs.Tracks.{plain_track}
 use Rattle.cj_hermite.specs.Problems.{plain_problem}
-use Rattle.cj_pool.specs.Lengths.{IsRising}
+use Rattle.cj_hermite.specs.Lengths.{IsRising}
 use Rattle.cj_pool.proofs.LengthLemmas.{curves_long}
 use Rattle.cj_pool.proofs.lengths.have_lengths.Goals as goal
 

@@ -3,7 +3,7 @@ use Rattle.std.proofs.lemmas.List.{take_all}
 use Rattle.std.proofs.lemmas.List.Elements.{All-more}
 use Rattle.cj_track.specs.declared.segment.Segment.{Segment}
 use Rattle.cj_track.specs.Nodes.{AreNodes}
-use Rattle.cj_pool.proofs.LengthLemmas.{track_rises}
+use Rattle.cj_hermite.proofs.LengthLemmas.{track_rises}
 use Rattle.cj_pool.proofs.lengths.rising.Goals as goal
 
 pub loop-segment-preserved : goal.loop-segment-preserved

@@ -4,12 +4,12 @@ use Rattle.cj_bezier.specs.SlotBoxes.{plain_boxes}
 use Rattle.cj_cert.specs.Certificates.{PlainCertificate}
 use Rattle.cj_cert.specs.Fits.{line_count}
 use Rattle.cj_screen.specs.Findings.{case_in}
-use Rattle.cj_screen.proofs.CertificateLemmas.{boxes_alike, leaves_alike}
+use Rattle.cj_screen.proofs.CertificateLemmas.{leaves_alike}
 use Rattle.cj_screen.proofs.CheckLemmas.{found_few}
 use Rattle.cj_screen.proofs.trying.confirm.Goals as goal
 
 pub written_certificate-requires-clause-boxes : goal.written_certificate-requires-clause-boxes
-written_certificate-requires-clause-boxes c = ap plain_boxes c.deref-2.ensures.value ∙ (c.requires.boxes ∙ boxes_alike (case_in c.args.found.now))
+written_certificate-requires-clause-boxes c = ap plain_boxes c.deref-2.ensures.value ∙ c.requires.boxes
 
 pub written_certificate-requires-clause-leaves : goal.written_certificate-requires-clause-leaves
 written_certificate-requires-clause-leaves c = ap plain_leaves c.deref-3.ensures.value ∙ (c.requires.leaves ∙ leaves_alike (case_in c.args.found.now))

@@ -1,6 +1,6 @@
 use Rattle.std.proofs.Common.{rules}
-use Rattle.cj_grid.proofs.box_touch.box_touches.Goals as goal
-use Rattle.cj_grid.proofs.box_touch.box_touches.Goals.{then-reach_touches, else-reach_touches}
+use Rattle.cj_bezier.proofs.box_touch.box_touches.Goals as goal
+use Rattle.cj_bezier.proofs.box_touch.box_touches.Goals.{then-reach_touches, else-reach_touches}
 
 pub returns-then-reach_touches-2 : goal.returns-then-reach_touches-2
 returns-then-reach_touches-2 c = elim c.if-reach_touches.branch [
