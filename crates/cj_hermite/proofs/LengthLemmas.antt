@@ -1,5 +1,5 @@
 -- The intervals of a track have lengths, since the times of its nodes rise.
-use Rattle.std.proofs.Common.{List, [], ◌∷◌}
+use Rattle.std.proofs.Common.{ℕ, List, [], ◌∷◌}
 use Rattle.std.specs.Prelude.{All}
 use Rattle.cj_interval.proofs.ListLemmas.{Each, Each-append, All-from_each, each_from_All}
 use Rattle.cj_track.specs.declared.node.Node.{Node}
