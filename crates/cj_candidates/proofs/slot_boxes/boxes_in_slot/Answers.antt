@@ -7,7 +7,8 @@ use Rattle.cj_hermite.specs.Problems.{plain_problem}
 use Rattle.cj_hermite.specs.Slots.{slot_count}
 use Rattle.cj_bezier.specs.SlotBoxes.{PlainBox, plain_boxes, plain_box}
 use Rattle.cj_bezier.specs.Looked.{boxes_in}
-use Rattle.cj_candidates.proofs.BoxLemmas.{boxes_count, place_within, slot_more, objects_in_slot}
+use Rattle.cj_bezier.proofs.AllBoxLemmas.{boxes_count}
+use Rattle.cj_candidates.proofs.BoxLemmas.{place_within, slot_more, objects_in_slot}
 use Rattle.cj_candidates.proofs.slot_boxes.boxes_in_slot.Goals as goal
 
 pub bounds-boxes-object : goal.bounds-boxes-object
