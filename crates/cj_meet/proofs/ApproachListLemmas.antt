@@ -1,14 +1,15 @@
--- The closest approaches of several encounters, one after another.
+-- The closest approaches of several encounters: one more, and of some with those behind them.
 use Rattle.std.proofs.Common.{◌≡◌, ℕ, ◌+◌, ◌<◌, List, [], ◌∷◌, ◌++◌, map, length, get_or, take, drop, Option, Some, All, sym, ap, subst, ◌∙◌}
 use Rattle.std.specs.Prelude.{slice_range}
-use Rattle.std.proofs.lemmas.List.{map_more, map_push}
-use Rattle.std.proofs.lemmas.List.Elements.{All-same, All-push, All-take, All-drop}
+use Rattle.std.proofs.lemmas.List.{map-append, map_more, map_push, take-append-drop}
+use Rattle.std.proofs.lemmas.List.Elements.{All-append, All-same, All-push, All-take, All-drop}
 use Rattle.std.proofs.lemmas.Slice.{between_is}
 use Rattle.cj_hermite.specs.PlainProblems.{PlainProblem}
 use Rattle.cj_hermite.specs.Roots.{KeepIntervals}
 use Rattle.cj_bezier.specs.declared.encounter.Closest.{Closest}
 use Rattle.cj_bezier.specs.declared.encounter.Encounter.{Encounter}
 use Rattle.cj_bezier.specs.Leaves.{PlainLeaf}
+use Rattle.cj_meet.specs.ApproachLists.{AreClosest}
 use Rattle.cj_meet.specs.Closest.{PlainClosest, plain_closest, some_closest, closest_of, KeepTheirIntervals, HasNearest, IsNearest}
 use Rattle.cj_meet.specs.Encounters.{second_object, Describes, groups_in, stretches_in}
 use Rattle.cj_meet.proofs.EncounterLemmas.{described_objects}
@@ -46,3 +47,21 @@ pub nearest_one_more : (case : PlainProblem) (ss : List PlainLeaf) (es : List En
     All (HasNearest case) (groups_in ss (take i es)) → HasNearest case (stretches_in ss e) → All (HasNearest case) (groups_in ss (take (i + 1) es))
 nearest_one_more case ss es i e lt is before here =
     All-same (HasNearest case) _ _ (groups_more ss es i e lt is) (All-push (HasNearest case) (groups_in ss (take i es)) (stretches_in ss e) before here)
+
+-- ---- some encounters and those behind them
+
+groups_both : (ss : List PlainLeaf) (n : ℕ) (es some others : List Encounter) → some ≡ take n es → others ≡ drop n es → groups_in ss es ≡ groups_in ss some ++ groups_in ss others
+groups_both ss n es some others front back =
+    ap (groups_in ss) (sym (take-append-drop n es) ∙ (λ i. sym front i ++ sym back i)) ∙ map-append (stretches_in ss) some others
+
+pub both_closest : (case : PlainProblem) (ss : List PlainLeaf) (n : ℕ) (es some others : List Encounter) (front back found : List Closest) → some ≡ take n es → others ≡ drop n es →
+    AreClosest case ss some front → AreClosest case ss others back → found ≡ front ++ back → AreClosest case ss es found
+both_closest case ss n es some others front back found before behind one two all =
+    let groups = groups_both ss n es some others before behind in
+    record {
+      exact = ap (map some_closest) all ∙ map-append some_closest front back
+          ∙ ap (λ (xs : List (Option PlainClosest)). xs ++ map some_closest back) one.exact
+          ∙ ap (λ (xs : List (Option PlainClosest)). map (closest_of case) (groups_in ss some) ++ xs) two.exact
+          ∙ sym (ap (map (closest_of case)) groups ∙ map-append (closest_of case) (groups_in ss some) (groups_in ss others));
+      law = All-same (HasNearest case) _ _ groups (All-append (HasNearest case) (groups_in ss some) (groups_in ss others) one.law two.law);
+    }

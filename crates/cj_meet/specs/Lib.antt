@@ -1,3 +1,4 @@
+pub mod ApproachLists
 pub mod Closest
 pub mod Encounters
 pub mod Flat

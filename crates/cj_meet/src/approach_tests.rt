@@ -3,14 +3,15 @@ ghost use Rattle.cj_track.specs.Segments.{node_count};
 ghost use Rattle.cj_hermite.specs.Problems.{plain_problem};
 ghost use Rattle.cj_hermite.specs.Roots.{KeepIntervals};
 
-use crate::{closest, encounters};
-use cj_bezier::{Cell, Kind, Leaf};
+use crate::{closest, closest_approaches, encounters};
+use cj_bezier::{Cell, Closest, Kind, Leaf};
 use cj_hermite::{Pair, PairHint, Problem, Sizes, Tracks, next_common};
 use cj_samples::{AT_7000, AT_7005, AT_7100, moving, rest, seconds, tick, track_of, track_of_two};
 use cj_track::{Track, Vec3};
 use std::alloc::{AllocError, Global};
 use std::process::Abort;
 use std::test::Fail;
+use std::thread::Threads;
 
 const AB: Pair = Pair { a: 0, b: 1 };
 
@@ -217,5 +218,53 @@ fn each_encounter_of_separate_segments_has_its_own(rt: HostRuntime) -> Result<()
     assert_eq!(rt; first, Some((0, 5_000_000_000_000)));
     let second = approach(alloc, &problem, 30 * SECOND, 50 * SECOND, 60 * SECOND)?;
     assert_eq!(rt; second, Some((40_000_000, 5_000_000_000_000)));
+    Ok(())
+}
+
+/// What so many workers find of two encounters: one of the first twenty seconds, and one of the last twenty.
+fn approaches<R: Threads + Sync>(
+    rt: &R,
+    alloc: Global,
+    problem: &Problem,
+    workers: u32,
+) -> Result<Vec<Closest>, AllocError>
+    requires { length problem.now.tracks ≡ 2 }
+{
+    let Some(early) = leaf(problem, 0, 20 * SECOND, Kind::Near) else {
+        return Ok(Vec::new(alloc));
+    };
+    let Some(late) = leaf(problem, 40 * SECOND, 60 * SECOND, Kind::Near) else {
+        return Ok(Vec::new(alloc));
+    };
+    if late.cell.first.micros <= early.cell.last.micros {
+        return Ok(Vec::new(alloc));
+    }
+    let leaves = [early, late];
+    let found = encounters(alloc, &leaves)?;
+    closest_approaches(rt, alloc, problem, &leaves, &found, workers)
+}
+
+#[test]
+fn approaches_come_in_order_from_one_worker_and_from_many(rt: HostRuntime) -> Result<(), Fail> {
+    let alloc = rt.alloc();
+    let apart = rest(alloc, 0, 20, AT_7000)?;
+    let together = rest(alloc, 40, 60, AT_7005)?;
+    let a = track_of_two(alloc, apart, together)?;
+    let b = track_of(alloc, rest(alloc, 0, 60, AT_7005)?)?;
+    let problem = problem_of(alloc, a, b)?;
+    let expected = [
+        Closest {
+            tick: tick(0),
+            high: 5_000_000_000_000,
+        },
+        Closest {
+            tick: tick(40 * SECOND),
+            high: 0,
+        },
+    ];
+    for workers in [1, 2, 16] {
+        let found = approaches(&rt, alloc, &problem, workers)?;
+        assert_eq!(rt; found.as_slice(), expected.as_slice());
+    }
     Ok(())
 }
