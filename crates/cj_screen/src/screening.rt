@@ -74,7 +74,7 @@ pub fn screen<R: Threads + Wait + Sync, G: Gate + Sync>(
         Err(error) => return Err(refused(error, cells)),
     };
     let encounters = encounters(alloc, &leaves)?;
-    let closest = closest_approaches(alloc, &problem, &leaves, &encounters)?;
+    let closest = closest_approaches(rt, alloc, &problem, &leaves, &encounters, workers)?;
     let messages = note_messages(alloc, &problem, &encounters, &closest)?;
     let counts = count(&problem, &leaves, &messages, counted);
     Ok(Findings {
