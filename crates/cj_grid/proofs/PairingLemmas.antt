@@ -32,11 +32,6 @@ has_pushed old p = subst (λ (ps : List (ℕ × ℕ)). Contains ps (objects_of p
 
 -- ---- entry by entry
 
--- the objects of two entries are found where they touch
-abbrev pub AreFoundAt : ℕ → List ℕ → List (Option AxisBox) → List Entry → ℕ → ℕ → List Pair → Type 0
-AreFoundAt thr sizes boxes entries j k pairs =
-    (a b : ℕ) → a ≡ (entry_at entries j).object → b ≡ (entry_at entries k).object → a < b → touch_between thr sizes (plain_boxes boxes) (a, b) ≡ true → HasPair pairs a b
-
 pub in_bucket : (next n b bucket : ℕ) → (nat_lt next n && nat_eq b bucket) ≡ true → (next < n) × (b ≡ bucket)
 in_bucket next n b bucket h = (grind (arith, nat_tests), grind (arith, nat_tests))
 

@@ -5,6 +5,7 @@ use Rattle.std.specs.List.{flat_map, range_with_len}
 use Rattle.std.proofs.lemmas.Bool.Decides.{nat_tests}
 use Rattle.std.proofs.lemmas.List.{length-map, map_push}
 use Rattle.std.proofs.lemmas.List.Sums.{sum_by-cons, sum_by-le}
+use Rattle.cj_kvn.proofs.ListLemmas.{both}
 use Rattle.cj_hermite.proofs.PairLemmas.{range_more}
 use Rattle.cj_bezier.specs.declared.axis_box.AxisBox.{AxisBox}
 use Rattle.cj_bezier.specs.SlotBoxes.{PlainBox, plain_box, plain_boxes}
@@ -19,11 +20,6 @@ rising [] = true
 rising (e ∷ []) = true
 rising (e ∷ d ∷ es) = nat_lt e.bucket d.bucket && rising (d ∷ es)
 
-both_true : (a b : Bool) → (a && b) ≡ true → (a ≡ true) × (b ≡ true)
-both_true true true h = (refl, refl)
-both_true true false h = absurd cc
-both_true false b h = absurd cc
-
 differ : (a b c : ℕ) → a ≤ b → nat_lt b c ≡ true → (nat_eq c a ≡ false) × (a ≤ c)
 differ a b c le lt = (grind (arith, nat_tests), grind (arith, nat_tests))
 
@@ -33,13 +29,13 @@ no_more c n is none = rw (is, none) refl
 none_later : (e : Entry) (es : List Entry) → rising (e ∷ es) ≡ true → (bucket : ℕ) → bucket ≤ e.bucket → entered_in bucket es ≡ 0
 none_later e [] h bucket le = refl
 none_later e (d ∷ es) h bucket le =
-    let both = both_true (nat_lt e.bucket d.bucket) (rising (d ∷ es)) h in
-    let other = differ bucket e.bucket d.bucket le both.0 in
-    sum_by-cons (λ (x : Entry). cond (nat_eq x.bucket bucket) 1 0) d es ∙ no_more (nat_eq d.bucket bucket) (entered_in bucket es) other.0 (none_later d es both.1 bucket other.1)
+    let parts = both (nat_lt e.bucket d.bucket) (rising (d ∷ es)) h in
+    let other = differ bucket e.bucket d.bucket le parts.0 in
+    sum_by-cons (λ (x : Entry). cond (nat_eq x.bucket bucket) 1 0) d es ∙ no_more (nat_eq d.bucket bucket) (entered_in bucket es) other.0 (none_later d es parts.1 bucket other.1)
 
 tail_rising : (e : Entry) (es : List Entry) → rising (e ∷ es) ≡ true → rising es ≡ true
 tail_rising e [] h = refl
-tail_rising e (d ∷ es) h = (both_true (nat_lt e.bucket d.bucket) (rising (d ∷ es)) h).1
+tail_rising e (d ∷ es) h = (both (nat_lt e.bucket d.bucket) (rising (d ∷ es)) h).1
 
 few : (es : List Entry) → rising es ≡ true → (bucket : ℕ) → entered_in bucket es ≤ 1
 few [] h bucket = omega arith

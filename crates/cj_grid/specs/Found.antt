@@ -27,6 +27,10 @@ AreBoth one other a b = (one ≡ a) × (other ≡ b) ⊎ (one ≡ b) × (other �
 abbrev pub entry_at : List Entry → ℕ → Entry
 entry_at entries k = slice_index_or entries k (record { bucket = 0; object = 0 })
 
+-- the entry at k is there, and of the same bucket as that at j
+abbrev pub ShareBucket : List Entry → ℕ → ℕ → Type 0
+ShareBucket entries j k = (k < length entries) × ((entry_at entries j).bucket ≡ (entry_at entries k).bucket)
+
 -- in order of buckets, and of objects in a bucket
 pub record AreInOrder (entries : List Entry) : Type 0 where
   pub buckets : (j k : ℕ) → j ≤ k → k < length entries → (entry_at entries j).bucket ≤ (entry_at entries k).bucket

@@ -1,16 +1,15 @@
 //! The pairs of objects that share a bucket, or of which one has a wide box.
-ghost use Rattle.std.specs.Prelude.{◌≡◌, ◌⊎◌, ℕ, ◌+◌, ◌*◌, ◌^◌, ◌<◌, ◌≤◌, true, ◌&&◌, nat_eq, nat_lt, is_some, if◌then◌else◌, option_map, slice_index_or, map, length, vec_len, count_by, All, Some, None, IfSome, OnOk};
+ghost use Rattle.std.specs.Prelude.{◌≡◌, ◌⊎◌, ℕ, ◌+◌, ◌*◌, ◌<◌, ◌≤◌, true, ◌&&◌, nat_eq, nat_lt, is_some, if◌then◌else◌, option_map, slice_index_or, length, count_by, All, Some, None, IfSome, OnOk};
 ghost use Rattle.std.specs.List.{Contains};
-ghost use Rattle.cj_hermite.specs.Limits.{MAX_SIZE};
 ghost use Rattle.cj_hermite.specs.Pairs.{objects_of};
-ghost use Rattle.cj_bezier.specs.SlotBoxes.{plain_boxes, touch_between};
 ghost use Rattle.cj_grid.specs.Buckets.{entered_in, bucket_squares};
-ghost use Rattle.cj_grid.specs.Found.{AreTouching, AreKept, AreBoth, HasPair, AreInOrder, entry_at};
+ghost use Rattle.cj_grid.specs.Among.{touch_among, StillTouchAmong, AreFound, AreFoundAt};
+ghost use Rattle.cj_grid.specs.Found.{AreKept, AreBoth, ShareBucket, HasPair, AreInOrder, entry_at};
 
 use crate::box_touch::touches;
 use crate::entries::Entry;
+use crate::slot_objects::SlotObjects;
 use crate::steps::Steps;
-use cj_bezier::AxisBox;
 use cj_hermite::{Pair, threshold_between};
 use std::alloc::AllocError;
 use std::sync::ledger::Ledger;
@@ -30,24 +29,18 @@ fn pair_of(one: u32, other: u32) -> Option<Pair>
 }
 
 /// Whether the boxes of a pair touch. It is at most one step.
-fn pair_touches<L: Ledger>(
-    pair: Pair,
-    boxes: &[Option<AxisBox>],
-    sizes: &[u64],
-    thr: u64,
-    steps: &mut Steps<L>,
-) -> bool
-    requires exists { pair.b < length boxes.now }
-    requires sized { length sizes.now ≡ length boxes.now }
-    requires small { All (λ size. size ≤ MAX_SIZE) sizes.now }
-    requires least { 10 ^ 9 ≤ thr }
-    requires most { thr ≤ 10 ^ 15 }
-    ensures value { result ≡ touch_between thr sizes.now (plain_boxes boxes.now) (objects_of pair) }
+fn pair_touches<L: Ledger>(pair: Pair, objects: &SlotObjects<'_>, steps: &mut Steps<L>) -> bool
+    requires exists { pair.b < length objects.now.boxes.now }
+    ensures value { result ≡ touch_among objects.now (objects_of pair) }
     ensures no_fewer { steps.old ≤ steps.new }
     ensures one { steps.new ≤ steps.old + 1 }
 {
-    match (&boxes[pair.a as usize], &boxes[pair.b as usize]) {
-        (Some(a), Some(b)) => touches(a, b, threshold_between(sizes, thr, pair), steps),
+    let between = threshold_between(objects.sizes, objects.thr, pair);
+    match (
+        &objects.boxes[pair.a as usize],
+        &objects.boxes[pair.b as usize],
+    ) {
+        (Some(a), Some(b)) => touches(a, b, between, steps),
         _ => false,
     }
 }
@@ -55,24 +48,18 @@ fn pair_touches<L: Ledger>(
 /// Appends a pair whose boxes touch. It is at most one step.
 fn append_touching<L: Ledger>(
     pair: Pair,
-    boxes: &[Option<AxisBox>],
-    sizes: &[u64],
-    thr: u64,
+    objects: &SlotObjects<'_>,
     steps: &mut Steps<L>,
     pairs: &mut Vec<Pair>,
 ) -> Result<(), AllocError>
-    requires exists { pair.b < length boxes.now }
-    requires sized { length sizes.now ≡ length boxes.now }
-    requires small { All (λ size. size ≤ MAX_SIZE) sizes.now }
-    requires least { 10 ^ 9 ≤ thr }
-    requires most { thr ≤ 10 ^ 15 }
-    ensures touching { OnOk result (AreTouching thr sizes.now boxes.now pairs.old.items → AreTouching thr sizes.now boxes.now pairs.new.items) }
+    requires exists { pair.b < length objects.now.boxes.now }
+    ensures touching { OnOk result (StillTouchAmong objects.now pairs.old.items pairs.new.items) }
     ensures kept { OnOk result (AreKept pairs.old.items pairs.new.items) }
-    ensures found { OnOk result (touch_between thr sizes.now (plain_boxes boxes.now) (objects_of pair) ≡ true → HasPair pairs.new.items pair.a pair.b) }
+    ensures found { OnOk result (touch_among objects.now (objects_of pair) ≡ true → HasPair pairs.new.items pair.a pair.b) }
     ensures no_fewer { steps.old ≤ steps.new }
     ensures one { steps.new ≤ steps.old + 1 }
 {
-    if !pair_touches(pair, boxes, sizes, thr, steps) {
+    if !pair_touches(pair, objects, steps) {
         return Ok(());
     }
     pairs.push(pair)?;
@@ -83,26 +70,20 @@ fn append_touching<L: Ledger>(
 fn append_pair<L: Ledger>(
     one: u32,
     other: u32,
-    boxes: &[Option<AxisBox>],
-    sizes: &[u64],
-    thr: u64,
+    objects: &SlotObjects<'_>,
     steps: &mut Steps<L>,
     pairs: &mut Vec<Pair>,
 ) -> Result<(), AllocError>
-    requires one { one < length boxes.now }
-    requires other { other < length boxes.now }
-    requires sized { length sizes.now ≡ length boxes.now }
-    requires small { All (λ size. size ≤ MAX_SIZE) sizes.now }
-    requires least { 10 ^ 9 ≤ thr }
-    requires most { thr ≤ 10 ^ 15 }
-    ensures touching { OnOk result (AreTouching thr sizes.now boxes.now pairs.old.items → AreTouching thr sizes.now boxes.now pairs.new.items) }
+    requires one { one < length objects.now.boxes.now }
+    requires other { other < length objects.now.boxes.now }
+    ensures touching { OnOk result (StillTouchAmong objects.now pairs.old.items pairs.new.items) }
     ensures kept { OnOk result (AreKept pairs.old.items pairs.new.items) }
-    ensures found { OnOk result ((a b : ℕ) → a < b → AreBoth one other a b → touch_between thr sizes.now (plain_boxes boxes.now) (a, b) ≡ true → HasPair pairs.new.items a b) }
+    ensures found { OnOk result (AreFound objects.now (AreBoth one other) pairs.new.items) }
     ensures no_fewer { steps.old ≤ steps.new }
     ensures one { steps.new ≤ steps.old + 1 }
 {
     match pair_of(one, other) {
-        Some(pair) => append_touching(pair, boxes, sizes, thr, steps, pairs),
+        Some(pair) => append_touching(pair, objects, steps, pairs),
         None => Ok(()),
     }
 }
@@ -134,23 +115,16 @@ fn is_in_bucket(entries: &[Entry], at: usize, bucket: u64) -> bool
 fn append_row<L: Ledger>(
     at: usize,
     entries: &[Entry],
-    boxes: &[Option<AxisBox>],
-    sizes: &[u64],
-    thr: u64,
+    objects: &SlotObjects<'_>,
     steps: &mut Steps<L>,
     pairs: &mut Vec<Pair>,
 ) -> Result<(), AllocError>
     requires exists { at < length entries.now }
     requires order { AreInOrder entries.now }
-    requires objects { All (λ entry. entry.object < length boxes.now) entries.now }
-    requires sized { length sizes.now ≡ length boxes.now }
-    requires small { All (λ size. size ≤ MAX_SIZE) sizes.now }
-    requires least { 10 ^ 9 ≤ thr }
-    requires most { thr ≤ 10 ^ 15 }
-    ensures touching { OnOk result (AreTouching thr sizes.now boxes.now pairs.old.items → AreTouching thr sizes.now boxes.now pairs.new.items) }
+    requires objects { All (λ entry. entry.object < length objects.now.boxes.now) entries.now }
+    ensures touching { OnOk result (StillTouchAmong objects.now pairs.old.items pairs.new.items) }
     ensures kept { OnOk result (AreKept pairs.old.items pairs.new.items) }
-    ensures found { OnOk result ((k a b : ℕ) → at < k → k < length entries.now → (entry_at entries.now at).bucket ≡ (entry_at entries.now k).bucket
-        → a ≡ (entry_at entries.now at).object → b ≡ (entry_at entries.now k).object → a < b → touch_between thr sizes.now (plain_boxes boxes.now) (a, b) ≡ true → HasPair pairs.new.items a b) }
+    ensures found { OnOk result ((k : ℕ) → at < k → ShareBucket entries.now at k → AreFoundAt objects.now entries.now at k pairs.new.items) }
     ensures no_fewer { steps.old ≤ steps.new }
     ensures steps { steps.new ≤ steps.old + entered_in (entry_at entries.now at).bucket entries.now }
 {
@@ -158,7 +132,7 @@ fn append_row<L: Ledger>(
     let mut next = at + 1;
     while is_in_bucket(entries, next, own.bucket) {
         let other = object_of(entries, next);
-        append_pair(own.object, other, boxes, sizes, thr, steps, pairs)?;
+        append_pair(own.object, other, objects, steps, pairs)?;
         next += 1;
     }
     Ok(())
@@ -167,90 +141,70 @@ fn append_row<L: Ledger>(
 /// Appends the touching pairs of objects that share a bucket, a pair as often as they share one.
 pub fn append_shared<L: Ledger>(
     entries: &[Entry],
-    boxes: &[Option<AxisBox>],
-    sizes: &[u64],
-    thr: u64,
+    objects: &SlotObjects<'_>,
     steps: &mut Steps<L>,
     pairs: &mut Vec<Pair>,
 ) -> Result<(), AllocError>
     requires order { AreInOrder entries.now }
-    requires objects { All (λ entry. entry.object < length boxes.now) entries.now }
-    requires sized { length sizes.now ≡ length boxes.now }
-    requires small { All (λ size. size ≤ MAX_SIZE) sizes.now }
-    requires least { 10 ^ 9 ≤ thr }
-    requires most { thr ≤ 10 ^ 15 }
-    ensures touching { OnOk result (AreTouching thr sizes.now boxes.now pairs.old.items → AreTouching thr sizes.now boxes.now pairs.new.items) }
+    requires objects { All (λ entry. entry.object < length objects.now.boxes.now) entries.now }
+    ensures touching { OnOk result (StillTouchAmong objects.now pairs.old.items pairs.new.items) }
     ensures kept { OnOk result (AreKept pairs.old.items pairs.new.items) }
-    ensures found { OnOk result ((j k a b : ℕ) → j < k → k < length entries.now → (entry_at entries.now j).bucket ≡ (entry_at entries.now k).bucket
-        → a ≡ (entry_at entries.now j).object → b ≡ (entry_at entries.now k).object → a < b → touch_between thr sizes.now (plain_boxes boxes.now) (a, b) ≡ true → HasPair pairs.new.items a b) }
+    ensures found { OnOk result ((j k : ℕ) → j < k → ShareBucket entries.now j k → AreFoundAt objects.now entries.now j k pairs.new.items) }
     ensures no_fewer { steps.old ≤ steps.new }
     ensures steps { steps.new ≤ steps.old + bucket_squares entries.now }
 {
     for at in 0..entries.len() {
-        append_row(at, entries, boxes, sizes, thr, steps, pairs)?;
+        append_row(at, entries, objects, steps, pairs)?;
     }
     Ok(())
 }
 
 /// Whether an object has a box.
-fn has_box(boxes: &[Option<AxisBox>], object: u32) -> bool
-    requires { object < length boxes.now }
-    ensures { result ≡ is_some (slice_index_or boxes.now object None) }
+fn has_box(objects: &SlotObjects<'_>, object: u32) -> bool
+    requires { object < length objects.now.boxes.now }
+    ensures { result ≡ is_some (slice_index_or objects.now.boxes.now object None) }
 {
-    boxes[object as usize].is_some()
+    objects.boxes[object as usize].is_some()
 }
 
 /// Appends the pair of two objects where the second has a box and their boxes touch. It is a step at most where it has one.
 fn append_with<L: Ledger>(
     one: u32,
     other: u32,
-    boxes: &[Option<AxisBox>],
-    sizes: &[u64],
-    thr: u64,
+    objects: &SlotObjects<'_>,
     steps: &mut Steps<L>,
     pairs: &mut Vec<Pair>,
 ) -> Result<(), AllocError>
-    requires one { one < length boxes.now }
-    requires other { other < length boxes.now }
-    requires sized { length sizes.now ≡ length boxes.now }
-    requires small { All (λ size. size ≤ MAX_SIZE) sizes.now }
-    requires least { 10 ^ 9 ≤ thr }
-    requires most { thr ≤ 10 ^ 15 }
-    ensures touching { OnOk result (AreTouching thr sizes.now boxes.now pairs.old.items → AreTouching thr sizes.now boxes.now pairs.new.items) }
+    requires one { one < length objects.now.boxes.now }
+    requires other { other < length objects.now.boxes.now }
+    ensures touching { OnOk result (StillTouchAmong objects.now pairs.old.items pairs.new.items) }
     ensures kept { OnOk result (AreKept pairs.old.items pairs.new.items) }
-    ensures found { OnOk result ((a b : ℕ) → a < b → AreBoth one other a b → touch_between thr sizes.now (plain_boxes boxes.now) (a, b) ≡ true → HasPair pairs.new.items a b) }
+    ensures found { OnOk result (AreFound objects.now (AreBoth one other) pairs.new.items) }
     ensures no_fewer { steps.old ≤ steps.new }
-    ensures steps { steps.new ≤ steps.old + (if is_some (slice_index_or boxes.now other None) then 1 else 0) }
+    ensures steps { steps.new ≤ steps.old + (if is_some (slice_index_or objects.now.boxes.now other None) then 1 else 0) }
 {
-    if !has_box(boxes, other) {
+    if !has_box(objects, other) {
         return Ok(());
     }
-    append_pair(one, other, boxes, sizes, thr, steps, pairs)
+    append_pair(one, other, objects, steps, pairs)
 }
 
 /// Appends the touching pairs of an object with all others.
 fn append_with_all<L: Ledger>(
     one: u32,
-    boxes: &[Option<AxisBox>],
-    sizes: &[u64],
-    thr: u64,
+    objects: &SlotObjects<'_>,
     steps: &mut Steps<L>,
     pairs: &mut Vec<Pair>,
 ) -> Result<(), AllocError>
-    requires few { length boxes.now ≤ 2000 }
-    requires exists { one < length boxes.now }
-    requires sized { length sizes.now ≡ length boxes.now }
-    requires small { All (λ size. size ≤ MAX_SIZE) sizes.now }
-    requires least { 10 ^ 9 ≤ thr }
-    requires most { thr ≤ 10 ^ 15 }
-    ensures touching { OnOk result (AreTouching thr sizes.now boxes.now pairs.old.items → AreTouching thr sizes.now boxes.now pairs.new.items) }
+    requires exists { one < length objects.now.boxes.now }
+    ensures touching { OnOk result (StillTouchAmong objects.now pairs.old.items pairs.new.items) }
     ensures kept { OnOk result (AreKept pairs.old.items pairs.new.items) }
-    ensures found { OnOk result ((a b : ℕ) → a < b → (one ≡ a) ⊎ (one ≡ b) → touch_between thr sizes.now (plain_boxes boxes.now) (a, b) ≡ true → HasPair pairs.new.items a b) }
+    ensures found { OnOk result (AreFound objects.now (λ a b. (one ≡ a) ⊎ (one ≡ b)) pairs.new.items) }
     ensures no_fewer { steps.old ≤ steps.new }
-    ensures steps { steps.new ≤ steps.old + count_by is_some boxes.now }
+    ensures steps { steps.new ≤ steps.old + count_by is_some objects.now.boxes.now }
 {
-    for other in 0..boxes.len() as u32 {
-        append_with(one, other, boxes, sizes, thr, steps, pairs)?;
+    for other in 0..objects.boxes.len() as u32 {
+        append_with(one, other, objects, steps, pairs)?;
     }
     Ok(())
 }
@@ -258,26 +212,19 @@ fn append_with_all<L: Ledger>(
 /// Appends the touching pairs of some objects with all others.
 pub fn append_wide<L: Ledger>(
     wide: &[u32],
-    boxes: &[Option<AxisBox>],
-    sizes: &[u64],
-    thr: u64,
+    objects: &SlotObjects<'_>,
     steps: &mut Steps<L>,
     pairs: &mut Vec<Pair>,
 ) -> Result<(), AllocError>
-    requires few { length boxes.now ≤ 2000 }
-    requires exist { All (λ object. object < length boxes.now) wide.now }
-    requires sized { length sizes.now ≡ length boxes.now }
-    requires small { All (λ size. size ≤ MAX_SIZE) sizes.now }
-    requires least { 10 ^ 9 ≤ thr }
-    requires most { thr ≤ 10 ^ 15 }
-    ensures touching { OnOk result (AreTouching thr sizes.now boxes.now pairs.old.items → AreTouching thr sizes.now boxes.now pairs.new.items) }
+    requires exist { All (λ object. object < length objects.now.boxes.now) wide.now }
+    ensures touching { OnOk result (StillTouchAmong objects.now pairs.old.items pairs.new.items) }
     ensures kept { OnOk result (AreKept pairs.old.items pairs.new.items) }
-    ensures found { OnOk result ((a b : ℕ) → a < b → Contains wide.now a ⊎ Contains wide.now b → touch_between thr sizes.now (plain_boxes boxes.now) (a, b) ≡ true → HasPair pairs.new.items a b) }
+    ensures found { OnOk result (AreFound objects.now (λ a b. Contains wide.now a ⊎ Contains wide.now b) pairs.new.items) }
     ensures no_fewer { steps.old ≤ steps.new }
-    ensures steps { steps.new ≤ steps.old + length wide.now * count_by is_some boxes.now }
+    ensures steps { steps.new ≤ steps.old + length wide.now * count_by is_some objects.now.boxes.now }
 {
     for one in wide {
-        append_with_all(*one, boxes, sizes, thr, steps, pairs)?;
+        append_with_all(*one, objects, steps, pairs)?;
     }
     Ok(())
 }

@@ -1,10 +1,12 @@
 //! The buckets that a box meets: cubes with a side of 2,000 km, whose corners are multiples of the side.
-ghost use Rattle.std.specs.Prelude.{◌≡◌, ◌+◌, ◌*◌, ◌^◌, ◌<◌, ◌≤◌, ℤ, pos, negsuc, ◌+ℤ◌, ◌-ℤ◌, ◌≤ℤ◌, length, option_map, slice_index, slice_index_or, All, None};
+ghost use Rattle.std.specs.Prelude.{◌≡◌, ◌+◌, ◌*◌, ◌^◌, ◌<◌, ◌≤◌, ℤ, pos, negsuc, ◌+ℤ◌, ◌-ℤ◌, ◌≤ℤ◌, length, option_map};
 ghost use Rattle.cj_hermite.specs.Limits.{MAX_SIZE};
 ghost use Rattle.cj_bezier.specs.SlotBoxes.{Reach};
-ghost use Rattle.cj_grid.specs.Buckets.{bucket_on, numbers_of, numbers_in, plain_block, block_of, block_in, is_long, is_wide};
+ghost use Rattle.cj_grid.specs.Among.{block_among};
+ghost use Rattle.cj_grid.specs.Buckets.{bucket_on, numbers_of, numbers_in, plain_block, block_of, is_long, is_wide};
 
 use crate::bucket_ranges::{Block, BucketRange};
+use crate::slot_objects::SlotObjects;
 use cj_bezier::AxisBox;
 
 /// The side of a bucket is so many units of 2^16 nm, so that one division of 64 bits finds it.
@@ -68,20 +70,12 @@ fn block_of_box(area: &AxisBox, thr: u64, size: u64) -> Block
 }
 
 /// The buckets that the box of an object meets, where it has one.
-pub fn block_of_object(
-    boxes: &[Option<AxisBox>],
-    sizes: &[u64],
-    thr: u64,
-    object: u32,
-) -> Option<Block>
-    requires exists { object < length boxes.now }
-    requires sized { length sizes.now ≡ length boxes.now }
-    requires small { All (λ size. size ≤ MAX_SIZE) sizes.now }
-    requires most { thr ≤ 10 ^ 15 }
-    ensures { option_map plain_block result ≡ block_in thr sizes.now boxes.now object }
+pub fn block_of_object(objects: &SlotObjects<'_>, object: u32) -> Option<Block>
+    requires { object < length objects.now.boxes.now }
+    ensures { option_map plain_block result ≡ block_among objects.now object }
 {
-    match &boxes[object as usize] {
-        Some(area) => Some(block_of_box(area, thr, sizes[object as usize])),
+    match &objects.boxes[object as usize] {
+        Some(area) => Some(block_of_box(area, objects.thr, objects.sizes[object as usize])),
         None => None,
     }
 }

@@ -1,11 +1,11 @@
 //! Objects in the buckets that their boxes meet.
-ghost use Rattle.std.specs.Prelude.{◌≡◌, ◌≤◌, ◌<◌, ◌^◌, ◌++◌, length, map, All, option_map, IfOk, OnOk};
-ghost use Rattle.cj_hermite.specs.Limits.{MAX_SIZE};
-ghost use Rattle.cj_grid.specs.Buckets.{bucket_number, numbers_in, plain_block, in_column, in_layer, in_block, entered_by, is_wide_one, entries_of, wide_of};
+ghost use Rattle.std.specs.Prelude.{◌≡◌, ◌<◌, ◌++◌, option_map, IfOk, OnOk};
+ghost use Rattle.cj_grid.specs.Among.{entries_among, wide_among};
+ghost use Rattle.cj_grid.specs.Buckets.{bucket_number, numbers_in, plain_block, in_column, in_layer, in_block, entered_by, is_wide_one};
 
 use crate::bucket_ranges::{Block, BucketRange};
 use crate::buckets::{block_of_object, is_wide_block};
-use cj_bezier::AxisBox;
+use crate::slot_objects::SlotObjects;
 use std::alloc::{AllocError, Global};
 
 /// That an object is entered in a bucket.
@@ -94,21 +94,12 @@ fn append_object(
 }
 
 /// Enters all objects, each in the buckets that its box meets.
-pub fn enter_objects(
-    alloc: Global,
-    boxes: &[Option<AxisBox>],
-    sizes: &[u64],
-    thr: u64,
-) -> Result<Vec<Entry>, AllocError>
-    requires few { length boxes.now ≤ 2000 }
-    requires sized { length sizes.now ≡ length boxes.now }
-    requires small { All (λ size. size ≤ MAX_SIZE) sizes.now }
-    requires most { thr ≤ 10 ^ 15 }
-    ensures { IfOk result (λ entries. entries.items ≡ entries_of thr sizes.now boxes.now) }
+pub fn enter_objects(alloc: Global, objects: &SlotObjects<'_>) -> Result<Vec<Entry>, AllocError>
+    ensures { IfOk result (λ entries. entries.items ≡ entries_among objects.now) }
 {
-    let mut entries = Vec::with_capacity(alloc, 2 * boxes.len())?;
-    for object in 0..boxes.len() as u32 {
-        let block = block_of_object(boxes, sizes, thr, object);
+    let mut entries = Vec::with_capacity(alloc, 2 * objects.boxes.len())?;
+    for object in 0..objects.boxes.len() as u32 {
+        let block = block_of_object(objects, object);
         append_object(object, block, &mut entries)?;
     }
     Ok(entries)
@@ -125,21 +116,12 @@ fn has_wide_box(block: Option<Block>) -> bool
 }
 
 /// The objects with wide boxes.
-pub fn wide_objects(
-    alloc: Global,
-    boxes: &[Option<AxisBox>],
-    sizes: &[u64],
-    thr: u64,
-) -> Result<Vec<u32>, AllocError>
-    requires few { length boxes.now ≤ 2000 }
-    requires sized { length sizes.now ≡ length boxes.now }
-    requires small { All (λ size. size ≤ MAX_SIZE) sizes.now }
-    requires most { thr ≤ 10 ^ 15 }
-    ensures { IfOk result (λ wide. wide.items ≡ wide_of thr sizes.now boxes.now) }
+pub fn wide_objects(alloc: Global, objects: &SlotObjects<'_>) -> Result<Vec<u32>, AllocError>
+    ensures { IfOk result (λ wide. wide.items ≡ wide_among objects.now) }
 {
     let mut wide = Vec::new(alloc);
-    for object in 0..boxes.len() as u32 {
-        if has_wide_box(block_of_object(boxes, sizes, thr, object)) {
+    for object in 0..objects.boxes.len() as u32 {
+        if has_wide_box(block_of_object(objects, object)) {
             wide.push(object)?;
         }
     }

@@ -8,6 +8,7 @@ mod bucket_ranges;
 mod buckets;
 mod entries;
 mod joined_boxes;
+mod slot_objects;
 mod steps;
 mod touching_pairs;
 mod track_box;

@@ -1,14 +1,16 @@
 //! The pairs of objects whose boxes touch.
-ghost use Rattle.std.specs.Prelude.{◌≡◌, ℕ, ◌+◌, ◌^◌, ◌<◌, ◌≤◌, map, filter, length, option_map, All, true, None, IfOk, OnOk};
+ghost use Rattle.std.specs.Prelude.{◌≡◌, ℕ, ◌+◌, ◌^◌, ◌<◌, ◌≤◌, map, filter, length, option_map, All, true, None, IfOk};
 ghost use Rattle.std.specs.List.Sorted.{IsPermutation};
 ghost use Rattle.cj_hermite.specs.Limits.{MAX_SIZE};
 ghost use Rattle.cj_hermite.specs.Pairs.{objects_of, pairs_of};
 ghost use Rattle.cj_bezier.specs.SlotBoxes.{plain_boxes, touch_between};
-ghost use Rattle.cj_grid.specs.Buckets.{entries_of, step_bound};
-ghost use Rattle.cj_grid.specs.Found.{AreInOrder, AreTouching, HasPair, is_again, unrepeated};
+ghost use Rattle.cj_grid.specs.Among.{touch_among, entries_among, bound_among, TouchAmong};
+ghost use Rattle.cj_grid.specs.Buckets.{step_bound};
+ghost use Rattle.cj_grid.specs.Found.{AreInOrder, HasPair, is_again, unrepeated};
 
 use crate::bucket_pairs::{append_shared, append_wide};
 use crate::entries::{Entry, enter_objects, wide_objects};
+use crate::slot_objects::SlotObjects;
 use crate::steps::Steps;
 use cj_bezier::AxisBox;
 use cj_hermite::Pair;
@@ -17,20 +19,11 @@ use std::marker::Brand;
 use std::sync::ledger::{Blank, Ledger};
 
 /// The entries of all objects with boxes that are not wide, in order of buckets.
-fn sorted_entries(
-    alloc: Global,
-    boxes: &[Option<AxisBox>],
-    sizes: &[u64],
-    thr: u64,
-) -> Result<Vec<Entry>, AllocError>
-    requires few { length boxes.now ≤ 2000 }
-    requires sized { length sizes.now ≡ length boxes.now }
-    requires small { All (λ size. size ≤ MAX_SIZE) sizes.now }
-    requires most { thr ≤ 10 ^ 15 }
-    ensures same { IfOk result (λ entries. IsPermutation (entries_of thr sizes.now boxes.now) entries.items) }
+fn sorted_entries(alloc: Global, objects: &SlotObjects<'_>) -> Result<Vec<Entry>, AllocError>
+    ensures same { IfOk result (λ entries. IsPermutation (entries_among objects.now) entries.items) }
     ensures order { IfOk result (λ entries. AreInOrder entries.items) }
 {
-    let mut entries = enter_objects(alloc, boxes, sizes, thr)?;
+    let mut entries = enter_objects(alloc, objects)?;
     entries.sort()?;
     Ok(entries)
 }
@@ -38,26 +31,19 @@ fn sorted_entries(
 /// The pairs of objects whose boxes touch, in any order, some of them several times.
 fn pairs_found<L: Ledger>(
     alloc: Global,
-    boxes: &[Option<AxisBox>],
-    sizes: &[u64],
-    thr: u64,
+    objects: &SlotObjects<'_>,
     steps: &mut Steps<L>,
 ) -> Result<Vec<Pair>, AllocError>
-    requires few { length boxes.now ≤ 2000 }
-    requires sized { length sizes.now ≡ length boxes.now }
-    requires small { All (λ size. size ≤ MAX_SIZE) sizes.now }
-    requires least { 10 ^ 9 ≤ thr }
-    requires most { thr ≤ 10 ^ 15 }
-    ensures touching { IfOk result (λ pairs. AreTouching thr sizes.now boxes.now pairs.items) }
-    ensures found { IfOk result (λ pairs. (a b : ℕ) → a < b → touch_between thr sizes.now (plain_boxes boxes.now) (a, b) ≡ true → HasPair pairs.items a b) }
+    ensures touching { IfOk result (λ pairs. TouchAmong objects.now pairs.items) }
+    ensures found { IfOk result (λ pairs. (a b : ℕ) → a < b → touch_among objects.now (a, b) ≡ true → HasPair pairs.items a b) }
     ensures no_fewer { steps.old ≤ steps.new }
-    ensures steps { steps.new ≤ steps.old + step_bound thr sizes.now boxes.now }
+    ensures steps { steps.new ≤ steps.old + bound_among objects.now }
 {
-    let entries = sorted_entries(alloc, boxes, sizes, thr)?;
-    let wide = wide_objects(alloc, boxes, sizes, thr)?;
+    let entries = sorted_entries(alloc, objects)?;
+    let wide = wide_objects(alloc, objects)?;
     let mut pairs = Vec::new(alloc);
-    append_shared(&entries, boxes, sizes, thr, steps, &mut pairs)?;
-    append_wide(&wide, boxes, sizes, thr, steps, &mut pairs)?;
+    append_shared(&entries, objects, steps, &mut pairs)?;
+    append_wide(&wide, objects, steps, &mut pairs)?;
     Ok(pairs)
 }
 
@@ -86,6 +72,21 @@ fn without_repeats(alloc: Global, sorted: &[Pair]) -> Result<Vec<Pair>, AllocErr
     Ok(pairs)
 }
 
+/// The pairs of these objects whose boxes touch, in order.
+fn touching_among<L: Ledger>(
+    alloc: Global,
+    objects: &SlotObjects<'_>,
+    steps: &mut Steps<L>,
+) -> Result<Vec<Pair>, AllocError>
+    ensures value { IfOk result (λ pairs. map objects_of pairs.items ≡ filter (touch_among objects.now) (pairs_of (length objects.now.boxes.now))) }
+    ensures no_fewer { steps.old ≤ steps.new }
+    ensures steps { steps.new ≤ steps.old + bound_among objects.now }
+{
+    let mut found = pairs_found(alloc, objects, steps)?;
+    found.sort()?;
+    without_repeats(alloc, &found)
+}
+
 /// The pairs of objects whose boxes are apart by at most a threshold in nm between objects of these sizes on each axis, in order.
 /// A step is a pair of boxes that is looked at.
 pub fn touching<L: Ledger>(
@@ -107,31 +108,23 @@ pub fn touching<L: Ledger>(
     ensures no_fewer { steps.old ≤ steps.new }
     ensures steps { steps.new ≤ steps.old + step_bound thr sizes.now boxes.now }
 {
-    let mut found = pairs_found(alloc, boxes, sizes, thr, steps)?;
-    found.sort()?;
-    without_repeats(alloc, &found)
+    let objects = SlotObjects { boxes, sizes, thr };
+    touching_among(alloc, &objects, steps)
 }
 
 /// The same with steps of its own.
 fn touching_counted<L: Ledger>(
     blank: Blank,
     alloc: Global,
-    boxes: &[Option<AxisBox>],
-    sizes: &[u64],
-    thr: u64,
+    objects: &SlotObjects<'_>,
 ) -> Result<Vec<Pair>, AllocError>
     requires name { blank.name ≡ L.name }
     requires parts { blank.parts ≡ L.parts }
     requires some { 0 < blank.parts }
-    requires few { length boxes.now ≤ 2000 }
-    requires sized { length sizes.now ≡ length boxes.now }
-    requires small { All (λ size. size ≤ MAX_SIZE) sizes.now }
-    requires least { 10 ^ 9 ≤ thr }
-    requires most { thr ≤ 10 ^ 15 }
-    ensures value { IfOk result (λ pairs. map objects_of pairs.items ≡ filter (touch_between thr sizes.now (plain_boxes boxes.now)) (pairs_of (length boxes.now))) }
+    ensures value { IfOk result (λ pairs. map objects_of pairs.items ≡ filter (touch_among objects.now) (pairs_of (length objects.now.boxes.now))) }
 {
     let mut steps = Steps::<L>::new(blank);
-    touching(alloc, boxes, sizes, thr, &mut steps)
+    touching_among(alloc, objects, &mut steps)
 }
 
 /// The pairs of objects whose boxes are apart by at most a threshold in nm between objects of these sizes on each axis, in order.
@@ -148,5 +141,6 @@ pub fn find_touching(
     requires most { thr ≤ 10 ^ 15 }
     ensures value { IfOk result (λ pairs. map objects_of pairs.items ≡ filter (touch_between thr sizes.now (plain_boxes boxes.now)) (pairs_of (length boxes.now))) }
 {
-    touching_counted::<Brand>(Blank::new(1), alloc, boxes, sizes, thr)
+    let objects = SlotObjects { boxes, sizes, thr };
+    touching_counted::<Brand>(Blank::new(1), alloc, &objects)
 }

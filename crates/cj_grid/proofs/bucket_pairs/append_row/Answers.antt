@@ -1,8 +1,9 @@
 use Rattle.std.proofs.Common.{◌≡◌, inl, ◌+◌, ◌<◌, length, sym, ap, ◌∙◌, arith, below_more}
 use Rattle.cj_grid.specs.declared.entries.Entry.{Entry}
+use Rattle.cj_grid.specs.Among.{AreFoundAt}
 use Rattle.cj_grid.specs.Found.{entry_at}
 use Rattle.cj_grid.proofs.EntryLemmas.{entered_more, entered_few}
-use Rattle.cj_grid.proofs.PairingLemmas.{AreFoundAt, in_bucket, none_behind}
+use Rattle.cj_grid.proofs.PairingLemmas.{in_bucket, none_behind}
 use Rattle.cj_grid.proofs.bucket_pairs.append_row.Goals as goal
 
 pub loop-own-init : goal.loop-own-init
@@ -34,7 +35,7 @@ loop-own-preserved g c =
       upto = let below = test.0 in omega arith;
       touching = λ all. told.touching (i.touching all);
       kept = λ a b has. told.kept a b (i.kept a b has);
-      found = below_more (λ k. at < k → AreFoundAt c.args.thr c.args.sizes.now c.args.boxes.now entries at k c.append_pair.new.pairs.items) next
+      found = below_more (λ k. at < k → AreFoundAt c.args.objects.now entries at k c.append_pair.new.pairs.items) next
           (λ k lt above a b is_a is_b up touch. told.kept a b (i.found k lt above a b is_a is_b up touch))
           (λ above a b is_a is_b up touch. told.found a b up (inl (ap (λ (e : Entry). e.object) own ∙ sym is_a, c.object_of-other.ensures ∙ sym is_b)) touch);
       no_fewer = let so_far = i.no_fewer in let now = told.no_fewer in omega arith;
@@ -55,11 +56,11 @@ returns-in_err-append_pair-clause-steps g c =
     omega arith
 
 pub returns-clause-found : goal.returns-clause-found
-returns-clause-found g c k a b above lt same is_a is_b up touch =
+returns-clause-found g c k above share a b is_a is_b up touch =
     let entries = c.args.entries.now in
     let at = c.args.at in
     let own : c.entry_of-own.result ≡ entry_at entries at = c.entry_of-own.ensures in
-    let before = none_behind entries at c.loop-own.next k c.entry_of-own.result.bucket c.requires.order c.loop-own.invariant.above lt (sym (ap (λ (e : Entry). e.bucket) own)) same
+    let before = none_behind entries at c.loop-own.next k c.entry_of-own.result.bucket c.requires.order c.loop-own.invariant.above share.0 (sym (ap (λ (e : Entry). e.bucket) own)) share.1
     (sym c.is_in_bucket.ensures ∙ c.loop-own-test.false) in
     c.loop-own.invariant.found k before above a b is_a is_b up touch
 

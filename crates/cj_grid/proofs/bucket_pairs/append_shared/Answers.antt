@@ -1,9 +1,9 @@
-use Rattle.std.proofs.Common.{◌≡◌, ℕ, ◌<◌, length, arith, below_more}
+use Rattle.std.proofs.Common.{ℕ, ◌<◌, arith, below_more}
 use Rattle.std.proofs.lemmas.List.Sums.{sum_by_more, sum_by_more_le}
 use Rattle.cj_grid.specs.declared.entries.Entry.{Entry}
+use Rattle.cj_grid.specs.Among.{AreFoundAt}
 use Rattle.cj_grid.specs.Buckets.{entered_in}
-use Rattle.cj_grid.specs.Found.{entry_at}
-use Rattle.cj_grid.proofs.PairingLemmas.{AreFoundAt}
+use Rattle.cj_grid.specs.Found.{ShareBucket}
 use Rattle.cj_grid.proofs.bucket_pairs.append_shared.Goals as goal
 
 pub loop-at-init : goal.loop-at-init
@@ -25,9 +25,9 @@ loop-at-preserved g c =
     record {
       touching = λ all. told.touching (i.touching all);
       kept = λ a b has. told.kept a b (i.kept a b has);
-      found = below_more (λ j. (k : ℕ) → j < k → k < length entries → (entry_at entries j).bucket ≡ (entry_at entries k).bucket → AreFoundAt c.args.thr c.args.sizes.now c.args.boxes.now entries j k c.append_row.new.pairs.items) at
-          (λ j lt k above below same a b is_a is_b up touch. told.kept a b (i.found j lt k above below same a b is_a is_b up touch))
-          (λ k above below same a b is_a is_b up touch. told.found k a b above below same is_a is_b up touch);
+      found = below_more (λ j. (k : ℕ) → j < k → ShareBucket entries j k → AreFoundAt c.args.objects.now entries j k c.append_row.new.pairs.items) at
+          (λ j lt k above share a b is_a is_b up touch. told.kept a b (i.found j lt k above share a b is_a is_b up touch))
+          told.found;
       no_fewer = let so_far = i.no_fewer in let now = told.no_fewer in omega arith;
       steps = let so_far = i.steps in let now = told.steps in omega arith;
     }

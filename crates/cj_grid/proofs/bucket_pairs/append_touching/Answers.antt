@@ -1,13 +1,15 @@
 use Rattle.std.proofs.Common.{List, sym, subst, ◌∙◌}
 use Rattle.cj_hermite.specs.declared.pair.Pair.{Pair}
-use Rattle.cj_grid.specs.Found.{AreTouching, AreKept, HasPair}
+use Rattle.cj_grid.specs.Among.{TouchAmong}
+use Rattle.cj_grid.specs.Found.{AreKept, HasPair}
 use Rattle.cj_grid.proofs.PairingLemmas.{touching_more, kept_more, has_pushed}
 use Rattle.cj_grid.proofs.bucket_pairs.append_touching.Goals as goal
 
 pub returns-clause-touching : goal.returns-clause-touching
 returns-clause-touching g c all =
-    subst (λ (ps : List Pair). AreTouching c.args.thr c.args.sizes.now c.args.boxes.now ps) (sym c.in_ok-push.ensures.items)
-    (touching_more c.args.thr c.args.sizes.now c.args.boxes.now c.args.pairs.now.items c.args.pair (sym c.pair_touches.ensures.value ∙ c.if-not-pair_touches.false) all)
+    let objects = c.args.objects.now in
+    subst (λ (ps : List Pair). TouchAmong objects ps) (sym c.in_ok-push.ensures.items)
+    (touching_more objects.thr objects.sizes.now objects.boxes.now c.args.pairs.now.items c.args.pair (sym c.pair_touches.ensures.value ∙ c.if-not-pair_touches.false) all)
 
 pub returns-clause-kept : goal.returns-clause-kept
 returns-clause-kept g c = subst (λ (ps : List Pair). AreKept c.args.pairs.now.items ps) (sym c.in_ok-push.ensures.items) (kept_more c.args.pairs.now.items c.args.pair)

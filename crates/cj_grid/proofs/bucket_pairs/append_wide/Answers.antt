@@ -1,7 +1,6 @@
-use Rattle.std.proofs.Common.{◌≡◌, ◌⊎◌, inl, inr, ℕ, true, ◌+◌, ◌-◌, ◌*◌, ◌<◌, ◌≤◌, List, length, get_or, subst, ◌∙◌, arith, below_more}
+use Rattle.std.proofs.Common.{◌≡◌, ◌⊎◌, inl, inr, ℕ, ◌+◌, ◌-◌, ◌*◌, ◌<◌, ◌≤◌, List, length, get_or, subst, ◌∙◌, arith, below_more}
 use Rattle.std.specs.Prelude.{count_by, is_some, slice_index}
-use Rattle.cj_bezier.specs.SlotBoxes.{plain_boxes, touch_between}
-use Rattle.cj_grid.specs.Found.{HasPair}
+use Rattle.cj_grid.specs.Among.{AreFound}
 use Rattle.cj_grid.proofs.EntryLemmas.{any_default}
 use Rattle.cj_grid.proofs.bucket_pairs.append_wide.Goals as goal
 
@@ -20,13 +19,13 @@ row_more old so_far now n k m before more one = rw one (omega arith)
 pub loop-one-preserved : goal.loop-one-preserved
 loop-one-preserved g c =
     let i = c.loop-one.invariant in
-    let boxes = c.args.boxes.now in
+    let boxes = c.args.objects.now.boxes.now in
     let at = c.loop-one.one-index in
     let told = c.in_ok-append_with_all.ensures in
     record {
       touching = λ all. told.touching (i.touching all);
       kept = λ a b has. told.kept a b (i.kept a b has);
-      found = below_more (λ j. (a b : ℕ) → a < b → (slice_index c.args.wide.now j ≡ a) ⊎ (slice_index c.args.wide.now j ≡ b) → touch_between c.args.thr c.args.sizes.now (plain_boxes boxes) (a, b) ≡ true → HasPair c.append_with_all.new.pairs.items a b) at
+      found = below_more (λ j. AreFound c.args.objects.now (λ a b. (slice_index c.args.wide.now j ≡ a) ⊎ (slice_index c.args.wide.now j ≡ b)) c.append_with_all.new.pairs.items) at
           (λ j lt a b up either touch. told.kept a b (i.found j lt a b up either touch))
           told.found;
       no_fewer = let so_far = i.no_fewer in let now = told.no_fewer in omega arith;
@@ -40,7 +39,7 @@ part_of_all old so_far now n k m before more lt =
 
 pub returns-in_err-append_with_all-clause-steps : goal.returns-in_err-append_with_all-clause-steps
 returns-in_err-append_with_all-clause-steps g c =
-    part_of_all c.args.steps.now c.loop-one.steps c.append_with_all.new.steps (count_by is_some c.args.boxes.now) c.loop-one.one-index (length c.args.wide.now) c.loop-one.invariant.steps c.append_with_all.ensures.steps (omega arith)
+    part_of_all c.args.steps.now c.loop-one.steps c.append_with_all.new.steps (count_by is_some c.args.objects.now.boxes.now) c.loop-one.one-index (length c.args.wide.now) c.loop-one.invariant.steps c.append_with_all.ensures.steps (omega arith)
 
 listed : (wide : List ℕ) (a : ℕ) (at : ℕ) → at < length wide → get_or wide at a ≡ a → slice_index wide at ≡ a
 listed wide a at lt is = any_default wide at 0 a lt ∙ is

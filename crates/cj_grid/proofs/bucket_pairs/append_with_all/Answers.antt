@@ -1,9 +1,9 @@
-use Rattle.std.proofs.Common.{◌≡◌, inl, inr, ℕ, true, cond, ◌+◌, ◌<◌, ◌≤◌, Option, None, get_or, take, refl, arith, below_more}
+use Rattle.std.proofs.Common.{◌≡◌, inl, inr, ℕ, cond, ◌+◌, ◌≤◌, Option, None, get_or, take, refl, arith, below_more}
 use Rattle.std.specs.Prelude.{count_by, is_some}
 use Rattle.std.proofs.lemmas.List.Sums.{sum_by_more, sum_by_more_le}
 use Rattle.cj_bezier.specs.declared.axis_box.AxisBox.{AxisBox}
-use Rattle.cj_bezier.specs.SlotBoxes.{plain_boxes, touch_between}
-use Rattle.cj_grid.specs.Found.{AreBoth, HasPair}
+use Rattle.cj_grid.specs.Among.{AreFound}
+use Rattle.cj_grid.specs.Found.{AreBoth}
 use Rattle.cj_grid.proofs.BucketLemmas.{touching_near}
 use Rattle.cj_grid.proofs.bucket_pairs.append_with_all.Goals as goal
 
@@ -19,7 +19,7 @@ loop-other-init g c = record {
 pub loop-other-preserved : goal.loop-other-preserved
 loop-other-preserved g c =
     let i = c.loop-other.invariant in
-    let boxes = c.args.boxes.now in
+    let boxes = c.args.objects.now.boxes.now in
     let other = c.loop-other.other in
     let told = c.in_ok-append_with.ensures in
     let more : count_by is_some (take (other + 1) boxes) ≡ count_by is_some (take other boxes) + cond (is_some (get_or boxes other None)) 1 0 =
@@ -27,7 +27,7 @@ loop-other-preserved g c =
     record {
       touching = λ all. told.touching (i.touching all);
       kept = λ a b has. told.kept a b (i.kept a b has);
-      found = below_more (λ k. (a b : ℕ) → a < b → AreBoth c.args.one k a b → touch_between c.args.thr c.args.sizes.now (plain_boxes boxes) (a, b) ≡ true → HasPair c.append_with.new.pairs.items a b) other
+      found = below_more (λ k. AreFound c.args.objects.now (AreBoth c.args.one k) c.append_with.new.pairs.items) other
           (λ k lt a b up both touch. told.kept a b (i.found k lt a b up both touch))
           told.found;
       no_fewer = let so_far = i.no_fewer in let now = told.no_fewer in omega arith;
@@ -36,7 +36,7 @@ loop-other-preserved g c =
 
 pub returns-in_err-append_with-clause-steps : goal.returns-in_err-append_with-clause-steps
 returns-in_err-append_with-clause-steps g c =
-    let boxes = c.args.boxes.now in
+    let boxes = c.args.objects.now.boxes.now in
     let so_far = c.loop-other.invariant.steps in
     let now = c.append_with.ensures.steps in
     let all : count_by is_some (take c.loop-other.other boxes) + cond (is_some (get_or boxes c.loop-other.other None)) 1 0 ≤ count_by is_some boxes =
@@ -45,7 +45,8 @@ returns-in_err-append_with-clause-steps g c =
 
 pub returns-clause-found : goal.returns-clause-found
 returns-clause-found g c a b up either touch =
-    let near = touching_near c.args.thr c.args.sizes.now c.args.boxes.now a b touch in
+    let objects = c.args.objects.now in
+    let near = touching_near objects.thr objects.sizes.now objects.boxes.now a b touch in
     let first = near.first_exists in
     let second = near.second_exists in
     elim either [

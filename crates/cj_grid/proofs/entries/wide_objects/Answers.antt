@@ -1,13 +1,14 @@
 use Rattle.std.proofs.Common.{◌≡◌, ℕ, Vec, Global, filter, length, ap, sym, arith, ◌∙◌}
 use Rattle.std.specs.List.{range_with_len}
-use Rattle.cj_grid.specs.Buckets.{is_wide_one, block_in, wide_of}
+use Rattle.cj_grid.specs.Among.{block_among}
+use Rattle.cj_grid.specs.Buckets.{is_wide_one, wide_of}
 use Rattle.cj_grid.proofs.EntryLemmas.{one_passes, one_fails}
 use Rattle.cj_grid.proofs.entries.wide_objects.Goals as goal
 use Rattle.cj_grid.proofs.entries.wide_objects.Goals.{then-has_wide_box+in_ok-push, else-has_wide_box}
 
 pub loop-object-preserved : goal.loop-object-preserved
 loop-object-preserved c =
-    let p = λ (k : ℕ). is_wide_one (block_in c.args.thr c.args.sizes.now c.args.boxes.now k) in
+    let p = λ (k : ℕ). is_wide_one (block_among c.args.objects.now k) in
     let k = c.loop-object.object in
     let is : c.has_wide_box.result ≡ p k = c.has_wide_box.ensures ∙ ap is_wide_one c.block_of_object.ensures in
     elim c.if-has_wide_box.branch [
@@ -20,5 +21,5 @@ loop-object-preserved c =
 pub returns : goal.returns
 unfolding wide_of
 returns c =
-    let end : c.loop-object.object ≡ length c.args.boxes.now = omega arith in
-    c.loop-object.invariant ∙ ap (λ (n : ℕ). filter (λ k. is_wide_one (block_in c.args.thr c.args.sizes.now c.args.boxes.now k)) (range_with_len 0 n)) end
+    let end : c.loop-object.object ≡ length c.args.objects.now.boxes.now = omega arith in
+    c.loop-object.invariant ∙ ap (λ (n : ℕ). filter (λ k. is_wide_one (block_among c.args.objects.now k)) (range_with_len 0 n)) end
