@@ -1,5 +1,5 @@
 -- Numbers in their texts, and back.
-use Rattle.std.proofs.Common.{◌≡◌, ℕ, zero, suc, ◌-◌, ◌^◌, ◌<◌, ◌≤◌, List, [], ◌∷◌, length, get_or, arith, ap, sym, ◌∙◌, refl, subst, true, false, Bool, cond, ℤ, pos, negsuc}
+use Rattle.std.proofs.Common.{◌≡◌, ℕ, zero, suc, ◌+◌, ◌-◌, ◌^◌, ◌<◌, ◌≤◌, List, [], ◌∷◌, length, get_or, take, arith, ap, sym, ◌∙◌, refl, subst, true, false, Bool, cond, ℤ, pos, negsuc}
 use Rattle.std.proofs.Common.{neg_ℤ, decimal, Some, None}
 use Rattle.std.specs.Prelude.{◌==◌, ◌&&◌, not, codes, if◌then◌else◌, unsigned_abs}
 use Rattle.std.specs.Char.{is_ascii_digit, digit_value}
@@ -10,7 +10,9 @@ use Rattle.std.specs.Str.Parse.{AllDigits, digits_value, signed_digits_value, st
 use Rattle.std.proofs.lemmas.Bool.{and_parts, eqb-true, eq-eqb, not-true}
 use Rattle.std.proofs.lemmas.Bool.Decides.{nat_tests}
 use Rattle.std.proofs.lemmas.Fmt.{decimal_digit, decimal_is_IsNumeral, decimal-digits_value, first_decimal}
-use Rattle.std.proofs.lemmas.Str.Parse.{IsNumeralModel}
+use Rattle.std.proofs.lemmas.List.{length-take}
+use Rattle.std.proofs.lemmas.List.Folds.{list_all_more}
+use Rattle.std.proofs.lemmas.Str.Parse.{IsNumeralModel, digits_value_short}
 use Rattle.cj_cert.specs.Numbers.{is_numeral, is_number, number_of, without_minus}
 
 -- ---- digits
@@ -35,6 +37,14 @@ digit_in (c ∷ ds) zero all less =
     let range = from_digit c here in
     (range.0, range.1, digit_is c here)
 digit_in (c ∷ ds) (suc k) all less = digit_in ds k (and_parts (is_ascii_digit c) (list_all is_ascii_digit ds) all).1 (omega arith)
+
+-- the value of a digit at a place
+pub digit_of : (ds : List ℕ) (k : ℕ) → is_ascii_digit (get_or ds k 0) ≡ true → (48 ≤ get_or ds k 0) × (get_or ds k 0 ≤ 57) × (digit_value (get_or ds k 0) ≡ get_or ds k 0 - 48)
+digit_of ds k digit = let range = from_digit (get_or ds k 0) digit in (range.0, range.1, digit_is (get_or ds k 0) digit)
+
+pub one_digit_more : (ds : List ℕ) (k : ℕ) → k < length ds → list_all is_ascii_digit (take k ds) ≡ true → is_ascii_digit (get_or ds k 0) ≡ true
+    → list_all is_ascii_digit (take (k + 1) ds) ≡ true
+one_digit_more ds k less all digit = list_all_more is_ascii_digit ds k 0 less ∙ rw (all, digit) refl
 
 pub all_of : (ds : List ℕ) → AllDigits 10 ds → list_all is_ascii_digit ds ≡ true
 all_of [] all = refl
@@ -69,6 +79,10 @@ numeral_front (c ∷ d ∷ ds) is front =
 
 own : IsNumeralModel (AllDigits 10) (digits_value 10)
 own = record { to = λ ds all. all; from = λ ds all. all; same = λ ds all. refl }
+
+-- the number of the first digits, of which there are few
+pub few_digits : (ds : List ℕ) (k : ℕ) → list_all is_ascii_digit (take k ds) ≡ true → k ≤ 18 → digits_value 10 (take k ds) < 10 ^ 18
+few_digits ds k all few = digits_value_short own (take k ds) 18 (each_of (take k ds) all) (omega (arith, length-take k ds))
 
 -- a numeral is what is written of its value
 pub numeral_written : (ds : List ℕ) → is_numeral ds ≡ true → digits_value 10 ds < 2 ^ 64 → decimal (digits_value 10 ds) ≡ ds

@@ -1,12 +1,13 @@
 -- Where a text is split.
-use Rattle.std.proofs.Common.{◌≡◌, ℕ, ◌+◌, ◌<◌, List, [], ◌∷◌, length, take, drop, Bool, true, false, Option, Some, None, cond, ltb, arith, ap, ◌∙◌, refl}
+use Rattle.std.proofs.Common.{◌≡◌, ℕ, ◌+◌, ◌<◌, List, [], ◌∷◌, get_or, length, take, drop, Bool, true, false, Option, Some, None, cond, ltb, arith, ap, ◌∙◌, refl}
 use Rattle.std.specs.Prelude.{◌==◌, not, is_some}
 use Rattle.std.specs.Borrow.{Bor}
 use Rattle.std.specs.List.{onto_first, position, position_or_len, slice_split}
-use Rattle.std.proofs.lemmas.Bool.{ltb-true, ltb-false}
+use Rattle.std.proofs.lemmas.Bool.{false_from_ne_true, le-ltb, lt-ltb, ltb-true, ltb-false}
 use Rattle.std.proofs.lemmas.Bool.Decides.{nat_tests}
 use Rattle.std.proofs.lemmas.List.Splits.{length-slice_split, slice_split-cons_no, slice_split_first}
-use Rattle.std.proofs.lemmas.List.Sums.{prefix_len-le-length}
+use Rattle.std.proofs.lemmas.List.Sums.{position_or_len_is, prefix_len-le-length}
+use Rattle.memchr.specs.Find.{IsFirstByte, is_byte}
 use Rattle.cj_cert.specs.Readers.{words_in}
 
 chosen : (b : Bool) (n i : ℕ) → cond b (Some n) None ≡ Some i → (b ≡ true) × (n ≡ i)
@@ -38,6 +39,25 @@ split_whole p (x ∷ xs) all = split_cons p x xs (p x) refl (split_whole p xs) a
 pub split_nowhere : (p : ℕ → Bool) (xs : List ℕ) → position p xs ≡ None → slice_split p xs ≡ xs ∷ []
 split_nowhere p xs h =
     split_whole p xs (omega (arith, prefix_len-le-length (λ x. not (p x)) xs, ltb-false _ _ (left_out (ltb (position_or_len p xs) (length xs)) (position_or_len p xs) h)))
+
+-- ---- where a byte stands first
+
+nowhere : (n len : ℕ) → n ≡ len → None ≡ cond (ltb n len) (Some n) None
+nowhere n len e = rw (le-ltb n len (omega (arith, e))) refl
+
+somewhere : (n len k : ℕ) → n ≡ k → k < len → Some k ≡ cond (ltb n len) (Some n) None
+somewhere n len k e less = rw (e, lt-ltb k len less) refl
+
+pub first_place : (byte : ℕ) (text : List ℕ) (r : Option ℕ) → IsFirstByte (is_byte byte) text r → r ≡ position (λ b. b == byte) text
+first_place byte text None none =
+    let p : ℕ → Bool = λ b. b == byte in
+    nowhere (position_or_len p text) (length text)
+    (position_or_len_is p text (length text) 0 (omega arith) (λ k less. false_from_ne_true (p (get_or text k 0)) (none k (omega arith) less)) (λ less. absurd (omega arith)))
+first_place byte text (Some k) found =
+    let p : ℕ → Bool = λ b. b == byte in
+    let high = found.0.high in
+    somewhere (position_or_len p text) (length text) k
+    (position_or_len_is p text k 0 (omega (arith, high)) (λ i less. false_from_ne_true (p (get_or text i 0)) (found.0.before i (omega arith) less)) (λ less. found.1)) high
 
 -- ---- the words that are left
 

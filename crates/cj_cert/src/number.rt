@@ -1,5 +1,5 @@
 //! The numbers of a certificate, of any length.
-ghost use Rattle.std.specs.Prelude.{◌≡◌, ◌-◌, ◌^◌, ◌≤ℤ◌, IfOk, IsTrue, min, unsigned_abs};
+ghost use Rattle.std.specs.Prelude.{◌≡◌, ◌-◌, ◌^◌, ◌≤◌, ◌≤ℤ◌, IfOk, IsTrue, MatchOption, false, true, length, min, unsigned_abs};
 ghost use Rattle.std.specs.Char.{is_ascii_digit};
 ghost use Rattle.std.specs.List.{list_all};
 ghost use Rattle.std.specs.Option.{option_map};
@@ -17,12 +17,11 @@ pub(crate) fn read_number(text: &[u8]) -> Option<i128>
     ensures { result ≡ option_map capped (spec.number_of text.now) }
 {
     let (negative, digits) = split_minus(text);
-    if is_numeral(digits) && text != b"-0".as_slice() {
-        let size = i128::from(size_of(digits));
-        Some(if negative { -size } else { size })
-    } else {
-        None
+    let size = i128::from(numeral(digits)?);
+    if text == b"-0".as_slice() {
+        return None;
     }
+    Some(if negative { -size } else { size })
 }
 
 /// Whether a minus stands first, and what stands behind it.
@@ -36,14 +35,48 @@ fn split_minus(text: &[u8]) -> (bool, &[u8])
     }
 }
 
-/// One digit or more, and no zero in front of others.
-fn is_numeral(text: &[u8]) -> bool
-    ensures { result ≡ spec.is_numeral text.now }
+/// What one digit or more say, with no zero in front of others, up to the greatest u64.
+fn numeral(text: &[u8]) -> Option<u64>
+    ensures { MatchOption result (spec.is_numeral text.now ≡ false)
+        (λ size. (spec.is_numeral text.now ≡ true) × (size ≡ min (digits_value 10 text.now) (2 ^ 64 - 1))) }
 {
     match text {
-        [] | [b'0', _, ..] => false,
-        _ => are_digits(text),
+        [] | [b'0', _, ..] => None,
+        _ => digits_said(text),
     }
+}
+
+/// What digits alone say, up to the greatest u64.
+fn digits_said(text: &[u8]) -> Option<u64>
+    ensures { MatchOption result (list_all is_ascii_digit text.now ≡ false)
+        (λ size. (list_all is_ascii_digit text.now ≡ true) × (size ≡ min (digits_value 10 text.now) (2 ^ 64 - 1))) }
+{
+    if text.len() <= SHORT {
+        short_value(text)
+    } else if are_digits(text) {
+        Some(size_of(text))
+    } else {
+        None
+    }
+}
+
+/// So many digits always say a number below the greatest u64.
+const SHORT: usize = 19;
+
+/// What few digits alone say.
+fn short_value(text: &[u8]) -> Option<u64>
+    requires { length text.now ≤ 19 }
+    ensures { MatchOption result (list_all is_ascii_digit text.now ≡ false)
+        (λ value. (list_all is_ascii_digit text.now ≡ true) × (value ≡ digits_value 10 text.now)) }
+{
+    let mut value: u64 = 0;
+    for byte in text {
+        if !byte.is_ascii_digit() {
+            return None;
+        }
+        value = value * 10 + u64::from(*byte - b'0');
+    }
+    Some(value)
 }
 
 fn are_digits(text: &[u8]) -> bool
