@@ -10,6 +10,7 @@ mod InBlocksLemmas
 mod LineLemmas
 mod ListedLemmas
 mod NumberLemmas
+mod PartLemmas
 mod ReadLemmas
 mod ReaderLemmas
 mod RewrittenLemmas

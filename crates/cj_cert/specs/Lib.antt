@@ -1,6 +1,7 @@
 pub mod Versions
 pub mod Certificates
 pub mod Texts
+pub mod Parts
 pub mod Numbers
 pub mod Ranks
 pub mod Lines

@@ -14,6 +14,8 @@ mod line_said;
 mod line_text;
 mod listed_boxes;
 mod number;
+mod printed_line;
+mod printed_parts;
 mod printing;
 mod rank;
 mod reading;

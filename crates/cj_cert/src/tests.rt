@@ -186,9 +186,15 @@ fn at_rest_2(alloc: Global) -> Result<Certificate, AllocError>
 #[test]
 fn certificates_have_their_texts(rt: HostRuntime) -> Result<(), Fail> {
     let alloc = rt.alloc();
-    assert_eq!(rt; cert_text(alloc, &empty(alloc))?.as_slice(), EMPTY);
-    assert_eq!(rt; cert_text(alloc, &at_rest_1(alloc)?)?.as_slice(), AT_REST);
-    assert_eq!(rt; cert_text(alloc, &at_rest_2(alloc)?)?.as_slice(), AT_REST_2);
+    assert_eq!(rt; cert_text(&rt, alloc, &empty(alloc), 1)?.as_slice(), EMPTY);
+    assert_eq!(rt;
+        cert_text(&rt, alloc, &at_rest_1(alloc)?, 1)?.as_slice(),
+        AT_REST
+    );
+    assert_eq!(rt;
+        cert_text(&rt, alloc, &at_rest_2(alloc)?, 1)?.as_slice(),
+        AT_REST_2
+    );
     Ok(())
 }
 
@@ -198,5 +204,43 @@ fn what_is_printed_is_read_again(rt: HostRuntime) -> Result<(), Fail> {
     assert_eq!(rt; read_cert(alloc, EMPTY), Ok(empty(alloc)));
     assert_eq!(rt; read_cert(alloc, AT_REST), Ok(at_rest_1(alloc)?));
     assert_eq!(rt; read_cert(alloc, AT_REST_2), Ok(at_rest_2(alloc)?));
+    Ok(())
+}
+
+/// A certificate of many cells, of one tick each.
+fn of_many_cells(alloc: Global) -> Result<Certificate, AllocError> {
+    let mut cells = Vec::new(alloc);
+    for later in 0..10_000 {
+        let tick = Tick {
+            micros: FIRST.micros + later,
+        };
+        cells.push(near(tick, tick))?;
+    }
+    Ok(Certificate {
+        version: 1,
+        window: Window {
+            first: FIRST,
+            last: LAST,
+        },
+        threshold: 5_000_000_000_000,
+        objects: 2,
+        sizes: Vec::new(alloc),
+        shells: Vec::new(alloc),
+        boxes: Vec::new(alloc),
+        cells,
+    })
+}
+
+#[test]
+fn parts_by_several_workers_stand_in_order(rt: HostRuntime) -> Result<(), Fail> {
+    let alloc = rt.alloc();
+    let cert = of_many_cells(alloc)?;
+    let text = cert_text(&rt, alloc, &cert, 4)?;
+    assert_eq!(rt;
+        text.as_slice(),
+        cert_text(&rt, alloc, &cert, 1)?.as_slice()
+    );
+    assert!(rt; text.len() < 1_000_000);
+    assert_eq!(rt; read_cert(alloc, &text), Ok(cert));
     Ok(())
 }

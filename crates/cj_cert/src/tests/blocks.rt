@@ -52,9 +52,9 @@ fn objects_at_rest_have_one_box_each_in_version_2(rt: HostRuntime) -> Result<(),
     let alloc = rt.alloc();
     let problem = resting(alloc)?;
     let new = rewritten(alloc, &problem, at_rest_1(alloc)?)?;
-    assert_eq!(rt; cert_text(alloc, &new)?.as_slice(), AT_REST_2);
+    assert_eq!(rt; cert_text(&rt, alloc, &new, 2)?.as_slice(), AT_REST_2);
     let same = rewritten(alloc, &problem, at_rest_2(alloc)?)?;
-    assert_eq!(rt; cert_text(alloc, &same)?.as_slice(), AT_REST_2);
+    assert_eq!(rt; cert_text(&rt, alloc, &same, 2)?.as_slice(), AT_REST_2);
     Ok(())
 }
 
