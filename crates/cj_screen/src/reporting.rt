@@ -15,9 +15,11 @@ use cj_io::Shelf;
 use cj_report::{report_text, summary_text};
 use cj_status::Status;
 use std::alloc::Global;
+use std::thread::Threads;
 
 /// Makes and puts the pieces one after another, messages with this origin. Each is dropped after its put.
-pub fn put_pieces<S: Shelf>(
+pub fn put_pieces<R: Threads + Sync, S: Shelf>(
+    rt: &R,
     alloc: Global,
     shelf: &mut S,
     found: &Findings,
@@ -31,7 +33,7 @@ pub fn put_pieces<S: Shelf>(
     ensures later { S.faults shelf.old ≤ S.faults shelf.new }
 {
     put_report(alloc, shelf, found)?;
-    put_certificate(alloc, shelf, found)?;
+    put_certificate(rt, alloc, shelf, found)?;
     put_messages(alloc, shelf, found, origin)?;
     put_summary(alloc, shelf, found)
 }
@@ -57,7 +59,12 @@ fn put_report<S: Shelf>(alloc: Global, shelf: &mut S, found: &Findings) -> Resul
 }
 
 /// Puts the certificate.
-fn put_certificate<S: Shelf>(alloc: Global, shelf: &mut S, found: &Findings) -> Result<(), Status>
+fn put_certificate<R: Threads + Sync, S: Shelf>(
+    rt: &R,
+    alloc: Global,
+    shelf: &mut S,
+    found: &Findings,
+) -> Result<(), Status>
     requires { AreFound found.now }
     ensures comes { IfErr result ComesOfPuts }
     ensures write { result ≡ Err Status.WriteFault → Rose (S.faults shelf.old) (S.faults shelf.new) }
@@ -71,7 +78,7 @@ fn put_certificate<S: Shelf>(alloc: Global, shelf: &mut S, found: &Findings) -> 
         &found.boxes,
         &found.leaves,
     )?;
-    let text = cert_text(alloc, &certificate)?;
+    let text = cert_text(rt, alloc, &certificate, found.workers)?;
     put(alloc, shelf, b"screen.cert", &text)
 }
 

@@ -80,6 +80,7 @@ pub fn screen<R: Threads + Wait + Sync, G: Gate + Sync>(
     Ok(Findings {
         problem,
         with_sizes,
+        workers,
         shells,
         boxes,
         kept,

@@ -78,7 +78,7 @@ pub fn conj<R: Threads + Wait + Sync, F: Folder, S: Shelf, G: Gate + Sync>(
     ensures shelf_later { S.faults shelf.old ≤ S.faults shelf.new }
 {
     match find(rt, alloc, gate, words, folder, now) {
-        Ok(results) => end(put_results(alloc, shelf, &results)),
+        Ok(results) => end(put_results(rt, alloc, shelf, &results)),
         Err(status) => status,
     }
 }
@@ -94,7 +94,12 @@ fn end(put: Result<(), Status>) -> Status
 }
 
 /// Makes and puts all that is due.
-fn put_results<S: Shelf>(alloc: Global, shelf: &mut S, results: &Results) -> Result<(), Status>
+fn put_results<R: Threads + Sync, S: Shelf>(
+    rt: &R,
+    alloc: Global,
+    shelf: &mut S,
+    results: &Results,
+) -> Result<(), Status>
     requires { AreDue results.now }
     ensures comes { IfErr result ComesOfPuts }
     ensures write { result ≡ Err Status.WriteFault → Rose (S.faults shelf.old) (S.faults shelf.new) }
@@ -102,7 +107,7 @@ fn put_results<S: Shelf>(alloc: Global, shelf: &mut S, results: &Results) -> Res
     ensures later { S.faults shelf.old ≤ S.faults shelf.new }
 {
     match results {
-        Results::Screened(found, origin) => put_pieces(alloc, shelf, found, *origin),
+        Results::Screened(found, origin) => put_pieces(rt, alloc, shelf, found, *origin),
         Results::Checked => put(alloc, shelf, b"-", b"ACCEPTED\n"),
         Results::Made(files) => put_catalogue(alloc, shelf, files),
         Results::Tried(found) => put_trial(alloc, shelf, found),
