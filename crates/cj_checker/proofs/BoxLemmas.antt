@@ -1,8 +1,8 @@
 -- The lines of boxes, one after another.
-use Rattle.std.proofs.Common.{◌≡◌, ℕ, zero, suc, ◌+◌, ◌-◌, ◌<◌, ◌≤◌, Bool, true, false, ◌&&◌, List, [], ◌∷◌, length, drop, Some, None, refl, sym, ap, ◌∙◌, inl, inr, arith}
-use Rattle.std.specs.Prelude.{if◌then◌else◌, nat_le, slice_get}
+use Rattle.std.proofs.Common.{◌≡◌, ℕ, zero, suc, ◌+◌, ◌-◌, ◌<◌, ◌≤◌, Bool, true, false, ◌&&◌, List, [], ◌∷◌, length, map, drop, Some, None, refl, sym, ap, ◌∙◌, inl, inr, arith}
+use Rattle.std.specs.Prelude.{◌==◌, if◌then◌else◌, nat_le, slice_get}
 use Rattle.std.specs.List.{list_all, range_with_len}
-use Rattle.std.proofs.lemmas.Bool.{and_left, and_parts, and_right, cases_eq, leb-true, lt-leb}
+use Rattle.std.proofs.lemmas.Bool.{and_left, and_parts, and_right, cases_eq, cases_lt, leb-true, lt-leb}
 use Rattle.std.proofs.lemmas.List.FromFn.{length-map-range_with_len}
 use Rattle.cj_track.specs.PlainTracks.{PlainTrack}
 use Rattle.cj_hermite.specs.PlainProblems.{PlainProblem}
@@ -13,7 +13,7 @@ use Rattle.cj_cert.specs.Listed.{slots_of_line}
 use Rattle.cj_checker.specs.declared.check_cause.CheckCause.TheVariants.{BoxOf}
 use Rattle.cj_checker.specs.First.{failed, unlisted, boxes_from}
 use Rattle.cj_checker.specs.Places.{places_from}
-use Rattle.cj_checker.specs.Tests.{is_box_line, is_in_box}
+use Rattle.cj_checker.specs.Tests.{are_in_front, holds_hulls, is_box_line, is_in_box}
 use Rattle.cj_checker.proofs.PlaceLemmas.{run_behind, run_test, slot_behind}
 use Rattle.cj_checker.proofs.UnfitLemmas.{dropped, ended}
 
@@ -39,6 +39,30 @@ behind_line case left line e is are passes =
     (λ j. drop (count j) (are j))
     ∙ (run_behind case line.object line.area e is line.first (line.last + 1 - line.first) both.1 ∙ ap (λ (k : ℕ). places_from case line.object k) end)
 
+-- a line with another place than the next one
+pub other_line : (case : PlainProblem) (line : PlainBoxLine) (object slot : ℕ) (left rest : List (ℕ × ℕ)) → left ≡ (object, slot) ∷ rest
+    → ((line.object == object) && (line.first == slot)) ≡ false → false ≡ is_box_line case left line
+other_line case line object slot left rest are other = elim (cases_lt line.last line.first) [
+  | inl lt ↦ sym (and_left (nat_le line.first line.last) _ (lt-leb line.first line.last lt))
+  | inr le ↦
+      let n : line.last + 1 - line.first ≡ suc (line.last + 1 - (line.first + 1)) = omega arith in
+      let slots = map (λ (s : ℕ). let place : ℕ × ℕ = (line.object, s) in place) (range_with_len (line.first + 1) (line.last + 1 - (line.first + 1))) in
+      let front : are_in_front (slots_of_line line) left ≡ false =
+      (λ j. are_in_front (map (λ (s : ℕ). let place : ℕ × ℕ = (line.object, s) in place) (range_with_len line.first (n j))) (are j)) ∙ (λ j. other j && are_in_front slots rest) in
+      sym (and_right (nat_le line.first line.last) (are_in_front (slots_of_line line) left && holds_hulls case line) (λ j. front j && holds_hulls case line))
+]
+
+-- a line where no place is left
+no_place_left : (case : PlainProblem) (line : PlainBoxLine) → is_box_line case [] line ≡ false
+no_place_left case line = elim (cases_lt line.last line.first) [
+  | inl lt ↦ and_left (nat_le line.first line.last) _ (lt-leb line.first line.last lt)
+  | inr le ↦
+      let n : line.last + 1 - line.first ≡ suc (line.last + 1 - (line.first + 1)) = omega arith in
+      let front : are_in_front (slots_of_line line) [] ≡ false =
+      (λ j. are_in_front (map (λ (s : ℕ). let place : ℕ × ℕ = (line.object, s) in place) (range_with_len line.first (n j))) []) in
+      and_right (nat_le line.first line.last) (are_in_front (slots_of_line line) [] && holds_hulls case line) (λ j. front j && holds_hulls case line)
+]
+
 -- ---- slots of a line
 
 not_all : (p : ℕ → Bool) (a n k : ℕ) → a ≤ k → k < a + n → p k ≡ false → list_all p (range_with_len a n) ≡ false
@@ -62,6 +86,12 @@ beyond case e area first last le behind =
 -- a slot that passes
 pub all_more : (p : ℕ → Bool) (last slot : ℕ) → slot ≤ last → p slot ≡ true → list_all p (range_with_len slot (last + 1 - slot)) ≡ list_all p (range_with_len (slot + 1) (last + 1 - (slot + 1)))
 all_more p last slot le passes = let n : last + 1 - slot ≡ suc (last + 1 - (slot + 1)) = omega arith in rw (n, passes) refl
+
+-- a slot that does not
+pub one_fails : (p : ℕ → Bool) (first last slot : ℕ) → slot ≤ last → list_all p (range_with_len first (last + 1 - first)) ≡ list_all p (range_with_len slot (last + 1 - slot)) → p slot ≡ false
+    → false ≡ (nat_le first last && list_all p (range_with_len first (last + 1 - first)))
+one_fails p first last slot le rest fails =
+    sym (and_right (nat_le first last) (list_all p (range_with_len first (last + 1 - first))) (rest ∙ not_all p slot (last + 1 - slot) slot (omega arith) (omega arith) fails))
 
 -- ---- line by line
 
@@ -98,3 +128,7 @@ pub boxes_done : (case : PlainProblem) (line k : ℕ) (left : List (ℕ × ℕ))
     → boxes_from case (line + k) left (drop k boxes) ≡ None
 boxes_done case line k left boxes is are =
     ap (boxes_from case (line + k) left) (ended boxes k is) ∙ (boxes_none case (line + k) left ∙ ap (unlisted (line + k)) are)
+
+-- a line that is left behind the last place
+pub boxes_left : (case : PlainProblem) (at : ℕ) (b : PlainBoxLine) (boxes : List PlainBoxLine) → boxes_from case at [] (b ∷ boxes) ≡ failed at BoxOf
+boxes_left case at b boxes = boxes_here case at [] b boxes false (no_place_left case b)

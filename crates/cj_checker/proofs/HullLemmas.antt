@@ -20,7 +20,8 @@ pub record IsMetUpTo (p : PlainHull → Bool) (e : PlainTrack) (from at last : �
   pub some : ¬ HasNone e from last
   pub rest : list_all p (hulls_of e from last) ≡ (p h && list_all p (hulls_of e (at + 1) last))
 
-some_hull : (e : PlainTrack) (from last : ℕ) (h : PlainHull) (hs : List PlainHull) → hulls_of e from last ≡ h ∷ hs → ¬ HasNone e from last
+-- where there is a hull there is a state
+pub some_hull : (e : PlainTrack) (from last : ℕ) (h : PlainHull) (hs : List PlainHull) → hulls_of e from last ≡ h ∷ hs → ¬ HasNone e from last
 some_hull e from last h hs are none = let empty = no_hulls e from last none in absurd cc
 
 pub first_met : (p : PlainHull → Bool) (e : PlainTrack) (from at last : ℕ) (h : PlainHull) → at ≤ last → hulls_of e from last ≡ h ∷ hulls_of e (at + 1) last → IsMetUpTo p e from at last h

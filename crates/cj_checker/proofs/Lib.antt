@@ -6,9 +6,11 @@ mod FirstLemmas
 mod HullLemmas
 mod KeyLemmas
 mod PlaceLemmas
+mod ReadLemmas
 mod RoundLemmas
 mod SweepLemmas
 mod TableLemmas
 mod TestLemmas
 mod TilingLemmas
 mod UnfitLemmas
+mod WalkLemmas

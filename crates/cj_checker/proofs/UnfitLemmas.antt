@@ -81,7 +81,8 @@ unfit_missing fits cause line xs ys k x is at =
     let vs = ended ys k is in
     (λ j. first_unfit fits cause (line + k) (us j) (vs j)) ∙ unfit_left fits cause (line + k) x (drop (k + 1) xs)
 
-no_more : {X : Type 0} (xs : List X) (k : ℕ) → slice_get xs k ≡ None → length xs ≤ k
+-- behind the last element
+pub no_more : {X : Type 0} (xs : List X) (k : ℕ) → slice_get xs k ≡ None → length xs ≤ k
 no_more [] k is = omega arith
 no_more (x ∷ xs) zero is = absurd cc
 no_more (x ∷ xs) (suc k) is = let rest = no_more xs k is in omega arith

@@ -1,18 +1,8 @@
--- What the hulls of an object are to meet.
+-- Control points and boxes.
 use Rattle.std.specs.Prelude.{Bool, ◌&&◌, int_le}
 use Rattle.cj_hermite.specs.declared.box3.Box3.{Box3}
 use Rattle.cj_track.specs.declared.vec3.Vec3.{Vec3}
 use Rattle.cj_bezier.specs.declared.axis_box.AxisBox.{AxisBox}
-use Rattle.cj_bezier.specs.Hulls.{PlainHull}
-use Rattle.cj_bezier.specs.SlotBoxes.{plain_box}
-use Rattle.cj_checker.specs.declared.bound.Bound.{Bound}
-use Rattle.cj_checker.specs.declared.bound.Bound.TheVariants as bounds
-use Rattle.cj_checker.specs.Tests.{shows_radii, is_hull_in}
-
--- a hull meets a bound: it shows both radii, or lies in the box
-abbrev pub meets : Bound → PlainHull → Bool
-meets (bounds.Radii shell) = shows_radii shell
-meets (bounds.Area area) = is_hull_in (plain_box area)
 
 -- ---- control points
 

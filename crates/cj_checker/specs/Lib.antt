@@ -2,6 +2,8 @@ pub mod Tests
 pub mod Bounds
 pub mod First
 pub mod Places
+pub mod Walks
+pub mod BoxesRead
 pub mod Tables
 pub mod ListedBoxes
 pub mod Answers

@@ -1,34 +1,13 @@
-//! What the hulls of an object are to meet.
+//! What the hulls of an object are to meet: the radii of its shell, and its boxes.
 ghost use Rattle.std.specs.Prelude.{◌≡◌, ◌*◌};
 ghost use Rattle.cj_bezier.specs.Hulls.{axes_of};
 ghost use Rattle.cj_bezier.specs.SlotBoxes.{plain_box};
-ghost use Rattle.cj_checker.specs.Bounds.{meets, is_point_in, is_above, is_below};
+ghost use Rattle.cj_checker.specs.Bounds.{is_point_in, is_above, is_below};
 ghost use Rattle.cj_checker.specs.Tests.{is_hull_in as lies_in, shows_radii as shows};
 
 use cj_bezier::{AxisBox, Hull, Shell, gap_origin, greatest_square, least_square};
 use cj_hermite::Box3;
 use cj_track::Vec3;
-
-/// A bound of hulls.
-#[derive(Clone, Copy, Debug)]
-pub(crate) enum Bound {
-    /// The radii of a shell, which the gap of each hull against the origin is to show.
-    Radii(Shell),
-    /// A box in which each hull is to lie.
-    Area(AxisBox),
-}
-
-impl Bound {
-    /// Whether a hull meets it.
-    pub(crate) fn is_met(self, hull: &Hull) -> bool
-        ensures { result ≡ meets self (axes_of hull.now.points) }
-    {
-        match self {
-            Bound::Radii(shell) => shows_radii(shell, hull),
-            Bound::Area(area) => is_hull_in(&area, hull),
-        }
-    }
-}
 
 fn square(radius: u64) -> u128
     ensures { result ≡ radius * radius }
@@ -37,7 +16,7 @@ fn square(radius: u64) -> u128
 }
 
 /// Whether the gap of a hull against the origin shows both radii.
-fn shows_radii(shell: Shell, hull: &Hull) -> bool
+pub(crate) fn shows_radii(shell: Shell, hull: &Hull) -> bool
     ensures { result ≡ shows shell (axes_of hull.now.points) }
 {
     let gap = gap_origin(hull);
@@ -45,7 +24,7 @@ fn shows_radii(shell: Shell, hull: &Hull) -> bool
 }
 
 /// Whether a hull lies in a box.
-fn is_hull_in(area: &AxisBox, hull: &Hull) -> bool
+pub(crate) fn is_hull_in(area: &AxisBox, hull: &Hull) -> bool
     ensures { result ≡ lies_in (plain_box area.now) (axes_of hull.now.points) }
 {
     hull.points.iter().all(|point| is_point_in(area, point))

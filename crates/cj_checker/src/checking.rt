@@ -10,11 +10,10 @@ ghost use Rattle.cj_checker.specs.Answers.{failure_of};
 ghost use Rattle.cj_checker.specs.First as first;
 
 use crate::answer::Answer;
-use crate::boxes::box_failure;
 use crate::cells::cell_failure;
 use crate::failure::Failure;
 use crate::header::header_failure;
-use crate::shells::shell_failure;
+use crate::shells::hull_failure;
 use crate::sizes::size_failure;
 use cj_cert::{Certificate, acceptance};
 use cj_hermite::Problem;
@@ -36,11 +35,7 @@ fn object_failure(problem: &Problem, cert: &Certificate) -> Option<Failure>
     if size.is_some() {
         return size;
     }
-    let shell = shell_failure(problem, cert);
-    if shell.is_some() {
-        return shell;
-    }
-    box_failure(problem, cert)
+    hull_failure(problem, cert)
 }
 
 /// The first failure of a certificate.

@@ -4,13 +4,15 @@
 mod answer;
 mod bound;
 mod boxes;
+mod boxes_read;
 mod cell_fault;
 mod cells;
 mod check_cause;
 mod checking;
+mod course;
 mod failure;
 mod header;
-mod hulls_met;
+mod hulls_inside;
 mod keys;
 mod laws;
 mod listed;
@@ -23,15 +25,15 @@ mod shells;
 mod sizes;
 mod sweep;
 mod tiling;
+mod walk;
 
 pub use answer::Answer;
-pub use boxes::box_failure;
 pub use check_cause::CheckCause;
 pub use checking::check;
 pub use failure::Failure;
 pub use header::header_failure;
 pub use laws::acceptance;
-pub use shells::shell_failure;
+pub use shells::hull_failure;
 pub use sizes::size_failure;
 
 #[cfg(test)]

@@ -121,13 +121,24 @@ fn by_sizes(alloc: Global, sizes: Vec<SizeOfLine>) -> Result<Option<Failure>, Al
     Ok(size_failure(&problem(alloc)?, &cert))
 }
 
+fn own_boxes(alloc: Global) -> Result<Vec<BoxLine>, AllocError>
+    ensures { IfOk result (λ boxes. vec_len boxes ≡ 3) }
+{
+    Ok(vec![in alloc;
+        box_of(0, 0, 0, NEAR, NEAR),
+        box_of(0, 2, 2, NEAR, NEAR),
+        box_of(2, 0, 3, FAR, FAR),
+    ]?)
+}
+
 /// The first failure of shells.
 fn by_shells(alloc: Global, shells: Vec<ShellLine>) -> Result<Option<Failure>, AllocError>
     requires { vec_len shells ≤ 100 }
 {
     let sizes = own_sizes(alloc)?;
-    let cert = certificate(alloc, sizes, shells, Vec::new(alloc));
-    Ok(shell_failure(&problem(alloc)?, &cert))
+    let boxes = own_boxes(alloc)?;
+    let cert = certificate(alloc, sizes, shells, boxes);
+    Ok(hull_failure(&problem(alloc)?, &cert))
 }
 
 /// The first failure of boxes.
@@ -137,7 +148,7 @@ fn by_boxes(alloc: Global, boxes: Vec<BoxLine>) -> Result<Option<Failure>, Alloc
     let sizes = own_sizes(alloc)?;
     let shells = own_shells(alloc)?;
     let cert = certificate(alloc, sizes, shells, boxes);
-    Ok(box_failure(&problem(alloc)?, &cert))
+    Ok(hull_failure(&problem(alloc)?, &cert))
 }
 
 fn at(line: u32, cause: CheckCause) -> Option<Failure> {

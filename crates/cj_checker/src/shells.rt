@@ -1,59 +1,130 @@
-//! The lines of shells.
-ghost use Rattle.std.specs.Prelude.{◌≡◌, ◌+◌, ◌-◌, ◌^◌, ◌<◌, map, vec_len};
+//! The lines of shells, and with them those of boxes, so that each track is walked along once.
+ghost use Rattle.std.specs.Prelude.{◌≡◌, ◌+◌, ◌-◌, ◌^◌, ◌<◌, ◌≤◌, [], true, false, Some, length, map, slice_get, vec_len, IfNone, IfSome};
 ghost use Rattle.std.specs.List.{enumerate_from};
+ghost use Rattle.std.specs.Option.{option_or};
 ghost use Rattle.cj_track.specs.Tracks.{plain_track};
+ghost use Rattle.cj_hermite.specs.PlainProblems.{PlainProblem};
 ghost use Rattle.cj_hermite.specs.Problems.{plain_problem};
-ghost use Rattle.cj_cert.specs.Certificates.{plain_certificate};
-ghost use Rattle.cj_checker.specs.First.{fits_at, shell_failure as the_failure};
-ghost use Rattle.cj_checker.specs.Tests.{has_state_between, is_shell_over as is_over, is_shell_line as the_test};
+ghost use Rattle.cj_cert.specs.Certificates.{plain_box_line, plain_certificate};
+ghost use Rattle.cj_checker.specs.BoxesRead.{IsReadOn, fails_behind};
+ghost use Rattle.cj_checker.specs.First.{box_failure, first_box_line, fits_at, shell_failure};
+ghost use Rattle.cj_checker.specs.Tests.{has_state_between, is_shell_over, is_shell_line};
 
-use crate::bound::Bound;
+use crate::boxes::read_boxes;
+use crate::boxes_read::BoxesRead;
 use crate::check_cause::CheckCause;
+use crate::course::Course;
 use crate::failure::{FIRST_LINE, Failure, failed};
-use crate::hulls_met::hulls_meet;
-use cj_bezier::Shell;
-use cj_cert::{Certificate, ShellLine};
+use crate::walk::Walk;
+use cj_cert::{BoxLine, Certificate, ShellLine};
 use cj_epoch::Window;
 use cj_hermite::{Problem, next_run};
 use cj_track::Track;
 
-/// The first line that is not the shell of the object in its place. Lines that are missing or left are found at the line behind.
-pub fn shell_failure(problem: &Problem, cert: &Certificate) -> Option<Failure>
-    requires few { vec_len cert.now.sizes + vec_len cert.now.shells < 2 ^ 32 - 5 }
-    ensures { result ≡ the_failure (plain_problem problem.now) (plain_certificate cert.now) }
+/// The first line of shells that is not the shell of the object in its place, or else the first line of boxes that does not have the
+/// next slots of an object in which it has a state, or lets one of its hulls out. Lines that are missing or left are found at the line
+/// behind.
+pub fn hull_failure(problem: &Problem, cert: &Certificate) -> Option<Failure>
+    requires few { vec_len cert.now.sizes + vec_len cert.now.shells + vec_len cert.now.boxes < 2 ^ 32 - 5 }
+    ensures { result ≡ option_or (shell_failure (plain_problem problem.now) (plain_certificate cert.now))
+        (box_failure (plain_problem problem.now) (plain_certificate cert.now)) }
 {
     let first = FIRST_LINE + cert.sizes.len() as u32;
     let mut object = 0;
+    let mut read = BoxesRead {
+        passed: 0,
+        failed: false,
+    };
     for line in &cert.shells {
-        if !is_shell_line(problem, object, line) {
+        let Some(more) = read_object(problem, object, line, &cert.boxes, read) else {
             return failed(first + object, CheckCause::ShellOf);
-        }
+        };
+        read = more;
         object += 1;
     }
     if (object as usize) < problem.tracks.as_slice().len() {
         return failed(first + object, CheckCause::ShellOf);
     }
+    failure_of_boxes(first + object, &cert.boxes, read)
+}
+
+/// The first line of boxes that fails, where the lines of all objects were read.
+fn failure_of_boxes(first: u32, lines: &[BoxLine], read: BoxesRead) -> Option<Failure>
+    requires few { first + length lines.now < 2 ^ 32 }
+    requires place { read.passed ≤ length lines.now }
+    ensures { (case : PlainProblem) → result ≡ fails_behind case first [] (map plain_box_line lines.now) read }
+{
+    if read.failed || read.passed < lines.len() {
+        return failed(first + read.passed as u32, CheckCause::BoxOf);
+    }
     None
 }
 
-/// Whether a line has a shell of this object.
-fn is_shell_line(problem: &Problem, object: u32, line: &ShellLine) -> bool
-    ensures { result ≡ fits_at (the_test problem.now.window.first.micros problem.now.window.last.micros)
-        (enumerate_from 0 (map plain_track problem.now.tracks)) object line.now }
+/// What is read of boxes with those of an object, where a line has the object's shell. None where it has not.
+fn read_object(
+    problem: &Problem,
+    object: u32,
+    line: &ShellLine,
+    boxes: &[BoxLine],
+    read: BoxesRead,
+) -> Option<BoxesRead>
+    requires place { read.passed ≤ length boxes.now }
+    ensures none { IfNone result (fits_at (is_shell_line problem.now.window.first.micros problem.now.window.last.micros)
+        (enumerate_from 0 (map plain_track problem.now.tracks)) object line.now ≡ false) }
+    ensures some { IfSome result (λ more. fits_at (is_shell_line problem.now.window.first.micros problem.now.window.last.micros)
+        (enumerate_from 0 (map plain_track problem.now.tracks)) object line.now ≡ true) }
+    ensures place { IfSome result (λ more. more.passed ≤ length boxes.now) }
+    ensures on { IfSome result (IsReadOn (plain_problem problem.now) object (map plain_box_line boxes.now) read) }
 {
-    match problem.tracks.as_slice().get(object as usize) {
-        None => false,
-        Some(track) => line.object == object && is_shell_over(track, problem.window, line.shell),
+    let track = problem.tracks.as_slice().get(object as usize)?;
+    if line.object != object {
+        return None;
+    }
+    match line.shell {
+        None => {
+            if has_state(track, problem.window) {
+                None
+            } else {
+                Some(read)
+            }
+        }
+        Some(shell) => {
+            let course = Course {
+                problem,
+                track,
+                shell,
+            };
+            read_course(&course, object, boxes, read)
+        }
     }
 }
 
-/// Whether there is no shell where a track has no state in a window, and else one whose radii its hulls show.
-fn is_shell_over(track: &Track, window: Window, shell: Option<Shell>) -> bool
-    ensures { result ≡ is_over (plain_track track.now) window.first.micros window.last.micros shell }
+/// The same, of an object whose line has a shell.
+fn read_course(
+    course: &Course,
+    object: u32,
+    boxes: &[BoxLine],
+    read: BoxesRead,
+) -> Option<BoxesRead>
+    requires object { slice_get (map plain_track course.now.problem.now.tracks) object ≡ Some (plain_track course.now.track.now) }
+    requires place { read.passed ≤ length boxes.now }
+    ensures none { IfNone result (is_shell_over (plain_track course.now.track.now) course.now.problem.now.window.first.micros
+        course.now.problem.now.window.last.micros (Some course.now.shell) ≡ false) }
+    ensures some { IfSome result (λ more. is_shell_over (plain_track course.now.track.now) course.now.problem.now.window.first.micros
+        course.now.problem.now.window.last.micros (Some course.now.shell) ≡ true) }
+    ensures place { IfSome result (λ more. more.passed ≤ length boxes.now) }
+    ensures on { IfSome result (IsReadOn (plain_problem course.now.problem.now) object (map plain_box_line boxes.now) read) }
 {
-    match shell {
-        None => !has_state(track, window),
-        Some(shell) => hulls_meet(track, window, Bound::Radii(shell)) == Some(true),
+    let mut walk = Walk::new(course)?;
+    let more = if read.failed {
+        read
+    } else {
+        read_boxes(course, object, boxes, read.passed, &mut walk)
+    };
+    if walk.shows_all(course) {
+        Some(more)
+    } else {
+        None
     }
 }
 

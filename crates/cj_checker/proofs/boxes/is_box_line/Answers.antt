@@ -1,35 +1,43 @@
-use Rattle.std.proofs.Common.{◌∙◌, List, length, ap, sym, arith}
-use Rattle.cj_track.specs.declared.track.Track.{Track}
+use Rattle.std.proofs.Common.{◌≡◌, ◌+◌, ◌∙◌, ◌&&◌, Some, sym, true}
+use Rattle.std.specs.Prelude.{◌==◌, slice_get}
+use Rattle.std.proofs.lemmas.Bool.{and_parts, eqb-true}
 use Rattle.cj_track.specs.Tracks.{plain_track}
 use Rattle.cj_hermite.specs.Problems.{plain_problem}
 use Rattle.cj_cert.specs.Certificates.{plain_box_line}
 use Rattle.cj_checker.specs.Places.{places_from}
-use Rattle.cj_checker.proofs.BoxLemmas.{line_test, behind_line}
-use Rattle.cj_checker.proofs.UnfitLemmas.{read_at}
+use Rattle.cj_checker.proofs.BoxLemmas.{line_test, behind_line, other_line}
 use Rattle.cj_checker.proofs.boxes.is_box_line.Goals as goal
+
+pub returns-then-not-begins_at-clause-value : goal.returns-then-not-begins_at-clause-value
+returns-then-not-begins_at-clause-value c =
+    let case = plain_problem c.args.course.now.problem.now in
+    let place = c.args.place in
+    other_line case (plain_box_line c.args.line.now) place.object place.slot (places_from case place.object place.slot) (places_from case place.object (place.slot + 1)) c.requires.next
+    (sym c.begins_at.ensures ∙ c.if-not-begins_at.true)
 
 pub returns-clause-value : goal.returns-clause-value
 returns-clause-value c =
-    let case = plain_problem c.args.problem.now in
+    let case = plain_problem c.args.course.now.problem.now in
     let line = plain_box_line c.args.line.now in
-    let track = c.index-as_slice-place.result in
-    let all = c.as_slice.result.now in
-    let object = c.if-line-place.false in
-    let first = c.if-line-place-2.false in
-    let count = ap (λ (ts : List Track). length ts) c.as_slice.ensures.value in
-    let is = read_at plain_track c.args.problem.now.tracks all c.in-Some.place.object line.object track c.as_slice.ensures.value (omega (arith, count, c.in-Some.ensures.inside)) c.index-as_slice-place.is object in
-    let are = c.in-Some.ensures.same ∙ (λ j. places_from case (sym object j) (sym first j)) in
-    c.holds_hulls.ensures.value ∙ line_test case (places_from case c.args.from.object c.args.from.slot) line (plain_track track) is are
+    let place = c.args.place in
+    let e = plain_track c.args.course.now.track.now in
+    let both = and_parts (line.object == place.object) (line.first == place.slot) (sym c.begins_at.ensures ∙ c.if-not-begins_at.false) in
+    let object = eqb-true line.object place.object both.0 in
+    let first = eqb-true line.first place.slot both.1 in
+    let here : slice_get case.ephemerides line.object ≡ slice_get case.ephemerides place.object = λ j. slice_get case.ephemerides (object j) in
+    let are : places_from case place.object place.slot ≡ places_from case line.object line.first = λ j. places_from case (sym object j) (sym first j) in
+    c.holds_hulls.ensures.value ∙ line_test case (places_from case place.object place.slot) line e (here ∙ c.requires.object) are
 
 pub returns-clause-behind : goal.returns-clause-behind
 returns-clause-behind c holds =
-    let case = plain_problem c.args.problem.now in
+    let case = plain_problem c.args.course.now.problem.now in
     let line = plain_box_line c.args.line.now in
-    let track = c.index-as_slice-place.result in
-    let all = c.as_slice.result.now in
-    let object = c.if-line-place.false in
-    let first = c.if-line-place-2.false in
-    let count = ap (λ (ts : List Track). length ts) c.as_slice.ensures.value in
-    let is = read_at plain_track c.args.problem.now.tracks all c.in-Some.place.object line.object track c.as_slice.ensures.value (omega (arith, count, c.in-Some.ensures.inside)) c.index-as_slice-place.is object in
-    let are = c.in-Some.ensures.same ∙ (λ j. places_from case (sym object j) (sym first j)) in
-    behind_line case (places_from case c.args.from.object c.args.from.slot) line (plain_track track) is are (sym c.holds_hulls.ensures.value ∙ holds)
+    let place = c.args.place in
+    let e = plain_track c.args.course.now.track.now in
+    let both = and_parts (line.object == place.object) (line.first == place.slot) (sym c.begins_at.ensures ∙ c.if-not-begins_at.false) in
+    let object = eqb-true line.object place.object both.0 in
+    let first = eqb-true line.first place.slot both.1 in
+    let here : slice_get case.ephemerides line.object ≡ slice_get case.ephemerides place.object = λ j. slice_get case.ephemerides (object j) in
+    let are : places_from case place.object place.slot ≡ places_from case line.object line.first = λ j. places_from case (sym object j) (sym first j) in
+    let own : places_from case line.object (line.last + 1) ≡ places_from case place.object (line.last + 1) = λ j. places_from case (object j) (line.last + 1) in
+    behind_line case (places_from case place.object place.slot) line e (here ∙ c.requires.object) are (sym c.holds_hulls.ensures.value ∙ holds) ∙ own

@@ -18,7 +18,7 @@ pub returns-clause-same : goal.returns-clause-same
 returns-clause-same c =
     let case = plain_problem c.args.problem.now in
     let e = plain_track c.args.track.now in
-    let run = c.in_ok-run.run' in
+    let run = c.in_ok-run.run'.ticks in
     let first = run_is_first case e c.args.slot run (subst (λ (k : ℕ). IsNextRun e k case.last run) c.in_ok-ticks.ensures.first c.in_ok-run.ensures.run)
     (subst (λ (k : ℕ). k ≤ run.first.micros) c.in_ok-ticks.ensures.first c.in_ok-run.ensures.after) in
     let since : run.first.micros - case.first ≡ c.since.result = omega (arith, c.since.ensures) in
@@ -28,7 +28,7 @@ pub returns-clause-first : goal.returns-clause-first
 returns-clause-first c =
     let case = plain_problem c.args.problem.now in
     let e = plain_track c.args.track.now in
-    let run = c.in_ok-run.run' in
+    let run = c.in_ok-run.run'.ticks in
     let first = run_is_first case e c.args.slot run (subst (λ (k : ℕ). IsNextRun e k case.last run) c.in_ok-ticks.ensures.first c.in_ok-run.ensures.run)
     (subst (λ (k : ℕ). k ≤ run.first.micros) c.in_ok-ticks.ensures.first c.in_ok-run.ensures.after) in
     let since : run.first.micros - case.first ≡ c.since.result = omega (arith, c.since.ensures) in

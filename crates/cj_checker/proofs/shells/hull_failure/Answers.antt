@@ -1,5 +1,6 @@
-use Rattle.std.proofs.Common.{◌≡◌, ◌∙◌, ◌+◌, ℕ, List, length, get_or, sym, ap, arith, None}
+use Rattle.std.proofs.Common.{◌≡◌, ◌∙◌, ◌+◌, ℕ, List, [], length, get_or, map, sym, ap, arith, None, Option, subst}
 use Rattle.std.specs.List.{enumerate_from}
+use Rattle.std.specs.Option.{option_or}
 use Rattle.std.specs.Prelude.{slice_get}
 use Rattle.std.proofs.lemmas.List.{length-map}
 use Rattle.std.proofs.lemmas.List.FromFn.{length-enumerate_from}
@@ -7,16 +8,23 @@ use Rattle.std.proofs.lemmas.Option.{slice_get-get_or, slice_get_past}
 use Rattle.cj_track.specs.declared.track.Track.{Track}
 use Rattle.cj_track.specs.Tracks.{plain_track}
 use Rattle.cj_hermite.specs.Problems.{plain_problem}
+use Rattle.cj_cert.specs.declared.cert_lines.BoxLine.{BoxLine}
+use Rattle.cj_cert.specs.Certificates.{plain_box_line, plain_certificate}
 use Rattle.cj_checker.specs.declared.check_cause.CheckCause.TheVariants.{ShellOf}
-use Rattle.cj_checker.specs.First.{failed, first_line}
+use Rattle.cj_checker.specs.declared.failure.Failure.{Failure}
+use Rattle.cj_checker.specs.BoxesRead.{IsReadOn, fails_behind}
+use Rattle.cj_checker.specs.First.{box_failure, failed, first_box_line, first_line}
+use Rattle.cj_checker.specs.Places.{places_from}
 use Rattle.cj_checker.specs.Tests.{is_shell_line}
+use Rattle.cj_checker.proofs.PlaceLemmas.{no_place}
 use Rattle.cj_checker.proofs.UnfitLemmas.{unfit_more, unfit_now, unfit_short, unfit_done, unnumbered, read_past}
-use Rattle.cj_checker.proofs.shells.shell_failure.Goals as goal
+use Rattle.cj_checker.proofs.shells.hull_failure.Goals as goal
 
-pub returns-then-not-is_shell_line : goal.returns-then-not-is_shell_line
-returns-then-not-is_shell_line c =
+pub returns-in_default : goal.returns-in_default
+returns-in_default c =
     let case = plain_problem c.args.problem.now in
     let lines = c.args.cert.now.shells.items in
+    let boxes = box_failure case (plain_certificate c.args.cert.now) in
     let object = c.loop-line.object in
     let first = first_line + length c.args.cert.now.sizes.items in
     let at : 5 + c.len.result + object ≡ first + object = omega (arith, c.len.ensures) in
@@ -25,12 +33,13 @@ returns-then-not-is_shell_line c =
     ∙ slice_get-get_or c.deref-line-items.result.now c.loop-line.line-index (record { object = 0; shell = None }) c.loop-line-test.true in
     c.failed.ensures
     ∙ (ap (λ (n : ℕ). failed n ShellOf) at
-    ∙ sym (c.loop-line.invariant.rest
-    ∙ unfit_now (is_shell_line case.first case.last) ShellOf first (enumerate_from 0 case.ephemerides) lines object line is (sym c.is_shell_line.ensures ∙ c.if-not-is_shell_line.true)))
+    ∙ ap (λ (o : Option Failure). option_or o boxes) (sym (c.loop-line.invariant.shells
+    ∙ unfit_now (is_shell_line case.first case.last) ShellOf first (enumerate_from 0 case.ephemerides) lines object line is c.in_default.ensures.none)))
 
 pub loop-line-preserved : goal.loop-line-preserved
 loop-line-preserved c =
     let case = plain_problem c.args.problem.now in
+    let cert = plain_certificate c.args.cert.now in
     let lines = c.args.cert.now.shells.items in
     let object = c.loop-line.object in
     let first = first_line + length c.args.cert.now.sizes.items in
@@ -39,14 +48,18 @@ loop-line-preserved c =
     ∙ slice_get-get_or c.deref-line-items.result.now c.loop-line.line-index (record { object = 0; shell = None }) c.loop-line-test.true in
     record {
       place = omega (arith, c.loop-line.invariant.place);
-      rest = c.loop-line.invariant.rest
-          ∙ unfit_more (is_shell_line case.first case.last) ShellOf first (enumerate_from 0 case.ephemerides) lines object line is (sym c.is_shell_line.ensures ∙ c.if-not-is_shell_line.false);
+      passed = omega (arith, c.in-Some.ensures.place, ap (λ (bs : List BoxLine). length bs) c.deref.ensures.value);
+      shells = c.loop-line.invariant.shells
+          ∙ unfit_more (is_shell_line case.first case.last) ShellOf first (enumerate_from 0 case.ephemerides) lines object line is c.in-Some.ensures.some;
+      boxes = c.loop-line.invariant.boxes
+          ∙ subst (λ (bs : List BoxLine). IsReadOn case object (map plain_box_line bs) c.loop-line.read c.in-Some.more) c.deref.ensures.value c.in-Some.ensures.on (first_box_line cert);
     }
 
 pub returns-then-object-as_slice : goal.returns-then-object-as_slice
 returns-then-object-as_slice c =
     let case = plain_problem c.args.problem.now in
     let lines = c.args.cert.now.shells.items in
+    let boxes = box_failure case (plain_certificate c.args.cert.now) in
     let object = c.loop-line.object in
     let first = first_line + length c.args.cert.now.sizes.items in
     let at : 5 + c.len.result + object ≡ first + object = omega (arith, c.len.ensures) in
@@ -56,15 +69,28 @@ returns-then-object-as_slice c =
     let objects = length-map c.args.problem.now.tracks plain_track in
     c.failed-then-object-as_slice.ensures
     ∙ (ap (λ (n : ℕ). failed n ShellOf) at
-    ∙ sym (c.loop-line.invariant.rest
-    ∙ unfit_short (is_shell_line case.first case.last) ShellOf first (enumerate_from 0 case.ephemerides) lines object past (omega (arith, tracks, count, objects, c.if-object-as_slice.true))))
+    ∙ ap (λ (o : Option Failure). option_or o boxes) (sym (c.loop-line.invariant.shells
+    ∙ unfit_short (is_shell_line case.first case.last) ShellOf first (enumerate_from 0 case.ephemerides) lines object past (omega (arith, tracks, count, objects, c.if-object-as_slice.true)))))
 
 pub returns : goal.returns
 returns c =
     let case = plain_problem c.args.problem.now in
+    let cert = plain_certificate c.args.cert.now in
     let lines = c.args.cert.now.shells.items in
     let object = c.loop-line.object in
     let first = first_line + length c.args.cert.now.sizes.items in
     let past = (λ j. slice_get (sym c.deref-line-items.ensures.value j) object) ∙ slice_get_past c.deref-line-items.result.now object (omega (arith, c.loop-line.invariant.place, c.loop-line-test.false)) in
-    let none = unnumbered 0 case.ephemerides object (read_past plain_track c.args.problem.now.tracks c.as_slice.result.now object c.as_slice.ensures.value c.if-object-as_slice.false) in
-    sym (c.loop-line.invariant.rest ∙ unfit_done (is_shell_line case.first case.last) ShellOf first (enumerate_from 0 case.ephemerides) lines object past none)
+    let count = ap length c.deref-line-items.ensures.value in
+    let none = read_past plain_track c.args.problem.now.tracks c.as_slice.result.now object c.as_slice.ensures.value c.if-object-as_slice.false in
+    let unnumbered_too = unnumbered 0 case.ephemerides object none in
+    let shells = c.loop-line.invariant.shells ∙ unfit_done (is_shell_line case.first case.last) ShellOf first (enumerate_from 0 case.ephemerides) lines object past unnumbered_too in
+    let at : 5 + c.len.result + object ≡ first_box_line cert = omega (arith, c.len.ensures, c.loop-line.invariant.place, c.loop-line-test.false, count) in
+    let items = c.deref-2.ensures.value in
+    let places = no_place case object 0 none in
+    let same : fails_behind case (5 + c.len.result + object) [] (map plain_box_line c.deref-2.result.now) c.loop-line.read
+    ≡ fails_behind case (first_box_line cert) (places_from case object 0) (map plain_box_line c.args.cert.now.boxes.items) c.loop-line.read =
+    λ j. fails_behind case (at j) (sym places j) (map plain_box_line (items j)) c.loop-line.read in
+    c.failure_of_boxes.ensures case
+    ∙ same
+    ∙ sym (c.loop-line.invariant.boxes)
+    ∙ ap (λ (o : Option Failure). option_or o (box_failure case cert)) (sym shells)
