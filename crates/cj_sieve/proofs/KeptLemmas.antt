@@ -1,23 +1,40 @@
--- The pairs that are kept, row by row.
-use Rattle.std.proofs.Common.{◌≡◌, ℕ, zero, suc, List, [], ◌∷◌, get_or, Bool, false, Option, Some, None, refl, sym, ap, ◌∙◌}
-use Rattle.cj_hermite.specs.PlainProblems.{threshold_between}
+-- The pairs that are kept, one after another and row by row.
+use Rattle.std.proofs.Common.{◌≡◌, ℕ, ◌+◌, ◌<◌, ◌++◌, Bool, true, false, [], ◌∷◌, length, filter, Option, Some, None, refl, sym, ap, ◌∙◌, arith, length-append}
+use Rattle.std.specs.Prelude.{not}
+use Rattle.std.specs.List.{flat_map, range_with_len}
+use Rattle.cj_hermite.proofs.PairLemmas.{pair_taken, pair_left, pairs_from, row_taken, row_to}
 use Rattle.cj_bezier.specs.declared.shells.Shell.{Shell}
-use Rattle.cj_bezier.specs.Shells.{are_kept, keeps_between, shell_in}
+use Rattle.cj_bezier.specs.Shells.{are_kept, are_parted}
 
-pub shell_at : (shells : List (Option Shell)) (a : ℕ) → shell_in shells a ≡ get_or shells a None
-shell_at [] a = refl
-shell_at (s ∷ shells) zero = refl
-shell_at (s ∷ shells) (suc a) = shell_at shells a
+-- ---- two shells
 
--- whether the pair of an object that has a shell with another is kept
-pub keeps_is : (thr : ℕ) (sizes : List ℕ) (a b : ℕ) (shells : List (Option Shell)) (shell : Shell) (r : Bool) (t : ℕ) → shell_in shells a ≡ Some shell → t ≡ threshold_between thr sizes a b
-    → r ≡ are_kept t (Some shell) (get_or shells b None) → keeps_between thr sizes shells (a, b) ≡ r
-keeps_is thr sizes a b shells shell r t e is f =
-    ap (λ (s : Option Shell). are_kept (threshold_between thr sizes a b) s (shell_in shells b)) e
-    ∙ ap (λ (s : Option Shell). are_kept (threshold_between thr sizes a b) (Some shell) s) (shell_at shells b)
-    ∙ ap (λ (u : ℕ). are_kept u (Some shell) (get_or shells b None)) (sym is)
-    ∙ sym f
+pub both_kept : (t between : ℕ) (x y : Option Shell) (s u : Shell) (r : Bool) → x ≡ Some s → y ≡ Some u → t ≡ between → r ≡ are_parted s u t → not r ≡ are_kept between x y
+both_kept t between x y s u r first second same told = ap not told ∙ (λ i. are_kept (same i) (sym first i) (sym second i))
 
--- the pairs of an object without a shell are not kept
-pub none_kept : (thr : ℕ) (sizes : List ℕ) (a : ℕ) (shells : List (Option Shell)) → shell_in shells a ≡ None → (b : ℕ) → keeps_between thr sizes shells (a, b) ≡ false
-none_kept thr sizes a shells e b = ap (λ (s : Option Shell). are_kept (threshold_between thr sizes a b) s (shell_in shells b)) e
+pub first_without : (t : ℕ) (x y : Option Shell) → x ≡ None → false ≡ are_kept t x y
+first_without t x y none = sym (ap (λ (o : Option Shell). are_kept t o y) none)
+
+pub second_without : (t : ℕ) (x y : Option Shell) → y ≡ None → false ≡ are_kept t x y
+second_without t None y none = refl
+second_without t (Some s) y none = sym (ap (λ (o : Option Shell). are_kept t (Some s) o) none)
+
+-- ---- how many there are
+
+-- one more of a row, and one that is not kept
+pub counted_more : (p : ℕ × ℕ → Bool) (a b n : ℕ) → a < b → p (a, b) ≡ true → n ≡ length (filter p (row_to a b)) → n + 1 ≡ length (filter p (row_to a (b + 1)))
+counted_more p a b n lt passes so_far =
+    let more = ap length (pair_taken p a b [] (filter p (row_to a b)) lt passes refl) in
+    let one = length-append (filter p (row_to a b)) ((a, b) ∷ []) in
+    omega (arith, more, one, so_far)
+
+pub counted_same : (p : ℕ × ℕ → Bool) (a b n : ℕ) → a < b → p (a, b) ≡ false → n ≡ length (filter p (row_to a b)) → n ≡ length (filter p (row_to a (b + 1)))
+counted_same p a b n lt fails so_far = so_far ∙ ap length (pair_left p a b [] (filter p (row_to a b)) lt fails refl)
+
+-- one row more
+pub rows_counted : (p : ℕ × ℕ → Bool) (n a old row : ℕ) → old ≡ length (filter p (flat_map (pairs_from n) (range_with_len 0 a))) → row ≡ length (filter p (pairs_from n a))
+    → old + row ≡ length (filter p (flat_map (pairs_from n) (range_with_len 0 (a + 1))))
+rows_counted p n a old row before here =
+    let done = filter p (flat_map (pairs_from n) (range_with_len 0 a)) in
+    let more = ap length (row_taken p n a done (done ++ filter p (pairs_from n a)) refl refl) in
+    let both = length-append done (filter p (pairs_from n a)) in
+    omega (arith, more, both, before, here)

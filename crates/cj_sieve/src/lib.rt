@@ -4,10 +4,12 @@
 mod joined_gaps;
 mod pair_filter;
 mod parted_shells;
+mod shelled_objects;
 mod track_shell;
 
-pub use pair_filter::kept_pairs;
+pub use pair_filter::{count_kept, keeps, kept_pairs};
 pub use parted_shells::parted;
+pub use shelled_objects::ShelledObjects;
 pub use track_shell::shell;
 
 #[cfg(test)]

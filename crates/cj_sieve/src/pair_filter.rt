@@ -1,54 +1,87 @@
 //! The pairs that the filter keeps.
-ghost use Rattle.std.specs.Prelude.{◌≡◌, ◌+◌, ◌-◌, ◌^◌, ◌<◌, ◌≤◌, ◌++◌, map, filter, length, All, Some, IfOk, OnOk};
-ghost use Rattle.std.specs.List.{range_with_len};
+ghost use Rattle.std.specs.Prelude.{◌≡◌, ◌^◌, ◌<◌, ◌≤◌, ◌++◌, map, filter, length, All, IfOk, OnOk};
 ghost use Rattle.cj_hermite.specs.Limits.{MAX_SIZE};
 ghost use Rattle.cj_hermite.specs.Pairs.{objects_of, pairs_of};
-ghost use Rattle.cj_bezier.specs.Shells.{are_kept, keeps_between, shell_in};
+ghost use Rattle.cj_bezier.specs.Shells.{keeps_between, shell_in};
+ghost use Rattle.cj_sieve.specs.Among.{keeps_among, kept_among, row_among};
 
 use crate::parted_shells::parted;
+use crate::shelled_objects::ShelledObjects;
 use cj_bezier::Shell;
 use cj_hermite::{Pair, threshold_between};
 use std::alloc::{AllocError, Global};
 
-/// Whether an object with this shell is kept with another.
-fn is_kept(shell: Shell, other: Option<Shell>, thr: u64) -> bool
-    requires least { 10 ^ 9 ≤ thr }
-    requires most { thr ≤ 10 ^ 16 }
-    ensures { result ≡ are_kept thr (Some shell) other }
+/// The shell of an object, where it has one.
+fn shell_of_object(shells: &[Option<Shell>], object: u32) -> Option<Shell>
+    ensures { result ≡ shell_in shells.now object }
 {
-    match other {
-        Some(other) => !parted(shell, other, thr),
-        None => false,
+    *shells.get(object as usize)?
+}
+
+/// Whether a pair of these objects is kept: both have shells, and these are not parted by the threshold between the two.
+pub fn keeps(objects: &ShelledObjects<'_>, pair: Pair) -> bool
+    requires { pair.b < length objects.now.shells.now }
+    ensures value { result ≡ keeps_among objects.now (objects_of pair) }
+{
+    let between = threshold_between(objects.sizes, objects.thr, pair);
+    match (
+        shell_of_object(objects.shells, pair.a),
+        shell_of_object(objects.shells, pair.b),
+    ) {
+        (Some(a), Some(b)) => !parted(a, b, between),
+        _ => false,
     }
 }
 
-/// Appends the kept pairs of an object, which has this shell, with those of higher numbers.
-fn append_row(
-    a: u32,
-    shell: Shell,
-    shells: &[Option<Shell>],
-    sizes: &[u64],
-    thr: u64,
-    pairs: &mut Vec<Pair>,
-) -> Result<(), AllocError>
-    requires few { length shells.now ≤ 2000 }
-    requires exists { a < length shells.now }
-    requires shell { shell_in shells.now a ≡ Some shell }
-    requires sized { length sizes.now ≡ length shells.now }
-    requires small { All (λ size. size ≤ MAX_SIZE) sizes.now }
-    requires least { 10 ^ 9 ≤ thr }
-    requires most { thr ≤ 10 ^ 15 }
-    ensures { OnOk result (map objects_of pairs.new.items ≡ map objects_of pairs.old.items
-        ++ filter (keeps_between thr sizes.now shells.now) (map (λ b. (a, b)) (range_with_len (a + 1) (length shells.now - (a + 1))))) }
+/// How many kept pairs an object has with those of higher numbers.
+fn count_row(a: u32, objects: &ShelledObjects<'_>) -> u64
+    requires { a < length objects.now.shells.now }
+    ensures value { result ≡ length (row_among objects.now a) }
+    ensures few { result ≤ 2000 }
 {
-    for b in a + 1..shells.len() as u32 {
+    let mut count = 0;
+    for b in a + 1..objects.shells.len() as u32 {
+        if keeps(objects, Pair { a, b }) {
+            count += 1;
+        }
+    }
+    count
+}
+
+/// How many pairs of these objects are kept.
+pub fn count_kept(objects: &ShelledObjects<'_>) -> u64
+    ensures value { result ≡ length (kept_among objects.now) }
+{
+    let mut count = 0;
+    for a in 0..objects.shells.len() as u32 {
+        count += count_row(a, objects);
+    }
+    count
+}
+
+/// Appends the kept pairs of an object with those of higher numbers.
+fn append_row(a: u32, objects: &ShelledObjects<'_>, pairs: &mut Vec<Pair>) -> Result<(), AllocError>
+    requires { a < length objects.now.shells.now }
+    ensures { OnOk result (map objects_of pairs.new.items ≡ map objects_of pairs.old.items ++ row_among objects.now a) }
+{
+    for b in a + 1..objects.shells.len() as u32 {
         let pair = Pair { a, b };
-        let between = threshold_between(sizes, thr, pair);
-        if is_kept(shell, shells[b as usize], between) {
+        if keeps(objects, pair) {
             pairs.push(pair)?;
         }
     }
     Ok(())
+}
+
+/// The pairs of these objects that are kept, in order.
+fn list_kept(alloc: Global, objects: &ShelledObjects<'_>) -> Result<Vec<Pair>, AllocError>
+    ensures { IfOk result (λ pairs. map objects_of pairs.items ≡ kept_among objects.now) }
+{
+    let mut pairs = Vec::new(alloc);
+    for a in 0..objects.shells.len() as u32 {
+        append_row(a, objects, &mut pairs)?;
+    }
+    Ok(pairs)
 }
 
 /// The pairs of objects that have shells which are not parted by a threshold in nm between objects of these sizes, in order.
@@ -66,11 +99,5 @@ pub fn kept_pairs(
 
     ensures value { IfOk result (λ pairs. map objects_of pairs.items ≡ filter (keeps_between thr sizes.now shells.now) (pairs_of (length shells.now))) }
 {
-    let mut pairs = Vec::new(alloc);
-    for a in 0..shells.len() as u32 {
-        if let Some(shell) = shells[a as usize] {
-            append_row(a, shell, shells, sizes, thr, &mut pairs)?;
-        }
-    }
-    Ok(pairs)
+    list_kept(alloc, &ShelledObjects { shells, sizes, thr })
 }

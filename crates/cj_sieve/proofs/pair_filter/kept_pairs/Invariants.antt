@@ -1,9 +1,0 @@
-use Rattle.std.proofs.Common.{◌≡◌, map, filter, length}
-use Rattle.std.specs.List.{flat_map, range_with_len}
-use Rattle.cj_hermite.specs.Pairs.{objects_of}
-use Rattle.cj_hermite.proofs.PairLemmas.{pairs_from}
-use Rattle.cj_bezier.specs.Shells.{keeps_between}
-use Rattle.cj_sieve.proofs.pair_filter.kept_pairs.Given as goal
-
-abbrev pub invariant-loop-a : goal.invariant-loop-a
-invariant-loop-a l = map objects_of l.pairs.items ≡ filter (keeps_between l.thr l.sizes l.shells) (flat_map (pairs_from (length l.shells)) (range_with_len 0 l.a))

@@ -1,0 +1,20 @@
+ghost use Rattle.std.specs.Prelude.{◌≡◌, ◌^◌, ◌≤◌, length, All};
+ghost use Rattle.cj_hermite.specs.Limits.{MAX_SIZE};
+
+use cj_bezier::Shell;
+
+/// The objects whose pairs are filtered.
+#[derive(Clone, Copy)]
+pub struct ShelledObjects<'s> {
+    /// The shell of each object, where it has one.
+    pub shells: &'s [Option<Shell>],
+    /// The size of each in nm.
+    pub sizes: &'s [u64],
+    /// The threshold of the run in nm, without sizes.
+    pub thr: u64,
+    pub ghost few: { length shells.now ≤ 2000 },
+    pub ghost sized: { length sizes.now ≡ length shells.now },
+    pub ghost small: { All (λ size. size ≤ MAX_SIZE) sizes.now },
+    pub ghost least: { 10 ^ 9 ≤ thr },
+    pub ghost most: { thr ≤ 10 ^ 15 },
+}
