@@ -1,26 +1,9 @@
 -- Pairs that are kept, one after another.
-use Rattle.std.proofs.Common.{◌≡◌, ℕ, ◌+◌, ◌<◌, ◌++◌, Bool, true, false, cond, List, [], ◌∷◌, length, get_or, map, take, filter, Option, Some, None, refl, sym, ap, ◌∙◌, append-nil}
-use Rattle.std.specs.Prelude.{not}
+use Rattle.std.proofs.Common.{◌≡◌, ℕ, ◌+◌, ◌<◌, ◌++◌, Bool, true, false, cond, List, [], ◌∷◌, length, get_or, map, take, filter, sym, ap, ◌∙◌, append-nil}
 use Rattle.std.proofs.lemmas.List.{take_more, map_push}
 use Rattle.std.proofs.lemmas.List.Elements.{filter-append}
 use Rattle.cj_hermite.specs.declared.pair.Pair.{Pair}
 use Rattle.cj_hermite.specs.Pairs.{objects_of}
-use Rattle.cj_bezier.specs.declared.shells.Shell.{Shell}
-use Rattle.cj_bezier.specs.Shells.{are_parted, are_kept}
-
--- ---- two shells
-
-pub both_kept : (t between : ℕ) (x y : Option Shell) (s u : Shell) (r : Bool) → x ≡ Some s → y ≡ Some u → t ≡ between → r ≡ are_parted s u t → not r ≡ are_kept between x y
-both_kept t between x y s u r first second same told = ap not told ∙ (λ i. are_kept (same i) (sym first i) (sym second i))
-
-pub first_without : (t : ℕ) (x y : Option Shell) → x ≡ None → false ≡ are_kept t x y
-first_without t x y none = sym (ap (λ (o : Option Shell). are_kept t o y) none)
-
-pub second_without : (t : ℕ) (x y : Option Shell) → y ≡ None → false ≡ are_kept t x y
-second_without t None y none = refl
-second_without t (Some s) y none = sym (ap (λ (o : Option Shell). are_kept t (Some s) o) none)
-
--- ---- pair by pair
 
 one_pair_more : (p : ℕ × ℕ → Bool) (pairs : List Pair) (k : ℕ) (pair : Pair) → k < length pairs → pair ≡ get_or pairs k pair
     → filter p (map objects_of (take k pairs)) ++ filter p (objects_of pair ∷ []) ≡ filter p (map objects_of (take (k + 1) pairs))

@@ -1,15 +1,14 @@
-//! From a problem to its candidates: shells, boxes and kept pairs first, and then slot by slot the pairs that touch and their roots.
-ghost use Rattle.std.specs.Prelude.{◌≡◌, ◌<◌, ◌≤◌, length, map, vec_len, All, IfOk, OnOk, IsErrOf};
-ghost use Rattle.cj_hermite.specs.Pairs.{objects_of};
+//! From a problem to its candidates: shells and boxes first, and then slot by slot the pairs that are looked at and their roots.
+ghost use Rattle.std.specs.Prelude.{◌≡◌, ◌<◌, ◌≤◌, length, vec_len, IfOk, OnOk, IsErrOf};
 ghost use Rattle.cj_hermite.specs.Problems.{plain_problem};
 ghost use Rattle.cj_hermite.specs.Slots.{slot_count};
 ghost use Rattle.cj_bezier.specs.SlotBoxes.{plain_boxes};
 ghost use Rattle.cj_bezier.specs.Cells.{plain_cells};
-ghost use Rattle.cj_bezier.specs.Looked.{shells_of, is_looked, pairs_kept, pairs_looked};
+ghost use Rattle.cj_bezier.specs.Looked.{shells_of, is_looked, pairs_kept};
 ghost use Rattle.cj_hermite.specs.Roots.{roots_of, roots_by_slot};
 ghost use Rattle.cj_bezier.specs.AllBoxes.{boxes_of};
 ghost use Rattle.cj_candidates.specs.Counts.{looked_count};
-ghost use Rattle.cj_bezier.specs.Enclosed.{AreInShells, UnlookedAreFar};
+ghost use Rattle.cj_bezier.specs.Enclosed.{UnlookedAreFar};
 
 use crate::candidates::Candidates;
 use crate::ground::Ground;
@@ -19,7 +18,7 @@ use crate::slot_run::SlotRun;
 use crate::slots_searched::search_slots;
 use cj_cells::RefineError;
 use cj_hermite::{Problem, slot_count};
-use cj_sieve::kept_pairs;
+use cj_sieve::{ShelledObjects, count_kept};
 use std::alloc::Global;
 use std::thread::Threads;
 
@@ -36,7 +35,7 @@ pub fn find_candidates<R: Threads + Sync>(
 
     ensures shells { IfOk result (λ found. found.shells.items ≡ shells_of (plain_problem problem.now)) }
     ensures boxes { IfOk result (λ found. plain_boxes found.boxes.items ≡ boxes_of (plain_problem problem.now)) }
-    ensures kept { IfOk result (λ found. map objects_of found.kept.items ≡ pairs_kept (plain_problem problem.now)) }
+    ensures kept { IfOk result (λ found. found.kept ≡ length (pairs_kept (plain_problem problem.now))) }
     ensures roots { IfOk result (λ found. plain_cells found.roots.items ≡ roots_by_slot (is_looked (plain_problem problem.now)) (plain_problem problem.now)) }
     ensures few { IfOk result (λ found. vec_len found.roots ≤ limit) }
     ensures touching { IfOk result (λ found. found.touching ≡ looked_count (plain_problem problem.now)) }
@@ -54,8 +53,11 @@ pub fn find_candidates<R: Threads + Sync>(
         slots,
         workers,
     )?;
-    let sizes = problem.sizes.as_slice();
-    let kept = kept_pairs(alloc, &shells, sizes, problem.threshold)?;
+    let kept = count_kept(&ShelledObjects {
+        shells: &shells,
+        sizes: problem.sizes.as_slice(),
+        thr: problem.threshold,
+    });
     let ground = Ground {
         problem,
         shells: &shells,

@@ -1,5 +1,5 @@
 //! The shells and boxes of some objects: one object after another, or half of the objects on another thread.
-ghost use Rattle.std.specs.Prelude.{◌≡◌, ℕ, ◌<◌, ◌++◌, IfOk, OnOk};
+ghost use Rattle.std.specs.Prelude.{◌≡◌, ◌<◌, ◌++◌, IfOk, OnOk};
 ghost use Rattle.std.specs.Thread.{IsSync};
 ghost use Rattle.cj_track.specs.Tracks.{plain_track};
 ghost use Rattle.cj_bezier.specs.SlotBoxes.{plain_boxes};

@@ -14,6 +14,7 @@ use crate::slot_run::SlotRun;
 use cj_cells::{RefineError, roots_of_slot};
 use cj_grid::find_touching;
 use cj_hermite::{Hints, Pair};
+use cj_sieve::ShelledObjects;
 use std::alloc::{AllocError, Global};
 use std::thread::{Threads, join};
 
@@ -26,7 +27,12 @@ fn looked_pairs(alloc: Global, ground: &Ground<'_>, slot: u32) -> Result<Vec<Pai
     let here = boxes_in_slot(alloc, problem, ground.boxes, ground.slots, slot)?;
     let sizes = problem.sizes.as_slice();
     let touching = find_touching(alloc, &here, sizes, problem.threshold)?;
-    kept_of(alloc, &touching, ground.shells, sizes, problem.threshold)
+    let objects = ShelledObjects {
+        shells: ground.shells,
+        sizes,
+        thr: problem.threshold,
+    };
+    kept_of(alloc, &touching, &objects)
 }
 
 /// So many slots from one on, one after another, with at most so many roots.

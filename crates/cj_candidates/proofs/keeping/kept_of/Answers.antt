@@ -1,28 +1,28 @@
 use Rattle.std.proofs.Common.{◌<◌, Vec, Global, map, length, sym, ap, subst, ◌∙◌, arith}
 use Rattle.cj_hermite.specs.declared.pair.Pair.{Pair}
 use Rattle.cj_hermite.specs.Pairs.{objects_of}
-use Rattle.cj_bezier.specs.Shells.{keeps_between}
+use Rattle.cj_sieve.specs.Among.{keeps_among}
 use Rattle.cj_candidates.proofs.KeepingLemmas.{pair_found, pair_passed}
 use Rattle.cj_candidates.proofs.keeping.kept_of.Goals as goal
-use Rattle.cj_candidates.proofs.keeping.kept_of.Goals.{then-is_kept+in_ok-push, else-is_kept}
+use Rattle.cj_candidates.proofs.keeping.kept_of.Goals.{then-keeps+in_ok-push, else-keeps}
 
-pub is_kept-requires-clause-exists : goal.is_kept-requires-clause-exists
-is_kept-requires-clause-exists c =
+pub keeps-requires : goal.keeps-requires
+keeps-requires c =
     let lt : c.loop-pair.pair-index < length c.args.pairs.now = omega arith in
-    subst (λ (p : Pair). p.b < length c.args.shells.now) (sym c.pair-item.is) (c.requires.exist c.loop-pair.pair-index c.pair-item.result lt)
+    subst (λ (p : Pair). p.b < length c.args.objects.now.shells.now) (sym c.pair-item.is) (c.requires c.loop-pair.pair-index c.pair-item.result lt)
 
 pub loop-pair-preserved : goal.loop-pair-preserved
 loop-pair-preserved c =
-    let p = keeps_between c.args.thr c.args.sizes.now c.args.shells.now in
+    let p = keeps_among c.args.objects.now in
     let pairs = c.args.pairs.now in
     let k = c.loop-pair.pair-index in
     let pair = c.pair-item.result in
     let lt : k < length pairs = omega arith in
-    elim c.if-is_kept.branch [
-      | then-is_kept+in_ok-push w ↦
+    elim c.if-keeps.branch [
+      | then-keeps+in_ok-push w ↦
           ap (λ (v : Vec Pair Global). map objects_of v.items) w.kept-is
-          ∙ pair_found p pairs c.loop-pair.kept.items _ k pair lt c.pair-item.is (sym c.is_kept.ensures ∙ w.if-is_kept.true) w.in_ok-push.ensures.items c.loop-pair.invariant
-      | else-is_kept w ↦
+          ∙ pair_found p pairs c.loop-pair.kept.items _ k pair lt c.pair-item.is (sym c.keeps.ensures.value ∙ w.if-keeps.true) w.in_ok-push.ensures.items c.loop-pair.invariant
+      | else-keeps w ↦
           ap (λ (v : Vec Pair Global). map objects_of v.items) w.kept-is
-          ∙ pair_passed p pairs c.loop-pair.kept.items k pair lt c.pair-item.is (sym c.is_kept.ensures ∙ w.if-is_kept.false) c.loop-pair.invariant
+          ∙ pair_passed p pairs c.loop-pair.kept.items k pair lt c.pair-item.is (sym c.keeps.ensures.value ∙ w.if-keeps.false) c.loop-pair.invariant
     ]

@@ -1,8 +1,9 @@
-use Rattle.std.proofs.Common.{◌≡◌, ◌∙◌, ◌<◌, ℕ, List, Result, Ok, Err, Vec, Global, map, filter, length, All, sym, ap, subst, arith}
+use Rattle.std.proofs.Common.{◌≡◌, ◌∙◌, ◌<◌, ◌≤◌, ℕ, List, Result, Ok, Err, Vec, Global, map, filter, length, All, sym, ap, subst, arith}
 use Rattle.std.proofs.lemmas.List.{length-map}
 use Rattle.std.specs.Prelude.{Option, IfOk}
 use Rattle.std.specs.declared.alloc.AllocError.{AllocError}
 use Rattle.cj_hermite.specs.declared.pair.Pair.{Pair}
+use Rattle.cj_hermite.specs.Limits.{MAX_SIZE}
 use Rattle.cj_hermite.specs.PlainProblems.{PlainProblem}
 use Rattle.cj_hermite.specs.Pairs.{objects_of, pairs_of}
 use Rattle.cj_hermite.specs.Problems.{plain_problem}
@@ -28,15 +29,20 @@ find_touching-requires-clause-sized c =
     let sized = problem.sized in
     omega (arith, count, sized, ap (λ (xs : List ℕ). length xs) c.as_slice-sizes.ensures.value, ap (λ (xs : List (Option AxisBox)). length xs) c.deref.ensures.value, length-map problem.tracks plain_track)
 
-pub kept_of-requires-clause-sized : goal.kept_of-requires-clause-sized
-kept_of-requires-clause-sized c =
+pub invariant_of-objects : goal.invariant_of-objects
+invariant_of-objects c =
     let problem = c.args.ground.now.problem.now in
     let count = as_many_shells (plain_problem problem) c.args.ground.now.shells.now c.args.ground.now.in_shells in
-    let sized = problem.sized in
-    omega (arith, count, sized, ap (λ (xs : List ℕ). length xs) c.as_slice-sizes.ensures.value, length-map problem.tracks plain_track)
+    record {
+      few = omega (arith, count, problem.few, length-map problem.tracks plain_track);
+      sized = omega (arith, count, problem.sized, ap (λ (xs : List ℕ). length xs) c.as_slice-sizes.ensures.value, length-map problem.tracks plain_track);
+      small = subst (λ (ss : List ℕ). All (λ size. size ≤ MAX_SIZE) ss) (sym c.as_slice-sizes.ensures.value) c.as_slice-sizes.ensures.within;
+      least = problem.least;
+      most = problem.most;
+    }
 
-pub kept_of-requires-clause-exist : goal.kept_of-requires-clause-exist
-kept_of-requires-clause-exist c =
+pub kept_of-requires : goal.kept_of-requires
+kept_of-requires c =
     let problem = c.args.ground.now.problem.now in
     let case = plain_problem problem in
     let boxes = as_many_boxes case c.args.slot c.in_ok-here.here.items c.in_ok-here.ensures in
