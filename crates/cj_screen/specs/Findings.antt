@@ -2,12 +2,11 @@
 use Rattle.std.specs.Prelude.{◌≡◌, ◌≤◌, List, [], ◌∷◌, length, map, Result, Ok, Err}
 use Rattle.cj_io.specs.declared.file.FileBytes.{FileBytes}
 use Rattle.cj_hermite.specs.PlainProblems.{PlainProblem}
-use Rattle.cj_hermite.specs.Pairs.{objects_of}
 use Rattle.cj_hermite.specs.Problems.{plain_problem}
 use Rattle.cj_bezier.specs.Leaves.{plain_leaves}
 use Rattle.cj_bezier.specs.SlotBoxes.{plain_boxes}
 use Rattle.cj_cells.specs.Lists.{list_looked}
-use Rattle.cj_bezier.specs.Looked.{shells_of, pairs_kept}
+use Rattle.cj_bezier.specs.Looked.{shells_of}
 use Rattle.cj_bezier.specs.AllBoxes.{boxes_of}
 use Rattle.cj_meet.specs.Closest.{closest_of, some_closest}
 use Rattle.cj_meet.specs.Encounters.{AreEncounters, encounters_of, groups_in}
@@ -27,7 +26,6 @@ case_in found = plain_problem found.problem
 pub record AreFound (found : Findings) : Type 0 where
   pub shells : found.shells.items ≡ shells_of (case_in found)
   pub boxes : plain_boxes found.boxes.items ≡ boxes_of (case_in found)
-  pub kept : map objects_of found.kept.items ≡ pairs_kept (case_in found)
   pub leaves : plain_leaves found.leaves.items ≡ list_looked (case_in found)
   pub few : length found.leaves.items ≤ 4_000_000
   pub encounters : AreEncounters (plain_leaves found.leaves.items) found.encounters.items

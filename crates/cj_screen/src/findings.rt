@@ -1,5 +1,5 @@
 use cj_bezier::{AxisBox, Closest, Encounter, Leaf, Shell};
-use cj_hermite::{Pair, Problem};
+use cj_hermite::Problem;
 use cj_report::Counts;
 
 /// All that is found in a problem. After it a run can fail only for want of memory or in a write.
@@ -14,8 +14,6 @@ pub struct Findings {
     pub shells: Vec<Option<Shell>>,
     /// The box of each object in each slot, in order of object and slot.
     pub boxes: Vec<Option<AxisBox>>,
-    /// The pairs whose shells are not parted, in order.
-    pub kept: Vec<Pair>,
     /// The leaves of all pairs that are looked at, in order of pair and time.
     pub leaves: Vec<Leaf>,
     /// The encounters of the leaves.

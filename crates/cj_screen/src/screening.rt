@@ -65,7 +65,7 @@ pub fn screen<R: Threads + Wait + Sync, G: Gate + Sync>(
         touching,
     } = candidates;
     let counted = CandidateCounts {
-        kept: kept.len() as u64,
+        kept,
         touching,
         roots: roots.len() as u64,
     };
@@ -83,7 +83,6 @@ pub fn screen<R: Threads + Wait + Sync, G: Gate + Sync>(
         workers,
         shells,
         boxes,
-        kept,
         leaves,
         encounters,
         closest,

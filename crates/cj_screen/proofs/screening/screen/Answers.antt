@@ -103,7 +103,6 @@ returns-clause-found g c =
     record {
       shells = c.in-Ok.ensures.shells;
       boxes = c.in-Ok.ensures.boxes;
-      kept = c.in-Ok.ensures.kept;
       leaves = c.in-Ok-leaves_by_workers.ensures.value;
       few = omega (arith, c.in-Ok-leaves_by_workers.ensures.within, c.in-Ok-leaves_by_workers.leaves.ok.0, c.requires.few_cells);
       encounters = record { groups = groups; described = described };
