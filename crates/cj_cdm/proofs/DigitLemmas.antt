@@ -1,24 +1,22 @@
 -- Digits, and what they say as a number.
-use Rattle.std.proofs.Common.{◌≡◌, ℕ, zero, suc, ◌+◌, ◌-◌, ◌*◌, ◌/◌, ◌%◌, ◌^◌, ◌<◌, ◌≤◌, Bool, true, false, List, [], ◌∷◌, ◌++◌, length, ap, sym, ◌∙◌, refl, subst, arith, append_assoc, append-nil, Option, Some, None, Result, Ok, Err, ℤ, pos, negsuc, neg_ℤ, ◌+ℤ◌, ◌-ℤ◌, decimal}
-use Rattle.std.specs.Prelude.{◌&&◌, ◌==◌, nat_le, nat_lt, int_lt, if◌then◌else◌, unsigned_abs}
+use Rattle.std.proofs.Common.{◌≡◌, ℕ, zero, suc, ◌+◌, ◌*◌, ◌/◌, ◌%◌, ◌^◌, ◌<◌, Bool, true, false, List, [], ◌∷◌, ◌++◌, length, ap, sym, ◌∙◌, refl, subst, arith, append-nil, Some, Ok, ℤ, pos, negsuc, ◌-ℤ◌, decimal}
+use Rattle.std.specs.Prelude.{◌==◌, nat_le, int_lt, if◌then◌else◌, unsigned_abs}
 use Rattle.std.specs.Char.{digit_value, is_ascii_digit}
-use Rattle.std.specs.List.{list_all}
 use Rattle.std.specs.Str.Parse.{AllDigits, digits_value, digits_value_after, starts_with_minus, without_leading_sign}
-use Rattle.std.proofs.Math.Nat.{div-div-eq-div-mul, div-one, zero-div}
+use Rattle.std.proofs.Math.Nat.{div-div-eq-div-mul, div-one}
 use Rattle.std.proofs.lemmas.Bool.Decides.{nat_tests}
 use Rattle.std.proofs.lemmas.Fmt.{decimal_is_IsNumeral_wide}
 use Rattle.std.proofs.lemmas.Int.{ints}
 use Rattle.std.proofs.lemmas.List.{length-append}
 use Rattle.std.proofs.lemmas.Str.{digit_value_digit}
-use Rattle.cj_kvn.specs.Numbers.{Number, Parts, are_digits, denominator, digits, exponent_value, is_number, nearest, number, numerator, parts_of, scaled, scaled_of, scaled_size, signed}
-use Rattle.cj_kvn.specs.Scanning.{after_fraction, after_run, exponent_said, fraction_run, run}
+use Rattle.cj_kvn.specs.Numbers.{Number, Parts, are_digits, digits, exponent_value, is_number, nearest, number, parts_of, scaled_of, scaled_size, signed}
+use Rattle.cj_kvn.specs.Scanning.{after_fraction, exponent_said, fraction_run, run}
 use Rattle.cj_kvn.proofs.AgainLemmas.{run_front}
-use Rattle.cj_kvn.proofs.ListLemmas.{HeadFails}
+use Rattle.cj_kvn.proofs.ListLemmas.{HeadFails, both}
 use Rattle.cj_kvn.proofs.PartsLemmas.{Reads}
 use Rattle.cj_kvn.proofs.PowerLemmas.{nearest_one, nearest_times, ten_pos}
 use Rattle.cj_kvn.proofs.ScanLemmas.{Read, exponent_is, is_of_form, value_append}
 use Rattle.cj_cdm.specs.Texts.{last_digits}
-use Rattle.cj_cdm.proofs.ValueLemmas.{and_parts}
 
 -- ---- the digits of numbers
 digit_tested : (c : ℕ) → digit_value c < 10 → is_ascii_digit c ≡ true
@@ -39,7 +37,7 @@ decimal_some n fits = (decimal_is_IsNumeral_wide n fits).0.0
 
 pub digits_joined : (xs ys : List ℕ) → are_digits xs ≡ true → are_digits ys ≡ true → are_digits (xs ++ ys) ≡ true
 digits_joined [] ys first second = second
-digits_joined (x ∷ xs) ys first second = let parts = and_parts (is_ascii_digit x) (are_digits xs) first in rw (parts.0, digits_joined xs ys parts.1 second) refl
+digits_joined (x ∷ xs) ys first second = let parts = both (is_ascii_digit x) (are_digits xs) first in rw (parts.0, digits_joined xs ys parts.1 second) refl
 
 figure_digit : (n : ℕ) → n < 10 → is_ascii_digit (48 + n) ≡ true
 figure_digit n small = grind (arith, nat_tests)
@@ -134,7 +132,7 @@ unsigned_front c rest digit =
 
 pub bare : (ds rest : List ℕ) → are_digits ds ≡ true → 0 < length ds → (starts_with_minus (ds ++ rest) ≡ false) × (without_leading_sign (ds ++ rest) ≡ ds ++ rest)
 bare [] rest all some = absurd (omega arith)
-bare (c ∷ ds) rest all some = unsigned_front c (ds ++ rest) (and_parts (is_ascii_digit c) (are_digits ds) all).0
+bare (c ∷ ds) rest all some = unsigned_front c (ds ++ rest) (both (is_ascii_digit c) (are_digits ds) all).0
 
 -- a minus sign or none
 abbrev pub minus : Bool → List ℕ

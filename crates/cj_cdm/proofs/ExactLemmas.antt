@@ -1,7 +1,5 @@
 -- Readers that are exact, one behind another: what they take off the front is the text of what they read.
-use Rattle.std.proofs.Common.{◌≡◌, ℕ, ◌+◌, Bool, true, false, List, [], ◌∷◌, ◌++◌, length, ap, sym, ◌∙◌, refl, subst, append_assoc, Option, Some, None, Result, Ok, Err}
-use Rattle.std.specs.List.{list_any}
-use Rattle.cj_cdm.specs.declared.fault.CdmCause.TheVariants as causes
+use Rattle.std.proofs.Common.{◌≡◌, ℕ, List, [], ◌++◌, ap, sym, ◌∙◌, refl, subst, append_assoc, Result, Ok, Err}
 use Rattle.cj_cdm.specs.Reading.{Fault, Reading, Rest, and_then, give, ◌>>=◌}
 
 abbrev pub Anything : {A : Type 0} → A → Type 0

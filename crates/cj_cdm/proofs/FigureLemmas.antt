@@ -1,8 +1,8 @@
 -- Numbers are read from what is written of them, and from nothing else.
-use Rattle.std.proofs.Common.{◌≡◌, ℕ, suc, ◌+◌, ◌-◌, ◌*◌, ◌/◌, ◌%◌, ◌^◌, ◌<◌, ◌≤◌, Bool, true, false, List, [], ◌∷◌, ◌++◌, length, take, drop, ap, sym, ◌∙◌, refl, subst, inl, inr, arith, append_assoc, append-nil, Option, Some, None, option_map, Result, Ok, Err, ℤ, pos, negsuc, neg_ℤ, ◌+ℤ◌, ◌-ℤ◌, decimal}
+use Rattle.std.proofs.Common.{◌≡◌, ℕ, suc, ◌-◌, ◌/◌, ◌%◌, ◌^◌, ◌<◌, ◌≤◌, Bool, true, false, List, [], ◌∷◌, ◌++◌, length, take, drop, ap, sym, ◌∙◌, refl, subst, inl, inr, arith, append_assoc, append-nil, Some, Result, Ok, ℤ, pos, negsuc, ◌+ℤ◌, ◌-ℤ◌, decimal}
 use Rattle.std.specs.Prelude.{◌&&◌, ◌||◌, ◌==◌, not, nat_le, nat_lt, int_lt, if◌then◌else◌, codes, option_and_then, unsigned_abs}
 use Rattle.std.specs.Char.{is_ascii_digit}
-use Rattle.std.specs.List.{after_first, before_first, list_all, list_any}
+use Rattle.std.specs.List.{after_first, before_first, list_any}
 use Rattle.std.specs.Result.{result_ok}
 use Rattle.std.specs.Str.Parse.{digits_value, digits_value_after, starts_with_minus, without_leading_sign}
 use Rattle.std.proofs.Math.Nat.{div-le_self}
@@ -10,23 +10,22 @@ use Rattle.std.proofs.lemmas.Bool.{eqb-true}
 use Rattle.std.proofs.lemmas.Bool.Decides.{leb_tells, nat_tests}
 use Rattle.std.proofs.lemmas.Fmt.{decimal_digit}
 use Rattle.std.proofs.lemmas.Int.{ints}
-use Rattle.std.proofs.lemmas.List.{length-append}
-use Rattle.cj_kvn.specs.Numbers.{Number, are_digits, number, parts_of, scaled_of, signed}
+use Rattle.cj_kvn.specs.Numbers.{Number, are_digits, scaled_of}
 use Rattle.cj_kvn.specs.Scanning.{exponent_said}
-use Rattle.cj_kvn.specs.Decimals.{IsReadable, decimal_form, decimal_of, decimal_text_of, digit_count, exponent_text, is_huge, is_tiny, leading_power, minus_if, shifted, significand_text, zero_number}
+use Rattle.cj_kvn.specs.Decimals.{IsReadable, decimal_form, decimal_of, decimal_text_of, digit_count, exponent_text, leading_power, minus_if, shifted, significand_text, zero_number}
 use Rattle.cj_kvn.proofs.AgainLemmas as kvn
 use Rattle.cj_kvn.proofs.AgainLemmas.{IsNormal}
 use Rattle.cj_kvn.proofs.CountLemmas.{count_most, count_pos, huge_no, tiny_no}
 use Rattle.cj_kvn.proofs.DecimalLemmas.{zero_readable}
 use Rattle.cj_kvn.proofs.ScanLemmas.{value_append}
 use Rattle.cj_kvn.specs.declared.numbers.NumFault.{NumFault}
-use Rattle.cj_kvn.proofs.ListLemmas.{HeadFails}
+use Rattle.cj_kvn.proofs.ListLemmas.{HeadFails, both}
 use Rattle.cj_cdm.specs.Reading.{is_feed}
 use Rattle.cj_cdm.specs.Texts.{fixed_text, kilometres, last_digits, metres, number_text}
-use Rattle.cj_cdm.specs.Values.{as_written, before_unit, behind_front, decimal_said, element_said, fixed_said, id_said, is_decimal, is_mark, is_miss, is_number, is_power, is_short, is_zero, kept, kilometres_said, miss_said, natural, number_said, scientific}
-use Rattle.cj_cdm.proofs.DigitLemmas.{Says, bare, decimal_digits, decimal_some, decimal_value, digits_joined, fraction_says, last_are_digits, last_length, last_value, make, minus, scaled_told, signed_is, whole_says}
-use Rattle.cj_cdm.proofs.LineLemmas.{IsSaid, cut_at, front_found, front_is}
-use Rattle.cj_cdm.proofs.ValueLemmas.{and_parts, and_then_is, digit_apart, feed_free, free_joined, kept_found, kept_is, none_among, none_joined, unit_law, written_again, written_only}
+use Rattle.cj_cdm.specs.Values.{behind_front, decimal_said, element_said, fixed_said, id_said, is_decimal, is_mark, is_miss, is_number, is_power, is_short, is_zero, kept, kilometres_said, miss_said, natural, number_said, scientific}
+use Rattle.cj_cdm.proofs.DigitLemmas.{Says, bare, decimal_digits, decimal_some, decimal_value, fraction_says, last_are_digits, last_length, last_value, make, minus, scaled_told, signed_is, whole_says}
+use Rattle.cj_cdm.proofs.LineLemmas.{IsSaid, and_then_is, cut_at, front_found, front_is}
+use Rattle.cj_cdm.proofs.ValueLemmas.{digit_apart, feed_free, free_joined, kept_found, kept_is, none_among, none_joined, unit_law, written_again, written_only}
 
 digits_free : (ds : List ℕ) → are_digits ds ≡ true → list_any is_feed ds ≡ false
 digits_free ds all = feed_free is_ascii_digit digit_apart ds all
@@ -143,7 +142,7 @@ figures_read text n fits is =
     scaled_told 0 text false n (record { form = says.form; value = says.value ∙ ap (λ (v : ℕ). make false v (pos 0 -ℤ pos 0)) is.value }) (let e : nat_le n (10 ^ 36) ≡ true = grind (arith, nat_tests) in e)
 
 number_small : (n : ℕ) → is_number n ≡ true → n < 2 ^ 32
-number_small n is = let parts = and_parts (nat_le 1 n) (nat_lt n (2 ^ 32)) is in grind (arith, nat_tests)
+number_small n is = let parts = both (nat_le 1 n) (nat_lt n (2 ^ 32)) is in grind (arith, nat_tests)
 
 number_law : IsSaid number_said number_text (λ n. is_number n ≡ true)
 unfolding number_said
@@ -210,12 +209,12 @@ other_digits n = if length (decimal n) == 1 then 48 ∷ [] else drop 1 (decimal 
 
 taken_digits : (ds : List ℕ) → are_digits ds ≡ true → are_digits (take 1 ds) ≡ true
 taken_digits [] all = refl
-taken_digits (c ∷ ds) all = rw (and_parts (is_ascii_digit c) (are_digits ds) all).0 refl
+taken_digits (c ∷ ds) all = rw (both (is_ascii_digit c) (are_digits ds) all).0 refl
 
 dropped_digits : (b : Bool) (ds : List ℕ) → are_digits ds ≡ true → are_digits (if b then 48 ∷ [] else drop 1 ds) ≡ true
 dropped_digits true ds all = refl
 dropped_digits false [] all = refl
-dropped_digits false (c ∷ ds) all = (and_parts (is_ascii_digit c) (are_digits ds) all).1
+dropped_digits false (c ∷ ds) all = (both (is_ascii_digit c) (are_digits ds) all).1
 
 some_taken : (ds : List ℕ) → 0 < length ds → 0 < length (take 1 ds)
 some_taken [] some = absurd (omega arith)
@@ -274,8 +273,8 @@ record IsElement (n : Number) : Type 0 where
 
 zero_from : (n : Number) → is_zero n ≡ true → n ≡ zero_number
 zero_from n is =
-    let power = and_parts ((n.digits == 0) && not n.negative) (unsigned_abs n.power == 0) is in
-    let digits = and_parts (n.digits == 0) (not n.negative) power.0 in
+    let power = both ((n.digits == 0) && not n.negative) (unsigned_abs n.power == 0) is in
+    let digits = both (n.digits == 0) (not n.negative) power.0 in
     kvn.zero_is n (not_negative n.negative digits.1) (eqb-true n.digits 0 digits.0) (power_zero n.power power.1)
   where
     not_negative : (b : Bool) → not b ≡ true → b ≡ false
@@ -289,8 +288,8 @@ zero_from n is =
 element_from : (n : Number) → is_decimal n ≡ true → IsElement n
 unfolding is_decimal
 element_from n is =
-    let power = and_parts (nat_lt n.digits (10 ^ 18) && (not (n.digits % 10 == 0) || is_zero n)) (nat_le (unsigned_abs n.power) 200) is in
-    let digits = and_parts (nat_lt n.digits (10 ^ 18)) (not (n.digits % 10 == 0) || is_zero n) power.0 in
+    let power = both (nat_lt n.digits (10 ^ 18) && (not (n.digits % 10 == 0) || is_zero n)) (nat_le (unsigned_abs n.power) 200) is in
+    let digits = both (nat_lt n.digits (10 ^ 18)) (not (n.digits % 10 == 0) || is_zero n) power.0 in
     record {
       short = grind (arith, nat_tests);
       zero = λ last. zero_from n (by_digit (n.digits % 10 == 0) (let e : (n.digits % 10 == 0) ≡ true = grind (arith, nat_tests) in e) digits.1);

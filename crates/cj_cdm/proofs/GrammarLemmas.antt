@@ -1,5 +1,5 @@
 -- The lines of a message in their order are exact.
-use Rattle.std.proofs.Common.{◌≡◌, ℕ, ◌+◌, Bool, true, false, List, [], ◌∷◌, ◌++◌, length, ap, sym, ◌∙◌, refl, subst, arith, append_assoc, append-nil, Option, Some, None, Result, Ok, Err, ℤ, pos}
+use Rattle.std.proofs.Common.{◌≡◌, ℕ, Bool, true, false, List, [], ◌∷◌, ◌++◌, length, ap, sym, ◌∙◌, refl, subst, arith, append_assoc, append-nil, Option, Result, Ok, ℤ, pos}
 use Rattle.std.specs.Prelude.{◌&&◌, not, if◌then◌else◌, codes}
 use Rattle.std.specs.List.{list_all, list_any}
 use Rattle.cj_epoch.specs.Written.{epoch_of}
@@ -11,13 +11,14 @@ use Rattle.cj_cdm.specs.declared.fault.CdmCause.TheVariants as causes
 use Rattle.cj_cdm.specs.declared.vector.Vector.{Vector}
 use Rattle.cj_cdm.specs.Fits.{Fits, IsShort, IsSide, IsStamp}
 use Rattle.cj_cdm.specs.Messages.{PlainMessage, PlainSide, PlainStamp}
-use Rattle.cj_cdm.specs.Reading.{Fault, Heading, Object, Reading, Rest, and_then, elements_said, ended, entry_said, fault_at, give, heading_said, is_feed, is_none_left, line_said, message_said, object_said, place_said, rate_said, reading, side_said, stamp_said, ◌>>=◌}
+use Rattle.cj_cdm.specs.Reading.{Fault, Heading, Object, Rest, and_then, elements_said, ended, entry_said, fault_at, give, heading_said, is_feed, is_none_left, line_said, message_said, object_said, place_said, rate_said, reading, side_said, stamp_said, ◌>>=◌}
 use Rattle.cj_cdm.specs.Texts.{covariance_text, element_text, elements, elements_text, entry, frame_text, heading_text, kilometres, line, metres, number_text, object_text, quantity, side_text, state_text, text_of}
 use Rattle.cj_kvn.specs.Originators.{is_originator}
 use Rattle.cj_cdm.specs.Values.{constant_said, designator_said, element_said, epoch_said, frame_said, id_said, is_decimal, is_international, is_miss, is_number, is_short, is_tick, kilometres_said, label_said, miss_said, originator_said}
 use Rattle.cj_cdm.proofs.ExactLemmas.{Anything, IsExact, behind, given, in_order, ok_is, refitted, retold, stepped}
 use Rattle.cj_cdm.proofs.LineLemmas.{IsSaid, line_exact}
-use Rattle.cj_cdm.proofs.ValueLemmas.{and_parts, constant_law, designator_law, epoch_law, frame_law, free_joined, label_law, originator_law}
+use Rattle.cj_kvn.proofs.ListLemmas.{both}
+use Rattle.cj_cdm.proofs.ValueLemmas.{constant_law, designator_law, epoch_law, frame_law, free_joined, label_law, originator_law}
 use Rattle.cj_cdm.proofs.FigureLemmas.{element_law, id_law, kilometres_law, miss_law}
 
 -- a key with its value
@@ -245,7 +246,7 @@ more_elements e es first rest = record {
         → (k : ℕ) × ((entry_said e.0 (element_said e.1) >>= λ value. elements_said es >>= λ values. give (value ∷ values)) (record { text = elements_text (e ∷ es) x ++ more; line = at }) ≡ Ok (x, record { text = more; line = k }))
     again [] more at long all = absurd (omega arith)
     again (v ∷ x) more at long all =
-        let parts = and_parts (is_decimal v) (list_all is_decimal x) all in
+        let parts = both (is_decimal v) (list_all is_decimal x) all in
         let one = first.again v (elements_text es x ++ more) at tt parts.0 in
         let two = rest.again x more one.0 tt (omega arith, parts.1) in (
           two.0,
@@ -258,9 +259,9 @@ more_elements e es first rest = record {
 elements_exact : (es : List (List ℕ × List ℕ)) → are_free es ≡ true → IsExact (elements_said es) (elements_text es) Anything (ElementsFit es)
 elements_exact [] free = no_elements
 elements_exact (e ∷ es) free =
-    let here = and_parts (not (list_any is_feed e.0) && not (list_any is_feed e.1)) (are_free es) free in
-    let both = and_parts (not (list_any is_feed e.0)) (not (list_any is_feed e.1)) here.0 in
-    more_elements e es (element_exact e (not_true (list_any is_feed e.0) both.0) (not_true (list_any is_feed e.1) both.1)) (elements_exact es here.1)
+    let here = both (not (list_any is_feed e.0) && not (list_any is_feed e.1)) (are_free es) free in
+    let names = both (not (list_any is_feed e.0)) (not (list_any is_feed e.1)) here.0 in
+    more_elements e es (element_exact e (not_true (list_any is_feed e.0) names.0) (not_true (list_any is_feed e.1) names.1)) (elements_exact es here.1)
 
 -- ---- one object
 abbrev object_of : PlainSide → Object

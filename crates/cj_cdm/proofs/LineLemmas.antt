@@ -1,7 +1,7 @@
 -- A line of a message is exact where its value is.
-use Rattle.std.proofs.Common.{◌≡◌, ℕ, suc, ◌+◌, ◌<◌, ◌≤◌, cond, ltb, subst, Bool, true, false, List, [], ◌∷◌, ◌++◌, length, take, drop, ap, sym, ◌∙◌, refl, arith, append_assoc, Option, Some, None, option_map, Result, Ok, Err}
-use Rattle.std.specs.Prelude.{◌||◌, ◌==◌, nat_eq, nat_lt, if◌then◌else◌, option_and_then}
-use Rattle.std.specs.Cmp.Lexicographic.{pointwise, same_text}
+use Rattle.std.proofs.Common.{◌≡◌, ℕ, suc, ◌+◌, ◌<◌, ◌≤◌, cond, ltb, subst, Bool, true, false, List, [], ◌∷◌, ◌++◌, length, take, drop, ap, sym, ◌∙◌, refl, arith, append_assoc, Option, Some, None, option_map, Ok}
+use Rattle.std.specs.Prelude.{◌||◌, nat_eq, nat_lt, if◌then◌else◌, option_and_then}
+use Rattle.std.specs.Cmp.Lexicographic.{same_text}
 use Rattle.std.specs.List.{after_first, before_first, list_any, position, position_or_len}
 use Rattle.std.proofs.Math.Seq.{take-append_seam, drop-append_seam}
 use Rattle.std.proofs.lemmas.Bool.{eqb-true, ltb-false, ltb-true}
@@ -11,7 +11,7 @@ use Rattle.std.proofs.lemmas.List.Folds.{list_any-append}
 use Rattle.cj_kvn.proofs.ListLemmas.{after_no, after_yes, any_no, any_yes, at_no, at_yes, before_no, before_yes}
 use Rattle.cj_cdm.specs.declared.fault.CdmCause.{CdmCause}
 use Rattle.cj_cdm.specs.declared.fault.CdmCause.TheVariants as causes
-use Rattle.cj_cdm.specs.Reading.{Fault, Reading, Rest, and_then, behind_feed, behind_line, fault_at, is_feed, is_none_left, line_said, or_fault, taken, value_in}
+use Rattle.cj_cdm.specs.Reading.{Rest, and_then, behind_feed, behind_line, fault_at, is_feed, is_none_left, line_said, or_fault, taken, value_in}
 use Rattle.cj_cdm.specs.Texts.{line}
 use Rattle.cj_cdm.specs.Values.{behind_front, only_if, same}
 use Rattle.cj_cdm.proofs.ExactLemmas.{Anything, IsExact, stepped}
@@ -220,9 +220,9 @@ option_same None None to from = refl
 option_same None (Some x) to from = from x refl
 option_same (Some x) q to from = sym (to x refl)
 
-and_then_some : {A B : Type 0} (f : A → Option B) (o : Option A) (y : B) → option_and_then f o ≡ Some y → (x : A) × (o ≡ Some x) × (f x ≡ Some y)
-and_then_some f None y h = absurd cc
-and_then_some f (Some x) y h = (x, refl, h)
+pub and_then_is : {A B : Type 0} (f : A → Option B) (o : Option A) (y : B) → option_and_then f o ≡ Some y → (x : A) × (o ≡ Some x) × (f x ≡ Some y)
+and_then_is f None y h = absurd cc
+and_then_is f (Some x) y h = (x, refl, h)
 
 pub front_more : (a b text : List ℕ) → behind_front (a ++ b) text ≡ option_and_then (behind_front b) (behind_front a text)
 front_more a b text = option_same (behind_front (a ++ b) text) (option_and_then (behind_front b) (behind_front a text)) to from
@@ -234,7 +234,7 @@ front_more a b text = option_same (behind_front (a ++ b) text) (option_and_then 
 
     from : (x : List ℕ) → option_and_then (behind_front b) (behind_front a text) ≡ Some x → behind_front (a ++ b) text ≡ Some x
     from x h =
-        let mid = and_then_some (behind_front b) (behind_front a text) x h in
+        let mid = and_then_is (behind_front b) (behind_front a text) x h in
         let whole : text ≡ (a ++ b) ++ x = front_is a text mid.0 mid.1 ∙ ap (λ t. a ++ t) (front_is b mid.0 x mid.2) ∙ sym (append_assoc a b x) in
         ap (behind_front (a ++ b)) whole ∙ front_found (a ++ b) x
 

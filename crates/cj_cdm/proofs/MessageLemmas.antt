@@ -1,12 +1,12 @@
 -- When there is a message.
-use Rattle.std.proofs.Common.{◌≡◌, ℕ, Bool, true, false, List, ap, sym, ◌∙◌, refl, Option, Some, None, option_map, is_some}
+use Rattle.std.proofs.Common.{◌≡◌, ℕ, ap, ◌∙◌, refl, Option, Some, None, option_map, is_some}
 use Rattle.std.specs.Prelude.{◌&&◌, option_and_then, slice_get}
-use Rattle.cj_track.specs.PlainTracks.{PlainMatrix, PlainSegment, PlainTrack}
+use Rattle.cj_track.specs.PlainTracks.{PlainSegment, PlainTrack}
 use Rattle.cj_hermite.specs.Pieces.{PlainPiece, curve_of_interval, interval_at, interval_index_at, intervals_of, last_covering}
 use Rattle.cj_hermite.specs.PlainProblems.{PlainProblem}
 use Rattle.cj_cdm.specs.Building.{have_covariances, message_of, object_covariance, object_side, side_of, side_with}
 use Rattle.cj_cdm.specs.Covariances.{covariance_at, covariance_for, segment_with}
-use Rattle.cj_cdm.specs.Messages.{PlainMessage, PlainSide, PlainStamp}
+use Rattle.cj_cdm.specs.Messages.{PlainSide, PlainStamp}
 
 pub some_mapped : {A B : Type 0} (f : A → B) (x : Option A) → is_some (option_map f x) ≡ is_some x
 some_mapped f None = refl

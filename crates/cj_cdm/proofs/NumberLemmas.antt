@@ -1,10 +1,10 @@
 -- The digits of numbers, written one behind another, and the exponents of numbers in other units.
-use Rattle.std.proofs.Common.{◌≡◌, ℕ, zero, suc, ◌+◌, ◌-◌, ◌/◌, ◌%◌, ◌^◌, ◌<◌, ◌≤◌, length, decimal, true, false, Bool, List, [], ◌∷◌, ◌++◌, ap, sym, ◌∙◌, refl, arith}
+use Rattle.std.proofs.Common.{◌≡◌, ℕ, zero, suc, ◌+◌, ◌-◌, ◌/◌, ◌%◌, ◌^◌, ◌<◌, ◌≤◌, length, decimal, true, false, Bool, List, [], ◌∷◌, ◌++◌, ap, sym, ◌∙◌, arith}
 use Rattle.std.proofs.Math.Nat.{div-le_self}
-use Rattle.std.proofs.lemmas.Fmt.{decimal_digit, decimal_step_wide, length-decimal-le_wide}
+use Rattle.std.proofs.lemmas.Fmt.{decimal_step_wide, length-decimal-le_wide}
 use Rattle.std.proofs.lemmas.Int.{ints}
 use Rattle.std.proofs.lemmas.List.{length-append}
-use Rattle.std.specs.Prelude.{◌==◌, if◌then◌else◌, ℤ, pos, neg_ℤ, ◌+ℤ◌, ◌≤ℤ◌}
+use Rattle.std.specs.Prelude.{◌==◌, if◌then◌else◌, pos, neg_ℤ, ◌+ℤ◌, ◌≤ℤ◌}
 use Rattle.cj_kvn.specs.declared.decimals.Decimal.{Decimal}
 use Rattle.cj_kvn.specs.Decimals.{IsReadable, number_of, shifted}
 use Rattle.cj_kvn.specs.Numbers.{Number}
@@ -41,14 +41,8 @@ shifted_within d s readable e =
     rw same within
 
 -- a number in decimal, digit behind digit
-pub length_digit : (n : ℕ) → n < 10 → length (decimal n) ≡ 1
-length_digit n small = ap length (decimal_digit n small)
-
 pub length_step : (n : ℕ) → 10 ≤ n → n < 2 ^ 128 → length (decimal n) ≡ length (decimal (n / 10)) + 1
 length_step n large fits = omega (arith, ap length (decimal_step_wide n large (omega arith)), length-append (decimal (n / 10)) ((48 + n % 10) ∷ []))
-
-pub decimal_one : (old new : List ℕ) (n : ℕ) → n < 10 → new ≡ old ++ (48 + n) ∷ [] → new ≡ old ++ decimal n
-decimal_one old new n small e = e ∙ ap (λ (ds : List ℕ). old ++ ds) (sym (decimal_digit n small))
 
 pub decimal_more : (old mid new : List ℕ) (n : ℕ) → 10 ≤ n → n < 2 ^ 128 → mid ≡ old ++ decimal (n / 10) → new ≡ mid ++ (48 + n % 10) ∷ [] → new ≡ old ++ decimal n
 decimal_more old mid new n large fits first last =

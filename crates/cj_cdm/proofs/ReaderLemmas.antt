@@ -1,5 +1,5 @@
 -- How the readers of lines answer, in the words of the definitions.
-use Rattle.std.proofs.Common.{◌≡◌, ℕ, ◌+◌, ◌<◌, ◌≤◌, Bool, true, false, List, [], ◌∷◌, ◌++◌, drop, get_or, length, map, set, take, ap, sym, ◌∙◌, refl, arith, append_assoc, append-nil, Option, Some, None, option_map, Result, Ok, Err}
+use Rattle.std.proofs.Common.{◌≡◌, ℕ, ◌+◌, ◌<◌, ◌≤◌, false, List, [], ◌∷◌, ◌++◌, drop, get_or, length, map, set, take, ap, sym, ◌∙◌, refl, arith, append_assoc, append-nil, Option, Some, None, option_map, Result, Ok, Err}
 use Rattle.std.proofs.lemmas.List.{drop_more, length-drop, map-append, nil_from_length, take_more_set}
 use Rattle.std.specs.Prelude.{◌==◌}
 use Rattle.cj_kvn.specs.Decimals.{number_of}
@@ -9,7 +9,7 @@ use Rattle.cj_cdm.specs.Fits.{Fits}
 use Rattle.cj_cdm.specs.Messages.{PlainMessage}
 use Rattle.cj_cdm.specs.declared.fault.LineFault.{LineFault}
 use Rattle.cj_cdm.specs.declared.reading.rest.Rest.{Rest as Left}
-use Rattle.cj_cdm.specs.Read.{plain, plain_fault, plain_rest, with_rest}
+use Rattle.cj_cdm.specs.Read.{plain, with_rest}
 use Rattle.cj_cdm.specs.Reading.{Fault, Reading, Rest, and_then, behind_line, elements_said, entry_said, give, is_none_left, line_said, reading, taken, value_in, ◌>>=◌}
 use Rattle.cj_cdm.specs.Texts.{elements, text_of}
 use Rattle.cj_cdm.specs.Values.{element_said}

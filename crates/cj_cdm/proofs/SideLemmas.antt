@@ -1,5 +1,5 @@
 -- What a message says of an object at a tick.
-use Rattle.std.proofs.Common.{◌≡◌, ℕ, ap, sym, ◌∙◌, refl, Option, Some, None, option_map}
+use Rattle.std.proofs.Common.{◌≡◌, ℕ, ap, sym, refl, Option, Some, None, option_map}
 use Rattle.std.specs.Prelude.{IsSomeAnd}
 use Rattle.cj_track.specs.PlainTracks.{PlainMatrix, PlainTrack}
 use Rattle.cj_hermite.specs.Interpolant.{Curve}

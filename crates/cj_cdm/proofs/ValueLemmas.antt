@@ -1,6 +1,6 @@
 -- Values of lines are read from what is written of them, and from nothing else.
-use Rattle.std.proofs.Common.{◌≡◌, ℕ, ◌+◌, ◌-◌, ◌/◌, ◌%◌, ◌<◌, ◌≤◌, Bool, true, false, List, [], ◌∷◌, ◌++◌, length, take, drop, slice_index, ap, sym, ◌∙◌, refl, subst, arith, append_assoc, Option, Some, None, option_map, Result, Ok, Err, ℤ, pos, negsuc}
-use Rattle.std.specs.Prelude.{◌&&◌, ◌||◌, ◌==◌, nat_eq, nat_le, if◌then◌else◌, option_and_then, codes}
+use Rattle.std.proofs.Common.{◌≡◌, ℕ, ◌+◌, ◌-◌, ◌/◌, ◌%◌, Bool, true, false, List, [], ◌∷◌, ◌++◌, length, take, drop, slice_index, ap, sym, ◌∙◌, refl, subst, arith, append_assoc, Option, Some, None, Result, Ok, Err}
+use Rattle.std.specs.Prelude.{◌||◌, ◌==◌, nat_le, if◌then◌else◌, option_and_then, codes}
 use Rattle.std.specs.Char.{is_ascii_digit, is_ascii_uppercase}
 use Rattle.std.specs.Cmp.Lexicographic.{same_text}
 use Rattle.std.specs.List.{list_all, list_any}
@@ -15,25 +15,22 @@ use Rattle.cj_epoch.specs.Calendar.{Civil, civil_of}
 use Rattle.cj_epoch.specs.Written.{clock_text, date_text, epoch_of, four, six, two}
 use Rattle.cj_epoch.proofs.WrittenLemmas.{epoch_of-read}
 use Rattle.cj_kvn.specs.Originators.{is_originator, is_originator_byte}
+use Rattle.cj_kvn.proofs.ListLemmas.{both}
 use Rattle.cj_track.specs.Labels.{is_label, is_visible}
 use Rattle.cj_track.specs.declared.frame.Frame.{Frame}
 use Rattle.cj_track.specs.declared.frame.Frame.TheVariants as frames
-use Rattle.cj_cdm.specs.Designators.{is_designator, is_launch_piece}
+use Rattle.cj_cdm.specs.Designators.{is_designator}
 use Rattle.cj_cdm.specs.Reading.{is_feed}
 use Rattle.cj_cdm.specs.Texts.{frame_text}
 use Rattle.cj_cdm.specs.Values.{as_written, before_ending, before_unit, constant_said, designator_said, epoch_said, frame_said, is_international, is_tick, kept, label_said, only_if, originator_said, same}
 use Rattle.cj_cdm.proofs.ExactLemmas.{Anything}
-use Rattle.cj_cdm.proofs.LineLemmas.{IsSaid, only_if_is, option_same, same_itself}
-
-pub and_parts : (a b : Bool) → (a && b) ≡ true → (a ≡ true) × (b ≡ true)
-and_parts true b h = (refl, h)
-and_parts false b h = absurd cc
+use Rattle.cj_cdm.proofs.LineLemmas.{IsSaid, and_then_is, only_if_is, option_same, same_itself}
 
 -- ---- no byte of a kind is within a text
 pub none_among : (p q : ℕ → Bool) → ((b : ℕ) → q b ≡ true → p b ≡ false) → (text : List ℕ) → list_all q text ≡ true → list_any p text ≡ false
 none_among p q apart [] all = refl
 none_among p q apart (c ∷ text) all =
-    let parts = and_parts (q c) (list_all q text) all in
+    let parts = both (q c) (list_all q text) all in
     rw (apart c parts.0, none_among p q apart text parts.1) refl
 
 pub none_joined : (p : ℕ → Bool) (a b : List ℕ) → list_any p a ≡ false → list_any p b ≡ false → list_any p (a ++ b) ≡ false
@@ -67,10 +64,6 @@ kept_is test (Some y) x h =
 
 pub kept_found : {A : Type 0} (test : A → Bool) (o : Option A) (x : A) → o ≡ Some x → test x ≡ true → kept test o ≡ Some x
 kept_found test o x e h = rw (e, h) refl
-
-pub and_then_is : {A B : Type 0} (f : A → Option B) (o : Option A) (y : B) → option_and_then f o ≡ Some y → (x : A) × (o ≡ Some x) × (f x ≡ Some y)
-and_then_is f None y h = absurd cc
-and_then_is f (Some x) y h = (x, refl, h)
 
 pub result_is : {A E : Type 0} (r : Result A E) (x : A) → result_ok r ≡ Some x → r ≡ Ok x
 result_is (Ok y) x h = cc
@@ -116,7 +109,7 @@ kept_law said test is free = record {
 label_free : (t : List ℕ) → is_label t ≡ true → list_any is_feed t ≡ false
 unfolding is_label
 label_free t is =
-    let some = (and_parts _ _ (and_parts _ _ (and_parts _ _ is).0).0).1 in
+    let some = (both _ _ (both _ _ (both _ _ is).0).0).1 in
     feed_free is_visible visible_apart t some
 
 pub label_law : IsSaid label_said (λ t. t) (λ t. is_label t ≡ true)
@@ -124,7 +117,7 @@ label_law = kept_law label_said is_label (λ t. refl) label_free
 
 originator_free : (t : List ℕ) → is_originator t ≡ true → list_any is_feed t ≡ false
 unfolding is_originator
-originator_free t is = feed_free is_originator_byte originator_apart t (and_parts _ _ is).1
+originator_free t is = feed_free is_originator_byte originator_apart t (both _ _ is).1
 
 pub originator_law : IsSaid originator_said (λ t. t) (λ t. is_originator t ≡ true)
 originator_law = kept_law originator_said is_originator (λ t. refl) originator_free
@@ -158,11 +151,11 @@ designator_bytes [] long year dash number letters = absurd cc
 designator_free : (t : List ℕ) → is_designator t ≡ true → list_any is_feed t ≡ false
 unfolding is_designator
 designator_free t is =
-    let piece = and_parts _ _ is in
-    let launch = and_parts _ _ piece.0 in
-    let dash = and_parts _ _ launch.0 in
-    let year = and_parts _ _ dash.0 in
-    let letters = (and_parts _ _ piece.1).1 in
+    let piece = both _ _ is in
+    let launch = both _ _ piece.0 in
+    let dash = both _ _ launch.0 in
+    let year = both _ _ dash.0 in
+    let letters = (both _ _ piece.1).1 in
     designator_bytes t year.0 year.1 dash.1 launch.1 letters
 
 international_by : (t : List ℕ) (b : Bool) → same t (codes "UNKNOWN") ≡ b → (b || is_designator t) ≡ true → list_any is_feed t ≡ false
@@ -237,7 +230,7 @@ epoch_free m =
     (six_free (m % SECOND))
 
 tick_from : (m : ℕ) → is_tick m ≡ true → IsTick m
-tick_from m is = let parts = and_parts (nat_le FIRST_TICK m) (nat_le m LAST_TICK) is in (grind (arith, nat_tests), grind (arith, nat_tests))
+tick_from m is = let parts = both (nat_le FIRST_TICK m) (nat_le m LAST_TICK) is in (grind (arith, nat_tests), grind (arith, nat_tests))
 
 pub epoch_law : IsSaid epoch_said epoch_of (λ m. is_tick m ≡ true)
 unfolding epoch_said

@@ -1,5 +1,5 @@
 -- The message of an encounter.
-use Rattle.std.specs.Prelude.{ℕ, Bool, ◌&&◌, is_some, List, map, Option, Some, option_map, option_and_then, slice_get, pos}
+use Rattle.std.specs.Prelude.{ℕ, Bool, ◌&&◌, is_some, map, Option, option_map, option_and_then, slice_get, pos}
 use Rattle.cj_kvn.specs.Numbers.{Number}
 use Rattle.cj_kvn.specs.Decimals.{shifted}
 use Rattle.cj_track.specs.PlainTracks.{PlainMatrix, PlainTrack}

@@ -1,5 +1,5 @@
 -- How readers answer.
-use Rattle.std.specs.Prelude.{◌≡◌, ℕ, List, map, Option, Result, Ok, Err}
+use Rattle.std.specs.Prelude.{◌≡◌, ℕ, List, map, Result, Ok, Err}
 use Rattle.std.specs.Borrow.{Bor}
 use Rattle.cj_kvn.specs.Decimals.{number_of}
 use Rattle.cj_cdm.specs.declared.cdm.Cdm.{Cdm}

@@ -1,7 +1,7 @@
 //! Which covariance is told at a tick.
-ghost use Rattle.std.specs.Prelude.{◌≡◌, ◌<◌, length, map, option_map, slice_get};
+ghost use Rattle.std.specs.Prelude.{◌≡◌, ◌<◌, length, map, option_map};
 ghost use Rattle.cj_track.specs.Tracks.{plain_matrix, plain_track};
-ghost use Rattle.cj_hermite.specs.Pieces.{interval_index_at, intervals_of};
+ghost use Rattle.cj_hermite.specs.Pieces.{intervals_of};
 ghost use Rattle.cj_cdm.specs.Covariances as spec;
 ghost use Rattle.cj_cdm.specs.Covariances.{not_after, segment_with};
 

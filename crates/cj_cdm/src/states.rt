@@ -1,9 +1,8 @@
 //! Places and rates in whole nm and nm/s.
 ghost use Rattle.std.specs.Prelude.{◌≡◌, ◌≤◌, true};
-ghost use Rattle.cj_interval.specs.Sizes.{IsWithin};
 ghost use Rattle.cj_hermite.specs.Boxes.{IsSpanWithin, IsBoxWithin};
 ghost use Rattle.cj_hermite.specs.Interpolant.{curve_of};
-ghost use Rattle.cj_hermite.specs.Limits.{REACH, RATE_REACH};
+ghost use Rattle.cj_hermite.specs.Limits.{RATE_REACH};
 ghost use Rattle.cj_cdm.specs.Fits.{IsShort};
 ghost use Rattle.cj_cdm.specs.States as spec;
 ghost use Rattle.cj_cdm.specs.Values.{is_short};

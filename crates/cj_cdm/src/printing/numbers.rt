@@ -1,6 +1,6 @@
 //! Numbers with their keys and units.
 ghost use Rattle.std.specs.Prelude.{◌≡◌, ◌+◌, ◌≤◌, ◌<◌, decimal, length, [], ◌∷◌, ◌++◌, if◌then◌else◌, int_lt, pos, codes, OnOk};
-ghost use Rattle.cj_kvn.specs.Decimals.{IsReadable, decimal_text_of, number_of, shifted};
+ghost use Rattle.cj_kvn.specs.Decimals.{IsReadable, decimal_text_of, number_of};
 ghost use Rattle.cj_cdm.specs.Building.{in_square_metres};
 ghost use Rattle.arrayvec.specs.ArrayVec.{array_vec_len};
 ghost use Rattle.cj_cdm.specs.Texts as spec;

@@ -1,5 +1,5 @@
 //! The numbers of a message.
-ghost use Rattle.std.specs.Prelude.{◌≡◌, ◌+◌, ◌≤◌, ◌<◌, ◌^◌, ◌++◌, codes, length, neg_ℤ, pos, ◌≤ℤ◌, unsigned_abs, option_map, IfSome, true};
+ghost use Rattle.std.specs.Prelude.{◌≡◌, ◌+◌, ◌≤◌, ◌<◌, ◌^◌, length, neg_ℤ, pos, ◌≤ℤ◌, unsigned_abs, option_map, IfSome, true};
 ghost use Rattle.std.specs.Result.{result_ok};
 ghost use Rattle.std.specs.List.{after_first, before_first};
 ghost use Rattle.cj_kvn.specs.Decimals.{number_of, shifted};

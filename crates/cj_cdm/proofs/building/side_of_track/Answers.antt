@@ -1,7 +1,6 @@
 use Rattle.std.proofs.Common.{Some, ap, sym, ◌∙◌}
 use Rattle.cj_track.specs.Tracks.{plain_matrix, plain_track}
 use Rattle.cj_hermite.specs.Interpolant.{curve_of}
-use Rattle.cj_cdm.specs.declared.fields.SideFields.{SideFields}
 use Rattle.cj_cdm.specs.declared.vector.Vector.{Vector}
 use Rattle.cj_cdm.specs.Fields.{side_of_fields}
 use Rattle.cj_cdm.specs.States.{place_at}

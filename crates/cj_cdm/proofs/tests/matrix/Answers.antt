@@ -1,4 +1,4 @@
-use Rattle.std.proofs.Common.{◌≡◌, ℕ, List, [], ◌∷◌, All, arith, refl}
+use Rattle.std.proofs.Common.{List, [], ◌∷◌, All, arith, refl}
 use Rattle.std.proofs.lemmas.List.Elements.{All-cons}
 use Rattle.cj_kvn.specs.declared.decimals.Decimal.{Decimal}
 use Rattle.cj_kvn.specs.Decimals.{IsReadable, is_huge, is_tiny, number_of}

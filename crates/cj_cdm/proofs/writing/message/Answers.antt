@@ -3,7 +3,6 @@ use Rattle.cj_hermite.specs.Problems.{plain_problem}
 use Rattle.cj_cdm.specs.Fields.{message_of_fields, stamp_of}
 use Rattle.cj_cdm.proofs.MessageLemmas.{message_some}
 use Rattle.cj_cdm.specs.Fits.{Fits, HasNames}
-use Rattle.cj_cdm.specs.Messages.{PlainMessage}
 use Rattle.cj_cdm.specs.Reading.{reading}
 use Rattle.cj_cdm.specs.Texts.{text_of}
 use Rattle.cj_cdm.proofs.FitsLemmas.{message_fits, some_same}

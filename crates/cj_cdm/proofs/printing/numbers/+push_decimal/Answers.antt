@@ -1,5 +1,6 @@
 use Rattle.std.proofs.Common.{arith}
-use Rattle.cj_cdm.proofs.NumberLemmas.{decimal_more, decimal_one, length_digit, length_step}
+use Rattle.cj_kvn.proofs.PrintLemmas.{digit_pushed, length_digit}
+use Rattle.cj_cdm.proofs.NumberLemmas.{decimal_more, length_step}
 use Rattle.cj_cdm.proofs.printing.numbers.+push_decimal.Goals as goal
 
 pub push-requires : goal.push-requires
@@ -13,7 +14,7 @@ push-requires-else-number-lt10 t c =
     (omega arith, omega (arith, length_step c.args.number c.if-number-lt10.false c.ranges.number.fits, c.push_decimal.ensures.len))
 
 pub returns-then-number-lt10-clause-appended : goal.returns-then-number-lt10-clause-appended
-returns-then-number-lt10-clause-appended t c = decimal_one _ _ c.args.number c.if-number-lt10.true c.push.ensures.items
+returns-then-number-lt10-clause-appended t c = digit_pushed _ _ c.args.number c.if-number-lt10.true c.push.ensures.items
 
 pub returns-then-number-lt10-clause-len : goal.returns-then-number-lt10-clause-len
 returns-then-number-lt10-clause-len t c = omega (arith, c.push.ensures.len, length_digit c.args.number c.if-number-lt10.true)

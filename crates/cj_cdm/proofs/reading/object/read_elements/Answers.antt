@@ -1,4 +1,4 @@
-use Rattle.std.proofs.Common.{arith, ◌+◌, ◌<◌, ◌∙◌, List, ap, drop, length, map, refl, set, sym, take}
+use Rattle.std.proofs.Common.{arith, ◌+◌, ◌<◌, ◌∙◌, List, ap, drop, map, refl, sym, take}
 use Rattle.std.proofs.lemmas.List.{length-set, take_all}
 use Rattle.std.proofs.lemmas.Result.{err_from_is_err_and}
 use Rattle.cj_kvn.specs.Decimals.{number_of}

@@ -1,4 +1,4 @@
-use Rattle.std.proofs.Common.{◌∙◌, Err, List, Result, ap, sym, ℕ}
+use Rattle.std.proofs.Common.{◌∙◌, List, Result, ap, sym, ℕ}
 use Rattle.std.specs.Prelude.{codes}
 use Rattle.std.proofs.lemmas.Result.{err_from_is_err_and}
 use Rattle.cj_cdm.specs.declared.fault.CdmCause.{CdmCause}
