@@ -2,6 +2,7 @@
 mod catalogues;
 mod certificates;
 mod checks;
+mod cuts;
 mod failures;
 mod messages;
 mod refusals;

@@ -30,10 +30,13 @@ fn run_over<R: Threads + Wait + Sync, S: Shelf>(
     ))
 }
 
+/// How often a run goes to its folder: for the list, and for the bytes and the end of each of two files.
+const CALLS: u64 = 5;
+
 #[test]
 fn nothing_is_put_where_the_folder_fails(rt: HostRuntime) -> Result<(), Fail> {
     let alloc = rt.alloc();
-    for call in 1..4 {
+    for call in 1..CALLS + 1 {
         let mut shelf = CalmShelf::new(alloc);
         let calls = Vec::from_array(alloc, [call])?;
         let status = run_over(&rt, alloc, calls, &mut shelf)?;
@@ -42,6 +45,11 @@ fn nothing_is_put_where_the_folder_fails(rt: HostRuntime) -> Result<(), Fail> {
         let text = fault_text(alloc, &status)?;
         assert_eq!(rt; text.as_slice(), b"conj: read fault\n".as_slice());
     }
+    let mut shelf = CalmShelf::new(alloc);
+    let calls = Vec::from_array(alloc, [CALLS + 1])?;
+    let status = run_over(&rt, alloc, calls, &mut shelf)?;
+    assert_eq!(rt; status.number(), 0);
+    assert_eq!(rt; shelf.written().len(), 4);
     Ok(())
 }
 
