@@ -37,7 +37,8 @@ pub record HandSeen : Type 0 where
   pub wants : ℕ
 
 -- what a hand has by the account of its own deque, and by the passes below and above it
-abbrev pub hand_seen : ℕ → Problem → List (RowsId × Global) → RowsId × Global → List (RowsId × Global) → List (List Cell) → Account → List (List Cell) → List Cell → List Leaf → ShareSeen → ℕ → HandSeen
+abbrev pub hand_seen : ℕ → Problem → List (RowsId × Global) → RowsId × Global → List (RowsId × Global) → List (List Cell) → Account →
+    List (List Cell) → List Cell → List Leaf → ShareSeen → ℕ → HandSeen
 hand_seen number problem below own above taken_below account taken_above kept closed share wants = record {
   number = number;
   problem = problem;

@@ -55,7 +55,8 @@ where
     C::Job: Send + Drop,
     requires { All (C.accepts crew.now) jobs.items }
     ensures len { IfOk result (λ done. vec_len done ≡ vec_len jobs) }
-    ensures each { IfOk result (λ done. (i : ℕ) (d e : _) → i < vec_len jobs → C.gives crew.now (slice_index_or jobs.items i e) (slice_index_or done.items i d)) }
+    ensures each { IfOk result (λ done. (i : ℕ) (d e : _) → i < vec_len jobs
+        → C.gives crew.now (slice_index_or jobs.items i e) (slice_index_or done.items i d)) }
 {
     thread::map_vec(rt, jobs, &|job| crew.work(rt, alloc, gate, job))
 }
@@ -71,7 +72,8 @@ pub fn run_hands<'p, K: Run + Send + Sync, R: Threads + Wait + Sync, G: Gate + S
     requires { All (IsHandOf refinery.now) hands.items }
     ensures len { IfOk result (λ done. vec_len done ≡ vec_len hands.entry) }
     ensures each { IfOk result (λ done. (i : ℕ) (d e : _) → i < vec_len hands.entry
-        → IsHandOf refinery.now (slice_index_or done.items i d) × ((slice_index_or done.items i d).number ≡ (slice_index_or hands.entry.items i e).number) × Ended (slice_index_or done.items i d)) }
+        → IsHandOf refinery.now (slice_index_or done.items i d) × ((slice_index_or done.items i d).number
+        ≡ (slice_index_or hands.entry.items i e).number) × Ended (slice_index_or done.items i d)) }
 {
     work_all(rt, alloc, refinery, gate, hands)
 }

@@ -17,7 +17,8 @@ use cj_bezier::Cell;
 pub fn find<K: Run>(station: &mut Station<K>, thieves: &[Thief<K>]) -> Option<Cell>
     requires number { station.old.number < length thieves.now }
     requires place { length station.old.below.items ≡ station.old.number }
-    requires deques { around (deques station.old.below.items) (worker_deque station.old.own) (deques station.old.above.items) ≡ deques_of thieves.now }
+    requires deques { around (deques station.old.below.items) (worker_deque station.old.own) (deques station.old.above.items)
+        ≡ deques_of thieves.now }
     requires below { AreReady station.old.below.items }
     requires above { AreReady station.old.above.items }
     requires seated { IsSeated K.workers station.old.own }
@@ -26,10 +27,13 @@ pub fn find<K: Run>(station: &mut Station<K>, thieves: &[Thief<K>]) -> Option<Ce
     ensures below { (deques station.new.below.items ≡ deques station.old.below.items) × AreReady station.new.below.items }
     ensures above { (deques station.new.above.items ≡ deques station.old.above.items) × AreReady station.new.above.items }
     ensures seated { IsSeated K.workers station.new.own × (worker_deque station.new.own ≡ worker_deque station.old.own) }
-    ensures own { ((worker_view station.new.own).opening ≡ (worker_view station.old.own).opening) × ((worker_view station.new.own).pushed ≡ (worker_view station.old.own).pushed) }
+    ensures own { ((worker_view station.new.own).opening ≡ (worker_view station.old.own).opening) × ((worker_view station.new.own).pushed
+        ≡ (worker_view station.old.own).pushed) }
     ensures taken { MatchOption result
-        (around (takens station.new.below.items) (worker_view station.new.own).taken (takens station.new.above.items) ≡ around (takens station.old.below.items) (worker_view station.old.own).taken (takens station.old.above.items))
-        (TookOne (around (takens station.old.below.items) (worker_view station.old.own).taken (takens station.old.above.items)) (around (takens station.new.below.items) (worker_view station.new.own).taken (takens station.new.above.items))) }
+        (around (takens station.new.below.items) (worker_view station.new.own).taken (takens station.new.above.items)
+        ≡ around (takens station.old.below.items) (worker_view station.old.own).taken (takens station.old.above.items))
+        (TookOne (around (takens station.old.below.items) (worker_view station.old.own).taken (takens station.old.above.items))
+        (around (takens station.new.below.items) (worker_view station.new.own).taken (takens station.new.above.items))) }
     ensures none { IfNone result (Settled (worker_view station.new.own) []) }
     ensures tree { IfSome result (InTree (plain_problem K.problem) K.roots) }
 {

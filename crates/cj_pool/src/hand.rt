@@ -37,7 +37,8 @@ impl<'p, K: Run> Model for Hand<'p, K> {
     ghost view = { λ h. hand_seen h.station.number h.problem.now (deques h.station.below.items) (worker_deque h.station.own) (deques h.station.above.items)
         (takens h.station.below.items) (worker_view h.station.own) (takens h.station.above.items) h.kept.items h.leaves.items h.share h.wants };
 
-    ghost invariant = { λ h. (h.problem.now ≡ K.problem) × AreReady h.station.below.items × AreReady h.station.above.items × IsSeated K.workers h.station.own × (length h.station.below.items ≡ h.station.number)
+    ghost invariant = { λ h. (h.problem.now ≡ K.problem) × AreReady h.station.below.items × AreReady h.station.above.items
+        × IsSeated K.workers h.station.own × (length h.station.below.items ≡ h.station.number)
         × Accounts (plain_problem K.problem) K.roots K.workers (hand_seen h.station.number h.problem.now (deques h.station.below.items) (worker_deque h.station.own) (deques h.station.above.items)
         (takens h.station.below.items) (worker_view h.station.own) (takens h.station.above.items) h.kept.items h.leaves.items h.share h.wants) };
 }
@@ -57,7 +58,8 @@ impl<'p, K: Run> Hand<'p, K> {
 
         // Its share counts its leaves and its halvings.
         ensures closes { self.now.share.count.closes ≡ length self.now.closed }
-        ensures splits { self.now.share.count.firsts + weigh length self.now.taken ≡ length self.now.closed + length self.now.pushed + length self.now.kept }
+        ensures splits { self.now.share.count.firsts + weigh length self.now.taken
+            ≡ length self.now.closed + length self.now.pushed + length self.now.kept }
         ensures pushes { length self.now.pushed ≤ self.now.share.count.firsts }
         ensures few { length self.now.kept ≤ 27 }
     {

@@ -47,7 +47,8 @@ pub(crate) fn leaves_by_hands<K: Run + Send + Sync, R: Threads + Wait + Sync, G:
     ensures value { IfOk result (λ leaves. plain_leaves leaves.items ≡ leaves_of_roots (plain_problem problem.now) (plain_cells roots.items)) }
     ensures within { IfOk result (λ leaves. vec_len leaves ≤ limit) }
     ensures too_many { IsErrOf result RefineError.TooMany → limit < length (leaves_of_roots (plain_problem problem.now) (plain_cells roots.items)) }
-    ensures leaves { OnOk result (All (λ root. Describe (plain_problem problem.now) root (leaves_of_root (plain_problem problem.now) root)) (plain_cells roots.items)) }
+    ensures leaves { OnOk result (All
+        (λ root. Describe (plain_problem problem.now) root (leaves_of_root (plain_problem problem.now) root)) (plain_cells roots.items)) }
 {
     let (refinery, hands) = Refinery::<K>::new(alloc, problem, roots, workers, limit)?;
     let hands = run_hands(rt, alloc, &refinery, gate, hands)?;
@@ -85,12 +86,14 @@ pub fn leaves_by_workers<R: Threads + Wait + Sync, G: Gate + Sync>(
     // Each stretch of the list is true at each of its ticks, each common tick of a pair that is looked at lies in a stretch of that
     // pair, and they are in order of pair and time.
     ensures sound { OnOk result (All (IsSound (plain_problem problem.now)) (list_looked (plain_problem problem.now))) }
-    ensures complete { OnOk result ((a b m : ℕ) → IsCommonOf (plain_problem problem.now) a b m → is_looked (plain_problem problem.now) a b (slot_of problem.now.window.first.micros m) ≡ true
+    ensures complete { OnOk result ((a b m : ℕ) → IsCommonOf (plain_problem problem.now) a b m
+        → is_looked (plain_problem problem.now) a b (slot_of problem.now.window.first.micros m) ≡ true
         → Any (IsTickOf a b m) (list_looked (plain_problem problem.now))) }
     ensures ordered { OnOk result (AreInOrder (list_looked (plain_problem problem.now))) }
 
     // Over each stretch both its objects are in one interval.
-    ensures intervals { OnOk result (All (λ s. KeepIntervals (plain_problem problem.now) s.a s.b s.first s.last) (list_looked (plain_problem problem.now))) }
+    ensures intervals { OnOk result (All
+        (λ s. KeepIntervals (plain_problem problem.now) s.a s.b s.first s.last) (list_looked (plain_problem problem.now))) }
 {
     if workers == 1 {
         return leaves_of(alloc, problem, roots, limit);

@@ -24,7 +24,8 @@ pub fn pick<K: Run>(
 ) -> Option<Cell>
     requires number { station.old.number < length thieves.now }
     requires place { length station.old.below.items ≡ station.old.number }
-    requires deques { around (deques station.old.below.items) (worker_deque station.old.own) (deques station.old.above.items) ≡ deques_of thieves.now }
+    requires deques { around (deques station.old.below.items) (worker_deque station.old.own) (deques station.old.above.items)
+        ≡ deques_of thieves.now }
     requires below { AreReady station.old.below.items }
     requires above { AreReady station.old.above.items }
     requires seated { IsSeated K.workers station.old.own }
@@ -36,9 +37,11 @@ pub fn pick<K: Run>(
     ensures below { (deques station.new.below.items ≡ deques station.old.below.items) × AreReady station.new.below.items }
     ensures above { (deques station.new.above.items ≡ deques station.old.above.items) × AreReady station.new.above.items }
     ensures seated { IsSeated K.workers station.new.own × (worker_deque station.new.own ≡ worker_deque station.old.own) }
-    ensures own { ((worker_view station.new.own).opening ≡ (worker_view station.old.own).opening) × ((worker_view station.new.own).pushed ≡ (worker_view station.old.own).pushed) }
+    ensures own { ((worker_view station.new.own).opening ≡ (worker_view station.old.own).opening) × ((worker_view station.new.own).pushed
+        ≡ (worker_view station.old.own).pushed) }
     ensures came { MatchOption result
-        ((around (takens station.new.below.items) (worker_view station.new.own).taken (takens station.new.above.items) ≡ around (takens station.old.below.items) (worker_view station.old.own).taken (takens station.old.above.items))
+        ((around (takens station.new.below.items) (worker_view station.new.own).taken (takens station.new.above.items)
+        ≡ around (takens station.old.below.items) (worker_view station.old.own).taken (takens station.old.above.items))
         × (kept.new.items ≡ kept.old.items) × (kept.old.items ≡ []))
         (λ c. CellCame kept.old.items (around (takens station.old.below.items) (worker_view station.old.own).taken (takens station.old.above.items))
         (around (takens station.new.below.items) (worker_view station.new.own).taken (takens station.new.above.items)) c kept.new.items) }

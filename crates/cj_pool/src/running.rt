@@ -21,9 +21,11 @@ impl<'p, K: Run> Hand<'p, K> {
 
         // The last turn was told of the end, or told the others; each other one wanted no memory.
         ensures ended { MatchBool result (Ended self.new) (self.new.wants ≡ self.old.wants) }
-        ensures memory { MatchBool result ((self.new.share.count.memory ≡ self.old.share.count.memory) ⊎ Rose self.old.wants self.new.wants) (self.new.share.count.memory ≡ self.old.share.count.memory) }
+        ensures memory { MatchBool result ((self.new.share.count.memory ≡ self.old.share.count.memory)
+            ⊎ Rose self.old.wants self.new.wants) (self.new.share.count.memory ≡ self.old.share.count.memory) }
         ensures cells { SetsCells refinery.now.limit self.old.share.count self.new.share.count }
-        ensures halts { 0 < self.old.share.count.cells + self.old.share.count.memory → (result ≡ true) × (self.new.share.count.leaves ≡ self.old.share.count.leaves) }
+        ensures halts { 0 < self.old.share.count.cells + self.old.share.count.memory → (result ≡ true) × (self.new.share.count.leaves
+            ≡ self.old.share.count.leaves) }
     {
         match self.turn(alloc, refinery) {
             Ok(Turn::Closed) => false,
@@ -56,7 +58,8 @@ impl<'p, K: Run> Hand<'p, K> {
 
         // It stops the others for want of memory only where it wanted some, and for too many cells only where a turn does.
         ensures memory { (result.share.count.memory ≡ self.entry.share.count.memory) ⊎ Rose self.entry.wants result.wants }
-        ensures cells { (result.share.count.cells ≡ self.entry.share.count.cells) ⊎ ((refinery.now.limit < result.share.count.leaves.last) × (self.entry.share.count.leaves.times < result.share.count.leaves.times)) }
+        ensures cells { (result.share.count.cells ≡ self.entry.share.count.cells) ⊎ ((refinery.now.limit < result.share.count.leaves.last)
+            × (self.entry.share.count.leaves.times < result.share.count.leaves.times)) }
     {
         let mut number: u64 = 0;
         for _ in rt.forever() {

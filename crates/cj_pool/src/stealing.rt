@@ -21,7 +21,8 @@ pub fn steal_one<K: Run>(
     requires ready { AreReady passes.old.items }
     ensures deques { deques passes.new.items ≡ deques passes.old.items }
     ensures ready { AreReady passes.new.items }
-    ensures taken { MatchOption result (takens passes.new.items ≡ takens passes.old.items) (λ c. takens passes.new.items ≡ taken_at (takens passes.old.items) at c) }
+    ensures taken { MatchOption result (takens passes.new.items ≡ takens passes.old.items) (λ c. takens passes.new.items
+        ≡ taken_at (takens passes.old.items) at c) }
     ensures tree { IfSome result (InTree (plain_problem K.problem) K.roots) }
 {
     match steal(&thieves[at], &mut passes[at]) {
@@ -37,7 +38,8 @@ pub fn steal_round<K: Run>(thieves: &[Thief<K>], passes: &mut Vec<DequePass<K>>)
     requires ready { AreReady passes.old.items }
     ensures deques { deques passes.new.items ≡ deques passes.old.items }
     ensures ready { AreReady passes.new.items }
-    ensures taken { MatchOption result (takens passes.new.items ≡ takens passes.old.items) (TookOne (takens passes.old.items) (takens passes.new.items)) }
+    ensures taken { MatchOption result (takens passes.new.items
+        ≡ takens passes.old.items) (TookOne (takens passes.old.items) (takens passes.new.items)) }
     ensures tree { IfSome result (InTree (plain_problem K.problem) K.roots) }
 {
     for at in 0..passes.len() {
@@ -61,7 +63,8 @@ pub fn steal_next<K: Run>(
     ensures below { (deques below.new.items ≡ deques below.old.items) × AreReady below.new.items }
     ensures above { (deques above.new.items ≡ deques above.old.items) × AreReady above.new.items }
     ensures taken { MatchOption result ((takens below.new.items ≡ takens below.old.items) × (takens above.new.items ≡ takens above.old.items))
-        (λ c. (TookOne (takens above.old.items) (takens above.new.items) c × (takens below.new.items ≡ takens below.old.items)) ⊎ (TookOne (takens below.old.items) (takens below.new.items) c × (takens above.new.items ≡ takens above.old.items))) }
+        (λ c. (TookOne (takens above.old.items) (takens above.new.items) c × (takens below.new.items ≡ takens below.old.items))
+        ⊎ (TookOne (takens below.old.items) (takens below.new.items) c × (takens above.new.items ≡ takens above.old.items))) }
     ensures tree { IfSome result (InTree (plain_problem K.problem) K.roots) }
 {
     if let Some(cell) = steal_round(&thieves[number + 1..], above) {

@@ -24,7 +24,8 @@ pub fn new_deque<K: Run>(alloc: Global, room: usize) -> Result<Owner<K>, AllocEr
 pub fn open<K: Run>(own: &mut Owner<K>, work: Work<K>) -> Result<(), Work<K>>
     requires { 0 < (worker_view own.old).parts }
     ensures same { SameWorker own.old own.new }
-    ensures rule { MatchResult result (λ _. worker_view own.new ≡ with_opening (worker_view own.old) (work ∷ [])) (λ back. (back ≡ work) × (worker_view own.new ≡ worker_view own.old)) }
+    ensures rule { MatchResult result (λ _. worker_view own.new ≡ with_opening (worker_view own.old) (work ∷ [])) (λ back. (back ≡ work)
+        × (worker_view own.new ≡ worker_view own.old)) }
 {
     own.push_as::<Opens>(work)
 }
@@ -34,7 +35,8 @@ pub fn put<K: Run>(own: &mut Owner<K>, _share: &Share, work: Work<K>) -> Result<
     requires part { 0 < (worker_view own.old).parts }
     requires counted { length (worker_view own.old).pushed < _share.now.count.firsts }
     ensures same { SameWorker own.old own.new }
-    ensures rule { MatchResult result (λ _. worker_view own.new ≡ with_pushed (worker_view own.old) (work ∷ [])) (λ back. (back ≡ work) × (worker_view own.new ≡ worker_view own.old)) }
+    ensures rule { MatchResult result (λ _. worker_view own.new ≡ with_pushed (worker_view own.old) (work ∷ [])) (λ back. (back ≡ work)
+        × (worker_view own.new ≡ worker_view own.old)) }
 {
     own.push_as::<Puts>(work)
 }
@@ -43,7 +45,8 @@ pub fn put<K: Run>(own: &mut Owner<K>, _share: &Share, work: Work<K>) -> Result<
 pub fn pop<K: Run>(own: &mut Owner<K>) -> Option<Work<K>>
     requires { (0 < (worker_view own.old).parts) × (worker_flavor own.old ≡ 0) }
     ensures same { SameWorker own.old own.new }
-    ensures rule { MatchOption result ((worker_view own.new ≡ worker_view own.old) × Settled (worker_view own.old) []) (λ work. worker_view own.new ≡ with_taken (worker_view own.old) (work ∷ [])) }
+    ensures rule { MatchOption result ((worker_view own.new ≡ worker_view own.old) × Settled (worker_view own.old) [])
+        (λ work. worker_view own.new ≡ with_taken (worker_view own.old) (work ∷ [])) }
 {
     own.pop_as::<Takes>()
 }
@@ -52,7 +55,8 @@ pub fn pop<K: Run>(own: &mut Owner<K>) -> Option<Work<K>>
 pub fn steal<K: Run>(thief: &Thief<K>, pass: &mut DequePass<K>) -> Steal<Work<K>>
     requires { (0 < (view pass.old).parts) × IsPassOf (stealer_deque thief.now) pass.old }
     ensures same { SamePass pass.old pass.new }
-    ensures rule { MatchSteal result (view pass.new ≡ view pass.old) (view pass.new ≡ view pass.old) (λ work. view pass.new ≡ with_taken (view pass.old) (work ∷ [])) }
+    ensures rule { MatchSteal result (view pass.new ≡ view pass.old) (view pass.new ≡ view pass.old) (λ work. view pass.new
+        ≡ with_taken (view pass.old) (work ∷ [])) }
 {
     thief.steal_as::<Steals>(pass)
 }

@@ -40,7 +40,8 @@ impl<'p, K: Run> Hand<'p, K> {
     fn attempt(&mut self, refinery: &Refinery<'p, K>) -> Result<Turn, AllocError>
         requires { IsHandOf refinery.now self.old }
         ensures hand { IsHandOf refinery.now self.new × SameHand self.old self.new }
-        ensures made { MatchResult result (Made (plain_problem K.problem) refinery.now self.old self.new) (λ _. Wanted (plain_problem K.problem) self.old self.new) }
+        ensures made { MatchResult result (Made (plain_problem K.problem) refinery.now self.old self.new)
+            (λ _. Wanted (plain_problem K.problem) self.old self.new) }
         ensures wants { self.new.wants ≡ self.old.wants }
         ensures cells { SetsCells refinery.now.limit self.old.share.count self.new.share.count }
         ensures memory { self.new.share.count.memory ≡ self.old.share.count.memory }
@@ -93,7 +94,8 @@ impl<'p, K: Run> Hand<'p, K> {
         ensures hand { IsHandOf refinery.now self.new × SameHand self.old self.new }
 
         // What the answer says was done.
-        ensures made { MatchResult result (Made (plain_problem K.problem) refinery.now self.old self.new) (λ _. Wanted (plain_problem K.problem) self.old self.new) }
+        ensures made { MatchResult result (Made (plain_problem K.problem) refinery.now self.old self.new)
+            (λ _. Wanted (plain_problem K.problem) self.old self.new) }
         ensures wants { MatchResult result (λ _. self.new.wants ≡ self.old.wants) (λ _. self.new.wants ≡ one_want_more self.old.wants) }
 
         // It stops the others only for too many cells, and it stops where its hand has told the others to.
