@@ -91,28 +91,28 @@ module _ (looked : ℕ → ℕ → ℕ → Bool) (case : PlainProblem) (leaves :
   each_described : Each (IsDescribed case) (roots_of looked case)
   each_described = both_facts case (roots_of looked case) (Each-roots looked case) (each_from_All (λ r. Describe case r (leaves_of_root case r)) (roots_of looked case) leaves)
 
-  pub list_sound : All (IsSound case) (list_of looked case)
+  list_sound : All (IsSound case) (list_of looked case)
   unfolding list_of leaves_of_roots
   list_sound =
       All-from_each (IsSound case) (flat_map (leaves_of_root case) (roots_of looked case))
       (Each-flat_map (IsSound case) (leaves_of_root case) (roots_of looked case)
       (Each-weaker (IsDescribed case) (λ r. Each (IsSound case) (leaves_of_root case r)) (root_sound case) (roots_of looked case) each_described))
 
-  pub list_keeps : All (λ s. KeepIntervals case s.a s.b s.first s.last) (list_of looked case)
+  list_keeps : All (λ s. KeepIntervals case s.a s.b s.first s.last) (list_of looked case)
   unfolding list_of leaves_of_roots
   list_keeps =
       All-from_each (λ s. KeepIntervals case s.a s.b s.first s.last) (flat_map (leaves_of_root case) (roots_of looked case))
       (Each-flat_map (λ s. KeepIntervals case s.a s.b s.first s.last) (leaves_of_root case) (roots_of looked case)
       (Each-weaker (IsDescribed case) (λ r. Each (λ s. KeepIntervals case s.a s.b s.first s.last) (leaves_of_root case r)) (root_keeps case) (roots_of looked case) each_described))
 
-  pub list_ordered : AllPairs IsBefore (list_of looked case)
+  list_ordered : AllPairs IsBefore (list_of looked case)
   unfolding list_of leaves_of_roots
   list_ordered =
       AllPairs-from_ordered IsBefore (flat_map (leaves_of_root case) (roots_of looked case))
       (Ordered-flat_map IsBefore IsRootBefore (IsDescribed case) (leaves_of_root case) (root_ordered case) (root_across case)
       (roots_of looked case) each_described (Ordered-roots looked case))
 
-  pub list_has : (a b m : ℕ) → IsCommonOf case a b m → looked a b (slot_of case.first m) ≡ true → Any (IsTickOf a b m) (list_of looked case)
+  list_has : (a b m : ℕ) → IsCommonOf case a b m → looked a b (slot_of case.first m) ≡ true → Any (IsTickOf a b m) (list_of looked case)
   unfolding list_of leaves_of_roots
   list_has a b m common is =
       let numbers = numbers_exist case a b m common.states in
@@ -122,6 +122,26 @@ module _ (looked : ℕ → ℕ → ℕ → Bool) (case : PlainProblem) (leaves :
       (Each-exists (IsDescribed case) (HasRootTick a b m) (roots_of looked case) each_described
       (Exists-roots looked case a b m common.ordered (second_exists case a b m common.states) common.after common.before is
       (some_both (number_at case a m) (number_at case b m) numbers.0 numbers.1)))))
+
+-- what the list of the pairs that are looked at says of its case
+pub record DescribesCase (case : PlainProblem) : Type 0 where
+  pub sound : All (IsSound case) (list_looked case)
+  pub complete : (a b m : ℕ) → IsCommonOf case a b m → is_looked case a b (slot_of case.first m) ≡ true → Any (IsTickOf a b m) (list_looked case)
+  pub ordered : AllPairs IsBefore (list_looked case)
+  pub intervals : All (λ s. KeepIntervals case s.a s.b s.first s.last) (list_looked case)
+
+-- it does where the leaves of each root describe that root
+pub list_described : (case : PlainProblem) (roots : List PlainCell) → roots ≡ roots_of (is_looked case) case →
+    All (λ r. Describe case r (leaves_of_root case r)) roots → DescribesCase case
+list_described case roots same leaves =
+    let looked = is_looked case in
+    let described = subst (λ (rs : List PlainCell). All (λ r. Describe case r (leaves_of_root case r)) rs) same leaves in
+    record {
+      sound = list_sound looked case described;
+      complete = list_has looked case described;
+      ordered = list_ordered looked case described;
+      intervals = list_keeps looked case described;
+    }
 
 -- ---- how often roots are halved
 

@@ -13,7 +13,7 @@ use Rattle.cj_hermite.specs.Roots.{PlainCell, KeepIntervals, roots_of}
 use Rattle.cj_bezier.specs.Cells.{plain_cell, plain_cells}
 use Rattle.cj_bezier.specs.RootLeaves.{leaves_of_root, leaves_of_roots, Describe}
 use Rattle.cj_cells.specs.Lists.{list_of, list_looked, splits_of}
-use Rattle.cj_cells.proofs.LeafLemmas.{list_split, list_sound, list_keeps, list_ordered, list_has}
+use Rattle.cj_cells.proofs.LeafLemmas.{list_described, list_split}
 use Rattle.cj_cells.proofs.ListingLemmas.{same_count, cells_keep}
 use Rattle.cj_cells.proofs.listing.leaves_of.Goals as goal
 
@@ -46,29 +46,25 @@ pub returns-clause-sound : goal.returns-clause-sound
 returns-clause-sound c =
     let case = plain_problem c.args.problem.now in
     let same = ap plain_cells c.deref.ensures.value ∙ c.order_roots.ensures.all (is_looked case) case c.requires.found in
-    on_ok_weaker c.refine_all.result
-    (λ leaves. list_sound (is_looked case) case (subst (λ (rs : List PlainCell). All (λ r. Describe case r (leaves_of_root case r)) rs) same leaves)) c.refine_all.ensures.leaves
+    on_ok_weaker c.refine_all.result (λ leaves. let list = list_described case (plain_cells c.deref.result.now) same leaves in list.sound) c.refine_all.ensures.leaves
 
 pub returns-clause-complete : goal.returns-clause-complete
 returns-clause-complete c =
     let case = plain_problem c.args.problem.now in
     let same = ap plain_cells c.deref.ensures.value ∙ c.order_roots.ensures.all (is_looked case) case c.requires.found in
-    on_ok_weaker c.refine_all.result
-    (λ leaves a b m common is. list_has (is_looked case) case (subst (λ (rs : List PlainCell). All (λ r. Describe case r (leaves_of_root case r)) rs) same leaves) a b m common is) c.refine_all.ensures.leaves
+    on_ok_weaker c.refine_all.result (λ leaves. let list = list_described case (plain_cells c.deref.result.now) same leaves in list.complete) c.refine_all.ensures.leaves
 
 pub returns-clause-ordered : goal.returns-clause-ordered
 returns-clause-ordered c =
     let case = plain_problem c.args.problem.now in
     let same = ap plain_cells c.deref.ensures.value ∙ c.order_roots.ensures.all (is_looked case) case c.requires.found in
-    on_ok_weaker c.refine_all.result
-    (λ leaves. list_ordered (is_looked case) case (subst (λ (rs : List PlainCell). All (λ r. Describe case r (leaves_of_root case r)) rs) same leaves)) c.refine_all.ensures.leaves
+    on_ok_weaker c.refine_all.result (λ leaves. let list = list_described case (plain_cells c.deref.result.now) same leaves in list.ordered) c.refine_all.ensures.leaves
 
 pub returns-clause-intervals : goal.returns-clause-intervals
 returns-clause-intervals c =
     let case = plain_problem c.args.problem.now in
     let same = ap plain_cells c.deref.ensures.value ∙ c.order_roots.ensures.all (is_looked case) case c.requires.found in
-    on_ok_weaker c.refine_all.result
-    (λ leaves. list_keeps (is_looked case) case (subst (λ (rs : List PlainCell). All (λ r. Describe case r (leaves_of_root case r)) rs) same leaves)) c.refine_all.ensures.leaves
+    on_ok_weaker c.refine_all.result (λ leaves. let list = list_described case (plain_cells c.deref.result.now) same leaves in list.intervals) c.refine_all.ensures.leaves
 
 pub returns-clause-splits : goal.returns-clause-splits
 unfolding list_of

@@ -14,7 +14,7 @@ use Rattle.cj_bezier.specs.Looked.{is_looked}
 use Rattle.cj_bezier.specs.RootLeaves.{leaves_of_root, leaves_of_roots, Describe}
 use Rattle.cj_cells.specs.declared.refine_error.RefineError.{RefineError}
 use Rattle.cj_cells.specs.Lists.{list_of, list_looked, splits_of}
-use Rattle.cj_cells.proofs.LeafLemmas.{list_split, list_sound, list_keeps, list_ordered, list_has}
+use Rattle.cj_cells.proofs.LeafLemmas.{list_described, list_split}
 use Rattle.cj_cells.proofs.ListingLemmas.{same_count}
 use Rattle.cj_pool.proofs.RootListLemmas.{are_roots}
 use Rattle.cj_pool.proofs.listing.leaves_by_workers.Goals as goal
@@ -52,29 +52,25 @@ pub returns-clause-sound : goal.returns-clause-sound
 returns-clause-sound g c =
     let case = plain_problem c.args.problem.now in
     let same = c.order_roots.ensures.all (is_looked case) case c.requires.found in
-    on_ok_weaker c.leaves_by_hands.result
-    (λ leaves. list_sound (is_looked case) case (subst (λ (rs : List PlainCell). All (λ r. Describe case r (leaves_of_root case r)) rs) same leaves)) c.leaves_by_hands.ensures.leaves
+    on_ok_weaker c.leaves_by_hands.result (λ leaves. let list = list_described case (plain_cells c.order_roots.new.roots.items) same leaves in list.sound) c.leaves_by_hands.ensures.leaves
 
 pub returns-clause-complete : goal.returns-clause-complete
 returns-clause-complete g c =
     let case = plain_problem c.args.problem.now in
     let same = c.order_roots.ensures.all (is_looked case) case c.requires.found in
-    on_ok_weaker c.leaves_by_hands.result
-    (λ leaves a b m common is. list_has (is_looked case) case (subst (λ (rs : List PlainCell). All (λ r. Describe case r (leaves_of_root case r)) rs) same leaves) a b m common is) c.leaves_by_hands.ensures.leaves
+    on_ok_weaker c.leaves_by_hands.result (λ leaves. let list = list_described case (plain_cells c.order_roots.new.roots.items) same leaves in list.complete) c.leaves_by_hands.ensures.leaves
 
 pub returns-clause-ordered : goal.returns-clause-ordered
 returns-clause-ordered g c =
     let case = plain_problem c.args.problem.now in
     let same = c.order_roots.ensures.all (is_looked case) case c.requires.found in
-    on_ok_weaker c.leaves_by_hands.result
-    (λ leaves. list_ordered (is_looked case) case (subst (λ (rs : List PlainCell). All (λ r. Describe case r (leaves_of_root case r)) rs) same leaves)) c.leaves_by_hands.ensures.leaves
+    on_ok_weaker c.leaves_by_hands.result (λ leaves. let list = list_described case (plain_cells c.order_roots.new.roots.items) same leaves in list.ordered) c.leaves_by_hands.ensures.leaves
 
 pub returns-clause-intervals : goal.returns-clause-intervals
 returns-clause-intervals g c =
     let case = plain_problem c.args.problem.now in
     let same = c.order_roots.ensures.all (is_looked case) case c.requires.found in
-    on_ok_weaker c.leaves_by_hands.result
-    (λ leaves. list_keeps (is_looked case) case (subst (λ (rs : List PlainCell). All (λ r. Describe case r (leaves_of_root case r)) rs) same leaves)) c.leaves_by_hands.ensures.leaves
+    on_ok_weaker c.leaves_by_hands.result (λ leaves. let list = list_described case (plain_cells c.order_roots.new.roots.items) same leaves in list.intervals) c.leaves_by_hands.ensures.leaves
 
 pub returns-clause-splits : goal.returns-clause-splits
 unfolding list_of
