@@ -1,12 +1,13 @@
 -- What a refinery and its hands come to.
-use Rattle.std.proofs.Common.{◌≡◌, ℕ, ◌+◌, ◌%◌, ◌^◌, ◌<◌, ◌≤◌, List, ◌++◌, map, length, sym, ap, ◌∙◌, subst, arith, length-append}
+use Rattle.std.proofs.Common.{◌≡◌, ℕ, ◌+◌, ◌^◌, ◌<◌, ◌≤◌, List, ◌++◌, map, length, sym, ap, ◌∙◌, subst, arith, length-append}
 use Rattle.std.specs.Prelude.{All, AllPairs, Contains}
 use Rattle.std.specs.List.{range_with_len, sum_by}
 use Rattle.std.specs.List.Sorted.{IsPermutation}
 use Rattle.std.specs.declared.alloc.Global.{Global}
 use Rattle.std.proofs.lemmas.List.{length-map}
 use Rattle.std.proofs.lemmas.List.Elements.{All-map, All-weaker}
-use Rattle.std.proofs.lemmas.List.Sorted.{IsPermutation-sym}
+use Rattle.std.proofs.lemmas.List.FromFn.{length-range_with_len}
+use Rattle.std.proofs.lemmas.List.Sorted.{length_permutation}
 use Rattle.atomic_blocks.specs.Lent.{RowsId}
 use Rattle.cj_interval.proofs.ListLemmas.{each_from_All, All-from_each}
 use Rattle.cj_hermite.specs.Problems.{plain_problem}
@@ -22,12 +23,12 @@ use Rattle.cj_ledger.specs.declared.totals.Totals.{Totals}
 use Rattle.cj_pool.specs.declared.refined.FinishError.{FinishError}
 use Rattle.cj_pool.specs.Hands.{RefinerySeen, HandSeen, Accounts, IsHandOf, cells_of}
 use Rattle.cj_hermite.specs.Lengths.{HaveLengths}
-use Rattle.cj_pool.specs.Refined.{AreLeft, IsTooMany, Stands, TotalsOf, leaves_wanted, numbers_of}
+use Rattle.cj_pool.specs.Refined.{AreAll, AreLeft, AreOpen, IsOfRun, IsSound, IsTooMany, Stands, TotalsOf, leaves_in, leaves_wanted, numbers_of}
 use Rattle.cj_pool.specs.RootLists.{IsKept, AreRoots}
 use Rattle.cj_pool.specs.Tree.{InTree, IsLeafOf}
 use Rattle.cj_pool.specs.Weights.{weigh, has}
-use Rattle.cj_pool.proofs.FinishLemmas.{same_length, sorted_leaves, roots_described, one_root, all_moved, closed_leaves, trees_keep, counted}
-use Rattle.cj_pool.proofs.HandSumLemmas.{AreOpen, leaves_in, left_of, are_left, open_splits, open_closes}
+use Rattle.cj_pool.proofs.FinishLemmas.{same_length, sorted_leaves, roots_described, one_root, closed_leaves, trees_keep, counted}
+use Rattle.cj_pool.proofs.HandSumLemmas.{left_of, are_left, open_splits, open_closes}
 use Rattle.cj_pool.proofs.LeafSumLemmas.{fewer_cells}
 use Rattle.cj_pool.proofs.SeatLemmas.{share_sum}
 
@@ -39,14 +40,6 @@ pub refinery_of : (problem run : Problem) (roots : List Cell) (limit hands : ℕ
 refinery_of problem run roots limit hands deques ledger seen e is =
     (λ i. record { problem = sym e i; roots = roots; limit = limit; hands = hands; deques = deques; ledger = ledger }) ∙ is
 
--- a refinery whose roots are roots, and whose interpolants have lengths
-pub record IsSound (r : RefinerySeen) : Type 0 where
-  pub long : HaveLengths (plain_problem r.problem)
-  pub roots_are : AreRoots (plain_problem r.problem) r.roots
-  pub few_roots : length r.roots ≤ r.limit
-  pub few_leaves : r.limit ≤ 4_000_000
-  pub some : 1 ≤ r.hands
-
 pub sound_described : (r : RefinerySeen) → IsSound r →
     All (λ root. Describe (plain_problem r.problem) root (leaves_of_root (plain_problem r.problem) root)) (plain_cells r.roots)
 sound_described r is = roots_described (plain_problem r.problem) r.roots is.long r.problem.least is.roots_are
@@ -54,14 +47,6 @@ sound_described r is = roots_described (plain_problem r.problem) r.roots is.long
 pub sound_single : (r : RefinerySeen) → IsSound r → (c : Cell) (m : ℕ) → Contains r.roots c → c.first.micros ≤ m → m ≤ c.last.micros →
     weigh (has c.pair.a c.pair.b m) r.roots ≡ 1
 sound_single r is c m has_it low high = one_root (plain_problem r.problem) r.roots c m is.roots_are has_it low high
-
--- all hands of a refinery, and the cells that are open at the end
-pub record AreAll (r : RefinerySeen) (hands : List HandSeen) (cells : List Cell) : Type 0 where
-  pub sound : IsSound r
-  pub accounts : All (Accounts (plain_problem r.problem) r.roots r.hands) hands
-  pub numbers : numbers_of hands ≡ range_with_len 0 r.hands
-  pub open_cells : AreOpen hands cells
-  pub trees : All (InTree (plain_problem r.problem) r.roots) cells
 
 module _ (r : RefinerySeen) (hands : List HandSeen) (cells : List Cell) (are : AreAll r hands cells) where
   abbrev leaves_left : ℕ
@@ -74,15 +59,14 @@ module _ (r : RefinerySeen) (hands : List HandSeen) (cells : List Cell) (are : A
       (each_from_All (Accounts (plain_problem r.problem) r.roots r.hands) hands are.accounts) are.numbers are.open_cells
       (closed_leaves (plain_problem r.problem) r.roots r.hands hands are.accounts)
 
-  pub all_value : (found sorted : List Leaf) →
-      plain_leaves found ≡ plain_leaves (leaves_in hands) ++ leaves_of_roots (plain_problem r.problem) (plain_cells cells) →
-      IsPermutation found sorted → AllPairs IsRootUpTo (plain_cells (cells_of sorted)) →
-      plain_leaves sorted ≡ leaves_wanted r
-  all_value found sorted is moved ordered =
+  pub all_value : (sorted : List Leaf) →
+      IsPermutation (plain_leaves (leaves_in hands) ++ leaves_of_roots (plain_problem r.problem) (plain_cells cells)) (plain_leaves sorted) →
+      AllPairs IsRootUpTo (plain_cells (cells_of sorted)) → plain_leaves sorted ≡ leaves_wanted r
+  all_value sorted moved ordered =
       let s = are.sound in
       sorted_leaves (plain_problem r.problem) r.roots s.long r.problem.least s.roots_are r.hands hands cells s.some
       (each_from_All (Accounts (plain_problem r.problem) r.roots r.hands) hands are.accounts) are.numbers are.open_cells
-      (closed_leaves (plain_problem r.problem) r.roots r.hands hands are.accounts) found sorted is moved ordered
+      (closed_leaves (plain_problem r.problem) r.roots r.hands hands are.accounts) sorted moved ordered
 
   -- a refusal to refine says the same of all
   pub all_refused : (error : FinishError) → IsTooMany r.limit (length (leaves_in hands) + leaves_left) error → Stands r error
@@ -92,113 +76,114 @@ module _ (r : RefinerySeen) (hands : List HandSeen) (cells : List Cell) (are : A
   all_left = let s = are.sound in are_left r (plain_problem r.problem) hands cells s.some
       (each_from_All (Accounts (plain_problem r.problem) r.roots r.hands) hands are.accounts) are.numbers are.open_cells
 
-  pub all_judged : (found sorted : List Leaf) →
-      (All (IsLeafOf (plain_problem r.problem) r.roots) (leaves_in hands) → All (IsLeafOf (plain_problem r.problem) r.roots) found) →
-      IsPermutation found sorted → All (IsLeafOf (plain_problem r.problem) r.roots) sorted
-  all_judged found sorted judged moved =
-      let case = plain_problem r.problem in
-      all_moved (IsLeafOf case r.roots) found sorted (IsPermutation-sym found sorted moved)
-      (judged (All-from_each (IsLeafOf case r.roots) (leaves_in hands) (closed_leaves case r.roots r.hands hands are.accounts)))
+  -- the open cells keep their intervals, and the leaves that were closed are what their cells were found to be
+  pub all_kept : All (IsKept (plain_problem r.problem)) cells
+  all_kept = let s = are.sound in trees_keep (plain_problem r.problem) r.roots cells s.roots_are are.trees
+
+  pub all_closed : All (IsLeafOf (plain_problem r.problem) r.roots) (leaves_in hands)
+  all_closed = let case = plain_problem r.problem in
+      All-from_each (IsLeafOf case r.roots) (leaves_in hands) (closed_leaves case r.roots r.hands hands are.accounts)
 
   pub fewer : length cells ≤ leaves_left
   fewer =
       let s = are.sound in
       let case = plain_problem r.problem in
-      fewer_cells case s.long r.problem.least cells (each_from_All (IsKept case) cells (trees_keep case r.roots cells s.roots_are are.trees))
+      fewer_cells case s.long r.problem.least cells (each_from_All (IsKept case) cells all_kept)
 
-  pub halvings : weigh (λ h. h.share.count.firsts) hands + length r.roots ≡ length (leaves_in hands) + length cells
+  halvings : weigh (λ h. h.share.count.firsts) hands + length r.roots ≡ length (leaves_in hands) + length cells
   halvings =
       let s = are.sound in
       open_splits (plain_problem r.problem) r.roots r.hands hands cells s.some
       (each_from_All (Accounts (plain_problem r.problem) r.roots r.hands) hands are.accounts) are.numbers are.open_cells
 
-  pub closings : weigh (λ h. h.share.count.closes) hands ≡ length (leaves_in hands)
+  closings : weigh (λ h. h.share.count.closes) hands ≡ length (leaves_in hands)
   closings =
       let s = are.sound in
       open_closes (plain_problem r.problem) r.roots r.hands hands cells s.some
       (each_from_All (Accounts (plain_problem r.problem) r.roots r.hands) hands are.accounts) are.numbers are.open_cells
 
-  -- ---- the counts, of shares that count this
+  -- as many hands as the refinery has
+  pub all_shares : (shares : List ShareSeen) → shares ≡ map (λ (h : HandSeen). h.share) hands → length shares ≡ r.hands
+  all_shares shares same = ap length same ∙ length-map hands (λ (h : HandSeen). h.share) ∙ sym (length-map hands (λ (h : HandSeen). h.number))
+      ∙ ap length are.numbers ∙ length-range_with_len 0 r.hands
 
-  pub record AreCounts (shares : List ShareSeen) (found : List Leaf) (told : Totals) : Type 0 where
-    pub same : shares ≡ map (λ (h : HandSeen). h.share) hands
-    pub leaves : plain_leaves found ≡ plain_leaves (leaves_in hands) ++ leaves_of_roots (plain_problem r.problem) (plain_cells cells)
-    pub within : length found ≤ r.limit
-    pub given : told.roots ≡ length r.roots
-    pub splits : told.splits ≡ sum_by (λ (s : ShareSeen). s.count.firsts) shares % 2 ^ 64
-    pub closes : told.closes ≡ sum_by (λ (s : ShareSeen). s.count.closes) shares % 2 ^ 64
+  -- ---- what the shares of all hands count, once the leaves are found and sorted
 
-  module _ (shares : List ShareSeen) (found : List Leaf) (told : Totals) (counts : AreCounts shares found told) where
+  module _ (shares : List ShareSeen) (same : shares ≡ map (λ (h : HandSeen). h.share) hands) (sorted : List Leaf)
+      (moved : IsPermutation (plain_leaves (leaves_in hands) ++ leaves_of_roots (plain_problem r.problem) (plain_cells cells)) (plain_leaves sorted))
+      (within : length sorted ≤ r.limit) where
     firsts_are : sum_by (λ (s : ShareSeen). s.count.firsts) shares + length r.roots ≡ length (leaves_in hands) + length cells
-    firsts_are = let e = share_sum (λ (s : ShareSeen). s.count.firsts) hands shares (sym counts.same) in let h = halvings in omega (arith, e, h)
+    firsts_are = let e = share_sum (λ (s : ShareSeen). s.count.firsts) hands shares (sym same) in let h = halvings in omega (arith, e, h)
 
     closes_are : sum_by (λ (s : ShareSeen). s.count.closes) shares ≡ length (leaves_in hands)
-    closes_are = sym (share_sum (λ (s : ShareSeen). s.count.closes) hands shares (sym counts.same)) ∙ closings
+    closes_are = sym (share_sum (λ (s : ShareSeen). s.count.closes) hands shares (sym same)) ∙ closings
 
-    pub found_length : length found ≡ length (leaves_in hands) + leaves_left
-    found_length =
-        let e = ap length counts.leaves in
-        omega (
-          arith,
-          e,
-          length-map found plain_leaf,
-          length-map (leaves_in hands) plain_leaf,
-          length-append (plain_leaves (leaves_in hands))
-              (leaves_of_roots (plain_problem r.problem) (plain_cells cells)),
-        )
+    pub sorted_length : length sorted ≡ length (leaves_in hands) + leaves_left
+    sorted_length = omega (
+      arith,
+      length_permutation (plain_leaves (leaves_in hands) ++ leaves_of_roots (plain_problem r.problem) (plain_cells cells)) (plain_leaves sorted) moved,
+      length-map sorted plain_leaf,
+      length-map (leaves_in hands) plain_leaf,
+      length-append (plain_leaves (leaves_in hands)) (leaves_of_roots (plain_problem r.problem) (plain_cells cells)),
+    )
 
     -- so they do not pass 2 ^ 64
-    pub few_splits : told.splits + leaves_left < 2 ^ 64
-    few_splits = let s = are.sound in let f = firsts_are in let e = fewer in let l = found_length in omega
-        (arith, s.few_leaves, s.few_roots, counts.within, counts.splits, f, e, l)
+    pub few_splits : sum_by (λ (s : ShareSeen). s.count.firsts) shares + leaves_left < 2 ^ 64
+    few_splits = let s = are.sound in let f = firsts_are in let e = fewer in let l = sorted_length in omega
+        (arith, s.few_leaves, within, f, e, l)
 
-    pub few_closes : told.closes + leaves_left < 2 ^ 64
-    few_closes = let s = are.sound in let c = closes_are in let l = found_length in omega (arith, s.few_leaves, counts.within, counts.closes, c, l)
+    pub few_closes : sum_by (λ (s : ShareSeen). s.count.closes) shares + leaves_left < 2 ^ 64
+    few_closes = let s = are.sound in let c = closes_are in let l = sorted_length in omega (arith, s.few_leaves, within, c, l)
 
-    pub all_counts : (totals : Totals) → totals.roots ≡ told.roots → totals.splits + length cells ≡ told.splits + leaves_left →
-        totals.closes ≡ told.closes + leaves_left → TotalsOf (length r.roots) (length found) totals
+    pub all_counts : (totals : Totals) → totals.roots ≡ length r.roots →
+        totals.splits + length cells ≡ sum_by (λ (s : ShareSeen). s.count.firsts) shares + leaves_left →
+        totals.closes ≡ sum_by (λ (s : ShareSeen). s.count.closes) shares + leaves_left → TotalsOf (length r.roots) (length sorted) totals
     all_counts totals roots splits closes =
-        let s = are.sound in
-        let c = closes_are in
-        counted r.limit (length r.roots) (length (leaves_in hands)) (length cells) leaves_left (length found)
-        (sum_by (λ (x : ShareSeen). x.count.firsts) shares) (sum_by (λ (x : ShareSeen). x.count.closes) shares) told.splits told.closes totals
-        s.few_leaves s.few_roots counts.within found_length fewer firsts_are c counts.splits counts.closes (roots ∙ counts.given) splits closes
+        counted (length r.roots) (length (leaves_in hands)) (length cells) leaves_left (length sorted)
+        (sum_by (λ (x : ShareSeen). x.count.firsts) shares) (sum_by (λ (x : ShareSeen). x.count.closes) shares) totals
+        sorted_length fewer firsts_are closes_are roots splits closes
 
 -- ---- at the exits of a call
 
 abbrev pub run_of : Problem → List Cell → ℕ → ℕ → List (RowsId × Global) → LedgerSeen → RefinerySeen
 run_of run roots limit hands deques ledger = record { problem = run; roots = roots; limit = limit; hands = hands; deques = deques; ledger = ledger }
 
-pub run_sound : (problem run : Problem) (roots : List Cell) (limit hands : ℕ) (deques : List (RowsId × Global)) (ledger : LedgerSeen) →
-    problem ≡ run → HaveLengths (plain_problem problem) →
-    AreRoots (plain_problem run) roots → length roots ≤ limit → limit ≤ 4_000_000 → 1 ≤ hands → IsSound (run_of run roots limit hands deques ledger)
-run_sound problem run roots limit hands deques ledger e long are few_roots few_leaves some = record {
-  long = subst (λ (p : Problem). HaveLengths (plain_problem p)) e long;
-  roots_are = are;
-  few_roots = few_roots;
-  few_leaves = few_leaves;
-  some = some;
+pub seen_sound : (problem run : Problem) (roots : List Cell) (limit hands : ℕ) (deques : List (RowsId × Global)) (ledger : LedgerSeen) (seen : RefinerySeen) →
+    problem ≡ run → run_of problem roots limit hands deques ledger ≡ seen → HaveLengths (plain_problem problem) →
+    AreRoots (plain_problem run) roots → length roots ≤ limit → limit ≤ 4_000_000 → 1 ≤ hands → IsSound seen
+seen_sound problem run roots limit hands deques ledger seen e is long are few_roots few_leaves some =
+    subst IsSound (refinery_of problem run roots limit hands deques ledger seen e is) (record {
+      long = subst (λ (p : Problem). HaveLengths (plain_problem p)) e long;
+      roots_are = are;
+      few_roots = few_roots;
+      few_leaves = few_leaves;
+      some = some;
+    })
+
+pub seen_run : (problem run : Problem) (roots : List Cell) (limit hands : ℕ) (deques : List (RowsId × Global)) (ledger : LedgerSeen) (seen : RefinerySeen) →
+    problem ≡ run → run_of problem roots limit hands deques ledger ≡ seen → IsOfRun run roots hands seen
+seen_run problem run roots limit hands deques ledger seen e is = record {
+  problem_is = ap (λ (x : RefinerySeen). x.problem) (sym is) ∙ e;
+  roots_are = ap (λ (x : RefinerySeen). x.roots) (sym is);
+  hands_are = ap (λ (x : RefinerySeen). x.hands) (sym is);
 }
 
-pub seen_described : (r seen : RefinerySeen) → r ≡ seen → IsSound r →
-    All (λ root. Describe (plain_problem seen.problem) root (leaves_of_root (plain_problem seen.problem) root)) (plain_cells seen.roots)
-seen_described r seen same is = subst (λ (x : RefinerySeen). All
-    (λ root. Describe (plain_problem x.problem) root (leaves_of_root (plain_problem x.problem) root)) (plain_cells x.roots)) same
-    (sound_described r is)
-
--- the interpolants of a refinery have lengths, as it is seen or as it is kept
-pub still_long : (r seen : RefinerySeen) → r ≡ seen → HaveLengths (plain_problem seen.problem) → HaveLengths (plain_problem r.problem)
-still_long r seen same long = subst (λ (x : RefinerySeen). HaveLengths (plain_problem x.problem)) (sym same) long
-
-pub seen_single : (r seen : RefinerySeen) → r ≡ seen → IsSound r → (c : Cell) (m : ℕ) → Contains seen.roots c → c.first.micros ≤ m →
-    m ≤ c.last.micros → weigh (has c.pair.a c.pair.b m) seen.roots ≡ 1
-seen_single r seen same is = subst (λ (x : RefinerySeen). (c : Cell) (m : ℕ) → Contains x.roots c → c.first.micros ≤ m → m ≤ c.last.micros → weigh
-    (has c.pair.a c.pair.b m) x.roots ≡ 1) same (sound_single r is)
-
--- the numbers of all hands
-pub run_numbers : (r seen : RefinerySeen) (hands : List HandSeen) → r ≡ seen → numbers_of hands ≡ range_with_len 0 seen.hands →
-    numbers_of hands ≡ range_with_len 0 r.hands
-run_numbers r seen hands same is = subst (λ (x : RefinerySeen). numbers_of hands ≡ range_with_len 0 x.hands) (sym same) is
+-- all hands of a run are those of its refinery
+pub run_all : (problem : Problem) (roots : List Cell) (n : ℕ) (r : RefinerySeen) (hands : List HandSeen) (cells : List Cell) →
+    IsOfRun problem roots n r → IsSound r → All (Accounts (plain_problem problem) roots n) hands → numbers_of hands ≡ range_with_len 0 r.hands →
+    AreOpen hands cells → All (InTree (plain_problem problem) roots) cells → AreAll r hands cells
+run_all problem roots n r hands cells is sound accounts numbers open_cells trees = record {
+  sound = sound;
+  accounts =
+      subst (λ (k : ℕ). All (Accounts (plain_problem r.problem) r.roots k) hands) (sym is.hands_are)
+      (subst (λ (cs : List Cell). All (Accounts (plain_problem r.problem) cs n) hands) (sym is.roots_are)
+      (subst (λ (p : Problem). All (Accounts (plain_problem p) roots n) hands) (sym is.problem_is) accounts));
+  numbers = numbers;
+  open_cells = open_cells;
+  trees =
+      subst (λ (cs : List Cell). All (InTree (plain_problem r.problem) cs) cells) (sym is.roots_are)
+      (subst (λ (p : Problem). All (InTree (plain_problem p) roots) cells) (sym is.problem_is) trees);
+}
 
 -- the shares of all hands are of the refinery's ledger
 pub all_mine : (r : RefinerySeen) (hands : List HandSeen) → All (IsHandOf r) hands → All (IsOf r.ledger) (map (λ (h : HandSeen). h.share) hands)

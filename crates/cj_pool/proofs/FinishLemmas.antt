@@ -22,11 +22,11 @@ use Rattle.cj_bezier.specs.RootLeaves.{leaves_of_root, leaves_of_roots, Describe
 use Rattle.cj_pool.specs.Hands.{HandSeen, Accounts, cells_of}
 use Rattle.cj_hermite.specs.Lengths.{HaveLengths}
 use Rattle.cj_ledger.specs.declared.totals.Totals.{Totals}
-use Rattle.cj_pool.specs.Refined.{TotalsOf, numbers_of}
+use Rattle.cj_pool.specs.Refined.{AreOpen, TotalsOf, kept_in, leaves_in, numbers_of}
 use Rattle.cj_pool.specs.RootLists.{IsKept, AreRoots}
 use Rattle.cj_pool.specs.Tree.{InTree, IsLeafOf}
 use Rattle.cj_pool.specs.Weights.{weigh, has}
-use Rattle.cj_pool.proofs.HandSumLemmas.{AreOpen, all_taken, leaves_in, kept_in, open_shared}
+use Rattle.cj_pool.proofs.HandSumLemmas.{all_taken, open_shared}
 use Rattle.cj_pool.proofs.LeafSumLemmas.{leaves_shared, described_cells, leaves_ordered, leaves_some, weigh_leaves, weigh_closed}
 use Rattle.cj_pool.proofs.RefineLemmas.{kept_whole}
 use Rattle.cj_pool.proofs.SeatLemmas.{weigh_map}
@@ -145,11 +145,13 @@ module _ (case : PlainProblem) (roots : List Cell) (long : HaveLengths case) (bi
           length-map (leaves_in hands) plain_leaf,
         )
 
-    -- sorted they are the same
-    pub sorted_leaves : (found sorted : List Leaf) → plain_leaves found ≡ plain_leaves (leaves_in hands) ++ leaves_of_roots case (plain_cells cells) →
-        IsPermutation found sorted → AllPairs IsRootUpTo (plain_cells (cells_of sorted)) →
+    -- in order they are the same
+    pub sorted_leaves : (sorted : List Leaf) →
+        IsPermutation (plain_leaves (leaves_in hands) ++ leaves_of_roots case (plain_cells cells)) (plain_leaves sorted) →
+        AllPairs IsRootUpTo (plain_cells (cells_of sorted)) →
         plain_leaves sorted ≡ leaves_of_roots case (plain_cells roots)
-    sorted_leaves found sorted is moved ordered =
+    sorted_leaves sorted moved ordered =
+        let found = plain_leaves (leaves_in hands) ++ leaves_of_roots case (plain_cells cells) in
         sym (same_list is_leaf (record { itself = is_leaf-self; exact = same_from_is_leaf }) (λ s. s.first ≤ s.last) IsBefore IsUpTo up_or_down
         (leaves_of_roots case (plain_cells roots)) (plain_leaves sorted)
         (leaves_some case long big (plain_cells roots) described_roots)
@@ -158,13 +160,8 @@ module _ (case : PlainProblem) (roots : List Cell) (long : HaveLengths case) (bi
         (λ f.
         sym (weigh_is f (leaves_of_roots case (plain_cells roots)))
         ∙ sym (same_weights f)
-        ∙ ap (weigh f) (sym is)
-        ∙ weigh_map plain_leaf f found
-        ∙ weigh_is (λ l. f (plain_leaf l)) found
-        ∙ sym (same_totals (λ l. f (plain_leaf l)) found sorted moved)
-        ∙ sym (weigh_is (λ l. f (plain_leaf l)) sorted)
-        ∙ sym (weigh_map plain_leaf f sorted)
-        ∙ weigh_is f (plain_leaves sorted)))
+        ∙ weigh_is f found
+        ∙ sym (same_totals f found (plain_leaves sorted) moved)))
 
 -- ---- each tick of a root is in that root alone
 
@@ -248,15 +245,21 @@ contained f (x ∷ xs) ys among = (
   contained f xs ys (λ y has_it. among y (Contains-append_right (f x) (flat_map f xs) y has_it)),
 )
 
--- a leaf that a hand closed is among the sorted leaves
-pub closed_found : (hands : List HandSeen) (found sorted : List Leaf) → take (length (leaves_in hands)) found ≡ leaves_in hands →
-    IsPermutation found sorted → All (λ h. All (λ leaf. Contains sorted leaf) h.closed) hands
-closed_found hands found sorted kept moved =
-    All-from_each (λ h. All (Contains sorted) h.closed) hands
-    (contained (λ (h : HandSeen). h.closed) hands sorted
+-- the first leaves that were found are among the sorted ones
+pub first_found : (first found sorted : List Leaf) → take (length first) found ≡ first → IsPermutation found sorted →
+    All (λ leaf. Contains sorted leaf) first
+first_found first found sorted kept moved =
+    All-weaker (Contains first) (Contains sorted)
     (λ l has_it. Contains-permutation found sorted l moved
-    (subst (λ (xs : List Leaf). Contains xs l) (sym (kept_whole (leaves_in hands) found kept))
-    (Contains-append_left (leaves_in hands) (drop (length (leaves_in hands)) found) l has_it))))
+    (subst (λ (xs : List Leaf). Contains xs l) (sym (kept_whole first found kept)) (Contains-append_left first (drop (length first) found) l has_it)))
+    first (All-contains_itself first)
+
+-- so a leaf that a hand closed is among leaves that have all of them
+pub closed_found : (hands : List HandSeen) (sorted : List Leaf) → All (λ leaf. Contains sorted leaf) (leaves_in hands) →
+    All (λ h. All (λ leaf. Contains sorted leaf) h.closed) hands
+closed_found hands sorted among =
+    All-from_each (λ h. All (Contains sorted) h.closed) hands
+    (contained (λ (h : HandSeen). h.closed) hands sorted (λ l has_it. All-contains (Contains sorted) (leaves_in hands) l among has_it))
 
 -- what holds of each found leaf holds of each sorted one
 pub all_moved : {X : Type 0} (P : X → Type 0) (xs ys : List X) → IsPermutation ys xs → All P xs → All P ys
@@ -300,12 +303,11 @@ closed_leaves case roots n hands accounts =
 
 -- ---- what is counted
 
--- the counts of the shares, modulo 2 ^ 64, with what was refined
-pub counted : (limit roots closed open_cells added total firsts closes splits closes' : ℕ) (totals : Totals) → limit ≤ 4_000_000 → roots ≤ limit →
-    total ≤ limit → total ≡ closed + added → open_cells ≤ added →
-    firsts + roots ≡ closed + open_cells → closes ≡ closed → splits ≡ firsts % 2 ^ 64 → closes' ≡ closes % 2 ^ 64 →
-    totals.roots ≡ roots → totals.splits + open_cells ≡ splits + added → totals.closes ≡ closes' + added → TotalsOf roots total totals
-counted limit roots closed open_cells added total firsts closes splits closes' totals few few_roots within sum enough halves all s c r t u = record {
+-- the counts of all shares, with what was refined
+pub counted : (roots closed open_cells added total firsts closes : ℕ) (totals : Totals) → total ≡ closed + added → open_cells ≤ added →
+    firsts + roots ≡ closed + open_cells → closes ≡ closed →
+    totals.roots ≡ roots → totals.splits + open_cells ≡ firsts + added → totals.closes ≡ closes + added → TotalsOf roots total totals
+counted roots closed open_cells added total firsts closes totals sum enough halves all r t u = record {
   roots_are = r;
   closes = omega arith;
   each = omega arith;

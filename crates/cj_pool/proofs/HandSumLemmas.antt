@@ -7,7 +7,7 @@ use Rattle.cj_hermite.specs.PlainProblems.{PlainProblem}
 use Rattle.cj_bezier.specs.declared.cell.Cell.{Cell}
 use Rattle.cj_bezier.specs.declared.leaf.Leaf.{Leaf}
 use Rattle.cj_pool.specs.Hands.{RefinerySeen, HandSeen, Accounts, cells_of, roots_dealt}
-use Rattle.cj_pool.specs.Refined.{AreLeft, numbers_of}
+use Rattle.cj_pool.specs.Refined.{AreLeft, AreOpen, kept_in, leaves_in, numbers_of}
 use Rattle.cj_pool.specs.Tree.{IsShared}
 use Rattle.cj_pool.specs.Weights.{weigh, has}
 use Rattle.cj_pool.proofs.DealLemmas.{dealt_all, weigh_add}
@@ -47,12 +47,6 @@ all_closed w hands = weigh (λ h. weigh w (cells_of h.closed)) hands
 
 abbrev pub all_kept : (Cell → ℕ) → List HandSeen → ℕ
 all_kept w hands = weigh (λ h. weigh w h.kept) hands
-
-abbrev pub leaves_in : List HandSeen → List Leaf
-leaves_in hands = flat_map (λ h. h.closed) hands
-
-abbrev pub kept_in : List HandSeen → List Cell
-kept_in hands = flat_map (λ h. h.kept) hands
 
 module _ (case : PlainProblem) (roots : List Cell) (n : ℕ) where
   -- what hands took is what they closed, pushed and keep
@@ -97,12 +91,6 @@ module _ (case : PlainProblem) (roots : List Cell) (n : ℕ) where
       omega (arith, lengths_one h.taken, weigh_one h.pushed, length-append h.closed (leaves_in hands), length-append h.kept (kept_in hands))
 
 -- ---- what is left in the deques
-
--- the cells that are open at the end are those that hands keep and those that are left in deques; however cells are weighed, what was
--- opened and pushed is what was taken and is left
-pub record AreOpen (hands : List HandSeen) (cells : List Cell) : Type 0 where
-  pub kept : take (length (kept_in hands)) cells ≡ kept_in hands
-  pub queues : (w : Cell → ℕ) → weigh w (kept_in hands) + weigh (λ h. weigh w h.opening + weigh w h.pushed) hands ≡ all_taken w hands + weigh w cells
 
 abbrev pub left_of : List HandSeen → List Cell → List Cell
 left_of hands cells = drop (length (kept_in hands)) cells

@@ -16,10 +16,10 @@ use Rattle.cj_ledger.specs.Shares.{ShareSeen}
 use Rattle.cj_pool.specs.declared.station.Station.{Station}
 use Rattle.cj_pool.specs.Hands.{RefinerySeen, HandSeen, Accounts, IsHandOf, hand_seen}
 use Rattle.cj_pool.specs.Passes.{deques, takens, around, AreReady, IsSeated}
-use Rattle.cj_pool.specs.Refined.{numbers_of}
+use Rattle.cj_pool.specs.Refined.{kept_in, leaves_in, numbers_of}
 use Rattle.cj_pool.specs.Stations.{own_deque, own_deques, station_taken, IsStation, IsStationOf, AreStations, weigh_given, weigh_all_taken}
 use Rattle.cj_pool.specs.Weights.{weigh}
-use Rattle.cj_pool.proofs.HandSumLemmas.{all_taken, leaves_in, kept_in}
+use Rattle.cj_pool.proofs.HandSumLemmas.{all_taken}
 use Rattle.cj_pool.proofs.PassLemmas.{below_of, above_of}
 use Rattle.cj_pool.proofs.StationLemmas.{at_push}
 use Rattle.cj_pool.proofs.WeightLemmas.{weigh_snoc}

@@ -1,14 +1,20 @@
 -- What the hands of a refinery come to.
-use Rattle.std.specs.Prelude.{◌≡◌, ℕ, ◌+◌, ◌<◌, List, map, length}
+use Rattle.std.specs.Prelude.{◌≡◌, ℕ, ◌+◌, ◌<◌, ◌≤◌, List, map, take, length, All}
+use Rattle.std.specs.List.{flat_map, range_with_len}
+use Rattle.cj_hermite.specs.Lengths.{HaveLengths}
 use Rattle.cj_hermite.specs.Problems.{plain_problem}
+use Rattle.cj_hermite.specs.declared.problem.Problem.{Problem}
 use Rattle.cj_bezier.specs.declared.cell.Cell.{Cell}
+use Rattle.cj_bezier.specs.declared.leaf.Leaf.{Leaf}
 use Rattle.cj_bezier.specs.Cells.{plain_cells}
 use Rattle.cj_bezier.specs.Leaves.{PlainLeaf}
 use Rattle.cj_bezier.specs.RootLeaves.{leaves_of_roots}
 use Rattle.cj_ledger.specs.declared.totals.Totals.{Totals}
 use Rattle.cj_pool.specs.declared.refined.FinishError.{FinishError}
 use Rattle.cj_pool.specs.declared.refined.FinishError.TheVariants.{Memory, TooMany}
-use Rattle.cj_pool.specs.Hands.{RefinerySeen, HandSeen, cells_of}
+use Rattle.cj_pool.specs.Hands.{RefinerySeen, HandSeen, Accounts, cells_of}
+use Rattle.cj_pool.specs.RootLists.{AreRoots}
+use Rattle.cj_pool.specs.Tree.{InTree}
 use Rattle.cj_pool.specs.Weights.{weigh, has}
 
 -- the leaves of all roots of a refinery, in order
@@ -39,3 +45,40 @@ pub record AreLeft (r : RefinerySeen) (hands : List HandSeen) (left : List Cell)
 -- the numbers of hands
 abbrev pub numbers_of : List HandSeen → List ℕ
 numbers_of hands = map (λ h. h.number) hands
+
+-- the leaves that hands have closed, hand by hand
+abbrev pub leaves_in : List HandSeen → List Leaf
+leaves_in hands = flat_map (λ h. h.closed) hands
+
+-- the cells that hands keep
+abbrev pub kept_in : List HandSeen → List Cell
+kept_in hands = flat_map (λ h. h.kept) hands
+
+-- a refinery of the run with this problem, these roots and so many workers
+pub record IsOfRun (problem : Problem) (roots : List Cell) (workers : ℕ) (r : RefinerySeen) : Type 0 where
+  pub problem_is : r.problem ≡ problem
+  pub roots_are : r.roots ≡ roots
+  pub hands_are : r.hands ≡ workers
+
+-- a refinery of few enough roots, whose interpolants have lengths
+pub record IsSound (r : RefinerySeen) : Type 0 where
+  pub long : HaveLengths (plain_problem r.problem)
+  pub roots_are : AreRoots (plain_problem r.problem) r.roots
+  pub few_roots : length r.roots ≤ r.limit
+  pub few_leaves : r.limit ≤ 4_000_000
+  pub some : 1 ≤ r.hands
+
+-- the cells that are open at the end are those that hands keep and those that are left in deques; however cells are weighed, what was
+-- opened and pushed is what was taken and is left
+pub record AreOpen (hands : List HandSeen) (cells : List Cell) : Type 0 where
+  pub kept : take (length (kept_in hands)) cells ≡ kept_in hands
+  pub queues : (w : Cell → ℕ) → weigh w (kept_in hands) + weigh (λ h. weigh w h.opening + weigh w h.pushed) hands
+      ≡ weigh (λ h. weigh (weigh w) h.taken) hands + weigh w cells
+
+-- all hands of a refinery, and the cells that are open at the end
+pub record AreAll (r : RefinerySeen) (hands : List HandSeen) (cells : List Cell) : Type 0 where
+  pub sound : IsSound r
+  pub accounts : All (Accounts (plain_problem r.problem) r.roots r.hands) hands
+  pub numbers : numbers_of hands ≡ range_with_len 0 r.hands
+  pub open_cells : AreOpen hands cells
+  pub trees : All (InTree (plain_problem r.problem) r.roots) cells

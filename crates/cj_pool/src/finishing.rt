@@ -1,6 +1,6 @@
 //! The leaves of a refinery, from what its hands have done.
 ghost use Rattle.std.specs.Prelude.{◌≡◌, ℕ, ◌+◌, ◌^◌, ◌<◌, ◌≤◌, ◌++◌, List, length, take, vec_len, All, AllPairs, Contains, IfOk, IfErr, OnOk};
-ghost use Rattle.std.specs.List.{range_with_len};
+ghost use Rattle.std.specs.List.{range_with_len, sum_by};
 ghost use Rattle.std.specs.List.Sorted.{IsPermutation};
 ghost use Rattle.cj_hermite.specs.Problems.{plain_problem};
 ghost use Rattle.cj_bezier.specs.declared.cell.Cell.{Cell};
@@ -8,25 +8,24 @@ ghost use Rattle.cj_bezier.specs.Cells.{plain_cells};
 ghost use Rattle.cj_bezier.specs.Leaves.{plain_leaves};
 ghost use Rattle.cj_bezier.specs.RootLeaves.{leaves_of_root, leaves_of_roots, Describe};
 ghost use Rattle.cj_hermite.specs.Roots.{IsRootUpTo};
-ghost use Rattle.cj_pool.specs.Hands.{IsHandOf, cells_of};
 ghost use Rattle.cj_hermite.specs.Lengths.{HaveLengths};
+ghost use Rattle.cj_ledger.specs.Shares.{IsOf};
+ghost use Rattle.cj_pool.specs.Hands.{IsHandOf, cells_of};
 ghost use Rattle.cj_pool.specs.declared.refined.FinishError.TheVariants.{Memory, TooMany};
-ghost use Rattle.cj_pool.specs.Refined.{AreLeft, IsTooMany, Stands, TotalsOf, leaves_wanted, numbers_of};
+ghost use Rattle.cj_pool.specs.Refined.{AreLeft, IsOfRun, IsSound, IsTooMany, Stands, TotalsOf, leaves_wanted, numbers_of};
 ghost use Rattle.cj_pool.specs.RootLists.{AreRoots, IsKept};
 ghost use Rattle.cj_pool.specs.Tree.{InTree, IsLeafOf};
 ghost use Rattle.cj_pool.specs.Weights.{weigh, has};
 
 use crate::hand::Hand;
-use crate::joining::gather;
 use crate::lengths::have_lengths;
 use crate::refined::{FinishError, Refined};
 use crate::refinery::Refinery;
 use crate::run::Run;
-use crate::taking::take_apart;
 use cj_bezier::{Cell, Leaf};
 use cj_cells::{RefineError, refine};
 use cj_hermite::Problem;
-use cj_ledger::Totals;
+use cj_ledger::{Share, Totals};
 use std::alloc::Global;
 
 /// What a cell that could not be refined says of all.
@@ -80,30 +79,69 @@ fn sort(leaves: &mut [Leaf])
     leaves.sort_unstable_by_key(|leaf| (leaf.cell.pair, leaf.cell.first));
 }
 
-/// What was counted once so many open cells have come to so many leaves.
-fn totals_with(totals: Totals, refined: u64, added: u64) -> Totals
-    requires enough { refined ≤ added }
-    requires few_splits { totals.splits + added < 2 ^ 64 }
-    requires few_closes { totals.closes + added < 2 ^ 64 }
-    ensures roots { result.roots ≡ totals.roots }
-    ensures splits { result.splits + refined ≡ totals.splits + added }
-    ensures closes { result.closes ≡ totals.closes + added }
-{
-    Totals {
-        roots: totals.roots,
-        splits: totals.splits + (added - refined),
-        closes: totals.closes + added,
-    }
-}
-
 impl<'p, K: Run> Refinery<'p, K> {
-    /// What is so of the roots, whatever the hands have done: it does nothing else than to look at the tracks.
+    /// What is so of the run and its roots, whatever the hands have done: it does nothing else than to look at the tracks.
     fn have_roots(&self)
-        ensures lengths { HaveLengths (plain_problem self.now.problem) }
-        ensures single { (r : Cell) (m : ℕ) → Contains self.now.roots r → r.first.micros ≤ m → m ≤ r.last.micros → weigh (has r.pair.a r.pair.b m) self.now.roots ≡ 1 }
-        ensures describe { All (λ root. Describe (plain_problem self.now.problem) root (leaves_of_root (plain_problem self.now.problem) root)) (plain_cells self.now.roots) }
+        ensures run { IsOfRun K.problem K.roots K.workers self.now }
+        ensures sound { IsSound self.now }
+        ensures single { (r : Cell) (m : ℕ) → Contains self.now.roots r → r.first.micros ≤ m → m ≤ r.last.micros
+            → weigh (has r.pair.a r.pair.b m) self.now.roots ≡ 1 }
+        ensures describe { All (λ root. Describe (plain_problem self.now.problem) root
+            (leaves_of_root (plain_problem self.now.problem) root)) (plain_cells self.now.roots) }
     {
         have_lengths(self.problem);
+    }
+
+    /// These leaves and those of cells that are still open, in order of pair and tick.
+    fn refine_rest(
+        &self,
+        alloc: Global,
+        cells: &[Cell],
+        mut leaves: Vec<Leaf>,
+    ) -> Result<Vec<Leaf>, FinishError>
+        requires kept { All (IsKept (plain_problem self.now.problem)) cells.now }
+        requires lengths { HaveLengths (plain_problem self.now.problem) }
+        ensures moved { IfOk result (λ sorted. IsPermutation (plain_leaves leaves.items
+            ++ leaves_of_roots (plain_problem self.now.problem) (plain_cells cells.now)) (plain_leaves sorted.items)) }
+        ensures ordered { IfOk result (λ sorted. AllPairs IsRootUpTo (plain_cells (cells_of sorted.items))) }
+        ensures within { IfOk result (λ sorted. length sorted.items ≤ self.now.limit) }
+        ensures among { IfOk result (λ sorted. All (λ leaf. Contains sorted.items leaf) leaves.items) }
+        ensures judged { IfOk result (λ sorted. (roots : List Cell) → AreRoots (plain_problem self.now.problem) roots
+            → All (InTree (plain_problem self.now.problem) roots) cells.now
+            → All (IsLeafOf (plain_problem self.now.problem) roots) leaves.items
+            → All (IsLeafOf (plain_problem self.now.problem) roots) sorted.items) }
+        ensures too_many { IfErr result (IsTooMany self.now.limit (length leaves.items
+            + length (leaves_of_roots (plain_problem self.now.problem) (plain_cells cells.now)))) }
+    {
+        refine_open(alloc, self.problem, cells, self.limit, &mut leaves)?;
+        sort(&mut leaves);
+        Ok(leaves)
+    }
+
+    /// What was counted, once so many open cells have come to so many leaves.
+    fn count(self, shares: Vec<Share>, refined: u64, added: u64) -> Totals
+        requires mine { All (IsOf self.ledger) shares.items }
+        requires all { length shares.items ≡ self.hands }
+        requires enough { refined ≤ added }
+        requires few_splits { sum_by (λ s. s.count.firsts) shares.items + added < 2 ^ 64 }
+        requires few_closes { sum_by (λ s. s.count.closes) shares.items + added < 2 ^ 64 }
+        ensures roots { result.roots ≡ length self.entry.roots }
+        ensures splits { result.splits + refined ≡ sum_by (λ s. s.count.firsts) shares.items + added }
+        ensures closes { result.closes ≡ sum_by (λ s. s.count.closes) shares.items + added }
+    {
+        let Refinery {
+            problem: _,
+            limit: _,
+            thieves: _,
+            ledger,
+            of: _,
+        } = self;
+        let totals = ledger.total(shares);
+        Totals {
+            roots: totals.roots,
+            splits: totals.splits + (added - refined),
+            closes: totals.closes + added,
+        }
     }
 
     /// The leaves of all roots, in order, from all hands of the refinery. Cells that are left are refined here.
@@ -127,25 +165,16 @@ impl<'p, K: Run> Refinery<'p, K> {
             → weigh (has r.pair.a r.pair.b m) self.entry.roots ≡ 1 }
 
         // The leaves of each root lie in order in it, hold each of its ticks, and each is true at each of its own.
-        ensures describe { All (λ root. Describe (plain_problem self.entry.problem) root (leaves_of_root (plain_problem self.entry.problem) root)) (plain_cells self.entry.roots) }
+        ensures describe { All (λ root. Describe (plain_problem self.entry.problem) root
+            (leaves_of_root (plain_problem self.entry.problem) root)) (plain_cells self.entry.roots) }
     {
         self.have_roots();
-        let parts = take_apart(alloc, &self, hands)?;
-        let Refinery {
-            problem,
-            limit,
-            thieves: _,
-            ledger,
-            of: _,
-        } = self;
-        let mut leaves = parts.leaves;
-        let mut cells = parts.kept;
-        gather(parts.stations, &mut cells)?;
-        let closed = leaves.len() as u64;
-        refine_open(alloc, problem, &cells, limit, &mut leaves)?;
-        sort(&mut leaves);
+        let found = self.collect(alloc, hands)?;
+        let cells = found.cells;
+        let closed = found.leaves.len() as u64;
+        let leaves = self.refine_rest(alloc, &cells, found.leaves)?;
         let added = leaves.len() as u64 - closed;
-        let totals = totals_with(ledger.total(parts.shares), cells.len() as u64, added);
+        let totals = self.count(found.shares, cells.len() as u64, added);
         Ok(Refined { leaves, totals })
     }
 }

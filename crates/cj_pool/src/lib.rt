@@ -3,6 +3,7 @@
 #![tactic(auto)]
 
 mod account;
+mod collecting;
 mod crew;
 mod dealing;
 mod finding;

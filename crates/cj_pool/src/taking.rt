@@ -1,11 +1,11 @@
 //! Hands taken apart.
 ghost use Rattle.cj_pool.specs.declared.station.Station.{Station};
 ghost use Rattle.std.specs.Prelude.{◌≡◌, ℕ, ◌+◌, [], ◌∷◌, ◌++◌, List, length, map, All, IfOk, OnOk};
-ghost use Rattle.std.specs.List.{flat_map, range_with_len};
+ghost use Rattle.std.specs.List.{range_with_len};
 ghost use Rattle.cj_bezier.specs.declared.cell.Cell.{Cell};
 ghost use Rattle.cj_hermite.specs.Problems.{plain_problem};
 ghost use Rattle.cj_pool.specs.Hands.{Accounts, IsHandOf};
-ghost use Rattle.cj_pool.specs.Refined.{numbers_of};
+ghost use Rattle.cj_pool.specs.Refined.{kept_in, leaves_in, numbers_of};
 ghost use Rattle.cj_pool.specs.Stations.{AreStations, IsStationOf, weigh_all_taken, weigh_given};
 ghost use Rattle.cj_pool.specs.Weights.{weigh};
 
@@ -72,8 +72,8 @@ pub(crate) fn take_apart<'p, K: Run>(
 
     // The shares, leaves and kept cells are those of the hands, in their order.
     ensures shares { IfOk result (λ parts. parts.shares.items ≡ map (λ h. h.share) hands.entry.items) }
-    ensures leaves { IfOk result (λ parts. parts.leaves.items ≡ flat_map (λ h. h.closed) hands.entry.items) }
-    ensures kept { IfOk result (λ parts. parts.kept.items ≡ flat_map (λ h. h.kept) hands.entry.items) }
+    ensures leaves { IfOk result (λ parts. parts.leaves.items ≡ leaves_in hands.entry.items) }
+    ensures kept { IfOk result (λ parts. parts.kept.items ≡ kept_in hands.entry.items) }
     ensures accounts { OnOk result (All (Accounts (plain_problem K.problem) K.roots K.workers) hands.entry.items) }
 {
     let mut parts = Parts {

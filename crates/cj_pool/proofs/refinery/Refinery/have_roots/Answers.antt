@@ -1,33 +1,32 @@
 use Rattle.cj_pool.specs.Passes.{deques_of}
-use Rattle.cj_pool.proofs.EndLemmas.{refinery_of, run_of, run_sound, seen_described, seen_single}
+use Rattle.cj_pool.proofs.EndLemmas.{seen_run, seen_sound, sound_described, sound_single}
 use Rattle.cj_pool.proofs.refinery.Refinery.have_roots.Goals as goal
+
+pub returns-clause-run : goal.returns-clause-run
+returns-clause-run g c =
+    let r = c.self.inside in
+    seen_run r.problem.now g.K.Run.problem g.K.Run.roots r.limit g.K.Run.workers (deques_of r.thieves.items) r.ledger c.args.self.now c.self.invariant.0
+    c.self.view_is
+
+pub returns-clause-sound : goal.returns-clause-sound
+returns-clause-sound g c =
+    let r = c.self.inside in
+    let inv = c.self.invariant in
+    seen_sound r.problem.now g.K.Run.problem g.K.Run.roots r.limit g.K.Run.workers (deques_of r.thieves.items) r.ledger c.args.self.now inv.0 c.self.view_is
+    c.have_lengths.ensures inv.1 inv.2 inv.3 inv.4
 
 pub returns-clause-single : goal.returns-clause-single
 returns-clause-single g c =
-    let P0 = c.self.inside.problem.now in
-    let P = g.K.Run.problem in
-    let roots = g.K.Run.roots in
-    let n = g.K.Run.workers in
-    let limit = c.self.inside.limit in
-    let deques = deques_of c.self.inside.thieves.items in
-    let ledger = c.self.inside.ledger in
+    let r = c.self.inside in
     let inv = c.self.invariant in
-    let r = run_of P roots limit n deques ledger in
-    let same = refinery_of P0 P roots limit n deques ledger c.args.self.now inv.0 c.self.view_is in
-    let sound = run_sound P0 P roots limit n deques ledger inv.0 c.have_lengths.ensures inv.1 inv.2 inv.3 inv.4 in
-    seen_single r c.args.self.now same sound
+    sound_single c.args.self.now
+    (seen_sound r.problem.now g.K.Run.problem g.K.Run.roots r.limit g.K.Run.workers (deques_of r.thieves.items) r.ledger c.args.self.now inv.0 c.self.view_is
+    c.have_lengths.ensures inv.1 inv.2 inv.3 inv.4)
 
 pub returns-clause-describe : goal.returns-clause-describe
 returns-clause-describe g c =
-    let P0 = c.self.inside.problem.now in
-    let P = g.K.Run.problem in
-    let roots = g.K.Run.roots in
-    let n = g.K.Run.workers in
-    let limit = c.self.inside.limit in
-    let deques = deques_of c.self.inside.thieves.items in
-    let ledger = c.self.inside.ledger in
+    let r = c.self.inside in
     let inv = c.self.invariant in
-    let r = run_of P roots limit n deques ledger in
-    let same = refinery_of P0 P roots limit n deques ledger c.args.self.now inv.0 c.self.view_is in
-    let sound = run_sound P0 P roots limit n deques ledger inv.0 c.have_lengths.ensures inv.1 inv.2 inv.3 inv.4 in
-    seen_described r c.args.self.now same sound
+    sound_described c.args.self.now
+    (seen_sound r.problem.now g.K.Run.problem g.K.Run.roots r.limit g.K.Run.workers (deques_of r.thieves.items) r.ledger c.args.self.now inv.0 c.self.view_is
+    c.have_lengths.ensures inv.1 inv.2 inv.3 inv.4)

@@ -1,0 +1,50 @@
+//! What all hands have come to.
+ghost use Rattle.std.specs.Prelude.{◌≡◌, map, All, IfOk};
+ghost use Rattle.std.specs.List.{range_with_len};
+ghost use Rattle.cj_pool.specs.Hands.{IsHandOf};
+ghost use Rattle.cj_pool.specs.Refined.{AreAll, IsOfRun, IsSound, leaves_in, numbers_of};
+
+use crate::hand::Hand;
+use crate::joining::gather;
+use crate::refinery::Refinery;
+use crate::run::Run;
+use crate::taking::take_apart;
+use cj_bezier::{Cell, Leaf};
+use cj_ledger::Share;
+use std::alloc::{AllocError, Global};
+
+/// What the hands of a refinery have come to.
+#[derive(Drop)]
+pub(crate) struct Collected {
+    /// The leaves that they have closed.
+    pub leaves: Vec<Leaf>,
+    /// The cells that they keep, and those that are left in the deques.
+    pub cells: Vec<Cell>,
+    pub shares: Vec<Share>,
+}
+
+impl<'p, K: Run> Refinery<'p, K> {
+    /// Takes all hands apart, and empties their deques.
+    pub(crate) fn collect(
+        &self,
+        alloc: Global,
+        hands: Vec<Hand<'p, K>>,
+    ) -> Result<Collected, AllocError>
+        requires run { IsOfRun K.problem K.roots K.workers self.now }
+        requires sound { IsSound self.now }
+        requires hands { All (IsHandOf self.now) hands.items }
+        requires all { numbers_of hands.items ≡ range_with_len 0 self.now.hands }
+        ensures all { IfOk result (λ found. AreAll self.now hands.entry.items found.cells.items) }
+        ensures leaves { IfOk result (λ found. found.leaves.items ≡ leaves_in hands.entry.items) }
+        ensures shares { IfOk result (λ found. found.shares.items ≡ map (λ h. h.share) hands.entry.items) }
+    {
+        let parts = take_apart(alloc, self, hands)?;
+        let mut cells = parts.kept;
+        gather(parts.stations, &mut cells)?;
+        Ok(Collected {
+            leaves: parts.leaves,
+            cells,
+            shares: parts.shares,
+        })
+    }
+}
