@@ -8,21 +8,23 @@ use Rattle.cj_words.specs.declared.command.Recipe as kept_recipe
 use Rattle.cj_words.specs.declared.command.Screening as kept_screening
 use Rattle.cj_words.specs.declared.command.Trial as kept_trial
 use Rattle.cj_words.specs.declared.command.Verb.{Verb}
-use Rattle.cj_words.specs.declared.command.Verb.TheVariants.{Screen, Check, Generate, Selfrun}
-use Rattle.cj_words.specs.declared.option.Opt.TheVariants.{Workers, Cert, Originator, Cells, Seed, Objects, Minutes}
+use Rattle.cj_words.specs.declared.command.Verb.TheVariants.{Screen, Check, Generate, Selfrun, Rewrite}
+use Rattle.cj_words.specs.declared.option.Opt.TheVariants.{Workers, Cert, Originator, Cells, Seed, Objects, Minutes, CertVersion}
 use Rattle.cj_words.specs.declared.option.UsageFault.{UsageFault}
 use Rattle.cj_words.specs.declared.option.UsageFault.TheVariants.{Words}
 use Rattle.cj_words.specs.Options.{Given, given_of, is_value, are_accepted, listed, value_of}
 use Rattle.cj_words.specs.Settings.{◌>>=◌, Asked, asked_of, file_text_or, in_range, number_or, originator_or, sized_of, threshold_of, unsized_of}
 
--- how files are screened: how many workers share the work, who makes the messages, the greatest number of leaves
+-- how files are screened: how many workers share the work, who makes the messages, the greatest number of leaves, the version of the
+-- certificate
 pub record Screening : Type 0 where
   pub settings : Asked
   pub workers : ℕ
   pub originator : List ℕ
   pub cells : ℕ
+  pub version : ℕ
 
--- what is checked against files: the certificate in the file with this name
+-- what is checked against files, or rewritten: the certificate in the file with this name
 pub record Checking : Type 0 where
   pub settings : Asked
   pub certificate : List ℕ
@@ -40,17 +42,19 @@ pub record Trial : Type 0 where
   pub cells : ℕ
   pub recipe : Recipe
 
--- what a command line asks for: files are screened, a certificate is checked, a catalogue is written, or one is screened
+-- what a command line asks for: files are screened, a certificate is checked, a catalogue is written, or one is screened, or a
+-- certificate is rewritten
 pub data Asking : Type 0 where
   Screens : Screening → Asking
   Checks : Checking → Asking
   Generates : Recipe → Asking
   Tries : Trial → Asking
+  Rewrites : Checking → Asking
 
 -- ---- what a command says
 
 abbrev pub plain_screening : kept_screening.Screening → Screening
-plain_screening s = record { settings = asked_of s.settings; workers = s.workers; originator = s.originator.now; cells = s.cells }
+plain_screening s = record { settings = asked_of s.settings; workers = s.workers; originator = s.originator.now; cells = s.cells; version = s.version }
 
 abbrev pub plain_checking : kept_checking.Checking → Checking
 plain_checking c = record { settings = asked_of c.settings; certificate = c.certificate.now }
@@ -66,6 +70,7 @@ plain_command (commands.Screen screening) = Screens (plain_screening screening)
 plain_command (commands.Check checking) = Checks (plain_checking checking)
 plain_command (commands.Generate recipe) = Generates (plain_recipe recipe)
 plain_command (commands.Selfrun trial) = Tries (plain_trial trial)
+plain_command (commands.Rewrite checking) = Rewrites (plain_checking checking)
 
 -- ---- what words ask for
 
@@ -82,9 +87,10 @@ screening_of givens = do
   originator ← in_range Originator (originator_or (codes "CONJ") (value_of Originator givens))
   cells ← in_range Cells (number_or 1 4_000_000 4_000_000 (value_of Cells givens))
   settings ← sized_of unsized givens
-  Ok (record { settings = settings; workers = workers; originator = originator; cells = cells })
+  version ← in_range CertVersion (number_or 1 2 1 (value_of CertVersion givens))
+  Ok (record { settings = settings; workers = workers; originator = originator; cells = cells; version = version })
 
--- the same of a check
+-- the same of a check, and of a certificate that is rewritten
 unfoldable pub checking_of : List Given → Result Checking UsageFault
 checking_of givens = do
   threshold ← threshold_of givens
@@ -116,6 +122,7 @@ asking_of Screen givens = screening_of givens >>= λ screening. Ok (Screens scre
 asking_of Check givens = checking_of givens >>= λ checking. Ok (Checks checking)
 asking_of Generate givens = recipe_of givens >>= λ recipe. Ok (Generates recipe)
 asking_of Selfrun givens = trial_of givens >>= λ trial. Ok (Tries trial)
+asking_of Rewrite givens = checking_of givens >>= λ checking. Ok (Rewrites checking)
 
 -- the command that a word names
 abbrev pub verb_of : List ℕ → Option Verb
@@ -124,6 +131,7 @@ verb_of word =
     else if bytes_eq word (codes "check") then Some Check
     else if bytes_eq word (codes "generate") then Some Generate
     else if bytes_eq word (codes "selfrun") then Some Selfrun
+    else if bytes_eq word (codes "rewrite") then Some Rewrite
     else None
 
 -- the words behind a directory, none where no word is one
@@ -137,6 +145,7 @@ options_behind Screen words = behind_directory words
 options_behind Check words = behind_directory words
 options_behind Generate words = behind_directory words
 options_behind Selfrun words = Some words
+options_behind Rewrite words = behind_directory words
 
 -- what words ask for that are to be the options of a command
 abbrev pub asked_with : Verb → Option (List (List ℕ)) → Result Asking UsageFault

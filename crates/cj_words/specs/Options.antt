@@ -3,9 +3,9 @@ use Rattle.std.specs.Prelude.{ℕ, Bool, true, false, not, ◌&&◌, ◌||◌, �
 use Rattle.std.specs.List.{list_all, before_first, after_first}
 use Rattle.std.specs.Str.{bytes_eq}
 use Rattle.cj_words.specs.declared.option.Opt.{Opt}
-use Rattle.cj_words.specs.declared.option.Opt.TheVariants.{Threshold, Workers, From, To, Suffix, Cert, Originator, Cells, Seed, Objects, Minutes, AsHermite3, Sizes}
+use Rattle.cj_words.specs.declared.option.Opt.TheVariants.{Threshold, Workers, From, To, Suffix, Cert, Originator, Cells, Seed, Objects, Minutes, AsHermite3, Sizes, CertVersion}
 use Rattle.cj_words.specs.declared.command.Verb.{Verb}
-use Rattle.cj_words.specs.declared.command.Verb.TheVariants.{Screen, Check, Generate, Selfrun}
+use Rattle.cj_words.specs.declared.command.Verb.TheVariants.{Screen, Check, Generate, Selfrun, Rewrite}
 
 abbrev pub name_of : Opt → List ℕ
 name_of Threshold = codes "--threshold"
@@ -21,6 +21,7 @@ name_of Objects = codes "--objects"
 name_of Minutes = codes "--minutes"
 name_of AsHermite3 = codes "--as-hermite3"
 name_of Sizes = codes "--sizes"
+name_of CertVersion = codes "--cert-version"
 
 -- an option on the command line: its name and its value, empty for a flag
 pub record Given : Type 0 where
@@ -43,10 +44,13 @@ is_catalogue_name name = bytes_eq name (name_of Seed) || (bytes_eq name (name_of
 
 -- the name of an option of the command
 abbrev pub is_name : Verb → List ℕ → Bool
-is_name Screen name = is_directory_name name || (bytes_eq name (name_of Workers) || (bytes_eq name (name_of Originator) || bytes_eq name (name_of Cells)))
+is_name Screen name =
+    is_directory_name name
+    || (bytes_eq name (name_of Workers) || (bytes_eq name (name_of Originator) || (bytes_eq name (name_of Cells) || bytes_eq name (name_of CertVersion))))
 is_name Check name = is_directory_name name || bytes_eq name (name_of Cert)
 is_name Generate name = is_catalogue_name name
 is_name Selfrun name = bytes_eq name (name_of Threshold) || (bytes_eq name (name_of Workers) || (bytes_eq name (name_of Cells) || is_catalogue_name name))
+is_name Rewrite name = is_directory_name name || bytes_eq name (name_of Cert)
 
 -- the name of a flag: an option that has no value
 abbrev pub is_flag : List ℕ → Bool
@@ -148,7 +152,8 @@ are_others_single givens =
     && (is_single Cells givens
     && (is_single Seed givens
     && (is_single Objects givens
-    && is_single Minutes givens)))))
+    && (is_single Minutes givens
+    && is_single CertVersion givens))))))
 
 -- so does each
 abbrev pub are_single : List Given → Bool

@@ -9,6 +9,7 @@ pub enum Verb {
     Check,
     Generate,
     Selfrun,
+    Rewrite,
 }
 
 /// What a command line asks for.
@@ -22,6 +23,8 @@ pub enum Command<'w> {
     Generate(Recipe),
     /// A made-up catalogue is screened.
     Selfrun(Trial),
+    /// The certificate in a directory is checked and put in version 2.
+    Rewrite(Checking<'w>),
 }
 
 /// How the files of a directory are screened. The originator is lent by the words.
@@ -34,13 +37,17 @@ pub struct Screening<'w> {
     pub originator: &'w [u8],
     /// The greatest number of leaves, from 1 to 4,000,000.
     pub cells: u64,
+    /// The version of the certificate: 1 or 2.
+    pub version: u32,
     pub ghost some_workers: { 1 ≤ workers },
     pub ghost most_workers: { workers ≤ 16 },
     pub ghost some_cells: { 1 ≤ cells },
     pub ghost most_cells: { cells ≤ 4_000_000 },
+    pub ghost least_version: { 1 ≤ version },
+    pub ghost most_version: { version ≤ 2 },
 }
 
-/// Which certificate is checked against the files of a directory. Its name is lent by the words.
+/// Which certificate is checked against the files of a directory, or rewritten. Its name is lent by the words.
 #[derive(Clone, Copy, Debug, PartialEq, Eq)]
 pub struct Checking<'w> {
     pub settings: Settings<'w>,

@@ -47,6 +47,8 @@ fn verb_of(word: &[u8]) -> Option<Verb>
         Some(Verb::Generate)
     } else if word == b"selfrun".as_slice() {
         Some(Verb::Selfrun)
+    } else if word == b"rewrite".as_slice() {
+        Some(Verb::Rewrite)
     } else {
         None
     }
@@ -68,7 +70,7 @@ fn options_behind(words: &[Word], verb: Verb) -> Option<&[Word]>
     ensures { option_copied result ≡ spec.options_behind verb words.now }
 {
     match verb {
-        Verb::Screen | Verb::Check | Verb::Generate => behind_directory(words),
+        Verb::Screen | Verb::Check | Verb::Generate | Verb::Rewrite => behind_directory(words),
         Verb::Selfrun => Some(words),
     }
 }
@@ -91,6 +93,7 @@ fn command_of(words: &[Word], verb: Verb) -> Result<Command<'_>, UsageFault>
         Verb::Check => Ok(Command::Check(checking_of(words)?)),
         Verb::Generate => Ok(Command::Generate(recipe_of(words)?)),
         Verb::Selfrun => Ok(Command::Selfrun(trial_of(words)?)),
+        Verb::Rewrite => Ok(Command::Rewrite(checking_of(words)?)),
     }
 }
 
@@ -122,11 +125,15 @@ fn screening_of(words: &[Word]) -> Result<Screening<'_>, UsageFault>
         return Err(out_of_range(Opt::Cells));
     };
     let settings = sized_of(unsized_settings, words)?;
+    let Some(version) = number_or(value_of(words, Opt::CertVersion), 1, 2, 1) else {
+        return Err(out_of_range(Opt::CertVersion));
+    };
     Ok(Screening {
         settings,
         workers,
         originator,
         cells,
+        version: version as u32,
     })
 }
 

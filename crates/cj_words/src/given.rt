@@ -49,6 +49,7 @@ fn are_others_single(words: &[Word]) -> bool
         && is_single(words, Opt::Seed)
         && is_single(words, Opt::Objects)
         && is_single(words, Opt::Minutes)
+        && is_single(words, Opt::CertVersion)
 }
 
 fn is_single(words: &[Word], option: Opt) -> bool
@@ -80,8 +81,9 @@ fn is_known(name: &[u8], verb: Verb) -> bool
                 || name == option_name(Opt::Workers)
                 || name == option_name(Opt::Originator)
                 || name == option_name(Opt::Cells)
+                || name == option_name(Opt::CertVersion)
         }
-        Verb::Check => is_of_directory(name) || name == option_name(Opt::Cert),
+        Verb::Check | Verb::Rewrite => is_of_directory(name) || name == option_name(Opt::Cert),
         Verb::Generate => is_of_catalogue(name),
         Verb::Selfrun => {
             name == option_name(Opt::Threshold)

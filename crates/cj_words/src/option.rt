@@ -30,6 +30,8 @@ pub enum Opt {
     AsHermite3,
     /// The file of the sizes of objects.
     Sizes,
+    /// In which version the certificate is written.
+    CertVersion,
 }
 
 /// What is wrong with a command line.
@@ -59,5 +61,6 @@ pub fn option_name(option: Opt) -> &'static [u8]
         Opt::Minutes => b"--minutes",
         Opt::AsHermite3 => b"--as-hermite3",
         Opt::Sizes => b"--sizes",
+        Opt::CertVersion => b"--cert-version",
     }
 }

@@ -77,6 +77,10 @@ const BAD_ORIGINATOR: Option<UsageFault> = Some(UsageFault::Value {
     option: Opt::Originator,
 });
 
+const BAD_VERSION: Option<UsageFault> = Some(UsageFault::Value {
+    option: Opt::CertVersion,
+});
+
 const BAD_SEED: Option<UsageFault> = Some(UsageFault::Value { option: Opt::Seed });
 
 const BAD_OBJECTS: Option<UsageFault> = Some(UsageFault::Value {
@@ -113,11 +117,19 @@ fn what_is_left_out(rt: HostRuntime) -> Result<(), Fail> {
                 workers: 1,
                 originator: b"CONJ",
                 cells: 4_000_000,
+                version: 1,
             }),
         ),
         (
             "check .",
             Command::Check(Checking {
+                settings: USUAL,
+                certificate: b"screen.cert",
+            }),
+        ),
+        (
+            "rewrite .",
+            Command::Rewrite(Checking {
                 settings: USUAL,
                 certificate: b"screen.cert",
             }),
@@ -142,7 +154,8 @@ fn what_is_left_out(rt: HostRuntime) -> Result<(), Fail> {
 
 #[test]
 fn all_that_can_be_asked_of_a_screening(rt: HostRuntime) -> Result<(), Fail> {
-    let line = "screen . --cells 9 --sizes r.txt --originator=MY_site-1 --workers 16 --as-hermite3 \
+    let line =
+        "screen . --cert-version 2 --cells 9 --sizes r.txt --originator=MY_site-1 --workers 16 --as-hermite3 \
         --to 2025-01-01T00:00:01 --from=2025-001T00:00:00Z --suffix .txt --threshold=7";
     let words = words(rt.alloc(), line)?;
     let screening = Screening {
@@ -157,6 +170,7 @@ fn all_that_can_be_asked_of_a_screening(rt: HostRuntime) -> Result<(), Fail> {
         workers: 16,
         originator: b"MY_site-1",
         cells: 9,
+        version: 2,
     };
     assert_eq!(rt; read_command(&words), Ok(Command::Screen(screening)));
     Ok(())
@@ -436,7 +450,7 @@ fn how_a_catalogue_is_screened(rt: HostRuntime) -> Result<(), Fail> {
     Ok(())
 }
 
-const COMMANDS: [Case; 32] = [
+const COMMANDS: [Case; 39] = [
     ("screen . --cert x", WORDS),
     ("screen . --seed 1", WORDS),
     ("screen . --objects 1", WORDS),
@@ -454,6 +468,13 @@ const COMMANDS: [Case; 32] = [
     ("check . --cert x --cert x", WORDS),
     ("check", WORDS),
     ("check --cert x", WORDS),
+    ("rewrite . --cells 1", WORDS),
+    ("rewrite . --cert-version 2", WORDS),
+    ("rewrite", WORDS),
+    ("rewrite . --cert /", BAD_CERT),
+    ("check . --cert-version 1", WORDS),
+    ("selfrun --cert-version 1", WORDS),
+    ("screen . --cert-version 1 --cert-version 1", WORDS),
     ("generate . --threshold 5", WORDS),
     ("generate . --cells 5", WORDS),
     ("generate . --as-hermite3", WORDS),
@@ -477,7 +498,7 @@ fn each_command_has_its_own_options(rt: HostRuntime) -> Result<(), Fail> {
     Ok(())
 }
 
-const RANGES: [Case; 27] = [
+const RANGES: [Case; 32] = [
     ("screen . --threshold 1000000", None),
     ("screen . --threshold 1000001", BAD_THRESHOLD),
     ("screen . --threshold 00000000000000000005", None),
@@ -506,6 +527,11 @@ const RANGES: [Case; 27] = [
     ("selfrun --seed x --sizes y", WORDS),
     ("check . --sizes / --cert /", BAD_CERT),
     ("screen . --cells 0 --originator .", BAD_ORIGINATOR),
+    ("screen . --cert-version 02", None),
+    ("screen . --cert-version 0", BAD_VERSION),
+    ("screen . --cert-version 3", BAD_VERSION),
+    ("screen . --cert-version x --sizes /", BAD_SIZES),
+    ("rewrite . --sizes / --cert /", BAD_CERT),
 ];
 
 #[test]
