@@ -1,6 +1,6 @@
 mod BoxLemmas
 pub mod CountLemmas
 mod KeepingLemmas
-mod ObjectLemmas
+pub mod ObjectLemmas
 mod ObjectRunLemmas
 mod SlotRunLemmas

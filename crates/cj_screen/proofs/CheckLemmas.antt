@@ -1,7 +1,6 @@
 -- What a check needs: certificates with few lines, and what its inputs say.
-use Rattle.std.proofs.Common.{◌≡◌, ℕ, ◌+◌, ◌*◌, ◌-◌, ◌^◌, ◌<◌, ◌≤◌, List, [], ◌∷◌, length, map, Option, Some, None, Result, Ok, Err, refl, ap, ◌∙◌, sym, subst, arith}
-use Rattle.std.specs.Prelude.{OnOk}
-use Rattle.std.specs.List.{enumerate_from, cons_option, filter_map, flat_map, range_with_len}
+use Rattle.std.proofs.Common.{◌≡◌, ℕ, ◌+◌, ◌*◌, ◌-◌, ◌^◌, ◌<◌, ◌≤◌, List, [], ◌∷◌, length, Option, Some, None, Result, Ok, Err, refl, ap, ◌∙◌, sym, subst, arith}
+use Rattle.std.specs.List.{enumerate_from, cons_option, filter_map, flat_map}
 use Rattle.std.proofs.lemmas.List.{length-append, length-map}
 use Rattle.std.proofs.lemmas.List.FromFn.{length-enumerate_from, length-range_with_len}
 use Rattle.cj_track.specs.PlainTracks.{PlainTrack}
@@ -13,9 +12,9 @@ use Rattle.cj_hermite.specs.Slots.{slot_count}
 use Rattle.cj_words.specs.Commands.{Checking}
 use Rattle.cj_bezier.specs.Leaves.{PlainLeaf, plain_leaf}
 use Rattle.cj_cells.specs.Lists.{list_looked}
-use Rattle.cj_cert.specs.Certificates.{PlainBoxLine}
+use Rattle.cj_cert.specs.Certificates.{PlainCertificate}
 use Rattle.cj_cert.specs.Fits.{line_count}
-use Rattle.cj_cert.specs.Written.{box_lines, leaves_in_order, line_in_slot, shell_line, written}
+use Rattle.cj_cert.specs.Written.{box_lines, line_in_slot, shell_line, written}
 use Rattle.cj_status.specs.declared.status.Status.{Status}
 use Rattle.cj_status.specs.Steps.{◌>>=◌}
 use Rattle.cj_inputs.specs.Cases.{case_asked}
@@ -23,6 +22,7 @@ use Rattle.cj_inputs.specs.CheckInputs.{PlainInputs, certificate_named, inputs_a
 use Rattle.cj_screen.specs.declared.findings.Findings.{Findings}
 use Rattle.cj_screen.specs.Checks.{AcceptedText, Vouches}
 use Rattle.cj_screen.specs.Findings.{AreFound, case_in}
+use Rattle.cj_screen.specs.Rewrites.{RenewedText, Renews}
 use Rattle.cj_screen.proofs.CertificateLemmas.{leaves_alike}
 
 filtered_few : {A B : Type 0} (f : A → Option B) (xs : List A) → length (filter_map f xs) ≤ length xs
@@ -80,10 +80,9 @@ both_there f (Ok x) (Err s) z is = absurd cc
 both_there f (Err s) q z is = absurd cc
 
 -- where the inputs of a check are there and the certificate is accepted, this is so of the file that was named
-pub vouched : (files : List FileBytes) (checking : Checking) (inputs : PlainInputs) → inputs_asked files checking ≡ Ok inputs
-    → (r : Result (Unit {0}) Status) → OnOk r (AcceptedText inputs.case inputs.bytes) → OnOk r (Vouches checking files)
+pub vouched : (files : List FileBytes) (checking : Checking) (inputs : PlainInputs) → inputs_asked files checking ≡ Ok inputs → AcceptedText inputs.case inputs.bytes → Vouches checking files
 unfolding inputs_asked
-vouched files checking inputs there (Ok done) holds =
+vouched files checking inputs there holds =
     let both = both_there (λ case bytes. record { case = case; bytes = bytes }) (case_asked files checking.settings) (certificate_named files checking.certificate) inputs there in
     record {
       case = inputs.case;
@@ -92,4 +91,17 @@ vouched files checking inputs there (Ok done) holds =
       named = both.3 ∙ ap (λ (x : PlainInputs). Ok x.bytes) both.4;
       holds = holds;
     }
-vouched files checking inputs there (Err s) holds = tt
+
+-- the same of a certificate that is rewritten
+pub renews : (files : List FileBytes) (checking : Checking) (inputs : PlainInputs) (renewed : PlainCertificate) → inputs_asked files checking ≡ Ok inputs → RenewedText inputs.case inputs.bytes renewed
+    → Renews checking files renewed
+unfolding inputs_asked
+renews files checking inputs renewed there holds =
+    let both = both_there (λ case bytes. record { case = case; bytes = bytes }) (case_asked files checking.settings) (certificate_named files checking.certificate) inputs there in
+    record {
+      case = inputs.case;
+      read = both.2 ∙ ap (λ (x : PlainInputs). Ok x.case) both.4;
+      bytes = inputs.bytes;
+      named = both.3 ∙ ap (λ (x : PlainInputs). Ok x.bytes) both.4;
+      holds = holds;
+    }

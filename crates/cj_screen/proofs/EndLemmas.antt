@@ -1,12 +1,12 @@
 -- How a run ends, of how its parts do.
-use Rattle.std.proofs.Common.{◌≡◌, List, [], ◌∷◌, ◌++◌, Option, Some, Result, Ok, Err, refl, sym, ap, subst, ◌∙◌, inl, inr, ◌⊎◌, append-nil, append_assoc}
+use Rattle.std.proofs.Common.{◌≡◌, List, [], ◌∷◌, ◌++◌, Option, Some, Result, Ok, Err, refl, sym, ap, ◌∙◌, inl, inr, ◌⊎◌, append-nil, append_assoc}
 use Rattle.std.specs.Prelude.{IfErr}
 use Rattle.cj_io.specs.declared.file.FileBytes.{FileBytes}
 use Rattle.cj_words.specs.declared.option.UsageFault.{UsageFault}
 use Rattle.cj_status.specs.declared.status.Status.{Status}
 use Rattle.cj_status.specs.declared.status.Status.TheVariants as status
 use Rattle.cj_status.specs.Steps.{Stops}
-use Rattle.cj_screen.specs.Outcome.{Answers, IsFront, PartlyPut, IsPartOf, Leaves, Extends, ComesOfPuts, PutsNothing}
+use Rattle.cj_screen.specs.Outcome.{Answers, IsFront, PartlyPut, Leaves, Extends, ComesOfPuts, PutsNothing}
 use Rattle.cj_screen.specs.Findings.{ended}
 
 -- nothing was put

@@ -26,36 +26,36 @@ use Rattle.cj_screen.specs.Findings.{AreFound, case_in, cert_in, report_in}
 use Rattle.cj_screen.specs.Headline.{Certifies, Reports, SplitsTicks}
 
 -- the pieces of a case with few leaves
-pub due_of : (limit : ℕ) (with_sizes : Bool) (origin : PlainOrigin) (case : PlainProblem) → length (list_looked case) ≤ limit →
-    pieces_within limit with_sizes origin case ≡ Ok (pieces_with with_sizes origin case (list_looked case))
+pub due_of : (limit : ℕ) (with_sizes : Bool) (version : ℕ) (origin : PlainOrigin) (case : PlainProblem) → length (list_looked case) ≤ limit →
+    pieces_within limit with_sizes version origin case ≡ Ok (pieces_with with_sizes version origin case (list_looked case))
 unfolding pieces_within
-due_of limit with_sizes origin case few = let small : nat_le (length (list_looked case)) limit ≡ true = grind (arith, nat_tests) in rw small refl
+due_of limit with_sizes version origin case few = let small : nat_le (length (list_looked case)) limit ≡ true = grind (arith, nat_tests) in rw small refl
 
 -- a list of leaves that is not whole
-pub stops_refined : (limit : ℕ) (with_sizes : Bool) (origin : PlainOrigin) (case : PlainProblem) (e : RefineError) → (e ≡ refine.TooMany → limit < length (list_looked case)) →
-    Stops ⊥ (refined_status limit e) (pieces_within limit with_sizes origin case)
+pub stops_refined : (limit : ℕ) (with_sizes : Bool) (version : ℕ) (origin : PlainOrigin) (case : PlainProblem) (e : RefineError) → (e ≡ refine.TooMany → limit < length (list_looked case)) →
+    Stops ⊥ (refined_status limit e) (pieces_within limit with_sizes version origin case)
 unfolding pieces_within
-stops_refined limit with_sizes origin case refine.Memory many = tt
-stops_refined limit with_sizes origin case refine.TooMany many =
+stops_refined limit with_sizes version origin case refine.Memory many = tt
+stops_refined limit with_sizes version origin case refine.TooMany many =
     let more = many refl in
     let large : nat_le (length (list_looked case)) limit ≡ false = grind (arith, nat_tests) in
     rw large refl
 
 -- the report of findings is that of the case that was asked
-pub reports : (files : List FileBytes) (settings : Asked) (case : PlainProblem) → case_asked files settings ≡ Ok case
-    → (r : Result Findings Status) → IfOk r (λ found. case_in found ≡ case) → IfOk r (λ found. found.with_sizes ≡ tells_sizes settings) → IfOk r AreFound → OnOk r (SplitsTicks case (encounters_in case))
-    → OnOk r (Certifies case (cert_bytes case)) → OnOk r (All (HasNearest case) (encounters_in case))
+pub reports : (files : List FileBytes) (settings : Asked) (version : ℕ) (case : PlainProblem) → case_asked files settings ≡ Ok case
+    → (r : Result Findings Status) → IfOk r (λ found. case_in found ≡ case) → IfOk r (λ found. found.with_sizes ≡ tells_sizes settings) → IfOk r (λ found. found.version ≡ version) → IfOk r AreFound → OnOk r (SplitsTicks case (encounters_in case))
+    → OnOk r (Certifies case (cert_bytes version case)) → OnOk r (All (HasNearest case) (encounters_in case))
     → IfOk r (λ found. Reports settings files (report_in found).bytes (cert_in found).bytes)
-reports files settings case read (Ok found) same tells are split certified nearest = record {
+reports files settings version case read (Ok found) same tells told are split certified nearest = record {
   case = case;
   read = read;
   text = ap (report_bytes found.with_sizes (case_in found)) are.leaves ∙ ap (λ (c : PlainProblem). report_bytes found.with_sizes c (list_looked c)) same
       ∙ ap (λ (b : Bool). report_bytes b case (list_looked case)) tells;
   split = split;
-  certified = subst (λ (c : PlainProblem). Certifies case (cert_bytes c)) (sym same) certified;
+  certified = subst (λ (n : ℕ). Certifies case (cert_bytes n (case_in found))) (sym told) (subst (λ (c : PlainProblem). Certifies case (cert_bytes version c)) (sym same) certified);
   nearest = nearest;
 }
-reports files settings case read (Err s) same tells are split certified nearest = tt
+reports files settings version case read (Err s) same tells told are split certified nearest = tt
 
 -- the text that is made of findings is their report
 pub report_is : (found : Findings) (leaves : List Leaf) (es : List Encounter) (xs : List Closest) (bs : List Bool) (text : List ℕ) → AreFound found →

@@ -7,7 +7,7 @@ use Rattle.cj_words.specs.Commands.{Checking}
 use Rattle.cj_words.specs.Settings.{Asked}
 use Rattle.cj_screen.specs.Checks.{IsChecked}
 use Rattle.cj_screen.specs.declared.results.Results.{Results}
-use Rattle.cj_screen.specs.declared.results.Results.TheVariants.{Screened, Checked, Made, Tried}
+use Rattle.cj_screen.specs.declared.results.Results.TheVariants.{Screened, Checked, Made, Tried, Rewritten}
 use Rattle.cj_status.specs.declared.status.Status.{Status}
 use Rattle.cj_status.specs.declared.status.Status.TheVariants as status
 use Rattle.cj_status.specs.Steps.{ComesBetween}
@@ -15,7 +15,9 @@ use Rattle.cj_screen.specs.Findings.{cert_in, ended, messages_in, report_in, sum
 use Rattle.cj_screen.specs.Headline.{IsScreened}
 use Rattle.cj_screen.specs.Origins.{plain_origin}
 use Rattle.cj_screen.specs.Outcome.{ComesOfPuts, ComesOfTrial, EndsTrial}
-use Rattle.cj_screen.specs.Results.{ReportsDue, VouchesDue, pieces_due}
+use Rattle.cj_screen.specs.Results.{RenewsDue, ReportsDue, VouchesDue, pieces_due}
+use Rattle.cj_screen.specs.Rewrites.{IsRewritten}
+use Rattle.cj_cert.specs.Certificates.{plain_certificate}
 
 -- the report and the certificate of a screening stand in front
 pub screened : (settings : Asked) (files old : List FileBytes) (new : Option (List FileBytes)) (results : Results)
@@ -30,6 +32,7 @@ screened settings files old new (Screened found origin) reports put = record {
 screened settings files old new Checked reports put = absurd reports
 screened settings files old new (Made catalogue) reports put = absurd reports
 screened settings files old new (Tried found) reports put = absurd reports
+screened settings files old new (Rewritten certificate) reports put = absurd reports
 
 -- the one piece of a check
 pub checked : (checking : Checking) (files old : List FileBytes) (new : Option (List FileBytes)) (results : Results)
@@ -38,6 +41,16 @@ checked checking files old new (Screened found origin) vouches put = absurd vouc
 checked checking files old new Checked vouches put = record { vouched = vouches; put = put }
 checked checking files old new (Made catalogue) vouches put = absurd vouches
 checked checking files old new (Tried found) vouches put = absurd vouches
+checked checking files old new (Rewritten certificate) vouches put = absurd vouches
+
+-- the pieces of a rewriting
+pub renewed : (checking : Checking) (files old : List FileBytes) (new : Option (List FileBytes)) (results : Results)
+    → RenewsDue checking files results → new ≡ Some (old ++ pieces_due results) → IsRewritten checking files old new
+renewed checking files old new (Screened found origin) renews put = absurd renews
+renewed checking files old new Checked renews put = absurd renews
+renewed checking files old new (Made catalogue) renews put = absurd renews
+renewed checking files old new (Tried found) renews put = absurd renews
+renewed checking files old new (Rewritten certificate) renews put = record { renewed = plain_certificate certificate; renews = renews; put = put }
 
 -- what comes behind the words is no fault of theirs
 pub never_of_words : (r : Result Results Status) (fault : UsageFault) → IfErr r ComesBetween → ¬ (r ≡ Err (status.Usage fault))

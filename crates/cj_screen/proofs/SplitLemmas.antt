@@ -1,8 +1,8 @@
 -- The spans of a case's encounters split its common ticks, where its leaves are sound and hold each of them.
-use Rattle.std.proofs.Common.{◌≡◌, ℕ, Bool, true, false, ◌<◌, ◌≤◌, List, Option, Some, None, sym, subst, ap, ◌∙◌, arith, refl, slice_index_or, length}
+use Rattle.std.proofs.Common.{◌≡◌, ℕ, Bool, true, false, ◌≤◌, List, Option, Some, None, subst, arith, refl}
 use Rattle.std.specs.Prelude.{All, Any, IsSomeAnd, slice_get}
 use Rattle.cj_hermite.specs.Interpolant.{Curve}
-use Rattle.cj_hermite.specs.Distance.{IsNear, IsFar, IsInBand}
+use Rattle.cj_hermite.specs.Distance.{IsFar}
 use Rattle.cj_track.specs.PlainTracks.{PlainTrack}
 use Rattle.cj_hermite.specs.Pieces.{PlainPiece, interval_at, curve_of_interval, OfBothAt}
 use Rattle.cj_hermite.specs.PlainProblems.{PlainProblem, threshold_of, IsCommonOf, OfObjectsAt}
@@ -16,7 +16,7 @@ use Rattle.cj_cells.specs.Lists.{IsSound}
 use Rattle.cj_bezier.specs.Leaves.{IsTickOf}
 use Rattle.cj_meet.specs.Encounters.{encounters_of}
 use Rattle.cj_bezier.specs.Leaves.{LiesIn}
-use Rattle.cj_meet.specs.Spans.{LiesInSpan, HaveExactSpans}
+use Rattle.cj_meet.specs.Spans.{HaveExactSpans}
 use Rattle.cj_bezier.specs.Enclosed.{UnlookedAreFar}
 use Rattle.cj_screen.specs.Headline.{SplitsTicks}
 

@@ -1,6 +1,6 @@
 -- A made-up catalogue that is screened: no file of it is refused.
-use Rattle.std.proofs.Common.{◌≡◌, ℕ, zero, suc, ◌+◌, ◌-◌, ◌<◌, ◌≤◌, Bool, true, false, cond, List, [], ◌∷◌, ◌++◌, length, map, get_or, Option, Some, None, Result, Ok, Err, refl, sym, ap, ap₂, subst, ◌∙◌, arith}
-use Rattle.std.specs.Prelude.{All, IfErr, IfOk, nat_le, slice_get}
+use Rattle.std.proofs.Common.{◌≡◌, ℕ, zero, suc, ◌+◌, ◌-◌, ◌<◌, ◌≤◌, Bool, true, false, cond, List, [], ◌∷◌, ◌++◌, length, get_or, Some, None, Result, Ok, Err, refl, sym, ap, ap₂, subst, ◌∙◌, arith}
+use Rattle.std.specs.Prelude.{IfErr, IfOk, nat_le, slice_get}
 use Rattle.std.specs.List.{AllByRecursion}
 use Rattle.cj_io.specs.declared.file.FileBytes.{FileBytes}
 use Rattle.cj_io.specs.Faults.{Rose}
@@ -219,25 +219,25 @@ there true x e y f is = refl
 there false x e y f is = absurd cc
 
 -- what is found is what the piece of a catalogue's screening tells
-pub tried_of : (most : ℕ) (with_sizes : Bool) (origin : PlainOrigin) (case : PlainProblem) (r : Result Findings Status)
-    → Gives ⊥ (pieces_in origin) r (pieces_within most with_sizes origin case)
+pub tried_of : (most : ℕ) (with_sizes : Bool) (version : ℕ) (origin : PlainOrigin) (case : PlainProblem) (r : Result Findings Status)
+    → Gives ⊥ (pieces_in origin) r (pieces_within most with_sizes version origin case)
     → IfOk r (λ found. plain_problem found.problem ≡ case) → IfOk r AreFound → Gives ⊥ (λ found. tried_in found ∷ []) r (tried_within most case)
 unfolding pieces_within
-tried_of most with_sizes origin case (Ok found) told same are =
+tried_of most with_sizes version origin case (Ok found) told same are =
     let leaves = list_looked case in
-    let fits : nat_le (length leaves) most ≡ true = there (nat_le (length leaves) most) leaves (status.Limit (limit.Cells most)) (pieces_in origin found) (pieces_with with_sizes origin case) told in
+    let fits : nat_le (length leaves) most ≡ true = there (nat_le (length leaves) most) leaves (status.Limit (limit.Cells most)) (pieces_in origin found) (pieces_with with_sizes version origin case) told in
     let piece : tried_piece case leaves ≡ tried_in found =
     ap (λ (c : PlainProblem). tried_piece c (list_looked c)) (sym same) ∙ ap (λ (ss : List PlainLeaf). tried_piece (case_in found) ss) (sym are.leaves) in
     rw fits (ap (λ (p : FileBytes). Ok (p ∷ [])) piece)
-tried_of most with_sizes origin case (Err s) told same are =
+tried_of most with_sizes version origin case (Err s) told same are =
     let leaves = list_looked case in
-    stops_turned (nat_le (length leaves) most) leaves (status.Limit (limit.Cells most)) s (pieces_with with_sizes origin case) (λ ss. tried_piece case ss ∷ []) told
+    stops_turned (nat_le (length leaves) most) leaves (status.Limit (limit.Cells most)) s (pieces_with with_sizes version origin case) (λ ss. tried_piece case ss ∷ []) told
 
-pub within_limits_of : (most : ℕ) (with_sizes : Bool) (origin : PlainOrigin) (case : PlainProblem) → IfErr (pieces_within most with_sizes origin case) IsLimit
+pub within_limits_of : (most : ℕ) (with_sizes : Bool) (version : ℕ) (origin : PlainOrigin) (case : PlainProblem) → IfErr (pieces_within most with_sizes version origin case) IsLimit
 unfolding pieces_within
-within_limits_of most with_sizes origin case =
+within_limits_of most with_sizes version origin case =
     let leaves = list_looked case in
-    then (within_cells most leaves) (λ ss. Ok (pieces_with with_sizes origin case ss)) (limited (nat_le (length leaves) most) leaves (limit.Cells most)) (λ ss same. tt)
+    then (within_cells most leaves) (λ ss. Ok (pieces_with with_sizes version origin case ss)) (limited (nat_le (length leaves) most) leaves (limit.Cells most)) (λ ss same. tt)
 
 -- what is due, once the case is there
 pub tried_after : (trial : Trial) (case : PlainProblem) → case_tried trial ≡ Ok case → pieces_tried trial ≡ tried_within trial.cells case

@@ -1,5 +1,5 @@
 -- What is found in a problem, and what is put of it.
-use Rattle.std.specs.Prelude.{◌≡◌, ◌≤◌, List, [], ◌∷◌, length, map, Result, Ok, Err}
+use Rattle.std.specs.Prelude.{◌≡◌, ◌≤◌, List, length, map, Result, Ok, Err}
 use Rattle.cj_io.specs.declared.file.FileBytes.{FileBytes}
 use Rattle.cj_hermite.specs.PlainProblems.{PlainProblem}
 use Rattle.cj_hermite.specs.Problems.{plain_problem}
@@ -39,7 +39,7 @@ report_in found = report_piece (report_bytes found.with_sizes (case_in found) (p
 
 -- the piece of the certificate
 abbrev pub cert_in : Findings → FileBytes
-cert_in found = cert_piece (cert_bytes (case_in found))
+cert_in found = cert_piece (cert_bytes found.version (case_in found))
 
 -- the pieces of the messages
 abbrev pub messages_in : PlainOrigin → Findings → List FileBytes
@@ -55,7 +55,7 @@ tried_in found = tried_piece (case_in found) (plain_leaves found.leaves.items)
 
 -- all pieces, in the order in which they are put
 abbrev pub pieces_in : PlainOrigin → Findings → List FileBytes
-pieces_in origin found = pieces_with found.with_sizes origin (case_in found) (plain_leaves found.leaves.items)
+pieces_in origin found = pieces_with found.with_sizes found.version origin (case_in found) (plain_leaves found.leaves.items)
 
 -- how a run ends by its last step
 abbrev pub ended : Result (Unit {0}) Status → Status

@@ -6,4 +6,5 @@ pub mod Messages
 pub mod Origins
 pub mod Outcome
 pub mod Results
+pub mod Rewrites
 pub mod Summaries

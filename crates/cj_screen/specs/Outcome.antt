@@ -1,10 +1,10 @@
 -- How a run over told files ends, and what it puts.
-use Rattle.std.specs.Prelude.{◌≡◌, ℕ, ◌-◌, Bool, false, nat_le, if◌then◌else◌, List, [], ◌∷◌, ◌++◌, length, Option, Some, None, is_some, Result, Ok, Err, codes}
+use Rattle.std.specs.Prelude.{◌≡◌, ℕ, Bool, false, nat_le, if◌then◌else◌, List, [], ◌∷◌, ◌++◌, length, Option, Some, None, is_some, Result, Ok, Err, codes}
 use Rattle.std.specs.Fmt.{decimal}
 use Rattle.cj_io.specs.declared.file.FileBytes.{FileBytes}
 use Rattle.cj_io.specs.Files.{IsPrefix}
 use Rattle.cj_words.specs.declared.option.UsageFault.{UsageFault}
-use Rattle.cj_words.specs.Commands.{Asking, Screens, Checks, Generates, Tries, Checking, Screening, Trial, command_of}
+use Rattle.cj_words.specs.Commands.{Asking, Screens, Checks, Generates, Tries, Rewrites, Checking, Screening, Trial, command_of}
 use Rattle.cj_words.specs.Settings.{Asked}
 use Rattle.cj_gen.specs.Catalogues.{catalogue_of}
 use Rattle.cj_hermite.specs.PlainProblems.{PlainProblem}
@@ -19,7 +19,7 @@ use Rattle.cj_report.specs.Summary.{summary_of}
 use Rattle.cj_cert.specs.Certificates.{PlainCertificate}
 use Rattle.cj_cert.specs.Reading.{Fault, reading}
 use Rattle.cj_cert.specs.Texts.{text_of}
-use Rattle.cj_cert.specs.Written.{written}
+use Rattle.cj_cert.specs.Rewritten.{in_version_2, written_in}
 use Rattle.cj_checker.specs.declared.failure.Failure.{Failure}
 use Rattle.cj_checker.specs.First.{first_failure}
 use Rattle.cj_status.specs.declared.status.Status.{Status}
@@ -50,9 +50,9 @@ abbrev pub report_bytes : Bool → PlainProblem → List PlainLeaf → List ℕ
 report_bytes with_sizes case leaves =
     report_of case.first case.last case.threshold case.ephemerides (told with_sizes case.sizes) (closest_of case) (has_message case) (encounters_of leaves)
 
--- its certificate
-abbrev pub cert_bytes : PlainProblem → List ℕ
-cert_bytes case = text_of (written case)
+-- its certificate in a version
+abbrev pub cert_bytes : ℕ → PlainProblem → List ℕ
+cert_bytes version case = text_of (written_in version case)
 
 -- its summary
 abbrev pub summary_bytes : PlainProblem → List PlainLeaf → List ℕ
@@ -72,13 +72,14 @@ abbrev pub further_pieces : PlainOrigin → PlainProblem → List PlainLeaf → 
 further_pieces origin case leaves = message_pieces case origin (encounters_of leaves) ++ summary_piece (summary_bytes case leaves) ∷ []
 
 -- the pieces of a case with these leaves: the report, the certificate, and those
-abbrev pub pieces_with : Bool → PlainOrigin → PlainProblem → List PlainLeaf → List FileBytes
-pieces_with with_sizes origin case leaves =
-    report_piece (report_bytes with_sizes case leaves) ∷ cert_piece (cert_bytes case) ∷ further_pieces origin case leaves
+abbrev pub pieces_with : Bool → ℕ → PlainOrigin → PlainProblem → List PlainLeaf → List FileBytes
+pieces_with with_sizes version origin case leaves =
+    report_piece (report_bytes with_sizes case leaves) ∷ cert_piece (cert_bytes version case) ∷ further_pieces origin case leaves
 
 -- the pieces of a case, where it has at most so many leaves
-unfoldable pub pieces_within : ℕ → Bool → PlainOrigin → PlainProblem → Result (List FileBytes) Status
-pieces_within limit with_sizes origin case = within_cells limit (list_looked case) >>= λ leaves. Ok (pieces_with with_sizes origin case leaves)
+unfoldable pub pieces_within : ℕ → Bool → ℕ → PlainOrigin → PlainProblem → Result (List FileBytes) Status
+pieces_within limit with_sizes version origin case =
+    within_cells limit (list_looked case) >>= λ leaves. Ok (pieces_with with_sizes version origin case leaves)
 
 -- the report is to tell the sizes
 abbrev pub tells_sizes : Asked → Bool
@@ -92,7 +93,7 @@ origin_of now screening = record { created = now; originator = screening.origina
 unfoldable pub pieces_screened : List FileBytes → ℕ → Screening → Result (List FileBytes) Status
 pieces_screened files now screening = do
   case ← case_asked files screening.settings
-  pieces_within screening.cells (tells_sizes screening.settings) (origin_of now screening) case
+  pieces_within screening.cells (tells_sizes screening.settings) screening.version (origin_of now screening) case
 
 -- how many files were made
 abbrev pub count_bytes : ℕ → List ℕ
@@ -116,18 +117,30 @@ abbrev pub none_of : Option Failure → Result (Unit {0}) Status
 none_of None = Ok tt
 none_of (Some failure) = Err (status.NotAccepted failure.line (Refused failure.cause))
 
--- the bytes are a certificate that is accepted for the case, or the first cause for which they are not
-unfoldable pub accepting : PlainProblem → List ℕ → Result (Unit {0}) Status
+-- the certificate that the bytes are, which is accepted for the case, or the first cause for which there is none
+unfoldable pub accepting : PlainProblem → List ℕ → Result PlainCertificate Status
 accepting case bytes = do
   certificate ← said_or (reading bytes)
-  none_of (first_failure case certificate)
+  done ← none_of (first_failure case certificate)
+  Ok certificate
 
 -- the piece of a check, or the first cause for which there is none
 unfoldable pub pieces_checked : List FileBytes → Checking → Result (List FileBytes) Status
 pieces_checked files checking = do
   inputs ← inputs_asked files checking
-  done ← accepting inputs.case inputs.bytes
+  certificate ← accepting inputs.case inputs.bytes
   Ok (accepted_piece ∷ [])
+
+-- the pieces of a certificate that is rewritten: its text, and for standard output that it is
+abbrev pub pieces_renewed : PlainCertificate → List FileBytes
+pieces_renewed certificate = piece (codes "screen.cert2") (text_of certificate) ∷ piece (codes "-") (codes "REWRITTEN" ++ 10 ∷ []) ∷ []
+
+-- the pieces of the certificate that is named in version 2, or the first cause for which there are none
+unfoldable pub pieces_rewritten : List FileBytes → Checking → Result (List FileBytes) Status
+pieces_rewritten files checking = do
+  inputs ← inputs_asked files checking
+  certificate ← accepting inputs.case inputs.bytes
+  Ok (pieces_renewed (in_version_2 inputs.case certificate))
 
 -- the settings by which a made-up catalogue is screened: over its whole span
 abbrev pub settings_tried : Trial → Asked
@@ -157,6 +170,7 @@ pieces_asked files now (Screens screening) = pieces_screened files now screening
 pieces_asked files now (Checks checking) = pieces_checked files checking
 pieces_asked files now (Generates recipe) = Ok (pieces_made (catalogue_of recipe.seed recipe.objects recipe.minutes))
 pieces_asked files now (Tries trial) = pieces_tried trial
+pieces_asked files now (Rewrites checking) = pieces_rewritten files checking
 
 -- the pieces that the words ask of the files at this tick, or the first cause for which there is none
 unfoldable pub pieces_of : List (List ℕ) → List FileBytes → ℕ → Result (List FileBytes) Status

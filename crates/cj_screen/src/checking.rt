@@ -3,6 +3,7 @@ ghost use Rattle.std.specs.Prelude.{◌≡◌, ◌≢◌, [], ◌∷◌, ◌-◌
 ghost use Rattle.cj_io.specs.Faults.{Rose};
 ghost use Rattle.cj_io.specs.declared.file.FileBytes.{FileBytes};
 ghost use Rattle.cj_hermite.specs.Problems.{plain_problem};
+ghost use Rattle.cj_cert.specs.Accepted.{Accepted};
 ghost use Rattle.cj_cert.specs.Certificates.{plain_certificate};
 ghost use Rattle.cj_cert.specs.Fits.{Fits, line_count};
 ghost use Rattle.cj_cert.specs.Reading.{reading};
@@ -42,21 +43,24 @@ pub fn check_certificate<F: Folder>(
         problem,
         certificate,
     } = prepare_check(alloc, folder, checking)?;
-    accept(alloc, &problem, certificate)
+    accept(alloc, &problem, certificate)?;
+    Ok(())
 }
 
-/// Reads a certificate and checks it for a problem.
+/// Reads a certificate that is accepted for a problem.
 #[tactic(auto, unfolding(crate::specs::Outcome::accepting))]
-fn accept(alloc: Global, problem: &Problem, bytes: Vec<u8>) -> Result<(), Status>
+pub fn accept(alloc: Global, problem: &Problem, bytes: Vec<u8>) -> Result<Certificate, Status>
     requires { length bytes.items ≤ 1_073_741_824 }
     ensures between { IfErr result ComesBetween }
     ensures read { result ≢ Err Status.ReadFault }
-    ensures told { Gives ⊥ (λ done. done) result (spec.accepting (plain_problem problem.now) bytes.items) }
+    ensures told { Gives ⊥ plain_certificate result (spec.accepting (plain_problem problem.now) bytes.items) }
     ensures accepted { OnOk result (AcceptedText (plain_problem problem.now) bytes.items) }
+    ensures only { IfOk result (λ c. (bytes.items ≡ text_of (plain_certificate c)) × Fits (plain_certificate c)) }
+    ensures holds { IfOk result (λ c. Accepted (plain_problem problem.now) (plain_certificate c)) }
 {
     let certificate = read(alloc, bytes)?;
     match check(alloc, problem, &certificate)? {
-        Answer::Accepted => Ok(()),
+        Answer::Accepted => Ok(certificate),
         Answer::Refused { line, cause } => Err(Status::NotAccepted {
             line,
             cause: CertificateCause::Refused(cause),

@@ -4,19 +4,20 @@ ghost use Rattle.cj_io.specs.Faults.{Rose};
 ghost use Rattle.cj_io.specs.declared.file.FileBytes.{FileBytes};
 ghost use Rattle.cj_words.specs.declared.option.UsageFault.{UsageFault};
 ghost use Rattle.cj_words.specs.Commands as asks;
-ghost use Rattle.cj_words.specs.Commands.{Checks, Screens, Tries, command_of, plain_command, plain_screening};
+ghost use Rattle.cj_words.specs.Commands.{Checks, Rewrites, Screens, Tries, command_of, plain_command, plain_screening};
 ghost use Rattle.cj_words.specs.Settings.{asked_of};
 ghost use Rattle.cj_screen.specs.Findings.{AreFound, cert_in, pieces_in, report_in};
 ghost use Rattle.cj_screen.specs.Headline.{Reports};
 ghost use Rattle.cj_screen.specs.Outcome as spec;
 ghost use Rattle.cj_screen.specs.Outcome.{ComesOfTrial};
-ghost use Rattle.cj_screen.specs.Results.{AreDue, ReportsDue, VouchesDue, pieces_due};
+ghost use Rattle.cj_screen.specs.Results.{AreDue, RenewsDue, ReportsDue, VouchesDue, pieces_due};
 ghost use Rattle.cj_status.specs.Steps.{Gives, ComesBefore, ComesBetween};
 
 use crate::checking::check_certificate;
 use crate::findings::Findings;
 use crate::origin::Origin;
 use crate::results::Results;
+use crate::rewriting::rewrite_certificate;
 use crate::screening::screen;
 use crate::trying::try_catalogue;
 use cj_epoch::Tick;
@@ -50,6 +51,8 @@ pub fn find<'w, R: Threads + Wait + Sync, F: Folder, G: Gate + Sync>(
         → IfOk result (ReportsDue screening.settings files) }
     ensures vouches { (files : List FileBytes) (checking : asks.Checking) → F.files folder.old ≡ Some files → command_of words.now ≡ Ok (Checks checking)
         → IfOk result (VouchesDue checking files) }
+    ensures renews { (files : List FileBytes) (checking : asks.Checking) → F.files folder.old ≡ Some files → command_of words.now ≡ Ok (Rewrites checking)
+        → IfOk result (RenewsDue checking files) }
     ensures ends { (trial : asks.Trial) → command_of words.now ≡ Ok (Tries trial) → IfErr result ComesOfTrial }
 
     ensures files { F.files folder.new ≡ F.files folder.old }
@@ -78,6 +81,8 @@ fn find_asked<'w, R: Threads + Wait + Sync, F: Folder, G: Gate + Sync>(
         → IfOk result (ReportsDue screening.settings files) }
     ensures vouches { (files : List FileBytes) (checking : asks.Checking) → F.files folder.old ≡ Some files → plain_command command.now ≡ Checks checking
         → IfOk result (VouchesDue checking files) }
+    ensures renews { (files : List FileBytes) (checking : asks.Checking) → F.files folder.old ≡ Some files → plain_command command.now ≡ Rewrites checking
+        → IfOk result (RenewsDue checking files) }
     ensures ends { (trial : asks.Trial) → plain_command command.now ≡ Tries trial → IfErr result ComesOfTrial }
 
     ensures files { F.files folder.new ≡ F.files folder.old }
@@ -99,6 +104,10 @@ fn find_asked<'w, R: Threads + Wait + Sync, F: Folder, G: Gate + Sync>(
             recipe.minutes,
         )?)),
         Command::Selfrun(trial) => Ok(Results::Tried(try_catalogue(rt, alloc, gate, trial)?)),
+        Command::Rewrite(checking) => {
+            let certificate = rewrite_certificate(alloc, folder, checking)?;
+            Ok(Results::Rewritten(certificate))
+        }
     }
 }
 
@@ -132,6 +141,7 @@ fn find_encounters<R: Threads + Wait + Sync, F: Folder, G: Gate + Sync>(
         gate,
         problem,
         tells_sizes(&screening.settings),
+        screening.version,
         screening.workers,
         screening.cells,
     )

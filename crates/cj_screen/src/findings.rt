@@ -10,6 +10,8 @@ pub struct Findings {
     pub with_sizes: bool,
     /// How many workers found it, and are to make its texts.
     pub workers: u32,
+    /// The version of its certificate.
+    pub version: u32,
     /// The shell of each object in the window.
     pub shells: Vec<Option<Shell>>,
     /// The box of each object in each slot, in order of object and slot.

@@ -11,6 +11,7 @@ mod origin;
 mod putting;
 mod reporting;
 mod results;
+mod rewriting;
 mod screening;
 mod top;
 mod trying;

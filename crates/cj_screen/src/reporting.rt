@@ -1,8 +1,10 @@
 //! Putting what is due of the findings onto a shelf, piece by piece.
-ghost use Rattle.std.specs.Prelude.{◌≡◌, ◌≤◌, List, [], ◌∷◌, Some, Err, IfErr};
+ghost use Rattle.std.specs.Prelude.{◌≡◌, ◌≤◌, List, [], ◌∷◌, Some, Err, IfErr, IfOk};
 ghost use Rattle.cj_io.specs.Faults.{Rose};
 ghost use Rattle.cj_io.specs.declared.file.FileBytes.{FileBytes};
-ghost use Rattle.cj_screen.specs.Findings.{AreFound, cert_in, ended, pieces_in, report_in, summary_in};
+ghost use Rattle.cj_cert.specs.Certificates.{plain_certificate};
+ghost use Rattle.cj_cert.specs.Rewritten.{written_in};
+ghost use Rattle.cj_screen.specs.Findings.{AreFound, case_in, cert_in, ended, pieces_in, report_in, summary_in};
 ghost use Rattle.cj_screen.specs.Origins.{plain_origin};
 ghost use Rattle.cj_screen.specs.Outcome.{ComesOfPuts, Leaves};
 
@@ -10,11 +12,12 @@ use crate::findings::Findings;
 use crate::messages::put_messages;
 use crate::origin::Origin;
 use crate::putting::put;
-use cj_cert::{cert_text, written_certificate};
+use cj_cert::{Certificate, cert_text, certificate_in_blocks, written_certificate};
 use cj_io::Shelf;
 use cj_report::{report_text, summary_text};
+use cj_sieve::kept_pairs;
 use cj_status::Status;
-use std::alloc::Global;
+use std::alloc::{AllocError, Global};
 use std::thread::Threads;
 
 /// Makes and puts the pieces one after another, messages with this origin. Each is dropped after its put.
@@ -71,15 +74,44 @@ fn put_certificate<R: Threads + Sync, S: Shelf>(
     ensures leaves { (old : List FileBytes) → S.pieces shelf.old ≡ Some old → Leaves (ended result) (Ok (cert_in found.now ∷ [])) old (S.pieces shelf.new) }
     ensures later { S.faults shelf.old ≤ S.faults shelf.new }
 {
-    let certificate = written_certificate(
-        alloc,
-        &found.problem,
-        &found.shells,
-        &found.boxes,
-        &found.leaves,
-    )?;
+    let certificate = certificate_of(alloc, found)?;
     let text = cert_text(rt, alloc, &certificate, found.workers)?;
     put(alloc, shelf, b"screen.cert", &text)
+}
+
+/// The certificate in the version that was asked.
+fn certificate_of(alloc: Global, found: &Findings) -> Result<Certificate, AllocError>
+    requires { AreFound found.now }
+    ensures { IfOk result (λ cert. plain_certificate cert ≡ written_in found.now.version (case_in found.now)) }
+{
+    if found.version == 1 {
+        let Findings {
+            problem,
+            shells,
+            boxes,
+            leaves,
+            ..
+        } = found;
+        written_certificate(alloc, problem, shells, boxes, leaves)
+    } else {
+        certificate_by_blocks(alloc, found)
+    }
+}
+
+/// The certificate in version 2, with blocks by the pairs that are kept.
+fn certificate_by_blocks(alloc: Global, found: &Findings) -> Result<Certificate, AllocError>
+    requires { AreFound found.now }
+    ensures { IfOk result (λ cert. plain_certificate cert ≡ written_in 2 (case_in found.now)) }
+{
+    let Findings {
+        problem,
+        shells,
+        boxes,
+        leaves,
+        ..
+    } = found;
+    let kept = kept_pairs(alloc, shells, problem.sizes.as_slice(), problem.threshold)?;
+    certificate_in_blocks(alloc, problem, shells, boxes, &kept, leaves)
 }
 
 /// Puts the summary.

@@ -1,5 +1,6 @@
 use crate::findings::Findings;
 use crate::origin::Origin;
+use cj_cert::Certificate;
 use cj_io::FileBytes;
 
 /// What a run is to put. From here on it can fail only for want of memory or in a write.
@@ -13,4 +14,6 @@ pub enum Results<'w> {
     Made(Vec<FileBytes>),
     /// What is found in a made-up catalogue, whose certificate is accepted.
     Tried(Findings),
+    /// A certificate that was accepted, in version 2.
+    Rewritten(Certificate),
 }

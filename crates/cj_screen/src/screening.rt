@@ -25,7 +25,8 @@ use std::alloc::Global;
 use std::sync::Wait;
 use std::thread::Threads;
 
-/// All that is found in a problem by so many workers, where it has at most so many leaves. The report is to tell the sizes, or not.
+/// All that is found in a problem by so many workers, where it has at most so many leaves. The report is to tell the sizes, or not,
+/// and the certificate is to be of this version.
 ///
 /// No clause names the workers: what is found is the same, however many there are.
 #[tactic(auto, unfolding(crate::specs::Outcome::pieces_within))]
@@ -35,6 +36,7 @@ pub fn screen<R: Threads + Wait + Sync, G: Gate + Sync>(
     gate: &G,
     problem: Problem,
     with_sizes: bool,
+    version: u32,
     workers: u32,
     cells: u64,
 ) -> Result<Findings, Status>
@@ -44,12 +46,13 @@ pub fn screen<R: Threads + Wait + Sync, G: Gate + Sync>(
     ensures between { IfErr result ComesBetween }
     ensures read { result ≢ Err Status.ReadFault }
     // Whenever and by whomever messages are made.
-    ensures told { (origin : PlainOrigin) → Gives ⊥ (pieces_in origin) result (spec.pieces_within cells with_sizes origin (plain_problem problem)) }
+    ensures told { (origin : PlainOrigin) → Gives ⊥ (pieces_in origin) result (spec.pieces_within cells with_sizes version origin (plain_problem problem)) }
     ensures same { IfOk result (λ found. plain_problem found.problem ≡ plain_problem problem) }
     ensures tells { IfOk result (λ found. found.with_sizes ≡ with_sizes) }
+    ensures version { IfOk result (λ found. found.version ≡ version) }
     ensures found { IfOk result AreFound }
     ensures split { OnOk result (SplitsTicks (plain_problem problem) (encounters_in (plain_problem problem))) }
-    ensures certified { OnOk result (Certifies (plain_problem problem) (cert_bytes (plain_problem problem))) }
+    ensures certified { OnOk result (Certifies (plain_problem problem) (cert_bytes version (plain_problem problem))) }
     ensures nearest { OnOk result (All (HasNearest (plain_problem problem)) (encounters_in (plain_problem problem))) }
 {
     acceptance(&problem);
@@ -81,6 +84,7 @@ pub fn screen<R: Threads + Wait + Sync, G: Gate + Sync>(
         problem,
         with_sizes,
         workers,
+        version,
         shells,
         boxes,
         leaves,

@@ -10,3 +10,4 @@ mod results;
 mod runs;
 mod scenes;
 mod trials;
+mod versions;

@@ -4,7 +4,7 @@ ghost use Rattle.cj_io.specs.Faults.{Rose};
 ghost use Rattle.cj_io.specs.declared.file.FileBytes.{FileBytes};
 ghost use Rattle.cj_words.specs.declared.option.UsageFault.{UsageFault};
 ghost use Rattle.cj_words.specs.Commands as asks;
-ghost use Rattle.cj_words.specs.Commands.{Checks, Screens, Tries, command_of};
+ghost use Rattle.cj_words.specs.Commands.{Checks, Rewrites, Screens, Tries, command_of};
 ghost use Rattle.cj_status.specs.declared.status.Status.{Status as Ends};
 ghost use Rattle.cj_screen.specs.Checks.{IsChecked};
 ghost use Rattle.cj_screen.specs.Findings.{ended};
@@ -12,12 +12,14 @@ ghost use Rattle.cj_screen.specs.Headline.{IsScreened};
 ghost use Rattle.cj_screen.specs.Outcome as spec;
 ghost use Rattle.cj_screen.specs.Outcome.{Answers, ComesOfPuts, Extends, Leaves, EndsTrial, PutsNothing};
 ghost use Rattle.cj_screen.specs.Results.{AreDue, pieces_due};
+ghost use Rattle.cj_screen.specs.Rewrites.{IsRewritten};
 
 use crate::catalogues::put_catalogue;
 use crate::finding::find;
 use crate::putting::put;
 use crate::reporting::put_pieces;
 use crate::results::Results;
+use crate::rewriting::put_rewritten;
 use crate::trying::put_trial;
 use cj_epoch::Tick;
 use cj_io::{Folder, Gate, Shelf};
@@ -62,6 +64,10 @@ pub fn conj<R: Threads + Wait + Sync, F: Folder, S: Shelf, G: Gate + Sync>(
         → command_of words.now ≡ Ok (Checks checking) → result ≡ Status.Ok → IsChecked checking files pieces (S.pieces shelf.new) }
     ensures refused { (files : List FileBytes) (cause : Ends) → F.files folder.old ≡ Some files → spec.pieces_of words.now files now.micros ≡ Err cause
         → ¬ Rose (F.faults folder.old) (F.faults folder.new) → (result ≡ cause) ⊎ (result ≡ Status.OutOfMemory) }
+
+    // Status 0 of a rewriting says that the named file is an accepted certificate, and that its text in version 2 is put, which is one too.
+    ensures rewritten { (files pieces : List FileBytes) (checking : asks.Checking) → F.files folder.old ≡ Some files → S.pieces shelf.old ≡ Some pieces
+        → command_of words.now ≡ Ok (Rewrites checking) → result ≡ Status.Ok → IsRewritten checking files pieces (S.pieces shelf.new) }
 
     // A made-up catalogue that is screened ends so whatever the folder does.
     ensures tried { (trial : asks.Trial) → command_of words.now ≡ Ok (Tries trial) → EndsTrial result }
@@ -111,5 +117,6 @@ fn put_results<R: Threads + Sync, S: Shelf>(
         Results::Checked => put(alloc, shelf, b"-", b"ACCEPTED\n"),
         Results::Made(files) => put_catalogue(alloc, shelf, files),
         Results::Tried(found) => put_trial(alloc, shelf, found),
+        Results::Rewritten(certificate) => put_rewritten(rt, alloc, shelf, certificate),
     }
 }

@@ -39,7 +39,16 @@ pub fn try_catalogue<R: Threads + Wait + Sync, G: Gate + Sync>(
     ensures found { IfOk result AreFound }
 {
     let problem = prepare_catalogue(alloc, trial)?;
-    let found = screen(rt, alloc, gate, problem, false, trial.workers, trial.cells)?;
+    let found = screen(
+        rt,
+        alloc,
+        gate,
+        problem,
+        false,
+        1,
+        trial.workers,
+        trial.cells,
+    )?;
     confirm(alloc, &found)?;
     Ok(found)
 }

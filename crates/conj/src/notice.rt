@@ -45,6 +45,7 @@ Usage:
   conj check DIR [OPTIONS]
   conj generate DIR [OPTIONS]
   conj selfrun [OPTIONS]
+  conj rewrite DIR [OPTIONS]
   conj --help
   conj --version
 
@@ -61,9 +62,11 @@ and keeps those that it is given.
 check reads the same ephemerides and the certificate, and decides anew whether
 it is accepted for them. generate writes a made-up catalogue into DIR, one
 ephemeris for each object. selfrun screens such a catalogue in memory, has the
-certificate checked, and prints the summary.
+certificate checked, and prints the summary. rewrite does what check does, and
+writes an accepted certificate in version 2, which has fewer lines, as
+DIR/screen.cert2.
 
-Options of screen and check, in any order after DIR, each at most once:
+Options of screen, check and rewrite, in any order after DIR, each at most once:
   --threshold METRES  miss distance to report, 1 to 1000000 (default 5000)
   --workers N         of screen: how many threads share the work, 1 to 16
                       (default 1)
@@ -79,9 +82,12 @@ Options of screen and check, in any order after DIR, each at most once:
   --sizes NAME        file of DIR with the radius of each object in metres; the
                       miss distance of a pair is then measured from surface to
                       surface (default: all objects are points)
-  --cert NAME         of check: the certificate's file (default screen.cert)
+  --cert NAME         of check and rewrite: the certificate's file (default
+                      screen.cert)
   --originator TEXT   of screen: who makes messages, 1 to 40 letters, digits, _
                       and - (default CONJ)
+  --cert-version N    of screen: the version of the certificate, 1 or 2
+                      (default 1)
 Options of generate and selfrun; selfrun has --threshold, --workers, --cells too:
   --seed N            what the objects are drawn from (default 1)
   --objects N         how many, 1 to 2000 (default 50)

@@ -1,7 +1,7 @@
-use Rattle.std.proofs.Common.{ℕ, List, length, ◌++◌, ◌∷◌, [], Ok, ap, subst, ◌∙◌}
+use Rattle.std.proofs.Common.{ℕ, List, length, ◌++◌, ◌∷◌, [], Ok, subst, ◌∙◌}
 use Rattle.std.proofs.lemmas.Result.{err_from_is_err_and}
 use Rattle.cj_screen.specs.Findings.{ended}
-use Rattle.cj_screen.specs.Outcome.{Leaves, count_bytes, pieces_made, summary_piece}
+use Rattle.cj_screen.specs.Outcome.{Leaves, count_bytes, summary_piece}
 use Rattle.cj_screen.proofs.EndLemmas.{first_leaves, first_stand, second_leaves}
 use Rattle.cj_screen.proofs.catalogues.put_catalogue.Goals as goal
 

@@ -5,4 +5,4 @@ use Rattle.cj_screen.proofs.checking.check_certificate.Goals as goal
 
 pub returns-clause-vouches : goal.returns-clause-vouches
 returns-clause-vouches g c = λ files told.
-    vouched files (plain_checking c.args.checking.now) (plain_inputs c.in_ok-problem.field-0) (c.in_ok-problem.ensures.told files told) c.accept.result c.accept.ensures.accepted
+    vouched files (plain_checking c.args.checking.now) (plain_inputs c.in_ok-problem.field-0) (c.in_ok-problem.ensures.told files told) c.in_ok-accept.ensures.accepted

@@ -1,6 +1,6 @@
 use Rattle.std.proofs.Common.{◌≡◌, Result, Ok, ◌∙◌}
 use Rattle.cj_words.specs.declared.option.UsageFault.{UsageFault}
-use Rattle.cj_words.specs.Commands.{Asking, Checks, Screens, Tries, plain_command}
+use Rattle.cj_words.specs.Commands.{Asking, Checks, Rewrites, Screens, Tries, plain_command}
 use Rattle.cj_screen.proofs.ResultLemmas.{never_of_words}
 use Rattle.cj_screen.proofs.finding.find.Goals as goal
 
@@ -27,3 +27,9 @@ returns-clause-ends g c = λ trial asked.
     let both : ◌≡◌ {A = Result Asking UsageFault} (Ok (plain_command c.in_ok-command.command)) (Ok (Tries trial)) = c.in_ok-command.ensures ∙ asked in
     let same : plain_command c.in_ok-command.command ≡ Tries trial = cc in
     c.find_asked.ensures.ends trial same
+
+pub returns-clause-renews : goal.returns-clause-renews
+returns-clause-renews g c = λ files checking told asked.
+    let both : ◌≡◌ {A = Result Asking UsageFault} (Ok (plain_command c.in_ok-command.command)) (Ok (Rewrites checking)) = c.in_ok-command.ensures ∙ asked in
+    let same : plain_command c.in_ok-command.command ≡ Rewrites checking = cc in
+    c.find_asked.ensures.renews files checking told same

@@ -15,6 +15,6 @@ tells b d same (Err s) is = tt
 pub returns-clause-reports : goal.returns-clause-reports
 returns-clause-reports g c = λ files told.
     let asked = asked_of c.args.screening.now.settings in
-    reports files asked (plain_problem c.in_ok-problem.problem) (c.in_ok-problem.ensures.told files told)
+    reports files asked c.args.screening.now.version (plain_problem c.in_ok-problem.problem) (c.in_ok-problem.ensures.told files told)
     c.screen.result c.screen.ensures.same (tells c.tells_sizes.result (tells_sizes asked) c.tells_sizes.ensures c.screen.result c.screen.ensures.tells)
-    c.screen.ensures.found c.screen.ensures.split c.screen.ensures.certified c.screen.ensures.nearest
+    c.screen.ensures.version c.screen.ensures.found c.screen.ensures.split c.screen.ensures.certified c.screen.ensures.nearest

@@ -5,7 +5,6 @@ use Rattle.cj_cdm.specs.Building.{have_covariances}
 use Rattle.cj_meet.specs.Closest.{closest_of}
 use Rattle.cj_meet.specs.Encounters.{Describes}
 use Rattle.cj_report.proofs.EncounterTextLemmas.{approach_at}
-use Rattle.cj_screen.specs.Messages.{has_message}
 use Rattle.cj_screen.proofs.MessageLemmas.{message_noted, noted_more}
 use Rattle.cj_screen.proofs.messages.note_messages.Goals as goal
 

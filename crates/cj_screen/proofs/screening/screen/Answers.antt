@@ -11,7 +11,7 @@ use Rattle.cj_bezier.specs.Order.{AreInOrder}
 use Rattle.cj_cells.specs.Lists.{list_looked}
 use Rattle.cj_cells.proofs.LeafLemmas.{list_split}
 use Rattle.cj_cells.proofs.ListingLemmas.{same_count}
-use Rattle.cj_cert.specs.Written.{written}
+use Rattle.cj_cert.specs.Rewritten.{written_in}
 use Rattle.cj_meet.specs.Closest.{KeepTheirIntervals, closest_of}
 use Rattle.cj_meet.specs.Encounters.{Describes, encounters_of, groups_in}
 use Rattle.cj_meet.specs.Spans.{HaveExactSpans}
@@ -27,9 +27,9 @@ use Rattle.cj_screen.proofs.screening.screen.Goals as goal
 pub returns-in-Err-clause-told : goal.returns-in-Err-clause-told
 returns-in-Err-clause-told g c = λ origin.
     let case = plain_problem c.args.problem in
-    let stops = stops_refined c.args.cells c.args.with_sizes origin case c.in-Err.error
+    let stops = stops_refined c.args.cells c.args.with_sizes c.args.version origin case c.in-Err.error
     (λ is. let many = c.in-Err.ensures.too_many (ap (λ e. Err e) is) in omega (arith, many, list_split case)) in
-    subst (λ s. Stops ⊥ s (pieces_within c.args.cells c.args.with_sizes origin case)) (sym c.refused.ensures) stops
+    subst (λ s. Stops ⊥ s (pieces_within c.args.cells c.args.with_sizes c.args.version origin case)) (sym c.refused.ensures) stops
 
 pub count-counts-requires-clause-roots : goal.count-counts-requires-clause-roots
 count-counts-requires-clause-roots g c =
@@ -68,7 +68,7 @@ returns-clause-told g c = λ origin.
     let same = c.in-Ok-leaves_by_workers.ensures.value in
     let few : length (list_looked case) ≤ c.args.cells =
     omega (arith, ap (λ (ss : List PlainLeaf). length ss) same, c.in-Ok-leaves_by_workers.ensures.within, c.in-Ok-leaves_by_workers.leaves.ok.0, length-map c.in-Ok-leaves_by_workers.leaves.items plain_leaf) in
-    due_of c.args.cells c.args.with_sizes origin case few ∙ ap (λ (ss : List PlainLeaf). Ok (pieces_with c.args.with_sizes origin case ss)) (sym same)
+    due_of c.args.cells c.args.with_sizes c.args.version origin case few ∙ ap (λ (ss : List PlainLeaf). Ok (pieces_with c.args.with_sizes c.args.version origin case ss)) (sym same)
 
 pub returns-clause-split : goal.returns-clause-split
 returns-clause-split g c =
@@ -77,12 +77,7 @@ returns-clause-split g c =
     (subst (λ (ss : List PlainLeaf). HaveExactSpans ss) (ap (λ (ls : List Leaf). plain_leaves ls) c.deref.ensures.value ∙ c.in-Ok-leaves_by_workers.ensures.value) c.in_ok-encounters.ensures.exact_spans)
 
 pub returns-clause-certified : goal.returns-clause-certified
-returns-clause-certified g c = record { certificate = written (plain_problem c.args.problem); text = refl; accepted = c.acceptance.ensures.written; implies = c.acceptance.ensures.splits }
-
-pub closest_approaches-requires-clause-intervals : goal.closest_approaches-requires-clause-intervals
-closest_approaches-requires-clause-intervals g c =
-    let case = plain_problem c.args.problem in
-    subst (λ (ss : List PlainLeaf). KeepTheirIntervals case ss) (sym (ap (λ (ls : List Leaf). plain_leaves ls) c.deref-2.ensures.value ∙ c.in-Ok-leaves_by_workers.ensures.value)) c.in-Ok-leaves_by_workers.ensures.intervals
+returns-clause-certified g c = record { certificate = written_in c.args.version (plain_problem c.args.problem); text = refl; accepted = c.acceptance.ensures.in_version c.args.version; implies = c.acceptance.ensures.splits }
 
 pub returns-clause-nearest : goal.returns-clause-nearest
 returns-clause-nearest g c =

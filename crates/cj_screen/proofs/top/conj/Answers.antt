@@ -1,4 +1,4 @@
-use Rattle.std.proofs.Common.{◌≡◌, ◌⊎◌, inr, Some, Ok, Err, List, Result, sym, subst, ◌∙◌}
+use Rattle.std.proofs.Common.{◌≡◌, ◌⊎◌, inr, Ok, List, Result, sym, subst, ◌∙◌}
 use Rattle.cj_io.specs.Faults.{Rose}
 use Rattle.cj_io.specs.declared.file.FileBytes.{FileBytes}
 use Rattle.cj_status.specs.declared.status.Status.{Status}
@@ -8,7 +8,7 @@ use Rattle.cj_screen.specs.Outcome.{Answers, EndsTrial, Leaves, PutsNothing}
 use Rattle.cj_screen.specs.Findings.{ended}
 use Rattle.cj_screen.specs.Results.{pieces_due}
 use Rattle.cj_screen.proofs.EndLemmas.{answers_put, answers_stop, first_stand, leaves_extends, leaves_stop, never_usage, nothing_more, put_or_memory, puts_some, refused_as, stopped_for}
-use Rattle.cj_screen.proofs.ResultLemmas.{checked, ends_before, ends_put, screened}
+use Rattle.cj_screen.proofs.ResultLemmas.{checked, ends_before, ends_put, renewed, screened}
 use Rattle.cj_screen.proofs.top.conj.Goals as goal
 
 pub returns-in-Ok-clause-usage : goal.returns-in-Ok-clause-usage
@@ -45,6 +45,14 @@ returns-in-Ok-clause-checked g c = λ files pieces checking told stood asked ok.
     let due : Result (List FileBytes) Status = Ok (pieces_due results) in
     let leaves = subst (λ (s : Status). Leaves s due pieces now) (sym c.end.ensures ∙ ok) (c.put_results.ensures.leaves pieces stood) in
     checked checking files pieces now results (c.in-Ok.ensures.vouches files checking told asked) (first_stand (pieces_due results) pieces now leaves)
+
+pub returns-in-Ok-clause-rewritten : goal.returns-in-Ok-clause-rewritten
+returns-in-Ok-clause-rewritten g c = λ files pieces checking told stood asked ok.
+    let now = g.S.Shelf.pieces c.put_results.new.shelf in
+    let results = c.in-Ok.results in
+    let due : Result (List FileBytes) Status = Ok (pieces_due results) in
+    let leaves = subst (λ (s : Status). Leaves s due pieces now) (sym c.end.ensures ∙ ok) (c.put_results.ensures.leaves pieces stood) in
+    renewed checking files pieces now results (c.in-Ok.ensures.renews files checking told asked) (first_stand (pieces_due results) pieces now leaves)
 
 pub returns-in-Ok-clause-refused : goal.returns-in-Ok-clause-refused
 returns-in-Ok-clause-refused g c = λ files cause told is calm. let due = c.in-Ok.ensures.told files told in absurd cc
