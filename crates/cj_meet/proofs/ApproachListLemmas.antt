@@ -1,6 +1,5 @@
 -- The closest approaches of several encounters: one more, and of some with those behind them.
-use Rattle.std.proofs.Common.{◌≡◌, ℕ, ◌+◌, ◌<◌, List, [], ◌∷◌, ◌++◌, map, length, get_or, take, drop, Option, Some, All, sym, ap, subst, ◌∙◌}
-use Rattle.std.specs.Prelude.{slice_range}
+use Rattle.std.proofs.Common.{◌≡◌, ℕ, ◌+◌, ◌<◌, List, [], ◌∷◌, ◌++◌, map, length, get_or, take, drop, Option, All, sym, ap, subst, ◌∙◌}
 use Rattle.std.proofs.lemmas.List.{map-append, map_more, map_push, take-append-drop}
 use Rattle.std.proofs.lemmas.List.Elements.{All-append, All-same, All-push, All-take, All-drop}
 use Rattle.std.proofs.lemmas.Slice.{between_is}

@@ -1,4 +1,4 @@
-use Rattle.std.proofs.Common.{◌≡◌, List, get_or, ap, ◌∙◌}
+use Rattle.std.proofs.Common.{List, get_or, ap, ◌∙◌}
 use Rattle.cj_track.specs.declared.track.Track.{Track}
 use Rattle.cj_meet.proofs.TestLemmas.{keeps_run}
 use Rattle.cj_meet.proofs.approach_tests.leaf.Goals as goal
