@@ -1,3 +1,4 @@
+pub mod BatchLemmas
 pub mod InputFileLemmas
 pub mod ReadingLemmas
 pub mod SortLemmas

@@ -1,12 +1,11 @@
 -- Reading files one after another.
-use Rattle.std.proofs.Common.{◌≡◌, ℕ, zero, suc, ◌+◌, ◌<◌, ◌≤◌, ◌⊎◌, inl, inr, List, [], ◌∷◌, ◌++◌, length, map, drop, get_or, Ok, Err, Result, Bool, true, false, refl, sym, ap, ap₂, ◌∙◌, arith, add-one}
+use Rattle.std.proofs.Common.{◌≡◌, ℕ, zero, suc, ◌+◌, ◌<◌, ◌≤◌, ◌⊎◌, inl, inr, List, [], ◌∷◌, ◌++◌, length, map, drop, get_or, Ok, Err, Result, Bool, true, false, refl, sym, ap, ap₂, ◌∙◌, arith}
 use Rattle.std.specs.Prelude.{nat_le}
 use Rattle.std.proofs.lemmas.Bool.Decides.{nat_tests}
 use Rattle.std.proofs.lemmas.Bool.{cases_lt}
 use Rattle.std.proofs.lemmas.List.{get_or_append_left, get_or_push, length-append, map-append}
 use Rattle.std.proofs.lemmas.List.Sums.{sum_by-cons, sum_by_push}
 use Rattle.cj_io.specs.declared.file.FileBytes.{FileBytes}
-use Rattle.cj_io.specs.Files.{bytes_of}
 use Rattle.cj_track.specs.PlainTracks.{PlainTrack}
 use Rattle.cj_oem.specs.Metadata.{same_frame}
 use Rattle.cj_track.specs.Segments.{node_count}
@@ -18,13 +17,13 @@ use Rattle.cj_track.specs.declared.track.Track.{Track}
 use Rattle.cj_hermite.specs.CaseLimits.{node_total}
 use Rattle.cj_hermite.specs.Frames.{HaveOneFrame}
 use Rattle.cj_status.specs.declared.status.Status.{Status}
-use Rattle.cj_status.specs.declared.status.Status.TheVariants.{BadFile, Limit}
+use Rattle.cj_status.specs.declared.status.Status.TheVariants.{Limit}
 use Rattle.cj_status.specs.declared.status.LimitFault.TheVariants as limit
 use Rattle.cj_inputs.specs.declared.reading.InputError.{InputError}
 use Rattle.cj_inputs.specs.declared.reading.InputError.TheVariants as input
 use Rattle.cj_inputs.specs.declared.input_files.Entry.{Entry}
 use Rattle.cj_status.specs.Steps.{◌>>=◌}
-use Rattle.cj_inputs.specs.Readings.{reading_of, reading_after, readings_after, checked_after, has_frame_of, nodes_of, nodes_in, Reads}
+use Rattle.cj_inputs.specs.Readings.{reading_after, readings_after, checked_after, has_frame_of, nodes_of, nodes_in, Reads}
 
 -- a reading that was given up, as one that goes on from it
 pub reads_on : {X Y A B : Type 0} (P : Type 0) (view : X → A) (seen : Y → B) (why : InputError) (read : Result A Status) (f : A → Result B Status)
@@ -98,58 +97,9 @@ one_frame_more tracks track one e = λ i j d below_i below_j. last i d below_i �
         either (inr h) = at_end i d (omega (arith, length-append tracks (track ∷ [])))
 
 -- the reading from an entry on: that file, and then the rest
-from_on : (as_hermite3 : Bool) (files : List FileBytes) (before : List PlainTrack) (entries : List Entry) (i : ℕ) (d : Entry) → i < length entries
+pub from_on : (as_hermite3 : Bool) (files : List FileBytes) (before : List PlainTrack) (entries : List Entry) (i : ℕ) (d : Entry) → i < length entries
     → readings_after as_hermite3 files before (drop i entries)
     ≡ (reading_after as_hermite3 files before (get_or entries i d) >>= λ e. readings_after as_hermite3 files (before ++ e ∷ []) (drop (suc i) entries))
 from_on as_hermite3 files before [] i d below = absurd (omega arith)
 from_on as_hermite3 files before (entry ∷ entries) zero d below = refl
 from_on as_hermite3 files before (entry ∷ entries) (suc i) d below = from_on as_hermite3 files before entries i d (omega arith)
-
-here_on : (as_hermite3 : Bool) (files : List FileBytes) (before : List PlainTrack) (entries : List Entry) (i : ℕ) (entry : Entry) (r : Result PlainTrack Status) → i < length entries
-    → get_or entries i entry ≡ entry → reading_after as_hermite3 files before entry ≡ r
-    → readings_after as_hermite3 files before (drop i entries) ≡ (r >>= λ e. readings_after as_hermite3 files (before ++ e ∷ []) (drop (suc i) entries))
-here_on as_hermite3 files before entries i entry r below is read =
-    let rest : PlainTrack → Result (List PlainTrack) Status = λ e. readings_after as_hermite3 files (before ++ e ∷ []) (drop (suc i) entries) in
-    from_on as_hermite3 files before entries i entry below
-    ∙ ap (λ (x : Entry). reading_after as_hermite3 files before x >>= rest) is
-    ∙ ap (λ (x : Result PlainTrack Status). x >>= rest) read
-
--- one more file was read, and fits
-pub goes_on : (as_hermite3 : Bool) (files : List FileBytes) (tracks : List Track) (entries : List Entry) (i : ℕ) (entry : Entry) (track : Track) (more : List Track) (total : Result (List PlainTrack) Status)
-    → i < length entries → get_or entries i entry ≡ entry → more ≡ tracks ++ track ∷ []
-    → reading_of as_hermite3 entry.name (bytes_of files entry.number) ≡ Ok (plain_track track) → checked_after (map plain_track tracks) entry.name (plain_track track) ≡ Ok (plain_track track)
-    → readings_after as_hermite3 files (map plain_track tracks) (drop i entries) ≡ total → readings_after as_hermite3 files (map plain_track more) (drop (i + 1) entries) ≡ total
-goes_on as_hermite3 files tracks entries i entry track more total below is pushed read fit so_far =
-    let before = map plain_track tracks in
-    let after : reading_after as_hermite3 files before entry ≡ Ok (plain_track track) = ap (λ (r : Result PlainTrack Status). r >>= checked_after before entry.name) read ∙ fit in
-    let all : map plain_track more ≡ before ++ plain_track track ∷ [] = ap (map plain_track) pushed ∙ map-append plain_track tracks (track ∷ []) in
-    rw (add-one, all) (sym (here_on as_hermite3 files before entries i entry (Ok (plain_track track)) below is after) ∙ so_far)
-
--- why one file is not taken is why the reading of all ends
-ends : {X Y : Type 0} {P Q : Type 0} (view : X → PlainTrack) (all : Y → List PlainTrack) (as_hermite3 : Bool) (files : List FileBytes) (before : List PlainTrack) (entries : List Entry) (i : ℕ) (entry : Entry) (why : InputError) (total : Result (List PlainTrack) Status)
-    → i < length entries → get_or entries i entry ≡ entry → (P → Q)
-    → Reads P view (Err why) (reading_after as_hermite3 files before entry)
-    → readings_after as_hermite3 files before (drop i entries) ≡ total → Reads Q all (Err why) total
-ends view all as_hermite3 files before entries i entry input.Memory total below is rose here so_far = tt
-ends view all as_hermite3 files before entries i entry input.Failed total below is rose here so_far = rose here
-ends view all as_hermite3 files before entries i entry (input.Refused file line cause) total below is rose here so_far =
-    sym so_far ∙ here_on as_hermite3 files before entries i entry (Err (BadFile file line cause)) below is here
-ends view all as_hermite3 files before entries i entry (input.Limit fault) total below is rose here so_far =
-    sym so_far ∙ here_on as_hermite3 files before entries i entry (Err (Limit fault)) below is here
-
-passes_on : {X Y : Type 0} (P : Type 0) (view : X → PlainTrack) (other : Y → PlainTrack) (why : InputError) (r s : Result PlainTrack Status) → ((e : Status) → r ≡ Err e → s ≡ Err e)
-    → Reads P view (Err why) r → Reads P other (Err why) s
-passes_on P view other input.Memory r s on here = tt
-passes_on P view other input.Failed r s on here = here
-passes_on P view other (input.Refused file line cause) r s on here = on (BadFile file line cause) here
-passes_on P view other (input.Limit fault) r s on here = on (Limit fault) here
-
--- a file was read, and does not fit
-pub is_apart : {X Y : Type 0} (Q : Type 0) (view : X → PlainTrack) (all : Y → List PlainTrack) (as_hermite3 : Bool) (files : List FileBytes) (before : List PlainTrack) (entries : List Entry) (i : ℕ) (entry : Entry) (e : PlainTrack) (why : InputError)
-    (total : Result (List PlainTrack) Status) → i < length entries → get_or entries i entry ≡ entry
-    → reading_of as_hermite3 entry.name (bytes_of files entry.number) ≡ Ok e → Reads ⊥ view (Err why) (checked_after before entry.name e)
-    → readings_after as_hermite3 files before (drop i entries) ≡ total → Reads Q all (Err why) total
-is_apart Q view all as_hermite3 files before entries i entry e why total below is read here so_far =
-    ends view all as_hermite3 files before entries i entry why total below is (λ none. absurd none)
-    (passes_on ⊥ view view why (checked_after before entry.name e) (reading_after as_hermite3 files before entry)
-    (λ s not. ap (λ (r : Result PlainTrack Status). r >>= checked_after before entry.name) read ∙ not) here) so_far

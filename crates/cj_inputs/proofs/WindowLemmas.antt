@@ -1,5 +1,5 @@
 -- The useable span of an ephemeris, of whose segments each begins where the one before ends, or later.
-use Rattle.std.proofs.Common.{◌≡◌, ℕ, zero, suc, ◌+◌, ◌-◌, ◌<◌, ◌≤◌, List, [], ◌∷◌, Option, Some, None, length, map, fold, refl, sym, ap, ◌∙◌, arith}
+use Rattle.std.proofs.Common.{◌≡◌, ℕ, ◌-◌, ◌≤◌, List, [], ◌∷◌, Some, length, map, fold, refl, sym, ap, ◌∙◌, arith}
 use Rattle.std.specs.Prelude.{min, max, slice_get}
 use Rattle.std.proofs.lemmas.Int.{clamps}
 use Rattle.cj_track.specs.declared.segment.Segment.{Segment}

@@ -1,3 +1,4 @@
+pub mod Batches
 pub mod Cases
 pub mod CheckInputs
 pub mod Errors

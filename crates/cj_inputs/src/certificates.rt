@@ -15,16 +15,20 @@ use cj_io::{Folder, Name};
 use cj_status::{CertificateCause, Status};
 use cj_words::Checking;
 use std::alloc::Global;
+use std::thread::Threads;
 
 /// The greatest number of bytes of a certificate.
 const MAX_BYTES: u64 = 1_073_741_824;
 
-/// Prepares the problem that the settings ask for, and then reads the first file with the certificate's name.
+/// Prepares the problem that the settings ask for, and then reads the first file with the certificate's name. The ephemerides are parsed by
+/// so many workers.
 #[tactic(auto, unfolding(crate::specs::CheckInputs::inputs_asked))]
-pub fn prepare_check<F: Folder>(
+pub fn prepare_check<R: Threads + Sync, F: Folder>(
+    rt: &R,
     alloc: Global,
     folder: &mut F,
     checking: &Checking,
+    workers: u32,
 ) -> Result<CheckInputs, Status>
     ensures between { IfErr result ComesBetween }
     ensures read { result ≡ Err Status.ReadFault → Rose (F.faults folder.old) (F.faults folder.new) }
@@ -36,7 +40,7 @@ pub fn prepare_check<F: Folder>(
     ensures later { F.faults folder.old ≤ F.faults folder.new }
 {
     let names = folder.names(alloc)?;
-    let problem = prepare_listed(alloc, folder, &names, &checking.settings)?;
+    let problem = prepare_listed(rt, alloc, folder, &names, &checking.settings, workers)?;
     let certificate = read_certificate(alloc, folder, &names, checking.certificate)?;
     Ok(CheckInputs {
         problem,

@@ -1,13 +1,18 @@
 //! From the words and the files of a folder to the problem that is to be screened.
 #![tactic(auto)]
 
+mod batch;
+mod batching;
 mod certificates;
 mod check_inputs;
 mod errors;
 mod input_files;
 mod object_sizes;
+mod parsing;
 mod preparing;
 mod reading;
+mod taken;
+mod taking;
 mod window;
 
 pub use certificates::prepare_check;

@@ -13,7 +13,7 @@ ghost use Rattle.cj_status.specs.Steps.{Gives, ComesBetween, IsLimit};
 
 use crate::input_files::{Entry, list_inputs};
 use crate::object_sizes::{read_size_lines, sizes_of_tracks};
-use crate::reading::read_tracks;
+use crate::taking::read_tracks;
 use crate::window::window_of;
 use cj_epoch::Window;
 use cj_hermite::{Problem, Sizes, Tracks, slot_count};
@@ -22,6 +22,7 @@ use cj_status::{LimitFault, Status};
 use cj_track::Track;
 use cj_words::Settings;
 use std::alloc::Global;
+use std::thread::Threads;
 
 /// The greatest number of objects.
 const MAX_OBJECTS: usize = 2000;
@@ -33,10 +34,13 @@ const MAX_LENGTH: u64 = 1_209_600_000_000;
 const MAX_SLOTS: u64 = 4_000_000;
 
 /// Reads the files that are taken and the sizes of their objects, and puts them with the window and the threshold that are asked for.
-pub fn prepare<F: Folder>(
+/// The files are parsed by so many workers.
+pub fn prepare<R: Threads + Sync, F: Folder>(
+    rt: &R,
     alloc: Global,
     folder: &mut F,
     settings: &Settings,
+    workers: u32,
 ) -> Result<Problem, Status>
     ensures between { IfErr result ComesBetween }
     ensures read { result ≡ Err Status.ReadFault → Rose (F.faults folder.old) (F.faults folder.new) }
@@ -47,16 +51,18 @@ pub fn prepare<F: Folder>(
     ensures later { F.faults folder.old ≤ F.faults folder.new }
 {
     let names = folder.names(alloc)?;
-    prepare_listed(alloc, folder, &names, settings)
+    prepare_listed(rt, alloc, folder, &names, settings, workers)
 }
 
 /// The same of a folder with these names.
 #[tactic(auto, unfolding(crate::specs::Cases::case_asked))]
-pub fn prepare_listed<F: Folder>(
+pub fn prepare_listed<R: Threads + Sync, F: Folder>(
+    rt: &R,
     alloc: Global,
     folder: &mut F,
     names: &[Name],
     settings: &Settings,
+    workers: u32,
 ) -> Result<Problem, Status>
     requires many { length names.now < 2 ^ 32 }
     requires count { F.count folder.old ≡ length names.now }
@@ -74,7 +80,7 @@ pub fn prepare_listed<F: Folder>(
     if entries.len() > MAX_OBJECTS {
         return Err(too_many_objects(entries.len() as u32));
     }
-    let tracks = read_tracks(alloc, folder, &entries, settings.as_hermite3)?;
+    let tracks = read_tracks(rt, alloc, folder, &entries, settings.as_hermite3, workers)?;
     let lines = read_size_lines(alloc, folder, names, settings.sizes)?;
     let sizes = sizes_of_tracks(alloc, &lines, &tracks)?;
     let window = window_of(settings, &tracks);

@@ -1,5 +1,5 @@
-use Rattle.std.proofs.Common.{◌≡◌, ◌∙◌, ◌++◌, [], ◌∷◌, ◌<◌, ℕ, List, Bor, map, length, take, ap, sym, arith}
-use Rattle.std.proofs.lemmas.List.{length-map, map_more, map_push, take_all}
+use Rattle.std.proofs.Common.{◌∙◌, ◌++◌, [], ◌∷◌, ℕ, List, Bor, map, take, ap, sym, arith}
+use Rattle.std.proofs.lemmas.List.{map_more, map_push, take_all}
 use Rattle.std.proofs.lemmas.Simd.{map-map}
 use Rattle.cj_sizes.specs.Sizes.{radius_of, sizes_of}
 use Rattle.cj_track.specs.PlainTracks.{PlainTrack}

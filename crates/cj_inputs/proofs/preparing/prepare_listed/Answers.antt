@@ -1,12 +1,12 @@
-use Rattle.std.proofs.Common.{arith, ◌<◌, ◌∙◌, ℕ, subst, ap, List, length, get_or}
+use Rattle.std.proofs.Common.{arith, ◌<◌, ◌∙◌, subst, ap, List, length, get_or}
 use Rattle.cj_inputs.specs.declared.input_files.Entry.{Entry}
 use Rattle.cj_inputs.proofs.preparing.prepare_listed.Goals as goal
 
 pub overflow_cast-len : goal.overflow_cast-len
 overflow_cast-len g c = omega (arith, c.len-then-len-gt-MAX_OBJECTS.ensures, c.in_ok-entries.ensures.few, c.requires.many)
 
-pub read_tracks-requires : goal.read_tracks-requires
-read_tracks-requires g c = λ k d below.
+pub read_tracks-requires-clause-numbers : goal.read_tracks-requires-clause-numbers
+read_tracks-requires-clause-numbers g c = λ lifetimes outlive k d below.
     let listed : k < length c.in_ok-entries.entries.items = subst (λ (es : List Entry). k < length es) c.deref.ensures.value below in
     let here = c.in_ok-entries.ensures.numbers k d listed in
     let same = ap (λ (es : List Entry). (get_or es k d).number) c.deref.ensures.value in

@@ -1,0 +1,266 @@
+-- Files that are read one after another and parsed side by side, and the reading of all.
+use Rattle.std.proofs.Common.{◌≡◌, ℕ, suc, ◌+◌, ◌-◌, ◌<◌, List, [], ◌∷◌, ◌++◌, length, map, take, drop, get_or, Ok, Err, Result, Bool, Vec, Global, refl, sym, ap, subst, ◌∙◌, arith}
+use Rattle.std.specs.List.{AllZip}
+use Rattle.std.specs.Prelude.{IfOk, IfSome, Option, Some, None}
+use Rattle.std.specs.declared.alloc.AllocError.{AllocError}
+use Rattle.std.proofs.lemmas.List.{length-map, map-append, map_more, take_more}
+use Rattle.std.proofs.lemmas.Slice.Zip.{AllZip-long, all_zipped_more}
+use Rattle.cj_io.specs.declared.file.FileBytes.{FileBytes}
+use Rattle.cj_io.specs.Files.{bytes_of}
+use Rattle.cj_track.specs.PlainTracks.{PlainTrack}
+use Rattle.cj_track.specs.Tracks.{plain_track}
+use Rattle.cj_track.specs.declared.track.Track.{Track}
+use Rattle.cj_oem.specs.Reading.{Fault, reading}
+use Rattle.cj_oem.proofs.GrammarLemmas.{reading_says}
+use Rattle.cj_status.specs.declared.status.Status.{Status}
+use Rattle.cj_status.specs.Steps.{◌>>=◌}
+use Rattle.cj_inputs.specs.declared.batch.Batch.{Batch}
+use Rattle.cj_inputs.specs.declared.batch.FileRead.{FileRead}
+use Rattle.cj_inputs.specs.declared.input_files.Entry.{Entry}
+use Rattle.cj_inputs.specs.declared.reading.InputError.{InputError}
+use Rattle.cj_inputs.specs.declared.reading.InputError.TheVariants as input
+use Rattle.cj_inputs.specs.declared.taken.Taken.{Taken}
+use Rattle.cj_inputs.specs.Batches.{AreParsed, GoesOn, IsBatchOf, IsCause, WasRead, said_by, tracks_after}
+use Rattle.cj_inputs.specs.Readings.{Reads, checked_after, reading_after, reading_of, readings_after, refused_of, within_bytes}
+use Rattle.cj_inputs.proofs.ReadingLemmas.{from_on, reads_on}
+
+-- a reading that was given up, where more may have failed
+pub reads_wider : {X Y A : Type 0} (P Q : Type 0) (view : X → A) (seen : Y → A) (why : InputError) (read : Result A Status) → (P → Q) → Reads P view (Err why) read → Reads Q seen (Err why) read
+reads_wider P Q view seen input.Memory read wider here = tt
+reads_wider P Q view seen input.Failed read wider here = wider here
+reads_wider P Q view seen (input.Refused file line cause) read wider here = here
+reads_wider P Q view seen (input.Limit fault) read wider here = here
+
+-- ---- a file that was read
+
+-- what a file says names the file
+said_named : (as_hermite3 : Bool) (name bytes : List ℕ) (e : PlainTrack) → refused_of name (reading name bytes as_hermite3) ≡ Ok e → e.file ≡ name
+said_named as_hermite3 name bytes e is = (reading_says as_hermite3 name bytes e (unrefused (reading name bytes as_hermite3) is)).named
+  where
+    unrefused : (r : Result PlainTrack Fault) → refused_of name r ≡ Ok e → r ≡ Ok e
+    unrefused (Ok d) same = let one : d ≡ e = cc in ap Ok one
+    unrefused (Err fault) same = absurd cc
+
+-- the reading of a file that was read
+one_after : (as_hermite3 : Bool) (files : List FileBytes) (before : List PlainTrack) (entry : Entry) (file : FileRead) → WasRead files entry file
+    → reading_after as_hermite3 files before entry ≡ (said_by as_hermite3 file >>= λ e. checked_after before e.file e)
+unfolding reading_of
+one_after as_hermite3 files before entry file was =
+    ap (λ (r : Result PlainTrack Status). r >>= checked_after before entry.name) said ∙ named (said_by as_hermite3 file) (λ e is. said_named as_hermite3 file.name.now file.bytes.items e is ∙ was.name)
+  where
+    said : reading_of as_hermite3 entry.name (bytes_of files entry.number) ≡ said_by as_hermite3 file
+    said =
+        ap (λ (r : Result (List ℕ) Status). r >>= λ whole. refused_of entry.name (reading entry.name whole as_hermite3)) was.bytes
+        ∙ ap (λ (name : List ℕ). refused_of name (reading name file.bytes.items as_hermite3)) (sym was.name)
+
+    named : (r : Result PlainTrack Status) → ((e : PlainTrack) → r ≡ Ok e → e.file ≡ entry.name) → (r >>= checked_after before entry.name) ≡ (r >>= λ e. checked_after before e.file e)
+    named (Ok e) is = ap (λ (name : List ℕ). checked_after before name e) (sym (is e refl))
+    named (Err s) is = refl
+
+-- the reading of files of which the first were read: those, and then the rest
+pub front_read : (as_hermite3 : Bool) (files : List FileBytes) (before : List PlainTrack) (entries : List Entry) (read : List FileRead) → AllZip (WasRead files) (take (length read) entries) read
+    → readings_after as_hermite3 files before entries
+    ≡ (tracks_after before (map (said_by as_hermite3) read) >>= λ es. readings_after as_hermite3 files es (drop (length read) entries))
+front_read as_hermite3 files before entries [] all = refl
+front_read as_hermite3 files before [] (file ∷ read) all = absurd all
+front_read as_hermite3 files before (entry ∷ entries) (file ∷ read) all =
+    ap (λ (r : Result PlainTrack Status). r >>= λ e. readings_after as_hermite3 files (before ++ e ∷ []) entries) (one_after as_hermite3 files before entry file all.0)
+    ∙ later (said_by as_hermite3 file >>= λ e. checked_after before e.file e) (λ e. front_read as_hermite3 files (before ++ e ∷ []) entries read all.1)
+  where
+    behind : List PlainTrack → Result (List PlainTrack) Status
+    behind es = readings_after as_hermite3 files es (drop (length read) entries)
+
+    later : (r : Result PlainTrack Status)
+        → ((e : PlainTrack) → readings_after as_hermite3 files (before ++ e ∷ []) entries ≡ (tracks_after (before ++ e ∷ []) (map (said_by as_hermite3) read) >>= behind))
+        → (r >>= λ e. readings_after as_hermite3 files (before ++ e ∷ []) entries) ≡ ((r >>= λ e. tracks_after (before ++ e ∷ []) (map (said_by as_hermite3) read)) >>= behind)
+    later (Ok e) each = each e
+    later (Err s) each = refl
+
+-- ---- how a batch ends
+
+-- one of the files that were read is not taken
+pub front_fails : {X Y : Type 0} (rose : Type 0) (view : X → List PlainTrack) (seen : Y → List PlainTrack) (why : InputError) (whole front : Result (List PlainTrack) Status) (f : List PlainTrack → Result (List PlainTrack) Status)
+    → whole ≡ (front >>= f) → Reads ⊥ view (Err why) front → Reads rose seen (Err why) whole
+front_fails rose view seen why whole front f is here =
+    subst (λ (r : Result (List PlainTrack) Status). Reads rose seen (Err why) r) (sym is) (reads_wider ⊥ rose seen seen why (front >>= f) (λ none. absurd none) (reads_on ⊥ view seen why front f here))
+
+-- the file at a place is not read
+pub next_fails : {Y : Type 0} (rose : Type 0) (seen : Y → List PlainTrack) (as_hermite3 : Bool) (files : List FileBytes) (before : List PlainTrack) (entries : List Entry) (place : ℕ) (why : InputError)
+    → IsCause rose files entries place why → Reads rose seen (Err why) (readings_after as_hermite3 files before (drop place entries))
+unfolding reading_of
+next_fails {Y} rose seen as_hermite3 files before entries place why cause =
+    let entry = cause.entry in
+    let bytes : List ℕ → List ℕ = λ bs. bs in
+    let track : PlainTrack → PlainTrack = λ e. e in
+    let rest : PlainTrack → Result (List PlainTrack) Status = λ e. readings_after as_hermite3 files (before ++ e ∷ []) (drop (suc place) entries) in
+    let one = reads_on rose bytes track why (within_bytes entry.name (bytes_of files entry.number)) (λ whole. refused_of entry.name (reading entry.name whole as_hermite3)) cause.read in
+    let two = reads_on rose track track why (reading_of as_hermite3 entry.name (bytes_of files entry.number)) (checked_after before entry.name) one in
+    let three = reads_on rose track seen why (reading_after as_hermite3 files before entry) rest two in
+    let here : readings_after as_hermite3 files before (drop place entries) ≡ (reading_after as_hermite3 files before entry >>= rest) =
+    from_on as_hermite3 files before entries place entry cause.exists ∙ ap (λ (x : Entry). reading_after as_hermite3 files before x >>= rest) cause.stands in
+    subst (λ (r : Result (List PlainTrack) Status). Reads rose seen (Err why) r) (sym here) three
+
+-- all that were read are taken: the rest leads where all lead
+pub front_taken : (as_hermite3 : Bool) (files : List FileBytes) (before after : List PlainTrack) (entries : List Entry) (read : List FileRead) → AllZip (WasRead files) (take (length read) entries) read
+    → tracks_after before (map (said_by as_hermite3) read) ≡ Ok after → readings_after as_hermite3 files before entries ≡ readings_after as_hermite3 files after (drop (length read) entries)
+front_taken as_hermite3 files before after entries read all taken =
+    front_read as_hermite3 files before entries read all
+    ∙ ap (λ (r : Result (List PlainTrack) Status). r >>= λ es. readings_after as_hermite3 files es (drop (length read) entries)) taken
+
+-- ---- one after another
+
+-- a reading that was given up
+reading_fails : {Y : Type 0} (seen : Y → List PlainTrack) (before : List PlainTrack) (why : InputError) (s : Result PlainTrack Status) (more : List (Result PlainTrack Status))
+    → Reads ⊥ plain_track (Err why) s → Reads ⊥ seen (Err why) (tracks_after before (s ∷ more))
+reading_fails seen before why s more here =
+    let track : PlainTrack → PlainTrack = λ e. e in
+    reads_on ⊥ track seen why (s >>= λ e. checked_after before e.file e) (λ e. tracks_after (before ++ e ∷ []) more)
+    (reads_on ⊥ plain_track track why s (λ e. checked_after before e.file e) here)
+
+-- a track that may not stand there
+limit_fails : {X Y : Type 0} (view : X → PlainTrack) (seen : Y → List PlainTrack) (before : List PlainTrack) (why : InputError) (e : PlainTrack) (s : Result PlainTrack Status) (more : List (Result PlainTrack Status))
+    → s ≡ Ok e → Reads ⊥ view (Err why) (checked_after before e.file e) → Reads ⊥ seen (Err why) (tracks_after before (s ∷ more))
+limit_fails view seen before why e s more is here =
+    subst (λ (r : Result PlainTrack Status). Reads ⊥ seen (Err why) (tracks_after before (r ∷ more))) (sym is)
+    (reads_on ⊥ view seen why (checked_after before e.file e) (λ d. tracks_after (before ++ d ∷ []) more) here)
+
+-- a track that may
+track_more : (before : List PlainTrack) (e : PlainTrack) (s : Result PlainTrack Status) (more : List (Result PlainTrack Status)) → s ≡ Ok e → checked_after before e.file e ≡ Ok e
+    → tracks_after before (s ∷ more) ≡ tracks_after (before ++ e ∷ []) more
+track_more before e s more is fit =
+    ap (λ (r : Result PlainTrack Status). tracks_after before (r ∷ more)) is ∙ ap (λ (r : Result PlainTrack Status). r >>= λ d. tracks_after (before ++ d ∷ []) more) fit
+
+-- what these readings are of leads from the ephemerides before to this end
+pub record LeadsTo (readings : List (Result Track InputError)) (before : List PlainTrack) (end : Result (List PlainTrack) Status) : Type 0 where
+  pub said : List (Result PlainTrack Status)
+  pub each : AllZip (Reads ⊥ plain_track) readings said
+  pub leads : tracks_after before said ≡ end
+
+-- the first reading was given up
+pub given_up : {Y : Type 0} {readings rest : List (Result Track InputError)} {before : List PlainTrack} {end : Result (List PlainTrack) Status} {reading : Result Track InputError} (seen : Y → List PlainTrack) (why : InputError)
+    → readings ≡ reading ∷ rest → reading ≡ Err why → LeadsTo readings before end → Reads ⊥ seen (Err why) end
+given_up {Y} {readings} {rest} {before} {end} {reading} seen why front is to =
+    go to.said (subst (λ (rs : List (Result Track InputError)). AllZip (Reads ⊥ plain_track) rs to.said) (front ∙ ap (λ (r : Result Track InputError). r ∷ rest) is) to.each) to.leads
+  where
+    go : (said : List (Result PlainTrack Status)) → AllZip (Reads ⊥ plain_track) (Err why ∷ rest) said → tracks_after before said ≡ end → Reads ⊥ seen (Err why) end
+    go [] all leads = absurd all
+    go (s ∷ more) all leads = subst (λ (r : Result (List PlainTrack) Status). Reads ⊥ seen (Err why) r) leads (reading_fails seen before why s more all.0)
+
+-- the first track may not stand there
+pub not_taken : {X Y : Type 0} {readings rest : List (Result Track InputError)} {before : List PlainTrack} {end : Result (List PlainTrack) Status} {reading : Result Track InputError} (view : X → PlainTrack) (seen : Y → List PlainTrack)
+    (why : InputError) (track : Track) → readings ≡ reading ∷ rest → reading ≡ Ok track → Reads ⊥ view (Err why) (checked_after before track.file (plain_track track)) → LeadsTo readings before end → Reads ⊥ seen (Err why) end
+not_taken {X} {Y} {readings} {rest} {before} {end} {reading} view seen why track front is here to =
+    go to.said (subst (λ (rs : List (Result Track InputError)). AllZip (Reads ⊥ plain_track) rs to.said) (front ∙ ap (λ (r : Result Track InputError). r ∷ rest) is) to.each) to.leads
+  where
+    go : (said : List (Result PlainTrack Status)) → AllZip (Reads ⊥ plain_track) (Ok track ∷ rest) said → tracks_after before said ≡ end → Reads ⊥ seen (Err why) end
+    go [] all leads = absurd all
+    go (s ∷ more) all leads = subst (λ (r : Result (List PlainTrack) Status). Reads ⊥ seen (Err why) r) leads (limit_fails view seen before why (plain_track track) s more all.0 here)
+
+-- the first track is taken
+pub one_taken : {readings rest : List (Result Track InputError)} {end : Result (List PlainTrack) Status} {reading : Result Track InputError} (tracks all : List Track) (track : Track) → readings ≡ reading ∷ rest → reading ≡ Ok track
+    → checked_after (map plain_track tracks) track.file (plain_track track) ≡ Ok (plain_track track) → all ≡ tracks ++ track ∷ [] → LeadsTo readings (map plain_track tracks) end → LeadsTo rest (map plain_track all) end
+one_taken {readings} {rest} {end} {reading} tracks all track front is fit more to =
+    go to.said (subst (λ (rs : List (Result Track InputError)). AllZip (Reads ⊥ plain_track) rs to.said) (front ∙ ap (λ (r : Result Track InputError). r ∷ rest) is) to.each) to.leads
+  where
+    go : (said : List (Result PlainTrack Status)) → AllZip (Reads ⊥ plain_track) (Ok track ∷ rest) said → tracks_after (map plain_track tracks) said ≡ end → LeadsTo rest (map plain_track all) end
+    go [] each leads = absurd each
+    go (s ∷ behind) each leads = record {
+      said = behind;
+      each = each.1;
+      leads = ap (λ (es : List PlainTrack). tracks_after es behind) (ap (map plain_track) more ∙ map-append plain_track tracks (track ∷ []))
+          ∙ sym (track_more (map plain_track tracks) (plain_track track) s behind each.0 fit) ∙ leads;
+    }
+
+-- no reading is left
+pub none_left : {readings : List (Result Track InputError)} {before : List PlainTrack} {end : Result (List PlainTrack) Status} → readings ≡ [] → LeadsTo readings before end → end ≡ Ok before
+none_left {readings} {before} {end} none to =
+    go to.said (subst (λ (rs : List (Result Track InputError)). AllZip (Reads ⊥ plain_track) rs to.said) none to.each) to.leads
+  where
+    go : (said : List (Result PlainTrack Status)) → AllZip (Reads ⊥ plain_track) [] said → tracks_after before said ≡ end → end ≡ Ok before
+    go [] all leads = sym leads
+    go (s ∷ more) all leads = absurd all
+
+-- ---- side by side
+
+all_zipped_append : {X Y : Type 0} (R : X → Y → Type 0) (xs : List X) (ys : List Y) (us : List X) (vs : List Y) → AllZip R xs ys → AllZip R us vs → AllZip R (xs ++ us) (ys ++ vs)
+all_zipped_append R [] [] us vs front back = back
+all_zipped_append R [] (y ∷ ys) us vs front back = absurd front
+all_zipped_append R (x ∷ xs) [] us vs front back = absurd front
+all_zipped_append R (x ∷ xs) (y ∷ ys) us vs front back = (front.0, all_zipped_append R xs ys us vs front.1 back)
+
+-- what some files say, and what those behind them say
+both_parsed : (as_hermite3 : Bool) (some others all : List FileRead) (front back readings : List (Result Track InputError)) → all ≡ some ++ others → readings ≡ front ++ back
+    → AreParsed as_hermite3 some front → AreParsed as_hermite3 others back → AreParsed as_hermite3 all readings
+both_parsed as_hermite3 some others all front back readings whole joined one two =
+    let said : List FileRead → List (Result PlainTrack Status) = map (said_by as_hermite3) in
+    subst (λ (rs : List (Result Track InputError)). AllZip (Reads ⊥ plain_track) rs (said all)) (sym joined)
+    (subst (AllZip (Reads ⊥ plain_track) (front ++ back)) (sym (ap said whole ∙ map-append (said_by as_hermite3) some others))
+    (all_zipped_append (Reads ⊥ plain_track) front (said some) back (said others) one two))
+
+-- one more file
+pub parsed_more : (as_hermite3 : Bool) (files : List FileRead) (i : ℕ) (file : FileRead) (readings : List (Result Track InputError)) (reading : Result Track InputError) → i < length files
+    → file ≡ get_or files i file → AreParsed as_hermite3 (take i files) readings → Reads ⊥ plain_track reading (said_by as_hermite3 file) → AreParsed as_hermite3 (take (i + 1) files) (readings ++ reading ∷ [])
+parsed_more as_hermite3 files i file readings reading below is front here =
+    let said : List FileRead → List (Result PlainTrack Status) = map (said_by as_hermite3) in
+    subst (AllZip (Reads ⊥ plain_track) (readings ++ reading ∷ []))
+    (sym (map_more (said_by as_hermite3) files i file below ∙ ap (λ (f : FileRead). said (take i files) ++ said_by as_hermite3 f ∷ []) (sym is)))
+    (all_zipped_more (Reads ⊥ plain_track) readings (said (take i files)) reading (said_by as_hermite3 file) front here)
+
+-- where both halves were parsed
+pub halves_parsed : (as_hermite3 : Bool) (some others all : List FileRead) (front back : List (Result Track InputError)) (r : Result (Vec (Result Track InputError) Global) AllocError) → all ≡ some ++ others
+    → IfOk r (λ readings. readings.items ≡ front ++ back) → AreParsed as_hermite3 some front → AreParsed as_hermite3 others back → IfOk r (λ readings. AreParsed as_hermite3 all readings.items)
+halves_parsed as_hermite3 some others all front back (Err why) whole joined one two = tt
+halves_parsed as_hermite3 some others all front back (Ok readings) whole joined one two = both_parsed as_hermite3 some others all front back readings.items whole joined one two
+
+-- ---- read one after another
+
+-- one more file was read
+pub read_more : (files : List FileBytes) (entries : List Entry) (i : ℕ) (entry : Entry) (read : List FileRead) (file : FileRead) → i < length entries → entry ≡ get_or entries i entry
+    → AllZip (WasRead files) (take i entries) read → WasRead files entry file → AllZip (WasRead files) (take (i + 1) entries) (read ++ file ∷ [])
+read_more files entries i entry read file below is front was =
+    subst (λ (es : List Entry). AllZip (WasRead files) es (read ++ file ∷ [])) (sym (take_more entries i entry below ∙ ap (λ (e : Entry). take i entries ++ e ∷ []) (sym is)))
+    (all_zipped_more (WasRead files) (take i entries) read entry file front was)
+
+-- ---- how a batch ends, as the reading of all
+
+abbrev taken_seen : Taken → List PlainTrack
+taken_seen taken = map plain_track taken.tracks.items
+
+-- one of the files that were read is not taken
+pub batch_fails : (rose wide : Type 0) (as_hermite3 : Bool) (files : List FileBytes) (before : List PlainTrack) (entries : List Entry) (batch : Batch) (why : InputError) → IsBatchOf rose files entries batch
+    → Reads ⊥ taken_seen (Err why) (tracks_after before (map (said_by as_hermite3) batch.files.items)) → GoesOn wide as_hermite3 files before entries (Err why)
+batch_fails rose wide as_hermite3 files before entries batch why of here =
+    front_fails wide taken_seen taken_seen why (readings_after as_hermite3 files before entries) (tracks_after before (map (said_by as_hermite3) batch.files.items))
+    (λ es. readings_after as_hermite3 files es (drop (length batch.files.items) entries)) (front_read as_hermite3 files before entries batch.files.items of.front) here
+
+cause_of : (P : InputError → Type 0) (o : Option InputError) (why : InputError) → o ≡ Some why → IfSome o P → P why
+cause_of P None why is here = absurd cc
+cause_of P (Some other) why is here = let same : other ≡ why = cc in subst P same here
+
+-- all are taken, and the next was not read
+pub batch_stops : (rose : Type 0) (as_hermite3 : Bool) (files : List FileBytes) (before after : List PlainTrack) (entries : List Entry) (batch : Batch) (why : InputError) → IsBatchOf rose files entries batch
+    → tracks_after before (map (said_by as_hermite3) batch.files.items) ≡ Ok after → batch.stop ≡ Some why → GoesOn rose as_hermite3 files before entries (Err why)
+batch_stops rose as_hermite3 files before after entries batch why of taken stop =
+    subst (λ (r : Result (List PlainTrack) Status). Reads rose taken_seen (Err why) r) (sym (front_taken as_hermite3 files before after entries batch.files.items of.front taken))
+    (next_fails rose taken_seen as_hermite3 files after entries (length batch.files.items) why
+    (cause_of (IsCause rose files entries (length batch.files.items)) batch.stop why stop of.stop))
+
+-- all are taken
+pub batch_taken : (rose : Type 0) (as_hermite3 : Bool) (files : List FileBytes) (before : List PlainTrack) (entries : List Entry) (batch : Batch) (all : Taken) → IsBatchOf rose files entries batch
+    → tracks_after before (map (said_by as_hermite3) batch.files.items) ≡ Ok (taken_seen all) → length all.tracks.items ≡ length before + length batch.files.items
+    → GoesOn rose as_hermite3 files before entries (Ok all)
+batch_taken rose as_hermite3 files before entries batch all of taken many =
+    let place : length batch.files.items ≡ length all.tracks.items - length before = omega (arith, many) in
+    front_taken as_hermite3 files before (taken_seen all) entries batch.files.items of.front taken
+    ∙ ap (λ (k : ℕ). readings_after as_hermite3 files (taken_seen all) (drop k entries)) place
+
+-- as many readings as files
+pub many_parsed : (as_hermite3 : Bool) (files : List FileRead) (readings : List (Result Track InputError)) → AreParsed as_hermite3 files readings → length readings ≡ length files
+many_parsed as_hermite3 files readings parsed = sym (AllZip-long (Reads ⊥ plain_track) readings (map (said_by as_hermite3) files) parsed) ∙ length-map files (said_by as_hermite3)
+
+-- a reading that was given up for no fault of the folder
+pub not_failed : {X A : Type 0} (view : X → A) (why : InputError) (read : Result A Status) → Reads ⊥ view (Err why) read → why ≡ input.Failed → ⊥
+not_failed view input.Memory read here is = absurd cc
+not_failed view input.Failed read here is = here
+not_failed view (input.Refused file line cause) read here is = absurd cc
+not_failed view (input.Limit fault) read here is = absurd cc

@@ -1,0 +1,56 @@
+-- Files that are read one after another and parsed side by side.
+use Rattle.std.specs.Prelude.{◌≡◌, ℕ, ◌-◌, ◌<◌, Bool, List, [], ◌∷◌, ◌++◌, length, take, drop, map, slice_index_or, Result, Ok, Err, IfSome}
+use Rattle.std.specs.List.{AllZip}
+use Rattle.cj_io.specs.declared.file.FileBytes.{FileBytes}
+use Rattle.cj_io.specs.Files.{bytes_of}
+use Rattle.cj_track.specs.PlainTracks.{PlainTrack}
+use Rattle.cj_track.specs.Tracks.{plain_track}
+use Rattle.cj_track.specs.declared.track.Track.{Track}
+use Rattle.cj_oem.specs.Reading.{reading}
+use Rattle.cj_status.specs.declared.status.Status.{Status}
+use Rattle.cj_status.specs.Steps.{◌>>=◌}
+use Rattle.cj_inputs.specs.declared.batch.Batch.{Batch}
+use Rattle.cj_inputs.specs.declared.batch.FileRead.{FileRead}
+use Rattle.cj_inputs.specs.declared.input_files.Entry.{Entry}
+use Rattle.cj_inputs.specs.declared.reading.InputError.{InputError}
+use Rattle.cj_inputs.specs.declared.taken.Taken.{Taken}
+use Rattle.cj_inputs.specs.Readings.{Reads, checked_after, readings_after, refused_of, within_bytes}
+
+-- the file that was read has the entry's name, and these are its bytes
+pub record WasRead (files : List FileBytes) (entry : Entry) (file : FileRead) : Type 0 where
+  pub name : file.name.now ≡ entry.name
+  pub bytes : within_bytes entry.name (bytes_of files entry.number) ≡ Ok file.bytes.items
+
+-- why the file at this place is not read
+pub record IsCause (rose : Type 0) (files : List FileBytes) (entries : List Entry) (place : ℕ) (why : InputError) : Type 0 where
+  pub entry : Entry
+  pub exists : place < length entries
+  pub stands : slice_index_or entries place entry ≡ entry
+  pub read : Reads rose (λ (bytes : List ℕ). bytes) (Err why) (within_bytes entry.name (bytes_of files entry.number))
+
+-- the first of these files were read, and where there is a cause, it is why the next was not
+pub record IsBatchOf (rose : Type 0) (files : List FileBytes) (entries : List Entry) (batch : Batch) : Type 0 where
+  pub front : AllZip (WasRead files) (take (length batch.files.items) entries) batch.files.items
+  pub stop : IfSome batch.stop (IsCause rose files entries (length batch.files.items))
+
+-- what a file says that was read
+abbrev pub said_by : Bool → FileRead → Result PlainTrack Status
+said_by as_hermite3 file = refused_of file.name.now (reading file.name.now file.bytes.items as_hermite3)
+
+-- each is what its file says
+abbrev pub AreParsed : Bool → List FileRead → List (Result Track InputError) → Type 0
+AreParsed as_hermite3 files readings = AllZip (Reads ⊥ plain_track) readings (map (said_by as_hermite3) files)
+
+-- the ephemerides before, and these, or why the first that may not stand there is not taken
+abbrev pub tracks_after : List PlainTrack → List (Result PlainTrack Status) → Result (List PlainTrack) Status
+tracks_after before [] = Ok before
+tracks_after before (said ∷ more) = (said >>= λ e. checked_after before e.file e) >>= λ e. tracks_after (before ++ e ∷ []) more
+
+-- Some of these files are taken behind the ephemerides before, and what is left leads where all of them lead; or this is why the first that
+-- is not taken is not.
+abbrev pub GoesOn : Type 0 → Bool → List FileBytes → List PlainTrack → List Entry → Result Taken InputError → Type 0
+GoesOn rose as_hermite3 files before entries (Ok taken) =
+    readings_after as_hermite3 files before entries
+    ≡ readings_after as_hermite3 files (map plain_track taken.tracks.items) (drop (length taken.tracks.items - length before) entries)
+GoesOn rose as_hermite3 files before entries (Err why) =
+    Reads rose (λ (taken : Taken). map plain_track taken.tracks.items) (Err why) (readings_after as_hermite3 files before entries)

@@ -1,0 +1,72 @@
+//! Files that are read one after another, to be parsed side by side.
+ghost use Rattle.std.specs.Prelude.{◌≡◌, ◌<◌, ◌≤◌, List, Some, None, length, IfOk};
+ghost use Rattle.std.specs.List.{All};
+ghost use Rattle.cj_io.specs.Faults.{Rose};
+ghost use Rattle.cj_io.specs.declared.file.FileBytes.{FileBytes};
+ghost use Rattle.cj_inputs.specs.Batches.{IsBatchOf};
+
+use crate::batch::{Batch, FileRead};
+use crate::input_files::Entry;
+use crate::reading::{InputError, read_file};
+use cj_io::Folder;
+use std::alloc::{AllocError, Global};
+
+/// How many files are read for each of several workers, before they are parsed.
+const FILES_A_WORKER: usize = 16;
+
+/// From so many bytes on no more files are read before these are parsed.
+const MANY_BYTES: u64 = 67_108_864;
+
+/// How many files are read, at most, before they are parsed. One worker parses each as it is read.
+fn most_files(workers: u32) -> usize
+    ensures { 1 ≤ result }
+{
+    if workers < 2 {
+        1
+    } else {
+        workers as usize * FILES_A_WORKER
+    }
+}
+
+/// Reads the first of these files, as many as so many workers parse together.
+pub fn read_batch<'a, F: Folder>(
+    alloc: Global,
+    folder: &mut F,
+    entries: &'a [Entry],
+    workers: u32,
+) -> Result<Batch<'a>, AllocError>
+    requires { All (λ entry. entry.number < F.count folder.old) entries.now }
+
+    ensures fault { IfOk result (λ batch. batch.stop ≡ Some InputError.Failed → Rose (F.faults folder.old) (F.faults folder.new)) }
+    ensures told { (files : List FileBytes) → F.files folder.old ≡ Some files
+        → IfOk result (IsBatchOf (Rose (F.faults folder.old) (F.faults folder.new)) files entries.now) }
+    ensures few { IfOk result (λ batch. length batch.files.items ≤ length entries.now) }
+    ensures some { IfOk result (λ batch. batch.stop ≡ None → 0 < length entries.now → 0 < length batch.files.items) }
+
+    ensures count { F.count folder.new ≡ F.count folder.old }
+    ensures files { F.files folder.new ≡ F.files folder.old }
+    ensures later { F.faults folder.old ≤ F.faults folder.new }
+{
+    let most = most_files(workers);
+    let mut files = Vec::new(alloc);
+    let mut total = 0;
+    for entry in entries {
+        if files.len() >= most || total >= MANY_BYTES {
+            break;
+        }
+        let name = entry.name.as_slice();
+        match read_file(alloc, folder, entry.number, name) {
+            Ok(bytes) => {
+                total += bytes.len() as u64;
+                files.push(FileRead { name, bytes })?;
+            }
+            Err(why) => {
+                return Ok(Batch {
+                    files,
+                    stop: Some(why),
+                });
+            }
+        }
+    }
+    Ok(Batch { files, stop: None })
+}

@@ -1,0 +1,100 @@
+//! Tracks that are taken together.
+ghost use Rattle.std.specs.Prelude.{◌≡◌, ◌<◌, ◌≤◌, ◌+◌, ◌++◌, ◌∷◌, ◌^◌, [], map, IfOk, OnOk, true};
+ghost use Rattle.cj_hermite.specs.CaseLimits.{node_total};
+ghost use Rattle.cj_hermite.specs.Frames.{HaveOneFrame};
+ghost use Rattle.cj_track.specs.Segments.{node_count as the_count};
+ghost use Rattle.cj_track.specs.Tracks.{plain_track};
+ghost use Rattle.cj_inputs.specs.Readings as spec;
+ghost use Rattle.cj_inputs.specs.Readings.{Reads};
+
+use crate::reading::InputError;
+use cj_io::Name;
+use cj_status::{FileCause, LimitFault};
+use cj_track::Track;
+use std::alloc::{AllocError, Global};
+
+/// The greatest number of nodes of all files.
+const MAX_NODES: u64 = 2_000_000;
+
+/// Tracks that are taken: of one frame, with at most 2,000,000 nodes.
+#[derive(Debug, Drop)]
+pub struct Taken {
+    pub tracks: Vec<Track>,
+    /// How many nodes they have in all.
+    pub nodes: u64,
+    pub ghost frame: { HaveOneFrame tracks.items },
+    pub ghost counted: { nodes ≡ node_total tracks.items },
+    pub ghost few: { nodes ≤ 2_000_000 },
+}
+
+impl Taken {
+    /// No tracks, with room for so many.
+    pub fn with_capacity(alloc: Global, capacity: usize) -> Result<Self, AllocError>
+        ensures { IfOk result (λ taken. taken.tracks.items ≡ []) }
+    {
+        Ok(Taken {
+            tracks: Vec::with_capacity(alloc, capacity)?,
+            nodes: 0,
+        })
+    }
+
+    /// These and one more, where it may stand behind them.
+    pub fn with(self, alloc: Global, track: Track) -> Result<Self, InputError>
+        ensures told { Reads ⊥ (λ taken. plain_track track) result (spec.checked_after (map plain_track self.tracks.items) track.file (plain_track track)) }
+        ensures more { IfOk result (λ taken. taken.tracks.items ≡ self.tracks.items ++ track ∷ []) }
+    {
+        let nodes = self.nodes + node_count(&track);
+        check_limits(alloc, &self.tracks, &track, nodes)?;
+        let mut tracks = self.tracks;
+        tracks.push(track)?;
+        Ok(Taken { tracks, nodes })
+    }
+}
+
+/// How many nodes a track has.
+fn node_count(track: &Track) -> u64
+    ensures value { result ≡ the_count track.now.segments }
+    ensures small { result < 2 ^ 32 }
+{
+    let mut count = 0;
+    for segment in track.segments.as_slice() {
+        count += segment.nodes.as_slice().len() as u64;
+    }
+    count
+}
+
+/// Refuses a track that may not stand behind those before it. With it there are so many nodes in all.
+fn check_limits(
+    alloc: Global,
+    before: &[Track],
+    track: &Track,
+    nodes: u64,
+) -> Result<(), InputError>
+    requires { nodes ≡ node_total before.now + the_count track.now.segments }
+    ensures told { Reads ⊥ (λ done. plain_track track.now) result
+        (spec.checked_after (map plain_track before.now) track.now.file (plain_track track.now)) }
+    ensures frame { OnOk result (spec.has_frame_of (map plain_track before.now) (plain_track track.now) ≡ true) }
+    ensures nodes { OnOk result (nodes ≤ 2_000_000) }
+{
+    if !has_frame_of(before, track) {
+        return Err(InputError::Refused {
+            file: Name::copy_of(alloc, track.file.as_slice())?,
+            line: 0,
+            cause: FileCause::MixedFrames,
+        });
+    }
+    if nodes > MAX_NODES {
+        return Err(InputError::Limit(LimitFault::Nodes { count: nodes }));
+    }
+    Ok(())
+}
+
+/// Whether a track has the frame of the first of those before it.
+fn has_frame_of(before: &[Track], track: &Track) -> bool
+    ensures { result ≡ spec.has_frame_of (map plain_track before.now) (plain_track track.now) }
+{
+    match before.first() {
+        None => true,
+        Some(first) => first.frame == track.frame,
+    }
+}
