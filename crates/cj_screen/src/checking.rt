@@ -21,10 +21,15 @@ use cj_io::Folder;
 use cj_status::{CertificateCause, Status};
 use cj_words::Checking;
 use std::alloc::Global;
+use std::thread::Threads;
+
+/// How many workers parse files, or make texts, for a command that asks for none.
+pub const WORKERS: u32 = 1;
 
 /// Checks the certificate that is named. It answers an error where the certificate is not accepted for the files.
 #[tactic(auto, unfolding(crate::specs::Outcome::pieces_checked))]
-pub fn check_certificate<F: Folder>(
+pub fn check_certificate<R: Threads + Sync, F: Folder>(
+    rt: &R,
     alloc: Global,
     folder: &mut F,
     checking: &Checking,
@@ -42,7 +47,7 @@ pub fn check_certificate<F: Folder>(
     let CheckInputs {
         problem,
         certificate,
-    } = prepare_check(alloc, folder, checking)?;
+    } = prepare_check(rt, alloc, folder, checking, WORKERS)?;
     accept(alloc, &problem, certificate)?;
     Ok(())
 }

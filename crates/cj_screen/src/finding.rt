@@ -94,7 +94,7 @@ fn find_asked<'w, R: Threads + Wait + Sync, F: Folder, G: Gate + Sync>(
             Ok(Results::Screened(found, Origin::of(screening, now)))
         }
         Command::Check(checking) => {
-            check_certificate(alloc, folder, checking)?;
+            check_certificate(rt, alloc, folder, checking)?;
             Ok(Results::Checked)
         }
         Command::Generate(recipe) => Ok(Results::Made(catalogue(
@@ -105,7 +105,7 @@ fn find_asked<'w, R: Threads + Wait + Sync, F: Folder, G: Gate + Sync>(
         )?)),
         Command::Selfrun(trial) => Ok(Results::Tried(try_catalogue(rt, alloc, gate, trial)?)),
         Command::Rewrite(checking) => {
-            let certificate = rewrite_certificate(alloc, folder, checking)?;
+            let certificate = rewrite_certificate(rt, alloc, folder, checking)?;
             Ok(Results::Rewritten(certificate))
         }
     }
@@ -134,7 +134,7 @@ fn find_encounters<R: Threads + Wait + Sync, F: Folder, G: Gate + Sync>(
     ensures files { F.files folder.new ≡ F.files folder.old }
     ensures later { F.faults folder.old ≤ F.faults folder.new }
 {
-    let problem = prepare(alloc, folder, &screening.settings)?;
+    let problem = prepare(rt, alloc, folder, &screening.settings, screening.workers)?;
     screen(
         rt,
         alloc,

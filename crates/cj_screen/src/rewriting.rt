@@ -13,7 +13,7 @@ ghost use Rattle.cj_screen.specs.Outcome.{ComesOfPuts, Leaves};
 ghost use Rattle.cj_screen.specs.Rewrites.{Renews};
 ghost use Rattle.cj_status.specs.Steps.{Gives, ComesBetween};
 
-use crate::checking::accept;
+use crate::checking::{WORKERS, accept};
 use crate::putting::put;
 use cj_cert::{Certificate, cert_text, in_version_2, listed_shells};
 use cj_hermite::Problem;
@@ -27,7 +27,8 @@ use std::thread::Threads;
 
 /// The certificate that is named in version 2. It answers an error where the certificate is not accepted for the files.
 #[tactic(auto, unfolding(crate::specs::Outcome::pieces_rewritten))]
-pub fn rewrite_certificate<F: Folder>(
+pub fn rewrite_certificate<R: Threads + Sync, F: Folder>(
+    rt: &R,
     alloc: Global,
     folder: &mut F,
     checking: &Checking,
@@ -46,7 +47,7 @@ pub fn rewrite_certificate<F: Folder>(
     let CheckInputs {
         problem,
         certificate,
-    } = prepare_check(alloc, folder, checking)?;
+    } = prepare_check(rt, alloc, folder, checking, WORKERS)?;
     let accepted = accept(alloc, &problem, certificate)?;
     Ok(renewed(alloc, &problem, accepted)?)
 }
@@ -79,7 +80,7 @@ pub fn put_rewritten<R: Threads + Sync, S: Shelf>(
         → Leaves (ended result) (Ok (spec.pieces_renewed (plain_certificate certificate.now))) old (S.pieces shelf.new) }
     ensures later { S.faults shelf.old ≤ S.faults shelf.new }
 {
-    let text = cert_text(rt, alloc, certificate, 1)?;
+    let text = cert_text(rt, alloc, certificate, WORKERS)?;
     put(alloc, shelf, b"screen.cert2", &text)?;
     put(alloc, shelf, b"-", b"REWRITTEN\n")
 }

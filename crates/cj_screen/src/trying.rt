@@ -38,7 +38,7 @@ pub fn try_catalogue<R: Threads + Wait + Sync, G: Gate + Sync>(
     ensures told { Gives ⊥ (λ found. tried_in found ∷ []) result (spec.pieces_tried (plain_trial trial.now)) }
     ensures found { IfOk result AreFound }
 {
-    let problem = prepare_catalogue(alloc, trial)?;
+    let problem = prepare_catalogue(rt, alloc, trial)?;
     let found = screen(
         rt,
         alloc,
@@ -55,13 +55,18 @@ pub fn try_catalogue<R: Threads + Wait + Sync, G: Gate + Sync>(
 
 /// The problem of a made-up catalogue: its files are read as those of a folder are.
 #[tactic(auto, unfolding(crate::specs::Outcome::case_tried))]
-fn prepare_catalogue(alloc: Global, trial: &Trial) -> Result<Problem, Status>
+fn prepare_catalogue<R: Threads + Sync>(
+    rt: &R,
+    alloc: Global,
+    trial: &Trial,
+) -> Result<Problem, Status>
     ensures ends { IfErr result ComesOfTrial }
     ensures told { Gives ⊥ plain_problem result (spec.case_tried (plain_trial trial.now)) }
 {
     let recipe = trial.recipe;
     let files = catalogue(alloc, recipe.seed, recipe.objects, recipe.minutes)?;
-    prepare(alloc, &mut CalmFolder::new(files), &settings_of(trial))
+    let mut folder = CalmFolder::new(files);
+    prepare(rt, alloc, &mut folder, &settings_of(trial), trial.workers)
 }
 
 /// The settings of a made-up catalogue.
