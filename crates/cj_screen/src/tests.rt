@@ -3,6 +3,7 @@ mod catalogues;
 mod certificates;
 mod checks;
 mod cuts;
+mod damages;
 mod failures;
 mod messages;
 mod refusals;
