@@ -9,6 +9,7 @@ pub mod LengthLemmas
 pub mod ListingLemmas
 pub mod MoveLemmas
 pub mod NarrowLemmas
+pub mod PairLemmas
 pub mod PartLemmas
 pub mod PassLemmas
 pub mod PickLemmas

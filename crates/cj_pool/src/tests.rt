@@ -1,25 +1,44 @@
-ghost use Rattle.std.specs.Prelude.{◌≡◌, ◌≤◌, length, IfOk};
+//! Hands on the cells of one crossing: on one thread by scripted turns, and on threads with several gates.
+ghost use Rattle.std.specs.Prelude.{◌≡◌, ◌≤◌, length, All, IfOk};
+ghost use Rattle.std.specs.List.{range_with_len};
 ghost use Rattle.cj_hermite.specs.Problems.{plain_problem};
 ghost use Rattle.cj_hermite.specs.Slots.{slot_count};
+ghost use Rattle.cj_pool.specs.Hands.{IsHandOf};
+ghost use Rattle.cj_pool.specs.Refined.{numbers_of};
 ghost use Rattle.cj_pool.specs.RootLists.{AreRoots};
 
+use crate::hand::Hand;
 use crate::listing::leaves_by_hands;
+use crate::refined::{FinishError, Refined};
+use crate::refinery::Refinery;
+use crate::run::Run;
+use crate::turn::Turn;
 use cj_bezier::Cell;
 use cj_cells::{RefineError, order_roots, refine_all, roots_of_slot};
 use cj_hermite::{Hints, Pair, Problem, Sizes, Tracks};
-use cj_io::OpenGate;
+use cj_io::{Gate, OpenGate};
+use cj_ledger::Totals;
 use cj_samples::{moving, seconds, track_of};
 use cj_track::Vec3;
 use std::alloc::{AllocError, Global};
 use std::marker::Brand;
 use std::process::Abort;
 use std::sync::Wait;
+use std::sync::atomic::{AtomicBool, Ordering};
 use std::test::Fail;
+use std::thread;
 use std::thread::Threads;
 
 const BOTH: [Pair; 1] = [Pair { a: 0, b: 1 }];
 
 const LIMIT: u64 = 1000;
+
+/// What the crossing comes to: one root, and one halving less than there are leaves.
+const TOTALS: Totals = Totals {
+    roots: 1,
+    splits: 48,
+    closes: 49,
+};
 
 /// Two tracks over a minute that cross at right angles, one kilometre apart, by a threshold of 5 km.
 fn crossing(alloc: Global) -> Result<Problem, AllocError>
@@ -80,11 +99,260 @@ fn roots_of(alloc: Global, problem: &Problem) -> Result<Vec<Cell>, RefineError>
     Ok(roots)
 }
 
-/// The leaves of the crossing by so many hands are those of one thread, twenty times.
-fn twenty_times<R: Threads + Wait + Sync + Abort>(
+/// The two hands of a refinery for two, by their numbers.
+fn pair_of<'p, K: Run>(
+    _refinery: &Refinery<'p, K>,
+    mut hands: Vec<Hand<'p, K>>,
+) -> (Hand<'p, K>, Hand<'p, K>)
+    requires hands { All (IsHandOf _refinery.now) hands.items }
+    requires numbers { numbers_of hands.items ≡ range_with_len 0 2 }
+    ensures zero { IsHandOf _refinery.now result.0 × (result.0.number ≡ 0) }
+    ensures one { IsHandOf _refinery.now result.1 × (result.1.number ≡ 1) }
+{
+    let Some(one) = hands.pop() else {
+        unreachable!()
+    };
+    let Some(zero) = hands.pop() else {
+        unreachable!()
+    };
+    (zero, one)
+}
+
+/// A refinery for two hands.
+fn for_two<'p, K: Run>(
+    alloc: Global,
+    problem: &'p Problem,
+    roots: Vec<Cell>,
+) -> Result<(Refinery<'p, K>, Hand<'p, K>, Hand<'p, K>), AllocError>
+    requires problem { problem.now ≡ K.problem }
+    requires roots { roots.items ≡ K.roots }
+    requires are_roots { AreRoots (plain_problem problem.now) roots.items }
+    requires workers { K.workers ≡ 2 }
+    requires few { length roots.items ≤ 10 }
+    ensures zero { IfOk result (λ r. IsHandOf r.0 r.1 × (r.1.number ≡ 0)) }
+    ensures one { IfOk result (λ r. IsHandOf r.0 r.2 × (r.2.number ≡ 1)) }
+    ensures refinery { IfOk result (λ r. r.0.hands ≡ 2) }
+{
+    let (refinery, hands) = Refinery::new(alloc, problem, roots, 2, LIMIT)?;
+    let (zero, one) = pair_of(&refinery, hands);
+    Ok((refinery, zero, one))
+}
+
+/// The leaves and totals of a refinery, from its two hands.
+fn finished<'p, K: Run>(
+    alloc: Global,
+    refinery: Refinery<'p, K>,
+    zero: Hand<'p, K>,
+    one: Hand<'p, K>,
+) -> Result<Refined, FinishError>
+    requires zero { IsHandOf refinery zero × (zero.number ≡ 0) }
+    requires one { IsHandOf refinery one × (one.number ≡ 1) }
+    requires two { refinery.hands ≡ 2 }
+{
+    let hands = vec![in alloc; zero, one]?;
+    refinery.finish(alloc, hands)
+}
+
+/// The hand after a turn in which it halves a cell.
+fn after_split<'p, K: Run, R: Abort>(
     rt: &R,
     alloc: Global,
+    refinery: &Refinery<'p, K>,
+    mut hand: Hand<'p, K>,
+) -> Result<Hand<'p, K>, AllocError>
+    requires { IsHandOf refinery.now hand }
+    ensures { IfOk result (λ h. IsHandOf refinery.now h × (h.number ≡ hand.entry.number)) }
+{
+    let turn = hand.turn(alloc, refinery)?;
+    assert_eq!(rt; turn, Turn::Split);
+    Ok(hand)
+}
+
+/// Hand zero halves the root, and then hand one a half, which it has stolen.
+fn zero_and_one<K: Run, R: Abort>(
+    rt: &R,
+    alloc: Global,
+    problem: &Problem,
+    roots: Vec<Cell>,
+) -> Result<Refined, FinishError>
+    requires problem { problem.now ≡ K.problem }
+    requires roots { roots.items ≡ K.roots }
+    requires are_roots { AreRoots (plain_problem problem.now) roots.items }
+    requires workers { K.workers ≡ 2 }
+    requires few { length roots.items ≤ 10 }
+{
+    let (refinery, zero, one) = for_two::<K>(alloc, problem, roots)?;
+    let zero = after_split(rt, alloc, &refinery, zero)?;
+    let one = after_split(rt, alloc, &refinery, one)?;
+    finished(alloc, refinery, zero, one)
+}
+
+/// Hand one halves the root, which it has stolen, and then hand zero a half, which it has stolen.
+fn one_and_zero<K: Run, R: Abort>(
+    rt: &R,
+    alloc: Global,
+    problem: &Problem,
+    roots: Vec<Cell>,
+) -> Result<Refined, FinishError>
+    requires problem { problem.now ≡ K.problem }
+    requires roots { roots.items ≡ K.roots }
+    requires are_roots { AreRoots (plain_problem problem.now) roots.items }
+    requires workers { K.workers ≡ 2 }
+    requires few { length roots.items ≤ 10 }
+{
+    let (refinery, zero, one) = for_two::<K>(alloc, problem, roots)?;
+    let one = after_split(rt, alloc, &refinery, one)?;
+    let zero = after_split(rt, alloc, &refinery, zero)?;
+    finished(alloc, refinery, zero, one)
+}
+
+/// What the crossing comes to is what one thread finds, with its totals.
+fn assert_whole<R: Abort>(
+    rt: &R,
+    alloc: Global,
+    problem: &Problem,
+    refined: &Refined,
+) -> Result<(), RefineError>
+    requires tracks { length problem.now.tracks ≡ 2 }
+    requires slots { slot_count problem.now.window.first.micros problem.now.window.last.micros ≡ 2 }
+{
+    let roots = roots_of(alloc, problem)?;
+    let expected = refine_all(alloc, problem, &roots, LIMIT)?;
+    assert_eq!(rt; refined.leaves.as_slice(), expected.as_slice());
+    assert_eq!(rt; refined.totals, TOTALS);
+    Ok(())
+}
+
+#[test]
+fn the_second_turn_steals(rt: HostRuntime) -> Result<(), Fail> {
+    let alloc = rt.alloc();
+    let problem = crossing(alloc)?;
+    let roots = roots_of(alloc, &problem)?;
+    let refined = zero_and_one::<Brand, _>(&rt, alloc, &problem, roots)?;
+    assert_whole(&rt, alloc, &problem, &refined)?;
+    Ok(())
+}
+
+#[test]
+fn both_turns_steal(rt: HostRuntime) -> Result<(), Fail> {
+    let alloc = rt.alloc();
+    let problem = crossing(alloc)?;
+    let roots = roots_of(alloc, &problem)?;
+    let refined = one_and_zero::<Brand, _>(&rt, alloc, &problem, roots)?;
+    assert_whole(&rt, alloc, &problem, &refined)?;
+    Ok(())
+}
+
+/// The run of hand zero leaves nothing to hand one, nor to `finish`.
+fn zero_alone<K: Run, R: Wait + Abort>(
+    rt: &R,
+    alloc: Global,
+    problem: &Problem,
+    roots: Vec<Cell>,
+) -> Result<Refined, FinishError>
+    requires problem { problem.now ≡ K.problem }
+    requires roots { roots.items ≡ K.roots }
+    requires are_roots { AreRoots (plain_problem problem.now) roots.items }
+    requires workers { K.workers ≡ 2 }
+    requires few { length roots.items ≤ 10 }
+{
+    let (refinery, zero, mut one) = for_two::<K>(alloc, problem, roots)?;
+    let zero = zero.run(rt, alloc, &refinery, &OpenGate);
+    let turn = one.turn(alloc, &refinery)?;
+    assert_eq!(rt; turn, Turn::Done);
+    finished(alloc, refinery, zero, one)
+}
+
+#[test]
+fn a_run_leaves_no_cell(rt: HostRuntime) -> Result<(), Fail> {
+    let alloc = rt.alloc();
+    let problem = crossing(alloc)?;
+    let roots = roots_of(alloc, &problem)?;
+    let refined = zero_alone::<Brand, _>(&rt, alloc, &problem, roots)?;
+    assert_whole(&rt, alloc, &problem, &refined)?;
+    Ok(())
+}
+
+/// The first of so many turns of a hand that closes no cell and halves none.
+fn first_without_cell<'p, K: Run>(
+    alloc: Global,
+    refinery: &Refinery<'p, K>,
+    mut hand: Hand<'p, K>,
+    turns: u32,
+) -> Result<Option<Turn>, AllocError>
+    requires { IsHandOf refinery.now hand }
+{
+    for _ in 0..turns {
+        match hand.turn(alloc, refinery)? {
+            Turn::Closed => {}
+            Turn::Split => {}
+            other => return Ok(Some(other)),
+        }
+    }
+    Ok(None)
+}
+
+/// The first turn of hand one that finds no cell, while hand zero keeps one.
+fn one_beside_zero<K: Run, R: Abort>(
+    rt: &R,
+    alloc: Global,
+    problem: &Problem,
+    roots: Vec<Cell>,
+) -> Result<Option<Turn>, AllocError>
+    requires problem { problem.now ≡ K.problem }
+    requires roots { roots.items ≡ K.roots }
+    requires are_roots { AreRoots (plain_problem problem.now) roots.items }
+    requires workers { K.workers ≡ 2 }
+    requires few { length roots.items ≤ 10 }
+{
+    let (refinery, zero, one) = for_two::<K>(alloc, problem, roots)?;
+    let _zero = after_split(rt, alloc, &refinery, zero)?;
+    first_without_cell(alloc, &refinery, one, 1000)
+}
+
+#[test]
+fn a_hand_is_idle_while_another_keeps_a_cell(rt: HostRuntime) -> Result<(), Fail> {
+    let alloc = rt.alloc();
+    let problem = crossing(alloc)?;
+    let roots = roots_of(alloc, &problem)?;
+    let turn = one_beside_zero::<Brand, _>(&rt, alloc, &problem, roots)?;
+    assert_eq!(rt; turn, Some(Turn::Idle { live: 1 }));
+    Ok(())
+}
+
+/// Hands that took no turn: all cells are left in the deques.
+fn untouched<K: Run>(
+    alloc: Global,
+    problem: &Problem,
+    roots: Vec<Cell>,
+) -> Result<Refined, FinishError>
+    requires problem { problem.now ≡ K.problem }
+    requires roots { roots.items ≡ K.roots }
+    requires are_roots { AreRoots (plain_problem problem.now) roots.items }
+    requires workers { K.workers ≡ 2 }
+    requires few { length roots.items ≤ 10 }
+{
+    let (refinery, zero, one) = for_two::<K>(alloc, problem, roots)?;
+    finished(alloc, refinery, zero, one)
+}
+
+#[test]
+fn cells_that_are_left_are_refined(rt: HostRuntime) -> Result<(), Fail> {
+    let alloc = rt.alloc();
+    let problem = crossing(alloc)?;
+    let roots = roots_of(alloc, &problem)?;
+    let refined = untouched::<Brand>(alloc, &problem, roots)?;
+    assert_whole(&rt, alloc, &problem, &refined)?;
+    Ok(())
+}
+
+/// The leaves of the crossing by so many hands on threads are those of one thread, each time.
+fn same_each_time<R: Threads + Wait + Sync + Abort, G: Gate + Sync>(
+    rt: &R,
+    alloc: Global,
+    gate: &G,
     workers: u32,
+    times: u32,
 ) -> Result<(), Fail>
     requires some { 1 ≤ workers }
     requires few { workers ≤ 16 }
@@ -92,10 +360,10 @@ fn twenty_times<R: Threads + Wait + Sync + Abort>(
     let problem = crossing(alloc)?;
     let found = roots_of(alloc, &problem)?;
     let expected = refine_all(alloc, &problem, &found, LIMIT)?;
-    for _ in 0..20 {
+    for _ in 0..times {
         let roots = roots_of(alloc, &problem)?;
-        let leaves = leaves_by_hands::<Brand, R, _>(
-            rt, alloc, &OpenGate, &problem, roots, workers, LIMIT,
+        let leaves = leaves_by_hands::<Brand, R, G>(
+            rt, alloc, gate, &problem, roots, workers, LIMIT,
         )?;
         assert_eq!(rt; leaves.as_slice(), expected.as_slice());
     }
@@ -105,10 +373,103 @@ fn twenty_times<R: Threads + Wait + Sync + Abort>(
 #[test]
 fn as_many_hands_as_one_likes(rt: HostRuntime) -> Result<(), Fail> {
     let alloc = rt.alloc();
-    twenty_times(&rt, alloc, 1)?;
-    twenty_times(&rt, alloc, 2)?;
-    twenty_times(&rt, alloc, 3)?;
-    twenty_times(&rt, alloc, 16)?;
+    same_each_time(&rt, alloc, &OpenGate, 1, 20)?;
+    same_each_time(&rt, alloc, &OpenGate, 2, 100)?;
+    same_each_time(&rt, alloc, &OpenGate, 3, 20)?;
+    same_each_time(&rt, alloc, &OpenGate, 16, 20)
+}
+
+/// A gate at which one worker waits before each of its turns, for so many looks at a flag that nobody sets.
+#[derive(Drop)]
+struct Slow {
+    worker: u32,
+    looks: u32,
+    flag: AtomicBool,
+}
+
+impl Slow {
+    fn new(worker: u32, looks: u32) -> Slow {
+        Slow {
+            worker,
+            looks,
+            flag: AtomicBool::new(false),
+        }
+    }
+}
+
+impl Gate for Slow {
+    fn enter<R: Wait>(&self, _rt: &R, worker: u32, _turn: u64) {
+        if worker == self.worker {
+            for _ in 0..self.looks {
+                self.flag.load(Ordering::SeqCst);
+            }
+        }
+    }
+}
+
+#[test]
+fn one_of_two_hands_waits_at_each_turn(rt: HostRuntime) -> Result<(), Fail> {
+    let alloc = rt.alloc();
+    same_each_time(&rt, alloc, &Slow::new(0, 1_000), 2, 100)?;
+    same_each_time(&rt, alloc, &Slow::new(1, 1_000), 2, 100)
+}
+
+/// A gate for two workers: before its first turn each says that it is there, and looks for the other.
+#[derive(Drop)]
+struct Meeting {
+    zero: AtomicBool,
+    one: AtomicBool,
+    zero_saw_one: AtomicBool,
+    one_saw_zero: AtomicBool,
+}
+
+impl Meeting {
+    fn new() -> Meeting {
+        Meeting {
+            zero: AtomicBool::new(false),
+            one: AtomicBool::new(false),
+            zero_saw_one: AtomicBool::new(false),
+            one_saw_zero: AtomicBool::new(false),
+        }
+    }
+}
+
+/// Gives way until a flag is set, but not for ever; whether it was.
+fn is_set_soon(flag: &AtomicBool) -> bool {
+    for _ in 0..10_000_000u32 {
+        if flag.load(Ordering::SeqCst) {
+            return true;
+        }
+        thread::yield_now();
+    }
+    false
+}
+
+impl Gate for Meeting {
+    fn enter<R: Wait>(&self, _rt: &R, worker: u32, turn: u64) {
+        if turn > 1 {
+            return;
+        }
+        if worker == 0 {
+            self.zero.store(true, Ordering::SeqCst);
+            self.zero_saw_one
+                .store(is_set_soon(&self.one), Ordering::SeqCst);
+        } else {
+            self.one.store(true, Ordering::SeqCst);
+            self.one_saw_zero
+                .store(is_set_soon(&self.zero), Ordering::SeqCst);
+        }
+    }
+}
+
+/// Neither worker leaves the gate before it has seen the other there: so they are there at the same time.
+#[test]
+fn two_workers_meet_at_the_gate(rt: HostRuntime) -> Result<(), Fail> {
+    let alloc = rt.alloc();
+    let gate = Meeting::new();
+    same_each_time(&rt, alloc, &gate, 2, 1)?;
+    assert!(rt; gate.zero_saw_one.load(Ordering::SeqCst));
+    assert!(rt; gate.one_saw_zero.load(Ordering::SeqCst));
     Ok(())
 }
 
