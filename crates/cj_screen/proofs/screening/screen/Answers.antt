@@ -12,7 +12,7 @@ use Rattle.cj_cells.specs.Lists.{list_looked}
 use Rattle.cj_cells.proofs.LeafLemmas.{list_split}
 use Rattle.cj_cells.proofs.ListingLemmas.{same_count}
 use Rattle.cj_cert.specs.Rewritten.{written_in}
-use Rattle.cj_meet.specs.Closest.{KeepTheirIntervals, closest_of}
+use Rattle.cj_meet.specs.Closest.{closest_of}
 use Rattle.cj_meet.specs.Encounters.{Describes, encounters_of, groups_in}
 use Rattle.cj_meet.specs.Spans.{HaveExactSpans}
 use Rattle.cj_screen.specs.Outcome.{pieces_with, pieces_within}
