@@ -37,7 +37,7 @@ enum Damage {
 
 /// What a check tells.
 #[derive(Clone, Copy, Debug)]
-enum Told {
+enum Verdict {
     /// What the lines say is still so.
     Accepted,
     /// It is refused at the line.
@@ -71,172 +71,192 @@ enum Lines {
 }
 
 /// A row of the table: at which lines, what is done to them, and what is told.
-type Row = (Lines, Damage, Told);
+type Row = (Lines, Damage, Verdict);
 
 const HEADER: [Row; 15] = [
     (
         Lines::Numbered(1),
         Damage::Word(1, b"3"),
-        Told::Here("Text Form"),
+        Verdict::Here("Text Form"),
     ),
-    (Lines::Numbered(2), Damage::Up(1), Told::Here("Header")),
-    (Lines::Numbered(2), Damage::Down(1), Told::Here("Header")),
-    (Lines::Numbered(2), Damage::Up(2), Told::Here("Header")),
-    (Lines::Numbered(2), Damage::Down(2), Told::Here("Header")),
-    (Lines::Numbered(2), Damage::LeftOut, Told::Here("Text Form")),
-    (Lines::Numbered(3), Damage::Up(1), Told::Here("Header")),
-    (Lines::Numbered(3), Damage::Down(1), Told::Here("Header")),
+    (Lines::Numbered(2), Damage::Up(1), Verdict::Here("Header")),
+    (Lines::Numbered(2), Damage::Down(1), Verdict::Here("Header")),
+    (Lines::Numbered(2), Damage::Up(2), Verdict::Here("Header")),
+    (Lines::Numbered(2), Damage::Down(2), Verdict::Here("Header")),
+    (
+        Lines::Numbered(2),
+        Damage::LeftOut,
+        Verdict::Here("Text Form"),
+    ),
+    (Lines::Numbered(3), Damage::Up(1), Verdict::Here("Header")),
+    (Lines::Numbered(3), Damage::Down(1), Verdict::Here("Header")),
     (
         Lines::Numbered(3),
         Damage::Word(1, b"0"),
-        Told::Here("Text Range"),
+        Verdict::Here("Text Range"),
     ),
     (
         Lines::Numbered(3),
         Damage::Doubled,
-        Told::Behind("Text Form"),
+        Verdict::Behind("Text Form"),
     ),
-    (Lines::Numbered(4), Damage::Up(1), Told::Here("Header")),
-    (Lines::Numbered(4), Damage::Down(1), Told::Here("Header")),
+    (Lines::Numbered(4), Damage::Up(1), Verdict::Here("Header")),
+    (Lines::Numbered(4), Damage::Down(1), Verdict::Here("Header")),
     (
         Lines::Numbered(4),
         Damage::Word(1, b"2001"),
-        Told::Here("Text Range"),
+        Verdict::Here("Text Range"),
     ),
     (
         Lines::Numbered(4),
         Damage::Word(1, b"012"),
-        Told::Here("Text Form"),
+        Verdict::Here("Text Form"),
     ),
     (
         Lines::Numbered(4),
         Damage::Exchanged,
-        Told::Here("Text Form"),
+        Verdict::Here("Text Form"),
     ),
 ];
 
 /// A shell that is written has the greatest inner and the least outer radius that the hulls show. No two shells are within a nanometre of
 /// the threshold.
 const SHELLS: [Row; 11] = [
-    (Lines::Shells, Damage::LeftOut, Told::Here("ShellOf")),
-    (Lines::Shells, Damage::Doubled, Told::Behind("ShellOf")),
-    (Lines::Shells, Damage::Exchanged, Told::Here("ShellOf")),
-    (Lines::Shells, Damage::Up(1), Told::Here("ShellOf")),
-    (Lines::Shells, Damage::Up(2), Told::Here("ShellOf")),
-    (Lines::Shells, Damage::Down(3), Told::Here("ShellOf")),
-    (Lines::Shells, Damage::Down(2), Told::Accepted),
-    (Lines::Shells, Damage::Up(3), Told::Accepted),
+    (Lines::Shells, Damage::LeftOut, Verdict::Here("ShellOf")),
+    (Lines::Shells, Damage::Doubled, Verdict::Behind("ShellOf")),
+    (Lines::Shells, Damage::Exchanged, Verdict::Here("ShellOf")),
+    (Lines::Shells, Damage::Up(1), Verdict::Here("ShellOf")),
+    (Lines::Shells, Damage::Up(2), Verdict::Here("ShellOf")),
+    (Lines::Shells, Damage::Down(3), Verdict::Here("ShellOf")),
+    (Lines::Shells, Damage::Down(2), Verdict::Accepted),
+    (Lines::Shells, Damage::Up(3), Verdict::Accepted),
     (
         Lines::Shells,
         Damage::Word(2, b"NONE"),
-        Told::Here("Text Form"),
+        Verdict::Here("Text Form"),
     ),
     (
         Lines::Shells,
         Damage::Word(3, b"1"),
-        Told::Here("Text Range"),
+        Verdict::Here("Text Range"),
     ),
     (
         Lines::Shells,
         Damage::Word(0, b"shell"),
-        Told::Here("Text Form"),
+        Verdict::Here("Text Form"),
     ),
 ];
 
 /// A box that is written is the least one round the hulls. No two boxes are within a nanometre of the threshold.
 const BOXES: [Row; 20] = [
-    (Lines::Boxes, Damage::LeftOut, Told::Here("BoxOf")),
-    (Lines::Boxes, Damage::Doubled, Told::Behind("BoxOf")),
-    (Lines::Boxes, Damage::Exchanged, Told::Here("BoxOf")),
-    (Lines::Boxes, Damage::Up(1), Told::Here("BoxOf")),
-    (Lines::Boxes, Damage::Up(2), Told::Here("BoxOf")),
-    (Lines::WideBoxes, Damage::Up(3), Told::Here("BoxOf")),
-    (Lines::WideBoxes, Damage::Down(4), Told::Here("BoxOf")),
-    (Lines::WideBoxes, Damage::Up(5), Told::Here("BoxOf")),
-    (Lines::WideBoxes, Damage::Down(6), Told::Here("BoxOf")),
-    (Lines::WideBoxes, Damage::Up(7), Told::Here("BoxOf")),
-    (Lines::WideBoxes, Damage::Down(8), Told::Here("BoxOf")),
-    (Lines::Boxes, Damage::Down(3), Told::Accepted),
-    (Lines::Boxes, Damage::Up(4), Told::Accepted),
-    (Lines::Boxes, Damage::Down(5), Told::Accepted),
-    (Lines::Boxes, Damage::Up(6), Told::Accepted),
-    (Lines::Boxes, Damage::Down(7), Told::Accepted),
-    (Lines::Boxes, Damage::Up(8), Told::Accepted),
+    (Lines::Boxes, Damage::LeftOut, Verdict::Here("BoxOf")),
+    (Lines::Boxes, Damage::Doubled, Verdict::Behind("BoxOf")),
+    (Lines::Boxes, Damage::Exchanged, Verdict::Here("BoxOf")),
+    (Lines::Boxes, Damage::Up(1), Verdict::Here("BoxOf")),
+    (Lines::Boxes, Damage::Up(2), Verdict::Here("BoxOf")),
+    (Lines::WideBoxes, Damage::Up(3), Verdict::Here("BoxOf")),
+    (Lines::WideBoxes, Damage::Down(4), Verdict::Here("BoxOf")),
+    (Lines::WideBoxes, Damage::Up(5), Verdict::Here("BoxOf")),
+    (Lines::WideBoxes, Damage::Down(6), Verdict::Here("BoxOf")),
+    (Lines::WideBoxes, Damage::Up(7), Verdict::Here("BoxOf")),
+    (Lines::WideBoxes, Damage::Down(8), Verdict::Here("BoxOf")),
+    (Lines::Boxes, Damage::Down(3), Verdict::Accepted),
+    (Lines::Boxes, Damage::Up(4), Verdict::Accepted),
+    (Lines::Boxes, Damage::Down(5), Verdict::Accepted),
+    (Lines::Boxes, Damage::Up(6), Verdict::Accepted),
+    (Lines::Boxes, Damage::Down(7), Verdict::Accepted),
+    (Lines::Boxes, Damage::Up(8), Verdict::Accepted),
     (
         Lines::Boxes,
         Damage::Word(3, b"7O00"),
-        Told::Here("Text Form"),
+        Verdict::Here("Text Form"),
     ),
     (
         Lines::Boxes,
         Damage::Word(8, b"9223372036854775808"),
-        Told::Here("Text Range"),
+        Verdict::Here("Text Range"),
     ),
-    (Lines::Boxes, Damage::Word(2, b""), Told::Here("Text Form")),
+    (
+        Lines::Boxes,
+        Damage::Word(2, b""),
+        Verdict::Here("Text Form"),
+    ),
 ];
 
 /// A tick earlier or later changes the distance of two objects by less than two centimetres, and by more than two millimetres. A cell is
 /// written as undecided only where its hulls show neither of the other kinds.
 const CELLS: [Row; 20] = [
-    (Lines::Cells, Damage::LeftOut, Told::Here("Untiled")),
-    (Lines::Cells, Damage::Doubled, Told::Behind("Stranger")),
-    (Lines::Cells, Damage::Exchanged, Told::Here("Untiled")),
-    (Lines::Cells, Damage::Up(2), Told::Here("Untiled")),
-    (Lines::Cells, Damage::Down(3), Told::Here("Stranger")),
-    (Lines::LongCells, Damage::Up(3), Told::Here("Untiled")),
-    (Lines::LongCells, Damage::Down(4), Told::Behind("Untiled")),
-    (Lines::LastCells, Damage::Up(4), Told::Here("Stranger")),
-    (Lines::InnerCells, Damage::Up(4), Told::Behind("Stranger")),
+    (Lines::Cells, Damage::LeftOut, Verdict::Here("Untiled")),
+    (Lines::Cells, Damage::Doubled, Verdict::Behind("Stranger")),
+    (Lines::Cells, Damage::Exchanged, Verdict::Here("Untiled")),
+    (Lines::Cells, Damage::Up(2), Verdict::Here("Untiled")),
+    (Lines::Cells, Damage::Down(3), Verdict::Here("Stranger")),
+    (Lines::LongCells, Damage::Up(3), Verdict::Here("Untiled")),
+    (
+        Lines::LongCells,
+        Damage::Down(4),
+        Verdict::Behind("Untiled"),
+    ),
+    (Lines::LastCells, Damage::Up(4), Verdict::Here("Stranger")),
+    (
+        Lines::InnerCells,
+        Damage::Up(4),
+        Verdict::Behind("Stranger"),
+    ),
     (
         Lines::FarCells,
         Damage::Word(5, b"N"),
-        Told::Here("NotNear"),
+        Verdict::Here("NotNear"),
     ),
     (
         Lines::FarCells,
         Damage::Word(5, b"U"),
-        Told::Here("NotBand"),
+        Verdict::Here("NotBand"),
     ),
     (
         Lines::NearCells,
         Damage::Word(5, b"F"),
-        Told::Here("NotFar"),
+        Verdict::Here("NotFar"),
     ),
     (
         Lines::NearCells,
         Damage::Word(5, b"U"),
-        Told::Here("NotBand"),
+        Verdict::Here("NotBand"),
     ),
     (
         Lines::UndecidedCells,
         Damage::Word(5, b"F"),
-        Told::Here("NotFar"),
+        Verdict::Here("NotFar"),
     ),
     (
         Lines::UndecidedCells,
         Damage::Word(5, b"N"),
-        Told::Here("NotNear"),
+        Verdict::Here("NotNear"),
     ),
     (
         Lines::Cells,
         Damage::Word(1, b"0"),
-        Told::Here("Text Range"),
+        Verdict::Here("Text Range"),
     ),
     (
         Lines::Cells,
         Damage::Word(3, b"-1"),
-        Told::Here("Text Range"),
+        Verdict::Here("Text Range"),
     ),
     (
         Lines::Cells,
         Damage::Word(4, b"4102444800000000"),
-        Told::Here("Text Range"),
+        Verdict::Here("Text Range"),
     ),
-    (Lines::Cells, Damage::Word(5, b"X"), Told::Here("Text Form")),
+    (
+        Lines::Cells,
+        Damage::Word(5, b"X"),
+        Verdict::Here("Text Form"),
+    ),
     (
         Lines::Cells,
         Damage::Word(5, b"N "),
-        Told::Here("Text Form"),
+        Verdict::Here("Text Form"),
     ),
 ];
 
@@ -245,45 +265,57 @@ const ENDS: [Row; 11] = [
     (
         Lines::Last(b"SHELL "),
         Damage::LeftOut,
-        Told::Here("ShellOf"),
+        Verdict::Here("ShellOf"),
     ),
     (
         Lines::Last(b"SHELL "),
         Damage::Doubled,
-        Told::Behind("ShellOf"),
+        Verdict::Behind("ShellOf"),
     ),
     (
         Lines::Last(b"SHELL "),
         Damage::Exchanged,
-        Told::Behind("Text Form"),
+        Verdict::Behind("Text Form"),
     ),
-    (Lines::Last(b"BOX "), Damage::LeftOut, Told::Here("BoxOf")),
-    (Lines::Last(b"BOX "), Damage::Doubled, Told::Behind("BoxOf")),
+    (
+        Lines::Last(b"BOX "),
+        Damage::LeftOut,
+        Verdict::Here("BoxOf"),
+    ),
+    (
+        Lines::Last(b"BOX "),
+        Damage::Doubled,
+        Verdict::Behind("BoxOf"),
+    ),
     (
         Lines::Last(b"BOX "),
         Damage::Exchanged,
-        Told::Behind("Text Form"),
+        Verdict::Behind("Text Form"),
     ),
     (
         Lines::Last(b"CELL "),
         Damage::LeftOut,
-        Told::Here("Untiled"),
+        Verdict::Here("Untiled"),
     ),
     (
         Lines::Last(b"CELL "),
         Damage::Doubled,
-        Told::Behind("Stranger"),
+        Verdict::Behind("Stranger"),
     ),
     (
         Lines::Last(b"CELL "),
         Damage::Exchanged,
-        Told::Behind("Text End"),
+        Verdict::Behind("Text End"),
     ),
-    (Lines::Last(b"END"), Damage::LeftOut, Told::Here("Text End")),
+    (
+        Lines::Last(b"END"),
+        Damage::LeftOut,
+        Verdict::Here("Text End"),
+    ),
     (
         Lines::Last(b"END"),
         Damage::Doubled,
-        Told::Behind("Text End"),
+        Verdict::Behind("Text End"),
     ),
 ];
 
@@ -484,13 +516,13 @@ fn told<R: Threads + Wait + Sync>(
 }
 
 /// What is to be told of a damage of the line at a place.
-fn wanted(alloc: Global, place: usize, told: Told) -> Result<String, AllocError> {
+fn wanted(alloc: Global, place: usize, told: Verdict) -> Result<String, AllocError> {
     let here = place.saturating_add(1);
     let behind = here.saturating_add(1);
     match told {
-        Told::Accepted => format!(in alloc; "ACCEPTED\n"),
-        Told::Here(cause) => format!(in alloc; "conj: not accepted: line {here}: {cause}\n"),
-        Told::Behind(cause) => format!(in alloc; "conj: not accepted: line {behind}: {cause}\n"),
+        Verdict::Accepted => format!(in alloc; "ACCEPTED\n"),
+        Verdict::Here(cause) => format!(in alloc; "conj: not accepted: line {here}: {cause}\n"),
+        Verdict::Behind(cause) => format!(in alloc; "conj: not accepted: line {behind}: {cause}\n"),
     }
 }
 
