@@ -35,9 +35,9 @@ enum Damage {
     Word(usize, &'static [u8]),
 }
 
-/// What a check tells.
+/// What a check is to tell.
 #[derive(Clone, Copy, Debug)]
-enum Verdict {
+enum Expected {
     /// What the lines say is still so.
     Accepted,
     /// It is refused at the line.
@@ -71,192 +71,208 @@ enum Lines {
 }
 
 /// A row of the table: at which lines, what is done to them, and what is told.
-type Row = (Lines, Damage, Verdict);
+type Row = (Lines, Damage, Expected);
 
 const HEADER: [Row; 15] = [
     (
         Lines::Numbered(1),
         Damage::Word(1, b"3"),
-        Verdict::Here("Text Form"),
+        Expected::Here("Text Form"),
     ),
-    (Lines::Numbered(2), Damage::Up(1), Verdict::Here("Header")),
-    (Lines::Numbered(2), Damage::Down(1), Verdict::Here("Header")),
-    (Lines::Numbered(2), Damage::Up(2), Verdict::Here("Header")),
-    (Lines::Numbered(2), Damage::Down(2), Verdict::Here("Header")),
+    (Lines::Numbered(2), Damage::Up(1), Expected::Here("Header")),
+    (
+        Lines::Numbered(2),
+        Damage::Down(1),
+        Expected::Here("Header"),
+    ),
+    (Lines::Numbered(2), Damage::Up(2), Expected::Here("Header")),
+    (
+        Lines::Numbered(2),
+        Damage::Down(2),
+        Expected::Here("Header"),
+    ),
     (
         Lines::Numbered(2),
         Damage::LeftOut,
-        Verdict::Here("Text Form"),
+        Expected::Here("Text Form"),
     ),
-    (Lines::Numbered(3), Damage::Up(1), Verdict::Here("Header")),
-    (Lines::Numbered(3), Damage::Down(1), Verdict::Here("Header")),
+    (Lines::Numbered(3), Damage::Up(1), Expected::Here("Header")),
+    (
+        Lines::Numbered(3),
+        Damage::Down(1),
+        Expected::Here("Header"),
+    ),
     (
         Lines::Numbered(3),
         Damage::Word(1, b"0"),
-        Verdict::Here("Text Range"),
+        Expected::Here("Text Range"),
     ),
     (
         Lines::Numbered(3),
         Damage::Doubled,
-        Verdict::Behind("Text Form"),
+        Expected::Behind("Text Form"),
     ),
-    (Lines::Numbered(4), Damage::Up(1), Verdict::Here("Header")),
-    (Lines::Numbered(4), Damage::Down(1), Verdict::Here("Header")),
+    (Lines::Numbered(4), Damage::Up(1), Expected::Here("Header")),
+    (
+        Lines::Numbered(4),
+        Damage::Down(1),
+        Expected::Here("Header"),
+    ),
     (
         Lines::Numbered(4),
         Damage::Word(1, b"2001"),
-        Verdict::Here("Text Range"),
+        Expected::Here("Text Range"),
     ),
     (
         Lines::Numbered(4),
         Damage::Word(1, b"012"),
-        Verdict::Here("Text Form"),
+        Expected::Here("Text Form"),
     ),
     (
         Lines::Numbered(4),
         Damage::Exchanged,
-        Verdict::Here("Text Form"),
+        Expected::Here("Text Form"),
     ),
 ];
 
 /// A shell that is written has the greatest inner and the least outer radius that the hulls show. No two shells are within a nanometre of
 /// the threshold.
 const SHELLS: [Row; 11] = [
-    (Lines::Shells, Damage::LeftOut, Verdict::Here("ShellOf")),
-    (Lines::Shells, Damage::Doubled, Verdict::Behind("ShellOf")),
-    (Lines::Shells, Damage::Exchanged, Verdict::Here("ShellOf")),
-    (Lines::Shells, Damage::Up(1), Verdict::Here("ShellOf")),
-    (Lines::Shells, Damage::Up(2), Verdict::Here("ShellOf")),
-    (Lines::Shells, Damage::Down(3), Verdict::Here("ShellOf")),
-    (Lines::Shells, Damage::Down(2), Verdict::Accepted),
-    (Lines::Shells, Damage::Up(3), Verdict::Accepted),
+    (Lines::Shells, Damage::LeftOut, Expected::Here("ShellOf")),
+    (Lines::Shells, Damage::Doubled, Expected::Behind("ShellOf")),
+    (Lines::Shells, Damage::Exchanged, Expected::Here("ShellOf")),
+    (Lines::Shells, Damage::Up(1), Expected::Here("ShellOf")),
+    (Lines::Shells, Damage::Up(2), Expected::Here("ShellOf")),
+    (Lines::Shells, Damage::Down(3), Expected::Here("ShellOf")),
+    (Lines::Shells, Damage::Down(2), Expected::Accepted),
+    (Lines::Shells, Damage::Up(3), Expected::Accepted),
     (
         Lines::Shells,
         Damage::Word(2, b"NONE"),
-        Verdict::Here("Text Form"),
+        Expected::Here("Text Form"),
     ),
     (
         Lines::Shells,
         Damage::Word(3, b"1"),
-        Verdict::Here("Text Range"),
+        Expected::Here("Text Range"),
     ),
     (
         Lines::Shells,
         Damage::Word(0, b"shell"),
-        Verdict::Here("Text Form"),
+        Expected::Here("Text Form"),
     ),
 ];
 
 /// A box that is written is the least one round the hulls. No two boxes are within a nanometre of the threshold.
 const BOXES: [Row; 20] = [
-    (Lines::Boxes, Damage::LeftOut, Verdict::Here("BoxOf")),
-    (Lines::Boxes, Damage::Doubled, Verdict::Behind("BoxOf")),
-    (Lines::Boxes, Damage::Exchanged, Verdict::Here("BoxOf")),
-    (Lines::Boxes, Damage::Up(1), Verdict::Here("BoxOf")),
-    (Lines::Boxes, Damage::Up(2), Verdict::Here("BoxOf")),
-    (Lines::WideBoxes, Damage::Up(3), Verdict::Here("BoxOf")),
-    (Lines::WideBoxes, Damage::Down(4), Verdict::Here("BoxOf")),
-    (Lines::WideBoxes, Damage::Up(5), Verdict::Here("BoxOf")),
-    (Lines::WideBoxes, Damage::Down(6), Verdict::Here("BoxOf")),
-    (Lines::WideBoxes, Damage::Up(7), Verdict::Here("BoxOf")),
-    (Lines::WideBoxes, Damage::Down(8), Verdict::Here("BoxOf")),
-    (Lines::Boxes, Damage::Down(3), Verdict::Accepted),
-    (Lines::Boxes, Damage::Up(4), Verdict::Accepted),
-    (Lines::Boxes, Damage::Down(5), Verdict::Accepted),
-    (Lines::Boxes, Damage::Up(6), Verdict::Accepted),
-    (Lines::Boxes, Damage::Down(7), Verdict::Accepted),
-    (Lines::Boxes, Damage::Up(8), Verdict::Accepted),
+    (Lines::Boxes, Damage::LeftOut, Expected::Here("BoxOf")),
+    (Lines::Boxes, Damage::Doubled, Expected::Behind("BoxOf")),
+    (Lines::Boxes, Damage::Exchanged, Expected::Here("BoxOf")),
+    (Lines::Boxes, Damage::Up(1), Expected::Here("BoxOf")),
+    (Lines::Boxes, Damage::Up(2), Expected::Here("BoxOf")),
+    (Lines::WideBoxes, Damage::Up(3), Expected::Here("BoxOf")),
+    (Lines::WideBoxes, Damage::Down(4), Expected::Here("BoxOf")),
+    (Lines::WideBoxes, Damage::Up(5), Expected::Here("BoxOf")),
+    (Lines::WideBoxes, Damage::Down(6), Expected::Here("BoxOf")),
+    (Lines::WideBoxes, Damage::Up(7), Expected::Here("BoxOf")),
+    (Lines::WideBoxes, Damage::Down(8), Expected::Here("BoxOf")),
+    (Lines::Boxes, Damage::Down(3), Expected::Accepted),
+    (Lines::Boxes, Damage::Up(4), Expected::Accepted),
+    (Lines::Boxes, Damage::Down(5), Expected::Accepted),
+    (Lines::Boxes, Damage::Up(6), Expected::Accepted),
+    (Lines::Boxes, Damage::Down(7), Expected::Accepted),
+    (Lines::Boxes, Damage::Up(8), Expected::Accepted),
     (
         Lines::Boxes,
         Damage::Word(3, b"7O00"),
-        Verdict::Here("Text Form"),
+        Expected::Here("Text Form"),
     ),
     (
         Lines::Boxes,
         Damage::Word(8, b"9223372036854775808"),
-        Verdict::Here("Text Range"),
+        Expected::Here("Text Range"),
     ),
     (
         Lines::Boxes,
         Damage::Word(2, b""),
-        Verdict::Here("Text Form"),
+        Expected::Here("Text Form"),
     ),
 ];
 
 /// A tick earlier or later changes the distance of two objects by less than two centimetres, and by more than two millimetres. A cell is
 /// written as undecided only where its hulls show neither of the other kinds.
 const CELLS: [Row; 20] = [
-    (Lines::Cells, Damage::LeftOut, Verdict::Here("Untiled")),
-    (Lines::Cells, Damage::Doubled, Verdict::Behind("Stranger")),
-    (Lines::Cells, Damage::Exchanged, Verdict::Here("Untiled")),
-    (Lines::Cells, Damage::Up(2), Verdict::Here("Untiled")),
-    (Lines::Cells, Damage::Down(3), Verdict::Here("Stranger")),
-    (Lines::LongCells, Damage::Up(3), Verdict::Here("Untiled")),
+    (Lines::Cells, Damage::LeftOut, Expected::Here("Untiled")),
+    (Lines::Cells, Damage::Doubled, Expected::Behind("Stranger")),
+    (Lines::Cells, Damage::Exchanged, Expected::Here("Untiled")),
+    (Lines::Cells, Damage::Up(2), Expected::Here("Untiled")),
+    (Lines::Cells, Damage::Down(3), Expected::Here("Stranger")),
+    (Lines::LongCells, Damage::Up(3), Expected::Here("Untiled")),
     (
         Lines::LongCells,
         Damage::Down(4),
-        Verdict::Behind("Untiled"),
+        Expected::Behind("Untiled"),
     ),
-    (Lines::LastCells, Damage::Up(4), Verdict::Here("Stranger")),
+    (Lines::LastCells, Damage::Up(4), Expected::Here("Stranger")),
     (
         Lines::InnerCells,
         Damage::Up(4),
-        Verdict::Behind("Stranger"),
+        Expected::Behind("Stranger"),
     ),
     (
         Lines::FarCells,
         Damage::Word(5, b"N"),
-        Verdict::Here("NotNear"),
+        Expected::Here("NotNear"),
     ),
     (
         Lines::FarCells,
         Damage::Word(5, b"U"),
-        Verdict::Here("NotBand"),
+        Expected::Here("NotBand"),
     ),
     (
         Lines::NearCells,
         Damage::Word(5, b"F"),
-        Verdict::Here("NotFar"),
+        Expected::Here("NotFar"),
     ),
     (
         Lines::NearCells,
         Damage::Word(5, b"U"),
-        Verdict::Here("NotBand"),
+        Expected::Here("NotBand"),
     ),
     (
         Lines::UndecidedCells,
         Damage::Word(5, b"F"),
-        Verdict::Here("NotFar"),
+        Expected::Here("NotFar"),
     ),
     (
         Lines::UndecidedCells,
         Damage::Word(5, b"N"),
-        Verdict::Here("NotNear"),
+        Expected::Here("NotNear"),
     ),
     (
         Lines::Cells,
         Damage::Word(1, b"0"),
-        Verdict::Here("Text Range"),
+        Expected::Here("Text Range"),
     ),
     (
         Lines::Cells,
         Damage::Word(3, b"-1"),
-        Verdict::Here("Text Range"),
+        Expected::Here("Text Range"),
     ),
     (
         Lines::Cells,
         Damage::Word(4, b"4102444800000000"),
-        Verdict::Here("Text Range"),
+        Expected::Here("Text Range"),
     ),
     (
         Lines::Cells,
         Damage::Word(5, b"X"),
-        Verdict::Here("Text Form"),
+        Expected::Here("Text Form"),
     ),
     (
         Lines::Cells,
         Damage::Word(5, b"N "),
-        Verdict::Here("Text Form"),
+        Expected::Here("Text Form"),
     ),
 ];
 
@@ -265,57 +281,57 @@ const ENDS: [Row; 11] = [
     (
         Lines::Last(b"SHELL "),
         Damage::LeftOut,
-        Verdict::Here("ShellOf"),
+        Expected::Here("ShellOf"),
     ),
     (
         Lines::Last(b"SHELL "),
         Damage::Doubled,
-        Verdict::Behind("ShellOf"),
+        Expected::Behind("ShellOf"),
     ),
     (
         Lines::Last(b"SHELL "),
         Damage::Exchanged,
-        Verdict::Behind("Text Form"),
+        Expected::Behind("Text Form"),
     ),
     (
         Lines::Last(b"BOX "),
         Damage::LeftOut,
-        Verdict::Here("BoxOf"),
+        Expected::Here("BoxOf"),
     ),
     (
         Lines::Last(b"BOX "),
         Damage::Doubled,
-        Verdict::Behind("BoxOf"),
+        Expected::Behind("BoxOf"),
     ),
     (
         Lines::Last(b"BOX "),
         Damage::Exchanged,
-        Verdict::Behind("Text Form"),
+        Expected::Behind("Text Form"),
     ),
     (
         Lines::Last(b"CELL "),
         Damage::LeftOut,
-        Verdict::Here("Untiled"),
+        Expected::Here("Untiled"),
     ),
     (
         Lines::Last(b"CELL "),
         Damage::Doubled,
-        Verdict::Behind("Stranger"),
+        Expected::Behind("Stranger"),
     ),
     (
         Lines::Last(b"CELL "),
         Damage::Exchanged,
-        Verdict::Behind("Text End"),
+        Expected::Behind("Text End"),
     ),
     (
         Lines::Last(b"END"),
         Damage::LeftOut,
-        Verdict::Here("Text End"),
+        Expected::Here("Text End"),
     ),
     (
         Lines::Last(b"END"),
         Damage::Doubled,
-        Verdict::Behind("Text End"),
+        Expected::Behind("Text End"),
     ),
 ];
 
@@ -516,13 +532,15 @@ fn told<R: Threads + Wait + Sync>(
 }
 
 /// What is to be told of a damage of the line at a place.
-fn wanted(alloc: Global, place: usize, told: Verdict) -> Result<String, AllocError> {
+fn wanted(alloc: Global, place: usize, told: Expected) -> Result<String, AllocError> {
     let here = place.saturating_add(1);
     let behind = here.saturating_add(1);
     match told {
-        Verdict::Accepted => format!(in alloc; "ACCEPTED\n"),
-        Verdict::Here(cause) => format!(in alloc; "conj: not accepted: line {here}: {cause}\n"),
-        Verdict::Behind(cause) => format!(in alloc; "conj: not accepted: line {behind}: {cause}\n"),
+        Expected::Accepted => format!(in alloc; "ACCEPTED\n"),
+        Expected::Here(cause) => format!(in alloc; "conj: not accepted: line {here}: {cause}\n"),
+        Expected::Behind(cause) => format!(in alloc;
+            "conj: not accepted: line {behind}: {cause}\n"
+        ),
     }
 }
 

@@ -1,7 +1,8 @@
 //! Certificates of version 2: written, checked and rewritten.
 use super::catalogues;
+use super::certificates::{AT_REST, RESTING};
 use super::runs::{line_of, piece_of, run, run_at};
-use super::scenes::{CROSSING, Content, Scene, files_of};
+use super::scenes::{CROSSING, files_of};
 use cj_epoch::Tick;
 use cj_io::{Bytes, FileBytes, Name};
 use cj_status::Status;
@@ -10,30 +11,8 @@ use std::sync::Wait;
 use std::test::Fail;
 use std::thread::Threads;
 
-/// Two objects that rest at the threshold from each other.
-const RESTING: Scene = &[
-    ("a.oem", Content::Rest("7000 0 0")),
-    ("b.oem", Content::Rest("7005 0 0")),
-];
-
-/// Their certificate in version 1.
-const FIRST: &[u8] = b"CONJ-CERT 1
-WINDOW 1735689600000000 1735689660000000
-THRESHOLD 5000000000000
-OBJECTS 2
-SHELL 1 7000000000000000 7000000000000000
-SHELL 2 7005000000000000 7005000000000000
-BOX 1 0 7000000000000000 7000000000000000 0 0 0 0
-BOX 1 1 7000000000000000 7000000000000000 0 0 0 0
-BOX 2 0 7005000000000000 7005000000000000 0 0 0 0
-BOX 2 1 7005000000000000 7005000000000000 0 0 0 0
-CELL 1 2 1735689600000000 1735689659999999 N
-CELL 1 2 1735689660000000 1735689660000000 N
-END
-";
-
-/// The same in version 2.
-const SECOND: &[u8] = b"CONJ-CERT 2
+/// The certificate of the two objects at rest in version 2.
+const AT_REST_2: &[u8] = b"CONJ-CERT 2
 WINDOW 1735689600000000 1735689660000000
 THRESHOLD 5000000000000
 OBJECTS 2
@@ -104,16 +83,16 @@ fn objects_at_rest_have_one_box_each(rt: HostRuntime) -> Result<(), Fail> {
         "screen . --cert-version 2",
         files_of(alloc, RESTING)?,
     )?;
-    assert_eq!(rt; ran.certificate.as_slice(), SECOND);
+    assert_eq!(rt; ran.certificate.as_slice(), AT_REST_2);
     let ran = run(
         &rt,
         alloc,
         "screen . --cert-version 1",
         files_of(alloc, RESTING)?,
     )?;
-    assert_eq!(rt; ran.certificate.as_slice(), FIRST);
+    assert_eq!(rt; ran.certificate.as_slice(), AT_REST);
     assert_eq!(rt;
-        checked(&rt, alloc, SECOND)?.as_slice(),
+        checked(&rt, alloc, AT_REST_2)?.as_slice(),
         b"ACCEPTED\n".as_slice()
     );
     Ok(())
@@ -152,7 +131,7 @@ fn damages_of_version_2_are_told(rt: HostRuntime) -> Result<(), Fail> {
         (10, b"", b"conj: not accepted: line 10: BoxOf\n"),
         (9, wider, b"conj: not accepted: line 9: BoxOf\n"),
     ] {
-        let text = changed(alloc, SECOND, number, other)?;
+        let text = changed(alloc, AT_REST_2, number, other)?;
         assert_eq!(rt; checked(&rt, alloc, &text)?.as_slice(), told);
     }
     Ok(())
@@ -176,13 +155,13 @@ fn rewritten<R: Threads + Wait + Sync>(
 #[test]
 fn a_certificate_is_rewritten(rt: HostRuntime) -> Result<(), Fail> {
     let alloc = rt.alloc();
-    for text in [FIRST, SECOND] {
+    for text in [AT_REST, AT_REST_2] {
         let files = with_certificate(alloc, files_of(alloc, RESTING)?, text)?;
         let (certificate, told) = rewritten(&rt, alloc, "rewrite .", files)?;
-        assert_eq!(rt; certificate.as_slice(), SECOND);
+        assert_eq!(rt; certificate.as_slice(), AT_REST_2);
         assert_eq!(rt; told.as_slice(), b"REWRITTEN\n".as_slice());
     }
-    let without_a_box = changed(alloc, FIRST, 7, b"")?;
+    let without_a_box = changed(alloc, AT_REST, 7, b"")?;
     let files = with_certificate(alloc, files_of(alloc, RESTING)?, &without_a_box)?;
     let (certificate, told) = rewritten(&rt, alloc, "rewrite .", files)?;
     assert_eq!(rt; certificate.as_slice(), b"".as_slice());
