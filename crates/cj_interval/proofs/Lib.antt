@@ -3,6 +3,7 @@ pub mod IntegerLemmas
 pub mod ListLemmas
 pub mod MachineLemmas
 pub mod OrderLemmas
+pub mod RangeLemmas
 pub mod RingLemmas
 pub mod RoundingLemmas
 pub mod SignLemmas

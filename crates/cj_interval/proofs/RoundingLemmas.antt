@@ -8,7 +8,7 @@ use Rattle.std.proofs.Common.{[], ◌∷◌}
 use Rattle.cj_interval.specs.Rounding.{floor_div, ceil_div}
 use Rattle.cj_interval.specs.Spans.{least, greatest, IsIn}
 use Rattle.cj_interval.proofs.RingLemmas.{var, num, neg, ◌:+◌, ◌:*◌, from, ring}
-use Rattle.cj_interval.proofs.IntegerLemmas.{mul-le_right, le_from_mul, le_trans_ℤ, corners_low, corners_high}
+use Rattle.cj_interval.proofs.IntegerLemmas.{add-mul_ℤ, mul-le_right, le_from_mul, le_trans_ℤ, corners_low, corners_high}
 
 quotient : (a : ℤ) (k : ℕ) → 0 < k → ((int_div_euclid a (pos k) *ℤ pos k) ≤ℤ a) × (a <ℤ (int_div_euclid a (pos k) *ℤ pos k +ℤ pos k))
 quotient (pos a) k h = omega (arith, ints)
@@ -139,9 +139,6 @@ scaled_product_of_spans a b c d x y r p q =
 
 -- ---- widths
 
-add-mul : (f k d : ℤ) → (f +ℤ k) *ℤ d ≡ f *ℤ d +ℤ k *ℤ d
-add-mul f k d = ring (from (f ∷ k ∷ d ∷ [])) ((var 0 :+ var 1) :* var 2) (var 0 :* var 2 :+ var 1 :* var 2) refl
-
 pub ceil-le_floor : (x y : ℤ) (d w : ℕ) → 0 < d → y ≤ℤ (x +ℤ pos (w * d)) → ceil_div y d ≤ℤ (floor_div x d +ℤ pos (w + 1))
 ceil-le_floor x y d w p h =
     let f = floor_div x d in
@@ -152,7 +149,7 @@ ceil-le_floor x y d w p h =
     (λ l.
     let q : (f +ℤ pos (w + 2)) ≤ℤ c = omega (arith, ints) in
     let r = mul-le_right (f +ℤ pos (w + 2)) c d q in
-    absurd (clash (f *ℤ pos d) (c *ℤ pos d) ((f +ℤ pos (w + 2)) *ℤ pos d) x y w d (add-mul f (pos (w + 2)) (pos d)) r lo hi h))
+    absurd (clash (f *ℤ pos d) (c *ℤ pos d) ((f +ℤ pos (w + 2)) *ℤ pos d) x y w d (add-mul_ℤ f (pos (w + 2)) (pos d)) r lo hi h))
     (λ l. l)
   where
     clash : (fd cd s x y : ℤ) (w d : ℕ) → s ≡ fd +ℤ pos ((w + 2) * d) → s ≤ℤ cd → x <ℤ (fd +ℤ pos d) → cd <ℤ (y +ℤ pos d) → y ≤ℤ (x +ℤ pos (w * d)) → ⊥
