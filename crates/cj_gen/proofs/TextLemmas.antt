@@ -1,9 +1,10 @@
 -- Texts that are written part by part.
-use Rattle.std.proofs.Common.{◌≡◌, ℕ, zero, suc, ◌+◌, List, [], ◌∷◌, ◌++◌, ap, sym, ◌∙◌, append_assoc, arith, OnOk, Result}
+use Rattle.std.proofs.Common.{◌≡◌, ℕ, ◌+◌, List, [], ◌∷◌, ◌++◌, ap, sym, ◌∙◌, append_assoc, arith, OnOk, Result}
 use Rattle.std.specs.Prelude.{flat_map}
 use Rattle.std.specs.List.{range_with_len}
 use Rattle.std.proofs.lemmas.List.{flat_map_more}
 use Rattle.std.proofs.lemmas.Result.{on_ok_weaker}
+use Rattle.cj_interval.proofs.RangeLemmas.{range_more}
 
 -- one part behind another
 pub joined : (old was now a b : List ℕ) → was ≡ old ++ a → now ≡ was ++ b → now ≡ old ++ (a ++ b)
@@ -12,16 +13,6 @@ joined old was now a b first second = second ∙ ap (λ (t : List ℕ). t ++ b) 
 -- the same where the second may want memory
 pub joined_ok : {T E : Type 0} (r : Result T E) (old was now a b : List ℕ) → was ≡ old ++ a → OnOk r (now ≡ was ++ b) → OnOk r (now ≡ old ++ (a ++ b))
 joined_ok r old was now a b first second = on_ok_weaker r (joined old was now a b first) second
-
--- one number more
-range_more : (a n : ℕ) → range_with_len a (n + 1) ≡ range_with_len a n ++ (a + n) ∷ []
-range_more a n = let e : n + 1 ≡ suc n = omega arith in ap (range_with_len a) e ∙ last a n
-  where
-    last : (a n : ℕ) → range_with_len a (suc n) ≡ range_with_len a n ++ (a + n) ∷ []
-    last a zero = let e : a ≡ a + 0 = omega arith in ap (λ (k : ℕ). k ∷ []) e
-    last a (suc n) =
-        let e : a + 1 + n ≡ a + suc n = omega arith in
-        ap (λ (l : List ℕ). a ∷ l) (last (a + 1) n ∙ ap (λ (k : ℕ). range_with_len (a + 1) n ++ k ∷ []) e)
 
 -- the text of the numbers below n, and then that of n
 pub counted_more : (text : ℕ → List ℕ) (n : ℕ) (old was now : List ℕ) → was ≡ old ++ flat_map text (range_with_len 0 n) → now ≡ was ++ text n
