@@ -3,7 +3,8 @@ use Rattle.std.proofs.Common.{◌≡◌, ℕ, zero, suc, ◌+◌, ◌-◌, ◌<�
 use Rattle.std.specs.Prelude.{slice_get, IfSome}
 use Rattle.std.specs.List.{enumerate_from, flat_map, range_with_len}
 use Rattle.std.proofs.lemmas.Bool.{cases_eq, eqb-true, eq-eqb}
-use Rattle.cj_interval.proofs.ListLemmas.{Each, Exists, Each-flat_map, Exists-flat_map}
+use Rattle.cj_interval.proofs.ListLemmas.{Each, Exists, Each-flat_map, Exists-flat_map, each_from_flat_map}
+use Rattle.cj_interval.proofs.RangeLemmas.{Each-numbered, Exists-enumerated, each_from_numbered}
 use Rattle.cj_track.specs.PlainTracks.{PlainTrack}
 use Rattle.cj_hermite.specs.Interpolant.{Curve, IsOver}
 use Rattle.cj_hermite.specs.Pieces.{PlainPiece, intervals_of, interval_at, interval_index_at, curve_of_interval}
@@ -84,55 +85,6 @@ number_is index (Some i) h = ap (λ (k : ℕ). Some k) (eqb-true i index h)
 pub is_the_number : (index : ℕ) (o : Option ℕ) → o ≡ Some index → is_number index o ≡ true
 is_the_number index None h = absurd cc
 is_the_number index (Some i) h = let same : i ≡ index = cc in eq-eqb i index same
-
--- ---- lists of lists
-
-each_left : {X : Type 0} (P : X → Type 0) (xs ys : List X) → Each P (xs ++ ys) → Each P xs
-each_left P [] ys e = tt
-each_left P (x ∷ xs) ys e = (e.0, each_left P xs ys e.1)
-
-each_right : {X : Type 0} (P : X → Type 0) (xs ys : List X) → Each P (xs ++ ys) → Each P ys
-each_right P [] ys e = e
-each_right P (x ∷ xs) ys e = each_right P xs ys e.1
-
-each_from_flat_map : {X Y : Type 0} (P : Y → Type 0) (f : X → List Y) (xs : List X) → Each P (flat_map f xs) → Each (λ x. Each P (f x)) xs
-each_from_flat_map P f [] e = tt
-each_from_flat_map P f (x ∷ xs) e = (each_left P (f x) (flat_map f xs) e, each_from_flat_map P f xs (each_right P (f x) (flat_map f xs) e))
-
--- what holds of each element with its number
-Each-enumerated : {X : Type 0} (P : ℕ × X → Type 0) (n : ℕ) (xs : List X) → ((i : ℕ) (x : X) → slice_get xs i ≡ Some x → P (n + i, x)) → Each P (enumerate_from n xs)
-Each-enumerated P n [] f = tt
-Each-enumerated {X = X} P n (x ∷ xs) f =
-    let here : n + 0 ≡ n = omega arith in
-    let first : P (n, x) = subst (λ (k : ℕ). let p : ℕ × X = (k, x) in P p) here (f 0 x refl) in
-    (first, Each-enumerated P (n + 1) xs (λ i y is. let at : n + suc i ≡ n + 1 + i = omega arith in subst (λ (k : ℕ). let p : ℕ × X = (k, y) in P p) at (f (suc i) y is)))
-
-each_from_enumerated : {X : Type 0} (P : ℕ × X → Type 0) (n : ℕ) (xs : List X) → Each P (enumerate_from n xs) → (i : ℕ) (x : X) → slice_get xs i ≡ Some x → P (n + i, x)
-each_from_enumerated P n [] e i x is = absurd cc
-each_from_enumerated {X = X} P n (y ∷ xs) e zero x is =
-    let same : y ≡ x = cc in
-    let here : n ≡ n + 0 = omega arith in
-    subst (λ (k : ℕ). let p : ℕ × X = (k, x) in P p) here (subst (λ (z : X). let p : ℕ × X = (n, z) in P p) same e.0)
-each_from_enumerated {X = X} P n (y ∷ xs) e (suc i) x is =
-    let at : n + 1 + i ≡ n + suc i = omega arith in
-    subst (λ (k : ℕ). let p : ℕ × X = (k, x) in P p) at (each_from_enumerated P (n + 1) xs e.1 i x is)
-
--- the same, numbered from 0
-Each-numbered : {X : Type 0} (P : ℕ × X → Type 0) (xs : List X) → ((i : ℕ) (x : X) → slice_get xs i ≡ Some x → P (i, x)) → Each P (enumerate_from 0 xs)
-Each-numbered {X = X} P xs f = Each-enumerated P 0 xs (λ i x is. let same : i ≡ 0 + i = omega arith in subst (λ (k : ℕ). let p : ℕ × X = (k, x) in P p) same (f i x is))
-
-each_from_numbered : {X : Type 0} (P : ℕ × X → Type 0) (xs : List X) → Each P (enumerate_from 0 xs) → (i : ℕ) (x : X) → slice_get xs i ≡ Some x → P (i, x)
-each_from_numbered {X = X} P xs e i x is = let same : 0 + i ≡ i = omega arith in subst (λ (k : ℕ). let p : ℕ × X = (k, x) in P p) same (each_from_enumerated P 0 xs e i x is)
-
-Exists-enumerated : {X : Type 0} (P : ℕ × X → Type 0) (n i : ℕ) (xs : List X) (x : X) → slice_get xs i ≡ Some x → P (n + i, x) → Exists P (enumerate_from n xs)
-Exists-enumerated P n i [] x is holds = absurd cc
-Exists-enumerated {X = X} P n zero (y ∷ xs) x is holds =
-    let same : x ≡ y = cc in
-    let here : n + 0 ≡ n = omega arith in
-    inl (subst (λ (k : ℕ). let p : ℕ × X = (k, y) in P p) here (subst (λ (z : X). let p : ℕ × X = (n + 0, z) in P p) same holds))
-Exists-enumerated {X = X} P n (suc i) (y ∷ xs) x is holds =
-    let at : n + suc i ≡ n + 1 + i = omega arith in
-    inr (Exists-enumerated P (n + 1) i xs x is (subst (λ (k : ℕ). let p : ℕ × X = (k, x) in P p) at holds))
 
 -- ---- the hulls of the parts
 

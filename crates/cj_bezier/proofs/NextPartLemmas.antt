@@ -1,9 +1,10 @@
 -- The first part of an ephemeris from a tick on: its hull stands in front of those from the tick behind it on.
-use Rattle.std.proofs.Common.{◌≡◌, ◌≢◌, ℕ, zero, suc, ◌+◌, ◌-◌, ◌<◌, ◌≤◌, Bool, List, [], ◌∷◌, ◌++◌, filter, inl, inr, Option, Some, None, refl, sym, ap, ◌∙◌, subst, arith}
+use Rattle.std.proofs.Common.{◌≡◌, ◌≢◌, ℕ, zero, suc, ◌+◌, ◌-◌, ◌<◌, ◌≤◌, List, [], ◌∷◌, ◌++◌, filter, inl, inr, Option, Some, None, refl, sym, ap, ◌∙◌, subst, arith}
 use Rattle.std.specs.Prelude.{slice_get, IfSome, IsSomeAnd}
 use Rattle.std.specs.List.{enumerate_from, flat_map, range_with_len}
 use Rattle.std.proofs.lemmas.Bool.{cases_lt, cases_Bool}
 use Rattle.std.proofs.lemmas.List.Elements.{filter-append}
+use Rattle.cj_interval.proofs.RangeLemmas.{none_in_range_passes, range_cut}
 use Rattle.cj_epoch.specs.declared.tick.Window.{Window}
 use Rattle.cj_track.specs.PlainTracks.{PlainNode, PlainTrack}
 use Rattle.cj_hermite.specs.declared.pieces.Piece.{Piece}
@@ -129,20 +130,6 @@ join_time e from at last before behind m low high = elim (cases_lt at m) [ inl l
 
 -- ---- the hulls
 
-unused : (q : ℕ → Bool) (from n : ℕ) → AreNone q from n → filter q (range_with_len from n) ≡ []
-unused q from zero none = refl
-unused q from (suc n) none = rw (none from (omega arith) (omega arith)) (unused q (from + 1) n (λ k low high. none k (omega arith) (omega arith)))
-
-range_cut : (from n k : ℕ) → range_with_len from (n + k) ≡ range_with_len from n ++ range_with_len (from + n) k
-range_cut from zero k =
-    let a : 0 + k ≡ k = omega arith in
-    let b : from + 0 ≡ from = omega arith in
-    rw (a, b) refl
-range_cut from (suc n) k =
-    let more : suc n + k ≡ suc (n + k) = omega arith in
-    let at : from + 1 + n ≡ from + suc n = omega arith in
-    rw more (ap (λ (ms : List ℕ). from ∷ ms) (range_cut (from + 1) n k ∙ ap (λ (a : ℕ). range_with_len (from + 1) n ++ range_with_len a k) at))
-
 -- an interval that is not used in the run
 later_ticks : (e : PlainTrack) (from last to index : ℕ) → from ≤ to → to ≤ last → AreNone (λ k. is_number index (interval_index_at e k)) from (to + 1 - from) → ticks_used e from last index ≡ ticks_used e (to + 1) last index
 later_ticks e from last to index le within none =
@@ -152,7 +139,7 @@ later_ticks e from last to index le within none =
     ap (λ (n : ℕ). filter q (range_with_len from n)) count
     ∙ ap (filter q) (range_cut from (to + 1 - from) (last + 1 - (to + 1)))
     ∙ filter-append q (range_with_len from (to + 1 - from)) (range_with_len (from + (to + 1 - from)) (last + 1 - (to + 1)))
-    ∙ ap (λ (ms : List ℕ). ms ++ filter q (range_with_len (from + (to + 1 - from)) (last + 1 - (to + 1)))) (unused q from (to + 1 - from) none)
+    ∙ ap (λ (ms : List ℕ). ms ++ filter q (range_with_len (from + (to + 1 - from)) (last + 1 - (to + 1)))) (none_in_range_passes q from (to + 1 - from) none)
     ∙ ap (λ (a : ℕ). filter q (range_with_len a (last + 1 - (to + 1)))) at
 
 -- another number passes at no tick of the run
@@ -220,7 +207,7 @@ hulls_from e from last first to index x h run hull = go 0 index (intervals_of e)
 
     -- one that comes before, or its own, behind the run
     none_behind : (n : ℕ) (y : PlainPiece) → n ≤ index → hull_over y (ticks_used e (to + 1) last n) ≡ []
-    none_behind n y before = ap (hull_over y) (unused (λ k. is_number n (interval_index_at e k)) (to + 1) (last + 1 - (to + 1)) (not_behind e from last first to index x n run before))
+    none_behind n y before = ap (hull_over y) (none_in_range_passes (λ k. is_number n (interval_index_at e k)) (to + 1) (last + 1 - (to + 1)) (not_behind e from last first to index x n run before))
 
     rest_same : (n : ℕ) (ys : List PlainPiece) → index < n
         → flat_map (λ part. hull_over part.1 (ticks_used e from last part.0)) (enumerate_from n ys) ≡ flat_map (λ part. hull_over part.1 (ticks_used e (to + 1) last part.0)) (enumerate_from n ys)

@@ -2,8 +2,8 @@
 use Rattle.std.proofs.Common.{◌≡◌, ◌≢◌, ℕ, zero, suc, ◌+◌, ◌≤◌, ◌⊎◌, ◌↔◌, Bool, true, false, ◌||◌, cond, eqb, List, [], ◌∷◌, Some, None, refl, sym, ap, subst, ◌∙◌, inl, inr, arith}
 use Rattle.std.specs.Prelude.{IfSome}
 use Rattle.std.specs.List.{list_all}
-use Rattle.std.proofs.lemmas.Bool.{cases_eq, eqb-true, eq-eqb, and_parts, false_from_ne_true}
-use Rattle.cj_interval.proofs.ListLemmas.{Each, Each-weaker, Each-always, Each-both}
+use Rattle.std.proofs.lemmas.Bool.{cases_eq, eqb-true, eq-eqb, false_from_ne_true}
+use Rattle.cj_interval.proofs.ListLemmas.{Each, Each-weaker, Each-always, Each-both, each_from_list_all, list_all-from_each}
 use Rattle.cj_track.specs.PlainTracks.{PlainTrack}
 use Rattle.cj_hermite.specs.Pieces.{interval_at, curve_of_interval}
 use Rattle.cj_hermite.specs.Walks.{HasNone}
@@ -46,14 +46,6 @@ least_is (suc n) r hi test low high is smallest = go (λ low. least_is n (r + 1)
       | inr other ↦ omega arith
     ])
 
-all_true : {X : Type 0} (p : X → Bool) (xs : List X) → Each (λ x. p x ≡ true) xs → list_all p xs ≡ true
-all_true p [] e = refl
-all_true p (x ∷ xs) e = let here = e.0 in let rest = all_true p xs e.1 in rw (here, rest) refl
-
-each_true : {X : Type 0} (p : X → Bool) (xs : List X) → list_all p xs ≡ true → Each (λ x. p x ≡ true) xs
-each_true p [] h = tt
-each_true p (x ∷ xs) h = let both = and_parts (p x) (list_all p xs) h in (both.0, each_true p xs both.1)
-
 -- ---- the radii that hulls show together
 
 pub inner_test : (hs : List PlainHull) (r : ℕ) → Each (λ h. IsInner (gap_terms h) r) hs → is_inner hs r ≡ true
@@ -61,7 +53,7 @@ inner_test hs r each = elim (cases_eq r 0) [
   | inl zero_here ↦ let is : eqb r 0 ≡ true = eq-eqb r 0 zero_here in rw is refl
   | inr other ↦
       let all : list_all (λ h. are_at_least (gap_terms h).low r) hs ≡ true =
-      all_true (λ h. are_at_least (gap_terms h).low r) hs (Each-weaker (λ h. IsInner (gap_terms h) r) (λ h. are_at_least (gap_terms h).low r ≡ true) (λ h inner. elim inner [
+      list_all-from_each (λ h. are_at_least (gap_terms h).low r) hs (Each-weaker (λ h. IsInner (gap_terms h) r) (λ h. are_at_least (gap_terms h).low r ≡ true) (λ h inner. elim inner [
         | inl zero_here ↦ absurd (omega arith)
         | inr at_least ↦ (decides_at_least (gap_terms h).low r).1 at_least
       ]) hs each) in
@@ -75,14 +67,14 @@ test_inner hs r h = go (eqb r 0) refl h
     go : (b : Bool) → eqb r 0 ≡ b → (b || list_all (λ h. are_at_least (gap_terms h).low r) hs) ≡ true → Each (λ h. IsInner (gap_terms h) r) hs
     go true is h = let zero_here = eqb-true r 0 is in Each-always (λ h. IsInner (gap_terms h) r) (λ h. inl zero_here) hs
     go false is h = Each-weaker (λ h. are_at_least (gap_terms h).low r ≡ true) (λ h. IsInner (gap_terms h) r) (λ h yes. inr ((decides_at_least (gap_terms h).low r).0 yes)) hs
-        (each_true (λ h. are_at_least (gap_terms h).low r) hs h)
+        (each_from_list_all (λ h. are_at_least (gap_terms h).low r) hs h)
 
 pub outer_test : (hs : List PlainHull) (r : ℕ) → Each (λ h. IsOuter (gap_terms h) r) hs → is_outer hs r ≡ true
 outer_test hs r each =
-    all_true (λ h. are_at_most (gap_terms h).high r) hs (Each-weaker (λ h. IsOuter (gap_terms h) r) (λ h. are_at_most (gap_terms h).high r ≡ true) (λ h outer. (decides_at_most (gap_terms h).high r).1 outer) hs each)
+    list_all-from_each (λ h. are_at_most (gap_terms h).high r) hs (Each-weaker (λ h. IsOuter (gap_terms h) r) (λ h. are_at_most (gap_terms h).high r ≡ true) (λ h outer. (decides_at_most (gap_terms h).high r).1 outer) hs each)
 
 pub test_outer : (hs : List PlainHull) (r : ℕ) → is_outer hs r ≡ true → Each (λ h. IsOuter (gap_terms h) r) hs
-test_outer hs r h = Each-weaker (λ h. are_at_most (gap_terms h).high r ≡ true) (λ h. IsOuter (gap_terms h) r) (λ h yes. (decides_at_most (gap_terms h).high r).0 yes) hs (each_true (λ h. are_at_most (gap_terms h).high r) hs h)
+test_outer hs r h = Each-weaker (λ h. are_at_most (gap_terms h).high r ≡ true) (λ h. IsOuter (gap_terms h) r) (λ h yes. (decides_at_most (gap_terms h).high r).0 yes) hs (each_from_list_all (λ h. are_at_most (gap_terms h).high r) hs h)
 
 -- a hull in front of others
 pub inner_front : (h : PlainHull) (hs : List PlainHull) (r : ℕ) → (is_inner (h ∷ hs) r ≡ true) ↔ (IsInner (gap_terms h) r × (is_inner hs r ≡ true))
