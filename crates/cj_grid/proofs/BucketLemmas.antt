@@ -1,5 +1,5 @@
 -- Objects whose boxes touch share a bucket, or one of the boxes is wide.
-use Rattle.std.proofs.Common.{◌≡◌, ◌⊎◌, inl, inr, ℕ, zero, suc, ◌+◌, ◌-◌, ◌/◌, ◌<◌, ◌≤◌, max, Bool, true, false, cond, List, [], ◌∷◌, length, get_or, filter, Option, Some, None, refl, sym, ap, subst, ◌∙◌, arith}
+use Rattle.std.proofs.Common.{◌≡◌, ◌⊎◌, inl, inr, ℕ, zero, suc, ◌+◌, ◌-◌, ◌/◌, ◌<◌, ◌≤◌, max, Bool, true, false, cond, List, [], ◌∷◌, length, get_or, Option, Some, None, refl, sym, ap, subst, ◌∙◌, arith}
 use Rattle.std.proofs.lemmas.Int.{ints}
 use Rattle.std.proofs.lemmas.Bool.{cases_Bool}
 use Rattle.std.proofs.lemmas.Nat.{le-div}
@@ -7,7 +7,7 @@ use Rattle.std.proofs.Math.Nat.{div-mul-le_self}
 use Rattle.std.specs.Prelude.{◌&&◌, ℤ, pos, negsuc, ◌+ℤ◌, ◌-ℤ◌, ◌≤ℤ◌, is_some, option_map, option_and_then, slice_get, slice_index}
 use Rattle.std.specs.List.{range_with_len}
 use Rattle.std.proofs.lemmas.Option.{slice_get-map}
-use Rattle.cj_interval.proofs.ListLemmas.{Each, Exists, Each-always, Each-map, Each-flat_map, Each-range, Exists-weaker, Exists-map, Exists-flat_map, Exists-range}
+use Rattle.cj_interval.proofs.ListLemmas.{Each, Exists, Each-always, Each-map, Each-flat_map, Each-range, Exists-weaker, Exists-map, Exists-flat_map, Exists-range, Each-filter, member_passes}
 use Rattle.cj_hermite.specs.PlainProblems.{threshold_between}
 use Rattle.cj_bezier.specs.declared.axis_box.AxisBox.{AxisBox}
 use Rattle.cj_bezier.specs.SlotBoxes.{Reach, plain_box, plain_boxes, reaches_in, reach_touches, reaches_touch, both_touch, touch_between}
@@ -106,23 +106,6 @@ unfolding entries_of
 entries_exist thr sizes boxes = Each-flat_map (λ (e : Entry). e.object < length boxes) (λ (k : ℕ). entered_by k (block_in thr sizes boxes k)) (range_with_len 0 (length boxes))
     (Each-range (λ k. Each (λ (e : Entry). e.object < length boxes) (entered_by k (block_in thr sizes boxes k))) 0 (length boxes)
     (λ k low high. one_exists (length boxes) k (block_in thr sizes boxes k) (omega arith)))
-
-Each-filter : {X : Type 0} (P : X → Type 0) (p : X → Bool) (xs : List X) → Each P xs → Each P (filter p xs)
-Each-filter P p [] e = tt
-Each-filter {X} P p (x ∷ xs) e = chosen (p x) (Each-filter P p xs e.1)
-  where
-    chosen : (c : Bool) → Each P (filter p xs) → Each P (cond c (x ∷ filter p xs) (filter p xs))
-    chosen true rest = (e.0, rest)
-    chosen false rest = rest
-
-pub Exists-filter : {X : Type 0} (p : X → Bool) (x : X) → p x ≡ true → (xs : List X) → Exists (λ y. y ≡ x) xs → Exists (λ y. y ≡ x) (filter p xs)
-Exists-filter p x passes [] e = e
-Exists-filter {X} p x passes (y ∷ ys) (inl e) = rw (ap p e ∙ passes) (inl e)
-Exists-filter {X} p x passes (y ∷ ys) (inr e) = chosen (p y) (Exists-filter p x passes ys e)
-  where
-    chosen : (c : Bool) → Exists (λ z. z ≡ x) (filter p ys) → Exists (λ z. z ≡ x) (cond c (y ∷ filter p ys) (filter p ys))
-    chosen true rest = inr rest
-    chosen false rest = rest
 
 pub wide_exist : (thr : ℕ) (sizes : List ℕ) (boxes : List (Option AxisBox)) → Each (λ object. object < length boxes) (wide_of thr sizes boxes)
 unfolding wide_of
@@ -256,7 +239,7 @@ touching_near thr sizes boxes a b h = go (box_in boxes a) (box_in boxes b) refl 
 pub wide_listed : (thr : ℕ) (sizes : List ℕ) (boxes : List (Option AxisBox)) (object : ℕ) → object < length boxes → is_wide_one (block_in thr sizes boxes object) ≡ true → Exists (λ k. k ≡ object) (wide_of thr sizes boxes)
 unfolding wide_of
 wide_listed thr sizes boxes object lt wide =
-    Exists-filter (λ k. is_wide_one (block_in thr sizes boxes k)) object wide (range_with_len 0 (length boxes)) (Exists-range 0 (length boxes) object (omega arith) (omega arith))
+    member_passes (λ k. is_wide_one (block_in thr sizes boxes k)) object wide (range_with_len 0 (length boxes)) (Exists-range 0 (length boxes) object (omega arith) (omega arith))
 
 -- objects that touch have boxes
 pub boxes_there : (thr : ℕ) (sizes : List ℕ) (boxes : List (Option AxisBox)) (a b : ℕ) → touch_between thr sizes (plain_boxes boxes) (a, b) ≡ true → (is_some (get_or boxes a None) ≡ true) × (is_some (get_or boxes b None) ≡ true)

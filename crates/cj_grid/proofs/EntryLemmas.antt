@@ -1,15 +1,15 @@
 -- How lists grow number by number, and how many entries stand in a bucket.
-use Rattle.std.proofs.Common.{◌≡◌, ℕ, zero, suc, ◌+◌, ◌-◌, ◌*◌, ◌<◌, ◌≤◌, Bool, true, false, cond, List, [], ◌∷◌, ◌++◌, length, get_or, map, filter, take, Option, refl, sym, ap, ◌∙◌, arith, append_assoc, append-nil}
+use Rattle.std.proofs.Common.{◌≡◌, ℕ, ◌+◌, ◌-◌, ◌*◌, ◌<◌, ◌≤◌, Bool, true, false, cond, List, [], ◌∷◌, ◌++◌, length, get_or, map, filter, take, Option, sym, ap, ◌∙◌, arith, append_assoc, append-nil}
 use Rattle.std.specs.Prelude.{nat_eq, count_by, is_some}
 use Rattle.std.specs.List.{flat_map, range_with_len, sum_by}
 use Rattle.std.specs.List.Sorted.{IsPermutation}
 use Rattle.std.proofs.lemmas.Bool.{eq-eqb}
-use Rattle.std.proofs.lemmas.List.{map_push}
-use Rattle.std.proofs.lemmas.List.Concat.{flat_map-append}
+use Rattle.std.proofs.lemmas.List.{get_or_default}
 use Rattle.std.proofs.lemmas.List.Elements.{filter-append}
+use Rattle.std.proofs.lemmas.List.FromFn.{map-range_with_len_more}
 use Rattle.std.proofs.lemmas.List.Sorted.{sum_by-IsPermutation}
 use Rattle.std.proofs.lemmas.List.Sums.{count_by_more_yes, sum_by-take-le}
-use Rattle.cj_hermite.proofs.PairLemmas.{range_more}
+use Rattle.cj_interval.proofs.RangeLemmas.{range_more, flat_map-range_more}
 use Rattle.cj_bezier.specs.declared.axis_box.AxisBox.{AxisBox}
 use Rattle.cj_grid.specs.declared.entries.Entry.{Entry}
 use Rattle.cj_grid.specs.Buckets.{entered_in, bucket_squares, entries_of, wide_of, step_bound}
@@ -29,33 +29,21 @@ pub one_mapped : {A : Type 0} (f : ℕ → A) (first k : ℕ) (old now new : Lis
     → new ≡ old ++ map f (range_with_len first (k + 1 - first))
 one_mapped {A} f first k old now new le so_far more =
     let n : k + 1 - first ≡ k - first + 1 = omega arith in
-    let at : first + (k - first) ≡ k = omega arith in
-    let r = range_with_len first (k - first) in
-    more ∙ ap (λ (xs : List A). xs ++ f k ∷ []) so_far ∙ append_assoc old (map f r) (f k ∷ [])
-    ∙ ap (λ (j : ℕ). old ++ (map f r ++ f j ∷ [])) (sym at)
-    ∙ ap (λ (xs : List A). old ++ xs) (sym (map_push f r (first + (k - first))) ∙ ap (map f) (sym (range_more first (k - first))))
+    more ∙ ap (λ (xs : List A). xs ++ f k ∷ []) so_far ∙ append_assoc old (map f (range_with_len first (k - first))) (f k ∷ [])
+    ∙ ap (λ (xs : List A). old ++ xs) (sym (map-range_with_len_more f first (k - first) k (omega arith)))
     ∙ ap (λ (j : ℕ). old ++ map f (range_with_len first j)) (sym n)
 
 pub one_joined : {A : Type 0} (f : ℕ → List A) (first k : ℕ) (old now new : List A) → first ≤ k → now ≡ old ++ flat_map f (range_with_len first (k - first)) → new ≡ now ++ f k
     → new ≡ old ++ flat_map f (range_with_len first (k + 1 - first))
 one_joined {A} f first k old now new le so_far more =
     let n : k + 1 - first ≡ k - first + 1 = omega arith in
-    let at : first + (k - first) ≡ k = omega arith in
-    let r = range_with_len first (k - first) in
-    more ∙ ap (λ (xs : List A). xs ++ f k) so_far ∙ append_assoc old (flat_map f r) (f k)
-    ∙ ap (λ (j : ℕ). old ++ (flat_map f r ++ f j)) (sym at)
-    ∙ ap (λ (xs : List A). old ++ (flat_map f r ++ xs)) (sym (append-nil (f (first + (k - first)))))
-    ∙ ap (λ (xs : List A). old ++ xs) (sym (flat_map-append f r ((first + (k - first)) ∷ [])) ∙ ap (flat_map f) (sym (range_more first (k - first))))
+    more ∙ ap (λ (xs : List A). xs ++ f k) so_far ∙ append_assoc old (flat_map f (range_with_len first (k - first))) (f k)
+    ∙ ap (λ (xs : List A). old ++ xs) (sym (flat_map-range_more f first (k - first) k (omega arith)))
     ∙ ap (λ (j : ℕ). old ++ flat_map f (range_with_len first j)) (sym n)
 
 -- one number more, counted from 0
 pub one_more : {A : Type 0} (f : ℕ → List A) (k : ℕ) (now new : List A) → now ≡ flat_map f (range_with_len 0 k) → new ≡ now ++ f k → new ≡ flat_map f (range_with_len 0 (k + 1))
-one_more {A} f k now new so_far more =
-    let at : 0 + k ≡ k = omega arith in
-    more ∙ ap (λ (xs : List A). xs ++ f k) so_far
-    ∙ ap (λ (j : ℕ). flat_map f (range_with_len 0 k) ++ f j) (sym at)
-    ∙ ap (λ (xs : List A). flat_map f (range_with_len 0 k) ++ xs) (sym (append-nil (f (0 + k))))
-    ∙ sym (flat_map-append f (range_with_len 0 k) ((0 + k) ∷ [])) ∙ ap (flat_map f) (sym (range_more 0 k))
+one_more {A} f k now new so_far more = more ∙ ap (λ (xs : List A). xs ++ f k) so_far ∙ sym (flat_map-range_more f 0 k k (omega arith))
 
 -- the numbers that pass a test, with one more
 filter_range : (p : ℕ → Bool) (k : ℕ) (c : Bool) → p k ≡ c → filter p (range_with_len 0 k) ++ cond c (k ∷ []) [] ≡ filter p (range_with_len 0 (k + 1))
@@ -73,13 +61,8 @@ one_fails p k now fails so_far = so_far ∙ sym (append-nil (filter p (range_wit
 
 -- ---- entries by place
 
-pub any_default : {A : Type 0} (xs : List A) (i : ℕ) (d e : A) → i < length xs → get_or xs i d ≡ get_or xs i e
-any_default [] i d e lt = absurd (omega arith)
-any_default (x ∷ xs) zero d e lt = refl
-any_default (x ∷ xs) (suc i) d e lt = any_default xs i d e (omega arith)
-
 pub entry_read : (entries : List Entry) (i : ℕ) (e : Entry) → i < length entries → e ≡ get_or entries i e → e ≡ entry_at entries i
-entry_read entries i e lt is = is ∙ any_default entries i e (record { bucket = 0; object = 0 }) lt
+entry_read entries i e lt is = is ∙ get_or_default entries i e (record { bucket = 0; object = 0 }) lt
 
 -- ---- steps
 

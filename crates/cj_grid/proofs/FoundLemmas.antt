@@ -1,15 +1,14 @@
 -- Found pairs: sorted, each once, they are the pairs that touch, in order.
-use Rattle.std.proofs.Common.{◌≡◌, ◌⊎◌, inl, inr, ℕ, zero, suc, ◌+◌, ◌<◌, ◌≤◌, Bool, true, false, cond, List, [], ◌∷◌, length, get_or, map, filter, Option, Some, None, refl, sym, ap, subst, ◌∙◌, arith, is_lt, nat_cmp}
+use Rattle.std.proofs.Common.{◌≡◌, ◌⊎◌, inl, inr, ℕ, suc, ◌+◌, ◌<◌, ◌≤◌, Bool, true, false, cond, List, [], ◌∷◌, length, map, filter, Option, Some, None, refl, sym, ap, subst, ◌∙◌, arith, is_lt, nat_cmp}
 use Rattle.std.specs.Prelude.{◌&&◌, nat_eq}
 use Rattle.std.specs.Ordering.{ordering_then}
 use Rattle.std.specs.declared.cmp.Ordering.{Ordering}
 use Rattle.std.specs.Cmp.{IsTotalOrder}
-use Rattle.std.specs.List.{Contains}
 use Rattle.std.specs.List.Sorted.{IsSorted, IsPermutation}
 use Rattle.std.proofs.lemmas.Bool.Decides.{nat_tests}
 use Rattle.std.proofs.lemmas.Cmp.{then_total, on_total, nat_cmp_total}
 use Rattle.std.proofs.lemmas.List.Sorted.{sorted_far, ranks_by, All-permutation, Contains-permutation, IsPermutation-map}
-use Rattle.cj_interval.proofs.ListLemmas.{Each, Exists, Ordered, Each-weaker, each_from_All}
+use Rattle.cj_interval.proofs.ListLemmas.{Each, Exists, Ordered, Each-weaker, each_from_All, AreWithin, Each-filter, each_member, exists_from_Contains, member_passes, ordered_same}
 use Rattle.cj_hermite.specs.declared.pair.Pair.{Pair}
 use Rattle.cj_hermite.specs.Pairs.{objects_of, pairs_of}
 use Rattle.cj_hermite.proofs.PairLemmas.{IsPair, PairBefore, Each-pairs, Ordered-pairs, Exists-pairs}
@@ -17,27 +16,7 @@ use Rattle.cj_bezier.specs.declared.axis_box.AxisBox.{AxisBox}
 use Rattle.cj_bezier.specs.SlotBoxes.{plain_boxes, touch_between}
 use Rattle.cj_grid.specs.declared.entries.Entry.{Entry}
 use Rattle.cj_grid.specs.Found.{AreTouching, AreInOrder, HasPair, entry_at, unrepeated}
-use Rattle.cj_grid.proofs.BucketLemmas.{touching_near, Exists-filter}
-
--- ---- what a list contains
-
-pub exists_from_Contains : {X : Type 0} (xs : List X) (x : X) → Contains xs x → Exists (λ y. y ≡ x) xs
-exists_from_Contains {X} xs x has = at xs has.0 has.1 has.2
-  where
-    at : (xs : List X) (k : ℕ) → k < length xs → get_or xs k x ≡ x → Exists (λ y. y ≡ x) xs
-    at [] k lt is = absurd (omega arith)
-    at (y ∷ ys) zero lt is = inl is
-    at (y ∷ ys) (suc k) lt is = inr (at ys k (omega arith) is)
-
-pub Contains-from_exists : {X : Type 0} (xs : List X) (x : X) → Exists (λ y. y ≡ x) xs → Contains xs x
-Contains-from_exists [] x e = absurd e
-Contains-from_exists (y ∷ ys) x (inl e) = (0, omega arith, e)
-Contains-from_exists (y ∷ ys) x (inr e) = let there = Contains-from_exists ys x e in (suc there.0, (let lt = there.1 in omega arith), there.2)
-
-each_at : {X : Type 0} (P : X → Type 0) (xs : List X) (x : X) → Each P xs → Exists (λ y. y ≡ x) xs → P x
-each_at P [] x all e = absurd e
-each_at P (y ∷ ys) x all (inl e) = subst P e all.0
-each_at P (y ∷ ys) x all (inr e) = each_at P ys x all.1 e
+use Rattle.cj_grid.proofs.BucketLemmas.{touching_near}
 
 -- ---- entries in order
 
@@ -182,8 +161,6 @@ Exists-unrepeated x [] e = absurd e
 Exists-unrepeated x (p ∷ ps) (inl is) = inl is
 Exists-unrepeated x (p ∷ ps) (inr later) = Exists-after x p ps later
 
--- ---- lists in order with the same pairs are one
-
 not_both : (p q : ℕ × ℕ) → PairBefore p q → PairBefore q p → ⊥
 not_both p q h k =
     let a = h.first_object in
@@ -192,49 +169,14 @@ not_both p q h k =
     let d = k.second_object (omega arith) in
     omega arith
 
-not_itself : (p q : ℕ × ℕ) → p ≡ q → PairBefore p q → ⊥
-not_itself p q e h = let c = h.second_object (ap (λ (r : ℕ × ℕ). r.0) e) in let d : p.1 ≡ q.1 = ap (λ (r : ℕ × ℕ). r.1) e in omega arith
-
-abbrev AreWithin : List (ℕ × ℕ) → List (ℕ × ℕ) → Type 0
-AreWithin ps qs = (x : ℕ × ℕ) → Exists (λ y. y ≡ x) ps → Exists (λ y. y ≡ x) qs
-
-heads : (p q : ℕ × ℕ) (ps qs : List (ℕ × ℕ)) → Each (PairBefore p) ps → Each (PairBefore q) qs → Exists (λ y. y ≡ p) (q ∷ qs) → Exists (λ y. y ≡ q) (p ∷ ps) → p ≡ q
-heads p q ps qs rest rest' (inl e) there' = sym e
-heads p q ps qs rest rest' (inr there) (inl e) = e
-heads p q ps qs rest rest' (inr there) (inr there') = absurd (not_both p q (each_at (PairBefore p) ps q rest there') (each_at (PairBefore q) qs p rest' there))
-
-tail : (p q : ℕ × ℕ) (ps qs : List (ℕ × ℕ)) → p ≡ q → Each (PairBefore p) ps → AreWithin (p ∷ ps) (q ∷ qs) → AreWithin ps qs
-tail p q ps qs same rest within x there = go (within x (inr there))
-  where
-    go : Exists (λ y. y ≡ x) (q ∷ qs) → Exists (λ y. y ≡ x) qs
-    go (inl e) = absurd (not_itself p x (same ∙ e) (each_at (PairBefore p) ps x rest there))
-    go (inr later) = later
-
-pub same_pairs : (ps qs : List (ℕ × ℕ)) → Ordered PairBefore ps → Ordered PairBefore qs → AreWithin ps qs → AreWithin qs ps → ps ≡ qs
-same_pairs [] [] o o' there back = refl
-same_pairs [] (q ∷ qs) o o' there back = absurd (back q (inl refl))
-same_pairs (p ∷ ps) [] o o' there back = absurd (there p (inl refl))
-same_pairs (p ∷ ps) (q ∷ qs) o o' there back =
-    let first : p ≡ q = heads p q ps qs o.0 o'.0 (there p (inl refl)) (back q (inl refl)) in
-    let rest : ps ≡ qs = same_pairs ps qs o.1 o'.1 (tail p q ps qs first o.0 there) (tail q p qs ps (sym first) o'.0 back) in
-    λ i. first i ∷ rest i
-
 -- ---- the pairs that touch
 
 Ordered-filter : (R : ℕ × ℕ → ℕ × ℕ → Type 0) (test : ℕ × ℕ → Bool) (ps : List (ℕ × ℕ)) → Ordered R ps → Ordered R (filter test ps)
 Ordered-filter R test [] o = tt
 Ordered-filter R test (p ∷ ps) o = decided (test p) (Ordered-filter R test ps o.1)
   where
-    kept : (qs : List (ℕ × ℕ)) → Each (R p) qs → Each (R p) (filter test qs)
-    kept [] all = tt
-    kept (q ∷ qs) all = chosen (test q) (kept qs all.1)
-      where
-        chosen : (c : Bool) → Each (R p) (filter test qs) → Each (R p) (cond c (q ∷ filter test qs) (filter test qs))
-        chosen true rest = (all.0, rest)
-        chosen false rest = rest
-
     decided : (c : Bool) → Ordered R (filter test ps) → Ordered R (cond c (p ∷ filter test ps) (filter test ps))
-    decided true rest = (kept ps o.0, rest)
+    decided true rest = (Each-filter (R p) test ps o.0, rest)
     decided false rest = rest
 
 -- those of a filtered list are of the whole one and pass
@@ -272,7 +214,7 @@ touching_ones thr sizes boxes pairs all = go pairs (each_from_All (λ pair. touc
 pub found_is : (thr : ℕ) (sizes : List ℕ) (boxes : List (Option AxisBox)) (ps : List (ℕ × ℕ)) → Ordered PairUpTo ps → Each (IsTouchingPair thr sizes boxes) ps
     → ((a b : ℕ) → a < b → touch_between thr sizes (plain_boxes boxes) (a, b) ≡ true → Exists (λ y. y ≡ (a, b)) ps)
     → unrepeated None ps ≡ filter (touch_between thr sizes (plain_boxes boxes)) (pairs_of (length boxes))
-found_is thr sizes boxes ps o all each = same_pairs (unrepeated None ps) (filter test (pairs_of n)) (Ordered-unrepeated ps o) (Ordered-filter PairBefore test (pairs_of n) (Ordered-pairs n)) there back
+found_is thr sizes boxes ps o all each = ordered_same PairBefore not_both (unrepeated None ps) (filter test (pairs_of n)) (Ordered-unrepeated ps o) (Ordered-filter PairBefore test (pairs_of n) (Ordered-pairs n)) there back
   where
     n : ℕ
     n = length boxes
@@ -282,13 +224,13 @@ found_is thr sizes boxes ps o all each = same_pairs (unrepeated None ps) (filter
 
     there : AreWithin (unrepeated None ps) (filter test (pairs_of n))
     there x e =
-        let is = each_at (IsTouchingPair thr sizes boxes) (unrepeated None ps) x (Each-unrepeated (IsTouchingPair thr sizes boxes) ps all) e in
-        Exists-filter test x is.touches (pairs_of n) (Exists-pairs n x.0 x.1 is.pair.ordered is.pair.exists)
+        let is = each_member (IsTouchingPair thr sizes boxes) (unrepeated None ps) x (Each-unrepeated (IsTouchingPair thr sizes boxes) ps all) e in
+        member_passes test x is.touches (pairs_of n) (Exists-pairs n x.0 x.1 is.pair.ordered is.pair.exists)
 
     back : AreWithin (filter test (pairs_of n)) (unrepeated None ps)
     back x e =
         let is = passing test (pairs_of n) x e in
-        let pair = each_at (IsPair n) (pairs_of n) x (Each-pairs n) is.is_there in
+        let pair = each_member (IsPair n) (pairs_of n) x (Each-pairs n) is.is_there in
         Exists-unrepeated x ps (each x.0 x.1 pair.ordered is.passes)
 
 -- found in any order, and then sorted

@@ -1,34 +1,26 @@
 -- Pairs that are appended where they touch, entry by entry and object by object.
-use Rattle.std.proofs.Common.{◌≡◌, ◌⊎◌, inl, inr, ℕ, ◌<◌, ◌≤◌, true, false, List, [], ◌∷◌, ◌++◌, length, map, Option, sym, ap, subst, ◌∙◌, arith}
+use Rattle.std.proofs.Common.{◌≡◌, ◌⊎◌, inl, inr, ℕ, ◌<◌, ◌≤◌, true, false, List, [], ◌∷◌, ◌++◌, length, Option, sym, ap, ◌∙◌, arith}
 use Rattle.std.specs.Prelude.{◌&&◌, nat_eq, nat_lt}
-use Rattle.std.specs.List.{Contains}
 use Rattle.std.specs.List.Sorted.{IsPermutation}
 use Rattle.std.proofs.lemmas.Bool.{cases_lt}
 use Rattle.std.proofs.lemmas.Bool.Decides.{nat_tests}
-use Rattle.std.proofs.lemmas.List.{map_push}
-use Rattle.std.proofs.lemmas.List.Elements.{All-push, Contains-append_left, Contains-push}
+use Rattle.std.proofs.lemmas.List.{get_or_default}
+use Rattle.std.proofs.lemmas.List.Elements.{All-push}
 use Rattle.std.proofs.lemmas.List.Sorted.{Contains-permutation}
+use Rattle.cj_interval.proofs.ListLemmas.{Contains-from_exists}
 use Rattle.cj_hermite.specs.declared.pair.Pair.{Pair}
 use Rattle.cj_hermite.specs.Pairs.{objects_of}
 use Rattle.cj_bezier.specs.declared.axis_box.AxisBox.{AxisBox}
 use Rattle.cj_bezier.specs.SlotBoxes.{plain_boxes, touch_between}
 use Rattle.cj_grid.specs.declared.entries.Entry.{Entry}
-use Rattle.cj_grid.specs.Found.{AreTouching, AreKept, HasPair, AreInOrder, entry_at}
+use Rattle.cj_grid.specs.Found.{AreTouching, AreInOrder, entry_at}
 use Rattle.cj_grid.proofs.BucketLemmas.{AreTogether, entry}
-use Rattle.cj_grid.proofs.EntryLemmas.{any_default}
-use Rattle.cj_grid.proofs.FoundLemmas.{Contains-from_exists}
 
 -- ---- one pair more
 
 pub touching_more : (thr : ℕ) (sizes : List ℕ) (boxes : List (Option AxisBox)) (old : List Pair) (p : Pair) → touch_between thr sizes (plain_boxes boxes) (objects_of p) ≡ true
     → AreTouching thr sizes boxes old → AreTouching thr sizes boxes (old ++ p ∷ [])
 touching_more thr sizes boxes old p touches all = All-push (λ pair. touch_between thr sizes (plain_boxes boxes) (objects_of pair) ≡ true) old p all touches
-
-pub kept_more : (old : List Pair) (p : Pair) → AreKept old (old ++ p ∷ [])
-kept_more old p a b has = subst (λ (ps : List (ℕ × ℕ)). Contains ps (a, b)) (sym (map_push objects_of old p)) (Contains-append_left (map objects_of old) (objects_of p ∷ []) (a, b) has)
-
-pub has_pushed : (old : List Pair) (p : Pair) → HasPair (old ++ p ∷ []) p.a p.b
-has_pushed old p = subst (λ (ps : List (ℕ × ℕ)). Contains ps (objects_of p)) (sym (map_push objects_of old p)) (Contains-push (map objects_of old) (objects_of p))
 
 -- ---- entry by entry
 
@@ -66,8 +58,8 @@ pub places : (old new : List Entry) (a b : ℕ) → IsPermutation old new → Ar
 places old new a b moved order lt both =
     let one = Contains-permutation old new (entry both.bucket a) moved (Contains-from_exists old (entry both.bucket a) both.one) in
     let other = Contains-permutation old new (entry both.bucket b) moved (Contains-from_exists old (entry both.bucket b) both.other) in
-    let first : entry_at new one.0 ≡ entry both.bucket a = any_default new one.0 (record { bucket = 0; object = 0 }) (entry both.bucket a) one.1 ∙ one.2 in
-    let second : entry_at new other.0 ≡ entry both.bucket b = any_default new other.0 (record { bucket = 0; object = 0 }) (entry both.bucket b) other.1 ∙ other.2 in
+    let first : entry_at new one.0 ≡ entry both.bucket a = get_or_default new one.0 (record { bucket = 0; object = 0 }) (entry both.bucket a) one.1 ∙ one.2 in
+    let second : entry_at new other.0 ≡ entry both.bucket b = get_or_default new other.0 (record { bucket = 0; object = 0 }) (entry both.bucket b) other.1 ∙ other.2 in
     let same : (entry_at new one.0).bucket ≡ (entry_at new other.0).bucket = ap (λ (e : Entry). e.bucket) first ∙ sym (ap (λ (e : Entry). e.bucket) second) in
     let is_a : a ≡ (entry_at new one.0).object = sym (ap (λ (e : Entry). e.object) first) in
     let is_b : b ≡ (entry_at new other.0).object = sym (ap (λ (e : Entry). e.object) second) in

@@ -1,8 +1,10 @@
 use Rattle.std.proofs.Common.{List, sym, subst, ◌∙◌}
+use Rattle.cj_interval.proofs.ListLemmas.{Contains-map_longer, Contains-map_push}
 use Rattle.cj_hermite.specs.declared.pair.Pair.{Pair}
+use Rattle.cj_hermite.specs.Pairs.{objects_of}
 use Rattle.cj_grid.specs.Among.{TouchAmong}
 use Rattle.cj_grid.specs.Found.{AreKept, HasPair}
-use Rattle.cj_grid.proofs.PairingLemmas.{touching_more, kept_more, has_pushed}
+use Rattle.cj_grid.proofs.PairingLemmas.{touching_more}
 use Rattle.cj_grid.proofs.bucket_pairs.append_touching.Goals as goal
 
 pub returns-clause-touching : goal.returns-clause-touching
@@ -12,7 +14,7 @@ returns-clause-touching g c all =
     (touching_more objects.thr objects.sizes.now objects.boxes.now c.args.pairs.now.items c.args.pair (sym c.pair_touches.ensures.value ∙ c.if-not-pair_touches.false) all)
 
 pub returns-clause-kept : goal.returns-clause-kept
-returns-clause-kept g c = subst (λ (ps : List Pair). AreKept c.args.pairs.now.items ps) (sym c.in_ok-push.ensures.items) (kept_more c.args.pairs.now.items c.args.pair)
+returns-clause-kept g c = subst (λ (ps : List Pair). AreKept c.args.pairs.now.items ps) (sym c.in_ok-push.ensures.items) (λ a b has. Contains-map_longer objects_of c.args.pairs.now.items c.args.pair (a, b) has)
 
 pub returns-clause-found : goal.returns-clause-found
-returns-clause-found g c touch = subst (λ (ps : List Pair). HasPair ps c.args.pair.a c.args.pair.b) (sym c.in_ok-push.ensures.items) (has_pushed c.args.pairs.now.items c.args.pair)
+returns-clause-found g c touch = subst (λ (ps : List Pair). HasPair ps c.args.pair.a c.args.pair.b) (sym c.in_ok-push.ensures.items) (Contains-map_push objects_of c.args.pairs.now.items c.args.pair)

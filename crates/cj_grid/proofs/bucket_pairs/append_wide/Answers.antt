@@ -1,7 +1,7 @@
 use Rattle.std.proofs.Common.{◌≡◌, ◌⊎◌, inl, inr, ℕ, ◌+◌, ◌-◌, ◌*◌, ◌<◌, ◌≤◌, List, length, get_or, subst, ◌∙◌, arith, below_more}
 use Rattle.std.specs.Prelude.{count_by, is_some, slice_index}
+use Rattle.std.proofs.lemmas.List.{get_or_default}
 use Rattle.cj_grid.specs.Among.{AreFound}
-use Rattle.cj_grid.proofs.EntryLemmas.{any_default}
 use Rattle.cj_grid.proofs.bucket_pairs.append_wide.Goals as goal
 
 pub loop-one-init : goal.loop-one-init
@@ -42,7 +42,7 @@ returns-in_err-append_with_all-clause-steps g c =
     part_of_all c.args.steps.now c.loop-one.steps c.append_with_all.new.steps (count_by is_some c.args.objects.now.boxes.now) c.loop-one.one-index (length c.args.wide.now) c.loop-one.invariant.steps c.append_with_all.ensures.steps (omega arith)
 
 listed : (wide : List ℕ) (a : ℕ) (at : ℕ) → at < length wide → get_or wide at a ≡ a → slice_index wide at ≡ a
-listed wide a at lt is = any_default wide at 0 a lt ∙ is
+listed wide a at lt is = get_or_default wide at 0 a lt ∙ is
 
 pub returns-clause-found : goal.returns-clause-found
 returns-clause-found g c a b up either touch =

@@ -4,7 +4,7 @@ use Rattle.std.specs.List.{Contains}
 use Rattle.std.specs.List.Sorted.{IsPermutation}
 use Rattle.std.proofs.lemmas.List.Elements.{All-nil}
 use Rattle.std.proofs.lemmas.List.Sorted.{All-permutation}
-use Rattle.cj_interval.proofs.ListLemmas.{All-from_each}
+use Rattle.cj_interval.proofs.ListLemmas.{All-from_each, Contains-from_exists}
 use Rattle.cj_hermite.specs.declared.pair.Pair.{Pair}
 use Rattle.cj_grid.specs.declared.entries.Entry.{Entry}
 use Rattle.cj_grid.specs.declared.slot_objects.SlotObjects.{SlotObjects}
@@ -13,7 +13,6 @@ use Rattle.cj_grid.specs.Buckets.{entries_of, wide_of, bucket_squares}
 use Rattle.cj_grid.specs.Found.{AreInOrder}
 use Rattle.cj_grid.proofs.BucketLemmas.{entries_exist, wide_exist, wide_listed, touching_near}
 use Rattle.cj_grid.proofs.EntryLemmas.{bound_is}
-use Rattle.cj_grid.proofs.FoundLemmas.{Contains-from_exists}
 use Rattle.cj_grid.proofs.PairingLemmas.{places}
 use Rattle.cj_grid.proofs.touching_pairs.pairs_found.Goals as goal
 
