@@ -1,12 +1,12 @@
 -- What blocks list: in each slot of an object its current box after all were treated, and no slot twice.
-use Rattle.std.proofs.Common.{◌≡◌, ℕ, zero, suc, ◌+◌, ◌-◌, ◌/◌, ◌<◌, ◌≤◌, Bool, true, false, eqb, List, [], ◌∷◌, Option, Some, None, refl, sym, ap, ◌∙◌, subst, inl, inr, arith}
+use Rattle.std.proofs.Common.{◌≡◌, ℕ, zero, suc, ◌+◌, ◌-◌, ◌/◌, ◌<◌, ◌≤◌, Bool, true, false, eqb, List, ◌∷◌, Option, Some, None, refl, sym, ap, ◌∙◌, subst, inl, inr, arith}
 use Rattle.std.specs.Prelude.{◌==◌, ◌&&◌, nat_le, option_map}
 use Rattle.std.specs.List.{filter_map, find, flat_map, range_with_len}
 use Rattle.std.specs.Option.{option_or}
 use Rattle.std.proofs.lemmas.Bool.{and_parts, cases_eq, eqb-true, leb-true}
 use Rattle.std.proofs.lemmas.Bool.Decides.{nat_tests}
 use Rattle.std.proofs.lemmas.List.Folds.{find-append}
-use Rattle.cj_interval.proofs.ListLemmas.{Each, Each-weaker, Each-flat_map, Each-range}
+use Rattle.cj_interval.proofs.ListLemmas.{Each, Each-weaker, Each-flat_map, Each-range, none_found}
 use Rattle.cj_bezier.specs.SlotBoxes.{PlainBox}
 use Rattle.cj_blocks.specs.Blocks.{PlainBlock, Given, BLOCK, block_count, box_given, first_slot, slots_in, joined_in, current_boxes, single_in, listed_in, blocks_in, blocks_of, is_block_of, box_listed}
 use Rattle.cj_blocks.proofs.CurrentLemmas.{in_own_block, block_of_slot, long_ago, same_number}
@@ -36,10 +36,6 @@ not_told object first end i slot b lies none = go (is_block_of i slot b) refl
         let low : b.first ≤ slot = leb-true b.first slot inner.1 in
         let high : slot ≤ b.last = leb-true slot b.last outer.1 in
         absurd (none (omega arith) (omega arith) (omega arith))
-
-none_found : {X : Type 0} (p : X → Bool) (xs : List X) → Each (λ x. p x ≡ false) xs → find p xs ≡ None
-none_found p [] each = refl
-none_found p (x ∷ xs) each = let here = each.0 in let rest = none_found p xs each.1 in rw (here, rest) refl
 
 or_none : {X : Type 0} (o : Option X) → option_or o None ≡ o
 or_none None = refl

@@ -1,32 +1,19 @@
 -- Joined boxes: what they touch, and that they stay where the current boxes of the partners do.
-use Rattle.std.proofs.Common.{◌≡◌, ℕ, zero, suc, ◌+◌, ◌<◌, ◌≤◌, Bool, true, false, cond, List, [], ◌∷◌, map, Option, Some, None, refl, sym, ap, ◌∙◌, subst, inl, inr, arith}
+use Rattle.std.proofs.Common.{◌≡◌, ℕ, ◌+◌, ◌<◌, ◌≤◌, Bool, true, false, cond, List, [], ◌∷◌, map, Option, Some, None, refl, sym, ap, ◌∙◌, subst, arith}
 use Rattle.std.specs.Prelude.{◌&&◌, ◌||◌, not, IsSomeAnd}
 use Rattle.std.specs.List.{list_all, range_with_len}
-use Rattle.std.proofs.lemmas.Bool.{and_parts, cases_eq}
 use Rattle.std.proofs.lemmas.List.Folds.{list_all-append}
-use Rattle.cj_interval.proofs.ListLemmas.{Each, Each-weaker, Each-range, each_from_map}
-use Rattle.cj_hermite.proofs.PairLemmas.{range_more}
+use Rattle.cj_interval.proofs.ListLemmas.{Each, Each-weaker, Each-range, each_from_map, each_from_list_all}
+use Rattle.cj_interval.proofs.RangeLemmas.{range_more, each_in_range}
 use Rattle.cj_hermite.specs.PlainProblems.{threshold_between}
 use Rattle.cj_bezier.specs.SlotBoxes.{PlainBox, both_touch}
 use Rattle.cj_blocks.specs.Blocks.{partner_of, touches_only_as, touches_as_own, joined_box}
 use Rattle.cj_blocks.specs.BoxRows.{round_all}
 use Rattle.cj_blocks.proofs.RoundLemmas.{LiesIn, round_holds, touches_more}
 
-pub each_true : {X : Type 0} (p : X → Bool) (xs : List X) → list_all p xs ≡ true → Each (λ x. p x ≡ true) xs
-each_true p [] h = tt
-each_true p (x ∷ xs) h = let both = and_parts (p x) (list_all p xs) h in (both.0, each_true p xs both.1)
-
 pub list_all_same : {X : Type 0} (p q : X → Bool) (xs : List X) → Each (λ x. p x ≡ q x) xs → list_all p xs ≡ list_all q xs
 list_all_same p q [] same = refl
 list_all_same p q (x ∷ xs) same = let here = same.0 in let rest = list_all_same p q xs same.1 in λ i. here i && rest i
-
--- what holds of each of some numbers, of one of them
-pub each_number : (P : ℕ → Type 0) (a n : ℕ) → Each P (range_with_len a n) → (k : ℕ) → a ≤ k → k < a + n → P k
-each_number P a zero each k low high = absurd (omega arith)
-each_number P a (suc n) each k low high = elim (cases_eq a k) [
-  | inl same ↦ subst P same each.0
-  | inr other ↦ each_number P (a + 1) n each.1 k (omega arith) (omega arith)
-]
 
 -- ---- what a joined box is
 
@@ -53,15 +40,15 @@ joins thr sizes pairs own current object first count area is = go (list_all (tou
     go : (b : Bool) → list_all (test round) pairs ≡ b → cond b round None ≡ Some area → Joins thr sizes pairs own current object first count area
     go false all none = absurd cc
     go true all some = record {
-      holds = each_number (λ slot. IsSomeAnd (own object slot) (λ x. LiesIn x area)) first count
+      holds = each_in_range (λ slot. IsSomeAnd (own object slot) (λ x. LiesIn x area)) first count
           (each_from_map (λ b. IsSomeAnd b (λ x. LiesIn x area)) (own object) slots (round_holds (map (own object) slots) area some));
       touches =
           Each-weaker (λ pair. test (Some area) pair ≡ true) (λ pair. (slot : ℕ) → first ≤ slot → slot < first + count
           → touches_only_as (threshold_between thr sizes pair.0 pair.1) (Some area) (own object slot) (current (partner_of object pair) slot) ≡ true)
-          (λ pair passes. each_number (λ slot. touches_only_as (threshold_between thr sizes pair.0 pair.1) (Some area) (own object slot) (current (partner_of object pair) slot) ≡ true) first count
-          (each_true (λ slot. touches_only_as (threshold_between thr sizes pair.0 pair.1) (Some area) (own object slot) (current (partner_of object pair) slot)) slots passes))
+          (λ pair passes. each_in_range (λ slot. touches_only_as (threshold_between thr sizes pair.0 pair.1) (Some area) (own object slot) (current (partner_of object pair) slot) ≡ true) first count
+          (each_from_list_all (λ slot. touches_only_as (threshold_between thr sizes pair.0 pair.1) (Some area) (own object slot) (current (partner_of object pair) slot)) slots passes))
           pairs
-          (each_true (test (Some area)) pairs (subst (λ (r : Option PlainBox). list_all (test r) pairs ≡ true) some all));
+          (each_from_list_all (test (Some area)) pairs (subst (λ (r : Option PlainBox). list_all (test r) pairs ≡ true) some all));
     }
 
 -- a box that touches only what the own one does, and in which that lies, touches just the same
@@ -134,15 +121,3 @@ pub one_passes : (test : ℕ → Bool) (a n j : ℕ) → a + n ≡ j → list_al
 one_passes test a n j at before here =
     ap (list_all test) (range_more a n) ∙ list_all-append test (range_with_len a n) ((a + n) ∷ [])
     ∙ (let last : test (a + n) ≡ true = ap test at ∙ here in λ i. before i && (last i && true))
-
--- one of some numbers fails it
-pub one_fails : (test : ℕ → Bool) (a n j : ℕ) → a ≤ j → j < a + n → test j ≡ false → list_all test (range_with_len a n) ≡ false
-one_fails test a zero j low high fails = absurd (omega arith)
-one_fails test a (suc n) j low high fails = elim (cases_eq a j) [
-  | inl same ↦ let here : test a ≡ false = ap test same ∙ fails in ap (λ (b : Bool). b && list_all test (range_with_len (a + 1) n)) here
-  | inr other ↦ ap (λ (b : Bool). test a && b) (one_fails test (a + 1) n j (omega arith) (omega arith) fails) ∙ and_false (test a)
-]
-  where
-    and_false : (b : Bool) → (b && false) ≡ false
-    and_false true = refl
-    and_false false = refl

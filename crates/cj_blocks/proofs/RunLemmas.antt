@@ -3,9 +3,9 @@ use Rattle.std.proofs.Common.{◌≡◌, ℕ, zero, suc, ◌+◌, ◌-◌, ◌<�
 use Rattle.std.specs.Prelude.{is_some, IsSomeAnd}
 use Rattle.std.specs.List.{filter_map, flat_map, range_with_len}
 use Rattle.std.proofs.lemmas.List.{map-append}
-use Rattle.std.proofs.lemmas.List.Concat.{flat_map-append}
 use Rattle.std.proofs.lemmas.List.Elements.{filter-append}
-use Rattle.cj_interval.proofs.ListLemmas.{Each, Each-weaker, Each-flat_map, Each-range, Each-both, All-from_each}
+use Rattle.cj_interval.proofs.ListLemmas.{Each, Each-weaker, Each-flat_map, Each-range, Each-both, All-from_each, flat_map_alike, flat_map-flat_map}
+use Rattle.cj_interval.proofs.RangeLemmas.{range_cut}
 use Rattle.cj_hermite.specs.PlainProblems.{threshold_between}
 use Rattle.cj_bezier.specs.SlotBoxes.{PlainBox, both_touch}
 use Rattle.cj_blocks.specs.Blocks.{PlainBlock, Given, block_count, box_given, first_slot, slots_in, slots_of_block, is_pair_of, joined_in, current_boxes, single_in, listed_in, blocks_in, blocks_of, box_listed, pair_touches, TouchAsGiven}
@@ -142,15 +142,6 @@ listed_told own object first count (Some area) some holds =
     append_none [] = refl
     append_none (p ∷ ps) = ap (λ (qs : List (ℕ × ℕ)). p ∷ qs) (append_none ps)
 
-flat_map_alike : {X Y : Type 0} (f g : X → List Y) (xs : List X) → Each (λ x. f x ≡ g x) xs → flat_map f xs ≡ flat_map g xs
-flat_map_alike f g [] same = refl
-flat_map_alike f g (x ∷ xs) same = let here = same.0 in let rest = flat_map_alike f g xs same.1 in λ i. here i ++ rest i
-
--- what is made of lists in lists
-flat_map_twice : {X Y Z : Type 0} (f : Y → List Z) (g : X → List Y) (xs : List X) → flat_map f (flat_map g xs) ≡ flat_map (λ x. flat_map f (g x)) xs
-flat_map_twice f g [] = refl
-flat_map_twice f g (x ∷ xs) = flat_map-append f (g x) (flat_map g xs) ∙ ap (λ ys. flat_map f (g x) ++ ys) (flat_map_twice f g xs)
-
 own_in_parts : (own : ℕ → ℕ → Option PlainBox) (object : ℕ) (f : ℕ → List ℕ) (ks : List ℕ) → flat_map (λ k. slots_own own object (f k)) ks ≡ slots_own own object (flat_map f ks)
 own_in_parts own object f [] = refl
 own_in_parts own object f (k ∷ ks) =
@@ -163,8 +154,7 @@ own_in_parts own object f (k ∷ ks) =
 -- ---- blocks have all slots
 
 range_on : (a m n b : ℕ) → b ≡ a + m → range_with_len a m ++ range_with_len b n ≡ range_with_len a (m + n)
-range_on a zero n b at = ap (λ (k : ℕ). range_with_len k n) (let same : b ≡ a = omega arith in same) ∙ ap (range_with_len a) (let same : n ≡ 0 + n = omega arith in same)
-range_on a (suc m) n b at = ap (λ (ks : List ℕ). a ∷ ks) (range_on (a + 1) m n b (omega arith)) ∙ ap (range_with_len a) (let same : suc (m + n) ≡ suc m + n = omega arith in same)
+range_on a m n b at = ap (λ (k : ℕ). range_with_len a m ++ range_with_len k n) at ∙ sym (range_cut a m n)
 
 slots_from : (slots q n : ℕ) → q + n ≡ block_count slots → flat_map (slots_of_block slots) (range_with_len q n) ≡ range_with_len (first_slot q) (slots - first_slot q)
 slots_from slots q zero all = ap (range_with_len (first_slot q)) (let none : 0 ≡ slots - first_slot q = omega arith in none)
@@ -183,7 +173,7 @@ pub slots_are : (g : Given) → flat_map slots_told (blocks_of g)
     ≡ flat_map (λ object. map (λ slot. (object, slot)) (filter (λ slot. is_some (box_given g object slot)) (range_with_len 0 g.slots))) (range_with_len 0 g.objects)
 unfolding blocks_of
 slots_are g =
-    flat_map_twice slots_told (λ object. flat_map (blocks_in g object) (range_with_len 0 (block_count g.slots))) (range_with_len 0 g.objects)
+    flat_map-flat_map slots_told (λ object. flat_map (blocks_in g object) (range_with_len 0 (block_count g.slots))) (range_with_len 0 g.objects)
     ∙ flat_map_alike (λ object. flat_map slots_told (flat_map (blocks_in g object) (range_with_len 0 (block_count g.slots)))) (λ object. slots_own (box_given g) object (range_with_len 0 g.slots))
     (range_with_len 0 g.objects)
     (Each-range (λ object. flat_map slots_told (flat_map (blocks_in g object) (range_with_len 0 (block_count g.slots))) ≡ slots_own (box_given g) object (range_with_len 0 g.slots)) 0 g.objects
@@ -192,7 +182,7 @@ slots_are g =
     of_object : (object : ℕ) → flat_map slots_told (flat_map (blocks_in g object) (range_with_len 0 (block_count g.slots))) ≡ slots_own (box_given g) object (range_with_len 0 g.slots)
     of_object object =
         let blocks = range_with_len 0 (block_count g.slots) in
-        flat_map_twice slots_told (blocks_in g object) blocks
+        flat_map-flat_map slots_told (blocks_in g object) blocks
         ∙ flat_map_alike (λ block. flat_map slots_told (blocks_in g object block)) (λ block. slots_own (box_given g) object (slots_of_block g.slots block)) blocks
         (Each-range (λ block. flat_map slots_told (blocks_in g object block) ≡ slots_own (box_given g) object (slots_of_block g.slots block)) 0 (block_count g.slots)
         (λ block least most.

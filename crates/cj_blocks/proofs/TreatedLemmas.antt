@@ -1,15 +1,13 @@
 -- An object that is treated block by block, and objects one after another.
-use Rattle.std.proofs.Common.{◌≡◌, ℕ, zero, suc, ◌+◌, ◌/◌, ◌<◌, ◌≤◌, Bool, true, false, cond, eqb, List, [], ◌∷◌, ◌++◌, map, filter, get_or, length, Vec, Global, Option, refl, sym, ap, ◌∙◌, subst, inl, inr, arith, append-nil}
+use Rattle.std.proofs.Common.{◌≡◌, ℕ, zero, suc, ◌+◌, ◌/◌, ◌<◌, ◌≤◌, Bool, true, false, cond, eqb, List, [], ◌∷◌, map, filter, get_or, length, Vec, Global, Option, refl, sym, ap, ◌∙◌, subst, inl, inr, arith}
 use Rattle.std.specs.Prelude.{◌==◌, ◌&&◌, nat_lt, All}
 use Rattle.std.specs.List.{flat_map, range_with_len}
 use Rattle.std.specs.Option.{option_or}
 use Rattle.std.proofs.lemmas.Bool.{cases_eq, cases_lt, eq-eqb}
 use Rattle.std.proofs.lemmas.Bool.Decides.{nat_tests}
-use Rattle.std.proofs.lemmas.List.Concat.{flat_map-append}
-use Rattle.cj_interval.proofs.ListLemmas.{Each, Each-always, Each-map, Each-range, All-from_each, each_from_All, each_from_map}
+use Rattle.cj_interval.proofs.ListLemmas.{Each, Each-always, Each-map, Each-range, All-from_each, each_from_All, each_from_map, Each-filter, flat_map_alike}
 use Rattle.cj_hermite.specs.declared.pair.Pair.{Pair}
 use Rattle.cj_hermite.specs.Pairs.{objects_of}
-use Rattle.cj_hermite.proofs.PairLemmas.{range_more}
 use Rattle.cj_bezier.specs.declared.axis_box.AxisBox.{AxisBox}
 use Rattle.cj_bezier.specs.SlotBoxes.{PlainBox, plain_boxes}
 use Rattle.cj_blocks.specs.Blocks.{PlainBlock, Given, BLOCK, block_count, box_given, first_slot, slots_in, is_pair_of, partner_of, joined_box, joined_in, current_boxes, listed_in, blocks_in, blocks_of}
@@ -153,12 +151,6 @@ all_treated t object blocks new all treated other k lt = treated other k lt ∙ 
     whole true = let within : k < first_slot blocks = omega arith in grind (arith, nat_tests)
     whole false = refl
 
-pub flat_map_more : {A : Type 0} (f : ℕ → List A) (n : ℕ) → flat_map f (range_with_len 0 (n + 1)) ≡ flat_map f (range_with_len 0 n) ++ f n
-flat_map_more f n =
-    let at : 0 + n ≡ n = omega arith in
-    ap (flat_map f) (range_more 0 n) ∙ flat_map-append f (range_with_len 0 n) ((0 + n) ∷ []) ∙ ap (λ (xs : List _). flat_map f (range_with_len 0 n) ++ xs) (append-nil (f (0 + n)))
-    ∙ ap (λ (k : ℕ). flat_map f (range_with_len 0 n) ++ f k) at
-
 -- ---- one object more
 
 -- the current boxes of a program are those of what is given
@@ -202,17 +194,13 @@ one_object_more kept pairs objects slots boxes current new sizes thr n same are 
     choose : ℕ → Bool → Option PlainBox
     choose o b = cond b (option_or (joined_of t n (first_slot (k / BLOCK)) (slots_in slots (k / BLOCK))) (box_at slots (plain_boxes current) o k)) (box_at slots (plain_boxes current) o k)
 
-alike_lists : {A : Type 0} (f h : ℕ → List A) (ks : List ℕ) → Each (λ k. f k ≡ h k) ks → flat_map f ks ≡ flat_map h ks
-alike_lists f h [] same = refl
-alike_lists f h (k ∷ ks) same = let here = same.0 in let rest = alike_lists f h ks same.1 in λ i. here i ++ rest i
-
 -- what is listed of the object
 pub object_listed : (kept pairs : List Pair) (objects slots : ℕ) (boxes current : List (Option AxisBox)) (sizes : List ℕ) (thr n : ℕ) → map objects_of pairs ≡ filter (is_pair_of n) (map objects_of kept)
     → AreCurrent (given kept objects slots boxes sizes thr) n current
     → flat_map (block_of (treated kept pairs objects slots boxes current sizes thr) n) (range_with_len 0 (block_count slots))
     ≡ flat_map (blocks_in (given kept objects slots boxes sizes thr) n) (range_with_len 0 (block_count slots))
 object_listed kept pairs objects slots boxes current sizes thr n same are =
-    alike_lists (block_of (treated kept pairs objects slots boxes current sizes thr) n) (blocks_in (given kept objects slots boxes sizes thr) n) (range_with_len 0 (block_count slots))
+    flat_map_alike (block_of (treated kept pairs objects slots boxes current sizes thr) n) (blocks_in (given kept objects slots boxes sizes thr) n) (range_with_len 0 (block_count slots))
     (Each-range (λ q. block_of (treated kept pairs objects slots boxes current sizes thr) n q ≡ blocks_in (given kept objects slots boxes sizes thr) n q) 0 (block_count slots)
     (λ q low high. ap (listed_in (box_at slots (plain_boxes boxes)) n (first_slot q) (slots_in slots q)) (joined_as kept pairs objects slots boxes current sizes thr n q same are (omega arith))))
 
@@ -228,14 +216,6 @@ list_at (l ∷ lists) (suc object) list exists is = list_at lists object list (o
 pub kept_ordered : (kept : List Pair) → Each (λ pair. pair.0 < pair.1) (map objects_of kept)
 kept_ordered kept = Each-map (λ pair. pair.0 < pair.1) objects_of kept (Each-always (λ pair. pair.a < pair.b) (λ pair. pair.ordered) kept)
 
-each_taken : {X : Type 0} (P : X → Type 0) (test : X → Bool) (xs : List X) → Each P xs → Each P (filter test xs)
-each_taken P test [] each = tt
-each_taken P test (x ∷ xs) each = go (test x) (each_taken P test xs each.1)
-  where
-    go : (b : Bool) → Each P (filter test xs) → Each P (cond b (x ∷ filter test xs) (filter test xs))
-    go true rest = (each.0, rest)
-    go false rest = rest
-
 pub kept_exist : (m : ℕ) (kept : List Pair) → All (λ pair. pair.b < m) kept → Each (λ pair. pair.1 < m) (map objects_of kept)
 kept_exist m kept exist = Each-map (λ pair. pair.1 < m) objects_of kept (each_from_All (λ pair. pair.b < m) kept exist)
 
@@ -244,7 +224,7 @@ pairs_exist n m kept pairs same exist =
     All-from_each (λ pair. pair.b < m) pairs
     (each_from_map (λ pair. pair.1 < m) objects_of pairs
     (subst (λ (ps : List (ℕ × ℕ)). Each (λ pair. pair.1 < m) ps) (sym same)
-    (each_taken (λ pair. pair.1 < m) (is_pair_of n) (map objects_of kept) (kept_exist m kept exist))))
+    (Each-filter (λ pair. pair.1 < m) (is_pair_of n) (map objects_of kept) (kept_exist m kept exist))))
 
 -- ---- all objects
 

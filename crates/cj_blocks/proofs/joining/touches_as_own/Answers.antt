@@ -1,9 +1,10 @@
 use Rattle.std.proofs.Common.{◌≡◌, ◌∙◌, ◌+◌, ◌-◌, ℕ, Bool, true, false, option_map, sym, subst, arith}
 use Rattle.std.specs.List.{list_all, range_with_len}
+use Rattle.cj_interval.proofs.RangeLemmas.{one_in_range_fails}
 use Rattle.cj_bezier.specs.SlotBoxes.{plain_box, plain_boxes}
 use Rattle.cj_blocks.specs.Blocks.{touches_only_as}
 use Rattle.cj_blocks.specs.BoxRows.{box_at}
-use Rattle.cj_blocks.proofs.JoinLemmas.{one_fails, one_passes}
+use Rattle.cj_blocks.proofs.JoinLemmas.{one_passes}
 use Rattle.cj_blocks.proofs.RowLemmas.{box_found}
 use Rattle.cj_blocks.proofs.joining.touches_as_own.Goals as goal
 
@@ -23,7 +24,7 @@ returns-then-not-touches_only_as c =
     let fails : c.touches_only_as.result ≡ false = cc in
     let test : ℕ → Bool =
     λ slot. touches_only_as c.args.thr (option_map plain_box c.args.round.now) (box_at s.all (plain_boxes c.args.boxes.now) c.args.object slot) (box_at s.all (plain_boxes c.args.current.now) c.args.partner slot) in
-    sym (one_fails test s.first s.count slot (omega arith) (omega arith)
+    sym (one_in_range_fails test s.first s.count slot (omega arith) (omega arith)
     ((λ i. touches_only_as c.args.thr (option_map plain_box c.args.round.now) (own i) (other i)) ∙ sym c.touches_only_as.ensures ∙ fails))
 
 pub loop-slot-preserved : goal.loop-slot-preserved

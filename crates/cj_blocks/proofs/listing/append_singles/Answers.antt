@@ -1,12 +1,12 @@
 use Rattle.std.proofs.Common.{◌≡◌, ◌∙◌, ◌+◌, ◌-◌, ◌<◌, ◌≤◌, ◌++◌, ◌∷◌, [], ℕ, List, Option, Some, None, option_map, length, map, ap, sym, arith, append_assoc, append-nil}
 use Rattle.std.specs.List.{cons_option, filter_map, range_with_len}
 use Rattle.std.proofs.lemmas.List.{map-append}
+use Rattle.cj_interval.proofs.RangeLemmas.{filter_map-range_more}
 use Rattle.cj_bezier.specs.SlotBoxes.{PlainBox, plain_box, plain_boxes}
 use Rattle.cj_blocks.specs.declared.block.Block.{Block}
 use Rattle.cj_blocks.specs.Blocks.{PlainBlock, single_in}
 use Rattle.cj_blocks.specs.BoxRows.{box_at}
 use Rattle.cj_blocks.specs.Listed.{plain_block}
-use Rattle.cj_blocks.proofs.FillLemmas.{filter_map_more}
 use Rattle.cj_blocks.proofs.RowLemmas.{box_found}
 use Rattle.cj_blocks.proofs.listing.append_singles.Goals as goal
 use Rattle.cj_blocks.proofs.listing.append_singles.Goals.{in-Some+in_ok-push, in_default}
@@ -25,7 +25,7 @@ loop-slot-preserved c =
     let next : slot - s.first + 1 ≡ slot + 1 - s.first = omega arith in
     let more : filter_map (single_in own c.args.object) (range_with_len s.first (slot + 1 - s.first))
     ≡ filter_map (single_in own c.args.object) (range_with_len s.first (slot - s.first)) ++ cons_option (single_in own c.args.object slot) [] =
-    ap (λ (n : ℕ). filter_map (single_in own c.args.object) (range_with_len s.first n)) (sym next) ∙ filter_map_more (single_in own c.args.object) s.first (slot - s.first) slot (omega arith) in
+    ap (λ (n : ℕ). filter_map (single_in own c.args.object) (range_with_len s.first n)) (sym next) ∙ filter_map-range_more (single_in own c.args.object) s.first (slot - s.first) slot (omega arith) in
     let so_far = filter_map (single_in own c.args.object) (range_with_len s.first (slot - s.first)) in
     elim c.match-boxes-place.branch [
       | in-Some+in_ok-push w ↦

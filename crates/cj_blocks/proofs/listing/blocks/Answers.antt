@@ -1,5 +1,6 @@
 use Rattle.std.proofs.Common.{◌≡◌, ◌∙◌, ◌+◌, ◌<◌, ◌++◌, ℕ, suc, List, filter, get_or, length, map, ap, sym, subst, arith}
 use Rattle.std.specs.List.{flat_map, range_with_len}
+use Rattle.cj_interval.proofs.RangeLemmas.{flat_map-range_more}
 use Rattle.cj_hermite.specs.declared.pair.Pair.{Pair}
 use Rattle.cj_hermite.specs.Pairs.{objects_of}
 use Rattle.cj_bezier.specs.SlotBoxes.{plain_boxes}
@@ -8,7 +9,7 @@ use Rattle.cj_blocks.specs.BoxRows.{box_at}
 use Rattle.cj_blocks.specs.Listed.{block_of, given, plain_block}
 use Rattle.cj_blocks.proofs.CurrentLemmas.{not_yet}
 use Rattle.cj_blocks.proofs.RunLemmas.{touch_listed}
-use Rattle.cj_blocks.proofs.TreatedLemmas.{AreCurrent, all_listed, flat_map_more, kept_exist, kept_ordered, list_at, object_listed, one_object_more, pairs_exist, treated}
+use Rattle.cj_blocks.proofs.TreatedLemmas.{AreCurrent, all_listed, kept_exist, kept_ordered, list_at, object_listed, one_object_more, pairs_exist, treated}
 use Rattle.cj_blocks.proofs.listing.blocks.Goals as goal
 
 pub loop-object-init : goal.loop-object-init
@@ -53,7 +54,7 @@ loop-object-preserved c =
       blocks = c.in_ok-list_object.ensures.blocks
           ∙ ap (λ (bs : List PlainBlock). bs ++ listed) i.blocks
           ∙ ap (λ (bs : List PlainBlock). flat_map of_object (range_with_len 0 n) ++ bs) (object_listed a.kept.now pairs a.objects a.slots a.boxes.now current a.sizes.now a.thr n same i.current)
-          ∙ sym (flat_map_more of_object n);
+          ∙ sym (flat_map-range_more of_object 0 n n (omega arith));
     }
 
 pub returns-clause-value : goal.returns-clause-value

@@ -1,8 +1,9 @@
 use Rattle.std.proofs.Common.{◌∙◌, ◌<◌, ◌++◌, List, map, ap, sym, arith, append_assoc}
 use Rattle.std.specs.List.{flat_map, range_with_len}
+use Rattle.cj_interval.proofs.RangeLemmas.{flat_map-range_more}
 use Rattle.cj_blocks.specs.Blocks.{PlainBlock, block_count}
 use Rattle.cj_blocks.specs.Listed.{Treated, block_of, listed_of, plain_block}
-use Rattle.cj_blocks.proofs.TreatedLemmas.{AreSlotsOf, block_listed, flat_map_more, one_block_more, with_boxes}
+use Rattle.cj_blocks.proofs.TreatedLemmas.{AreSlotsOf, block_listed, one_block_more, with_boxes}
 use Rattle.cj_blocks.proofs.listing.list_object.Goals as goal
 
 pub loop-block-preserved : goal.loop-block-preserved
@@ -26,5 +27,5 @@ loop-block-preserved c =
           ∙ ap (λ (bs : List PlainBlock). bs ++ listed) i.blocks
           ∙ append_assoc old so_far listed
           ∙ ap (λ (bs : List PlainBlock). old ++ (so_far ++ bs)) (block_listed t a.object q s.all s.first s.count now are exists i.current)
-          ∙ ap (λ (bs : List PlainBlock). old ++ bs) (sym (flat_map_more (block_of t a.object) q));
+          ∙ ap (λ (bs : List PlainBlock). old ++ bs) (sym (flat_map-range_more (block_of t a.object) 0 q q (omega arith)));
     }
