@@ -16,7 +16,7 @@ use Rattle.cj_bezier.specs.Cells.{plain_cell, plain_cells}
 use Rattle.cj_cells.specs.Cells.{added_roots, added_stretches}
 use Rattle.cj_bezier.specs.RootLeaves.{leaves_of_root, leaves_of_roots}
 use Rattle.cj_interval.proofs.ListLemmas.{Each, Each-weaker, All-from_each, each_from_map}
-use Rattle.cj_hermite.proofs.PairLemmas.{range_more}
+use Rattle.cj_interval.proofs.RangeLemmas.{range_more}
 use Rattle.cj_hermite.proofs.RootLemmas.{IsRootOf, Each-roots}
 use Rattle.cj_hermite.proofs.CurveLemmas.{root_intervals}
 use Rattle.cj_interval.proofs.SumLemmas.{total}

@@ -11,6 +11,7 @@ use Rattle.cj_bezier.specs.Cells.{plain_cell, plain_cells}
 use Rattle.cj_cells.specs.Cells.{root_numbers}
 use Rattle.cj_hermite.specs.Roots.{PlainCell, IsRootUpTo, roots_of, roots_by_slot}
 use Rattle.cj_interval.proofs.ListLemmas.{Ordered, Each-weaker, AllPairs-from_ordered, ordered_from_AllPairs}
+use Rattle.cj_interval.proofs.RangeLemmas.{range_more}
 use Rattle.cj_hermite.proofs.RootLemmas.{Each-roots, Ordered-roots, IsRootOf}
 use Rattle.cj_interval.proofs.SumLemmas.{total, same_totals}
 use Rattle.cj_hermite.proofs.RootSumLemmas.{same_roots, same_root_list}
@@ -69,13 +70,6 @@ pub same_place : (cells : List Cell) (i : ℕ) (x y : Cell) → i < length cells
 same_place [] i x y lt e = refl
 same_place (c ∷ cells) zero x y lt e = rw e
 same_place (c ∷ cells) (suc i) x y lt e = ap (λ rs. plain_cell c ∷ rs) (same_place cells i x y (omega arith) e)
-
-range_more : (a n : ℕ) → range_with_len a (n + 1) ≡ range_with_len a n ++ (a + n) ∷ []
-range_more a zero = let e : a ≡ a + 0 = omega arith in ap (λ k. k ∷ []) e
-range_more a (suc n) =
-    let m : suc n + 1 ≡ suc (n + 1) = omega arith in
-    let e : a + 1 + n ≡ a + suc n = omega arith in
-    rw m (ap (λ ks. a ∷ ks) (rw (← e) (range_more (a + 1) n)))
 
 pub numbered_more : (cells : List Cell) (i : ℕ) (y : Cell) → i < length cells → y.root ≡ i → root_numbers (take i cells) ≡ range_with_len 0 i →
     root_numbers (take (i + 1) (set cells i y)) ≡ range_with_len 0 (i + 1)
