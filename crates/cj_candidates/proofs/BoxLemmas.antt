@@ -13,7 +13,7 @@ use Rattle.cj_track.specs.PlainTracks.{PlainTrack}
 use Rattle.cj_track.specs.Tracks.{plain_track}
 use Rattle.cj_hermite.specs.PlainProblems.{PlainProblem}
 use Rattle.cj_hermite.specs.Slots.{slot_first, slot_last, slot_count}
-use Rattle.cj_hermite.proofs.PairLemmas.{range_more}
+use Rattle.cj_interval.proofs.RangeLemmas.{range_more}
 use Rattle.cj_bezier.specs.declared.axis_box.AxisBox.{AxisBox}
 use Rattle.cj_bezier.specs.SlotBoxes.{PlainBox, plain_boxes, box_of, plain_box}
 use Rattle.cj_bezier.specs.Looked.{boxes_in}

@@ -4,15 +4,13 @@ use Rattle.std.specs.List.{flat_map, range_with_len, sum_by}
 use Rattle.std.proofs.Math.Nat.{mul-suc, suc-mul}
 use Rattle.std.proofs.lemmas.Nat.{column_fits}
 use Rattle.std.proofs.lemmas.List.{length-map}
+use Rattle.std.proofs.lemmas.List.FromFn.{length-range_with_len}
 use Rattle.std.proofs.lemmas.List.Sums.{length-filter, count_by-le-length, sum_by-append, sum_by-cons}
 use Rattle.cj_hermite.specs.PlainProblems.{PlainProblem}
 use Rattle.cj_hermite.specs.Pairs.{pairs_of}
-use Rattle.cj_hermite.proofs.PairLemmas.{pairs_from, range_more}
+use Rattle.cj_interval.proofs.RangeLemmas.{range_more}
+use Rattle.cj_hermite.proofs.PairLemmas.{pairs_from}
 use Rattle.cj_bezier.specs.Looked.{is_kept, is_looked, pairs_kept, pairs_looked}
-
-length-range : (a n : ℕ) → length (range_with_len a n) ≡ n
-length-range a zero = refl
-length-range a (suc n) = let rest = length-range (a + 1) n in omega arith
 
 -- the pairs of the last k of n objects
 rows : (n a k : ℕ) → a + k ≡ n → 2 * length (flat_map (pairs_from n) (range_with_len a k)) + k ≡ k * k
@@ -20,7 +18,7 @@ rows n a zero e = refl
 rows n a (suc k) e =
     let rest = rows n (a + 1) k (omega arith) in
     let row : length (pairs_from n a) ≡ k =
-    length-map (range_with_len (a + 1) (n - (a + 1))) (λ (b : ℕ). let p : ℕ × ℕ = (a, b) in p) ∙ length-range (a + 1) (n - (a + 1)) ∙ omega arith in
+    length-map (range_with_len (a + 1) (n - (a + 1))) (λ (b : ℕ). let p : ℕ × ℕ = (a, b) in p) ∙ length-range_with_len (a + 1) (n - (a + 1)) ∙ omega arith in
     let square : suc k * suc k ≡ k * k + k + suc k = mul-suc (suc k) k ∙ ap (λ m. m + suc k) (suc-mul k k) in
     omega (arith, length-append (pairs_from n a) (flat_map (pairs_from n) (range_with_len (a + 1) k)))
 

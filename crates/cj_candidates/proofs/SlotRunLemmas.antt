@@ -1,10 +1,11 @@
 -- Runs of slots: one slot more, and a run with the one behind it.
-use Rattle.std.proofs.Common.{◌≡◌, ℕ, zero, suc, ◌+◌, ◌-◌, ◌<◌, ◌≤◌, ◌++◌, [], ◌∷◌, length, vec_len, sym, ap, ◌∙◌, arith, append-nil, length-append}
+use Rattle.std.proofs.Common.{◌≡◌, ℕ, ◌+◌, ◌-◌, ◌<◌, ◌≤◌, ◌++◌, [], length, vec_len, sym, ap, ◌∙◌, arith, append-nil, length-append}
 use Rattle.std.specs.Prelude.{Result, Ok, Err, IfOk, IsErrOf}
 use Rattle.std.specs.List.{flat_map, range_with_len, sum_by}
 use Rattle.std.proofs.lemmas.List.{length-map}
 use Rattle.std.proofs.lemmas.List.Concat.{flat_map-append}
 use Rattle.std.proofs.lemmas.List.Sums.{sum_by-append, sum_by-cons}
+use Rattle.cj_interval.proofs.RangeLemmas.{range_cut}
 use Rattle.cj_hermite.specs.PlainProblems.{PlainProblem}
 use Rattle.cj_hermite.specs.Roots.{roots_in_slot}
 use Rattle.cj_bezier.specs.Cells.{plain_cell, plain_cells}
@@ -14,26 +15,15 @@ use Rattle.cj_cells.specs.declared.refine_error.RefineError.TheVariants.{TooMany
 use Rattle.cj_candidates.specs.declared.slot_run.SlotRun.{SlotRun}
 use Rattle.cj_candidates.specs.SlotRuns.{roots_over, looked_over, IsFound, AreSought}
 
-range_both : (from a b : ℕ) → range_with_len from (a + b) ≡ range_with_len from a ++ range_with_len (from + a) b
-range_both from zero b =
-    let none : 0 + b ≡ b = omega arith in
-    let at : from ≡ from + 0 = omega arith in
-    ap (λ (n : ℕ). range_with_len from n) none ∙ ap (λ (k : ℕ). range_with_len k b) at
-range_both from (suc a) b =
-    let more : suc a + b ≡ suc (a + b) = omega arith in
-    let at : from + 1 + a ≡ from + suc a = omega arith in
-    ap (λ (n : ℕ). range_with_len from n) more
-    ∙ ap (λ ks. from ∷ ks) (range_both (from + 1) a b ∙ ap (λ (k : ℕ). range_with_len (from + 1) a ++ range_with_len k b) at)
-
 pub roots_both : (case : PlainProblem) (from a b : ℕ) → roots_over case from (a + b) ≡ roots_over case from a ++ roots_over case (from + a) b
 roots_both case from a b =
     let f = λ (slot : ℕ). roots_in_slot case slot (pairs_looked case slot) in
-    ap (flat_map f) (range_both from a b) ∙ flat_map-append f (range_with_len from a) (range_with_len (from + a) b)
+    ap (flat_map f) (range_cut from a b) ∙ flat_map-append f (range_with_len from a) (range_with_len (from + a) b)
 
 pub looked_both : (case : PlainProblem) (from a b : ℕ) → looked_over case from (a + b) ≡ looked_over case from a + looked_over case (from + a) b
 looked_both case from a b =
     let f = λ (slot : ℕ). length (pairs_looked case slot) in
-    ap (sum_by f) (range_both from a b) ∙ sum_by-append f (range_with_len from a) (range_with_len (from + a) b)
+    ap (sum_by f) (range_cut from a b) ∙ sum_by-append f (range_with_len from a) (range_with_len (from + a) b)
 
 -- ---- one slot more
 
