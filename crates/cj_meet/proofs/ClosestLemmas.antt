@@ -1,15 +1,15 @@
 -- The closest approach of several leaves: its candidates leaf by leaf, and what it says of the distance.
-use Rattle.std.proofs.Common.{◌≡◌, ◌⊎◌, ℕ, zero, suc, ◌+◌, ◌-◌, ◌*◌, ◌<◌, ◌≤◌, List, [], ◌∷◌, ◌++◌, map, length, get_or, take, Option, Some, None, refl, sym, ap, subst, ◌∙◌, inl, inr, arith, append-nil}
+use Rattle.std.proofs.Common.{◌≡◌, ◌⊎◌, ℕ, ◌+◌, ◌-◌, ◌*◌, ◌<◌, ◌≤◌, List, [], ◌∷◌, ◌++◌, length, get_or, take, Option, Some, None, refl, sym, ap, subst, ◌∙◌, inl, inr, arith, append-nil}
 use Rattle.std.specs.Prelude.{All, Any, IsSomeAnd, slice_get, slice_range, option_map, option_and_then, pos, ◌≤ℤ◌}
 use Rattle.std.proofs.Math.Nat.{mul-le-mul, mul-le-mul_right}
 use Rattle.std.proofs.lemmas.Bool.{leb-true}
 use Rattle.std.proofs.lemmas.Int.{ints}
 use Rattle.std.proofs.lemmas.List.{length-map, map_more}
 use Rattle.std.proofs.lemmas.List.Edits.{length-between}
-use Rattle.std.proofs.lemmas.List.Elements.{All-nil, All-same, All-append, All-push, All-weaker}
+use Rattle.std.proofs.lemmas.List.Elements.{All-nil, All-same, All-append, All-push, All-weaker, All-get_or}
 use Rattle.std.proofs.lemmas.List.Concat.{flat_map-append}
 use Rattle.cj_interval.proofs.IntegerLemmas.{le_from_mul, le_trans_ℤ}
-use Rattle.cj_interval.proofs.ListLemmas.{Each, Exists, Each-weaker, Each-both, Each-exists, Exists-weaker, Exists-flat_map, All-from_each, each_from_All, each_from_map, Any-from_exists, exists_from_Any}
+use Rattle.cj_interval.proofs.ListLemmas.{Each, Exists, Each-weaker, Each-both, Each-exists, Exists-weaker, Exists-flat_map, All-from_each, each_from_All, each_from_map, Any-from_exists, exists_from_Any, Exists-at, Exists-map}
 use Rattle.cj_interval.proofs.SquareLemmas.{root-le}
 use Rattle.cj_track.specs.PlainTracks.{PlainTrack}
 use Rattle.cj_hermite.specs.Distance.{BAND, IsWithinAt, square_bound, square_distance}
@@ -67,29 +67,14 @@ candidates_more case leaves i leaf lt is =
     ∙ ap (λ (l : Leaf). candidates_in case (plain_leaves (take i leaves)) ++ candidates_of case (plain_leaf l)) (sym is)
 
 -- a candidate of one leaf is one of all
-exists_at : {X : Type 0} (P : X → Type 0) (xs : List X) (i : ℕ) (d : X) → i < length xs → P (get_or xs i d) → Exists P xs
-exists_at P [] i d lt p = absurd (omega arith)
-exists_at P (x ∷ xs) zero d lt p = inl p
-exists_at P (x ∷ xs) (suc i) d lt p = inr (exists_at P xs i d (omega arith) p)
-
-each_at : {X : Type 0} (P : X → Type 0) (xs : List X) (i : ℕ) (d : X) → i < length xs → Each P xs → P (get_or xs i d)
-each_at P [] i d lt e = absurd (omega arith)
-each_at P (x ∷ xs) zero d lt e = e.0
-each_at P (x ∷ xs) (suc i) d lt e = each_at P xs i d (omega arith) e.1
-
-exists_map : {X Y : Type 0} (P : Y → Type 0) (f : X → Y) (xs : List X) → Exists (λ x. P (f x)) xs → Exists P (map f xs)
-exists_map P f [] h = h
-exists_map P f (x ∷ xs) (inl h) = inl h
-exists_map P f (x ∷ xs) (inr h) = inr (exists_map P f xs h)
-
 pub candidate_of_all : (case : PlainProblem) (leaves : List Leaf) (i : ℕ) (leaf : Leaf) (x : PlainApproach) → i < length leaves → leaf ≡ get_or leaves i leaf →
     Any (λ p. p ≡ x) (candidates_of case (plain_leaf leaf)) → Any (λ p. p ≡ x) (candidates_in case (plain_leaves leaves))
 unfolding candidates_in
 candidate_of_all case leaves i leaf x lt is one =
     Any-from_exists (λ p. p ≡ x) (candidates_in case (plain_leaves leaves))
     (Exists-flat_map (λ p. p ≡ x) (candidates_of case) (plain_leaves leaves)
-    (exists_map (λ s. Exists (λ p. p ≡ x) (candidates_of case s)) plain_leaf leaves
-    (exists_at (λ l. Exists (λ p. p ≡ x) (candidates_of case (plain_leaf l))) leaves i leaf lt
+    (Exists-map (λ s. Exists (λ p. p ≡ x) (candidates_of case s)) plain_leaf leaves
+    (Exists-at (λ l. Exists (λ p. p ≡ x) (candidates_of case (plain_leaf l))) leaves i leaf lt
     (subst (λ (l : Leaf). Exists (λ p. p ≡ x) (candidates_of case (plain_leaf l))) is
     (exists_from_Any (λ p. p ≡ x) (candidates_of case (plain_leaf leaf)) one)))))
 
@@ -98,7 +83,8 @@ pub keeps_at : (case : PlainProblem) (leaves : List Leaf) (i : ℕ) (leaf : Leaf
 keeps_at case leaves i leaf lt is keep =
     let P : PlainLeaf → Type 0 = λ s. KeepIntervals case s.a s.b s.first s.last in
     subst (λ (l : Leaf). P (plain_leaf l)) (sym is)
-    (each_at (λ l. P (plain_leaf l)) leaves i leaf lt (each_from_map P plain_leaf leaves (each_from_All P (plain_leaves leaves) keep)))
+    (All-get_or (λ l. P (plain_leaf l)) leaves i leaf lt
+    (All-from_each (λ l. P (plain_leaf l)) leaves (each_from_map P plain_leaf leaves (each_from_All P (plain_leaves leaves) keep))))
 
 -- ---- the loops over leaves
 

@@ -2,7 +2,7 @@
 use Rattle.std.proofs.Common.{◌≡◌, ◌⊎◌, ℕ, zero, suc, ◌+◌, ◌-◌, ◌*◌, ◌^◌, ◌<◌, ◌≤◌, true, false, ◌&&◌, ◌||◌, eqb, leb, ltb, List, [], ◌∷◌, ◌++◌, length, get_or, set, drop, refl, sym, ap, subst, ◌∙◌, inl, inr, arith, append-nil}
 use Rattle.std.proofs.lemmas.Bool.{or_cases, and_parts, ltb-true, leb-true, eqb-true}
 use Rattle.std.proofs.lemmas.List.{drop_more, drop-set, length-set}
-use Rattle.cj_interval.proofs.ListLemmas.{Each, Exists, Each-append, Exists-left, Exists-right}
+use Rattle.cj_interval.proofs.ListLemmas.{Each, Exists, Each-append, Exists-left, Exists-right, each_from_append}
 use Rattle.cj_hermite.specs.Interpolant.{Curve, IsOver}
 use Rattle.cj_bezier.specs.Gaps.{gap_terms, hull_gap}
 use Rattle.cj_bezier.specs.Leaves.{PlainLeaf}
@@ -17,10 +17,6 @@ use Rattle.cj_meet.proofs.NearerLemmas.{NoWorse-refl, NoWorse-trans}
 use Rattle.cj_meet.proofs.TickLemmas.{low_upper}
 
 -- ---- lists in parts
-
-each_parts : {X : Type 0} (P : X → Type 0) (xs ys : List X) → Each P (xs ++ ys) → Each P xs × Each P ys
-each_parts P [] ys e = (tt, e)
-each_parts P (x ∷ xs) ys e = let rest = each_parts P xs ys e.1 in ((e.0, rest.0), rest.1)
 
 exists_parts : {X : Type 0} (P : X → Type 0) (xs ys : List X) → Exists P (xs ++ ys) → Exists P xs ⊎ Exists P ys
 exists_parts P [] ys e = inr e
@@ -224,8 +220,8 @@ module _ (c d : Curve) (s : PlainLeaf) (lo hi : ℕ) (given : PlainApproach) whe
           reached = still_reached best x ps f is.one_of;
           inside = λ y h. f.inside y (within y (exists_parts (λ q. q ≡ y) of_next (of_other ++ waiting c d s ps) h));
           left = λ q h each.
-              let first = each_parts (NoWorse q) of_next (of_other ++ waiting c d s ps) each in
-              let second = each_parts (NoWorse q) of_other (waiting c d s ps) first.1 in
+              let first = each_from_append (NoWorse q) of_next (of_other ++ waiting c d s ps) each in
+              let second = each_from_append (NoWorse q) of_other (waiting c d s ps) first.1 in
               f.left q (NoWorse-trans q x best h is.no_worse)
               (Each-append (NoWorse q) whole (waiting c d s ps) (both q first.0 second.0 is.halves) second.1);
         }

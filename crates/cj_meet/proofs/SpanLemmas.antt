@@ -1,8 +1,9 @@
 -- The ticks in the spans of the encounters of stretches are those in the stretches themselves.
-use Rattle.std.proofs.Common.{◌≡◌, ◌≢◌, ◌⊎◌, ◌↔◌, ℕ, zero, suc, ◌+◌, ◌<◌, ◌≤◌, ◌==◌, true, false, ◌&&◌, List, [], ◌∷◌, length, get_or, refl, sym, ◌∙◌, ap, subst, inl, inr, ⊎_elim, arith, eqb-true, eq-eqb}
+use Rattle.std.proofs.Common.{◌≡◌, ◌≢◌, ◌⊎◌, ◌↔◌, ℕ, ◌+◌, ◌≤◌, ◌==◌, true, false, ◌&&◌, List, [], ◌∷◌, get_or, refl, sym, ◌∙◌, ap, inl, inr, ⊎_elim, arith, eqb-true, eq-eqb}
 use Rattle.std.proofs.lemmas.Bool.{and_parts, cases_lt, cond_both, cond-true, cond-false, and_from, cases_Bool}
 use Rattle.std.proofs.lemmas.List.Elements.{All-nil, All-cons, All-head, All-tail, All-weaker, All-map}
 use Rattle.std.specs.Prelude.{All, Any}
+use Rattle.cj_interval.proofs.ListLemmas.{Exists, Any-from_exists, exists_from_Any}
 use Rattle.cj_bezier.specs.declared.kind.Kind.{Kind}
 use Rattle.cj_bezier.specs.declared.kind.Kind.TheVariants.{Far, Near, Undecided}
 use Rattle.cj_bezier.specs.Leaves.{PlainLeaf, plain_leaf, plain_leaves}
@@ -11,24 +12,6 @@ use Rattle.cj_bezier.specs.Order.{HaveTicks}
 use Rattle.cj_meet.specs.Encounters.{is_far, follows, with_front, encounters_of, first_object, second_object}
 use Rattle.cj_meet.specs.Spans.{same_kind, with_span, spans_of, LiesInSpan, HaveExactSpans}
 use Rattle.cj_bezier.specs.Leaves.{Covers, LiesIn}
-
--- the fact for the first element, or for one of the others
-abbrev pub AnyOf : {X : Type 0} → (X → Type 0) → List X → Type 0
-AnyOf P [] = ⊥
-AnyOf P (x ∷ xs) = P x ⊎ AnyOf P xs
-
-any_from : {X : Type 0} (P : X → Type 0) (xs : List X) → AnyOf P xs → Any P xs
-any_from P [] h = absurd h
-any_from P (x ∷ xs) (inl p) = (0, x, omega arith, refl, p)
-any_from P (x ∷ xs) (inr q) = let r = any_from P xs q in (suc r.0, r.1, omega (arith, r.2), r.3, r.4)
-
-any_at : {X : Type 0} (P : X → Type 0) (xs : List X) (k : ℕ) (x : X) → k < length xs → get_or xs k x ≡ x → P x → AnyOf P xs
-any_at P [] k x short is p = absurd (omega arith)
-any_at P (y ∷ xs) zero x short is p = inl (subst P (sym is) p)
-any_at P (y ∷ xs) (suc k) x short is p = inr (any_at P xs k x (omega arith) is p)
-
-any_to : {X : Type 0} (P : X → Type 0) (xs : List X) → Any P xs → AnyOf P xs
-any_to P xs h = any_at P xs h.0 h.1 h.2 h.3 h.4
 
 -- one stretch goes on from another
 pub record GoesOn (s t : PlainLeaf) : Type 0 where
@@ -91,11 +74,11 @@ spans_of-ticks [] all = all
 spans_of-ticks (s ∷ ss) all = with_span-ticks s (spans_of ss) (All-head HasTick s ss all) (spans_of-ticks ss (All-tail HasTick s ss all))
 
 with_span-covers : (kind : Kind) (tick : ℕ) (s : PlainLeaf) (ts : List PlainLeaf) → HasTick s → HaveTicks ts →
-    AnyOf (Covers kind tick) (with_span s ts) ↔ (Covers kind tick s ⊎ AnyOf (Covers kind tick) ts)
+    Exists (Covers kind tick) (with_span s ts) ↔ (Covers kind tick s ⊎ Exists (Covers kind tick) ts)
 with_span-covers kind tick s [] some all = (λ h. h, λ h. h)
 with_span-covers kind tick s (t ∷ ts) some all =
     let here = All-head HasTick t ts all in
-    with_span-case (λ l. AnyOf (Covers kind tick) l ↔ (Covers kind tick s ⊎ AnyOf (Covers kind tick) (t ∷ ts))) s t ts
+    with_span-case (λ l. Exists (Covers kind tick) l ↔ (Covers kind tick s ⊎ Exists (Covers kind tick) (t ∷ ts))) s t ts
     (λ on alike.
     let goes = goes_on-from s t on in
     let same = kinds_equal s.kind t.kind alike in (
@@ -105,7 +88,7 @@ with_span-covers kind tick s (t ∷ ts) some all =
     (λ h. h, λ h. h)
 
 -- the spans of stretches cover what the stretches do
-spans_of-covers : (kind : Kind) (tick : ℕ) (ss : List PlainLeaf) → HaveTicks ss → AnyOf (Covers kind tick) (spans_of ss) ↔ AnyOf (Covers kind tick) ss
+spans_of-covers : (kind : Kind) (tick : ℕ) (ss : List PlainLeaf) → HaveTicks ss → Exists (Covers kind tick) (spans_of ss) ↔ Exists (Covers kind tick) ss
 spans_of-covers kind tick [] all = (λ h. h, λ h. h)
 spans_of-covers kind tick (s ∷ ss) all =
     let here = All-head HasTick s ss all in
@@ -140,10 +123,10 @@ alone s some near = record {
 module _ (kind : Kind) (a b tick : ℕ) where
   -- the tick lies in an encounter of the objects a and b, in one of its stretches of this kind
   abbrev LiesInGroup : List PlainLeaf → Type 0
-  LiesInGroup g = AnyOf (LiesIn kind a b tick) g
+  LiesInGroup g = Exists (LiesIn kind a b tick) g
 
   -- one pair for all stretches, told apart from the tick
-  told_apart : (c d : ℕ) (g : List PlainLeaf) → All (λ s. (s.a ≡ c) × (s.b ≡ d)) g → AnyOf (LiesIn kind a b tick) g → (c ≡ a) × (d ≡ b) × AnyOf (Covers kind tick) g
+  told_apart : (c d : ℕ) (g : List PlainLeaf) → All (λ s. (s.a ≡ c) × (s.b ≡ d)) g → Exists (LiesIn kind a b tick) g → (c ≡ a) × (d ≡ b) × Exists (Covers kind tick) g
   told_apart c d [] alike h = absurd h
   told_apart c d (s ∷ g) alike (inl h) =
       let here = All-head (λ s. (s.a ≡ c) × (s.b ≡ d)) s g alike in
@@ -151,7 +134,7 @@ module _ (kind : Kind) (a b tick : ℕ) where
   told_apart c d (s ∷ g) alike (inr h) =
       let r = told_apart c d g (All-tail (λ s. (s.a ≡ c) × (s.b ≡ d)) s g alike) h in (r.0, r.1, inr r.2)
 
-  told_together : (c d : ℕ) (g : List PlainLeaf) → All (λ s. (s.a ≡ c) × (s.b ≡ d)) g → c ≡ a → d ≡ b → AnyOf (Covers kind tick) g → AnyOf (LiesIn kind a b tick) g
+  told_together : (c d : ℕ) (g : List PlainLeaf) → All (λ s. (s.a ≡ c) × (s.b ≡ d)) g → c ≡ a → d ≡ b → Exists (Covers kind tick) g → Exists (LiesIn kind a b tick) g
   told_together c d [] alike ca db h = absurd h
   told_together c d (s ∷ g) alike ca db (inl h) =
       let here = All-head (λ s. (s.a ≡ c) × (s.b ≡ d)) s g alike in
@@ -162,20 +145,20 @@ module _ (kind : Kind) (a b tick : ℕ) where
   in_span : (g : List PlainLeaf) → IsGroup g → LiesInGroup g → LiesInSpan kind a b tick g
   in_span g is h =
       let r = told_apart (first_object g) (second_object g) g is.alike h in
-      record { objects = (r.0, r.1); span = any_from (Covers kind tick) (spans_of g) ((spans_of-covers kind tick g is.ticks).1 r.2) }
+      record { objects = (r.0, r.1); span = Any-from_exists (Covers kind tick) (spans_of g) ((spans_of-covers kind tick g is.ticks).1 r.2) }
 
   in_group : (g : List PlainLeaf) → IsGroup g → LiesInSpan kind a b tick g → LiesInGroup g
   in_group g is h =
       told_together (first_object g) (second_object g) g is.alike h.objects.0 h.objects.1
-      ((spans_of-covers kind tick g is.ticks).0 (any_to (Covers kind tick) (spans_of g) h.span))
+      ((spans_of-covers kind tick g is.ticks).0 (exists_from_Any (Covers kind tick) (spans_of g) h.span))
 
   -- a stretch in front adds its own ticks
   with_front-ticks : (s : PlainLeaf) (gs : List (List PlainLeaf)) →
-      AnyOf LiesInGroup (with_front s gs) ↔ (LiesIn kind a b tick s ⊎ AnyOf LiesInGroup gs)
+      Exists LiesInGroup (with_front s gs) ↔ (LiesIn kind a b tick s ⊎ Exists LiesInGroup gs)
   with_front-ticks s [] = (⊎_elim (⊎_elim inl absurd) absurd, ⊎_elim (λ h. inl (inl h)) absurd)
   with_front-ticks s ([] ∷ gs) = (⊎_elim (⊎_elim inl absurd) (λ h. inr (inr h)), ⊎_elim (λ h. inl (inl h)) (⊎_elim absurd inr))
   with_front-ticks s ((t ∷ ts) ∷ gs) =
-      cond_both (follows s t) ((s ∷ t ∷ ts) ∷ gs) ((s ∷ []) ∷ (t ∷ ts) ∷ gs) (λ l. AnyOf LiesInGroup l ↔ (LiesIn kind a b tick s ⊎ AnyOf LiesInGroup ((t ∷ ts) ∷ gs)))
+      cond_both (follows s t) ((s ∷ t ∷ ts) ∷ gs) ((s ∷ []) ∷ (t ∷ ts) ∷ gs) (λ l. Exists LiesInGroup l ↔ (LiesIn kind a b tick s ⊎ Exists LiesInGroup ((t ∷ ts) ∷ gs)))
       (λ on. (⊎_elim (⊎_elim inl (λ h. inr (inl h))) (λ h. inr (inr h)), ⊎_elim (λ h. inl (inl h)) (⊎_elim (λ h. inl (inr h)) inr)))
       (λ off. (⊎_elim (⊎_elim inl absurd) inr, ⊎_elim (λ h. inl (inl h)) inr))
 
@@ -183,21 +166,21 @@ module _ (kind : Kind) (a b tick : ℕ) where
   far_has_none : (s : PlainLeaf) → kind ≢ Far → is_far s ≡ true → LiesIn kind a b tick s → ⊥
   far_has_none s near far h = near (sym h.covered.same ∙ far_is s.kind far)
 
-  encounters_of-ticks : (ss : List PlainLeaf) → kind ≢ Far → AnyOf LiesInGroup (encounters_of ss) ↔ AnyOf (LiesIn kind a b tick) ss
+  encounters_of-ticks : (ss : List PlainLeaf) → kind ≢ Far → Exists LiesInGroup (encounters_of ss) ↔ Exists (LiesIn kind a b tick) ss
   encounters_of-ticks [] near = (λ h. h, λ h. h)
   encounters_of-ticks (s ∷ ss) near =
       let others = encounters_of-ticks ss near in
       let step = with_front-ticks s (encounters_of ss) in
-      cond_both (is_far s) (encounters_of ss) (with_front s (encounters_of ss)) (λ l. AnyOf LiesInGroup l ↔ (LiesIn kind a b tick s ⊎ AnyOf (LiesIn kind a b tick) ss))
+      cond_both (is_far s) (encounters_of ss) (with_front s (encounters_of ss)) (λ l. Exists LiesInGroup l ↔ (LiesIn kind a b tick s ⊎ Exists (LiesIn kind a b tick) ss))
       (λ far. (λ h. inr (others.0 h), ⊎_elim (λ h. absurd (far_has_none s near far h)) others.1))
       (λ off. (λ h. ⊎_elim inl (λ g. inr (others.0 g)) (step.0 h), λ h. step.1 (⊎_elim inl (λ g. inr (others.1 g)) h)))
 
-  spans-from_groups : (gs : List (List PlainLeaf)) → All IsGroup gs → AnyOf LiesInGroup gs → AnyOf (LiesInSpan kind a b tick) gs
+  spans-from_groups : (gs : List (List PlainLeaf)) → All IsGroup gs → Exists LiesInGroup gs → Exists (LiesInSpan kind a b tick) gs
   spans-from_groups [] are h = absurd h
   spans-from_groups (g ∷ gs) are (inl h) = inl (in_span g (All-head IsGroup g gs are) h)
   spans-from_groups (g ∷ gs) are (inr h) = inr (spans-from_groups gs (All-tail IsGroup g gs are) h)
 
-  groups-from_spans : (gs : List (List PlainLeaf)) → All IsGroup gs → AnyOf (LiesInSpan kind a b tick) gs → AnyOf LiesInGroup gs
+  groups-from_spans : (gs : List (List PlainLeaf)) → All IsGroup gs → Exists (LiesInSpan kind a b tick) gs → Exists LiesInGroup gs
   groups-from_spans [] are h = absurd h
   groups-from_spans (g ∷ gs) are (inl h) = inl (in_group g (All-head IsGroup g gs are) h)
   groups-from_spans (g ∷ gs) are (inr h) = inr (groups-from_spans gs (All-tail IsGroup g gs are) h)
@@ -231,8 +214,8 @@ pub spans_hold : (kind : Kind) (a b tick : ℕ) (ss : List PlainLeaf) → kind �
 spans_hold kind a b tick ss near all =
     let are = encounters_of-groups ss all in
     let same = encounters_of-ticks kind a b tick ss near in (
-      λ h. any_from (LiesIn kind a b tick) ss (same.0 (groups-from_spans kind a b tick (encounters_of ss) are (any_to (LiesInSpan kind a b tick) (encounters_of ss) h))),
-      λ h. any_from (LiesInSpan kind a b tick) (encounters_of ss) (spans-from_groups kind a b tick (encounters_of ss) are (same.1 (any_to (LiesIn kind a b tick) ss h))),
+      λ h. Any-from_exists (LiesIn kind a b tick) ss (same.0 (groups-from_spans kind a b tick (encounters_of ss) are (exists_from_Any (LiesInSpan kind a b tick) (encounters_of ss) h))),
+      λ h. Any-from_exists (LiesInSpan kind a b tick) (encounters_of ss) (spans-from_groups kind a b tick (encounters_of ss) are (same.1 (exists_from_Any (LiesIn kind a b tick) ss h))),
     )
 
 with_span-near : (s : PlainLeaf) (ts : List PlainLeaf) → s.kind ≢ Far → All (λ t. t.kind ≢ Far) ts → All (λ t. t.kind ≢ Far) (with_span s ts)
