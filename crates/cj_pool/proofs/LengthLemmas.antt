@@ -1,7 +1,7 @@
 -- Interpolants have lengths, since the times of nodes rise.
 use Rattle.std.proofs.Common.{◌≡◌, ℕ, ◌<◌, ◌≤◌, Option, Some, None, refl, subst, arith}
 use Rattle.std.specs.Prelude.{All, IfSome, slice_get, option_map, option_and_then}
-use Rattle.cj_interval.proofs.ListLemmas.{each_from_All}
+use Rattle.cj_interval.proofs.ListLemmas.{each_from_All, each_at}
 use Rattle.cj_track.specs.PlainTracks.{PlainTrack}
 use Rattle.cj_hermite.specs.Interpolant.{Curve, IsOver}
 use Rattle.cj_hermite.specs.Pieces.{intervals_of, interval_at, curve_of_interval}
@@ -10,13 +10,12 @@ use Rattle.cj_hermite.proofs.CurveLemmas.{HaveCurves}
 use Rattle.cj_hermite.proofs.ObjectLemmas.{within_at}
 use Rattle.cj_hermite.proofs.StateLemmas.{has, lacks, state}
 use Rattle.cj_hermite.specs.Lengths.{Rises, IsRising, HaveLengths}
-use Rattle.cj_pool.proofs.TreeLemmas.{at_all}
 
 curve_long : (e : PlainTrack) (m : ℕ) → IsRising e → IfSome (option_map curve_of_interval (interval_at e m)) (λ c. 0 < c.span)
 curve_long e m rising = elim (state e m) [
   | has number x is ↦
       let at = is.at in
-      let up : Rises x = at_all Rises (intervals_of e) number x (each_from_All Rises (intervals_of e) rising) is.place in
+      let up : Rises x = each_at Rises (intervals_of e) number x (each_from_All Rises (intervals_of e) rising) is.place in
       rw at (omega arith)
   | lacks unnumbered none ↦ rw none tt
 ]
@@ -24,7 +23,7 @@ curve_long e m rising = elim (state e m) [
 pub curves_long : (case : PlainProblem) → All IsRising case.ephemerides → HaveLengths case
 unfolding curve_at
 curves_long case rising object m = go (slice_get case.ephemerides object)
-    (λ e is. at_all IsRising case.ephemerides object e (each_from_All IsRising case.ephemerides rising) is)
+    (λ e is. each_at IsRising case.ephemerides object e (each_from_All IsRising case.ephemerides rising) is)
   where
     go : (o : Option PlainTrack) → ((e : PlainTrack) → o ≡ Some e → IsRising e) →
         IfSome (option_map curve_of_interval (option_and_then (λ e. interval_at e m) o)) (λ c. 0 < c.span)

@@ -1,12 +1,12 @@
 -- Cells of the halving trees lie in their roots.
-use Rattle.std.proofs.Common.{◌≡◌, ℕ, zero, suc, ◌+◌, ◌^◌, ◌<◌, ◌≤◌, List, [], ◌∷◌, sym, ap, ◌∙◌, subst, arith}
-use Rattle.std.specs.Prelude.{Some, None, Option, slice_get, is_some}
+use Rattle.std.proofs.Common.{◌≡◌, ℕ, ◌+◌, ◌^◌, ◌<◌, ◌≤◌, List, sym, ap, ◌∙◌, arith}
+use Rattle.std.specs.Prelude.{None, Option, slice_get, is_some}
 use Rattle.cj_hermite.specs.PlainProblems.{PlainProblem}
 use Rattle.cj_hermite.specs.Roots.{KeepIntervals}
 use Rattle.cj_bezier.specs.declared.cell.Cell.{Cell}
 use Rattle.cj_bezier.specs.declared.kind.Kind.{Kind}
 use Rattle.cj_bezier.specs.Halving.{InHalving, whole, left, right}
-use Rattle.cj_interval.proofs.ListLemmas.{Each, each_from_All}
+use Rattle.cj_interval.proofs.ListLemmas.{each_from_All, each_at}
 use Rattle.cj_pool.specs.RootLists.{IsKept, IsShortCell, AreRoots}
 use Rattle.cj_pool.specs.Tree.{ticks_kind, InTree, Halved}
 
@@ -19,15 +19,6 @@ pub tree_within : (judge : ℕ → ℕ → Option Kind) (first last lo hi : ℕ)
 tree_within judge first last lo hi whole = record { from = omega arith; to = omega arith }
 tree_within judge first last lo hi (left from to tree lt none) = let r = tree_within judge first last from to tree in record { from = r.from; to = omega (arith, r.to) }
 tree_within judge first last lo hi (right from to tree lt none) = let r = tree_within judge first last from to tree in record { from = omega (arith, r.from); to = r.to }
-
--- an element of a list of which all have something
-pub at_all : {X : Type 0} (P : X → Type 0) (xs : List X) (i : ℕ) (x : X) → Each P xs → slice_get xs i ≡ Some x → P x
-at_all P [] i x each is = absurd (cc)
-at_all P (y ∷ ys) zero x each is = subst P (some_same y x is) each.0
-  where
-    some_same : {X : Type 0} (a b : X) → Some a ≡ Some b → a ≡ b
-    some_same a b e = cc
-at_all P (y ∷ ys) (suc i) x each is = at_all P ys i x each.1 is
 
 -- a part of ticks that keep their intervals keeps them
 pub keep_part : (case : PlainProblem) (a b first last from to : ℕ) → KeepIntervals case a b first last → first ≤ from → from ≤ to → to ≤ last → KeepIntervals case a b from to
@@ -42,7 +33,7 @@ keep_part case a b first last from to keep low some high =
 pub tree_keeps : (case : PlainProblem) (roots : List Cell) (c : Cell) → AreRoots case roots → InTree case roots c → IsKept case c
 tree_keeps case roots c are tree =
     let root = tree.root in
-    let keep : IsKept case root = at_all (IsKept case) roots c.root root (each_from_All (IsKept case) roots are.keep) tree.at in
+    let keep : IsKept case root = each_at (IsKept case) roots c.root root (each_from_All (IsKept case) roots are.keep) tree.at in
     let part = tree_within (ticks_kind case c.pair.a c.pair.b) root.first.micros root.last.micros c.first.micros c.last.micros tree.tree in
     let here : KeepIntervals case c.pair.a c.pair.b root.first.micros root.last.micros = rw (tree.pair) keep in
     keep_part case c.pair.a c.pair.b root.first.micros root.last.micros c.first.micros c.last.micros here part.from c.some part.to
@@ -51,7 +42,7 @@ tree_keeps case roots c are tree =
 pub tree_short : (case : PlainProblem) (roots : List Cell) (c : Cell) → AreRoots case roots → InTree case roots c → c.last.micros < c.first.micros + 2 ^ 26
 tree_short case roots c are tree =
     let root = tree.root in
-    let short : IsShortCell root = at_all IsShortCell roots c.root root (each_from_All IsShortCell roots are.short) tree.at in
+    let short : IsShortCell root = each_at IsShortCell roots c.root root (each_from_All IsShortCell roots are.short) tree.at in
     let part = tree_within (ticks_kind case c.pair.a c.pair.b) root.first.micros root.last.micros c.first.micros c.last.micros tree.tree in
     omega (arith, short, part.from, part.to)
 
