@@ -6,7 +6,7 @@ use Rattle.cj_interval.specs.declared.span.Span.{Span}
 use Rattle.cj_interval.specs.Rounding.{floor_div, ceil_div}
 use Rattle.cj_interval.specs.Sizes.{IsWithin}
 use Rattle.cj_interval.proofs.IntegerLemmas.{le_from_mul, le_trans_ℤ}
-use Rattle.cj_interval.proofs.ListLemmas.{Each, Each-append, All-from_each}
+use Rattle.cj_interval.proofs.ListLemmas.{Each, Each-append, All-from_each, each_at}
 use Rattle.cj_interval.proofs.MachineLemmas.{product_within}
 use Rattle.cj_interval.proofs.SizeLemmas.{mul_pos}
 use Rattle.cj_track.specs.declared.node.Node.{Node}
@@ -31,7 +31,6 @@ use Rattle.cj_bezier.specs.Shells.{IsOuter}
 use Rattle.cj_bezier.specs.Sizes.{HULL_REACH}
 use Rattle.cj_bezier.proofs.HullListLemmas.{each_hull, have_parts, of_number}
 use Rattle.cj_bezier.proofs.ShellLemmas.{outer_of_hull}
-use Rattle.cj_cert.proofs.ListedLemmas.{each_at}
 
 -- ---- the interpolants
 

@@ -3,7 +3,7 @@ use Rattle.std.proofs.Common.{◌≡◌, ℕ, ◌<◌, Bool, cond, List, length,
 use Rattle.std.specs.Prelude.{All}
 use Rattle.std.specs.List.{enumerate_from, flat_map, range_with_len}
 use Rattle.std.proofs.lemmas.Bool.{eq-eqb}
-use Rattle.cj_interval.proofs.ListLemmas.{Each, Each-weaker, All-from_each, each_from_map}
+use Rattle.cj_interval.proofs.ListLemmas.{Each, Each-weaker, All-from_each, each_from_map, Each-filter}
 use Rattle.cj_hermite.specs.declared.pair.Pair.{Pair}
 use Rattle.cj_hermite.specs.Pairs.{objects_of, pairs_of}
 use Rattle.cj_hermite.specs.PlainProblems.{PlainProblem}
@@ -20,7 +20,6 @@ use Rattle.cj_cert.specs.Listed.{box_listed}
 use Rattle.cj_cert.specs.Rewritten.{size_lines, line_of_block, boxes_by_lines, pairs_by_shells, given_of, with_blocks, rewritten, in_version_2, written_in}
 use Rattle.cj_bezier.specs.AllBoxes.{boxes_of}
 use Rattle.cj_cert.specs.Written.{leaves_in_order, shell_line, written}
-use Rattle.cj_cert.proofs.RewrittenLemmas.{each_left}
 
 -- pairs that are left of all are of the objects
 pub pairs_of_objects : (n m : ℕ) (test : ℕ × ℕ → Bool) (kept : List Pair) → map objects_of kept ≡ filter test (pairs_of n) → n ≡ m → All (λ pair. pair.b < m) kept
@@ -29,7 +28,7 @@ pairs_of_objects n m test kept same count =
     (All-from_each (λ pair. pair.b < n) kept
     (each_from_map (λ pair. pair.1 < n) objects_of kept
     (subst (λ (ps : List (ℕ × ℕ)). Each (λ pair. pair.1 < n) ps) (sym same)
-    (Each-weaker (IsPair n) (λ pair. pair.1 < n) (λ pair is. is.exists) (filter test (pairs_of n)) (each_left (IsPair n) test (pairs_of n) (Each-pairs n))))))
+    (Each-weaker (IsPair n) (λ pair. pair.1 < n) (λ pair is. is.exists) (filter test (pairs_of n)) (Each-filter (IsPair n) test (pairs_of n) (Each-pairs n))))))
 
 -- a certificate in version 2 with these sizes and boxes
 abbrev with_lines : PlainCertificate → List SizeOfLine → List PlainBoxLine → PlainCertificate

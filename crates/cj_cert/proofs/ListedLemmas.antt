@@ -6,8 +6,9 @@ use Rattle.std.specs.List.{enumerate_from, find, flat_map, list_any, range_with_
 use Rattle.std.proofs.lemmas.Bool.{and_parts, or_parts, cases_eq, eqb-true, eq-eqb, leb-true, false_from_ne_true}
 use Rattle.std.proofs.lemmas.Bool.Decides.{nat_tests}
 use Rattle.std.proofs.lemmas.Option.{slice_get-map, slice_get_within}
-use Rattle.cj_interval.proofs.ListLemmas.{Each, Exists, Each-weaker, Each-map, Each-flat_map, Each-range}
-use Rattle.cj_interval.proofs.ListLemmas.{Each-exists, Exists-left, Exists-right, Exists-map, Exists-weaker, Exists-range, each_from_All}
+use Rattle.cj_interval.proofs.ListLemmas.{Each, Exists, Each-weaker, Each-map, Each-flat_map, Each-range, Each-exists}
+use Rattle.cj_interval.proofs.ListLemmas.{Exists-filter, Exists-flat_map, Exists-map, Exists-weaker, Exists-range, each_at, each_from_All}
+use Rattle.cj_interval.proofs.RangeLemmas.{Exists-enumerated}
 use Rattle.cj_track.specs.PlainTracks.{PlainTrack}
 use Rattle.cj_hermite.specs.PlainProblems.{PlainProblem}
 use Rattle.cj_hermite.specs.Pieces.{interval_at, interval_index_at, curve_of_interval}
@@ -32,11 +33,6 @@ abbrev pub AreAllInTime : PlainProblem → Type 0
 AreAllInTime case = (i : ℕ) (e : PlainTrack) → slice_get case.ephemerides i ≡ Some e → (from to : ℕ) → AreInTime e from to
 
 -- ---- places in lists
-
-pub each_at : {X : Type 0} (P : X → Type 0) (xs : List X) (i : ℕ) (x : X) → Each P xs → slice_get xs i ≡ Some x → P x
-each_at P [] i x each is = absurd cc
-each_at P (y ∷ xs) zero x each is = let same : y ≡ x = cc in subst P same each.0
-each_at P (y ∷ xs) (suc i) x each is = each_at P xs i x each.1 is
 
 pub range_at : (a n i : ℕ) → i < n → slice_get (range_with_len a n) i ≡ Some (a + i)
 range_at a zero i lt = absurd (omega arith)
@@ -109,26 +105,10 @@ no_state case e slot none m low high = go (interval_index_at e m) refl
     go None is = refl
     go (Some i) is = let fails = fails in let has : is_some (interval_index_at e m) ≡ true = ap is_some is in absurd cc
 
-exists_filtered : {X : Type 0} (P : X → Type 0) (test : X → Bool) (xs : List X) → Exists (λ x. P x × (test x ≡ true)) xs → Exists P (filter test xs)
-exists_filtered P test [] here = here
-exists_filtered P test (x ∷ xs) (inl here) = subst (λ (b : Bool). Exists P (cond b (x ∷ filter test xs) (filter test xs))) (sym here.1) (inl here.0)
-exists_filtered P test (x ∷ xs) (inr rest) = go (exists_filtered P test xs rest) (test x)
-  where
-    go : Exists P (filter test xs) → (b : Bool) → Exists P (cond b (x ∷ filter test xs) (filter test xs))
-    go r true = inr r
-    go r false = r
-
 -- what is made of an object, among what is made of all
 of_object : (P : ℕ × ℕ → Type 0) (f : ℕ × PlainTrack → List (ℕ × ℕ)) (n i : ℕ) (es : List PlainTrack) (e : PlainTrack) → slice_get es i ≡ Some e
     → Exists P (f (n + i, e)) → Exists P (flat_map f (enumerate_from n es))
-of_object P f n i [] e is here = absurd cc
-of_object P f n zero (x ∷ es) e is here =
-    let same : e ≡ x = cc in
-    let at : n + 0 ≡ n = omega arith in
-    Exists-left P (f (n, x)) (flat_map f (enumerate_from (n + 1) es)) (subst (λ (k : ℕ). Exists P (f (k, x))) at (subst (λ (z : PlainTrack). Exists P (f (n + 0, z))) same here))
-of_object P f n (suc i) (x ∷ es) e is here =
-    let at : n + suc i ≡ n + 1 + i = omega arith in
-    Exists-right P (f (n, x)) (flat_map f (enumerate_from (n + 1) es)) (of_object P f (n + 1) i es e is (subst (λ (k : ℕ). Exists P (f (k, e))) at here))
+of_object P f n i es e is here = Exists-flat_map P f (enumerate_from n es) (Exists-enumerated (λ object. Exists P (f object)) n i es e is here)
 
 pair_is : (i k slot : ℕ) → k ≡ slot → ◌≡◌ {A = ℕ × ℕ} (0 + i, k) (i, slot)
 pair_is i k slot same = let own : 0 + i ≡ i = omega arith in λ j. (own j, same j)
@@ -139,7 +119,7 @@ has_slot : (case : PlainProblem) (i slot : ℕ) (e : PlainTrack) → slice_get c
 has_slot case i slot e is lt some =
     of_object (λ p. p ≡ (i, slot)) (λ object. map (λ k. (object.0, k)) (filter (has_state_in case object.1) (slots_of case))) 0 i case.ephemerides e is
     (Exists-map (λ p. p ≡ (i, slot)) (λ (k : ℕ). let p : ℕ × ℕ = (0 + i, k) in p) (filter (has_state_in case e) (slots_of case))
-    (exists_filtered (λ k. ◌≡◌ {A = ℕ × ℕ} (0 + i, k) (i, slot)) (has_state_in case e) (slots_of case)
+    (Exists-filter (λ k. ◌≡◌ {A = ℕ × ℕ} (0 + i, k) (i, slot)) (has_state_in case e) (slots_of case)
     (Exists-weaker (λ k. k ≡ slot) (λ k. (◌≡◌ {A = ℕ × ℕ} (0 + i, k) (i, slot)) × (has_state_in case e k ≡ true))
     (λ k same. (pair_is i k slot same, subst (λ (j : ℕ). has_state_in case e j ≡ true) (sym same) some))
     (slots_of case) (Exists-range 0 (slot_count case.first case.last) slot (omega arith) (omega arith)))))

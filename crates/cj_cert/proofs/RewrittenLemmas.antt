@@ -5,10 +5,12 @@ use Rattle.std.specs.List.{enumerate_from, find, flat_map, range_with_len}
 use Rattle.std.proofs.Math.Nat.{suc-mul}
 use Rattle.std.proofs.lemmas.Int.{ints}
 use Rattle.std.proofs.lemmas.List.{length-map}
+use Rattle.std.proofs.lemmas.List.Elements.{filter_passes}
 use Rattle.std.proofs.lemmas.List.Folds.{list_any_none}
 use Rattle.std.proofs.lemmas.List.FromFn.{length-range_with_len}
 use Rattle.std.proofs.lemmas.Option.{slice_get-map, slice_get_within}
-use Rattle.cj_interval.proofs.ListLemmas.{Each, Each-weaker, Each-both, Each-map, Each-flat_map, Each-range, All-from_each, each_from_All}
+use Rattle.cj_interval.proofs.ListLemmas.{Each, Each-weaker, Each-both, Each-map, Each-flat_map, Each-range, All-from_each, each_from_All, each_from_flat_map, each_from_map, Each-filter, flat_map_alike}
+use Rattle.cj_interval.proofs.RangeLemmas.{each_in_range}
 use Rattle.cj_track.specs.PlainTracks.{PlainTrack}
 use Rattle.cj_hermite.specs.Interpolant.{Four}
 use Rattle.cj_hermite.specs.Pairs.{pairs_of}
@@ -27,7 +29,6 @@ use Rattle.cj_bezier.specs.SlotBoxes.{IsAtMostEach, IsAtLeastEach, PlainBox, rea
 use Rattle.cj_blocks.specs.Blocks as blocks
 use Rattle.cj_blocks.specs.Blocks.{PlainBlock, Given, box_given, blocks_of, is_block_of, pair_touches}
 use Rattle.cj_blocks.proofs.CurrentLemmas.{filtered_each}
-use Rattle.cj_blocks.proofs.JoinLemmas.{each_number}
 use Rattle.cj_blocks.proofs.RoundLemmas.{LiesIn}
 use Rattle.cj_blocks.proofs.RunLemmas.{IsRound, each_round, slots_told, slots_are, touch_listed}
 use Rattle.cj_cert.specs.Accepted.{IsHullIn, has_state_in, slots_with_states, HoldsHulls, AreBoxes, IsSupported, TileRoots, Accepted}
@@ -37,7 +38,7 @@ use Rattle.cj_cert.specs.Rewritten.{size_line, line_of_block, boxes_by_lines, pa
 use Rattle.cj_bezier.specs.AllBoxes.{boxes_of}
 use Rattle.cj_cert.specs.Written.{box_in, written}
 use Rattle.cj_cert.proofs.ListedLemmas.{AreAllInTime, told_by, find_some, in_one_box, range_at}
-use Rattle.cj_cert.proofs.WrittenLemmas.{AreAllWithin, IsAtNumber, numbered, lines_of, box_is, shells_same, flat_map_same, written_accepted}
+use Rattle.cj_cert.proofs.WrittenLemmas.{AreAllWithin, IsAtNumber, numbered, lines_of, box_is, shells_same, written_accepted}
 use Rattle.cj_cert.proofs.WrittenLineLemmas.{flat_map_numbered, get_left, get_right}
 
 -- ---- sizes
@@ -86,14 +87,6 @@ given_is case c object slot exists lt =
 
 -- ---- where lines tell of an object
 
-filtered : {X : Type 0} (test : X → Bool) (xs : List X) → Each (λ x. test x ≡ true) (filter test xs)
-filtered test [] = tt
-filtered test (x ∷ xs) = go (test x) refl (filtered test xs)
-  where
-    go : (b : Bool) → test x ≡ b → Each (λ x. test x ≡ true) (filter test xs) → Each (λ x. test x ≡ true) (cond b (x ∷ filter test xs) (filter test xs))
-    go true is rest = (is, rest)
-    go false is rest = rest
-
 -- an object with this number has a state in a slot
 abbrev HasState : PlainProblem → ℕ × ℕ → Type 0
 HasState case p = IsSomeAnd (slice_get case.ephemerides p.0) (λ e. has_state_in case e p.1 ≡ true)
@@ -105,20 +98,9 @@ have_states case =
     (λ object at. Each-map (HasState case) (λ (slot : ℕ). let p : ℕ × ℕ = (object.0, slot) in p) (filter (has_state_in case object.1) (slots_of case))
     (Each-weaker (λ slot. has_state_in case object.1 slot ≡ true) (λ slot. HasState case (object.0, slot))
     (λ slot has. subst (λ (o : Option PlainTrack). IsSomeAnd o (λ e. has_state_in case e slot ≡ true)) (sym at) has)
-    (filter (has_state_in case object.1) (slots_of case)) (filtered (has_state_in case object.1) (slots_of case))))
+    (filter (has_state_in case object.1) (slots_of case))
+    (each_from_All (λ slot. has_state_in case object.1 slot ≡ true) (filter (has_state_in case object.1) (slots_of case)) (filter_passes (has_state_in case object.1) (slots_of case)))))
     (enumerate_from 0 case.ephemerides) (numbered case))
-
-left_of : {X : Type 0} (P : X → Type 0) (xs ys : List X) → Each P (xs ++ ys) → Each P xs × Each P ys
-left_of P [] ys each = (tt, each)
-left_of P (x ∷ xs) ys each = let rest = left_of P xs ys each.1 in ((each.0, rest.0), rest.1)
-
-of_lists : {X Y : Type 0} (P : Y → Type 0) (f : X → List Y) (xs : List X) → Each P (flat_map f xs) → Each (λ x. Each P (f x)) xs
-of_lists P f [] each = tt
-of_lists P f (x ∷ xs) each = let both = left_of P (f x) (flat_map f xs) each in (both.0, of_lists P f xs both.1)
-
-of_map : {X Y : Type 0} (P : Y → Type 0) (f : X → Y) (xs : List X) → Each P (map f xs) → Each (λ x. P (f x)) xs
-of_map P f [] each = tt
-of_map P f (x ∷ xs) each = (each.0, of_map P f xs each.1)
 
 -- the object of a line has a state in each of its slots
 abbrev HasStates : PlainProblem → PlainBoxLine → Type 0
@@ -127,9 +109,9 @@ HasStates case line = (slot : ℕ) → line.first ≤ slot → slot ≤ line.las
 lines_have : (case : PlainProblem) (lines : List PlainBoxLine) → AreBoxes case lines → Each (HasStates case) lines
 lines_have case lines are =
     Each-weaker (λ line. Each (HasState case) (slots_of_line line)) (HasStates case)
-    (λ line each slot low high. each_number (λ k. HasState case (line.object, k)) line.first (line.last + 1 - line.first)
-    (of_map (HasState case) (λ (k : ℕ). let p : ℕ × ℕ = (line.object, k) in p) (range_with_len line.first (line.last + 1 - line.first)) each) slot low (omega arith)) lines
-    (of_lists (HasState case) slots_of_line lines (subst (λ (ps : List (ℕ × ℕ)). Each (HasState case) ps) (sym are.slots) (have_states case)))
+    (λ line each slot low high. each_in_range (λ k. HasState case (line.object, k)) line.first (line.last + 1 - line.first)
+    (each_from_map (HasState case) (λ (k : ℕ). let p : ℕ × ℕ = (line.object, k) in p) (range_with_len line.first (line.last + 1 - line.first)) each) slot low (omega arith)) lines
+    (each_from_flat_map (HasState case) slots_of_line lines (subst (λ (ps : List (ℕ × ℕ)). Each (HasState case) ps) (sym are.slots) (have_states case)))
 
 -- none of the slots of an object without a state is told of
 has_none : (case : PlainProblem) (e : PlainTrack) (slot : ℕ) → HasNone e (slot_first case.first slot) (slot_last case.first case.last slot) → has_state_in case e slot ≡ false
@@ -264,14 +246,6 @@ listed_at c slot object exists =
     (slice_get-map (box_listed c.boxes slot) (range_with_len 0 c.objects) object
     ∙ ap (λ (o : Option ℕ). option_map (box_listed c.boxes slot) o) (range_at 0 c.objects object exists ∙ ap (λ (k : ℕ). Some k) own))
 
-pub each_left : {X : Type 0} (P : X → Type 0) (test : X → Bool) (xs : List X) → Each P xs → Each P (filter test xs)
-each_left P test [] each = tt
-each_left P test (x ∷ xs) each = go (test x) (each_left P test xs each.1)
-  where
-    go : (b : Bool) → Each P (filter test xs) → Each P (cond b (x ∷ filter test xs) (filter test xs))
-    go true rest = (each.0, rest)
-    go false rest = rest
-
 -- what holds in each slot of each element
 each_slot : {X : Type 0} (P : ℕ → X → Type 0) (n : ℕ) (xs : List X) → ((slot : ℕ) → slot < n → Each (P slot) xs) → Each (λ x. (slot : ℕ) → slot < n → P slot x) xs
 each_slot P n [] f = tt
@@ -323,7 +297,7 @@ looked_as case c objects =
     keeps = keeps_between case.threshold case.sizes (shells_listed c)
 
     kept_pairs : Each (IsPair n) (filter keeps (pairs_of n))
-    kept_pairs = each_left (IsPair n) keeps (pairs_of n) (Each-pairs n)
+    kept_pairs = Each-filter (IsPair n) keeps (pairs_of n) (Each-pairs n)
 
     kept_touch : Each (λ pair. (slot : ℕ) → slot < slot_count case.first case.last → pair_touches g (blocks.box_listed (blocks_of g)) slot pair ≡ pair_touches g (box_given g) slot pair) (filter keeps (pairs_of n))
     kept_touch =
@@ -337,12 +311,12 @@ roots_as : (f g : ℕ → ℕ → ℕ → Bool) (case : PlainProblem) → Each (
     → roots_of f case ≡ roots_of g case
 unfolding roots_of
 roots_as f g case same =
-    flat_map_same (λ pair. flat_map (λ slot. cond (f pair.0 pair.1 slot) (roots_in case slot pair.0 pair.1) []) (slots_of case))
+    flat_map_alike (λ pair. flat_map (λ slot. cond (f pair.0 pair.1 slot) (roots_in case slot pair.0 pair.1) []) (slots_of case))
     (λ pair. flat_map (λ slot. cond (g pair.0 pair.1 slot) (roots_in case slot pair.0 pair.1) []) (slots_of case)) (pairs_of (length case.ephemerides))
     (Each-weaker (λ pair. (slot : ℕ) → slot < slot_count case.first case.last → f pair.0 pair.1 slot ≡ g pair.0 pair.1 slot)
     (λ pair. flat_map (λ slot. cond (f pair.0 pair.1 slot) (roots_in case slot pair.0 pair.1) []) (slots_of case)
     ≡ flat_map (λ slot. cond (g pair.0 pair.1 slot) (roots_in case slot pair.0 pair.1) []) (slots_of case))
-    (λ pair alike. flat_map_same (λ slot. cond (f pair.0 pair.1 slot) (roots_in case slot pair.0 pair.1) []) (λ slot. cond (g pair.0 pair.1 slot) (roots_in case slot pair.0 pair.1) []) (slots_of case)
+    (λ pair alike. flat_map_alike (λ slot. cond (f pair.0 pair.1 slot) (roots_in case slot pair.0 pair.1) []) (λ slot. cond (g pair.0 pair.1 slot) (roots_in case slot pair.0 pair.1) []) (slots_of case)
     (Each-range (λ slot. cond (f pair.0 pair.1 slot) (roots_in case slot pair.0 pair.1) [] ≡ cond (g pair.0 pair.1 slot) (roots_in case slot pair.0 pair.1) []) 0 (slot_count case.first case.last)
     (λ slot low high. ap (λ (b : Bool). cond b (roots_in case slot pair.0 pair.1) []) (alike slot (omega arith)))))
     (pairs_of (length case.ephemerides)) same)

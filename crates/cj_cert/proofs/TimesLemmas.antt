@@ -4,7 +4,7 @@ use Rattle.std.specs.Prelude.{All, IfSome, slice_get}
 use Rattle.std.proofs.lemmas.Bool.{cases_lt}
 use Rattle.std.proofs.lemmas.List.{take_more}
 use Rattle.std.proofs.lemmas.List.Elements.{All-push, All-same}
-use Rattle.cj_interval.proofs.ListLemmas.{Each, Ordered, Each-weaker, Each-always, Each-append, Ordered-append}
+use Rattle.cj_interval.proofs.ListLemmas.{Each, Ordered, Each-weaker, Each-always, Each-append, Ordered-append, each_at}
 use Rattle.cj_track.specs.declared.node.Node.{Node}
 use Rattle.cj_track.specs.declared.segment.Segment.{Segment}
 use Rattle.cj_track.specs.Nodes.{AreSteps, AreNodes}
@@ -16,7 +16,6 @@ use Rattle.cj_hermite.specs.Pieces.{PlainPiece, intervals_between, intervals_of_
 use Rattle.cj_hermite.proofs.PieceLemmas.{interval_between, intervals_in, intervals_through}
 use Rattle.cj_hermite.proofs.StateLemmas.{has, lacks, state}
 use Rattle.cj_bezier.specs.Parts.{AreInTime}
-use Rattle.cj_cert.proofs.ListedLemmas.{each_at}
 
 -- y ends before x begins, or as it does: in its states, or in its useable span
 abbrev pub EndsBefore : PlainPiece → PlainPiece → Type 0

@@ -8,7 +8,8 @@ use Rattle.std.proofs.lemmas.Int.{ints, clamps}
 use Rattle.std.proofs.lemmas.List.Concat.{flat_map-append}
 use Rattle.std.proofs.lemmas.List.Folds.{list_any_none}
 use Rattle.cj_interval.specs.Spans.{least, greatest}
-use Rattle.cj_interval.proofs.ListLemmas.{Each, Each-weaker, Each-both, Each-map, Each-flat_map, Each-range, Each-always, All-from_each, each_from_map}
+use Rattle.cj_interval.proofs.ListLemmas.{Each, Each-weaker, Each-both, Each-map, Each-flat_map, Each-range, Each-always, All-from_each, each_from_map, flat_map_alike}
+use Rattle.cj_interval.proofs.RangeLemmas.{Each-numbered}
 use Rattle.cj_track.specs.PlainTracks.{PlainTrack}
 use Rattle.cj_hermite.specs.Interpolant.{Four, Curve}
 use Rattle.cj_hermite.specs.Pairs.{pairs_of}
@@ -53,20 +54,12 @@ AreAllWithin case = (i : ℕ) (e : PlainTrack) → slice_get case.ephemerides i 
 
 -- ---- objects with their numbers
 
-numbered_from : {X : Type 0} (P : ℕ × X → Type 0) (n : ℕ) (xs : List X) → ((i : ℕ) (x : X) → slice_get xs i ≡ Some x → P (n + i, x)) → Each P (enumerate_from n xs)
-numbered_from P n [] f = tt
-numbered_from {X = X} P n (x ∷ xs) f =
-    let here : n + 0 ≡ n = omega arith in (
-      subst (λ (k : ℕ). let p : ℕ × X = (k, x) in P p) here (f 0 x refl),
-      numbered_from P (n + 1) xs (λ i y is. let at : n + suc i ≡ n + 1 + i = omega arith in subst (λ (k : ℕ). let p : ℕ × X = (k, y) in P p) at (f (suc i) y is)),
-    )
-
 -- each object stands at its number
 abbrev pub IsAtNumber : PlainProblem → ℕ × PlainTrack → Type 0
 IsAtNumber case object = slice_get case.ephemerides object.0 ≡ Some object.1
 
 pub numbered : (case : PlainProblem) → Each (IsAtNumber case) (enumerate_from 0 case.ephemerides)
-numbered case = numbered_from (IsAtNumber case) 0 case.ephemerides (λ i e is. let same : i ≡ 0 + i = omega arith in subst (λ (k : ℕ). slice_get case.ephemerides k ≡ Some e) same is)
+numbered case = Each-numbered (IsAtNumber case) case.ephemerides (λ i e is. is)
 
 -- ---- shells
 
@@ -328,20 +321,16 @@ looked_same case a b slot time lt =
     ap (λ (ss : List (Option Shell)). looked_by case ss (boxes_listed (written case)) a b slot) (shells_same case)
     ∙ ap (λ (bs : List (Option PlainBox)). looked_by case (shells_of case) (λ k. bs) a b slot) (listed_boxes_same case slot time lt)
 
-pub flat_map_same : {X Y : Type 0} (f g : X → List Y) (xs : List X) → Each (λ x. f x ≡ g x) xs → flat_map f xs ≡ flat_map g xs
-flat_map_same f g [] same = refl
-flat_map_same f g (x ∷ xs) same = let here = same.0 in let rest = flat_map_same f g xs same.1 in λ i. here i ++ rest i
-
 -- the roots are the same where the same is looked at
 roots_same : (f g : ℕ → ℕ → ℕ → Bool) (case : PlainProblem) → ((a b slot : ℕ) → slot < slot_count case.first case.last → f a b slot ≡ g a b slot) → roots_of f case ≡ roots_of g case
 unfolding roots_of
 roots_same f g case same =
-    flat_map_same (λ pair. flat_map (λ slot. cond (f pair.0 pair.1 slot) (roots_in case slot pair.0 pair.1) []) (slots_of case))
+    flat_map_alike (λ pair. flat_map (λ slot. cond (f pair.0 pair.1 slot) (roots_in case slot pair.0 pair.1) []) (slots_of case))
     (λ pair. flat_map (λ slot. cond (g pair.0 pair.1 slot) (roots_in case slot pair.0 pair.1) []) (slots_of case))
     (pairs_of (length case.ephemerides))
     (Each-always (λ pair. flat_map (λ slot. cond (f pair.0 pair.1 slot) (roots_in case slot pair.0 pair.1) []) (slots_of case)
     ≡ flat_map (λ slot. cond (g pair.0 pair.1 slot) (roots_in case slot pair.0 pair.1) []) (slots_of case))
-    (λ pair. flat_map_same (λ slot. cond (f pair.0 pair.1 slot) (roots_in case slot pair.0 pair.1) []) (λ slot. cond (g pair.0 pair.1 slot) (roots_in case slot pair.0 pair.1) []) (slots_of case)
+    (λ pair. flat_map_alike (λ slot. cond (f pair.0 pair.1 slot) (roots_in case slot pair.0 pair.1) []) (λ slot. cond (g pair.0 pair.1 slot) (roots_in case slot pair.0 pair.1) []) (slots_of case)
     (Each-range (λ slot. cond (f pair.0 pair.1 slot) (roots_in case slot pair.0 pair.1) [] ≡ cond (g pair.0 pair.1 slot) (roots_in case slot pair.0 pair.1) []) 0 (slot_count case.first case.last)
     (λ slot low high. ap (λ (b : Bool). cond b (roots_in case slot pair.0 pair.1) []) (same pair.0 pair.1 slot (omega arith)))))
     (pairs_of (length case.ephemerides)))

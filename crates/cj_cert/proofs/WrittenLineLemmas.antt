@@ -5,16 +5,15 @@ use Rattle.std.specs.Prelude.{◌==◌, option_map, option_and_then, slice_get}
 use Rattle.std.specs.List.{cons_option, enumerate_from, filter_map, flat_map, list_all, range_with_len}
 use Rattle.std.proofs.Math.Nat.{suc-mul}
 use Rattle.std.proofs.lemmas.Bool.{and_parts, eq-eqb}
-use Rattle.std.proofs.lemmas.List.{map-append, length-map}
-use Rattle.std.proofs.lemmas.List.Concat.{flat_map-append}
-use Rattle.std.proofs.lemmas.List.Elements.{filter_map-append}
+use Rattle.std.proofs.lemmas.List.{length-map}
+use Rattle.std.proofs.lemmas.List.FromFn.{map-range_with_len_more}
 use Rattle.std.proofs.lemmas.Option.{slice_get-get_or, slice_get-map}
 use Rattle.cj_interval.proofs.ListLemmas.{Each, Each-range}
+use Rattle.cj_interval.proofs.RangeLemmas.{filter_map-range_more}
 use Rattle.cj_track.specs.PlainTracks.{PlainTrack}
 use Rattle.cj_hermite.specs.PlainProblems.{PlainProblem}
 use Rattle.cj_hermite.specs.Roots.{slots_of}
 use Rattle.cj_hermite.specs.Slots.{slot_count}
-use Rattle.cj_hermite.proofs.PairLemmas.{range_more}
 use Rattle.cj_bezier.specs.declared.axis_box.AxisBox.{AxisBox}
 use Rattle.cj_bezier.specs.declared.shells.Shell.{Shell}
 use Rattle.cj_bezier.specs.Leaves.{PlainLeaf}
@@ -32,30 +31,13 @@ use Rattle.cj_cert.proofs.ListedLemmas.{range_at}
 
 -- ---- one line more
 
--- what is made of the numbers up to the next one
-map_more : {A : Type 0} (f : ℕ → A) (n : ℕ) → map f (range_with_len 0 (n + 1)) ≡ map f (range_with_len 0 n) ++ f n ∷ []
-map_more f n =
-    let at : 0 + n ≡ n = omega arith in
-    ap (map f) (range_more 0 n) ∙ map-append f (range_with_len 0 n) ((0 + n) ∷ []) ∙ ap (λ (k : ℕ). map f (range_with_len 0 n) ++ f k ∷ []) at
-
-pub flat_map_more : {A : Type 0} (f : ℕ → List A) (n : ℕ) → flat_map f (range_with_len 0 (n + 1)) ≡ flat_map f (range_with_len 0 n) ++ f n
-flat_map_more f n =
-    let at : 0 + n ≡ n = omega arith in
-    ap (flat_map f) (range_more 0 n) ∙ flat_map-append f (range_with_len 0 n) ((0 + n) ∷ []) ∙ ap (λ (xs : List _). flat_map f (range_with_len 0 n) ++ xs) (append-nil (f (0 + n)))
-    ∙ ap (λ (k : ℕ). flat_map f (range_with_len 0 n) ++ f k) at
-
-filter_map_more : {A : Type 0} (f : ℕ → Option A) (n : ℕ) → filter_map f (range_with_len 0 (n + 1)) ≡ filter_map f (range_with_len 0 n) ++ cons_option (f n) []
-filter_map_more f n =
-    let at : 0 + n ≡ n = omega arith in
-    ap (filter_map f) (range_more 0 n) ∙ filter_map-append f (range_with_len 0 n) ((0 + n) ∷ []) ∙ ap (λ (k : ℕ). filter_map f (range_with_len 0 n) ++ cons_option (f k) []) at
-
 pub shell_more : (shells : List (Option Shell)) (i object : ℕ) (lines : List ShellLine) → i < length shells → object ≡ i → lines ≡ map (line_by_shells shells) (range_with_len 0 i)
     → lines ++ record { object = object; shell = get_or shells i None } ∷ [] ≡ map (line_by_shells shells) (range_with_len 0 (i + 1))
 shell_more shells i object lines lt number before =
     let here : get_or shells i None ≡ shell_in shells i = sym (ap (λ (o : Option (Option Shell)). option_and_then (λ t. t) o) (slice_get-get_or shells i None lt)) in
     ap (λ (ls : List ShellLine). ls ++ record { object = object; shell = get_or shells i None } ∷ []) before
     ∙ (λ j. map (line_by_shells shells) (range_with_len 0 i) ++ record { object = number j; shell = here j } ∷ [])
-    ∙ sym (map_more (line_by_shells shells) i)
+    ∙ sym (map-range_with_len_more (line_by_shells shells) 0 i i (omega arith))
 
 -- the box at a place
 pub box_at : (boxes : List (Option AxisBox)) (place : ℕ) (d found : Option AxisBox) → place < length boxes → get_or boxes place d ≡ found
@@ -71,7 +53,7 @@ box_more boxes slots object slot area done is =
     let here : line_by_boxes boxes slots object slot ≡ Some (line_of_box object slot area) = ap (λ (o : Option PlainBox). option_map (line_of_box object slot) o) is in
     append_assoc done (lines_by_boxes boxes slots slot object) (line_of_box object slot area ∷ [])
     ∙ ap (λ (o : Option PlainBoxLine). done ++ (lines_by_boxes boxes slots slot object ++ cons_option o [])) (sym here)
-    ∙ ap (λ (ls : List PlainBoxLine). done ++ ls) (sym (filter_map_more (line_by_boxes boxes slots object) slot))
+    ∙ ap (λ (ls : List PlainBoxLine). done ++ ls) (sym (filter_map-range_more (line_by_boxes boxes slots object) 0 slot slot (omega arith)))
 
 pub box_missing : (boxes : List (Option PlainBox)) (slots object slot : ℕ) → reaches_in boxes (object * slots + slot) ≡ None
     → lines_by_boxes boxes slots slot object ≡ lines_by_boxes boxes slots (slot + 1) object
@@ -79,7 +61,7 @@ box_missing boxes slots object slot is =
     let here : line_by_boxes boxes slots object slot ≡ None = ap (λ (o : Option PlainBox). option_map (line_of_box object slot) o) is in
     sym (append-nil (lines_by_boxes boxes slots slot object))
     ∙ ap (λ (o : Option PlainBoxLine). lines_by_boxes boxes slots slot object ++ cons_option o []) (sym here)
-    ∙ sym (filter_map_more (line_by_boxes boxes slots object) slot)
+    ∙ sym (filter_map-range_more (line_by_boxes boxes slots object) 0 slot slot (omega arith))
 
 -- ---- all lines
 
