@@ -1,9 +1,10 @@
 -- The lines of boxes, one after another.
-use Rattle.std.proofs.Common.{◌≡◌, ℕ, zero, suc, ◌+◌, ◌-◌, ◌<◌, ◌≤◌, Bool, true, false, ◌&&◌, List, [], ◌∷◌, length, map, drop, Some, None, refl, sym, ap, ◌∙◌, inl, inr, arith}
+use Rattle.std.proofs.Common.{◌≡◌, ℕ, suc, ◌+◌, ◌-◌, ◌<◌, ◌≤◌, Bool, true, false, ◌&&◌, List, [], ◌∷◌, length, map, drop, Some, None, refl, sym, ap, ◌∙◌, inl, inr, arith}
 use Rattle.std.specs.Prelude.{◌==◌, if◌then◌else◌, nat_le, slice_get}
 use Rattle.std.specs.List.{list_all, range_with_len}
-use Rattle.std.proofs.lemmas.Bool.{and_left, and_parts, and_right, cases_eq, cases_lt, leb-true, lt-leb}
+use Rattle.std.proofs.lemmas.Bool.{and_left, and_parts, and_right, cases_lt, leb-true, lt-leb}
 use Rattle.std.proofs.lemmas.List.FromFn.{length-map-range_with_len}
+use Rattle.cj_interval.proofs.RangeLemmas.{one_in_range_fails}
 use Rattle.cj_track.specs.PlainTracks.{PlainTrack}
 use Rattle.cj_hermite.specs.PlainProblems.{PlainProblem}
 use Rattle.cj_hermite.specs.Slots.{slot_count}
@@ -65,13 +66,6 @@ no_place_left case line = elim (cases_lt line.last line.first) [
 
 -- ---- slots of a line
 
-not_all : (p : ℕ → Bool) (a n k : ℕ) → a ≤ k → k < a + n → p k ≡ false → list_all p (range_with_len a n) ≡ false
-not_all p a zero k low high fails = absurd (omega arith)
-not_all p a (suc n) k low high fails = elim (cases_eq a k) [
-  | inl same ↦ and_left (p a) (list_all p (range_with_len (a + 1) n)) (ap p same ∙ fails)
-  | inr other ↦ and_right (p a) (list_all p (range_with_len (a + 1) n)) (not_all p (a + 1) n k (omega arith) (omega arith) fails)
-]
-
 -- a line that ends before it begins
 pub no_slots : (first last : ℕ) (b : Bool) → last < first → false ≡ (nat_le first last && b)
 no_slots first last b lt = sym (and_left (nat_le first last) b (lt-leb first last lt))
@@ -81,7 +75,7 @@ pub beyond : (case : PlainProblem) (e : PlainTrack) (area : PlainBox) (first las
     → false ≡ (nat_le first last && list_all (is_in_box case e area) (range_with_len first (last + 1 - first)))
 beyond case e area first last le behind =
     sym (and_right (nat_le first last) (list_all (is_in_box case e area) (range_with_len first (last + 1 - first)))
-    (not_all (is_in_box case e area) first (last + 1 - first) last le (omega arith) (and_left _ _ (slot_behind case e last behind))))
+    (one_in_range_fails (is_in_box case e area) first (last + 1 - first) last le (omega arith) (and_left _ _ (slot_behind case e last behind))))
 
 -- a slot that passes
 pub all_more : (p : ℕ → Bool) (last slot : ℕ) → slot ≤ last → p slot ≡ true → list_all p (range_with_len slot (last + 1 - slot)) ≡ list_all p (range_with_len (slot + 1) (last + 1 - (slot + 1)))
@@ -91,7 +85,7 @@ all_more p last slot le passes = let n : last + 1 - slot ≡ suc (last + 1 - (sl
 pub one_fails : (p : ℕ → Bool) (first last slot : ℕ) → slot ≤ last → list_all p (range_with_len first (last + 1 - first)) ≡ list_all p (range_with_len slot (last + 1 - slot)) → p slot ≡ false
     → false ≡ (nat_le first last && list_all p (range_with_len first (last + 1 - first)))
 one_fails p first last slot le rest fails =
-    sym (and_right (nat_le first last) (list_all p (range_with_len first (last + 1 - first))) (rest ∙ not_all p slot (last + 1 - slot) slot (omega arith) (omega arith) fails))
+    sym (and_right (nat_le first last) (list_all p (range_with_len first (last + 1 - first))) (rest ∙ one_in_range_fails p slot (last + 1 - slot) slot (omega arith) (omega arith) fails))
 
 -- ---- line by line
 

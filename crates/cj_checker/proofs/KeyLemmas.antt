@@ -1,8 +1,9 @@
 -- Keys that were found, in order, are the keys of their rows, and their roots are the roots of these rows.
-use Rattle.std.proofs.Common.{◌≡◌, ℕ, zero, suc, ◌+◌, ◌-◌, ◌<◌, ◌≤◌, Bool, true, false, cond, List, [], ◌∷◌, ◌++◌, map, length, get_or, refl, sym, ap, ◌∙◌, subst, inl, inr, arith, append-nil}
-use Rattle.std.specs.List.{Contains, flat_map, range_with_len}
+use Rattle.std.proofs.Common.{◌≡◌, ℕ, ◌+◌, ◌-◌, ◌<◌, ◌≤◌, Bool, true, false, cond, List, [], ◌∷◌, ◌++◌, map, length, refl, sym, ap, ◌∙◌, subst, inl, arith, append-nil}
+use Rattle.std.specs.List.{flat_map, range_with_len}
 use Rattle.std.proofs.lemmas.List.Concat.{flat_map-append}
-use Rattle.cj_interval.proofs.ListLemmas.{Each, Exists, Ordered, Each-weaker, Each-map, Each-flat_map, Each-range, Each-taken, Exists-weaker, Exists-map, Exists-flat_map, Exists-range, Exists-taken, Ordered-flat_map, Ordered-range, Ordered-taken, All-from_each, each_from_All, each_from_map, ordered_from_AllPairs}
+use Rattle.cj_interval.proofs.ListLemmas.{Each, Exists, Ordered, Each-weaker, Each-map, Each-flat_map, Each-range, Each-taken, Exists-weaker, Exists-map, Exists-flat_map, Exists-range, Exists-taken, Ordered-flat_map, Ordered-range, Ordered-taken, All-from_each, each_from_All, each_from_map, ordered_from_AllPairs, Contains-from_exists, each_from_append, each_member, exists_from_Contains, flat_map-flat_map, ordered_same}
+use Rattle.cj_interval.proofs.RangeLemmas.{range_cut}
 use Rattle.cj_hermite.specs.Pairs.{pairs_of}
 use Rattle.cj_hermite.specs.PlainProblems.{PlainProblem}
 use Rattle.cj_hermite.specs.Roots.{roots_in, slots_of, roots_of}
@@ -13,40 +14,13 @@ use Rattle.cj_checker.specs.Keys.{PlainKey, plain_key, pairs_in_rows, keys_of_pa
 
 -- ---- lists
 
--- lists of lists, one after another
-joined : {X Y Z : Type 0} (g : Y → List Z) (f : X → List Y) (xs : List X) → flat_map g (flat_map f xs) ≡ flat_map (λ x. flat_map g (f x)) xs
-joined g f [] = refl
-joined g f (x ∷ xs) = flat_map-append g (f x) (flat_map f xs) ∙ ap (λ zs. flat_map g (f x) ++ zs) (joined g f xs)
-
-range_split : (a k l : ℕ) → range_with_len a (k + l) ≡ range_with_len a k ++ range_with_len (a + k) l
-range_split a zero l =
-    let at : a ≡ a + 0 = omega arith in
-    let len : 0 + l ≡ l = omega arith in
-    λ i. range_with_len (at i) (len i)
-range_split a (suc k) l =
-    let len : suc k + l ≡ suc (k + l) = omega arith in
-    let at : a + 1 + k ≡ a + suc k = omega arith in
-    ap (range_with_len a) len ∙ ap (λ (ns : List ℕ). a ∷ ns) (range_split (a + 1) k l ∙ ap (λ (b : ℕ). range_with_len (a + 1) k ++ range_with_len b l) at)
-
 ordered_left : {X : Type 0} (R : X → X → Type 0) (xs ys : List X) → Ordered R (xs ++ ys) → Ordered R xs
 ordered_left R [] ys o = tt
-ordered_left {X = X} R (x ∷ xs) ys o = (go xs o.0, ordered_left R xs ys o.1)
-  where
-    go : (zs : List X) → Each (R x) (zs ++ ys) → Each (R x) zs
-    go [] e = tt
-    go (z ∷ zs) e = (e.0, go zs e.1)
+ordered_left R (x ∷ xs) ys o = ((each_from_append (R x) xs ys o.0).0, ordered_left R xs ys o.1)
 
 ordered_right : {X : Type 0} (R : X → X → Type 0) (xs ys : List X) → Ordered R (xs ++ ys) → Ordered R ys
 ordered_right R [] ys o = o
 ordered_right R (x ∷ xs) ys o = ordered_right R xs ys o.1
-
-each_left : {X : Type 0} (P : X → Type 0) (xs ys : List X) → Each P (xs ++ ys) → Each P xs
-each_left P [] ys e = tt
-each_left P (x ∷ xs) ys e = (e.0, each_left P xs ys e.1)
-
-each_right : {X : Type 0} (P : X → Type 0) (xs ys : List X) → Each P (xs ++ ys) → Each P ys
-each_right P [] ys e = e
-each_right P (x ∷ xs) ys e = each_right P xs ys e.1
 
 -- ---- rows
 
@@ -59,7 +33,7 @@ rows_apart n first mid end low high =
     let len : end - first ≡ (mid - first) + (end - mid) = omega arith in
     let at : first + (mid - first) ≡ mid = omega arith in
     ap (λ (l : ℕ). rows_of n first l) len
-    ∙ ap (flat_map (pairs_from n)) (range_split first (mid - first) (end - mid))
+    ∙ ap (flat_map (pairs_from n)) (range_cut first (mid - first) (end - mid))
     ∙ flat_map-append (pairs_from n) (range_with_len first (mid - first)) (range_with_len (first + (mid - first)) (end - mid))
     ∙ ap (λ (k : ℕ). rows_of n first (mid - first) ++ rows_of n k (end - mid)) at
 
@@ -73,9 +47,9 @@ rows_within n first end low high =
 
 Each-rows : (n first end : ℕ) → first ≤ end → end ≤ n → Each (IsPair n) (pairs_in_rows n first end)
 Each-rows n first end low high =
-    each_left (IsPair n) (pairs_in_rows n first end) (pairs_in_rows n end n)
-    (each_right (IsPair n) (pairs_in_rows n 0 first) (pairs_in_rows n first end ++ pairs_in_rows n end n)
-    (subst (Each (IsPair n)) (rows_within n first end low high) (Each-pairs n)))
+    (each_from_append (IsPair n) (pairs_in_rows n first end) (pairs_in_rows n end n)
+    (each_from_append (IsPair n) (pairs_in_rows n 0 first) (pairs_in_rows n first end ++ pairs_in_rows n end n)
+    (subst (Each (IsPair n)) (rows_within n first end low high) (Each-pairs n))).1).0
 
 Ordered-rows : (n first end : ℕ) → first ≤ end → end ≤ n → Ordered PairBefore (pairs_in_rows n first end)
 Ordered-rows n first end low high =
@@ -191,14 +165,6 @@ Exists-keys looked case first end k is =
 
 -- ---- lists in order with the same keys are one
 
-abbrev Within : List PlainKey → List PlainKey → Type 0
-Within ks ls = (x : PlainKey) → Exists (λ y. y ≡ x) ks → Exists (λ y. y ≡ x) ls
-
-each_at : (P : PlainKey → Type 0) (xs : List PlainKey) (x : PlainKey) → Each P xs → Exists (λ y. y ≡ x) xs → P x
-each_at P [] x all e = absurd e
-each_at P (y ∷ ys) x all (inl e) = subst P e all.0
-each_at P (y ∷ ys) x all (inr e) = each_at P ys x all.1 e
-
 not_both : (k l : PlainKey) → IsKeyBefore k l → IsKeyBefore l k → ⊥
 not_both k l h j =
     let a = h.first_object in
@@ -209,46 +175,6 @@ not_both k l h j =
     let f = j.later (omega arith) (omega arith) in
     omega arith
 
-not_itself : (k l : PlainKey) → k ≡ l → IsKeyBefore k l → ⊥
-not_itself k l e h =
-    let f = h.later (ap (λ (x : PlainKey). x.a) e) (ap (λ (x : PlainKey). x.b) e) in
-    let g : k.slot ≡ l.slot = ap (λ (x : PlainKey). x.slot) e in
-    omega arith
-
-heads : (k l : PlainKey) (ks ls : List PlainKey) → Each (IsKeyBefore k) ks → Each (IsKeyBefore l) ls → Exists (λ y. y ≡ k) (l ∷ ls) → Exists (λ y. y ≡ l) (k ∷ ks) → k ≡ l
-heads k l ks ls rest rest' (inl e) there' = sym e
-heads k l ks ls rest rest' (inr there) (inl e) = e
-heads k l ks ls rest rest' (inr there) (inr there') = absurd (not_both k l (each_at (IsKeyBefore k) ks l rest there') (each_at (IsKeyBefore l) ls k rest' there))
-
-tail : (k l : PlainKey) (ks ls : List PlainKey) → k ≡ l → Each (IsKeyBefore k) ks → Within (k ∷ ks) (l ∷ ls) → Within ks ls
-tail k l ks ls same rest within x there = go (within x (inr there))
-  where
-    go : Exists (λ y. y ≡ x) (l ∷ ls) → Exists (λ y. y ≡ x) ls
-    go (inl e) = absurd (not_itself k x (same ∙ e) (each_at (IsKeyBefore k) ks x rest there))
-    go (inr later) = later
-
-same_keys : (ks ls : List PlainKey) → Ordered IsKeyBefore ks → Ordered IsKeyBefore ls → Within ks ls → Within ls ks → ks ≡ ls
-same_keys [] [] o o' there back = refl
-same_keys [] (l ∷ ls) o o' there back = absurd (back l (inl refl))
-same_keys (k ∷ ks) [] o o' there back = absurd (there k (inl refl))
-same_keys (k ∷ ks) (l ∷ ls) o o' there back =
-    let first : k ≡ l = heads k l ks ls o.0 o'.0 (there k (inl refl)) (back l (inl refl)) in
-    let rest : ks ≡ ls = same_keys ks ls o.1 o'.1 (tail k l ks ls first o.0 there) (tail l k ls ks (sym first) o'.0 back) in
-    λ i. first i ∷ rest i
-
-pub exists_from_Contains : {X : Type 0} (xs : List X) (x : X) → Contains xs x → Exists (λ y. y ≡ x) xs
-exists_from_Contains {X} xs x has = at xs has.0 has.1 has.2
-  where
-    at : (xs : List X) (k : ℕ) → k < length xs → get_or xs k x ≡ x → Exists (λ y. y ≡ x) xs
-    at [] k lt is = absurd (omega arith)
-    at (y ∷ ys) zero lt is = inl is
-    at (y ∷ ys) (suc k) lt is = inr (at ys k (omega arith) is)
-
-pub Contains-from_exists : {X : Type 0} (xs : List X) (x : X) → Exists (λ y. y ≡ x) xs → Contains xs x
-Contains-from_exists [] x e = absurd e
-Contains-from_exists (y ∷ ys) x (inl e) = (0, omega arith, e)
-Contains-from_exists (y ∷ ys) x (inr e) = let there = Contains-from_exists ys x e in (suc there.0, (let lt = there.1 in omega arith), there.2)
-
 -- keys that were found and put in order: from found ones, with each of the rows among them
 pub found_keys : (looked : ℕ → ℕ → ℕ → Bool) (case : PlainProblem) (first end : ℕ) (found keys : List Key) → first ≤ end → end ≤ length case.ephemerides
     → AreKeysIn looked first end (length case.ephemerides) (slot_count case.first case.last) found
@@ -256,15 +182,15 @@ pub found_keys : (looked : ℕ → ℕ → ℕ → Bool) (case : PlainProblem) (
     → AreInOrder keys → ((a b slot : ℕ) → HasKey keys a b slot → HasKey found a b slot) → ((a b slot : ℕ) → HasKey found a b slot → HasKey keys a b slot)
     → map plain_key keys ≡ keys_in_rows looked case first end
 found_keys looked case first end found keys low high are each order from kept =
-    same_keys (map plain_key keys) (keys_in_rows looked case first end) (ordered_from_AllPairs IsKeyBefore (map plain_key keys) order) (Ordered-keys looked case first end low high)
+    ordered_same IsKeyBefore not_both (map plain_key keys) (keys_in_rows looked case first end) (ordered_from_AllPairs IsKeyBefore (map plain_key keys) order) (Ordered-keys looked case first end low high)
     (λ x there. Exists-keys looked case first end x
-    (each_at (IsKeyIn looked first end (length case.ephemerides) (slot_count case.first case.last)) (map plain_key found) x
+    (each_member (IsKeyIn looked first end (length case.ephemerides) (slot_count case.first case.last)) (map plain_key found) x
     (Each-map (IsKeyIn looked first end (length case.ephemerides) (slot_count case.first case.last)) plain_key found
     (each_from_All (λ k. IsKeyIn looked first end (length case.ephemerides) (slot_count case.first case.last) (plain_key k)) found are))
     (exists_from_Contains (map plain_key found) x (from x.a x.b x.slot (Contains-from_exists (map plain_key keys) x there)))))
     (λ x there. exists_from_Contains (map plain_key keys) x
     (kept x.a x.b x.slot (each x.a x.b x.slot
-    (each_at (IsKeyIn looked first end (length case.ephemerides) (slot_count case.first case.last)) (keys_in_rows looked case first end) x (Each-keys looked case first end low high) there))))
+    (each_member (IsKeyIn looked first end (length case.ephemerides) (slot_count case.first case.last)) (keys_in_rows looked case first end) x (Each-keys looked case first end low high) there))))
 
 -- ---- the roots of rows
 
@@ -275,7 +201,7 @@ roots_taken case a b slot false = refl
 roots_of_pair : (looked : ℕ → ℕ → ℕ → Bool) (case : PlainProblem) (pair : ℕ × ℕ)
     → roots_of_keys case (keys_of_pair looked case pair) ≡ flat_map (λ slot. cond (looked pair.0 pair.1 slot) (roots_in case slot pair.0 pair.1) []) (slots_of case)
 roots_of_pair looked case pair =
-    joined (λ (k : PlainKey). roots_in case k.slot k.a k.b) (taken looked pair) (slots_of case)
+    flat_map-flat_map (λ (k : PlainKey). roots_in case k.slot k.a k.b) (taken looked pair) (slots_of case)
     ∙ (λ i. flat_map (λ slot. roots_taken case pair.0 pair.1 slot (looked pair.0 pair.1 slot) i) (slots_of case))
 
 -- all roots are those of all rows
@@ -284,7 +210,7 @@ unfolding roots_of roots_in_rows keys_in_rows
 roots_are looked case =
     let n = length case.ephemerides in
     (λ i. flat_map (λ pair. sym (roots_of_pair looked case pair) i) (pairs_of n))
-    ∙ sym (joined (λ (k : PlainKey). roots_in case k.slot k.a k.b) (keys_of_pair looked case) (pairs_of n))
+    ∙ sym (flat_map-flat_map (λ (k : PlainKey). roots_in case k.slot k.a k.b) (keys_of_pair looked case) (pairs_of n))
     ∙ ap (λ (ps : List (ℕ × ℕ)). roots_of_keys case (flat_map (keys_of_pair looked case) ps)) (sym (all_rows n))
 
 -- those of some rows in front of those behind

@@ -5,6 +5,7 @@ use Rattle.std.specs.List.{enumerate_from, flat_map, list_all, range_with_len}
 use Rattle.std.specs.Option.{option_map_or}
 use Rattle.std.proofs.lemmas.Bool.{and_from, and_left, and_parts, cases_eq, cases_lt, eq-eqb, eqb-true, false_from_ne_true}
 use Rattle.cj_interval.proofs.ListLemmas.{Each, Each-always, Each-append, Each-flat_map, Each-map, Each-weaker}
+use Rattle.cj_interval.proofs.RangeLemmas.{none_in_range_passes}
 use Rattle.cj_epoch.specs.declared.tick.Window.{Window}
 use Rattle.cj_track.specs.PlainTracks.{PlainTrack}
 use Rattle.cj_hermite.specs.Pieces.{interval_index_at}
@@ -22,12 +23,6 @@ use Rattle.cj_checker.proofs.TestLemmas.{state_some, state_none}
 use Rattle.cj_checker.proofs.UnfitLemmas.{dropped, ended, numbered, unnumbered}
 
 -- ---- numbers that pass a test
-
-pub filter_none : (p : ℕ → Bool) (a n : ℕ) → ((k : ℕ) → a ≤ k → k < a + n → p k ≡ false) → filter p (range_with_len a n) ≡ []
-filter_none p a zero none = refl
-filter_none p a (suc n) none =
-    let here : p a ≡ false = none a (omega arith) (omega arith) in
-    rw here (filter_none p (a + 1) n (λ k low high. none k (omega arith) (omega arith)))
 
 -- those in front that do not are left out
 pub filter_skip : (p : ℕ → Bool) (a n s m : ℕ) → a ≤ s → s + m ≡ a + n → ((k : ℕ) → a ≤ k → k < s → p k ≡ false) → filter p (range_with_len a n) ≡ filter p (range_with_len s m)
@@ -101,7 +96,7 @@ slot_within case e slot some = elim (cases_lt slot (slot_count case.first case.l
 -- no state from the beginning of a slot on
 pub no_slot : (case : PlainProblem) (e : PlainTrack) (slot : ℕ) → HasNone e (slot_first case.first slot) case.last → slots_from case e slot ≡ []
 no_slot case e slot none =
-    filter_none (has_state_in case e) slot (slot_count case.first case.last - slot)
+    none_in_range_passes (has_state_in case e) slot (slot_count case.first case.last - slot)
     (λ k low high. state_none e (slot_first case.first k) (slot_last case.first case.last k) (λ m after before. none m (omega arith) (omega arith)))
 
 -- the slot in which the first state from the beginning of a slot on lies

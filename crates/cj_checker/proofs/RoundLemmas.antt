@@ -14,8 +14,8 @@ use Rattle.std.proofs.lemmas.List.Sorted.{Contains-permutation, IsPermutation-sy
 use Rattle.std.proofs.lemmas.List.{length-map, map_push}
 use Rattle.std.proofs.lemmas.List.FromFn.{length-range_with_len}
 use Rattle.std.proofs.lemmas.List.Elements.{Contains-append_left}
-use Rattle.cj_interval.proofs.ListLemmas.{Each, Exists, Ordered, AllPairs-from_ordered}
-use Rattle.cj_hermite.proofs.PairLemmas.{range_more}
+use Rattle.cj_interval.proofs.ListLemmas.{Each, Exists, Ordered, AllPairs-from_ordered, Contains-from_exists, exists_from_Contains}
+use Rattle.cj_interval.proofs.RangeLemmas.{range_more}
 use Rattle.cj_hermite.specs.declared.pair.Pair.{Pair}
 use Rattle.cj_hermite.specs.Pairs.{objects_of}
 use Rattle.cj_bezier.specs.declared.axis_box.AxisBox.{AxisBox}
@@ -24,7 +24,6 @@ use Rattle.cj_hermite.specs.PlainProblems.{PlainProblem}
 use Rattle.cj_cert.specs.declared.cert_lines.ShellLine.{ShellLine}
 use Rattle.cj_cert.specs.Certificates.{PlainCertificate}
 use Rattle.cj_cert.specs.Listed.{boxes_listed, is_looked_listed}
-use Rattle.cj_checker.proofs.KeyLemmas.{exists_from_Contains, Contains-from_exists}
 use Rattle.cj_checker.specs.declared.keys.Key.{Key}
 use Rattle.cj_checker.specs.Keys.{PlainKey, plain_key, HasKey, AreKeysKept, IsKeyBefore, AreInOrder, looked_with}
 

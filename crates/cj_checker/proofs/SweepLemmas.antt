@@ -1,5 +1,5 @@
 -- A sweep: pairs that are appended where they are looked at, and boxes that stay active as long as they may be reached.
-use Rattle.std.proofs.Common.{◌≡◌, ◌⊎◌, ℕ, zero, suc, ◌+◌, ◌<◌, ◌≤◌, Bool, true, false, cond, List, [], ◌∷◌, ◌++◌, map, filter, length, get_or, Option, Some, None, refl, sym, ap, ◌∙◌, subst, inl, inr, arith, is_lt, nat_cmp}
+use Rattle.std.proofs.Common.{◌≡◌, ◌⊎◌, ℕ, zero, suc, ◌+◌, ◌<◌, ◌≤◌, Bool, true, false, List, [], ◌∷◌, ◌++◌, filter, length, get_or, Option, Some, None, refl, sym, ap, ◌∙◌, subst, inl, inr, arith, is_lt, nat_cmp}
 use Rattle.std.specs.Prelude.{ℤ, pos, ◌≤ℤ◌, ◌<ℤ◌, ◌+ℤ◌, ◌-ℤ◌, int_le, option_map, option_and_then, slice_index}
 use Rattle.std.specs.declared.cmp.Ordering.{Ordering}
 use Rattle.std.specs.declared.cmp.Ordering.TheVariants.{Less, Equal, Greater}
@@ -12,7 +12,7 @@ use Rattle.std.proofs.lemmas.Option.{slice_get_past}
 use Rattle.std.specs.Cmp.{IsTotalOrder}
 use Rattle.std.proofs.lemmas.Cmp.{then_total, on_total, nat_cmp_total, int_cmp_total, int_ranked}
 use Rattle.std.proofs.lemmas.List.Sorted.{sorted_far, ranks_by}
-use Rattle.std.proofs.lemmas.List.{map_push}
+use Rattle.std.proofs.lemmas.List.{get_or_default}
 use Rattle.std.proofs.lemmas.List.Elements.{All-push, Contains-append_left, Contains-push}
 use Rattle.cj_hermite.specs.declared.pair.Pair.{Pair}
 use Rattle.cj_hermite.specs.Pairs.{objects_of}
@@ -23,26 +23,14 @@ use Rattle.cj_bezier.specs.Shells.{keeps_between}
 use Rattle.cj_bezier.specs.SlotBoxes.{PlainBox, plain_box, plain_boxes, reaches_in, reaches_touch, both_touch, touch_between}
 use Rattle.cj_checker.specs.declared.reach.Reach.{Reach}
 use Rattle.cj_checker.specs.Keys.{HasPair, looked_with}
-use Rattle.cj_checker.specs.Sweeps.{AreBoth, AreLooked, ArePairsKept, AreSwept, HasReach, IsInOrder, reach_of}
-use Rattle.cj_checker.proofs.KeyLemmas.{exists_from_Contains, Contains-from_exists}
-use Rattle.cj_interval.proofs.ListLemmas.{Exists}
+use Rattle.cj_checker.specs.Sweeps.{AreBoth, AreLooked, AreSwept, HasReach, IsInOrder, reach_of}
+use Rattle.cj_interval.proofs.ListLemmas.{Contains-from_exists, exists_from_Contains, member_passes}
 
 -- ---- one pair more
 
 pub looked_more : (case : PlainProblem) (shells : List (Option Shell)) (areas : List (Option PlainBox)) (old : List Pair) (p : Pair) → looked_with case shells areas (objects_of p) ≡ true
     → AreLooked case shells areas old → AreLooked case shells areas (old ++ p ∷ [])
 looked_more case shells areas old p is all = All-push (λ pair. looked_with case shells areas (objects_of pair) ≡ true) old p all is
-
-pub kept_more : (old : List Pair) (p : Pair) → ArePairsKept old (old ++ p ∷ [])
-kept_more old p a b has = subst (λ (ps : List (ℕ × ℕ)). Contains ps (a, b)) (sym (map_push objects_of old p)) (Contains-append_left (map objects_of old) (objects_of p ∷ []) (a, b) has)
-
-pub has_pushed : (old : List Pair) (p : Pair) → HasPair (old ++ p ∷ []) p.a p.b
-has_pushed old p = subst (λ (ps : List (ℕ × ℕ)). Contains ps (objects_of p)) (sym (map_push objects_of old p)) (Contains-push (map objects_of old) (objects_of p))
-
-pub any_default : {A : Type 0} (xs : List A) (i : ℕ) (d e : A) → i < length xs → get_or xs i d ≡ get_or xs i e
-any_default [] i d e lt = absurd (omega arith)
-any_default (x ∷ xs) zero d e lt = refl
-any_default (x ∷ xs) (suc i) d e lt = any_default xs i d e (omega arith)
 
 -- ---- pairs that are looked at
 
@@ -126,18 +114,8 @@ all_found case shells areas reaches pairs each swept a b up is =
 
 -- ---- entries in order
 
-Exists-filter : {X : Type 0} (p : X → Bool) (x : X) → p x ≡ true → (xs : List X) → Exists (λ y. y ≡ x) xs → Exists (λ y. y ≡ x) (filter p xs)
-Exists-filter p x is [] e = absurd e
-Exists-filter {X = X} p x is (y ∷ ys) e = go (p y) refl e (λ later. Exists-filter p x is ys later)
-  where
-    go : (c : Bool) → p y ≡ c → Exists (λ z. z ≡ x) (y ∷ ys) → (Exists (λ z. z ≡ x) ys → Exists (λ z. z ≡ x) (filter p ys)) → Exists (λ z. z ≡ x) (cond c (y ∷ filter p ys) (filter p ys))
-    go true h (inl same) rest = inl same
-    go true h (inr later) rest = inr (rest later)
-    go false h (inl same) rest = let passes : p y ≡ true = ap p same ∙ is in absurd cc
-    go false h (inr later) rest = rest later
-
 pub Contains-filter : {X : Type 0} (p : X → Bool) (xs : List X) (x : X) → p x ≡ true → Contains xs x → Contains (filter p xs) x
-Contains-filter p xs x is has = Contains-from_exists (filter p xs) x (Exists-filter p x is xs (exists_from_Contains xs x has))
+Contains-filter p xs x is has = Contains-from_exists (filter p xs) x (member_passes p x is xs (exists_from_Contains xs x has))
 
 pub le_test : (x y : ℤ) → x ≤ℤ y → int_le x y ≡ true
 le_test x y h = grind (arith, ints)
@@ -225,10 +203,10 @@ pub swept : (case : PlainProblem) (shells : List (Option Shell)) (areas : List (
 swept case shells areas reaches n pairs all found r s has has' there back a b up both is = go (cases_lt has.0 has'.0) (cases_lt has'.0 has.0)
   where
     first : reach_at reaches has.0 ≡ r
-    first = any_default reaches has.0 (record { low = pos 0; high = pos 0; object = 0 }) r has.1 ∙ has.2
+    first = get_or_default reaches has.0 (record { low = pos 0; high = pos 0; object = 0 }) r has.1 ∙ has.2
 
     second : reach_at reaches has'.0 ≡ s
-    second = any_default reaches has'.0 (record { low = pos 0; high = pos 0; object = 0 }) s has'.1 ∙ has'.2
+    second = get_or_default reaches has'.0 (record { low = pos 0; high = pos 0; object = 0 }) s has'.1 ∙ has'.2
 
     go : (has.0 < has'.0) ⊎ (has'.0 ≤ has.0) → (has'.0 < has.0) ⊎ (has.0 ≤ has'.0) → HasPair pairs a b
     go (inl before) q =

@@ -1,19 +1,21 @@
 -- The table of listed boxes, from the last line to the first.
 use Rattle.std.proofs.Common.{◌≡◌, ℕ, zero, suc, ◌+◌, ◌-◌, ◌*◌, ◌<◌, ◌≤◌, Bool, true, false, cond, ◌&&◌, List, [], ◌∷◌, ◌++◌, length, get_or, map, filter, take, drop, replicate, Option, Some, None, refl, sym, ap, ◌∙◌, subst, inl, inr, arith}
 use Rattle.std.specs.Prelude.{◌==◌, if◌then◌else◌, nat_le, option_map, option_and_then, slice_get}
-use Rattle.std.specs.List.{enumerate_from, find, flat_map, range_with_len}
+use Rattle.std.specs.List.{enumerate_from, find, range_with_len}
 use Rattle.std.proofs.Math.Nat.{suc-mul}
 use Rattle.std.proofs.lemmas.Bool.{and_from, and_parts, cases_Bool, cases_lt, cases_order, eq-eqb, eqb-true, false_from_ne_true, leb-true, le-leb, lt-ltb, le-ltb}
 use Rattle.std.proofs.lemmas.List.{drop_all, length-drop, length-map, length-take-le}
 use Rattle.std.proofs.lemmas.Nat.{mul-le}
-use Rattle.std.proofs.lemmas.Option.{slice_get-map, slice_get_past}
+use Rattle.std.proofs.lemmas.Option.{slice_get-map, slice_get_past, slice_get_within}
 use borrow.Rule.Slice.PartMut.{put_mid}
-use Rattle.cj_interval.proofs.ListLemmas.{Each, Each-both, Each-flat_map, Each-map, Each-range, Each-weaker, each_from_All, each_from_map}
+use Rattle.cj_interval.proofs.ListLemmas.{Each, Each-both, Each-flat_map, Each-map, Each-range, Each-weaker, each_from_All, each_from_map, Each-filter, each_at, each_from_flat_map, none_found}
+use Rattle.cj_interval.proofs.RangeLemmas.{Each-enumerated, each_in_range}
 use Rattle.cj_track.specs.PlainTracks.{PlainTrack}
 use Rattle.cj_hermite.specs.PlainProblems.{PlainProblem}
 use Rattle.cj_hermite.specs.Roots.{slots_of}
 use Rattle.cj_hermite.specs.Slots.{slot_count}
 use Rattle.cj_bezier.specs.SlotBoxes.{plain_box}
+use Rattle.cj_blocks.proofs.RowLemmas.{rows_before}
 use Rattle.cj_cert.specs.declared.cert_lines.BoxLine.{BoxLine}
 use Rattle.cj_cert.specs.Accepted.{has_state_in, slots_with_states, AreBoxes}
 use Rattle.cj_cert.specs.Certificates.{PlainBoxLine, plain_box_line}
@@ -22,10 +24,6 @@ use Rattle.cj_checker.specs.Tables.{line_numbered, place_in_table, box_in_table}
 use Rattle.cj_checker.proofs.UnfitLemmas.{dropped, read_at}
 
 -- ---- places in the table
-
--- the row of an object ends where that of the next begins
-pub row_ends : (slots a b : ℕ) → a < b → a * slots + slots ≤ b * slots
-row_ends slots a b lt = omega (arith, suc-mul a slots, mul-le (suc a) slots b slots lt (omega arith))
 
 -- a line tells of a slot of an object
 record IsTold (object slot : ℕ) (line : PlainBoxLine) : Type 0 where
@@ -64,8 +62,8 @@ told_place slots slot object line inside within low high = elim (cases_order lin
   | inl own ↦
       let row : line.object * slots ≡ object * slots = ap (λ (n : ℕ). n * slots) own in
       tells object slot line own (omega arith) (omega arith)
-  | inr (inl before) ↦ let rows = row_ends slots line.object object before in absurd (omega arith)
-  | inr (inr behind) ↦ let rows = row_ends slots object line.object behind in absurd (omega arith)
+  | inr (inl before) ↦ let rows = rows_before slots line.object object before in absurd (omega arith)
+  | inr (inr behind) ↦ let rows = rows_before slots object line.object behind in absurd (omega arith)
 ]
 
 -- ---- a run of equal numbers
@@ -142,7 +140,7 @@ pub record IsTableFrom (lines : List BoxLine) (slots objects k : ℕ) (numbers :
   pub entries : (slot object : ℕ) → slot < slots → object < objects → line_at lines slots numbers slot object ≡ find (is_line_of object slot) (drop k (map plain_box_line lines))
 
 place_within : (slots objects slot object : ℕ) → slot < slots → object < objects → place_in_table slots slot object < objects * slots
-place_within slots objects slot object inside there = omega (arith, row_ends slots object objects there)
+place_within slots objects slot object inside there = omega (arith, rows_before slots object objects there)
 
 replicated : (n i : ℕ) → i < n → slice_get {X = ℕ} (replicate n 0) i ≡ Some 0
 replicated zero i lt = absurd (omega arith)
@@ -212,26 +210,8 @@ pub record IsLineIn (case : PlainProblem) (line : PlainBoxLine) : Type 0 where
   pub there : line.object < length case.ephemerides
   pub within : line.last < slot_count case.first case.last
 
-each_parts : {X : Type 0} (P : X → Type 0) (xs ys : List X) → Each P (xs ++ ys) → Each P xs × Each P ys
-each_parts P [] ys each = (tt, each)
-each_parts P (x ∷ xs) ys each = let rest = each_parts P xs ys each.1 in ((each.0, rest.0), rest.1)
-
-each_of_lists : {X Y : Type 0} (P : Y → Type 0) (f : X → List Y) (xs : List X) → Each P (flat_map f xs) → Each (λ x. Each P (f x)) xs
-each_of_lists P f [] each = tt
-each_of_lists P f (x ∷ xs) each = let both = each_parts P (f x) (flat_map f xs) each in (both.0, each_of_lists P f xs both.1)
-
-each_kept : (P : ℕ → Type 0) (test : ℕ → Bool) (xs : List ℕ) → Each P xs → Each P (filter test xs)
-each_kept P test [] each = tt
-each_kept P test (x ∷ xs) each = go (each_kept P test xs each.1) (test x)
-  where
-    go : Each P (filter test xs) → (b : Bool) → Each P (cond b (x ∷ filter test xs) (filter test xs))
-    go rest true = (each.0, rest)
-    go rest false = rest
-
 numbered_below : (n : ℕ) (es : List PlainTrack) → Each (λ (x : ℕ × PlainTrack). x.0 < n + length es) (enumerate_from n es)
-numbered_below n [] = tt
-numbered_below n (e ∷ es) =
-    (omega arith, Each-weaker (λ (x : ℕ × PlainTrack). x.0 < n + 1 + length es) (λ (x : ℕ × PlainTrack). x.0 < n + suc (length es)) (λ x lt. omega arith) (enumerate_from (n + 1) es) (numbered_below (n + 1) es))
+numbered_below n es = Each-enumerated (λ (x : ℕ × PlainTrack). x.0 < n + length es) n es (λ i e is. omega (arith, slice_get_within es i e is))
 
 -- a slot of the window, of one of the objects
 record IsPlaceIn (case : PlainProblem) (p : ℕ × ℕ) : Type 0 where
@@ -244,35 +224,23 @@ all_in case =
     Each-flat_map (IsPlaceIn case) places (enumerate_from 0 case.ephemerides)
     (Each-weaker (λ (x : ℕ × PlainTrack). x.0 < 0 + length case.ephemerides) (λ (x : ℕ × PlainTrack). Each (IsPlaceIn case) (places x))
     (λ x lt. Each-map (IsPlaceIn case) (λ (slot : ℕ). let place : ℕ × ℕ = (x.0, slot) in place) (filter (has_state_in case x.1) (slots_of case))
-    (each_kept (λ slot. IsPlaceIn case (x.0, slot)) (has_state_in case x.1) (slots_of case)
+    (Each-filter (λ slot. IsPlaceIn case (x.0, slot)) (has_state_in case x.1) (slots_of case)
     (Each-range (λ slot. IsPlaceIn case (x.0, slot)) 0 (slot_count case.first case.last) (λ slot low high. record { object = omega arith; slot = omega arith }))))
     (enumerate_from 0 case.ephemerides) (numbered_below 0 case.ephemerides))
 
-in_range : (P : ℕ → Type 0) (a n k : ℕ) → a ≤ k → k < a + n → Each P (range_with_len a n) → P k
-in_range P a zero k low high each = absurd (omega arith)
-in_range P a (suc n) k low high each = elim (cases_order a k) [
-  | inl same ↦ subst P same each.0
-  | inr (inl before) ↦ in_range P (a + 1) n k (omega arith) (omega arith) each.1
-  | inr (inr behind) ↦ absurd (omega arith)
-]
-
 line_in : (case : PlainProblem) (line : PlainBoxLine) → line.first ≤ line.last → Each (IsPlaceIn case) (slots_of_line line) → IsLineIn case line
 line_in case line some each =
-    let last = in_range (λ slot. IsPlaceIn case (line.object, slot)) line.first (line.last + 1 - line.first) line.last some (omega arith)
-    (each_from_map (IsPlaceIn case) (λ (slot : ℕ). let place : ℕ × ℕ = (line.object, slot) in place) (range_with_len line.first (line.last + 1 - line.first)) each) in
+    let last = each_in_range (λ slot. IsPlaceIn case (line.object, slot)) line.first (line.last + 1 - line.first)
+    (each_from_map (IsPlaceIn case) (λ (slot : ℕ). let place : ℕ × ℕ = (line.object, slot) in place) (range_with_len line.first (line.last + 1 - line.first)) each)
+    line.last some (omega arith) in
     record { some = some; there = last.object; within = last.slot }
 
 lines_in : (case : PlainProblem) (lines : List PlainBoxLine) → AreBoxes case lines → Each (IsLineIn case) lines
 lines_in case lines are =
-    let each = each_of_lists (IsPlaceIn case) slots_of_line lines (subst (Each (IsPlaceIn case)) (sym are.slots) (all_in case)) in
+    let each = each_from_flat_map (IsPlaceIn case) slots_of_line lines (subst (Each (IsPlaceIn case)) (sym are.slots) (all_in case)) in
     Each-weaker (λ line. (line.first ≤ line.last) × Each (IsPlaceIn case) (slots_of_line line)) (IsLineIn case) (λ line both. line_in case line both.0 both.1) lines
     (Each-both (λ line. line.first ≤ line.last) (λ line. Each (IsPlaceIn case) (slots_of_line line)) lines
     (each_from_All (λ line. line.first ≤ line.last) lines are.some) each)
-
-each_at : {X : Type 0} (P : X → Type 0) (xs : List X) (k : ℕ) (x : X) → Each P xs → slice_get xs k ≡ Some x → P x
-each_at P [] k x each is = absurd cc
-each_at P (y ∷ xs) zero x each is = let same : y ≡ x = cc in subst P same each.0
-each_at P (y ∷ xs) (suc k) x each is = each_at P xs k x each.1 is
 
 -- a line that is read
 pub line_is_in : (case : PlainProblem) (lines all : List BoxLine) (k : ℕ) (line : BoxLine) → AreBoxes case (map plain_box_line lines) → all ≡ lines → k < length all → line ≡ get_or all k line
@@ -282,16 +250,12 @@ line_is_in case lines all k line are same lt is =
 
 -- ---- the whole table
 
-find_no : (p : PlainBoxLine → Bool) (lines : List PlainBoxLine) → Each (λ line. p line ≡ false) lines → find p lines ≡ None
-find_no p [] each = refl
-find_no p (line ∷ lines) each = let here = each.0 in rw here (find_no p lines each.1)
-
 -- no line tells of an object or a slot that is not there
 untold : (case : PlainProblem) (lines : List PlainBoxLine) (slot object : ℕ) → Each (IsLineIn case) lines → (object < length case.ephemerides → slot < slot_count case.first case.last → ⊥)
     → box_listed lines slot object ≡ None
 untold case lines slot object each away =
     ap (option_map (λ line. line.area))
-    (find_no (is_line_of object slot) lines
+    (none_found (is_line_of object slot) lines
     (Each-weaker (IsLineIn case) (λ line. is_line_of object slot line ≡ false)
     (λ line is. false_from_ne_true (is_line_of object slot line) (λ tells.
     let by = told object slot line tells in

@@ -1,11 +1,11 @@
 use Rattle.std.proofs.Common.{◌≡◌, ℕ, ◌<◌, true, map, get_or, sym, subst, ◌∙◌, arith, below_more}
+use Rattle.std.proofs.lemmas.List.{get_or_default}
 use Rattle.cj_hermite.specs.Problems.{plain_problem}
 use Rattle.cj_bezier.specs.SlotBoxes.{plain_boxes}
 use Rattle.cj_cert.specs.declared.cert_lines.ShellLine.{ShellLine}
 use Rattle.cj_checker.specs.declared.reach.Reach.{Reach}
 use Rattle.cj_checker.specs.Keys.{HasPair, looked_with}
 use Rattle.cj_checker.specs.Sweeps.{AreBoth}
-use Rattle.cj_checker.proofs.SweepLemmas.{any_default}
 use Rattle.cj_checker.proofs.sweep.append_row.Goals as goal
 
 pub loop-other-init : goal.loop-other-init
@@ -30,7 +30,7 @@ loop-other-preserved c =
           → looked_with case shells areas (a, b) ≡ true → HasPair c.append_pair.new.pairs.items a b) at
           (λ k lt reach is a b up both looked. told.kept a b (i.found k lt reach is a b up both looked))
           (λ reach is a b up both looked.
-          told.found a b up (subst (λ (r : Reach). AreBoth c.args.one r.object a b) (sym (any_default c.args.active.now at _ reach (omega arith) ∙ is)) both) looked);
+          told.found a b up (subst (λ (r : Reach). AreBoth c.args.one r.object a b) (sym (get_or_default c.args.active.now at _ reach (omega arith) ∙ is)) both) looked);
     }
 
 pub returns-clause-found : goal.returns-clause-found
