@@ -6,7 +6,7 @@ use Rattle.std.specs.Prelude.{ℤ, pos, ◌+ℤ◌, ◌*ℤ◌, ◌≤ℤ◌}
 use Rattle.cj_interval.specs.Rounding.{floor_div, ceil_div}
 use Rattle.cj_interval.specs.Sizes.{IsWithin}
 use Rattle.cj_interval.proofs.RingLemmas.{ring, var, num, ◌:+◌, ◌:*◌, from}
-use Rattle.cj_interval.proofs.IntegerLemmas.{mul-le_right, le_trans_ℤ, mul_assoc_ℤ}
+use Rattle.cj_interval.proofs.IntegerLemmas.{add-mul_ℤ, mul-le_right, le_trans_ℤ, mul_assoc_ℤ}
 use Rattle.cj_interval.proofs.RoundingLemmas.{floor_div-le, ceil_div-ge, blend-le}
 use Rattle.cj_interval.proofs.SizeLemmas.{mul_pos, weighted_within}
 use Rattle.cj_interval.proofs.RoundingLemmas.{ceil-le_floor}
@@ -103,9 +103,6 @@ exact_polar-same k t s =
 
 -- ---- width
 
-add-mul : (f k d : ℤ) → (f +ℤ k) *ℤ d ≡ f *ℤ d +ℤ k *ℤ d
-add-mul f k d = ring (from (f ∷ k ∷ d ∷ [])) ((var 0 :+ var 1) :* var 2) (var 0 :* var 2 :+ var 1 :* var 2) refl
-
 pub first-width : (a b : ℤ) (n m d : ℕ) → 0 < d → ceil_div (a *ℤ pos n +ℤ b *ℤ pos m) d ≤ℤ (floor_div (a *ℤ pos n +ℤ b *ℤ pos m) d +ℤ pos 1)
 first-width a b n m d p =
     let z = a *ℤ pos n +ℤ b *ℤ pos m in
@@ -120,7 +117,7 @@ next-width a b x y t u w p q h k =
     let c : 0 < t * 1 = omega arith in
     let i = mul-le_right x (a +ℤ pos w) (t - u) h in
     let j = mul-le_right y (b +ℤ pos w) u k in
-    ceil-le_floor _ _ (t * 1) w c (joined (a *ℤ pos (t - u)) (b *ℤ pos u) (x *ℤ pos (t - u)) (y *ℤ pos u) _ _ (t - u) u t w (omega arith) (add-mul a (pos w) (pos (t - u))) (add-mul b (pos w) (pos u)) i j)
+    ceil-le_floor _ _ (t * 1) w c (joined (a *ℤ pos (t - u)) (b *ℤ pos u) (x *ℤ pos (t - u)) (y *ℤ pos u) _ _ (t - u) u t w (omega arith) (add-mul_ℤ a (pos w) (pos (t - u))) (add-mul_ℤ b (pos w) (pos u)) i j)
   where
     joined : (a b x y s r : ℤ) (n m t w : ℕ) → n + m ≡ t → s ≡ a +ℤ pos (w * n) → r ≡ b +ℤ pos (w * m) → x ≤ℤ s → y ≤ℤ r → (x +ℤ y) ≤ℤ (a +ℤ b +ℤ pos (w * (t * 1)))
     joined a b x y s r n m t w e f g h k =

@@ -1,11 +1,11 @@
 -- Pairs of objects: which there are, their order, and how their list grows object by object.
-use Rattle.std.proofs.Common.{◌≡◌, ℕ, zero, suc, ◌+◌, ◌-◌, ◌<◌, ◌≤◌, Bool, true, false, cond, List, [], ◌∷◌, ◌++◌, map, filter, refl, sym, ap, subst, ◌∙◌, arith, append_assoc, append-nil}
+use Rattle.std.proofs.Common.{◌≡◌, ℕ, ◌+◌, ◌-◌, ◌<◌, ◌≤◌, Bool, true, false, cond, List, [], ◌∷◌, ◌++◌, map, filter, refl, sym, ap, subst, ◌∙◌, arith, append_assoc, append-nil}
 use Rattle.std.specs.Prelude.{All}
 use Rattle.std.specs.List.{flat_map, range_with_len}
 use Rattle.std.proofs.lemmas.List.{map_push}
-use Rattle.std.proofs.lemmas.List.Concat.{flat_map-append}
 use Rattle.std.proofs.lemmas.List.Elements.{filter-append}
 use Rattle.cj_interval.proofs.ListLemmas.{Each, Exists, Ordered, Each-weaker, Each-map, Each-flat_map, Each-range, Exists-weaker, Exists-map, Exists-flat_map, Exists-range, Ordered-map, Ordered-flat_map, Ordered-range, All-from_each, each_from_map}
+use Rattle.cj_interval.proofs.RangeLemmas.{range_more, flat_map-range_more}
 use Rattle.cj_hermite.specs.declared.pair.Pair.{Pair}
 use Rattle.cj_hermite.specs.Pairs.{objects_of, pairs_of}
 
@@ -55,13 +55,6 @@ Exists-pairs n a b ordered exists =
 
 -- ---- object by object
 
-pub range_more : (a n : ℕ) → range_with_len a (n + 1) ≡ range_with_len a n ++ (a + n) ∷ []
-range_more a zero = let e : a ≡ a + 0 = omega arith in ap (λ (k : ℕ). k ∷ []) e
-range_more a (suc n) =
-    let m : suc n + 1 ≡ suc (n + 1) = omega arith in
-    let e : a + 1 + n ≡ a + suc n = omega arith in
-    rw m (ap (λ (ks : List ℕ). a ∷ ks) (rw (← e) (range_more (a + 1) n)))
-
 -- one object more in a row
 pub row_more : (a b : ℕ) (done : List (ℕ × ℕ)) → a < b →
     (done ++ map (λ (x : ℕ). let p : ℕ × ℕ = (a, x) in p) (range_with_len (a + 1) (b - (a + 1)))) ++ (let p : ℕ × ℕ = (a, b) in p ∷ []) ≡ done ++ map (λ (x : ℕ). let p : ℕ × ℕ = (a, x) in p) (range_with_len (a + 1) (b + 1 - (a + 1)))
@@ -77,11 +70,7 @@ row_more a b done lt =
 
 -- one row more
 pub rows_more : (count a : ℕ) → flat_map (pairs_from count) (range_with_len 0 a) ++ pairs_from count a ≡ flat_map (pairs_from count) (range_with_len 0 (a + 1))
-rows_more count a =
-    sym (ap (flat_map (pairs_from count)) (range_more 0 a)
-    ∙ flat_map-append (pairs_from count) (range_with_len 0 a) ((0 + a) ∷ [])
-    ∙ ap (λ ps. flat_map (pairs_from count) (range_with_len 0 a) ++ ps) (append-nil (pairs_from count (0 + a)))
-    ∙ (let e : 0 + a ≡ a = omega arith in ap (λ (k : ℕ). flat_map (pairs_from count) (range_with_len 0 a) ++ pairs_from count k) e))
+rows_more count a = sym (flat_map-range_more (pairs_from count) 0 a a (omega arith))
 
 -- each pair has existing objects
 pub pairs_exist : (count : ℕ) (pairs : List Pair) → map objects_of pairs ≡ pairs_of count → All (λ pair. pair.b < count) pairs

@@ -1,5 +1,5 @@
 -- An ephemeris has a state exactly in the useable spans of its segments.
-use Rattle.std.proofs.Common.{◌≡◌, ℕ, zero, suc, ◌+◌, ◌<◌, ◌≤◌, ◌⊎◌, max, Bool, true, false, cond, List, [], ◌∷◌, map, length, get_or, Option, Some, None, refl, sym, ap, subst, inl, inr, ltb, arith}
+use Rattle.std.proofs.Common.{◌≡◌, ℕ, suc, ◌+◌, ◌<◌, ◌≤◌, ◌⊎◌, max, Bool, true, false, cond, List, [], ◌∷◌, map, length, get_or, Option, Some, None, refl, sym, ap, subst, inl, inr, ltb, arith}
 use Rattle.std.specs.Prelude.{is_some, option_map, filter}
 use Rattle.std.specs.List.{enumerate_from, last_or}
 use Rattle.std.specs.List.Sorted.{IsNonDecreasingBy, IsPartitionPoint}
@@ -17,7 +17,7 @@ use Rattle.cj_hermite.proofs.CoverLemmas.{Misses, misses-append, covers_if}
 use Rattle.cj_hermite.proofs.PieceLemmas.{interval_between, intervals_in, intervals_through, later_span, earlier_span, none_at}
 use Rattle.cj_hermite.proofs.SearchLemmas.{in_order, segments_rise}
 use Rattle.cj_hermite.specs.Walks.{AreEnded, HasNoMore, IsNextState}
-use Rattle.cj_interval.proofs.ListLemmas.{Exists, Exists-flat_map, Exists-map}
+use Rattle.cj_interval.proofs.ListLemmas.{Exists, Exists-at, Exists-flat_map, Exists-map}
 
 -- ---- a tick of a useable span
 
@@ -51,11 +51,6 @@ in_span m s from to = go s.nodes s.enough s.within
     go [] enough within = absurd (omega arith)
     go (a ∷ nodes) enough within = bracketed s.first.micros s.last.micros m a nodes (omega arith) (omega (arith, within.from)) (omega (arith, within.to)) from to
 
-exists_at : {X : Type 0} (P : X → Type 0) (xs : List X) (k : ℕ) (d : X) → k < length xs → P (get_or xs k d) → Exists P xs
-exists_at P [] k d lt p = absurd (omega arith)
-exists_at P (x ∷ xs) zero d lt p = inl p
-exists_at P (x ∷ xs) (suc k) d lt p = inr (exists_at P xs k d (omega arith) p)
-
 pub state_in_span : (track : Track) (m k : ℕ) (d : Segment) → k < length track.segments → (get_or track.segments k d).first.micros ≤ m → m ≤ (get_or track.segments k d).last.micros →
     is_some (interval_index_at (plain_track track) m) ≡ true
 unfolding interval_index_at
@@ -64,7 +59,7 @@ state_in_span track m k d lt from to =
     (found_last m 0 None (intervals_through track.segments)
     (Exists-flat_map (λ x. covers m x ≡ true) intervals_of_arc (map plain_segment track.segments)
     (Exists-map (λ arc. Exists (λ x. covers m x ≡ true) (intervals_of_arc arc)) plain_segment track.segments
-    (exists_at (λ s. Exists (λ x. covers m x ≡ true) (intervals_of_arc (plain_segment s))) track.segments k d lt (in_span m (get_or track.segments k d) from to)))))
+    (Exists-at (λ s. Exists (λ x. covers m x ≡ true) (intervals_of_arc (plain_segment s))) track.segments k d lt (in_span m (get_or track.segments k d) from to)))))
   where
     some_map : (o : Option (ℕ × PlainPiece)) → is_some o ≡ true → is_some (option_map (λ x. x.0) o) ≡ true
     some_map None some = absurd cc
