@@ -162,10 +162,10 @@ places_lie e from to m r time each = at_each_tick e from to m (IsWithinReaches r
           z = in_ends h.z c.z c.span (m - c.start) r.z.least r.z.most is.z.0 is.z.1 in_h.z;
         }
 
--- so does the box
-pub box_holds : (e : PlainTrack) (from to m : ℕ) (r : PlainBox) → AreInTime e from to → box_of e from to ≡ Some r → from ≤ m → m ≤ to → IfSome (interval_at e m) (λ x. IsPlaceIn (curve_of_interval x) m r)
+-- each hull lies within the box round them
+pub within_box : (e : PlainTrack) (from to : ℕ) (r : PlainBox) → box_of e from to ≡ Some r → Each (IsWithinReaches r) (hulls_of e from to)
 unfolding reaches_round
-box_holds e from to m r time some = places_lie e from to m r time (go (hulls_of e from to) some)
+within_box e from to r some = go (hulls_of e from to) some
   where
     go : (hs : List PlainHull) → reaches_round hs ≡ Some r → Each (IsWithinReaches r) hs
     go [] is = tt
@@ -177,3 +177,8 @@ box_holds e from to m r time some = places_lie e from to m r time (go (hulls_of 
         zip_each : (a b c : Reach) (gs : List PlainHull) → Each (λ g. LiesWithin a g.x) gs → Each (λ g. LiesWithin b g.y) gs → Each (λ g. LiesWithin c g.z) gs → Each (IsWithinReaches (record { x = a; y = b; z = c })) gs
         zip_each a b c [] p q s = tt
         zip_each a b c (g ∷ gs) p q s = (record { x = p.0; y = q.0; z = s.0 }, zip_each a b c gs p.1 q.1 s.1)
+
+-- so the box holds the place at each tick
+pub box_holds : (e : PlainTrack) (from to m : ℕ) (r : PlainBox) → AreInTime e from to → box_of e from to ≡ Some r → from ≤ m → m ≤ to
+    → IfSome (interval_at e m) (λ x. IsPlaceIn (curve_of_interval x) m r)
+box_holds e from to m r time some = places_lie e from to m r time (within_box e from to r some)

@@ -195,12 +195,13 @@ above_of_gap r e g a b c large s far =
         let fits : k * (t * q + 1) ≤ (k * t + 1) * q = omega arith in
         le_trans_ℤ _ _ _ (let o : pos (k * (t * q + 1)) ≤ℤ pos ((k * t + 1) * q) = omega (arith, ints) in o) times
 
-pub at_least_of_gap : (r e : ℕ) (g : PlainHull) (a b c : ℤ) → IsGapAt r g a b c → LowsAtLeast g e → pos (e * e * (r * r)) ≤ℤ squares a b c
-at_least_of_gap r e g a b c s low =
-    let m = pos (e * e * (r * r)) in
+pub at_least_of_gap : (r n : ℕ) (g : PlainHull) (a b c : ℤ) → IsGapAt r g a b c → ((k : ℕ) → pos (choose6 k * n) ≤ℤ gap_low g k)
+    → pos (n * (r * r)) ≤ℤ squares a b c
+at_least_of_gap r n g a b c s low =
+    let m = pos (n * (r * r)) in
     let exact = coefficient (exact_products s.x s.y s.z) in
     let each : (k : ℕ) → (pos (choose6 k) *ℤ m) ≤ℤ exact k = λ k.
-    le_trans_ℤ _ _ _ (step (choose6 k) (e * e) (r * r) (gap_low g k) (low k)) (gap-low_holds r g s.x s.y s.z s.holds_x s.holds_y s.holds_z k) in
+    le_trans_ℤ _ _ _ (step (choose6 k) n (r * r) (gap_low g k) (low k)) (gap-low_holds r g s.x s.y s.z s.holds_x s.holds_y s.holds_z k) in
     sextic-low s.i s.j exact m (squares a b c) s.some (sextic_of_axes s.i s.j s.x s.y s.z a b c s.cubic_x s.cubic_y s.cubic_z) each
   where
     step : (k t q : ℕ) (g : ℤ) → pos (k * t) ≤ℤ g → (pos k *ℤ pos (t * q)) ≤ℤ (g *ℤ pos q)
@@ -209,12 +210,13 @@ at_least_of_gap r e g a b c s low =
         let same : k * t * q ≡ k * (t * q) = omega arith in
         subst (λ (n : ℕ). pos n ≤ℤ (g *ℤ pos q)) same times
 
-pub at_most_of_gap : (r e : ℕ) (g : PlainHull) (a b c : ℤ) → IsGapAt r g a b c → HighsAtMost g e → squares a b c ≤ℤ pos (e * e * (r * r))
-at_most_of_gap r e g a b c s near =
-    let m = pos (e * e * (r * r)) in
+pub at_most_of_gap : (r n : ℕ) (g : PlainHull) (a b c : ℤ) → IsGapAt r g a b c → ((k : ℕ) → gap_high g k ≤ℤ pos (choose6 k * n))
+    → squares a b c ≤ℤ pos (n * (r * r))
+at_most_of_gap r n g a b c s high =
+    let m = pos (n * (r * r)) in
     let exact = coefficient (exact_products s.x s.y s.z) in
     let each : (k : ℕ) → exact k ≤ℤ (pos (choose6 k) *ℤ m) = λ k.
-    le_trans_ℤ _ _ _ (gap-high_holds r g s.x s.y s.z s.holds_x s.holds_y s.holds_z k) (step (choose6 k) (e * e) (r * r) (gap_high g k) (near k)) in
+    le_trans_ℤ _ _ _ (gap-high_holds r g s.x s.y s.z s.holds_x s.holds_y s.holds_z k) (step (choose6 k) n (r * r) (gap_high g k) (high k)) in
     sextic-high s.i s.j exact m (squares a b c) s.some (sextic_of_axes s.i s.j s.x s.y s.z a b c s.cubic_x s.cubic_y s.cubic_z) each
   where
     step : (k t q : ℕ) (g : ℤ) → g ≤ℤ pos (k * t) → (g *ℤ pos q) ≤ℤ (pos k *ℤ pos (t * q))
@@ -393,4 +395,5 @@ beyond_at a b e first m last p q oa ob far =
 
 pub within_at : (a b : Curve) (e first m last : ℕ) → first ≤ m → m ≤ last → IsOver a first last → IsOver b first last → HighsAtMost (hull_gap a b first last) e → square_distance a b m ≤ℤ square_bound a b e
 within_at a b e first m last p q oa ob near =
-    at_most_of_gap (place_denominator a.span * place_denominator b.span) e (hull_gap a b first last) _ _ _ (hull_gap_at a b first m last p q oa ob) near
+    at_most_of_gap (place_denominator a.span * place_denominator b.span) (e * e) (hull_gap a b first last) _ _ _
+    (hull_gap_at a b first m last p q oa ob) near

@@ -7,6 +7,7 @@ use Rattle.cj_hermite.specs.Roots.{PlainCell}
 use Rattle.cj_hermite.proofs.RootLemmas.{IsRootOf}
 use Rattle.cj_hermite.proofs.ObjectLemmas.{of_objects}
 use Rattle.cj_hermite.proofs.CurveLemmas.{HaveCurves, Curves, curves, curves_of, root_intervals}
+use Rattle.cj_hermite.proofs.TrackLemmas.{over_part}
 use Rattle.cj_bezier.specs.declared.kind.Kind.{Kind}
 use Rattle.cj_bezier.specs.Leaves.{PlainLeaf, IsTickOf}
 use Rattle.cj_bezier.specs.Order.{IsBefore}
@@ -27,10 +28,6 @@ leaves_are case r c d le have =
     let first = have.first_curve r.first (omega arith) le in
     let second = have.second_curve r.first (omega arith) le in
     rw (first, second)
-
--- an interpolant over a part of its ticks
-over_part : (c : Curve) (first last from to : ℕ) → IsOver c first last → first ≤ from → to ≤ last → IsOver c from to
-over_part c first last from to over low high = record { some = over.some; from = omega (arith, over.from); to = omega (arith, over.to) }
 
 true_leaf : (case : PlainProblem) (r : PlainCell) (c d : Curve) → 10 ^ 9 ≤ case.threshold → IsOver c r.first r.last → IsOver d r.first r.last → HaveCurves case r.a r.b r.first r.last c d → (s : PlainLeaf) →
     IsLeaf (HasKind (kind_between c d (threshold_of case r.a r.b))) r.a r.b r.first r.last s → IsTrueThroughout case s

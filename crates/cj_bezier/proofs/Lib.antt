@@ -20,4 +20,5 @@ pub mod ShellRoundLemmas
 pub mod SplitLemmas
 pub mod TestLemmas
 pub mod TouchLemmas
+pub mod TrueLeafLemmas
 pub mod VerdictLemmas

@@ -1,5 +1,6 @@
 -- The shell of a gap against the origin, and the distance that it holds at each tick.
 use Rattle.std.proofs.Common.{◌≡◌, ℕ, zero, suc, ◌+◌, ◌-◌, ◌*◌, ◌^◌, ◌<◌, ◌≤◌, ◌⊎◌, inl, inr, arith, refl, sym, ap, subst, ◌∙◌, [], ◌∷◌, List, slice_index_or, length}
+use Rattle.std.proofs.Math.Nat.{mul-le-mul}
 use Rattle.std.proofs.lemmas.Bool.{cases_lt}
 use Rattle.std.proofs.lemmas.Int.{ints, clamps, by_lt_z}
 use Rattle.std.specs.Int.{int_min, int_max}
@@ -99,16 +100,21 @@ to_least ends r h =
     le-min _ _ _ (le-min _ _ _ (le-min _ _ _ (le-min _ _ _ (le-min _ _ _ (le-min _ _ _
     (at 0 (omega arith) (omega arith)) (at 1 (omega arith) (omega arith))) (at 2 (omega arith) (omega arith))) (at 3 (omega arith) (omega arith))) (at 4 (omega arith) (omega arith))) (at 5 (omega arith) (omega arith))) (at 6 (omega arith) (omega arith))
 
-from_least : (ends : List ℤ) (r : ℕ) → pos (r * r) ≤ℤ least_part ends → AreAtLeast ends r
-unfolding AreAtLeast least_part
-from_least ends r h6 k l =
+-- where the least part is n or more, each end is C(6,k) n or more
+pub shares_of_least : (ends : List ℤ) (n : ℕ) → pos n ≤ℤ least_part ends → (k : ℕ) → k < 7 → pos (choose6 k * n) ≤ℤ slice_index_or ends k (pos 0)
+unfolding least_part
+shares_of_least ends n h6 k l =
     let h5 = min-left _ _ _ h6 in let h4 = min-left _ _ _ h5 in let h3 = min-left _ _ _ h4 in let h2 = min-left _ _ _ h3 in let h1 = min-left _ _ _ h2 in
-    seven_cases (λ k. share r k ≤ℤ slice_index_or ends k (pos 0))
+    seven_cases (λ k. pos (choose6 k * n) ≤ℤ slice_index_or ends k (pos 0))
     (at 0 (omega arith) (min-left _ _ _ h1)) (at 1 (omega arith) (min-right _ _ _ h1)) (at 2 (omega arith) (min-right _ _ _ h2)) (at 3 (omega arith) (min-right _ _ _ h3))
     (at 4 (omega arith) (min-right _ _ _ h4)) (at 5 (omega arith) (min-right _ _ _ h5)) (at 6 (omega arith) (min-right _ _ _ h6)) k l
   where
-    at : (k : ℕ) → 0 < choose6 k → pos (r * r) ≤ℤ part_down ends k → share r k ≤ℤ slice_index_or ends k (pos 0)
-    at k p h = from_floor (r * r) (slice_index_or ends k (pos 0)) (choose6 k) p h
+    at : (k : ℕ) → 0 < choose6 k → pos n ≤ℤ part_down ends k → pos (choose6 k * n) ≤ℤ slice_index_or ends k (pos 0)
+    at k p h = from_floor n (slice_index_or ends k (pos 0)) (choose6 k) p h
+
+from_least : (ends : List ℤ) (r : ℕ) → pos (r * r) ≤ℤ least_part ends → AreAtLeast ends r
+unfolding AreAtLeast
+from_least ends r h = shares_of_least ends (r * r) h
 
 to_greatest : (ends : List ℤ) (r : ℕ) → AreAtMost ends r → greatest_part ends ≤ℤ pos (r * r)
 unfolding AreAtMost greatest_part
@@ -160,11 +166,8 @@ square_of_outer g r h = from_zero-le (r * r) (greatest_part g.high) (to_greatest
 pub outer_of_square : (g : PlainGap) (r : ℕ) → greatest_square g ≤ r * r → IsOuter g r
 outer_of_square g r h = from_greatest g.high r (le_pos (r * r) (greatest_part g.high) h)
 
-square_up : (a b : ℕ) → a ≤ b → a * a ≤ b * b
-square_up a b h = let e : a + (b - a) ≡ b = omega arith in subst (λ (k : ℕ). a * a ≤ k * k) e (omega arith)
-
 too_large : (a b n : ℕ) → a ≤ b → b * b ≤ n → n < a * a → ⊥
-too_large a b n h s l = let q = square_up a b h in omega arith
+too_large a b n h s l = let q : a * a ≤ b * b = mul-le-mul h h in omega arith
 
 -- the greatest whole root is the greatest inner radius
 pub greatest_inner : (g : PlainGap) (lo r : ℕ) → least_square g < (lo + 1) * (lo + 1) → IsInner g r → r ≤ lo
@@ -242,7 +245,8 @@ origin_gap_at c first m last p q over = by_width (cases_lt first last)
       cubic_z = one_axis c.z (omega arith);
     }
 
-not_negative : (q : ℕ) (x y z : ℤ) → pos (0 * 0 * q) ≤ℤ squares x y z
+-- a sum of squares is at least 0 times a scale
+pub not_negative : (q : ℕ) (x y z : ℤ) → pos (0 * q) ≤ℤ squares x y z
 not_negative q x y z =
     let a = square_is x in let b = square_is y in let d = square_is z in
     omega (arith, ints)
@@ -254,12 +258,14 @@ radius_within c first m last lo hi p q over inner outer =
     record {
       some = over.some;
       least = by_inner inner;
-      most = at_most_of_gap (place_denominator c.span) hi (hull_axes c first last) _ _ _ at (all_at_most (hull_axes c first last) hi outer);
+      most = at_most_of_gap (place_denominator c.span) (hi * hi) (hull_axes c first last) _ _ _ at (all_at_most (hull_axes c first last) hi outer);
     }
   where
     by_inner : IsInner (gap_terms (hull_axes c first last)) lo → pos (lo * lo * (place_denominator c.span * place_denominator c.span)) ≤ℤ square_radius c m
     by_inner (inl e) = subst (λ (n : ℕ). pos (n * n * (place_denominator c.span * place_denominator c.span)) ≤ℤ square_radius c m) (sym e) (not_negative (place_denominator c.span * place_denominator c.span) (place_numerator c.x c.span (m - c.start)) (place_numerator c.y c.span (m - c.start)) (place_numerator c.z c.span (m - c.start)))
-    by_inner (inr h) = at_least_of_gap (place_denominator c.span) lo (hull_axes c first last) _ _ _ (origin_gap_at c first m last p q over) (all_at_least (hull_axes c first last) lo h)
+    by_inner (inr h) =
+        at_least_of_gap (place_denominator c.span) (lo * lo) (hull_axes c first last) _ _ _
+        (origin_gap_at c first m last p q over) (all_at_least (hull_axes c first last) lo h)
 
 -- ---- how far out a hull lies
 

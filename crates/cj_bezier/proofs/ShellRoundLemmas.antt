@@ -17,7 +17,42 @@ use Rattle.cj_bezier.proofs.HullListLemmas.{of_each_hull, each_hull, no_hulls, a
 use Rattle.cj_bezier.proofs.ShellLemmas.{radius_within}
 use Rattle.cj_bezier.proofs.TestLemmas.{decides_at_least, decides_at_most}
 
--- ---- the greatest and the least radius
+-- ---- the greatest and the least number that passes a test
+
+-- where 0 passes, the greatest number that is found passes
+pub greatest_passes : (n : ℕ) (test : ℕ → Bool) → test 0 ≡ true → test (greatest_to n test) ≡ true
+unfolding greatest_to
+greatest_passes zero test least = least
+greatest_passes (suc n) test least = go (test (suc n)) refl (greatest_passes n test least)
+  where
+    go : (b : Bool) → test (suc n) ≡ b → test (greatest_to n test) ≡ true → test (cond b (suc n) (greatest_to n test)) ≡ true
+    go true is rest = is
+    go false is rest = rest
+
+-- no greater number passes
+pub greatest_most : (n r : ℕ) (test : ℕ → Bool) → r ≤ n → test r ≡ true → r ≤ greatest_to n test
+unfolding greatest_to
+greatest_most zero r test le passes = le
+greatest_most (suc n) r test le passes = go (λ le. greatest_most n r test le passes) (test (suc n)) refl
+  where
+    go : (r ≤ n → r ≤ greatest_to n test) → (b : Bool) → test (suc n) ≡ b → r ≤ cond b (suc n) (greatest_to n test)
+    go rest true is = le
+    go rest false is = elim (cases_eq r (suc n)) [
+      | inl same ↦ let here : test r ≡ false = ap test same ∙ is in absurd cc
+      | inr other ↦ rest (omega arith)
+    ]
+
+-- where the last number passes, the least one that is found passes
+pub least_passes : (n r : ℕ) (test : ℕ → Bool) → test (r + n) ≡ true → test (least_from n r test) ≡ true
+unfolding least_from
+least_passes zero r test most = let same : r + 0 ≡ r = omega arith in subst (λ (k : ℕ). test k ≡ true) same most
+least_passes (suc n) r test most =
+    let same : r + suc n ≡ r + 1 + n = omega arith in
+    go (test r) refl (least_passes n (r + 1) test (subst (λ (k : ℕ). test k ≡ true) same most))
+  where
+    go : (b : Bool) → test r ≡ b → test (least_from n (r + 1) test) ≡ true → test (cond b r (least_from n (r + 1) test)) ≡ true
+    go true is rest = is
+    go false is rest = rest
 
 greatest_is : (n lo : ℕ) (test : ℕ → Bool) → lo ≤ n → (lo ≡ 0) ⊎ (test lo ≡ true) → ((r : ℕ) → test r ≡ true → r ≤ lo) → greatest_to n test ≡ lo
 unfolding greatest_to
@@ -34,7 +69,7 @@ greatest_is (suc n) lo test le is most = go (λ le. greatest_is n lo test le is 
       | inr other ↦ omega arith
     ])
 
-least_is : (n r hi : ℕ) (test : ℕ → Bool) → r ≤ hi → hi ≤ r + n → test hi ≡ true → ((k : ℕ) → test k ≡ true → hi ≤ k) → least_from n r test ≡ hi
+pub least_is : (n r hi : ℕ) (test : ℕ → Bool) → r ≤ hi → hi ≤ r + n → test hi ≡ true → ((k : ℕ) → test k ≡ true → hi ≤ k) → least_from n r test ≡ hi
 unfolding least_from
 least_is zero r hi test low high is smallest = omega arith
 least_is (suc n) r hi test low high is smallest = go (λ low. least_is n (r + 1) hi test low (omega arith) is smallest) (test r) refl

@@ -36,10 +36,10 @@ coefficient_same p c h k = ap (λ (q : ℕ → ℕ → ℤ). coefficient q k) (�
     constant c (suc (suc (suc (suc (suc (suc n)))))) = ring (from (c ∷ [])) (var 0) (num (pos 1) :* var 0) refl
 
 -- the square of a span: its lower and its upper end
-abbrev square_low : ℤ → ℤ → ℤ
+abbrev pub square_low : ℤ → ℤ → ℤ
 square_low l h = least (l *ℤ l) (l *ℤ h) (h *ℤ l) (h *ℤ h)
 
-abbrev square_high : ℤ → ℤ → ℤ
+abbrev pub square_high : ℤ → ℤ → ℤ
 square_high l h = greatest (l *ℤ l) (l *ℤ h) (h *ℤ l) (h *ℤ h)
 
 -- four spans that are one
@@ -59,11 +59,11 @@ product_high-one e l h s i j = one (value_at e.low i) (value_at e.high i) (value
     one : (a b c d : ℤ) → a ≡ l → b ≡ h → c ≡ l → d ≡ h → greatest (a *ℤ c) (a *ℤ d) (b *ℤ c) (b *ℤ d) ≡ square_high l h
     one a b c d ea eb ec ed = λ t. greatest (ea t *ℤ ec t) (ea t *ℤ ed t) (eb t *ℤ ec t) (eb t *ℤ ed t)
 
--- the difference of two axes at one tick
-abbrev below : Four → ℕ → ℕ → Four → ℕ → ℕ → ℤ
+-- the ends of the difference of two axes at one tick
+abbrev pub below : Four → ℕ → ℕ → Four → ℕ → ℕ → ℤ
 below k t s k' t' s' = polar floor_div k t s s s -ℤ polar ceil_div k' t' s' s' s'
 
-abbrev above : Four → ℕ → ℕ → Four → ℕ → ℕ → ℤ
+abbrev pub above : Four → ℕ → ℕ → Four → ℕ → ℕ → ℤ
 above k t s k' t' s' = polar ceil_div k t s s s -ℤ polar floor_div k' t' s' s' s'
 
 apart_one : (k k' : Four) (t s t' s' : ℕ) → AreOne (apart (hull_ends k t s s) (hull_ends k' t' s' s')) (below k t s k' t' s') (above k t s k' t' s')
@@ -97,12 +97,47 @@ highs_one d l1 h1 l2 h2 l3 h3 o k =
     coefficient_same (λ i j. product_high d.x i j +ℤ product_high d.y i j +ℤ product_high d.z i j) _
     (λ i j. λ t. product_high-one d.x l1 h1 o.x i j t +ℤ product_high-one d.y l2 h2 o.y i j t +ℤ product_high-one d.z l3 h3 o.z i j t) k
 
+-- the ends of the squared distance at one tick
+abbrev pub tick_low : Curve → Curve → ℕ → ℤ
+tick_low a b m =
+    let s = m - a.start in
+    let s' = m - b.start in
+    square_low (below a.x a.span s b.x b.span s') (above a.x a.span s b.x b.span s')
+    +ℤ square_low (below a.y a.span s b.y b.span s') (above a.y a.span s b.y b.span s')
+    +ℤ square_low (below a.z a.span s b.z b.span s') (above a.z a.span s b.z b.span s')
+
+abbrev pub tick_high : Curve → Curve → ℕ → ℤ
+tick_high a b m =
+    let s = m - a.start in
+    let s' = m - b.start in
+    square_high (below a.x a.span s b.x b.span s') (above a.x a.span s b.x b.span s')
+    +ℤ square_high (below a.y a.span s b.y b.span s') (above a.y a.span s b.y b.span s')
+    +ℤ square_high (below a.z a.span s b.z b.span s') (above a.z a.span s b.z b.span s')
+
+of_tick : (a b : Curve) (m : ℕ) → let s = m - a.start in let s' = m - b.start in
+    IsOfOne (hull_gap a b m m) (below a.x a.span s b.x b.span s') (above a.x a.span s b.x b.span s')
+    (below a.y a.span s b.y b.span s') (above a.y a.span s b.y b.span s')
+    (below a.z a.span s b.z b.span s') (above a.z a.span s b.z b.span s')
+unfolding hull_axes apart_axes
+of_tick a b m = record {
+  x = apart_one a.x b.x a.span (m - a.start) b.span (m - b.start);
+  y = apart_one a.y b.y a.span (m - a.start) b.span (m - b.start);
+  z = apart_one a.z b.z a.span (m - a.start) b.span (m - b.start);
+}
+
+-- the gap of one tick has these ends C(6,k) times
+pub lows_of_tick : (a b : Curve) (m k : ℕ) → gap_low (hull_gap a b m m) k ≡ pos (choose6 k) *ℤ tick_low a b m
+lows_of_tick a b m k = lows_one (hull_gap a b m m) _ _ _ _ _ _ (of_tick a b m) k
+
+pub highs_of_tick : (a b : Curve) (m k : ℕ) → gap_high (hull_gap a b m m) k ≡ pos (choose6 k) *ℤ tick_high a b m
+highs_of_tick a b m k = highs_one (hull_gap a b m m) _ _ _ _ _ _ (of_tick a b m) k
+
 -- ---- shares of one end
 
-share-le : (c : ℕ) (n : ℕ) (l : ℤ) → pos n ≤ℤ l → pos (c * n) ≤ℤ (pos c *ℤ l)
+pub share-le : (c : ℕ) (n : ℕ) (l : ℤ) → pos n ≤ℤ l → pos (c * n) ≤ℤ (pos c *ℤ l)
 share-le c n l h = let t = mul-le_right (pos n) l c h in omega (arith, ints)
 
-le-share : (c : ℕ) (n : ℕ) (l : ℤ) → l ≤ℤ pos n → (pos c *ℤ l) ≤ℤ pos (c * n)
+pub le-share : (c : ℕ) (n : ℕ) (l : ℤ) → l ≤ℤ pos n → (pos c *ℤ l) ≤ℤ pos (c * n)
 le-share c n l h = let t = mul-le_right l (pos n) c h in omega (arith, ints)
 
 share-lt : (c : ℕ) (n : ℕ) (l : ℤ) → 0 < c → pos n <ℤ l → pos (c * n) <ℤ (pos c *ℤ l)
@@ -132,23 +167,22 @@ difference_ordered a b c d h k = omega (arith, ints)
 difference_narrow : (a b c d : ℤ) → b ≤ℤ (a +ℤ pos 3) → d ≤ℤ (c +ℤ pos 3) → (b -ℤ c) ≤ℤ (a -ℤ d +ℤ pos 6)
 difference_narrow a b c d h k = omega (arith, ints)
 
-axis_ordered : (k k' : Four) (t s t' s' : ℕ) → 0 < t → 0 < t' → below k t s k' t' s' ≤ℤ above k t s k' t' s'
+pub axis_ordered : (k k' : Four) (t s t' s' : ℕ) → 0 < t → 0 < t' → below k t s k' t' s' ≤ℤ above k t s k' t' s'
 axis_ordered k k' t s t' s' p p' = difference_ordered _ _ _ _ (ordered k t s p) (ordered k' t' s' p')
 
-axis_narrow : (k k' : Four) (t s t' s' : ℕ) → 0 < t → 0 < t' → s ≤ t → s' ≤ t' → above k t s k' t' s' ≤ℤ (below k t s k' t' s' +ℤ pos 6)
+pub axis_narrow : (k k' : Four) (t s t' s' : ℕ) → 0 < t → 0 < t' → s ≤ t → s' ≤ t' → above k t s k' t' s' ≤ℤ (below k t s k' t' s' +ℤ pos 6)
 axis_narrow k k' t s t' s' p p' q q' = difference_narrow _ _ _ _ (polar-width k t s s s p q q) (polar-width k' t' s' s' s' p' q' q')
 
 -- neither far nor near: undecided
 pub one_tick_undecided : (a b : Curve) (thr m : ℕ) → 10 ^ 9 ≤ thr → IsOver a m m → IsOver b m m
     → ¬ Supports (gap_terms (hull_gap a b m m)) thr kinds.Far → ¬ Supports (gap_terms (hull_gap a b m m)) thr kinds.Near → Supports (gap_terms (hull_gap a b m m)) thr kinds.Undecided
-unfolding hull_axes apart_axes
 one_tick_undecided a b thr m big oa ob not_far not_near =
     let s = m - a.start in let s' = m - b.start in let t = a.span in let t' = b.span in
     let q : s ≤ t = omega arith in
     let q' : s' ≤ t' = omega arith in
     decided (hull_gap a b m m) thr
     (below a.x t s b.x t' s') (above a.x t s b.x t' s') (below a.y t s b.y t' s') (above a.y t s b.y t' s') (below a.z t s b.z t' s') (above a.z t s b.z t' s') big
-    (record { x = apart_one a.x b.x t s t' s'; y = apart_one a.y b.y t s t' s'; z = apart_one a.z b.z t s t' s' })
+    (of_tick a b m)
     (axis_ordered a.x b.x t s t' s' oa.some ob.some) (axis_narrow a.x b.x t s t' s' oa.some ob.some q q')
     (axis_ordered a.y b.y t s t' s' oa.some ob.some) (axis_narrow a.y b.y t s t' s' oa.some ob.some q q')
     (axis_ordered a.z b.z t s t' s' oa.some ob.some) (axis_narrow a.z b.z t s t' s' oa.some ob.some q q')

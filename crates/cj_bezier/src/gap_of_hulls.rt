@@ -1,6 +1,6 @@
 //! The gap of two hulls, and of a hull against the origin. A product of two boxes does not depend on their order, so each is
 //! made once.
-ghost use Rattle.std.specs.Prelude.{◌≡◌, ◌*◌, ℕ, ◌≤◌, pos, ◌+ℤ◌, ◌*ℤ◌, [], ◌∷◌};
+ghost use Rattle.std.specs.Prelude.{◌≡◌, ◌*◌, pos, ◌+ℤ◌, ◌*ℤ◌, [], ◌∷◌};
 ghost use Rattle.cj_hermite.specs.Boxes.{IsSpanWithin, IsBoxWithin};
 ghost use Rattle.cj_bezier.specs.Hulls.{axes_of};
 ghost use Rattle.cj_bezier.specs.Gaps.{apart_axes, dot_low, dot_high, terms_of, gap_terms};

@@ -1,5 +1,5 @@
 //! The hull of a piece.
-ghost use Rattle.std.specs.Prelude.{◌≡◌, ℕ, ◌+◌, ◌-◌, ◌<◌, ◌≤◌};
+ghost use Rattle.std.specs.Prelude.{◌≡◌, ℕ, ◌+◌, ◌-◌, ◌≤◌};
 ghost use Rattle.std.specs.List.{All};
 ghost use Rattle.cj_hermite.specs.Interpolant.{curve_of};
 ghost use Rattle.cj_hermite.specs.Boxes.{IsBoxWithin, IsBoxNarrow};

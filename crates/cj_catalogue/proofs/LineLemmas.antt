@@ -8,6 +8,7 @@ use Rattle.cj_kvn.specs.Fields.{fields}
 use Rattle.cj_kvn.specs.Lines.{Form, Mark, Pair, Row, form_of, is_blank, is_comment, is_key, line_form, pair_or_row}
 use Rattle.cj_kvn.specs.Numbers.{is_number, number, parts_of}
 use Rattle.cj_kvn.specs.declared.lines.MarkKind.TheVariants.{MetaStart, MetaStop, CovarianceStart, CovarianceStop}
+use Rattle.cj_kvn.proofs.ListLemmas.{all_append}
 use Rattle.cj_track.specs.declared.frame.Frame.TheVariants as frames
 use Rattle.cj_track.specs.Labels.{is_visible}
 use Rattle.cj_oem.specs.CovarianceRows.{NO_COVARIANCES, closed, with_matrix_pair, with_matrix_row}
@@ -18,7 +19,7 @@ use Rattle.cj_oem.proofs.MetadataAgainLemmas.{IsNeat}
 use Rattle.cj_oem.proofs.PrintedLineLemmas.{Says, Tells, told_append, told_line}
 use Rattle.cj_oem.proofs.PrintedPairLemmas.{covariance_start, covariance_stop, meta_start, meta_stop, pair_line, pair_text}
 use Rattle.cj_oem.proofs.PrintedRowLemmas.{field_ends, field_starts, field_visible}
-use Rattle.cj_oem.proofs.PrintedTextLemmas.{Ends, Starts, all_append, all_kept}
+use Rattle.cj_oem.proofs.PrintedTextLemmas.{Ends, Starts, all_kept}
 use Rattle.cj_oem.proofs.WalkLemmas.{walk, walk_append, walk_step}
 use Rattle.cj_gen.specs.Texts.{covariance_text, ending_text, five, head_text, line, naming_text, stamp}
 use Rattle.cj_catalogue.specs.MadeTracks.{covariance, tick_at}
@@ -26,11 +27,11 @@ use Rattle.cj_catalogue.proofs.StampLemmas.{stamp_field, stamp_read, start_read}
 
 -- ---- the object
 
+pub last_visible : (n : ℕ) → is_visible (48 + n % 10) ≡ true
+last_visible n = grind (arith, nat_tests)
+
 five_visible : (n : ℕ) → list_all is_visible (five n) ≡ true
-five_visible n = rw (digit (n / 100 / 100), digit (n / 100 / 10), digit (n / 100), digit (n / 10), digit n) refl
-  where
-    digit : (n : ℕ) → is_visible (48 + n % 10) ≡ true
-    digit n = grind (arith, nat_tests)
+five_visible n = rw (last_visible (n / 100 / 100), last_visible (n / 100 / 10), last_visible (n / 100), last_visible (n / 10), last_visible n) refl
 
 five_ends : (n : ℕ) → is_blank (48 + n % 10) ≡ false
 five_ends n = grind (arith, nat_tests)

@@ -1,23 +1,23 @@
 -- The nodes of a catalogue's object are read.
 use Rattle.std.proofs.Common.{◌≡◌, ℕ, zero, suc, ◌+◌, ◌^◌, ◌<◌, ◌≤◌, List, [], ◌∷◌, ◌++◌, true, false, map, ap, sym, subst, ◌∙◌, refl, arith, append_assoc, append-nil, Option, Some, None, Ok, All}
-use Rattle.std.specs.Prelude.{◌&&◌, ℤ, flat_map, nat_lt, nat_le, unsigned_abs}
-use Rattle.std.specs.List.{list_all, list_any, last_or, range_with_len}
+use Rattle.std.specs.Prelude.{ℤ, flat_map, nat_le, unsigned_abs}
+use Rattle.std.specs.List.{list_all, last_or, range_with_len}
 use Rattle.std.proofs.lemmas.Bool.{le-ltb}
 use Rattle.std.proofs.lemmas.Bool.Decides.{nat_tests}
 use Rattle.std.proofs.lemmas.List.FromFn.{get_or-range_with_len, length-range_with_len}
-use Rattle.jiff_core.specs.Calendar.{days_of_months}
 use Rattle.cj_kvn.specs.Fields.{fields}
 use Rattle.cj_kvn.specs.Lines.{Form, Row}
-use Rattle.cj_epoch.specs.Calendar.{days_of_years}
-use Rattle.cj_epoch.specs.LeapSeconds.{leap_days, leap_lies_between, tick_after}
+use Rattle.cj_kvn.proofs.ListLemmas.{last_push}
+use Rattle.cj_epoch.proofs.LeapLemmas.{no_leap}
 use Rattle.cj_track.specs.Limits.{MAX_COORDINATE, MAX_RATE}
 use Rattle.cj_track.specs.PlainTracks.{PlainNode, first_state, last_state}
 use Rattle.cj_oem.specs.declared.fault.OemCause.TheVariants as causes
 use Rattle.cj_oem.specs.Metadata.{Metadata, epoch_or, parse_epoch}
 use Rattle.cj_oem.specs.NodeRows.{figure_or, following, parse_figure, state_of_fields, state_of_row}
-use Rattle.cj_oem.specs.Stages.{Body, Data, OpenSegment, follows}
+use Rattle.cj_oem.specs.Stages.{Body, Data, follows}
 use Rattle.cj_oem.proofs.PrintedLineLemmas.{Tells, told_each, told_line}
 use Rattle.cj_oem.proofs.PrintedRowLemmas.{fields_row, is_field, row_line, row_of}
+use Rattle.cj_oem.proofs.RunLemmas.{open_segment}
 use Rattle.cj_oem.proofs.StateAgainLemmas.{IsVector, vector_again}
 use Rattle.cj_oem.proofs.WalkLemmas.{walk, walk_step}
 use Rattle.cj_gen.specs.declared.orbit.Orbit.{Orbit}
@@ -109,33 +109,16 @@ nodes_told o is minutes few =
 
 -- ---- one node after another
 
--- ticks up to m do not lie between two later ones
-none_between : (a b m : ℕ) (ticks : List ℕ) → m ≤ a → list_all (λ t. nat_le t m) ticks ≡ true → list_any (λ t. nat_lt a t && nat_le t b) ticks ≡ false
-none_between a b m [] late all = refl
-none_between a b m (t ∷ ticks) late all = grind (arith, nat_tests, none_between a b m ticks late)
-
--- the first tick past the last leap second is 2017-01-01T00:00:00
-no_leap : (a b : ℕ) → 1_483_228_800_000_000 ≤ a → leap_lies_between a b ≡ false
-unfolding leap_lies_between days_of_years days_of_months
-no_leap a b late = none_between a b 1_483_228_800_000_000 (map tick_after leap_days) late refl
-
 node_follows : (o : Orbit) (n : ℕ) → n ≤ 1440 → following (Some (node_at o n)) (node_at o (n + 1)) ≡ Ok (node_at o (n + 1))
 node_follows o n few =
     let rises : nat_le (tick_at (n + 1)) (tick_at n) ≡ false = grind (arith, nat_tests) in
     let short = le-ltb (tick_at n + 3_600_000_000) (tick_at (n + 1)) (omega arith) in
     rw (rises, short, no_leap (tick_at n) (tick_at (n + 1)) (omega arith)) refl
 
-abbrev open_segment : Metadata → List PlainNode → OpenSegment
-open_segment metadata states = record { metadata = metadata; states = states }
-
 row_follows : (b : Body) (metadata : Metadata) (front : List PlainNode) (o : Orbit) → IsMade o → (n : ℕ) → n ≤ 1440 → following (last_state front) (node_at o n) ≡ Ok (node_at o n)
     → follows false (Data b (open_segment metadata front)) (Row (content o n)) ≡ Ok (Data b (open_segment metadata (front ++ node_at o n ∷ [])))
 unfolding follows
 row_follows b metadata front o is n few follows_on = rw (node_read (last_state front) o is n few follows_on) refl
-
-last_behind : (o : Option PlainNode) (states : List PlainNode) (s : PlainNode) → last_or o (states ++ s ∷ []) ≡ Some s
-last_behind o [] s = refl
-last_behind o (t ∷ states) s = last_behind (Some t) states s
 
 rows_walk : (b : Body) (metadata : Metadata) (front : List PlainNode) (o : Orbit) → IsMade o → (a k : ℕ) → a + k ≤ 1441 → (a ≤ 1440 → following (last_state front) (node_at o a) ≡ Ok (node_at o a))
     → walk (Data b (open_segment metadata front)) (flat_map (node_forms o) (range_with_len a k)) ≡ Ok (Data b (open_segment metadata (front ++ map (node_at o) (range_with_len a k))))
@@ -147,7 +130,7 @@ rows_walk b metadata front o is a (suc k) within follows_on =
     walk_step (Data b (open_segment metadata front)) (Data b (open_segment metadata next)) (Row (content o a)) (flat_map (node_forms o) rest)
     (row_follows b metadata front o is a (omega arith) (follows_on (omega arith)))
     ∙ rows_walk b metadata next o is (a + 1) k (omega arith)
-    (λ few. subst (λ (before : Option PlainNode). following before (node_at o (a + 1)) ≡ Ok (node_at o (a + 1))) (sym (last_behind None front s)) (node_follows o a (omega arith)))
+    (λ few. subst (λ (before : Option PlainNode). following before (node_at o (a + 1)) ≡ Ok (node_at o (a + 1))) (sym (last_push None front s)) (node_follows o a (omega arith)))
     ∙ ap (λ (ss : List PlainNode). Ok (Data b (open_segment metadata ss))) (append_assoc front (s ∷ []) (map (node_at o) rest))
 
 pub nodes_walk : (b : Body) (metadata : Metadata) (o : Orbit) → IsMade o → (minutes : ℕ) → minutes ≤ 1440

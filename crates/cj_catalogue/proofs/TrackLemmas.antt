@@ -1,18 +1,17 @@
 -- A generated file says its track, and is short.
-use Rattle.std.proofs.Common.{◌≡◌, ℕ, ◌+◌, ◌-◌, ◌*◌, ◌/◌, ◌%◌, ◌^◌, ◌<◌, ◌≤◌, List, [], ◌∷◌, ◌++◌, true, false, length, map, ap, sym, subst, ◌∙◌, refl, arith, Option, Some, Result, Ok, All, get_or}
+use Rattle.std.proofs.Common.{◌≡◌, ℕ, ◌+◌, ◌-◌, ◌*◌, ◌/◌, ◌^◌, ◌<◌, ◌≤◌, List, [], ◌∷◌, ◌++◌, true, false, length, map, ap, sym, subst, ◌∙◌, refl, arith, Option, Some, Result, Ok, All, get_or}
 use Rattle.std.specs.Prelude.{flat_map, nat_lt, is_ok, IsOk}
 use Rattle.std.specs.List.{list_all, range_with_len}
 use Rattle.std.proofs.lemmas.Bool.{le-leb, le-ltb}
-use Rattle.std.proofs.lemmas.Bool.Decides.{nat_tests}
 use Rattle.std.proofs.lemmas.List.FromFn.{get_or-map-range_with_len, length-map-range_with_len, map-range_with_len_more}
-use Rattle.cj_kvn.specs.Lines.{Form, Mark, Numbered}
-use Rattle.cj_kvn.specs.Lines as kvn
+use Rattle.cj_kvn.specs.Lines.{Form, Mark}
 use Rattle.cj_kvn.specs.declared.lines.MarkKind.TheVariants.{CovarianceStart}
 use Rattle.cj_track.specs.Labels.{is_file_name, is_visible}
 use Rattle.cj_track.specs.PlainTracks.{PlainNode, PlainTrack, first_state, last_state}
 use Rattle.cj_oem.specs.CovarianceRows.{NO_COVARIANCES}
 use Rattle.cj_oem.specs.Reading.{Fault, lines_read, reading}
 use Rattle.cj_oem.specs.Stages.{After, Body, Cov, Data, NO_BODY, OpenSegment, Start, close_nodes, finished, follows, is_useable, with_arc}
+use Rattle.cj_oem.proofs.AgainLemmas.{reading_lines}
 use Rattle.cj_oem.proofs.PrintedLineLemmas.{Tells, numbered_from, reading_told, told_append}
 use Rattle.cj_oem.proofs.WalkLemmas.{read_walk, walk, walk_append, walk_step}
 use Rattle.cj_io.specs.declared.file.FileBytes.{FileBytes}
@@ -24,7 +23,7 @@ use Rattle.cj_gen.specs.Texts.{oem_of}
 use Rattle.cj_catalogue.specs.MadeTracks.{covariance, node_at, tick_at, track_of, track_on}
 use Rattle.cj_catalogue.proofs.BoundLemmas.{IsMade, orbit_made}
 use Rattle.cj_catalogue.proofs.LengthLemmas.{file_short}
-use Rattle.cj_catalogue.proofs.LineLemmas.{covariance_forms, covariance_told, head_forms, head_told, head_walk, matrix_forms, matrix_walk, metadata}
+use Rattle.cj_catalogue.proofs.LineLemmas.{covariance_forms, covariance_told, head_forms, head_told, head_walk, matrix_forms, matrix_walk, metadata, last_visible}
 use Rattle.cj_catalogue.proofs.NodeLemmas.{first_node, last_node, node_forms, nodes_told, nodes_walk}
 
 abbrev nodes : Orbit → ℕ → List PlainNode
@@ -80,15 +79,8 @@ name_is : (n : ℕ) → is_file_name (file_name n) ≡ true
 unfolding is_file_name
 name_is n = rw (all_visible n) refl
   where
-    digit : (n : ℕ) → is_visible (48 + n % 10) ≡ true
-    digit n = grind (arith, nat_tests)
-
     all_visible : (n : ℕ) → list_all is_visible (file_name n) ≡ true
-    all_visible n = rw (digit (n / 100 / 100), digit (n / 100 / 10), digit (n / 100), digit (n / 10), digit n) refl
-
-reading_lines : (file bytes : List ℕ) (lines : List Numbered) → is_file_name file ≡ true → kvn.reading bytes ≡ Ok lines → reading file bytes false ≡ lines_read false file lines
-unfolding reading
-reading_lines file bytes lines named read = rw (named, read) refl
+    all_visible n = rw (last_visible (n / 100 / 100), last_visible (n / 100 / 10), last_visible (n / 100), last_visible (n / 10), last_visible n) refl
 
 lines_said : (number : ℕ) (o : Orbit) (minutes : ℕ) → IsMade o → 1 ≤ minutes → minutes ≤ 1440
     → lines_read false (file_name number) (numbered_from 1 (forms_of number o minutes)) ≡ Ok (track_on number o minutes)

@@ -1,12 +1,12 @@
 -- Numbers are read from what is written of them, and from nothing else.
-use Rattle.std.proofs.Common.{◌≡◌, ℕ, suc, ◌-◌, ◌/◌, ◌%◌, ◌^◌, ◌<◌, ◌≤◌, Bool, true, false, List, [], ◌∷◌, ◌++◌, length, take, drop, ap, sym, ◌∙◌, refl, subst, inl, inr, arith, append_assoc, append-nil, Some, Result, Ok, ℤ, pos, negsuc, ◌+ℤ◌, ◌-ℤ◌, decimal}
+use Rattle.std.proofs.Common.{◌≡◌, ℕ, suc, ◌-◌, ◌/◌, ◌%◌, ◌^◌, ◌<◌, ◌≤◌, Bool, true, false, List, [], ◌∷◌, ◌++◌, length, ap, sym, ◌∙◌, refl, subst, inl, inr, arith, append_assoc, append-nil, Some, Result, Ok, ℤ, pos, negsuc, ◌+ℤ◌, ◌-ℤ◌, decimal}
 use Rattle.std.specs.Prelude.{◌&&◌, ◌||◌, ◌==◌, not, nat_le, nat_lt, int_lt, if◌then◌else◌, codes, option_and_then, unsigned_abs}
 use Rattle.std.specs.Char.{is_ascii_digit}
 use Rattle.std.specs.List.{after_first, before_first, list_any}
 use Rattle.std.specs.Result.{result_ok}
 use Rattle.std.specs.Str.Parse.{digits_value, digits_value_after, starts_with_minus, without_leading_sign}
 use Rattle.std.proofs.Math.Nat.{div-le_self}
-use Rattle.std.proofs.lemmas.Bool.{eqb-true}
+use Rattle.std.proofs.lemmas.Bool.{and_parts, eqb-true, not-true}
 use Rattle.std.proofs.lemmas.Bool.Decides.{leb_tells, nat_tests}
 use Rattle.std.proofs.lemmas.Fmt.{decimal_digit}
 use Rattle.std.proofs.lemmas.Int.{ints}
@@ -14,26 +14,20 @@ use Rattle.cj_kvn.specs.Numbers.{Number, are_digits, scaled_of}
 use Rattle.cj_kvn.specs.Scanning.{exponent_said}
 use Rattle.cj_kvn.specs.Decimals.{IsReadable, decimal_form, decimal_of, decimal_text_of, digit_count, exponent_text, leading_power, minus_if, shifted, significand_text, zero_number}
 use Rattle.cj_kvn.proofs.AgainLemmas as kvn
-use Rattle.cj_kvn.proofs.AgainLemmas.{IsNormal}
+use Rattle.cj_kvn.proofs.AgainLemmas.{IsNormal, behind_sign, digits_of_number, first_digit, other_digits, padded_if, sign_text}
 use Rattle.cj_kvn.proofs.CountLemmas.{count_most, count_pos, huge_no, tiny_no}
 use Rattle.cj_kvn.proofs.DecimalLemmas.{zero_readable}
-use Rattle.cj_kvn.proofs.ScanLemmas.{value_append}
+use Rattle.cj_kvn.proofs.NumberTextLemmas.{Says, decimal_digits, decimal_some, decimal_value, decimals_say, decimals_shape, fraction_says, make, scaled_told, signed_digits, signed_is, whole_says}
 use Rattle.cj_kvn.specs.declared.numbers.NumFault.{NumFault}
-use Rattle.cj_kvn.proofs.ListLemmas.{HeadFails, both}
+use Rattle.cj_kvn.proofs.ListLemmas.{HeadFails}
 use Rattle.cj_cdm.specs.Reading.{is_feed}
 use Rattle.cj_cdm.specs.Texts.{fixed_text, kilometres, last_digits, metres, number_text}
 use Rattle.cj_cdm.specs.Values.{behind_front, decimal_said, element_said, fixed_said, id_said, is_decimal, is_mark, is_miss, is_number, is_power, is_short, is_zero, kept, kilometres_said, miss_said, natural, number_said, scientific}
-use Rattle.cj_cdm.proofs.DigitLemmas.{Says, bare, decimal_digits, decimal_some, decimal_value, fraction_says, last_are_digits, last_length, last_value, make, minus, scaled_told, signed_is, whole_says}
+use Rattle.cj_cdm.proofs.DigitLemmas.{last_are_digits, last_length, last_value}
 use Rattle.cj_cdm.proofs.LineLemmas.{IsSaid, and_then_is, cut_at, front_found, front_is}
-use Rattle.cj_cdm.proofs.ValueLemmas.{digit_apart, feed_free, free_joined, kept_found, kept_is, none_among, none_joined, unit_law, written_again, written_only}
-
-digits_free : (ds : List ℕ) → are_digits ds ≡ true → list_any is_feed ds ≡ false
-digits_free ds all = feed_free is_ascii_digit digit_apart ds all
+use Rattle.cj_cdm.proofs.ValueLemmas.{digit_apart, free_joined, kept_found, kept_is, none_among, none_joined, unit_law, written_again, written_only, digits_free}
 
 -- ---- numbers with so many decimals
-fixed_shape : (m w f : List ℕ) → ((m ++ w) ++ 46 ∷ []) ++ f ≡ m ++ (w ++ 46 ∷ (f ++ []))
-fixed_shape m w f = simp (append_assoc, append-nil)
-
 size_short : (z : ℤ) → is_short z ≡ true → unsigned_abs z < 10 ^ 36
 size_short z short = grind (arith, nat_tests)
 
@@ -44,22 +38,18 @@ fixed_read : (places : ℕ) (z : ℤ) → is_short z ≡ true → scaled_of plac
 unfolding fixed_text
 fixed_read places z short =
     let size = unsigned_abs z in
-    let small = size_short z short in
-    let w = decimal (size / 10 ^ places) in
+    let b = int_lt z (pos 0) in
+    let whole = size / 10 ^ places in
     let f = last_digits places size in
-    let fits = quotient_fits size places small in
-    let says = fraction_says (int_lt z (pos 0)) w f [] (pos 0) (decimal_digits (size / 10 ^ places) fits) (decimal_some (size / 10 ^ places) fits) (last_are_digits places size) tt refl in
-    let value : digits_value 10 (w ++ f) ≡ size =
-    value_append 0 w f ∙ ap (λ (v : ℕ). digits_value_after 10 v f) (decimal_value (size / 10 ^ places) fits) ∙ last_value places size in
-    let number : make (int_lt z (pos 0)) (digits_value 10 (w ++ f)) (pos 0 -ℤ pos (length f)) ≡ make (int_lt z (pos 0)) size (pos 0 -ℤ pos places) =
-    ap (λ (v : ℕ). make (int_lt z (pos 0)) v (pos 0 -ℤ pos (length f))) value ∙ ap (λ (k : ℕ). make (int_lt z (pos 0)) size (pos 0 -ℤ pos k)) (last_length places size) in
-    ap (scaled_of places) (fixed_shape (minus (int_lt z (pos 0))) w f)
-    ∙ scaled_told places (minus (int_lt z (pos 0)) ++ (w ++ 46 ∷ (f ++ []))) (int_lt z (pos 0)) size (record { form = says.form; value = says.value ∙ number }) (let e : nat_le size (10 ^ 36) ≡ true = grind (arith, nat_tests) in e)
+    let fits = quotient_fits size places (size_short z short) in
+    let says = decimals_say places b whole f size fits (last_are_digits places size) (last_length places size) (last_value places size) in
+    ap (scaled_of places) (decimals_shape (minus_if b) (decimal whole) f)
+    ∙ scaled_told places (minus_if b ++ (decimal whole ++ 46 ∷ f)) b size says (let e : nat_le size (10 ^ 36) ≡ true = grind (arith, nat_tests) in e)
     ∙ ap (λ (y : ℤ). Ok y) (signed_is z)
 
-minus_free : (b : Bool) → list_any is_feed (minus b) ≡ false
-minus_free true = refl
-minus_free false = refl
+minus_none : (p : ℕ → Bool) → p 45 ≡ false → (b : Bool) → list_any p (minus_if b) ≡ false
+minus_none p none true = rw none refl
+minus_none p none false = refl
 
 fixed_free : (places : ℕ) (z : ℤ) → is_short z ≡ true → list_any is_feed (fixed_text places z) ≡ false
 unfolding fixed_text
@@ -67,8 +57,8 @@ fixed_free places z short =
     let size = unsigned_abs z in
     let w = decimal (size / 10 ^ places) in
     let fits = quotient_fits size places (size_short z short) in
-    free_joined ((minus (int_lt z (pos 0)) ++ w) ++ 46 ∷ []) (last_digits places size)
-    (free_joined (minus (int_lt z (pos 0)) ++ w) (46 ∷ []) (free_joined (minus (int_lt z (pos 0))) w (minus_free (int_lt z (pos 0))) (digits_free w (decimal_digits (size / 10 ^ places) fits))) refl)
+    free_joined ((minus_if (int_lt z (pos 0)) ++ w) ++ 46 ∷ []) (last_digits places size)
+    (free_joined (minus_if (int_lt z (pos 0)) ++ w) (46 ∷ []) (free_joined (minus_if (int_lt z (pos 0))) w (minus_none is_feed refl (int_lt z (pos 0))) (digits_free w (decimal_digits (size / 10 ^ places) fits))) refl)
     (digits_free (last_digits places size) (last_are_digits places size))
 
 fixed_law : (places : ℕ) → IsSaid (fixed_said places) (λ z. fixed_text places z) (λ z. is_short z ≡ true)
@@ -135,14 +125,14 @@ figures n fits = figures_by n (nat_lt n 1_000_000) refl fits
 figures_read : (text : List ℕ) (n : ℕ) → n < 2 ^ 32 → IsFigures text n → scaled_of 0 text ≡ Ok (pos n)
 figures_read text n fits is =
     let same : text ++ [] ≡ text = append-nil text in
-    let signs = bare text [] is.all is.some in
+    let signs = signed_digits false text [] is.some is.all in
     let sign : starts_with_minus text ≡ false = ap starts_with_minus (sym same) ∙ signs.0 in
     let unsigned : without_leading_sign text ≡ text = ap without_leading_sign (sym same) ∙ signs.1 ∙ same in
     let says = whole_says text text false sign unsigned is.all is.some in
     scaled_told 0 text false n (record { form = says.form; value = says.value ∙ ap (λ (v : ℕ). make false v (pos 0 -ℤ pos 0)) is.value }) (let e : nat_le n (10 ^ 36) ≡ true = grind (arith, nat_tests) in e)
 
 number_small : (n : ℕ) → is_number n ≡ true → n < 2 ^ 32
-number_small n is = let parts = both (nat_le 1 n) (nat_lt n (2 ^ 32)) is in grind (arith, nat_tests)
+number_small n is = let parts = and_parts (nat_le 1 n) (nat_lt n (2 ^ 32)) is in grind (arith, nat_tests)
 
 number_law : IsSaid number_said number_text (λ n. is_number n ≡ true)
 unfolding number_said
@@ -171,21 +161,11 @@ id_law originator free = record {
 }
 
 -- ---- powers of ten
-abbrev sign_text : Bool → List ℕ
-sign_text b = if b then 45 ∷ [] else 43 ∷ []
-
-abbrev padded : Bool → List ℕ → List ℕ
-padded b ds = if b then 48 ∷ ds else ds
-
-behind_sign : (b : Bool) (text : List ℕ) → (starts_with_minus (sign_text b ++ text) ≡ b) × (without_leading_sign (sign_text b ++ text) ≡ text)
-behind_sign true text = (refl, refl)
-behind_sign false text = (refl, refl)
-
-padded_figures : (b : Bool) (ds : List ℕ) (n : ℕ) → IsFigures ds n → IsFigures (padded b ds) n
+padded_figures : (b : Bool) (ds : List ℕ) (n : ℕ) → IsFigures ds n → IsFigures (padded_if b ds) n
 padded_figures true ds n is = record { all = is.all; some = omega arith; value = is.value }
 padded_figures false ds n is = is
 
-power_figures : (x : ℤ) → unsigned_abs x < 1000 → IsFigures (padded (length (decimal (unsigned_abs x)) == 1) (decimal (unsigned_abs x))) (unsigned_abs x)
+power_figures : (x : ℤ) → unsigned_abs x < 1000 → IsFigures (padded_if (length (decimal (unsigned_abs x)) == 1) (decimal (unsigned_abs x))) (unsigned_abs x)
 power_figures x small = padded_figures (length (decimal (unsigned_abs x)) == 1) (decimal (unsigned_abs x)) (unsigned_abs x) (many_figures (unsigned_abs x) (omega arith))
 
 power_read : (x : ℤ) → unsigned_abs x < 1000 → scaled_of 0 (exponent_text x) ≡ Ok x
@@ -193,7 +173,7 @@ unfolding exponent_text
 power_read x small =
     let n = unsigned_abs x in
     let b = int_lt x (pos 0) in
-    let ds = padded (length (decimal n) == 1) (decimal n) in
+    let ds = padded_if (length (decimal n) == 1) (decimal n) in
     let is = power_figures x small in
     let signs = behind_sign b ds in
     let says = whole_says (sign_text b ++ ds) ds b signs.0 signs.1 is.all is.some in
@@ -201,39 +181,6 @@ power_read x small =
     ∙ ap (λ (y : ℤ). Ok y) (signed_is x)
 
 -- ---- the digits of an element
-abbrev first_digit : ℕ → List ℕ
-first_digit n = take 1 (decimal n)
-
-abbrev other_digits : ℕ → List ℕ
-other_digits n = if length (decimal n) == 1 then 48 ∷ [] else drop 1 (decimal n)
-
-taken_digits : (ds : List ℕ) → are_digits ds ≡ true → are_digits (take 1 ds) ≡ true
-taken_digits [] all = refl
-taken_digits (c ∷ ds) all = rw (both (is_ascii_digit c) (are_digits ds) all).0 refl
-
-dropped_digits : (b : Bool) (ds : List ℕ) → are_digits ds ≡ true → are_digits (if b then 48 ∷ [] else drop 1 ds) ≡ true
-dropped_digits true ds all = refl
-dropped_digits false [] all = refl
-dropped_digits false (c ∷ ds) all = (both (is_ascii_digit c) (are_digits ds) all).1
-
-some_taken : (ds : List ℕ) → 0 < length ds → 0 < length (take 1 ds)
-some_taken [] some = absurd (omega arith)
-some_taken (c ∷ ds) some = omega arith
-
-record HasDigits (n : ℕ) : Type 0 where
-  first : are_digits (first_digit n) ≡ true
-  some : 0 < length (first_digit n)
-  others : are_digits (other_digits n) ≡ true
-
-digits_of_number : (n : ℕ) → n < 10 ^ 18 → HasDigits n
-digits_of_number n short =
-    let fits : n < 10 ^ 64 = omega arith in
-    let all = decimal_digits n fits in
-    record {
-      first = taken_digits (decimal n) all;
-      some = some_taken (decimal n) (decimal_some n fits);
-      others = dropped_digits (length (decimal n) == 1) (decimal n) all;
-    }
 
 abbrev front_text : Number → List ℕ
 front_text n = minus_if n.negative ++ significand_text n.digits
@@ -273,14 +220,10 @@ record IsElement (n : Number) : Type 0 where
 
 zero_from : (n : Number) → is_zero n ≡ true → n ≡ zero_number
 zero_from n is =
-    let power = both ((n.digits == 0) && not n.negative) (unsigned_abs n.power == 0) is in
-    let digits = both (n.digits == 0) (not n.negative) power.0 in
-    kvn.zero_is n (not_negative n.negative digits.1) (eqb-true n.digits 0 digits.0) (power_zero n.power power.1)
+    let power = and_parts ((n.digits == 0) && not n.negative) (unsigned_abs n.power == 0) is in
+    let digits = and_parts (n.digits == 0) (not n.negative) power.0 in
+    kvn.zero_is n (not-true n.negative digits.1) (eqb-true n.digits 0 digits.0) (power_zero n.power power.1)
   where
-    not_negative : (b : Bool) → not b ≡ true → b ≡ false
-    not_negative true h = absurd cc
-    not_negative false h = refl
-
     power_zero : (z : ℤ) → (unsigned_abs z == 0) ≡ true → z ≡ pos 0
     power_zero (pos k) h = ap (λ (j : ℕ). pos j) (eqb-true k 0 h)
     power_zero (negsuc k) h = absurd (let e : suc k ≡ 0 = eqb-true (suc k) 0 h in omega arith)
@@ -288,8 +231,8 @@ zero_from n is =
 element_from : (n : Number) → is_decimal n ≡ true → IsElement n
 unfolding is_decimal
 element_from n is =
-    let power = both (nat_lt n.digits (10 ^ 18) && (not (n.digits % 10 == 0) || is_zero n)) (nat_le (unsigned_abs n.power) 200) is in
-    let digits = both (nat_lt n.digits (10 ^ 18)) (not (n.digits % 10 == 0) || is_zero n) power.0 in
+    let power = and_parts (nat_lt n.digits (10 ^ 18) && (not (n.digits % 10 == 0) || is_zero n)) (nat_le (unsigned_abs n.power) 200) is in
+    let digits = and_parts (nat_lt n.digits (10 ^ 18)) (not (n.digits % 10 == 0) || is_zero n) power.0 in
     record {
       short = grind (arith, nat_tests);
       zero = λ last. zero_from n (by_digit (n.digits % 10 == 0) (let e : (n.digits % 10 == 0) ≡ true = grind (arith, nat_tests) in e) digits.1);
@@ -362,10 +305,6 @@ front_read n is front =
 mark_apart : (b : ℕ) → is_ascii_digit b ≡ true → is_mark b ≡ false
 mark_apart b digit = grind (arith, nat_tests)
 
-minus_none : (p : ℕ → Bool) → p 45 ≡ false → (b : Bool) → list_any p (minus_if b) ≡ false
-minus_none p none true = rw none refl
-minus_none p none false = refl
-
 front_none : (p : ℕ → Bool) → ((b : ℕ) → is_ascii_digit b ≡ true → p b ≡ false) → p 45 ≡ false → p 46 ≡ false → (n : Number) → n.digits < 10 ^ 18 → list_any p (front_text n) ≡ false
 unfolding significand_text
 front_none p apart dash point n short =
@@ -382,8 +321,8 @@ sign_free false = refl
 power_free : (x : ℤ) → unsigned_abs x < 1000 → list_any is_feed (exponent_text x) ≡ false
 unfolding exponent_text
 power_free x small =
-    free_joined (sign_text (int_lt x (pos 0))) (padded (length (decimal (unsigned_abs x)) == 1) (decimal (unsigned_abs x))) (sign_free (int_lt x (pos 0)))
-    (digits_free (padded (length (decimal (unsigned_abs x)) == 1) (decimal (unsigned_abs x))) (power_figures x small).all)
+    free_joined (sign_text (int_lt x (pos 0))) (padded_if (length (decimal (unsigned_abs x)) == 1) (decimal (unsigned_abs x))) (sign_free (int_lt x (pos 0)))
+    (digits_free (padded_if (length (decimal (unsigned_abs x)) == 1) (decimal (unsigned_abs x))) (power_figures x small).all)
 
 scientific_by : (text front behind : List ℕ) (m n : Number) (x : ℤ) → before_first is_mark text ≡ front → after_first is_mark text ≡ behind → decimal_of front ≡ Ok m → scaled_of 0 behind ≡ Ok x
     → is_power x ≡ true → shifted m x ≡ n → scientific text ≡ Some n

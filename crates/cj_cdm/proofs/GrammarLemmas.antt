@@ -2,6 +2,7 @@
 use Rattle.std.proofs.Common.{◌≡◌, ℕ, Bool, true, false, List, [], ◌∷◌, ◌++◌, length, ap, sym, ◌∙◌, refl, subst, arith, append_assoc, append-nil, Option, Result, Ok, ℤ, pos}
 use Rattle.std.specs.Prelude.{◌&&◌, not, if◌then◌else◌, codes}
 use Rattle.std.specs.List.{list_all, list_any}
+use Rattle.std.proofs.lemmas.Bool.{and_parts, not-true}
 use Rattle.cj_epoch.specs.Written.{epoch_of}
 use Rattle.cj_kvn.specs.Numbers.{Number}
 use Rattle.cj_kvn.specs.Decimals.{decimal_text_of}
@@ -17,7 +18,6 @@ use Rattle.cj_kvn.specs.Originators.{is_originator}
 use Rattle.cj_cdm.specs.Values.{constant_said, designator_said, element_said, epoch_said, frame_said, id_said, is_decimal, is_international, is_miss, is_number, is_short, is_tick, kilometres_said, label_said, miss_said, originator_said}
 use Rattle.cj_cdm.proofs.ExactLemmas.{Anything, IsExact, behind, given, in_order, ok_is, refitted, retold, stepped}
 use Rattle.cj_cdm.proofs.LineLemmas.{IsSaid, line_exact}
-use Rattle.cj_kvn.proofs.ListLemmas.{both}
 use Rattle.cj_cdm.proofs.ValueLemmas.{constant_law, designator_law, epoch_law, frame_law, free_joined, label_law, originator_law}
 use Rattle.cj_cdm.proofs.FigureLemmas.{element_law, id_law, kilometres_law, miss_law}
 
@@ -191,10 +191,6 @@ are_free es = list_all (λ e. not (list_any is_feed e.0) && not (list_any is_fee
 abbrev ElementsFit : List (List ℕ × List ℕ) → List Number → Type 0
 ElementsFit es values = (length values ≡ length es) × (list_all is_decimal values ≡ true)
 
-not_true : (b : Bool) → not b ≡ true → b ≡ false
-not_true true h = absurd cc
-not_true false h = refl
-
 element_exact : (e : List ℕ × List ℕ) → list_any is_feed e.0 ≡ false → list_any is_feed e.1 ≡ false → IsExact (entry_said e.0 (element_said e.1)) (element_text e) Anything (λ n. is_decimal n ≡ true)
 element_exact e free none = entry_exact e.0 (element_said e.1) (λ n. decimal_text_of n ++ codes " [" ++ e.1 ++ codes "]") (λ n. is_decimal n ≡ true) free (element_law e.1 none)
 
@@ -246,7 +242,7 @@ more_elements e es first rest = record {
         → (k : ℕ) × ((entry_said e.0 (element_said e.1) >>= λ value. elements_said es >>= λ values. give (value ∷ values)) (record { text = elements_text (e ∷ es) x ++ more; line = at }) ≡ Ok (x, record { text = more; line = k }))
     again [] more at long all = absurd (omega arith)
     again (v ∷ x) more at long all =
-        let parts = both (is_decimal v) (list_all is_decimal x) all in
+        let parts = and_parts (is_decimal v) (list_all is_decimal x) all in
         let one = first.again v (elements_text es x ++ more) at tt parts.0 in
         let two = rest.again x more one.0 tt (omega arith, parts.1) in (
           two.0,
@@ -259,9 +255,9 @@ more_elements e es first rest = record {
 elements_exact : (es : List (List ℕ × List ℕ)) → are_free es ≡ true → IsExact (elements_said es) (elements_text es) Anything (ElementsFit es)
 elements_exact [] free = no_elements
 elements_exact (e ∷ es) free =
-    let here = both (not (list_any is_feed e.0) && not (list_any is_feed e.1)) (are_free es) free in
-    let names = both (not (list_any is_feed e.0)) (not (list_any is_feed e.1)) here.0 in
-    more_elements e es (element_exact e (not_true (list_any is_feed e.0) names.0) (not_true (list_any is_feed e.1) names.1)) (elements_exact es here.1)
+    let here = and_parts (not (list_any is_feed e.0) && not (list_any is_feed e.1)) (are_free es) free in
+    let names = and_parts (not (list_any is_feed e.0)) (not (list_any is_feed e.1)) here.0 in
+    more_elements e es (element_exact e (not-true (list_any is_feed e.0) names.0) (not-true (list_any is_feed e.1) names.1)) (elements_exact es here.1)
 
 -- ---- one object
 abbrev object_of : PlainSide → Object

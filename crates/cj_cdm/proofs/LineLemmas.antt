@@ -1,14 +1,15 @@
 -- A line of a message is exact where its value is.
-use Rattle.std.proofs.Common.{◌≡◌, ℕ, suc, ◌+◌, ◌<◌, ◌≤◌, cond, ltb, subst, Bool, true, false, List, [], ◌∷◌, ◌++◌, length, take, drop, ap, sym, ◌∙◌, refl, arith, append_assoc, Option, Some, None, option_map, Ok}
-use Rattle.std.specs.Prelude.{◌||◌, nat_eq, nat_lt, if◌then◌else◌, option_and_then}
+use Rattle.std.proofs.Common.{◌≡◌, ℕ, ◌+◌, Bool, true, false, List, [], ◌∷◌, ◌++◌, length, take, drop, ap, sym, ◌∙◌, refl, arith, append_assoc, Option, Some, None, option_map, Ok}
+use Rattle.std.specs.Prelude.{nat_eq, if◌then◌else◌, option_and_then}
 use Rattle.std.specs.Cmp.Lexicographic.{same_text}
 use Rattle.std.specs.List.{after_first, before_first, list_any, position, position_or_len}
 use Rattle.std.proofs.Math.Seq.{take-append_seam, drop-append_seam}
-use Rattle.std.proofs.lemmas.Bool.{eqb-true, ltb-false, ltb-true}
+use Rattle.std.proofs.lemmas.Bool.{eqb-true, or_parts}
 use Rattle.std.proofs.lemmas.Bool.Decides.{nat_tests}
 use Rattle.std.proofs.lemmas.List.{length-drop, nil_from_length, take-append-drop, take_all}
 use Rattle.std.proofs.lemmas.List.Folds.{list_any-append}
-use Rattle.cj_kvn.proofs.ListLemmas.{after_no, after_yes, any_no, any_yes, at_no, at_yes, before_no, before_yes}
+use Rattle.cj_kvn.proofs.LineLemmas.{found, not_found}
+use Rattle.cj_kvn.proofs.ListLemmas.{after_no, after_yes, any_no, any_yes, before_no, before_yes}
 use Rattle.cj_cdm.specs.declared.fault.CdmCause.{CdmCause}
 use Rattle.cj_cdm.specs.declared.fault.CdmCause.TheVariants as causes
 use Rattle.cj_cdm.specs.Reading.{Rest, and_then, behind_feed, behind_line, fault_at, is_feed, is_none_left, line_said, or_fault, taken, value_in}
@@ -56,10 +57,6 @@ split_by c text false feed more some =
 pub line_split : (text : List ℕ) → list_any is_feed text ≡ true → text ≡ before_first is_feed text ++ 10 ∷ after_first is_feed text
 line_split [] some = absurd cc
 line_split (c ∷ text) some = split_by c text (is_feed c) refl (line_split text) some
-
-pub or_parts : (a b : Bool) → (a || b) ≡ false → (a ≡ false) × (b ≡ false)
-or_parts true b h = absurd cc
-or_parts false b h = (refl, h)
 
 -- where a text is cut at its first byte of a kind
 pub record IsCut (p : ℕ → Bool) (c : ℕ) (front behind : List ℕ) : Type 0 where
@@ -161,58 +158,26 @@ line_exact {A} front said write Fit none law = record {
 }
 
 -- ---- the place of a byte
-place_by : (b : Bool) (n m : ℕ) → cond b (Some n) None ≡ Some m → (b ≡ true) × (n ≡ m)
-place_by true n m h = (refl, cc)
-place_by false n m h = absurd cc
-
-no_place_by : (b : Bool) (n : ℕ) → cond b (Some n) None ≡ None → b ≡ false
-no_place_by true n h = absurd cc
-no_place_by false n h = refl
-
-pub place_is : (p : ℕ → Bool) (xs : List ℕ) (n : ℕ) → position p xs ≡ Some n → (position_or_len p xs ≡ n) × (n < length xs)
-place_is p xs n h =
-    let here = place_by (ltb (position_or_len p xs) (length xs)) (position_or_len p xs) n h in
-    (here.1, subst (λ k. k < length xs) here.1 (ltb-true _ _ here.0))
-
-pub no_place : (p : ℕ → Bool) (xs : List ℕ) → position p xs ≡ None → length xs ≤ position_or_len p xs
-no_place p xs h = ltb-false _ _ (no_place_by (ltb (position_or_len p xs) (length xs)) (position_or_len p xs) h)
-
-any_by : (p : ℕ → Bool) (x : ℕ) (xs : List ℕ) (b : Bool) → p x ≡ b → list_any p xs ≡ nat_lt (position_or_len p xs) (length xs) → list_any p (x ∷ xs) ≡ nat_lt (position_or_len p (x ∷ xs)) (length (x ∷ xs))
-any_by p x xs true e more =
-    let first : nat_lt 0 (length (x ∷ xs)) ≡ true = grind (arith, nat_tests) in
-    any_yes p x xs e ∙ sym first ∙ ap (λ n. nat_lt n (length (x ∷ xs))) (sym (at_yes p x xs e))
-any_by p x xs false e more =
-    let next : nat_lt (suc (position_or_len p xs)) (length (x ∷ xs)) ≡ nat_lt (position_or_len p xs) (length xs) = grind (arith, nat_tests) in
-    any_no p x xs e ∙ more ∙ sym next ∙ ap (λ n. nat_lt n (length (x ∷ xs))) (sym (at_no p x xs e))
-
-any_place : (p : ℕ → Bool) (xs : List ℕ) → list_any p xs ≡ nat_lt (position_or_len p xs) (length xs)
-any_place p [] = let none : nat_lt 0 0 ≡ false = refl in sym none
-any_place p (x ∷ xs) = any_by p x xs (p x) refl (any_place p xs)
-
 -- what stands behind the first line, where its end is at a place
 pub feed_found : (text : List ℕ) (n : ℕ) → position is_feed text ≡ Some n → behind_feed text ≡ Some (drop (n + 1) text)
 feed_found text n h =
-    let at = place_is is_feed text n h in
-    let some : list_any is_feed text ≡ true = any_place is_feed text ∙ ap (λ k. nat_lt k (length text)) at.0 ∙ (let e : nat_lt n (length text) ≡ true = grind (arith, nat_tests, at.1) in e) in
-    rw some (ap (λ k. Some (drop (k + 1) text)) at.0)
+    let here = found is_feed text n h in
+    rw here.0 (ap (λ k. Some (drop (k + 1) text)) here.1)
 
 pub feed_nowhere : (text : List ℕ) → position is_feed text ≡ None → behind_feed text ≡ None
-feed_nowhere text h =
-    let least = no_place is_feed text h in
-    let none : list_any is_feed text ≡ false = any_place is_feed text ∙ (let e : nat_lt (position_or_len is_feed text) (length text) ≡ false = grind (arith, nat_tests) in e) in
-    rw none refl
+feed_nowhere text h = rw (not_found is_feed text h).0 refl
 
 pub before_place : (p : ℕ → Bool) (text : List ℕ) (n : ℕ) → position p text ≡ Some n → take n text ≡ before_first p text
-before_place p text n h = ap (λ k. take k text) (sym (place_is p text n h).0)
+before_place p text n h = ap (λ k. take k text) (sym (found p text n h).1)
 
 pub behind_place : (p : ℕ → Bool) (text : List ℕ) (n : ℕ) → position p text ≡ Some n → drop (n + 1) text ≡ after_first p text
-behind_place p text n h = ap (λ k. drop (k + 1) text) (sym (place_is p text n h).0)
+behind_place p text n h = ap (λ k. drop (k + 1) text) (sym (found p text n h).1)
 
 pub before_none : (p : ℕ → Bool) (text : List ℕ) → position p text ≡ None → text ≡ before_first p text
-before_none p text h = sym (take_all (position_or_len p text) text (no_place p text h))
+before_none p text h = sym (take_all (position_or_len p text) text (not_found p text h).1)
 
 pub behind_none : (p : ℕ → Bool) (text : List ℕ) → position p text ≡ None → [] ≡ after_first p text
-behind_none p text h = sym (nil_from_length (drop (position_or_len p text + 1) text) (omega (arith, length-drop (position_or_len p text + 1) text, no_place p text h)))
+behind_none p text h = sym (nil_from_length (drop (position_or_len p text + 1) text) (omega (arith, length-drop (position_or_len p text + 1) text, (not_found p text h).1)))
 
 -- ---- one front behind another
 pub option_same : {A : Type 0} (o q : Option A) → ((x : A) → o ≡ Some x → q ≡ Some x) → ((x : A) → q ≡ Some x → o ≡ Some x) → o ≡ q

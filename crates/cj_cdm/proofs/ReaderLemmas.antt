@@ -1,10 +1,9 @@
 -- How the readers of lines answer, in the words of the definitions.
-use Rattle.std.proofs.Common.{◌≡◌, ℕ, ◌+◌, ◌<◌, ◌≤◌, false, List, [], ◌∷◌, ◌++◌, drop, get_or, length, map, set, take, ap, sym, ◌∙◌, refl, arith, append_assoc, append-nil, Option, Some, None, option_map, Result, Ok, Err}
-use Rattle.std.proofs.lemmas.List.{drop_more, length-drop, map-append, nil_from_length, take_more_set}
+use Rattle.std.proofs.Common.{◌≡◌, ℕ, ◌+◌, ◌<◌, ◌≤◌, false, List, [], ◌∷◌, ◌++◌, drop, get_or, length, ap, sym, ◌∙◌, refl, arith, append_assoc, append-nil, Option, Some, None, option_map, Result, Ok, Err}
+use Rattle.std.proofs.lemmas.List.{drop_more, length-drop, nil_from_length}
 use Rattle.std.specs.Prelude.{◌==◌}
-use Rattle.cj_kvn.specs.Decimals.{number_of}
 use Rattle.cj_kvn.specs.Numbers.{Number}
-use Rattle.cj_kvn.specs.declared.decimals.Decimal.{Decimal}
+pub use Rattle.cj_kvn.proofs.DecimalLemmas.{written_more as values_more}
 use Rattle.cj_cdm.specs.Fits.{Fits}
 use Rattle.cj_cdm.specs.Messages.{PlainMessage}
 use Rattle.cj_cdm.specs.declared.fault.LineFault.{LineFault}
@@ -101,9 +100,6 @@ unfolding elements_said
 elements_read front i s whole all before =
     let none : drop i elements ≡ [] = nil_from_length (drop i elements) (omega (arith, length-drop i elements)) in
     sym (before ∙ ap (λ (es : List (List ℕ × List ℕ)). prepended front (elements_said es s)) none ∙ ap (λ (t : List Number). Ok (t, s)) (append-nil front))
-
-pub values_more : (values : List Decimal) (i : ℕ) (d : Decimal) → i < length values → map number_of (take (i + 1) (set values i d)) ≡ map number_of (take i values) ++ number_of d ∷ []
-values_more values i d short = ap (map number_of) (take_more_set values i d short) ∙ map-append number_of (take i values) (d ∷ [])
 
 -- ---- the end of a message
 pub some_left : (text : List ℕ) → (length text == 0) ≡ false → is_none_left text ≡ false

@@ -1,16 +1,8 @@
 -- Texts that are written part by part.
-use Rattle.std.proofs.Common.{◌≡◌, ℕ, ◌+◌, ◌<◌, List, [], ◌∷◌, ◌++◌, length, take, get_or, ap, sym, ◌∙◌, append_assoc, Result, OnOk}
+use Rattle.std.proofs.Common.{◌≡◌, ℕ, ◌+◌, ◌<◌, List, [], ◌∷◌, ◌++◌, length, take, get_or, ap, sym, ◌∙◌}
 use Rattle.std.specs.Prelude.{flat_map}
 use Rattle.std.proofs.lemmas.List.{flat_map_more, take_more}
-use Rattle.std.proofs.lemmas.Result.{on_ok_weaker}
-
--- one part behind another
-pub joined : (old was now a b : List ℕ) → was ≡ old ++ a → now ≡ was ++ b → now ≡ old ++ (a ++ b)
-joined old was now a b first second = second ∙ ap (λ (t : List ℕ). t ++ b) first ∙ append_assoc old a b
-
--- the same where the second may want memory
-pub joined_ok : {T E : Type 0} (r : Result T E) (old was now a b : List ℕ) → was ≡ old ++ a → OnOk r (now ≡ was ++ b) → OnOk r (now ≡ old ++ (a ++ b))
-joined_ok r old was now a b first second = on_ok_weaker r (joined old was now a b first) second
+pub use Rattle.cj_epoch.proofs.TextLemmas.{joined, joined_ok}
 
 -- the texts of the things before place i, and then of that one
 pub part_more : {A : Type 0} (text : A → List ℕ) (xs : List A) (i : ℕ) (x : A) (old was now : List ℕ) → i < length xs → x ≡ get_or xs i x

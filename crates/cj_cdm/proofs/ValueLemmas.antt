@@ -6,6 +6,7 @@ use Rattle.std.specs.Cmp.Lexicographic.{same_text}
 use Rattle.std.specs.List.{list_all, list_any}
 use Rattle.std.specs.Result.{result_ok}
 use Rattle.std.proofs.Math.Seq.{take-append_seam, drop-append_seam}
+use Rattle.std.proofs.lemmas.Bool.{and_parts}
 use Rattle.std.proofs.lemmas.Bool.Decides.{nat_tests}
 use Rattle.std.proofs.lemmas.List.{length-append, take-append-drop}
 use Rattle.std.proofs.lemmas.List.Folds.{list_any-append}
@@ -15,7 +16,6 @@ use Rattle.cj_epoch.specs.Calendar.{Civil, civil_of}
 use Rattle.cj_epoch.specs.Written.{clock_text, date_text, epoch_of, four, six, two}
 use Rattle.cj_epoch.proofs.WrittenLemmas.{epoch_of-read}
 use Rattle.cj_kvn.specs.Originators.{is_originator, is_originator_byte}
-use Rattle.cj_kvn.proofs.ListLemmas.{both}
 use Rattle.cj_track.specs.Labels.{is_label, is_visible}
 use Rattle.cj_track.specs.declared.frame.Frame.{Frame}
 use Rattle.cj_track.specs.declared.frame.Frame.TheVariants as frames
@@ -30,7 +30,7 @@ use Rattle.cj_cdm.proofs.LineLemmas.{IsSaid, and_then_is, only_if_is, option_sam
 pub none_among : (p q : ℕ → Bool) → ((b : ℕ) → q b ≡ true → p b ≡ false) → (text : List ℕ) → list_all q text ≡ true → list_any p text ≡ false
 none_among p q apart [] all = refl
 none_among p q apart (c ∷ text) all =
-    let parts = both (q c) (list_all q text) all in
+    let parts = and_parts (q c) (list_all q text) all in
     rw (apart c parts.0, none_among p q apart text parts.1) refl
 
 pub none_joined : (p : ℕ → Bool) (a b : List ℕ) → list_any p a ≡ false → list_any p b ≡ false → list_any p (a ++ b) ≡ false
@@ -109,7 +109,7 @@ kept_law said test is free = record {
 label_free : (t : List ℕ) → is_label t ≡ true → list_any is_feed t ≡ false
 unfolding is_label
 label_free t is =
-    let some = (both _ _ (both _ _ (both _ _ is).0).0).1 in
+    let some = (and_parts _ _ (and_parts _ _ (and_parts _ _ is).0).0).1 in
     feed_free is_visible visible_apart t some
 
 pub label_law : IsSaid label_said (λ t. t) (λ t. is_label t ≡ true)
@@ -117,7 +117,7 @@ label_law = kept_law label_said is_label (λ t. refl) label_free
 
 originator_free : (t : List ℕ) → is_originator t ≡ true → list_any is_feed t ≡ false
 unfolding is_originator
-originator_free t is = feed_free is_originator_byte originator_apart t (both _ _ is).1
+originator_free t is = feed_free is_originator_byte originator_apart t (and_parts _ _ is).1
 
 pub originator_law : IsSaid originator_said (λ t. t) (λ t. is_originator t ≡ true)
 originator_law = kept_law originator_said is_originator (λ t. refl) originator_free
@@ -130,7 +130,7 @@ HasForm t = nat_le 9 (length t) ≡ true → list_all is_ascii_digit (take 4 t) 
 dash_apart : (b : ℕ) → (b == 45) ≡ true → is_feed b ≡ false
 dash_apart b is = grind (arith, nat_tests)
 
-digits_free : (ds : List ℕ) → list_all is_ascii_digit ds ≡ true → list_any is_feed ds ≡ false
+pub digits_free : (ds : List ℕ) → list_all is_ascii_digit ds ≡ true → list_any is_feed ds ≡ false
 digits_free ds all = feed_free is_ascii_digit digit_apart ds all
 
 designator_bytes : (t : List ℕ) → HasForm t
@@ -151,11 +151,11 @@ designator_bytes [] long year dash number letters = absurd cc
 designator_free : (t : List ℕ) → is_designator t ≡ true → list_any is_feed t ≡ false
 unfolding is_designator
 designator_free t is =
-    let piece = both _ _ is in
-    let launch = both _ _ piece.0 in
-    let dash = both _ _ launch.0 in
-    let year = both _ _ dash.0 in
-    let letters = (both _ _ piece.1).1 in
+    let piece = and_parts _ _ is in
+    let launch = and_parts _ _ piece.0 in
+    let dash = and_parts _ _ launch.0 in
+    let year = and_parts _ _ dash.0 in
+    let letters = (and_parts _ _ piece.1).1 in
     designator_bytes t year.0 year.1 dash.1 launch.1 letters
 
 international_by : (t : List ℕ) (b : Bool) → same t (codes "UNKNOWN") ≡ b → (b || is_designator t) ≡ true → list_any is_feed t ≡ false
@@ -230,7 +230,7 @@ epoch_free m =
     (six_free (m % SECOND))
 
 tick_from : (m : ℕ) → is_tick m ≡ true → IsTick m
-tick_from m is = let parts = both (nat_le FIRST_TICK m) (nat_le m LAST_TICK) is in (grind (arith, nat_tests), grind (arith, nat_tests))
+tick_from m is = let parts = and_parts (nat_le FIRST_TICK m) (nat_le m LAST_TICK) is in (grind (arith, nat_tests), grind (arith, nat_tests))
 
 pub epoch_law : IsSaid epoch_said epoch_of (λ m. is_tick m ≡ true)
 unfolding epoch_said

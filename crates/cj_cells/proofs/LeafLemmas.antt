@@ -1,6 +1,6 @@
 -- The one-thread list: its stretches are sound and in order, and hold each common tick that is looked at.
-use Rattle.std.proofs.Common.{◌≡◌, ℕ, ◌+◌, ◌-◌, ◌≤◌, Bool, true, List, [], ◌∷◌, length, refl, sym, ap, subst, ◌∙◌, arith, length-append}
-use Rattle.std.specs.Prelude.{All, Any, AllPairs, is_some}
+use Rattle.std.proofs.Common.{◌≡◌, ℕ, ◌+◌, ◌-◌, Bool, true, List, [], ◌∷◌, length, refl, sym, subst, ◌∙◌, arith, length-append}
+use Rattle.std.specs.Prelude.{All, Any, AllPairs}
 use Rattle.std.specs.List.{flat_map, sum_by}
 use Rattle.std.proofs.lemmas.List.Sums.{sum_by-cons}
 use Rattle.cj_hermite.specs.PlainProblems.{PlainProblem, number_at, curve_at, threshold_of, IsCommonOf}
@@ -16,7 +16,7 @@ use Rattle.cj_interval.proofs.ListLemmas.{Each, Exists, Ordered, Each-weaker, Ea
 use Rattle.cj_hermite.proofs.RootLemmas.{IsRootOf, Each-roots, Ordered-roots, Exists-roots}
 use Rattle.cj_hermite.proofs.RootLemmas.{Holds as HasRootTick}
 use Rattle.cj_hermite.proofs.ObjectLemmas.{numbers_exist, second_exists}
-use Rattle.cj_hermite.proofs.CurveLemmas.{Curves, curves, curves_of, root_intervals, some_both}
+use Rattle.cj_hermite.proofs.CurveLemmas.{Curves, curves, curves_of, keep_part, root_intervals, some_both}
 use Rattle.cj_bezier.proofs.LeafLemmas.{leaves_split}
 
 -- ---- the list
@@ -68,15 +68,6 @@ root_across case r q is is' before =
       ticks = λ e f. omega (arith, in_r.to, in_q.from, before.ticks (omega (arith, in_r.first_object, in_q.first_object)) (omega (arith, in_r.second_object, in_q.second_object)));
     }) (leaves_of_root case q) (root_parts case q is'))
     (leaves_of_root case r) (root_parts case r is)
-
--- a part of ticks that keep their intervals keeps them
-keep_part : (case : PlainProblem) (a b first last from to : ℕ) → KeepIntervals case a b first last → first ≤ from → from ≤ to → to ≤ last → KeepIntervals case a b from to
-keep_part case a b first last from to keep low some high =
-    let here = keep.same from low (omega arith) in
-    record {
-      same = λ m after before. keep.same m (omega arith) (omega arith) ∙ sym here;
-      states = ap is_some here ∙ keep.states;
-    }
 
 root_keeps : (case : PlainProblem) (r : PlainCell) → IsDescribed case r → Each (λ s. KeepIntervals case s.a s.b s.first s.last) (leaves_of_root case r)
 root_keeps case r is =

@@ -1,5 +1,5 @@
 //! The halving of a cell, until each part is of one kind.
-ghost use Rattle.std.specs.Prelude.{◌≡◌, ℕ, ◌+◌, ◌^◌, ◌<◌, ◌≤◌, length, take, drop, vec_len, All, OnOk, OnErr, IsErrOf};
+ghost use Rattle.std.specs.Prelude.{◌≡◌, ◌+◌, ◌^◌, ◌<◌, ◌≤◌, length, take, drop, vec_len, All, OnOk, OnErr, IsErrOf};
 ghost use Rattle.cj_hermite.specs.Interpolant.{IsOver};
 ghost use Rattle.cj_hermite.specs.Problems.{plain_problem};
 ghost use Rattle.cj_hermite.specs.Ready.{curve_ready};

@@ -2,7 +2,6 @@
 ghost use Rattle.std.specs.Prelude.{◌≡◌, ◌+◌, ◌<◌, ◌≤◌, map, length, take, drop, vec_len, [], ◌∷◌, All, OnOk, OnErr, IsErrOf};
 ghost use Rattle.cj_track.specs.Tracks.{plain_track};
 ghost use Rattle.cj_hermite.specs.Problems.{plain_problem};
-ghost use Rattle.cj_hermite.specs.Slots.{slot_first, slot_last};
 ghost use Rattle.cj_hermite.specs.CommonRuns.{runs_between, run_of, both_numbers};
 ghost use Rattle.cj_hermite.specs.Pairs.{objects_of};
 ghost use Rattle.cj_hermite.specs.Roots.{KeepIntervals, root_of_run, roots_in_slot};

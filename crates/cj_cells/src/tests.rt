@@ -1,86 +1,19 @@
-ghost use Rattle.std.specs.Prelude.{◌≡◌, ◌≤◌, length, IfOk};
-ghost use Rattle.cj_track.specs.Segments.{node_count};
+ghost use Rattle.std.specs.Prelude.{◌≡◌, ◌≤◌, length};
 ghost use Rattle.cj_hermite.specs.Limits.{MAX_SIZE};
 
 use super::*;
 use cj_bezier::{Cell, Kind, Leaf};
-use cj_hermite::{Hints, Pair, Problem, Sizes, Tracks};
+use cj_hermite::{Hints, Pair, Problem};
 use cj_samples::{
-    AT_7000, AT_7005, AT_7100, REST, moving, node, rest, seconds, tick, track_of, track_of_two,
-    useable,
+    AT_7000, AT_7005, AT_7100, REST, node, rest, tick, track_of, track_of_two, useable,
 };
-use cj_track::{Track, Vec3};
-use std::alloc::{AllocError, Global};
+use cj_scenes::{crossing, problem_of, sized};
+use cj_track::Vec3;
+use std::alloc::Global;
 use std::process::Abort;
 use std::test::Fail;
 
 const BOTH: [Pair; 1] = [Pair { a: 0, b: 1 }];
-
-/// Two tracks of points over a minute and one tick, by a threshold of 5 km.
-fn problem_of(alloc: Global, a: Track, b: Track) -> Result<Problem, AllocError>
-    requires frame { a.frame ≡ b.frame }
-    requires few_of_a { node_count a.segments ≤ 4 }
-    requires few_of_b { node_count b.segments ≤ 4 }
-    ensures { IfOk result (λ problem. length problem.tracks ≡ 2) }
-{
-    sized(alloc, a, b, 0, 0)
-}
-
-/// The same of objects of these sizes.
-fn sized(alloc: Global, a: Track, b: Track, size_a: u64, size_b: u64) -> Result<Problem, AllocError>
-    requires frame { a.frame ≡ b.frame }
-    requires few_of_a { node_count a.segments ≤ 4 }
-    requires few_of_b { node_count b.segments ≤ 4 }
-    requires small_a { size_a ≤ MAX_SIZE }
-    requires small_b { size_b ≤ MAX_SIZE }
-    ensures { IfOk result (λ problem. length problem.tracks ≡ 2) }
-{
-    Ok(Problem {
-        tracks: Tracks::new(vec![in alloc; a, b]?),
-        window: seconds(0, 60),
-        threshold: 5_000_000_000_000,
-        sizes: Sizes::new(vec![in alloc; size_a, size_b]?),
-    })
-}
-
-/// Two tracks that cross at right angles, one kilometre apart.
-fn crossing(alloc: Global) -> Result<Problem, AllocError>
-    ensures { IfOk result (λ problem. length problem.tracks ≡ 2) }
-{
-    let along_y = Vec3 {
-        x: 0,
-        y: 7_500_000_000_000,
-        z: 0,
-    };
-    let along_z = Vec3 {
-        x: 0,
-        y: 0,
-        z: 7_500_000_000_000,
-    };
-    let a0 = Vec3 {
-        x: 7_000_000_000_000_000,
-        y: -225_000_000_000_000,
-        z: 0,
-    };
-    let a1 = Vec3 {
-        x: 7_000_000_000_000_000,
-        y: 225_000_000_000_000,
-        z: 0,
-    };
-    let b0 = Vec3 {
-        x: 7_001_000_000_000_000,
-        y: 0,
-        z: -225_000_000_000_000,
-    };
-    let b1 = Vec3 {
-        x: 7_001_000_000_000_000,
-        y: 0,
-        z: 225_000_000_000_000,
-    };
-    let a = moving(alloc, 0, 60, a0, a1, along_y)?;
-    let b = moving(alloc, 0, 60, b0, b1, along_z)?;
-    problem_of(alloc, track_of(alloc, a)?, track_of(alloc, b)?)
-}
 
 /// The roots of the two tracks in a slot, as microseconds after the start.
 fn runs_in(alloc: Global, problem: &Problem, slot: u32) -> Result<Vec<(u64, u64)>, RefineError>

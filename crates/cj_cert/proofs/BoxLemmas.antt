@@ -1,5 +1,7 @@
 -- The line of a box, by its six ends, and of a cell.
 use Rattle.std.proofs.Common.{◌≡◌, ℕ, ◌-◌, ◌^◌, ◌<◌, ◌≤◌, List, [], ◌∷◌, drop, get_or, take, arith, ap, sym, ◌∙◌, refl, subst, true, false, Bool, ℤ, pos, Option, Some, Result, Ok, Err, length}
+use Rattle.std.proofs.Common.{FitsSigned, of_z, to_z, to_z-of_z}
+use Rattle.std.specs.Int.{w128}
 use Rattle.std.specs.Prelude.{◌&&◌, int_le, int_lt, unsigned_abs}
 use Rattle.std.proofs.lemmas.Bool.{and_from, and_left, and_right}
 use Rattle.std.proofs.lemmas.Int.{ints}
@@ -66,6 +68,20 @@ pub record HasSlots (i first last : ℤ) : Type 0 where
   pub object : is_object i ≡ true
   pub from : is_slot first ≡ true
   pub to : is_from (unsigned_abs first) (2 ^ 32 - 1) last ≡ true
+
+-- a number as it is passed on
+abbrev pub passed : ℤ → ℤ
+passed z = to_z w128 (of_z w128 z)
+
+-- the same of numbers that are passed on, the first slot as it was taken
+pub has_slots : (i first last : ℤ) (from : ℕ) → FitsSigned w128 i → FitsSigned w128 first → FitsSigned w128 last
+    → is_object (passed i) ≡ true → is_slot (passed first) ≡ true → from ≡ unsigned_abs (passed first)
+    → is_from from (2 ^ 32 - 1) (passed last) ≡ true → HasSlots i first last
+has_slots i first last from p q r object slot taken order = record {
+  object = rw (to_z-of_z p) at object;
+  from = rw (to_z-of_z q) at slot;
+  to = rw (taken, to_z-of_z q, to_z-of_z r) at order;
+}
 
 pub x_refused : (i first last : ℤ) (ns : List ℤ) → 6 ≤ length ns → length ns < 7 → HasSlots i first last → is_reach (at ns 0) (at ns 1) ≡ false → spec.box_of i first last ns ≡ Err causes.Range
 x_refused i first last ns least most slots x =

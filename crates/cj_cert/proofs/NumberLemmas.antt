@@ -10,45 +10,30 @@ use Rattle.std.specs.Str.Parse.{AllDigits, digits_value, signed_digits_value, st
 use Rattle.std.proofs.lemmas.Bool.{and_parts, eqb-true, eq-eqb, not-true}
 use Rattle.std.proofs.lemmas.Bool.Decides.{nat_tests}
 use Rattle.std.proofs.lemmas.Fmt.{decimal_digit, decimal_is_IsNumeral, decimal-digits_value, first_decimal}
+use Rattle.std.proofs.lemmas.List.Sums.{AllPass-from_list_all}
 use Rattle.std.proofs.lemmas.List.{length-take}
 use Rattle.std.proofs.lemmas.List.Folds.{list_all_more}
 use Rattle.std.proofs.lemmas.Str.Parse.{IsNumeralModel, digits_value_short}
 use Rattle.cj_cert.specs.Numbers.{is_numeral, is_number, number_of, without_minus}
+use Rattle.cj_kvn.proofs.NumberTextLemmas.{all_of, is_digit}
+use Rattle.cj_kvn.proofs.RunLemmas.{digit_is, in_digits}
 
 -- ---- digits
-
-is_digit : (c : ℕ) → digit_value c < 10 → is_ascii_digit c ≡ true
-is_digit c small = grind (arith, nat_tests)
 
 has_value : (c : ℕ) → is_ascii_digit c ≡ true → digit_value c < 10
 has_value c digit = grind (arith, nat_tests)
 
-from_digit : (c : ℕ) → is_ascii_digit c ≡ true → (48 ≤ c) × (c ≤ 57)
-from_digit c digit = grind (arith, nat_tests)
-
-digit_is : (c : ℕ) → is_ascii_digit c ≡ true → digit_value c ≡ c - 48
-digit_is c digit = grind (arith, nat_tests)
-
--- the value of one of the digits
-pub digit_in : (ds : List ℕ) (k : ℕ) → list_all is_ascii_digit ds ≡ true → k < length ds → (48 ≤ get_or ds k 0) × (get_or ds k 0 ≤ 57) × (digit_value (get_or ds k 0) ≡ get_or ds k 0 - 48)
-digit_in [] k all less = absurd (omega arith)
-digit_in (c ∷ ds) zero all less =
-    let here = (and_parts (is_ascii_digit c) (list_all is_ascii_digit ds) all).0 in
-    let range = from_digit c here in
-    (range.0, range.1, digit_is c here)
-digit_in (c ∷ ds) (suc k) all less = digit_in ds k (and_parts (is_ascii_digit c) (list_all is_ascii_digit ds) all).1 (omega arith)
-
 -- the value of a digit at a place
 pub digit_of : (ds : List ℕ) (k : ℕ) → is_ascii_digit (get_or ds k 0) ≡ true → (48 ≤ get_or ds k 0) × (get_or ds k 0 ≤ 57) × (digit_value (get_or ds k 0) ≡ get_or ds k 0 - 48)
-digit_of ds k digit = let range = from_digit (get_or ds k 0) digit in (range.0, range.1, digit_is (get_or ds k 0) digit)
+digit_of ds k digit = let range = in_digits (get_or ds k 0) digit in (range.0, range.1, digit_is (get_or ds k 0) digit)
+
+-- and of each of the digits
+pub digit_in : (ds : List ℕ) (k : ℕ) → list_all is_ascii_digit ds ≡ true → k < length ds → (48 ≤ get_or ds k 0) × (get_or ds k 0 ≤ 57) × (digit_value (get_or ds k 0) ≡ get_or ds k 0 - 48)
+digit_in ds k all less = digit_of ds k (AllPass-from_list_all is_ascii_digit ds all k 0 less)
 
 pub one_digit_more : (ds : List ℕ) (k : ℕ) → k < length ds → list_all is_ascii_digit (take k ds) ≡ true → is_ascii_digit (get_or ds k 0) ≡ true
     → list_all is_ascii_digit (take (k + 1) ds) ≡ true
 one_digit_more ds k less all digit = list_all_more is_ascii_digit ds k 0 less ∙ rw (all, digit) refl
-
-pub all_of : (ds : List ℕ) → AllDigits 10 ds → list_all is_ascii_digit ds ≡ true
-all_of [] all = refl
-all_of (c ∷ ds) all = grind (arith, is_digit c all.0, all_of ds all.1)
 
 pub each_of : (ds : List ℕ) → list_all is_ascii_digit ds ≡ true → AllDigits 10 ds
 each_of [] all = tt
@@ -93,9 +78,6 @@ numeral_written ds is small =
 decimal_digits : (n : ℕ) → n < 2 ^ 64 → AllDigits 10 (decimal n)
 decimal_digits n small = (decimal_is_IsNumeral n small).0.1
 
-decimal_value : (n : ℕ) → n < 2 ^ 64 → digits_value 10 (decimal n) ≡ n
-decimal_value n small = (decimal_is_IsNumeral n small).1
-
 decimal_numeral : (n : ℕ) → n < 2 ^ 64 → is_numeral (decimal n) ≡ true
 decimal_numeral zero small = numeral_zero (decimal 0) (decimal_digit 0 (omega arith))
 decimal_numeral (suc n) small = numeral_from (decimal (suc n)) (decimal_digits (suc n) small) (first_decimal (suc n) (omega arith) small)
@@ -112,7 +94,7 @@ record HasNoSign (ds : List ℕ) : Type 0 where
 no_sign : (ds : List ℕ) → 0 < length ds → AllDigits 10 ds → HasNoSign ds
 no_sign [] some all = absurd (omega arith)
 no_sign (c ∷ ds) some all =
-    let range = from_digit c (is_digit c all.0) in
+    let range = in_digits c (is_digit c all.0) in
     let minus : (c == 45) ≡ false = grind (arith, nat_tests) in
     let plus : (c == 43) ≡ false = grind (arith, nat_tests) in
     record { minus = minus; rest = rw (minus, plus) refl; bare = rw minus refl; other = rw minus refl }
@@ -147,10 +129,10 @@ not_zero (c ∷ ds) some = let first : (c == 48) ≡ false = grind (arith, nat_t
 
 -- the number that is written is said again
 pub said_again : (z : ℤ) → unsigned_abs z < 2 ^ 64 → number_of (signed_decimal z) ≡ Some z
-said_again (pos n) small = said_bare (decimal n) (decimal_numeral n small) ∙ ap (λ k. Some (pos k)) (decimal_value n small)
+said_again (pos n) small = said_bare (decimal n) (decimal_numeral n small) ∙ ap (λ k. Some (pos k)) ((decimal_is_IsNumeral n small).1)
 said_again (negsuc n) small =
     said_minus (decimal (suc n)) (decimal_numeral (suc n) small) (not_zero (decimal (suc n)) (first_decimal (suc n) (omega arith) small))
-    ∙ ap (λ k. Some (neg_ℤ (pos k))) (decimal_value (suc n) small)
+    ∙ ap (λ k. Some (neg_ℤ (pos k))) ((decimal_is_IsNumeral (suc n) small).1)
 
 -- ---- what is said is written again
 

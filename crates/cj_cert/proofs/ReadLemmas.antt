@@ -1,8 +1,10 @@
 -- A text that is read is the text of what is read, which fits.
 use Rattle.std.proofs.Common.{◌≡◌, ℕ, ◌+◌, ◌^◌, ◌<◌, ◌≤◌, ◌⊎◌, inl, inr, List, [], ◌∷◌, ◌++◌, All, arith, ap, ap₂, sym, ◌∙◌, refl, subst, true, false, Bool, cond, ℤ, pos, Option}
 use Rattle.std.proofs.Common.{Some, None, Result, Ok, Err, append_assoc, append-nil}
-use Rattle.std.specs.Prelude.{◌==◌, if◌then◌else◌, flat_map, codes}
+use Rattle.std.specs.Prelude.{◌==◌, ◌&&◌, if◌then◌else◌, nat_le, nat_lt, flat_map, codes}
 use Rattle.std.specs.List.{join_with_byte, slice_split}
+use Rattle.std.proofs.lemmas.Bool.{and_parts, eqb-true, leb-true}
+use Rattle.std.proofs.lemmas.Bool.Decides.{nat_tests}
 use Rattle.std.proofs.lemmas.Grind.{flat_map-append}
 use Rattle.std.proofs.lemmas.List.Elements.{All-nil, All-push}
 use Rattle.std.proofs.lemmas.List.Splits.{join_with_byte-slice_split}
@@ -19,7 +21,7 @@ use Rattle.cj_cert.specs.Certificates.{PlainBoxLine, PlainCertificate}
 use Rattle.cj_cert.specs.Fits.{Fits, FitsSize, FitsShell, FitsBox, FitsCell}
 use Rattle.cj_cert.specs.Lines.{PlainLine, Heading, Window, Threshold, Objects, Size, Shell, Box, Cell, End, rank_of, said, said_in, line_said, where_it_may_stand, MAX_OBJECTS, MAX_THRESHOLD}
 use Rattle.cj_cert.specs.Numbers.{numbers_in, others_in}
-use Rattle.cj_cert.specs.Ranks.{has_ended, may_follow, rank_of_word}
+use Rattle.cj_cert.specs.Ranks.{has_ended, may_follow, place, rank_of_word}
 use Rattle.cj_cert.specs.Reading.{and_then, at_line, behind_lines, ends_at, nothing_said, reading, reads_on, version_of, with_line}
 use Rattle.cj_cert.specs.Texts.{line, row, row_ended, number, size_text, shell_text, shell_row, box_text, cell_text, head_text, kind_word, text_of}
 use Rattle.cj_cert.proofs.AgainLemmas.{numbers_small}
@@ -132,24 +134,53 @@ text_to (Some rank.Box) c = body c
 text_to (Some rank.Cell) c = body c
 text_to (Some rank.End) c = text_of c
 
-record HasNone (c : PlainCertificate) : Type 0 where
-  sizes : c.sizes ≡ []
-  shells : c.shells ≡ []
-  boxes : c.boxes ≡ []
-  cells : c.cells ≡ []
+-- the place of the line before in their order, 0 where there is none
+abbrev last_place : Option Rank → ℕ
+last_place None = 0
+last_place (Some r) = place r
 
--- no line of a later kind is told yet
+-- up to this place no line of a later kind is told
+record NoneBehind (last : ℕ) (sizes : List SizeOfLine) (shells : List ShellLine) (boxes : List PlainBoxLine) (cells : List PlainLeaf) : Type 0 where
+  no_sizes : last < 5 → sizes ≡ []
+  no_shells : last < 6 → shells ≡ []
+  no_boxes : last < 7 → boxes ≡ []
+  no_cells : last < 8 → cells ≡ []
+
 abbrev NoLater : Option Rank → PlainCertificate → Type 0
-NoLater None c = HasNone c
-NoLater (Some rank.Heading) c = HasNone c
-NoLater (Some rank.Window) c = HasNone c
-NoLater (Some rank.Threshold) c = HasNone c
-NoLater (Some rank.Objects) c = HasNone c
-NoLater (Some rank.Size) c = (c.shells ≡ []) × (c.boxes ≡ []) × (c.cells ≡ [])
-NoLater (Some rank.Shell) c = (c.boxes ≡ []) × (c.cells ≡ [])
-NoLater (Some rank.Box) c = c.cells ≡ []
-NoLater (Some rank.Cell) c = Unit {0}
-NoLater (Some rank.End) c = Unit {0}
+NoLater before c = NoneBehind (last_place before) c.sizes c.shells c.boxes c.cells
+
+further : (m n : ℕ) (ss : List SizeOfLine) (hs : List ShellLine) (bs : List PlainBoxLine) (cs : List PlainLeaf) → m ≤ n
+    → NoneBehind m ss hs bs cs → NoneBehind n ss hs bs cs
+further m n ss hs bs cs le none = record {
+  no_sizes = λ lt. none.no_sizes (omega arith);
+  no_shells = λ lt. none.no_shells (omega arith);
+  no_boxes = λ lt. none.no_boxes (omega arith);
+  no_cells = λ lt. none.no_cells (omega arith);
+}
+
+-- where a line may stand, by the places of its kind and of the line before
+record IsInOrder (r : Rank) (before : Option Rank) : Type 0 where
+  reached : 4 ≤ place r → 3 ≤ last_place before
+  in_lists : 4 < place r → 4 ≤ last_place before
+  no_later : 4 < place r → last_place before ≤ place r
+
+in_order : (r : Rank) (before : Option Rank) → may_follow r before ≡ true → IsInOrder r before
+in_order r None f =
+    let first = eqb-true (place r) 1 f in
+    record { reached = λ low. absurd (omega arith); in_lists = λ low. absurd (omega arith); no_later = λ low. absurd (omega arith) }
+in_order r (Some b) f = go (nat_lt (place b) 4) refl f
+  where
+    go : (early : Bool) → nat_lt (place b) 4 ≡ early
+        → (if early then place r == place b + 1 else (nat_lt 4 (place r) && nat_le (place b) (place r))) ≡ true → IsInOrder r (Some b)
+    go true is f =
+        let next = eqb-true (place r) (place b + 1) f in
+        let below : place b < 4 = grind (arith, nat_tests) in
+        record { reached = λ low. omega arith; in_lists = λ low. absurd (omega arith); no_later = λ low. absurd (omega arith) }
+    go false is f =
+        let parts = and_parts (nat_lt 4 (place r)) (nat_le (place b) (place r)) f in
+        let lists : 4 ≤ place b = grind (arith, nat_tests) in
+        let order = leb-true (place b) (place r) parts.1 in
+        record { reached = λ low. omega arith; in_lists = λ low. lists; no_later = λ low. order }
 
 flat_more : {A : Type 0} (f : A → List ℕ) (xs : List A) (x : A) → flat_map f (xs ++ x ∷ []) ≡ flat_map f xs ++ f x
 flat_more f xs x = flat_map-append f xs (x ∷ []) ∙ ap (λ (t : List ℕ). flat_map f xs ++ t) (append-nil (f x))
@@ -210,35 +241,64 @@ record Goes (before : Option Rank) (c : PlainCertificate) (l : PlainLine) : Type
   text : text_to before c ++ told c.version l ≡ text_to (Some (rank_of l)) (with_line c l)
   later : NoLater (Some (rank_of l)) (with_line c l)
 
+-- among the lists the text so far is that of the head and the lists
+body_to : (before : Option Rank) (c : PlainCertificate) → 4 ≤ last_place before → has_ended before ≡ false → text_to before c ≡ body c
+body_to None c low open_end = absurd (omega arith)
+body_to (Some rank.Heading) c low open_end = absurd (omega arith)
+body_to (Some rank.Window) c low open_end = absurd (omega arith)
+body_to (Some rank.Threshold) c low open_end = absurd (omega arith)
+body_to (Some rank.End) c low open_end = absurd cc
+body_to (Some r) c low open_end = refl
+
 goes : (before : Option Rank) (c : PlainCertificate) (l : PlainLine) → NoLater before c → has_ended before ≡ false → may_follow (rank_of l) before ≡ true → Goes before c l
-goes None c Heading none e f = record { text = refl; later = none }
-goes (Some rank.Heading) c (Window first last) none e f = record { text = refl; later = record { sizes = none.sizes; shells = none.shells; boxes = none.boxes; cells = none.cells } }
-goes (Some rank.Window) c (Threshold threshold) none e f = record { text = refl; later = record { sizes = none.sizes; shells = none.shells; boxes = none.boxes; cells = none.cells } }
+goes None c Heading none e f = record { text = refl; later = further 0 1 _ _ _ _ (omega arith) none }
+goes (Some rank.Heading) c (Window first last) none e f = record { text = refl; later = further 1 2 _ _ _ _ (omega arith) none }
+goes (Some rank.Window) c (Threshold threshold) none e f = record { text = refl; later = further 2 3 _ _ _ _ (omega arith) none }
 goes (Some rank.Threshold) c (Objects count) none e f = record {
   text = objects_more (told c.version Heading) (told c.version (Window c.first c.last)) (told c.version (Threshold c.threshold)) (told c.version (Objects count))
-      c.version c.sizes c.shells c.boxes c.cells none.sizes none.shells none.boxes none.cells;
-  later = record { sizes = none.sizes; shells = none.shells; boxes = none.boxes; cells = none.cells };
+      c.version c.sizes c.shells c.boxes c.cells
+      (none.no_sizes (omega arith)) (none.no_shells (omega arith)) (none.no_boxes (omega arith)) (none.no_cells (omega arith));
+  later = further 3 4 _ _ _ _ (omega arith) none;
 }
-goes (Some rank.Objects) c (Size s) none e f =
-    record { text = size_more (head_text c) c.version c.sizes s c.shells c.boxes c.cells none.shells none.boxes none.cells; later = (none.shells, none.boxes, none.cells) }
-goes (Some rank.Size) c (Size s) none e f = record { text = size_more (head_text c) c.version c.sizes s c.shells c.boxes c.cells none.0 none.1 none.2; later = none }
-goes (Some rank.Objects) c (Shell s) none e f = record { text = shell_more (head_text c) c.version c.sizes c.shells s c.boxes c.cells none.boxes none.cells; later = (none.boxes, none.cells) }
-goes (Some rank.Size) c (Shell s) none e f = record { text = shell_more (head_text c) c.version c.sizes c.shells s c.boxes c.cells none.1 none.2; later = (none.1, none.2) }
-goes (Some rank.Shell) c (Shell s) none e f = record { text = shell_more (head_text c) c.version c.sizes c.shells s c.boxes c.cells none.0 none.1; later = none }
-goes (Some rank.Objects) c (Box b) none e f = record { text = box_more (head_text c) c.version c.sizes c.shells c.boxes b c.cells none.cells; later = none.cells }
-goes (Some rank.Size) c (Box b) none e f = record { text = box_more (head_text c) c.version c.sizes c.shells c.boxes b c.cells none.2; later = none.2 }
-goes (Some rank.Shell) c (Box b) none e f = record { text = box_more (head_text c) c.version c.sizes c.shells c.boxes b c.cells none.1; later = none.1 }
-goes (Some rank.Box) c (Box b) none e f = record { text = box_more (head_text c) c.version c.sizes c.shells c.boxes b c.cells none; later = none }
-goes (Some rank.Objects) c (Cell s) none e f = record { text = cell_more (head_text c) c.version c.sizes c.shells c.boxes c.cells s; later = tt }
-goes (Some rank.Size) c (Cell s) none e f = record { text = cell_more (head_text c) c.version c.sizes c.shells c.boxes c.cells s; later = tt }
-goes (Some rank.Shell) c (Cell s) none e f = record { text = cell_more (head_text c) c.version c.sizes c.shells c.boxes c.cells s; later = tt }
-goes (Some rank.Box) c (Cell s) none e f = record { text = cell_more (head_text c) c.version c.sizes c.shells c.boxes c.cells s; later = tt }
-goes (Some rank.Cell) c (Cell s) none e f = record { text = cell_more (head_text c) c.version c.sizes c.shells c.boxes c.cells s; later = tt }
-goes (Some rank.Objects) c End none e f = record { text = end_more c; later = tt }
-goes (Some rank.Size) c End none e f = record { text = end_more c; later = tt }
-goes (Some rank.Shell) c End none e f = record { text = end_more c; later = tt }
-goes (Some rank.Box) c End none e f = record { text = end_more c; later = tt }
-goes (Some rank.Cell) c End none e f = record { text = end_more c; later = tt }
+goes before c (Size s) none e f =
+    let order = in_order rank.Size before f in
+    let on : NoneBehind 5 c.sizes c.shells c.boxes c.cells = further _ _ _ _ _ _ (order.no_later (omega arith)) none in
+    record {
+      text = ap (λ (t : List ℕ). t ++ size_text s) (body_to before c (order.in_lists (omega arith)) e)
+          ∙ size_more (head_text c) c.version c.sizes s c.shells c.boxes c.cells
+          (on.no_shells (omega arith)) (on.no_boxes (omega arith)) (on.no_cells (omega arith));
+      later = record { no_sizes = λ lt. absurd (omega arith); no_shells = on.no_shells; no_boxes = on.no_boxes; no_cells = on.no_cells };
+    }
+goes before c (Shell s) none e f =
+    let order = in_order rank.Shell before f in
+    let on : NoneBehind 6 c.sizes c.shells c.boxes c.cells = further _ _ _ _ _ _ (order.no_later (omega arith)) none in
+    record {
+      text = ap (λ (t : List ℕ). t ++ shell_text s) (body_to before c (order.in_lists (omega arith)) e)
+          ∙ shell_more (head_text c) c.version c.sizes c.shells s c.boxes c.cells (on.no_boxes (omega arith)) (on.no_cells (omega arith));
+      later = record { no_sizes = on.no_sizes; no_shells = λ lt. absurd (omega arith); no_boxes = on.no_boxes; no_cells = on.no_cells };
+    }
+goes before c (Box b) none e f =
+    let order = in_order rank.Box before f in
+    let on : NoneBehind 7 c.sizes c.shells c.boxes c.cells = further _ _ _ _ _ _ (order.no_later (omega arith)) none in
+    record {
+      text = ap (λ (t : List ℕ). t ++ box_text c.version b) (body_to before c (order.in_lists (omega arith)) e)
+          ∙ box_more (head_text c) c.version c.sizes c.shells c.boxes b c.cells (on.no_cells (omega arith));
+      later = record { no_sizes = on.no_sizes; no_shells = on.no_shells; no_boxes = λ lt. absurd (omega arith); no_cells = on.no_cells };
+    }
+goes before c (Cell s) none e f =
+    let order = in_order rank.Cell before f in
+    let on : NoneBehind 8 c.sizes c.shells c.boxes c.cells = further _ _ _ _ _ _ (order.no_later (omega arith)) none in
+    record {
+      text = ap (λ (t : List ℕ). t ++ cell_text s) (body_to before c (order.in_lists (omega arith)) e)
+          ∙ cell_more (head_text c) c.version c.sizes c.shells c.boxes c.cells s;
+      later = record { no_sizes = on.no_sizes; no_shells = on.no_shells; no_boxes = on.no_boxes; no_cells = λ lt. absurd (omega arith) };
+    }
+goes before c End none e f =
+    let order = in_order rank.End before f in
+    record {
+      text = ap (λ (t : List ℕ). t ++ told c.version End) (body_to before c (order.in_lists (omega arith)) e) ∙ end_more c;
+      later = further _ _ _ _ _ _ (order.no_later (omega arith)) none;
+    }
 goes before c l none e f = absurd cc
 
 -- ---- ranges
@@ -259,138 +319,28 @@ record FitsSoFar (c : PlainCertificate) : Type 0 where
 
 fits_more : (c : PlainCertificate) (l : PlainLine) → FitsSoFar c → FitsLine c.version l → FitsSoFar (with_line c l)
 fits_more c Heading so is = so
-fits_more c (Window first last) so is = record {
-  version = so.version;
-  no_sizes = so.no_sizes;
-  one_slot = so.one_slot;
-  first = is.0;
-  last = is.1;
-  threshold = so.threshold;
-  objects = so.objects;
-  sizes = so.sizes;
-  shells = so.shells;
-  boxes = so.boxes;
-  cells = so.cells;
-}
-fits_more c (Threshold threshold) so is = record {
-  version = so.version;
-  no_sizes = so.no_sizes;
-  one_slot = so.one_slot;
-  first = so.first;
-  last = so.last;
-  threshold = is.1;
-  objects = so.objects;
-  sizes = so.sizes;
-  shells = so.shells;
-  boxes = so.boxes;
-  cells = so.cells;
-}
-fits_more c (Objects count) so is = record {
-  version = so.version;
-  no_sizes = so.no_sizes;
-  one_slot = so.one_slot;
-  first = so.first;
-  last = so.last;
-  threshold = so.threshold;
-  objects = is;
-  sizes = so.sizes;
-  shells = so.shells;
-  boxes = so.boxes;
-  cells = so.cells;
-}
-fits_more c (Size s) so is = record {
-  version = so.version;
-  no_sizes = λ one. absurd (let two = is.0 in omega arith);
-  one_slot = so.one_slot;
-  first = so.first;
-  last = so.last;
-  threshold = so.threshold;
-  objects = so.objects;
-  sizes = All-push FitsSize c.sizes s so.sizes is.1;
-  shells = so.shells;
-  boxes = so.boxes;
-  cells = so.cells;
-}
-fits_more c (Shell s) so is = record {
-  version = so.version;
-  no_sizes = so.no_sizes;
-  one_slot = so.one_slot;
-  first = so.first;
-  last = so.last;
-  threshold = so.threshold;
-  objects = so.objects;
-  sizes = so.sizes;
-  shells = All-push FitsShell c.shells s so.shells is;
-  boxes = so.boxes;
-  cells = so.cells;
-}
-fits_more c (Box b) so is = record {
-  version = so.version;
-  no_sizes = so.no_sizes;
+fits_more c (Window first last) so is = record so { first = is.0; last = is.1 }
+fits_more c (Threshold threshold) so is = record so { threshold = is.1 }
+fits_more c (Objects count) so is = record so { objects = is }
+fits_more c (Size s) so is = record so { no_sizes = λ one. absurd (let two = is.0 in omega arith); sizes = All-push FitsSize c.sizes s so.sizes is.1 }
+fits_more c (Shell s) so is = record so { shells = All-push FitsShell c.shells s so.shells is }
+fits_more c (Box b) so is = record so {
   one_slot = λ one. All-push (λ (x : PlainBoxLine). x.first ≡ x.last) c.boxes b (so.one_slot one) (is.1 one);
-  first = so.first;
-  last = so.last;
-  threshold = so.threshold;
-  objects = so.objects;
-  sizes = so.sizes;
-  shells = so.shells;
   boxes = All-push FitsBox c.boxes b so.boxes is.0;
-  cells = so.cells;
 }
-fits_more c (Cell s) so is = record {
-  version = so.version;
-  no_sizes = so.no_sizes;
-  one_slot = so.one_slot;
-  first = so.first;
-  last = so.last;
-  threshold = so.threshold;
-  objects = so.objects;
-  sizes = so.sizes;
-  shells = so.shells;
-  boxes = so.boxes;
-  cells = All-push FitsCell c.cells s so.cells is;
-}
+fits_more c (Cell s) so is = record so { cells = All-push FitsCell c.cells s so.cells is }
 fits_more c End so is = so
 
 -- behind its line the threshold is told
 abbrev HasThreshold : Option Rank → PlainCertificate → Type 0
-HasThreshold None c = Unit {0}
-HasThreshold (Some rank.Heading) c = Unit {0}
-HasThreshold (Some rank.Window) c = Unit {0}
-HasThreshold (Some rank.Threshold) c = 1 ≤ c.threshold
-HasThreshold (Some rank.Objects) c = 1 ≤ c.threshold
-HasThreshold (Some rank.Size) c = 1 ≤ c.threshold
-HasThreshold (Some rank.Shell) c = 1 ≤ c.threshold
-HasThreshold (Some rank.Box) c = 1 ≤ c.threshold
-HasThreshold (Some rank.Cell) c = 1 ≤ c.threshold
-HasThreshold (Some rank.End) c = 1 ≤ c.threshold
+HasThreshold before c = 3 ≤ last_place before → 1 ≤ c.threshold
 
-threshold_more : (before : Option Rank) (c : PlainCertificate) (l : PlainLine) → HasThreshold before c → has_ended before ≡ false → may_follow (rank_of l) before ≡ true → FitsLine c.version l
-    → HasThreshold (Some (rank_of l)) (with_line c l)
-threshold_more before c Heading has e f is = tt
-threshold_more before c (Window first last) has e f is = tt
-threshold_more before c (Threshold threshold) has e f is = is.0
-threshold_more (Some rank.Threshold) c (Objects count) has e f is = has
-threshold_more (Some rank.Objects) c (Size s) has e f is = has
-threshold_more (Some rank.Size) c (Size s) has e f is = has
-threshold_more (Some rank.Objects) c (Shell s) has e f is = has
-threshold_more (Some rank.Size) c (Shell s) has e f is = has
-threshold_more (Some rank.Shell) c (Shell s) has e f is = has
-threshold_more (Some rank.Objects) c (Box b) has e f is = has
-threshold_more (Some rank.Size) c (Box b) has e f is = has
-threshold_more (Some rank.Shell) c (Box b) has e f is = has
-threshold_more (Some rank.Box) c (Box b) has e f is = has
-threshold_more (Some rank.Objects) c (Cell s) has e f is = has
-threshold_more (Some rank.Size) c (Cell s) has e f is = has
-threshold_more (Some rank.Shell) c (Cell s) has e f is = has
-threshold_more (Some rank.Box) c (Cell s) has e f is = has
-threshold_more (Some rank.Cell) c (Cell s) has e f is = has
-threshold_more (Some rank.Objects) c End has e f is = has
-threshold_more (Some rank.Size) c End has e f is = has
-threshold_more (Some rank.Shell) c End has e f is = has
-threshold_more (Some rank.Box) c End has e f is = has
-threshold_more (Some rank.Cell) c End has e f is = has
-threshold_more before c l has e f is = absurd cc
+threshold_more : (before : Option Rank) (c : PlainCertificate) (l : PlainLine) → HasThreshold before c → may_follow (rank_of l) before ≡ true
+    → FitsLine c.version l → HasThreshold (Some (rank_of l)) (with_line c l)
+threshold_more before c Heading has f is low = absurd (omega arith)
+threshold_more before c (Window first last) has f is low = absurd (omega arith)
+threshold_more before c (Threshold threshold) has f is low = is.0
+threshold_more before c l has f is low = has ((in_order (rank_of l) before f).reached (omega arith))
 
 fits_whole : (c : PlainCertificate) → FitsSoFar c → 1 ≤ c.threshold → Fits c
 fits_whole c so some = record {
@@ -422,16 +372,9 @@ pub record IsWhole (before : Option Rank) (c d : PlainCertificate) (left : List 
   pub fits : Fits d
 
 behind : (before : Option Rank) (c d : PlainCertificate) → has_ended before ≡ true → c ≡ d → FitsSoFar c → HasThreshold before c → IsWhole before c d []
-behind None c d e same so some = absurd cc
-behind (Some rank.Heading) c d e same so some = absurd cc
-behind (Some rank.Window) c d e same so some = absurd cc
-behind (Some rank.Threshold) c d e same so some = absurd cc
-behind (Some rank.Objects) c d e same so some = absurd cc
-behind (Some rank.Size) c d e same so some = absurd cc
-behind (Some rank.Shell) c d e same so some = absurd cc
-behind (Some rank.Box) c d e same so some = absurd cc
-behind (Some rank.Cell) c d e same so some = absurd cc
-behind (Some rank.End) c d e same so some = subst (λ x. IsWhole (Some rank.End) c x []) same (record { text = append-nil (text_of c); fits = fits_whole c so some })
+behind (Some rank.End) c d e same so some =
+    subst (λ x. IsWhole (Some rank.End) c x []) same (record { text = append-nil (text_of c); fits = fits_whole c so (some (omega arith)) })
+behind before c d e same so some = absurd cc
 
 at_end : (b : Bool) (number : ℕ) (c d : PlainCertificate) → cond b (Ok c) (ends_at number) ≡ Ok d → (b ≡ true) × (c ≡ d)
 at_end true number c d h = (refl, cc)
@@ -456,7 +399,7 @@ one_part number before c d text rest parts (Err cause) later so some is h next =
 one_part number before c d text rest parts (Ok l) later so some is h next =
     let read = line_read c.version before text l (small_version c.version so.version) is in
     let on = goes before c l later read.open_end read.follows in
-    let w = next l on.later (fits_more c l so read.fits) (threshold_more before c l some read.open_end read.follows read.fits) h in
+    let w = next l on.later (fits_more c l so read.fits) (threshold_more before c l some read.follows read.fits) h in
     let here : text ++ 10 ∷ [] ≡ told c.version l = ap (λ (t : List ℕ). t ++ 10 ∷ []) read.joined ∙ text_is_told c.version l in
     record {
       text = ap (λ (t : List ℕ). text_to before c ++ t) (sym (append_assoc text (10 ∷ []) rest) ∙ ap (λ (t : List ℕ). t ++ rest) here)
@@ -500,5 +443,8 @@ pub reading_only : (bytes : List ℕ) (c : PlainCertificate) → reading bytes �
 unfolding reading
 reading_only bytes c h =
     let v = version_of bytes in
-    let w = all_read 1 None (nothing_said v) c (slice_split (λ b. b == 10) bytes) (record { sizes = refl; shells = refl; boxes = refl; cells = refl }) (nothing_fits v (version_is _)) tt h in
+    let none : NoLater None (nothing_said v) =
+    record { no_sizes = λ lt. refl; no_shells = λ lt. refl; no_boxes = λ lt. refl; no_cells = λ lt. refl } in
+    let w = all_read 1 None (nothing_said v) c (slice_split (λ b. b == 10) bytes) none (nothing_fits v (version_is _))
+    (λ low. absurd (omega arith)) h in
     (sym (join_with_byte-slice_split 10 bytes) ∙ w.text, w.fits)

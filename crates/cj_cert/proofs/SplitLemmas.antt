@@ -1,44 +1,14 @@
 -- Where a text is split.
-use Rattle.std.proofs.Common.{◌≡◌, ℕ, ◌+◌, ◌<◌, List, [], ◌∷◌, get_or, length, take, drop, Bool, true, false, Option, Some, None, cond, ltb, arith, ap, ◌∙◌, refl}
+use Rattle.std.proofs.Common.{◌≡◌, ℕ, ◌<◌, List, get_or, length, Bool, true, false, Option, Some, None, cond, ltb, arith, refl}
 use Rattle.std.specs.Prelude.{◌==◌, not, is_some}
 use Rattle.std.specs.Borrow.{Bor}
-use Rattle.std.specs.List.{onto_first, position, position_or_len, slice_split}
-use Rattle.std.proofs.lemmas.Bool.{false_from_ne_true, le-ltb, lt-ltb, ltb-true, ltb-false}
+use Rattle.std.specs.List.{position, position_or_len}
+use Rattle.std.proofs.lemmas.Bool.{false_from_ne_true, le-ltb, lt-ltb}
 use Rattle.std.proofs.lemmas.Bool.Decides.{nat_tests}
-use Rattle.std.proofs.lemmas.List.Splits.{length-slice_split, slice_split-cons_no, slice_split_first}
-use Rattle.std.proofs.lemmas.List.Sums.{position_or_len_is, prefix_len-le-length}
+use Rattle.std.proofs.lemmas.List.Splits.{length-slice_split}
+use Rattle.std.proofs.lemmas.List.Sums.{position_or_len_is}
 use Rattle.memchr.specs.Find.{IsFirstByte, is_byte}
 use Rattle.cj_cert.specs.Readers.{words_in}
-
-chosen : (b : Bool) (n i : ℕ) → cond b (Some n) None ≡ Some i → (b ≡ true) × (n ≡ i)
-chosen true n i h = (refl, cc)
-chosen false n i h = absurd cc
-
-left_out : (b : Bool) (n : ℕ) → cond b (Some n) None ≡ None → b ≡ false
-left_out true n h = absurd cc
-left_out false n h = refl
-
--- at the first byte that passes
-pub split_here : (p : ℕ → Bool) (xs : List ℕ) (i : ℕ) → position p xs ≡ Some i → slice_split p xs ≡ take i xs ∷ slice_split p (drop (i + 1) xs)
-split_here p xs i h =
-    let here = chosen (ltb (position_or_len p xs) (length xs)) (position_or_len p xs) i h in
-    slice_split_first p xs 0 (ltb-true _ _ here.0) ∙ ap (λ (k : ℕ). take k xs ∷ slice_split p (drop (k + 1) xs)) here.1
-
-split_cons : (p : ℕ → Bool) (x : ℕ) (xs : List ℕ) (b : Bool) → p x ≡ b → (position_or_len p xs ≡ length xs → slice_split p xs ≡ xs ∷ [])
-    → position_or_len p (x ∷ xs) ≡ length (x ∷ xs) → slice_split p (x ∷ xs) ≡ (x ∷ xs) ∷ []
-split_cons p x xs true e rest all = absurd (omega (arith, rw e at all))
-split_cons p x xs false e rest all =
-    let others : position_or_len p xs ≡ length xs = omega (arith, rw e at all) in
-    slice_split-cons_no p x xs e ∙ ap (onto_first x) (rest others)
-
-split_whole : (p : ℕ → Bool) (xs : List ℕ) → position_or_len p xs ≡ length xs → slice_split p xs ≡ xs ∷ []
-split_whole p [] all = refl
-split_whole p (x ∷ xs) all = split_cons p x xs (p x) refl (split_whole p xs) all
-
--- where no byte passes
-pub split_nowhere : (p : ℕ → Bool) (xs : List ℕ) → position p xs ≡ None → slice_split p xs ≡ xs ∷ []
-split_nowhere p xs h =
-    split_whole p xs (omega (arith, prefix_len-le-length (λ x. not (p x)) xs, ltb-false _ _ (left_out (ltb (position_or_len p xs) (length xs)) (position_or_len p xs) h)))
 
 -- ---- where a byte stands first
 

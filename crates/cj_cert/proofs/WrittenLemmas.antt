@@ -1,17 +1,14 @@
 -- The written certificate is accepted.
 use Rattle.std.proofs.Common.{◌≡◌, ℕ, zero, suc, ◌+◌, ◌-◌, ◌^◌, ◌<◌, ◌≤◌, Bool, true, false, cond, List, [], ◌∷◌, ◌++◌, length, map, filter, Option, Some, None, refl, sym, ap, ◌∙◌, subst, inl, arith}
-use Rattle.std.specs.Prelude.{ℤ, ◌≤ℤ◌, All, IsSomeAnd, is_some, option_map, slice_get}
-use Rattle.std.specs.Int.{int_min, int_max}
-use Rattle.std.specs.List.{enumerate_from, filter_map, find, flat_map, fold, range_with_len}
+use Rattle.std.specs.Prelude.{All, IsSomeAnd, is_some, option_map, slice_get}
+use Rattle.std.specs.List.{enumerate_from, filter_map, find, flat_map, range_with_len}
 use Rattle.std.proofs.lemmas.Bool.{true_from_ne_false}
-use Rattle.std.proofs.lemmas.Int.{ints, clamps}
 use Rattle.std.proofs.lemmas.List.Concat.{flat_map-append}
 use Rattle.std.proofs.lemmas.List.Folds.{list_any_none}
-use Rattle.cj_interval.specs.Spans.{least, greatest}
 use Rattle.cj_interval.proofs.ListLemmas.{Each, Each-weaker, Each-both, Each-map, Each-flat_map, Each-range, Each-always, All-from_each, each_from_map, flat_map_alike}
 use Rattle.cj_interval.proofs.RangeLemmas.{Each-numbered}
 use Rattle.cj_track.specs.PlainTracks.{PlainTrack}
-use Rattle.cj_hermite.specs.Interpolant.{Four, Curve}
+use Rattle.cj_hermite.specs.Interpolant.{Curve}
 use Rattle.cj_hermite.specs.Pairs.{pairs_of}
 use Rattle.cj_hermite.specs.Pieces.{interval_index_at}
 use Rattle.cj_hermite.specs.PlainProblems.{PlainProblem, threshold_of, curve_at}
@@ -24,21 +21,21 @@ use Rattle.cj_bezier.specs.declared.kind.Kind.{Kind}
 use Rattle.cj_bezier.specs.declared.shells.Shell.{Shell}
 use Rattle.cj_bezier.specs.Gaps.{gap_terms, hull_gap}
 use Rattle.cj_bezier.specs.Halving.{leaves_between}
-use Rattle.cj_bezier.specs.Hulls.{PlainHull, Ends}
+use Rattle.cj_bezier.specs.Hulls.{PlainHull}
 use Rattle.cj_bezier.specs.Leaves.{PlainLeaf}
 use Rattle.cj_bezier.specs.Looked.{shells_of, boxes_in, is_looked, looked_by}
 use Rattle.cj_bezier.specs.Parts.{hulls_of}
 use Rattle.cj_bezier.specs.RootLeaves.{kind_between, leaves_of_root, leaves_of_roots}
 use Rattle.cj_bezier.specs.Shells.{IsInner, IsOuter, MAX_RADIUS, greatest_to, least_from, is_inner, is_outer, shell_round, shell_of}
-use Rattle.cj_bezier.specs.SlotBoxes.{IsAtMostEach, IsAtLeastEach, PlainBox, Reach, least_four, greatest_four, reach_on, reaches_round, box_of}
+use Rattle.cj_bezier.specs.SlotBoxes.{PlainBox, box_of}
 use Rattle.cj_bezier.specs.Tiles.{IsLeaf, Tile}
 use Rattle.cj_bezier.specs.Verdicts.{Supports, cell_verdict}
-use Rattle.cj_bezier.proofs.BoxRoundLemmas.{box_none, none_without, some_with}
+use Rattle.cj_bezier.proofs.BoxRoundLemmas.{IsWithinReaches, box_none, none_without, some_with, within_box}
 use Rattle.cj_bezier.proofs.HalvingLemmas.{HasKind, tiles, Each-tile}
 use Rattle.cj_bezier.proofs.HullListLemmas.{no_hulls, no_state}
 use Rattle.cj_bezier.proofs.JudgeLemmas.{settled_over, supported_kind}
 use Rattle.cj_bezier.proofs.LeafLemmas.{leaves_are}
-use Rattle.cj_bezier.proofs.ShellRoundLemmas.{inner_test, test_inner, outer_test, test_outer}
+use Rattle.cj_bezier.proofs.ShellRoundLemmas.{greatest_passes, least_passes, inner_test, test_inner, outer_test, test_outer}
 use Rattle.cj_bezier.proofs.TestLemmas.{decides_supports}
 use Rattle.cj_cert.specs.declared.cert_lines.ShellLine.{ShellLine}
 use Rattle.cj_cert.specs.Accepted.{ShowsRadii, IsShellOver, AreShells, IsHullIn, has_state_in, HoldsHulls, AreBoxes, IsSupported, TileRoots, Accepted}
@@ -62,24 +59,6 @@ pub numbered : (case : PlainProblem) → Each (IsAtNumber case) (enumerate_from 
 numbered case = Each-numbered (IsAtNumber case) case.ephemerides (λ i e is. is)
 
 -- ---- shells
-
-greatest_passes : (n : ℕ) (test : ℕ → Bool) → test 0 ≡ true → test (greatest_to n test) ≡ true
-unfolding greatest_to
-greatest_passes zero test least = least
-greatest_passes (suc n) test least = go (test (suc n)) refl (greatest_passes n test least)
-  where
-    go : (b : Bool) → test (suc n) ≡ b → test (greatest_to n test) ≡ true → test (cond b (suc n) (greatest_to n test)) ≡ true
-    go true is rest = is
-    go false is rest = rest
-
-least_passes : (n r : ℕ) (test : ℕ → Bool) → test (r + n) ≡ true → test (least_from n r test) ≡ true
-unfolding least_from
-least_passes zero r test most = let same : r + 0 ≡ r = omega arith in subst (λ (k : ℕ). test k ≡ true) same most
-least_passes (suc n) r test most = go (test r) refl (least_passes n (r + 1) test (let same : r + suc n ≡ r + 1 + n = omega arith in subst (λ (k : ℕ). test k ≡ true) same most))
-  where
-    go : (b : Bool) → test r ≡ b → test (least_from n (r + 1) test) ≡ true → test (cond b r (least_from n (r + 1) test)) ≡ true
-    go true is rest = is
-    go false is rest = rest
 
 shell_shown : (e : PlainTrack) (from to : ℕ) → Each (λ h. IsOuter (gap_terms h) (10 ^ 18)) (hulls_of e from to) → IsShellOver e from to (shell_of e from to)
 unfolding shell_round
@@ -156,67 +135,11 @@ slots_same case (object ∷ objects) =
     flat_map-append slots_of_line (box_lines case object) (flat_map (box_lines case) objects)
     ∙ (let own = slots_in case object (slots_of case) in let rest = slots_same case objects in λ i. own i ++ rest i)
 
--- ---- the reach round hulls
-
-least_first : (a : ℤ) (xs : List ℤ) → fold int_min a xs ≤ℤ a
-least_first a [] = omega (arith, ints)
-least_first a (x ∷ xs) = let rest = least_first (int_min a x) xs in omega (arith, ints, clamps)
-
-least_each : (a : ℤ) (xs : List ℤ) → Each (λ x. fold int_min a xs ≤ℤ x) xs
-least_each a [] = tt
-least_each a (x ∷ xs) = (let first = least_first (int_min a x) xs in omega (arith, ints, clamps), least_each (int_min a x) xs)
-
-most_first : (a : ℤ) (xs : List ℤ) → a ≤ℤ fold int_max a xs
-most_first a [] = omega (arith, ints)
-most_first a (x ∷ xs) = let rest = most_first (int_max a x) xs in omega (arith, ints, clamps)
-
-most_each : (a : ℤ) (xs : List ℤ) → Each (λ x. x ≤ℤ fold int_max a xs) xs
-most_each a [] = tt
-most_each a (x ∷ xs) = (let first = most_first (int_max a x) xs in omega (arith, ints, clamps), most_each (int_max a x) xs)
-
-below_each : (v : ℤ) (k : Four) → v ≤ℤ least_four k → IsAtMostEach v k
-unfolding least
-below_each v k h = record { k0 = omega (arith, ints, clamps); k1 = omega (arith, ints, clamps); k2 = omega (arith, ints, clamps); k3 = omega (arith, ints, clamps) }
-
-above_each : (v : ℤ) (k : Four) → greatest_four k ≤ℤ v → IsAtLeastEach v k
-unfolding greatest
-above_each v k h = record { k0 = omega (arith, ints, clamps); k1 = omega (arith, ints, clamps); k2 = omega (arith, ints, clamps); k3 = omega (arith, ints, clamps) }
-
--- the ends of hulls lie within the reach round them
-record LiesIn (r : Reach) (e : Ends) : Type 0 where
-  low : IsAtMostEach r.least e.low
-  high : IsAtLeastEach r.most e.high
-
-lie_in : (axis : PlainHull → Ends) (h : PlainHull) (hs : List PlainHull) → Each (λ g. LiesIn (reach_on axis h hs) (axis g)) (h ∷ hs)
-lie_in axis h hs =
-    let down = λ (g : PlainHull). least_four (axis g).low in
-    let up = λ (g : PlainHull). greatest_four (axis g).high in
-    let l = fold int_min (down h) (map down hs) in
-    let u = fold int_max (up h) (map up hs) in
-    let others : Each (λ g. (l ≤ℤ down g) × (up g ≤ℤ u)) hs =
-    Each-both (λ g. l ≤ℤ down g) (λ g. up g ≤ℤ u) hs (each_from_map (λ x. l ≤ℤ x) down hs (least_each (down h) (map down hs))) (each_from_map (λ x. x ≤ℤ u) up hs (most_each (up h) (map up hs))) in (
-      record { low = below_each l (axis h).low (least_first (down h) (map down hs)); high = above_each u (axis h).high (most_first (up h) (map up hs)) },
-      Each-weaker (λ g. (l ≤ℤ down g) × (up g ≤ℤ u)) (λ g. LiesIn (reach_on axis h hs) (axis g))
-          (λ g both. record { low = below_each l (axis g).low both.0; high = above_each u (axis g).high both.1 }) hs others,
-    )
-
-on_all_axes : (a b c : Reach) (gs : List PlainHull) → Each (λ g. LiesIn a g.x) gs → Each (λ g. LiesIn b g.y) gs → Each (λ g. LiesIn c g.z) gs → Each (IsHullIn (record { x = a; y = b; z = c })) gs
-on_all_axes a b c [] p q s = tt
-on_all_axes a b c (g ∷ gs) p q s = (record { x_low = p.0.low; x_high = p.0.high; y_low = q.0.low; y_high = q.0.high; z_low = s.0.low; z_high = s.0.high }, on_all_axes a b c gs p.1 q.1 s.1)
-
 hulls_lie : (e : PlainTrack) (from to : ℕ) (area : PlainBox) → box_of e from to ≡ Some area → Each (IsHullIn area) (hulls_of e from to)
-unfolding reaches_round
-hulls_lie e from to area some = go (hulls_of e from to) some
-  where
-    go : (hs : List PlainHull) → reaches_round hs ≡ Some area → Each (IsHullIn area) hs
-    go [] is = tt
-    go (h ∷ hs) is =
-        let x = reach_on (λ g. g.x) h hs in
-        let y = reach_on (λ g. g.y) h hs in
-        let z = reach_on (λ g. g.z) h hs in
-        let all : PlainBox = record { x = x; y = y; z = z } in
-        let one : all ≡ area = cc in
-        subst (λ (k : PlainBox). Each (IsHullIn k) (h ∷ hs)) one (on_all_axes x y z (h ∷ hs) (lie_in (λ g. g.x) h hs) (lie_in (λ g. g.y) h hs) (lie_in (λ g. g.z) h hs))
+hulls_lie e from to area some =
+    Each-weaker (IsWithinReaches area) (IsHullIn area)
+    (λ h is. record { x_low = is.x.0; x_high = is.x.1; y_low = is.y.0; y_high = is.y.1; z_low = is.z.0; z_high = is.z.1 })
+    (hulls_of e from to) (within_box e from to area some)
 
 -- ---- the lines of boxes
 

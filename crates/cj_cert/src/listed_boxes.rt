@@ -1,5 +1,5 @@
 //! The boxes that a certificate lists, by object and slot.
-ghost use Rattle.std.specs.Prelude.{◌≡◌, ℕ, ◌*◌, ◌<◌, ◌==◌, Some, None, map, length, vec_len, if◌then◌else◌, IfOk};
+ghost use Rattle.std.specs.Prelude.{◌≡◌, ℕ, ◌*◌, ◌<◌, ◌==◌, Some, None, map, vec_len, if◌then◌else◌, IfOk};
 ghost use Rattle.std.specs.List.{flat_map, range_with_len};
 ghost use Rattle.std.specs.Option.{option_or};
 ghost use Rattle.cj_bezier.specs.SlotBoxes.{plain_box, plain_boxes, reaches_in};

@@ -4,7 +4,7 @@ ghost use Rattle.std.specs.Char.{is_ascii_digit};
 ghost use Rattle.std.specs.List.{list_all};
 ghost use Rattle.std.specs.Option.{option_map};
 ghost use Rattle.std.specs.Str.Parse.{digits_value, starts_with_minus};
-ghost use Rattle.cj_cert.specs.Lines.{MAX_OBJECTS as most_objects, is_coordinate, is_from, is_object, is_reach, is_slot, is_tick, object_of};
+ghost use Rattle.cj_cert.specs.Lines.{is_coordinate, is_from, is_object, is_reach, is_slot, is_tick, object_of};
 ghost use Rattle.cj_cert.specs.Numbers as spec;
 ghost use Rattle.cj_cert.specs.Readers.{Takes, capped};
 

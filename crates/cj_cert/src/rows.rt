@@ -1,5 +1,5 @@
 //! Lines of a word and numbers.
-ghost use Rattle.std.specs.Prelude.{◌≡◌, ◌∷◌, ◌++◌, OnOk};
+ghost use Rattle.std.specs.Prelude.{◌≡◌, ◌++◌, OnOk};
 ghost use Rattle.cj_cert.specs.Texts.{row, row_ended, spaced_numbers};
 
 use itoa::Buffer;

@@ -27,7 +27,7 @@ pub(crate) struct Words<'a> {
 }
 
 impl<'a> Words<'a> {
-    ghost use Rattle.std.specs.Prelude.{◌≡◌, [], ◌∷◌, ◌==◌, true, None, IfSome, MatchOption, length};
+    ghost use Rattle.std.specs.Prelude.{◌≡◌, [], ◌∷◌, ◌==◌, None, IfSome, MatchOption, length};
     ghost use Rattle.std.specs.List.{slice_split};
     ghost use Rattle.cj_cert.specs.Readers.{words_in};
 

@@ -4,23 +4,12 @@ ghost use Rattle.std.specs.Prelude.{◌≤◌, length};
 use super::*;
 use cj_bezier::{AxisBox, Kind, Shell};
 use cj_cert::{BoxLine, CellLine, Certificate, ShellLine, SizeOfLine};
-use cj_hermite::{Pair, Problem, Sizes, Tracks};
-use cj_samples::{AT_7000, AT_7005, rest, seconds, tick, track_of};
+use cj_hermite::Pair;
+use cj_samples::{seconds, tick};
+use cj_scenes::resting;
 use cj_track::Vec3;
 use std::alloc::{AllocError, Global};
 use std::test::Fail;
-
-/// Two objects 5 km apart.
-fn problem(alloc: Global) -> Result<Problem, AllocError> {
-    let a = track_of(alloc, rest(alloc, 0, 60, AT_7000)?)?;
-    let b = track_of(alloc, rest(alloc, 0, 60, AT_7005)?)?;
-    Ok(Problem {
-        tracks: Tracks::new(vec![in alloc; a, b]?),
-        window: seconds(0, 60),
-        threshold: 5_000_000_000_000,
-        sizes: Sizes::new(vec![in alloc; 0, 0]?),
-    })
-}
 
 fn shell_of(object: u32, radius: u64) -> ShellLine {
     let shell = Some(Shell {
@@ -96,7 +85,7 @@ fn answer(alloc: Global, cells: &[CellLine]) -> Result<Answer, AllocError>
         ]?,
         cells: list,
     };
-    check(alloc, &problem(alloc)?, &cert)
+    check(alloc, &resting(alloc)?, &cert)
 }
 
 fn refused(line: u32, cause: CheckCause) -> Answer {
@@ -225,7 +214,7 @@ fn a_certificate_of_version_2_is_checked(rt: HostRuntime) -> Result<(), Fail> {
                 cell(60_000_000, 60_000_000, Kind::Near),
             ]?,
         };
-        assert_eq!(rt; check(alloc, &problem(alloc)?, &cert)?, expected);
+        assert_eq!(rt; check(alloc, &resting(alloc)?, &cert)?, expected);
     }
     Ok(())
 }

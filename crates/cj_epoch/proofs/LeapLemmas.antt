@@ -1,7 +1,7 @@
--- A search in ascending numbers.
-use Rattle.std.proofs.Common.{◌≡◌, ℕ, zero, suc, ◌+◌, ◌<◌, ◌≤◌, inl, inr, List, [], ◌∷◌, length, get_or, true, false, Bool, arith}
+-- A search in ascending numbers, and the leap seconds.
+use Rattle.std.proofs.Common.{◌≡◌, ℕ, zero, suc, ◌+◌, ◌<◌, ◌≤◌, inl, inr, List, [], ◌∷◌, length, get_or, true, false, Bool, arith, map, refl}
 use Rattle.std.specs.Prelude.{◌&&◌, nat_lt, nat_le}
-use Rattle.std.specs.List.{list_any, All, AllWithin, AllAdjacentBelow}
+use Rattle.std.specs.List.{list_any, All, AllWithin, AllAdjacentBelow, list_all}
 use Rattle.std.specs.List.Sorted.{IsNonDecreasing}
 use Rattle.std.proofs.lemmas.Bool.{cases_lt}
 use Rattle.std.proofs.lemmas.Bool.Decides.{nat_tests}
@@ -9,6 +9,9 @@ use Rattle.std.proofs.lemmas.List.{get_or_default}
 use Rattle.std.proofs.lemmas.List.Sorted.{IsNonDecreasingBy-from_all_adjacent}
 use Rattle.std.proofs.lemmas.List.Folds.{list_any_at, list_any_none}
 use Rattle.cj_epoch.proofs.DigitLemmas.{and_is}
+use Rattle.cj_epoch.specs.Calendar.{days_of_years}
+use Rattle.cj_epoch.specs.LeapSeconds.{leap_days, leap_lies_between, tick_after}
+use Rattle.jiff_core.specs.Calendar.{days_of_months}
 
 -- a number lies above low, and not above high
 abbrev pub is_within : ℕ → ℕ → ℕ → Bool
@@ -51,3 +54,13 @@ adjacent (m ∷ ns) up (suc k) d inside =
 
 pub ascends-IsNonDecreasing : (ns : List ℕ) → ascends ns ≡ true → IsNonDecreasing ns
 ascends-IsNonDecreasing ns up = IsNonDecreasingBy-from_all_adjacent (λ (n : ℕ). n) ns (adjacent ns up)
+
+-- ticks up to m do not lie between two later ones
+none_between : (a b m : ℕ) (ticks : List ℕ) → m ≤ a → list_all (λ t. nat_le t m) ticks ≡ true → list_any (λ t. nat_lt a t && nat_le t b) ticks ≡ false
+none_between a b m [] late all = refl
+none_between a b m (t ∷ ticks) late all = grind (arith, nat_tests, none_between a b m ticks late)
+
+-- the first tick past the last leap second is 2017-01-01T00:00:00
+pub no_leap : (a b : ℕ) → 1_483_228_800_000_000 ≤ a → leap_lies_between a b ≡ false
+unfolding leap_lies_between days_of_years days_of_months
+no_leap a b late = none_between a b 1_483_228_800_000_000 (map tick_after leap_days) late refl

@@ -21,14 +21,15 @@ use Rattle.cj_epoch.proofs.PictureLemmas.{AreDigits}
 use Rattle.cj_epoch.proofs.ReadingLemmas.{date_is, second_is}
 use Rattle.cj_epoch.proofs.YearLemmas.{year_of_tick, date_named}
 
-digit_is : (n : ℕ) → IsTrue (is_ascii_digit (48 + n % 10))
+-- the last digit of a number, as a byte
+pub digit_is : (n : ℕ) → IsTrue (is_ascii_digit (48 + n % 10))
 digit_is n = grind (arith, nat_tests)
 
-digits_are : (ns : List ℕ) → AreDigits (map (λ (n : ℕ). 48 + n % 10) ns)
+pub digits_are : (ns : List ℕ) → AreDigits (map (λ (n : ℕ). 48 + n % 10) ns)
 digits_are [] = refl
 digits_are (n ∷ ns) = both (is_ascii_digit (48 + n % 10)) (list_all is_ascii_digit (map (λ (k : ℕ). 48 + k % 10) ns)) (digit_is n) (digits_are ns)
 
-value_is : (n : ℕ) → digit_value (48 + n % 10) ≡ n % 10
+pub value_is : (n : ℕ) → digit_value (48 + n % 10) ≡ n % 10
 value_is n = omega (arith, digit_value_digit (48 + n % 10) (omega arith, omega arith))
 
 two_value : (n : ℕ) → n < 100 → digits_value 10 (two n) ≡ n
@@ -60,7 +61,8 @@ decimals_six n =
 micros_six : (n : ℕ) → n < 1_000_000 → micros_of (six n) ≡ okay n
 micros_six n small = ap okay (omega (arith, six_value n small))
 
-begins : (n : ℕ) → IsTrue (begins_like CALENDAR (epoch_of n))
+-- what is written begins like a date of the calendar
+pub begins : (n : ℕ) → IsTrue (begins_like CALENDAR (epoch_of n))
 unfolding epoch_of
 begins n =
     let c = civil_of (n / DAY) in
@@ -93,7 +95,7 @@ clock_is hour minute second h m s =
 moment_ok : (day : Option ℕ) (second : Result ℕ EpochFault) (ending decimals : List ℕ) (d s m : ℕ) → day ≡ Some d → second ≡ okay s → decimals_of ending ≡ Some decimals → micros_of decimals ≡ okay m → moment_of day second ending ≡ okay (d * DAY + s * SECOND + m)
 moment_ok day second ending decimals d s m is_day is_second are_decimals is_micros = rw (is_day, is_second, are_decimals, is_micros) refl
 
-read_by_calendar : (text : List ℕ) → begins_like CALENDAR text ≡ true → reading_of text ≡ calendar_reading text
+pub read_by_calendar : (text : List ℕ) → begins_like CALENDAR text ≡ true → reading_of text ≡ calendar_reading text
 unfolding reading_of
 read_by_calendar text like = rw like refl
 

@@ -2,6 +2,7 @@
 use Rattle.std.proofs.Common.{◌≡◌, ℕ, zero, suc, ◌+◌, ◌≤◌, Bool, true, false, cond, List, [], ◌∷◌, ◌++◌, length, get_or, map, filter, Option, Some, None, refl, sym, ap, ◌∙◌, arith}
 use Rattle.std.specs.Prelude.{◌&&◌, nat_eq, nat_lt, option_map, slice_index, replicate}
 use Rattle.std.specs.List.{flat_map, range_with_len}
+use Rattle.std.proofs.lemmas.Bool.{and_parts}
 use Rattle.std.proofs.lemmas.Bool.Decides.{nat_tests}
 use Rattle.std.proofs.lemmas.List.{length-map, map_push}
 use Rattle.std.proofs.lemmas.List.Sums.{sum_by-cons, sum_by-le}
@@ -29,13 +30,13 @@ no_more c n is none = rw (is, none) refl
 none_later : (e : Entry) (es : List Entry) → rising (e ∷ es) ≡ true → (bucket : ℕ) → bucket ≤ e.bucket → entered_in bucket es ≡ 0
 none_later e [] h bucket le = refl
 none_later e (d ∷ es) h bucket le =
-    let parts = both (nat_lt e.bucket d.bucket) (rising (d ∷ es)) h in
+    let parts = and_parts (nat_lt e.bucket d.bucket) (rising (d ∷ es)) h in
     let other = differ bucket e.bucket d.bucket le parts.0 in
     sum_by-cons (λ (x : Entry). cond (nat_eq x.bucket bucket) 1 0) d es ∙ no_more (nat_eq d.bucket bucket) (entered_in bucket es) other.0 (none_later d es parts.1 bucket other.1)
 
 tail_rising : (e : Entry) (es : List Entry) → rising (e ∷ es) ≡ true → rising es ≡ true
 tail_rising e [] h = refl
-tail_rising e (d ∷ es) h = (both (nat_lt e.bucket d.bucket) (rising (d ∷ es)) h).1
+tail_rising e (d ∷ es) h = (and_parts (nat_lt e.bucket d.bucket) (rising (d ∷ es)) h).1
 
 few : (es : List Entry) → rising es ≡ true → (bucket : ℕ) → entered_in bucket es ≤ 1
 few [] h bucket = omega arith

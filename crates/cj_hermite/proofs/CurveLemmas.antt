@@ -68,6 +68,16 @@ have_curves case a b first last c d le keep is is' = go (curves_of case a b firs
         let q : Some y ≡ Some d = sym (have.second_curve first (omega arith) le) ∙ is' in
         record { first_curve = λ m low high. have.first_curve m low high ∙ p; second_curve = λ m low high. have.second_curve m low high ∙ q }
 
+-- a part of ticks that keep their intervals keeps them
+pub keep_part : (case : PlainProblem) (a b first last from to : ℕ) → KeepIntervals case a b first last
+    → first ≤ from → from ≤ to → to ≤ last → KeepIntervals case a b from to
+keep_part case a b first last from to keep low some high =
+    let here = keep.same from low (omega arith) in
+    record {
+      same = λ m after before. keep.same m (omega arith) (omega arith) ∙ sym here;
+      states = ap is_some here ∙ keep.states;
+    }
+
 -- the ticks of a root keep their intervals
 pub root_intervals : (case : PlainProblem) (r : PlainCell) → IsRootOf case r → KeepIntervals case r.a r.b r.first r.last
 root_intervals case r is = let root = is.root in record { same = root.same; states = root.labelled }

@@ -3,7 +3,7 @@ use Rattle.std.proofs.Common.{◌≡◌, ℕ, zero, suc, ◌+◌, ◌<◌, ◌�
 use Rattle.std.specs.Prelude.{is_some, slice_get, option_and_then, IsSomeAnd}
 use Rattle.cj_track.specs.PlainTracks.{PlainTrack}
 use Rattle.cj_hermite.specs.Interpolant.{Curve}
-use Rattle.cj_hermite.specs.Pieces.{PlainPiece, intervals_of, interval_index_at, curve_of_interval, OfBothAt}
+use Rattle.cj_hermite.specs.Pieces.{PlainPiece, intervals_of, interval_at, interval_index_at, curve_of_interval, OfBothAt}
 use Rattle.cj_hermite.proofs.StateLemmas.{IsState, HasState, has, lacks, state}
 use Rattle.cj_hermite.specs.PlainProblems.{PlainProblem, number_at, curve_at, OfObjectsAt}
 
@@ -64,6 +64,25 @@ of_objects case a b m c d P h k p = go (is_at case a m) (is_at case b m)
         let at = is.at in
         let at' = is'.at in
         rw (of, of', at, at') (subst (λ y. P (curve_of_interval x) y) second (subst (λ y. P y d) first p))
+
+some_and : {A : Type 0} (P Q : A → Type 0) (o : Option A) → ((x : A) → P x → Q x) → IsSomeAnd o P → IsSomeAnd o Q
+some_and P Q None f h = h
+some_and P Q (Some x) f h = f x h
+
+both_wider : (e f : PlainTrack) (m : ℕ) (P Q : Curve → Curve → Type 0) → ((c d : Curve) → P c d → Q c d) → OfBothAt e f m P → OfBothAt e f m Q
+both_wider e f m P Q wider =
+    some_and {A = PlainPiece} (λ x. IsSomeAnd (interval_at f m) (λ y. P (curve_of_interval x) (curve_of_interval y)))
+    (λ x. IsSomeAnd (interval_at f m) (λ y. Q (curve_of_interval x) (curve_of_interval y))) (interval_at e m)
+    (λ x. some_and {A = PlainPiece} (λ y. P (curve_of_interval x) (curve_of_interval y)) (λ y. Q (curve_of_interval x) (curve_of_interval y))
+    (interval_at f m) (λ y. wider (curve_of_interval x) (curve_of_interval y)))
+
+-- what holds of both interpolants, loosened
+pub of_objects-wider : (case : PlainProblem) (a b m : ℕ) (P Q : Curve → Curve → Type 0) → ((c d : Curve) → P c d → Q c d)
+    → OfObjectsAt case a b m P → OfObjectsAt case a b m Q
+of_objects-wider case a b m P Q wider =
+    some_and {A = PlainTrack} (λ e. IsSomeAnd (slice_get case.ephemerides b) (λ f. OfBothAt e f m P))
+    (λ e. IsSomeAnd (slice_get case.ephemerides b) (λ f. OfBothAt e f m Q)) (slice_get case.ephemerides a)
+    (λ e. some_and {A = PlainTrack} (λ f. OfBothAt e f m P) (λ f. OfBothAt e f m Q) (slice_get case.ephemerides b) (λ f. both_wider e f m P Q wider))
 
 -- where an object has a state it has an interpolant
 pub curve_exists : (case : PlainProblem) (object m : ℕ) → is_some (number_at case object m) ≡ true → is_some (curve_at case object m) ≡ true

@@ -1,6 +1,7 @@
 -- The objects of a problem by its tracks.
 use Rattle.std.proofs.Common.{◌≡◌, ℕ, zero, suc, ◌<◌, ◌≤◌, true, false, List, [], ◌∷◌, map, length, get_or, Option, Some, None, refl, sym, ap, ◌∙◌, inl, inr, arith}
 use Rattle.std.proofs.lemmas.Bool.{cases_lt}
+use Rattle.std.proofs.lemmas.List.{length-map}
 use Rattle.std.specs.Prelude.{is_some, slice_get, option_map, option_and_then, IsSomeAnd}
 use Rattle.cj_track.specs.declared.track.Track.{Track}
 use Rattle.cj_track.specs.PlainTracks.{PlainTrack}
@@ -33,6 +34,10 @@ pub curve_of_track : (p : Problem) (object m : ℕ) (d : Track) → object < len
 unfolding curve_at
 curve_of_track p object m d lt = ap (λ (o : Option PlainTrack). option_map curve_of_interval (option_and_then (λ e. interval_at e m) o)) (slice_get-map plain_track p.tracks object d lt)
 
+-- there are as many objects as tracks
+pub objects_are : (tracks now : List Track) → now ≡ tracks → length now ≡ length (map plain_track tracks)
+objects_are tracks now same = ap (λ (ts : List Track). length ts) same ∙ sym (length-map tracks plain_track)
+
 -- an object that has a state is one of the tracks
 pub object_exists : (p : Problem) (object m : ℕ) → is_some (number_at (plain_problem p) object m) ≡ true → object < length p.tracks
 unfolding number_at
@@ -54,6 +59,10 @@ first_state case a b first last keep = (numbers_of (number_at case a first) (num
 
 pub second_state : (case : PlainProblem) (a b first last : ℕ) → KeepIntervals case a b first last → is_some (number_at case b first) ≡ true
 second_state case a b first last keep = (numbers_of (number_at case a first) (number_at case b first) keep.states).1
+
+-- an interpolant over a part of its ticks
+pub over_part : (c : Curve) (first last from to : ℕ) → IsOver c first last → first ≤ from → to ≤ last → IsOver c from to
+over_part c first last from to over low high = record { some = over.some; from = omega (arith, over.from); to = omega (arith, over.to) }
 
 over_all : (case : PlainProblem) (object first last : ℕ) (c d : Curve) → first ≤ last → ((m : ℕ) → first ≤ m → m ≤ last → curve_at case object m ≡ Some d) → curve_at case object first ≡ Some c → 0 < c.span → IsOver c first last
 over_all case object first last c d le have is some =

@@ -1,5 +1,5 @@
 //! The values of the first level: `span` cancels at its ends, and its middle has one rest.
-ghost use Rattle.std.specs.Prelude.{◌≡◌, ℕ, ◌+◌, ◌-◌, ◌*◌, ◌<◌, ◌≤◌, pos, ◌+ℤ◌, ◌-ℤ◌, ◌*ℤ◌};
+ghost use Rattle.std.specs.Prelude.{◌≡◌, ◌+◌, ◌-◌, ◌*◌, ◌<◌, ◌≤◌, pos, ◌+ℤ◌, ◌-ℤ◌, ◌*ℤ◌};
 ghost use Rattle.cj_interval.specs.Rounding.{floor_div, ceil_div};
 ghost use Rattle.cj_interval.specs.Sizes.{IsWithin};
 ghost use Rattle.cj_track.specs.Limits.{MAX_COORDINATE};

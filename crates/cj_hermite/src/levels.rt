@@ -1,5 +1,5 @@
 //! De Casteljau's algorithm: levels between bounds, rounded outward.
-ghost use Rattle.std.specs.Prelude.{◌≡◌, ◌-◌, ◌*◌, ◌<◌, ◌≤◌, pos, ◌+ℤ◌, ◌*ℤ◌, ◌≤ℤ◌};
+ghost use Rattle.std.specs.Prelude.{◌≡◌, ◌-◌, ◌≤◌, pos, ◌+ℤ◌, ◌≤ℤ◌};
 ghost use Rattle.cj_interval.specs.Rounding.{floor_div, ceil_div};
 ghost use Rattle.cj_interval.specs.Sizes.{IsWithin};
 ghost use Rattle.cj_hermite.specs.Boxes.{first_lows, first_highs, second_lows, second_highs};

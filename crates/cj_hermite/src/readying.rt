@@ -1,8 +1,8 @@
 //! Pieces are made ready once for levels at many ticks.
 ghost use Rattle.std.specs.Prelude.{◌≡◌, neg_ℤ};
 ghost use Rattle.cj_track.specs.Limits.{MAX_COORDINATE, MAX_RATE, IsWithin};
-ghost use Rattle.cj_hermite.specs.Interpolant.{controls_of, curve_of};
-ghost use Rattle.cj_hermite.specs.Ready.{speed_of, controls_ready, curve_ready};
+ghost use Rattle.cj_hermite.specs.Interpolant.{curve_of};
+ghost use Rattle.cj_hermite.specs.Ready.{speed_of, curve_ready};
 
 use crate::pieces::Piece;
 use crate::ready_axis::{Ready, ReadyAxis, Speed};

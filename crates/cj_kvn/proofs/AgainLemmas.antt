@@ -1,57 +1,24 @@
 -- What is printed is read again.
-use Rattle.std.proofs.Common.{◌≡◌, ℕ, ◌+◌, ◌*◌, ◌/◌, ◌%◌, ◌-◌, ◌^◌, ◌<◌, ◌≤◌, List, [], ◌∷◌, ◌++◌, take, drop, length, arith, ap, sym, ◌∙◌, refl, subst, inl, inr, true, false, Bool, ℤ, pos, negsuc, neg_ℤ, ◌+ℤ◌, ◌-ℤ◌, decimal, min, Option, Some, Ok}
+use Rattle.std.proofs.Common.{◌≡◌, ℕ, ◌+◌, ◌*◌, ◌/◌, ◌%◌, ◌-◌, ◌^◌, ◌<◌, ◌≤◌, List, [], ◌∷◌, ◌++◌, take, drop, length, arith, ap, sym, ◌∙◌, refl, subst, inl, inr, true, false, Bool, ℤ, pos, negsuc, neg_ℤ, ◌+ℤ◌, ◌-ℤ◌, decimal, Some, Ok}
 use Rattle.std.specs.Prelude.{◌==◌, ◌&&◌, nat_le, if◌then◌else◌, int_lt, unsigned_abs}
 use Rattle.std.specs.Char.{is_ascii_digit, digit_value}
-use Rattle.std.specs.Str.Parse.{AllDigits, digits_value, signed_digits_value, starts_with_minus, without_leading_sign}
+use Rattle.std.specs.Str.Parse.{digits_value, signed_digits_value, starts_with_minus, without_leading_sign}
 use Rattle.std.proofs.Math.Nat.{div-one}
-use Rattle.std.proofs.lemmas.Bool.{le-ltb, le-leb}
+use Rattle.std.proofs.lemmas.Bool.{le-ltb, le-leb, and_parts}
 use Rattle.std.proofs.lemmas.Bool.Decides.{leb_tells, nat_tests}
-use Rattle.std.proofs.lemmas.Fmt.{decimal_digit, decimal-digits_of, decimal_is_IsNumeral, length-decimal-le, decimal_nonempty}
+use Rattle.std.proofs.lemmas.Fmt.{decimal_digit, decimal-digits_of, length-decimal-le}
 use Rattle.std.proofs.lemmas.Int.{ints}
-use Rattle.std.proofs.lemmas.List.{append_assoc, length-drop, length-map, length-take, take-append-drop}
+use Rattle.std.proofs.lemmas.List.{append_assoc, length-drop, length-map, take-append-drop}
 use Rattle.std.proofs.lemmas.Str.{digit_value_digit}
 use Rattle.std.specs.Int.Digits.{digits_of}
 use Rattle.cj_kvn.specs.Decimals.{IsReadable, decimal_form, decimal_of, decimal_text_of, digit_count, exponent_text, is_huge, is_tiny, leading_power, minus_if, rounded, significand_text, trailing_zeros, without_trailing_zeros, zero_number}
-use Rattle.cj_kvn.specs.Numbers.{Number, Parts, are_digits, digits, exponent_value, is_exponent, nearest, number, parts_of}
-use Rattle.cj_kvn.specs.Scanning.{after_run, exponent_said, fraction_run, run}
+use Rattle.cj_kvn.specs.Numbers.{Number, are_digits, digits, is_exponent, nearest, number, parts_of}
+use Rattle.cj_kvn.specs.Scanning.{exponent_said}
 use Rattle.cj_kvn.proofs.CountLemmas.{count_most, count_is, tiny_same, huge_same, tiny_zero}
-use Rattle.cj_kvn.proofs.ListLemmas.{HeadFails, behind_yes, behind_no, both, take_while_yes, take_while_no}
-use Rattle.cj_kvn.proofs.PartsLemmas.{Reads, parts}
+use Rattle.cj_kvn.proofs.NumberTextLemmas.{Says, decimal_digits, decimal_some, decimal_value, fraction_says, make}
 use Rattle.cj_kvn.proofs.PowerLemmas.{nearest_one}
 use Rattle.cj_kvn.proofs.PrintLemmas.{length_two, power_of_first}
-use Rattle.cj_kvn.proofs.ScanLemmas.{Read, exponent_is, is_of_form}
 use Rattle.cj_kvn.proofs.ZeroLemmas.{zeros_more, zeros_none}
-
--- digits by std's word and by ours
-is_digit : (c : ℕ) → digit_value c < 10 → is_ascii_digit c ≡ true
-is_digit c small = grind (arith, nat_tests)
-
-all_of : (ds : List ℕ) → AllDigits 10 ds → are_digits ds ≡ true
-all_of [] all = refl
-all_of (c ∷ ds) all = grind (arith, is_digit c all.0, all_of ds all.1)
-
-pub decimal_digits : (n : ℕ) → n < 2 ^ 64 → are_digits (decimal n) ≡ true
-decimal_digits n fits = all_of (decimal n) (decimal_is_IsNumeral n fits).0.1
-
-pub decimal_value : (n : ℕ) → n < 2 ^ 64 → digits_value 10 (decimal n) ≡ n
-decimal_value n fits = (decimal_is_IsNumeral n fits).1
-
--- digits at the front of a text
-front_end : (rest : List ℕ) → HeadFails is_ascii_digit rest → (run rest ≡ []) × (after_run rest ≡ rest)
-front_end [] fails = (refl, refl)
-front_end (c ∷ rest) fails = (take_while_no is_ascii_digit c rest fails, behind_no is_ascii_digit c rest fails)
-
-pub run_front : (ds rest : List ℕ) → are_digits ds ≡ true → HeadFails is_ascii_digit rest → (run (ds ++ rest) ≡ ds) × (after_run (ds ++ rest) ≡ rest)
-run_front [] rest all fails = front_end rest fails
-run_front (c ∷ ds) rest all fails =
-    let parts = both (is_ascii_digit c) (are_digits ds) all in
-    let next = run_front ds rest parts.1 fails in (
-      take_while_yes is_ascii_digit c (ds ++ rest) parts.0 ∙ ap (λ (xs : List ℕ). c ∷ xs) next.0,
-      behind_yes is_ascii_digit c (ds ++ rest) parts.0 ∙ next.1,
-    )
-
-abbrev make : Bool → ℕ → ℤ → Number
-make negative digits power = record { negative = negative; digits = digits; power = power }
 
 -- ---- a number of at most 18 digits
 short_rounded : (n : Number) → n.digits < 10 ^ 18 → rounded n ≡ n
@@ -92,7 +59,7 @@ widened_cut n some digit =
     ∙ ap (λ (z : ℤ). make n.negative n.digits z) power
 
 -- ---- the exponent
-abbrev padded_if : Bool → List ℕ → List ℕ
+abbrev pub padded_if : Bool → List ℕ → List ℕ
 padded_if b ds = if b then 48 ∷ ds else ds
 
 padded_all : (b : Bool) (ds : List ℕ) → are_digits ds ≡ true → are_digits (padded_if b ds) ≡ true
@@ -107,10 +74,10 @@ padded_length : (b : Bool) (ds : List ℕ) → 0 < length ds → length ds ≤ 3
 padded_length true ds some few = (le-leb _ _ (omega arith), le-leb _ _ (omega arith))
 padded_length false ds some few = (le-leb _ _ (omega arith), le-leb _ _ (omega arith))
 
-abbrev sign_text : Bool → List ℕ
+abbrev pub sign_text : Bool → List ℕ
 sign_text b = if b then 45 ∷ [] else 43 ∷ []
 
-behind_sign : (b : Bool) (text : List ℕ) → (starts_with_minus (sign_text b ++ text) ≡ b) × (without_leading_sign (sign_text b ++ text) ≡ text)
+pub behind_sign : (b : Bool) (text : List ℕ) → (starts_with_minus (sign_text b ++ text) ≡ b) × (without_leading_sign (sign_text b ++ text) ≡ text)
 behind_sign true text = (refl, refl)
 behind_sign false text = (refl, refl)
 
@@ -132,8 +99,8 @@ exponent_reads x small =
     let ds = decimal n in
     let b = length ds == 1 in
     let size = padded_if b ds in
-    let fits : n < 2 ^ 64 = omega arith in
-    let long = padded_length b ds (decimal_nonempty n fits) (length-decimal-le 3 n (omega arith) small fits) in
+    let fits : n < 10 ^ 64 = omega arith in
+    let long = padded_length b ds (decimal_some n fits) (length-decimal-le 3 n (omega arith) small (omega arith)) in
     let sign = behind_sign (int_lt x (pos 0)) size in
     let value : digits_value 10 size ≡ n = padded_value b ds ∙ decimal_value n fits in (
       is_exponent_of (sign_text (int_lt x (pos 0)) ++ size) size sign.1 long.0 long.1 (padded_all b ds (decimal_digits n fits)),
@@ -151,81 +118,48 @@ exponent_told x small =
 regrouped : (m d f x : List ℕ) → ((m ++ ((d ++ 46 ∷ []) ++ f)) ++ 69 ∷ []) ++ x ≡ m ++ (d ++ 46 ∷ (f ++ 69 ∷ x))
 regrouped m d f x = simp append_assoc
 
-abbrev first_digit : ℕ → List ℕ
+abbrev pub first_digit : ℕ → List ℕ
 first_digit n = take 1 (decimal n)
 
-abbrev other_digits : ℕ → List ℕ
+abbrev pub other_digits : ℕ → List ℕ
 other_digits n = if length (decimal n) == 1 then 48 ∷ [] else drop 1 (decimal n)
 
-abbrev behind_first : Number → List ℕ
-behind_first n = 46 ∷ (other_digits n.digits ++ 69 ∷ exponent_text (leading_power n))
-
-text_shape : (n : Number) → decimal_text_of n ≡ minus_if n.negative ++ (first_digit n.digits ++ behind_first n)
+text_shape : (n : Number) → decimal_text_of n ≡ minus_if n.negative ++ (first_digit n.digits ++ 46 ∷ (other_digits n.digits ++ 69 ∷ exponent_text (leading_power n)))
 unfolding decimal_text_of significand_text
 text_shape n = regrouped (minus_if n.negative) (first_digit n.digits) (other_digits n.digits) (exponent_text (leading_power n))
 
--- a minus sign before a digit
-signed_front : (b : Bool) (c : ℕ) (rest : List ℕ) → is_ascii_digit c ≡ true
-    → (starts_with_minus (minus_if b ++ c ∷ rest) ≡ b) × (without_leading_sign (minus_if b ++ c ∷ rest) ≡ c ∷ rest)
-signed_front true c rest digit = (refl, refl)
-signed_front false c rest digit =
-    let no_minus : (c == 45) ≡ false = grind (arith, nat_tests) in
-    let no_plus : (c == 43) ≡ false = grind (arith, nat_tests) in
-    (no_minus, rw (no_minus, no_plus) refl)
-
-first_alone : (ds rest : List ℕ) (b : Bool) → 0 < length ds → are_digits ds ≡ true
-    → (starts_with_minus (minus_if b ++ (take 1 ds ++ rest)) ≡ b) × (without_leading_sign (minus_if b ++ (take 1 ds ++ rest)) ≡ take 1 ds ++ rest)
-first_alone [] rest b some all = absurd (omega arith)
-first_alone (c ∷ ds) rest b some all = signed_front b c rest (both (is_ascii_digit c) (are_digits ds) all).0
-
 take_all_digits : (ds : List ℕ) → are_digits ds ≡ true → are_digits (take 1 ds) ≡ true
 take_all_digits [] all = refl
-take_all_digits (c ∷ ds) all = rw (both (is_ascii_digit c) (are_digits ds) all).0 refl
+take_all_digits (c ∷ ds) all = rw (and_parts (is_ascii_digit c) (are_digits ds) all).0 refl
+
+take_some : (ds : List ℕ) → 0 < length ds → 0 < length (take 1 ds)
+take_some [] some = absurd (omega arith)
+take_some (c ∷ ds) some = omega arith
 
 drop_all_digits : (ds : List ℕ) → are_digits ds ≡ true → are_digits (drop 1 ds) ≡ true
 drop_all_digits [] all = refl
-drop_all_digits (c ∷ ds) all = (both (is_ascii_digit c) (are_digits ds) all).1
+drop_all_digits (c ∷ ds) all = (and_parts (is_ascii_digit c) (are_digits ds) all).1
 
 other_all : (b : Bool) (ds : List ℕ) → are_digits ds ≡ true → are_digits (if b then 48 ∷ [] else drop 1 ds) ≡ true
 other_all true ds all = refl
 other_all false ds all = drop_all_digits ds all
 
--- the parts of the printed text
-abbrev printed_parts : Number → Option (List ℕ) → Parts
-printed_parts n exponent = parts n.negative (first_digit n.digits) (other_digits n.digits) exponent
+pub record HasDigits (n : ℕ) : Type 0 where
+  pub first : are_digits (first_digit n) ≡ true
+  pub some : 0 < length (first_digit n)
+  pub others : are_digits (other_digits n) ≡ true
 
-printed : (n : Number) → n.digits < 10 ^ 18 → unsigned_abs (leading_power n) < 10 ^ 3
-    → Reads (parts_of (decimal_text_of n)) n.negative (first_digit n.digits) (other_digits n.digits) (leading_power n)
-printed n short small =
-    let text = decimal_text_of n in
-    let ds = decimal n.digits in
-    let first = first_digit n.digits in
-    let other = other_digits n.digits in
-    let behind = behind_first n in
-    let mark = 69 ∷ exponent_text (leading_power n) in
-    let all = decimal_digits n.digits (omega arith) in
-    let signs = first_alone ds behind n.negative (decimal_nonempty n.digits (omega arith)) all in
-    let whole = run_front first behind (take_all_digits ds all) refl in
-    let fraction = run_front other mark (other_all (length ds == 1) ds all) refl in
-    let read : Read text (first ++ behind) behind mark = record {
-      sign = sym (ap without_leading_sign (text_shape n) ∙ signs.1);
-      whole = sym whole.1;
-      fraction = sym fraction.1;
-    } in
-    let reads = exponent_is text (first ++ behind) behind mark (leading_power n) read (exponent_told (leading_power n) small) in
-    let with_sign = subst (λ (b : Bool). Reads (parts_of text) b (run (first ++ behind)) (fraction_run behind) (leading_power n)) (ap starts_with_minus (text_shape n) ∙ signs.0) reads in
-    let with_whole = subst (λ (w : List ℕ). Reads (parts_of text) n.negative w (fraction_run behind) (leading_power n)) whole.0 with_sign in
-    subst (λ (f : List ℕ). Reads (parts_of text) n.negative first f (leading_power n)) fraction.0 with_whole
+pub digits_of_number : (n : ℕ) → n < 10 ^ 18 → HasDigits n
+digits_of_number n short =
+    let fits : n < 10 ^ 64 = omega arith in
+    let all = decimal_digits n fits in
+    record {
+      first = take_all_digits (decimal n) all;
+      some = take_some (decimal n) (decimal_some n fits);
+      others = other_all (length (decimal n) == 1) (decimal n) all;
+    }
 
--- and the number that they say
-printed_number : (n : Number) (p : Parts) → Reads p n.negative (first_digit n.digits) (other_digits n.digits) (leading_power n)
-    → number p ≡ make n.negative (digits_value 10 (first_digit n.digits ++ other_digits n.digits)) (leading_power n -ℤ pos (length (other_digits n.digits)))
-unfolding number
-printed_number n p reads =
-    let other = other_digits n.digits in
-    ap (λ (q : Parts). make q.negative (digits_value 10 (digits q)) (exponent_value q.exponent -ℤ pos (length q.fraction))) reads.same
-    ∙ ap (λ (z : ℤ). make n.negative (digits_value 10 (first_digit n.digits ++ other)) (z -ℤ pos (length other))) reads.value
-
+-- ---- the number that the text says
 first_power : (n : Number) → 0 < n.digits → n.digits < 10 ^ 18 → leading_power n ≡ n.power +ℤ pos (length (decimal n.digits) - 1)
 unfolding leading_power digit_count
 first_power n some short =
@@ -248,7 +182,7 @@ printed_many n large short =
     let many : (length ds == 1) ≡ false = grind (arith, nat_tests, length_two n.digits large fits) in
     let other : other_digits n.digits ≡ drop 1 ds = rw many refl in
     let value : digits_value 10 (take 1 ds ++ other_digits n.digits) ≡ n.digits =
-    ap (λ (f : List ℕ). digits_value 10 (take 1 ds ++ f)) other ∙ ap (digits_value 10) (take-append-drop 1 ds) ∙ decimal_value n.digits fits in
+    ap (λ (f : List ℕ). digits_value 10 (take 1 ds ++ f)) other ∙ ap (digits_value 10) (take-append-drop 1 ds) ∙ decimal_value n.digits (omega arith) in
     let long : length (other_digits n.digits) ≡ length ds - 1 = ap length other ∙ length-drop 1 ds in
     let first : leading_power n ≡ n.power +ℤ pos (length ds - 1) = first_power n (omega arith) short in
     let power : leading_power n -ℤ pos (length (other_digits n.digits)) ≡ n.power = omega (arith, ints, first, long) in
@@ -320,15 +254,13 @@ form_again n m normal readable e = elim (leb_tells 10 n.digits) [
 
 pub again : (n : Number) → IsNormal n → IsReadable n → unsigned_abs (leading_power n) < 10 ^ 3 → decimal_of (decimal_text_of n) ≡ Ok n
 again n normal readable small =
-    let p = parts_of (decimal_text_of n) in
-    let ds = decimal n.digits in
-    let fits : n.digits < 2 ^ 64 = omega (arith, normal.short) in
-    let all = decimal_digits n.digits fits in
-    let reads = printed n normal.short small in
-    let long : length (first_digit n.digits) ≡ min 1 (length ds) = length-take 1 ds in
-    let form = is_of_form p n.negative (first_digit n.digits) (other_digits n.digits) (leading_power n) reads
-    (take_all_digits ds all) (other_all (length ds == 1) ds all) (omega (arith, decimal_nonempty n.digits fits)) in
-    rw form (form_again n (number p) normal readable (printed_number n p reads))
+    let first = first_digit n.digits in
+    let other = other_digits n.digits in
+    let power = leading_power n in
+    let has = digits_of_number n.digits normal.short in
+    let shaped = fraction_says n.negative first other (69 ∷ exponent_text power) power has.first has.some has.others refl (exponent_told power small) in
+    let says = subst (λ (t : List ℕ). Says t (make n.negative (digits_value 10 (first ++ other)) (power -ℤ pos (length other)))) (sym (text_shape n)) shaped in
+    rw says.form (form_again n (number (parts_of (decimal_text_of n))) normal readable says.value)
 
 pub zero_is : (n : Number) → n.negative ≡ false → n.digits ≡ 0 → n.power ≡ pos 0 → n ≡ zero_number
 zero_is n sign none power =

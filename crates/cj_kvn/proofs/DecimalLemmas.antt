@@ -1,12 +1,14 @@
 -- A number that was read, to 18 significant digits.
-use Rattle.std.proofs.Common.{◌≡◌, ℕ, zero, suc, ◌+◌, ◌/◌, ◌-◌, ◌^◌, ◌<◌, ◌≤◌, arith, ap, sym, ◌∙◌, refl, inl, inr, true, false, Bool, ℤ, pos, negsuc, ◌+ℤ◌, ◌≤ℤ◌}
+use Rattle.std.proofs.Common.{◌≡◌, ℕ, zero, suc, ◌+◌, ◌/◌, ◌-◌, ◌^◌, ◌<◌, ◌≤◌, arith, ap, sym, ◌∙◌, refl, inl, inr, true, false, Bool, ℤ, pos, negsuc, ◌+ℤ◌, ◌≤ℤ◌, List, [], ◌∷◌, ◌++◌, length, map, set, take}
 use Rattle.std.proofs.Math.Nat.{div-eq_of_lt, div-one}
 use Rattle.std.proofs.lemmas.Bool.Decides.{leb_tells}
 use Rattle.std.proofs.lemmas.Int.{ints}
+use Rattle.std.proofs.lemmas.List.{map-append, take_more_set}
 use Rattle.std.proofs.lemmas.Nat.{pow-add}
 use lib.Signed.{le_z, lt_z}
+use Rattle.cj_kvn.specs.declared.decimals.Decimal.{Decimal}
 use Rattle.cj_kvn.specs.declared.leading.Scanned.{Scanned}
-use Rattle.cj_kvn.specs.Decimals.{IsReadable, zero_number, digit_count, is_tiny, is_huge, rounded, rounded_number, trailing_zeros, without_trailing_zeros}
+use Rattle.cj_kvn.specs.Decimals.{IsReadable, zero_number, digit_count, is_tiny, is_huge, rounded, rounded_number, trailing_zeros, without_trailing_zeros, number_of}
 use Rattle.cj_kvn.specs.declared.rounded.Rounded.{Rounded}
 use Rattle.cj_kvn.specs.Numbers.{Number, nearest}
 use Rattle.cj_kvn.specs.Scanning.{Begins}
@@ -123,3 +125,8 @@ cut_huge r digits power some value sum =
 
 pub zero_readable : IsReadable zero_number
 zero_readable = (tiny_zero zero_number refl, huge_no zero_number (omega (arith, ints, count_zero)))
+
+-- one more number is written in its place
+pub written_more : (places : List Decimal) (i : ℕ) (d : Decimal) → i < length places
+    → map number_of (take (i + 1) (set places i d)) ≡ map number_of (take i places) ++ number_of d ∷ []
+written_more places i d inside = ap (map number_of) (take_more_set places i d inside) ∙ map-append number_of (take i places) (d ∷ [])

@@ -1,7 +1,7 @@
 -- What a line says, and the first line of a text.
 use Rattle.std.proofs.Common.{◌≡◌, ℕ, suc, ◌+◌, ◌-◌, ◌<◌, ◌≤◌, List, [], ◌∷◌, Bool, true, false, take, drop, length, eqb, arith, ap, sym, ◌∙◌, refl, subst, Some, None, Ok, Err, inl, inr}
 use Rattle.std.specs.Prelude.{◌==◌, nat_lt, cond, slice_range, position}
-use Rattle.std.specs.List.{position_or_len, before_first, after_first, list_all, list_any, slice_split}
+use Rattle.std.specs.List.{position_or_len, list_all, list_any, slice_split}
 use Rattle.std.specs.Str.Lines.{lines, lines_of_parts, strip_carriage_return}
 use Rattle.std.proofs.lemmas.Bool.Decides.{nat_tests, leb_tells, eqb_tells}
 use Rattle.std.proofs.lemmas.List.{drop-drop, drop_all, length-drop, length-take, take-take, take_all, take_rest}
@@ -90,6 +90,17 @@ pub fault_is : (number : ℕ) (line : List ℕ) → is_comment line ≡ false �
 unfolding line_form
 fault_is number line h printable = rw (h, printable) refl
 
+-- a text is split at the first byte that passes
+pub split_here : (p : ℕ → Bool) (xs : List ℕ) (i : ℕ) → position p xs ≡ Some i → slice_split p xs ≡ take i xs ∷ slice_split p (drop (i + 1) xs)
+split_here p xs i h =
+    let here = found p xs i h in
+    slice_split_first p xs 0 (omega (arith, here.1, here.2)) ∙ ap (λ (k : ℕ). take k xs ∷ slice_split p (drop (k + 1) xs)) here.1
+
+pub split_nowhere : (p : ℕ → Bool) (xs : List ℕ) → position p xs ≡ None → slice_split p xs ≡ xs ∷ []
+split_nowhere p xs h =
+    let past = (not_found p xs h).1 in
+    slice_split_none p xs (λ k d below. fails_before_first p xs k d (omega arith))
+
 abbrev pub is_feed : ℕ → Bool
 is_feed b = b == 10
 
@@ -105,19 +116,12 @@ alone x some =
 -- a line that ends with a line feed
 line_at : (bytes : List ℕ) (i : ℕ) → position is_feed bytes ≡ Some i → lines bytes ≡ strip_carriage_return (take i bytes) ∷ lines (drop (i + 1) bytes)
 line_at bytes i h =
-    let here = found is_feed bytes i h in
-    let split : slice_split is_feed bytes ≡ before_first is_feed bytes ∷ slice_split is_feed (after_first is_feed bytes) =
-    slice_split_first is_feed bytes 0 (omega (arith, here.1, here.2)) in
-    ap lines_of_parts split
-    ∙ first_part (before_first is_feed bytes) (slice_split is_feed (after_first is_feed bytes)) (omega (arith, length-slice_split is_feed (after_first is_feed bytes)))
-    ∙ ap (λ (k : ℕ). strip_carriage_return (take k bytes) ∷ lines (drop (k + 1) bytes)) here.1
+    ap lines_of_parts (split_here is_feed bytes i h)
+    ∙ first_part (take i bytes) (slice_split is_feed (drop (i + 1) bytes)) (omega (arith, length-slice_split is_feed (drop (i + 1) bytes)))
 
 -- the last line, where no line feed follows
 last_line : (bytes : List ℕ) → 0 < length bytes → position is_feed bytes ≡ None → lines bytes ≡ bytes ∷ []
-last_line bytes some h =
-    let past = (not_found is_feed bytes h).1 in
-    let split : slice_split is_feed bytes ≡ bytes ∷ [] = slice_split_none is_feed bytes (λ k d below. fails_before_first is_feed bytes k d (omega arith)) in
-    ap lines_of_parts split ∙ alone bytes some
+last_line bytes some h = ap lines_of_parts (split_nowhere is_feed bytes h) ∙ alone bytes some
 
 -- the same of the bytes from a place on
 last_line_at : (bytes : List ℕ) (at : ℕ) → at < length bytes → position is_feed (drop at bytes) ≡ None

@@ -1,7 +1,9 @@
 -- The front of a list that passes a test, and what stands behind it.
-use Rattle.std.proofs.Common.{◌≡◌, ℕ, suc, ◌+◌, ◌-◌, List, [], ◌∷◌, ◌++◌, Bool, true, false, cond, take, drop, length, arith, ap, sym, ◌∙◌, refl, subst}
+use Rattle.std.proofs.Common.{◌≡◌, ℕ, suc, ◌+◌, ◌-◌, List, [], ◌∷◌, ◌++◌, Bool, true, false, take, drop, length, arith, ap, sym, ◌∙◌, refl, subst, Option, Some}
 use Rattle.std.specs.Prelude.{◌&&◌, ◌||◌, not}
-use Rattle.std.specs.List.{prefix_len, take_while, position_or_len, before_first, after_first, list_any, list_all}
+use Rattle.std.specs.List.{prefix_len, take_while, position_or_len, before_first, after_first, list_any, list_all, last_or}
+use Rattle.std.proofs.lemmas.Bool.{and_parts, cond-false, cond-true}
+use Rattle.std.proofs.lemmas.List.Folds.{list_all-append}
 use Rattle.std.proofs.lemmas.List.{take_all, take-append-drop}
 use Rattle.std.proofs.lemmas.List.Sums.{take_while-cons}
 
@@ -9,35 +11,23 @@ use Rattle.std.proofs.lemmas.List.Sums.{take_while-cons}
 abbrev pub behind : {X : Type 0} → (X → Bool) → List X → List X
 behind p xs = drop (prefix_len p xs) xs
 
-chosen : {X : Type 0} (b : Bool) (m n : X) → b ≡ true → cond b m n ≡ m
-chosen true m n h = refl
-chosen false m n h = absurd cc
-
-other : {X : Type 0} (b : Bool) (m n : X) → b ≡ false → cond b m n ≡ n
-other true m n h = absurd cc
-other false m n h = refl
-
-pub both : (a b : Bool) → (a && b) ≡ true → (a ≡ true) × (b ≡ true)
-both true b h = (refl, h)
-both false b h = absurd cc
-
 pub and_false : (a : Bool) → (a && false) ≡ false
 and_false true = refl
 and_false false = refl
 
 pub take_while_yes : {X : Type 0} (p : X → Bool) (x : X) (xs : List X) → p x ≡ true → take_while p (x ∷ xs) ≡ x ∷ take_while p xs
-take_while_yes p x xs h = take_while-cons p x xs ∙ chosen (p x) (x ∷ take_while p xs) [] h
+take_while_yes p x xs h = take_while-cons p x xs ∙ cond-true (p x) (x ∷ take_while p xs) [] h
 
 pub take_while_no : {X : Type 0} (p : X → Bool) (x : X) (xs : List X) → p x ≡ false → take_while p (x ∷ xs) ≡ []
-take_while_no p x xs h = take_while-cons p x xs ∙ other (p x) (x ∷ take_while p xs) [] h
+take_while_no p x xs h = take_while-cons p x xs ∙ cond-false (p x) (x ∷ take_while p xs) [] h
 
 pub behind_yes : {X : Type 0} (p : X → Bool) (x : X) (xs : List X) → p x ≡ true → behind p (x ∷ xs) ≡ behind p xs
 behind_yes p x xs h =
     let one : 1 + prefix_len p xs ≡ suc (prefix_len p xs) = omega arith in
-    ap (λ (n : ℕ). drop n (x ∷ xs)) (chosen (p x) (1 + prefix_len p xs) 0 h ∙ one)
+    ap (λ (n : ℕ). drop n (x ∷ xs)) (cond-true (p x) (1 + prefix_len p xs) 0 h ∙ one)
 
 pub behind_no : {X : Type 0} (p : X → Bool) (x : X) (xs : List X) → p x ≡ false → behind p (x ∷ xs) ≡ x ∷ xs
-behind_no p x xs h = ap (λ (n : ℕ). drop n (x ∷ xs)) (other (p x) (1 + prefix_len p xs) 0 h)
+behind_no p x xs h = ap (λ (n : ℕ). drop n (x ∷ xs)) (cond-false (p x) (1 + prefix_len p xs) 0 h)
 
 -- what a pattern leaves behind the first element
 abbrev pub tail_of : {X : Type 0} → List X → List X
@@ -48,7 +38,7 @@ tail_of-cons x xs = take_all (suc (length xs) - 1) xs (omega arith)
 
 -- what stands round the first element that passes, where the head fails
 pub at_no : {X : Type 0} (p : X → Bool) (x : X) (xs : List X) → p x ≡ false → position_or_len p (x ∷ xs) ≡ suc (position_or_len p xs)
-at_no p x xs h = chosen (not (p x)) (1 + position_or_len p xs) 0 (ap not h) ∙ omega arith
+at_no p x xs h = cond-true (not (p x)) (1 + position_or_len p xs) 0 (ap not h) ∙ omega arith
 
 pub before_no : {X : Type 0} (p : X → Bool) (x : X) (xs : List X) → p x ≡ false → before_first p (x ∷ xs) ≡ x ∷ before_first p xs
 before_no p x xs h = ap (λ (n : ℕ). take n (x ∷ xs)) (at_no p x xs h)
@@ -64,7 +54,7 @@ any_no p x xs h = ap (λ (b : Bool). b || list_any p xs) h
 
 -- and where it passes
 pub at_yes : {X : Type 0} (p : X → Bool) (x : X) (xs : List X) → p x ≡ true → position_or_len p (x ∷ xs) ≡ 0
-at_yes p x xs h = other (not (p x)) (1 + position_or_len p xs) 0 (ap not h)
+at_yes p x xs h = cond-false (not (p x)) (1 + position_or_len p xs) 0 (ap not h)
 
 pub before_yes : {X : Type 0} (p : X → Bool) (x : X) (xs : List X) → p x ≡ true → before_first p (x ∷ xs) ≡ []
 before_yes p x xs h = ap (λ (n : ℕ). take n (x ∷ xs)) (at_yes p x xs h)
@@ -80,22 +70,26 @@ pub before_skip : {X : Type 0} (p q : X → Bool) → ((x : X) → q x ≡ true 
     → before_first p (xs ++ ys) ≡ xs ++ before_first p ys
 before_skip p q apart [] ys all = refl
 before_skip p q apart (x ∷ xs) ys all =
-    let parts = both (q x) (list_all q xs) all in
+    let parts = and_parts (q x) (list_all q xs) all in
     before_no p x (xs ++ ys) (apart x parts.0) ∙ ap (λ zs. x ∷ zs) (before_skip p q apart xs ys parts.1)
 
 pub after_skip : {X : Type 0} (p q : X → Bool) → ((x : X) → q x ≡ true → p x ≡ false) → (xs ys : List X) → list_all q xs ≡ true
     → after_first p (xs ++ ys) ≡ after_first p ys
 after_skip p q apart [] ys all = refl
 after_skip p q apart (x ∷ xs) ys all =
-    let parts = both (q x) (list_all q xs) all in
+    let parts = and_parts (q x) (list_all q xs) all in
     after_no p x (xs ++ ys) (apart x parts.0) ∙ after_skip p q apart xs ys parts.1
 
 pub any_skip : {X : Type 0} (p q : X → Bool) → ((x : X) → q x ≡ true → p x ≡ false) → (xs ys : List X) → list_all q xs ≡ true
     → list_any p (xs ++ ys) ≡ list_any p ys
 any_skip p q apart [] ys all = refl
 any_skip p q apart (x ∷ xs) ys all =
-    let parts = both (q x) (list_all q xs) all in
+    let parts = and_parts (q x) (list_all q xs) all in
     any_no p x (xs ++ ys) (apart x parts.0) ∙ any_skip p q apart xs ys parts.1
+
+-- each element passes in both parts
+pub all_append : {X : Type 0} (p : X → Bool) (xs ys : List X) → list_all p xs ≡ true → list_all p ys ≡ true → list_all p (xs ++ ys) ≡ true
+all_append p xs ys first second = list_all-append p xs ys ∙ rw (first, second) refl
 
 -- one that fails among the others
 pub all_but : {X : Type 0} (q : X → Bool) (xs : List X) (y : X) (ys : List X) → q y ≡ false → list_all q (xs ++ y ∷ ys) ≡ false
@@ -126,3 +120,8 @@ behind_fails q (x ∷ xs) = fails_step q x xs (q x) refl (behind_fails q xs)
 
 pub front_behind : {X : Type 0} (q : X → Bool) (xs : List X) → xs ≡ take_while q xs ++ behind q xs
 front_behind q xs = sym (take-append-drop (prefix_len q xs) xs)
+
+-- the last element is the one that came last
+pub last_push : {X : Type 0} (o : Option X) (xs : List X) (x : X) → last_or o (xs ++ x ∷ []) ≡ Some x
+last_push o [] x = refl
+last_push o (y ∷ xs) x = last_push (Some y) xs x

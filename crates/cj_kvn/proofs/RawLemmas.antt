@@ -4,7 +4,7 @@ use Rattle.std.specs.Prelude.{◌&&◌, ◌==◌, nat_lt, cond, not, position, i
 use Rattle.std.specs.List.{prefix_len, suffix_len, position_or_len, list_all, slice_split}
 use Rattle.std.specs.Option.{option_map}
 use Rattle.std.specs.Str.Lines.{lines, lines_of_parts, strip_carriage_return}
-use Rattle.std.proofs.lemmas.Bool.{cases_eq, eqb-true}
+use Rattle.std.proofs.lemmas.Bool.{and_parts, cases_eq, eqb-true}
 use Rattle.std.proofs.lemmas.Bool.Decides.{nat_tests, leb_tells}
 use Rattle.std.proofs.lemmas.List.{append-nil, append_assoc, drop-drop, get_or-drop, get_or-take, get_or-reverse, length-append, length-drop, length-take, take-append-drop, take-take, take_rest}
 use Rattle.std.proofs.lemmas.List.Elements.{All-push}
@@ -18,7 +18,6 @@ use Rattle.cj_kvn.specs.Lines.{is_blank, is_equals, is_printable, pair_of, pair_
 use Rattle.cj_kvn.specs.RawLines.{begins_with_feed, end_len, equals_at, is_plain}
 use Rattle.cj_kvn.specs.Ranges.{IsWithin, text_at}
 use Rattle.cj_kvn.proofs.LineLemmas.{alone, first_part, is_feed, not_found, pair_text, rest_of}
-use Rattle.cj_kvn.proofs.ListLemmas.{both}
 use Rattle.cj_kvn.proofs.RangeLemmas.{slice_length}
 
 -- ---- the place of the first one that passes
@@ -40,7 +39,7 @@ position_none p xs fails =
 -- ---- the printable bytes at the front
 
 plain_means : (b : ℕ) → is_plain b ≡ true → (is_printable b ≡ true) × (is_equals b ≡ false)
-plain_means b h = let parts = both (is_printable b) (not (is_equals b)) h in (parts.0, grind (arith, nat_tests))
+plain_means b h = let parts = and_parts (is_printable b) (not (is_equals b)) h in (parts.0, grind (arith, nat_tests))
 
 not_plain : (b : ℕ) → is_plain b ≡ false → (b ≡ 61 → ⊥) → is_printable b ≡ false
 not_plain b h other = grind (arith, nat_tests)
@@ -141,7 +140,7 @@ by_other : (front text : List ℕ) (b n : ℕ) (t : Bool) → ArePrintable front
     → lines (front ++ b ∷ text) ≡ front ∷ lines (drop n (b ∷ text))
 by_other front text b n false all h e = absurd cc
 by_other front text b n true all h e =
-    let parts = both (b == 13) (begins_with_feed text) h in
+    let parts = and_parts (b == 13) (begins_with_feed text) h in
     let thirteen : 13 ≡ b = grind (arith, nat_tests) in
     subst (λ (a : ℕ). lines (front ++ a ∷ text) ≡ front ∷ lines (drop n (a ∷ text))) thirteen (by_return front text n all parts.1 e)
 

@@ -10,7 +10,7 @@ use Rattle.cj_kvn.specs.declared.leading.Leading.{Leading}
 use Rattle.cj_kvn.specs.declared.leading.Scanned.{Scanned}
 use Rattle.cj_kvn.specs.Numbers.{Parts, parts_of, is_number, number, is_exponent, exponent_value, is_point, digits, are_digits}
 use Rattle.cj_kvn.specs.Scanning.{Begins, Leads, run, after_run, fraction_run, after_fraction, exponent_said}
-use Rattle.cj_kvn.proofs.ListLemmas.{all_take_while, front_behind}
+use Rattle.cj_kvn.proofs.ListLemmas.{all_take_while, front_behind, all_append}
 use Rattle.cj_kvn.proofs.PartsLemmas.{Reads, Told, told}
 
 -- the text, and what stands behind its sign, its whole digits and its digits behind a point
@@ -64,10 +64,6 @@ no_digits text unsigned behind rest r same none =
     (nil_from_length (run unsigned) (omega arith)) (nil_from_length (fraction_run behind) none) (told_of text unsigned behind rest r)
 
 -- digits throughout
-all_append : (xs ys : List ℕ) → are_digits xs ≡ true → are_digits ys ≡ true → are_digits (xs ++ ys) ≡ true
-all_append [] ys first second = second
-all_append (x ∷ xs) ys first second = grind (arith, all_append xs ys)
-
 all_fraction : (text : List ℕ) → are_digits (fraction_run text) ≡ true
 all_fraction [] = refl
 all_fraction (b ∷ text) = elim (is_point b) as (λ (t : Bool). are_digits (if t then run text else []) ≡ true) [
@@ -85,7 +81,7 @@ unfolding is_number
 is_of_form p n w f power r whole fraction some =
     let same : digits p ≡ w ++ f = ap digits r.same in
     let form : is_exponent p.exponent ≡ true = ap (λ (q : Parts). is_exponent q.exponent) r.same ∙ r.form in
-    let all : are_digits (digits p) ≡ true = ap are_digits same ∙ all_append w f whole fraction in
+    let all : are_digits (digits p) ≡ true = ap are_digits same ∙ all_append is_ascii_digit w f whole fraction in
     let long : length (digits p) ≡ length w + length f = ap length same ∙ length-append w f in
     let enough : nat_le 1 (length (digits p)) ≡ true = elim (leb_tells 1 (length (digits p))) [ inl h ↦ h.0 | inr h ↦ absurd (omega arith) ] in
     rw (enough, all, form) refl

@@ -6,6 +6,7 @@ use Rattle.std.specs.List.{flat_map}
 use Rattle.std.proofs.lemmas.List.Concat.{flat_map-append}
 use Rattle.cj_interval.proofs.ListLemmas.{Each, Exists, Each-weaker, Each-exists, Each-flat_map, Exists-weaker, Exists-flat_map}
 use Rattle.cj_hermite.specs.Interpolant.{Curve, IsOver}
+use Rattle.cj_hermite.proofs.TrackLemmas.{over_part}
 use Rattle.cj_bezier.specs.declared.kind.Kind.{Kind}
 use Rattle.cj_bezier.specs.Gaps.{gap_terms, hull_gap}
 use Rattle.cj_bezier.specs.Halving.{middle, leaves_between}
@@ -15,10 +16,6 @@ use Rattle.cj_bezier.proofs.HalvingLemmas.{HasKind, HasTick, IsSettled, tiles, l
 use Rattle.cj_meet.specs.Closest.{PlainApproach, approach_at, ends_of, candidates_between}
 use Rattle.cj_meet.specs.Flat.{is_flat, flat_kind, flats_between}
 use Rattle.cj_meet.proofs.TickLemmas.{one_tick_flat}
-
--- an interpolant over a part of its ticks
-pub over_part : (c : Curve) (first last from to : ℕ) → IsOver c first last → first ≤ from → to ≤ last → IsOver c from to
-over_part c first last from to over low high = record { some = over.some; from = omega (arith, over.from); to = omega (arith, over.to) }
 
 flat_is : (c d : Curve) (kind : Kind) (first last : ℕ) → is_flat (gap_terms (hull_gap c d first last)) ≡ true → flat_kind c d kind first last ≡ Some kind
 unfolding flat_kind

@@ -19,6 +19,7 @@ use Rattle.cj_hermite.specs.PlainProblems.{PlainProblem, curve_at, OfObjectsAt}
 use Rattle.cj_hermite.specs.Roots.{KeepIntervals}
 use Rattle.cj_hermite.proofs.CurveLemmas.{HaveCurves, have_curves}
 use Rattle.cj_hermite.proofs.ObjectLemmas.{of_objects}
+use Rattle.cj_hermite.proofs.TrackLemmas.{over_part}
 use Rattle.cj_bezier.specs.declared.encounter.Closest.{Closest}
 use Rattle.cj_bezier.specs.declared.encounter.Encounter.{Encounter}
 use Rattle.cj_bezier.specs.declared.leaf.Leaf.{Leaf}
@@ -29,7 +30,7 @@ use Rattle.cj_meet.specs.Closest.{PlainApproach, PlainClosest, upper, approach_a
 use Rattle.cj_meet.specs.Encounters.{stretches_in}
 use Rattle.cj_meet.specs.Flat.{floor_root, is_flat}
 use Rattle.cj_meet.specs.Searches.{NoWorse, HasInterpolants}
-use Rattle.cj_meet.proofs.CandidateLemmas.{HasFlat, over_part, each_candidate, first_candidate, last_candidate, flat_at}
+use Rattle.cj_meet.proofs.CandidateLemmas.{HasFlat, each_candidate, first_candidate, last_candidate, flat_at}
 use Rattle.cj_meet.proofs.EncounterLemmas.{stretches_in_leaves}
 use Rattle.cj_meet.proofs.NearerLemmas.{IsNearer, NoWorse-trans, nearer-is, nearest_is}
 use Rattle.cj_meet.proofs.RootLemmas.{floor_root-below, ceil_root-is}

@@ -4,6 +4,7 @@ use Rattle.std.proofs.lemmas.Bool.{or_cases, and_parts, ltb-true, leb-true, eqb-
 use Rattle.std.proofs.lemmas.List.{drop_more, drop-set, length-set}
 use Rattle.cj_interval.proofs.ListLemmas.{Each, Exists, Each-append, Exists-left, Exists-right, each_from_append}
 use Rattle.cj_hermite.specs.Interpolant.{Curve, IsOver}
+use Rattle.cj_hermite.proofs.TrackLemmas.{over_part}
 use Rattle.cj_bezier.specs.Gaps.{gap_terms, hull_gap}
 use Rattle.cj_bezier.specs.Leaves.{PlainLeaf}
 use Rattle.cj_bezier.specs.Squares.{least_square}
@@ -12,7 +13,7 @@ use Rattle.cj_meet.specs.declared.runs.Run.{Run}
 use Rattle.cj_meet.specs.Closest.{PlainApproach, approach_at, candidates_between}
 use Rattle.cj_meet.specs.Flat.{is_flat}
 use Rattle.cj_meet.specs.Searches.{plain_approach, NoWorse, AreHalves, IsOneOf, NoneNearer, IsFlatAnd, IsSettled, IsHalved}
-use Rattle.cj_meet.proofs.CandidateLemmas.{over_part, candidates-flat, candidates-halved, each_candidate, first_candidate, last_candidate}
+use Rattle.cj_meet.proofs.CandidateLemmas.{candidates-flat, candidates-halved, each_candidate, first_candidate, last_candidate}
 use Rattle.cj_meet.proofs.NearerLemmas.{NoWorse-refl, NoWorse-trans}
 use Rattle.cj_meet.proofs.TickLemmas.{low_upper}
 

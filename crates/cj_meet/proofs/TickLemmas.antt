@@ -1,25 +1,22 @@
 -- One tick: its bound is at least the exact squared distance, it is the first and the last coefficient of gaps that begin and end there, and it is flat.
-use Rattle.std.proofs.Common.{◌≡◌, ◌⊎◌, ℕ, zero, suc, ◌+◌, ◌-◌, ◌*◌, ◌<◌, ◌≤◌, true, List, slice_index_or, refl, sym, ap, subst, ◌∙◌, inl, inr, arith}
+use Rattle.std.proofs.Common.{◌≡◌, ◌⊎◌, ℕ, ◌+◌, ◌-◌, ◌*◌, ◌<◌, ◌≤◌, true, List, slice_index_or, refl, sym, ap, subst, ◌∙◌, inl, inr, arith}
 use Rattle.std.proofs.Math.Nat.{mul-le-mul_right}
 use Rattle.std.proofs.lemmas.Bool.{cases_lt, le-leb}
 use Rattle.std.proofs.lemmas.Int.{ints, by_lt_z}
-use Rattle.std.specs.Prelude.{ℤ, pos, ◌+ℤ◌, ◌-ℤ◌, ◌*ℤ◌, ◌≤ℤ◌, ◌<ℤ◌}
+use Rattle.std.specs.Prelude.{ℤ, pos, ◌+ℤ◌, ◌*ℤ◌, ◌≤ℤ◌, ◌<ℤ◌}
 use Rattle.cj_interval.specs.declared.span.Span.{Span}
-use Rattle.cj_interval.specs.Rounding.{floor_div, ceil_div}
-use Rattle.cj_interval.specs.Spans.{least, greatest}
 use Rattle.cj_interval.proofs.IntegerLemmas.{le_from_mul, le_trans_ℤ}
-use Rattle.cj_interval.proofs.SizeLemmas.{mul_pos}
 use Rattle.cj_interval.proofs.SquareLemmas.{narrow, amgm}
 use Rattle.cj_hermite.specs.Distance.{BAND, square_distance}
-use Rattle.cj_hermite.specs.Interpolant.{Four, Curve, IsOver, place_denominator}
-use Rattle.cj_hermite.specs.Levels.{polar}
-use Rattle.cj_hermite.proofs.LevelLemmas.{polar-low, polar-high, polar-width}
-use Rattle.cj_bezier.specs.Gaps.{PlainGap, terms_of, coefficient, gap_low, gap_high, gap_terms, hull_gap, apart_axes}
+use Rattle.cj_hermite.specs.Interpolant.{Four, Curve, IsOver}
+use Rattle.cj_hermite.proofs.TrackLemmas.{over_part}
+use Rattle.cj_bezier.specs.Gaps.{PlainGap, terms_of, gap_low, gap_high, gap_terms, hull_gap, apart_axes}
 use Rattle.cj_bezier.specs.Hulls.{hull_axes, highs}
 use Rattle.cj_bezier.specs.Shells.{IsInner}
 use Rattle.cj_bezier.specs.Squares.{from_zero, least_square, greatest_square}
 use Rattle.cj_bezier.specs.Verdicts.{choose6}
 use Rattle.cj_bezier.proofs.ShellLemmas.{square_of_inner, square_of_outer}
+use Rattle.cj_bezier.proofs.SplitLemmas.{above, below, square_low, square_high, tick_low, tick_high, lows_of_tick, highs_of_tick, share-le, le-share, axis_ordered, axis_narrow}
 use Rattle.cj_bezier.proofs.VerdictLemmas.{are_at_least_from, are_at_most_from}
 use Rattle.cj_meet.specs.Closest.{upper}
 use Rattle.cj_meet.specs.Flat.{floor_root, is_flat}
@@ -28,81 +25,12 @@ use Rattle.cj_meet.proofs.SquareBoundLemmas.{scale, scale-some, least_holds, gre
 
 -- ---- the seven coefficients of one tick
 
--- the ends of the difference of two axes at one tick
-abbrev below : Four → ℕ → ℕ → Four → ℕ → ℕ → ℤ
-below k t s k' t' s' = polar floor_div k t s s s -ℤ polar ceil_div k' t' s' s' s'
-
-abbrev above : Four → ℕ → ℕ → Four → ℕ → ℕ → ℤ
-above k t s k' t' s' = polar ceil_div k t s s s -ℤ polar floor_div k' t' s' s' s'
-
--- the ends of the square of a span
-abbrev square_low : ℤ → ℤ → ℤ
-square_low l h = least (l *ℤ l) (l *ℤ h) (h *ℤ l) (h *ℤ h)
-
-abbrev square_high : ℤ → ℤ → ℤ
-square_high l h = greatest (l *ℤ l) (l *ℤ h) (h *ℤ l) (h *ℤ h)
-
--- the ends of the squared distance at one tick
-abbrev tick_low : Curve → Curve → ℕ → ℤ
-tick_low a b m =
-    let s = m - a.start in
-    let s' = m - b.start in
-    square_low (below a.x a.span s b.x b.span s') (above a.x a.span s b.x b.span s')
-    +ℤ square_low (below a.y a.span s b.y b.span s') (above a.y a.span s b.y b.span s')
-    +ℤ square_low (below a.z a.span s b.z b.span s') (above a.z a.span s b.z b.span s')
-
-abbrev tick_high : Curve → Curve → ℕ → ℤ
-tick_high a b m =
-    let s = m - a.start in
-    let s' = m - b.start in
-    square_high (below a.x a.span s b.x b.span s') (above a.x a.span s b.x b.span s')
-    +ℤ square_high (below a.y a.span s b.y b.span s') (above a.y a.span s b.y b.span s')
-    +ℤ square_high (below a.z a.span s b.z b.span s') (above a.z a.span s b.z b.span s')
-
-lows_are : (a b : Curve) (m k : ℕ) → gap_low (hull_gap a b m m) k ≡ coefficient (λ i j. tick_low a b m) k
-unfolding hull_axes apart_axes
-lows_are a b m zero = refl
-lows_are a b m (suc zero) = refl
-lows_are a b m (suc (suc zero)) = refl
-lows_are a b m (suc (suc (suc zero))) = refl
-lows_are a b m (suc (suc (suc (suc zero)))) = refl
-lows_are a b m (suc (suc (suc (suc (suc zero))))) = refl
-lows_are a b m (suc (suc (suc (suc (suc (suc n)))))) = refl
-
-highs_are : (a b : Curve) (m k : ℕ) → gap_high (hull_gap a b m m) k ≡ coefficient (λ i j. tick_high a b m) k
-unfolding hull_axes apart_axes
-highs_are a b m zero = refl
-highs_are a b m (suc zero) = refl
-highs_are a b m (suc (suc zero)) = refl
-highs_are a b m (suc (suc (suc zero))) = refl
-highs_are a b m (suc (suc (suc (suc zero)))) = refl
-highs_are a b m (suc (suc (suc (suc (suc zero))))) = refl
-highs_are a b m (suc (suc (suc (suc (suc (suc n)))))) = refl
-
-share_below : (z : ℤ) (n : ℕ) → pos n ≤ℤ z → (k : ℕ) → pos (choose6 k * n) ≤ℤ coefficient (λ i j. z) k
-share_below z n h zero = omega (arith, ints)
-share_below z n h (suc zero) = omega (arith, ints)
-share_below z n h (suc (suc zero)) = omega (arith, ints)
-share_below z n h (suc (suc (suc zero))) = omega (arith, ints)
-share_below z n h (suc (suc (suc (suc zero)))) = omega (arith, ints)
-share_below z n h (suc (suc (suc (suc (suc zero))))) = omega (arith, ints)
-share_below z n h (suc (suc (suc (suc (suc (suc k)))))) = omega (arith, ints)
-
-share_above : (z : ℤ) (n : ℕ) → z ≤ℤ pos n → (k : ℕ) → coefficient (λ i j. z) k ≤ℤ pos (choose6 k * n)
-share_above z n h zero = omega (arith, ints)
-share_above z n h (suc zero) = omega (arith, ints)
-share_above z n h (suc (suc zero)) = omega (arith, ints)
-share_above z n h (suc (suc (suc zero))) = omega (arith, ints)
-share_above z n h (suc (suc (suc (suc zero)))) = omega (arith, ints)
-share_above z n h (suc (suc (suc (suc (suc zero))))) = omega (arith, ints)
-share_above z n h (suc (suc (suc (suc (suc (suc k)))))) = omega (arith, ints)
-
 -- the coefficients are shares of a number that the ends of one tick bound
 lows_from : (a b : Curve) (m n : ℕ) → pos n ≤ℤ tick_low a b m → (k : ℕ) → pos (choose6 k * n) ≤ℤ gap_low (hull_gap a b m m) k
-lows_from a b m n h k = subst (λ (z : ℤ). pos (choose6 k * n) ≤ℤ z) (sym (lows_are a b m k)) (share_below (tick_low a b m) n h k)
+lows_from a b m n h k = subst (λ (z : ℤ). pos (choose6 k * n) ≤ℤ z) (sym (lows_of_tick a b m k)) (share-le (choose6 k) n (tick_low a b m) h)
 
 highs_from : (a b : Curve) (m n : ℕ) → tick_high a b m ≤ℤ pos n → (k : ℕ) → gap_high (hull_gap a b m m) k ≤ℤ pos (choose6 k * n)
-highs_from a b m n h k = subst (λ (z : ℤ). z ≤ℤ pos (choose6 k * n)) (sym (highs_are a b m k)) (share_above (tick_high a b m) n h k)
+highs_from a b m n h k = subst (λ (z : ℤ). z ≤ℤ pos (choose6 k * n)) (sym (highs_of_tick a b m k)) (le-share (choose6 k) n (tick_high a b m) h)
 
 -- ---- the bound at a tick
 
@@ -110,16 +38,19 @@ highs_from a b m n h k = subst (λ (z : ℤ). z ≤ℤ pos (choose6 k * n)) (sym
 pub upper_holds : (a b : Curve) (m : ℕ) → IsOver a m m → IsOver b m m → square_distance a b m ≤ℤ pos (upper a b m * scale a b)
 unfolding upper
 upper_holds a b m oa ob =
-    greatest_holds a b m (from_zero (gap_high (hull_gap a b m m) 0)) oa ob
-    (highs_from a b m (from_zero (gap_high (hull_gap a b m m) 0))
-    (subst (λ (z : ℤ). z ≤ℤ pos (from_zero (gap_high (hull_gap a b m m) 0))) (highs_are a b m 0) (le_from_zero (gap_high (hull_gap a b m m) 0))))
+    let top = gap_high (hull_gap a b m m) 0 in
+    greatest_holds a b m (from_zero top) oa ob
+    (highs_from a b m (from_zero top) (once top (tick_high a b m) (from_zero top) (highs_of_tick a b m 0) (le_from_zero top)))
+  where
+    once : (x z : ℤ) (n : ℕ) → x ≡ pos 1 *ℤ z → x ≤ℤ pos n → z ≤ℤ pos n
+    once x z n is le = omega (arith, ints)
 
 -- no tick of a run has a bound below the least square of the run's gap
 pub low_upper : (a b : Curve) (first m last : ℕ) → first ≤ m → m ≤ last → IsOver a first last → IsOver b first last →
     least_square (gap_terms (hull_gap a b first last)) ≤ upper a b m
 low_upper a b first m last p q oa ob =
     let low = least_holds a b first m last p q oa ob in
-    let high = upper_holds a b m (record { some = oa.some; from = omega (arith, oa.from); to = omega (arith, oa.to) }) (record { some = ob.some; from = omega (arith, ob.from); to = omega (arith, ob.to) }) in
+    let high = upper_holds a b m (over_part a first last m m oa p q) (over_part b first last m m ob p q) in
     let all = le_from_mul (pos (least_square (gap_terms (hull_gap a b first last)))) (pos (upper a b m)) (scale a b) (scale-some a b oa.some ob.some) (le_trans_ℤ _ _ _ low high) in
     omega (arith, ints)
 
@@ -134,16 +65,6 @@ last_upper a b first last = refl
 
 -- ---- one tick is flat
 
-ordered : (k : Four) (t s : ℕ) → 0 < t → polar floor_div k t s s s ≤ℤ polar ceil_div k t s s s
-ordered k t s some =
-    le_from_mul _ _ (place_denominator t) (mul_pos 3000000 (t * t * t) (omega arith) (mul_pos (t * t) t (mul_pos t t some some) some)) (le_trans_ℤ _ _ _ (polar-low k t s s s some) (polar-high k t s s s some))
-
-difference_ordered : (a b c d : ℤ) → a ≤ℤ b → c ≤ℤ d → (a -ℤ d) ≤ℤ (b -ℤ c)
-difference_ordered a b c d h k = omega (arith, ints)
-
-difference_narrow : (a b c d : ℤ) → b ≤ℤ (a +ℤ pos 3) → d ≤ℤ (c +ℤ pos 3) → (b -ℤ c) ≤ℤ (a -ℤ d +ℤ pos 6)
-difference_narrow a b c d h k = omega (arith, ints)
-
 -- the square of a difference at one tick: the square of a whole number bounds it, and is little more than its lower end
 record IsNear (l h : ℤ) (g : ℕ) : Type 0 where
   upper : square_high l h ≤ℤ pos (g * g)
@@ -151,9 +72,7 @@ record IsNear (l h : ℤ) (g : ℕ) : Type 0 where
 
 near : (k k' : Four) (t s t' s' : ℕ) → 0 < t → 0 < t' → s ≤ t → s' ≤ t' → (g : ℕ) × IsNear (below k t s k' t' s') (above k t s k' t' s') g
 near k k' t s t' s' p p' q q' =
-    let n = narrow (below k t s k' t' s') (above k t s k' t' s')
-    (difference_ordered _ _ _ _ (ordered k t s p) (ordered k' t' s' p'))
-    (difference_narrow _ _ _ _ (polar-width k t s s s p q q) (polar-width k' t' s' s' s' p' q' q')) in
+    let n = narrow (below k t s k' t' s') (above k t s k' t' s') (axis_ordered k k' t s t' s' p p') (axis_narrow k k' t s t' s' p p' q q') in
     (n.0, record { upper = n.1.upper; lower = n.1.lower })
 
 squares_near : (r a b c : ℕ) → a * a + b * b + c * c ≤ r * r + 2 * r + 12 * (a + b + c) → a * a + b * b + c * c ≤ (r + 1000000) * (r + 1000000)

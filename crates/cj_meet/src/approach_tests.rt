@@ -1,13 +1,13 @@
 ghost use Rattle.std.specs.Prelude.{◌≡◌, ◌<◌, ◌≤◌, length, IfOk, IfSome};
-ghost use Rattle.cj_track.specs.Segments.{node_count};
 ghost use Rattle.cj_hermite.specs.Problems.{plain_problem};
 ghost use Rattle.cj_hermite.specs.Roots.{KeepIntervals};
 
 use crate::{closest, closest_approaches, encounters};
 use cj_bezier::{Cell, Closest, Kind, Leaf};
-use cj_hermite::{Pair, PairHint, Problem, Sizes, Tracks, next_common};
-use cj_samples::{AT_7000, AT_7005, AT_7100, moving, rest, seconds, tick, track_of, track_of_two};
-use cj_track::{Track, Vec3};
+use cj_hermite::{Pair, PairHint, Problem, next_common};
+use cj_samples::{AT_7000, AT_7005, AT_7100, moving, rest, tick, track_of, track_of_two};
+use cj_scenes::{crossing, problem_of, resting};
+use cj_track::Vec3;
 use std::alloc::{AllocError, Global};
 use std::process::Abort;
 use std::test::Fail;
@@ -17,60 +17,6 @@ const AB: Pair = Pair { a: 0, b: 1 };
 
 /// A second in microseconds.
 const SECOND: u32 = 1_000_000;
-
-/// Two tracks over a minute, by a threshold of 5 km.
-fn problem_of(alloc: Global, a: Track, b: Track) -> Result<Problem, AllocError>
-    requires frame { a.frame ≡ b.frame }
-    requires few_of_a { node_count a.segments ≤ 4 }
-    requires few_of_b { node_count b.segments ≤ 4 }
-    ensures { IfOk result (λ problem. length problem.tracks ≡ 2) }
-{
-    Ok(Problem {
-        tracks: Tracks::new(vec![in alloc; a, b]?),
-        window: seconds(0, 60),
-        threshold: 5_000_000_000_000,
-        sizes: Sizes::new(vec![in alloc; 0, 0]?),
-    })
-}
-
-/// Two tracks that cross at right angles, one kilometre apart.
-fn crossing(alloc: Global) -> Result<Problem, AllocError>
-    ensures { IfOk result (λ problem. length problem.tracks ≡ 2) }
-{
-    let along_y = Vec3 {
-        x: 0,
-        y: 7_500_000_000_000,
-        z: 0,
-    };
-    let along_z = Vec3 {
-        x: 0,
-        y: 0,
-        z: 7_500_000_000_000,
-    };
-    let a0 = Vec3 {
-        x: 7_000_000_000_000_000,
-        y: -225_000_000_000_000,
-        z: 0,
-    };
-    let a1 = Vec3 {
-        x: 7_000_000_000_000_000,
-        y: 225_000_000_000_000,
-        z: 0,
-    };
-    let b0 = Vec3 {
-        x: 7_001_000_000_000_000,
-        y: 0,
-        z: -225_000_000_000_000,
-    };
-    let b1 = Vec3 {
-        x: 7_001_000_000_000_000,
-        y: 0,
-        z: 225_000_000_000_000,
-    };
-    let a = moving(alloc, 0, 60, a0, a1, along_y)?;
-    let b = moving(alloc, 0, 60, b0, b1, along_z)?;
-    problem_of(alloc, track_of(alloc, a)?, track_of(alloc, b)?)
-}
 
 /// Two tracks side by side at the threshold, at one nanometre in a second.
 fn side_by_side(alloc: Global) -> Result<Problem, AllocError>
@@ -164,9 +110,7 @@ fn a_minute_of_crossing_tracks_ends_at_once(rt: HostRuntime) -> Result<(), Fail>
 #[test]
 fn exactly_at_the_threshold_the_first_tick_is_taken(rt: HostRuntime) -> Result<(), Fail> {
     let alloc = rt.alloc();
-    let a = track_of(alloc, rest(alloc, 0, 60, AT_7000)?)?;
-    let b = track_of(alloc, rest(alloc, 0, 60, AT_7005)?)?;
-    let problem = problem_of(alloc, a, b)?;
+    let problem = resting(alloc)?;
     let found = approach(alloc, &problem, 0, 60 * SECOND, 60 * SECOND)?;
     assert_eq!(rt; found, Some((0, 5_000_000_000_000)));
     Ok(())

@@ -1,5 +1,5 @@
 //! The look at a part of a leaf for a nearer approach.
-ghost use Rattle.std.specs.Prelude.{◌≡◌, ◌≤◌, ◌<◌, ◌&&◌, ◌||◌, ◌==◌, nat_le, nat_lt};
+ghost use Rattle.std.specs.Prelude.{◌≡◌, ◌<◌, ◌&&◌, ◌||◌, ◌==◌, nat_le, nat_lt};
 ghost use Rattle.cj_hermite.specs.Interpolant.{IsOver};
 ghost use Rattle.cj_hermite.specs.Ready.{curve_ready};
 ghost use Rattle.cj_meet.specs.Searches.{plain_approach, IfSettled, IfHalved, IsSettled, IsHalved};

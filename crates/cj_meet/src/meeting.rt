@@ -1,4 +1,4 @@
-ghost use Rattle.std.specs.Prelude.{◌≡◌, ℕ, ◌+◌, ◌<◌, ◌≤◌, ◌==◌, ◌&&◌, List, [], ◌∷◌, ◌++◌, length, if◌then◌else◌, IfOk, OnOk, All};
+ghost use Rattle.std.specs.Prelude.{◌≡◌, ◌+◌, ◌<◌, ◌≤◌, ◌==◌, ◌&&◌, List, [], ◌∷◌, ◌++◌, length, if◌then◌else◌, IfOk, OnOk, All};
 ghost use Rattle.cj_bezier.specs.Leaves.{PlainLeaf, plain_leaf, plain_leaves};
 ghost use Rattle.cj_bezier.specs.declared.encounter.Mark.TheVariants as Mark;
 ghost use Rattle.cj_bezier.specs.Order.{AreInOrder, HaveTicks};

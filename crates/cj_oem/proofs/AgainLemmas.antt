@@ -48,7 +48,7 @@ lines_again : (e : PlainTrack) → IsWritten e → lines_read false e.file (numb
 unfolding lines_read
 lines_again e is = rw (body_read e is) refl
 
-reading_lines : (file bytes : List ℕ) (lines : List Numbered) → is_file_name file ≡ true → kvn.reading bytes ≡ Ok lines → reading file bytes false ≡ lines_read false file lines
+pub reading_lines : (file bytes : List ℕ) (lines : List Numbered) → is_file_name file ≡ true → kvn.reading bytes ≡ Ok lines → reading file bytes false ≡ lines_read false file lines
 unfolding reading
 reading_lines file bytes lines named read = rw (named, read) refl
 

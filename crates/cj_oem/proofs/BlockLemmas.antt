@@ -1,10 +1,12 @@
 -- Blocks: from the metadata on, the lines that are accepted are those of blocks, and each block is accepted.
 use Rattle.std.proofs.Common.{◌≡◌, ℕ, zero, suc, ◌<◌, ◌≤◌, ◌⊎◌, inl, inr, ⊎_elim, List, [], ◌∷◌, ◌++◌, length, Bool, true, false, IsSomeAnd, Option, Some, None, Result, Ok, arith, ap, sym, ◌∙◌, refl, subst}
 use Rattle.std.specs.Prelude.{◌&&◌, not, nat_le, nat_lt}
+use Rattle.std.proofs.lemmas.Bool.{leb-true, ltb-false, not-false}
 use Rattle.std.proofs.lemmas.Bool.Decides.{nat_tests}
 use Rattle.std.proofs.lemmas.List.{append_assoc, append-nil, length-append}
 use Rattle.cj_kvn.specs.Lines.{Form, Blank, Comment, Mark, Pair, Row}
 use Rattle.cj_kvn.specs.declared.lines.MarkKind.TheVariants.{MetaStart, MetaStop, CovarianceStart, CovarianceStop}
+use Rattle.cj_kvn.proofs.ListLemmas.{last_push}
 use Rattle.cj_oem.specs.declared.fault.OemCause.{OemCause}
 use Rattle.cj_oem.specs.declared.fault.OemCause.TheVariants as causes
 use Rattle.cj_oem.specs.CovarianceRows.{Covariances, NO_COVARIANCES, closed, with_matrix_pair, with_matrix_row}
@@ -16,8 +18,8 @@ use Rattle.cj_oem.specs.Stages.{Body, Meta, Data, Cov, After, OpenSegment, close
 use Rattle.cj_oem.proofs.MatrixLemmas.{covariances_from, matrices_again, matrices_are, with_line}
 use Rattle.cj_oem.proofs.MetadataLemmas.{Suits, metadata_again, metadata_is, metadata_suits, sheet_from}
 use Rattle.cj_oem.proofs.NodeRowLemmas.{states_again, states_are, states_from}
-use Rattle.cj_oem.proofs.RunLemmas.{end_push, last_push, run, run_covariances, run_meta, run_rows, open_segment}
-use Rattle.cj_oem.proofs.StepLemmas.{bind_into, bind_ok, le_holds, lt_fails, not_false, unless_ok}
+use Rattle.cj_oem.proofs.RunLemmas.{end_push, run, run_covariances, run_meta, run_rows, open_segment}
+use Rattle.cj_oem.proofs.StepLemmas.{bind_into, bind_ok, unless_ok}
 
 -- ---- the end of the nodes
 
@@ -32,7 +34,7 @@ useable_ends start stop None z e = absurd cc
 useable_ends start stop (Some a) None e = absurd cc
 useable_ends start stop (Some a) (Some z) e =
     let each = three (nat_le start stop) (nat_le a.at start) (nat_le stop z.at) e in
-    (le_holds start stop each.0, le_holds a.at start each.1, le_holds stop z.at each.2)
+    (leb-true start stop each.0, leb-true a.at start each.1, leb-true stop z.at each.2)
 
 useable_again : (start stop : ℕ) (a z : Option PlainNode) → start ≤ stop → IsSomeAnd a (λ state. state.at ≤ start) → IsSomeAnd z (λ state. stop ≤ state.at)
     → is_useable start stop a z ≡ true
@@ -54,11 +56,11 @@ closed_nodes b s u e =
     let overlap = unless (nat_lt s.metadata.first (end_of b.arcs)) causes.SegmentsOverlap in
     let one = bind_ok few (λ _. span >>= λ _. overlap) u e in
     let two = bind_ok span (λ _. overlap) u one.2 in
-    let ends = useable_ends s.metadata.first s.metadata.last (first_state s.states) (last_state s.states) (not_false _ (unless_ok _ causes.UseableSpan two.0 two.1)) in
+    let ends = useable_ends s.metadata.first s.metadata.last (first_state s.states) (last_state s.states) (not-false _ (unless_ok _ causes.UseableSpan two.0 two.1)) in
     record {
-      enough = lt_fails (length s.states) 2 (unless_ok _ causes.TooFewNodes one.0 one.1);
+      enough = ltb-false (length s.states) 2 (unless_ok _ causes.TooFewNodes one.0 one.1);
       useable = record { some = ends.0; after = ends.1; before = ends.2 };
-      later = lt_fails s.metadata.first (end_of b.arcs) (unless_ok _ causes.SegmentsOverlap u two.2);
+      later = ltb-false s.metadata.first (end_of b.arcs) (unless_ok _ causes.SegmentsOverlap u two.2);
     }
 
 close_again : (b : Body) (s : OpenSegment) → IsClosed b s → close_nodes b s ≡ Ok tt

@@ -1,12 +1,13 @@
 -- A matrix that is being read.
-use Rattle.std.proofs.Common.{◌≡◌, ℕ, ◌+◌, ◌<◌, ◌≤◌, List, [], ◌∷◌, ◌++◌, length, map, get_or, set, take, drop, Result, Ok, Err, refl, sym, ap, ◌∙◌, append_assoc, arith}
+use Rattle.std.proofs.Common.{◌≡◌, ℕ, ◌+◌, ◌<◌, ◌≤◌, List, [], ◌∷◌, ◌++◌, length, map, get_or, take, drop, Result, Ok, Err, refl, sym, ap, ◌∙◌, append_assoc, arith}
 use borrow.Rule.Slice.PartMut.{put_mid}
 use Rattle.std.proofs.Math.Nat.{mul-le-mul_left}
 use Rattle.std.proofs.lemmas.Slice.{take-put_mid}
-use Rattle.std.proofs.lemmas.List.{append-nil, drop_all, drop_more, map-append, take_more_set}
+use Rattle.std.proofs.lemmas.List.{append-nil, drop_all, drop_more, map-append}
 use Rattle.cj_kvn.specs.Numbers.{Number}
 use Rattle.cj_kvn.specs.Decimals.{IsReadable, decimal_of, is_tiny, is_huge, number_of, zero_number}
 use Rattle.cj_kvn.specs.declared.decimals.Decimal.{Decimal}
+pub use Rattle.cj_kvn.proofs.DecimalLemmas.{written_more}
 use Rattle.cj_oem.specs.declared.fault.OemCause.{OemCause}
 use Rattle.std.specs.Prelude.{◌==◌, ◌||◌, not, false, Some}
 use Rattle.cj_oem.specs.CovarianceRows.{Draft, number_or, numbers_said, with_fields}
@@ -63,11 +64,6 @@ said_fault row i done e inside said before =
     before
     ∙ ap (behind done) (first_said row i inside
     ∙ ap (λ (r : Result Number OemCause). r >>= λ m. numbers_said (drop (i + 1) row) >>= λ others. Ok (m ∷ others)) said)
-
--- one more number is written
-pub written_more : (places : List Decimal) (i : ℕ) (d : Decimal) → i < length places
-    → map number_of (take (i + 1) (set places i d)) ≡ map number_of (take i places) ++ number_of d ∷ []
-written_more places i d inside = ap (map number_of) (take_more_set places i d inside) ∙ map-append number_of (take i places) (d ∷ [])
 
 -- a row of a lower triangle has one value more than the row before
 count_more : (rows : ℕ) → value_count (rows + 1) ≡ value_count rows + (rows + 1)

@@ -1,6 +1,7 @@
 -- The header: reading its keys one after another asks for just what the grammar says of them.
 use Rattle.std.proofs.Common.{◌≡◌, ◌≢◌, ℕ, List, [], ◌∷◌, Bool, true, false, All, AllPairs, Any, ◌⊎◌, inl, inr, ⊎_elim, Result, Ok, Err, arith, ap, sym, ◌∙◌, refl, true≢false}
 use Rattle.std.specs.Prelude.{if◌then◌else◌, ◌&&◌, codes}
+use Rattle.std.proofs.lemmas.Bool.{and_parts}
 use Rattle.std.proofs.lemmas.List.Elements.{All-cons, All-head, All-nil, All-tail, All-weaker}
 use Rattle.std.proofs.lemmas.List.Kept.{AllPairs-cons}
 use Rattle.cj_oem.specs.declared.fault.OemCause.{OemCause}
@@ -10,7 +11,7 @@ use Rattle.cj_oem.specs.Words.{is_text}
 use Rattle.cj_oem.specs.Metadata.{◌>>=◌}
 use Rattle.cj_oem.specs.Stages.{Head, NO_HEAD, once, with_head_key}
 use Rattle.cj_oem.proofs.ElementLemmas.{any_cases, any_here, any_later, any_none, pairs_head, pairs_tail}
-use Rattle.cj_oem.proofs.StepLemmas.{bind_ok, both_true, text_is}
+use Rattle.cj_oem.proofs.StepLemmas.{bind_ok, text_is}
 
 -- the keys of a header, and whether they were given
 data HeaderKey : Type 0 where
@@ -236,7 +237,7 @@ none_given MessageId e = true≢false (sym e)
 pub header_is : (entries : List Entry) (end : Head) → head_from NO_HEAD entries ≡ Ok end → (end.date && end.originator) ≡ true → IsHeader entries
 header_is entries end e both =
     let h = headed entries NO_HEAD end e in
-    let each = both_true end.date end.originator both in
+    let each = and_parts end.date end.originator both in
     let there = λ (k : HeaderKey) (s : has end k ≡ true). ⊎_elim (λ before. absurd (none_given k before)) (λ any. any) (h.given k s) in
     record { known = h.known; once = h.once; date = there Date each.0; originator = there Originator each.1 }
 

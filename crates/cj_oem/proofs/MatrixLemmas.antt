@@ -1,6 +1,7 @@
 -- The lines of covariances: reading them one after another asks for just what the grammar says of them.
 use Rattle.std.proofs.Common.{◌≡◌, ℕ, zero, suc, ◌+◌, ◌<◌, ◌≤◌, List, [], ◌∷◌, ◌++◌, map, length, drop, Bool, true, false, IfSome, Option, Some, None, ◌⊎◌, inl, inr, ⊎_elim, Result, Ok, Err, arith, ap, sym, ◌∙◌, refl, subst, true≢false}
 use Rattle.std.specs.Prelude.{if◌then◌else◌, ◌||◌, ◌==◌, not, nat_lt, flat_map, is_some, codes}
+use Rattle.std.proofs.lemmas.Bool.{or_parts, not-false, false_from_ne_true}
 use Rattle.std.proofs.lemmas.Bool.Decides.{leb_tells, nat_tests}
 use Rattle.std.proofs.lemmas.List.{append_assoc, append-nil, map-append}
 use Rattle.cj_kvn.specs.Lines.{Form, Blank, Comment, Mark, Pair, Row}
@@ -18,7 +19,7 @@ use Rattle.cj_oem.specs.Grammar.{AreMatrices, IsMatrix, IsRtn, frame_lines, kept
 use Rattle.cj_oem.specs.Words.{is_text, is_word}
 use Rattle.cj_oem.specs.Metadata.{◌>>=◌, parse_epoch, unless}
 use Rattle.cj_oem.proofs.MetadataLemmas.{epoch_is}
-use Rattle.cj_oem.proofs.StepLemmas.{bind_ok, both_false, chosen, not_false, ok_is, text_is, unless_ok, unwanted, wanted}
+use Rattle.cj_oem.proofs.StepLemmas.{bind_ok, chosen, ok_is, text_is, unless_ok, unwanted, wanted}
 
 -- what a line between the marks of covariances says
 abbrev pub with_line : Covariances → Form → Result Covariances OemCause
@@ -109,9 +110,9 @@ widths_row k w ws within e = ⊎_elim
 -- the row is the next one
 fits_is : (k n : ℕ) → k ≤ 6 → ((k == 6) || not (n == k + 1)) ≡ false → (k < 6) × (n ≡ k + 1)
 fits_is k n within e =
-    let each = both_false (k == 6) (not (n == k + 1)) e in
+    let each = or_parts (k == 6) (not (n == k + 1)) e in
     let other : (k == 6) ≡ false = each.0 in
-    let same : (n == k + 1) ≡ true = not_false (n == k + 1) each.1 in
+    let same : (n == k + 1) ≡ true = not-false (n == k + 1) each.1 in
     (grind (arith, nat_tests), grind (arith, nat_tests))
 
 fits_again : (k n : ℕ) → k < 6 → n ≡ k + 1 → ((k == 6) || not (n == k + 1)) ≡ false
@@ -134,10 +135,6 @@ rtn_is (Some frame) e = e
 rtn_again : (frame : Option (List ℕ)) → IsRtn frame → rtn_with false frame ≡ true
 rtn_again None is = absurd is
 rtn_again (Some frame) is = is
-
-not_rtn : (b : Bool) → (b ≡ true → ⊥) → b ≡ false
-not_rtn true f = absurd (f refl)
-not_rtn false f = refl
 
 -- the covariances with another, if it is used
 abbrev with_used : List PlainMatrix → Bool → PlainMatrix → List PlainMatrix
@@ -230,7 +227,7 @@ absent (Some x) h f = absurd (f h)
 left_frame : (whole : List PlainMatrix) (d : Draft) (value : List ℕ) (lines : List Form) (all : List PlainMatrix) → (d.framed || nat_lt 0 d.rows) ≡ false
     → IsRest whole (record d { framed = true; rtn = is_word (codes "RTN") value }) lines all → IsRest whole d (Pair (codes "COV_REF_FRAME") value ∷ lines) all
 left_frame whole d value lines all e r =
-    let early = both_false d.framed (nat_lt 0 d.rows) e in
+    let early = or_parts d.framed (nat_lt 0 d.rows) e in
     let lacks = early.1 in
     let gone = absent r.frame r.early (λ both. true≢false both.0) in
     record {
@@ -423,7 +420,7 @@ all_again lines covariances (kept front rest frame c others matrix rtn more) who
     }
 all_again lines covariances (unused front rest frame c others matrix other more) whole o before e =
     let d = record (framed c.at frame) { rows = 6; values = c.values } in
-    let next : closed_with before (Some d) ≡ Ok before = ap (λ (b : Bool). Ok (with_used before b c)) (not_rtn (rtn_with false frame) (λ rtn. other (rtn_is frame rtn))) in
+    let next : closed_with before (Some d) ≡ Ok before = ap (λ (b : Bool). Ok (with_used before b c)) (false_from_ne_true (rtn_with false frame) (λ rtn. other (rtn_is frame rtn))) in
     let later = all_again rest others more before (Some d) before next in
     record { end = later.end; read = matrix_again whole o before front rest frame c e matrix ∙ later.read; closes = later.closes }
 

@@ -3,10 +3,10 @@ use Rattle.std.proofs.Common.{◌≡◌, ℕ, ◌-◌, ◌<◌, List, [], ◌∷
 use Rattle.std.specs.Prelude.{◌==◌, ◌&&◌, not, nat_eq, nat_le, codes, slice_index_or}
 use Rattle.std.specs.Cmp.Lexicographic.{bytes_decides, pointwise}
 use Rattle.std.specs.List.{list_all}
+use Rattle.std.proofs.lemmas.Bool.{and_parts}
 use Rattle.std.proofs.lemmas.Bool.Decides.{nat_tests}
 use Rattle.cj_kvn.specs.Lines.{Form, Mark, Pair, is_blank, is_comment, is_key}
 use Rattle.cj_kvn.specs.declared.lines.MarkKind.TheVariants.{MetaStart, MetaStop}
-use Rattle.cj_kvn.proofs.ListLemmas.{both}
 use Rattle.cj_epoch.specs.Ticks.{IsTick}
 use Rattle.cj_epoch.specs.Written.{epoch_of}
 use Rattle.cj_oem.specs.Canonical.{entry, frame_text, header_text, metadata_text}
@@ -67,9 +67,9 @@ label_neat text h =
     let first = slice_index_or text 0 32 in
     let last = slice_index_or text (length text - 1) 32 in
     let all = list_all is_visible text in
-    let outer = both (nat_le 1 (length text) && all && not (first == 32)) (not (last == 32)) h in
-    let inner = both (nat_le 1 (length text) && all) (not (first == 32)) outer.0 in
-    let core = both (nat_le 1 (length text)) all inner.0 in
+    let outer = and_parts (nat_le 1 (length text) && all && not (first == 32)) (not (last == 32)) h in
+    let inner = and_parts (nat_le 1 (length text) && all) (not (first == 32)) outer.0 in
+    let core = and_parts (nat_le 1 (length text)) all inner.0 in
     let some : 0 < length text = grind (arith, nat_tests, core.0) in
     record {
       some = some;

@@ -1,6 +1,7 @@
 -- The metadata of a segment: reading its keys one after another asks for just what the grammar says of them.
 use Rattle.std.proofs.Common.{◌≡◌, ◌≢◌, ℕ, List, [], ◌∷◌, map, length, Bool, true, false, All, AllPairs, Contains, IfSome, get_or, Option, Some, None, ◌⊎◌, inl, inr, ⊎_elim, Result, Ok, Err, arith, ap, sym, ◌∙◌, refl, subst, true≢false}
 use Rattle.std.specs.Prelude.{if◌then◌else◌, ◌&&◌, ◌||◌, ◌==◌, not, codes, is_some, unwrap_or}
+use Rattle.std.proofs.lemmas.Bool.{not-false, false_from_ne_true}
 use Rattle.std.proofs.lemmas.Bool.Decides.{nat_tests}
 use Rattle.std.proofs.lemmas.List.Elements.{All-cons, All-head, All-nil, All-tail, All-weaker, All-contains_itself}
 use Rattle.std.proofs.lemmas.List.Kept.{AllPairs-cons}
@@ -17,7 +18,7 @@ use Rattle.cj_oem.specs.Grammar.{AreCubic, Entry, Has, HasEpoch, SaysText, IsMet
 use Rattle.cj_oem.specs.Words.{is_text, is_word}
 use Rattle.cj_oem.specs.Metadata.{◌>>=◌, EMPTY, Object, Metadata, MetadataDraft, epoch_or, parse_epoch, frame_kept, frame_named, frame_of, id_of, is_cubic, is_given, key_of, parse_label, name_of, needed, metadata_of, same_frame, text_differs, unless, with_key, with_pair, with_value}
 use Rattle.cj_oem.proofs.ElementLemmas.{any_all, any_at, any_cases, any_here, any_later, any_none, any_weaker, contains_cases, contains_none, pairs_head, pairs_tail}
-use Rattle.cj_oem.proofs.StepLemmas.{bind_ok, not_false, ok_is, text_is, text_self, unless_not, unwanted, wanted}
+use Rattle.cj_oem.proofs.StepLemmas.{bind_ok, ok_is, text_is, text_self, unless_not, unwanted, wanted}
 
 -- ---- the keys
 
@@ -392,11 +393,7 @@ line_fresh s u v lacks h same =
     true≢false (sym (holds_given s v h) ∙ ap (λ (k : Key). is_given k s) (sym key) ∙ lacks)
 
 lacking : (s : MetadataDraft) (k : Key) → (is_given k s ≡ true → ⊥) → is_given k s ≡ false
-lacking s k not = by (is_given k s) not
-  where
-    by : (b : Bool) → (b ≡ true → ⊥) → b ≡ false
-    by true f = absurd (f refl)
-    by false f = refl
+lacking s k not = false_from_ne_true (is_given k s) not
 
 -- what the keys of a block say, one after another
 abbrev pub sheet_from : Option Object → MetadataDraft → List Entry → Result MetadataDraft OemCause
@@ -499,7 +496,7 @@ frame_is first None frame e = absurd cc
 frame_is None (Some f) frame e = ap (λ x. Some x) (ok_is f frame e)
 frame_is (Some g) (Some f) frame e = ap (λ x. Some x) (ok_is f frame (wanted (same_frame g f) (Ok f) causes.Frame frame e).1)
 
-frame_itself : (frame : Frame) → same_frame frame frame ≡ true
+pub frame_itself : (frame : Frame) → same_frame frame frame ≡ true
 frame_itself frames.Eme2000 = refl
 frame_itself frames.Gcrf = refl
 
@@ -685,7 +682,7 @@ label_kept : (first name value : List ℕ) → parse_label (Some first) value �
 label_kept first name value e =
     let sized = unwanted (length value == 0) _ causes.Missing name e in
     let said = unwanted (not (is_text first (map spaced value))) (Ok (map spaced value)) causes.ObjectChanged name sized.1 in
-    sym (ok_is (map spaced value) name said.1) ∙ text_is first (map spaced value) (not_false _ said.0)
+    sym (ok_is (map spaced value) name said.1) ∙ text_is first (map spaced value) (not-false _ said.0)
 
 same_is : (first frame : Frame) → same_frame first frame ≡ true → frame ≡ first
 same_is frames.Eme2000 frames.Eme2000 e = refl

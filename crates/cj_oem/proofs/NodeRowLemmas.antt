@@ -2,6 +2,7 @@
 use Rattle.std.proofs.Common.{◌≡◌, ℕ, ◌+◌, ◌≤◌, List, [], ◌∷◌, length, drop, true, false, All, IfSome, Option, Some, None, ◌⊎◌, inl, inr, Result, Ok, Err, ℤ, pos, negsuc, arith, ap, ◌∙◌, refl, subst}
 use Rattle.std.specs.Prelude.{◌||◌, ◌==◌, not, nat_le, nat_lt, unsigned_abs, IsOk}
 use Rattle.std.specs.List.{list_all}
+use Rattle.std.proofs.lemmas.Bool.{and_parts, leb-true, leb-false, ltb-false}
 use Rattle.std.proofs.lemmas.Bool.Decides.{nat_tests}
 use Rattle.std.proofs.lemmas.Int.{ints}
 use Rattle.std.proofs.lemmas.List.Elements.{All-cons, All-head, All-nil, All-tail}
@@ -18,11 +19,11 @@ use Rattle.cj_track.specs.declared.vec3.Vec3.{Vec3}
 use Rattle.cj_track.specs.PlainTracks.{PlainNode}
 use Rattle.cj_oem.specs.Grammar.{AreStateSteps, IsNodeRow, IsStateStep, SayStates}
 use Rattle.cj_track.specs.Limits.{IsWithin, MAX_COORDINATE, MAX_RATE, MAX_STEP}
-use Rattle.cj_oem.specs.Metadata.{◌>>=◌, parse_epoch, unless}
+use Rattle.cj_oem.specs.Metadata.{parse_epoch, unless}
 use Rattle.cj_oem.specs.NodeRows.{field_in, figure_or, parse_figure, following, is_decimal, is_decimal_read, state_of_fields, state_of_row, vector_within, within_or}
 use Rattle.cj_oem.proofs.MetadataLemmas.{epoch_is}
 use Rattle.cj_oem.proofs.StateAgainLemmas.{vector_again}
-use Rattle.cj_oem.proofs.StepLemmas.{bind_ok, both_true, le_fails, le_holds, lt_fails, ok_is, unless_not, unless_ok, wanted}
+use Rattle.cj_oem.proofs.StepLemmas.{bind_ok, ok_is, unless_not, unless_ok, wanted}
 
 -- ---- numbers
 
@@ -35,7 +36,7 @@ within_is limit cause None z e = absurd cc
 within_is limit cause (Some y) z e =
     let said = wanted (nat_le (unsigned_abs y) limit) (Ok y) cause z e in
     let same : y ≡ z = ok_is y z said.1 in
-    (ap (λ x. Some x) same, subst (IsWithin limit) same (within_size limit y (le_holds (unsigned_abs y) limit said.0)))
+    (ap (λ x. Some x) same, subst (IsWithin limit) same (within_size limit y (leb-true (unsigned_abs y) limit said.0)))
 
 -- three numbers within a limit
 record IsVectorOf (limit : ℕ) (a b c : Option ℤ) (v : Vec3) : Type 0 where
@@ -73,7 +74,7 @@ IsDecimal text = IsOk (decimal_of text)
 decimals_are : (texts : List (List ℕ)) → list_all is_decimal texts ≡ true → All IsDecimal texts
 decimals_are [] e = All-nil IsDecimal
 decimals_are (text ∷ texts) e =
-    let each = both_true (is_decimal text) (list_all is_decimal texts) e in
+    let each = and_parts (is_decimal text) (list_all is_decimal texts) e in
     All-cons IsDecimal text texts (decimal_is (decimal_of text) each.0) (decimals_are texts each.1)
 
 decimals_again : (texts : List (List ℕ)) → All IsDecimal texts → list_all is_decimal texts ≡ true
@@ -94,7 +95,7 @@ abbrev Steps : Option PlainNode → PlainNode → Type 0
 Steps before s = IfSome before (λ b. IsStateStep b s)
 
 step_is : (b s : PlainNode) → nat_le s.at b.at ≡ false → nat_lt (b.at + MAX_STEP) s.at ≡ false → leap_lies_between b.at s.at ≡ false → IsStateStep b s
-step_is b s rises short steady = record { rises = le_fails s.at b.at rises; short = lt_fails (b.at + MAX_STEP) s.at short; steady = steady }
+step_is b s rises short steady = record { rises = leb-false s.at b.at rises; short = ltb-false (b.at + MAX_STEP) s.at short; steady = steady }
 
 following_is : (before : Option PlainNode) (a s : PlainNode) → following before a ≡ Ok s → (a ≡ s) × Steps before s
 following_is None a s e = (ok_is a s e, tt)

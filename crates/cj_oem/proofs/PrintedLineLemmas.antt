@@ -1,20 +1,18 @@
 -- A text that is printed line by line, and what its lines say.
-use Rattle.std.proofs.Common.{◌≡◌, ℕ, zero, suc, ◌+◌, ◌-◌, ◌<◌, List, [], ◌∷◌, ◌++◌, Bool, true, false, length, get_or, ap, sym, ◌∙◌, refl, arith, append_assoc, append-nil, Ok, All, subst}
+use Rattle.std.proofs.Common.{◌≡◌, ℕ, zero, suc, ◌+◌, ◌-◌, List, [], ◌∷◌, ◌++◌, true, false, length, get_or, ap, sym, ◌∙◌, refl, arith, append_assoc, append-nil, Ok, All, subst}
 use Rattle.std.specs.Prelude.{◌==◌, flat_map}
 use Rattle.std.specs.List.{list_all, slice_split}
 use Rattle.std.specs.Str.Lines.{lines, lines_of_parts, strip_carriage_return}
+use Rattle.std.proofs.lemmas.Bool.{and_parts}
 use Rattle.std.proofs.lemmas.Bool.Decides.{nat_tests}
 use Rattle.std.proofs.lemmas.List.Elements.{All-head, All-tail}
 use Rattle.std.proofs.lemmas.List.Splits.{length-slice_split, slice_split_at}
 use Rattle.cj_kvn.specs.Lines.{Form, Numbered, line_form, lines_said}
 use Rattle.cj_kvn.specs.Lines as kvn
-use Rattle.cj_kvn.proofs.ListLemmas.{both}
+use Rattle.cj_kvn.proofs.LineLemmas.{first_part, is_feed}
 use Rattle.cj_oem.specs.Canonical.{line}
 use Rattle.cj_track.specs.Labels.{is_visible}
 use Rattle.cj_oem.proofs.PrintedTextLemmas.{all_at}
-
-abbrev is_feed : ℕ → Bool
-is_feed b = b == 10
 
 no_feed : (b : ℕ) → is_visible b ≡ true → is_feed b ≡ false
 no_feed b h = grind (arith, nat_tests)
@@ -26,16 +24,12 @@ no_feeds text all = λ i d below. no_feed (get_or text i d) (all_at is_visible t
 no_return : (text : List ℕ) (i : ℕ) → list_all is_visible text ≡ true → (get_or text i 0 == 13) ≡ false
 no_return [] i all = refl
 no_return (b ∷ text) zero all =
-    let here = (both (is_visible b) (list_all is_visible text) all).0 in
+    let here = (and_parts (is_visible b) (list_all is_visible text) all).0 in
     grind (arith, nat_tests, here)
-no_return (b ∷ text) (suc i) all = no_return text i (both (is_visible b) (list_all is_visible text) all).1
+no_return (b ∷ text) (suc i) all = no_return text i (and_parts (is_visible b) (list_all is_visible text) all).1
 
 stripped_none : (text : List ℕ) → list_all is_visible text ≡ true → strip_carriage_return text ≡ text
 stripped_none text all = rw (no_return text (length text - 1) all) refl
-
-more_parts : (part : List ℕ) (parts : List (List ℕ)) → 0 < length parts → lines_of_parts (part ∷ parts) ≡ strip_carriage_return part ∷ lines_of_parts parts
-more_parts part [] some = absurd (omega arith)
-more_parts part (next ∷ parts) some = refl
 
 -- the first line of a text
 pub line_first : (text rest : List ℕ) → list_all is_visible text ≡ true → lines (line text ++ rest) ≡ text ∷ lines rest
@@ -43,7 +37,7 @@ line_first text rest all =
     let split = slice_split_at is_feed text 10 rest (no_feeds text all) refl in
     ap lines (append_assoc text (10 ∷ []) rest)
     ∙ ap lines_of_parts split
-    ∙ more_parts text (slice_split is_feed rest) (omega (arith, length-slice_split is_feed rest))
+    ∙ first_part text (slice_split is_feed rest) (omega (arith, length-slice_split is_feed rest))
     ∙ ap (λ t. t ∷ lines rest) (stripped_none text all)
 
 -- a line of visible bytes, and what it says whatever its number

@@ -3,25 +3,25 @@ use Rattle.std.proofs.Common.{◌≡◌, ℕ, zero, suc, ◌+◌, ◌-◌, ◌/�
 use Rattle.std.specs.Prelude.{◌==◌, nat_lt, if◌then◌else◌, int_lt, unsigned_abs}
 use Rattle.std.specs.Char.{is_ascii_digit}
 use Rattle.std.specs.List.{list_all}
+use Rattle.std.proofs.lemmas.Bool.{and_parts}
 use Rattle.std.proofs.lemmas.Bool.Decides.{nat_tests}
-use Rattle.std.proofs.lemmas.Fmt.{decimal_nonempty}
 use Rattle.std.proofs.lemmas.List.{length-append}
-use Rattle.cj_kvn.specs.Decimals.{decimal_text_of, exponent_text, leading_power, significand_text}
+use Rattle.cj_kvn.specs.Decimals.{decimal_text_of, exponent_text, leading_power, significand_text, minus_if}
 use Rattle.cj_kvn.specs.Numbers.{Number, are_digits}
-use Rattle.cj_kvn.proofs.AgainLemmas.{decimal_digits}
-use Rattle.cj_kvn.proofs.ListLemmas.{both}
+use Rattle.cj_kvn.proofs.ListLemmas.{all_append}
+use Rattle.cj_kvn.proofs.NumberTextLemmas.{decimal_digits, decimals_shape}
 use Rattle.cj_epoch.specs.Ticks.{DAY, HOUR, MINUTE, SECOND}
 use Rattle.cj_epoch.specs.Calendar.{civil_of}
 use Rattle.cj_epoch.specs.Written.{clock_text, date_text, epoch_of, four, six, two}
 use Rattle.cj_oem.specs.Canonical.{figure_text, twelve}
 use Rattle.cj_oem.proofs.FigureLemmas.{padded, zeros}
 use Rattle.cj_oem.proofs.PrintedRowLemmas.{is_field, is_figure_byte}
-use Rattle.cj_oem.proofs.PrintedTextLemmas.{all_append, all_weaker}
+use Rattle.cj_oem.proofs.PrintedTextLemmas.{all_weaker}
 
 abbrev Bytes : List ℕ → Type 0
 Bytes text = list_all is_figure_byte text ≡ true
 
-field_is : (text : List ℕ) → 0 < length text → Bytes text → is_field text ≡ true
+pub field_is : (text : List ℕ) → 0 < length text → Bytes text → is_field text ≡ true
 field_is text some bytes =
     let long : nat_lt 0 (length text) ≡ true = grind (arith, nat_tests) in
     rw (long, bytes) refl
@@ -44,13 +44,13 @@ first_bytes : (k : ℕ) (ds : List ℕ) → Bytes ds → Bytes (take k ds)
 first_bytes zero ds bytes = refl
 first_bytes (suc k) [] bytes = refl
 first_bytes (suc k) (d ∷ ds) bytes =
-    let parts = both (is_figure_byte d) (list_all is_figure_byte ds) bytes in
+    let parts = and_parts (is_figure_byte d) (list_all is_figure_byte ds) bytes in
     rw parts.0 (first_bytes k ds parts.1)
 
 other_bytes : (k : ℕ) (ds : List ℕ) → Bytes ds → Bytes (drop k ds)
 other_bytes zero ds bytes = bytes
 other_bytes (suc k) [] bytes = refl
-other_bytes (suc k) (d ∷ ds) bytes = other_bytes k ds (both (is_figure_byte d) (list_all is_figure_byte ds) bytes).1
+other_bytes (suc k) (d ∷ ds) bytes = other_bytes k ds (and_parts (is_figure_byte d) (list_all is_figure_byte ds) bytes).1
 
 either_bytes : (b : Bool) (xs ys : List ℕ) → Bytes xs → Bytes ys → Bytes (if b then xs else ys)
 either_bytes true xs ys first second = first
@@ -98,22 +98,25 @@ zeros_digits (suc k) = zeros_digits k
 pub padded_digits : (count n : ℕ) → n < 2 ^ 64 → are_digits (padded count n) ≡ true
 padded_digits count n fits =
     let k = count - length (decimal n) in
-    all_append is_ascii_digit (zeros k) (decimal n) (zeros_digits k) (decimal_digits n fits)
+    all_append is_ascii_digit (zeros k) (decimal n) (zeros_digits k) (decimal_digits n (omega arith))
+
+-- a sign or none, a whole number, a point and decimals
+pub decimals_field : (b : Bool) (whole : ℕ) (f : List ℕ) → whole < 10 ^ 64 → are_digits f ≡ true → is_field (minus_if b ++ (decimal whole ++ 46 ∷ f)) ≡ true
+decimals_field b whole f fits fraction =
+    let w = decimal whole in
+    field_is (minus_if b ++ (w ++ 46 ∷ f)) (some_behind (minus_if b) (w ++ 46 ∷ f) (some_behind w (46 ∷ f) (omega arith)))
+    (append_bytes (minus_if b) (w ++ 46 ∷ f) (either_bytes b (45 ∷ []) [] refl refl)
+    (append_bytes w (46 ∷ f) (digits_bytes w (decimal_digits whole fits)) (digits_bytes f fraction)))
+
+pub figure_shape : (z : ℤ) → figure_text z ≡ minus_if (int_lt z (pos 0)) ++ (decimal (unsigned_abs z / 10 ^ 12) ++ 46 ∷ twelve (unsigned_abs z % 10 ^ 12))
+unfolding figure_text
+figure_shape z = decimals_shape (minus_if (int_lt z (pos 0))) (decimal (unsigned_abs z / 10 ^ 12)) (twelve (unsigned_abs z % 10 ^ 12))
 
 pub figure_field : (z : ℤ) → unsigned_abs z < 2 ^ 64 → is_field (figure_text z) ≡ true
-unfolding figure_text
 figure_field z fits =
     let size = unsigned_abs z in
-    let sign : List ℕ = if int_lt z (pos 0) then 45 ∷ [] else [] in
-    let whole = decimal (size / 10 ^ 12) in
-    let less : size / 10 ^ 12 < 2 ^ 64 = omega arith in
-    let rest : size % 10 ^ 12 < 2 ^ 64 = omega arith in
-    let behind = twelve (size % 10 ^ 12) in
-    let some = some_behind (zeros (12 - length (decimal (size % 10 ^ 12)))) (decimal (size % 10 ^ 12)) (decimal_nonempty (size % 10 ^ 12) rest) in
-    field_is (figure_text z) (some_behind (sign ++ whole ++ 46 ∷ []) behind some)
-    (append_bytes (sign ++ whole ++ 46 ∷ []) behind
-    (append_bytes (sign ++ whole) (46 ∷ []) (append_bytes sign whole (either_bytes (int_lt z (pos 0)) (45 ∷ []) [] refl refl) (digits_bytes whole (decimal_digits (size / 10 ^ 12) less))) refl)
-    (digits_bytes behind (padded_digits 12 (size % 10 ^ 12) rest)))
+    ap is_field (figure_shape z)
+    ∙ decimals_field (int_lt z (pos 0)) (size / 10 ^ 12) (twelve (size % 10 ^ 12)) (omega arith) (padded_digits 12 (size % 10 ^ 12) (omega arith))
 
 -- ---- decimal numbers
 
@@ -124,8 +127,8 @@ decimal_field n short small =
     let ds = decimal n.digits in
     let x = leading_power n in
     let es = decimal (unsigned_abs x) in
-    let digits = digits_bytes ds (decimal_digits n.digits short) in
-    let exponent = digits_bytes es (decimal_digits (unsigned_abs x) small) in
+    let digits = digits_bytes ds (decimal_digits n.digits (omega arith)) in
+    let exponent = digits_bytes es (decimal_digits (unsigned_abs x) (omega arith)) in
     let significand = append_bytes (take 1 ds ++ 46 ∷ []) (if length ds == 1 then 48 ∷ [] else drop 1 ds)
     (append_bytes (take 1 ds) (46 ∷ []) (first_bytes 1 ds digits) refl)
     (either_bytes (length ds == 1) (48 ∷ []) (drop 1 ds) refl (other_bytes 1 ds digits)) in

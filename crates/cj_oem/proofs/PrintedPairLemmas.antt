@@ -1,16 +1,17 @@
 -- Printed marks, and printed keys with their values.
-use Rattle.std.proofs.Common.{◌≡◌, ℕ, ◌-◌, ◌<◌, List, ◌∷◌, ◌++◌, Bool, true, false, true≢false, length, get_or, ap, sym, ◌∙◌, refl, arith, append_assoc, None, Ok}
+use Rattle.std.proofs.Common.{◌≡◌, ℕ, ◌-◌, ◌<◌, List, ◌∷◌, ◌++◌, true, false, true≢false, length, get_or, ap, sym, ◌∙◌, refl, arith, append_assoc, None, Ok}
 use Rattle.std.specs.Prelude.{◌==◌, nat_eq, nat_lt, codes}
 use Rattle.std.specs.Cmp.Lexicographic.{bytes_decides, pointwise}
 use Rattle.std.specs.List.{after_first, before_first, list_all, list_any}
+use Rattle.std.proofs.lemmas.Bool.{and_parts, false_from_ne_true}
 use Rattle.std.proofs.lemmas.Bool.Decides.{nat_tests}
 use Rattle.cj_kvn.specs.Lines.{Mark, Pair, form_of, is_blank, is_comment, is_equals, is_key, is_key_byte, line_form, mark_of, pair_or_row, trimmed}
 use Rattle.cj_kvn.specs.declared.lines.MarkKind.TheVariants.{MetaStart, MetaStop, CovarianceStart, CovarianceStop}
 use Rattle.cj_kvn.proofs.LineLemmas.{inner_is}
-use Rattle.cj_kvn.proofs.ListLemmas.{after_skip, any_skip, before_skip, both}
+use Rattle.cj_kvn.proofs.ListLemmas.{after_skip, any_skip, before_skip, all_append}
 use Rattle.cj_track.specs.Labels.{is_visible}
 use Rattle.cj_oem.proofs.PrintedLineLemmas.{Says}
-use Rattle.cj_oem.proofs.PrintedTextLemmas.{Ends, Starts, all_append, all_at, all_printable, all_weaker, ends_append, starts_append, starts_length, trimmed_behind, trimmed_before, trimmed_none}
+use Rattle.cj_oem.proofs.PrintedTextLemmas.{Ends, Starts, all_at, all_printable, all_weaker, ends_append, starts_append, starts_length, trimmed_behind, trimmed_before, trimmed_none}
 
 -- ---- marks
 
@@ -42,13 +43,9 @@ key_filled : (b : ℕ) → is_key_byte b ≡ true → is_blank b ≡ false
 key_filled b h = grind (arith, nat_tests)
 
 -- a text with an equals sign is no mark
-by_same : (b : Bool) → (b ≡ true → ⊥) → b ≡ false
-by_same true h = absurd (h refl)
-by_same false h = refl
-
 no_word : (text word : List ℕ) → list_any is_equals text ≡ true → list_any is_equals word ≡ false → pointwise nat_eq text word ≡ false
 no_word text word equals none =
-    by_same (pointwise nat_eq text word) (λ same. true≢false (sym equals ∙ ap (list_any is_equals) ((bytes_decides text word).0 same) ∙ none))
+    false_from_ne_true (pointwise nat_eq text word) (λ same. true≢false (sym equals ∙ ap (list_any is_equals) ((bytes_decides text word).0 same) ∙ none))
 
 no_mark : (text : List ℕ) → list_any is_equals text ≡ true → mark_of text ≡ None
 no_mark text equals =
@@ -72,8 +69,8 @@ record IsPairText (key value : List ℕ) : Type 0 where
 
 pair_cut : (key value : List ℕ) → is_key key ≡ true → Starts value → Ends value → IsPairText key value
 pair_cut key value named starts ends =
-    let bytes = (both (nat_lt 0 (length key)) (list_all is_key_byte key) named).1 in
-    let some : 0 < length key = grind (arith, nat_tests, both (nat_lt 0 (length key)) (list_all is_key_byte key) named) in
+    let bytes = (and_parts (nat_lt 0 (length key)) (list_all is_key_byte key) named).1 in
+    let some : 0 < length key = grind (arith, nat_tests, and_parts (nat_lt 0 (length key)) (list_all is_key_byte key) named) in
     let key_starts : Starts key = key_filled (get_or key 0 32) (all_at is_key_byte key 0 32 bytes some) in
     let key_ends : Ends key = key_filled (get_or key (length key - 1) 32) (all_at is_key_byte key (length key - 1) 32 bytes (omega (arith, some))) in
     let behind = 32 ∷ 61 ∷ 32 ∷ value in
@@ -102,7 +99,7 @@ pub pair_line : (key value : List ℕ) → is_key key ≡ true → is_comment (p
 pair_line key value named plain visible starts ends =
     let text = pair_text key value in
     let cut = pair_cut key value named starts ends in
-    let key_bytes = all_weaker is_key_byte is_visible key_visible key (both (nat_lt 0 (length key)) (list_all is_key_byte key) named).1 in
+    let key_bytes = all_weaker is_key_byte is_visible key_visible key (and_parts (nat_lt 0 (length key)) (list_all is_key_byte key) named).1 in
     let all : list_all is_visible text ≡ true = all_append is_visible (key ++ codes " = ") value (all_append is_visible key (codes " = ") key_bytes refl) visible in
     record {
       visible = all;

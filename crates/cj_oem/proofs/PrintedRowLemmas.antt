@@ -2,16 +2,17 @@
 use Rattle.std.proofs.Common.{◌≡◌, ℕ, ◌-◌, ◌<◌, List, [], ◌∷◌, ◌++◌, Bool, true, false, length, get_or, drop, ap, ◌∙◌, refl, arith, append-nil, All, None, Ok}
 use Rattle.std.specs.Prelude.{◌==◌, ◌&&◌, ◌||◌, nat_eq, nat_lt, nat_le, filter, flat_map, codes}
 use Rattle.std.specs.List.{list_all, list_any, slice_split, starts_with}
+use Rattle.std.proofs.lemmas.Bool.{and_parts}
 use Rattle.std.proofs.lemmas.Bool.Decides.{nat_tests}
 use Rattle.std.proofs.lemmas.List.Splits.{slice_split_at, slice_split_none}
 use Rattle.cj_kvn.specs.Fields.{fields}
 use Rattle.cj_kvn.specs.Lines.{Row, form_of, is_blank, is_comment, is_end_or_blank, is_equals, mark_of, pair_or_row}
 use Rattle.cj_kvn.proofs.LineLemmas.{inner_is}
-use Rattle.cj_kvn.proofs.ListLemmas.{behind_no, both}
+use Rattle.cj_kvn.proofs.ListLemmas.{behind_no, all_append}
 use Rattle.cj_track.specs.Labels.{is_visible}
 use Rattle.cj_oem.proofs.PrintedLineLemmas.{Says}
 use Rattle.cj_oem.proofs.PrintedPairLemmas.{form_other}
-use Rattle.cj_oem.proofs.PrintedTextLemmas.{Ends, Starts, all_append, all_at, all_printable, all_weaker, ends_append, starts_append, starts_length, trimmed_none}
+use Rattle.cj_oem.proofs.PrintedTextLemmas.{Ends, Starts, all_at, all_printable, all_weaker, ends_append, starts_append, starts_length, trimmed_none}
 
 -- a byte of a number or of an epoch: + , - . / and the digits and : or E or T
 abbrev pub is_figure_byte : ℕ → Bool
@@ -50,24 +51,24 @@ none_blank text all = λ i d below. figure_filled (get_or text i d) (all_at is_f
 
 split_row : (first : List ℕ) (others : List (List ℕ)) → is_field first ≡ true → list_all is_field others ≡ true → slice_split is_blank (row_of first others) ≡ first ∷ others
 split_row first [] one all =
-    let bytes = (both (nat_lt 0 (length first)) (list_all is_figure_byte first) one).1 in
+    let bytes = (and_parts (nat_lt 0 (length first)) (list_all is_figure_byte first) one).1 in
     ap (slice_split is_blank) (append-nil first) ∙ slice_split_none is_blank first (none_blank first bytes)
 split_row first (next ∷ others) one all =
-    let bytes = (both (nat_lt 0 (length first)) (list_all is_figure_byte first) one).1 in
-    let parts = both (is_field next) (list_all is_field others) all in
+    let bytes = (and_parts (nat_lt 0 (length first)) (list_all is_figure_byte first) one).1 in
+    let parts = and_parts (is_field next) (list_all is_field others) all in
     slice_split_at is_blank first 32 (row_of next others) (none_blank first bytes) refl
     ∙ ap (λ fs. first ∷ fs) (split_row next others parts.0 parts.1)
 
 filled : (row : List (List ℕ)) → list_all is_field row ≡ true → filter (λ part. nat_lt 0 (length part)) row ≡ row
 filled [] all = refl
 filled (field ∷ row) all =
-    let parts = both (is_field field) (list_all is_field row) all in
-    rw (both (nat_lt 0 (length field)) (list_all is_figure_byte field) parts.0).0 (ap (λ fs. field ∷ fs) (filled row parts.1))
+    let parts = and_parts (is_field field) (list_all is_field row) all in
+    rw (and_parts (nat_lt 0 (length field)) (list_all is_figure_byte field) parts.0).0 (ap (λ fs. field ∷ fs) (filled row parts.1))
 
 pub fields_row : (first : List ℕ) (others : List (List ℕ)) → list_all is_field (first ∷ others) ≡ true → fields (row_of first others) ≡ first ∷ others
 unfolding fields
 fields_row first others all =
-    let parts = both (is_field first) (list_all is_field others) all in
+    let parts = and_parts (is_field first) (list_all is_field others) all in
     ap (filter (λ part. nat_lt 0 (length part))) (split_row first others parts.0 parts.1) ∙ filled (first ∷ others) all
 
 -- ---- the line
@@ -75,28 +76,28 @@ fields_row first others all =
 row_bytes : (first : List ℕ) (others : List (List ℕ)) → list_all is_figure_byte first ≡ true → list_all is_field others ≡ true → list_all is_row_byte (row_of first others) ≡ true
 row_bytes first [] bytes all = ap (list_all is_row_byte) (append-nil first) ∙ all_weaker is_figure_byte is_row_byte figure_in_row first bytes
 row_bytes first (next ∷ others) bytes all =
-    let parts = both (is_field next) (list_all is_field others) all in
-    let later = row_bytes next others (both (nat_lt 0 (length next)) (list_all is_figure_byte next) parts.0).1 parts.1 in
+    let parts = and_parts (is_field next) (list_all is_field others) all in
+    let later = row_bytes next others (and_parts (nat_lt 0 (length next)) (list_all is_figure_byte next) parts.0).1 parts.1 in
     all_append is_row_byte first (32 ∷ row_of next others) (all_weaker is_figure_byte is_row_byte figure_in_row first bytes) later
 
 pub field_starts : (field : List ℕ) → is_field field ≡ true → Starts field
 field_starts field one =
-    let parts = both (nat_lt 0 (length field)) (list_all is_figure_byte field) one in
+    let parts = and_parts (nat_lt 0 (length field)) (list_all is_figure_byte field) one in
     figure_filled (get_or field 0 32) (all_at is_figure_byte field 0 32 parts.1 (grind (arith, nat_tests, parts.0)))
 
 pub field_ends : (field : List ℕ) → is_field field ≡ true → Ends field
 field_ends field one =
-    let parts = both (nat_lt 0 (length field)) (list_all is_figure_byte field) one in
+    let parts = and_parts (nat_lt 0 (length field)) (list_all is_figure_byte field) one in
     let some : 0 < length field = grind (arith, nat_tests, parts.0) in
     figure_filled (get_or field (length field - 1) 32) (all_at is_figure_byte field (length field - 1) 32 parts.1 (omega (arith, some)))
 
 pub field_visible : (field : List ℕ) → is_field field ≡ true → list_all is_visible field ≡ true
-field_visible field one = all_weaker is_figure_byte is_visible figure_visible field (both (nat_lt 0 (length field)) (list_all is_figure_byte field) one).1
+field_visible field one = all_weaker is_figure_byte is_visible figure_visible field (and_parts (nat_lt 0 (length field)) (list_all is_figure_byte field) one).1
 
 row_ends : (first : List ℕ) (others : List (List ℕ)) → is_field first ≡ true → list_all is_field others ≡ true → Ends (row_of first others)
 row_ends first [] one all = ap (λ text. is_blank (get_or text (length text - 1) 32)) (append-nil first) ∙ field_ends first one
 row_ends first (next ∷ others) one all =
-    let parts = both (is_field next) (list_all is_field others) all in
+    let parts = and_parts (is_field next) (list_all is_field others) all in
     ends_append first (32 ∷ row_of next others) (ends_append (32 ∷ []) (row_of next others) (row_ends next others parts.0 parts.1))
 
 -- it begins with no word
@@ -114,14 +115,14 @@ no_mark text b h =
 begins : (first rest : List ℕ) → is_field first ≡ true → (is_comment (first ++ rest) ≡ false) × (mark_of (first ++ rest) ≡ None)
 begins [] rest one = absurd cc
 begins (b ∷ first) rest one =
-    let bytes = (both (nat_lt 0 (length (b ∷ first))) (list_all is_figure_byte (b ∷ first)) one).1 in
-    let here = (both (is_figure_byte b) (list_all is_figure_byte first) bytes).0 in
+    let bytes = (and_parts (nat_lt 0 (length (b ∷ first))) (list_all is_figure_byte (b ∷ first)) one).1 in
+    let here = (and_parts (is_figure_byte b) (list_all is_figure_byte first) bytes).0 in
     (no_comment (first ++ rest) b here, no_mark (first ++ rest) b here)
 
 none_equals : (text : List ℕ) → list_all is_row_byte text ≡ true → list_any is_equals text ≡ false
 none_equals [] all = refl
 none_equals (b ∷ text) all =
-    let parts = both (is_row_byte b) (list_all is_row_byte text) all in
+    let parts = and_parts (is_row_byte b) (list_all is_row_byte text) all in
     rw (row_apart b parts.0) (none_equals text parts.1)
 
 row_said : (number : ℕ) (text : List ℕ) → list_any is_equals text ≡ false → pair_or_row number text ≡ Ok (Row text)
@@ -131,8 +132,8 @@ row_said number text none = rw none refl
 pub row_line : (first : List ℕ) (others : List (List ℕ)) → list_all is_field (first ∷ others) ≡ true → Says (row_of first others) (Row (row_of first others))
 row_line first others all =
     let text = row_of first others in
-    let parts = both (is_field first) (list_all is_field others) all in
-    let bytes = row_bytes first others (both (nat_lt 0 (length first)) (list_all is_figure_byte first) parts.0).1 parts.1 in
+    let parts = and_parts (is_field first) (list_all is_field others) all in
+    let bytes = row_bytes first others (and_parts (nat_lt 0 (length first)) (list_all is_figure_byte first) parts.0).1 parts.1 in
     let visible = all_weaker is_row_byte is_visible row_visible text bytes in
     let begun = begins first (flat_map (λ field. 32 ∷ field) others) parts.0 in
     let starts = starts_append first (flat_map (λ field. 32 ∷ field) others) (field_starts first parts.0) in

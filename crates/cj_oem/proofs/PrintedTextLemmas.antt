@@ -1,28 +1,23 @@
 -- Printed texts: their bytes, and that nothing is trimmed from them.
-use Rattle.std.proofs.Common.{◌≡◌, ℕ, zero, suc, ◌+◌, ◌-◌, ◌<◌, List, [], ◌∷◌, ◌++◌, Bool, true, false, get_or, length, reverse, take, map, ap, sym, ◌∙◌, refl, arith}
+use Rattle.std.proofs.Common.{◌≡◌, ℕ, ◌+◌, ◌-◌, ◌<◌, List, [], ◌∷◌, ◌++◌, Bool, true, false, get_or, length, reverse, take, map, ap, sym, ◌∙◌, refl, arith}
 use Rattle.std.specs.List.{list_all, prefix_len, suffix_len}
+use Rattle.std.proofs.lemmas.Bool.{and_parts}
 use Rattle.std.proofs.lemmas.Bool.Decides.{nat_tests}
+use Rattle.std.proofs.lemmas.List.Sums.{AllPass-from_list_all}
 use Rattle.std.proofs.lemmas.List.{get_or-append_right, length-append, reverse-append, take_all, take_at, take_more}
-use Rattle.std.proofs.lemmas.List.Folds.{list_all-append}
 use Rattle.cj_kvn.specs.Lines.{is_blank, is_printable, spaced, trimmed, without_leading_blanks, without_trailing_blanks}
-use Rattle.cj_kvn.proofs.ListLemmas.{behind_no, behind_yes, both}
+use Rattle.cj_kvn.proofs.ListLemmas.{behind_no, behind_yes}
 use Rattle.cj_track.specs.Labels.{is_visible}
-
--- each element passes in both parts
-pub all_append : {X : Type 0} (p : X → Bool) (xs ys : List X) → list_all p xs ≡ true → list_all p ys ≡ true → list_all p (xs ++ ys) ≡ true
-all_append p xs ys first second = list_all-append p xs ys ∙ rw (first, second) refl
 
 -- what passes a test passes a weaker one
 pub all_weaker : {X : Type 0} (p q : X → Bool) → ((x : X) → p x ≡ true → q x ≡ true) → (xs : List X) → list_all p xs ≡ true → list_all q xs ≡ true
 all_weaker p q weaker [] all = refl
 all_weaker p q weaker (x ∷ xs) all =
-    let parts = both (p x) (list_all p xs) all in
+    let parts = and_parts (p x) (list_all p xs) all in
     rw (weaker x parts.0) (all_weaker p q weaker xs parts.1)
 
 pub all_at : {X : Type 0} (p : X → Bool) (xs : List X) (i : ℕ) (d : X) → list_all p xs ≡ true → i < length xs → p (get_or xs i d) ≡ true
-all_at p [] i d all below = absurd (omega arith)
-all_at p (x ∷ xs) zero d all below = (both (p x) (list_all p xs) all).0
-all_at p (x ∷ xs) (suc i) d all below = all_at p xs i d (both (p x) (list_all p xs) all).1 (omega arith)
+all_at p xs i d all below = AllPass-from_list_all p xs all i d below
 
 -- visible bytes are printable, and none is a tab
 visible_printable : (b : ℕ) → is_visible b ≡ true → is_printable b ≡ true
@@ -37,7 +32,7 @@ all_printable = all_weaker is_visible is_printable visible_printable
 pub all_kept : (text : List ℕ) → list_all is_visible text ≡ true → map spaced text ≡ text
 all_kept [] all = refl
 all_kept (b ∷ text) all =
-    let parts = both (is_visible b) (list_all is_visible text) all in
+    let parts = and_parts (is_visible b) (list_all is_visible text) all in
     ap (λ c. c ∷ map spaced text) (visible_kept b parts.0) ∙ ap (λ t. b ∷ t) (all_kept text parts.1)
 
 -- the first byte is there and no blank, and the last one

@@ -1,8 +1,8 @@
 -- What a reader makes of the lines that say something, and how it goes over lines of one kind.
 use Rattle.std.proofs.Common.{◌≡◌, ℕ, ◌+◌, List, [], ◌∷◌, ◌++◌, map, Bool, Option, Some, None, Result, Ok, Err, ap, sym, ◌∙◌, refl}
-use Rattle.std.specs.List.{last_or}
 use Rattle.std.proofs.lemmas.List.{append_assoc, append-nil, map-append}
 use Rattle.cj_kvn.specs.Lines.{Form, Blank, Comment, Mark, Pair, Row, Numbered}
+use Rattle.cj_kvn.proofs.ListLemmas.{last_push}
 use Rattle.cj_oem.specs.declared.fault.OemCause.{OemCause}
 use Rattle.cj_oem.specs.CovarianceRows.{Covariances}
 use Rattle.cj_track.specs.PlainTracks.{PlainSegment, PlainNode}
@@ -57,10 +57,6 @@ run_lines as_hermite3 [] stage number = at_line_same number (finished stage)
 run_lines as_hermite3 (line ∷ lines) stage number = run_line as_hermite3 stage line.number line.form lines (λ next. run_lines as_hermite3 lines next (line.number + 1))
 
 -- ---- lists
-
-pub last_push : {A : Type 0} (o : Option A) (xs : List A) (x : A) → last_or o (xs ++ x ∷ []) ≡ Some x
-last_push o [] x = refl
-last_push o (y ∷ xs) x = last_push (Some y) xs x
 
 pub end_push : (arcs : List PlainSegment) (arc : PlainSegment) → end_of (arcs ++ arc ∷ []) ≡ arc.last
 end_push arcs arc = rw (map-append (λ (a : PlainSegment). a.last) arcs (arc ∷ []), last_push None (map (λ (a : PlainSegment). a.last) arcs) arc.last) refl

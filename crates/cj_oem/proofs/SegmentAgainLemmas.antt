@@ -1,9 +1,7 @@
 -- Printed segments are read again.
-use Rattle.std.proofs.Common.{◌≡◌, ℕ, ◌<◌, ◌≤◌, List, [], ◌∷◌, ◌++◌, true, false, length, map, ap, sym, subst, ◌∙◌, refl, arith, append_assoc, append-nil, Option, Some, None, Ok, All}
-use Rattle.std.specs.Prelude.{flat_map, nat_lt, codes, unwrap_or}
-use Rattle.std.specs.List.{last_or}
+use Rattle.std.proofs.Common.{◌≡◌, ℕ, ◌<◌, ◌≤◌, List, [], ◌∷◌, ◌++◌, true, false, length, sym, subst, ◌∙◌, refl, arith, append_assoc, append-nil, Some, None, Ok, All}
+use Rattle.std.specs.Prelude.{flat_map, nat_lt, codes}
 use Rattle.std.proofs.lemmas.Bool.{le-ltb}
-use Rattle.std.proofs.lemmas.List.{map_push}
 use Rattle.std.proofs.lemmas.List.Elements.{All-head, All-tail}
 use Rattle.cj_kvn.specs.Lines.{Form, Mark}
 use Rattle.cj_kvn.specs.declared.lines.MarkKind.TheVariants.{MetaStart, CovarianceStart, CovarianceStop}
@@ -17,6 +15,7 @@ use Rattle.cj_oem.proofs.CovarianceAgainLemmas.{AllRead, IsCovariance, covarianc
 use Rattle.cj_oem.proofs.MetadataAgainLemmas.{IsKnown, IsNeat, known_same, meta_forms, meta_pairs, meta_walk, metadata_told, object_of, metadata}
 use Rattle.cj_oem.proofs.PrintedLineLemmas.{Tells, none, told_append, told_each, told_line}
 use Rattle.cj_oem.proofs.PrintedPairLemmas.{covariance_start, covariance_stop}
+use Rattle.cj_oem.proofs.RunLemmas.{end_push}
 use Rattle.cj_oem.proofs.StateAgainLemmas.{Follow, IsState, state_forms, state_told, states_walk}
 use Rattle.cj_oem.proofs.WalkLemmas.{walk, walk_append, walk_step}
 
@@ -148,15 +147,6 @@ segment_pass stage b o arc meta known name id is later =
 
 -- ---- all segments
 
-last_behind : {A : Type 0} (o : Option A) (xs : List A) (x : A) → last_or o (xs ++ x ∷ []) ≡ Some x
-last_behind o [] x = refl
-last_behind o (y ∷ xs) x = last_behind (Some y) xs x
-
-end_behind : (arcs : List PlainSegment) (arc : PlainSegment) → end_of (arcs ++ arc ∷ []) ≡ arc.last
-end_behind arcs arc =
-    ap (λ ends. unwrap_or (last_or None ends) 0) (map_push (λ a. a.last) arcs arc)
-    ∙ ap (λ o. unwrap_or o 0) (last_behind None (map (λ a. a.last) arcs) arc.last)
-
 -- more segments of the same object
 more_pass : (stage : Stage) (o : Object) (front arcs : List PlainSegment) → Rests stage (body o front) → IsNeat o.name → IsNeat o.id → All IsArc arcs → Later (end_of front) arcs
     → Passes stage (flat_map (arc_forms o) arcs) (body o (front ++ arcs))
@@ -164,7 +154,7 @@ more_pass stage o front [] rests name id all later = record { end = stage; walke
 more_pass stage o front (arc ∷ arcs) rests name id all later =
     let one = segment_pass stage (body o front) o arc rests.more (known_same o) name id (All-head IsArc arc arcs all) later.0 in
     let next = front ++ arc ∷ [] in
-    let others = more_pass one.end o next arcs one.rests name id (All-tail IsArc arc arcs all) (subst (λ end. Later end arcs) (sym (end_behind front arc)) later.1) in
+    let others = more_pass one.end o next arcs one.rests name id (All-tail IsArc arc arcs all) (subst (λ end. Later end arcs) (sym (end_push front arc)) later.1) in
     record {
       end = others.end;
       walked = walk_append stage one.end (arc_forms o arc) (flat_map (arc_forms o) arcs) one.walked ∙ others.walked;
@@ -177,7 +167,7 @@ segments_pass stage b o [] meta known name id some all later = absurd (omega ari
 segments_pass stage b o (arc ∷ arcs) meta known name id some all later =
     let one = segment_pass stage b o arc meta known name id (All-head IsArc arc arcs all) later.0 in
     let next = b.arcs ++ arc ∷ [] in
-    let others = more_pass one.end o next arcs one.rests name id (All-tail IsArc arc arcs all) (subst (λ end. Later end arcs) (sym (end_behind b.arcs arc)) later.1) in
+    let others = more_pass one.end o next arcs one.rests name id (All-tail IsArc arc arcs all) (subst (λ end. Later end arcs) (sym (end_push b.arcs arc)) later.1) in
     record {
       end = others.end;
       walked = walk_append stage one.end (arc_forms o arc) (flat_map (arc_forms o) arcs) one.walked ∙ others.walked;

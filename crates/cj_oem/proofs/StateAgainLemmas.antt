@@ -1,12 +1,13 @@
 -- The rows of states are read again.
 use Rattle.std.proofs.Common.{◌≡◌, ℕ, ◌<◌, ◌≤◌, ◌^◌, List, [], ◌∷◌, ◌++◌, true, false, ℤ, pos, negsuc, ap, sym, ◌∙◌, refl, arith, append_assoc, append-nil, Option, Some, None, Ok, All, subst}
 use Rattle.std.specs.Prelude.{unsigned_abs, flat_map}
-use Rattle.std.specs.List.{list_all, last_or}
+use Rattle.std.specs.List.{list_all}
 use Rattle.std.proofs.lemmas.Bool.{le-leb}
 use Rattle.std.proofs.lemmas.Int.{ints}
 use Rattle.std.proofs.lemmas.List.Elements.{All-head, All-tail}
 use Rattle.cj_kvn.specs.Fields.{fields}
 use Rattle.cj_kvn.specs.Lines.{Form, Pair, Row, is_comment, is_key}
+use Rattle.cj_kvn.proofs.ListLemmas.{last_push}
 use Rattle.cj_epoch.specs.Ticks.{IsTick}
 use Rattle.cj_epoch.specs.Written.{epoch_of}
 use Rattle.cj_epoch.proofs.WrittenLemmas.{epoch_of-read}
@@ -18,13 +19,14 @@ use Rattle.cj_track.specs.PlainTracks.{PlainNode}
 use Rattle.cj_track.specs.Limits.{IsWithin, MAX_COORDINATE, MAX_RATE}
 use Rattle.cj_oem.specs.Metadata.{epoch_or, parse_epoch}
 use Rattle.cj_oem.specs.NodeRows.{figure_or, parse_figure, following, state_of_fields, state_of_row, vector_within}
-use Rattle.cj_oem.specs.Stages.{Body, Data, OpenSegment, follows, last_state}
+use Rattle.cj_oem.specs.Stages.{Body, Data, follows, last_state}
 use Rattle.cj_oem.specs.Metadata.{Metadata}
 use Rattle.cj_oem.proofs.FigureAgainLemmas.{figure_again}
 use Rattle.cj_oem.proofs.PrintedLineLemmas.{Says, Tells, told_line}
 use Rattle.cj_oem.proofs.PrintedNumberLemmas.{epoch_field, figure_field}
 use Rattle.cj_oem.proofs.PrintedPairLemmas.{pair_line, pair_text}
 use Rattle.cj_oem.proofs.PrintedRowLemmas.{field_ends, field_starts, field_visible, fields_row, is_field, row_line, row_of}
+use Rattle.cj_oem.proofs.RunLemmas.{open_segment}
 use Rattle.cj_oem.proofs.WalkLemmas.{walk, walk_step}
 
 -- a vector within a limit
@@ -129,13 +131,6 @@ state_told s is =
     subst (λ text. Tells (line text) (Row text ∷ [])) (sym (row_shape s))
     (told_line (row_of (epoch_of s.at) (state_fields s)) (Row (row_of (epoch_of s.at) (state_fields s))) (row_line (epoch_of s.at) (state_fields s) (state_are_fields s is)))
 
-last_behind : (o : Option PlainNode) (states : List PlainNode) (s : PlainNode) → last_or o (states ++ s ∷ []) ≡ Some s
-last_behind o [] s = refl
-last_behind o (t ∷ states) s = last_behind (Some t) states s
-
-abbrev open_segment : Metadata → List PlainNode → OpenSegment
-open_segment metadata states = record { metadata = metadata; states = states }
-
 state_follows : (b : Body) (metadata : Metadata) (front : List PlainNode) (s : PlainNode) → IsState s → following (last_state front) s ≡ Ok s
     → follows false (Data b (open_segment metadata front)) (Row (row_content s)) ≡ Ok (Data b (open_segment metadata (front ++ s ∷ [])))
 unfolding follows
@@ -148,7 +143,7 @@ states_walk b metadata front (s ∷ states) all follow =
     let next = front ++ s ∷ [] in
     walk_step (Data b (open_segment metadata front)) (Data b (open_segment metadata next)) (Row (row_content s)) (flat_map state_forms states)
     (state_follows b metadata front s (All-head IsState s states all) follow.0)
-    ∙ states_walk b metadata next states (All-tail IsState s states all) (subst (λ o. Follow o states) (sym (last_behind None front s)) follow.1)
+    ∙ states_walk b metadata next states (All-tail IsState s states all) (subst (λ o. Follow o states) (sym (last_push None front s)) follow.1)
     ∙ ap (λ ss. Ok (Data b (open_segment metadata ss))) (append_assoc front (s ∷ []) states)
 
 -- ---- epochs as values

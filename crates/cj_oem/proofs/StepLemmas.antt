@@ -1,7 +1,7 @@
 -- Steps one after another, and what is known where they succeed.
-use Rattle.std.proofs.Common.{◌≡◌, ℕ, suc, ◌<◌, ◌≤◌, arith, List, Bool, true, false, IfOk, ◌⊎◌, inl, inr, Result, Ok, Err, refl}
-use Rattle.std.specs.Prelude.{if◌then◌else◌, ◌&&◌, ◌||◌, not, nat_le, nat_lt}
-use Rattle.std.proofs.lemmas.Bool.Decides.{leb_tells}
+use Rattle.std.proofs.Common.{◌≡◌, ℕ, List, Bool, true, false, IfOk, ◌⊎◌, inl, inr, Result, Ok, Err, refl}
+use Rattle.std.specs.Prelude.{if◌then◌else◌, not}
+use Rattle.std.proofs.lemmas.Bool.{not-false}
 use Rattle.std.specs.Cmp.Lexicographic.{bytes_decides}
 use Rattle.cj_oem.specs.declared.fault.OemCause.{OemCause}
 use Rattle.cj_oem.specs.Words.{is_text}
@@ -50,32 +50,9 @@ pub unless_ok : (b : Bool) (c : OemCause) (u : Unit {0}) → unless b c ≡ Ok u
 unless_ok true c u e = absurd cc
 unless_ok false c u e = refl
 
-pub not_false : (b : Bool) → not b ≡ false → b ≡ true
-not_false true e = refl
-not_false false e = absurd cc
-
 -- the test held, where the other is a cause
 pub unless_not : (b : Bool) (c : OemCause) (u : Unit {0}) → unless (not b) c ≡ Ok u → b ≡ true
-unless_not b c u e = not_false b (unless_ok (not b) c u e)
-
--- ---- tests
-
-pub both_true : (a b : Bool) → (a && b) ≡ true → (a ≡ true) × (b ≡ true)
-both_true true b e = (refl, e)
-both_true false b e = absurd cc
-
-pub both_false : (a b : Bool) → (a || b) ≡ false → (a ≡ false) × (b ≡ false)
-both_false true b e = absurd cc
-both_false false b e = (refl, e)
-
-pub le_holds : (a b : ℕ) → nat_le a b ≡ true → a ≤ b
-le_holds a b e = elim (leb_tells a b) [ inl h ↦ h.1 | inr h ↦ absurd cc ]
-
-pub le_fails : (a b : ℕ) → nat_le a b ≡ false → b < a
-le_fails a b e = elim (leb_tells a b) [ inl h ↦ absurd cc | inr h ↦ omega arith ]
-
-pub lt_fails : (a b : ℕ) → nat_lt a b ≡ false → b ≤ a
-lt_fails a b e = elim (leb_tells (suc a) b) [ inl h ↦ absurd cc | inr h ↦ omega arith ]
+unless_not b c u e = not-false b (unless_ok (not b) c u e)
 
 -- ---- texts
 

@@ -3,6 +3,7 @@ use Rattle.std.proofs.Common.{◌≡◌, ℕ, ◌+◌, ◌^◌, ◌<◌, ◌≤�
 use Rattle.std.specs.Prelude.{None, Option, slice_get, is_some}
 use Rattle.cj_hermite.specs.PlainProblems.{PlainProblem}
 use Rattle.cj_hermite.specs.Roots.{KeepIntervals}
+use Rattle.cj_hermite.proofs.CurveLemmas.{keep_part}
 use Rattle.cj_bezier.specs.declared.cell.Cell.{Cell}
 use Rattle.cj_bezier.specs.declared.kind.Kind.{Kind}
 use Rattle.cj_bezier.specs.Halving.{InHalving, whole, left, right}
@@ -20,14 +21,6 @@ tree_within judge first last lo hi whole = record { from = omega arith; to = ome
 tree_within judge first last lo hi (left from to tree lt none) = let r = tree_within judge first last from to tree in record { from = r.from; to = omega (arith, r.to) }
 tree_within judge first last lo hi (right from to tree lt none) = let r = tree_within judge first last from to tree in record { from = omega (arith, r.from); to = r.to }
 
--- a part of ticks that keep their intervals keeps them
-pub keep_part : (case : PlainProblem) (a b first last from to : ℕ) → KeepIntervals case a b first last → first ≤ from → from ≤ to → to ≤ last → KeepIntervals case a b from to
-keep_part case a b first last from to keep low some high =
-    let here = keep.same from low (omega arith) in
-    record {
-      same = λ m after before. keep.same m (omega arith) (omega arith) ∙ sym here;
-      states = ap is_some here ∙ keep.states;
-    }
 
 -- the objects of a cell of a tree stay in their intervals, as they do over its root
 pub tree_keeps : (case : PlainProblem) (roots : List Cell) (c : Cell) → AreRoots case roots → InTree case roots c → IsKept case c

@@ -1,10 +1,21 @@
--- Values of a run that nobody has.
-use Rattle.std.specs.Prelude.{List, []}
+-- What names a run, and values of a run that nobody has.
+use Rattle.std.specs.Prelude.{◌≡◌, ℕ, ◌≤◌, List, [], length}
 use Rattle.std.proofs.Common.{arith, refl}
 use Rattle.cj_epoch.specs.declared.tick.Tick.{Tick}
 use Rattle.cj_epoch.specs.declared.tick.Window.{Window}
 use Rattle.cj_hermite.specs.declared.problem.Problem.{Problem}
+use Rattle.cj_hermite.specs.Problems.{plain_problem}
 use Rattle.cj_bezier.specs.declared.cell.Cell.{Cell}
+use Rattle.cj_pool.specs.RootLists.{AreRoots}
+
+-- a run of this problem, from these roots, by so many workers and within this limit, where the three that name it are these
+pub record IsRunOf (problem : Problem) (roots : List Cell) (workers limit : ℕ)
+    (its_problem : Problem) (its_roots : List Cell) (its_workers : ℕ) : Type 0 where
+  pub same_problem : problem ≡ its_problem
+  pub same_roots : roots ≡ its_roots
+  pub same_workers : its_workers ≡ workers
+  pub are_roots : AreRoots (plain_problem problem) roots
+  pub few : length roots ≤ limit
 
 abbrev first_tick : Tick
 first_tick = record { micros = 63_072_000_000_000; in_range = omega arith }

@@ -1,5 +1,5 @@
 //! Deques whose passes are in one thread again.
-ghost use Rattle.std.specs.Prelude.{◌≡◌, ℕ, ◌+◌, ◌<◌, ◌≤◌, List, [], ◌∷◌, ◌++◌, OnOk, All, length, take, vec_len};
+ghost use Rattle.std.specs.Prelude.{◌≡◌, ℕ, ◌+◌, ◌<◌, ◌≤◌, [], ◌∷◌, ◌++◌, OnOk, All, length, take, vec_len};
 ghost use Rattle.crossbeam_deque.specs.Handles.{view, worker_deque, worker_flavor, worker_view, IsPassOf};
 ghost use Rattle.cj_bezier.specs.declared.cell.Cell.{Cell};
 ghost use Rattle.cj_hermite.specs.Problems.{plain_problem};

@@ -1,6 +1,6 @@
 //! Hands taken apart.
 ghost use Rattle.cj_pool.specs.declared.station.Station.{Station};
-ghost use Rattle.std.specs.Prelude.{◌≡◌, ℕ, ◌+◌, [], ◌∷◌, ◌++◌, List, length, map, All, IfOk, OnOk};
+ghost use Rattle.std.specs.Prelude.{◌≡◌, ℕ, ◌+◌, [], ◌∷◌, ◌++◌, length, map, All, IfOk, OnOk};
 ghost use Rattle.std.specs.List.{range_with_len};
 ghost use Rattle.cj_bezier.specs.declared.cell.Cell.{Cell};
 ghost use Rattle.cj_hermite.specs.Problems.{plain_problem};

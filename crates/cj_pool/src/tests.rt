@@ -6,6 +6,7 @@ ghost use Rattle.cj_hermite.specs.Slots.{slot_count};
 ghost use Rattle.cj_pool.specs.Hands.{IsHandOf};
 ghost use Rattle.cj_pool.specs.Refined.{numbers_of};
 ghost use Rattle.cj_pool.specs.RootLists.{AreRoots};
+ghost use Rattle.cj_pool.specs.Runs.{IsRunOf};
 
 use crate::hand::Hand;
 use crate::listing::leaves_by_hands;
@@ -15,11 +16,10 @@ use crate::run::Run;
 use crate::turn::Turn;
 use cj_bezier::Cell;
 use cj_cells::{RefineError, order_roots, refine_all, roots_of_slot};
-use cj_hermite::{Hints, Pair, Problem, Sizes, Tracks};
+use cj_hermite::{Hints, Pair, Problem};
 use cj_io::{Gate, OpenGate};
 use cj_ledger::Totals;
-use cj_samples::{moving, seconds, track_of};
-use cj_track::Vec3;
+use cj_scenes::crossing;
 use std::alloc::{AllocError, Global};
 use std::marker::Brand;
 use std::process::Abort;
@@ -39,51 +39,6 @@ const TOTALS: Totals = Totals {
     splits: 48,
     closes: 49,
 };
-
-/// Two tracks over a minute that cross at right angles, one kilometre apart, by a threshold of 5 km.
-fn crossing(alloc: Global) -> Result<Problem, AllocError>
-    ensures tracks { IfOk result (λ problem. length problem.tracks ≡ 2) }
-    ensures slots { IfOk result (λ problem. slot_count problem.window.first.micros problem.window.last.micros ≡ 2) }
-{
-    let along_y = Vec3 {
-        x: 0,
-        y: 7_500_000_000_000,
-        z: 0,
-    };
-    let along_z = Vec3 {
-        x: 0,
-        y: 0,
-        z: 7_500_000_000_000,
-    };
-    let a0 = Vec3 {
-        x: 7_000_000_000_000_000,
-        y: -225_000_000_000_000,
-        z: 0,
-    };
-    let a1 = Vec3 {
-        x: 7_000_000_000_000_000,
-        y: 225_000_000_000_000,
-        z: 0,
-    };
-    let b0 = Vec3 {
-        x: 7_001_000_000_000_000,
-        y: 0,
-        z: -225_000_000_000_000,
-    };
-    let b1 = Vec3 {
-        x: 7_001_000_000_000_000,
-        y: 0,
-        z: 225_000_000_000_000,
-    };
-    let a = moving(alloc, 0, 60, a0, a1, along_y)?;
-    let b = moving(alloc, 0, 60, b0, b1, along_z)?;
-    Ok(Problem {
-        tracks: Tracks::new(vec![in alloc; track_of(alloc, a)?, track_of(alloc, b)?]?),
-        window: seconds(0, 60),
-        threshold: 5_000_000_000_000,
-        sizes: Sizes::new(vec![in alloc; 0, 0]?),
-    })
-}
 
 /// The roots of the first of two slots: of the crossing, the minute.
 fn roots_of(alloc: Global, problem: &Problem) -> Result<Vec<Cell>, RefineError>
@@ -124,11 +79,7 @@ fn for_two<'p, K: Run>(
     problem: &'p Problem,
     roots: Vec<Cell>,
 ) -> Result<(Refinery<'p, K>, Hand<'p, K>, Hand<'p, K>), AllocError>
-    requires problem { problem.now ≡ K.problem }
-    requires roots { roots.items ≡ K.roots }
-    requires are_roots { AreRoots (plain_problem problem.now) roots.items }
-    requires workers { K.workers ≡ 2 }
-    requires few { length roots.items ≤ 10 }
+    requires { IsRunOf problem.now roots.items 2 1000 K.problem K.roots K.workers }
     ensures zero { IfOk result (λ r. IsHandOf r.0 r.1 × (r.1.number ≡ 0)) }
     ensures one { IfOk result (λ r. IsHandOf r.0 r.2 × (r.2.number ≡ 1)) }
     ensures refinery { IfOk result (λ r. r.0.hands ≡ 2) }
@@ -175,11 +126,7 @@ fn zero_and_one<K: Run, R: Abort>(
     problem: &Problem,
     roots: Vec<Cell>,
 ) -> Result<Refined, FinishError>
-    requires problem { problem.now ≡ K.problem }
-    requires roots { roots.items ≡ K.roots }
-    requires are_roots { AreRoots (plain_problem problem.now) roots.items }
-    requires workers { K.workers ≡ 2 }
-    requires few { length roots.items ≤ 10 }
+    requires { IsRunOf problem.now roots.items 2 1000 K.problem K.roots K.workers }
 {
     let (refinery, zero, one) = for_two::<K>(alloc, problem, roots)?;
     let zero = after_split(rt, alloc, &refinery, zero)?;
@@ -194,11 +141,7 @@ fn one_and_zero<K: Run, R: Abort>(
     problem: &Problem,
     roots: Vec<Cell>,
 ) -> Result<Refined, FinishError>
-    requires problem { problem.now ≡ K.problem }
-    requires roots { roots.items ≡ K.roots }
-    requires are_roots { AreRoots (plain_problem problem.now) roots.items }
-    requires workers { K.workers ≡ 2 }
-    requires few { length roots.items ≤ 10 }
+    requires { IsRunOf problem.now roots.items 2 1000 K.problem K.roots K.workers }
 {
     let (refinery, zero, one) = for_two::<K>(alloc, problem, roots)?;
     let one = after_split(rt, alloc, &refinery, one)?;
@@ -250,11 +193,7 @@ fn zero_alone<K: Run, R: Wait + Abort>(
     problem: &Problem,
     roots: Vec<Cell>,
 ) -> Result<Refined, FinishError>
-    requires problem { problem.now ≡ K.problem }
-    requires roots { roots.items ≡ K.roots }
-    requires are_roots { AreRoots (plain_problem problem.now) roots.items }
-    requires workers { K.workers ≡ 2 }
-    requires few { length roots.items ≤ 10 }
+    requires { IsRunOf problem.now roots.items 2 1000 K.problem K.roots K.workers }
 {
     let (refinery, zero, mut one) = for_two::<K>(alloc, problem, roots)?;
     let zero = zero.run(rt, alloc, &refinery, &OpenGate);
@@ -299,11 +238,7 @@ fn one_beside_zero<K: Run, R: Abort>(
     problem: &Problem,
     roots: Vec<Cell>,
 ) -> Result<Option<Turn>, AllocError>
-    requires problem { problem.now ≡ K.problem }
-    requires roots { roots.items ≡ K.roots }
-    requires are_roots { AreRoots (plain_problem problem.now) roots.items }
-    requires workers { K.workers ≡ 2 }
-    requires few { length roots.items ≤ 10 }
+    requires { IsRunOf problem.now roots.items 2 1000 K.problem K.roots K.workers }
 {
     let (refinery, zero, one) = for_two::<K>(alloc, problem, roots)?;
     let _zero = after_split(rt, alloc, &refinery, zero)?;
@@ -326,11 +261,7 @@ fn untouched<K: Run>(
     problem: &Problem,
     roots: Vec<Cell>,
 ) -> Result<Refined, FinishError>
-    requires problem { problem.now ≡ K.problem }
-    requires roots { roots.items ≡ K.roots }
-    requires are_roots { AreRoots (plain_problem problem.now) roots.items }
-    requires workers { K.workers ≡ 2 }
-    requires few { length roots.items ≤ 10 }
+    requires { IsRunOf problem.now roots.items 2 1000 K.problem K.roots K.workers }
 {
     let (refinery, zero, one) = for_two::<K>(alloc, problem, roots)?;
     finished(alloc, refinery, zero, one)

@@ -1,8 +1,7 @@
 //! One turn of a hand.
-ghost use Rattle.std.specs.Prelude.{◌≡◌, ℕ, ◌+◌, ◌<◌, ◌≤◌, MatchResult, Ok};
+ghost use Rattle.std.specs.Prelude.{◌≡◌, ◌+◌, ◌<◌, MatchResult, Ok};
 ghost use Rattle.cj_hermite.specs.Problems.{plain_problem};
 ghost use Rattle.cj_ledger.specs.declared.why.Why.{Why};
-ghost use Rattle.cj_ledger.specs.Counts.{after_split, after_halt};
 ghost use Rattle.cj_ledger.specs.Shares.{IsOf};
 ghost use Rattle.cj_pool.specs.declared.turn.Turn.TheVariants.{Halted};
 ghost use Rattle.cj_pool.specs.Hands.{IsHandOf, SameHand};

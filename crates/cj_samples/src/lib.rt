@@ -1,11 +1,14 @@
-//! Small tracks for the tests of the crates above: objects at rest and on straight lines in the first hour of 2025.
+//! Small tracks for the tests of the crates above: objects at rest and on straight lines in the first hour of 2025; and texts of
+//! ephemerides.
 #![tactic(auto)]
 
 mod segments;
+mod texts;
 mod ticks;
 mod tracks;
 
 pub use segments::{AT_7000, AT_7005, AT_7100, REST, moving, node, rest, useable};
+pub use texts::{Change, HEAD, append_lines};
 pub use ticks::{second, seconds, tick, window};
 pub use tracks::{track, track_of, track_of_two};
 

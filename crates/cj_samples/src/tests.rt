@@ -23,3 +23,13 @@ fn a_track_at_rest_has_the_nodes_of_its_segments(rt: HostRuntime) -> Result<(), 
     assert_eq!(rt; places.as_slice(), wanted.as_slice());
     Ok(())
 }
+
+#[test]
+fn a_line_is_changed_by_its_number(rt: HostRuntime) -> Result<(), Fail> {
+    let alloc = rt.alloc();
+    let mut text = Vec::new(alloc);
+    let changes: [Change; 3] = [(2, b"X"), (3, b"Y"), (5, b"Z")];
+    append_lines(&mut text, 2, &[b"A", b"B", b"C"], changes.as_slice())?;
+    assert_eq!(rt; text.as_slice(), b"Y\nB\nZ\n".as_slice());
+    Ok(())
+}

@@ -10,6 +10,7 @@ use Rattle.cj_track.specs.declared.frame.Frame.TheVariants as frames
 use Rattle.cj_track.specs.PlainTracks.{PlainTrack}
 use Rattle.cj_oem.specs.Metadata.{same_frame}
 use Rattle.cj_oem.specs.Reading.{Fault, reading}
+use Rattle.cj_oem.proofs.MetadataLemmas.{frame_itself}
 use Rattle.cj_gen.specs.Catalogues.{catalogue_of, file_of}
 use Rattle.cj_catalogue.specs.MadeTracks.{track_of, track_on}
 use Rattle.cj_catalogue.proofs.TrackLemmas.{file_at, file_count, made_read}
@@ -87,13 +88,9 @@ begins_more : (frame : Frame) (before : List PlainTrack) (e : PlainTrack) → Be
 begins_more frame [] e begins own = own
 begins_more frame (d ∷ before) e begins own = begins
 
-same_self : (frame : Frame) → same_frame frame frame ≡ true
-same_self frames.Eme2000 = refl
-same_self frames.Gcrf = refl
-
 has_same : (frame : Frame) (before : List PlainTrack) (e : PlainTrack) → BeginsIn frame before → e.frame ≡ frame → has_frame_of before e ≡ true
 has_same frame [] e begins own = refl
-has_same frame (d ∷ before) e begins own = ap₂ same_frame begins own ∙ same_self frame
+has_same frame (d ∷ before) e begins own = ap₂ same_frame begins own ∙ frame_itself frame
 
 checked_limits : (before : List PlainTrack) (name : List ℕ) (e : PlainTrack) → has_frame_of before e ≡ true → IfErr (checked_after before name e) IsLimit
 checked_limits before name e same =

@@ -1,5 +1,5 @@
 //! Putting a made-up catalogue onto a shelf.
-ghost use Rattle.std.specs.Prelude.{◌≡◌, ◌≤◌, List, Some, Ok, Err, IfErr, IfOk, length};
+ghost use Rattle.std.specs.Prelude.{◌≡◌, ◌≤◌, List, Some, Ok, Err, IfErr, IfOk};
 ghost use Rattle.cj_io.specs.Faults.{Rose};
 ghost use Rattle.cj_io.specs.declared.file.FileBytes.{FileBytes};
 ghost use Rattle.cj_screen.specs.Findings.{ended};

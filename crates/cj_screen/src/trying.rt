@@ -1,11 +1,11 @@
 //! A made-up catalogue that is screened in memory.
-ghost use Rattle.std.specs.Prelude.{◌≡◌, ◌≤◌, ◌++◌, List, [], ◌∷◌, Some, Ok, Err, IfErr, IfOk};
+ghost use Rattle.std.specs.Prelude.{◌≡◌, ◌≤◌, List, [], ◌∷◌, Some, Ok, Err, IfErr, IfOk};
 ghost use Rattle.cj_io.specs.Faults.{Rose};
 ghost use Rattle.cj_io.specs.declared.file.FileBytes.{FileBytes};
 ghost use Rattle.cj_hermite.specs.Problems.{plain_problem};
 ghost use Rattle.cj_words.specs.Commands.{plain_trial};
 ghost use Rattle.cj_words.specs.Settings.{asked_of};
-ghost use Rattle.cj_screen.specs.Findings.{AreFound, case_in, ended, tried_in};
+ghost use Rattle.cj_screen.specs.Findings.{AreFound, ended, tried_in};
 ghost use Rattle.cj_screen.specs.Outcome as spec;
 ghost use Rattle.cj_screen.specs.Outcome.{ComesOfPuts, ComesOfTrial, Leaves};
 ghost use Rattle.cj_status.specs.Steps.{Gives};

@@ -4,34 +4,14 @@ ghost use Rattle.cj_hermite.specs.Limits.{MAX_SIZE};
 use super::*;
 use cj_bezier::Shell;
 use cj_hermite::Pair;
-use cj_samples::{AT_7000, AT_7100, moving, rest, seconds, track_of, track_of_two};
-use cj_track::{Track, Vec3};
+use cj_samples::{AT_7000, AT_7100, rest, seconds, track_of_two};
+use cj_scenes::along_y;
 use std::alloc::{AllocError, Global};
 use std::process::Abort;
 use std::test::Fail;
 
 /// 5 km in nm.
 const THRESHOLD: u64 = 5_000_000_000_000;
-
-/// From (7000, -225, 0) km to (7000, 225, 0) km in a minute, at 7.5 km/s.
-fn passing(alloc: Global) -> Result<Track, AllocError> {
-    let v = Vec3 {
-        x: 0,
-        y: 7_500_000_000_000,
-        z: 0,
-    };
-    let from = Vec3 {
-        x: 7_000_000_000_000_000,
-        y: -225_000_000_000_000,
-        z: 0,
-    };
-    let to = Vec3 {
-        x: 7_000_000_000_000_000,
-        y: 225_000_000_000_000,
-        z: 0,
-    };
-    track_of(alloc, moving(alloc, 0, 60, from, to, v)?)
-}
 
 /// A shell without thickness.
 fn thin(radius: u64) -> Shell {
@@ -87,7 +67,7 @@ fn a_gap_between_segments_is_passed_over(rt: HostRuntime) -> Result<(), Fail> {
 /// at both ends.
 #[test]
 fn the_shell_of_a_moving_track_holds_its_ends(rt: HostRuntime) -> Result<(), Fail> {
-    let track = passing(rt.alloc())?;
+    let track = along_y(rt.alloc())?;
     assert_eq!(rt;
         shell(&track, seconds(0, 60)),
         Some(Shell {

@@ -1,40 +1,13 @@
-ghost use Rattle.std.specs.Prelude.{◌≡◌, [], ◌∷◌, Some, length, IfOk};
+ghost use Rattle.std.specs.Prelude.{◌≡◌, [], ◌∷◌, Some, length};
 ghost use Rattle.cj_cert.specs.Certificates.{plain_certificate};
 ghost use Rattle.cj_cert.specs.Listed.{shells_listed};
 
 use super::{AT_REST_2, at_rest_1, at_rest_2};
 use crate::{Certificate, cert_text, in_version_2, listed_shells};
-use cj_hermite::{Pair, Problem, Sizes, Tracks};
-use cj_samples::{rest, seconds, track_of};
-use cj_track::Vec3;
+use cj_hermite::{Pair, Problem};
+use cj_scenes::resting;
 use std::alloc::{AllocError, Global};
 use std::test::Fail;
-
-/// Two objects at rest, exactly the threshold of 5 km apart, for a minute.
-fn resting(alloc: Global) -> Result<Problem, AllocError>
-    ensures tracks { IfOk result (λ problem. length problem.tracks ≡ 2) }
-    ensures threshold { IfOk result (λ problem. problem.threshold ≡ 5000000000000) }
-    ensures sizes { IfOk result (λ problem. problem.sizes ≡ 0 ∷ 0 ∷ []) }
-{
-    let here = Vec3 {
-        x: 7_000_000_000_000_000,
-        y: 0,
-        z: 0,
-    };
-    let there = Vec3 {
-        x: 7_005_000_000_000_000,
-        y: 0,
-        z: 0,
-    };
-    let a = track_of(alloc, rest(alloc, 0, 60, here)?)?;
-    let b = track_of(alloc, rest(alloc, 0, 60, there)?)?;
-    Ok(Problem {
-        tracks: Tracks::new(vec![in alloc; a, b]?),
-        window: seconds(0, 60),
-        threshold: 5_000_000_000_000,
-        sizes: Sizes::new(vec![in alloc; 0, 0]?),
-    })
-}
 
 /// A certificate of these objects in version 2, by their only pair.
 fn rewritten(alloc: Global, problem: &Problem, cert: Certificate) -> Result<Certificate, AllocError>

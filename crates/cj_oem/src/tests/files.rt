@@ -1,13 +1,14 @@
 use super::texts::{
-    Change, Changed, Fault, Span, Stated, base_with, begins_with, counts_of, fault_in, fault_of,
-    has_spans, has_values, is_of, matrix_tick, read, wrong_with,
+    Changed, Fault, Stated, Useable, base_with, begins_with, counts_of, fault_in, fault_of,
+    has_useable, has_values, is_of, matrix_tick, read, wrong_with,
 };
+use cj_samples::Change;
 use crate::{Frame, OemCause, OemFault, read_oem};
 use cj_kvn::KvnCause;
 use std::alloc::Global;
 use std::test::Fail;
 
-const BASE_SPANS: [Span; 1] = [(1_735_689_600_000_000, 1_735_689_660_000_000)];
+const BASE_USEABLE: [Useable; 1] = [(1_735_689_600_000_000, 1_735_689_660_000_000)];
 
 const BASE_NODES: [Stated; 2] = [
     (
@@ -40,7 +41,7 @@ fn the_base_file_is_read(rt: HostRuntime) -> Result<(), Fail> {
     let track = read(rt.alloc(), &text, false)?;
     assert_eq!(rt; track.file.as_slice(), b"a.oem".as_slice());
     assert!(rt; is_of(&track, b"SAT A", b"2025-001A", Frame::Eme2000));
-    assert!(rt; has_spans(&track, BASE_SPANS.as_slice()));
+    assert!(rt; has_useable(&track, BASE_USEABLE.as_slice()));
     assert_eq!(rt; counts_of(&track, 0), Some((2, 0)));
     assert!(rt; begins_with(&track, 0, BASE_NODES.as_slice()));
     Ok(())
@@ -95,7 +96,7 @@ COV_REF_FRAME = RTN\r
 COVARIANCE_STOP\r
 ";
 
-const USUAL_SPANS: [Span; 1] = [(1_735_689_630_000_000, 1_735_689_720_000_000)];
+const USUAL_USEABLE: [Useable; 1] = [(1_735_689_630_000_000, 1_735_689_720_000_000)];
 
 const USUAL_NODES: [Stated; 3] = [
     (
@@ -130,7 +131,7 @@ const USUAL_NODES: [Stated; 3] = [
 fn a_file_of_a_usual_tool_is_read(rt: HostRuntime) -> Result<(), Fail> {
     let track = read(rt.alloc(), USUAL, false)?;
     assert!(rt; is_of(&track, b"DEMO SAT", b"2025-007B", Frame::Eme2000));
-    assert!(rt; has_spans(&track, USUAL_SPANS.as_slice()));
+    assert!(rt; has_useable(&track, USUAL_USEABLE.as_slice()));
     assert_eq!(rt; counts_of(&track, 0), Some((3, 1)));
     assert!(rt; begins_with(&track, 0, USUAL_NODES.as_slice()));
     assert_eq!(rt; matrix_tick(&track, 0, 0), Some(1_735_689_600_000_000));

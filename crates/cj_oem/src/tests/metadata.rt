@@ -1,4 +1,5 @@
-use super::texts::{Case, Change, Changed, base_with, fault_of, read, wrong_in_base, wrong_with};
+use super::texts::{Case, Changed, base_with, fault_of, read, wrong_in_base, wrong_with};
+use cj_samples::Change;
 use crate::{OemCause, OemFault};
 use cj_epoch::EpochFault;
 use cj_kvn::KvnCause;

@@ -1,6 +1,7 @@
 use super::texts::{
-    Change, Span, Stated, base_with, begins_with, has_spans, has_values, matrix_tick, read,
+    Stated, Useable, base_with, begins_with, has_useable, has_values, matrix_tick, read,
 };
+use cj_samples::Change;
 use crate::{OemFault, Track, oem_text};
 use std::alloc::Global;
 use std::test::Fail;
@@ -104,7 +105,7 @@ const FIRST_OF_TWO: [Stated; 2] = [
     ),
 ];
 
-const SPANS_OF_TWO: [Span; 2] = [
+const USEABLE_OF_TWO: [Useable; 2] = [
     (1_735_689_610_000_000, 1_735_689_650_000_001),
     (1_735_689_720_000_000, 1_735_689_780_000_000),
 ];
@@ -113,7 +114,7 @@ const SPANS_OF_TWO: [Span; 2] = [
 fn numbers_near_0_and_at_their_limits(rt: HostRuntime) -> Result<(), Fail> {
     let track = read(rt.alloc(), TWO, false)?;
     assert!(rt; begins_with(&track, 0, FIRST_OF_TWO.as_slice()));
-    assert!(rt; has_spans(&track, SPANS_OF_TWO.as_slice()));
+    assert!(rt; has_useable(&track, USEABLE_OF_TWO.as_slice()));
     assert_eq!(rt; matrix_tick(&track, 1, 0), Some(1_735_689_750_000_000));
     assert!(rt; has_values(&track, 1, &[(1, true, 25, -6)]));
     Ok(())

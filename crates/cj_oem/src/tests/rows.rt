@@ -1,6 +1,5 @@
-use super::texts::{
-    Case, Change, Changed, Stated, base_with, begins_with, read, wrong_in_base, wrong_with,
-};
+use super::texts::{Case, Changed, Stated, base_with, begins_with, read, wrong_in_base, wrong_with};
+use cj_samples::Change;
 use crate::OemCause;
 use cj_epoch::EpochFault;
 use std::test::Fail;

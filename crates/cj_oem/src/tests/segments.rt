@@ -1,7 +1,8 @@
 use super::texts::{
-    Case, Change, Changed, Stated, begins_with, counts_of, has_spans, read, two_with,
-    wrong_in_base, wrong_in_two, wrong_with,
+    Case, Changed, Stated, begins_with, counts_of, has_useable, read, two_with, wrong_in_base,
+    wrong_in_two, wrong_with,
 };
+use cj_samples::Change;
 use crate::OemCause;
 use std::test::Fail;
 
@@ -147,7 +148,7 @@ fn two_segments_are_two(rt: HostRuntime) -> Result<(), Fail> {
     let track = read(rt.alloc(), &text, false)?;
     let middle = 1_735_689_660_000_000;
     assert!(rt;
-        has_spans(
+        has_useable(
             &track,
             &[
                 (1_735_689_600_000_000, middle),

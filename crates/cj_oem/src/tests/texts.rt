@@ -1,29 +1,16 @@
 //! Files for the tests.
 use crate::{Frame, Matrix, Node, OemCause, OemFault, Segment, Track, read_oem};
+use cj_samples::{Change, HEAD, append_lines};
 use std::alloc::{AllocError, Global};
 
-/// The lines of a file with one segment of two nodes.
-pub const BASE: [&[u8]; 16] = [
-    b"CCSDS_OEM_VERS = 2.0",
-    b"CREATION_DATE = 2025-01-01T00:00:00",
-    b"ORIGINATOR = TEST",
-    b"META_START",
-    b"OBJECT_NAME = SAT A",
-    b"OBJECT_ID = 2025-001A",
-    b"CENTER_NAME = EARTH",
-    b"REF_FRAME = EME2000",
-    b"TIME_SYSTEM = UTC",
-    b"START_TIME = 2025-01-01T00:00:00",
-    b"STOP_TIME = 2025-01-01T00:01:00",
-    b"INTERPOLATION = HERMITE",
-    b"INTERPOLATION_DEGREE = 3",
-    b"META_STOP",
+/// The nodes of the first segment: their lines are 15 and 16.
+const NODES: [&[u8]; 2] = [
     b"2025-01-01T00:00:00 7000 -225 0 0 7.5 0",
     b"2025-01-01T00:01:00 7000 225 0 0 7.5 0",
 ];
 
 /// A further segment, which begins where the first one ends: its lines are 17 to 29.
-pub const NEXT: [&[u8]; 13] = [
+const NEXT: [&[u8]; 13] = [
     b"META_START",
     b"OBJECT_NAME = SAT A",
     b"OBJECT_ID = 2025-001A",
@@ -39,40 +26,18 @@ pub const NEXT: [&[u8]; 13] = [
     b"2025-01-01T00:02:00 7100 0 0 0 0 0",
 ];
 
-/// A line's number and the text in its place.
-pub type Change<'a> = (usize, &'a [u8]);
-
-/// Appends lines, which are numbered on from those before them, some of them changed.
-fn append(
-    text: &mut Vec<u8>,
-    before: usize,
-    lines: &[&[u8]],
-    changes: &[Change],
-) -> Result<(), AllocError> {
-    for (i, line) in lines.iter().enumerate() {
-        let mut line = *line;
-        for (number, changed) in changes {
-            if *number > before && *number - before - 1 == i {
-                line = *changed;
-            }
-        }
-        text.extend_from_slice(line)?;
-        text.push(b'\n')?;
-    }
-    Ok(())
-}
-
 /// The file with one segment, with other texts in place of some lines.
 pub fn base_with(alloc: Global, changes: &[Change]) -> Result<Vec<u8>, AllocError> {
     let mut text = Vec::new(alloc);
-    append(&mut text, 0, BASE.as_slice(), changes)?;
+    append_lines(&mut text, 0, HEAD.as_slice(), changes)?;
+    append_lines(&mut text, 14, NODES.as_slice(), changes)?;
     Ok(text)
 }
 
 /// The file with two segments, with other texts in place of some lines.
 pub fn two_with(alloc: Global, changes: &[Change]) -> Result<Vec<u8>, AllocError> {
     let mut text = base_with(alloc, changes)?;
-    append(&mut text, 16, NEXT.as_slice(), changes)?;
+    append_lines(&mut text, 16, NEXT.as_slice(), changes)?;
     Ok(text)
 }
 
@@ -153,22 +118,22 @@ fn segment_of(track: &Track, segment: usize) -> Option<&Segment> {
     track.segments.as_slice().get(segment)
 }
 
-/// The first and the last tick of a useable span.
-pub type Span = (u64, u64);
+/// The first and the last tick for which a segment is useable.
+pub type Useable = (u64, u64);
 
-fn span_of(track: &Track, segment: usize) -> Option<Span> {
+fn useable_of(track: &Track, segment: usize) -> Option<Useable> {
     let segment = segment_of(track, segment)?;
     Some((segment.first.micros, segment.last.micros))
 }
 
-/// Whether a track has segments of these useable spans, and no other.
-pub fn has_spans(track: &Track, spans: &[Span]) -> bool {
-    for (i, span) in spans.iter().enumerate() {
-        if span_of(track, i) != Some(*span) {
+/// Whether a track has segments that are useable so, and no other.
+pub fn has_useable(track: &Track, useable: &[Useable]) -> bool {
+    for (i, ticks) in useable.iter().enumerate() {
+        if useable_of(track, i) != Some(*ticks) {
             return false;
         }
     }
-    track.segments.as_slice().len() == spans.len()
+    track.segments.as_slice().len() == useable.len()
 }
 
 /// How many nodes and covariances a segment has.

@@ -1,23 +1,10 @@
 //! Folders for the tests.
 use cj_io::{Bytes, FileBytes, Name};
+use cj_samples::{HEAD, append_lines};
 use std::alloc::{AllocError, Global};
 
-/// The lines of a file with one segment of two nodes.
-const BASE: [&[u8]; 16] = [
-    b"CCSDS_OEM_VERS = 2.0",
-    b"CREATION_DATE = 2025-01-01T00:00:00",
-    b"ORIGINATOR = TEST",
-    b"META_START",
-    b"OBJECT_NAME = SAT A",
-    b"OBJECT_ID = 2025-001A",
-    b"CENTER_NAME = EARTH",
-    b"REF_FRAME = EME2000",
-    b"TIME_SYSTEM = UTC",
-    b"START_TIME = 2025-01-01T00:00:00",
-    b"STOP_TIME = 2025-01-01T00:01:00",
-    b"INTERPOLATION = HERMITE",
-    b"INTERPOLATION_DEGREE = 3",
-    b"META_STOP",
+/// Two nodes at rest: their lines are 15 and 16.
+const NODES: [&[u8]; 2] = [
     b"2025-01-01T00:00:00 7000 0 0 0 0 0",
     b"2025-01-01T00:01:00 7000 0 0 0 0 0",
 ];
@@ -40,7 +27,7 @@ const NEXT: [&[u8]; 13] = [
 ];
 
 /// A line's number and the text in its place.
-pub type Change = (usize, &'static [u8]);
+pub type Change = cj_samples::Change<'static>;
 
 /// The line of another frame.
 pub const GCRF: Change = (8, b"REF_FRAME = GCRF");
@@ -191,7 +178,7 @@ fn bytes_of(alloc: Global, content: Content) -> Result<Vec<u8>, AllocError> {
         }
         Content::Two(changes) => {
             let mut text = one_with(alloc, changes)?;
-            append(&mut text, 16, NEXT.as_slice(), changes)?;
+            append_lines(&mut text, 16, NEXT.as_slice(), changes)?;
             Ok(text)
         }
         Content::Text(text) => Vec::from_slice(alloc, text.as_bytes()),
@@ -201,7 +188,8 @@ fn bytes_of(alloc: Global, content: Content) -> Result<Vec<u8>, AllocError> {
 /// The lines of one segment with other texts in place of some.
 fn one_with(alloc: Global, changes: &[Change]) -> Result<Vec<u8>, AllocError> {
     let mut text = Vec::new(alloc);
-    append(&mut text, 0, BASE.as_slice(), changes)?;
+    append_lines(&mut text, 0, HEAD.as_slice(), changes)?;
+    append_lines(&mut text, 14, NODES.as_slice(), changes)?;
     Ok(text)
 }
 
@@ -213,30 +201,10 @@ fn minute(
     changes: &[Change],
 ) -> Result<Vec<u8>, AllocError> {
     let mut text = Vec::new(alloc);
-    append(&mut text, 0, &BASE[..14], changes)?;
+    append_lines(&mut text, 0, HEAD.as_slice(), changes)?;
     let states = format!(in alloc; "2025-01-01T00:00:00 {first}\n2025-01-01T00:01:00 {last}\n")?;
     text.extend_from_slice(states.as_bytes())?;
     Ok(text)
-}
-
-/// Appends lines, which are numbered on from those before them, some of them changed.
-fn append(
-    text: &mut Vec<u8>,
-    before: usize,
-    lines: &[&[u8]],
-    changes: &[Change],
-) -> Result<(), AllocError> {
-    for (i, line) in lines.iter().enumerate() {
-        let mut line = *line;
-        for (number, changed) in changes {
-            if *number > before && *number - before - 1 == i {
-                line = *changed;
-            }
-        }
-        text.extend_from_slice(line)?;
-        text.push(b'\n')?;
-    }
-    Ok(())
 }
 
 /// So many files of the same name.

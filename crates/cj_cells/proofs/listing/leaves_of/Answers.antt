@@ -9,9 +9,9 @@ use Rattle.cj_cells.specs.declared.refine_error.RefineError.{RefineError}
 use Rattle.cj_hermite.specs.PlainProblems.{PlainProblem}
 use Rattle.cj_hermite.specs.Problems.{plain_problem}
 use Rattle.cj_bezier.specs.Looked.{is_looked}
-use Rattle.cj_hermite.specs.Roots.{PlainCell, KeepIntervals, roots_of}
+use Rattle.cj_hermite.specs.Roots.{KeepIntervals, roots_of}
 use Rattle.cj_bezier.specs.Cells.{plain_cell, plain_cells}
-use Rattle.cj_bezier.specs.RootLeaves.{leaves_of_root, leaves_of_roots, Describe}
+use Rattle.cj_bezier.specs.RootLeaves.{leaves_of_roots}
 use Rattle.cj_cells.specs.Lists.{list_of, list_looked, splits_of}
 use Rattle.cj_cells.proofs.LeafLemmas.{list_described, list_split}
 use Rattle.cj_cells.proofs.ListingLemmas.{same_count, cells_keep}

@@ -1,11 +1,11 @@
-use Rattle.std.proofs.Common.{◌≡◌, ◌∙◌, ℕ, ◌*◌, List, length, map, ap, sym, subst, arith}
+use Rattle.std.proofs.Common.{◌∙◌, ℕ, ◌*◌, List, length, map, ap, sym, subst, arith}
 use Rattle.std.specs.Prelude.{Option}
 use Rattle.std.proofs.lemmas.List.{length-map}
-use Rattle.cj_track.specs.declared.track.Track.{Track}
 use Rattle.cj_track.specs.Tracks.{plain_track}
 use Rattle.cj_hermite.specs.Pairs.{objects_of}
 use Rattle.cj_hermite.specs.Problems.{plain_problem}
 use Rattle.cj_hermite.specs.Slots.{slot_count}
+use Rattle.cj_hermite.proofs.TrackLemmas.{objects_are}
 use Rattle.cj_bezier.specs.declared.shells.Shell.{Shell}
 use Rattle.cj_bezier.specs.Looked.{is_kept}
 use Rattle.cj_bezier.specs.SlotBoxes.{plain_boxes}
@@ -16,10 +16,6 @@ use Rattle.cj_cert.proofs.InBlocksLemmas.{pairs_of_objects, written_is}
 use Rattle.cj_bezier.proofs.AllBoxLemmas.{boxes_count}
 use Rattle.cj_cert.proofs.WrittenLineLemmas.{shells_count, shells_are}
 use Rattle.cj_cert.proofs.in_blocks.certificate_in_blocks.Goals as goal
-
--- as many objects as there are tracks
-objects_are : (tracks now : List Track) → now ≡ tracks → length now ≡ length (map plain_track tracks)
-objects_are tracks now same = ap (λ (ts : List Track). length ts) same ∙ sym (length-map tracks plain_track)
 
 pub shell_lines-requires : goal.shell_lines-requires
 shell_lines-requires c =

@@ -1,10 +1,10 @@
 use Rattle.std.proofs.Common.{◌≡◌, ◌∙◌, List, length, map, ap, sym, subst}
 use Rattle.std.specs.List.{flat_map, range_with_len}
 use Rattle.std.proofs.lemmas.List.{length-map}
-use Rattle.cj_track.specs.declared.track.Track.{Track}
 use Rattle.cj_track.specs.Tracks.{plain_track}
 use Rattle.cj_hermite.specs.Pairs.{objects_of}
 use Rattle.cj_hermite.specs.Problems.{plain_problem}
+use Rattle.cj_hermite.proofs.TrackLemmas.{objects_are}
 use Rattle.cj_bezier.specs.Shells.{keeps_between}
 use Rattle.cj_bezier.specs.SlotBoxes.{plain_boxes}
 use Rattle.cj_cert.specs.declared.cert_lines.BoxLine.{BoxLine}
@@ -14,10 +14,6 @@ use Rattle.cj_cert.specs.Listed.{box_listed, shells_listed}
 use Rattle.cj_cert.specs.Rewritten.{size_lines}
 use Rattle.cj_cert.proofs.InBlocksLemmas.{listed_in_order, pairs_of_objects, rewritten_is}
 use Rattle.cj_cert.proofs.in_blocks.in_version_2.Goals as goal
-
--- as many objects as there are tracks
-objects_are : (tracks now : List Track) → now ≡ tracks → length now ≡ length (map plain_track tracks)
-objects_are tracks now same = ap (λ (ts : List Track). length ts) same ∙ sym (length-map tracks plain_track)
 
 pub block_lines-requires-clause-exist : goal.block_lines-requires-clause-exist
 block_lines-requires-clause-exist c =

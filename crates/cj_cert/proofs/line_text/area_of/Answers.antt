@@ -1,14 +1,10 @@
-use Rattle.std.proofs.Common.{Ok, ap, of_z, rules, sym, to_z, to_z-of_z, true, ◌≡◌, ◌∙◌, ◌-◌, ◌^◌, ℤ}
+use Rattle.std.proofs.Common.{Ok, ap, of_z, rules, sym, to_z, to_z-of_z, ◌≡◌, ◌∙◌, ◌-◌, ℤ}
 use Rattle.std.proofs.lemmas.Result.{err_from_is_err_and}
-use Rattle.std.specs.Int.{w64, w128}
+use Rattle.std.specs.Int.{w64}
 use Rattle.cj_cert.specs.Certificates.{PlainBoxLine}
-use Rattle.cj_cert.specs.Lines.{Box, is_from}
-use Rattle.cj_cert.proofs.BoxLemmas.{HasSlots, IsRefused, IsTaken, as_cause, at, box_taken, same_box, x_refused, y_refused, z_refused}
+use Rattle.cj_cert.specs.Lines.{Box}
+use Rattle.cj_cert.proofs.BoxLemmas.{IsRefused, IsTaken, as_cause, at, box_taken, has_slots, passed, same_box, x_refused, y_refused, z_refused}
 use Rattle.cj_cert.proofs.line_text.area_of.Goals as goal
-
--- a number as it is passed on
-abbrev passed : ℤ → ℤ
-passed z = to_z w128 (of_z w128 z)
 
 abbrev stored : ℤ → ℤ
 stored z = to_z w64 (of_z w64 z)
@@ -19,12 +15,8 @@ returns-in_err-x_least c =
     let e0 : passed (at ns 0) ≡ at ns 0 = search (rules, to_z-of_z) in
     let e1 : passed (at ns 1) ≡ at ns 1 = search (rules, to_z-of_z) in
     let x : IsRefused (passed (at ns 0)) (passed (at ns 1)) c.in_err-x_least.field-0.0 = c.in_err-x_least.ensures.value in
-    let last : is_from c.in_ok-first.first (2 ^ 32 - 1) c.args.last ≡ true = rw (c.from.ensures, c.from-2.ensures, to_z-of_z c.ranges.last) at c.in_ok-last.ensures.0 in
-    let slots : HasSlots c.args.number c.args.first c.args.last = record {
-      object = rw (to_z-of_z c.ranges.number) at c.in_ok-object.ensures.0;
-      from = rw (to_z-of_z c.ranges.first) at c.in_ok-first.ensures.0;
-      to = rw (c.in_ok-first.ensures.1, to_z-of_z c.ranges.first) at last;
-    } in
+    let slots = has_slots c.args.number c.args.first c.args.last c.in_ok-first.first c.ranges.number c.ranges.first c.ranges.last
+    c.in_ok-object.ensures.0 c.in_ok-first.ensures.0 c.in_ok-first.ensures.1 (rw (c.from.ensures, c.from-2.ensures) at c.in_ok-last.ensures.0) in
     let refused = x_refused c.args.number c.args.first c.args.last ns c.in-len6.len_at_least c.in-len6.len_below slots (rw (e0, e1) at x.0) in
     let p = err_from_is_err_and c.from_residual-in_err-x_least.result c.from_residual-in_err-x_least.ensures.1 in
     rw (p.1, p.2) (as_cause _ c.in_err-x_least.field-0.0 refused x.1)
@@ -38,12 +30,8 @@ returns-in_err-y_least c =
     let e3 : passed (at ns 3) ≡ at ns 3 = search (rules, to_z-of_z) in
     let x : IsTaken (passed (at ns 0)) (passed (at ns 1)) c.in_ok-x_least.x_least c.in_ok-x_least.x_most = c.in_ok-x_least.ensures.value in
     let y : IsRefused (passed (at ns 2)) (passed (at ns 3)) c.in_err-y_least.field-0.0 = c.in_err-y_least.ensures.value in
-    let last : is_from c.in_ok-first.first (2 ^ 32 - 1) c.args.last ≡ true = rw (c.from.ensures, c.from-2.ensures, to_z-of_z c.ranges.last) at c.in_ok-last.ensures.0 in
-    let slots : HasSlots c.args.number c.args.first c.args.last = record {
-      object = rw (to_z-of_z c.ranges.number) at c.in_ok-object.ensures.0;
-      from = rw (to_z-of_z c.ranges.first) at c.in_ok-first.ensures.0;
-      to = rw (c.in_ok-first.ensures.1, to_z-of_z c.ranges.first) at last;
-    } in
+    let slots = has_slots c.args.number c.args.first c.args.last c.in_ok-first.first c.ranges.number c.ranges.first c.ranges.last
+    c.in_ok-object.ensures.0 c.in_ok-first.ensures.0 c.in_ok-first.ensures.1 (rw (c.from.ensures, c.from-2.ensures) at c.in_ok-last.ensures.0) in
     let refused = y_refused c.args.number c.args.first c.args.last ns c.in-len6.len_at_least c.in-len6.len_below slots (rw (e0, e1) at x.0) (rw (e2, e3) at y.0) in
     let p = err_from_is_err_and c.from_residual-in_err-y_least.result c.from_residual-in_err-y_least.ensures.1 in
     rw (p.1, p.2) (as_cause _ c.in_err-y_least.field-0.0 refused y.1)
@@ -60,12 +48,8 @@ returns-in_err-z_least c =
     let x : IsTaken (passed (at ns 0)) (passed (at ns 1)) c.in_ok-x_least.x_least c.in_ok-x_least.x_most = c.in_ok-x_least.ensures.value in
     let y : IsTaken (passed (at ns 2)) (passed (at ns 3)) c.in_ok-y_least.y_least c.in_ok-y_least.y_most = c.in_ok-y_least.ensures.value in
     let z : IsRefused (passed (at ns 4)) (passed (at ns 5)) c.in_err-z_least.field-0.0 = c.in_err-z_least.ensures.value in
-    let last : is_from c.in_ok-first.first (2 ^ 32 - 1) c.args.last ≡ true = rw (c.from.ensures, c.from-2.ensures, to_z-of_z c.ranges.last) at c.in_ok-last.ensures.0 in
-    let slots : HasSlots c.args.number c.args.first c.args.last = record {
-      object = rw (to_z-of_z c.ranges.number) at c.in_ok-object.ensures.0;
-      from = rw (to_z-of_z c.ranges.first) at c.in_ok-first.ensures.0;
-      to = rw (c.in_ok-first.ensures.1, to_z-of_z c.ranges.first) at last;
-    } in
+    let slots = has_slots c.args.number c.args.first c.args.last c.in_ok-first.first c.ranges.number c.ranges.first c.ranges.last
+    c.in_ok-object.ensures.0 c.in_ok-first.ensures.0 c.in_ok-first.ensures.1 (rw (c.from.ensures, c.from-2.ensures) at c.in_ok-last.ensures.0) in
     let refused = z_refused c.args.number c.args.first c.args.last ns c.in-len6.len_at_least c.in-len6.len_below slots (rw (e0, e1) at x.0) (rw (e2, e3) at y.0) (rw (e4, e5) at z.0) in
     let p = err_from_is_err_and c.from_residual-in_err-z_least.result c.from_residual-in_err-z_least.ensures.1 in
     rw (p.1, p.2) (as_cause _ c.in_err-z_least.field-0.0 refused z.1)
@@ -88,12 +72,8 @@ returns c =
     let y_most : stored c.in_ok-y_least.y_most ≡ c.in_ok-y_least.y_most = search (rules, to_z-of_z) in
     let z_least : stored c.in_ok-z_least.z_least ≡ c.in_ok-z_least.z_least = search (rules, to_z-of_z) in
     let z_most : stored c.in_ok-z_least.z_most ≡ c.in_ok-z_least.z_most = search (rules, to_z-of_z) in
-    let last : is_from c.in_ok-first.first (2 ^ 32 - 1) c.args.last ≡ true = rw (c.from.ensures, c.from-2.ensures, to_z-of_z c.ranges.last) at c.in_ok-last.ensures.0 in
-    let slots : HasSlots c.args.number c.args.first c.args.last = record {
-      object = rw (to_z-of_z c.ranges.number) at c.in_ok-object.ensures.0;
-      from = rw (to_z-of_z c.ranges.first) at c.in_ok-first.ensures.0;
-      to = rw (c.in_ok-first.ensures.1, to_z-of_z c.ranges.first) at last;
-    } in
+    let slots = has_slots c.args.number c.args.first c.args.last c.in_ok-first.first c.ranges.number c.ranges.first c.ranges.last
+    c.in_ok-object.ensures.0 c.in_ok-first.ensures.0 c.in_ok-first.ensures.1 (rw (c.from.ensures, c.from-2.ensures) at c.in_ok-last.ensures.0) in
     let object = sym (rw (to_z-of_z c.ranges.number) at c.in_ok-object.ensures.1) in
     let from = sym (rw (to_z-of_z c.ranges.first) at c.in_ok-first.ensures.1) in
     let to = sym (rw (to_z-of_z c.ranges.last) at c.in_ok-last.ensures.1) in

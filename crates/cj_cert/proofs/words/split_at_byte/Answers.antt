@@ -2,7 +2,7 @@ use Rattle.std.proofs.Common.{arith, ◌+◌, ◌-◌, ◌∷◌, ◌∙◌, Lis
 use Rattle.std.specs.Prelude.{◌==◌}
 use Rattle.std.specs.List.{slice_split}
 use Rattle.std.proofs.lemmas.List.{length-drop, take_all}
-use Rattle.cj_cert.proofs.SplitLemmas.{split_here, split_nowhere}
+use Rattle.cj_kvn.proofs.LineLemmas.{split_here, split_nowhere}
 use Rattle.cj_cert.proofs.words.split_at_byte.Goals as goal
 
 pub returns-in_err-place-clause-parts : goal.returns-in_err-place-clause-parts

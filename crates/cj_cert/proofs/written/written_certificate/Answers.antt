@@ -1,11 +1,11 @@
-use Rattle.std.proofs.Common.{◌≡◌, ℕ, ◌*◌, List, length, map, sym, ap, subst, ◌∙◌, arith}
+use Rattle.std.proofs.Common.{ℕ, ◌*◌, List, length, sym, ap, subst, ◌∙◌, arith}
 use Rattle.std.specs.Prelude.{Option}
 use Rattle.std.specs.List.{flat_map, range_with_len}
 use Rattle.std.proofs.lemmas.List.{length-map}
-use Rattle.cj_track.specs.declared.track.Track.{Track}
 use Rattle.cj_track.specs.Tracks.{plain_track}
 use Rattle.cj_hermite.specs.Problems.{plain_problem}
 use Rattle.cj_hermite.specs.Slots.{slot_count}
+use Rattle.cj_hermite.proofs.TrackLemmas.{objects_are}
 use Rattle.cj_bezier.specs.declared.shells.Shell.{Shell}
 use Rattle.cj_bezier.specs.SlotBoxes.{plain_boxes}
 use Rattle.cj_cert.specs.Accepted.{Accepted}
@@ -20,10 +20,6 @@ shell_lines-requires c =
     let problem = c.args.problem.now in
     let few = problem.few in
     omega (arith, few, ap (λ (ss : List (Option Shell)). length ss) c.requires.shells, shells_count (plain_problem problem), length-map problem.tracks plain_track)
-
--- as many objects as there are tracks
-objects_are : (tracks now : List Track) → now ≡ tracks → length now ≡ length (map plain_track tracks)
-objects_are tracks now same = ap (λ (ts : List Track). length ts) same ∙ sym (length-map tracks plain_track)
 
 pub box_lines-requires : goal.box_lines-requires
 box_lines-requires c =

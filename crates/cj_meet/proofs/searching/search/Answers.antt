@@ -3,12 +3,13 @@ use Rattle.std.proofs.lemmas.List.{drop_all, length-set}
 use Rattle.cj_interval.proofs.ListLemmas.{All-from_each, Any-from_exists}
 use Rattle.cj_hermite.specs.Interpolant.{IsOver}
 use Rattle.cj_hermite.specs.Ready.{curve_ready}
+use Rattle.cj_hermite.proofs.TrackLemmas.{over_part}
 use Rattle.cj_bezier.specs.Leaves.{plain_leaf}
 use Rattle.cj_meet.specs.declared.approaches.Approach.{Approach}
 use Rattle.cj_meet.specs.declared.runs.Run.{Run}
 use Rattle.cj_meet.specs.Closest.{PlainApproach, candidates_between}
 use Rattle.cj_meet.specs.Searches.{plain_approach, NoWorse, IsHalved}
-use Rattle.cj_meet.proofs.CandidateLemmas.{over_part, open_run-two}
+use Rattle.cj_meet.proofs.CandidateLemmas.{open_run-two}
 use Rattle.cj_meet.proofs.SearchLemmas.{Fit, Searched, work, fit_all, fit_top, fit_rest, fit_place, fit_halved, work_rest, work_halved, top_part, halved_parts, searched_begun, searched_whole, searched_settled, searched_halved}
 use Rattle.cj_meet.proofs.searching.search.Goals as goal
 use Rattle.cj_meet.proofs.searching.search.Goals.{After-index-parts-top}

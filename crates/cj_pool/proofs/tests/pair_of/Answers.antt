@@ -3,7 +3,7 @@ use Rattle.std.specs.Prelude.{All}
 use Rattle.std.specs.List.{range_with_len}
 use Rattle.cj_pool.specs.Hands.{HandSeen, IsHandOf}
 use Rattle.cj_pool.specs.Refined.{numbers_of}
-use Rattle.cj_pool.proofs.PairLemmas.{ArePair, are_pair}
+use Rattle.cj_pool.proofs.PairLemmas.{are_pair}
 use Rattle.cj_pool.proofs.tests.pair_of.Goals as goal
 
 pub returns-clause-zero : goal.returns-clause-zero

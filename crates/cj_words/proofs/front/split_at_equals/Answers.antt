@@ -1,8 +1,9 @@
 use Rattle.std.proofs.Common.{arith, ◌≡◌, ◌+◌, ℕ, ap, ◌∙◌, take, drop, sym, Option, Some, None}
 use Rattle.std.specs.Prelude.{IfNone}
 use Rattle.std.proofs.lemmas.List.{take_all, length-drop}
+use Rattle.cj_kvn.proofs.LineLemmas.{found}
 use Rattle.cj_words.specs.Options.{is_equals}
-use Rattle.cj_words.proofs.PlaceLemmas.{found_at, stands, stands_not}
+use Rattle.cj_words.proofs.PlaceLemmas.{stands, stands_not}
 use Rattle.cj_words.proofs.front.split_at_equals.Goals as goal
 
 pub returns-in_err-at-clause-none : goal.returns-in_err-at-clause-none
@@ -18,6 +19,6 @@ returns-clause-some c = stands is_equals c.args.word.now c.in_ok-at.at (sym c.in
 
 pub returns-clause-parts : goal.returns-clause-parts
 returns-clause-parts c =
-    let here = found_at is_equals c.args.word.now c.in_ok-at.at (sym c.in_ok-at.ensures) in
+    let here = found is_equals c.args.word.now c.in_ok-at.at (sym c.in_ok-at.ensures) in
     let text = c.args.word.now in
-    (ap (λ (i : ℕ). take i text) (sym here.0), take_all _ _ (omega (arith, length-drop (c.in_ok-at.at + 1) text)) ∙ ap (λ (i : ℕ). drop (i + 1) text) (sym here.0))
+    (ap (λ (i : ℕ). take i text) (sym here.1), take_all _ _ (omega (arith, length-drop (c.in_ok-at.at + 1) text)) ∙ ap (λ (i : ℕ). drop (i + 1) text) (sym here.1))
