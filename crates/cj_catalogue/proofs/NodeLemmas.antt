@@ -17,8 +17,7 @@ use Rattle.cj_oem.specs.NodeRows.{figure_or, following, parse_figure, state_of_f
 use Rattle.cj_oem.specs.Stages.{Body, Data, follows}
 use Rattle.cj_oem.proofs.PrintedLineLemmas.{Tells, told_each, told_line}
 use Rattle.cj_oem.proofs.PrintedRowLemmas.{fields_row, is_field, row_line, row_of}
-use Rattle.cj_oem.proofs.RunLemmas.{open_segment}
-use Rattle.cj_oem.proofs.StateAgainLemmas.{IsVector, vector_again}
+use Rattle.cj_oem.proofs.StateAgainLemmas.{IsVector, vector_again, open_segment}
 use Rattle.cj_oem.proofs.WalkLemmas.{walk, walk_step}
 use Rattle.cj_gen.specs.declared.orbit.Orbit.{Orbit}
 use Rattle.cj_gen.specs.declared.tilt.Vector.{Vector}

@@ -25,7 +25,7 @@ pub enum CdmCause {
 }
 
 /// A fault of a line, where memory is not asked for.
-#[derive(Clone, Copy, Debug)]
+#[derive(Clone, Copy)]
 pub(crate) struct LineFault {
     pub(crate) line: u32,
     pub(crate) cause: CdmCause,

@@ -12,7 +12,7 @@ mod refining;
 mod rooting;
 
 pub use listing::{leaves_of, refine_all};
-pub use looking::look;
+pub use looking::{look, look_next};
 pub use ordering::order_roots;
 pub use outcome::Look;
 pub use refine_error::RefineError;

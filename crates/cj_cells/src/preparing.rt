@@ -10,8 +10,9 @@ use cj_bezier::Cell;
 use cj_hermite::{Problem, Ready, piece_of, ready};
 use cj_interval::Divisor;
 
-/// The pieces of both objects over a cell whose ticks have the same two pieces, made ready.
-pub(crate) fn prepare(problem: &Problem, cell: Cell) -> (Ready, Ready)
+/// The pieces of both objects over a cell whose ticks have the same two pieces, made ready: for less where they are as long as one
+/// that was made ready before.
+pub(crate) fn prepare(problem: &Problem, cell: Cell, like: &Divisor) -> (Ready, Ready)
     requires { KeepIntervals (plain_problem problem.now) cell.pair.a cell.pair.b cell.first.micros cell.last.micros }
     ensures first { curve_at (plain_problem problem.now) cell.pair.a cell.first.micros ≡ Some (curve_ready result.0) }
     ensures second { curve_at (plain_problem problem.now) cell.pair.b cell.first.micros ≡ Some (curve_ready result.1) }
@@ -20,7 +21,7 @@ pub(crate) fn prepare(problem: &Problem, cell: Cell) -> (Ready, Ready)
 {
     let a = piece_of(problem, cell.pair.a, cell.first);
     let b = piece_of(problem, cell.pair.b, cell.first);
-    let first = ready(&a, &Divisor::new(a.t1.since(a.t0)));
+    let first = ready(&a, like);
     let second = ready(&b, &first.divisor);
     (first, second)
 }

@@ -16,7 +16,11 @@ use crate::refine_error::RefineError;
 use cj_bezier::{Cell, Leaf};
 use cj_epoch::Tick;
 use cj_hermite::{Problem, Ready};
+use cj_interval::Divisor;
 use std::alloc::Global;
+
+/// How long the pieces of most ephemerides are: a minute of ticks.
+const USUAL_SPAN: u64 = 60_000_000;
 
 /// How many parts of a cell wait at most: one more than the halvings of 2^32 ticks, and a piece is shorter than that.
 const PLACES: usize = 33;
@@ -99,7 +103,7 @@ pub fn refine(
     ensures kept { take (vec_len leaves.old) leaves.new.items ≡ leaves.old.items }
     ensures root { All (λ leaf. leaf.cell.root ≡ cell.root) (drop (vec_len leaves.old) leaves.new.items) }
 {
-    let (a, b) = prepare(problem, cell);
+    let (a, b) = prepare(problem, cell, &Divisor::new(USUAL_SPAN));
     let threshold = problem.pair_threshold(cell.pair);
     refine_between(&a, &b, threshold, cell, limit, leaves)
 }

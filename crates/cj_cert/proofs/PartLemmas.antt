@@ -1,5 +1,5 @@
 -- The texts of the parts of a list, one behind another.
-use Rattle.std.proofs.Common.{◌≡◌, ℕ, suc, ◌+◌, ◌*◌, ◌/◌, ◌%◌, ◌<◌, ◌≤◌, min, List, [], ◌∷◌, ◌++◌, All, length, take, drop, refl, sym, ap, ◌∙◌, subst, arith, append_assoc}
+use Rattle.std.proofs.Common.{◌≡◌, ℕ, suc, ◌+◌, ◌*◌, ◌/◌, ◌%◌, ◌<◌, ◌≤◌, min, List, [], ◌∷◌, ◌++◌, All, length, take, drop, refl, sym, ap, ◌∙◌, subst, arith, append_assoc, append-nil}
 use Rattle.std.specs.Prelude.{flat_map, slice_index_or, Result, Ok, Err, IfOk, IsOk, OnOk, is_ok}
 use Rattle.std.specs.Fork.{slice_chunk}
 use Rattle.std.specs.Global.{Vec}
@@ -7,6 +7,7 @@ use Rattle.std.proofs.lemmas.List.{take-append-drop, drop-drop, length-drop}
 use Rattle.std.proofs.lemmas.List.Elements.{All-cons}
 use Rattle.std.proofs.Math.Nat.{suc-mul, zero-mul}
 use Rattle.std.proofs.lemmas.Grind.{flat_map-append, div_ceil_times}
+use Rattle.cj_io.specs.Parts.{joined}
 use Rattle.cj_cert.specs.Parts.{bytes_in}
 
 -- part n of a list is made, and has the texts of its lines
@@ -43,6 +44,10 @@ texts_joined f size (part ∷ parts) lines most each =
     ∙ ap (flat_map f) (take-append-drop size lines)
 
 -- ---- one part more is added
+
+pub joined_more : (parts new : List (Vec ℕ)) (made : Vec ℕ) → new ≡ parts ++ made ∷ [] → joined new ≡ joined parts ++ made.items
+joined_more parts new made is =
+    ap joined is ∙ flat_map-append (λ part. part.items) parts (made ∷ []) ∙ ap (λ (t : List ℕ). joined parts ++ t) (append-nil made.items)
 
 pub one_part_more : {E : Type 0} (part : Result (Vec ℕ) E) (made : Vec ℕ) (left rest : List (Result (Vec ℕ) E)) (text new whole : List ℕ)
     → left ≡ part ∷ rest → part ≡ Ok made → new ≡ text ++ made.items → text ++ flat_map bytes_in left ≡ whole → new ++ flat_map bytes_in rest ≡ whole

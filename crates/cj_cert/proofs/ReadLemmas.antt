@@ -303,32 +303,57 @@ goes before c l none e f = absurd cc
 
 -- ---- ranges
 
+-- the ranges of the head
+record HeadFits (v f l thr n : ℕ) : Type 0 where
+  version : (v ≡ 1) ⊎ (v ≡ 2)
+  first : IsTick f
+  last : IsTick l
+  threshold : thr ≤ MAX_THRESHOLD
+  objects : n ≤ MAX_OBJECTS
+
+-- the ranges of the lists
+record ListsFit (v : ℕ) (ss : List SizeOfLine) (hs : List ShellLine) (bs : List PlainBoxLine) (cs : List PlainLeaf) : Type 0 where
+  no_sizes : v ≡ 1 → ss ≡ []
+  one_slot : v ≡ 1 → All (λ b. b.first ≡ b.last) bs
+  sizes : All FitsSize ss
+  shells : All FitsShell hs
+  boxes : All FitsBox bs
+  cells : All FitsCell cs
+
 -- the ranges of what is told so far
 record FitsSoFar (c : PlainCertificate) : Type 0 where
-  version : (c.version ≡ 1) ⊎ (c.version ≡ 2)
-  no_sizes : c.version ≡ 1 → c.sizes ≡ []
-  one_slot : c.version ≡ 1 → All (λ b. b.first ≡ b.last) c.boxes
-  first : IsTick c.first
-  last : IsTick c.last
-  threshold : c.threshold ≤ MAX_THRESHOLD
-  objects : c.objects ≤ MAX_OBJECTS
-  sizes : All FitsSize c.sizes
-  shells : All FitsShell c.shells
-  boxes : All FitsBox c.boxes
-  cells : All FitsCell c.cells
+  head : HeadFits c.version c.first c.last c.threshold c.objects
+  lists : ListsFit c.version c.sizes c.shells c.boxes c.cells
 
 fits_more : (c : PlainCertificate) (l : PlainLine) → FitsSoFar c → FitsLine c.version l → FitsSoFar (with_line c l)
 fits_more c Heading so is = so
-fits_more c (Window first last) so is = record so { first = is.0; last = is.1 }
-fits_more c (Threshold threshold) so is = record so { threshold = is.1 }
-fits_more c (Objects count) so is = record so { objects = is }
-fits_more c (Size s) so is = record so { no_sizes = λ one. absurd (let two = is.0 in omega arith); sizes = All-push FitsSize c.sizes s so.sizes is.1 }
-fits_more c (Shell s) so is = record so { shells = All-push FitsShell c.shells s so.shells is }
-fits_more c (Box b) so is = record so {
-  one_slot = λ one. All-push (λ (x : PlainBoxLine). x.first ≡ x.last) c.boxes b (so.one_slot one) (is.1 one);
-  boxes = All-push FitsBox c.boxes b so.boxes is.0;
-}
-fits_more c (Cell s) so is = record so { cells = All-push FitsCell c.cells s so.cells is }
+fits_more c (Window first last) so is =
+    let h = so.head in
+    record { head = record { version = h.version; first = is.0; last = is.1; threshold = h.threshold; objects = h.objects }; lists = so.lists }
+fits_more c (Threshold threshold) so is =
+    let h = so.head in
+    record { head = record { version = h.version; first = h.first; last = h.last; threshold = is.1; objects = h.objects }; lists = so.lists }
+fits_more c (Objects count) so is =
+    let h = so.head in
+    record { head = record { version = h.version; first = h.first; last = h.last; threshold = h.threshold; objects = is }; lists = so.lists }
+fits_more c (Size s) so is =
+    let ls = so.lists in
+    let sizes = All-push FitsSize c.sizes s ls.sizes is.1 in
+    let none : c.version ≡ 1 → c.sizes ++ s ∷ [] ≡ [] = λ one. absurd (let two = is.0 in omega arith) in
+    record { head = so.head; lists = record { no_sizes = none; one_slot = ls.one_slot; sizes = sizes; shells = ls.shells; boxes = ls.boxes; cells = ls.cells } }
+fits_more c (Shell s) so is =
+    let ls = so.lists in
+    let shells = All-push FitsShell c.shells s ls.shells is in
+    record { head = so.head; lists = record { no_sizes = ls.no_sizes; one_slot = ls.one_slot; sizes = ls.sizes; shells = shells; boxes = ls.boxes; cells = ls.cells } }
+fits_more c (Box b) so is =
+    let ls = so.lists in
+    let boxes = All-push FitsBox c.boxes b ls.boxes is.0 in
+    let one_slot = λ (one : c.version ≡ 1). All-push (λ (x : PlainBoxLine). x.first ≡ x.last) c.boxes b (ls.one_slot one) (is.1 one) in
+    record { head = so.head; lists = record { no_sizes = ls.no_sizes; one_slot = one_slot; sizes = ls.sizes; shells = ls.shells; boxes = boxes; cells = ls.cells } }
+fits_more c (Cell s) so is =
+    let ls = so.lists in
+    let cells = All-push FitsCell c.cells s ls.cells is in
+    record { head = so.head; lists = record { no_sizes = ls.no_sizes; one_slot = ls.one_slot; sizes = ls.sizes; shells = ls.shells; boxes = ls.boxes; cells = cells } }
 fits_more c End so is = so
 
 -- behind its line the threshold is told
@@ -344,20 +369,20 @@ threshold_more before c l has f is low = has ((in_order (rank_of l) before f).re
 
 fits_whole : (c : PlainCertificate) → FitsSoFar c → 1 ≤ c.threshold → Fits c
 fits_whole c so some = record {
-  version = of_version so.version;
-  first = so.first;
-  last = so.last;
+  version = of_version so.head.version;
+  first = so.head.first;
+  last = so.head.last;
   some = some;
-  threshold = so.threshold;
-  objects = so.objects;
-  sizes = so.sizes;
-  shells = so.shells;
-  boxes = so.boxes;
-  cells = so.cells;
+  threshold = so.head.threshold;
+  objects = so.head.objects;
+  sizes = so.lists.sizes;
+  shells = so.lists.shells;
+  boxes = so.lists.boxes;
+  cells = so.lists.cells;
 }
   where
     of_version : (c.version ≡ 1) ⊎ (c.version ≡ 2) → ((c.version ≡ 1) × (c.sizes ≡ []) × All (λ b. b.first ≡ b.last) c.boxes) ⊎ (c.version ≡ 2)
-    of_version (inl one) = inl (one, so.no_sizes one, so.one_slot one)
+    of_version (inl one) = inl (one, so.lists.no_sizes one, so.lists.one_slot one)
     of_version (inr two) = inr two
 
 pub small_version : (v : ℕ) → (v ≡ 1) ⊎ (v ≡ 2) → v < 2 ^ 64
@@ -397,7 +422,7 @@ one_part : (number : ℕ) (before : Option Rank) (c d : PlainCertificate) (text 
     → IsWhole before c d (text ++ 10 ∷ rest)
 one_part number before c d text rest parts (Err cause) later so some is h next = absurd cc
 one_part number before c d text rest parts (Ok l) later so some is h next =
-    let read = line_read c.version before text l (small_version c.version so.version) is in
+    let read = line_read c.version before text l (small_version c.version so.head.version) is in
     let on = goes before c l later read.open_end read.follows in
     let w = next l on.later (fits_more c l so read.fits) (threshold_more before c l some read.follows read.fits) h in
     let here : text ++ 10 ∷ [] ≡ told c.version l = ap (λ (t : List ℕ). t ++ 10 ∷ []) read.joined ∙ text_is_told c.version l in
@@ -425,17 +450,15 @@ version_is false = inl refl
 
 nothing_fits : (v : ℕ) → (v ≡ 1) ⊎ (v ≡ 2) → FitsSoFar (nothing_said v)
 nothing_fits v is = record {
-  version = is;
-  no_sizes = λ one. refl;
-  one_slot = λ one. All-nil (λ (b : PlainBoxLine). b.first ≡ b.last);
-  first = omega arith;
-  last = omega arith;
-  threshold = omega arith;
-  objects = omega arith;
-  sizes = All-nil FitsSize;
-  shells = All-nil FitsShell;
-  boxes = All-nil FitsBox;
-  cells = All-nil FitsCell;
+  head = record { version = is; first = omega arith; last = omega arith; threshold = omega arith; objects = omega arith };
+  lists = record {
+    no_sizes = λ one. refl;
+    one_slot = λ one. All-nil (λ (b : PlainBoxLine). b.first ≡ b.last);
+    sizes = All-nil FitsSize;
+    shells = All-nil FitsShell;
+    boxes = All-nil FitsBox;
+    cells = All-nil FitsCell;
+  };
 }
 
 -- what is read is the text of the certificate, which fits

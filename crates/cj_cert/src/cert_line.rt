@@ -3,7 +3,7 @@ use crate::rank::Rank;
 use cj_epoch::Window;
 
 /// What a line says.
-#[derive(Clone, Copy, Debug, PartialEq, Eq)]
+#[derive(Clone, Copy)]
 pub(crate) enum CertLine {
     Heading,
     Window(Window),

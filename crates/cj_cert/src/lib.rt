@@ -28,7 +28,7 @@ pub use cert_lines::{BoxLine, CellLine, ShellLine, SizeOfLine};
 pub use certificate::Certificate;
 pub use fault::{CertCause, CertFault};
 pub use in_blocks::{certificate_in_blocks, in_version_2, listed_shells};
-pub use printing::cert_text;
+pub use printing::{cert_parts, cert_text};
 pub use reading::read_cert;
 pub use written::written_certificate;
 

@@ -1,6 +1,7 @@
 //! Lists of lines as text, by parts side by side.
 ghost use Rattle.std.specs.Prelude.{◌≡◌, ℕ, ◌+◌, ◌/◌, ◌%◌, ◌<◌, ◌++◌, All, IfOk, IsOk, OnOk, flat_map, length, min, slice_index_or, vec_len};
 ghost use Rattle.std.specs.Fork.{slice_chunk};
+ghost use Rattle.cj_io.specs.Parts.{joined};
 ghost use Rattle.cj_cert.specs.Parts.{bytes_in};
 
 use crate::printed_line::PrintedLine;
@@ -10,23 +11,20 @@ use std::thread::{Threads, map_chunks};
 /// So many lines at least are worth a thread.
 const LEAST_PART: usize = 4_096;
 
-/// Adds lines in order. As many threads as there are workers make the text of a part each.
+/// Adds the text of lines in order, in parts. As many threads as there are workers make a part each.
 pub(crate) fn push_lines<R: Threads + Sync, L: PrintedLine + Sync>(
     rt: &R,
     alloc: Global,
-    text: &mut Vec<u8>,
+    parts: &mut Vec<Vec<u8>>,
     version: u32,
     lines: &[L],
     workers: u32,
 ) -> Result<(), AllocError>
-    ensures { OnOk result (text.new.items ≡ text.old.items ++ flat_map (L.text_by version) lines.now) }
+    ensures { OnOk result (joined parts.new.items ≡ joined parts.old.items ++ flat_map (L.text_by version) lines.now) }
 {
     let size = part_size(lines.len(), workers);
-    if lines.len() <= size {
-        return push_in_turn(text, version, lines);
-    }
-    let parts = part_texts(rt, alloc, version, lines, size)?;
-    push_parts(text, parts)
+    let texts = part_texts(rt, alloc, version, lines, size)?;
+    push_parts(parts, texts)
 }
 
 /// How many lines stand in each part but the last.
@@ -81,13 +79,16 @@ fn push_in_turn<L: PrintedLine>(
     Ok(())
 }
 
-/// Adds parts of a text, one behind another, and lets go of each.
-fn push_parts(text: &mut Vec<u8>, parts: Vec<Result<Vec<u8>, AllocError>>) -> Result<(), AllocError>
-    ensures whole { OnOk result (All IsOk parts.items) }
-    ensures value { OnOk result (text.new.items ≡ text.old.items ++ flat_map bytes_in parts.items) }
+/// Adds the parts of a text, where each was made.
+fn push_parts(
+    parts: &mut Vec<Vec<u8>>,
+    texts: Vec<Result<Vec<u8>, AllocError>>,
+) -> Result<(), AllocError>
+    ensures whole { OnOk result (All IsOk texts.items) }
+    ensures value { OnOk result (joined parts.new.items ≡ joined parts.old.items ++ flat_map bytes_in texts.items) }
 {
-    for part in parts {
-        text.append(&mut part?)?;
+    for text in texts {
+        parts.push(text?)?;
     }
     Ok(())
 }

@@ -1,5 +1,5 @@
 /// What a line of a certificate is about. The kinds stand in the order in which their lines do.
-#[derive(Clone, Copy, Debug, PartialEq, Eq)]
+#[derive(Clone, Copy, PartialEq, Eq)]
 pub(crate) enum Rank {
     Heading,
     Window,

@@ -1,5 +1,5 @@
 /// How far the lines of boxes were read: how many pass, and whether the one behind them fails.
-#[derive(Clone, Copy, Debug, PartialEq, Eq)]
+#[derive(Clone, Copy)]
 pub(crate) struct BoxesRead {
     pub passed: usize,
     pub failed: bool,

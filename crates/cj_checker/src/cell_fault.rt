@@ -1,7 +1,7 @@
 use crate::check_cause::CheckCause;
 
 /// A cell that fails, by its place in the list, and why.
-#[derive(Clone, Copy, Debug, PartialEq, Eq)]
+#[derive(Clone, Copy)]
 pub(crate) struct CellFault {
     pub at: usize,
     pub cause: CheckCause,

@@ -8,7 +8,7 @@ use cj_hermite::{Hint, Problem, SLOT, run_from, slot_window};
 use cj_track::Track;
 
 /// A slot of an object.
-#[derive(Clone, Copy, Debug, PartialEq, Eq)]
+#[derive(Clone, Copy)]
 pub(crate) struct Place {
     pub object: u32,
     pub slot: u32,

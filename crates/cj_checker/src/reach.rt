@@ -1,6 +1,6 @@
 /// How far the box of an object reaches along x: down with the object's size, up with its size and the threshold. So two boxes are
 /// apart along x by at most their pair's threshold where each begins, by `low`, at most at the end of the other, by `high`.
-#[derive(Clone, Copy, Debug, PartialEq, Eq, PartialOrd, Ord)]
+#[derive(Clone, Copy, PartialEq, Eq, PartialOrd, Ord)]
 pub(crate) struct Reach {
     pub low: i128,
     pub high: i128,

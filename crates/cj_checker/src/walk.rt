@@ -17,7 +17,7 @@ use cj_interval::Divisor;
 use cj_track::Track;
 
 /// Where to look for the next part: where the last one was found, and how long its piece is.
-#[derive(Clone, Copy, Debug)]
+#[derive(Clone, Copy)]
 struct Guide {
     hint: Hint,
     divisor: Divisor,
@@ -40,7 +40,7 @@ fn part_from(track: &Track, from: Tick, last: Tick, guide: &mut Guide) -> Option
 }
 
 /// Where a walk is: at a part of the track in the window, which is the first one from a tick on.
-#[derive(Clone, Copy, Debug)]
+#[derive(Clone, Copy)]
 pub(crate) struct Walk {
     from: Tick,
     part: Part,

@@ -1,7 +1,7 @@
 use crate::hints::Hint;
 
 /// Where a piece of a track was found: its number among all pieces, its segment, and the node of that from which it goes.
-#[derive(Clone, Copy, Debug, PartialEq, Eq)]
+#[derive(Clone, Copy)]
 pub struct FoundPiece {
     pub index: u32,
     pub segment: u32,

@@ -1,4 +1,4 @@
-//! Binary searches over the segments and the nodes of a track.
+//! Searches over the segments and the nodes of a track.
 ghost use Rattle.std.specs.Prelude.{ℕ, ◌+◌, ◌<◌, ◌≤◌, ◌↔◌, length, IsTrue, MatchOption, slice_index};
 ghost use Rattle.std.specs.List.Sorted.{IsNonDecreasing};
 ghost use Rattle.cj_track.specs.declared.node.Node.{Node};
@@ -57,7 +57,22 @@ pub fn last_reached(nodes: &[Node], at: Tick) -> usize
     ensures exists { result + 1 < length nodes.now }
     ensures from { (d : Node) → IsFromNode at.micros nodes.now result d }
 {
+    let near = evenly(nodes, at);
+    if is_last_reached(nodes, at, near) {
+        return near;
+    }
     (reached(nodes, at) - 1).min(nodes.len() - 2)
+}
+
+/// The node from which the piece at the tick begins if all pieces are of one length, and else maybe another.
+fn evenly(nodes: &[Node], at: Tick) -> usize
+    requires { AreNodes nodes.now }
+{
+    let pieces = nodes.len() - 1;
+    let first = nodes[0].at.micros;
+    let whole = nodes[pieces].at.micros.wrapping_sub(first);
+    let passed = at.micros.wrapping_sub(first).wrapping_mul(pieces as u64);
+    passed.checked_div(whole).unwrap_or(0) as usize
 }
 
 /// The same. The node with this number and the next are looked at first.

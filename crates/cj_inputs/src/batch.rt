@@ -3,7 +3,7 @@ ghost use Rattle.std.specs.Prelude.{◌≤◌, length};
 use crate::reading::InputError;
 
 /// A file that was read.
-#[derive(Debug, Drop)]
+#[derive(Drop)]
 pub struct FileRead<'a> {
     pub name: &'a [u8],
     pub bytes: Vec<u8>,
@@ -11,7 +11,7 @@ pub struct FileRead<'a> {
 }
 
 /// Files that were read, in order, and why the next was not, where that is why they are no more.
-#[derive(Debug, Drop)]
+#[derive(Drop)]
 pub struct Batch<'a> {
     pub files: Vec<FileRead<'a>>,
     pub stop: Option<InputError>,

@@ -8,7 +8,7 @@ use cj_io::Name;
 use std::alloc::{AllocError, Global};
 
 /// A file of the folder: its name, and its number in the folder's order.
-#[derive(Debug, PartialEq, Eq, PartialOrd, Ord, Drop)]
+#[derive(PartialEq, Eq, PartialOrd, Ord, Drop)]
 pub struct Entry {
     pub name: Name,
     pub number: u32,

@@ -12,7 +12,7 @@ use cj_status::{FileCause, LimitFault};
 use std::alloc::{AllocError, AllocFailed, Global};
 
 /// Why files were not read.
-#[derive(Debug, Drop)]
+#[derive(Drop)]
 pub enum InputError {
     /// There was no memory.
     Memory,

@@ -17,7 +17,7 @@ use std::alloc::{AllocError, Global};
 const MAX_NODES: u64 = 2_000_000;
 
 /// Tracks that are taken: of one frame, with at most 2,000,000 nodes.
-#[derive(Debug, Drop)]
+#[derive(Drop)]
 pub struct Taken {
     pub tracks: Vec<Track>,
     /// How many nodes they have in all.

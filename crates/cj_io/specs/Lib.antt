@@ -2,3 +2,4 @@ pub mod Calls
 pub mod Faults
 pub mod Files
 pub mod Memory
+pub mod Parts

@@ -13,6 +13,7 @@ mod gate;
 mod mem_folder;
 mod mem_shelf;
 mod name;
+mod parts;
 mod shelf;
 mod whole;
 
@@ -25,6 +26,7 @@ pub use gate::{Gate, OpenGate};
 pub use mem_folder::MemFolder;
 pub use mem_shelf::MemShelf;
 pub use name::Name;
+pub use parts::join_parts;
 pub use shelf::{PutError, Shelf};
 pub use whole::{ReadError, read_whole};
 

@@ -1,9 +1,11 @@
 ghost use Rattle.std.specs.Prelude.{◌≡◌, ◌≤◌, List, ℕ, Option, IsErrOf};
 ghost use Rattle.cj_io.specs.Faults.{Rose};
 ghost use Rattle.cj_io.specs.Files.{Puts, Told};
+ghost use Rattle.cj_io.specs.Parts.{joined};
 ghost use Rattle.cj_io.specs.declared.file.FileBytes.{FileBytes};
 ghost use Rattle.cj_io.specs.declared.shelf.PutError.TheVariants.{Memory};
 
+use crate::parts::join_parts;
 use std::alloc::{AllocError, AllocFailed, Global};
 
 /// Why a piece was not put.
@@ -46,4 +48,15 @@ pub trait Shelf {
         ensures memory { IsErrOf result PutError.Memory → faults self.new ≡ faults self.old }
         ensures pieces { Told (Puts name.now bytes.now result) (pieces self.old) (pieces self.new) }
         ensures later { faults self.old ≤ faults self.new };
+
+    /// The same for a piece whose bytes come in parts, one behind another.
+    fn put_parts(&mut self, alloc: Global, name: &[u8], parts: &[Vec<u8>]) -> Result<(), PutError>
+        ensures failed { IsErrOf result PutError.Failed → Rose (faults self.old) (faults self.new) }
+        ensures memory { IsErrOf result PutError.Memory → faults self.new ≡ faults self.old }
+        ensures pieces { Told (Puts name.now (joined parts.now) result) (pieces self.old) (pieces self.new) }
+        ensures later { faults self.old ≤ faults self.new }
+    {
+        let bytes = join_parts(alloc, parts)?;
+        self.put(alloc, name, &bytes)
+    }
 }

@@ -45,17 +45,34 @@ fn glance(problem: &Problem, leaf: &Leaf) -> Approach
     first.nearer(last)
 }
 
-/// The nearest end of several leaves.
-fn nearest_end(problem: &Problem, leaves: &[Leaf]) -> Approach
+/// Whether the distance is less at the last tick of a leaf than at its first.
+fn comes_nearer(problem: &Problem, leaf: &Leaf) -> bool
+    requires { KeepIntervals (plain_problem problem.now) leaf.now.cell.pair.a leaf.now.cell.pair.b leaf.now.cell.first.micros leaf.now.cell.last.micros }
+{
+    let (a, b) = prepare(problem, leaf);
+    let whole = whole_of(leaf);
+    let (first, last) = ends(&gap_over(&a, &b, whole), whole);
+    last.square < first.square
+}
+
+/// An end of one of several leaves: the nearest, or one beside it, where the distance first falls and then rises. Only few leaves
+/// are looked at, since whatever end it is, the search for the nearest goes on from there.
+fn near_end(problem: &Problem, leaves: &[Leaf]) -> Approach
     requires some { 0 < length leaves.now }
     requires intervals { KeepTheirIntervals (plain_problem problem.now) (plain_leaves leaves.now) }
     ensures { Any (λ p. p ≡ plain_approach result) (candidates_in (plain_problem problem.now) (plain_leaves leaves.now)) }
 {
-    let mut best = glance(problem, &leaves[0]);
-    for leaf in leaves {
-        best = best.nearer(glance(problem, leaf));
+    let mut low = 0;
+    let mut high = leaves.len() - 1;
+    while low < high {
+        let middle = low + (high - low) / 2;
+        if comes_nearer(problem, &leaves[middle]) {
+            low = middle + 1;
+        } else {
+            high = middle;
+        }
     }
-    best
+    glance(problem, &leaves[low])
 }
 
 /// The nearest of an approach and the candidates of a leaf.
@@ -70,7 +87,7 @@ fn nearest_of(problem: &Problem, leaf: &Leaf, given: Approach) -> Approach
     search(&a, &b, leaf, given)
 }
 
-/// The nearest approach of several leaves: their ends are looked at first, so that most parts are left out.
+/// The nearest approach of several leaves: an end near it is found first, so that most parts are left out.
 fn nearest(problem: &Problem, leaves: &[Leaf]) -> Approach
     requires some { 0 < length leaves.now }
     requires intervals { KeepTheirIntervals (plain_problem problem.now) (plain_leaves leaves.now) }
@@ -78,7 +95,7 @@ fn nearest(problem: &Problem, leaves: &[Leaf]) -> Approach
     ensures nearest { All (NoWorse (plain_approach result)) (candidates_in (plain_problem problem.now) (plain_leaves leaves.now)) }
     ensures interpolants { All (HasInterpolants (plain_problem problem.now)) (plain_leaves leaves.now) }
 {
-    let mut best = nearest_end(problem, leaves);
+    let mut best = near_end(problem, leaves);
     for leaf in leaves {
         best = nearest_of(problem, leaf, best);
     }

@@ -18,7 +18,8 @@ use Rattle.cj_oem.specs.Stages.{Body, Meta, Data, Cov, After, OpenSegment, close
 use Rattle.cj_oem.proofs.MatrixLemmas.{covariances_from, matrices_again, matrices_are, with_line}
 use Rattle.cj_oem.proofs.MetadataLemmas.{Suits, metadata_again, metadata_is, metadata_suits, sheet_from}
 use Rattle.cj_oem.proofs.NodeRowLemmas.{states_again, states_are, states_from}
-use Rattle.cj_oem.proofs.RunLemmas.{end_push, run, run_covariances, run_meta, run_rows, open_segment}
+use Rattle.cj_oem.proofs.RunLemmas.{end_push, run, run_covariances, run_meta, run_rows}
+use Rattle.cj_oem.proofs.StateAgainLemmas.{open_segment}
 use Rattle.cj_oem.proofs.StepLemmas.{bind_into, bind_ok, unless_ok}
 
 -- ---- the end of the nodes

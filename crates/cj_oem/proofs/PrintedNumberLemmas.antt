@@ -1,5 +1,5 @@
 -- Printed numbers and epochs as fields.
-use Rattle.std.proofs.Common.{◌≡◌, ℕ, zero, suc, ◌+◌, ◌-◌, ◌/◌, ◌%◌, ◌^◌, ◌<◌, List, [], ◌∷◌, ◌++◌, Bool, true, false, length, take, drop, decimal, ℤ, pos, refl, arith}
+use Rattle.std.proofs.Common.{◌≡◌, ℕ, zero, suc, ◌+◌, ◌-◌, ◌/◌, ◌%◌, ◌^◌, ◌<◌, List, [], ◌∷◌, ◌++◌, Bool, true, false, length, take, drop, decimal, ℤ, pos, refl, arith, ap, ◌∙◌}
 use Rattle.std.specs.Prelude.{◌==◌, nat_lt, if◌then◌else◌, int_lt, unsigned_abs}
 use Rattle.std.specs.Char.{is_ascii_digit}
 use Rattle.std.specs.List.{list_all}
@@ -120,6 +120,9 @@ figure_field z fits =
 
 -- ---- decimal numbers
 
+wider : (n : ℕ) → n < 2 ^ 64 → n < 10 ^ 64
+wider n fits = omega arith
+
 pub decimal_field : (n : Number) → n.digits < 2 ^ 64 → unsigned_abs (leading_power n) < 2 ^ 64 → is_field (decimal_text_of n) ≡ true
 unfolding decimal_text_of significand_text exponent_text
 decimal_field n short small =
@@ -127,8 +130,8 @@ decimal_field n short small =
     let ds = decimal n.digits in
     let x = leading_power n in
     let es = decimal (unsigned_abs x) in
-    let digits = digits_bytes ds (decimal_digits n.digits (omega arith)) in
-    let exponent = digits_bytes es (decimal_digits (unsigned_abs x) (omega arith)) in
+    let digits = digits_bytes ds (decimal_digits n.digits (wider n.digits short)) in
+    let exponent = digits_bytes es (decimal_digits (unsigned_abs x) (wider (unsigned_abs x) small)) in
     let significand = append_bytes (take 1 ds ++ 46 ∷ []) (if length ds == 1 then 48 ∷ [] else drop 1 ds)
     (append_bytes (take 1 ds) (46 ∷ []) (first_bytes 1 ds digits) refl)
     (either_bytes (length ds == 1) (48 ∷ []) (drop 1 ds) refl (other_bytes 1 ds digits)) in

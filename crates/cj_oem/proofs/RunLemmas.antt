@@ -16,6 +16,7 @@ use Rattle.cj_oem.proofs.HeaderLemmas.{head_from}
 use Rattle.cj_oem.proofs.MatrixLemmas.{covariances_from, with_line}
 use Rattle.cj_oem.proofs.MetadataLemmas.{sheet_from}
 use Rattle.cj_oem.proofs.NodeRowLemmas.{states_from}
+use Rattle.cj_oem.proofs.StateAgainLemmas.{open_segment}
 use Rattle.cj_oem.proofs.StepLemmas.{bind_ok}
 
 -- where lines that say something lead from a stage
@@ -78,10 +79,6 @@ run_meta as_hermite3 b (entry ∷ entries) s end rest e =
     let step = bind_ok (with_pair b.object s entry.key entry.value) (λ next. sheet_from b.object next entries) end e in
     ap (λ (r : Result MetadataDraft OemCause). (r >>= λ draft. Ok (Meta b draft)) >>= λ next. run as_hermite3 next (pair_lines entries ++ rest)) step.1
     ∙ run_meta as_hermite3 b entries step.0 end rest step.2
-
--- a open_segment with its states
-abbrev pub open_segment : Metadata → List PlainNode → OpenSegment
-open_segment metadata states = record { metadata = metadata; states = states }
 
 pub run_rows : (as_hermite3 : Bool) (b : Body) (metadata : Metadata) (rows : List (List ℕ)) (states more : List PlainNode) (rest : List Form) → states_from (last_state states) rows ≡ Ok more
     → run as_hermite3 (Data b (open_segment metadata states)) (row_lines rows ++ rest) ≡ run as_hermite3 (Data b (open_segment metadata (states ++ more))) rest

@@ -19,14 +19,13 @@ use Rattle.cj_track.specs.PlainTracks.{PlainNode}
 use Rattle.cj_track.specs.Limits.{IsWithin, MAX_COORDINATE, MAX_RATE}
 use Rattle.cj_oem.specs.Metadata.{epoch_or, parse_epoch}
 use Rattle.cj_oem.specs.NodeRows.{figure_or, parse_figure, following, state_of_fields, state_of_row, vector_within}
-use Rattle.cj_oem.specs.Stages.{Body, Data, follows, last_state}
+use Rattle.cj_oem.specs.Stages.{Body, Data, follows, last_state, OpenSegment}
 use Rattle.cj_oem.specs.Metadata.{Metadata}
 use Rattle.cj_oem.proofs.FigureAgainLemmas.{figure_again}
 use Rattle.cj_oem.proofs.PrintedLineLemmas.{Says, Tells, told_line}
 use Rattle.cj_oem.proofs.PrintedNumberLemmas.{epoch_field, figure_field}
 use Rattle.cj_oem.proofs.PrintedPairLemmas.{pair_line, pair_text}
 use Rattle.cj_oem.proofs.PrintedRowLemmas.{field_ends, field_starts, field_visible, fields_row, is_field, row_line, row_of}
-use Rattle.cj_oem.proofs.RunLemmas.{open_segment}
 use Rattle.cj_oem.proofs.WalkLemmas.{walk, walk_step}
 
 -- a vector within a limit
@@ -130,6 +129,10 @@ unfolding row_text
 state_told s is =
     subst (λ text. Tells (line text) (Row text ∷ [])) (sym (row_shape s))
     (told_line (row_of (epoch_of s.at) (state_fields s)) (Row (row_of (epoch_of s.at) (state_fields s))) (row_line (epoch_of s.at) (state_fields s) (state_are_fields s is)))
+
+-- an open segment with its states
+abbrev pub open_segment : Metadata → List PlainNode → OpenSegment
+open_segment metadata states = record { metadata = metadata; states = states }
 
 state_follows : (b : Body) (metadata : Metadata) (front : List PlainNode) (s : PlainNode) → IsState s → following (last_state front) s ≡ Ok s
     → follows false (Data b (open_segment metadata front)) (Row (row_content s)) ≡ Ok (Data b (open_segment metadata (front ++ s ∷ [])))

@@ -81,7 +81,10 @@ fn read_body(
     for line in lines {
         match stage.follow(alloc, bytes, line.kind, as_hermite3) {
             Ok(()) => number = line.number + 1,
-            Err(refused) => return Err(refused.at(line.number)),
+            Err(refused) => {
+                drop(stage);
+                return Err(refused.at(line.number));
+            }
         }
     }
     match stage.finish(alloc) {

@@ -12,6 +12,7 @@ use crate::complete_nodes::CompleteNodes;
 use crate::covariances::Covariances;
 use crate::fault::OemCause;
 use crate::head::Head;
+use crate::marks::{after_covariances, after_header, after_metadata, after_nodes, after_segment};
 use crate::metadata_draft::MetadataDraft;
 use crate::node_row::node_of_row;
 use crate::refused::Refused;
@@ -20,6 +21,9 @@ use std::alloc::Global;
 use std::mem;
 
 /// Where a reader stands.
+///
+/// What is let go is handed to `drop`: where it goes by itself, or an assignment lets it go, a check follows each part of each stage
+/// through the whole body.
 #[derive(Debug, Drop)]
 pub(crate) enum Stage {
     Start,
@@ -53,7 +57,8 @@ impl Stage {
             }
             LineKind::Mark(mark) => {
                 let stage = mem::replace(self, Stage::Start);
-                *self = stage.marked(alloc, mark, as_hermite3)?;
+                let stage = stage.marked(alloc, mark, as_hermite3)?;
+                drop(mem::replace(self, stage));
                 Ok(())
             }
         }
@@ -87,7 +92,7 @@ impl Stage {
         match self {
             Stage::Start => {
                 check_version(key, value)?;
-                *self = Stage::Header(Head::EMPTY);
+                drop(mem::replace(self, Stage::Header(Head::EMPTY)));
                 Ok(())
             }
             Stage::Header(head) => {
@@ -104,31 +109,13 @@ impl Stage {
     fn marked(self, alloc: Global, mark: MarkKind, as_hermite3: bool) -> Result<Stage, Refused>
         ensures { Gives stage_of result (spec.led as_hermite3 (stage_of self) (Mark mark)) }
     {
-        match (self, mark) {
-            (Stage::Header(head), MarkKind::MetaStart) if head.date && head.originator => {
-                Ok(Stage::Meta(Body::new(alloc), MetadataDraft::new()))
-            }
-            (Stage::Header(_), MarkKind::MetaStart) => Err(Refused::Because(OemCause::Missing)),
-            (Stage::Meta(body, draft), MarkKind::MetaStop) => {
-                let open_segment = OpenSegment::new(alloc, draft.metadata(as_hermite3)?);
-                Ok(Stage::Data(body, open_segment))
-            }
-            (Stage::Data(body, open_segment), MarkKind::MetaStart) => {
-                let body = CompleteNodes::new(body, open_segment)?.with(Vec::new(alloc))?;
-                Ok(Stage::Meta(body, MetadataDraft::new()))
-            }
-            (Stage::Data(body, open_segment), MarkKind::CovarianceStart) => {
-                let closed = CompleteNodes::new(body, open_segment)?;
-                Ok(Stage::Cov(closed, Covariances::new(alloc)))
-            }
-            (Stage::Cov(closed, covariances), MarkKind::CovarianceStop) => {
-                Ok(Stage::After(closed.with(covariances.close()?)?))
-            }
-            (Stage::After(body), MarkKind::MetaStart) => Ok(Stage::Meta(
-                body,
-                MetadataDraft::new(),
-            )),
-            _ => Err(Refused::Because(OemCause::Order)),
+        match self {
+            Stage::Start => Err(Refused::Because(OemCause::Order)),
+            Stage::Header(head) => after_header(alloc, head, mark),
+            Stage::Meta(body, draft) => after_metadata(alloc, body, draft, mark, as_hermite3),
+            Stage::Data(body, open_segment) => after_nodes(alloc, body, open_segment, mark),
+            Stage::Cov(closed, covariances) => after_covariances(closed, covariances, mark),
+            Stage::After(body) => after_segment(body, mark),
         }
     }
 
@@ -142,7 +129,10 @@ impl Stage {
                 Ok(CompleteNodes::new(body, open_segment)?.with(Vec::new(alloc))?)
             }
             Stage::After(body) => Ok(body),
-            _ => Err(Refused::Because(OemCause::Missing)),
+            stage => {
+                drop(stage);
+                Err(Refused::Because(OemCause::Missing))
+            }
         }
     }
 }

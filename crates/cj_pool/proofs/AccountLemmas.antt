@@ -3,6 +3,8 @@ use Rattle.std.proofs.Common.{◌≡◌, ℕ, ◌+◌, List, [], ◌∷◌, ◌+
 use Rattle.std.specs.Prelude.{All}
 use Rattle.std.proofs.lemmas.List.{map-append, length-set}
 use Rattle.std.proofs.lemmas.List.Elements.{All-push}
+use Rattle.std.specs.List.Sorted.{IsPermutation}
+use Rattle.std.proofs.lemmas.List.Sorted.{IsPermutation-map, All-permutation, length_permutation}
 use Rattle.cj_hermite.specs.PlainProblems.{PlainProblem}
 use Rattle.cj_bezier.specs.declared.cell.Cell.{Cell}
 use Rattle.cj_bezier.specs.declared.leaf.Leaf.{Leaf}
@@ -12,7 +14,7 @@ use Rattle.cj_pool.specs.RootLists.{IsKept}
 use Rattle.cj_pool.specs.Tree.{InTree, IsLeafOf}
 use Rattle.cj_pool.specs.Turns.{CellCame, held, took, SameCells, MadeLeaf, MadeHalves, KeptBoth}
 use Rattle.cj_pool.specs.Weights.{weigh}
-use Rattle.cj_pool.proofs.WeightLemmas.{weigh_snoc, weigh_one, weigh_taken}
+use Rattle.cj_pool.proofs.WeightLemmas.{weigh_moved, weigh_snoc, weigh_one, weigh_taken}
 
 -- the lengths of lists, and their weights where each item weighs one
 weigh_lengths : {X : Type 0} (xss : List (List X)) → weigh length xss ≡ weigh (weigh (λ (x : X). 1)) xss
@@ -54,6 +56,28 @@ module _ (case : PlainProblem) (roots : List Cell) (n : ℕ) (old new : HandSeen
     pushes = rw (firsts, cells.pushed) a.pushes;
     narrow = rw (cells.kept) a.narrow;
   }
+
+  -- the leaves were put in another order
+  pub sorted_accounts : IsPermutation old.closed new.closed → new.taken ≡ old.taken → new.pushed ≡ old.pushed → new.kept ≡ old.kept
+      → new.share.count.closes ≡ old.share.count.closes → new.share.count.firsts ≡ old.share.count.firsts → Accounts case roots n new
+  sorted_accounts moved taken pushed kept closes firsts =
+      let long = length_permutation old.closed new.closed moved in
+      record {
+        roots_are = a.roots_are;
+        number = omega (arith, a.number, same.number);
+        deques = ap length places ∙ a.deques;
+        passes = ap length taken ∙ a.passes;
+        opening = opening_is;
+        balanced = λ w s.
+            let cells = weigh_moved w (cells_of old.closed) (cells_of new.closed) (IsPermutation-map (λ (l : Leaf). l.cell) old.closed new.closed moved) in
+            rw (taken, cells, pushed, kept) (a.balanced w s);
+        tree = rw (kept) a.tree;
+        leaves = All-permutation (IsLeafOf case roots) old.closed new.closed moved a.leaves;
+        closes = omega (arith, closes, long, a.closes);
+        splits = rw (firsts, taken, long, pushed, kept) a.splits;
+        pushes = rw (firsts, pushed) a.pushes;
+        narrow = rw (kept) a.narrow;
+      }
 
   -- a cell became a leaf
   pub closed_accounts : (m : MadeLeaf case old new) → IsLeafOf case roots m.leaf → All (InTree case roots) new.kept → Narrow 26 new.kept → new.share.count.closes ≡ old.share.count.closes + 1 → new.share.count.firsts ≡ old.share.count.firsts

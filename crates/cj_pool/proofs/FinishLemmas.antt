@@ -261,11 +261,6 @@ closed_found hands sorted among =
     All-from_each (λ h. All (Contains sorted) h.closed) hands
     (contained (λ (h : HandSeen). h.closed) hands sorted (λ l has_it. All-contains (Contains sorted) (leaves_in hands) l among has_it))
 
--- what holds of each found leaf holds of each sorted one
-pub all_moved : {X : Type 0} (P : X → Type 0) (xs ys : List X) → IsPermutation ys xs → All P xs → All P ys
-all_moved P xs ys moved all k d lt = All-contains P xs (get_or ys k d) all
-    (Contains-permutation ys xs (get_or ys k d) moved (Contains-get_or ys k d lt))
-
 -- ---- the cells that are open at the end
 
 pub are_open : (hands : List HandSeen) (start cells : List Cell) (given taken : (Cell → ℕ) → ℕ) → start ≡ kept_in hands →

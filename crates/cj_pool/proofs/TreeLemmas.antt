@@ -21,7 +21,6 @@ tree_within judge first last lo hi whole = record { from = omega arith; to = ome
 tree_within judge first last lo hi (left from to tree lt none) = let r = tree_within judge first last from to tree in record { from = r.from; to = omega (arith, r.to) }
 tree_within judge first last lo hi (right from to tree lt none) = let r = tree_within judge first last from to tree in record { from = omega (arith, r.from); to = r.to }
 
-
 -- the objects of a cell of a tree stay in their intervals, as they do over its root
 pub tree_keeps : (case : PlainProblem) (roots : List Cell) (c : Cell) → AreRoots case roots → InTree case roots c → IsKept case c
 tree_keeps case roots c are tree =

@@ -1,5 +1,9 @@
 -- Weights of lists that grow or change in one place.
-use Rattle.std.proofs.Common.{◌≡◌, ℕ, zero, suc, ◌+◌, ◌<◌, List, [], ◌∷◌, ◌++◌, length, set, refl, sym, ap, arith}
+use Rattle.std.proofs.Common.{◌≡◌, ℕ, zero, suc, ◌+◌, ◌<◌, List, [], ◌∷◌, ◌++◌, length, set, refl, sym, ap, ◌∙◌, arith}
+use Rattle.std.specs.List.{sum_by}
+use Rattle.std.specs.List.Sorted.{IsPermutation}
+use Rattle.std.proofs.lemmas.List.Sorted.{sum_by-IsPermutation}
+use Rattle.std.proofs.lemmas.List.Sums.{sum_by-cons}
 use mathlib.Core.Option.{some, some-ne-none, some-injective}
 use lib.ListN.{get_elem?}
 use Rattle.cj_interval.proofs.SumLemmas.{total}
@@ -35,8 +39,17 @@ weigh_taken w [] d c lt = absurd (omega arith)
 weigh_taken w (x ∷ xs) zero c lt = omega (arith, weigh_append w x (c ∷ []))
 weigh_taken w (x ∷ xs) (suc d) c lt = let rest = weigh_taken w xs d c (omega arith) in omega arith
 
+-- it is the sum of std
+weigh_sum : {X : Type 0} (f : X → ℕ) (xs : List X) → weigh f xs ≡ sum_by f xs
+weigh_sum f [] = refl
+weigh_sum f (x ∷ xs) = ap (λ n. f x + n) (weigh_sum f xs) ∙ sym (sum_by-cons f x xs)
+
 -- it is the landed sum
 pub weigh_is : {X : Type 0} (f : X → ℕ) (xs : List X) → weigh f xs ≡ total f xs
 unfolding total
 weigh_is f [] = refl
 weigh_is f (x ∷ xs) = ap (λ n. f x + n) (weigh_is f xs)
+
+-- moved items weigh the same
+pub weigh_moved : {X : Type 0} (f : X → ℕ) (xs ys : List X) → IsPermutation xs ys → weigh f ys ≡ weigh f xs
+weigh_moved f xs ys moved = weigh_sum f ys ∙ sum_by-IsPermutation f xs ys moved ∙ sym (weigh_sum f xs)

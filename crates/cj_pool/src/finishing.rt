@@ -22,6 +22,7 @@ use crate::lengths::have_lengths;
 use crate::refined::{FinishError, Refined};
 use crate::refinery::Refinery;
 use crate::run::Run;
+use crate::sorting::merge;
 use cj_bezier::{Cell, Leaf};
 use cj_cells::{RefineError, refine};
 use cj_hermite::Problem;
@@ -71,14 +72,6 @@ fn refine_open(
     Ok(())
 }
 
-/// Puts leaves in order of pair and tick.
-fn sort(leaves: &mut [Leaf])
-    ensures permutation { IsPermutation leaves.old leaves.new }
-    ensures ordered { AllPairs IsRootUpTo (plain_cells (cells_of leaves.new)) }
-{
-    leaves.sort_unstable_by_key(|leaf| (leaf.cell.pair, leaf.cell.first));
-}
-
 impl<'p, K: Run> Refinery<'p, K> {
     /// What is so of the run and its roots, whatever the hands have done: it does nothing else than to look at the tracks.
     fn have_roots(&self)
@@ -114,7 +107,7 @@ impl<'p, K: Run> Refinery<'p, K> {
             + length (leaves_of_roots (plain_problem self.now.problem) (plain_cells cells.now)))) }
     {
         refine_open(alloc, self.problem, cells, self.limit, &mut leaves)?;
-        sort(&mut leaves);
+        merge(&mut leaves)?;
         Ok(leaves)
     }
 

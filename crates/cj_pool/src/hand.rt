@@ -9,6 +9,7 @@ use crate::station::Station;
 use arrayvec::ArrayVec;
 use cj_bezier::{Cell, Leaf};
 use cj_hermite::Problem;
+use cj_interval::Divisor;
 use cj_ledger::Share;
 use std::marker::{Model, PhantomData};
 
@@ -22,6 +23,8 @@ pub struct Hand<'p, K: Run> {
     pub(crate) leaves: Vec<Leaf>,
     pub(crate) share: Share,
     pub(crate) wants: u64,
+    /// What pieces of the last cell were made ready with.
+    pub(crate) divisor: Divisor,
     pub(crate) of: PhantomData<K>,
 }
 

@@ -20,6 +20,7 @@ mod rule;
 mod run;
 mod running;
 mod seating;
+mod sorting;
 mod starting;
 mod station;
 mod stealing;

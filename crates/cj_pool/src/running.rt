@@ -6,6 +6,7 @@ ghost use Rattle.cj_pool.specs.Turns.{Ended, Rose, SetsCells};
 use crate::hand::Hand;
 use crate::refinery::Refinery;
 use crate::run::Run;
+use crate::sorting::sort;
 use crate::turn::Turn;
 use cj_io::Gate;
 use cj_ledger::Why;
@@ -43,6 +44,16 @@ impl<'p, K: Run> Hand<'p, K> {
         }
     }
 
+    /// Puts the leaves that it has closed in order, which leaves less to do at the end.
+    fn sort_leaves(&mut self)
+        ensures same { SameHand self.old self.new }
+        ensures deques { self.new.deques ≡ self.old.deques }
+        ensures share { self.new.share ≡ self.old.share }
+        ensures wants { self.new.wants ≡ self.old.wants }
+    {
+        sort(&mut self.leaves);
+    }
+
     /// Takes turns until the cells are done or the hands are to stop. Where a turn wants memory, it tells the others to stop.
     pub fn run<R: Wait, G: Gate>(
         mut self,
@@ -66,6 +77,7 @@ impl<'p, K: Run> Hand<'p, K> {
             number = number.saturating_add(1);
             gate.enter(rt, self.station.number, number);
             if self.step(alloc, refinery) {
+                self.sort_leaves();
                 return self;
             }
         }

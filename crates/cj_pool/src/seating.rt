@@ -13,6 +13,7 @@ use crate::run::Run;
 use crate::station::Station;
 use arrayvec::ArrayVec;
 use cj_hermite::Problem;
+use cj_interval::Divisor;
 use cj_ledger::Share;
 use std::alloc::{AllocError, Global};
 use std::marker::PhantomData;
@@ -49,6 +50,7 @@ pub(crate) fn seat<'p, K: Run>(
             leaves: Vec::new(alloc),
             share,
             wants: 0,
+            divisor: Divisor::new(1),
             of: PhantomData,
         })?;
     }

@@ -44,6 +44,7 @@ fn take_one<'p, K: Run>(parts: &mut Parts<K>, hand: Hand<'p, K>) -> Result<(), A
         leaves,
         share,
         wants: _,
+        divisor: _,
         of: _,
     } = hand;
     parts.stations.push(station)?;

@@ -14,7 +14,7 @@ use crate::run::Run;
 use crate::steps::put;
 use crate::turn::Turn;
 use crate::work::Work;
-use cj_cells::{Look, look};
+use cj_cells::{Look, look_next};
 use cj_ledger::{Ledger, Share, Why};
 use std::alloc::{AllocError, Global};
 
@@ -62,7 +62,7 @@ impl<'p, K: Run> Hand<'p, K> {
             }
             return Ok(Turn::Idle { live });
         };
-        match look(self.problem, cell) {
+        match look_next(self.problem, cell, &mut self.divisor) {
             Look::Closed(leaf) => {
                 self.leaves.push_reserved(leaf);
                 refinery.ledger.close(&mut self.share);

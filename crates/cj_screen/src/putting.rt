@@ -1,6 +1,7 @@
-//! Putting one piece onto a shelf.
+//! Putting one piece onto a shelf, whole or in parts.
 ghost use Rattle.std.specs.Prelude.{◌≡◌, ◌≤◌, List, [], ◌∷◌, Some, Ok, Err, IfErr};
 ghost use Rattle.cj_io.specs.Faults.{Rose};
+ghost use Rattle.cj_io.specs.Parts.{joined};
 ghost use Rattle.cj_io.specs.declared.file.FileBytes.{FileBytes};
 ghost use Rattle.cj_screen.specs.Findings.{ended};
 ghost use Rattle.cj_screen.specs.Outcome.{ComesOfPuts, Leaves, piece};
@@ -17,6 +18,25 @@ pub fn put<S: Shelf>(alloc: Global, shelf: &mut S, name: &[u8], bytes: &[u8]) ->
     ensures later { S.faults shelf.old ≤ S.faults shelf.new }
 {
     match shelf.put(alloc, name, bytes) {
+        Ok(()) => Ok(()),
+        Err(PutError::Memory) => Err(Status::OutOfMemory),
+        Err(PutError::Failed) => Err(Status::WriteFault),
+    }
+}
+
+/// Puts one piece whose bytes come in parts, one behind another.
+pub fn put_parts<S: Shelf>(
+    alloc: Global,
+    shelf: &mut S,
+    name: &[u8],
+    parts: &[Vec<u8>],
+) -> Result<(), Status>
+    ensures comes { IfErr result ComesOfPuts }
+    ensures write { result ≡ Err Status.WriteFault → Rose (S.faults shelf.old) (S.faults shelf.new) }
+    ensures leaves { (old : List FileBytes) → S.pieces shelf.old ≡ Some old → Leaves (ended result) (Ok (piece name.now (joined parts.now) ∷ [])) old (S.pieces shelf.new) }
+    ensures later { S.faults shelf.old ≤ S.faults shelf.new }
+{
+    match shelf.put_parts(alloc, name, parts) {
         Ok(()) => Ok(()),
         Err(PutError::Memory) => Err(Status::OutOfMemory),
         Err(PutError::Failed) => Err(Status::WriteFault),

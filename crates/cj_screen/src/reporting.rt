@@ -11,8 +11,8 @@ ghost use Rattle.cj_screen.specs.Outcome.{ComesOfPuts, Leaves};
 use crate::findings::Findings;
 use crate::messages::put_messages;
 use crate::origin::Origin;
-use crate::putting::put;
-use cj_cert::{Certificate, cert_text, certificate_in_blocks, written_certificate};
+use crate::putting::{put, put_parts};
+use cj_cert::{Certificate, cert_parts, certificate_in_blocks, written_certificate};
 use cj_io::Shelf;
 use cj_report::{report_text, summary_text};
 use cj_sieve::kept_pairs;
@@ -75,8 +75,8 @@ fn put_certificate<R: Threads + Sync, S: Shelf>(
     ensures later { S.faults shelf.old ≤ S.faults shelf.new }
 {
     let certificate = certificate_of(alloc, found)?;
-    let text = cert_text(rt, alloc, &certificate, found.workers)?;
-    put(alloc, shelf, b"screen.cert", &text)
+    let parts = cert_parts(rt, alloc, &certificate, found.workers)?;
+    put_parts(alloc, shelf, b"screen.cert", &parts)
 }
 
 /// The certificate in the version that was asked.

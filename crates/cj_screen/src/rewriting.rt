@@ -14,8 +14,8 @@ ghost use Rattle.cj_screen.specs.Rewrites.{Renews};
 ghost use Rattle.cj_status.specs.Steps.{Gives, ComesBetween};
 
 use crate::checking::{WORKERS, accept};
-use crate::putting::put;
-use cj_cert::{Certificate, cert_text, in_version_2, listed_shells};
+use crate::putting::{put, put_parts};
+use cj_cert::{Certificate, cert_parts, in_version_2, listed_shells};
 use cj_hermite::Problem;
 use cj_inputs::{CheckInputs, prepare_check};
 use cj_io::{Folder, Shelf};
@@ -80,7 +80,7 @@ pub fn put_rewritten<R: Threads + Sync, S: Shelf>(
         → Leaves (ended result) (Ok (spec.pieces_renewed (plain_certificate certificate.now))) old (S.pieces shelf.new) }
     ensures later { S.faults shelf.old ≤ S.faults shelf.new }
 {
-    let text = cert_text(rt, alloc, certificate, WORKERS)?;
-    put(alloc, shelf, b"screen.cert2", &text)?;
+    let parts = cert_parts(rt, alloc, certificate, WORKERS)?;
+    put_parts(alloc, shelf, b"screen.cert2", &parts)?;
     put(alloc, shelf, b"-", b"REWRITTEN\n")
 }

@@ -1,8 +1,10 @@
-ghost use Rattle.std.specs.Prelude.{None};
+ghost use Rattle.std.specs.Prelude.{◌≡◌, ◌≤◌, None, IsErrOf};
+ghost use Rattle.cj_io.specs.Faults.{Rose};
 
 use crate::system_fault::SystemFault;
 use cj_io::{PutError, Shelf};
 use std::alloc::{AllocError, Global};
+use std::fs::File;
 use std::io::{ErrorKind, Write};
 use std::path::{Path, PathBuf};
 use std::{fs, io};
@@ -28,6 +30,22 @@ impl<'a> DirShelf<'a> {
         }
     }
 
+    /// How a put ends that was written so.
+    fn end(&mut self, alloc: Global, place: &Place, written: io::Result<()>) -> Result<(), PutError>
+        ensures failed { IsErrOf result PutError.Failed → Rose self.old.faults self.new.faults }
+        ensures memory { IsErrOf result PutError.Memory → self.new.faults ≡ self.old.faults }
+        ensures later { self.old.faults ≤ self.new.faults }
+    {
+        match written {
+            Ok(()) => Ok(()),
+            Err(reason) => {
+                self.faults = self.faults.saturating_add(1);
+                self.last_fault = SystemFault::of(alloc, place_name(place), reason);
+                Err(PutError::Failed)
+            }
+        }
+    }
+
     /// The last file that could not be written.
     pub fn last_fault(&self) -> Option<&SystemFault> {
         self.last_fault.as_ref()
@@ -41,14 +59,18 @@ impl Shelf for DirShelf<'_> {
 
     fn put(&mut self, alloc: Global, name: &[u8], bytes: &[u8]) -> Result<(), PutError> {
         let place = place_of(alloc, self.directory, name)?;
-        match write_whole(self.rt, &place, bytes) {
-            Ok(()) => Ok(()),
-            Err(reason) => {
-                self.faults = self.faults.saturating_add(1);
-                self.last_fault = SystemFault::of(alloc, place_name(&place), reason);
-                Err(PutError::Failed)
-            }
+        let written = write_whole(self.rt, &place, &[bytes]);
+        self.end(alloc, &place, written)
+    }
+
+    fn put_parts(&mut self, alloc: Global, name: &[u8], parts: &[Vec<u8>]) -> Result<(), PutError> {
+        let place = place_of(alloc, self.directory, name)?;
+        let mut slices = Vec::with_capacity(alloc, parts.len())?;
+        for part in parts {
+            slices.push(part.as_slice())?;
         }
+        let written = write_whole(self.rt, &place, &slices);
+        self.end(alloc, &place, written)
     }
 }
 
@@ -84,17 +106,25 @@ fn place_name(place: &Place) -> &str {
     }
 }
 
-fn write_whole(rt: &HostRuntime, place: &Place, bytes: &[u8]) -> io::Result<()> {
+/// Writes parts, one behind another.
+fn write_whole(rt: &HostRuntime, place: &Place, parts: &[&[u8]]) -> io::Result<()> {
     match place {
-        Place::Output => rt.stdout().write_all(bytes),
-        Place::File { file, part } => replace(rt, part, file, bytes),
+        Place::Output => write_parts(&mut rt.stdout(), parts),
+        Place::File { file, part } => replace(rt, part, file, parts),
         Place::Nowhere => Err(io::Error::from(ErrorKind::InvalidFilename)),
     }
 }
 
+fn write_parts<W: Write>(to: &mut W, parts: &[&[u8]]) -> io::Result<()> {
+    for part in parts {
+        to.write_all(part)?;
+    }
+    Ok(())
+}
+
 /// Writes a file under the name of its part and then renames it. Where either fails, the part is taken away again.
-fn replace(rt: &HostRuntime, part: &PathBuf, file: &PathBuf, bytes: &[u8]) -> io::Result<()> {
-    let written = fs::write(rt, part.as_path(), bytes).and_then(|()| fs::rename(
+fn replace(rt: &HostRuntime, part: &PathBuf, file: &PathBuf, parts: &[&[u8]]) -> io::Result<()> {
+    let written = write_file(rt, part, parts).and_then(|()| fs::rename(
         rt,
         part.as_path(),
         file.as_path(),
@@ -103,4 +133,9 @@ fn replace(rt: &HostRuntime, part: &PathBuf, file: &PathBuf, bytes: &[u8]) -> io
         let _ = fs::remove_file(rt, part.as_path());
     }
     written
+}
+
+fn write_file(rt: &HostRuntime, path: &PathBuf, parts: &[&[u8]]) -> io::Result<()> {
+    let mut file = File::create(rt, path.as_path())?;
+    write_parts(&mut file, parts)
 }

@@ -1,8 +1,8 @@
 use super::texts::{Case, Changed, base_with, fault_of, read, wrong_in_base, wrong_with};
-use cj_samples::Change;
 use crate::{OemCause, OemFault};
 use cj_epoch::EpochFault;
 use cj_kvn::KvnCause;
+use cj_samples::Change;
 use std::alloc::Global;
 use std::test::Fail;
 

@@ -1,8 +1,8 @@
 use super::texts::{
     Stated, Useable, base_with, begins_with, has_useable, has_values, matrix_tick, read,
 };
-use cj_samples::Change;
 use crate::{OemFault, Track, oem_text};
+use cj_samples::Change;
 use std::alloc::Global;
 use std::test::Fail;
 

@@ -1,7 +1,9 @@
-use super::texts::{Case, Changed, Stated, base_with, begins_with, read, wrong_in_base, wrong_with};
-use cj_samples::Change;
+use super::texts::{
+    Case, Changed, Stated, base_with, begins_with, read, wrong_in_base, wrong_with,
+};
 use crate::OemCause;
 use cj_epoch::EpochFault;
+use cj_samples::Change;
 use std::test::Fail;
 
 const ROWS: [Case<'static>; 29] = [

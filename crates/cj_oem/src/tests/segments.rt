@@ -2,8 +2,8 @@ use super::texts::{
     Case, Changed, Stated, begins_with, counts_of, has_useable, read, two_with, wrong_in_base,
     wrong_in_two, wrong_with,
 };
-use cj_samples::Change;
 use crate::OemCause;
+use cj_samples::Change;
 use std::test::Fail;
 
 const SPANS: [Case<'static>; 9] = [

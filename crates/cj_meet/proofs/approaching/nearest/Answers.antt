@@ -11,8 +11,8 @@ use Rattle.cj_meet.proofs.approaching.nearest.Goals as goal
 
 pub loop-leaf-init : goal.loop-leaf-init
 loop-leaf-init c = record {
-  candidate = c.nearest_end-best.ensures;
-  nearest = nearest_begun (plain_problem c.args.problem.now) c.args.leaves.now (plain_approach c.nearest_end-best.result);
+  candidate = c.near_end-best.ensures;
+  nearest = nearest_begun (plain_problem c.args.problem.now) c.args.leaves.now (plain_approach c.near_end-best.result);
   interpolants = All-nil (HasInterpolants (plain_problem c.args.problem.now));
 }
 

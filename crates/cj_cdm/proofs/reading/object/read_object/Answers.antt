@@ -3,6 +3,24 @@ use Rattle.std.proofs.lemmas.Result.{err_from_is_err_and}
 use Rattle.cj_cdm.specs.Reading.{object_said}
 use Rattle.cj_cdm.proofs.reading.object.read_object.Goals as goal
 
+pub returns-in_err-rest : goal.returns-in_err-rest
+unfolding object_said
+returns-in_err-rest c =
+    let p = err_from_is_err_and c.from_residual.result c.from_residual.ensures.1 in
+    rw (p.1, p.2) (rw (sym c.in_err-rest.ensures) refl)
+
+pub returns-in_err-id : goal.returns-in_err-id
+unfolding object_said
+returns-in_err-id c =
+    let p = err_from_is_err_and c.from_residual-in_err-id.result c.from_residual-in_err-id.ensures.1 in
+    rw (p.1, p.2) (rw (sym c.in_ok-rest.ensures, sym c.in_err-id.ensures) refl)
+
+pub returns-in_err-rest-2 : goal.returns-in_err-rest-2
+unfolding object_said
+returns-in_err-rest-2 c =
+    let p = err_from_is_err_and c.from_residual-in_err-rest-2.result c.from_residual-in_err-rest-2.ensures.1 in
+    rw (p.1, p.2) (rw (sym c.in_ok-rest.ensures, sym c.in_ok-id.ensures, sym c.in_err-rest-2.ensures) refl)
+
 pub returns-in_err-name : goal.returns-in_err-name
 unfolding object_said
 returns-in_err-name c =

@@ -16,8 +16,8 @@ use Rattle.cj_pool.proofs.TreeLemmas.{tree_keeps, tree_halves}
 use Rattle.cj_pool.proofs.TurnLemmas.{keeps_here, halved_here, closed_here, leaf_here, came_as, came_to, keeps_first, keeps_both, room, alone_settled, leaf_of, halves_of, both_of, none_of}
 use Rattle.cj_pool.proofs.hand.Hand.attempt.Goals as goal
 
-pub look-requires : goal.look-requires
-look-requires g c =
+pub look_next-requires : goal.look_next-requires
+look_next-requires g c =
     let told = c.in-Some-picked.ensures {u = tt} in
     keeps_here (plain_problem g.K.Run.problem) (plain_problem c.self.inside.problem.now) g.K.Run.roots c.in-Some-picked.cell (ap plain_problem c.self.invariant.0) c.self.invariant.5.roots_are told.cell
 

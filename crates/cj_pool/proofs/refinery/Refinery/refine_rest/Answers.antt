@@ -1,8 +1,7 @@
 use Rattle.std.proofs.Common.{◌≡◌, ℕ, List, ◌++◌, length, take, vec_len, sym, ap, subst, arith}
 use Rattle.std.specs.Prelude.{All, AllPairs, Contains}
 use Rattle.std.specs.List.Sorted.{IsPermutation}
-use Rattle.std.proofs.lemmas.List.{with_items_is}
-use Rattle.std.proofs.lemmas.List.Sorted.{IsPermutation-map, IsPermutation-sym}
+use Rattle.std.proofs.lemmas.List.Sorted.{IsPermutation-map, All-permutation, length_permutation}
 use Rattle.cj_hermite.specs.Problems.{plain_problem}
 use Rattle.cj_hermite.specs.Roots.{IsRootUpTo}
 use Rattle.cj_hermite.specs.declared.problem.Problem.{Problem}
@@ -14,53 +13,38 @@ use Rattle.cj_bezier.specs.RootLeaves.{leaves_of_roots}
 use Rattle.cj_pool.specs.Hands.{RefinerySeen, cells_of}
 use Rattle.cj_pool.specs.RootLists.{AreRoots}
 use Rattle.cj_pool.specs.Tree.{InTree, IsLeafOf}
-use Rattle.cj_pool.proofs.FinishLemmas.{all_moved, first_found}
+use Rattle.cj_pool.proofs.FinishLemmas.{first_found}
 use Rattle.cj_pool.proofs.refinery.Refinery.refine_rest.Goals as goal
 
 pub returns-clause-moved : goal.returns-clause-moved
 returns-clause-moved g c =
     let v = c.refine_open.new.leaves in
-    let sorted = c.sort.new.leaves in
-    let from = c.deref_mut.ensures.value in
-    let moved = subst (λ (xs : List Leaf). IsPermutation xs sorted) from c.sort.ensures.permutation in
-    let items = with_items_is v sorted (omega (arith, c.sort.auto.leaves, ap length from, v.ok.0)) in
+    let sorted = c.merge.new.leaves in
     let case = ap (λ (r : RefinerySeen). r.problem) c.self.view_is in
     let is = subst (λ (q : Problem). plain_leaves v.items ≡ plain_leaves c.args.leaves.items ++ leaves_of_roots (plain_problem q)
     (plain_cells c.args.cells.now)) case c.in_ok-refine_open.ensures.ok in
-    subst (λ (xs : List Leaf). IsPermutation (plain_leaves c.args.leaves.items ++ leaves_of_roots (plain_problem c.args.self.now.problem)
-    (plain_cells c.args.cells.now)) (plain_leaves xs)) (sym items)
-    (subst (λ (xs : List PlainLeaf). IsPermutation xs (plain_leaves sorted)) is (IsPermutation-map plain_leaf v.items sorted moved))
-
-pub returns-clause-ordered : goal.returns-clause-ordered
-returns-clause-ordered g c =
-    let v = c.refine_open.new.leaves in
-    let sorted = c.sort.new.leaves in
-    let items = with_items_is v sorted (omega (arith, c.sort.auto.leaves, ap length c.deref_mut.ensures.value, v.ok.0)) in
-    subst (λ (xs : List Leaf). AllPairs IsRootUpTo (plain_cells (cells_of xs))) (sym items) c.sort.ensures.ordered
+    subst (λ (xs : List PlainLeaf). IsPermutation xs (plain_leaves sorted.items)) is (IsPermutation-map plain_leaf v.items sorted.items c.merge.ensures.permutation)
 
 pub returns-clause-among : goal.returns-clause-among
 returns-clause-among g c =
     let v = c.refine_open.new.leaves in
-    let sorted = c.sort.new.leaves in
-    let from = c.deref_mut.ensures.value in
-    let moved = subst (λ (xs : List Leaf). IsPermutation xs sorted) from c.sort.ensures.permutation in
-    let items = with_items_is v sorted (omega (arith, c.sort.auto.leaves, ap length from, v.ok.0)) in
     let first = c.args.leaves in
     let l : vec_len first ≡ length first.items = omega (arith, first.ok.0) in
     let kept = subst (λ (m : ℕ). take m v.items ≡ first.items) l c.refine_open.ensures.kept in
-    subst (λ (xs : List Leaf). All (λ (leaf : Leaf). Contains xs leaf) first.items) (sym items) (first_found first.items v.items sorted kept moved)
+    first_found first.items v.items c.merge.new.leaves.items kept c.merge.ensures.permutation
 
 pub returns-clause-judged : goal.returns-clause-judged
 returns-clause-judged g c =
     let v = c.refine_open.new.leaves in
-    let sorted = c.sort.new.leaves in
-    let from = c.deref_mut.ensures.value in
-    let moved = subst (λ (xs : List Leaf). IsPermutation xs sorted) from c.sort.ensures.permutation in
-    let items = with_items_is v sorted (omega (arith, c.sort.auto.leaves, ap length from, v.ok.0)) in
     let case = ap (λ (r : RefinerySeen). r.problem) c.self.view_is in
     let told = subst (λ (q : Problem). (rs : List Cell) → AreRoots (plain_problem q) rs → All (InTree (plain_problem q) rs) c.args.cells.now → All
     (IsLeafOf (plain_problem q) rs) c.args.leaves.items → All (IsLeafOf (plain_problem q) rs) v.items) case c.in_ok-refine_open.ensures.judged in
     λ roots are trees closed.
-    subst (λ (xs : List Leaf). All (IsLeafOf (plain_problem c.args.self.now.problem) roots) xs) (sym items)
-    (all_moved (IsLeafOf (plain_problem c.args.self.now.problem) roots) v.items sorted (IsPermutation-sym v.items sorted moved)
-    (told roots are trees closed))
+    All-permutation (IsLeafOf (plain_problem c.args.self.now.problem) roots) v.items c.merge.new.leaves.items c.merge.ensures.permutation
+    (told roots are trees closed)
+
+pub returns-clause-within : goal.returns-clause-within
+returns-clause-within g c =
+    let v = c.refine_open.new.leaves in
+    let limit = ap (λ (r : RefinerySeen). r.limit) c.self.view_is in
+    omega (arith, length_permutation v.items c.merge.new.leaves.items c.merge.ensures.permutation, c.in_ok-refine_open.ensures.within, v.ok.0, limit)

@@ -1,0 +1,25 @@
+//! Leaves in order of pair and tick.
+ghost use Rattle.std.specs.Prelude.{AllPairs, OnOk};
+ghost use Rattle.std.specs.List.Sorted.{IsPermutation};
+ghost use Rattle.cj_hermite.specs.Roots.{IsRootUpTo};
+ghost use Rattle.cj_bezier.specs.Cells.{plain_cells};
+ghost use Rattle.cj_pool.specs.Hands.{cells_of};
+
+use cj_bezier::Leaf;
+use std::alloc::AllocError;
+
+/// Puts leaves in order.
+pub(crate) fn sort(leaves: &mut [Leaf])
+    ensures permutation { IsPermutation leaves.old leaves.new }
+    ensures ordered { AllPairs IsRootUpTo (plain_cells (cells_of leaves.new)) }
+{
+    leaves.sort_unstable_by_key(|leaf| (leaf.cell.pair, leaf.cell.first));
+}
+
+/// Puts leaves in order that are a few runs, each in order: the runs are merged.
+pub(crate) fn merge(leaves: &mut Vec<Leaf>) -> Result<(), AllocError>
+    ensures permutation { IsPermutation leaves.old.items leaves.new.items }
+    ensures ordered { OnOk result (AllPairs IsRootUpTo (plain_cells (cells_of leaves.new.items))) }
+{
+    leaves.sort_by_key(|leaf| (leaf.cell.pair, leaf.cell.first))
+}
