@@ -1,6 +1,8 @@
 //! Segments of two nodes.
 ghost use Rattle.std.specs.Prelude.{◌≡◌, ◌+◌, ◌*◌, ◌<◌, ◌≤◌, length, IfOk};
+ghost use Rattle.cj_track.specs.Tracks.{plain_node, plain_segment};
 ghost use Rattle.cj_samples.specs.Moments.{tick_of, IsPlace, IsRate};
+ghost use Rattle.cj_samples.specs.Samples as samples;
 
 use crate::ticks::second;
 use cj_track::{Matrices, Node, Nodes, Segment, Vec3};
@@ -34,7 +36,8 @@ pub const AT_7100: Vec3 = Vec3 {
 pub fn node(at: u8, p: Vec3, v: Vec3) -> Node
     requires place { IsPlace p }
     requires rate { IsRate v }
-    ensures { result.at.micros ≡ tick_of (at * 1000000) }
+    ensures at { result.at.micros ≡ tick_of (at * 1000000) }
+    ensures value { plain_node result ≡ samples.state at p v }
 {
     Node {
         at: second(at),
@@ -61,6 +64,7 @@ pub fn useable(
     ensures first { IfOk result (λ s. s.first.micros ≡ tick_of (first * 1000000)) }
     ensures last { IfOk result (λ s. s.last.micros ≡ tick_of (last * 1000000)) }
     ensures nodes { IfOk result (λ s. length s.nodes ≡ 2) }
+    ensures value { IfOk result (λ s. plain_segment s ≡ samples.between first last (plain_node from) (plain_node to)) }
 {
     Ok(Segment {
         first: second(first),
@@ -86,6 +90,7 @@ pub fn moving(
     ensures first { IfOk result (λ s. s.first.micros ≡ tick_of (first * 1000000)) }
     ensures last { IfOk result (λ s. s.last.micros ≡ tick_of (last * 1000000)) }
     ensures nodes { IfOk result (λ s. length s.nodes ≡ 2) }
+    ensures value { IfOk result (λ s. plain_segment s ≡ samples.between first last (samples.state first from v) (samples.state last to v)) }
 {
     useable(alloc, first, last, node(first, from, v), node(last, to, v))
 }
@@ -97,6 +102,7 @@ pub fn rest(alloc: Global, first: u8, last: u8, p: Vec3) -> Result<Segment, Allo
     ensures first { IfOk result (λ s. s.first.micros ≡ tick_of (first * 1000000)) }
     ensures last { IfOk result (λ s. s.last.micros ≡ tick_of (last * 1000000)) }
     ensures nodes { IfOk result (λ s. length s.nodes ≡ 2) }
+    ensures value { IfOk result (λ s. plain_segment s ≡ samples.between first last (samples.at_rest first p) (samples.at_rest last p)) }
 {
     moving(alloc, first, last, p, p, REST)
 }

@@ -1,6 +1,8 @@
 //! Tracks of given segments.
-ghost use Rattle.std.specs.Prelude.{◌≡◌, ◌≤◌, length, IfOk};
+ghost use Rattle.std.specs.Prelude.{◌≡◌, ◌≤◌, [], ◌∷◌, length, map, IfOk};
 ghost use Rattle.cj_track.specs.Segments.{AreSegments, node_count};
+ghost use Rattle.cj_track.specs.Tracks.{plain_segment, plain_track};
+ghost use Rattle.cj_samples.specs.Samples.{sat_a};
 
 use cj_kvn::Text;
 use cj_track::{Frame, Segment, Segments, Track};
@@ -12,6 +14,7 @@ pub fn track(alloc: Global, segments: Vec<Segment>) -> Result<Track, AllocError>
     requires { AreSegments segments.items }
     ensures frame { IfOk result (λ track. track.frame ≡ Frame.Eme2000) }
     ensures segments { IfOk result (λ track. track.segments ≡ segments.items) }
+    ensures value { IfOk result (λ track. plain_track track ≡ sat_a (map plain_segment segments.items)) }
 {
     Ok(Track {
         file: Text::copy_of(alloc, b"a.oem")?,
@@ -27,6 +30,7 @@ pub fn track_of(alloc: Global, segment: Segment) -> Result<Track, AllocError>
     requires { length segment.nodes ≡ 2 }
     ensures frame { IfOk result (λ track. track.frame ≡ Frame.Eme2000) }
     ensures nodes { IfOk result (λ track. node_count track.segments ≡ 2) }
+    ensures value { IfOk result (λ track. plain_track track ≡ sat_a (plain_segment segment ∷ [])) }
 {
     track(alloc, vec![in alloc; segment]?)
 }
@@ -38,6 +42,7 @@ pub fn track_of_two(alloc: Global, one: Segment, other: Segment) -> Result<Track
     requires other { length other.nodes ≡ 2 }
     ensures frame { IfOk result (λ track. track.frame ≡ Frame.Eme2000) }
     ensures nodes { IfOk result (λ track. node_count track.segments ≡ 4) }
+    ensures value { IfOk result (λ track. plain_track track ≡ sat_a (plain_segment one ∷ plain_segment other ∷ [])) }
 {
     track(alloc, vec![in alloc; one, other]?)
 }

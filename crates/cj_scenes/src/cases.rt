@@ -1,8 +1,11 @@
 //! Cases of two tracks.
 ghost use Rattle.std.specs.Prelude.{◌≡◌, ◌≤◌, [], ◌∷◌, length, IfOk};
 ghost use Rattle.cj_track.specs.Segments.{node_count};
+ghost use Rattle.cj_track.specs.Tracks.{plain_track};
 ghost use Rattle.cj_hermite.specs.Limits.{MAX_SIZE};
+ghost use Rattle.cj_hermite.specs.Problems.{plain_problem};
 ghost use Rattle.cj_hermite.specs.Slots.{slot_count};
+ghost use Rattle.cj_scenes.specs.Scenes.{case_of, path_along_y, path_along_z, resting_at};
 
 use crate::passing::{along_y, along_z};
 use cj_hermite::{Problem, Sizes, Tracks};
@@ -27,6 +30,7 @@ pub fn sized(
     ensures slots { IfOk result (λ problem. slot_count problem.window.first.micros problem.window.last.micros ≡ 2) }
     ensures threshold { IfOk result (λ problem. problem.threshold ≡ 5000000000000) }
     ensures sizes { IfOk result (λ problem. problem.sizes ≡ size_a ∷ size_b ∷ []) }
+    ensures value { IfOk result (λ problem. plain_problem problem ≡ case_of (plain_track a) (plain_track b) size_a size_b) }
 {
     Ok(Problem {
         tracks: Tracks::new(vec![in alloc; a, b]?),
@@ -45,6 +49,7 @@ pub fn problem_of(alloc: Global, a: Track, b: Track) -> Result<Problem, AllocErr
     ensures slots { IfOk result (λ problem. slot_count problem.window.first.micros problem.window.last.micros ≡ 2) }
     ensures threshold { IfOk result (λ problem. problem.threshold ≡ 5000000000000) }
     ensures sizes { IfOk result (λ problem. problem.sizes ≡ 0 ∷ 0 ∷ []) }
+    ensures value { IfOk result (λ problem. plain_problem problem ≡ case_of (plain_track a) (plain_track b) 0 0) }
 {
     sized(alloc, a, b, 0, 0)
 }
@@ -53,6 +58,7 @@ pub fn problem_of(alloc: Global, a: Track, b: Track) -> Result<Problem, AllocErr
 pub fn crossing(alloc: Global) -> Result<Problem, AllocError>
     ensures tracks { IfOk result (λ problem. length problem.tracks ≡ 2) }
     ensures slots { IfOk result (λ problem. slot_count problem.window.first.micros problem.window.last.micros ≡ 2) }
+    ensures value { IfOk result (λ problem. plain_problem problem ≡ case_of path_along_y path_along_z 0 0) }
 {
     problem_of(alloc, along_y(alloc)?, along_z(alloc)?)
 }
@@ -62,6 +68,7 @@ pub fn resting(alloc: Global) -> Result<Problem, AllocError>
     ensures tracks { IfOk result (λ problem. length problem.tracks ≡ 2) }
     ensures threshold { IfOk result (λ problem. problem.threshold ≡ 5000000000000) }
     ensures sizes { IfOk result (λ problem. problem.sizes ≡ 0 ∷ 0 ∷ []) }
+    ensures value { IfOk result (λ problem. plain_problem problem ≡ case_of (resting_at 7000) (resting_at 7005) 0 0) }
 {
     let a = track_of(alloc, rest(alloc, 0, 60, AT_7000)?)?;
     let b = track_of(alloc, rest(alloc, 0, 60, AT_7005)?)?;

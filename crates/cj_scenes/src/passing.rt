@@ -1,6 +1,8 @@
 //! Tracks that pass at 7.5 km/s, at right angles to each other and one kilometre apart.
 ghost use Rattle.std.specs.Prelude.{◌≡◌, IfOk};
 ghost use Rattle.cj_track.specs.Segments.{node_count};
+ghost use Rattle.cj_track.specs.Tracks.{plain_track};
+ghost use Rattle.cj_scenes.specs.Scenes.{path_along_y, path_along_z};
 
 use cj_samples::{moving, track_of};
 use cj_track::{Frame, Track, Vec3};
@@ -10,6 +12,7 @@ use std::alloc::{AllocError, Global};
 pub fn along_y(alloc: Global) -> Result<Track, AllocError>
     ensures frame { IfOk result (λ track. track.frame ≡ Frame.Eme2000) }
     ensures nodes { IfOk result (λ track. node_count track.segments ≡ 2) }
+    ensures value { IfOk result (λ track. plain_track track ≡ path_along_y) }
 {
     let v = Vec3 {
         x: 0,
@@ -33,6 +36,7 @@ pub fn along_y(alloc: Global) -> Result<Track, AllocError>
 pub fn along_z(alloc: Global) -> Result<Track, AllocError>
     ensures frame { IfOk result (λ track. track.frame ≡ Frame.Eme2000) }
     ensures nodes { IfOk result (λ track. node_count track.segments ≡ 2) }
+    ensures value { IfOk result (λ track. plain_track track ≡ path_along_z) }
 {
     let v = Vec3 {
         x: 0,
