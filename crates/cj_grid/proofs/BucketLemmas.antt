@@ -1,7 +1,8 @@
 -- Objects whose boxes touch share a bucket, or one of the boxes is wide.
-use Rattle.std.proofs.Common.{◌≡◌, ◌⊎◌, inl, inr, ℕ, zero, suc, ◌+◌, ◌-◌, ◌/◌, ◌<◌, ◌≤◌, max, Bool, true, false, cond, List, [], ◌∷◌, length, get_or, Option, Some, None, refl, sym, ap, subst, ◌∙◌, arith}
+use Rattle.std.proofs.Common.{◌≡◌, ◌⊎◌, inl, inr, ℕ, zero, suc, ◌+◌, ◌-◌, ◌*◌, ◌/◌, ◌^◌, ◌<◌, ◌≤◌, max, Bool, true, false, cond, List, [], ◌∷◌, length, get_or, Option, Some, None, refl, sym, ap, subst, ◌∙◌, arith}
 use Rattle.std.proofs.lemmas.Int.{ints}
 use Rattle.std.proofs.lemmas.Bool.{cases_Bool}
+use Rattle.std.proofs.lemmas.List.{get_or_default}
 use Rattle.std.proofs.lemmas.Nat.{le-div}
 use Rattle.std.proofs.Math.Nat.{div-mul-le_self}
 use Rattle.std.specs.Prelude.{◌&&◌, ℤ, pos, negsuc, ◌+ℤ◌, ◌-ℤ◌, ◌≤ℤ◌, is_some, option_map, option_and_then, slice_get, slice_index}
@@ -12,6 +13,7 @@ use Rattle.cj_hermite.specs.PlainProblems.{threshold_between}
 use Rattle.cj_bezier.specs.declared.axis_box.AxisBox.{AxisBox}
 use Rattle.cj_bezier.specs.SlotBoxes.{Reach, plain_box, plain_boxes, reaches_in, reach_touches, reaches_touch, both_touch, touch_between}
 use Rattle.cj_grid.specs.declared.entries.Entry.{Entry}
+use Rattle.cj_grid.specs.Found.{AreBoth}
 use Rattle.cj_grid.specs.Buckets.{BUCKET_SIDE, FIRST_CORNER, from_zero, bucket_on, Numbers, numbers_of, PlainBlock, block_of, is_wide, each_number, bucket_number, in_column, in_layer, in_block, block_in, entered_by, is_wide_one, entries_of, wide_of}
 
 -- ---- on an axis
@@ -242,10 +244,34 @@ wide_listed thr sizes boxes object lt wide =
     member_passes (λ k. is_wide_one (block_in thr sizes boxes k)) object wide (range_with_len 0 (length boxes)) (Exists-range 0 (length boxes) object (omega arith) (omega arith))
 
 -- objects that touch have boxes
-pub boxes_there : (thr : ℕ) (sizes : List ℕ) (boxes : List (Option AxisBox)) (a b : ℕ) → touch_between thr sizes (plain_boxes boxes) (a, b) ≡ true → (is_some (get_or boxes a None) ≡ true) × (is_some (get_or boxes b None) ≡ true)
+boxes_there : (thr : ℕ) (sizes : List ℕ) (boxes : List (Option AxisBox)) (a b : ℕ) → touch_between thr sizes (plain_boxes boxes) (a, b) ≡ true → (is_some (get_or boxes a None) ≡ true) × (is_some (get_or boxes b None) ≡ true)
 boxes_there thr sizes boxes a b h = go (box_in boxes a) (box_in boxes b) (touch_is thr sizes a b boxes ∙ h)
   where
     go : (x y : Option AxisBox) → both_touch (threshold_between thr sizes a b) (option_map plain_box x) (option_map plain_box y) ≡ true → (is_some x ≡ true) × (is_some y ≡ true)
     go None y touch = absurd cc
     go (Some p) None touch = absurd cc
     go (Some p) (Some q) touch = (refl, refl)
+
+-- so has the second of two that are one pair
+pub other_there : (thr : ℕ) (sizes : List ℕ) (boxes : List (Option AxisBox)) (one other a b : ℕ) → AreBoth one other a b → touch_between thr sizes (plain_boxes boxes) (a, b) ≡ true
+    → is_some (get_or boxes other None) ≡ true
+other_there thr sizes boxes one other a b (inl is) touch = subst (λ (k : ℕ). is_some (get_or boxes k None) ≡ true) (sym is.1) (boxes_there thr sizes boxes a b touch).1
+other_there thr sizes boxes one other a b (inr is) touch = subst (λ (k : ℕ). is_some (get_or boxes k None) ≡ true) (sym is.1) (boxes_there thr sizes boxes a b touch).0
+
+-- whether two objects touch, by the boxes that were read of them
+pub touch_by_boxes : (thr : ℕ) (sizes : List ℕ) (boxes : List (Option AxisBox)) (a b : ℕ) (x y d e : Option AxisBox) → a < length boxes → b < length boxes → get_or boxes a d ≡ x → get_or boxes b e ≡ y
+    → both_touch (threshold_between thr sizes a b) (option_map plain_box x) (option_map plain_box y) ≡ touch_between thr sizes (plain_boxes boxes) (a, b)
+touch_by_boxes thr sizes boxes a b x y d e first second own other =
+    let t = threshold_between thr sizes a b in
+    ap (λ (o : Option AxisBox). both_touch t (option_map plain_box o) (option_map plain_box y)) (sym (get_or_default boxes a None d first ∙ own))
+    ∙ ap (λ (o : Option AxisBox). both_touch t (option_map plain_box (box_in boxes a)) (option_map plain_box o)) (sym (get_or_default boxes b None e second ∙ other))
+    ∙ touch_is thr sizes a b boxes
+
+pub earlier : (a b n : ℕ) → a < b → b < n → a < n
+earlier a b n h k = omega arith
+
+pub far_most : (t : ℕ) → t ≤ 1002 * 10 ^ 12 → t ≤ 10 ^ 16
+far_most t h = omega arith
+
+pub at_least : (a b c : ℕ) → a ≤ b → b ≤ c → a ≤ c
+at_least a b c h k = omega arith

@@ -1,5 +1,5 @@
 -- Found pairs: sorted, each once, they are the pairs that touch, in order.
-use Rattle.std.proofs.Common.{◌≡◌, ◌⊎◌, inl, inr, ℕ, suc, ◌+◌, ◌<◌, ◌≤◌, Bool, true, false, cond, List, [], ◌∷◌, length, map, filter, Option, Some, None, refl, sym, ap, subst, ◌∙◌, arith, is_lt, nat_cmp}
+use Rattle.std.proofs.Common.{◌≡◌, ◌⊎◌, inl, inr, ℕ, suc, ◌+◌, ◌<◌, ◌≤◌, Bool, true, false, cond, List, [], ◌∷◌, ◌++◌, length, map, drop, drop-cons, filter, get_or, Option, Some, None, refl, sym, ap, subst, ◌∙◌, arith, is_lt, nat_cmp}
 use Rattle.std.specs.Prelude.{◌&&◌, nat_eq}
 use Rattle.std.specs.Ordering.{ordering_then}
 use Rattle.std.specs.declared.cmp.Ordering.{Ordering}
@@ -15,7 +15,7 @@ use Rattle.cj_hermite.proofs.PairLemmas.{IsPair, PairBefore, Each-pairs, Ordered
 use Rattle.cj_bezier.specs.declared.axis_box.AxisBox.{AxisBox}
 use Rattle.cj_bezier.specs.SlotBoxes.{plain_boxes, touch_between}
 use Rattle.cj_grid.specs.declared.entries.Entry.{Entry}
-use Rattle.cj_grid.specs.Found.{AreTouching, AreInOrder, HasPair, entry_at, unrepeated}
+use Rattle.cj_grid.specs.Found.{AreTouching, AreInOrder, HasPair, entry_at, is_again, unrepeated}
 use Rattle.cj_grid.proofs.BucketLemmas.{touching_near}
 
 -- ---- entries in order
@@ -240,3 +240,30 @@ found_sorted thr sizes boxes found sorted moved up touching each =
     found_is thr sizes boxes (map objects_of sorted) (Ordered-sorted sorted up)
     (touching_ones thr sizes boxes sorted (All-permutation (λ pair. touch_between thr sizes (plain_boxes boxes) (objects_of pair) ≡ true) found sorted moved touching))
     (λ a b lt touch. exists_from_Contains (map objects_of sorted) (a, b) (Contains-permutation (map objects_of found) (map objects_of sorted) (a, b) (IsPermutation-map objects_of found sorted moved) (each a b lt touch)))
+
+-- ---- each once
+
+ahead : (sorted : List Pair) (i : ℕ) (pair : Pair) → i < length sorted → pair ≡ get_or sorted i pair → map objects_of (drop i sorted) ≡ objects_of pair ∷ map objects_of (drop (i + 1) sorted)
+ahead sorted i pair below is =
+    let next : i + 1 ≡ suc i = omega arith in
+    rw next (ap (map objects_of) (drop-cons sorted i pair below ∙ ap (λ (p : Pair). p ∷ drop (suc i) sorted) (sym is)))
+
+-- a turn of the loop: a pair that was the last one, and another
+pub turn_again : (sorted : List Pair) (i : ℕ) (pair : Pair) (kept whole : List (ℕ × ℕ)) (last : Option (ℕ × ℕ)) → i < length sorted → pair ≡ get_or sorted i pair → is_again last (objects_of pair) ≡ true
+    → kept ++ unrepeated last (map objects_of (drop i sorted)) ≡ whole → kept ++ unrepeated (Some (objects_of pair)) (map objects_of (drop (i + 1) sorted)) ≡ whole
+turn_again sorted i pair kept whole last below is again so_far =
+    let here = ap (unrepeated last) (ahead sorted i pair below is) in
+    let left : unrepeated last (objects_of pair ∷ map objects_of (drop (i + 1) sorted)) ≡ unrepeated (Some (objects_of pair)) (map objects_of (drop (i + 1) sorted)) = rw again refl in
+    ap (λ (xs : List (ℕ × ℕ)). kept ++ xs) (sym (here ∙ left)) ∙ so_far
+
+pub turn_new : (sorted : List Pair) (i : ℕ) (pair : Pair) (pairs : List Pair) (whole : List (ℕ × ℕ)) (last : Option (ℕ × ℕ)) → i < length sorted → pair ≡ get_or sorted i pair → is_again last (objects_of pair) ≡ false
+    → map objects_of pairs ++ unrepeated last (map objects_of (drop i sorted)) ≡ whole → map objects_of (pairs ++ pair ∷ []) ++ unrepeated (Some (objects_of pair)) (map objects_of (drop (i + 1) sorted)) ≡ whole
+turn_new sorted i pair pairs whole last below is fresh so_far =
+    let rest = unrepeated (Some (objects_of pair)) (map objects_of (drop (i + 1) sorted)) in
+    let here = ap (unrepeated last) (ahead sorted i pair below is) in
+    let left : unrepeated last (objects_of pair ∷ map objects_of (drop (i + 1) sorted)) ≡ objects_of pair ∷ rest = rw fresh refl in
+    pushed pairs pair rest ∙ ap (λ (xs : List (ℕ × ℕ)). map objects_of pairs ++ xs) (sym (here ∙ left)) ∙ so_far
+  where
+    pushed : (pairs : List Pair) (pair : Pair) (rest : List (ℕ × ℕ)) → map objects_of (pairs ++ pair ∷ []) ++ rest ≡ map objects_of pairs ++ objects_of pair ∷ rest
+    pushed [] pair rest = refl
+    pushed (p ∷ pairs) pair rest = ap (λ (xs : List (ℕ × ℕ)). objects_of p ∷ xs) (pushed pairs pair rest)

@@ -2,7 +2,7 @@
 use Rattle.std.proofs.Common.{◌≡◌, ℕ, ◌<◌, arith, sym, ap, subst, ◌∙◌, List, length, slice_index_or, map}
 use Rattle.std.proofs.lemmas.Int.{ints, clamps}
 use Rattle.std.proofs.lemmas.List.{get_or_default}
-use Rattle.std.specs.Prelude.{ℤ, pos}
+use Rattle.std.specs.Prelude.{ℤ, pos, ◌≤ℤ◌}
 use Rattle.std.specs.Int.{int_min, int_max}
 use Rattle.std.specs.List.{All}
 use Rattle.cj_interval.specs.declared.span.Span.{Span}
@@ -24,6 +24,9 @@ span_within m a b s both p q = record {
   low = let e = both.lower in rw e (omega (arith, ints, clamps, p.low, q.low));
   high = let e = both.upper in rw e (omega (arith, ints, clamps, p.high, q.high));
 }
+
+pub joined_order : (a b c d : ℤ) → a ≤ℤ b → int_min a c ≤ℤ int_max b d
+joined_order a b c d h = omega (arith, ints, clamps)
 
 -- ---- the box of a hull
 

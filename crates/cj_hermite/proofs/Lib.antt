@@ -12,6 +12,7 @@ pub mod PairLemmas
 pub mod PieceLemmas
 pub mod PlaceLemmas
 pub mod RateLemmas
+pub mod ReachLemmas
 pub mod ReadyLemmas
 pub mod RootLemmas
 pub mod RootSumLemmas

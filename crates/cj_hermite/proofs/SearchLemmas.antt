@@ -58,7 +58,7 @@ pub not_begun : (m k : ℕ) (segments : List Segment) (test : Bool) → test ≡
 not_begun m k segments test failed past = (λ h. absurd cc, λ has. absurd (omega (arith, has.exists)))
 
 -- and the next has not
-pub last_begun_is : (m k : ℕ) (segments : List Segment) → HasBegun m segments k → ¬ HasBegun m segments (k + 1) → IsLastBegun m segments k
+last_begun_is : (m k : ℕ) (segments : List Segment) → HasBegun m segments k → ¬ HasBegun m segments (k + 1) → IsLastBegun m segments k
 last_begun_is m k segments has past = record {
   exists = has.exists;
   begun = has.begun;
@@ -72,6 +72,12 @@ last_begun_is m k segments has past = record {
         })))
   ];
 }
+
+-- by the tests of both
+pub last_begun_by_tests : (m k : ℕ) (segments : List Segment) (here next : Bool) → ((here ≡ true) ↔ HasBegun m segments k) → ((next ≡ true) ↔ HasBegun m segments (k + 1))
+    → here ≡ true → not next ≡ true → IsLastBegun m segments k
+last_begun_by_tests m k segments here true first behind h n = absurd cc
+last_begun_by_tests m k segments here false first behind h n = last_begun_is m k segments (first.0 h) (λ has. let own = behind.1 has in absurd cc)
 
 above_head : (a : Node) (nodes : List Node) (j : ℕ) (d : Node) → AreSteps (a ∷ nodes) → j < length nodes → a.at.micros < (get_or nodes j d).at.micros
 above_head a [] j d steps below = absurd (omega arith)

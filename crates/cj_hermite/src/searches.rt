@@ -36,7 +36,6 @@ pub fn last_begun_from(segments: &[Segment], at: Tick, hint: u32) -> Option<usiz
 }
 
 /// Whether this is the last segment that begins at the tick or before.
-#[tactic(auto, using(crate::proofs::SearchLemmas::last_begun_is))]
 fn is_last_begun(segments: &[Segment], at: Tick, number: usize) -> bool
     ensures { IsTrue result → IsLastBegun at.micros segments.now number }
 {

@@ -1,8 +1,11 @@
 -- Products of two spans whose signs are known: the least and the greatest of the four products of ends.
-use Rattle.std.proofs.Common.{◌≡◌, zero, suc, arith}
-use Rattle.std.proofs.lemmas.Int.{ints, clamps}
+use Rattle.std.proofs.Common.{◌≡◌, ◌^◌, zero, suc, arith, sym, subst, true, FitsSigned, to_z, of_z, to_z-of_z}
+use Rattle.std.proofs.lemmas.Int.{ints, clamps, fits_signed_from_abs}
+use Rattle.std.specs.Int.{w128}
 use Rattle.std.specs.Prelude.{ℤ, pos, negsuc, ◌*ℤ◌, ◌≤ℤ◌}
 use lib.IntN.{*ℤ-zero}
+use lib.Signed.{le_z}
+use Rattle.cj_interval.specs.Sizes.{IsWithin}
 use Rattle.cj_interval.specs.Spans.{least, greatest}
 use Rattle.cj_interval.proofs.IntegerLemmas.{mul-le_right, mul-le_turn, mul_comm_ℤ, le_refl_ℤ}
 
@@ -58,3 +61,14 @@ first_negative a b c d h k p q =
 pub both_negative : (a b c d : ℤ) → a ≤ℤ b → c ≤ℤ d → b ≤ℤ pos 0 → d ≤ℤ pos 0 → AreEnds (b *ℤ d) (a *ℤ c) (a *ℤ c) (a *ℤ d) (b *ℤ c) (b *ℤ d)
 both_negative a b c d h k p q =
     last_to_first _ _ _ _ (turns_left a c d (omega (arith, ints)) k) (turns a b c (omega (arith, ints)) h) (turns a b d q h) (turns_left b c d p k)
+
+-- ---- the code's tests, and ends that are read
+
+pub from_zero : (z : ℤ) → FitsSigned w128 z → le_z (pos 0) (to_z w128 (of_z w128 z)) ≡ true → pos 0 ≤ℤ z
+from_zero z f h = let k = rw (to_z-of_z f) at h in grind (arith, ints)
+
+pub to_zero : (z : ℤ) → FitsSigned w128 z → le_z (to_z w128 (of_z w128 z)) (pos 0) ≡ true → z ≤ℤ pos 0
+to_zero z f h = let k = rw (to_z-of_z f) at h in grind (arith, ints)
+
+pub end_read : (z : ℤ) → IsWithin (2 ^ 62) z → IsWithin (2 ^ 62) (to_z w128 (of_z w128 z))
+end_read z h = subst (IsWithin (2 ^ 62)) (sym (to_z-of_z (fits_signed_from_abs w128 z (omega arith)))) h

@@ -4,6 +4,8 @@ use Rattle.cj_grid.specs.Among.{AreFoundAt}
 use Rattle.cj_grid.specs.Found.{entry_at}
 use Rattle.cj_grid.proofs.EntryLemmas.{entered_more, entered_few}
 use Rattle.cj_grid.proofs.PairingLemmas.{in_bucket, none_behind}
+use Rattle.std.proofs.lemmas.Result.{IfOk-from_err}
+use Rattle.cj_grid.proofs.BucketLemmas.{at_least}
 use Rattle.cj_grid.proofs.bucket_pairs.append_row.Goals as goal
 
 pub loop-own-init : goal.loop-own-init
@@ -69,3 +71,24 @@ returns-clause-steps g c =
     let few = entered_few (entry_at c.args.entries.now c.args.at).bucket c.args.entries.now c.loop-own.next in
     let so_far = c.loop-own.invariant.steps in
     omega arith
+
+pub returns-clause-touching : goal.returns-clause-touching
+returns-clause-touching g c = c.loop-own.invariant.touching
+
+pub returns-clause-kept : goal.returns-clause-kept
+returns-clause-kept g c = c.loop-own.invariant.kept
+
+pub returns-clause-no_fewer : goal.returns-clause-no_fewer
+returns-clause-no_fewer g c = c.loop-own.invariant.no_fewer
+
+pub returns-in_err-append_pair-clause-touching : goal.returns-in_err-append_pair-clause-touching
+returns-in_err-append_pair-clause-touching g c = IfOk-from_err c.from_residual.result _ c.from_residual.ensures.0
+
+pub returns-in_err-append_pair-clause-kept : goal.returns-in_err-append_pair-clause-kept
+returns-in_err-append_pair-clause-kept g c = IfOk-from_err c.from_residual.result _ c.from_residual.ensures.0
+
+pub returns-in_err-append_pair-clause-found : goal.returns-in_err-append_pair-clause-found
+returns-in_err-append_pair-clause-found g c = IfOk-from_err c.from_residual.result _ c.from_residual.ensures.0
+
+pub returns-in_err-append_pair-clause-no_fewer : goal.returns-in_err-append_pair-clause-no_fewer
+returns-in_err-append_pair-clause-no_fewer g c = at_least _ _ _ c.loop-own.invariant.no_fewer c.append_pair.ensures.no_fewer

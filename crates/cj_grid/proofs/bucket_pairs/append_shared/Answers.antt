@@ -4,6 +4,8 @@ use Rattle.cj_grid.specs.declared.entries.Entry.{Entry}
 use Rattle.cj_grid.specs.Among.{AreFoundAt}
 use Rattle.cj_grid.specs.Buckets.{entered_in}
 use Rattle.cj_grid.specs.Found.{ShareBucket}
+use Rattle.std.proofs.lemmas.Result.{IfOk-from_err}
+use Rattle.cj_grid.proofs.BucketLemmas.{at_least}
 use Rattle.cj_grid.proofs.bucket_pairs.append_shared.Goals as goal
 
 pub loop-at-init : goal.loop-at-init
@@ -39,3 +41,24 @@ returns-in_err-append_row-clause-steps g c =
     let now = c.append_row.ensures.steps in
     let all = sum_by_more_le (λ (e : Entry). entered_in e.bucket entries) entries c.loop-at.at (record { bucket = 0; object = 0 }) (omega arith) in
     omega arith
+
+pub returns-clause-touching : goal.returns-clause-touching
+returns-clause-touching g c = c.loop-at.invariant.touching
+
+pub returns-clause-kept : goal.returns-clause-kept
+returns-clause-kept g c = c.loop-at.invariant.kept
+
+pub returns-clause-no_fewer : goal.returns-clause-no_fewer
+returns-clause-no_fewer g c = c.loop-at.invariant.no_fewer
+
+pub returns-in_err-append_row-clause-touching : goal.returns-in_err-append_row-clause-touching
+returns-in_err-append_row-clause-touching g c = IfOk-from_err c.from_residual.result _ c.from_residual.ensures.0
+
+pub returns-in_err-append_row-clause-kept : goal.returns-in_err-append_row-clause-kept
+returns-in_err-append_row-clause-kept g c = IfOk-from_err c.from_residual.result _ c.from_residual.ensures.0
+
+pub returns-in_err-append_row-clause-found : goal.returns-in_err-append_row-clause-found
+returns-in_err-append_row-clause-found g c = IfOk-from_err c.from_residual.result _ c.from_residual.ensures.0
+
+pub returns-in_err-append_row-clause-no_fewer : goal.returns-in_err-append_row-clause-no_fewer
+returns-in_err-append_row-clause-no_fewer g c = at_least _ _ _ c.loop-at.invariant.no_fewer c.append_row.ensures.no_fewer

@@ -2,6 +2,8 @@ use Rattle.std.proofs.Common.{◌≡◌, ◌⊎◌, inl, inr, ℕ, ◌+◌, ◌-
 use Rattle.std.specs.Prelude.{count_by, is_some, slice_index}
 use Rattle.std.proofs.lemmas.List.{get_or_default}
 use Rattle.cj_grid.specs.Among.{AreFound}
+use Rattle.std.proofs.lemmas.Result.{IfOk-from_err}
+use Rattle.cj_grid.proofs.BucketLemmas.{at_least}
 use Rattle.cj_grid.proofs.bucket_pairs.append_wide.Goals as goal
 
 pub loop-one-init : goal.loop-one-init
@@ -51,3 +53,24 @@ returns-clause-found g c a b up either touch =
       | inl has ↦ let lt = has.1 in c.loop-one.invariant.found has.0 (omega arith) a b up (inl (listed c.args.wide.now a has.0 has.1 has.2)) touch
       | inr has ↦ let lt = has.1 in c.loop-one.invariant.found has.0 (omega arith) a b up (inr (listed c.args.wide.now b has.0 has.1 has.2)) touch
     ]
+
+pub returns-clause-touching : goal.returns-clause-touching
+returns-clause-touching g c = c.loop-one.invariant.touching
+
+pub returns-clause-kept : goal.returns-clause-kept
+returns-clause-kept g c = c.loop-one.invariant.kept
+
+pub returns-clause-no_fewer : goal.returns-clause-no_fewer
+returns-clause-no_fewer g c = c.loop-one.invariant.no_fewer
+
+pub returns-in_err-append_with_all-clause-touching : goal.returns-in_err-append_with_all-clause-touching
+returns-in_err-append_with_all-clause-touching g c = IfOk-from_err c.from_residual.result _ c.from_residual.ensures.0
+
+pub returns-in_err-append_with_all-clause-kept : goal.returns-in_err-append_with_all-clause-kept
+returns-in_err-append_with_all-clause-kept g c = IfOk-from_err c.from_residual.result _ c.from_residual.ensures.0
+
+pub returns-in_err-append_with_all-clause-found : goal.returns-in_err-append_with_all-clause-found
+returns-in_err-append_with_all-clause-found g c = IfOk-from_err c.from_residual.result _ c.from_residual.ensures.0
+
+pub returns-in_err-append_with_all-clause-no_fewer : goal.returns-in_err-append_with_all-clause-no_fewer
+returns-in_err-append_with_all-clause-no_fewer g c = at_least _ _ _ c.loop-one.invariant.no_fewer c.append_with_all.ensures.no_fewer

@@ -4,7 +4,8 @@ use Rattle.std.proofs.lemmas.List.Sums.{sum_by_more, sum_by_more_le}
 use Rattle.cj_bezier.specs.declared.axis_box.AxisBox.{AxisBox}
 use Rattle.cj_grid.specs.Among.{AreFound}
 use Rattle.cj_grid.specs.Found.{AreBoth}
-use Rattle.cj_grid.proofs.BucketLemmas.{touching_near}
+use Rattle.std.proofs.lemmas.Result.{IfOk-from_err}
+use Rattle.cj_grid.proofs.BucketLemmas.{at_least, touching_near}
 use Rattle.cj_grid.proofs.bucket_pairs.append_with_all.Goals as goal
 
 pub loop-other-init : goal.loop-other-init
@@ -53,3 +54,24 @@ returns-clause-found g c a b up either touch =
       | inl is ↦ c.loop-other.invariant.found b (omega arith) a b up (inl (is, refl)) touch
       | inr is ↦ c.loop-other.invariant.found a (omega arith) a b up (inr (is, refl)) touch
     ]
+
+pub returns-clause-touching : goal.returns-clause-touching
+returns-clause-touching g c = c.loop-other.invariant.touching
+
+pub returns-clause-kept : goal.returns-clause-kept
+returns-clause-kept g c = c.loop-other.invariant.kept
+
+pub returns-clause-no_fewer : goal.returns-clause-no_fewer
+returns-clause-no_fewer g c = c.loop-other.invariant.no_fewer
+
+pub returns-in_err-append_with-clause-touching : goal.returns-in_err-append_with-clause-touching
+returns-in_err-append_with-clause-touching g c = IfOk-from_err c.from_residual.result _ c.from_residual.ensures.0
+
+pub returns-in_err-append_with-clause-kept : goal.returns-in_err-append_with-clause-kept
+returns-in_err-append_with-clause-kept g c = IfOk-from_err c.from_residual.result _ c.from_residual.ensures.0
+
+pub returns-in_err-append_with-clause-found : goal.returns-in_err-append_with-clause-found
+returns-in_err-append_with-clause-found g c = IfOk-from_err c.from_residual.result _ c.from_residual.ensures.0
+
+pub returns-in_err-append_with-clause-no_fewer : goal.returns-in_err-append_with-clause-no_fewer
+returns-in_err-append_with-clause-no_fewer g c = at_least _ _ _ c.loop-other.invariant.no_fewer c.append_with.ensures.no_fewer

@@ -4,6 +4,72 @@ use Rattle.cj_hermite.specs.Interpolant.{four_of}
 use Rattle.cj_hermite.proofs.RateLemmas.{rate_holds, rate-width}
 use Rattle.cj_hermite.proofs.rates.axis_rate.Goals as goal
 
+pub difference-first-requires-clause-first : goal.difference-first-requires-clause-first
+difference-first-requires-clause-first c =
+    let f : FitsSigned w128 (slice_index_or c.args.k.now 0 (pos 0)) = search rules in
+    rw (to_z-of_z f) c.requires.controls.k0
+
+pub difference-first-requires-clause-second : goal.difference-first-requires-clause-second
+difference-first-requires-clause-second c =
+    let f : FitsSigned w128 (slice_index_or c.args.k.now 1 (pos 0)) = search rules in
+    rw (to_z-of_z f) c.requires.controls.k1
+
+pub difference-second-requires-clause-first : goal.difference-second-requires-clause-first
+difference-second-requires-clause-first c =
+    let f : FitsSigned w128 (slice_index_or c.args.k.now 1 (pos 0)) = search rules in
+    rw (to_z-of_z f) c.requires.controls.k1
+
+pub difference-second-requires-clause-second : goal.difference-second-requires-clause-second
+difference-second-requires-clause-second c =
+    let f : FitsSigned w128 (slice_index_or c.args.k.now 2 (pos 0)) = search rules in
+    rw (to_z-of_z f) c.requires.controls.k2
+
+pub difference-third-requires-clause-first : goal.difference-third-requires-clause-first
+difference-third-requires-clause-first c =
+    let f : FitsSigned w128 (slice_index_or c.args.k.now 2 (pos 0)) = search rules in
+    rw (to_z-of_z f) c.requires.controls.k2
+
+pub difference-third-requires-clause-second : goal.difference-third-requires-clause-second
+difference-third-requires-clause-second c =
+    let f : FitsSigned w128 (slice_index_or c.args.k.now 3 (pos 0)) = search rules in
+    rw (to_z-of_z f) c.requires.controls.k3
+
+pub from_differences-before-requires : goal.from_differences-before-requires
+from_differences-before-requires c =
+    let f : FitsSigned w128 c.difference-first.result = record { sfits = c.difference-first.type_inv } in
+    let g : FitsSigned w128 c.difference-second.result = record { sfits = c.difference-second.type_inv } in
+    record {
+      some = c.requires.some;
+      short = c.requires.short;
+      inside = c.requires.inside;
+      first = rw (to_z-of_z f) c.difference-first.ensures.within;
+      second = rw (to_z-of_z g) c.difference-second.ensures.within;
+    }
+
+pub from_differences-after-requires : goal.from_differences-after-requires
+from_differences-after-requires c =
+    let f : FitsSigned w128 c.difference-second.result = record { sfits = c.difference-second.type_inv } in
+    let g : FitsSigned w128 c.difference-third.result = record { sfits = c.difference-third.type_inv } in
+    record {
+      some = c.requires.some;
+      short = c.requires.short;
+      inside = c.requires.inside;
+      first = rw (to_z-of_z f) c.difference-second.ensures.within;
+      second = rw (to_z-of_z g) c.difference-third.ensures.within;
+    }
+
+pub from_rates-requires : goal.from_rates-requires
+from_rates-requires c = record {
+  some = c.requires.some;
+  short = c.requires.short;
+  inside = c.requires.inside;
+  first = c.from_differences-before.ensures.within;
+  second = c.from_differences-after.ensures.within;
+}
+
+pub returns-clause-within : goal.returns-clause-within
+returns-clause-within c = c.from_rates.ensures.within
+
 pub returns-clause-value : goal.returns-clause-value
 returns-clause-value c =
     let f0 : FitsSigned w128 (slice_index_or c.args.k.now 0 (pos 0)) = search rules in

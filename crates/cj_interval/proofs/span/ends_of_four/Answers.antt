@@ -1,6 +1,31 @@
 use Rattle.std.proofs.Common.{FitsSigned, to_z-of_z, rules, ◌∙◌}
 use Rattle.std.specs.Int.{w128}
+use Rattle.cj_interval.proofs.SignLemmas.{end_read}
 use Rattle.cj_interval.proofs.span.ends_of_four.Goals as goal
+
+pub corner-low_low-requires : goal.corner-low_low-requires
+corner-low_low-requires c = record {
+  first = end_read c.args.first.lo c.requires.first_low;
+  second = end_read c.args.second.lo c.requires.second_low;
+}
+
+pub corner-low_high-requires : goal.corner-low_high-requires
+corner-low_high-requires c = record {
+  first = end_read c.args.first.lo c.requires.first_low;
+  second = end_read c.args.second.hi c.requires.second_high;
+}
+
+pub corner-high_low-requires : goal.corner-high_low-requires
+corner-high_low-requires c = record {
+  first = end_read c.args.first.hi c.requires.first_high;
+  second = end_read c.args.second.lo c.requires.second_low;
+}
+
+pub corner-high_high-requires : goal.corner-high_high-requires
+corner-high_high-requires c = record {
+  first = end_read c.args.first.hi c.requires.first_high;
+  second = end_read c.args.second.hi c.requires.second_high;
+}
 
 pub returns-clause-lower : goal.returns-clause-lower
 returns-clause-lower c =

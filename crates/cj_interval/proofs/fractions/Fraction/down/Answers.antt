@@ -1,8 +1,37 @@
-use Rattle.std.proofs.Common.{FitsSigned, to_z-of_z, ◌∙◌, ap, sym, rules}
+use Rattle.std.proofs.Common.{◌^◌, arith, FitsSigned, to_z-of_z, ◌∙◌, ap, sym, rules}
 use Rattle.std.specs.Prelude.{ℤ, pos, ◌*ℤ◌}
 use Rattle.std.specs.Int.{w64}
+use Rattle.cj_interval.specs.Sizes.{IsWithin}
 use Rattle.cj_interval.proofs.FractionLemmas.{way-floor}
 use Rattle.cj_interval.proofs.fractions.Fraction.down.Goals as goal
+
+pub difference-requires-clause-first : goal.difference-requires-clause-first
+difference-requires-clause-first c =
+    let f : FitsSigned w64 c.args.b = c.ranges.b in
+    rw (to_z-of_z f) c.requires.second
+
+pub difference-requires-clause-second : goal.difference-requires-clause-second
+difference-requires-clause-second c =
+    let f : FitsSigned w64 c.args.a = c.ranges.a in
+    rw (to_z-of_z f) c.requires.first
+
+pub split-whole-requires : goal.split-whole-requires
+split-whole-requires c =
+    let f : FitsSigned w64 c.difference.result = record { sfits = c.difference.type_inv } in
+    rw (to_z-of_z f) c.difference.ensures.within
+
+pub sum-requires-clause-first : goal.sum-requires-clause-first
+sum-requires-clause-first c =
+    let f : FitsSigned w64 c.args.a = c.ranges.a in
+    rw (to_z-of_z f) c.requires.first
+
+wider : (z : ℤ) → IsWithin (2 ^ 60) z → IsWithin (2 ^ 61) z
+wider z h = omega arith
+
+pub sum-requires-clause-second : goal.sum-requires-clause-second
+sum-requires-clause-second c =
+    let f : FitsSigned w64 c.split-whole.result.0 = search rules in
+    rw (to_z-of_z f) (wider c.split-whole.result.0 c.split-whole.ensures.within)
 
 pub returns : goal.returns
 returns c =

@@ -3,6 +3,23 @@ use Rattle.std.specs.Int.{w64}
 use Rattle.cj_interval.proofs.FractionLemmas.{lifted, whole_within}
 use Rattle.cj_interval.proofs.fractions.Fraction.split.Goals as goal
 
+pub raised-requires-clause-high : goal.raised-requires-clause-high
+raised-requires-clause-high c = c.args.self.now.high
+
+pub raised-requires-clause-low : goal.raised-requires-clause-low
+raised-requires-clause-low c = c.args.self.now.low
+
+pub raised-requires-clause-within : goal.raised-requires-clause-within
+raised-requires-clause-within c =
+    let f : FitsSigned w64 c.args.d = c.ranges.d in
+    rw (to_z-of_z f) c.requires
+
+pub part-whole-requires : goal.part-whole-requires
+part-whole-requires c = c.raised.ensures.small
+
+pub returns-clause-rest : goal.returns-clause-rest
+returns-clause-rest c = c.part-whole.ensures.rest
+
 pub returns-clause-whole : goal.returns-clause-whole
 returns-clause-whole c =
     let f : FitsSigned w64 c.args.d = c.ranges.d in

@@ -4,6 +4,36 @@ use Rattle.std.specs.Int.{w64}
 use Rattle.cj_interval.proofs.FractionLemmas.{way-ceil}
 use Rattle.cj_interval.proofs.fractions.Fraction.up.Goals as goal
 
+pub difference-requires-clause-first : goal.difference-requires-clause-first
+difference-requires-clause-first c =
+    let f : FitsSigned w64 c.args.b = c.ranges.b in
+    rw (to_z-of_z f) c.requires.second
+
+pub difference-requires-clause-second : goal.difference-requires-clause-second
+difference-requires-clause-second c =
+    let f : FitsSigned w64 c.args.a = c.ranges.a in
+    rw (to_z-of_z f) c.requires.first
+
+pub split-whole-requires : goal.split-whole-requires
+split-whole-requires c =
+    let f : FitsSigned w64 c.difference.result = record { sfits = c.difference.type_inv } in
+    rw (to_z-of_z f) c.difference.ensures.within
+
+pub sum-requires-clause-first : goal.sum-requires-clause-first
+sum-requires-clause-first c =
+    let f : FitsSigned w64 c.args.a = c.ranges.a in
+    rw (to_z-of_z f) c.requires.first
+
+pub rounded_up-requires : goal.rounded_up-requires
+rounded_up-requires c =
+    let f : FitsSigned w64 c.split-whole.result.0 = search rules in
+    rw (to_z-of_z f) c.split-whole.ensures.within
+
+pub sum-requires-clause-second : goal.sum-requires-clause-second
+sum-requires-clause-second c =
+    let f : FitsSigned w64 c.rounded_up.result = record { sfits = c.rounded_up.type_inv } in
+    rw (to_z-of_z f) c.rounded_up.ensures.within
+
 pub returns : goal.returns
 returns c =
     let fa : FitsSigned w64 c.args.a = c.ranges.a in
