@@ -1,9 +1,10 @@
 -- Where the digits of an epoch text stand.
 use Prim.Native.String.{String}
-use Rattle.std.proofs.Common.{◌≡◌, ℕ, List, [], ◌∷◌, length, map, take, drop, true, false, Bool, cond, subst, ◌∙◌, sym, arith, refl}
+use Rattle.std.proofs.Common.{◌≡◌, ℕ, ◌≤◌, List, [], ◌∷◌, length, map, take, drop, true, false, Bool, cond, subst, ◌∙◌, sym, arith, refl}
 use Rattle.std.specs.Prelude.{IsTrue, ◌||◌, ◌==◌, codes, nat_le}
 use Rattle.std.specs.Char.{is_ascii_digit}
 use Rattle.std.specs.List.{list_all, list_any, filter, zip}
+use Rattle.std.proofs.lemmas.Bool.{leb-true}
 use Rattle.std.proofs.lemmas.Bool.Decides.{nat_tests}
 use Rattle.cj_epoch.specs.Picture.{stands_for, is_like, begins_like, digits_at}
 use Rattle.cj_epoch.specs.Reading.{CALENDAR, ORDINAL}
@@ -45,6 +46,18 @@ number_is : (picture text : List ℕ) (letter : String) (bytes : List ℕ) → I
 number_is picture text letter bytes place begins here =
     let like = (and_is (nat_le (length picture) (length text)) (is_like picture text) begins).1 in
     record { here = here; digits = subst AreDigits (sym here) (digits_at-digits picture text letter place like) }
+
+-- such a text is as long as the picture
+at_least : (picture text : List ℕ) → begins_like picture text ≡ true → length picture ≤ length text
+at_least picture text begins =
+    let long = (and_is (nat_le (length picture) (length text)) (is_like picture text) begins).0 in
+    leb-true (length picture) (length text) long
+
+pub calendar_long : (text : List ℕ) → begins_like CALENDAR text ≡ true → 19 ≤ length text
+calendar_long text begins = at_least CALENDAR text begins
+
+pub ordinal_long : (text : List ℕ) → begins_like ORDINAL text ≡ true → 17 ≤ length text
+ordinal_long text begins = at_least ORDINAL text begins
 
 -- the places of the calendar form
 record CalendarPlaces (text : List ℕ) : Type 0 where

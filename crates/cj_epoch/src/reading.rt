@@ -1,4 +1,4 @@
-ghost use Rattle.std.specs.Prelude.{◌≡◌, ◌<◌, IsTrue, MatchOption, IfOk, IfSome};
+ghost use Rattle.std.specs.Prelude.{◌≡◌, ◌<◌, ◌≤◌, length, IsTrue, MatchOption, IfOk, IfSome};
 ghost use Rattle.std.specs.Char.{is_ascii_digit};
 ghost use Rattle.std.specs.Io.BufRead.{strip_last};
 ghost use Rattle.std.specs.List.{list_all};
@@ -34,7 +34,8 @@ pub fn read_epoch(text: &[u8]) -> Result<Tick, EpochFault>
 
 /// A text that begins like `YYYY-MM-DDThh:mm:ss`.
 fn read_calendar(text: &[u8]) -> Result<Tick, EpochFault>
-    requires { IsTrue (pictures.begins_like CALENDAR text.now) }
+    requires like { IsTrue (pictures.begins_like CALENDAR text.now) }
+    requires long { 19 ≤ length text.now }
     ensures { Gives result (calendar_reading text.now) }
 {
     let day = day_at_date(
@@ -52,7 +53,8 @@ fn read_calendar(text: &[u8]) -> Result<Tick, EpochFault>
 
 /// A text that begins like `YYYY-DDDThh:mm:ss`.
 fn read_ordinal(text: &[u8]) -> Result<Tick, EpochFault>
-    requires { IsTrue (pictures.begins_like ORDINAL text.now) }
+    requires like { IsTrue (pictures.begins_like ORDINAL text.now) }
+    requires long { 17 ≤ length text.now }
     ensures { Gives result (ordinal_reading text.now) }
 {
     let day = day_at_ordinal(number(&text[..4]), number(&text[5..8]));

@@ -1,9 +1,12 @@
 -- The bytes of a file by its place in the list, and parts of a file that come one after another.
-use Rattle.std.proofs.Common.{◌≡◌, ℕ, zero, suc, ◌+◌, List, [], ◌∷◌, ◌++◌, ◌<◌, ◌≤◌, length, take, drop, sym, ap, ◌∙◌, arith, append_assoc, length-append, slice_index_or}
+use Rattle.std.proofs.Common.{◌≡◌, ℕ, zero, suc, ◌+◌, List, [], ◌∷◌, ◌++◌, ◌<◌, ◌≤◌, length, take, drop, sym, ap, ◌∙◌, arith, append_assoc, append-nil, length-append, slice_index_or, get_or}
 use Rattle.std.proofs.lemmas.List.{length-take, take-take, take-append-le}
 use Rattle.std.proofs.Math.Seq.{take-add, take-append-add}
 use Rattle.cj_io.specs.declared.file.FileBytes.{FileBytes}
+use Rattle.std.specs.Global.{Vec}
+use Rattle.cj_io.specs.Faults.{Rose}
 use Rattle.cj_io.specs.Files.{bytes_of, ReadsFrom}
+use Rattle.cj_io.specs.Parts.{joined}
 
 pub bytes_of-at : (files : List FileBytes) (n : ℕ) (file : FileBytes) → n < length files → file ≡ slice_index_or files n file → file.bytes ≡ bytes_of files n
 bytes_of-at [] n file below is = absurd (omega arith)
@@ -31,3 +34,15 @@ next_part bytes front buffer read count so_far came =
     ap (λ (xs : List ℕ). front ++ xs) came.front
     ∙ ap (λ (xs : List ℕ). xs ++ take count (drop read bytes)) so_far
     ∙ sym (take-add read count bytes)
+
+-- a count that rose has risen since any earlier time
+pub rose_since : (first before now : ℕ) → first ≤ before → Rose before now → Rose first now
+rose_since first before now later rose = omega arith
+
+-- the first parts with one more
+pub joined_more : (parts : List (Vec ℕ)) (i : ℕ) (part : Vec ℕ) → i < length parts → part ≡ get_or parts i part → joined (take (i + 1) parts) ≡ joined (take i parts) ++ part.items
+joined_more [] i part below is = absurd (omega arith)
+joined_more (p ∷ parts) zero part below is = append-nil p.items ∙ ap (λ (q : Vec ℕ). q.items) (sym is)
+joined_more (p ∷ parts) (suc i) part below is =
+    let next : suc i + 1 ≡ suc (i + 1) = omega arith in
+    rw next (ap (λ (xs : List ℕ). p.items ++ xs) (joined_more parts i part (omega arith) is) ∙ simp append_assoc)

@@ -1,10 +1,84 @@
 -- One option in front of others.
-use Rattle.std.proofs.Common.{◌≡◌, ◌+◌, List, true, false, Option, Some, None, cond, refl}
-use Rattle.std.specs.Prelude.{IsTrue}
+use Rattle.std.proofs.Common.{◌≡◌, ℕ, ◌+◌, ◌-◌, ◌<◌, ◌≤◌, List, [], ◌∷◌, length, get_or, take, drop, Bool, true, false, not, Option, Some, None, cond, refl, ap, sym, subst, ◌∙◌, arith}
+use Rattle.std.specs.Prelude.{IsTrue, IfNone, IfSome}
+use Rattle.std.specs.List.{before_first, after_first}
+use Rattle.std.proofs.lemmas.List.{take_all}
 use Rattle.std.proofs.lemmas.List.Sums.{sum_by-cons}
 use Rattle.cj_words.specs.declared.command.Verb.{Verb}
+use Rattle.cj_words.specs.declared.front.Front.{Front}
 use Rattle.cj_words.specs.declared.option.Opt.{Opt}
-use Rattle.cj_words.specs.Options.{Given, in_front, is_named, are_accepted, are_known, are_listed, listed, count_of, value_of}
+use Rattle.cj_words.specs.Options.{Given, flag, given_of, has_equals, if_empty, in_one_word, in_two_words, is_equals, is_flag, is_one_word, is_value, may_have, none_next, in_front, is_named, are_accepted, are_known, are_listed, listed, count_of, value_of}
+
+-- ---- what stands at the front
+
+-- a flag alone
+pub flag_in_front : (word : List ℕ) (rest : List (List ℕ)) → is_flag word ≡ true → given_of (word ∷ rest) ≡ in_front true (flag word) (given_of rest)
+flag_in_front word [] is = rw is refl
+flag_in_front word (next ∷ rest) is = rw is refl
+
+-- a word with =
+one_word : (word : List ℕ) (rest : List (List ℕ)) → is_flag word ≡ false → has_equals word ≡ true → given_of (word ∷ rest) ≡ in_front (is_one_word word) (in_one_word word) (given_of rest)
+one_word word [] no_flag has = rw (no_flag, has) refl
+one_word word (next ∷ rest) no_flag has = rw (no_flag, has) refl
+
+pub one_in_front : (word name value : List ℕ) (rest : List (List ℕ)) (f : Option Front) → is_flag word ≡ false → has_equals word ≡ true → name ≡ before_first is_equals word → value ≡ after_first is_equals word
+    → IfSome f (λ o. (o.name.now ≡ name) × (o.value.now ≡ value) × (o.rest.now ≡ rest) × (may_have name value ≡ true))
+    → IfSome f (λ o. given_of (word ∷ rest) ≡ in_front true (record { name = o.name.now; value = o.value.now }) (given_of o.rest.now))
+one_in_front word name value rest None no_flag has is_name is_value h = tt
+one_in_front word name value rest (Some o) no_flag has is_name is_value h =
+    let may : is_one_word word ≡ true = subst (λ (n : List ℕ). may_have n (after_first is_equals word) ≡ true) is_name (subst (λ (v : List ℕ). may_have name v ≡ true) is_value h.3) in
+    one_word word rest no_flag has
+    ∙ ap (λ (b : Bool). in_front b (in_one_word word) (given_of rest)) may
+    ∙ sym (ap (λ (n : List ℕ). in_front true (record { name = n; value = o.value.now }) (given_of o.rest.now)) (h.0 ∙ is_name)
+    ∙ ap (λ (v : List ℕ). in_front true (record { name = before_first is_equals word; value = v }) (given_of o.rest.now)) (h.1 ∙ is_value)
+    ∙ ap (λ (r : List (List ℕ)). in_front true (in_one_word word) (given_of r)) h.2)
+
+pub one_not_in_front : (word name value : List ℕ) (rest : List (List ℕ)) (f : Option Front) → is_flag word ≡ false → has_equals word ≡ true → name ≡ before_first is_equals word → value ≡ after_first is_equals word
+    → IfNone f (may_have name value ≡ false) → IfNone f (given_of (word ∷ rest) ≡ None)
+one_not_in_front word name value rest None no_flag has is_name is_value h =
+    let may : is_one_word word ≡ false = subst (λ (n : List ℕ). may_have n (after_first is_equals word) ≡ false) is_name (subst (λ (v : List ℕ). may_have name v ≡ false) is_value h) in
+    one_word word rest no_flag has ∙ ap (λ (b : Bool). in_front b (in_one_word word) (given_of rest)) may
+one_not_in_front word name value rest (Some o) no_flag has is_name is_value h = tt
+
+pub one_shorter : (word name value : List ℕ) (rest : List (List ℕ)) (f : Option Front)
+    → IfSome f (λ o. (o.name.now ≡ name) × (o.value.now ≡ value) × (o.rest.now ≡ rest) × (may_have name value ≡ true)) → IfSome f (λ o. length o.rest.now < length (word ∷ rest))
+one_shorter word name value rest None h = tt
+one_shorter word name value rest (Some o) h = omega (arith, ap length h.2)
+
+-- a word and the next
+pub two_in_front : (word : List ℕ) (rest : List (List ℕ)) (f : Option Front) → is_flag word ≡ false → has_equals word ≡ false
+    → IfSome f (λ o. (o.name.now ≡ word) × (is_value o.value.now ≡ true) × (rest ≡ o.value.now ∷ o.rest.now))
+    → IfSome f (λ o. given_of (word ∷ rest) ≡ in_front true (record { name = o.name.now; value = o.value.now }) (given_of o.rest.now))
+two_in_front word rest None no_flag has h = tt
+two_in_front word rest (Some o) no_flag has h =
+    ap (λ (r : List (List ℕ)). given_of (word ∷ r)) h.2
+    ∙ rw (no_flag, has, h.1, h.0) refl
+
+pub two_not_in_front : (word : List ℕ) (rest : List (List ℕ)) (f : Option Front) → is_flag word ≡ false → has_equals word ≡ false → IfNone f (none_next rest ≡ true)
+    → IfNone f (given_of (word ∷ rest) ≡ None)
+two_not_in_front word [] None no_flag has h = rw (no_flag, has) refl
+two_not_in_front word (next ∷ rest) None no_flag has h = rw (no_flag, has) (refused (is_value next) h)
+  where
+    refused : (b : Bool) → not b ≡ true → in_front b (in_two_words word next) (given_of rest) ≡ None
+    refused true h = absurd cc
+    refused false h = refl
+two_not_in_front word rest (Some o) no_flag has h = tt
+
+pub two_shorter : (word : List ℕ) (rest : List (List ℕ)) (f : Option Front)
+    → IfSome f (λ o. (o.name.now ≡ word) × (is_value o.value.now ≡ true) × (rest ≡ o.value.now ∷ o.rest.now)) → IfSome f (λ o. length o.rest.now < length (word ∷ rest))
+two_shorter word rest None h = tt
+two_shorter word rest (Some o) h = omega (arith, ap length h.2)
+
+-- no words, and words that are opened at the first
+pub no_words : (words : List (List ℕ)) → length words < 1 → given_of words ≡ if_empty words
+no_words [] h = refl
+no_words (word ∷ words) h = absurd (omega arith)
+
+pub opened : (words : List (List ℕ)) (word item : List ℕ) → 1 ≤ length words → word ≡ item → item ≡ get_or words 0 item → words ≡ word ∷ take (length words - 1) (drop 1 words)
+opened [] word item some same is = absurd (omega arith)
+opened (w ∷ words) word item some same is = ap (λ (x : List ℕ). x ∷ words) (sym (same ∙ is)) ∙ ap (λ (ws : List (List ℕ)). word ∷ ws) (sym (take_all (length (w ∷ words) - 1) words (omega arith)))
+
+-- ---- what is listed
 
 pub others_listed : (g : Given) (o : Option (List Given)) → IsTrue (are_listed (in_front true g o)) → IsTrue (are_listed o)
 others_listed g None h = absurd cc

@@ -1,8 +1,9 @@
 //! The options among the words of a command line.
 ghost use Rattle.std.specs.Prelude.{◌≡◌, ◌≤◌, ◌<◌, IsTrue, Option, length};
 ghost use Rattle.std.specs.Option.{option_copied};
+ghost use Rattle.std.specs.Str.{bytes_eq};
 ghost use Rattle.cj_words.specs.Options as spec;
-ghost use Rattle.cj_words.specs.Options.{given_of, listed};
+ghost use Rattle.cj_words.specs.Options.{given_of, listed, name_of};
 
 use crate::command::Verb;
 use crate::front::front_of;
@@ -78,17 +79,17 @@ fn is_known(name: &[u8], verb: Verb) -> bool
     match verb {
         Verb::Screen => {
             is_of_directory(name)
-                || name == option_name(Opt::Workers)
-                || name == option_name(Opt::Originator)
-                || name == option_name(Opt::Cells)
-                || name == option_name(Opt::CertVersion)
+                || is_named(name, Opt::Workers)
+                || is_named(name, Opt::Originator)
+                || is_named(name, Opt::Cells)
+                || is_named(name, Opt::CertVersion)
         }
-        Verb::Check | Verb::Rewrite => is_of_directory(name) || name == option_name(Opt::Cert),
+        Verb::Check | Verb::Rewrite => is_of_directory(name) || is_named(name, Opt::Cert),
         Verb::Generate => is_of_catalogue(name),
         Verb::Selfrun => {
-            name == option_name(Opt::Threshold)
-                || name == option_name(Opt::Workers)
-                || name == option_name(Opt::Cells)
+            is_named(name, Opt::Threshold)
+                || is_named(name, Opt::Workers)
+                || is_named(name, Opt::Cells)
                 || is_of_catalogue(name)
         }
     }
@@ -98,21 +99,26 @@ fn is_known(name: &[u8], verb: Verb) -> bool
 fn is_of_directory(name: &[u8]) -> bool
     ensures { result ≡ spec.is_directory_name name.now }
 {
-    name == option_name(Opt::Threshold)
-        || name == option_name(Opt::From)
-        || name == option_name(Opt::To)
-        || name == option_name(Opt::Suffix)
-        || name == option_name(Opt::AsHermite3)
-        || name == option_name(Opt::Sizes)
+    is_named(name, Opt::Threshold)
+        || is_named(name, Opt::From)
+        || is_named(name, Opt::To)
+        || is_named(name, Opt::Suffix)
+        || is_named(name, Opt::AsHermite3)
+        || is_named(name, Opt::Sizes)
 }
 
 /// Whether it is an option of each command that makes up a catalogue.
 fn is_of_catalogue(name: &[u8]) -> bool
     ensures { result ≡ spec.is_catalogue_name name.now }
 {
-    name == option_name(Opt::Seed)
-        || name == option_name(Opt::Objects)
-        || name == option_name(Opt::Minutes)
+    is_named(name, Opt::Seed) || is_named(name, Opt::Objects) || is_named(name, Opt::Minutes)
+}
+
+/// Whether it is the name of this option.
+fn is_named(name: &[u8], option: Opt) -> bool
+    ensures { result ≡ bytes_eq name.now (name_of option) }
+{
+    name == option_name(option)
 }
 
 /// Whether the option stands.
@@ -130,7 +136,7 @@ fn count_of(words: &[Word], option: Opt) -> usize
     let mut count = 0;
     let mut rest = words;
     while let Some(front) = front_of(rest) {
-        if front.name == option_name(option) {
+        if is_named(front.name, option) {
             count += 1;
         }
         rest = front.rest;
@@ -145,7 +151,7 @@ pub fn value_of(words: &[Word], option: Opt) -> Option<&[u8]>
 {
     let mut rest = words;
     while let Some(front) = front_of(rest) {
-        if front.name == option_name(option) {
+        if is_named(front.name, option) {
             return Some(front.value);
         }
         rest = front.rest;

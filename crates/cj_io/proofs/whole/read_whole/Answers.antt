@@ -1,7 +1,8 @@
-use Rattle.std.proofs.Common.{◌≡◌, ◌≤◌, ◌+◌, ◌∙◌, ap, List, ℕ, take, length, arith}
+use Rattle.std.proofs.Common.{◌≡◌, ◌≤◌, ◌+◌, ◌∙◌, ap, List, ℕ, take, length, length-drop, arith}
 use Rattle.std.proofs.lemmas.List.{length-take-le}
+use Rattle.std.proofs.lemmas.Result.{err_from_is_err_and}
 use Rattle.cj_io.specs.Files.{bytes_of}
-use Rattle.cj_io.proofs.FileLemmas.{part_stands, part_fits, next_part}
+use Rattle.cj_io.proofs.FileLemmas.{part_stands, part_fits, next_part, rose_since}
 use Rattle.cj_io.proofs.whole.read_whole.Goals as goal
 
 pub loop-bytes-preserved : goal.loop-bytes-preserved
@@ -27,3 +28,38 @@ loop-bytes-preserved g c =
       count = c.read.ensures.count ∙ before.count;
       later = omega (arith, c.read.ensures.later, before.later);
     }
+
+-- ---- no room
+
+pub returns-in_err-make_room-clause-failed : goal.returns-in_err-make_room-clause-failed
+returns-in_err-make_room-clause-failed g c = λ is.
+    let p = err_from_is_err_and c.from_residual.result c.from_residual.ensures.1 in
+    let err = p.1 in
+    let memory = p.2 in
+    absurd cc
+
+pub returns-in_err-make_room-clause-too_large : goal.returns-in_err-make_room-clause-too_large
+returns-in_err-make_room-clause-too_large g c = λ files told is.
+    let p = err_from_is_err_and c.from_residual.result c.from_residual.ensures.1 in
+    let err = p.1 in
+    let memory = p.2 in
+    absurd cc
+
+-- ---- a part that could not be read
+
+pub returns-in_err-count-clause-failed : goal.returns-in_err-count-clause-failed
+returns-in_err-count-clause-failed g c = λ is. rose_since _ _ _ c.loop-bytes.invariant.later c.in_err-count.ensures.failed
+
+pub returns-in_err-count-clause-too_large : goal.returns-in_err-count-clause-too_large
+returns-in_err-count-clause-too_large g c = λ files told is.
+    let p = err_from_is_err_and c.from_residual-in_err-count.result c.from_residual-in_err-count.ensures.1 in
+    let err = p.1 in
+    let failed = p.2 in
+    absurd cc
+
+-- ---- too many bytes
+
+pub returns-then-limit-read-clause-too_large : goal.returns-then-limit-read-clause-too_large
+returns-then-limit-read-clause-too_large g c = λ files told is.
+    let came = c.in_ok-count.ensures.told files (c.loop-bytes.invariant.files ∙ told) in
+    omega (arith, came.within, c.from.ensures, c.if-limit-read.true, length-drop c.loop-bytes.read (bytes_of files c.args.file))

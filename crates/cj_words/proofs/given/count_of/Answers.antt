@@ -1,9 +1,8 @@
-use Rattle.std.proofs.Common.{◌≡◌, ◌+◌, ◌≤◌, ℕ, Bool, true, false, cond, sym, subst, arith, ap, ◌∙◌, Option, List}
+use Rattle.std.proofs.Common.{◌≡◌, ◌+◌, ◌≤◌, Bool, true, false, cond, sym, subst, arith, ap, ◌∙◌, Option, List}
 use Rattle.std.specs.Prelude.{IsTrue}
-use Rattle.std.specs.Str.{bytes_eq}
 use Rattle.cj_words.specs.Options.{Given, given_of, in_front, are_listed, listed, count_of, is_named}
 use Rattle.cj_words.proofs.FrontLemmas.{others_listed, count_step}
-use Rattle.cj_words.proofs.given.count_of.Goals.{then-eq, else-eq}
+use Rattle.cj_words.proofs.given.count_of.Goals.{then-is_named, else-is_named}
 use Rattle.cj_words.proofs.given.count_of.Goals as goal
 
 pub loop-front-preserved : goal.loop-front-preserved
@@ -16,11 +15,11 @@ loop-front-preserved c =
     let step = count_step c.args.option g o known in
     let whole : count_of c.args.option (listed (given_of c.loop-front.rest.now)) ≡ cond (is_named c.args.option g) 1 0 + count_of c.args.option (listed o) =
     ap (λ (x : Option (List Given)). count_of c.args.option (listed x)) split ∙ step in
-    let same : is_named c.args.option g ≡ c.eq.result = sym (c.eq.ensures ∙ ap (λ (n : List ℕ). bytes_eq front.name.now n) c.option_name.ensures) in
-    let counted : c.if-eq.count ≡ c.loop-front.count + cond (is_named c.args.option g) 1 0 =
-    elim c.if-eq.branch as (λ b. c.if-eq.count ≡ c.loop-front.count + cond (is_named c.args.option g) 1 0) [
-      | then-eq w ↦ w.count-is ∙ ap (λ (b : Bool). c.loop-front.count + cond b 1 0) (sym (same ∙ w.if-eq.true))
-      | else-eq w ↦ w.count-is ∙ omega arith ∙ ap (λ (b : Bool). c.loop-front.count + cond b 1 0) (sym (same ∙ w.if-eq.false))
+    let same : is_named c.args.option g ≡ c.is_named.result = sym c.is_named.ensures in
+    let counted : c.if-is_named.count ≡ c.loop-front.count + cond (is_named c.args.option g) 1 0 =
+    elim c.if-is_named.branch as (λ b. c.if-is_named.count ≡ c.loop-front.count + cond (is_named c.args.option g) 1 0) [
+      | then-is_named w ↦ w.count-is ∙ ap (λ (b : Bool). c.loop-front.count + cond b 1 0) (sym (same ∙ w.if-is_named.true))
+      | else-is_named w ↦ w.count-is ∙ omega arith ∙ ap (λ (b : Bool). c.loop-front.count + cond b 1 0) (sym (same ∙ w.if-is_named.false))
     ] in
     record {
       known = others_listed g o known;
