@@ -13,7 +13,7 @@ use Rattle.cj_track.specs.Limits.{MAX_COORDINATE, MAX_RATE}
 use Rattle.cj_track.specs.PlainTracks.{PlainNode, first_state, last_state}
 use Rattle.cj_oem.specs.declared.fault.OemCause.TheVariants as causes
 use Rattle.cj_oem.specs.Metadata.{Metadata, epoch_or, parse_epoch}
-use Rattle.cj_oem.specs.NodeRows.{figure_or, following, parse_figure, state_of_fields, state_of_row}
+use Rattle.cj_oem.specs.NodeRows.{figure_or, figures_in, following, parse_figure, state_of_fields, state_of_row, state_said}
 use Rattle.cj_oem.specs.Stages.{Body, Data, follows}
 use Rattle.cj_oem.proofs.PrintedLineLemmas.{Tells, told_each, told_line}
 use Rattle.cj_oem.proofs.PrintedRowLemmas.{fields_row, is_field, row_line, row_of}
@@ -68,7 +68,7 @@ row_says : (before : Option PlainNode) (t a b c u v w : List ℕ) (s : PlainNode
     → parse_figure u ≡ Ok (Some s.v.x) → parse_figure v ≡ Ok (Some s.v.y) → parse_figure w ≡ Ok (Some s.v.z)
     → IsVector MAX_COORDINATE s.p → IsVector MAX_RATE s.v → following before s ≡ Ok s
     → state_of_fields before (t ∷ a ∷ b ∷ c ∷ u ∷ v ∷ w ∷ []) ≡ Ok s
-unfolding state_of_fields
+unfolding state_of_fields state_said figures_in
 row_says before t a b c u v w s at x y z dx dy dz place rate follows_on =
     rw (at, x, y, z, dx, dy, dz, vector_again MAX_COORDINATE causes.CoordinateRange s.p place, vector_again MAX_RATE causes.RateRange s.v rate) follows_on
 

@@ -12,7 +12,7 @@ use Rattle.cj_cdm.specs.declared.fault.CdmCause.TheVariants as causes
 use Rattle.cj_cdm.specs.declared.vector.Vector.{Vector}
 use Rattle.cj_cdm.specs.Fits.{Fits, IsShort, IsSide, IsStamp}
 use Rattle.cj_cdm.specs.Messages.{PlainMessage, PlainSide, PlainStamp}
-use Rattle.cj_cdm.specs.Reading.{Fault, Heading, Object, Rest, and_then, elements_said, ended, entry_said, fault_at, give, heading_said, is_feed, is_none_left, line_said, message_said, object_said, place_said, rate_said, reading, side_said, stamp_said, ◌>>=◌}
+use Rattle.cj_cdm.specs.Reading.{Fault, Heading, Object, Rest, and_then, elements_said, ended, entry_said, fault_at, give, heading_said, is_feed, is_none_left, line_said, message_said, object_said, place_said, rate_said, reading, side_said, stamp_said, vector_said, ◌>>=◌}
 use Rattle.cj_cdm.specs.Texts.{covariance_text, element_text, elements, elements_text, entry, frame_text, heading_text, kilometres, line, metres, number_text, object_text, quantity, side_text, state_text, text_of}
 use Rattle.cj_kvn.specs.Originators.{is_originator}
 use Rattle.cj_cdm.specs.Values.{constant_said, designator_said, element_said, epoch_said, frame_said, id_said, is_decimal, is_international, is_miss, is_number, is_short, is_tick, kilometres_said, label_said, miss_said, originator_said}
@@ -47,8 +47,8 @@ abbrev vector_text : List ℕ → List ℕ → List ℕ → List ℕ → Vector 
 vector_text kx ky kz unit v = quantity kx (kilometres v.x) unit ++ (quantity ky (kilometres v.y) unit ++ (quantity kz (kilometres v.z) unit ++ []))
 
 vector_exact : (kx ky kz unit : List ℕ) → list_any is_feed kx ≡ false → list_any is_feed ky ≡ false → list_any is_feed kz ≡ false → list_any is_feed unit ≡ false
-    → IsExact (entry_said kx (kilometres_said unit) >>= λ x. entry_said ky (kilometres_said unit) >>= λ y. entry_said kz (kilometres_said unit) >>= λ z. give (make_vector x y z))
-    (vector_text kx ky kz unit) Anything IsShort
+    → IsExact (vector_said kx ky kz unit) (vector_text kx ky kz unit) Anything IsShort
+unfolding vector_said
 vector_exact kx ky kz unit fx fy fz free =
     refitted _ _ _ _ IsShort to from (
     in_order _ _ _ _ (λ v. v.x) _ Anything _ (kilometres_exact kx unit fx free) (λ x xf.
@@ -66,11 +66,9 @@ vector_exact kx ky kz unit fx fy fz free =
     from v f = (f.of_x, (f.of_y, (f.of_z, tt)))
 
 pub place_exact : IsExact place_said (vector_text (codes "X") (codes "Y") (codes "Z") (codes "km")) Anything IsShort
-unfolding place_said
 place_exact = vector_exact (codes "X") (codes "Y") (codes "Z") (codes "km") refl refl refl refl
 
 rate_exact : IsExact rate_said (vector_text (codes "X_DOT") (codes "Y_DOT") (codes "Z_DOT") (codes "km/s")) Anything IsShort
-unfolding rate_said
 rate_exact = vector_exact (codes "X_DOT") (codes "Y_DOT") (codes "Z_DOT") (codes "km/s") refl refl refl refl
 
 -- ---- the stamp

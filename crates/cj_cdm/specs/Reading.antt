@@ -123,21 +123,21 @@ object_said called = do
   frame ← entry_said (codes "REF_FRAME") frame_said
   give (record { id = id; name = name; designator = designator; file = file; frame = frame })
 
--- a place, in km
-unfoldable pub place_said : Reading Vector
-place_said = do
-  x ← entry_said (codes "X") (kilometres_said (codes "km"))
-  y ← entry_said (codes "Y") (kilometres_said (codes "km"))
-  z ← entry_said (codes "Z") (kilometres_said (codes "km"))
+-- three coordinates in this unit, each with its key
+unfoldable pub vector_said : List ℕ → List ℕ → List ℕ → List ℕ → Reading Vector
+vector_said x_key y_key z_key unit = do
+  x ← entry_said x_key (kilometres_said unit)
+  y ← entry_said y_key (kilometres_said unit)
+  z ← entry_said z_key (kilometres_said unit)
   give (record { x = x; y = y; z = z })
 
+-- a place, in km
+abbrev pub place_said : Reading Vector
+place_said = vector_said (codes "X") (codes "Y") (codes "Z") (codes "km")
+
 -- a rate, in km/s
-unfoldable pub rate_said : Reading Vector
-rate_said = do
-  x ← entry_said (codes "X_DOT") (kilometres_said (codes "km/s"))
-  y ← entry_said (codes "Y_DOT") (kilometres_said (codes "km/s"))
-  z ← entry_said (codes "Z_DOT") (kilometres_said (codes "km/s"))
-  give (record { x = x; y = y; z = z })
+abbrev pub rate_said : Reading Vector
+rate_said = vector_said (codes "X_DOT") (codes "Y_DOT") (codes "Z_DOT") (codes "km/s")
 
 -- elements of a covariance with these keys and units
 unfoldable pub elements_said : List (List ℕ × List ℕ) → Reading (List Number)

@@ -23,6 +23,3 @@ pub use reading::read_cdm;
 pub use stamp::Stamp;
 pub use vector::Vector;
 pub use writing::{has_message, message};
-
-#[cfg(test)]
-mod tests;

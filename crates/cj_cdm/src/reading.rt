@@ -68,31 +68,77 @@ fn said_by(bytes: &[u8]) -> Result<MessageSaid<'_>, LineFault>
 fn message_of(alloc: Global, said: &MessageSaid) -> Result<Cdm, AllocError>
     ensures { IfOk result (λ c. plain_cdm c ≡ message_of_said said.now) }
 {
-    Ok(Cdm {
-        created: said.heading.stamp.created,
-        originator: Text::copy_of(alloc, said.heading.stamp.originator)?,
-        number: said.heading.stamp.number,
-        tca: said.heading.tca,
-        miss: said.heading.miss,
-        start: said.heading.start,
-        stop: said.heading.stop,
-        first: side_of(alloc, &said.first)?,
-        second: side_of(alloc, &said.second)?,
-    })
+    let originator = Text::copy_of(alloc, said.heading.stamp.originator)?;
+    match sides_of(alloc, said) {
+        Ok((first, second)) => Ok(Cdm {
+            created: said.heading.stamp.created,
+            originator,
+            number: said.heading.stamp.number,
+            tca: said.heading.tca,
+            miss: said.heading.miss,
+            start: said.heading.start,
+            stop: said.heading.stop,
+            first,
+            second,
+        }),
+        Err(error) => {
+            drop(originator);
+            Err(error)
+        }
+    }
+}
+
+/// Both objects of a message.
+fn sides_of(alloc: Global, said: &MessageSaid) -> Result<(Side, Side), AllocError>
+    ensures first { IfOk result (λ sides. plain_side sides.0 ≡ side_of_said said.now.first) }
+    ensures second { IfOk result (λ sides. plain_side sides.1 ≡ side_of_said said.now.second) }
+{
+    let first = side_of(alloc, &said.first)?;
+    match side_of(alloc, &said.second) {
+        Ok(second) => Ok((first, second)),
+        Err(error) => {
+            drop(first);
+            Err(error)
+        }
+    }
 }
 
 fn side_of(alloc: Global, said: &SideSaid) -> Result<Side, AllocError>
     ensures { IfOk result (λ s. plain_side s ≡ side_of_said said.now) }
 {
-    Ok(Side {
-        id: Text::copy_of(alloc, said.object.id)?,
-        name: Text::copy_of(alloc, said.object.name)?,
-        designator: Text::copy_of(alloc, said.object.designator)?,
-        file: Text::copy_of(alloc, said.object.file)?,
-        frame: said.object.frame,
-        place: said.place,
-        rate: said.rate,
-        epoch: said.epoch,
-        values: said.values,
-    })
+    let object = &said.object;
+    let (id, name) = copies_of(alloc, object.id, object.name)?;
+    match copies_of(alloc, object.designator, object.file) {
+        Ok((designator, file)) => Ok(Side {
+            id,
+            name,
+            designator,
+            file,
+            frame: object.frame,
+            place: said.place,
+            rate: said.rate,
+            epoch: said.epoch,
+            values: said.values,
+        }),
+        Err(error) => {
+            drop(id);
+            drop(name);
+            Err(error)
+        }
+    }
+}
+
+/// Copies of two texts.
+fn copies_of(alloc: Global, one: &[u8], other: &[u8]) -> Result<(Text, Text), AllocError>
+    ensures one { IfOk result (λ texts. texts.0 ≡ one.now) }
+    ensures other { IfOk result (λ texts. texts.1 ≡ other.now) }
+{
+    let first = Text::copy_of(alloc, one)?;
+    match Text::copy_of(alloc, other) {
+        Ok(second) => Ok((first, second)),
+        Err(error) => {
+            drop(first);
+            Err(error)
+        }
+    }
 }

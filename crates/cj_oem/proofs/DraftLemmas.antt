@@ -1,9 +1,10 @@
 -- A matrix that is being read.
-use Rattle.std.proofs.Common.{◌≡◌, ℕ, ◌+◌, ◌<◌, ◌≤◌, List, [], ◌∷◌, ◌++◌, length, map, get_or, take, drop, Result, Ok, Err, refl, sym, ap, ◌∙◌, append_assoc, arith}
-use borrow.Rule.Slice.PartMut.{put_mid}
+use Rattle.std.proofs.Common.{◌≡◌, ℕ, ◌+◌, ◌<◌, ◌≤◌, List, [], ◌∷◌, ◌++◌, length, map, get_or, take, drop, All, Result, Ok, Err, refl, sym, ap, ◌∙◌, append_assoc, arith}
+use borrow.Rule.Slice.PartMut.{post_of, put_mid}
 use Rattle.std.proofs.Math.Nat.{mul-le-mul_left}
 use Rattle.std.proofs.lemmas.Slice.{take-put_mid}
 use Rattle.std.proofs.lemmas.List.{append-nil, drop_all, drop_more, map-append}
+use Rattle.std.proofs.lemmas.List.Elements.{All-append, All-drop, All-take}
 use Rattle.cj_kvn.specs.Numbers.{Number}
 use Rattle.cj_kvn.specs.Decimals.{IsReadable, decimal_of, is_tiny, is_huge, number_of, zero_number}
 use Rattle.cj_kvn.specs.declared.decimals.Decimal.{Decimal}
@@ -70,7 +71,7 @@ count_more : (rows : ℕ) → value_count (rows + 1) ≡ value_count rows + (row
 count_more rows = omega arith
 
 -- the values of five rows are fifteen
-count_most : (rows : ℕ) → rows ≤ 5 → value_count rows ≤ 15
+pub count_most : (rows : ℕ) → rows ≤ 5 → value_count rows ≤ 15
 count_most rows few = omega (arith, mul-le-mul_left rows few)
 
 -- one more row is written
@@ -81,6 +82,12 @@ row_written rows k values row few all one_more =
     let more = count_more rows in
     ap (map number_of) (take-put_mid (value_count rows) k values row (value_count (rows + 1)) (omega (arith, more, one_more)) (omega (arith, most, all)))
     ∙ map-append number_of (take (value_count rows) values) row
+
+-- the values of a matrix with one more row are still such as it may have
+pub row_kept : (first k : ℕ) (values row : List Decimal) → All IsKept values → All IsKept row → All IsKept (put_mid first k values row)
+row_kept first k values row all some =
+    All-append IsKept (take first values) (row ++ post_of first k values) (All-take IsKept first values all)
+    (All-append IsKept row (post_of first k values) some (All-drop IsKept k (drop first values) (All-drop IsKept first values all)))
 
 -- a row of the right number of fields is added
 pub row_added : (d : Draft) (row : List (List ℕ)) (numbers : List Number) → ((d.rows == 6) || not (length row == d.rows + 1)) ≡ false → numbers_said row ≡ Ok numbers

@@ -10,6 +10,7 @@ pub mod FigureLemmas
 pub mod FileLemmas
 pub mod GrammarLemmas
 pub mod HeaderLemmas
+pub mod KeyLemmas
 pub mod LabelLemmas
 pub mod ListLemmas
 pub mod MatrixLemmas

@@ -15,12 +15,13 @@ use Rattle.cj_epoch.specs.LeapSeconds.{leap_lies_between}
 use Rattle.cj_epoch.specs.Reading.{reading_of}
 use Rattle.cj_oem.specs.declared.fault.OemCause.{OemCause}
 use Rattle.cj_oem.specs.declared.fault.OemCause.TheVariants as causes
+use Rattle.cj_oem.specs.declared.figures.Figures.{Figures}
 use Rattle.cj_track.specs.declared.vec3.Vec3.{Vec3}
 use Rattle.cj_track.specs.PlainTracks.{PlainNode}
 use Rattle.cj_oem.specs.Grammar.{AreStateSteps, IsNodeRow, IsStateStep, SayStates}
 use Rattle.cj_track.specs.Limits.{IsWithin, MAX_COORDINATE, MAX_RATE, MAX_STEP}
 use Rattle.cj_oem.specs.Metadata.{◌>>=◌, parse_epoch, unless}
-use Rattle.cj_oem.specs.NodeRows.{field_in, figure_or, parse_figure, following, is_decimal, is_decimal_read, state_of_fields, state_of_row, vector_within, within_or}
+use Rattle.cj_oem.specs.NodeRows.{field_in, figure_or, figures_in, parse_figure, following, is_decimal, is_decimal_read, state_of_fields, state_of_row, state_said, vector_within, within_or}
 use Rattle.cj_oem.proofs.MetadataLemmas.{epoch_is}
 use Rattle.cj_oem.proofs.StateAgainLemmas.{vector_again}
 use Rattle.cj_oem.proofs.StepLemmas.{bind_ok, ok_is, unless_not, unless_ok, wanted}
@@ -115,39 +116,55 @@ following_again (Some b) s h =
     let d : nat_lt (b.at + MAX_STEP) s.at ≡ false = grind (arith, nat_tests) in
     rw (a, d, h.steady) refl
 
+-- three fields that say numbers say these
+record AreFigures (row : List (List ℕ)) (first : ℕ) (f : Figures) : Type 0 where
+  x : parse_figure (field_in row first) ≡ Ok f.x
+  y : parse_figure (field_in row (first + 1)) ≡ Ok f.y
+  z : parse_figure (field_in row (first + 2)) ≡ Ok f.z
+
+figures_are : (row : List (List ℕ)) (first : ℕ) (f : Figures) → figures_in row first ≡ Ok f → AreFigures row first f
+unfolding figures_in
+figures_are row first f e =
+    let x = bind_ok (parse_figure (field_in row first)) _ f e in
+    let y = bind_ok (parse_figure (field_in row (first + 1))) _ f x.2 in
+    let z = bind_ok (parse_figure (field_in row (first + 2))) _ f y.2 in
+    subst (AreFigures row first) (ok_is _ f z.2) (record { x = x.1; y = y.1; z = z.1 })
+
+said_is : (row : List (List ℕ)) (s : PlainNode) → state_said row ≡ Ok s → IsNodeRow row s
+unfolding state_said
+said_is row s e =
+    let count = bind_ok (unless (not ((length row == 7) || (length row == 10))) causes.Fields) _ s e in
+    let at = bind_ok (parse_epoch (field_in row 0)) _ s count.2 in
+    let f = bind_ok (figures_in row 1) _ s at.2 in
+    let g = bind_ok (figures_in row 4) _ s f.2 in
+    let others = bind_ok (unless (not (list_all is_decimal (drop 7 row))) causes.Number) _ s g.2 in
+    let place = bind_ok (vector_within MAX_COORDINATE causes.CoordinateRange f.0.x f.0.y f.0.z) _ s others.2 in
+    let rate = bind_ok (vector_within MAX_RATE causes.RateRange g.0.x g.0.y g.0.z) _ s place.2 in
+    let places = figures_are row 1 f.0 f.1 in
+    let rates = figures_are row 4 g.0 g.1 in
+    let p = vector_is MAX_COORDINATE causes.CoordinateRange f.0.x f.0.y f.0.z place.0 place.1 in
+    let q = vector_is MAX_RATE causes.RateRange g.0.x g.0.y g.0.z rate.0 rate.1 in
+    subst (IsNodeRow row) (ok_is _ s rate.2) (record {
+      count = count_is (length row) (unless_not _ causes.Fields count.0 count.1);
+      epoch = epoch_is (reading_of (field_in row 0)) at.0 at.1;
+      x = (figure_is (scaled_of 12 (field_in row 1)) f.0.x place.0.x places.x p.x.0, p.x.1);
+      y = (figure_is (scaled_of 12 (field_in row 2)) f.0.y place.0.y places.y p.y.0, p.y.1);
+      z = (figure_is (scaled_of 12 (field_in row 3)) f.0.z place.0.z places.z p.z.0, p.z.1);
+      x_dot = (figure_is (scaled_of 12 (field_in row 4)) g.0.x rate.0.x rates.x q.x.0, q.x.1);
+      y_dot = (figure_is (scaled_of 12 (field_in row 5)) g.0.y rate.0.y rates.y q.y.0, q.y.1);
+      z_dot = (figure_is (scaled_of 12 (field_in row 6)) g.0.z rate.0.z rates.z q.z.0, q.z.1);
+      accelerations = decimals_are (drop 7 row) (unless_not _ causes.Number others.0 others.1);
+    })
+
 fields_are : (before : Option PlainNode) (row : List (List ℕ)) (s : PlainNode) → state_of_fields before row ≡ Ok s → IsNodeRow row s × Steps before s
 unfolding state_of_fields
 fields_are before row s e =
-    let count = bind_ok (unless (not ((length row == 7) || (length row == 10))) causes.Fields) _ s e in
-    let at = bind_ok (parse_epoch (field_in row 0)) _ s count.2 in
-    let x = bind_ok (parse_figure (field_in row 1)) _ s at.2 in
-    let y = bind_ok (parse_figure (field_in row 2)) _ s x.2 in
-    let z = bind_ok (parse_figure (field_in row 3)) _ s y.2 in
-    let u = bind_ok (parse_figure (field_in row 4)) _ s z.2 in
-    let v = bind_ok (parse_figure (field_in row 5)) _ s u.2 in
-    let w = bind_ok (parse_figure (field_in row 6)) _ s v.2 in
-    let others = bind_ok (unless (not (list_all is_decimal (drop 7 row))) causes.Number) _ s w.2 in
-    let place = bind_ok (vector_within MAX_COORDINATE causes.CoordinateRange x.0 y.0 z.0) _ s others.2 in
-    let rate = bind_ok (vector_within MAX_RATE causes.RateRange u.0 v.0 w.0) _ s place.2 in
-    let p = vector_is MAX_COORDINATE causes.CoordinateRange x.0 y.0 z.0 place.0 place.1 in
-    let q = vector_is MAX_RATE causes.RateRange u.0 v.0 w.0 rate.0 rate.1 in
-    let end = following_is before (record { at = at.0; p = place.0; v = rate.0 }) s rate.2 in (
-      subst (IsNodeRow row) end.0 (record {
-        count = count_is (length row) (unless_not _ causes.Fields count.0 count.1);
-        epoch = epoch_is (reading_of (field_in row 0)) at.0 at.1;
-        x = (figure_is (scaled_of 12 (field_in row 1)) x.0 place.0.x x.1 p.x.0, p.x.1);
-        y = (figure_is (scaled_of 12 (field_in row 2)) y.0 place.0.y y.1 p.y.0, p.y.1);
-        z = (figure_is (scaled_of 12 (field_in row 3)) z.0 place.0.z z.1 p.z.0, p.z.1);
-        x_dot = (figure_is (scaled_of 12 (field_in row 4)) u.0 rate.0.x u.1 q.x.0, q.x.1);
-        y_dot = (figure_is (scaled_of 12 (field_in row 5)) v.0 rate.0.y v.1 q.y.0, q.y.1);
-        z_dot = (figure_is (scaled_of 12 (field_in row 6)) w.0 rate.0.z w.1 q.z.0, q.z.1);
-        accelerations = decimals_are (drop 7 row) (unless_not _ causes.Number others.0 others.1);
-      }),
-      end.1,
-    )
+    let said = bind_ok (state_said row) _ s e in
+    let end = following_is before said.0 s said.2 in
+    (subst (IsNodeRow row) end.0 (said_is row said.0 said.1), end.1)
 
 fields_again : (before : Option PlainNode) (row : List (List ℕ)) (s : PlainNode) → IsNodeRow row s → Steps before s → state_of_fields before row ≡ Ok s
-unfolding state_of_fields
+unfolding state_of_fields state_said figures_in
 fields_again before row s r step =
     rw (
       count_again (length row) r.count,

@@ -18,7 +18,7 @@ use Rattle.cj_track.specs.declared.vec3.Vec3.{Vec3}
 use Rattle.cj_track.specs.PlainTracks.{PlainNode}
 use Rattle.cj_track.specs.Limits.{IsWithin, MAX_COORDINATE, MAX_RATE}
 use Rattle.cj_oem.specs.Metadata.{epoch_or, parse_epoch}
-use Rattle.cj_oem.specs.NodeRows.{figure_or, parse_figure, following, state_of_fields, state_of_row, vector_within}
+use Rattle.cj_oem.specs.NodeRows.{figure_or, figures_in, parse_figure, following, state_of_fields, state_of_row, state_said, vector_within}
 use Rattle.cj_oem.specs.Stages.{Body, Data, follows, last_state, OpenSegment}
 use Rattle.cj_oem.specs.Metadata.{Metadata}
 use Rattle.cj_oem.proofs.FigureAgainLemmas.{figure_again}
@@ -101,7 +101,7 @@ vector_again limit cause v is =
     ) refl
 
 state_again : (before : Option PlainNode) (s : PlainNode) → IsState s → following before s ≡ Ok s → state_of_fields before (epoch_of s.at ∷ state_fields s) ≡ Ok s
-unfolding state_of_fields
+unfolding state_of_fields state_said figures_in
 state_again before s is follows_on =
     rw (
       epoch_again s.at is.tick,

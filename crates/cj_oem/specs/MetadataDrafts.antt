@@ -1,8 +1,9 @@
 -- What the draft of a program says.
-use Rattle.std.specs.Prelude.{◌≡◌, ◌⊎◌, ℕ, true, List, length, map}
+use Rattle.std.specs.Prelude.{◌≡◌, ◌⊎◌, ℕ, true, List, [], length, map, unwrap_or}
 use Rattle.std.specs.Option.{option_map}
 use Rattle.cj_kvn.specs.Lines.{Form, Blank, Comment, Mark, Pair, Row, spaced}
 use Rattle.cj_epoch.specs.declared.tick.Tick.{Tick}
+use Rattle.cj_track.specs.declared.frame.Frame.{Frame}
 use Rattle.cj_track.specs.Labels.{is_label}
 use Rattle.cj_oem.specs.Metadata as spec
 use Rattle.cj_oem.specs.declared.object.Object.{Object}
@@ -33,6 +34,14 @@ metadata_draft_of s = record {
 
 abbrev pub metadata_of : Metadata → spec.Metadata
 metadata_of metadata = record { object = object_of metadata.object; first = metadata.first.micros; last = metadata.last.micros }
+
+-- the metadata of a draft, with this frame and this useable span
+abbrev pub metadata_with : spec.MetadataDraft → Frame × Tick × Tick → spec.Metadata
+metadata_with s stated = record {
+  object = record { name = unwrap_or s.name []; id = unwrap_or s.id []; frame = stated.0 };
+  first = stated.1.micros;
+  last = stated.2.micros;
+}
 
 -- a value that is not empty is a label, once its tabs are read as spaces
 abbrev pub IsLabelled : List ℕ → Type 0

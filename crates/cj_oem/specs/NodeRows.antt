@@ -10,6 +10,7 @@ use Rattle.cj_epoch.specs.LeapSeconds.{leap_lies_between}
 use Rattle.cj_track.specs.declared.vec3.Vec3.{Vec3}
 use Rattle.cj_oem.specs.declared.fault.OemCause.{OemCause}
 use Rattle.cj_oem.specs.declared.fault.OemCause.TheVariants as causes
+use Rattle.cj_oem.specs.declared.figures.Figures.{Figures}
 use Rattle.cj_track.specs.Limits.{MAX_COORDINATE, MAX_RATE, MAX_STEP}
 use Rattle.cj_track.specs.PlainTracks.{PlainNode}
 use Rattle.cj_oem.specs.Metadata.{◌>>=◌, unless, parse_epoch}
@@ -47,6 +48,26 @@ is_decimal text = is_decimal_read (decimal_of text)
 abbrev pub field_in : List (List ℕ) → ℕ → List ℕ
 field_in row i = slice_index_or row i []
 
+-- the numbers of three fields, from this one on
+unfoldable pub figures_in : List (List ℕ) → ℕ → Result Figures OemCause
+figures_in row first = do
+  x ← parse_figure (field_in row first)
+  y ← parse_figure (field_in row (first + 1))
+  z ← parse_figure (field_in row (first + 2))
+  Ok (record { x = x; y = y; z = z })
+
+-- the state that a row of seven fields says, or one of ten with accelerations
+unfoldable pub state_said : List (List ℕ) → Result PlainNode OemCause
+state_said row = do
+  _ ← unless (not ((length row == 7) || (length row == 10))) causes.Fields
+  at ← parse_epoch (field_in row 0)
+  p ← figures_in row 1
+  v ← figures_in row 4
+  _ ← unless (not (list_all is_decimal (drop 7 row))) causes.Number
+  place ← vector_within MAX_COORDINATE causes.CoordinateRange p.x p.y p.z
+  rate ← vector_within MAX_RATE causes.RateRange v.x v.y v.z
+  Ok (record { at = at; p = place; v = rate })
+
 -- the node may follow the one before
 abbrev pub following : Option PlainNode → PlainNode → Result PlainNode OemCause
 following None s = Ok s
@@ -56,21 +77,11 @@ following (Some before) s = do
   _ ← unless (leap_lies_between before.at s.at) causes.LeapSecond
   Ok s
 
--- the state of a row of seven fields, or of ten with accelerations, that follows the state before
+-- the state of a row that follows the state before
 unfoldable pub state_of_fields : Option PlainNode → List (List ℕ) → Result PlainNode OemCause
 state_of_fields before row = do
-  _ ← unless (not ((length row == 7) || (length row == 10))) causes.Fields
-  at ← parse_epoch (field_in row 0)
-  x ← parse_figure (field_in row 1)
-  y ← parse_figure (field_in row 2)
-  z ← parse_figure (field_in row 3)
-  u ← parse_figure (field_in row 4)
-  v ← parse_figure (field_in row 5)
-  w ← parse_figure (field_in row 6)
-  _ ← unless (not (list_all is_decimal (drop 7 row))) causes.Number
-  place ← vector_within MAX_COORDINATE causes.CoordinateRange x y z
-  rate ← vector_within MAX_RATE causes.RateRange u v w
-  following before (record { at = at; p = place; v = rate })
+  state ← state_said row
+  following before state
 
 abbrev pub state_of_row : Option PlainNode → List ℕ → Result PlainNode OemCause
 state_of_row before text = state_of_fields before (fields text)

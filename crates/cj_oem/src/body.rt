@@ -11,7 +11,7 @@ use crate::segment_metadata::Metadata;
 use std::alloc::Global;
 
 /// The object, where a segment has named it, and the segments that are whole.
-#[derive(Debug, Drop)]
+#[derive(Drop)]
 pub(crate) struct Body {
     pub(crate) object: Option<Object>,
     pub(crate) segments: SegmentList,
@@ -29,7 +29,7 @@ impl Body {
 }
 
 /// A segment so far: what its metadata says, and its nodes.
-#[derive(Debug, Drop)]
+#[derive(Drop)]
 pub(crate) struct OpenSegment {
     pub(crate) metadata: Metadata,
     pub(crate) nodes: NodeList,

@@ -6,11 +6,12 @@ ghost use Rattle.cj_track.specs.Useable.{LiesWithin};
 use crate::body::{Body, OpenSegment};
 use crate::fault::OemCause;
 use crate::node_checks::check_nodes;
+use crate::segment_metadata::Metadata;
 use cj_track::{Matrices, Matrix, Segment};
 use std::alloc::AllocError;
 
 /// The segments of a file so far and one whose nodes are closed: it may become the next of them.
-#[derive(Debug, Drop)]
+#[derive(Drop)]
 pub(crate) struct CompleteNodes {
     pub(crate) body: Body,
     pub(crate) open_segment: OpenSegment,
@@ -45,16 +46,29 @@ impl CompleteNodes {
         ensures { IfOk result (λ body. body_of body ≡ spec.with_arc (body_of self.body) (open_segment_of self.open_segment) (map plain_matrix covariances.items)) }
     {
         let CompleteNodes { body, open_segment } = self;
+        drop(body.object);
         let mut segments = body.segments;
-        segments.push(Segment {
-            first: open_segment.metadata.first,
-            last: open_segment.metadata.last,
+        let Metadata {
+            object,
+            first,
+            last,
+        } = open_segment.metadata;
+        let segment = Segment {
+            first,
+            last,
             nodes: open_segment.nodes.into_nodes(),
             matrices: Matrices::new(covariances),
-        })?;
-        Ok(Body {
-            object: Some(open_segment.metadata.object),
-            segments,
-        })
+        };
+        match segments.push(segment) {
+            Ok(()) => Ok(Body {
+                object: Some(object),
+                segments,
+            }),
+            Err(error) => {
+                drop(segments);
+                drop(object);
+                Err(error)
+            }
+        }
     }
 }

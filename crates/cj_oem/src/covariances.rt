@@ -12,7 +12,7 @@ use cj_track::Matrix;
 use std::alloc::Global;
 
 /// The covariances of a segment so far: those that are whole and in the frame RTN, and the one that is being read.
-#[derive(Debug, Drop)]
+#[derive(Drop)]
 pub(crate) struct Covariances {
     whole: Vec<Matrix>,
     draft: Option<Draft>,

@@ -13,7 +13,7 @@ use cj_track::Matrix;
 
 /// A matrix that is being read: its epoch, whether its frame was given and is RTN, how many of its six rows were read, and their
 /// values, row by row.
-#[derive(Clone, Copy, Debug)]
+#[derive(Clone, Copy)]
 pub(crate) struct Draft {
     pub(crate) at: Tick,
     pub(crate) framed: bool,

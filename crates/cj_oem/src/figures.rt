@@ -10,6 +10,14 @@ use crate::fault::OemCause;
 use cj_kvn::{Decimal, NumFault, read_decimal, read_scaled};
 use cj_track::Vec3;
 
+/// Three numbers in units of 10^-12, each none where it is past every range.
+#[derive(Clone, Copy)]
+pub(crate) struct Figures {
+    pub(crate) x: Option<i128>,
+    pub(crate) y: Option<i128>,
+    pub(crate) z: Option<i128>,
+}
+
 /// A number in units of 10^-12, none where it is past every range.
 pub(crate) fn parse_figure(text: &[u8]) -> Result<Option<i128>, OemCause>
     requires { length text.now < 2 ^ 32 }

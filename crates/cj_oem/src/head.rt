@@ -7,7 +7,7 @@ ghost use Rattle.cj_oem.specs.Stages as spec;
 use crate::fault::OemCause;
 
 /// Which keys the header has given.
-#[derive(Clone, Copy, Debug, PartialEq, Eq)]
+#[derive(Clone, Copy)]
 pub(crate) struct Head {
     pub(crate) date: bool,
     pub(crate) originator: bool,

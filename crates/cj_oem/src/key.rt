@@ -3,7 +3,7 @@ ghost use Rattle.std.specs.Prelude.{◌≡◌};
 ghost use Rattle.cj_oem.specs.Metadata as spec;
 
 /// A key of metadata.
-#[derive(Clone, Copy, Debug, PartialEq, Eq)]
+#[derive(Clone, Copy)]
 pub enum Key {
     ObjectName,
     ObjectId,
@@ -19,36 +19,30 @@ pub enum Key {
     InterpolationDegree,
 }
 
+/// Each key by its word.
+const KEYS: [(&[u8], Key); 12] = [
+    (b"OBJECT_NAME", Key::ObjectName),
+    (b"OBJECT_ID", Key::ObjectId),
+    (b"CENTER_NAME", Key::CenterName),
+    (b"REF_FRAME", Key::RefFrame),
+    (b"REF_FRAME_EPOCH", Key::RefFrameEpoch),
+    (b"TIME_SYSTEM", Key::TimeSystem),
+    (b"START_TIME", Key::StartTime),
+    (b"STOP_TIME", Key::StopTime),
+    (b"USEABLE_START_TIME", Key::UseableStartTime),
+    (b"USEABLE_STOP_TIME", Key::UseableStopTime),
+    (b"INTERPOLATION", Key::Interpolation),
+    (b"INTERPOLATION_DEGREE", Key::InterpolationDegree),
+];
+
 /// The key that a text is.
-#[tactic(auto, unfolding(crate::specs::Metadata::key_of))]
 pub fn key_of(text: &[u8]) -> Option<Key>
     ensures { result ≡ spec.key_of text.now }
 {
-    if text == b"OBJECT_NAME".as_slice() {
-        Some(Key::ObjectName)
-    } else if text == b"OBJECT_ID".as_slice() {
-        Some(Key::ObjectId)
-    } else if text == b"CENTER_NAME".as_slice() {
-        Some(Key::CenterName)
-    } else if text == b"REF_FRAME".as_slice() {
-        Some(Key::RefFrame)
-    } else if text == b"REF_FRAME_EPOCH".as_slice() {
-        Some(Key::RefFrameEpoch)
-    } else if text == b"TIME_SYSTEM".as_slice() {
-        Some(Key::TimeSystem)
-    } else if text == b"START_TIME".as_slice() {
-        Some(Key::StartTime)
-    } else if text == b"STOP_TIME".as_slice() {
-        Some(Key::StopTime)
-    } else if text == b"USEABLE_START_TIME".as_slice() {
-        Some(Key::UseableStartTime)
-    } else if text == b"USEABLE_STOP_TIME".as_slice() {
-        Some(Key::UseableStopTime)
-    } else if text == b"INTERPOLATION".as_slice() {
-        Some(Key::Interpolation)
-    } else if text == b"INTERPOLATION_DEGREE".as_slice() {
-        Some(Key::InterpolationDegree)
-    } else {
-        None
+    for (word, key) in &KEYS {
+        if text == *word {
+            return Some(*key);
+        }
     }
+    None
 }

@@ -29,6 +29,3 @@ pub use cj_track::{Frame, Matrices, Matrix, Node, Nodes, Segment, Segments, Trac
 pub use fault::{OemCause, OemFault};
 pub use printing::oem_text;
 pub use reader::read_oem;
-
-#[cfg(test)]
-mod tests;

@@ -16,7 +16,7 @@ use cj_track::Frame;
 use std::alloc::Global;
 
 /// What the keys of a block have said so far.
-#[derive(Debug, Drop)]
+#[derive(Drop)]
 pub(crate) struct MetadataDraft {
     pub(crate) name: Option<Text>,
     pub(crate) id: Option<Text>,
@@ -37,11 +37,11 @@ pub(crate) struct MetadataDraft {
 }
 
 impl MetadataDraft {
-    ghost use Rattle.std.specs.Prelude.{◌≡◌};
+    ghost use Rattle.std.specs.Prelude.{◌≡◌, IfOk, is_some, true};
     ghost use Rattle.std.specs.Option.{option_copied, option_map};
     ghost use Rattle.cj_oem.specs.Answers.{Gives, Tells};
     ghost use Rattle.cj_oem.specs.Metadata as spec;
-    ghost use Rattle.cj_oem.specs.MetadataDrafts.{IsLabelled, object_of, metadata_of, metadata_draft_of};
+    ghost use Rattle.cj_oem.specs.MetadataDrafts.{IsLabelled, object_of, metadata_of, metadata_draft_of, metadata_with};
 
     /// No key was given.
     pub(crate) fn new() -> Self
@@ -157,14 +157,28 @@ impl MetadataDraft {
     }
 
     /// What a whole draft says. The cubic may be taken where the file declares another interpolation or none.
-    #[tactic(auto, unfolding(crate::specs::Metadata::metadata_of))]
     pub(crate) fn metadata(self, as_hermite3: bool) -> Result<Metadata, OemCause>
         ensures { Tells metadata_of result (spec.metadata_of as_hermite3 (metadata_draft_of self)) }
     {
-        let is_cubic = self.is_cubic();
-        let name = self.name.ok_or(OemCause::Missing)?;
-        let id = self.id.ok_or(OemCause::Missing)?;
-        if !self.center {
+        let (frame, first, last) = self.stated(as_hermite3)?;
+        let (Some(name), Some(id)) = (self.name, self.id) else {
+            return Err(OemCause::Missing);
+        };
+        Ok(Metadata {
+            object: Object { name, id, frame },
+            first,
+            last,
+        })
+    }
+
+    /// The frame and the useable span of a whole draft.
+    #[tactic(auto, unfolding(crate::specs::Metadata::metadata_of))]
+    fn stated(&self, as_hermite3: bool) -> Result<(Frame, Tick, Tick), OemCause>
+        ensures told { Tells (metadata_with (metadata_draft_of self.now)) result (spec.metadata_of as_hermite3 (metadata_draft_of self.now)) }
+        ensures name { IfOk result (λ _. is_some self.now.name ≡ true) }
+        ensures id { IfOk result (λ _. is_some self.now.id ≡ true) }
+    {
+        if self.name.is_none() || self.id.is_none() || !self.center {
             return Err(OemCause::Missing);
         }
         let frame = self.frame.ok_or(OemCause::Missing)?;
@@ -173,14 +187,12 @@ impl MetadataDraft {
         }
         let start = self.start.ok_or(OemCause::Missing)?;
         let stop = self.stop.ok_or(OemCause::Missing)?;
-        if !as_hermite3 && !is_cubic {
+        if !as_hermite3 && !self.is_cubic() {
             return Err(OemCause::Interpolation);
         }
-        Ok(Metadata {
-            object: Object { name, id, frame },
-            first: self.useable_start.unwrap_or(start),
-            last: self.useable_stop.unwrap_or(stop),
-        })
+        let first = self.useable_start.unwrap_or(start);
+        let last = self.useable_stop.unwrap_or(stop);
+        Ok((frame, first, last))
     }
 
     /// Whether the file declares the cubic between two nodes.

@@ -3,7 +3,7 @@ use std::alloc::{AllocError, Global};
 use std::marker::Model;
 
 /// The nodes of a segment so far, whose times rise by at most an hour.
-#[derive(Debug, Drop)]
+#[derive(Drop)]
 pub(crate) struct NodeList {
     items: Vec<Node>,
 }

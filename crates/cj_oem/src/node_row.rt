@@ -1,5 +1,5 @@
 //! The row of a node.
-ghost use Rattle.std.specs.Prelude.{◌≡◌, ◌==◌, ◌||◌, ◌^◌, ◌<◌, ◌≤◌, not, All, IfOk, IfSome, drop, length, option_map};
+ghost use Rattle.std.specs.Prelude.{◌≡◌, ◌==◌, ◌||◌, ◌^◌, ◌<◌, ◌≤◌, ◌+◌, not, All, IfOk, IfSome, drop, length, option_map};
 ghost use Rattle.std.specs.List.{list_all};
 ghost use Rattle.cj_kvn.specs.Fields.{fields, texts_of};
 ghost use Rattle.cj_kvn.specs.Ranges.{IsWithin, text_at};
@@ -11,7 +11,7 @@ ghost use Rattle.cj_track.specs.Nodes.{IsStep};
 ghost use Rattle.cj_track.specs.Tracks.{plain_node};
 
 use crate::fault::OemCause;
-use crate::figures::{is_decimal, parse_figure, within_or};
+use crate::figures::{Figures, is_decimal, parse_figure, within_or};
 use crate::word::parse_epoch;
 use cj_epoch::leap_between;
 use cj_kvn::{Range32, RowFields, row_fields};
@@ -42,25 +42,24 @@ pub(crate) fn node_of_row(
     ensures value { Tells plain_node result (spec.state_of_row (option_map plain_node before) (text_at bytes.now text)) }
     ensures step { IfSome before (λ b. IfOk result (IsStep b)) }
 {
+    following(before, node_said(bytes, text)?)
+}
+
+/// The node that a row says, whatever stands before it.
+#[tactic(auto, unfolding(crate::specs::NodeRows::state_said))]
+fn node_said(bytes: &[u8], text: Range32) -> Result<Node, OemCause>
+    requires within { IsWithin bytes.now text }
+    requires short { length bytes.now < 2 ^ 32 }
+    ensures { Tells plain_node result (spec.state_said (fields (text_at bytes.now text))) }
+{
     let row = node_fields(bytes, text)?;
     let at = parse_epoch(row.text(bytes, 0))?;
-    let x = parse_figure(row.text(bytes, 1))?;
-    let y = parse_figure(row.text(bytes, 2))?;
-    let z = parse_figure(row.text(bytes, 3))?;
-    let u = parse_figure(row.text(bytes, 4))?;
-    let v = parse_figure(row.text(bytes, 5))?;
-    let w = parse_figure(row.text(bytes, 6))?;
+    let place = figures_from(bytes, &row, 1)?;
+    let rate = figures_from(bytes, &row, 4)?;
     check_accelerations(bytes, &row)?;
-    let place = vector_within(COORDINATE_LIMIT, OemCause::CoordinateRange, x, y, z)?;
-    let rate = vector_within(RATE_LIMIT, OemCause::RateRange, u, v, w)?;
-    following(
-        before,
-        Node {
-            at,
-            p: place,
-            v: rate,
-        },
-    )
+    let p = vector_within(COORDINATE_LIMIT, OemCause::CoordinateRange, place)?;
+    let v = vector_within(RATE_LIMIT, OemCause::RateRange, rate)?;
+    Ok(Node { at, p, v })
 }
 
 /// The fields of the row of a node: seven, or ten with accelerations.
@@ -79,6 +78,21 @@ fn node_fields(bytes: &[u8], text: Range32) -> Result<RowFields, OemCause>
     }
 }
 
+/// The numbers of three fields, from this one on.
+#[tactic(auto, unfolding(crate::specs::NodeRows::figures_in))]
+fn figures_from(bytes: &[u8], row: &RowFields, first: u32) -> Result<Figures, OemCause>
+    requires within { All (IsWithin bytes.now) row.now.found }
+    requires short { length bytes.now < 2 ^ 32 }
+    requires there { first + 3 ≤ row.now.count }
+    requires at_most { row.now.count ≤ 10 }
+    ensures { result ≡ spec.figures_in (texts_of bytes.now row.now) first }
+{
+    let x = parse_figure(row.text(bytes, first))?;
+    let y = parse_figure(row.text(bytes, first + 1))?;
+    let z = parse_figure(row.text(bytes, first + 2))?;
+    Ok(Figures { x, y, z })
+}
+
 /// The fields behind the rate, if there are any, have to be numbers.
 fn check_accelerations(bytes: &[u8], row: &RowFields) -> Result<(), OemCause>
     requires within { All (IsWithin bytes.now) row.now.found }
@@ -95,20 +109,14 @@ fn check_accelerations(bytes: &[u8], row: &RowFields) -> Result<(), OemCause>
 }
 
 /// Three numbers that are at most so large in size.
-fn vector_within(
-    limit: u64,
-    cause: OemCause,
-    x: Option<i128>,
-    y: Option<i128>,
-    z: Option<i128>,
-) -> Result<Vec3, OemCause>
+fn vector_within(limit: u64, cause: OemCause, figures: Figures) -> Result<Vec3, OemCause>
     requires { limit < 2 ^ 63 }
-    ensures value { result ≡ spec.vector_within limit cause x y z }
+    ensures value { result ≡ spec.vector_within limit cause figures.x figures.y figures.z }
     ensures within { IfOk result (λ v. limits.IsWithin limit v.x × limits.IsWithin limit v.y × limits.IsWithin limit v.z) }
 {
-    let x = within_or(limit, cause, x)?;
-    let y = within_or(limit, cause, y)?;
-    let z = within_or(limit, cause, z)?;
+    let x = within_or(limit, cause, figures.x)?;
+    let y = within_or(limit, cause, figures.y)?;
+    let z = within_or(limit, cause, figures.z)?;
     Ok(Vec3 { x, y, z })
 }
 

@@ -5,7 +5,7 @@ use cj_kvn::Text;
 use cj_track::Frame;
 
 /// The object of a file.
-#[derive(Debug, Drop)]
+#[derive(Drop)]
 pub(crate) struct Object {
     pub(crate) name: Text,
     /// The designator.

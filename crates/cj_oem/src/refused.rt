@@ -5,7 +5,7 @@ use crate::fault::{OemCause, OemFault};
 use std::alloc::{AllocError, AllocFailed};
 
 /// Why a line is not followed.
-#[derive(Clone, Copy, Debug, PartialEq, Eq)]
+#[derive(Clone, Copy)]
 pub enum Refused {
     /// Memory ran out.
     Memory,

@@ -3,7 +3,7 @@ use std::alloc::{AllocError, Global};
 use std::marker::Model;
 
 /// The segments of a file so far, each useable from where the one before ends or later.
-#[derive(Debug, Drop)]
+#[derive(Drop)]
 pub(crate) struct SegmentList {
     items: Vec<Segment>,
 }

@@ -2,7 +2,7 @@ use crate::object::Object;
 use cj_epoch::Tick;
 
 /// What the metadata of a segment says: its object and its useable span.
-#[derive(Debug, Drop)]
+#[derive(Drop)]
 pub(crate) struct Metadata {
     pub(crate) object: Object,
     pub(crate) first: Tick,

@@ -24,7 +24,7 @@ use std::mem;
 ///
 /// What is let go is handed to `drop`: where it goes by itself, or an assignment lets it go, a check follows each part of each stage
 /// through the whole body.
-#[derive(Debug, Drop)]
+#[derive(Drop)]
 pub(crate) enum Stage {
     Start,
     Header(Head),

@@ -2,7 +2,7 @@
 ghost use Rattle.std.specs.Prelude.{◌≡◌, map};
 ghost use Rattle.cj_kvn.specs.Decimals.{number_of};
 ghost use Rattle.cj_cdm.specs.Read.{plain, plain_object, plain_rest, side_of_said, with_rest};
-ghost use Rattle.cj_cdm.specs.Reading.{elements_said, object_said, place_said, rate_said, side_said};
+ghost use Rattle.cj_cdm.specs.Reading.{elements_said, object_said, place_said, rate_said, side_said, vector_said};
 ghost use Rattle.cj_cdm.specs.Texts.{elements};
 
 use crate::elements::element_at;
@@ -58,23 +58,32 @@ fn read_object<'a>(called: &[u8], rest: Rest<'a>) -> Result<(ObjectSaid<'a>, Res
     Ok((object, rest))
 }
 
-#[tactic(auto, unfolding(crate::specs::Reading::place_said))]
 fn read_place(rest: Rest<'_>) -> Result<(Vector, Rest<'_>), LineFault>
     ensures { plain (with_rest (λ v. v)) result ≡ place_said (plain_rest rest.entry) }
 {
-    let (x, rest) = rest.kilometres(b"X", b"km")?;
-    let (y, rest) = rest.kilometres(b"Y", b"km")?;
-    let (z, rest) = rest.kilometres(b"Z", b"km")?;
-    Ok((Vector { x, y, z }, rest))
+    read_vector(b"X", b"Y", b"Z", b"km", rest)
 }
 
-#[tactic(auto, unfolding(crate::specs::Reading::rate_said))]
 fn read_rate(rest: Rest<'_>) -> Result<(Vector, Rest<'_>), LineFault>
     ensures { plain (with_rest (λ v. v)) result ≡ rate_said (plain_rest rest.entry) }
 {
-    let (x, rest) = rest.kilometres(b"X_DOT", b"km/s")?;
-    let (y, rest) = rest.kilometres(b"Y_DOT", b"km/s")?;
-    let (z, rest) = rest.kilometres(b"Z_DOT", b"km/s")?;
+    read_vector(b"X_DOT", b"Y_DOT", b"Z_DOT", b"km/s", rest)
+}
+
+/// Three coordinates in a unit, each with its key.
+#[tactic(auto, unfolding(crate::specs::Reading::vector_said))]
+fn read_vector<'a>(
+    x_key: &[u8],
+    y_key: &[u8],
+    z_key: &[u8],
+    unit: &[u8],
+    rest: Rest<'a>,
+) -> Result<(Vector, Rest<'a>), LineFault>
+    ensures { plain (with_rest (λ v. v)) result ≡ vector_said x_key.now y_key.now z_key.now unit.now (plain_rest rest.entry) }
+{
+    let (x, rest) = rest.kilometres(x_key, unit)?;
+    let (y, rest) = rest.kilometres(y_key, unit)?;
+    let (z, rest) = rest.kilometres(z_key, unit)?;
     Ok((Vector { x, y, z }, rest))
 }
 

@@ -1,6 +1,6 @@
-use Rattle.std.proofs.Common.{◌≡◌, ◌++◌, ap, ◌∙◌, arith, to_z, of_z}
+use Rattle.std.proofs.Common.{◌≡◌, ◌++◌, ap, ◌∙◌, rules, to_z, of_z}
 use Rattle.std.specs.Prelude.{codes, List, ℕ, ℤ}
-use Rattle.std.proofs.lemmas.Int.{ints}
+use Rattle.std.proofs.lemmas.Int.{to_z-of_z}
 use Rattle.std.proofs.lemmas.Result.{on_ok_weaker}
 use mir.Syntax.{w128}
 use Rattle.cj_cdm.specs.Texts.{kilometres, quantity, state_text}
@@ -17,12 +17,12 @@ returns c =
     let old = c.args.text.now.items in
     let p = c.args.place in
     let v = c.args.rate in
-    let px : to_z w128 (of_z w128 p.x) ≡ p.x = omega (arith, ints) in
-    let py : to_z w128 (of_z w128 p.y) ≡ p.y = omega (arith, ints) in
-    let pz : to_z w128 (of_z w128 p.z) ≡ p.z = omega (arith, ints) in
-    let vx : to_z w128 (of_z w128 v.x) ≡ v.x = omega (arith, ints) in
-    let vy : to_z w128 (of_z w128 v.y) ≡ v.y = omega (arith, ints) in
-    let vz : to_z w128 (of_z w128 v.z) ≡ v.z = omega (arith, ints) in
+    let px : to_z w128 (of_z w128 p.x) ≡ p.x = to_z-of_z w128 p.x (search rules) in
+    let py : to_z w128 (of_z w128 p.y) ≡ p.y = to_z-of_z w128 p.y (search rules) in
+    let pz : to_z w128 (of_z w128 p.z) ≡ p.z = to_z-of_z w128 p.z (search rules) in
+    let vx : to_z w128 (of_z w128 v.x) ≡ v.x = to_z-of_z w128 v.x (search rules) in
+    let vy : to_z w128 (of_z w128 v.y) ≡ v.y = to_z-of_z w128 v.y (search rules) in
+    let vz : to_z w128 (of_z w128 v.z) ≡ v.z = to_z-of_z w128 v.z (search rules) in
     let x = same _ _ (codes "X") (codes "km") _ p.x px c.in_ok-push_kilometres.ensures in
     let y = same _ _ (codes "Y") (codes "km") _ p.y py c.in_ok-push_kilometres-2.ensures in
     let z = same _ _ (codes "Z") (codes "km") _ p.z pz c.in_ok-push_kilometres-3.ensures in

@@ -6,7 +6,7 @@ use Rattle.cj_kvn.specs.Decimals.{number_of}
 use Rattle.cj_kvn.specs.Fields.{fields}
 use Rattle.cj_kvn.specs.Ranges.{text_at}
 use Rattle.cj_oem.specs.Drafts.{draft_of}
-use Rattle.cj_oem.proofs.DraftLemmas.{row_added, row_written}
+use Rattle.cj_oem.proofs.DraftLemmas.{count_most, row_added, row_kept, row_written}
 use Rattle.cj_oem.proofs.draft.Draft.with_row.Goals as goal
 
 pub returns : goal.returns
@@ -22,3 +22,9 @@ returns c =
     let form : ((d.rows == 6) || not (length row == d.rows + 1)) ≡ false = rw (not_six, right) refl in
     row_added (draft_of d) row (map number_of written) form c.in_ok-read_numbers.ensures.value
     ∙ ap (λ (values : List Number). Ok (record (draft_of d) { rows = d.rows + 1; values = values })) (sym (row_written d.rows _ d.values written few all one_more))
+
+pub invariant_of-result-clause-few : goal.invariant_of-result-clause-few
+invariant_of-result-clause-few c = omega (arith, c.args.self.few, c.if-self-eq6.false)
+
+pub invariant_of-result-clause-readable : goal.invariant_of-result-clause-readable
+invariant_of-result-clause-readable c = row_kept _ _ c.args.self.values c.read_numbers.new.places c.args.self.readable c.in_ok-read_numbers.ensures.readable

@@ -1,8 +1,8 @@
-use super::texts::{
+use crate::texts::{
     Case, Changed, Stated, base_with, begins_with, read, wrong_in_base, wrong_with,
 };
-use crate::OemCause;
 use cj_epoch::EpochFault;
+use cj_oem::OemCause;
 use cj_samples::Change;
 use std::test::Fail;
 

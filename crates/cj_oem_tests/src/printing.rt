@@ -1,7 +1,7 @@
-use super::texts::{
+use crate::texts::{
     Stated, Useable, base_with, begins_with, has_useable, has_values, matrix_tick, read,
 };
-use crate::{OemFault, Track, oem_text};
+use cj_oem::{OemFault, Track, oem_text};
 use cj_samples::Change;
 use std::alloc::Global;
 use std::test::Fail;

@@ -81,7 +81,7 @@ fn push_block(text: &mut Vec<u8>, block: Block) -> Result<(), AllocError> {
 }
 
 /// The message of two tracks that cross at one kilometre.
-pub(super) fn crossing(alloc: Global) -> Result<Vec<u8>, AllocError> {
+pub fn crossing(alloc: Global) -> Result<Vec<u8>, AllocError> {
     let mut text = Vec::from_slice(alloc, HEADING)?;
     let first = Block {
         called: b"OBJECT1",

@@ -2,7 +2,7 @@ use Rattle.std.proofs.Common.{List, [], ◌∷◌, All, arith, refl}
 use Rattle.std.proofs.lemmas.List.Elements.{All-cons}
 use Rattle.cj_kvn.specs.declared.decimals.Decimal.{Decimal}
 use Rattle.cj_kvn.specs.Decimals.{IsReadable, is_huge, is_tiny, number_of}
-use Rattle.cj_cdm.proofs.tests.matrix.Goals as goal
+use Rattle.cj_cdm_tests.proofs.writing.matrix.Goals as goal
 
 abbrev R : Decimal → Type 0
 R d = IsReadable (number_of d)

@@ -1,5 +1,5 @@
 //! Files for the tests.
-use crate::{Frame, Matrix, Node, OemCause, OemFault, Segment, Track, read_oem};
+use cj_oem::{Frame, Matrix, Node, OemCause, OemFault, Segment, Track, read_oem};
 use cj_samples::{Change, HEAD, append_lines};
 use std::alloc::{AllocError, Global};
 

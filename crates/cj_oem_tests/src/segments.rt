@@ -1,8 +1,8 @@
-use super::texts::{
+use crate::texts::{
     Case, Changed, Stated, begins_with, counts_of, has_useable, read, two_with, wrong_in_base,
     wrong_in_two, wrong_with,
 };
-use crate::OemCause;
+use cj_oem::OemCause;
 use cj_samples::Change;
 use std::test::Fail;
 

@@ -4,15 +4,12 @@ ghost use Rattle.cj_track.specs.Limits.{MAX_COORDINATE, MAX_RATE, IsWithin};
 ghost use Rattle.cj_track.specs.Labels.{is_file_name, is_label};
 ghost use Rattle.cj_track.specs.Segments.{node_count};
 
-mod expected;
-mod reading;
-
-use crate::{Stamp, has_message, message};
+use crate::expected::crossing;
+use cj_cdm::{Stamp, has_message, message};
 use cj_epoch::{Tick, Window, leap_between};
 use cj_hermite::{Pair, Problem, Sizes, Tracks};
 use cj_kvn::{Decimal, Text, read_decimal};
 use cj_track::{Frame, Matrices, Matrix, Node, Nodes, Segment, Segments, Track, Vec3};
-use expected::crossing;
 use std::alloc::{AllocError, Global};
 use std::process::Abort;
 use std::test::Fail;
@@ -20,7 +17,7 @@ use std::test::Fail;
 /// 2025-01-01T00:00:00 in microseconds.
 const START: u64 = 1_735_689_600_000_000;
 
-fn tick(after: u64) -> Tick
+pub fn tick(after: u64) -> Tick
     requires { after < 100_000_000_000 }
     ensures { result.micros ≡ 1_735_689_600_000_000 + after }
 {

@@ -1,12 +1,12 @@
 ghost use Rattle.std.specs.Prelude.{◌<◌};
 
-use super::texts::{
+use crate::texts::{
     Changed, Fault, Valued, base_with, counts_of, fault_in, has_values, matrix_tick, read,
     two_with, wrong_with,
 };
-use crate::{OemCause, OemFault};
 use cj_epoch::EpochFault;
 use cj_kvn::KvnCause;
+use cj_oem::{OemCause, OemFault};
 use cj_samples::Change;
 use std::alloc::{AllocError, Global};
 use std::test::Fail;

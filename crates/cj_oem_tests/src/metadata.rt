@@ -1,7 +1,7 @@
-use super::texts::{Case, Changed, base_with, fault_of, read, wrong_in_base, wrong_with};
-use crate::{OemCause, OemFault};
+use crate::texts::{Case, Changed, base_with, fault_of, read, wrong_in_base, wrong_with};
 use cj_epoch::EpochFault;
 use cj_kvn::KvnCause;
+use cj_oem::{OemCause, OemFault};
 use cj_samples::Change;
 use std::alloc::Global;
 use std::test::Fail;
