@@ -9,12 +9,17 @@ ghost use Rattle.cj_cells.specs.Cells.{root_numbers};
 
 use cj_bezier::Cell;
 
-/// Sorts roots by pair and first tick.
-fn sort(roots: &mut [Cell])
-    ensures permutation { IsPermutation (plain_cells roots.old) (plain_cells roots.new) }
-    ensures ordered { AllPairs IsRootUpTo (plain_cells roots.new) }
+/// Sorts roots by pair and first tick. Slot by slot they are runs in order, which a stable sort merges; it wants memory, and does
+/// without where there is none.
+fn sort(roots: &mut Vec<Cell>)
+    ensures permutation { IsPermutation (plain_cells roots.old.items) (plain_cells roots.new.items) }
+    ensures ordered { AllPairs IsRootUpTo (plain_cells roots.new.items) }
+    ensures len { vec_len roots.new ≡ vec_len roots.old }
 {
-    roots.sort_unstable_by_key(|cell| (cell.pair, cell.first));
+    match roots.sort_by_key(|cell| (cell.pair, cell.first)) {
+        Ok(()) => (),
+        Err(_) => roots.sort_unstable_by_key(|cell| (cell.pair, cell.first)),
+    }
 }
 
 /// Gives each root its place as its number.

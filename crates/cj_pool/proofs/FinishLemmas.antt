@@ -1,11 +1,11 @@
 -- The leaves of all hands and of the open cells, once they are sorted, are the leaves of the roots.
-use Rattle.std.proofs.Common.{◌≡◌, ℕ, zero, suc, ◌+◌, ◌%◌, ◌^◌, ◌<◌, ◌≤◌, Bool, true, false, cond, ◌&&◌, eqb, leb, List, [], ◌∷◌, ◌++◌, length, get_or, take, drop, refl, sym, ap, ◌∙◌, subst, arith, length-append, inl, inr}
+use Rattle.std.proofs.Common.{◌≡◌, ℕ, zero, suc, ◌+◌, ◌^◌, ◌<◌, ◌≤◌, Bool, true, false, cond, ◌&&◌, eqb, leb, List, [], ◌∷◌, ◌++◌, length, get_or, take, drop, refl, sym, ap, ◌∙◌, subst, arith, length-append, inl, inr}
 use Rattle.std.specs.Prelude.{All, AllPairs, Contains}
 use Rattle.std.specs.List.{flat_map, range_with_len}
 use Rattle.std.specs.List.Sorted.{IsPermutation}
 use Rattle.std.proofs.lemmas.Bool.{cases_Bool, eqb-true, eq-eqb, and_parts, and_from}
 use Rattle.std.proofs.lemmas.List.{length-map}
-use Rattle.std.proofs.lemmas.List.Elements.{All-weaker, All-contains, All-contains_itself, Contains-append_left, Contains-append_right, Contains-get_or}
+use Rattle.std.proofs.lemmas.List.Elements.{All-weaker, All-contains, All-contains_itself, Contains-append_left, Contains-append_right}
 use Rattle.std.proofs.lemmas.List.Sorted.{Contains-permutation}
 use Rattle.cj_interval.proofs.ListLemmas.{Each, Exists, Ordered, Each-append, each_from_All, ordered_from_AllPairs, All-from_each}
 use Rattle.cj_interval.proofs.SumLemmas.{total, same_totals, same_list}
@@ -29,7 +29,6 @@ use Rattle.cj_pool.specs.Weights.{weigh, has}
 use Rattle.cj_pool.proofs.HandSumLemmas.{all_taken, open_shared}
 use Rattle.cj_pool.proofs.LeafSumLemmas.{leaves_shared, described_cells, leaves_ordered, leaves_some, weigh_leaves, weigh_closed}
 use Rattle.cj_pool.proofs.RefineLemmas.{kept_whole}
-use Rattle.cj_pool.proofs.SeatLemmas.{weigh_map}
 use Rattle.cj_pool.proofs.TreeLemmas.{tree_keeps}
 use Rattle.cj_pool.proofs.WeightLemmas.{weigh_append, weigh_is, weigh_one}
 

@@ -1,6 +1,6 @@
 -- Cells of the halving trees lie in their roots.
-use Rattle.std.proofs.Common.{◌≡◌, ℕ, ◌+◌, ◌^◌, ◌<◌, ◌≤◌, List, sym, ap, ◌∙◌, arith}
-use Rattle.std.specs.Prelude.{None, Option, slice_get, is_some}
+use Rattle.std.proofs.Common.{◌≡◌, ℕ, ◌+◌, ◌^◌, ◌<◌, ◌≤◌, List, ap, ◌∙◌, arith}
+use Rattle.std.specs.Prelude.{None, Option, slice_get}
 use Rattle.cj_hermite.specs.PlainProblems.{PlainProblem}
 use Rattle.cj_hermite.specs.Roots.{KeepIntervals}
 use Rattle.cj_hermite.proofs.CurveLemmas.{keep_part}

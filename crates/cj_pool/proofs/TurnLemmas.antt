@@ -1,6 +1,6 @@
 -- What a look at the cell of a turn gives.
-use Rattle.std.proofs.Common.{◌≡◌, ℕ, ◌+◌, ◌≤◌, List, [], ◌∷◌, ◌++◌, inl, inr, length, sym, ap, ◌∙◌, subst, arith, length-append}
-use Rattle.std.specs.Prelude.{All, Some, None}
+use Rattle.std.proofs.Common.{◌≡◌, ℕ, zero, suc, ◌+◌, ◌<◌, ◌≤◌, List, [], ◌∷◌, ◌++◌, inl, inr, length, refl, sym, ap, ◌∙◌, subst, arith, length-append}
+use Rattle.std.specs.Prelude.{All, Some, None, Result, Ok, Err, MatchResult}
 use Rattle.std.proofs.lemmas.List.Elements.{All-push}
 use Rattle.cj_hermite.specs.PlainProblems.{PlainProblem}
 use Rattle.cj_bezier.specs.declared.cell.Cell.{Cell}
@@ -9,14 +9,18 @@ use Rattle.cj_bezier.specs.declared.leaf.Leaf.{Leaf}
 use Rattle.cj_bezier.specs.Cells.{plain_cell, AreHalves}
 use Rattle.cj_bezier.specs.RootLeaves.{kind_of_cell}
 use Rattle.cj_ledger.specs.declared.count.Count.{Count}
+use Rattle.cj_ledger.specs.Shares.{IsOf}
 use Rattle.cj_pool.specs.declared.account.Account.{Account}
+use Rattle.cj_pool.specs.declared.turn.Turn.{Turn}
+use Rattle.cj_pool.specs.declared.turn.Turn.TheVariants.{Idle, Done}
 use Rattle.cj_pool.specs.Accounts.{Settled}
-use Rattle.cj_pool.specs.Hands.{RefinerySeen, HandSeen}
+use Rattle.cj_pool.specs.Hands.{RefinerySeen, HandSeen, IsHandOf, SameHand}
 use Rattle.cj_pool.specs.Narrow.{Narrow}
+use Rattle.cj_pool.specs.Parted.{ArePushed, AreKept, AreParted, pushed_one, held_both}
 use Rattle.cj_pool.specs.Passes.{around}
 use Rattle.cj_pool.specs.RootLists.{IsKept, AreRoots}
 use Rattle.cj_pool.specs.Tree.{InTree, IsLeafOf, Halved}
-use Rattle.cj_pool.specs.Turns.{CellCame, SameCells, MadeLeaf, MadeHalves, KeptBoth, Wanted, FoundNone, SetsCells}
+use Rattle.cj_pool.specs.Turns.{CellCame, SameCells, MadeLeaf, MadeHalves, KeptBoth, Wanted, FoundEnd, FoundNone, Heard, Made, SetsCells}
 use Rattle.cj_pool.specs.Weights.{weigh}
 use Rattle.cj_pool.proofs.NarrowLemmas.{narrow_length}
 use Rattle.cj_pool.proofs.TreeLemmas.{tree_keeps, tree_halves}
@@ -94,8 +98,20 @@ halves_of case old old' new same made = subst (λ (h : HandSeen). MadeHalves cas
 pub both_of : (case : PlainProblem) (old old' new : HandSeen) → old' ≡ old → KeptBoth case old' new → Wanted case old new
 both_of case old old' new same made = subst (λ (h : HandSeen). Wanted case h new) same (inr made)
 
-pub none_of : (r : RefinerySeen) (old old' new : HandSeen) (live : ℕ) → old' ≡ old → FoundNone r old' new live → FoundNone r old new live
-none_of r old old' new live same made = subst (λ (h : HandSeen). FoundNone r h new live) same made
+-- a turn that found no cell tells the end where none is live
+pub without_of : (case : PlainProblem) (r : RefinerySeen) (old old' new : HandSeen) (live : ℕ) (t : Turn) → old' ≡ old → (live ≡ 0 → t ≡ Done) → (0 < live → t ≡ Idle live)
+    → SameCells old' new → old'.kept ≡ [] → Heard live old' new → (r.hands ≡ 1 → (w : Cell → ℕ) → weigh w new.opening + weigh w new.pushed ≡ weigh (weigh w) new.taken)
+    → Made case r old new t
+without_of case r old old' new zero t same done idle cells held heard alone =
+    subst (Made case r old new) (sym (done refl)) (subst (λ (h : HandSeen). FoundEnd h new) same (record { same = cells; heard = heard }))
+without_of case r old old' new (suc n) t same done idle cells held heard alone =
+    subst (Made case r old new) (sym (idle (omega arith)))
+    (subst (λ (h : HandSeen). FoundNone r h new (suc n)) same (record { same = cells; held = held; some = omega arith; heard = heard; alone = alone }))
+
+-- the hand stays what it is, as it was seen before
+pub still_of : (r : RefinerySeen) (old old' new : HandSeen) → old' ≡ old → IsHandOf r old → new.deques ≡ old'.deques → IsOf r.ledger new.share → SameHand old' new
+    → IsHandOf r new × SameHand old new
+still_of r old old' new same hand deques mine kept = ((deques ∙ ap (λ (h : HandSeen). h.deques) same ∙ hand.0, mine), subst (λ (h : HandSeen). SameHand h new) same kept)
 
 -- a turn that wanted memory, of a hand with the same cells
 pub wanted_same : (case : PlainProblem) (old new new' : HandSeen) → SameCells new new' → Wanted case old new → Wanted case old new'
@@ -116,3 +132,23 @@ wanted_same case old new new' same (inr both) = inr (record {
   pushed = same.pushed ∙ both.pushed;
   closed = same.closed ∙ both.closed;
 })
+
+-- ---- the halves of a cell, wherever the second went
+
+pub where_parted : {A E : Type 0} (r : Result Turn E) (old new : Account) (before after : List Cell) (first second : Cell)
+    → MatchResult r (AreParted old new before after first second) (λ _. AreKept old new before after first second)
+    → (ArePushed old new before after first second → A) → (AreKept old new before after first second → A) → A
+where_parted (Ok turn) old new before after first second (pushed_one is parted) pushed kept = pushed parted
+where_parted (Ok turn) old new before after first second (held_both is parted) pushed kept = kept parted
+where_parted (Err e) old new before after first second parted pushed kept = kept parted
+
+pub made_of : {E : Type 0} (case : PlainProblem) (r : RefinerySeen) (hand hand' now : HandSeen) (result : Result Turn E) (old new : Account) (before after : List Cell) (first second : Cell)
+    → hand' ≡ hand → MatchResult result (AreParted old new before after first second) (λ _. AreKept old new before after first second)
+    → (ArePushed old new before after first second → MadeHalves case hand' now) → (AreKept old new before after first second → KeptBoth case hand' now)
+    → MatchResult result (Made case r hand now) (λ _. Wanted case hand now)
+made_of case r hand hand' now (Ok turn) old new before after first second same (pushed_one is parted) pushed kept =
+    subst (Made case r hand now) (sym is) (subst (λ (h : HandSeen). MadeHalves case h now) same (pushed parted))
+made_of case r hand hand' now (Ok turn) old new before after first second same (held_both is parted) pushed kept =
+    subst (Made case r hand now) (sym is) (subst (λ (h : HandSeen). KeptBoth case h now) same (kept parted))
+made_of case r hand hand' now (Err e) old new before after first second same parted pushed kept =
+    subst (λ (h : HandSeen). Wanted case h now) same (inr (kept parted))

@@ -9,3 +9,4 @@ pub mod Stations
 pub mod Tree
 pub mod Turns
 pub mod Weights
+pub mod Parted

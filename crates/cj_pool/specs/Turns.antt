@@ -9,7 +9,7 @@ use Rattle.cj_ledger.specs.declared.count.Count.{Count}
 use Rattle.cj_ledger.specs.declared.why.Why.{Why}
 use Rattle.cj_ledger.specs.Words.{why_of}
 use Rattle.cj_pool.specs.declared.turn.Turn.{Turn}
-use Rattle.cj_pool.specs.declared.turn.Turn.TheVariants.{Closed, Split, Idle, Done, Halted}
+use Rattle.cj_pool.specs.declared.turn.Turn.TheVariants.{Closed, Split, Kept, Idle, Done, Halted}
 use Rattle.cj_pool.specs.Hands.{RefinerySeen, HandSeen}
 use Rattle.cj_pool.specs.Passes.{taken_at}
 use Rattle.cj_pool.specs.Tree.{Halved}
@@ -55,6 +55,18 @@ pub record MadeHalves (case : PlainProblem) (old new : HandSeen) : Type 0 where
   pub pushed : new.pushed ≡ old.pushed ++ right ∷ []
   pub closed : new.closed ≡ old.closed
 
+-- a cell was halved, and both halves are kept in its place
+pub record KeptBoth (case : PlainProblem) (old new : HandSeen) : Type 0 where
+  pub cell : Cell
+  pub left : Cell
+  pub right : Cell
+  pub rest : List Cell
+  pub came : Came old new cell rest
+  pub halved : Halved case cell left right
+  pub kept : new.kept ≡ (rest ++ right ∷ []) ++ left ∷ []
+  pub pushed : new.pushed ≡ old.pushed
+  pub closed : new.closed ≡ old.closed
+
 -- no cell was found, and some are live; a hand that is alone then has taken all that its deque ever had
 pub record FoundNone (r : RefinerySeen) (old new : HandSeen) (live : ℕ) : Type 0 where
   pub same : SameCells old new
@@ -78,21 +90,10 @@ pub record WasHalted (why : Why) (old new : HandSeen) : Type 0 where
 abbrev pub Made : PlainProblem → RefinerySeen → HandSeen → HandSeen → Turn → Type 0
 Made case r old new Closed = MadeLeaf case old new
 Made case r old new Split = MadeHalves case old new
+Made case r old new Kept = KeptBoth case old new
 Made case r old new (Idle live) = FoundNone r old new live
 Made case r old new Done = FoundEnd old new
 Made case r old new (Halted why) = WasHalted why old new
-
--- a push was refused, and both halves are kept in place of the cell
-pub record KeptBoth (case : PlainProblem) (old new : HandSeen) : Type 0 where
-  pub cell : Cell
-  pub left : Cell
-  pub right : Cell
-  pub rest : List Cell
-  pub came : Came old new cell rest
-  pub halved : Halved case cell left right
-  pub kept : new.kept ≡ (rest ++ right ∷ []) ++ left ∷ []
-  pub pushed : new.pushed ≡ old.pushed
-  pub closed : new.closed ≡ old.closed
 
 -- a turn that wanted memory left all cells as they were, or kept both halves of one
 abbrev pub Wanted : PlainProblem → HandSeen → HandSeen → Type 0

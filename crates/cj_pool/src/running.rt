@@ -31,6 +31,7 @@ impl<'p, K: Run> Hand<'p, K> {
         match self.turn(alloc, refinery) {
             Ok(Turn::Closed) => false,
             Ok(Turn::Split) => false,
+            Ok(Turn::Kept) => false,
             Ok(Turn::Idle { live: _ }) => {
                 thread::yield_now();
                 false
@@ -54,6 +55,33 @@ impl<'p, K: Run> Hand<'p, K> {
         sort(&mut self.leaves);
     }
 
+    /// Takes turns until one is the last.
+    fn take_turns<R: Wait, G: Gate>(
+        &mut self,
+        rt: &R,
+        alloc: Global,
+        refinery: &Refinery<'p, K>,
+        gate: &G,
+    )
+        requires { IsHandOf refinery.now self.old }
+        ensures hand { IsHandOf refinery.now self.new × SameHand self.old self.new }
+        ensures ended { Ended self.new }
+        ensures memory { (self.new.share.count.memory ≡ self.old.share.count.memory) ⊎ Rose self.old.wants self.new.wants }
+        ensures cells { (self.new.share.count.cells ≡ self.old.share.count.cells) ⊎ ((refinery.now.limit < self.new.share.count.leaves.last)
+            × (self.old.share.count.leaves.times < self.new.share.count.leaves.times)) }
+    {
+        let worker = self.number();
+        let mut number: u64 = 0;
+        for _ in rt.forever() {
+            number = number.saturating_add(1);
+            gate.enter(rt, worker, number);
+            if self.step(alloc, refinery) {
+                return;
+            }
+        }
+        unreachable!()
+    }
+
     /// Takes turns until the cells are done or the hands are to stop. Where a turn wants memory, it tells the others to stop.
     pub fn run<R: Wait, G: Gate>(
         mut self,
@@ -72,15 +100,8 @@ impl<'p, K: Run> Hand<'p, K> {
         ensures cells { (result.share.count.cells ≡ self.entry.share.count.cells) ⊎ ((refinery.now.limit < result.share.count.leaves.last)
             × (self.entry.share.count.leaves.times < result.share.count.leaves.times)) }
     {
-        let mut number: u64 = 0;
-        for _ in rt.forever() {
-            number = number.saturating_add(1);
-            gate.enter(rt, self.station.number, number);
-            if self.step(alloc, refinery) {
-                self.sort_leaves();
-                return self;
-            }
-        }
-        unreachable!()
+        self.take_turns(rt, alloc, refinery, gate);
+        self.sort_leaves();
+        self
     }
 }

@@ -8,12 +8,15 @@ ghost use Rattle.cj_pool.specs.Hands.{cells_of};
 use cj_bezier::Leaf;
 use std::alloc::AllocError;
 
-/// Puts leaves in order.
-pub(crate) fn sort(leaves: &mut [Leaf])
-    ensures permutation { IsPermutation leaves.old leaves.new }
-    ensures ordered { AllPairs IsRootUpTo (plain_cells (cells_of leaves.new)) }
+/// Puts leaves in order. They are runs in order, which a stable sort merges; it wants memory, and does without where there is none.
+pub(crate) fn sort(leaves: &mut Vec<Leaf>)
+    ensures permutation { IsPermutation leaves.old.items leaves.new.items }
+    ensures ordered { AllPairs IsRootUpTo (plain_cells (cells_of leaves.new.items)) }
 {
-    leaves.sort_unstable_by_key(|leaf| (leaf.cell.pair, leaf.cell.first));
+    match merge(leaves) {
+        Ok(()) => (),
+        Err(_) => leaves.sort_unstable_by_key(|leaf| (leaf.cell.pair, leaf.cell.first)),
+    }
 }
 
 /// Puts leaves in order that are a few runs, each in order: the runs are merged.

@@ -14,7 +14,7 @@ use crate::refined::{FinishError, Refined};
 use crate::refinery::Refinery;
 use crate::run::Run;
 use crate::turn::Turn;
-use cj_bezier::Cell;
+use cj_bezier::{Cell, Leaf};
 use cj_cells::{RefineError, order_roots, refine_all, roots_of_slot};
 use cj_hermite::{Hints, Pair, Problem};
 use cj_io::{Gate, OpenGate};
@@ -104,90 +104,78 @@ fn finished<'p, K: Run>(
     refinery.finish(alloc, hands)
 }
 
-/// The hand after a turn in which it halves a cell.
-fn after_split<'p, K: Run, R: Abort>(
+/// A turn in which the hand halves a cell.
+fn split<'p, K: Run, R: Abort>(
     rt: &R,
     alloc: Global,
     refinery: &Refinery<'p, K>,
-    mut hand: Hand<'p, K>,
-) -> Result<Hand<'p, K>, AllocError>
-    requires { IsHandOf refinery.now hand }
-    ensures { IfOk result (λ h. IsHandOf refinery.now h × (h.number ≡ hand.entry.number)) }
+    hand: &mut Hand<'p, K>,
+) -> Result<(), AllocError>
+    requires { IsHandOf refinery.now hand.old }
+    ensures { IsHandOf refinery.now hand.new × (hand.new.number ≡ hand.old.number) }
 {
     let turn = hand.turn(alloc, refinery)?;
     assert_eq!(rt; turn, Turn::Split);
-    Ok(hand)
+    Ok(())
 }
 
-/// Hand zero halves the root, and then hand one a half, which it has stolen.
-fn zero_and_one<K: Run, R: Abort>(
+/// What two hands do before all is finished.
+#[derive(Clone, Copy)]
+enum Script {
+    /// Hand zero halves the root, and then hand one a half, which it has stolen.
+    ZeroAndOne,
+    /// Hand one halves the root, which it has stolen, and then hand zero a half, which it has stolen.
+    OneAndZero,
+    /// The run of hand zero leaves nothing to hand one.
+    ZeroAlone,
+    /// They take no turn: all cells are left in the deques.
+    Nothing,
+}
+
+/// The turns of a script in which no hand runs.
+fn take_turns<'p, K: Run, R: Abort>(
+    rt: &R,
+    alloc: Global,
+    refinery: &Refinery<'p, K>,
+    zero: &mut Hand<'p, K>,
+    one: &mut Hand<'p, K>,
+    script: Script,
+) -> Result<(), AllocError>
+    requires zero { IsHandOf refinery.now zero.old }
+    requires one { IsHandOf refinery.now one.old }
+    ensures zero { IsHandOf refinery.now zero.new × (zero.new.number ≡ zero.old.number) }
+    ensures one { IsHandOf refinery.now one.new × (one.new.number ≡ one.old.number) }
+{
+    match script {
+        Script::ZeroAndOne => {
+            split(rt, alloc, refinery, zero)?;
+            split(rt, alloc, refinery, one)
+        }
+        Script::OneAndZero => {
+            split(rt, alloc, refinery, one)?;
+            split(rt, alloc, refinery, zero)
+        }
+        _ => Ok(()),
+    }
+}
+
+/// What such a script comes to.
+fn by_turns<K: Run, R: Abort>(
     rt: &R,
     alloc: Global,
     problem: &Problem,
     roots: Vec<Cell>,
+    script: Script,
 ) -> Result<Refined, FinishError>
     requires { IsRunOf problem.now roots.items 2 1000 K.problem K.roots K.workers }
 {
-    let (refinery, zero, one) = for_two::<K>(alloc, problem, roots)?;
-    let zero = after_split(rt, alloc, &refinery, zero)?;
-    let one = after_split(rt, alloc, &refinery, one)?;
+    let (refinery, mut zero, mut one) = for_two::<K>(alloc, problem, roots)?;
+    take_turns(rt, alloc, &refinery, &mut zero, &mut one, script)?;
     finished(alloc, refinery, zero, one)
 }
 
-/// Hand one halves the root, which it has stolen, and then hand zero a half, which it has stolen.
-fn one_and_zero<K: Run, R: Abort>(
-    rt: &R,
-    alloc: Global,
-    problem: &Problem,
-    roots: Vec<Cell>,
-) -> Result<Refined, FinishError>
-    requires { IsRunOf problem.now roots.items 2 1000 K.problem K.roots K.workers }
-{
-    let (refinery, zero, one) = for_two::<K>(alloc, problem, roots)?;
-    let one = after_split(rt, alloc, &refinery, one)?;
-    let zero = after_split(rt, alloc, &refinery, zero)?;
-    finished(alloc, refinery, zero, one)
-}
-
-/// What the crossing comes to is what one thread finds, with its totals.
-fn assert_whole<R: Abort>(
-    rt: &R,
-    alloc: Global,
-    problem: &Problem,
-    refined: &Refined,
-) -> Result<(), RefineError>
-    requires tracks { length problem.now.tracks ≡ 2 }
-    requires slots { slot_count problem.now.window.first.micros problem.now.window.last.micros ≡ 2 }
-{
-    let roots = roots_of(alloc, problem)?;
-    let expected = refine_all(alloc, problem, &roots, LIMIT)?;
-    assert_eq!(rt; refined.leaves.as_slice(), expected.as_slice());
-    assert_eq!(rt; refined.totals, TOTALS);
-    Ok(())
-}
-
-#[test]
-fn the_second_turn_steals(rt: HostRuntime) -> Result<(), Fail> {
-    let alloc = rt.alloc();
-    let problem = crossing(alloc)?;
-    let roots = roots_of(alloc, &problem)?;
-    let refined = zero_and_one::<Brand, _>(&rt, alloc, &problem, roots)?;
-    assert_whole(&rt, alloc, &problem, &refined)?;
-    Ok(())
-}
-
-#[test]
-fn both_turns_steal(rt: HostRuntime) -> Result<(), Fail> {
-    let alloc = rt.alloc();
-    let problem = crossing(alloc)?;
-    let roots = roots_of(alloc, &problem)?;
-    let refined = one_and_zero::<Brand, _>(&rt, alloc, &problem, roots)?;
-    assert_whole(&rt, alloc, &problem, &refined)?;
-    Ok(())
-}
-
-/// The run of hand zero leaves nothing to hand one, nor to `finish`.
-fn zero_alone<K: Run, R: Wait + Abort>(
+/// What the run of hand zero comes to. Hand one finds that no cell is live.
+fn by_zero<K: Run, R: Wait + Abort>(
     rt: &R,
     alloc: Global,
     problem: &Problem,
@@ -202,29 +190,76 @@ fn zero_alone<K: Run, R: Wait + Abort>(
     finished(alloc, refinery, zero, one)
 }
 
-#[test]
-fn a_run_leaves_no_cell(rt: HostRuntime) -> Result<(), Fail> {
-    let alloc = rt.alloc();
+/// What a script comes to.
+fn refined_by<K: Run, R: Wait + Abort>(
+    rt: &R,
+    alloc: Global,
+    problem: &Problem,
+    roots: Vec<Cell>,
+    script: Script,
+) -> Result<Refined, FinishError>
+    requires { IsRunOf problem.now roots.items 2 1000 K.problem K.roots K.workers }
+{
+    match script {
+        Script::ZeroAlone => by_zero::<K, R>(rt, alloc, problem, roots),
+        _ => by_turns::<K, R>(rt, alloc, problem, roots, script),
+    }
+}
+
+/// What one thread finds.
+fn of_one_thread(alloc: Global, problem: &Problem) -> Result<Vec<Leaf>, RefineError>
+    requires tracks { length problem.now.tracks ≡ 2 }
+    requires slots { slot_count problem.now.window.first.micros problem.now.window.last.micros ≡ 2 }
+{
+    let roots = roots_of(alloc, problem)?;
+    refine_all(alloc, problem, &roots, LIMIT)
+}
+
+/// What the crossing comes to by a script is what one thread finds, with its totals.
+fn assert_script<R: Wait + Abort>(rt: &R, alloc: Global, script: Script) -> Result<(), Fail> {
     let problem = crossing(alloc)?;
     let roots = roots_of(alloc, &problem)?;
-    let refined = zero_alone::<Brand, _>(&rt, alloc, &problem, roots)?;
-    assert_whole(&rt, alloc, &problem, &refined)?;
+    let refined = refined_by::<Brand, R>(rt, alloc, &problem, roots, script)?;
+    let expected = of_one_thread(alloc, &problem)?;
+    assert!(rt; refined.leaves.as_slice() == expected.as_slice());
+    assert_eq!(rt; refined.totals, TOTALS);
     Ok(())
+}
+
+#[test]
+fn the_second_turn_steals(rt: HostRuntime) -> Result<(), Fail> {
+    assert_script(&rt, rt.alloc(), Script::ZeroAndOne)
+}
+
+#[test]
+fn both_turns_steal(rt: HostRuntime) -> Result<(), Fail> {
+    assert_script(&rt, rt.alloc(), Script::OneAndZero)
+}
+
+#[test]
+fn a_run_leaves_no_cell(rt: HostRuntime) -> Result<(), Fail> {
+    assert_script(&rt, rt.alloc(), Script::ZeroAlone)
+}
+
+#[test]
+fn cells_that_are_left_are_refined(rt: HostRuntime) -> Result<(), Fail> {
+    assert_script(&rt, rt.alloc(), Script::Nothing)
 }
 
 /// The first of so many turns of a hand that closes no cell and halves none.
 fn first_without_cell<'p, K: Run>(
     alloc: Global,
     refinery: &Refinery<'p, K>,
-    mut hand: Hand<'p, K>,
+    hand: &mut Hand<'p, K>,
     turns: u32,
 ) -> Result<Option<Turn>, AllocError>
-    requires { IsHandOf refinery.now hand }
+    requires { IsHandOf refinery.now hand.old }
 {
     for _ in 0..turns {
         match hand.turn(alloc, refinery)? {
             Turn::Closed => {}
             Turn::Split => {}
+            Turn::Kept => {}
             other => return Ok(Some(other)),
         }
     }
@@ -240,9 +275,9 @@ fn one_beside_zero<K: Run, R: Abort>(
 ) -> Result<Option<Turn>, AllocError>
     requires { IsRunOf problem.now roots.items 2 1000 K.problem K.roots K.workers }
 {
-    let (refinery, zero, one) = for_two::<K>(alloc, problem, roots)?;
-    let _zero = after_split(rt, alloc, &refinery, zero)?;
-    first_without_cell(alloc, &refinery, one, 1000)
+    let (refinery, mut zero, mut one) = for_two::<K>(alloc, problem, roots)?;
+    split(rt, alloc, &refinery, &mut zero)?;
+    first_without_cell(alloc, &refinery, &mut one, 1000)
 }
 
 #[test]
@@ -255,26 +290,24 @@ fn a_hand_is_idle_while_another_keeps_a_cell(rt: HostRuntime) -> Result<(), Fail
     Ok(())
 }
 
-/// Hands that took no turn: all cells are left in the deques.
-fn untouched<K: Run>(
+/// What a problem of one crossing comes to by so many hands on threads, within a limit.
+fn on_threads<R: Threads + Wait + Sync, G: Gate + Sync>(
+    rt: &R,
     alloc: Global,
+    gate: &G,
     problem: &Problem,
-    roots: Vec<Cell>,
-) -> Result<Refined, FinishError>
-    requires { IsRunOf problem.now roots.items 2 1000 K.problem K.roots K.workers }
+    workers: u32,
+    limit: u64,
+) -> Result<Vec<Leaf>, RefineError>
+    requires tracks { length problem.now.tracks ≡ 2 }
+    requires slots { slot_count problem.now.window.first.micros problem.now.window.last.micros ≡ 2 }
+    requires some { 1 ≤ workers }
+    requires few { workers ≤ 16 }
+    requires low { 10 ≤ limit }
+    requires high { limit ≤ 1000 }
 {
-    let (refinery, zero, one) = for_two::<K>(alloc, problem, roots)?;
-    finished(alloc, refinery, zero, one)
-}
-
-#[test]
-fn cells_that_are_left_are_refined(rt: HostRuntime) -> Result<(), Fail> {
-    let alloc = rt.alloc();
-    let problem = crossing(alloc)?;
-    let roots = roots_of(alloc, &problem)?;
-    let refined = untouched::<Brand>(alloc, &problem, roots)?;
-    assert_whole(&rt, alloc, &problem, &refined)?;
-    Ok(())
+    let roots = roots_of(alloc, problem)?;
+    leaves_by_hands::<Brand, R, G>(rt, alloc, gate, problem, roots, workers, limit)
 }
 
 /// The leaves of the crossing by so many hands on threads are those of one thread, each time.
@@ -289,14 +322,10 @@ fn same_each_time<R: Threads + Wait + Sync + Abort, G: Gate + Sync>(
     requires few { workers ≤ 16 }
 {
     let problem = crossing(alloc)?;
-    let found = roots_of(alloc, &problem)?;
-    let expected = refine_all(alloc, &problem, &found, LIMIT)?;
+    let expected = of_one_thread(alloc, &problem)?;
     for _ in 0..times {
-        let roots = roots_of(alloc, &problem)?;
-        let leaves = leaves_by_hands::<Brand, R, G>(
-            rt, alloc, gate, &problem, roots, workers, LIMIT,
-        )?;
-        assert_eq!(rt; leaves.as_slice(), expected.as_slice());
+        let leaves = on_threads(rt, alloc, gate, &problem, workers, LIMIT)?;
+        assert!(rt; leaves.as_slice() == expected.as_slice());
     }
     Ok(())
 }
@@ -417,10 +446,7 @@ fn leaves_within<R: Threads + Wait + Sync>(
     requires high { limit ≤ 1000 }
 {
     let problem = crossing(alloc)?;
-    let roots = roots_of(alloc, &problem)?;
-    let leaves = leaves_by_hands::<Brand, R, _>(
-        rt, alloc, &OpenGate, &problem, roots, workers, limit,
-    )?;
+    let leaves = on_threads(rt, alloc, &OpenGate, &problem, workers, limit)?;
     Ok(leaves.len())
 }
 

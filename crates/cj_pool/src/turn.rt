@@ -7,6 +7,8 @@ pub enum Turn {
     Closed,
     /// A cell was halved: one half is kept, and the other was pushed.
     Split,
+    /// A cell was halved, and both halves are kept: in the hand's deque are cells enough for others.
+    Kept,
     /// No cell was found, and so many are live.
     Idle { live: u64 },
     /// No cell is live.

@@ -1,19 +1,25 @@
 //! One turn of a hand.
-ghost use Rattle.std.specs.Prelude.{◌≡◌, ◌+◌, ◌<◌, MatchResult, Ok};
+ghost use Rattle.std.specs.Prelude.{◌≡◌, ◌+◌, ◌<◌, ◌≤◌, length, MatchResult, Ok};
+ghost use Rattle.crossbeam_deque.specs.Handles.{SameWorker, worker_view};
 ghost use Rattle.cj_hermite.specs.Problems.{plain_problem};
 ghost use Rattle.cj_ledger.specs.declared.why.Why.{Why};
 ghost use Rattle.cj_ledger.specs.Shares.{IsOf};
-ghost use Rattle.cj_pool.specs.declared.turn.Turn.TheVariants.{Halted};
+ghost use Rattle.cj_pool.specs.declared.turn.Turn.TheVariants.{Done, Halted, Idle};
 ghost use Rattle.cj_pool.specs.Hands.{IsHandOf, SameHand};
+ghost use Rattle.cj_pool.specs.Parted.{AreKept, AreParted};
+ghost use Rattle.cj_pool.specs.Tree.{InTree};
 ghost use Rattle.cj_pool.specs.Turns.{Made, Wanted, SetsCells, one_want_more};
 
 use crate::hand::Hand;
 use crate::picking::pick;
 use crate::refinery::Refinery;
+use crate::rule::Owner;
 use crate::run::Run;
-use crate::steps::put;
+use crate::steps::{put, queue_len};
 use crate::turn::Turn;
 use crate::work::Work;
+use arrayvec::ArrayVec;
+use cj_bezier::Cell;
 use cj_cells::{Look, look_next};
 use cj_ledger::{Ledger, Share, Why};
 use std::alloc::{AllocError, Global};
@@ -31,6 +37,56 @@ fn count_halving(ledger: &Ledger, share: &mut Share, limit: u64)
 {
     if ledger.split(share) > limit {
         ledger.halt(share, Why::Cells);
+    }
+}
+
+/// What a hand that found no cell is told, where so many are live.
+fn without_cell(live: u64) -> Turn
+    ensures done { live ≡ 0 → result ≡ Done }
+    ensures idle { 0 < live → result ≡ Idle live }
+{
+    if live == 0 {
+        Turn::Done
+    } else {
+        Turn::Idle { live }
+    }
+}
+
+/// So many cells in a hand's deque are enough for others to take.
+const ENOUGH: usize = 4;
+
+/// Keeps the first half of a cell, and pushes the second, or keeps it below the first: where there are cells enough for others, since
+/// the next turns then look at one root, or where the push is refused.
+fn part_halves<K: Run>(
+    kept: &mut ArrayVec<Cell, 32>,
+    own: &mut Owner<K>,
+    share: &Share,
+    first: Cell,
+    second: Cell,
+) -> Result<Turn, AllocError>
+    requires room { length kept.old.items ≤ 26 }
+    requires tree { InTree (plain_problem K.problem) K.roots second }
+    requires part { 0 < (worker_view own.old).parts }
+    requires counted { length (worker_view own.old).pushed < share.now.count.firsts }
+    ensures same { SameWorker own.old own.new }
+    ensures parted { MatchResult result (AreParted (worker_view own.old) (worker_view own.new) kept.old.items kept.new.items first second)
+        (λ _. AreKept (worker_view own.old) (worker_view own.new) kept.old.items kept.new.items first second) }
+{
+    if queue_len(own) >= ENOUGH {
+        kept.push(second);
+        kept.push(first);
+        return Ok(Turn::Kept);
+    }
+    match put(own, share, Work::new(second)) {
+        Ok(()) => {
+            kept.push(first);
+            Ok(Turn::Split)
+        }
+        Err(work) => {
+            kept.push(work.into_cell());
+            kept.push(first);
+            Err(AllocError)
+        }
     }
 }
 
@@ -56,11 +112,7 @@ impl<'p, K: Run> Hand<'p, K> {
             refinery.thieves.as_slice(),
         );
         let Some(cell) = picked else {
-            let live = refinery.ledger.live(&mut self.share);
-            if live == 0 {
-                return Ok(Turn::Done);
-            }
-            return Ok(Turn::Idle { live });
+            return Ok(without_cell(refinery.ledger.live(&mut self.share)));
         };
         match look_next(self.problem, cell, &mut self.divisor) {
             Look::Closed(leaf) => {
@@ -70,17 +122,13 @@ impl<'p, K: Run> Hand<'p, K> {
             }
             Look::Halves(first, second) => {
                 count_halving(&refinery.ledger, &mut self.share, refinery.limit);
-                match put(&mut self.station.own, &self.share, Work::new(second)) {
-                    Ok(()) => {
-                        self.kept.push(first);
-                        Ok(Turn::Split)
-                    }
-                    Err(work) => {
-                        self.kept.push(work.into_cell());
-                        self.kept.push(first);
-                        Err(AllocError)
-                    }
-                }
+                part_halves(
+                    &mut self.kept,
+                    &mut self.station.own,
+                    &self.share,
+                    first,
+                    second,
+                )
             }
         }
     }

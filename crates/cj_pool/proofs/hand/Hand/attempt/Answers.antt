@@ -1,33 +1,27 @@
-use Rattle.std.proofs.Common.{◌≡◌, ◌+◌, List, [], ◌∷◌, ◌++◌, length, refl, sym, ap, ◌∙◌, subst, arith}
+use Rattle.std.proofs.Common.{◌≡◌, ℕ, ◌+◌, ◌<◌, List, [], ◌∷◌, ◌++◌, inl, length, refl, sym, ap, ◌∙◌, subst, arith}
 use Rattle.std.specs.Prelude.{All}
 use Rattle.crossbeam_deque.specs.Handles.{worker_view}
 use Rattle.cj_hermite.specs.Problems.{plain_problem}
 use Rattle.cj_bezier.specs.declared.cell.Cell.{Cell}
 use Rattle.cj_ledger.specs.declared.count.Count.{Count}
+use Rattle.cj_ledger.specs.Shares.{LedgerSeen, IsOf}
 use Rattle.cj_pool.specs.declared.account.Account.{Account}
-use Rattle.cj_pool.specs.Hands.{RefinerySeen}
+use Rattle.cj_pool.specs.Hands.{RefinerySeen, HandSeen}
 use Rattle.cj_pool.specs.Narrow.{Narrow}
 use Rattle.cj_pool.specs.Passes.{takens, around}
 use Rattle.cj_pool.specs.Tree.{InTree}
+use Rattle.cj_pool.specs.Turns.{SetsCells}
 use Rattle.cj_pool.proofs.AccountLemmas.{same_accounts, closed_accounts, split_accounts, kept_accounts}
 use Rattle.cj_pool.proofs.NarrowLemmas.{narrow_front, narrow_half, narrow_both}
 use Rattle.cj_pool.proofs.PickLemmas.{still_seated}
 use Rattle.cj_pool.proofs.TreeLemmas.{tree_keeps, tree_halves}
-use Rattle.cj_pool.proofs.TurnLemmas.{keeps_here, halved_here, closed_here, leaf_here, came_as, came_to, keeps_first, keeps_both, room, alone_settled, leaf_of, halves_of, both_of, none_of}
+use Rattle.cj_pool.proofs.TurnLemmas.{keeps_here, halved_here, closed_here, leaf_here, came_as, came_to, keeps_first, keeps_both, room, alone_settled, leaf_of, made_of, where_parted, without_of, still_of, sets_after}
 use Rattle.cj_pool.proofs.hand.Hand.attempt.Goals as goal
 
 pub look_next-requires : goal.look_next-requires
 look_next-requires g c =
     let told = c.in-Some-picked.ensures {u = tt} in
     keeps_here (plain_problem g.K.Run.problem) (plain_problem c.self.inside.problem.now) g.K.Run.roots c.in-Some-picked.cell (ap plain_problem c.self.invariant.0) c.self.invariant.5.roots_are told.cell
-
-pub new-requires : goal.new-requires
-new-requires g c =
-    let told = c.in-Some-picked.ensures {u = tt} in
-    let look = c.in-Halves.ensures {u = tt} in
-    let case = plain_problem g.K.Run.problem in
-    let cell : Cell = c.in-Some-picked.cell in
-    (tree_halves case g.K.Run.roots cell c.in-Halves.first c.in-Halves.second told.cell (halved_here case (plain_problem c.self.inside.problem.now) cell c.in-Halves.first c.in-Halves.second (ap plain_problem c.self.invariant.0) look.halved look.kind)).1
 
 pub invariant_of-self-in-Closed : goal.invariant_of-self-in-Closed
 invariant_of-self-in-Closed g c =
@@ -66,92 +60,6 @@ invariant_of-self-in-Closed g c =
           (ap (λ (v : Count). v.firsts) close ∙ ap (λ (v : Count). v.firsts) count),
     )
 
-pub invariant_of-self-in-Ok : goal.invariant_of-self-in-Ok
-invariant_of-self-in-Ok g c =
-    let i = c.self.inside in
-    let inv = c.self.invariant in
-    let case = plain_problem g.K.Run.problem in
-    let roots = g.K.Run.roots in
-    let e = c.pick-picked.ensures in
-    let told = c.in-Some-picked.ensures {u = tt} in
-    let cell : Cell = c.in-Some-picked.cell in
-    let look = c.in-Halves.ensures {u = tt} in
-    let first : Cell = c.in-Halves.first in
-    let second : Cell = c.in-Halves.second in
-    let halved = halved_here case (plain_problem i.problem.now) cell first second (ap plain_problem inv.0) look.halved look.kind in
-    let kept : List Cell = c.pick-picked.new.kept.items in
-    let ps = c.pick-picked.new.station in
-    let put = c.in-Ok.ensures {u = tt} in
-    let kept_is : c.push.new.self.items ≡ kept ++ first ∷ [] = c.push.ensures.items in (
-      inv.0,
-      e.below.1,
-      e.above.1,
-      still_seated g.K.Run.workers c.pick-picked.new.station.own c.put.new.own put.same (ap (λ (v : Account). v.parts) put.rule) (ap (λ (v : Account). v.all) put.rule) e.seated.0,
-      e.place,
-      split_accounts case roots g.K.Run.workers _ _ inv.5 (record { number = e.number; problem = refl; opening = ap (λ (v : Account). v.opening) put.rule ∙ e.own.0 })
-          (λ j. around (e.below.0 j) ((put.same.0 ∙ e.seated.1) j) (e.above.0 j))
-          (record {
-            cell = cell;
-            left = first;
-            right = second;
-            rest = kept;
-            came = came_to _ _ _ _ cell kept (λ j. around (takens ps.below.items) ((ap (λ (v : Account). v.taken) put.rule) j) (takens ps.above.items)) told.came;
-            halved = halved;
-            kept = kept_is;
-            pushed = ap (λ (v : Account). v.pushed) put.rule ∙ (λ j. e.own.1 j ++ c.new.ensures j ∷ []);
-            closed = c.reserve.ensures.items;
-          })
-          (tree_keeps case roots cell inv.5.roots_are told.cell)
-          (subst (All (InTree case roots)) (sym kept_is) (keeps_first case roots kept cell first second e.tree told.cell halved))
-          (subst (Narrow 26) (sym kept_is) (narrow_half 26 kept cell first second told.narrow look.halved))
-          (c.count_halving.ensures.closes ∙ ap (λ (v : Count). v.closes) c.halted.ensures.count)
-          (c.count_halving.ensures.firsts ∙ ap (λ (v : Count). v.firsts + 1) c.halted.ensures.count),
-    )
-
-pub invariant_of-self-in-Err : goal.invariant_of-self-in-Err
-invariant_of-self-in-Err g c =
-    let i = c.self.inside in
-    let inv = c.self.invariant in
-    let case = plain_problem g.K.Run.problem in
-    let roots = g.K.Run.roots in
-    let e = c.pick-picked.ensures in
-    let told = c.in-Some-picked.ensures {u = tt} in
-    let cell : Cell = c.in-Some-picked.cell in
-    let look = c.in-Halves.ensures {u = tt} in
-    let first : Cell = c.in-Halves.first in
-    let second : Cell = c.in-Halves.second in
-    let halved = halved_here case (plain_problem i.problem.now) cell first second (ap plain_problem inv.0) look.halved look.kind in
-    let kept : List Cell = c.pick-picked.new.kept.items in
-    let ps = c.pick-picked.new.station in
-    let put = c.in-Err.ensures {u = tt} in
-    let same : worker_view c.put.new.own ≡ worker_view c.pick-picked.new.station.own = put.rule.1 in
-    let back : c.into_cell.result ≡ second = c.into_cell.ensures.cell ∙ put.rule.0 ∙ c.new.ensures in
-    let kept_is : c.push-in-Err-2.new.self.items ≡ (kept ++ second ∷ []) ++ first ∷ [] = c.push-in-Err-2.ensures.items ∙ (λ j. (c.push-in-Err.ensures.items ∙ ap (λ (x : Cell). kept ++ x ∷ []) back) j ++ first ∷ []) in (
-      inv.0,
-      e.below.1,
-      e.above.1,
-      still_seated g.K.Run.workers c.pick-picked.new.station.own c.put.new.own put.same (ap (λ (v : Account). v.parts) same) (ap (λ (v : Account). v.all) same) e.seated.0,
-      e.place,
-      kept_accounts case roots g.K.Run.workers _ _ inv.5 (record { number = e.number; problem = refl; opening = ap (λ (v : Account). v.opening) same ∙ e.own.0 })
-          (λ j. around (e.below.0 j) ((put.same.0 ∙ e.seated.1) j) (e.above.0 j))
-          (record {
-            cell = cell;
-            left = first;
-            right = second;
-            rest = kept;
-            came = came_to _ _ _ _ cell kept (λ j. around (takens ps.below.items) ((ap (λ (v : Account). v.taken) same) j) (takens ps.above.items)) told.came;
-            halved = halved;
-            kept = kept_is;
-            pushed = ap (λ (v : Account). v.pushed) same ∙ e.own.1;
-            closed = c.reserve.ensures.items;
-          })
-          (tree_keeps case roots cell inv.5.roots_are told.cell)
-          (subst (All (InTree case roots)) (sym kept_is) (keeps_both case roots kept cell first second e.tree told.cell halved))
-          (subst (Narrow 26) (sym kept_is) (narrow_both 26 kept cell first second told.narrow look.halved))
-          (c.count_halving.ensures.closes ∙ ap (λ (v : Count). v.closes) c.halted.ensures.count)
-          (c.count_halving.ensures.firsts ∙ ap (λ (v : Count). v.firsts + 1) c.halted.ensures.count),
-    )
-
 pub invariant_of-self-in_err-reserve : goal.invariant_of-self-in_err-reserve
 invariant_of-self-in_err-reserve g c =
     let inv = c.self.invariant in (
@@ -164,23 +72,6 @@ invariant_of-self-in_err-reserve g c =
           (record { taken = refl; closed = c.reserve.ensures.items; pushed = refl; kept = refl })
           (ap (λ (v : Count). v.closes) c.halted.ensures.count)
           (ap (λ (v : Count). v.firsts) c.halted.ensures.count),
-    )
-
-pub invariant_of-self-then-live-eq0 : goal.invariant_of-self-then-live-eq0
-invariant_of-self-then-live-eq0 g c =
-    let inv = c.self.invariant in
-    let e = c.pick-picked.ensures in
-    let told = c.in_default-picked.ensures {u = tt} in (
-      inv.0,
-      e.below.1,
-      e.above.1,
-      e.seated.0,
-      e.place,
-      same_accounts (plain_problem g.K.Run.problem) g.K.Run.roots g.K.Run.workers _ _ inv.5 (record { number = e.number; problem = refl; opening = e.own.0 })
-          (λ j. around (e.below.0 j) (e.seated.1 j) (e.above.0 j))
-          (record { taken = told.came.0; closed = c.reserve.ensures.items; pushed = e.own.1; kept = told.came.1 })
-          (ap (λ (v : Count). v.closes) c.live-live.ensures.count ∙ ap (λ (v : Count). v.closes) c.halted.ensures.count)
-          (ap (λ (v : Count). v.firsts) c.live-live.ensures.count ∙ ap (λ (v : Count). v.firsts) c.halted.ensures.count),
     )
 
 pub invariant_of-self-in_default-picked : goal.invariant_of-self-in_default-picked
@@ -196,18 +87,9 @@ invariant_of-self-in_default-picked g c =
       same_accounts (plain_problem g.K.Run.problem) g.K.Run.roots g.K.Run.workers _ _ inv.5 (record { number = e.number; problem = refl; opening = e.own.0 })
           (λ j. around (e.below.0 j) (e.seated.1 j) (e.above.0 j))
           (record { taken = told.came.0; closed = c.reserve.ensures.items; pushed = e.own.1; kept = told.came.1 })
-          (ap (λ (v : Count). v.closes) c.live-live.ensures.count ∙ ap (λ (v : Count). v.closes) c.halted.ensures.count)
-          (ap (λ (v : Count). v.firsts) c.live-live.ensures.count ∙ ap (λ (v : Count). v.firsts) c.halted.ensures.count),
+          (ap (λ (v : Count). v.closes) c.live.ensures.count ∙ ap (λ (v : Count). v.closes) c.halted.ensures.count)
+          (ap (λ (v : Count). v.firsts) c.live.ensures.count ∙ ap (λ (v : Count). v.firsts) c.halted.ensures.count),
     )
-
-pub push-requires : goal.push-requires
-push-requires g c = (omega arith, omega (arith, room c.pick-picked.new.kept.items c.in-Some-picked.cell (c.in-Some-picked.ensures {u = tt}).narrow))
-
-pub push-requires-in-Err : goal.push-requires-in-Err
-push-requires-in-Err g c = (omega arith, omega (arith, room c.pick-picked.new.kept.items c.in-Some-picked.cell (c.in-Some-picked.ensures {u = tt}).narrow))
-
-pub push-requires-in-Err-2 : goal.push-requires-in-Err-2
-push-requires-in-Err-2 g c = (omega arith, omega (arith, room c.pick-picked.new.kept.items c.in-Some-picked.cell (c.in-Some-picked.ensures {u = tt}).narrow, c.push-in-Err.ensures.len))
 
 pub returns-in_default-picked-clause-made : goal.returns-in_default-picked-clause-made
 returns-in_default-picked-clause-made g c =
@@ -216,16 +98,14 @@ returns-in_default-picked-clause-made g c =
     let e = c.pick-picked.ensures in
     let told = c.in_default-picked.ensures {u = tt} in
     let t = c.pick-picked.new.station in
-    let live = c.live-live.ensures.count in
-    none_of _ _ _ _ _ c.self.view_is (record {
-      same = record { taken = told.came.0; closed = c.reserve.ensures.items; pushed = e.own.1; kept = told.came.1 };
-      held = told.came.2;
-      some = omega arith;
-      heard = (ap (λ (v : Count). v.live.last) live, omega (arith, ap (λ (v : Count). v.live.times) live, ap (λ (v : Count). v.live.times) c.halted.ensures.count));
-      alone = λ one.
-          alone_settled g.K.Run.workers (worker_view t.own) (takens t.below.items) (takens t.above.items) e.seated.0.parts e.seated.0.all told.none (ap length told.came.0 ∙ inv.5.passes)
-          (ap (λ (r : RefinerySeen). r.hands) c.refinery.view_is ∙ one);
-    })
+    let live = c.live.ensures.count in
+    without_of (plain_problem g.K.Run.problem) _ _ _ _ _ _ c.self.view_is c.without_cell.ensures.done c.without_cell.ensures.idle
+    (record { taken = told.came.0; closed = c.reserve.ensures.items; pushed = e.own.1; kept = told.came.1 })
+    told.came.2
+    (ap (λ (v : Count). v.live.last) live, omega (arith, ap (λ (v : Count). v.live.times) live, ap (λ (v : Count). v.live.times) c.halted.ensures.count))
+    (λ one.
+    alone_settled g.K.Run.workers (worker_view t.own) (takens t.below.items) (takens t.above.items) e.seated.0.parts e.seated.0.all told.none (ap length told.came.0 ∙ inv.5.passes)
+    (ap (λ (r : RefinerySeen). r.hands) c.refinery.view_is ∙ one))
 
 pub returns-in-Closed-clause-made : goal.returns-in-Closed-clause-made
 returns-in-Closed-clause-made g c =
@@ -251,8 +131,90 @@ returns-in-Closed-clause-made g c =
       pushed = e.own.1;
     })
 
-pub returns-in-Ok-clause-made : goal.returns-in-Ok-clause-made
-returns-in-Ok-clause-made g c =
+pub part_halves-requires-clause-tree : goal.part_halves-requires-clause-tree
+part_halves-requires-clause-tree g c =
+    let told = c.in-Some-picked.ensures {u = tt} in
+    let look = c.in-Halves.ensures {u = tt} in
+    let case = plain_problem g.K.Run.problem in
+    let cell : Cell = c.in-Some-picked.cell in
+    (tree_halves case g.K.Run.roots cell c.in-Halves.first c.in-Halves.second told.cell (halved_here case (plain_problem c.self.inside.problem.now) cell c.in-Halves.first c.in-Halves.second (ap plain_problem c.self.invariant.0) look.halved look.kind)).1
+
+pub part_halves-requires-clause-room : goal.part_halves-requires-clause-room
+part_halves-requires-clause-room g c = room c.pick-picked.new.kept.items c.in-Some-picked.cell (c.in-Some-picked.ensures {u = tt}).narrow
+
+pub returns-in-Closed-clause-hand : goal.returns-in-Closed-clause-hand
+returns-in-Closed-clause-hand g c =
+    let e = c.pick-picked.ensures in
+    still_of c.args.refinery.now _ _ _ c.self.view_is c.requires (λ j. around (e.below.0 j) (e.seated.1 j) (e.above.0 j))
+    (c.close.ensures.ledger ∙ c.halted.ensures.ledger ∙ ap (λ (h : HandSeen). h.share.ledger) c.self.view_is ∙ c.requires.1.0, ap (λ (v : Count). v.opening) c.close.ensures.count ∙ ap (λ (v : Count). v.opening) c.halted.ensures.count ∙ ap (λ (h : HandSeen). h.share.count.opening) c.self.view_is ∙ c.requires.1.1)
+    (record { number = e.number; problem = refl; opening = e.own.0 })
+
+pub returns-in-Closed-clause-wants : goal.returns-in-Closed-clause-wants
+returns-in-Closed-clause-wants g c = ap (λ (h : HandSeen). h.wants) c.self.view_is
+
+pub returns-in-Closed-clause-cells : goal.returns-in-Closed-clause-cells
+returns-in-Closed-clause-cells g c =
+    inl (
+      ap (λ (v : Count). v.cells) c.close.ensures.count ∙ ap (λ (v : Count). v.cells) c.halted.ensures.count ∙ ap (λ (h : HandSeen). h.share.count.cells) c.self.view_is,
+      inl (ap (λ (v : Count). v.leaves) c.close.ensures.count ∙ ap (λ (v : Count). v.leaves) c.halted.ensures.count ∙ ap (λ (h : HandSeen). h.share.count.leaves) c.self.view_is),
+    )
+
+pub returns-in-Closed-clause-memory : goal.returns-in-Closed-clause-memory
+returns-in-Closed-clause-memory g c = ap (λ (v : Count). v.memory) c.close.ensures.count ∙ ap (λ (v : Count). v.memory) c.halted.ensures.count ∙ ap (λ (h : HandSeen). h.share.count.memory) c.self.view_is
+
+pub returns-in_default-picked-clause-hand : goal.returns-in_default-picked-clause-hand
+returns-in_default-picked-clause-hand g c =
+    let e = c.pick-picked.ensures in
+    still_of c.args.refinery.now _ _ _ c.self.view_is c.requires (λ j. around (e.below.0 j) (e.seated.1 j) (e.above.0 j))
+    (c.live.ensures.ledger ∙ c.halted.ensures.ledger ∙ ap (λ (h : HandSeen). h.share.ledger) c.self.view_is ∙ c.requires.1.0, ap (λ (v : Count). v.opening) c.live.ensures.count ∙ ap (λ (v : Count). v.opening) c.halted.ensures.count ∙ ap (λ (h : HandSeen). h.share.count.opening) c.self.view_is ∙ c.requires.1.1)
+    (record { number = e.number; problem = refl; opening = e.own.0 })
+
+pub returns-in_default-picked-clause-wants : goal.returns-in_default-picked-clause-wants
+returns-in_default-picked-clause-wants g c = ap (λ (h : HandSeen). h.wants) c.self.view_is
+
+pub returns-in_default-picked-clause-cells : goal.returns-in_default-picked-clause-cells
+returns-in_default-picked-clause-cells g c =
+    inl (
+      ap (λ (v : Count). v.cells) c.live.ensures.count ∙ ap (λ (v : Count). v.cells) c.halted.ensures.count ∙ ap (λ (h : HandSeen). h.share.count.cells) c.self.view_is,
+      inl (ap (λ (v : Count). v.leaves) c.live.ensures.count ∙ ap (λ (v : Count). v.leaves) c.halted.ensures.count ∙ ap (λ (h : HandSeen). h.share.count.leaves) c.self.view_is),
+    )
+
+pub returns-in_default-picked-clause-memory : goal.returns-in_default-picked-clause-memory
+returns-in_default-picked-clause-memory g c = ap (λ (v : Count). v.memory) c.live.ensures.count ∙ ap (λ (v : Count). v.memory) c.halted.ensures.count ∙ ap (λ (h : HandSeen). h.share.count.memory) c.self.view_is
+
+pub returns-in_err-reserve-clause-hand : goal.returns-in_err-reserve-clause-hand
+returns-in_err-reserve-clause-hand g c =
+    still_of c.args.refinery.now _ _ _ c.self.view_is c.requires refl
+    (c.halted.ensures.ledger ∙ ap (λ (h : HandSeen). h.share.ledger) c.self.view_is ∙ c.requires.1.0, ap (λ (v : Count). v.opening) c.halted.ensures.count ∙ ap (λ (h : HandSeen). h.share.count.opening) c.self.view_is ∙ c.requires.1.1)
+    (record { number = refl; problem = refl; opening = refl })
+
+pub returns-in_err-reserve-clause-wants : goal.returns-in_err-reserve-clause-wants
+returns-in_err-reserve-clause-wants g c = ap (λ (h : HandSeen). h.wants) c.self.view_is
+
+pub returns-in_err-reserve-clause-cells : goal.returns-in_err-reserve-clause-cells
+returns-in_err-reserve-clause-cells g c =
+    inl (
+      ap (λ (v : Count). v.cells) c.halted.ensures.count ∙ ap (λ (h : HandSeen). h.share.count.cells) c.self.view_is,
+      inl (ap (λ (v : Count). v.leaves) c.halted.ensures.count ∙ ap (λ (h : HandSeen). h.share.count.leaves) c.self.view_is),
+    )
+
+pub returns-in_err-reserve-clause-memory : goal.returns-in_err-reserve-clause-memory
+returns-in_err-reserve-clause-memory g c = ap (λ (v : Count). v.memory) c.halted.ensures.count ∙ ap (λ (h : HandSeen). h.share.count.memory) c.self.view_is
+
+pub returns-in-Closed-clause-halts : goal.returns-in-Closed-clause-halts
+returns-in-Closed-clause-halts g c = λ some.
+    absurd (omega (arith, (c.in_default.ensures {u = tt}).none, c.halted.ensures.set (subst (λ (h : HandSeen). 0 < h.share.count.cells + h.share.count.memory) (sym c.self.view_is) some)))
+
+pub returns-in_default-picked-clause-halts : goal.returns-in_default-picked-clause-halts
+returns-in_default-picked-clause-halts g c = λ some.
+    absurd (omega (arith, (c.in_default.ensures {u = tt}).none, c.halted.ensures.set (subst (λ (h : HandSeen). 0 < h.share.count.cells + h.share.count.memory) (sym c.self.view_is) some)))
+
+pub returns-in_err-reserve-clause-halts : goal.returns-in_err-reserve-clause-halts
+returns-in_err-reserve-clause-halts g c = λ some.
+    absurd (omega (arith, (c.in_default.ensures {u = tt}).none, c.halted.ensures.set (subst (λ (h : HandSeen). 0 < h.share.count.cells + h.share.count.memory) (sym c.self.view_is) some)))
+
+pub invariant_of-self-in-Halves : goal.invariant_of-self-in-Halves
+invariant_of-self-in-Halves g c =
     let i = c.self.inside in
     let inv = c.self.invariant in
     let case = plain_problem g.K.Run.problem in
@@ -266,47 +228,125 @@ returns-in-Ok-clause-made g c =
     let halved = halved_here case (plain_problem i.problem.now) cell first second (ap plain_problem inv.0) look.halved look.kind in
     let kept : List Cell = c.pick-picked.new.kept.items in
     let ps = c.pick-picked.new.station in
-    let put = c.in-Ok.ensures {u = tt} in
-    let kept_is : c.push.new.self.items ≡ kept ++ first ∷ [] = c.push.ensures.items in
-    halves_of _ _ _ _ c.self.view_is (record {
+    let same = c.part_halves.ensures.same in
+    let closes = c.count_halving.ensures.closes ∙ ap (λ (v : Count). v.closes) c.halted.ensures.count in
+    let firsts = c.count_halving.ensures.firsts ∙ ap (λ (v : Count). v.firsts + 1) c.halted.ensures.count in
+    where_parted c.part_halves.result (worker_view ps.own) (worker_view c.part_halves.new.own) kept c.part_halves.new.kept.items first second c.part_halves.ensures.parted
+    (λ parted. (
+      inv.0,
+      e.below.1,
+      e.above.1,
+      still_seated g.K.Run.workers ps.own c.part_halves.new.own same (ap (λ (v : Account). v.parts) parted.own) (ap (λ (v : Account). v.all) parted.own) e.seated.0,
+      e.place,
+      split_accounts case roots g.K.Run.workers _ _ inv.5 (record { number = e.number; problem = refl; opening = ap (λ (v : Account). v.opening) parted.own ∙ e.own.0 })
+          (λ j. around (e.below.0 j) ((same.0 ∙ e.seated.1) j) (e.above.0 j))
+          (record {
+            cell = cell;
+            left = first;
+            right = second;
+            rest = kept;
+            came = came_to _ _ _ _ cell kept (λ j. around (takens ps.below.items) ((ap (λ (v : Account). v.taken) parted.own) j) (takens ps.above.items)) told.came;
+            halved = halved;
+            kept = parted.kept;
+            pushed = ap (λ (v : Account). v.pushed) parted.own ∙ (λ j. e.own.1 j ++ second ∷ []);
+            closed = c.reserve.ensures.items;
+          })
+          (tree_keeps case roots cell inv.5.roots_are told.cell)
+          (subst (All (InTree case roots)) (sym parted.kept) (keeps_first case roots kept cell first second e.tree told.cell halved))
+          (subst (Narrow 26) (sym parted.kept) (narrow_half 26 kept cell first second told.narrow look.halved))
+          closes
+          firsts,
+    ))
+    (λ parted. (
+      inv.0,
+      e.below.1,
+      e.above.1,
+      still_seated g.K.Run.workers ps.own c.part_halves.new.own same (ap (λ (v : Account). v.parts) parted.own) (ap (λ (v : Account). v.all) parted.own) e.seated.0,
+      e.place,
+      kept_accounts case roots g.K.Run.workers _ _ inv.5 (record { number = e.number; problem = refl; opening = ap (λ (v : Account). v.opening) parted.own ∙ e.own.0 })
+          (λ j. around (e.below.0 j) ((same.0 ∙ e.seated.1) j) (e.above.0 j))
+          (record {
+            cell = cell;
+            left = first;
+            right = second;
+            rest = kept;
+            came = came_to _ _ _ _ cell kept (λ j. around (takens ps.below.items) ((ap (λ (v : Account). v.taken) parted.own) j) (takens ps.above.items)) told.came;
+            halved = halved;
+            kept = parted.kept;
+            pushed = ap (λ (v : Account). v.pushed) parted.own ∙ e.own.1;
+            closed = c.reserve.ensures.items;
+          })
+          (tree_keeps case roots cell inv.5.roots_are told.cell)
+          (subst (All (InTree case roots)) (sym parted.kept) (keeps_both case roots kept cell first second e.tree told.cell halved))
+          (subst (Narrow 26) (sym parted.kept) (narrow_both 26 kept cell first second told.narrow look.halved))
+          closes
+          firsts,
+    ))
+
+pub returns-in-Halves-clause-made : goal.returns-in-Halves-clause-made
+returns-in-Halves-clause-made g c =
+    let i = c.self.inside in
+    let inv = c.self.invariant in
+    let case = plain_problem g.K.Run.problem in
+    let e = c.pick-picked.ensures in
+    let told = c.in-Some-picked.ensures {u = tt} in
+    let cell : Cell = c.in-Some-picked.cell in
+    let look = c.in-Halves.ensures {u = tt} in
+    let first : Cell = c.in-Halves.first in
+    let second : Cell = c.in-Halves.second in
+    let halved = halved_here case (plain_problem i.problem.now) cell first second (ap plain_problem inv.0) look.halved look.kind in
+    let kept : List Cell = c.pick-picked.new.kept.items in
+    let ps = c.pick-picked.new.station in
+    made_of case _ _ _ _ c.part_halves.result (worker_view ps.own) (worker_view c.part_halves.new.own) kept c.part_halves.new.kept.items first second c.self.view_is c.part_halves.ensures.parted
+    (λ parted. record {
       cell = cell;
       left = first;
       right = second;
       rest = kept;
-      came = came_to _ _ _ _ cell kept (λ j. around (takens ps.below.items) ((ap (λ (v : Account). v.taken) put.rule) j) (takens ps.above.items)) told.came;
+      came = came_to _ _ _ _ cell kept (λ j. around (takens ps.below.items) ((ap (λ (v : Account). v.taken) parted.own) j) (takens ps.above.items)) told.came;
       halved = halved;
-      kept = kept_is;
-      pushed = ap (λ (v : Account). v.pushed) put.rule ∙ (λ j. e.own.1 j ++ c.new.ensures j ∷ []);
+      kept = parted.kept;
+      pushed = ap (λ (v : Account). v.pushed) parted.own ∙ (λ j. e.own.1 j ++ second ∷ []);
+      closed = c.reserve.ensures.items;
+    })
+    (λ parted. record {
+      cell = cell;
+      left = first;
+      right = second;
+      rest = kept;
+      came = came_to _ _ _ _ cell kept (λ j. around (takens ps.below.items) ((ap (λ (v : Account). v.taken) parted.own) j) (takens ps.above.items)) told.came;
+      halved = halved;
+      kept = parted.kept;
+      pushed = ap (λ (v : Account). v.pushed) parted.own ∙ e.own.1;
       closed = c.reserve.ensures.items;
     })
 
-pub returns-in-Err-clause-made : goal.returns-in-Err-clause-made
-returns-in-Err-clause-made g c =
-    let i = c.self.inside in
-    let inv = c.self.invariant in
-    let case = plain_problem g.K.Run.problem in
-    let roots = g.K.Run.roots in
+pub returns-in-Halves-clause-hand : goal.returns-in-Halves-clause-hand
+returns-in-Halves-clause-hand g c =
     let e = c.pick-picked.ensures in
-    let told = c.in-Some-picked.ensures {u = tt} in
-    let cell : Cell = c.in-Some-picked.cell in
-    let look = c.in-Halves.ensures {u = tt} in
-    let first : Cell = c.in-Halves.first in
-    let second : Cell = c.in-Halves.second in
-    let halved = halved_here case (plain_problem i.problem.now) cell first second (ap plain_problem inv.0) look.halved look.kind in
-    let kept : List Cell = c.pick-picked.new.kept.items in
     let ps = c.pick-picked.new.station in
-    let put = c.in-Err.ensures {u = tt} in
-    let same : worker_view c.put.new.own ≡ worker_view c.pick-picked.new.station.own = put.rule.1 in
-    let back : c.into_cell.result ≡ second = c.into_cell.ensures.cell ∙ put.rule.0 ∙ c.new.ensures in
-    let kept_is : c.push-in-Err-2.new.self.items ≡ (kept ++ second ∷ []) ++ first ∷ [] = c.push-in-Err-2.ensures.items ∙ (λ j. (c.push-in-Err.ensures.items ∙ ap (λ (x : Cell). kept ++ x ∷ []) back) j ++ first ∷ []) in
-    both_of _ _ _ _ c.self.view_is (record {
-      cell = cell;
-      left = first;
-      right = second;
-      rest = kept;
-      came = came_to _ _ _ _ cell kept (λ j. around (takens ps.below.items) ((ap (λ (v : Account). v.taken) same) j) (takens ps.above.items)) told.came;
-      halved = halved;
-      kept = kept_is;
-      pushed = ap (λ (v : Account). v.pushed) same ∙ e.own.1;
-      closed = c.reserve.ensures.items;
-    })
+    let same = c.part_halves.ensures.same in
+    let opening : (worker_view c.part_halves.new.own).opening ≡ (worker_view ps.own).opening =
+    where_parted c.part_halves.result (worker_view ps.own) (worker_view c.part_halves.new.own) c.pick-picked.new.kept.items c.part_halves.new.kept.items
+    c.in-Halves.first c.in-Halves.second c.part_halves.ensures.parted (λ parted. ap (λ (v : Account). v.opening) parted.own) (λ parted. ap (λ (v : Account). v.opening) parted.own) in
+    still_of c.args.refinery.now _ _ _ c.self.view_is c.requires (λ j. around (e.below.0 j) ((same.0 ∙ e.seated.1) j) (e.above.0 j))
+    (subst (λ (l : LedgerSeen). IsOf l c.count_halving.new.share) (ap (λ (r : RefinerySeen). r.ledger) c.refinery.view_is) c.count_halving.ensures.ledger)
+    (record { number = e.number; problem = refl; opening = opening ∙ e.own.0 })
+
+pub returns-in-Halves-clause-wants : goal.returns-in-Halves-clause-wants
+returns-in-Halves-clause-wants g c = ap (λ (h : HandSeen). h.wants) c.self.view_is
+
+pub returns-in-Halves-clause-cells : goal.returns-in-Halves-clause-cells
+returns-in-Halves-clause-cells g c =
+    let old = c.self.inside.share.count in
+    let mid = c.halted.new.share.count in
+    let new = c.count_halving.new.share.count in
+    let told = sets_after c.refinery.inside.limit old mid new (ap (λ (v : Count). v.cells) c.halted.ensures.count) (ap (λ (v : Count). v.leaves) c.halted.ensures.count) c.count_halving.ensures.cells in
+    subst (λ (h : HandSeen). SetsCells c.args.refinery.now.limit h.share.count new) c.self.view_is (subst (λ (l : ℕ). SetsCells l old new) (ap (λ (r : RefinerySeen). r.limit) c.refinery.view_is) told)
+
+pub returns-in-Halves-clause-memory : goal.returns-in-Halves-clause-memory
+returns-in-Halves-clause-memory g c = c.count_halving.ensures.memory ∙ ap (λ (v : Count). v.memory) c.halted.ensures.count ∙ ap (λ (h : HandSeen). h.share.count.memory) c.self.view_is
+
+pub returns-in-Halves-clause-halts : goal.returns-in-Halves-clause-halts
+returns-in-Halves-clause-halts g c = λ some.
+    absurd (omega (arith, (c.in_default.ensures {u = tt}).none, c.halted.ensures.set (subst (λ (h : HandSeen). 0 < h.share.count.cells + h.share.count.memory) (sym c.self.view_is) some)))

@@ -1,16 +1,14 @@
-use Rattle.std.proofs.Common.{◌≡◌, ℕ, List, ◌++◌, length, take, vec_len, sym, ap, subst, arith}
-use Rattle.std.specs.Prelude.{All, AllPairs, Contains}
+use Rattle.std.proofs.Common.{◌≡◌, ℕ, List, ◌++◌, length, take, vec_len, ap, subst, arith}
+use Rattle.std.specs.Prelude.{All}
 use Rattle.std.specs.List.Sorted.{IsPermutation}
 use Rattle.std.proofs.lemmas.List.Sorted.{IsPermutation-map, All-permutation, length_permutation}
 use Rattle.cj_hermite.specs.Problems.{plain_problem}
-use Rattle.cj_hermite.specs.Roots.{IsRootUpTo}
 use Rattle.cj_hermite.specs.declared.problem.Problem.{Problem}
 use Rattle.cj_bezier.specs.declared.cell.Cell.{Cell}
-use Rattle.cj_bezier.specs.declared.leaf.Leaf.{Leaf}
 use Rattle.cj_bezier.specs.Cells.{plain_cells}
 use Rattle.cj_bezier.specs.Leaves.{PlainLeaf, plain_leaf, plain_leaves}
 use Rattle.cj_bezier.specs.RootLeaves.{leaves_of_roots}
-use Rattle.cj_pool.specs.Hands.{RefinerySeen, cells_of}
+use Rattle.cj_pool.specs.Hands.{RefinerySeen}
 use Rattle.cj_pool.specs.RootLists.{AreRoots}
 use Rattle.cj_pool.specs.Tree.{InTree, IsLeafOf}
 use Rattle.cj_pool.proofs.FinishLemmas.{first_found}

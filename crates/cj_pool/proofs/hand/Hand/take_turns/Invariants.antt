@@ -1,7 +1,7 @@
 use Rattle.std.proofs.Common.{◌≡◌}
 use Rattle.cj_pool.specs.Hands.{IsHandOf, SameHand}
 use Rattle.cj_pool.proofs.RunLemmas.{StoppedFor}
-use Rattle.cj_pool.proofs.hand.Hand.run.Given as goal
+use Rattle.cj_pool.proofs.hand.Hand.take_turns.Given as goal
 
 abbrev pub invariant-loop : goal.invariant-loop
 invariant-loop g l = record {
