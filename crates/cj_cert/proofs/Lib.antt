@@ -24,3 +24,4 @@ mod TrackLemmas
 mod WordLemmas
 mod WrittenLemmas
 mod WrittenLineLemmas
+mod WrittenTextLemmas

@@ -12,4 +12,5 @@ pub mod Listed
 pub mod Accepted
 pub mod Splits
 pub mod Written
+pub mod ObjectTexts
 pub mod Rewritten

@@ -31,13 +31,16 @@ row_ended word numbers last = line (word ∷ (map signed_decimal numbers ++ last
 abbrev pub number : ℕ → ℤ
 number object = pos (object + 1)
 
--- the first four lines
+-- the first four lines, of a version, a window, a threshold and a number of objects
+abbrev pub first_lines : ℕ → ℕ → ℕ → ℕ → ℕ → List ℕ
+first_lines version first last threshold objects =
+    row (codes "CONJ-CERT") (pos version ∷ [])
+    ++ row (codes "WINDOW") (pos first ∷ pos last ∷ [])
+    ++ row (codes "THRESHOLD") (pos threshold ∷ [])
+    ++ row (codes "OBJECTS") (pos objects ∷ [])
+
 abbrev pub head_text : PlainCertificate → List ℕ
-head_text c =
-    row (codes "CONJ-CERT") (pos c.version ∷ [])
-    ++ row (codes "WINDOW") (pos c.first ∷ pos c.last ∷ [])
-    ++ row (codes "THRESHOLD") (pos c.threshold ∷ [])
-    ++ row (codes "OBJECTS") (pos c.objects ∷ [])
+head_text c = first_lines c.version c.first c.last c.threshold c.objects
 
 abbrev pub size_text : SizeOfLine → List ℕ
 size_text s = row (codes "SIZE") (number s.object ∷ pos s.size ∷ [])

@@ -14,6 +14,8 @@ mod line_said;
 mod line_text;
 mod listed_boxes;
 mod number;
+mod object_boxes;
+mod printed_boxes;
 mod printed_line;
 mod printed_parts;
 mod printing;
@@ -22,6 +24,7 @@ mod reading;
 mod rows;
 mod words;
 mod written;
+mod written_text;
 
 pub use accepting::acceptance;
 pub use cert_lines::{BoxLine, CellLine, ShellLine, SizeOfLine};
@@ -31,6 +34,7 @@ pub use in_blocks::{certificate_in_blocks, in_version_2, listed_shells};
 pub use printing::{cert_parts, cert_text};
 pub use reading::read_cert;
 pub use written::written_certificate;
+pub use written_text::written_parts;
 
 #[cfg(test)]
 mod tests;

@@ -1,17 +1,31 @@
 //! The lines of a certificate as text.
-ghost use Rattle.std.specs.Prelude.{◌≡◌, ℕ, ◌+◌, ◌++◌, List, OnOk, pos};
+ghost use Rattle.std.specs.Prelude.{◌≡◌, ℕ, ◌+◌, ◌++◌, ◌∷◌, [], List, OnOk, codes, pos};
+ghost use Rattle.cj_bezier.specs.Leaves.{plain_leaf};
 ghost use Rattle.cj_cert.specs.Certificates.{plain_box_line, plain_cell_line};
-ghost use Rattle.cj_cert.specs.Texts.{box_text, cell_text, kind_word as the_word, shell_text, size_text};
+ghost use Rattle.cj_cert.specs.Texts.{box_text, cell_text, kind_word as the_word, number, row_ended, shell_text, size_text};
 
 use crate::cert_lines::{BoxLine, CellLine, ShellLine, SizeOfLine};
 use crate::rows::{push_row, push_row_ended};
-use cj_bezier::Kind;
+use cj_bezier::{Kind, Leaf};
+use cj_epoch::Tick;
+use cj_hermite::Pair;
 use std::alloc::AllocError;
 
-/// A line that has a text in each version.
+/// So many lines at least are worth a thread.
+const LEAST_LINES: usize = 4_096;
+
+/// How long the line of a box can be, and that of a cell.
+pub(crate) const BOX_ROOM: usize = 157;
+
+const CELL_ROOM: usize = 51;
+
+/// What has a text in each version: a line, or lines that belong together.
 pub(crate) trait PrintedLine {
-    /// The bytes of a line in which each number is as long as it can be.
-    const GREATEST_LENGTH: usize;
+    /// So many of them at least are worth a thread.
+    const LEAST_PART: usize;
+
+    /// How many bytes its text has at most.
+    fn room(&self) -> usize;
 
     ghost text_by: { ℕ → Self → List ℕ };
 
@@ -21,9 +35,13 @@ pub(crate) trait PrintedLine {
 }
 
 impl PrintedLine for SizeOfLine {
-    const GREATEST_LENGTH: usize = 24;
+    const LEAST_PART: usize = LEAST_LINES;
 
     ghost text_by = { λ _ s. size_text s };
+
+    fn room(&self) -> usize {
+        24
+    }
 
     fn push_onto(&self, text: &mut Vec<u8>, _version: u32) -> Result<(), AllocError> {
         let size = i128::from(self.size);
@@ -32,9 +50,13 @@ impl PrintedLine for SizeOfLine {
 }
 
 impl PrintedLine for ShellLine {
-    const GREATEST_LENGTH: usize = 51;
+    const LEAST_PART: usize = LEAST_LINES;
 
     ghost text_by = { λ _ s. shell_text s };
+
+    fn room(&self) -> usize {
+        51
+    }
 
     fn push_onto(&self, text: &mut Vec<u8>, _version: u32) -> Result<(), AllocError> {
         let object = number_of(self.object);
@@ -50,9 +72,13 @@ impl PrintedLine for ShellLine {
 }
 
 impl PrintedLine for BoxLine {
-    const GREATEST_LENGTH: usize = 157;
+    const LEAST_PART: usize = LEAST_LINES;
 
     ghost text_by = { λ version b. box_text version (plain_box_line b) };
+
+    fn room(&self) -> usize {
+        BOX_ROOM
+    }
 
     fn push_onto(&self, text: &mut Vec<u8>, version: u32) -> Result<(), AllocError> {
         let object = number_of(self.object);
@@ -82,19 +108,51 @@ impl PrintedLine for BoxLine {
 }
 
 impl PrintedLine for CellLine {
-    const GREATEST_LENGTH: usize = 51;
+    const LEAST_PART: usize = LEAST_LINES;
 
     ghost text_by = { λ _ c. cell_text (plain_cell_line c) };
 
-    fn push_onto(&self, text: &mut Vec<u8>, _version: u32) -> Result<(), AllocError> {
-        let numbers = [
-            number_of(self.pair.a),
-            number_of(self.pair.b),
-            i128::from(self.first.micros),
-            i128::from(self.last.micros),
-        ];
-        push_row_ended(text, b"CELL", &numbers, kind_word(self.kind))
+    fn room(&self) -> usize {
+        CELL_ROOM
     }
+
+    fn push_onto(&self, text: &mut Vec<u8>, _version: u32) -> Result<(), AllocError> {
+        push_cell(text, self.pair, self.first, self.last, self.kind)
+    }
+}
+
+impl PrintedLine for Leaf {
+    const LEAST_PART: usize = LEAST_LINES;
+
+    ghost text_by = { λ _ leaf. cell_text (plain_leaf leaf) };
+
+    fn room(&self) -> usize {
+        CELL_ROOM
+    }
+
+    fn push_onto(&self, text: &mut Vec<u8>, _version: u32) -> Result<(), AllocError> {
+        let cell = self.cell;
+        push_cell(text, cell.pair, cell.first, cell.last, self.kind)
+    }
+}
+
+/// Adds the line of what a pair is at the ticks from the first to the last.
+fn push_cell(
+    text: &mut Vec<u8>,
+    pair: Pair,
+    first: Tick,
+    last: Tick,
+    kind: Kind,
+) -> Result<(), AllocError>
+    ensures { OnOk result (text.new.items ≡ text.old.items ++ row_ended (codes "CELL") (number pair.a ∷ number pair.b ∷ pos first.micros ∷ pos last.micros ∷ []) (the_word kind)) }
+{
+    let numbers = [
+        number_of(pair.a),
+        number_of(pair.b),
+        i128::from(first.micros),
+        i128::from(last.micros),
+    ];
+    push_row_ended(text, b"CELL", &numbers, kind_word(kind))
 }
 
 /// The number of an object in a text, where they are counted from 1.

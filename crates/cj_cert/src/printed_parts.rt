@@ -8,9 +8,6 @@ use crate::printed_line::PrintedLine;
 use std::alloc::{AllocError, Global};
 use std::thread::{Threads, map_chunks};
 
-/// So many lines at least are worth a thread.
-const LEAST_PART: usize = 4_096;
-
 /// Adds the text of lines in order, in parts. As many threads as there are workers make a part each.
 pub(crate) fn push_lines<R: Threads + Sync, L: PrintedLine + Sync>(
     rt: &R,
@@ -22,16 +19,16 @@ pub(crate) fn push_lines<R: Threads + Sync, L: PrintedLine + Sync>(
 ) -> Result<(), AllocError>
     ensures { OnOk result (joined parts.new.items ≡ joined parts.old.items ++ flat_map (L.text_by version) lines.now) }
 {
-    let size = part_size(lines.len(), workers);
+    let size = part_size(lines.len(), L::LEAST_PART, workers);
     let texts = part_texts(rt, alloc, version, lines, size)?;
     push_parts(parts, texts)
 }
 
-/// How many lines stand in each part but the last.
-fn part_size(count: usize, workers: u32) -> usize
+/// How many lines stand in each part but the last: so many at least.
+fn part_size(count: usize, least: usize, workers: u32) -> usize
     ensures { 0 < result }
 {
-    count.div_ceil(workers.max(1) as usize).max(LEAST_PART)
+    count.div_ceil(workers.max(1) as usize).max(least).max(1)
 }
 
 /// The texts of the parts of so many lines each, made side by side.
@@ -60,9 +57,18 @@ fn part_texts<R: Threads + Sync, L: PrintedLine + Sync>(
 fn part_text<L: PrintedLine>(alloc: Global, version: u32, part: &[L]) -> Result<Vec<u8>, AllocError>
     ensures { IfOk result (λ text. text.items ≡ flat_map (L.text_by version) part.now) }
 {
-    let mut text = Vec::with_capacity(alloc, part.len().saturating_mul(L::GREATEST_LENGTH))?;
+    let mut text = Vec::with_capacity(alloc, room_of(part))?;
     push_in_turn(&mut text, version, part)?;
     Ok(text)
+}
+
+/// How many bytes the text of some lines has at most.
+fn room_of<L: PrintedLine>(part: &[L]) -> usize {
+    let mut room: usize = 0;
+    for line in part {
+        room = room.saturating_add(line.room());
+    }
+    room
 }
 
 /// Adds lines, one after another.

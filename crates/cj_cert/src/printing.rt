@@ -2,11 +2,12 @@
 ghost use Rattle.std.specs.Prelude.{◌≡◌, [], IfOk, codes};
 ghost use Rattle.cj_io.specs.Parts.{joined};
 ghost use Rattle.cj_cert.specs.Certificates.{plain_certificate};
-ghost use Rattle.cj_cert.specs.Texts.{head_text, row, text_of};
+ghost use Rattle.cj_cert.specs.Texts.{first_lines, row, text_of};
 
 use crate::certificate::Certificate;
 use crate::printed_parts::push_lines;
 use crate::rows::push_row;
+use cj_epoch::Window;
 use cj_io::join_parts;
 use std::alloc::{AllocError, Global};
 use std::thread::Threads;
@@ -35,7 +36,7 @@ pub fn cert_parts<R: Threads + Sync>(
 {
     let version = cert.version;
     let mut parts = Vec::new(alloc);
-    let front = head(alloc, cert)?;
+    let front = head(alloc, version, cert.window, cert.threshold, cert.objects)?;
     parts.push(front)?;
     push_lines(rt, alloc, &mut parts, version, &cert.sizes, workers)?;
     push_lines(rt, alloc, &mut parts, version, &cert.shells, workers)?;
@@ -47,21 +48,27 @@ pub fn cert_parts<R: Threads + Sync>(
 }
 
 /// The first four lines.
-fn head(alloc: Global, cert: &Certificate) -> Result<Vec<u8>, AllocError>
-    ensures { IfOk result (λ text. text.items ≡ head_text (plain_certificate cert.now)) }
+pub(crate) fn head(
+    alloc: Global,
+    version: u32,
+    window: Window,
+    threshold: u64,
+    objects: u32,
+) -> Result<Vec<u8>, AllocError>
+    ensures { IfOk result (λ text. text.items ≡ first_lines version window.first.micros window.last.micros threshold objects) }
 {
-    let first = i128::from(cert.window.first.micros);
-    let last = i128::from(cert.window.last.micros);
+    let first = i128::from(window.first.micros);
+    let last = i128::from(window.last.micros);
     let mut text = Vec::new(alloc);
-    push_row(&mut text, b"CONJ-CERT", &[i128::from(cert.version)])?;
+    push_row(&mut text, b"CONJ-CERT", &[i128::from(version)])?;
     push_row(&mut text, b"WINDOW", &[first, last])?;
-    push_row(&mut text, b"THRESHOLD", &[i128::from(cert.threshold)])?;
-    push_row(&mut text, b"OBJECTS", &[i128::from(cert.objects)])?;
+    push_row(&mut text, b"THRESHOLD", &[i128::from(threshold)])?;
+    push_row(&mut text, b"OBJECTS", &[i128::from(objects)])?;
     Ok(text)
 }
 
 /// The last line.
-fn end(alloc: Global) -> Result<Vec<u8>, AllocError>
+pub(crate) fn end(alloc: Global) -> Result<Vec<u8>, AllocError>
     ensures { IfOk result (λ text. text.items ≡ row (codes "END") []) }
 {
     let mut text = Vec::new(alloc);

@@ -1,4 +1,4 @@
-use Rattle.std.proofs.Common.{Ok, ap, of_z, rules, sym, to_z, to_z-of_z, ◌≡◌, ◌∙◌, ◌-◌, ℤ}
+use Rattle.std.proofs.Common.{Ok, ap, of_z, rules, sym, to_z, to_z-of_z, ◌≡◌, ◌∙◌, ℤ}
 use Rattle.std.proofs.lemmas.Result.{err_from_is_err_and}
 use Rattle.std.specs.Int.{w64}
 use Rattle.cj_cert.specs.Certificates.{PlainBoxLine}

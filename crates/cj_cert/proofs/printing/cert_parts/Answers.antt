@@ -1,4 +1,4 @@
-use Rattle.std.proofs.Common.{[], ◌++◌, ap, refl, ◌∙◌}
+use Rattle.std.proofs.Common.{◌++◌, ap, ◌∙◌}
 use Rattle.cj_io.specs.Parts.{joined}
 use Rattle.cj_cert.proofs.PartLemmas.{joined_more}
 use Rattle.cj_cert.proofs.TextLemmas.{text_written}
