@@ -12,7 +12,7 @@ use cj_io::Folder;
 use std::alloc::{AllocError, Global};
 
 /// How many files are read for each of several workers, before they are parsed.
-const FILES_A_WORKER: usize = 16;
+const FILES_A_WORKER: usize = 125;
 
 /// From so many bytes on no more files are read before these are parsed.
 const MANY_BYTES: u64 = 67_108_864;

@@ -6,7 +6,7 @@ ghost use Rattle.cj_io.specs.declared.file.FileBytes.{FileBytes};
 ghost use Rattle.cj_screen.specs.Findings.{ended};
 ghost use Rattle.cj_screen.specs.Outcome.{ComesOfPuts, Leaves, piece};
 
-use cj_io::{PutError, Shelf};
+use cj_io::Shelf;
 use cj_status::Status;
 use std::alloc::Global;
 
@@ -17,11 +17,7 @@ pub fn put<S: Shelf>(alloc: Global, shelf: &mut S, name: &[u8], bytes: &[u8]) ->
     ensures leaves { (old : List FileBytes) → S.pieces shelf.old ≡ Some old → Leaves (ended result) (Ok (piece name.now bytes.now ∷ [])) old (S.pieces shelf.new) }
     ensures later { S.faults shelf.old ≤ S.faults shelf.new }
 {
-    match shelf.put(alloc, name, bytes) {
-        Ok(()) => Ok(()),
-        Err(PutError::Memory) => Err(Status::OutOfMemory),
-        Err(PutError::Failed) => Err(Status::WriteFault),
-    }
+    Ok(shelf.put(alloc, name, bytes)?)
 }
 
 /// Puts one piece whose bytes come in parts, one behind another.
@@ -36,9 +32,5 @@ pub fn put_parts<S: Shelf>(
     ensures leaves { (old : List FileBytes) → S.pieces shelf.old ≡ Some old → Leaves (ended result) (Ok (piece name.now (joined parts.now) ∷ [])) old (S.pieces shelf.new) }
     ensures later { S.faults shelf.old ≤ S.faults shelf.new }
 {
-    match shelf.put_parts(alloc, name, parts) {
-        Ok(()) => Ok(()),
-        Err(PutError::Memory) => Err(Status::OutOfMemory),
-        Err(PutError::Failed) => Err(Status::WriteFault),
-    }
+    Ok(shelf.put_parts(alloc, name, parts)?)
 }

@@ -1,18 +1,19 @@
 //! Putting what is due of the findings onto a shelf, piece by piece.
 ghost use Rattle.std.specs.Prelude.{◌≡◌, ◌≤◌, List, [], ◌∷◌, Some, Err, IfErr, IfOk};
 ghost use Rattle.cj_io.specs.Faults.{Rose};
+ghost use Rattle.cj_io.specs.Parts.{joined};
 ghost use Rattle.cj_io.specs.declared.file.FileBytes.{FileBytes};
 ghost use Rattle.cj_cert.specs.Certificates.{plain_certificate};
 ghost use Rattle.cj_cert.specs.Rewritten.{written_in};
 ghost use Rattle.cj_screen.specs.Findings.{AreFound, case_in, cert_in, ended, pieces_in, report_in, summary_in};
 ghost use Rattle.cj_screen.specs.Origins.{plain_origin};
-ghost use Rattle.cj_screen.specs.Outcome.{ComesOfPuts, Leaves};
+ghost use Rattle.cj_screen.specs.Outcome.{ComesOfPuts, Leaves, cert_bytes};
 
 use crate::findings::Findings;
 use crate::messages::put_messages;
 use crate::origin::Origin;
 use crate::putting::{put, put_parts};
-use cj_cert::{Certificate, cert_parts, certificate_in_blocks, written_certificate};
+use cj_cert::{Certificate, cert_parts, certificate_in_blocks, written_parts};
 use cj_io::Shelf;
 use cj_report::{report_text, summary_text};
 use cj_sieve::kept_pairs;
@@ -74,27 +75,32 @@ fn put_certificate<R: Threads + Sync, S: Shelf>(
     ensures leaves { (old : List FileBytes) → S.pieces shelf.old ≡ Some old → Leaves (ended result) (Ok (cert_in found.now ∷ [])) old (S.pieces shelf.new) }
     ensures later { S.faults shelf.old ≤ S.faults shelf.new }
 {
-    let certificate = certificate_of(alloc, found)?;
-    let parts = cert_parts(rt, alloc, &certificate, found.workers)?;
+    let parts = certificate_parts(rt, alloc, found)?;
     put_parts(alloc, shelf, b"screen.cert", &parts)
 }
 
-/// The certificate in the version that was asked.
-fn certificate_of(alloc: Global, found: &Findings) -> Result<Certificate, AllocError>
+/// The text of the certificate in the version that was asked, in parts.
+fn certificate_parts<R: Threads + Sync>(
+    rt: &R,
+    alloc: Global,
+    found: &Findings,
+) -> Result<Vec<Vec<u8>>, AllocError>
     requires { AreFound found.now }
-    ensures { IfOk result (λ cert. plain_certificate cert ≡ written_in found.now.version (case_in found.now)) }
+    ensures { IfOk result (λ parts. joined parts.items ≡ cert_bytes found.now.version (case_in found.now)) }
 {
     if found.version == 1 {
         let Findings {
             problem,
+            workers,
             shells,
             boxes,
             leaves,
             ..
         } = found;
-        written_certificate(alloc, problem, shells, boxes, leaves)
+        written_parts(rt, alloc, problem, shells, boxes, leaves, *workers)
     } else {
-        certificate_by_blocks(alloc, found)
+        let certificate = certificate_by_blocks(alloc, found)?;
+        cert_parts(rt, alloc, &certificate, found.workers)
     }
 }
 

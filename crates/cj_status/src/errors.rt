@@ -1,10 +1,10 @@
 //! The errors of the layers below as statuses.
 ghost use Rattle.std.specs.Prelude.{◌≡◌};
 ghost use Rattle.cj_status.specs.declared.status.Status.TheVariants.{OutOfMemory, Usage};
-ghost use Rattle.cj_status.specs.Errors.{folder_status};
+ghost use Rattle.cj_status.specs.Errors.{folder_status, shelf_status};
 
 use crate::status::Status;
-use cj_io::FolderError;
+use cj_io::{FolderError, PutError};
 use cj_words::UsageFault;
 use std::alloc::{AllocError, AllocFailed};
 
@@ -39,6 +39,17 @@ impl From<FolderError> for Status {
         match error {
             FolderError::Memory => Status::OutOfMemory,
             FolderError::Failed => Status::ReadFault,
+        }
+    }
+}
+
+impl From<PutError> for Status {
+    ghost from_gives = { λ error s. s ≡ shelf_status error };
+
+    fn from(error: PutError) -> Self {
+        match error {
+            PutError::Memory => Status::OutOfMemory,
+            PutError::Failed => Status::WriteFault,
         }
     }
 }

@@ -1,5 +1,5 @@
 //! The certificates of runs.
-use super::runs::run;
+use super::runs::certificate_of;
 use super::scenes::{Content, SHARING_ONE_TICK, Scene, files_of};
 use std::alloc::{AllocError, Global};
 use std::sync::Wait;
@@ -59,6 +59,18 @@ END
     ),
 ];
 
+/// Whether a run of a command line over a folder puts this certificate.
+pub fn is_certified<R: Threads + Wait + Sync>(
+    rt: &R,
+    alloc: Global,
+    line: &str,
+    scene: Scene,
+    certificate: &[u8],
+) -> Result<bool, AllocError> {
+    let put = certificate_of(rt, alloc, line, files_of(alloc, scene)?)?;
+    Ok(put.as_slice() == certificate)
+}
+
 /// The place of the first case with another certificate.
 fn first_other<R: Threads + Wait + Sync>(
     rt: &R,
@@ -66,8 +78,7 @@ fn first_other<R: Threads + Wait + Sync>(
     cases: &[Certified],
 ) -> Result<Option<usize>, AllocError> {
     for (place, (scene, certificate)) in cases.iter().enumerate() {
-        let ran = run(rt, alloc, "screen .", files_of(alloc, scene)?)?;
-        if ran.certificate.as_slice() != *certificate {
+        if !is_certified(rt, alloc, "screen .", scene, certificate)? {
             return Ok(Some(place));
         }
     }

@@ -1,20 +1,12 @@
 //! Certificates that are checked.
-use super::runs::{failing, line_of, run, words};
-use super::scenes::{Content, Scene, files_of};
-use crate::conj;
-use cj_epoch::Tick;
-use cj_io::{Bytes, CalmShelf, FileBytes, Name, OpenGate};
-use cj_status::Status;
+use super::certificates::RESTING;
+use super::runs::{end_failing, file, told};
+use super::scenes::files_of;
+use cj_io::{CalmShelf, FileBytes};
 use std::alloc::{AllocError, Global};
 use std::sync::Wait;
 use std::test::Fail;
 use std::thread::Threads;
-
-/// Two objects that rest at the threshold from each other.
-const RESTING: Scene = &[
-    ("a.oem", Content::Rest("7000 0 0")),
-    ("b.oem", Content::Rest("7005 0 0")),
-];
 
 /// The lines of their certificate.
 pub const LINES: [&[u8]; 13] = [
@@ -34,7 +26,7 @@ pub const LINES: [&[u8]; 13] = [
 ];
 
 /// What is done to a certificate. Lines are counted from 1.
-#[derive(Clone, Copy, Debug)]
+#[derive(Clone, Copy)]
 pub enum Change {
     /// It is left as it is.
     Nothing,
@@ -48,23 +40,33 @@ pub enum Change {
     With(usize, &'static [u8]),
 }
 
+/// Appends what stands in the place of the line with this number.
+fn push_changed(
+    text: &mut Vec<u8>,
+    here: usize,
+    line: &[u8],
+    change: Change,
+) -> Result<(), AllocError> {
+    match change {
+        Change::Without(number) if number == here => Ok(()),
+        Change::With(number, other) if number == here => push_line(text, other),
+        Change::Cut(number, bytes) if number == here => {
+            text.extend_from_slice(line.get(..bytes).unwrap_or(line))
+        }
+        Change::Cut(number, _) if number < here => Ok(()),
+        Change::Twice(number) if number == here => {
+            push_line(text, line)?;
+            push_line(text, line)
+        }
+        _ => push_line(text, line),
+    }
+}
+
 /// The text of the certificate with a change.
 fn certificate(alloc: Global, change: Change) -> Result<Vec<u8>, AllocError> {
     let mut text = Vec::new(alloc);
     for (place, line) in LINES.iter().enumerate() {
-        match change {
-            Change::Without(number) if number == place + 1 => {}
-            Change::With(number, other) if number == place + 1 => push_line(&mut text, other)?,
-            Change::Cut(number, bytes) if number == place + 1 => {
-                text.extend_from_slice(line.get(..bytes).unwrap_or(line))?;
-                break;
-            }
-            Change::Twice(number) if number == place + 1 => {
-                push_line(&mut text, line)?;
-                push_line(&mut text, line)?;
-            }
-            _ => push_line(&mut text, line)?,
-        }
+        push_changed(&mut text, place + 1, line, change)?;
     }
     Ok(text)
 }
@@ -75,6 +77,12 @@ fn push_line(text: &mut Vec<u8>, line: &[u8]) -> Result<(), AllocError> {
     Ok(())
 }
 
+/// The certificate with a change, as a file of this name.
+fn certificate_file(alloc: Global, name: &str, change: Change) -> Result<FileBytes, AllocError> {
+    let text = certificate(alloc, change)?;
+    file(alloc, name.as_bytes(), &text)
+}
+
 /// The resting objects, and files with certificates of these names and changes behind them.
 fn with_certificates(
     alloc: Global,
@@ -82,10 +90,7 @@ fn with_certificates(
 ) -> Result<Vec<FileBytes>, AllocError> {
     let mut files = files_of(alloc, RESTING)?;
     for (name, change) in certificates {
-        files.push(FileBytes {
-            name: Name::copy_of(alloc, name.as_bytes())?,
-            bytes: Bytes::copy_of(alloc, &certificate(alloc, *change)?)?,
-        })?;
+        files.push(certificate_file(alloc, name, *change)?)?;
     }
     Ok(files)
 }
@@ -164,18 +169,16 @@ const CASES: [Case; 13] = [
     ),
 ];
 
-/// What a check puts, or the line that tells why it put nothing.
-pub fn told<R: Threads + Wait + Sync>(
+/// Whether this is told of such certificates behind the resting objects.
+pub fn is_told<R: Threads + Wait + Sync>(
     rt: &R,
     alloc: Global,
     line: &str,
     certificates: &[(&str, Change)],
-) -> Result<Vec<u8>, AllocError> {
-    let ran = run(rt, alloc, line, with_certificates(alloc, certificates)?)?;
-    match ran.status {
-        Status::Ok => Vec::from_slice(alloc, &ran.summary),
-        _ => line_of(alloc, &ran),
-    }
+    due: &[u8],
+) -> Result<bool, AllocError> {
+    let told = told(rt, alloc, line, with_certificates(alloc, certificates)?)?;
+    Ok(told.as_slice() == due)
 }
 
 /// The place of the first case in which something else is told.
@@ -184,9 +187,8 @@ fn first_other<R: Threads + Wait + Sync>(
     alloc: Global,
     cases: &[Case],
 ) -> Result<Option<usize>, AllocError> {
-    for (place, (line, change, expected)) in cases.iter().enumerate() {
-        let told = told(rt, alloc, line, &[("screen.cert", *change)])?;
-        if told.as_slice() != *expected {
+    for (place, (line, change, due)) in cases.iter().enumerate() {
+        if !is_told(rt, alloc, line, &[("screen.cert", *change)], due)? {
             return Ok(Some(place));
         }
     }
@@ -205,11 +207,9 @@ fn the_first_file_of_the_name_is_checked(rt: HostRuntime) -> Result<(), Fail> {
     let good = ("a.cert", Change::Nothing);
     let bad = ("a.cert", Change::Without(11));
     let line = "check . --cert=a.cert";
-    assert_eq!(rt; told(&rt, alloc, line, &[good, bad])?.as_slice(), ACCEPTED);
-    assert_eq!(rt;
-        told(&rt, alloc, line, &[bad, good])?.as_slice(),
-        b"conj: not accepted: line 11: Untiled\n".as_slice()
-    );
+    let untiled = b"conj: not accepted: line 11: Untiled\n";
+    assert!(rt; is_told(&rt, alloc, line, &[good, bad], ACCEPTED)?);
+    assert!(rt; is_told(&rt, alloc, line, &[bad, good], untiled)?);
     Ok(())
 }
 
@@ -220,18 +220,10 @@ fn check_where<R: Threads + Wait + Sync>(
     call: u64,
 ) -> Result<(u8, usize), AllocError> {
     let files = with_certificates(alloc, &[("screen.cert", Change::Nothing)])?;
-    let mut folder = failing(alloc, files, Vec::from_array(alloc, [call])?);
+    let calls = Vec::from_array(alloc, [call])?;
     let mut shelf = CalmShelf::new(alloc);
-    let ended = conj(
-        rt,
-        alloc,
-        &words(alloc, "check .")?,
-        &mut folder,
-        &mut shelf,
-        Tick::FIRST,
-        &OpenGate,
-    );
-    Ok((ended.number(), shelf.written().len()))
+    let end = end_failing(rt, alloc, "check .", files, calls, &mut shelf)?;
+    Ok((end.number, shelf.written().len()))
 }
 
 /// How often a check goes to its folder: for the list, and for the bytes and the end of each of three files.

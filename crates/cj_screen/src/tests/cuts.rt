@@ -1,5 +1,5 @@
 //! Certificates that end early, or have a line too few or too many.
-use super::checks::{Change, LINES, told};
+use super::checks::{Change, LINES, is_told};
 use std::alloc::{AllocError, Global};
 use std::string::String;
 use std::sync::Wait;
@@ -7,7 +7,7 @@ use std::test::Fail;
 use std::thread::Threads;
 
 /// How many bytes of a line are enough, where a text ends in it.
-#[derive(Clone, Copy, Debug)]
+#[derive(Clone, Copy)]
 struct Enough {
     /// So many have the form of a line; but its last number is out of its range, as long as they are fewer than the next.
     form: usize,
@@ -50,6 +50,19 @@ fn due(alloc: Global, number: usize, bytes: usize, enough: Enough) -> Result<Str
     format!(in alloc; "conj: not accepted: line {place}: Text {cause}\n")
 }
 
+/// Whether that is told of such a text.
+fn is_due<R: Threads + Wait + Sync>(
+    rt: &R,
+    alloc: Global,
+    number: usize,
+    bytes: usize,
+    enough: Enough,
+) -> Result<bool, AllocError> {
+    let due = due(alloc, number, bytes, enough)?;
+    let cut = ("screen.cert", Change::Cut(number, bytes));
+    is_told(rt, alloc, "check .", &[cut], due.as_bytes())
+}
+
 /// How many bytes are left of this line in the first text that ends in it and of which something else is told.
 fn first_other_cut<R: Threads + Wait + Sync>(
     rt: &R,
@@ -59,9 +72,7 @@ fn first_other_cut<R: Threads + Wait + Sync>(
     enough: Enough,
 ) -> Result<Option<usize>, AllocError> {
     for bytes in 0..line.len() + 1 {
-        let cut = ("screen.cert", Change::Cut(number, bytes));
-        let told = told(rt, alloc, "check .", &[cut])?;
-        if told.as_slice() != due(alloc, number, bytes, enough)?.as_bytes() {
+        if !is_due(rt, alloc, number, bytes, enough)? {
             return Ok(Some(bytes));
         }
     }
@@ -175,9 +186,8 @@ fn first_other_line<R: Threads + Wait + Sync>(
     for (place, (left_out, twice)) in cases.iter().enumerate() {
         let without = ("screen.cert", Change::Without(place + 1));
         let with = ("screen.cert", Change::Twice(place + 1));
-        if told(rt, alloc, "check .", &[without])?.as_slice() != *left_out
-            || told(rt, alloc, "check .", &[with])?.as_slice() != *twice
-        {
+        let is_first = is_told(rt, alloc, "check .", &[without], left_out)?;
+        if !is_first || !is_told(rt, alloc, "check .", &[with], twice)? {
             return Ok(Some(place + 1));
         }
     }

@@ -1,10 +1,8 @@
 //! Damages of a certificate of real size, the one of a made-up catalogue, a line at a time. What a damage is refused for, and at which
 //! line, is told here by what the lines mean.
-use super::catalogues::files_of;
-use super::runs::{line_of, run, run_at};
-use cj_epoch::Tick;
-use cj_io::{Bytes, FileBytes, Name};
-use cj_status::Status;
+use super::catalogues::{files_of, made_by};
+use super::runs::{certificate_of, is_told, with_certificate};
+use cj_io::FileBytes;
 use std::alloc::{AllocError, Global};
 use std::sync::Wait;
 use std::test::Fail;
@@ -21,7 +19,7 @@ const CHECKING: &str = "check . --threshold 1000000";
 const SLOT: i64 = 60_000_000;
 
 /// What is done to a line of a certificate. Its words are counted from 0, the first of which is its kind.
-#[derive(Clone, Copy, Debug)]
+#[derive(Clone, Copy)]
 enum Damage {
     LeftOut,
     Doubled,
@@ -36,7 +34,7 @@ enum Damage {
 }
 
 /// What a check is to tell.
-#[derive(Clone, Copy, Debug)]
+#[derive(Clone, Copy)]
 enum Expected {
     /// What the lines say is still so.
     Accepted,
@@ -47,7 +45,7 @@ enum Expected {
 }
 
 /// Some lines of a certificate.
-#[derive(Clone, Copy, Debug)]
+#[derive(Clone, Copy)]
 enum Lines {
     /// The line with this number.
     Numbered(usize),
@@ -512,25 +510,6 @@ fn damaged(
     Ok(text)
 }
 
-/// What a check of the files and of a certificate with this text tells.
-fn told<R: Threads + Wait + Sync>(
-    rt: &R,
-    alloc: Global,
-    catalogue: &[FileBytes],
-    text: &[u8],
-) -> Result<Vec<u8>, AllocError> {
-    let mut files = files_of(alloc, catalogue)?;
-    files.push(FileBytes {
-        name: Name::copy_of(alloc, b"screen.cert")?,
-        bytes: Bytes::copy_of(alloc, text)?,
-    })?;
-    let ran = run(rt, alloc, CHECKING, files)?;
-    match ran.status {
-        Status::Ok => Vec::from_slice(alloc, &ran.summary),
-        _ => line_of(alloc, &ran),
-    }
-}
-
 /// What is to be told of a damage of the line at a place.
 fn wanted(alloc: Global, place: usize, told: Expected) -> Result<String, AllocError> {
     let here = place.saturating_add(1);
@@ -544,11 +523,44 @@ fn wanted(alloc: Global, place: usize, told: Expected) -> Result<String, AllocEr
     }
 }
 
-/// How many damages were tried, and the row and the number of the line of the first of which something else is told.
-#[derive(Clone, Copy, Debug, PartialEq, Eq)]
-struct Outcome {
-    tried: usize,
-    other: Option<(usize, usize)>,
+/// Whether that is told of a damage of the line at a place.
+fn is_wanted<R: Threads + Wait + Sync>(
+    rt: &R,
+    alloc: Global,
+    catalogue: &[FileBytes],
+    lines: &[&[u8]],
+    place: usize,
+    row: &Row,
+) -> Result<bool, AllocError> {
+    let (_, damage, expected) = *row;
+    let text = damaged(alloc, lines, place, damage)?;
+    let files = with_certificate(alloc, files_of(alloc, catalogue)?, &text)?;
+    let wanted = wanted(alloc, place, expected)?;
+    is_told(rt, alloc, CHECKING, files, wanted.as_bytes())
+}
+
+/// The number of the first of these lines of whose damage something else is told.
+fn first_other_line<R: Threads + Wait + Sync>(
+    rt: &R,
+    alloc: Global,
+    catalogue: &[FileBytes],
+    lines: &[&[u8]],
+    places: &[usize],
+    row: &Row,
+) -> Result<Option<usize>, AllocError> {
+    for place in places {
+        if !is_wanted(rt, alloc, catalogue, lines, *place, row)? {
+            return Ok(Some(place.saturating_add(1)));
+        }
+    }
+    Ok(None)
+}
+
+/// What came of a row: at how many lines its damage was tried, or at which line something else was told.
+#[derive(Clone, Copy)]
+enum Tried {
+    At(usize),
+    Other(usize),
 }
 
 /// Tries a damage at some lines.
@@ -558,88 +570,96 @@ fn try_row<R: Threads + Wait + Sync>(
     catalogue: &[FileBytes],
     lines: &[&[u8]],
     row: &Row,
-) -> Result<(usize, Option<usize>), AllocError> {
-    let (some, damage, expected) = *row;
-    let places = places_of(alloc, lines, some)?;
-    for place in &places {
-        let text = damaged(alloc, lines, *place, damage)?;
-        let told = told(rt, alloc, catalogue, &text)?;
-        let wanted = wanted(alloc, *place, expected)?;
-        if told.as_slice() != wanted.as_bytes() {
-            return Ok((places.len(), Some(place.saturating_add(1))));
-        }
-    }
-    Ok((places.len(), None))
+) -> Result<Tried, AllocError> {
+    let places = places_of(alloc, lines, row.0)?;
+    Ok(
+        match first_other_line(rt, alloc, catalogue, lines, &places, row)? {
+            Some(line) => Tried::Other(line),
+            None => Tried::At(places.len()),
+        },
+    )
 }
 
-/// Tries the damages of a table.
-fn try_table<R: Threads + Wait + Sync>(
+/// The row and the number of the line of the first damage of which something else is told; a row that no line is of, with 0; behind all
+/// rows, where fewer damages were tried than these, their number.
+fn first_other_row<R: Threads + Wait + Sync>(
     rt: &R,
     alloc: Global,
+    catalogue: &[FileBytes],
+    lines: &[&[u8]],
     table: &[Row],
-) -> Result<Outcome, AllocError> {
-    let (_, made) = run_at(rt, alloc, MAKING, Vec::new(alloc), Tick::FIRST)?;
-    let catalogue = files_of(alloc, made.written())?;
-    let screened = run(rt, alloc, SCREENING, files_of(alloc, &catalogue)?)?;
-    let text = screened.certificate.as_slice();
+    least: usize,
+) -> Result<Option<(usize, usize)>, AllocError> {
+    let mut tried: usize = 0;
+    for (number, row) in table.iter().enumerate() {
+        match try_row(rt, alloc, catalogue, lines, row)? {
+            Tried::Other(line) => return Ok(Some((number, line))),
+            Tried::At(0) => return Ok(Some((number, 0))),
+            Tried::At(places) => tried = tried.saturating_add(places),
+        }
+    }
+    Ok(if tried < least {
+        Some((table.len(), tried))
+    } else {
+        None
+    })
+}
+
+/// The lines of a text that are not empty.
+fn lines_of(alloc: Global, text: &[u8]) -> Result<Vec<&[u8]>, AllocError> {
     let mut lines = Vec::new(alloc);
     for line in text.split(|byte| *byte == b'\n') {
         if !line.is_empty() {
             lines.push(line)?;
         }
     }
-    let mut tried: usize = 0;
-    for (number, row) in table.iter().enumerate() {
-        let (places, other) = try_row(rt, alloc, &catalogue, &lines, row)?;
-        tried = tried.saturating_add(places);
-        if let Some(line) = other {
-            let other = Some((number, line));
-            return Ok(Outcome { tried, other });
-        }
-        if places == 0 {
-            let other = Some((number, 0));
-            return Ok(Outcome { tried, other });
-        }
-    }
-    Ok(Outcome { tried, other: None })
+    Ok(lines)
+}
+
+/// The first damage of a table of which something else is told, where at least so many are to be tried.
+fn first_other<R: Threads + Wait + Sync>(
+    rt: &R,
+    alloc: Global,
+    table: &[Row],
+    least: usize,
+) -> Result<Option<(usize, usize)>, AllocError> {
+    let catalogue = made_by(rt, alloc, MAKING)?;
+    let text = certificate_of(rt, alloc, SCREENING, files_of(alloc, &catalogue)?)?;
+    let lines = lines_of(alloc, &text)?;
+    first_other_row(rt, alloc, &catalogue, &lines, table, least)
 }
 
 #[test]
 fn headers_of_other_cases_are_refused(rt: HostRuntime) -> Result<(), Fail> {
-    let outcome = try_table(&rt, rt.alloc(), HEADER.as_slice())?;
-    assert_eq!(rt; outcome.other, None);
-    assert!(rt; 15 <= outcome.tried);
+    let other = first_other(&rt, rt.alloc(), HEADER.as_slice(), 15)?;
+    assert_eq!(rt; other, None);
     Ok(())
 }
 
 #[test]
 fn shells_are_those_of_the_hulls(rt: HostRuntime) -> Result<(), Fail> {
-    let outcome = try_table(&rt, rt.alloc(), SHELLS.as_slice())?;
-    assert_eq!(rt; outcome.other, None);
-    assert!(rt; 44 <= outcome.tried);
+    let other = first_other(&rt, rt.alloc(), SHELLS.as_slice(), 44)?;
+    assert_eq!(rt; other, None);
     Ok(())
 }
 
 #[test]
 fn boxes_hold_the_hulls(rt: HostRuntime) -> Result<(), Fail> {
-    let outcome = try_table(&rt, rt.alloc(), BOXES.as_slice())?;
-    assert_eq!(rt; outcome.other, None);
-    assert!(rt; 80 <= outcome.tried);
+    let other = first_other(&rt, rt.alloc(), BOXES.as_slice(), 80)?;
+    assert_eq!(rt; other, None);
     Ok(())
 }
 
 #[test]
 fn cells_tile_the_roots_and_show_their_kinds(rt: HostRuntime) -> Result<(), Fail> {
-    let outcome = try_table(&rt, rt.alloc(), CELLS.as_slice())?;
-    assert_eq!(rt; outcome.other, None);
-    assert!(rt; 76 <= outcome.tried);
+    let other = first_other(&rt, rt.alloc(), CELLS.as_slice(), 76)?;
+    assert_eq!(rt; other, None);
     Ok(())
 }
 
 #[test]
 fn each_kind_of_line_is_whole(rt: HostRuntime) -> Result<(), Fail> {
-    let outcome = try_table(&rt, rt.alloc(), ENDS.as_slice())?;
-    assert_eq!(rt; outcome.other, None);
-    assert!(rt; 11 <= outcome.tried);
+    let other = first_other(&rt, rt.alloc(), ENDS.as_slice(), 11)?;
+    assert_eq!(rt; other, None);
     Ok(())
 }

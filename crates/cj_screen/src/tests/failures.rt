@@ -1,55 +1,54 @@
 //! Folders and shelves that fail.
-use super::runs::{failing, words};
+use super::runs::{End, end_failing};
 use super::scenes::{COVERED, files_of};
-use crate::conj;
-use cj_epoch::Tick;
-use cj_io::{CalmShelf, FileBytes, MemShelf, OpenGate, Shelf};
-use cj_status::{Status, fault_text};
+use cj_io::{CalmShelf, FileBytes, MemShelf, Shelf};
 use std::alloc::{AllocError, Global};
 use std::sync::Wait;
 use std::test::Fail;
 use std::thread::Threads;
 
 /// How a run over the crossing ends where these calls of the folder fail.
-fn run_over<R: Threads + Wait + Sync, S: Shelf>(
+fn end_over<R: Threads + Wait + Sync, S: Shelf>(
     rt: &R,
     alloc: Global,
     calls: Vec<u64>,
     shelf: &mut S,
-) -> Result<Status, AllocError> {
-    let words = words(alloc, "screen .")?;
-    let mut folder = failing(alloc, files_of(alloc, COVERED)?, calls);
-    Ok(conj(
-        rt,
-        alloc,
-        &words,
-        &mut folder,
-        shelf,
-        Tick::FIRST,
-        &OpenGate,
-    ))
+) -> Result<End, AllocError> {
+    let files = files_of(alloc, COVERED)?;
+    end_failing(rt, alloc, "screen .", files, calls, shelf)
 }
 
 /// How often a run goes to its folder: for the list, and for the bytes and the end of each of two files.
 const CALLS: u64 = 5;
 
+/// How many pieces are put where this call fails, if the run then ends so.
+fn put_where<R: Threads + Wait + Sync>(
+    rt: &R,
+    alloc: Global,
+    call: u64,
+    number: u8,
+    line: &[u8],
+) -> Result<Option<usize>, AllocError> {
+    let mut shelf = CalmShelf::new(alloc);
+    let calls = Vec::from_array(alloc, [call])?;
+    let end = end_over(rt, alloc, calls, &mut shelf)?;
+    if end.number == number && end.line.as_slice() == line {
+        Ok(Some(shelf.written().len()))
+    } else {
+        Ok(None)
+    }
+}
+
 #[test]
 fn nothing_is_put_where_the_folder_fails(rt: HostRuntime) -> Result<(), Fail> {
     let alloc = rt.alloc();
     for call in 1..CALLS + 1 {
-        let mut shelf = CalmShelf::new(alloc);
-        let calls = Vec::from_array(alloc, [call])?;
-        let status = run_over(&rt, alloc, calls, &mut shelf)?;
-        assert_eq!(rt; status.number(), 4);
-        assert_eq!(rt; shelf.written().len(), 0);
-        let text = fault_text(alloc, &status)?;
-        assert_eq!(rt; text.as_slice(), b"conj: read fault\n".as_slice());
+        assert_eq!(rt;
+            put_where(&rt, alloc, call, 4, b"conj: read fault\n")?,
+            Some(0)
+        );
     }
-    let mut shelf = CalmShelf::new(alloc);
-    let calls = Vec::from_array(alloc, [CALLS + 1])?;
-    let status = run_over(&rt, alloc, calls, &mut shelf)?;
-    assert_eq!(rt; status.number(), 0);
-    assert_eq!(rt; shelf.written().len(), 4);
+    assert_eq!(rt; put_where(&rt, alloc, CALLS + 1, 0, b"")?, Some(4));
     Ok(())
 }
 
@@ -70,24 +69,32 @@ fn is_front(pieces: &[FileBytes], due: &[FileBytes], count: usize) -> bool {
     true
 }
 
+/// Whether the first so many pieces stand where the put behind them fails, and the run then ends so.
+fn stand_whole<R: Threads + Wait + Sync>(
+    rt: &R,
+    alloc: Global,
+    due: &[FileBytes],
+    whole: usize,
+    number: u8,
+    line: &[u8],
+) -> Result<bool, AllocError> {
+    let puts = Vec::from_array(alloc, [(whole as u64).saturating_add(1)])?;
+    let mut shelf = MemShelf::new(alloc, puts);
+    let end = end_over(rt, alloc, Vec::new(alloc), &mut shelf)?;
+    Ok(end.number == number && end.line.as_slice() == line && is_front(shelf.written(), due, whole))
+}
+
 #[test]
 fn the_pieces_before_a_put_that_fails_stand_whole(rt: HostRuntime) -> Result<(), Fail> {
     let alloc = rt.alloc();
     let mut calm = CalmShelf::new(alloc);
-    let status = run_over(&rt, alloc, Vec::new(alloc), &mut calm)?;
-    assert_eq!(rt; status.number(), 0);
-    assert_eq!(rt; calm.written().len(), 4);
-    for put in 1..5 {
-        let mut shelf = MemShelf::new(alloc, Vec::from_array(alloc, [put])?);
-        let status = run_over(&rt, alloc, Vec::new(alloc), &mut shelf)?;
-        assert_eq!(rt; status.number(), 5);
-        assert!(rt; is_front(shelf.written(), calm.written(), put as usize - 1));
-        let text = fault_text(alloc, &status)?;
-        assert_eq!(rt; text.as_slice(), b"conj: write fault\n".as_slice());
+    let end = end_over(&rt, alloc, Vec::new(alloc), &mut calm)?;
+    assert_eq!(rt; end.number, 0);
+    let due = calm.written();
+    assert_eq!(rt; due.len(), 4);
+    for whole in 0..4 {
+        assert!(rt; stand_whole(&rt, alloc, due, whole, 5, b"conj: write fault\n")?);
     }
-    let mut shelf = MemShelf::new(alloc, Vec::from_array(alloc, [5])?);
-    let status = run_over(&rt, alloc, Vec::new(alloc), &mut shelf)?;
-    assert_eq!(rt; status.number(), 0);
-    assert!(rt; is_front(shelf.written(), calm.written(), 4));
+    assert!(rt; stand_whole(&rt, alloc, due, 4, 0, b"")?);
     Ok(())
 }

@@ -1,5 +1,5 @@
 //! The messages of runs.
-use super::runs::{piece_of, run_at};
+use super::runs::{are_named, piece_of, run_at};
 use super::scenes::{COVARIANCE, COVERED, CROSSING, Content, OF_ONE_ELEMENT, Scene, files_of};
 use cj_epoch::Tick;
 use cj_io::{CalmShelf, FileBytes};
@@ -169,15 +169,6 @@ fn shelf_of<R: Threads + Wait + Sync>(
     Ok(shelf)
 }
 
-/// Whether the pieces have these names, in order.
-fn are_named(pieces: &[FileBytes], names: &[&str]) -> bool {
-    pieces.len() == names.len()
-        && pieces
-            .iter()
-            .zip(names)
-            .all(|(piece, name)| piece.name.as_slice() == name.as_bytes())
-}
-
 /// Whether the encounters of a report have these last fields, in order.
 fn are_told(report: &[u8], fields: &[&str]) -> bool {
     let mut left = fields.iter();
@@ -192,19 +183,23 @@ fn are_told(report: &[u8], fields: &[&str]) -> bool {
     left.next().is_none()
 }
 
+/// Whether these are the pieces of a case, with its fields and counts.
+fn are_of(pieces: &[FileBytes], case: &Told) -> bool {
+    let (_, names, fields, counts) = case;
+    are_named(pieces, names)
+        && are_told(piece_of(pieces, b"screen.report"), fields)
+        && piece_of(pieces, b"-").ends_with(counts.as_bytes())
+}
+
 /// The place of the first case with other pieces, fields or counts.
 fn first_other<R: Threads + Wait + Sync>(
     rt: &R,
     alloc: Global,
     cases: &[Told],
 ) -> Result<Option<usize>, AllocError> {
-    for (place, (scene, names, fields, counts)) in cases.iter().enumerate() {
-        let shelf = shelf_of(rt, alloc, scene)?;
-        let pieces = shelf.written();
-        if !are_named(pieces, names)
-            || !are_told(piece_of(pieces, b"screen.report"), fields)
-            || !piece_of(pieces, b"-").ends_with(counts.as_bytes())
-        {
+    for (place, case) in cases.iter().enumerate() {
+        let shelf = shelf_of(rt, alloc, case.0)?;
+        if !are_of(shelf.written(), case) {
             return Ok(Some(place));
         }
     }
@@ -220,7 +215,7 @@ fn encounters_with_both_covariances_have_a_message(rt: HostRuntime) -> Result<()
 #[test]
 fn two_tracks_cross_at_one_kilometre(rt: HostRuntime) -> Result<(), Fail> {
     let shelf = shelf_of(&rt, rt.alloc(), COVERED)?;
-    assert_eq!(rt; piece_of(shelf.written(), b"000001.cdm"), MESSAGE);
+    assert!(rt; piece_of(shelf.written(), b"000001.cdm") == MESSAGE);
     Ok(())
 }
 

@@ -1,5 +1,5 @@
 //! Words, files and problems that are refused.
-use super::runs::{line_of, run};
+use super::runs::{is_told, run};
 use super::scenes::{CROSSING, Content, GCRF, OF_DEGREE_SEVEN, Scene, base_text, copies, files_of};
 use cj_io::FileBytes;
 use std::alloc::{AllocError, Global};
@@ -152,9 +152,8 @@ fn first_wrong<R: Threads + Wait + Sync>(
     alloc: Global,
     cases: &[Case],
 ) -> Result<Option<usize>, AllocError> {
-    for (place, (line, scene, told)) in cases.iter().enumerate() {
-        let ran = run(rt, alloc, line, files_of(alloc, scene)?)?;
-        if line_of(alloc, &ran)?.as_slice() != *told {
+    for (place, (line, scene, due)) in cases.iter().enumerate() {
+        if !is_told(rt, alloc, line, files_of(alloc, scene)?, due)? {
             return Ok(Some(place));
         }
     }
@@ -170,26 +169,25 @@ fn what_is_refused_is_told(rt: HostRuntime) -> Result<(), Fail> {
     Ok(())
 }
 
-/// The status number and the fault line of a run.
-fn refusal<R: Threads + Wait + Sync>(
+/// The number of the status in which a run over these files ends.
+fn number_of<R: Threads + Wait + Sync>(
     rt: &R,
     alloc: Global,
     line: &str,
     files: Vec<FileBytes>,
-) -> Result<(u8, Vec<u8>), AllocError> {
-    let ran = run(rt, alloc, line, files)?;
-    Ok((ran.status.number(), line_of(alloc, &ran)?))
+) -> Result<u8, AllocError> {
+    Ok(run(rt, alloc, line, files)?.number)
 }
 
 #[test]
 fn limits_on_files_are_told_and_may_be_reached(rt: HostRuntime) -> Result<(), Fail> {
     let alloc = rt.alloc();
-    let (number, text) = refusal(&rt, alloc, "screen .", copies(alloc, 2001, b"")?)?;
-    assert_eq!(rt; number, 6);
-    assert_eq!(rt; text.as_slice(), b"conj: limit: Objects 2001\n".as_slice());
+    let line = "screen .";
+    let due = b"conj: limit: Objects 2001\n";
+    assert_eq!(rt; number_of(&rt, alloc, line, copies(alloc, 2001, b"")?)?, 6);
+    assert!(rt; is_told(&rt, alloc, line, copies(alloc, 2001, b"")?, due)?);
     // So many files are read, and the first is refused.
-    let (number, _) = refusal(&rt, alloc, "screen .", copies(alloc, 2000, b"")?)?;
-    assert_eq!(rt; number, 3);
+    assert_eq!(rt; number_of(&rt, alloc, line, copies(alloc, 2000, b"")?)?, 3);
     Ok(())
 }
 
@@ -197,11 +195,10 @@ fn limits_on_files_are_told_and_may_be_reached(rt: HostRuntime) -> Result<(), Fa
 fn limits_on_the_window_are_told_and_may_be_reached(rt: HostRuntime) -> Result<(), Fail> {
     let alloc = rt.alloc();
     let line = "screen . --from 2025-01-01T00:00:00 --to 2025-01-15T00:00:00";
-    let (number, _) = refusal(&rt, alloc, line, Vec::new(alloc))?;
-    assert_eq!(rt; number, 0);
+    assert_eq!(rt; number_of(&rt, alloc, line, Vec::new(alloc))?, 0);
     let line = "screen . --from 2025-01-01T00:00:00 --to 2025-01-14T21:20:00";
     let text = base_text(alloc)?;
-    let (_, text) = refusal(&rt, alloc, line, copies(alloc, 200, &text)?)?;
-    assert_eq!(rt; text.as_slice(), b"conj: limit: Slots 4000200\n".as_slice());
+    let due = b"conj: limit: Slots 4000200\n";
+    assert!(rt; is_told(&rt, alloc, line, copies(alloc, 200, &text)?, due)?);
     Ok(())
 }

@@ -335,6 +335,17 @@ fn spans_of(report: &[u8]) -> &[u8] {
     }
 }
 
+/// Whether a case has its report and its summary.
+fn is_reported<R: Threads + Wait + Sync>(
+    rt: &R,
+    alloc: Global,
+    case: &Case,
+) -> Result<bool, AllocError> {
+    let ran = run(rt, alloc, case.line, files_of(alloc, case.scene)?)?;
+    let summary = summary_of(alloc, case.counts)?;
+    Ok(spans_of(&ran.report) == case.spans && ran.told.as_slice() == summary.as_slice())
+}
+
 /// The place of the first case with another report or summary.
 fn first_wrong<R: Threads + Wait + Sync>(
     rt: &R,
@@ -342,9 +353,7 @@ fn first_wrong<R: Threads + Wait + Sync>(
     cases: &[Case],
 ) -> Result<Option<usize>, AllocError> {
     for (place, case) in cases.iter().enumerate() {
-        let ran = run(rt, alloc, case.line, files_of(alloc, case.scene)?)?;
-        let summary = summary_of(alloc, case.counts)?;
-        if spans_of(&ran.report) != case.spans || ran.summary.as_slice() != summary.as_slice() {
+        if !is_reported(rt, alloc, case)? {
             return Ok(Some(place));
         }
     }
@@ -456,6 +465,18 @@ END
     ),
 ];
 
+/// Whether a run puts this report, and certificate and summary beside it.
+fn is_whole<R: Threads + Wait + Sync>(
+    rt: &R,
+    alloc: Global,
+    line: &str,
+    scene: Scene,
+    report: &[u8],
+) -> Result<bool, AllocError> {
+    let ran = run(rt, alloc, line, files_of(alloc, scene)?)?;
+    Ok(ran.number == 0 && ran.pieces == 3 && ran.report.as_slice() == report)
+}
+
 /// The place of the first case with another report, or without certificate and summary beside it.
 fn first_other<R: Threads + Wait + Sync>(
     rt: &R,
@@ -463,8 +484,7 @@ fn first_other<R: Threads + Wait + Sync>(
     cases: &[Reported],
 ) -> Result<Option<usize>, AllocError> {
     for (place, (line, scene, report)) in cases.iter().enumerate() {
-        let ran = run(rt, alloc, line, files_of(alloc, scene)?)?;
-        if ran.status.number() != 0 || ran.pieces != 3 || ran.report.as_slice() != *report {
+        if !is_whole(rt, alloc, line, scene, report)? {
             return Ok(Some(place));
         }
     }
@@ -481,6 +501,6 @@ fn whole_reports(rt: HostRuntime) -> Result<(), Fail> {
 fn without_its_name_the_file_of_sizes_is_an_ephemeris(rt: HostRuntime) -> Result<(), Fail> {
     let alloc = rt.alloc();
     let ran = run(&rt, alloc, "screen . --suffix t", files_of(alloc, SIZED)?)?;
-    assert_eq!(rt; ran.status.number(), 3);
+    assert_eq!(rt; ran.number, 3);
     Ok(())
 }

@@ -1,7 +1,7 @@
 //! Runs of the top call.
 use crate::conj;
 use cj_epoch::Tick;
-use cj_io::{CalmFolder, CalmShelf, FileBytes, MemFolder, OpenGate};
+use cj_io::{Bytes, CalmFolder, CalmShelf, FileBytes, Folder, MemFolder, Name, OpenGate, Shelf};
 use cj_kvn::Text;
 use cj_status::{Status, fault_text};
 use cj_words::Word;
@@ -10,7 +10,7 @@ use std::sync::Wait;
 use std::thread::Threads;
 
 /// The words of a command line that are separated by spaces.
-pub fn words(alloc: Global, line: &str) -> Result<Vec<Word>, AllocError> {
+fn words(alloc: Global, line: &str) -> Result<Vec<Word>, AllocError> {
     let mut words = Vec::new(alloc);
     for word in line.as_bytes().split(|b| *b == b' ') {
         words.push(Text::copy_of(alloc, word)?)?;
@@ -19,7 +19,7 @@ pub fn words(alloc: Global, line: &str) -> Result<Vec<Word>, AllocError> {
 }
 
 /// A folder that never fails.
-pub fn calm(alloc: Global, files: Vec<FileBytes>) -> CalmFolder {
+fn calm(alloc: Global, files: Vec<FileBytes>) -> CalmFolder {
     if files.len() < 10_000 {
         CalmFolder::new(files)
     } else {
@@ -28,7 +28,7 @@ pub fn calm(alloc: Global, files: Vec<FileBytes>) -> CalmFolder {
 }
 
 /// A folder whose calls with these numbers fail.
-pub fn failing(alloc: Global, files: Vec<FileBytes>, calls: Vec<u64>) -> MemFolder {
+fn failing(alloc: Global, files: Vec<FileBytes>, calls: Vec<u64>) -> MemFolder {
     if files.len() < 10_000 {
         MemFolder::new(files, calls)
     } else {
@@ -36,14 +36,22 @@ pub fn failing(alloc: Global, files: Vec<FileBytes>, calls: Vec<u64>) -> MemFold
     }
 }
 
-/// How a run ended, and what it put.
-#[derive(Debug, Drop)]
-pub struct Ran {
-    pub status: Status,
-    pub pieces: usize,
-    pub report: Vec<u8>,
-    pub certificate: Vec<u8>,
-    pub summary: Vec<u8>,
+/// A file of these bytes.
+pub fn file(alloc: Global, name: &[u8], bytes: &[u8]) -> Result<FileBytes, AllocError> {
+    Ok(FileBytes {
+        name: Name::copy_of(alloc, name)?,
+        bytes: Bytes::copy_of(alloc, bytes)?,
+    })
+}
+
+/// These files, and a certificate of this text behind them.
+pub fn with_certificate(
+    alloc: Global,
+    mut files: Vec<FileBytes>,
+    text: &[u8],
+) -> Result<Vec<FileBytes>, AllocError> {
+    files.push(file(alloc, b"screen.cert", text)?)?;
+    Ok(files)
 }
 
 /// The bytes of the piece of this name, none where there is no such piece.
@@ -56,6 +64,67 @@ pub fn piece_of<'p>(pieces: &'p [FileBytes], name: &[u8]) -> &'p [u8] {
     b""
 }
 
+/// Whether the pieces have these names, in order.
+pub fn are_named(pieces: &[FileBytes], names: &[&str]) -> bool {
+    pieces.len() == names.len()
+        && pieces
+            .iter()
+            .zip(names)
+            .all(|(piece, name)| piece.name.as_slice() == name.as_bytes())
+}
+
+/// How a run ended: the number of its status, and the line that tells of a failure, which is empty where there was none.
+#[derive(Drop)]
+pub struct End {
+    pub number: u8,
+    pub line: Vec<u8>,
+}
+
+fn end_of(alloc: Global, status: &Status) -> Result<End, AllocError> {
+    Ok(End {
+        number: status.number(),
+        line: fault_text(alloc, status)?,
+    })
+}
+
+/// How a command line ends over this folder and shelf at this time.
+fn end_over<R: Threads + Wait + Sync, F: Folder, S: Shelf>(
+    rt: &R,
+    alloc: Global,
+    line: &str,
+    folder: &mut F,
+    shelf: &mut S,
+    now: Tick,
+) -> Result<End, AllocError> {
+    let words = words(alloc, line)?;
+    let status = conj(rt, alloc, &words, folder, shelf, now, &OpenGate);
+    end_of(alloc, &status)
+}
+
+/// How a command line ends over these files where these calls of their folder fail.
+pub fn end_failing<R: Threads + Wait + Sync, S: Shelf>(
+    rt: &R,
+    alloc: Global,
+    line: &str,
+    files: Vec<FileBytes>,
+    calls: Vec<u64>,
+    shelf: &mut S,
+) -> Result<End, AllocError> {
+    let mut folder = failing(alloc, files, calls);
+    end_over(rt, alloc, line, &mut folder, shelf, Tick::FIRST)
+}
+
+/// How a command line ends that needs no folder: each call of its folder fails.
+pub fn end_alone<R: Threads + Wait + Sync, S: Shelf>(
+    rt: &R,
+    alloc: Global,
+    line: &str,
+    shelf: &mut S,
+) -> Result<End, AllocError> {
+    let calls = Vec::from_array(alloc, [1, 2])?;
+    end_failing(rt, alloc, line, Vec::new(alloc), calls, shelf)
+}
+
 /// Runs a command line over these files at this time. It gives how the run ended, and the shelf with what it put.
 pub fn run_at<R: Threads + Wait + Sync>(
     rt: &R,
@@ -63,12 +132,44 @@ pub fn run_at<R: Threads + Wait + Sync>(
     line: &str,
     files: Vec<FileBytes>,
     now: Tick,
-) -> Result<(Status, CalmShelf), AllocError> {
-    let words = words(alloc, line)?;
+) -> Result<(End, CalmShelf), AllocError> {
     let mut folder = calm(alloc, files);
     let mut shelf = CalmShelf::new(alloc);
-    let status = conj(rt, alloc, &words, &mut folder, &mut shelf, now, &OpenGate);
-    Ok((status, shelf))
+    let end = end_over(rt, alloc, line, &mut folder, &mut shelf, now)?;
+    Ok((end, shelf))
+}
+
+/// How a run ended, and what it put.
+#[derive(Drop)]
+pub struct Ran {
+    pub number: u8,
+    pub pieces: usize,
+    pub report: Vec<u8>,
+    pub certificate: Vec<u8>,
+    /// What it told: on standard output where all went well, or of the failure.
+    pub told: Vec<u8>,
+}
+
+/// What a run told: on standard output where all went well, or of a failure behind which nothing was put.
+fn told_of(alloc: Global, end: &End, pieces: &[FileBytes]) -> Result<Vec<u8>, AllocError> {
+    let told = if end.number == 0 {
+        piece_of(pieces, b"-")
+    } else if pieces.is_empty() {
+        end.line.as_slice()
+    } else {
+        b"a piece was put".as_slice()
+    };
+    Vec::from_slice(alloc, told)
+}
+
+fn seen(alloc: Global, end: &End, pieces: &[FileBytes]) -> Result<Ran, AllocError> {
+    Ok(Ran {
+        number: end.number,
+        pieces: pieces.len(),
+        report: Vec::from_slice(alloc, piece_of(pieces, b"screen.report"))?,
+        certificate: Vec::from_slice(alloc, piece_of(pieces, b"screen.cert"))?,
+        told: told_of(alloc, end, pieces)?,
+    })
 }
 
 /// Runs a command line over these files.
@@ -78,22 +179,40 @@ pub fn run<R: Threads + Wait + Sync>(
     line: &str,
     files: Vec<FileBytes>,
 ) -> Result<Ran, AllocError> {
-    let (status, shelf) = run_at(rt, alloc, line, files, Tick::FIRST)?;
-    let pieces = shelf.written();
-    Ok(Ran {
-        status,
-        pieces: pieces.len(),
-        report: Vec::from_slice(alloc, piece_of(pieces, b"screen.report"))?,
-        certificate: Vec::from_slice(alloc, piece_of(pieces, b"screen.cert"))?,
-        summary: Vec::from_slice(alloc, piece_of(pieces, b"-"))?,
-    })
+    let (end, shelf) = run_at(rt, alloc, line, files, Tick::FIRST)?;
+    seen(alloc, &end, shelf.written())
 }
 
-/// The fault line of a run that put nothing.
-pub fn line_of(alloc: Global, ran: &Ran) -> Result<Vec<u8>, AllocError> {
-    if ran.pieces == 0 {
-        fault_text(alloc, &ran.status)
-    } else {
-        Vec::from_slice(alloc, b"a piece was put")
-    }
+/// What a run of a command line over these files tells.
+pub fn told<R: Threads + Wait + Sync>(
+    rt: &R,
+    alloc: Global,
+    line: &str,
+    files: Vec<FileBytes>,
+) -> Result<Vec<u8>, AllocError> {
+    let (end, shelf) = run_at(rt, alloc, line, files, Tick::FIRST)?;
+    told_of(alloc, &end, shelf.written())
+}
+
+/// The certificate that a run of a command line over these files puts.
+pub fn certificate_of<R: Threads + Wait + Sync>(
+    rt: &R,
+    alloc: Global,
+    line: &str,
+    files: Vec<FileBytes>,
+) -> Result<Vec<u8>, AllocError> {
+    let (_, shelf) = run_at(rt, alloc, line, files, Tick::FIRST)?;
+    Vec::from_slice(alloc, piece_of(shelf.written(), b"screen.cert"))
+}
+
+/// Whether just this is told.
+pub fn is_told<R: Threads + Wait + Sync>(
+    rt: &R,
+    alloc: Global,
+    line: &str,
+    files: Vec<FileBytes>,
+    due: &[u8],
+) -> Result<bool, AllocError> {
+    let told = told(rt, alloc, line, files)?;
+    Ok(told.as_slice() == due)
 }

@@ -1,5 +1,6 @@
 //! Folders for the tests.
-use cj_io::{Bytes, FileBytes, Name};
+use super::runs::file;
+use cj_io::FileBytes;
 use cj_samples::{HEAD, append_lines};
 use std::alloc::{AllocError, Global};
 
@@ -33,7 +34,7 @@ pub type Change = cj_samples::Change<'static>;
 pub const GCRF: Change = (8, b"REF_FRAME = GCRF");
 
 /// What a file holds.
-#[derive(Clone, Copy, Debug)]
+#[derive(Clone, Copy)]
 pub enum Content {
     /// An object at rest at this place for one minute.
     Rest(&'static str),
@@ -149,74 +150,72 @@ pub const SHARING_ONE_TICK: Scene = &[
 pub fn files_of(alloc: Global, scene: Scene) -> Result<Vec<FileBytes>, AllocError> {
     let mut files = Vec::new(alloc);
     for (name, content) in scene {
-        let bytes = bytes_of(alloc, *content)?;
-        files.push(file(alloc, name, &bytes)?)?;
+        files.push(file_of(alloc, name, *content)?)?;
     }
     Ok(files)
 }
 
-/// A file of these bytes.
-fn file(alloc: Global, name: &str, bytes: &[u8]) -> Result<FileBytes, AllocError> {
-    Ok(FileBytes {
-        name: Name::copy_of(alloc, name.as_bytes())?,
-        bytes: Bytes::copy_of(alloc, bytes)?,
-    })
+fn file_of(alloc: Global, name: &str, content: Content) -> Result<FileBytes, AllocError> {
+    let mut text = Vec::new(alloc);
+    append(alloc, &mut text, content)?;
+    file(alloc, name.as_bytes(), &text)
 }
 
-fn bytes_of(alloc: Global, content: Content) -> Result<Vec<u8>, AllocError> {
+/// Appends what a file holds.
+fn append(alloc: Global, text: &mut Vec<u8>, content: Content) -> Result<(), AllocError> {
     match content {
-        Content::Rest(place) => {
-            let state = format!(in alloc; "{place} 0 0 0")?;
-            minute(alloc, state.as_str(), state.as_str(), &[])
-        }
-        Content::Minute(first, last, changes) => minute(alloc, first, last, changes),
-        Content::One(changes) => one_with(alloc, changes),
+        Content::Rest(place) => append_rest(alloc, text, place),
+        Content::Minute(first, last, changes) => append_minute(alloc, text, first, last, changes),
+        Content::One(changes) => append_one(text, changes),
         Content::Covered(first, last, changes, behind) => {
-            let mut text = minute(alloc, first, last, changes)?;
-            text.extend_from_slice(behind.as_bytes())?;
-            Ok(text)
+            append_minute(alloc, text, first, last, changes)?;
+            text.extend_from_slice(behind.as_bytes())
         }
         Content::Two(changes) => {
-            let mut text = one_with(alloc, changes)?;
-            append_lines(&mut text, 16, NEXT.as_slice(), changes)?;
-            Ok(text)
+            append_one(text, changes)?;
+            append_lines(text, 16, NEXT.as_slice(), changes)
         }
-        Content::Text(text) => Vec::from_slice(alloc, text.as_bytes()),
+        Content::Text(whole) => text.extend_from_slice(whole.as_bytes()),
     }
 }
 
-/// The lines of one segment with other texts in place of some.
-fn one_with(alloc: Global, changes: &[Change]) -> Result<Vec<u8>, AllocError> {
-    let mut text = Vec::new(alloc);
-    append_lines(&mut text, 0, HEAD.as_slice(), changes)?;
-    append_lines(&mut text, 14, NODES.as_slice(), changes)?;
-    Ok(text)
+/// Appends the lines of one segment with other texts in place of some.
+fn append_one(text: &mut Vec<u8>, changes: &[Change]) -> Result<(), AllocError> {
+    append_lines(text, 0, HEAD.as_slice(), changes)?;
+    append_lines(text, 14, NODES.as_slice(), changes)
 }
 
-/// One segment from one place and rate to another.
-fn minute(
+/// Appends one segment from one place and rate to another.
+fn append_minute(
     alloc: Global,
+    text: &mut Vec<u8>,
     first: &str,
     last: &str,
     changes: &[Change],
-) -> Result<Vec<u8>, AllocError> {
-    let mut text = Vec::new(alloc);
-    append_lines(&mut text, 0, HEAD.as_slice(), changes)?;
+) -> Result<(), AllocError> {
+    append_lines(text, 0, HEAD.as_slice(), changes)?;
     let states = format!(in alloc; "2025-01-01T00:00:00 {first}\n2025-01-01T00:01:00 {last}\n")?;
-    text.extend_from_slice(states.as_bytes())?;
-    Ok(text)
+    text.extend_from_slice(states.as_bytes())
+}
+
+/// Appends one segment at rest at a place.
+fn append_rest(alloc: Global, text: &mut Vec<u8>, place: &str) -> Result<(), AllocError> {
+    let state = format!(in alloc; "{place} 0 0 0")?;
+    append_minute(alloc, text, state.as_str(), state.as_str(), &[])
 }
 
 /// So many files of the same name.
 pub fn copies(alloc: Global, count: usize, bytes: &[u8]) -> Result<Vec<FileBytes>, AllocError> {
     let mut files = Vec::new(alloc);
     for _ in 0..count {
-        files.push(file(alloc, "a.oem", bytes)?)?;
+        files.push(file(alloc, b"a.oem", bytes)?)?;
     }
     Ok(files)
 }
 
 /// The text of a file of one segment.
 pub fn base_text(alloc: Global) -> Result<Vec<u8>, AllocError> {
-    one_with(alloc, &[])
+    let mut text = Vec::new(alloc);
+    append_one(&mut text, &[])?;
+    Ok(text)
 }

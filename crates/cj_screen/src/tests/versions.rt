@@ -1,11 +1,10 @@
 //! Certificates of version 2: written, checked and rewritten.
-use super::catalogues;
-use super::certificates::{AT_REST, RESTING};
-use super::runs::{line_of, piece_of, run, run_at};
+use super::catalogues::{files_of as copies_of, made_by};
+use super::certificates::{AT_REST, RESTING, is_certified};
+use super::runs::{certificate_of, is_told, piece_of, run, run_at, with_certificate};
 use super::scenes::{CROSSING, files_of};
 use cj_epoch::Tick;
-use cj_io::{Bytes, FileBytes, Name};
-use cj_status::Status;
+use cj_io::FileBytes;
 use std::alloc::{AllocError, Global};
 use std::sync::Wait;
 use std::test::Fail;
@@ -34,19 +33,6 @@ BOX 2 0 0 7001000000000000 7001000000000000 0 0 -225000000000000 224999992500000
 BOX 2 1 1 7001000000000000 7001000000000000 0 0 225000000000000 225000000000000
 ";
 
-/// The files and a certificate behind them.
-fn with_certificate(
-    alloc: Global,
-    mut files: Vec<FileBytes>,
-    text: &[u8],
-) -> Result<Vec<FileBytes>, AllocError> {
-    files.push(FileBytes {
-        name: Name::copy_of(alloc, b"screen.cert")?,
-        bytes: Bytes::copy_of(alloc, text)?,
-    })?;
-    Ok(files)
-}
-
 /// The text with another line in the place of one, counted from 1, or without it where the other is empty.
 fn changed(alloc: Global, text: &[u8], number: usize, other: &[u8]) -> Result<Vec<u8>, AllocError> {
     let mut changed = Vec::new(alloc);
@@ -60,136 +46,159 @@ fn changed(alloc: Global, text: &[u8], number: usize, other: &[u8]) -> Result<Ve
     Ok(changed)
 }
 
-/// What a check of a certificate of the resting objects puts, or the line that tells why it put nothing.
-fn checked<R: Threads + Wait + Sync>(
+const ACCEPTED: &[u8] = b"ACCEPTED\n";
+
+/// Whether a check of a certificate of the resting objects tells this.
+fn is_checked<R: Threads + Wait + Sync>(
     rt: &R,
     alloc: Global,
     text: &[u8],
-) -> Result<Vec<u8>, AllocError> {
+    due: &[u8],
+) -> Result<bool, AllocError> {
     let files = with_certificate(alloc, files_of(alloc, RESTING)?, text)?;
-    let ran = run(rt, alloc, "check .", files)?;
-    match ran.status {
-        Status::Ok => Vec::from_slice(alloc, &ran.summary),
-        _ => line_of(alloc, &ran),
-    }
+    is_told(rt, alloc, "check .", files, due)
 }
 
 #[test]
 fn objects_at_rest_have_one_box_each(rt: HostRuntime) -> Result<(), Fail> {
     let alloc = rt.alloc();
-    let ran = run(
-        &rt,
-        alloc,
-        "screen . --cert-version 2",
-        files_of(alloc, RESTING)?,
-    )?;
-    assert_eq!(rt; ran.certificate.as_slice(), AT_REST_2);
-    let ran = run(
-        &rt,
-        alloc,
-        "screen . --cert-version 1",
-        files_of(alloc, RESTING)?,
-    )?;
-    assert_eq!(rt; ran.certificate.as_slice(), AT_REST);
-    assert_eq!(rt;
-        checked(&rt, alloc, AT_REST_2)?.as_slice(),
-        b"ACCEPTED\n".as_slice()
-    );
+    let first = "screen . --cert-version 1";
+    let second = "screen . --cert-version 2";
+    assert!(rt; is_certified(&rt, alloc, second, RESTING, AT_REST_2)?);
+    assert!(rt; is_certified(&rt, alloc, first, RESTING, AT_REST)?);
+    assert!(rt; is_checked(&rt, alloc, AT_REST_2, ACCEPTED)?);
     Ok(())
 }
 
 #[test]
 fn a_block_that_would_touch_newly_is_not_joined(rt: HostRuntime) -> Result<(), Fail> {
     let alloc = rt.alloc();
-    let ran = run(
-        &rt,
-        alloc,
-        "screen . --cert-version 2",
-        files_of(alloc, CROSSING)?,
-    )?;
-    let text = ran.certificate.as_slice();
+    let line = "screen . --cert-version 2";
+    let text = certificate_of(&rt, alloc, line, files_of(alloc, CROSSING)?)?;
     let boxes = text
         .windows(CROSSING_BOXES.len())
         .any(|part| part == CROSSING_BOXES);
     assert!(rt; boxes);
-    let files = with_certificate(alloc, files_of(alloc, CROSSING)?, text)?;
-    let again = run(&rt, alloc, "check .", files)?;
-    assert_eq!(rt; again.summary.as_slice(), b"ACCEPTED\n".as_slice());
+    let files = with_certificate(alloc, files_of(alloc, CROSSING)?, &text)?;
+    assert!(rt; is_told(&rt, alloc, "check .", files, ACCEPTED)?);
     Ok(())
+}
+
+/// The number of a line of the certificate in version 2, another line in its place, and what is told then.
+type Damage = (usize, &'static [u8], &'static [u8]);
+
+const DAMAGES: [Damage; 3] = [
+    (6, b"SIZE 2 1", b"conj: not accepted: line 6: SizeOf\n"),
+    (10, b"", b"conj: not accepted: line 10: BoxOf\n"),
+    (
+        9,
+        b"BOX 1 0 2 7000000000000000 7000000000000000 0 0 0 0",
+        b"conj: not accepted: line 9: BoxOf\n",
+    ),
+];
+
+/// The place of the first damage of which something else is told.
+fn first_other<R: Threads + Wait + Sync>(
+    rt: &R,
+    alloc: Global,
+    damages: &[Damage],
+) -> Result<Option<usize>, AllocError> {
+    for (place, (number, other, due)) in damages.iter().enumerate() {
+        let text = changed(alloc, AT_REST_2, *number, other)?;
+        if !is_checked(rt, alloc, &text, due)? {
+            return Ok(Some(place));
+        }
+    }
+    Ok(None)
 }
 
 #[test]
 fn damages_of_version_2_are_told(rt: HostRuntime) -> Result<(), Fail> {
-    let alloc = rt.alloc();
-    let wider = b"BOX 1 0 2 7000000000000000 7000000000000000 0 0 0 0";
-    for (number, other, told) in [
-        (
-            6,
-            b"SIZE 2 1".as_slice(),
-            b"conj: not accepted: line 6: SizeOf\n".as_slice(),
-        ),
-        (10, b"", b"conj: not accepted: line 10: BoxOf\n"),
-        (9, wider, b"conj: not accepted: line 9: BoxOf\n"),
-    ] {
-        let text = changed(alloc, AT_REST_2, number, other)?;
-        assert_eq!(rt; checked(&rt, alloc, &text)?.as_slice(), told);
-    }
+    assert_eq!(rt; first_other(&rt, rt.alloc(), DAMAGES.as_slice())?, None);
     Ok(())
 }
 
-/// What a command line that rewrites a certificate puts: the certificate, and what is told.
-fn rewritten<R: Threads + Wait + Sync>(
+/// Whether a command line that rewrites a certificate puts this one, and tells this.
+fn is_rewritten<R: Threads + Wait + Sync>(
     rt: &R,
     alloc: Global,
     line: &str,
     files: Vec<FileBytes>,
-) -> Result<(Vec<u8>, Vec<u8>), AllocError> {
+    certificate: &[u8],
+    told: &[u8],
+) -> Result<bool, AllocError> {
     let (_, shelf) = run_at(rt, alloc, line, files, Tick::FIRST)?;
     let pieces = shelf.written();
-    Ok((
-        Vec::from_slice(alloc, piece_of(pieces, b"screen.cert2"))?,
-        Vec::from_slice(alloc, piece_of(pieces, b"-"))?,
-    ))
+    Ok(piece_of(pieces, b"screen.cert2") == certificate && piece_of(pieces, b"-") == told)
 }
+
+/// The same over the resting objects, of a certificate with this text.
+fn is_rewritten_at_rest<R: Threads + Wait + Sync>(
+    rt: &R,
+    alloc: Global,
+    text: &[u8],
+    certificate: &[u8],
+    told: &[u8],
+) -> Result<bool, AllocError> {
+    let files = with_certificate(alloc, files_of(alloc, RESTING)?, text)?;
+    is_rewritten(rt, alloc, "rewrite .", files, certificate, told)
+}
+
+const REWRITTEN: &[u8] = b"REWRITTEN\n";
 
 #[test]
 fn a_certificate_is_rewritten(rt: HostRuntime) -> Result<(), Fail> {
     let alloc = rt.alloc();
-    for text in [AT_REST, AT_REST_2] {
-        let files = with_certificate(alloc, files_of(alloc, RESTING)?, text)?;
-        let (certificate, told) = rewritten(&rt, alloc, "rewrite .", files)?;
-        assert_eq!(rt; certificate.as_slice(), AT_REST_2);
-        assert_eq!(rt; told.as_slice(), b"REWRITTEN\n".as_slice());
-    }
+    assert!(rt; is_rewritten_at_rest(&rt, alloc, AT_REST, AT_REST_2, REWRITTEN)?);
+    assert!(rt; is_rewritten_at_rest(&rt, alloc, AT_REST_2, AT_REST_2, REWRITTEN)?);
     let without_a_box = changed(alloc, AT_REST, 7, b"")?;
-    let files = with_certificate(alloc, files_of(alloc, RESTING)?, &without_a_box)?;
-    let (certificate, told) = rewritten(&rt, alloc, "rewrite .", files)?;
-    assert_eq!(rt; certificate.as_slice(), b"".as_slice());
-    assert_eq!(rt; told.as_slice(), b"".as_slice());
+    assert!(rt; is_rewritten_at_rest(&rt, alloc, &without_a_box, b"", b"")?);
     Ok(())
+}
+
+/// Whether a certificate of a catalogue is accepted, and comes to this one when it is rewritten.
+fn is_accepted_and_rewritten<R: Threads + Wait + Sync>(
+    rt: &R,
+    alloc: Global,
+    catalogue: &[FileBytes],
+    text: &[u8],
+    second: &[u8],
+) -> Result<bool, AllocError> {
+    let files = with_certificate(alloc, copies_of(alloc, catalogue)?, text)?;
+    if !is_told(rt, alloc, "check . --threshold 1000000", files, ACCEPTED)? {
+        return Ok(false);
+    }
+    let files = with_certificate(alloc, copies_of(alloc, catalogue)?, text)?;
+    let line = "rewrite . --threshold 1000000";
+    is_rewritten(rt, alloc, line, files, second, REWRITTEN)
+}
+
+/// Whether both versions of a catalogue's certificate are accepted, and come to the second when they are rewritten.
+fn are_both_accepted<R: Threads + Wait + Sync>(
+    rt: &R,
+    alloc: Global,
+    catalogue: &[FileBytes],
+    first: &[u8],
+    second: &[u8],
+) -> Result<bool, AllocError> {
+    Ok(
+        is_accepted_and_rewritten(rt, alloc, catalogue, first, second)?
+            && is_accepted_and_rewritten(rt, alloc, catalogue, second, second)?,
+    )
 }
 
 #[test]
 fn each_version_of_a_catalogue_is_accepted(rt: HostRuntime) -> Result<(), Fail> {
     let alloc = rt.alloc();
     let line = "generate . --seed 7 --objects 6 --minutes 10";
-    let (_, made) = run_at(&rt, alloc, line, Vec::new(alloc), Tick::FIRST)?;
-    let made = made.written();
-    let files = catalogues::files_of(alloc, made)?;
-    let first = run(&rt, alloc, "screen . --threshold 1000000", files)?;
-    let files = catalogues::files_of(alloc, made)?;
+    let catalogue = made_by(&rt, alloc, line)?;
+    let line = "screen . --threshold 1000000";
+    let first = run(&rt, alloc, line, copies_of(alloc, &catalogue)?)?;
     let line = "screen . --threshold 1000000 --cert-version 2";
-    let second = run(&rt, alloc, line, files)?;
-    assert_eq!(rt; second.report.as_slice(), first.report.as_slice());
-    assert!(rt; second.certificate.len() < first.certificate.len());
-    for text in [first.certificate.as_slice(), second.certificate.as_slice()] {
-        let files = with_certificate(alloc, catalogues::files_of(alloc, made)?, text)?;
-        let ran = run(&rt, alloc, "check . --threshold 1000000", files)?;
-        assert_eq!(rt; ran.summary.as_slice(), b"ACCEPTED\n".as_slice());
-        let files = with_certificate(alloc, catalogues::files_of(alloc, made)?, text)?;
-        let line = "rewrite . --threshold 1000000";
-        let (certificate, _) = rewritten(&rt, alloc, line, files)?;
-        assert_eq!(rt; certificate.as_slice(), second.certificate.as_slice());
-    }
+    let second = run(&rt, alloc, line, copies_of(alloc, &catalogue)?)?;
+    let (old, new) = (first.certificate.as_slice(), second.certificate.as_slice());
+    assert!(rt; first.report.as_slice() == second.report.as_slice());
+    assert!(rt; new.len() < old.len());
+    assert!(rt; are_both_accepted(&rt, alloc, &catalogue, old, new)?);
     Ok(())
 }

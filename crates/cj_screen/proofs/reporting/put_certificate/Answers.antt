@@ -1,5 +1,4 @@
 use Rattle.std.proofs.Common.{ℕ, ◌∙◌, List, [], ◌∷◌, Ok, ap, subst}
-use Rattle.cj_cert.specs.Texts.{text_of}
 use Rattle.cj_io.specs.Parts.{joined}
 use Rattle.cj_screen.specs.Findings.{ended}
 use Rattle.cj_screen.specs.Outcome.{Leaves, cert_piece}
@@ -8,4 +7,4 @@ use Rattle.cj_screen.proofs.reporting.put_certificate.Goals as goal
 pub returns-clause-leaves : goal.returns-clause-leaves
 returns-clause-leaves g c = λ old stood.
     subst (λ (bytes : List ℕ). Leaves (ended c.put_parts.result) (Ok (cert_piece bytes ∷ [])) old (g.S.Shelf.pieces c.put_parts.new.shelf))
-    (ap joined c.deref.ensures.value ∙ c.in_ok-parts.ensures ∙ ap text_of c.in_ok-certificate.ensures) (c.put_parts.ensures.leaves old stood)
+    (ap joined c.deref.ensures.value ∙ c.in_ok-parts.ensures) (c.put_parts.ensures.leaves old stood)
