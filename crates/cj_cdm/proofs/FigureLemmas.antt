@@ -20,7 +20,7 @@ use Rattle.cj_kvn.proofs.DecimalLemmas.{zero_readable}
 use Rattle.cj_kvn.proofs.NumberTextLemmas.{Says, decimal_digits, decimal_some, decimal_value, decimals_say, decimals_shape, fraction_says, make, scaled_told, signed_digits, signed_is, whole_says}
 use Rattle.cj_kvn.specs.declared.numbers.NumFault.{NumFault}
 use Rattle.cj_kvn.proofs.ListLemmas.{HeadFails}
-use Rattle.cj_cdm.specs.Reading.{is_feed}
+use Rattle.cj_kvn.specs.Lines.{is_feed}
 use Rattle.cj_cdm.specs.Texts.{fixed_text, kilometres, last_digits, metres, number_text}
 use Rattle.cj_cdm.specs.Values.{behind_front, decimal_said, element_said, fixed_said, id_said, is_decimal, is_mark, is_miss, is_number, is_power, is_short, is_zero, kept, kilometres_said, miss_said, natural, number_said, scientific}
 use Rattle.cj_cdm.proofs.DigitLemmas.{last_are_digits, last_length, last_value}

@@ -12,8 +12,11 @@ use Rattle.cj_cdm.specs.declared.fault.CdmCause.TheVariants as causes
 use Rattle.cj_cdm.specs.declared.vector.Vector.{Vector}
 use Rattle.cj_cdm.specs.Fits.{Fits, IsShort, IsSide, IsStamp}
 use Rattle.cj_cdm.specs.Messages.{PlainMessage, PlainSide, PlainStamp}
-use Rattle.cj_cdm.specs.Reading.{Fault, Heading, Object, Rest, and_then, elements_said, ended, entry_said, fault_at, give, heading_said, is_feed, is_none_left, line_said, message_said, object_said, place_said, rate_said, reading, side_said, stamp_said, vector_said, ◌>>=◌}
-use Rattle.cj_cdm.specs.Texts.{covariance_text, element_text, elements, elements_text, entry, frame_text, heading_text, kilometres, line, metres, number_text, object_text, quantity, side_text, state_text, text_of}
+use Rattle.cj_kvn.specs.Lines.{is_feed}
+use Rattle.cj_cdm.specs.Reading.{Fault, Heading, Object, Rest, and_then, elements_said, ended, entry_said, fault_at, give, heading_said, is_none_left, line_said, message_said, object_said, place_said, rate_said, reading, side_said, stamp_said, vector_said, ◌>>=◌}
+use Rattle.cj_kvn.specs.Entries.{entry, line}
+use Rattle.cj_track.specs.Frames.{frame_text}
+use Rattle.cj_cdm.specs.Texts.{covariance_text, element_text, elements, elements_text, heading_text, kilometres, metres, number_text, object_text, quantity, side_text, state_text, text_of}
 use Rattle.cj_kvn.specs.Originators.{is_originator}
 use Rattle.cj_cdm.specs.Values.{constant_said, designator_said, element_said, epoch_said, frame_said, id_said, is_decimal, is_international, is_miss, is_number, is_short, is_tick, kilometres_said, label_said, miss_said, originator_said}
 use Rattle.cj_cdm.proofs.ExactLemmas.{Anything, IsExact, behind, given, in_order, ok_is, refitted, retold, stepped}

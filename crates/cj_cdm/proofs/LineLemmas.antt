@@ -10,10 +10,12 @@ use Rattle.std.proofs.lemmas.List.{length-drop, nil_from_length, take-append-dro
 use Rattle.std.proofs.lemmas.List.Folds.{list_any-append}
 use Rattle.cj_kvn.proofs.LineLemmas.{found, not_found}
 use Rattle.cj_kvn.proofs.ListLemmas.{after_no, after_yes, any_no, any_yes, before_no, before_yes}
+use Rattle.cj_kvn.proofs.LogicLemmas.{some_is}
 use Rattle.cj_cdm.specs.declared.fault.CdmCause.{CdmCause}
 use Rattle.cj_cdm.specs.declared.fault.CdmCause.TheVariants as causes
-use Rattle.cj_cdm.specs.Reading.{Rest, and_then, behind_feed, behind_line, fault_at, is_feed, is_none_left, line_said, or_fault, taken, value_in}
-use Rattle.cj_cdm.specs.Texts.{line}
+use Rattle.cj_kvn.specs.Lines.{is_feed}
+use Rattle.cj_cdm.specs.Reading.{Rest, and_then, behind_feed, behind_line, fault_at, is_none_left, line_said, or_fault, taken, value_in}
+use Rattle.cj_kvn.specs.Entries.{line}
 use Rattle.cj_cdm.specs.Values.{behind_front, only_if, same}
 use Rattle.cj_cdm.proofs.ExactLemmas.{Anything, IsExact, stepped}
 
@@ -80,9 +82,6 @@ cut_at p c (b ∷ front) behind here none =
     }
 
 -- ---- what was read of a line
-some_is : {A : Type 0} (x y : A) → Some x ≡ Some y → x ≡ y
-some_is x y h = cc
-
 or_fault_is : {A : Type 0} (line : ℕ) (cause : CdmCause) (o : Option A) (x : A) → or_fault line cause o ≡ Ok x → o ≡ Some x
 or_fault_is line cause (Some y) x h = cc
 or_fault_is line cause None x h = absurd cc

@@ -17,11 +17,12 @@ use Rattle.cj_epoch.specs.Written.{clock_text, date_text, epoch_of, four, six, t
 use Rattle.cj_epoch.proofs.WrittenLemmas.{epoch_of-read}
 use Rattle.cj_kvn.specs.Originators.{is_originator, is_originator_byte}
 use Rattle.cj_track.specs.Labels.{is_label, is_visible}
+use Rattle.cj_track.proofs.LabelLemmas.{visible_apart}
 use Rattle.cj_track.specs.declared.frame.Frame.{Frame}
 use Rattle.cj_track.specs.declared.frame.Frame.TheVariants as frames
 use Rattle.cj_cdm.specs.Designators.{is_designator}
-use Rattle.cj_cdm.specs.Reading.{is_feed}
-use Rattle.cj_cdm.specs.Texts.{frame_text}
+use Rattle.cj_kvn.specs.Lines.{is_feed}
+use Rattle.cj_track.specs.Frames.{frame_text}
 use Rattle.cj_cdm.specs.Values.{as_written, before_ending, before_unit, constant_said, designator_said, epoch_said, frame_said, is_international, is_tick, kept, label_said, only_if, originator_said, same}
 use Rattle.cj_cdm.proofs.ExactLemmas.{Anything}
 use Rattle.cj_cdm.proofs.LineLemmas.{IsSaid, and_then_is, only_if_is, option_same, same_itself}
@@ -42,9 +43,6 @@ feed_free q apart text all = none_among is_feed q apart text all
 
 pub free_joined : (a b : List ℕ) → list_any is_feed a ≡ false → list_any is_feed b ≡ false → list_any is_feed (a ++ b) ≡ false
 free_joined a b first second = none_joined is_feed a b first second
-
-visible_apart : (b : ℕ) → is_visible b ≡ true → is_feed b ≡ false
-visible_apart b visible = grind (arith, nat_tests)
 
 pub digit_apart : (b : ℕ) → is_ascii_digit b ≡ true → is_feed b ≡ false
 digit_apart b digit = grind (arith, nat_tests)

@@ -1,6 +1,7 @@
 -- How a message is read: line by line, each with the key in its place.
 use Rattle.std.specs.Prelude.{ℕ, ◌+◌, Bool, true, false, ◌==◌, if◌then◌else◌, List, [], ◌∷◌, ◌++◌, codes, Option, Some, None, option_map, Result, Ok, Err}
 use Rattle.std.specs.List.{after_first, before_first, list_any}
+use Rattle.cj_kvn.specs.Lines.{is_feed}
 use Rattle.cj_kvn.specs.Numbers.{Number}
 use Rattle.cj_track.specs.declared.frame.Frame.{Frame}
 use Rattle.cj_cdm.specs.declared.fault.CdmCause.{CdmCause}
@@ -38,9 +39,6 @@ abbrev pub ◌>>=◌ : {A B : Type 0} → Reading A → (A → Reading B) → Re
 -- nothing more is taken
 abbrev pub give : {A : Type 0} → A → Reading A
 give x rest = Ok (x, rest)
-
-abbrev pub is_feed : ℕ → Bool
-is_feed b = b == 10
 
 abbrev pub is_none_left : List ℕ → Bool
 is_none_left [] = true

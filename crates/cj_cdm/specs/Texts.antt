@@ -4,17 +4,10 @@ use Rattle.std.specs.List.{zip}
 use Rattle.cj_epoch.specs.Written.{epoch_of}
 use Rattle.cj_kvn.specs.Numbers.{Number}
 use Rattle.cj_kvn.specs.Decimals.{decimal_text_of}
-use Rattle.cj_track.specs.declared.frame.Frame.{Frame}
-use Rattle.cj_track.specs.declared.frame.Frame.TheVariants as frames
+use Rattle.cj_kvn.specs.Entries.{entry, line}
+use Rattle.cj_track.specs.Frames.{frame_text}
 use Rattle.cj_cdm.specs.Messages.{PlainSide, PlainMessage}
 use Rattle.cj_cdm.specs.declared.vector.Vector.{Vector}
-
-abbrev pub line : List ℕ → List ℕ
-line text = text ++ 10 ∷ []
-
--- a key with its value
-abbrev pub entry : List ℕ → List ℕ → List ℕ
-entry key value = line (key ++ codes " = " ++ value)
 
 -- a key with its value in this unit
 abbrev pub quantity : List ℕ → List ℕ → List ℕ → List ℕ
@@ -42,10 +35,6 @@ kilometres nm = fixed_text 12 nm
 -- the number of a message, with six digits or more
 abbrev pub number_text : ℕ → List ℕ
 number_text n = if nat_lt n 1_000_000 then last_digits 6 n else decimal n
-
-abbrev pub frame_text : Frame → List ℕ
-frame_text frames.Eme2000 = codes "EME2000"
-frame_text frames.Gcrf = codes "GCRF"
 
 -- the lines of a message that stand before its objects
 unfoldable pub heading_text : PlainMessage → List ℕ

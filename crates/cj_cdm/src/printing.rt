@@ -5,7 +5,6 @@ ghost use Rattle.cj_cdm.specs.Texts.{text_of};
 
 mod covariance;
 mod heading;
-mod lines;
 mod numbers;
 mod object;
 mod side;

@@ -17,7 +17,7 @@ use Rattle.cj_kvn.specs.Scanning.{exponent_said}
 use Rattle.cj_kvn.proofs.CountLemmas.{count_most, count_is, tiny_same, huge_same, tiny_zero}
 use Rattle.cj_kvn.proofs.NumberTextLemmas.{Says, decimal_digits, decimal_some, decimal_value, fraction_says, make}
 use Rattle.cj_kvn.proofs.PowerLemmas.{nearest_one}
-use Rattle.cj_kvn.proofs.PrintLemmas.{length_two, power_of_first}
+use Rattle.cj_kvn.proofs.PrintLemmas.{length_two, power_of_first, sign_text}
 use Rattle.cj_kvn.proofs.ZeroLemmas.{zeros_more, zeros_none}
 
 -- ---- a number of at most 18 digits
@@ -73,9 +73,6 @@ padded_value false ds = refl
 padded_length : (b : Bool) (ds : List ℕ) → 0 < length ds → length ds ≤ 3 → (nat_le 1 (length (padded_if b ds)) ≡ true) × (nat_le (length (padded_if b ds)) 4 ≡ true)
 padded_length true ds some few = (le-leb _ _ (omega arith), le-leb _ _ (omega arith))
 padded_length false ds some few = (le-leb _ _ (omega arith), le-leb _ _ (omega arith))
-
-abbrev pub sign_text : Bool → List ℕ
-sign_text b = if b then 45 ∷ [] else 43 ∷ []
 
 pub behind_sign : (b : Bool) (text : List ℕ) → (starts_with_minus (sign_text b ++ text) ≡ b) × (without_leading_sign (sign_text b ++ text) ≡ text)
 behind_sign true text = (refl, refl)

@@ -13,6 +13,7 @@ use Rattle.cj_kvn.specs.declared.rounded.Rounded.{Rounded}
 use Rattle.cj_kvn.specs.Numbers.{Number, nearest}
 use Rattle.cj_kvn.specs.Scanning.{Begins}
 use Rattle.cj_kvn.proofs.CountLemmas.{count_zero, count_first, count_least, rounded_count, tiny_same, huge_same, tiny_zero, tiny_yes, tiny_no, huge_yes, huge_no}
+use Rattle.cj_kvn.proofs.NumberTextLemmas.{make}
 use Rattle.cj_kvn.proofs.PowerLemmas.{ten_pos, nearest_first}
 
 -- a test of a whole number, by what it stands for
@@ -75,35 +76,32 @@ kept_rounded d (suc q) l first full count =
       dropped,
     )
 
-abbrev number_with : Bool → ℕ → ℤ → Number
-number_with negative digits power = record { negative = negative; digits = digits; power = power }
-
 -- what the code makes of a number
 pub rounded_at : (s : Scanned) (n : Number) (digits : ℕ) (power : ℤ) → Begins s n → 0 < s.leading
     → digits ≡ nearest s.leading (10 ^ (digit_count s.leading - 18)) → power ≡ s.power +ℤ pos (digit_count s.leading - 18)
-    → number_with s.negative digits power ≡ rounded n
+    → make s.negative digits power ≡ rounded n
 unfolding rounded
 rounded_at s n digits power b some value sum =
     let kept = kept_rounded n.digits b.past s.leading b.leading b.full (kept_count s n b some) in
     let same : power ≡ n.power +ℤ pos (digit_count n.digits - 18) = omega (arith, ints, b.power, kept.1) in
-    ap (λ (t : Bool). number_with t digits power) b.negative
-    ∙ ap (λ (d : ℕ). number_with n.negative d power) (value ∙ kept.0)
-    ∙ ap (λ (z : ℤ). number_with n.negative (nearest n.digits (10 ^ (digit_count n.digits - 18))) z) same
+    ap (λ (t : Bool). make t digits power) b.negative
+    ∙ ap (λ (d : ℕ). make n.negative d power) (value ∙ kept.0)
+    ∙ ap (λ (z : ℤ). make n.negative (nearest n.digits (10 ^ (digit_count n.digits - 18))) z) same
 
 pub cut_at : (r : Rounded) (digits : ℕ) (power : ℤ) → digits ≡ r.digits / 10 ^ trailing_zeros r.digits → power ≡ r.power +ℤ pos (trailing_zeros r.digits)
-    → number_with r.negative digits power ≡ without_trailing_zeros (rounded_number r)
+    → make r.negative digits power ≡ without_trailing_zeros (rounded_number r)
 unfolding without_trailing_zeros
 cut_at r digits power value sum =
-    ap (λ (d : ℕ). number_with r.negative d power) value ∙ ap (λ (z : ℤ). number_with r.negative (r.digits / 10 ^ trailing_zeros r.digits) z) sum
+    ap (λ (d : ℕ). make r.negative d power) value ∙ ap (λ (z : ℤ). make r.negative (r.digits / 10 ^ trailing_zeros r.digits) z) sum
 
 -- rounding does not bring a number below 10 ^ -99
 pub rounded_above : (s : Scanned) (digits : ℕ) (power : ℤ) → 0 < s.leading → 0 < digits → digits ≡ nearest s.leading (10 ^ (digit_count s.leading - 18))
     → power ≡ s.power +ℤ pos (digit_count s.leading - 18) → negsuc 97 ≤ℤ (s.power +ℤ pos (digit_count s.leading))
-    → is_tiny (number_with s.negative digits power) ≡ false
+    → is_tiny (make s.negative digits power) ≡ false
 rounded_above s digits power some more value sum above =
     let k = digit_count s.leading - 18 in
     let count = rounded_count s.leading k some refl in
-    tiny_no (number_with s.negative digits power) more (omega (arith, ints, ap digit_count value))
+    tiny_no (make s.negative digits power) more (omega (arith, ints, ap digit_count value))
 
 -- a number without its zeros is as large
 cut_count : (r : Rounded) (digits : ℕ) → 0 < digits → digits ≡ r.digits / 10 ^ trailing_zeros r.digits
@@ -112,16 +110,16 @@ cut_count r digits some value =
     count_first r.digits (trailing_zeros r.digits) (omega (arith, value)) ∙ ap (λ (d : ℕ). digit_count d + trailing_zeros r.digits) (sym value)
 
 pub cut_tiny : (r : Rounded) (digits : ℕ) (power : ℤ) → 0 < digits → digits ≡ r.digits / 10 ^ trailing_zeros r.digits
-    → power ≡ r.power +ℤ pos (trailing_zeros r.digits) → is_tiny (number_with r.negative digits power) ≡ is_tiny (rounded_number r)
+    → power ≡ r.power +ℤ pos (trailing_zeros r.digits) → is_tiny (make r.negative digits power) ≡ is_tiny (rounded_number r)
 cut_tiny r digits power some value sum =
     let count = cut_count r digits some value in
-    tiny_same (number_with r.negative digits power) (rounded_number r) some r.some (omega (arith, ints))
+    tiny_same (make r.negative digits power) (rounded_number r) some r.some (omega (arith, ints))
 
 pub cut_huge : (r : Rounded) (digits : ℕ) (power : ℤ) → 0 < digits → digits ≡ r.digits / 10 ^ trailing_zeros r.digits
-    → power ≡ r.power +ℤ pos (trailing_zeros r.digits) → is_huge (number_with r.negative digits power) ≡ is_huge (rounded_number r)
+    → power ≡ r.power +ℤ pos (trailing_zeros r.digits) → is_huge (make r.negative digits power) ≡ is_huge (rounded_number r)
 cut_huge r digits power some value sum =
     let count = cut_count r digits some value in
-    huge_same (number_with r.negative digits power) (rounded_number r) some r.some (omega (arith, ints))
+    huge_same (make r.negative digits power) (rounded_number r) some r.some (omega (arith, ints))
 
 pub zero_readable : IsReadable zero_number
 zero_readable = (tiny_zero zero_number refl, huge_no zero_number (omega (arith, ints, count_zero)))

@@ -4,6 +4,7 @@ pub mod DecimalLemmas
 pub mod FieldLemmas
 pub mod LineLemmas
 pub mod ListLemmas
+pub mod LogicLemmas
 pub mod NumberTextLemmas
 pub mod PartsLemmas
 pub mod PowerLemmas

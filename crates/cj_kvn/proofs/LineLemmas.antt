@@ -7,7 +7,7 @@ use Rattle.std.proofs.lemmas.Bool.Decides.{nat_tests, leb_tells, eqb_tells}
 use Rattle.std.proofs.lemmas.List.{drop-drop, drop_all, length-drop, length-take, take-take, take_all, take_rest}
 use Rattle.std.proofs.lemmas.List.Splits.{slice_split_first, slice_split_none, length-slice_split}
 use Rattle.std.proofs.lemmas.List.Sums.{fails_before_first}
-use Rattle.cj_kvn.specs.Lines.{Row, Comment, is_comment, is_printable, is_equals, form_of, line_form, pair_of, pair_or_row, trimmed}
+use Rattle.cj_kvn.specs.Lines.{Row, Comment, is_comment, is_printable, is_equals, is_feed, form_of, line_form, pair_of, pair_or_row, trimmed}
 use Rattle.cj_kvn.specs.declared.lines.KvnFault.TheVariants as faults
 use Rattle.cj_kvn.proofs.ListLemmas.{any_yes, any_no, at_yes, at_no}
 use Rattle.cj_kvn.proofs.RangeLemmas.{slice_drop, slice_take}
@@ -100,9 +100,6 @@ pub split_nowhere : (p : ℕ → Bool) (xs : List ℕ) → position p xs ≡ Non
 split_nowhere p xs h =
     let past = (not_found p xs h).1 in
     slice_split_none p xs (λ k d below. fails_before_first p xs k d (omega arith))
-
-abbrev pub is_feed : ℕ → Bool
-is_feed b = b == 10
 
 pub first_part : (x : List ℕ) (parts : List (List ℕ)) → 0 < length parts → lines_of_parts (x ∷ parts) ≡ strip_carriage_return x ∷ lines_of_parts parts
 first_part x [] some = absurd (omega arith)

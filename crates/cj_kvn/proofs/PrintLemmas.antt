@@ -112,7 +112,7 @@ padded n fits = elim (leb_tells 10 n) [
 abbrev pub sign_code : Bool → ℕ
 sign_code b = if b then 45 else 43
 
-abbrev sign_text : Bool → List ℕ
+abbrev pub sign_text : Bool → List ℕ
 sign_text b = if b then 45 ∷ [] else 43 ∷ []
 
 sign_alone : (b : Bool) → sign_code b ∷ [] ≡ sign_text b

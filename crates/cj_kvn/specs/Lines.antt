@@ -21,6 +21,10 @@ is_blank b = (b == 32) || (b == 9)
 abbrev pub is_printable : ℕ → Bool
 is_printable b = (b == 9) || (nat_le 32 b && nat_le b 126)
 
+-- a line feed
+abbrev pub is_feed : ℕ → Bool
+is_feed b = b == 10
+
 abbrev pub is_equals : ℕ → Bool
 is_equals b = b == 61
 

@@ -3,6 +3,7 @@
 
 mod blanks;
 mod decimals;
+mod entries;
 mod fields;
 mod leading;
 mod lines;
@@ -22,6 +23,7 @@ mod text;
 mod words;
 
 pub use decimals::Decimal;
+pub use entries::{push_entry, push_line};
 pub use fields::{RowFields, field, row_fields};
 pub use lines::{KvnCause, KvnFault, Line, LineKind, MarkKind};
 pub use numbers::{NumFault, read_scaled};

@@ -7,6 +7,7 @@ use Rattle.std.proofs.lemmas.List.{append_assoc, append-nil, length-append}
 use Rattle.cj_kvn.specs.Lines.{Form, Blank, Comment, Mark, Pair, Row}
 use Rattle.cj_kvn.specs.declared.lines.MarkKind.TheVariants.{MetaStart, MetaStop, CovarianceStart, CovarianceStop}
 use Rattle.cj_kvn.proofs.ListLemmas.{last_push}
+use Rattle.cj_kvn.proofs.LogicLemmas.{all_three}
 use Rattle.cj_oem.specs.declared.fault.OemCause.{OemCause}
 use Rattle.cj_oem.specs.declared.fault.OemCause.TheVariants as causes
 use Rattle.cj_oem.specs.CovarianceRows.{Covariances, NO_COVARIANCES, closed, with_matrix_pair, with_matrix_row}
@@ -24,17 +25,12 @@ use Rattle.cj_oem.proofs.StepLemmas.{bind_into, bind_ok, unless_ok}
 
 -- ---- the end of the nodes
 
-three : (a b c : Bool) → (a && b && c) ≡ true → (a ≡ true) × (b ≡ true) × (c ≡ true)
-three true true c e = (refl, refl, e)
-three true false c e = absurd cc
-three false b c e = absurd cc
-
 useable_ends : (start stop : ℕ) (a z : Option PlainNode) → is_useable start stop a z ≡ true
     → (start ≤ stop) × IsSomeAnd a (λ state. state.at ≤ start) × IsSomeAnd z (λ state. stop ≤ state.at)
 useable_ends start stop None z e = absurd cc
 useable_ends start stop (Some a) None e = absurd cc
 useable_ends start stop (Some a) (Some z) e =
-    let each = three (nat_le start stop) (nat_le a.at start) (nat_le stop z.at) e in
+    let each = all_three (nat_le start stop) (nat_le a.at start) (nat_le stop z.at) e in
     (leb-true start stop each.0, leb-true a.at start each.1, leb-true stop z.at each.2)
 
 useable_again : (start stop : ℕ) (a z : Option PlainNode) → start ≤ stop → IsSomeAnd a (λ state. state.at ≤ start) → IsSomeAnd z (λ state. stop ≤ state.at)

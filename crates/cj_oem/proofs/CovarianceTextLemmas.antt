@@ -7,7 +7,8 @@ use Rattle.cj_kvn.specs.Numbers.{Number}
 use Rattle.cj_kvn.specs.declared.decimals.Decimal.{Decimal}
 use Rattle.cj_kvn.proofs.ListLemmas.{tail_of, tail_of-cons}
 use Rattle.cj_track.specs.declared.matrix.Matrix.{Matrix}
-use Rattle.cj_oem.specs.Canonical.{covariance_text, covariances_text, line, matrix_row, numbers_text}
+use Rattle.cj_kvn.specs.Entries.{line}
+use Rattle.cj_oem.specs.Canonical.{covariance_text, covariances_text, matrix_row, numbers_text}
 use Rattle.cj_track.specs.Tracks.{plain_matrix}
 
 -- the numbers behind the first one have a space before each

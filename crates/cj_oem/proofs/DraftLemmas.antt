@@ -15,11 +15,6 @@ use Rattle.cj_oem.specs.CovarianceRows.{Draft, number_or, numbers_said, with_fie
 use Rattle.cj_oem.specs.Drafts.{value_count}
 use Rattle.cj_oem.specs.Metadata.{◌>>=◌}
 
--- zero is a number that a matrix may have
-pub zero_readable : IsReadable zero_number
-unfolding is_tiny is_huge
-zero_readable = (refl, refl)
-
 -- a decimal that a matrix may have
 abbrev pub IsKept : Decimal → Type 0
 IsKept d = IsReadable (number_of d)

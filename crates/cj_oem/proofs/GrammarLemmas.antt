@@ -22,6 +22,7 @@ use Rattle.cj_oem.specs.Stages.{Body, Head, Start, Header, Meta, After, NO_BODY,
 use Rattle.cj_track.specs.Tracks.{plain_track}
 use Rattle.cj_oem.proofs.BlockLemmas.{Begins, blocks_again, blocks_are, blocks_begin}
 use Rattle.cj_oem.proofs.HeaderLemmas.{head_from, header_again, header_is}
+use Rattle.cj_oem.proofs.MetadataAgainLemmas.{object_of}
 use Rattle.cj_oem.proofs.RunLemmas.{run, run_header, run_lines, without_line}
 use Rattle.cj_oem.proofs.StepLemmas.{bind_into, text_is, wanted}
 
@@ -134,9 +135,6 @@ file_read as_hermite3 file (Pair key value ∷ forms) body e =
 file_read as_hermite3 file (Row text ∷ forms) body e = absurd cc
 
 -- ---- back again
-
-abbrev object_of : PlainTrack → Object
-object_of e = record { name = e.name; id = e.id; frame = e.frame }
 
 abbrev body_of : PlainTrack → Body
 body_of e = record { object = Some (object_of e); arcs = e.arcs }

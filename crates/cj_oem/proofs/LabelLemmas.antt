@@ -12,6 +12,7 @@ use Rattle.cj_kvn.specs.declared.lines.KvnFault.{KvnFault}
 use Rattle.cj_kvn.specs.declared.lines.Line.{Line}
 use Rattle.cj_kvn.specs.declared.lines.MarkKind.{MarkKind}
 use Rattle.cj_kvn.proofs.ListLemmas.{HeadFails, behind_fails}
+use Rattle.cj_kvn.proofs.RawLemmas.{ArePrintable}
 use Rattle.cj_track.specs.Labels.{is_label, is_visible}
 use Rattle.cj_oem.specs.MetadataDrafts.{HasLabel, IsLabelled}
 
@@ -46,9 +47,6 @@ trimmed_is text =
     }
 
 -- ---- their bytes
-
-abbrev ArePrintable : List ℕ → Type 0
-ArePrintable text = All (λ b. is_printable b ≡ true) text
 
 trimmed_printable : (text : List ℕ) → ArePrintable text → ArePrintable (trimmed text)
 trimmed_printable text all =

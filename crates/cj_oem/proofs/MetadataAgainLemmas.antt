@@ -9,7 +9,9 @@ use Rattle.cj_kvn.specs.Lines.{Form, Mark, Pair, is_blank, is_comment, is_key}
 use Rattle.cj_kvn.specs.declared.lines.MarkKind.TheVariants.{MetaStart, MetaStop}
 use Rattle.cj_epoch.specs.Ticks.{IsTick}
 use Rattle.cj_epoch.specs.Written.{epoch_of}
-use Rattle.cj_oem.specs.Canonical.{entry, frame_text, header_text, metadata_text}
+use Rattle.cj_kvn.specs.Entries.{entry}
+use Rattle.cj_track.specs.Frames.{frame_text}
+use Rattle.cj_oem.specs.Canonical.{header_text, metadata_text}
 use Rattle.cj_track.specs.declared.frame.Frame.{Frame}
 use Rattle.cj_track.specs.declared.frame.Frame.TheVariants as frames
 use Rattle.cj_track.specs.PlainTracks.{PlainSegment, PlainTrack}

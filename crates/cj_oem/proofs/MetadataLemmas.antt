@@ -6,6 +6,7 @@ use Rattle.std.proofs.lemmas.Bool.Decides.{nat_tests}
 use Rattle.std.proofs.lemmas.List.Elements.{All-cons, All-head, All-nil, All-tail, All-weaker, All-contains_itself}
 use Rattle.std.proofs.lemmas.List.Kept.{AllPairs-cons}
 use Rattle.cj_kvn.specs.Lines.{spaced}
+use Rattle.cj_kvn.proofs.LogicLemmas.{some_is}
 use Rattle.cj_epoch.specs.Reading.{reading_of}
 use Rattle.cj_epoch.specs.declared.fault.EpochFault.{EpochFault}
 use Rattle.cj_oem.specs.declared.fault.OemCause.{OemCause}
@@ -250,23 +251,20 @@ holds_more s (Hermite a) (Hermite b) lacks e = absurd (not_given s.hermite b e l
 holds_more s (Cubic a) (Cubic b) lacks e = absurd (not_given s.cubic b e lacks)
 holds_more s u v lacks e = e
 
-some_one : {A : Type 0} (a b : A) → Some a ≡ Some b → a ≡ b
-some_one a b e = cc
-
 -- what the draft has is new, or it had it
 held : (s : MetadataDraft) (u v : Value) → Holds (put s u) v → (u ≡ v) ⊎ Holds s v
-held s (Name a) (Name b) e = inl (ap (λ x. Name x) (some_one a b e))
-held s (Id a) (Id b) e = inl (ap (λ x. Id x) (some_one a b e))
+held s (Name a) (Name b) e = inl (ap (λ x. Name x) (some_is a b e))
+held s (Id a) (Id b) e = inl (ap (λ x. Id x) (some_is a b e))
 held s Center Center e = inl refl
-held s (InFrame a) (InFrame b) e = inl (ap (λ x. InFrame x) (some_one a b e))
+held s (InFrame a) (InFrame b) e = inl (ap (λ x. InFrame x) (some_is a b e))
 held s FrameEpoch FrameEpoch e = inl refl
 held s TimeSystem TimeSystem e = inl refl
-held s (Start a) (Start b) e = inl (ap (λ x. Start x) (some_one a b e))
-held s (Stop a) (Stop b) e = inl (ap (λ x. Stop x) (some_one a b e))
-held s (UseableStart a) (UseableStart b) e = inl (ap (λ x. UseableStart x) (some_one a b e))
-held s (UseableStop a) (UseableStop b) e = inl (ap (λ x. UseableStop x) (some_one a b e))
-held s (Hermite a) (Hermite b) e = inl (ap (λ x. Hermite x) (some_one a b e))
-held s (Cubic a) (Cubic b) e = inl (ap (λ x. Cubic x) (some_one a b e))
+held s (Start a) (Start b) e = inl (ap (λ x. Start x) (some_is a b e))
+held s (Stop a) (Stop b) e = inl (ap (λ x. Stop x) (some_is a b e))
+held s (UseableStart a) (UseableStart b) e = inl (ap (λ x. UseableStart x) (some_is a b e))
+held s (UseableStop a) (UseableStop b) e = inl (ap (λ x. UseableStop x) (some_is a b e))
+held s (Hermite a) (Hermite b) e = inl (ap (λ x. Hermite x) (some_is a b e))
+held s (Cubic a) (Cubic b) e = inl (ap (λ x. Cubic x) (some_is a b e))
 held s u v e = inr e
 
 ok_one : {A E : Type 0} (r : Result A E) (a b : A) → r ≡ Ok a → r ≡ Ok b → a ≡ b

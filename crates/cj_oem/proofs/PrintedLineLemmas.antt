@@ -7,18 +7,16 @@ use Rattle.std.proofs.lemmas.Bool.{and_parts}
 use Rattle.std.proofs.lemmas.Bool.Decides.{nat_tests}
 use Rattle.std.proofs.lemmas.List.Elements.{All-head, All-tail}
 use Rattle.std.proofs.lemmas.List.Splits.{length-slice_split, slice_split_at}
-use Rattle.cj_kvn.specs.Lines.{Form, Numbered, line_form, lines_said}
+use Rattle.cj_kvn.specs.Lines.{Form, Numbered, is_feed, line_form, lines_said}
 use Rattle.cj_kvn.specs.Lines as kvn
-use Rattle.cj_kvn.proofs.LineLemmas.{first_part, is_feed}
-use Rattle.cj_oem.specs.Canonical.{line}
+use Rattle.cj_kvn.proofs.LineLemmas.{first_part}
+use Rattle.cj_kvn.specs.Entries.{line}
 use Rattle.cj_track.specs.Labels.{is_visible}
+use Rattle.cj_track.proofs.LabelLemmas.{visible_apart}
 use Rattle.cj_oem.proofs.PrintedTextLemmas.{all_at}
 
-no_feed : (b : ℕ) → is_visible b ≡ true → is_feed b ≡ false
-no_feed b h = grind (arith, nat_tests)
-
 no_feeds : (text : List ℕ) → list_all is_visible text ≡ true → All (λ b. is_feed b ≡ false) text
-no_feeds text all = λ i d below. no_feed (get_or text i d) (all_at is_visible text i d all below)
+no_feeds text all = λ i d below. visible_apart (get_or text i d) (all_at is_visible text i d all below)
 
 -- no carriage return stands at its end
 no_return : (text : List ℕ) (i : ℕ) → list_all is_visible text ≡ true → (get_or text i 0 == 13) ≡ false

@@ -11,7 +11,8 @@ use Rattle.cj_kvn.proofs.ListLemmas.{last_push}
 use Rattle.cj_epoch.specs.Ticks.{IsTick}
 use Rattle.cj_epoch.specs.Written.{epoch_of}
 use Rattle.cj_epoch.proofs.WrittenLemmas.{epoch_of-read}
-use Rattle.cj_oem.specs.Canonical.{figure_text, line, row_text, vector_text}
+use Rattle.cj_kvn.specs.Entries.{line}
+use Rattle.cj_oem.specs.Canonical.{figure_text, row_text, vector_text}
 use Rattle.cj_oem.specs.declared.fault.OemCause.{OemCause}
 use Rattle.cj_oem.specs.declared.fault.OemCause.TheVariants as causes
 use Rattle.cj_track.specs.declared.vec3.Vec3.{Vec3}

@@ -3,18 +3,11 @@ use Rattle.std.specs.Prelude.{ℕ, ◌-◌, ◌/◌, ◌%◌, ◌^◌, if◌then
 use Rattle.std.specs.List.{flat_map, repeat}
 use Rattle.cj_kvn.specs.Numbers.{Number}
 use Rattle.cj_kvn.specs.Decimals.{decimal_text_of}
+use Rattle.cj_kvn.specs.Entries.{entry, line}
 use Rattle.cj_epoch.specs.Written.{epoch_of}
 use Rattle.cj_track.specs.declared.vec3.Vec3.{Vec3}
-use Rattle.cj_track.specs.declared.frame.Frame.{Frame}
-use Rattle.cj_track.specs.declared.frame.Frame.TheVariants as frames
+use Rattle.cj_track.specs.Frames.{frame_text}
 use Rattle.cj_track.specs.PlainTracks.{PlainNode, PlainMatrix, PlainSegment, PlainTrack}
-
-abbrev pub line : List ℕ → List ℕ
-line text = text ++ 10 ∷ []
-
--- a key with its value
-abbrev pub entry : List ℕ → List ℕ → List ℕ
-entry key value = line (key ++ codes " = " ++ value)
 
 -- twelve digits
 abbrev pub twelve : ℕ → List ℕ
@@ -54,10 +47,6 @@ covariance_text c =
 abbrev pub covariances_text : List PlainMatrix → List ℕ
 covariances_text [] = []
 covariances_text (c ∷ cs) = line (codes "COVARIANCE_START") ++ flat_map covariance_text (c ∷ cs) ++ line (codes "COVARIANCE_STOP")
-
-abbrev pub frame_text : Frame → List ℕ
-frame_text frames.Eme2000 = codes "EME2000"
-frame_text frames.Gcrf = codes "GCRF"
 
 -- the metadata of a segment
 unfoldable pub metadata_text : PlainTrack → PlainSegment → List ℕ

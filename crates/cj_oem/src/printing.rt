@@ -7,13 +7,12 @@ ghost use Rattle.cj_track.specs.Tracks.{plain_segment, plain_track};
 
 mod covariances;
 mod figures;
-mod lines;
 mod metadata;
 mod states;
 
+use cj_kvn::push_entry;
 use cj_track::{Segment, Track};
 use covariances::push_covariances;
-use lines::push_entry;
 use metadata::push_metadata;
 use states::push_states;
 use std::alloc::{AllocError, Global};

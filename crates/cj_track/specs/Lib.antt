@@ -1,4 +1,5 @@
 pub mod PlainTracks
+pub mod Frames
 pub mod Labels
 pub mod Limits
 pub mod Nodes

@@ -11,7 +11,7 @@ mod segments;
 mod track;
 mod vec3;
 
-pub use frame::Frame;
+pub use frame::{Frame, frame_text};
 pub use matrices::Matrices;
 pub use matrix::Matrix;
 pub use node::Node;

@@ -3,13 +3,13 @@ ghost use Rattle.std.specs.Prelude.{◌≡◌, ◌++◌, codes, length, map, All
 ghost use Rattle.cj_epoch.specs.Written.{epoch_of};
 ghost use Rattle.cj_kvn.specs.Decimals.{IsReadable, number_of};
 ghost use Rattle.cj_cdm.specs.Building.{in_square_metres};
-ghost use Rattle.cj_cdm.specs.Texts.{covariance_text, elements, elements_text, line};
+ghost use Rattle.cj_kvn.specs.Entries.{line};
+ghost use Rattle.cj_cdm.specs.Texts.{covariance_text, elements, elements_text};
 
 use crate::elements::element_at;
-use crate::printing::lines::push_line;
 use crate::printing::numbers::push_element;
 use cj_epoch::{Tick, epoch_text};
-use cj_kvn::Decimal;
+use cj_kvn::{Decimal, push_line};
 use cj_track::Matrix;
 use std::alloc::AllocError;
 

@@ -2,12 +2,13 @@
 ghost use Rattle.std.specs.Prelude.{◌≡◌, ◌++◌, codes, OnOk};
 ghost use Rattle.cj_cdm.specs.Fields.{message_of_fields};
 ghost use Rattle.cj_cdm.specs.Texts as spec;
-ghost use Rattle.cj_cdm.specs.Texts.{entry, heading_text};
+ghost use Rattle.cj_kvn.specs.Entries.{entry};
+ghost use Rattle.cj_cdm.specs.Texts.{heading_text};
 
 use crate::fields::MessageFields;
-use crate::printing::lines::push_entry;
 use crate::printing::numbers::{number_text, push_metres};
 use cj_epoch::epoch_text;
+use cj_kvn::push_entry;
 use std::alloc::AllocError;
 
 /// Adds the lines of a message that stand before its objects.

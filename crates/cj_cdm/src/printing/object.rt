@@ -1,15 +1,14 @@
 //! What an object is, and its state.
 ghost use Rattle.std.specs.Prelude.{◌≡◌, ◌++◌, OnOk};
 ghost use Rattle.cj_cdm.specs.Fields.{side_of_fields};
-ghost use Rattle.cj_cdm.specs.Texts as spec;
 ghost use Rattle.cj_cdm.specs.Texts.{object_text, state_text};
 
 use crate::designators::designator_of;
 use crate::fields::SideFields;
-use crate::printing::lines::push_entry;
 use crate::printing::numbers::push_kilometres;
 use crate::vector::Vector;
-use cj_track::Frame;
+use cj_kvn::push_entry;
+use cj_track::frame_text;
 use std::alloc::AllocError;
 
 /// Adds what an object is, and where its ephemeris comes from.
@@ -31,15 +30,6 @@ pub(crate) fn push_object(
     push_entry(text, b"COVARIANCE_METHOD", b"CALCULATED")?;
     push_entry(text, b"MANEUVERABLE", b"N/A")?;
     push_entry(text, b"REF_FRAME", frame_text(side.track.frame))
-}
-
-fn frame_text(frame: Frame) -> &'static [u8]
-    ensures { result.now ≡ spec.frame_text frame }
-{
-    match frame {
-        Frame::Eme2000 => b"EME2000",
-        Frame::Gcrf => b"GCRF",
-    }
 }
 
 /// Adds the state of an object.

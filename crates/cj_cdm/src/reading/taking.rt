@@ -3,7 +3,8 @@ ghost use Rattle.std.specs.Prelude.{◌≡◌, ◌+◌, ◌<◌, ◌≤◌, ◌^
 ghost use Rattle.std.specs.List.{before_first};
 ghost use Rattle.cj_cdm.specs.Read.{bytes_of, plain, plain_rest, with_rest};
 ghost use Rattle.cj_cdm.specs.Reading as spec;
-ghost use Rattle.cj_cdm.specs.Reading.{behind_feed, is_feed};
+ghost use Rattle.cj_kvn.specs.Lines.{is_feed};
+ghost use Rattle.cj_cdm.specs.Reading.{behind_feed};
 
 use crate::fault::{CdmCause, LineFault};
 use crate::reading::rest::Rest;

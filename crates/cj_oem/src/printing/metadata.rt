@@ -1,12 +1,11 @@
 //! The metadata of a segment.
 ghost use Rattle.std.specs.Prelude.{◌≡◌, ◌++◌, OnOk};
-ghost use Rattle.cj_oem.specs.Canonical as spec;
 ghost use Rattle.cj_oem.specs.Canonical.{metadata_text};
 ghost use Rattle.cj_track.specs.Tracks.{plain_segment, plain_track};
 
-use crate::printing::lines::{push_entry, push_line};
 use cj_epoch::epoch_text;
-use cj_track::{Frame, Segment, Track};
+use cj_kvn::{push_entry, push_line};
+use cj_track::{Segment, Track, frame_text};
 use std::alloc::AllocError;
 
 /// Adds the metadata of a segment. Its times are those of its useable span.
@@ -29,13 +28,4 @@ pub(crate) fn push_metadata(
     push_entry(text, b"INTERPOLATION", b"HERMITE")?;
     push_entry(text, b"INTERPOLATION_DEGREE", b"3")?;
     push_line(text, b"META_STOP")
-}
-
-fn frame_text(frame: Frame) -> &'static [u8]
-    ensures { result.now ≡ spec.frame_text frame }
-{
-    match frame {
-        Frame::Eme2000 => b"EME2000",
-        Frame::Gcrf => b"GCRF",
-    }
 }

@@ -9,4 +9,4 @@ pub returns-clause-text : goal.returns-clause-text
 returns-clause-text c =
     let old = c.args.text.now.items in
     on_ok_weaker c.push_line-2.result (λ e. e ∙ ap (λ t. old ++ t) (covariances_some c.args.matrices.now (grind (arith, nat_tests, c.is_empty.ensures))))
-    (joined_ok c.push_line-2.result old _ _ _ _ (joined old _ _ _ _ c.in_ok-push_line.ensures c.in_ok-push_matrices.ensures.text) c.push_line-2.ensures)
+    (joined_ok c.push_line-2.result old _ _ _ _ (joined old _ _ _ _ c.in_ok-push_line.ensures.appended c.in_ok-push_matrices.ensures.text) c.push_line-2.ensures.appended)
