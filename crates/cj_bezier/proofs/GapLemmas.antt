@@ -7,7 +7,7 @@ use Rattle.cj_interval.specs.Rounding.{floor_div, ceil_div}
 use Rattle.cj_interval.specs.Spans.{IsIn, least, greatest}
 use Rattle.cj_interval.proofs.RingLemmas.{ring, var, num, ◌:+◌, ◌:-◌, ◌:*◌, from}
 use Rattle.cj_interval.proofs.IntegerLemmas.{mul-le_right, le_trans_ℤ, corners_low, corners_high}
-use Rattle.cj_interval.proofs.RoundingLemmas.{least-le, le-greatest}
+use Rattle.cj_interval.proofs.RoundingLemmas.{scaled_product_of_spans}
 use Rattle.cj_interval.proofs.SizeLemmas.{mul_pos}
 use Rattle.cj_hermite.specs.Interpolant.{Four, Curve, IsOver, place_numerator, place_denominator}
 use Rattle.cj_hermite.specs.Levels.{exact_polar, polar}
@@ -23,24 +23,13 @@ use Rattle.cj_bezier.proofs.SevenLemmas.{choose6-bounds}
 use Rattle.cj_bezier.proofs.SexticLemmas.{sextic, weight, sextic-low, sextic-high, axis_square}
 
 -- ---- products of scaled spans
-scaled : (a c r : ℤ) → (a *ℤ c) *ℤ (r *ℤ r) ≡ (a *ℤ r) *ℤ (c *ℤ r)
-scaled a c r = ring (from (a ∷ c ∷ r ∷ [])) ((var 0 :* var 1) :* (var 2 :* var 2)) ((var 0 :* var 2) :* (var 1 :* var 2)) refl
-
 pub product-low_scaled : (a b c d x y : ℤ) (r : ℕ) → IsIn (a *ℤ pos r) (b *ℤ pos r) x → IsIn (c *ℤ pos r) (d *ℤ pos r) y
     → (least (a *ℤ c) (a *ℤ d) (b *ℤ c) (b *ℤ d) *ℤ pos (r * r)) ≤ℤ (x *ℤ y)
-product-low_scaled a b c d x y r p q =
-    let l = least (a *ℤ c) (a *ℤ d) (b *ℤ c) (b *ℤ d) in
-    let h = least-le (a *ℤ c) (a *ℤ d) (b *ℤ c) (b *ℤ d) in
-    let up = λ (e f : ℤ) (g : l ≤ℤ (e *ℤ f)). subst (λ (z : ℤ). (l *ℤ pos (r * r)) ≤ℤ z) (scaled e f (pos r)) (mul-le_right l (e *ℤ f) (r * r) g) in
-    corners_low (a *ℤ pos r) (b *ℤ pos r) (c *ℤ pos r) (d *ℤ pos r) x y (l *ℤ pos (r * r)) p.low p.high q.low q.high (up a c h.0) (up a d h.1) (up b c h.2) (up b d h.3)
+product-low_scaled a b c d x y r p q = (scaled_product_of_spans a b c d x y r p q).low
 
 pub product-high_scaled : (a b c d x y : ℤ) (r : ℕ) → IsIn (a *ℤ pos r) (b *ℤ pos r) x → IsIn (c *ℤ pos r) (d *ℤ pos r) y
     → (x *ℤ y) ≤ℤ (greatest (a *ℤ c) (a *ℤ d) (b *ℤ c) (b *ℤ d) *ℤ pos (r * r))
-product-high_scaled a b c d x y r p q =
-    let u = greatest (a *ℤ c) (a *ℤ d) (b *ℤ c) (b *ℤ d) in
-    let h = le-greatest (a *ℤ c) (a *ℤ d) (b *ℤ c) (b *ℤ d) in
-    let up = λ (e f : ℤ) (g : (e *ℤ f) ≤ℤ u). subst (λ (z : ℤ). z ≤ℤ (u *ℤ pos (r * r))) (scaled e f (pos r)) (mul-le_right (e *ℤ f) u (r * r) g) in
-    corners_high (a *ℤ pos r) (b *ℤ pos r) (c *ℤ pos r) (d *ℤ pos r) x y (u *ℤ pos (r * r)) p.low p.high q.low q.high (up a c h.0) (up a d h.1) (up b c h.2) (up b d h.3)
+product-high_scaled a b c d x y r p q = (scaled_product_of_spans a b c d x y r p q).high
 
 -- ---- coefficients: order, scale and sum
 pub coefficient-le : (p q : ℕ → ℕ → ℤ) → ((i j : ℕ) → p i j ≤ℤ q i j) → (k : ℕ) → coefficient p k ≤ℤ coefficient q k

@@ -7,6 +7,7 @@ pub mod HalvingLemmas
 pub mod HullLemmas
 pub mod HullListLemmas
 pub mod JudgeLemmas
+pub mod KindLemmas
 pub mod LeafLemmas
 pub mod NextPartLemmas
 pub mod OneTickLemmas

@@ -148,6 +148,12 @@ from_zero-le : (n : ℕ) (z : ℤ) → z ≤ℤ pos n → from_zero z ≤ n
 from_zero-le n (pos m) h = omega (arith, ints)
 from_zero-le n (negsuc m) h = omega arith
 
+pub from_zero-mono : (x y : ℤ) → x ≤ℤ y → from_zero x ≤ from_zero y
+from_zero-mono (pos m) (pos n) h = omega (arith, ints)
+from_zero-mono (pos m) (negsuc n) h = absurd (omega (arith, ints))
+from_zero-mono (negsuc m) (pos n) h = omega arith
+from_zero-mono (negsuc m) (negsuc n) h = omega arith
+
 le_pos : (n : ℕ) (z : ℤ) → from_zero z ≤ n → z ≤ℤ pos n
 le_pos n (pos m) h = omega (arith, ints)
 le_pos n (negsuc m) h = omega (arith, ints)

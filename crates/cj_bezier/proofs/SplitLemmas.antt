@@ -6,7 +6,7 @@ use Rattle.std.specs.Prelude.{ℤ, pos, ◌+ℤ◌, ◌-ℤ◌, ◌*ℤ◌, ◌�
 use Rattle.cj_interval.specs.Rounding.{floor_div, ceil_div}
 use Rattle.cj_interval.specs.Spans.{least, greatest}
 use Rattle.cj_interval.proofs.RingLemmas.{ring, var, num, ◌:+◌, ◌:*◌, from}
-use Rattle.cj_interval.proofs.IntegerLemmas.{mul-le_right, le_from_mul, le_trans_ℤ}
+use Rattle.cj_interval.proofs.IntegerLemmas.{mul-le_right, le_from_mul, le_trans_ℤ, sub-le}
 use Rattle.cj_interval.proofs.SizeLemmas.{mul_pos}
 use Rattle.cj_hermite.specs.Interpolant.{Four, Curve, IsOver, place_denominator}
 use Rattle.cj_hermite.specs.Levels.{polar}
@@ -161,14 +161,11 @@ ordered : (k : Four) (t s : ℕ) → 0 < t → polar floor_div k t s s s ≤ℤ 
 ordered k t s some =
     le_from_mul _ _ (place_denominator t) (mul_pos 3000000 (t * t * t) (omega arith) (mul_pos (t * t) t (mul_pos t t some some) some)) (le_trans_ℤ _ _ _ (polar-low k t s s s some) (polar-high k t s s s some))
 
-difference_ordered : (a b c d : ℤ) → a ≤ℤ b → c ≤ℤ d → (a -ℤ d) ≤ℤ (b -ℤ c)
-difference_ordered a b c d h k = omega (arith, ints)
-
 difference_narrow : (a b c d : ℤ) → b ≤ℤ (a +ℤ pos 3) → d ≤ℤ (c +ℤ pos 3) → (b -ℤ c) ≤ℤ (a -ℤ d +ℤ pos 6)
 difference_narrow a b c d h k = omega (arith, ints)
 
 pub axis_ordered : (k k' : Four) (t s t' s' : ℕ) → 0 < t → 0 < t' → below k t s k' t' s' ≤ℤ above k t s k' t' s'
-axis_ordered k k' t s t' s' p p' = difference_ordered _ _ _ _ (ordered k t s p) (ordered k' t' s' p')
+axis_ordered k k' t s t' s' p p' = sub-le _ _ _ _ (ordered k t s p) (ordered k' t' s' p')
 
 pub axis_narrow : (k k' : Four) (t s t' s' : ℕ) → 0 < t → 0 < t' → s ≤ t → s' ≤ t' → above k t s k' t' s' ≤ℤ (below k t s k' t' s' +ℤ pos 6)
 axis_narrow k k' t s t' s' p p' q q' = difference_narrow _ _ _ _ (polar-width k t s s s p q q) (polar-width k' t' s' s' s' p' q' q')

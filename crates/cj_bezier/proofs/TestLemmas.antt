@@ -6,6 +6,7 @@ use Rattle.std.proofs.lemmas.Int.{ints}
 use Rattle.std.specs.Prelude.{ℤ, pos, ◌≤ℤ◌, ◌<ℤ◌, int_lt, int_le}
 use Rattle.std.specs.List.{All, list_all, zip}
 use Rattle.cj_interval.specs.declared.span.Span.{Span}
+use Rattle.cj_interval.proofs.IntegerLemmas.{decides_le}
 use Rattle.cj_hermite.specs.Distance.{BAND}
 use Rattle.cj_bezier.specs.declared.kind.Kind.{Kind}
 use Rattle.cj_bezier.specs.declared.kind.Kind.TheVariants as kinds
@@ -16,9 +17,6 @@ use Rattle.cj_bezier.proofs.SevenLemmas.{seven_cases}
 
 decides_lt : (x y : ℤ) → Decides (int_lt x y) (x <ℤ y)
 decides_lt x y = (λ e. grind (arith, ints), λ h. grind (arith, ints))
-
-decides_le : (x y : ℤ) → Decides (int_le x y) (x ≤ℤ y)
-decides_le x y = (λ e. grind (arith, ints), λ h. grind (arith, ints))
 
 -- a test of each of the seven numbers decides a fact of each
 decides_seven : (p : ℕ → Bool) (P : ℕ → Type 0) → ((k : ℕ) → Decides (p k) (P k)) → Decides (list_all p SEVEN) ((k : ℕ) → k < 7 → P k)

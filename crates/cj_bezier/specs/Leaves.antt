@@ -1,7 +1,19 @@
 -- Leaves as plain facts: stretches of time of a pair, each with what it was found to be.
-use Rattle.std.specs.Prelude.{◌≡◌, ℕ, ◌≤◌, List, map}
+use Rattle.std.specs.Prelude.{◌≡◌, ℕ, ◌≤◌, Bool, true, false, List, map}
 use Rattle.cj_bezier.specs.declared.kind.Kind.{Kind}
+use Rattle.cj_bezier.specs.declared.kind.Kind.TheVariants.{Far, Near, Undecided}
 use Rattle.cj_bezier.specs.declared.leaf.Leaf.{Leaf}
+
+abbrev pub same_kind : Kind → Kind → Bool
+same_kind Far Far = true
+same_kind Far Near = false
+same_kind Far Undecided = false
+same_kind Near Far = false
+same_kind Near Near = true
+same_kind Near Undecided = false
+same_kind Undecided Far = false
+same_kind Undecided Near = false
+same_kind Undecided Undecided = true
 
 -- the ticks from first to last of the objects a and b, numbered from 0
 pub record PlainLeaf : Type 0 where

@@ -50,6 +50,14 @@ pub record PlainBox : Type 0 where
   pub y : Reach
   pub z : Reach
 
+-- how far two reach together on an axis
+abbrev pub round_reaches : Reach → Reach → Reach
+round_reaches a b = record { least = int_min a.least b.least; most = int_max a.most b.most }
+
+-- the smallest box round two
+abbrev pub round_two : PlainBox → PlainBox → PlainBox
+round_two a b = record { x = round_reaches a.x b.x; y = round_reaches a.y b.y; z = round_reaches a.z b.z }
+
 abbrev pub least_four : Four → ℤ
 least_four k = least k.k0 k.k1 k.k2 k.k3
 

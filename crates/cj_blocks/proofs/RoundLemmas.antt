@@ -9,8 +9,9 @@ use Rattle.std.proofs.lemmas.List.FromFn.{map-range_with_len_more}
 use Rattle.std.proofs.lemmas.List.Folds.{fold_stays}
 use Rattle.std.proofs.lemmas.List.Sums.{fold_push}
 use Rattle.cj_interval.proofs.ListLemmas.{Each}
-use Rattle.cj_bezier.specs.SlotBoxes.{PlainBox, Reach, reach_touches, reaches_touch, both_touch}
-use Rattle.cj_blocks.specs.BoxRows.{round_reaches, round_two, round_both, round_all}
+use Rattle.cj_interval.proofs.IntegerLemmas.{le_test}
+use Rattle.cj_bezier.specs.SlotBoxes.{PlainBox, Reach, both_touch, reach_touches, reaches_touch, round_reaches, round_two}
+use Rattle.cj_blocks.specs.BoxRows.{round_both, round_all}
 
 -- ---- what lies in what
 
@@ -110,9 +111,6 @@ round_missing f a (suc n) k low high none = elim (cases_eq a k) [
 
 le_is : (x y : ℤ) → int_le x y ≡ true → x ≤ℤ y
 le_is x y h = grind (arith, ints)
-
-le_test : (x y : ℤ) → x ≤ℤ y → int_le x y ≡ true
-le_test x y h = grind (arith, ints)
 
 reach_more : (thr : ℕ) (a r b : Reach) → ReachesIn a r → reach_touches thr a b ≡ true → reach_touches thr r b ≡ true
 reach_more thr a r b lies h =

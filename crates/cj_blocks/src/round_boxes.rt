@@ -2,6 +2,7 @@
 ghost use Rattle.std.specs.Prelude.{◌≡◌, ◌+◌, ◌*◌, ◌≤◌, length, map, option_map};
 ghost use Rattle.std.specs.Int.{int_min, int_max};
 ghost use Rattle.std.specs.List.{range_with_len};
+ghost use Rattle.cj_bezier.specs.SlotBoxes as slot_boxes;
 ghost use Rattle.cj_bezier.specs.SlotBoxes.{plain_box, plain_boxes};
 ghost use Rattle.cj_blocks.specs.BoxRows as spec;
 
@@ -37,7 +38,7 @@ fn most_corner(a: Vec3, b: Vec3) -> Vec3
 
 /// The smallest box round two.
 fn round_two(a: AxisBox, b: AxisBox) -> AxisBox
-    ensures { plain_box result ≡ spec.round_two (plain_box a) (plain_box b) }
+    ensures { plain_box result ≡ slot_boxes.round_two (plain_box a) (plain_box b) }
 {
     AxisBox {
         least: least_corner(a.least, b.least),

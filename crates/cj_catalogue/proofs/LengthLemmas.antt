@@ -4,15 +4,13 @@ use Rattle.std.specs.Prelude.{ℤ, pos, flat_map, int_lt, if◌then◌else◌, u
 use Rattle.std.specs.List.{range_with_len}
 use Rattle.std.proofs.lemmas.Fmt.{length-decimal-le}
 use Rattle.std.proofs.lemmas.List.{length-append}
+use Rattle.cj_kvn.specs.Decimals.{minus_if}
 use Rattle.cj_epoch.specs.Written.{epoch_of, six}
 use Rattle.cj_gen.specs.declared.orbit.Orbit.{Orbit}
 use Rattle.cj_gen.specs.declared.tilt.Vector.{Vector}
 use Rattle.cj_gen.specs.Texts.{covariance_text, head_text, kilometres, kilometres_a_second, naming_text, node_line, oem_of, place_text, rate_text, stamp, three}
 use Rattle.cj_catalogue.proofs.BoundLemmas.{AreWithin, IsMade, place_at, place_within, speed_at, speed_within}
 use Rattle.cj_catalogue.proofs.FigureLemmas.{kilometres_shape, rate_shape}
-
-abbrev minus_if : Bool → List ℕ
-minus_if b = if b then 45 ∷ [] else []
 
 minus_length : (b : Bool) → length (minus_if b) ≤ 1
 minus_length true = omega arith

@@ -1,6 +1,7 @@
 -- The objects of a catalogue as tracks: places in nm, rates in nm/s.
 use Rattle.std.specs.Prelude.{ℕ, ◌+◌, ◌-◌, ◌*◌, List, [], ◌∷◌, ◌++◌, map, false, codes, pos, negsuc, ◌*ℤ◌}
 use Rattle.std.specs.List.{range_with_len}
+use Rattle.cj_kvn.specs.Decimals.{zero_number}
 use Rattle.cj_kvn.specs.Numbers.{Number}
 use Rattle.cj_epoch.specs.Ticks.{MINUTE}
 use Rattle.cj_track.specs.declared.frame.Frame.TheVariants as frames
@@ -27,9 +28,6 @@ node_at orbit n =
     let p = after_turns n orbit.first in
     record { at = tick_at n; p = times 1_000_000_000 (lifted orbit.tilt p); v = times 1_000_000 (lifted orbit.tilt (rate_at p)) }
 
-abbrev pub nothing : Number
-nothing = record { negative = false; digits = 0; power = pos 0 }
-
 -- 10 m in each place, in square km
 abbrev pub place_variance : Number
 place_variance = record { negative = false; digits = 1; power = negsuc 3 }
@@ -44,11 +42,11 @@ covariance = record {
   at = 1_735_689_600_000_000;
   values =
       place_variance
-      ∷ nothing ∷ place_variance
-      ∷ nothing ∷ nothing ∷ place_variance
-      ∷ nothing ∷ nothing ∷ nothing ∷ rate_variance
-      ∷ nothing ∷ nothing ∷ nothing ∷ nothing ∷ rate_variance
-      ∷ nothing ∷ nothing ∷ nothing ∷ nothing ∷ nothing ∷ rate_variance ∷ [];
+      ∷ zero_number ∷ place_variance
+      ∷ zero_number ∷ zero_number ∷ place_variance
+      ∷ zero_number ∷ zero_number ∷ zero_number ∷ rate_variance
+      ∷ zero_number ∷ zero_number ∷ zero_number ∷ zero_number ∷ rate_variance
+      ∷ zero_number ∷ zero_number ∷ zero_number ∷ zero_number ∷ zero_number ∷ rate_variance ∷ [];
 }
 
 -- the object with this number on this orbit: one segment, with a node for each minute

@@ -152,6 +152,17 @@ pub record HasCell (a b first last : ℤ) : Type 0 where
   pub from : is_tick first ≡ true
   pub to : is_tick last ≡ true
 
+-- the same, where each number was read from its bits
+pub has_cell : (a b first last : ℤ) → FitsSigned w128 a → FitsSigned w128 b → FitsSigned w128 first → FitsSigned w128 last
+    → is_object (to_z w128 (of_z w128 a)) ≡ true → is_object (to_z w128 (of_z w128 b)) ≡ true
+    → is_tick (to_z w128 (of_z w128 first)) ≡ true → is_tick (to_z w128 (of_z w128 last)) ≡ true → HasCell a b first last
+has_cell a b first last fa fb ff fl one other from to = record {
+  one = rw (to_z-of_z fa) at one;
+  other = rw (to_z-of_z fb) at other;
+  from = rw (to_z-of_z ff) at from;
+  to = rw (to_z-of_z fl) at to;
+}
+
 less_not : (m n : ℕ) → n ≤ m → int_lt (pos m) (pos n) ≡ false
 less_not m n h = grind (arith, ints)
 

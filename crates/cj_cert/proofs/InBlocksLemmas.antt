@@ -20,6 +20,7 @@ use Rattle.cj_cert.specs.Listed.{box_listed}
 use Rattle.cj_cert.specs.Rewritten.{size_lines, line_of_block, boxes_by_lines, pairs_by_shells, given_of, with_blocks, rewritten, in_version_2, written_in}
 use Rattle.cj_bezier.specs.AllBoxes.{boxes_of}
 use Rattle.cj_cert.specs.Written.{leaves_in_order, shell_line, written}
+use Rattle.cj_cert.proofs.WrittenLineLemmas.{of_lines_in}
 
 -- pairs that are left of all are of the objects
 pub pairs_of_objects : (n m : ℕ) (test : ℕ × ℕ → Bool) (kept : List Pair) → map objects_of kept ≡ filter test (pairs_of n) → n ≡ m → All (λ pair. pair.b < m) kept
@@ -62,23 +63,10 @@ rewritten_is case c sizes lines boxes kept first same are by_lines by_shells =
     ∙ ap (λ (b : Bool). cond b (rewritten case c) c) (sym (eq-eqb c.version 1 first))
 
 -- what a run writes in version 2
-abbrev of_lines_2 : PlainProblem → ℕ → List SizeOfLine → List ShellLine → List PlainBoxLine → List PlainLeaf → PlainCertificate
-of_lines_2 case objects sizes shells boxes cells = record {
-  version = 2;
-  first = case.first;
-  last = case.last;
-  threshold = case.threshold;
-  objects = objects;
-  sizes = sizes;
-  shells = shells;
-  boxes = boxes;
-  cells = cells;
-}
-
 pub written_is : (case : PlainProblem) (objects : ℕ) (sizes : List SizeOfLine) (shells : List ShellLine) (lines : List PlainBoxLine) (cells : List PlainLeaf) (boxes : List (Option PlainBox)) (kept : List (ℕ × ℕ))
     → objects ≡ length case.ephemerides → sizes ≡ size_lines case.sizes → shells ≡ map (shell_line case) (enumerate_from 0 case.ephemerides) → lines ≡ lines_over case boxes kept
-    → boxes ≡ boxes_of case → kept ≡ pairs_kept case → cells ≡ leaves_in_order case → of_lines_2 case objects sizes shells lines cells ≡ written_in 2 case
+    → boxes ≡ boxes_of case → kept ≡ pairs_kept case → cells ≡ leaves_in_order case → of_lines_in 2 case objects sizes shells lines cells ≡ written_in 2 case
 unfolding with_blocks written
 written_is case objects sizes shells lines cells boxes kept many same rounds are by_place by_pair leaves =
-    (λ i. of_lines_2 case (many i) (same i) (rounds i) (are i) (leaves i))
-    ∙ (λ i. of_lines_2 case (length case.ephemerides) (size_lines case.sizes) (map (shell_line case) (enumerate_from 0 case.ephemerides)) (lines_over case (by_place i) (by_pair i)) (leaves_in_order case))
+    (λ i. of_lines_in 2 case (many i) (same i) (rounds i) (are i) (leaves i))
+    ∙ (λ i. of_lines_in 2 case (length case.ephemerides) (size_lines case.sizes) (map (shell_line case) (enumerate_from 0 case.ephemerides)) (lines_over case (by_place i) (by_pair i)) (leaves_in_order case))

@@ -8,7 +8,7 @@ mod CountLemmas
 mod EnterLemmas
 mod InBlocksLemmas
 mod LineLemmas
-mod ListedLemmas
+pub mod ListedLemmas
 mod NumberLemmas
 mod PartLemmas
 mod ReadLemmas

@@ -21,7 +21,8 @@ use Rattle.cj_cert.specs.Certificates.{PlainBoxLine}
 use Rattle.cj_cert.specs.Fits.{FitsSize, FitsShell, FitsBox, FitsCell}
 use Rattle.cj_cert.specs.Lines as spec
 use Rattle.cj_cert.specs.Lines.{PlainLine, Heading, Window, Threshold, Objects, Size, Shell, Box, Cell, End, rank_of, said_by, in_range, is_from, is_tick, is_object, is_slot}
-use Rattle.cj_cert.specs.Lines.{is_radius, is_coordinate, is_reach, object_of, MAX_OBJECTS, MAX_SIZE, MAX_THRESHOLD}
+use Rattle.cj_hermite.specs.Limits.{MAX_SIZE}
+use Rattle.cj_cert.specs.Lines.{is_radius, is_coordinate, is_reach, object_of, MAX_OBJECTS, MAX_THRESHOLD}
 use Rattle.cj_cert.specs.Ranks.{rank_of_word}
 use Rattle.cj_cert.specs.Texts.{line, number, slots, ends, kind_word}
 use Rattle.cj_cert.proofs.WordLemmas.{texts}
@@ -191,7 +192,7 @@ ranged true line l h = (refl, cc)
 ranged false line l h = absurd cc
 
 -- where a test fails there is no line
-tested : (b : Bool) (x : Result PlainLine CertCause) (cause : CertCause) (l : PlainLine) → cond b x (Err cause) ≡ Ok l → (b ≡ true) × (x ≡ Ok l)
+pub tested : (b : Bool) (x : Result PlainLine CertCause) (cause : CertCause) (l : PlainLine) → cond b x (Err cause) ≡ Ok l → (b ≡ true) × (x ≡ Ok l)
 tested true x cause l h = (refl, h)
 tested false x cause l h = absurd cc
 

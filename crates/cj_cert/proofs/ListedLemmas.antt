@@ -127,8 +127,8 @@ has_slot case i slot e is lt some =
 -- ---- boxes
 
 -- a line of an object and a slot
-tells : (object slot : ℕ) (line : PlainBoxLine) → line.object ≡ object → line.first ≤ slot → slot ≤ line.last → is_line_of object slot line ≡ true
-tells object slot line same low high = let e : eqb line.object object ≡ true = eq-eqb line.object object same in grind (arith, nat_tests)
+pub line_tells : (object slot : ℕ) (line : PlainBoxLine) → line.object ≡ object → line.first ≤ slot → slot ≤ line.last → is_line_of object slot line ≡ true
+line_tells object slot line same low high = let e : eqb line.object object ≡ true = eq-eqb line.object object same in grind (arith, nat_tests)
 
 pub record IsToldBy (object slot : ℕ) (line : PlainBoxLine) : Type 0 where
   pub own : line.object ≡ object
@@ -148,7 +148,7 @@ not_of_line object slot line missed =
     (Each-range (λ k. ◌≡◌ {A = ℕ × ℕ} (line.object, k) (object, slot) → ⊥) line.first (line.last + 1 - line.first) (λ k low high same.
     let own : line.object ≡ object = ap (λ (p : ℕ × ℕ). p.0) same in
     let at : k ≡ slot = ap (λ (p : ℕ × ℕ). p.1) same in
-    let yes = tells object slot line own (omega arith) (omega arith) in
+    let yes = line_tells object slot line own (omega arith) (omega arith) in
     absurd cc))
 
 find_none : {X : Type 0} (p : X → Bool) (xs : List X) → find p xs ≡ None → Each (λ x. p x ≡ false) xs

@@ -25,7 +25,7 @@ use Rattle.cj_cert.specs.Ranks.{has_ended, may_follow, place, rank_of_word}
 use Rattle.cj_cert.specs.Reading.{and_then, at_line, behind_lines, ends_at, nothing_said, reading, reads_on, version_of, with_line}
 use Rattle.cj_cert.specs.Texts.{line, row, row_ended, number, size_text, shell_text, shell_row, box_text, cell_text, head_text, kind_word, text_of}
 use Rattle.cj_cert.proofs.AgainLemmas.{numbers_small}
-use Rattle.cj_cert.proofs.LineLemmas.{FitsLine, IsSaid, numbers_of, rank_word, what_is_said, word_of, words_of}
+use Rattle.cj_cert.proofs.LineLemmas.{FitsLine, IsSaid, numbers_of, rank_word, tested, what_is_said, word_of, words_of}
 use Rattle.cj_cert.proofs.WordLemmas.{AreSmall, texts, words_written}
 
 -- ---- one line
@@ -37,10 +37,6 @@ pub record IsLine (v : ℕ) (before : Option Rank) (text : List ℕ) (l : PlainL
   pub fits : FitsLine v l
   pub joined : text ≡ join_with_byte 32 (word_of (rank_of l) ∷ words_of v l)
 
-chosen : (b : Bool) (x : Result PlainLine CertCause) (cause : CertCause) (l : PlainLine) → cond b x (Err cause) ≡ Ok l → (b ≡ true) × (x ≡ Ok l)
-chosen true x cause l h = (refl, h)
-chosen false x cause l h = absurd cc
-
 words_are : (v : ℕ) (l : PlainLine) (words : List (List ℕ)) → v < 2 ^ 64 → IsSaid v (rank_of l) (numbers_in words) (others_in words) l → words ≡ words_of v l
 words_are v l words small is =
     words_written words (subst AreSmall (sym is.its_numbers) (numbers_small v l small is.fits))
@@ -51,7 +47,7 @@ ranked : (v : ℕ) (before : Option Rank) (word text : List ℕ) (words : List (
 unfolding said
 ranked v before word text words None l small open_end is joined h = absurd cc
 ranked v before word text words (Some r) l small open_end is joined h =
-    let c = chosen (may_follow r before) (said v r words) _ l h in
+    let c = tested (may_follow r before) (said v r words) _ l h in
     let s = what_is_said v r (numbers_in words) (others_in words) l c.1 in
     let own : IsSaid v (rank_of l) (numbers_in words) (others_in words) l = subst (λ k. IsSaid v k (numbers_in words) (others_in words) l) (sym s.rank) s in
     record {

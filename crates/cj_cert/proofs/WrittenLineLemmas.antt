@@ -160,10 +160,10 @@ boxes_are case boxes n same count =
         ap (λ (o : Option (Option PlainBox)). option_and_then (λ b. b) o) (in_row case case.ephemerides (0 + i) k e (omega arith) there) in
         ap (λ (o : Option PlainBox). option_map (line_of_box (0 + i) k) o) here))
 
--- a certificate of version 1 with these lines
-abbrev pub of_lines : PlainProblem → ℕ → List SizeOfLine → List ShellLine → List PlainBoxLine → List PlainLeaf → PlainCertificate
-of_lines case objects sizes shells boxes cells = record {
-  version = 1;
+-- a certificate of a version with these lines
+abbrev pub of_lines_in : ℕ → PlainProblem → ℕ → List SizeOfLine → List ShellLine → List PlainBoxLine → List PlainLeaf → PlainCertificate
+of_lines_in version case objects sizes shells boxes cells = record {
+  version = version;
   first = case.first;
   last = case.last;
   threshold = case.threshold;
@@ -177,9 +177,9 @@ of_lines case objects sizes shells boxes cells = record {
 pub certificate_is : (case : PlainProblem) (objects : ℕ) (sizes : List SizeOfLine) (shells : List ShellLine) (boxes : List PlainBoxLine) (cells : List PlainLeaf)
     → objects ≡ length case.ephemerides → sizes ≡ []
     → shells ≡ map (shell_line case) (enumerate_from 0 case.ephemerides) → boxes ≡ flat_map (box_lines case) (enumerate_from 0 case.ephemerides) → cells ≡ leaves_in_order case
-    → of_lines case objects sizes shells boxes cells ≡ written case
+    → of_lines_in 1 case objects sizes shells boxes cells ≡ written case
 unfolding written
-certificate_is case objects sizes shells boxes cells p q r s t = λ i. of_lines case (p i) (q i) (r i) (s i) (t i)
+certificate_is case objects sizes shells boxes cells p q r s t = λ i. of_lines_in 1 case (p i) (q i) (r i) (s i) (t i)
 
 -- one line of one slot more
 pub single_more : (lines new : List BoxLine) (line : BoxLine) → new ≡ lines ++ line ∷ [] → line.first ≡ line.last → list_all (λ (b : BoxLine). b.first == b.last) lines ≡ true

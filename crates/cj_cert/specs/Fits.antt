@@ -6,7 +6,8 @@ use Rattle.cj_bezier.specs.Shells.{MAX_RADIUS}
 use Rattle.cj_cert.specs.declared.cert_lines.ShellLine.{ShellLine}
 use Rattle.cj_cert.specs.declared.cert_lines.SizeOfLine.{SizeOfLine}
 use Rattle.cj_cert.specs.Certificates.{PlainBoxLine, PlainCertificate}
-use Rattle.cj_cert.specs.Lines.{MAX_OBJECTS, MAX_SIZE, MAX_THRESHOLD, is_reach}
+use Rattle.cj_hermite.specs.Limits.{MAX_SIZE}
+use Rattle.cj_cert.specs.Lines.{MAX_OBJECTS, MAX_THRESHOLD, is_reach}
 
 pub record FitsSize (s : SizeOfLine) : Type 0 where
   pub object : s.object < MAX_OBJECTS

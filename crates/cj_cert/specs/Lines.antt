@@ -3,6 +3,7 @@ use Rattle.std.specs.Prelude.{ℕ, ◌-◌, ◌^◌, ◌==◌, Bool, true, false
 use Rattle.std.specs.List.{slice_split}
 use Rattle.std.specs.Str.{bytes_eq}
 use Rattle.cj_epoch.specs.Ticks.{FIRST_TICK, LAST_TICK}
+use Rattle.cj_hermite.specs.Limits.{MAX_SIZE}
 use Rattle.cj_bezier.specs.declared.kind.Kind.{Kind}
 use Rattle.cj_bezier.specs.declared.kind.Kind.TheVariants as kinds
 use Rattle.cj_bezier.specs.Leaves.{PlainLeaf}
@@ -51,10 +52,6 @@ MAX_OBJECTS = 2000
 -- in nm
 abbrev pub MAX_THRESHOLD : ℕ
 MAX_THRESHOLD = 10 ^ 16
-
--- in nm
-abbrev pub MAX_SIZE : ℕ
-MAX_SIZE = 10 ^ 12
 
 abbrev pub is_object : ℤ → Bool
 is_object z = is_from 1 MAX_OBJECTS z

@@ -17,7 +17,7 @@ use Rattle.cj_bezier.proofs.ShellLemmas.{square_of_inner, inner_of_square, squar
 use Rattle.cj_cert.specs.Accepted.{ShowsRadii, IsHullIn}
 use Rattle.cj_checker.specs.Bounds.{is_above, is_below, is_point_in}
 use Rattle.cj_checker.specs.Tests.{shows_radii, is_hull_in}
-use Rattle.cj_checker.proofs.TestLemmas.{decides_same, decides_le, decides_nat_le, decides_radii, decides_hull_in}
+use Rattle.cj_checker.proofs.TestLemmas.{decides_same, decides_nat_le, decides_radii, decides_hull_in}
 
 -- ---- radii
 

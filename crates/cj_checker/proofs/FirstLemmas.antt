@@ -24,6 +24,7 @@ use Rattle.cj_checker.specs.declared.failure.Failure.{Failure}
 use Rattle.cj_checker.specs.Tests.{is_size_line, is_shell_over, is_shell_line, is_box_line, are_in_front, holds_hulls, is_supported}
 use Rattle.cj_checker.specs.First.{failed, header_failure, first_unfit, first_line, size_failure, first_shell_line, shell_failure}
 use Rattle.cj_checker.specs.First.{unlisted, boxes_from, first_box_line, box_failure, begins, comes_after, behind, unsupported, cells_from, first_cell_line, cell_failure, first_failure}
+use Rattle.cj_checker.proofs.CauseLemmas.{behind_last, cells_done}
 use Rattle.cj_checker.proofs.TestLemmas.{decides_same, decides_shell, decides_holds, decides_front, decides_nat_le, decides_supported}
 
 -- ---- failures one after another
@@ -244,9 +245,6 @@ abbrev joined : List (List PlainLeaf) → List PlainLeaf
 joined parts = flat_map (λ part. part) parts
 
 -- the roots that are left behind a cell, by where it ends
-at_end : (s : PlainLeaf) (r : PlainCell) (roots : List PlainCell) → s.last ≡ r.last → behind s r roots ≡ roots
-at_end s r roots same = let is : (s.last == r.last) ≡ true = eq-eqb s.last r.last same in rw is refl
-
 before_end : (s : PlainLeaf) (r : PlainCell) (roots : List PlainCell) → (s.last ≡ r.last → ⊥) → behind s r roots ≡ record { a = r.a; b = r.b; first = s.last + 1; last = r.last } ∷ roots
 before_end s r roots other =
     let other_is : (s.last == r.last) ≡ false = false_from_ne_true (s.last == r.last) (λ yes. other (eqb-true s.last r.last yes)) in
@@ -279,7 +277,7 @@ at_last case r roots s cells is support same tile =
 one_more : (case : PlainProblem) (r : PlainCell) (roots : List PlainCell) (s : PlainLeaf) (cells : List PlainLeaf) → Begins r s → IsSupported case s
     → TileRoots (IsSupported case) (behind s r roots) cells → TileRoots (IsSupported case) (r ∷ roots) (s ∷ cells)
 one_more case r roots s cells is support tile = elim (cases_eq s.last r.last) [
-  | inl same ↦ at_last case r roots s cells is support same (subst (λ (rs : List PlainCell). TileRoots (IsSupported case) rs cells) (at_end s r roots same) tile)
+  | inl same ↦ at_last case r roots s cells is support same (subst (λ (rs : List PlainCell). TileRoots (IsSupported case) rs cells) (behind_last s r roots same) tile)
   | inr other ↦
       let left : TileRoots (IsSupported case) (rest_of s r ∷ roots) cells = subst (λ (rs : List PlainCell). TileRoots (IsSupported case) rs cells) (before_end s r roots other) tile in
       in_root case r roots s cells left.parts is support left.whole left.tiles
@@ -319,7 +317,7 @@ front_none case at r roots s cells part parts ticks tile tail tiles rest =
     elim (cases_eq s.last r.last) [
       | inl same ↦
           let none : part ≡ [] = no_more (IsSupported case) r.a r.b (s.last + 1) r.last part (omega arith) after in
-          subst (λ (rs : List PlainCell). cells_from case (at + 1) rs cells ≡ None) (sym (at_end s r roots same))
+          subst (λ (rs : List PlainCell). cells_from case (at + 1) rs cells ≡ None) (sym (behind_last s r roots same))
           (rest roots parts ticks.1 (tail ∙ ap (λ (p : List PlainLeaf). p ++ joined parts) none) tiles)
       | inr other ↦
           let some : s.last + 1 ≤ r.last = omega (arith, leaf.to) in
@@ -329,13 +327,9 @@ front_none case at r roots s cells part parts ticks tile tail tiles rest =
     (begun (begins r s) at (comes_after r s) (if is_supported case s then o else failed at (unsupported s.kind)) (decides_begins r s)).1
     (is, (tested (is_supported case s) at (unsupported s.kind) o (decides_supported case s)).1 (leaf.judged, more))
 
-nothing_left : (case : PlainProblem) (at : ℕ) → cells_from case at [] [] ≡ None
-unfolding cells_from
-nothing_left case at = refl
-
 none_from : (case : PlainProblem) (at : ℕ) (roots : List PlainCell) (cells : List PlainLeaf) (parts : List (List PlainLeaf)) → HaveTicks roots → cells ≡ joined parts → TileEach case roots parts
     → cells_from case at roots cells ≡ None
-none_from case at [] [] parts ticks whole tiles = nothing_left case at
+none_from case at [] [] parts ticks whole tiles = cells_done case at
 none_from case at [] (s ∷ cells) [] ticks whole tiles = absurd cc
 none_from case at [] (s ∷ cells) (part ∷ parts) ticks whole tiles = absurd tiles
 none_from case at (r ∷ roots) cells [] ticks whole tiles = absurd tiles

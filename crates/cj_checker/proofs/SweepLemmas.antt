@@ -15,15 +15,15 @@ use Rattle.std.proofs.lemmas.List.Sorted.{sorted_far, ranks_by}
 use Rattle.std.proofs.lemmas.List.{get_or_default}
 use Rattle.std.proofs.lemmas.List.Elements.{All-push, Contains-append_left, Contains-push}
 use Rattle.cj_hermite.specs.declared.pair.Pair.{Pair}
-use Rattle.cj_hermite.specs.Pairs.{objects_of}
+use Rattle.cj_hermite.specs.Pairs.{AreBoth, HasPair, objects_of}
 use Rattle.cj_hermite.specs.PlainProblems.{PlainProblem, threshold_between}
 use Rattle.cj_bezier.specs.declared.axis_box.AxisBox.{AxisBox}
 use Rattle.cj_bezier.specs.declared.shells.Shell.{Shell}
 use Rattle.cj_bezier.specs.Shells.{keeps_between}
 use Rattle.cj_bezier.specs.SlotBoxes.{PlainBox, plain_box, plain_boxes, reaches_in, reaches_touch, both_touch, touch_between}
 use Rattle.cj_checker.specs.declared.reach.Reach.{Reach}
-use Rattle.cj_checker.specs.Keys.{HasPair, looked_with}
-use Rattle.cj_checker.specs.Sweeps.{AreBoth, AreLooked, AreSwept, HasReach, IsInOrder, reach_of}
+use Rattle.cj_checker.specs.Keys.{looked_with}
+use Rattle.cj_checker.specs.Sweeps.{AreLooked, AreSwept, HasReach, IsInOrder, reach_of}
 use Rattle.cj_interval.proofs.ListLemmas.{Contains-from_exists, exists_from_Contains, member_passes}
 
 -- ---- one pair more
@@ -116,9 +116,6 @@ all_found case shells areas reaches pairs each swept a b up is =
 
 pub Contains-filter : {X : Type 0} (p : X → Bool) (xs : List X) (x : X) → p x ≡ true → Contains xs x → Contains (filter p xs) x
 Contains-filter p xs x is has = Contains-from_exists (filter p xs) x (member_passes p x is xs (exists_from_Contains xs x has))
-
-pub le_test : (x y : ℤ) → x ≤ℤ y → int_le x y ≡ true
-le_test x y h = grind (arith, ints)
 
 -- entries that are sorted are in order of where they begin
 abbrev pub reach_cmp : Reach → Reach → Ordering

@@ -19,28 +19,12 @@ use Rattle.cj_blocks.proofs.RowLemmas.{rows_before}
 use Rattle.cj_cert.specs.declared.cert_lines.BoxLine.{BoxLine}
 use Rattle.cj_cert.specs.Accepted.{has_state_in, slots_with_states, AreBoxes}
 use Rattle.cj_cert.specs.Certificates.{PlainBoxLine, plain_box_line}
+use Rattle.cj_cert.proofs.ListedLemmas.{IsToldBy, line_tells, told_by}
 use Rattle.cj_cert.specs.Listed.{slots_of_line, is_line_of, box_listed}
 use Rattle.cj_checker.specs.Tables.{line_numbered, place_in_table, box_in_table}
 use Rattle.cj_checker.proofs.UnfitLemmas.{dropped, read_at}
 
 -- ---- places in the table
-
--- a line tells of a slot of an object
-record IsTold (object slot : ℕ) (line : PlainBoxLine) : Type 0 where
-  own : line.object ≡ object
-  low : line.first ≤ slot
-  high : slot ≤ line.last
-
-told : (object slot : ℕ) (line : PlainBoxLine) → is_line_of object slot line ≡ true → IsTold object slot line
-told object slot line is =
-    let outer = and_parts (line.object == object && nat_le line.first slot) (nat_le slot line.last) is in
-    let inner = and_parts (line.object == object) (nat_le line.first slot) outer.0 in
-    record { own = eqb-true line.object object inner.0; low = leb-true line.first slot inner.1; high = leb-true slot line.last outer.1 }
-
-tells : (object slot : ℕ) (line : PlainBoxLine) → line.object ≡ object → line.first ≤ slot → slot ≤ line.last → is_line_of object slot line ≡ true
-tells object slot line own low high =
-    and_from (line.object == object && nat_le line.first slot) (nat_le slot line.last)
-    (and_from (line.object == object) (nat_le line.first slot) (eq-eqb line.object object own) (le-leb line.first slot low)) (le-leb slot line.last high)
 
 -- where its places begin
 abbrev row_from : ℕ → PlainBoxLine → ℕ
@@ -50,7 +34,7 @@ abbrev run_length : PlainBoxLine → ℕ
 run_length line = line.last + 1 - line.first
 
 -- its places are those of its object in its slots
-place_told : (slots slot object : ℕ) (line : PlainBoxLine) → IsTold object slot line
+place_told : (slots slot object : ℕ) (line : PlainBoxLine) → IsToldBy object slot line
     → (row_from slots line ≤ place_in_table slots slot object) × (place_in_table slots slot object < row_from slots line + run_length line)
 place_told slots slot object line is =
     let row : line.object * slots ≡ object * slots = ap (λ (n : ℕ). n * slots) is.own in
@@ -61,7 +45,7 @@ told_place : (slots slot object : ℕ) (line : PlainBoxLine) → slot < slots �
 told_place slots slot object line inside within low high = elim (cases_order line.object object) [
   | inl own ↦
       let row : line.object * slots ≡ object * slots = ap (λ (n : ℕ). n * slots) own in
-      tells object slot line own (omega arith) (omega arith)
+      line_tells object slot line own (omega arith) (omega arith)
   | inr (inl before) ↦ let rows = rows_before slots line.object object before in absurd (omega arith)
   | inr (inr behind) ↦ let rows = rows_before slots object line.object behind in absurd (omega arith)
 ]
@@ -258,7 +242,7 @@ untold case lines slot object each away =
     (none_found (is_line_of object slot) lines
     (Each-weaker (IsLineIn case) (λ line. is_line_of object slot line ≡ false)
     (λ line is. false_from_ne_true (is_line_of object slot line) (λ tells.
-    let by = told object slot line tells in
+    let by = told_by object slot line tells in
     away (omega (arith, is.there, by.own)) (omega (arith, is.within, by.high)))) lines each))
 
 boxes_of_line : (o : Option BoxLine) → option_map (λ line. plain_box line.area) o ≡ option_map (λ line. line.area) (option_map plain_box_line o)

@@ -79,9 +79,6 @@ decides_no p a (suc n) =
           rw here more,
     )
 
-pub decides_le : (x y : ℤ) → Decides (int_le x y) (x ≤ℤ y)
-decides_le x y = (λ e. grind (arith, ints), λ h. grind (arith, ints))
-
 -- ---- shells
 
 no_number : (o : Option ℕ) → is_some o ≡ false → o ≡ None

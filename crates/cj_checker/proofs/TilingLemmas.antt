@@ -126,13 +126,6 @@ roots_none p a b from last x y is_x is_y in_a in_b none =
     let labels = labels_are p a b x y is_x is_y in_a in_b in
     ap (map (root_of_run a b)) (subst (λ (label : ℕ → Option (ℕ × ℕ)). runs_between label from last ≡ []) labels none)
 
--- behind the last tick there are none
-pub roots_past : (case : PlainProblem) (a b from last : ℕ) → last < from → roots_between case a b from last ≡ []
-unfolding roots_between runs_between
-roots_past case a b from last past =
-    let n : last + 1 - from ≡ 0 = omega arith in
-    ap (λ (k : ℕ). map (root_of_run a b) (runs_over (numbers_at case a b) (range_with_len from k))) n
-
 keeps : (case : PlainProblem) (a b from last : ℕ) (ticks : Window) (rest : List PlainCell) → roots_between case a b from last ≡ root_of_run a b (run_of ticks) ∷ rest
     → KeepIntervals case a b ticks.first.micros ticks.last.micros
 keeps case a b from last ticks rest are =

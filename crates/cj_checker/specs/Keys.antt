@@ -97,6 +97,3 @@ looked_with case shells boxes pair = keeps_between case.threshold case.sizes she
 -- the same, as a program keeps them
 abbrev pub looks : Problem → List ShellLine → List (Option AxisBox) → ℕ × ℕ → Bool
 looks problem shells boxes = looked_with (plain_problem problem) (map (λ line. line.shell) shells) (plain_boxes boxes)
-
-abbrev pub HasPair : List Pair → ℕ → ℕ → Type 0
-HasPair pairs a b = Contains (map objects_of pairs) (a, b)

@@ -3,7 +3,7 @@ use Rattle.std.specs.Prelude.{◌≡◌, ◌⊎◌, ℕ, ◌+◌, ◌<◌, true,
 use Rattle.std.specs.List.{AllPairs, Contains}
 use Rattle.cj_hermite.specs.declared.pair.Pair.{Pair}
 use Rattle.cj_hermite.specs.declared.problem.Problem.{Problem}
-use Rattle.cj_hermite.specs.Pairs.{objects_of}
+use Rattle.cj_hermite.specs.Pairs.{AreBoth, HasPair, objects_of}
 use Rattle.cj_hermite.specs.PlainProblems.{PlainProblem}
 use Rattle.cj_hermite.specs.Problems.{plain_problem}
 use Rattle.cj_bezier.specs.declared.axis_box.AxisBox.{AxisBox}
@@ -12,11 +12,7 @@ use Rattle.cj_bezier.specs.SlotBoxes.{PlainBox, plain_boxes, reaches_in}
 use Rattle.cj_bezier.specs.SlotBoxes as boxes
 use Rattle.cj_cert.specs.declared.cert_lines.ShellLine.{ShellLine}
 use Rattle.cj_checker.specs.declared.reach.Reach.{Reach}
-use Rattle.cj_checker.specs.Keys.{HasPair, looked_with}
-
--- two objects are a and b, whichever comes first
-abbrev pub AreBoth : ℕ → ℕ → ℕ → ℕ → Type 0
-AreBoth one other a b = (one ≡ a) × (other ≡ b) ⊎ (one ≡ b) × (other ≡ a)
+use Rattle.cj_checker.specs.Keys.{looked_with}
 
 -- each pair of a list is looked at
 abbrev pub AreLooked : PlainProblem → List (Option Shell) → List (Option PlainBox) → List Pair → Type 0
@@ -29,10 +25,6 @@ AreLookedBy problem shells boxes pairs = AreLooked (plain_problem problem) (map 
 -- a later list has only pairs that are looked at where an earlier one has
 abbrev pub StayLooked : Problem → List ShellLine → List (Option AxisBox) → List Pair → List Pair → Type 0
 StayLooked problem shells boxes old new = AreLookedBy problem shells boxes old → AreLookedBy problem shells boxes new
-
--- each pair of a list is in a later one too
-abbrev pub ArePairsKept : List Pair → List Pair → Type 0
-ArePairsKept old new = (a b : ℕ) → HasPair old a b → HasPair new a b
 
 -- from where to where an object is entered whose box reaches so far along x
 abbrev pub reach_of : PlainProblem → ℕ → boxes.Reach → Reach

@@ -6,7 +6,8 @@ ghost use Rattle.cj_bezier.specs.SlotBoxes.{plain_boxes};
 ghost use Rattle.cj_cert.specs.Certificates.{plain_certificate};
 ghost use Rattle.cj_cert.specs.Listed.{box_listed};
 ghost use Rattle.cj_checker.specs.ListedBoxes.{table_of};
-ghost use Rattle.cj_checker.specs.Keys.{AreInOrder, AreKeysIn, AreKeysKept, HasKey, HasPair, IsKeyOf, is_listed, keys_listed, plain_key};
+ghost use Rattle.cj_hermite.specs.Pairs.{HasPair};
+ghost use Rattle.cj_checker.specs.Keys.{AreInOrder, AreKeysIn, AreKeysKept, HasKey, IsKeyOf, is_listed, keys_listed, plain_key};
 
 use crate::keys::Key;
 use crate::listed::Listed;

@@ -2,11 +2,11 @@
 ghost use Rattle.std.specs.Prelude.{◌≡◌, ℕ, ◌<◌, true, [], int_le, pos, ◌+ℤ◌, ◌-ℤ◌, filter, length, option_map, Some, IfSome, OnOk};
 ghost use Rattle.std.specs.List.{Contains};
 ghost use Rattle.std.specs.List.Sorted.{IsPermutation};
-ghost use Rattle.cj_hermite.specs.Pairs.{objects_of};
+ghost use Rattle.cj_hermite.specs.Pairs.{AreBoth, ArePairsKept, HasPair, objects_of};
 ghost use Rattle.cj_hermite.specs.Problems.{plain_problem};
 ghost use Rattle.cj_bezier.specs.SlotBoxes.{PlainBox, plain_box, plain_boxes};
-ghost use Rattle.cj_checker.specs.Keys.{HasPair, looks};
-ghost use Rattle.cj_checker.specs.Sweeps.{AreBoth, AreLookedBy, ArePairsKept, AreSweptBy, Exist, HasReach, IsInOrder, StayLooked, reach_of};
+ghost use Rattle.cj_checker.specs.Keys.{looks};
+ghost use Rattle.cj_checker.specs.Sweeps.{AreLookedBy, AreSweptBy, Exist, HasReach, IsInOrder, StayLooked, reach_of};
 
 use crate::looked::is_looked;
 use crate::reach::Reach;

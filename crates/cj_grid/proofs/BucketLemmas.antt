@@ -8,27 +8,24 @@ use Rattle.std.proofs.Math.Nat.{div-mul-le_self}
 use Rattle.std.specs.Prelude.{◌&&◌, ℤ, pos, negsuc, ◌+ℤ◌, ◌-ℤ◌, ◌≤ℤ◌, is_some, option_map, option_and_then, slice_get, slice_index}
 use Rattle.std.specs.List.{range_with_len}
 use Rattle.std.proofs.lemmas.Option.{slice_get-map}
+use Rattle.cj_kvn.proofs.LogicLemmas.{all_three}
 use Rattle.cj_interval.proofs.ListLemmas.{Each, Exists, Each-always, Each-map, Each-flat_map, Each-range, Exists-weaker, Exists-map, Exists-flat_map, Exists-range, Each-filter, member_passes}
 use Rattle.cj_hermite.specs.PlainProblems.{threshold_between}
 use Rattle.cj_bezier.specs.declared.axis_box.AxisBox.{AxisBox}
+use Rattle.cj_bezier.specs.Squares.{from_zero}
+use Rattle.cj_bezier.proofs.ShellLemmas.{from_zero-mono}
 use Rattle.cj_bezier.specs.SlotBoxes.{Reach, plain_box, plain_boxes, reaches_in, reach_touches, reaches_touch, both_touch, touch_between}
 use Rattle.cj_grid.specs.declared.entries.Entry.{Entry}
-use Rattle.cj_grid.specs.Found.{AreBoth}
-use Rattle.cj_grid.specs.Buckets.{BUCKET_SIDE, FIRST_CORNER, from_zero, bucket_on, Numbers, numbers_of, PlainBlock, block_of, is_wide, each_number, bucket_number, in_column, in_layer, in_block, block_in, entered_by, is_wide_one, entries_of, wide_of}
+use Rattle.cj_hermite.specs.Pairs.{AreBoth}
+use Rattle.cj_grid.specs.Buckets.{BUCKET_SIDE, FIRST_CORNER, bucket_on, Numbers, numbers_of, PlainBlock, block_of, is_wide, each_number, bucket_number, in_column, in_layer, in_block, block_in, entered_by, is_wide_one, entries_of, wide_of}
 
 -- ---- on an axis
-
-from_zero_up : (a b : ℤ) → a ≤ℤ b → from_zero a ≤ from_zero b
-from_zero_up (pos m) (pos n) h = omega (arith, ints)
-from_zero_up (pos m) (negsuc n) h = absurd (omega (arith, ints))
-from_zero_up (negsuc m) (pos n) h = omega arith
-from_zero_up (negsuc m) (negsuc n) h = omega arith
 
 div_up : (a b k : ℕ) → 0 < k → a ≤ b → a / k ≤ b / k
 div_up a b k some le = let part = div-mul-le_self a k in le-div (a / k) b k some (omega arith)
 
 bucket_up : (a b : ℤ) → a ≤ℤ b → bucket_on a ≤ bucket_on b
-bucket_up a b h = div_up (from_zero (a +ℤ pos FIRST_CORNER)) (from_zero (b +ℤ pos FIRST_CORNER)) BUCKET_SIDE (omega arith) (from_zero_up (a +ℤ pos FIRST_CORNER) (b +ℤ pos FIRST_CORNER) (omega (arith, ints)))
+bucket_up a b h = div_up (from_zero (a +ℤ pos FIRST_CORNER)) (from_zero (b +ℤ pos FIRST_CORNER)) BUCKET_SIDE (omega arith) (from_zero-mono (a +ℤ pos FIRST_CORNER) (b +ℤ pos FIRST_CORNER) (omega (arith, ints)))
 
 -- a bucket is among those that are met on an axis
 pub record IsMet (n : Numbers) (k : ℕ) : Type 0 where
@@ -170,12 +167,6 @@ not_wide object block b e is narrow there =
 
 wide_is : (block : Option PlainBlock) (b : PlainBlock) → block ≡ Some b → is_wide b ≡ true → is_wide_one block ≡ true
 wide_is block b is wide = ap is_wide_one is ∙ wide
-
-all_three : (a b c : Bool) → (a && b && c) ≡ true → (a ≡ true) × (b ≡ true) × (c ≡ true)
-all_three true true true h = (refl, refl, refl)
-all_three true true false h = absurd cc
-all_three true false c h = absurd cc
-all_three false b c h = absurd cc
 
 boxes_near : (thr : ℕ) (sizes : List ℕ) (boxes : List (Option AxisBox)) (a b : ℕ) (p q : AxisBox) → a < length boxes → b < length boxes → box_in boxes a ≡ Some p → box_in boxes b ≡ Some q
     → reaches_touch (threshold_between thr sizes a b) (plain_box p) (plain_box q) ≡ true → AreNear thr sizes boxes a b

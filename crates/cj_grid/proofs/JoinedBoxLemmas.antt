@@ -10,9 +10,9 @@ use Rattle.cj_interval.specs.Spans.{least, greatest}
 use Rattle.cj_hermite.specs.declared.box3.Box3.{Box3}
 use Rattle.cj_hermite.specs.Boxes.{IsSpanWithin, IsBoxWithin}
 use Rattle.cj_bezier.specs.Hulls.{axes_of, ends_of}
-use Rattle.cj_bezier.specs.SlotBoxes.{Reach}
+use Rattle.cj_bezier.specs.SlotBoxes.{Reach, round_reaches, round_two}
 use Rattle.cj_bezier.proofs.BoxLemmas.{read_end}
-use Rattle.cj_grid.specs.JoinedBoxes.{reaches_of_spans, joined, joined_reaches, reach_of_hull, reaches_of_hull}
+use Rattle.cj_grid.specs.JoinedBoxes.{reaches_of_spans, reach_of_hull, reaches_of_hull}
 
 -- the smallest span round two
 pub record IsSpanOfBoth (a b both : Span) : Type 0 where
@@ -49,7 +49,7 @@ abbrev reach_of : Span → Reach
 reach_of s = record { least = s.lo; most = s.hi }
 
 reach_by_points : (axis : Box3 → Span) (bs : List Box3) (a b c d : Box3) → IsPointAt bs 0 a → IsPointAt bs 1 b → IsPointAt bs 2 c → IsPointAt bs 3 d
-    → joined (joined (reach_of (axis a)) (reach_of (axis b))) (joined (reach_of (axis c)) (reach_of (axis d))) ≡ reach_of_hull (ends_of (map axis bs))
+    → round_reaches (round_reaches (reach_of (axis a)) (reach_of (axis b))) (round_reaches (reach_of (axis c)) (reach_of (axis d))) ≡ reach_of_hull (ends_of (map axis bs))
 unfolding least greatest
 reach_by_points axis bs a b c d at0 at1 at2 at3 =
     let l0 = sym (end_at axis (λ x. x.lo) bs 0 a at0) in
@@ -63,7 +63,7 @@ reach_by_points axis bs a b c d at0 at1 at2 at3 =
     λ i. record { least = int_min (int_min (l0 i) (l1 i)) (int_min (l2 i) (l3 i)); most = int_max (int_max (h0 i) (h1 i)) (int_max (h2 i) (h3 i)) }
 
 pub reaches_by_points : (bs : List Box3) (a b c d : Box3) → IsPointAt bs 0 a → IsPointAt bs 1 b → IsPointAt bs 2 c → IsPointAt bs 3 d
-    → joined_reaches (joined_reaches (reaches_of_spans a) (reaches_of_spans b)) (joined_reaches (reaches_of_spans c) (reaches_of_spans d)) ≡ reaches_of_hull (axes_of bs)
+    → round_two (round_two (reaches_of_spans a) (reaches_of_spans b)) (round_two (reaches_of_spans c) (reaches_of_spans d)) ≡ reaches_of_hull (axes_of bs)
 unfolding axes_of
 reaches_by_points bs a b c d at0 at1 at2 at3 =
     let x = reach_by_points (λ b. b.x) bs a b c d at0 at1 at2 at3 in

@@ -7,10 +7,10 @@ use Rattle.cj_hermite.specs.Walks.{HasNone}
 use Rattle.cj_bezier.specs.Hulls.{PlainHull}
 use Rattle.cj_bezier.specs.Parts.{hulls_of, AreInTime}
 use Rattle.cj_bezier.specs.Sizes.{HULL_REACH}
-use Rattle.cj_bezier.specs.SlotBoxes.{PlainBox, reaches_round, box_of}
+use Rattle.cj_bezier.specs.SlotBoxes.{PlainBox, box_of, reaches_round, round_two}
 use Rattle.cj_bezier.proofs.HullListLemmas.{no_hulls}
 use Rattle.cj_bezier.proofs.NextPartLemmas.{none_in_time, join_time}
-use Rattle.cj_grid.specs.JoinedBoxes.{reaches_of_spans, joined_reaches, reaches_of_hull, reaches_with}
+use Rattle.cj_grid.specs.JoinedBoxes.{reaches_of_spans, reaches_of_hull, reaches_with}
 
 -- ---- hull by hull
 
@@ -18,7 +18,7 @@ first_hull : (all left : List PlainHull) (h : PlainHull) → all ≡ h ∷ left 
 unfolding reaches_round
 first_hull all left h front = ap reaches_round front
 
-next_hull : (r : PlainBox) (left rest : List PlainHull) (h : PlainHull) → left ≡ h ∷ rest → reaches_with r left ≡ reaches_with (joined_reaches r (reaches_of_hull h)) rest
+next_hull : (r : PlainBox) (left rest : List PlainHull) (h : PlainHull) → left ≡ h ∷ rest → reaches_with r left ≡ reaches_with (round_two r (reaches_of_hull h)) rest
 next_hull r left rest h front = ap (reaches_with r) front
 
 -- ---- part by part
@@ -40,10 +40,10 @@ first_part e from at to h b within front time same size = record {
 }
 
 pub one_part_more : (e : PlainTrack) (from before at to : ℕ) (h : PlainHull) (old own b : Box3) → IsBoxUpTo e from before to old → at ≤ to → hulls_of e (before + 1) to ≡ h ∷ hulls_of e (at + 1) to → AreInTime e (before + 1) at
-    → reaches_of_spans own ≡ reaches_of_hull h → IsBoxWithin HULL_REACH own → reaches_of_spans b ≡ joined_reaches (reaches_of_spans old) (reaches_of_spans own)
+    → reaches_of_spans own ≡ reaches_of_hull h → IsBoxWithin HULL_REACH own → reaches_of_spans b ≡ round_two (reaches_of_spans old) (reaches_of_spans own)
     → (IsBoxWithin HULL_REACH old → IsBoxWithin HULL_REACH own → IsBoxWithin HULL_REACH b) → IsBoxUpTo e from at to b
 one_part_more e from before at to h old own b so_far within front time same small both size =
-    let grown : reaches_of_spans b ≡ joined_reaches (reaches_of_spans old) (reaches_of_hull h) = both ∙ ap (joined_reaches (reaches_of_spans old)) same in
+    let grown : reaches_of_spans b ≡ round_two (reaches_of_spans old) (reaches_of_hull h) = both ∙ ap (round_two (reaches_of_spans old)) same in
     record {
       within = within;
       area = so_far.area ∙ ap (λ (r : PlainBox). Some r) (next_hull (reaches_of_spans old) (hulls_of e (before + 1) to) (hulls_of e (at + 1) to) h front

@@ -5,7 +5,8 @@ use Rattle.cj_bezier.specs.SlotBoxes.{plain_boxes, touch_between}
 use Rattle.cj_grid.specs.declared.entries.Entry.{Entry}
 use Rattle.cj_grid.specs.declared.slot_objects.SlotObjects.{SlotObjects}
 use Rattle.cj_grid.specs.Buckets.{PlainBlock, block_in, entries_of, wide_of, step_bound}
-use Rattle.cj_grid.specs.Found.{AreTouching, HasPair, entry_at}
+use Rattle.cj_hermite.specs.Pairs.{HasPair}
+use Rattle.cj_grid.specs.Found.{AreTouching, entry_at}
 
 -- the boxes of two of them touch, by the threshold between them
 abbrev pub touch_among : SlotObjects → ℕ × ℕ → Bool

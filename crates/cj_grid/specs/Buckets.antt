@@ -3,6 +3,7 @@
 use Rattle.std.specs.Prelude.{ℕ, ◌+◌, ◌-◌, ◌*◌, ◌/◌, Bool, false, ◌||◌, if◌then◌else◌, ℤ, pos, negsuc, ◌+ℤ◌, ◌-ℤ◌, nat_eq, nat_lt, List, [], map, filter, length, Option, None, Some, option_map, is_some, count_by, slice_index, slice_index_or}
 use Rattle.std.specs.List.{flat_map, range_with_len, sum_by}
 use Rattle.cj_bezier.specs.declared.axis_box.AxisBox.{AxisBox}
+use Rattle.cj_bezier.specs.Squares.{from_zero}
 use Rattle.cj_bezier.specs.SlotBoxes.{Reach, plain_box}
 use Rattle.cj_grid.specs.declared.entries.Entry.{Entry}
 use Rattle.cj_grid.specs.declared.bucket_ranges.BucketRange.{BucketRange}
@@ -15,11 +16,6 @@ BUCKET_SIDE = 2_000_000_000_000_000
 -- how far below 0 the first bucket of an axis begins: 4,613 sides, below all that is reached
 abbrev pub FIRST_CORNER : ℕ
 FIRST_CORNER = 9_226_000_000_000_000_000
-
--- a number that is not negative, in place of others 0
-abbrev pub from_zero : ℤ → ℕ
-from_zero (pos n) = n
-from_zero (negsuc n) = 0
 
 -- the number of the bucket on an axis in which a coordinate lies, counted from the first one
 abbrev pub bucket_on : ℤ → ℕ

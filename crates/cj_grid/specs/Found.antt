@@ -2,7 +2,7 @@
 use Rattle.std.specs.Prelude.{◌≡◌, ◌⊎◌, ℕ, ◌<◌, ◌≤◌, Bool, true, false, ◌&&◌, if◌then◌else◌, nat_eq, List, [], ◌∷◌, map, length, Option, None, Some, All, slice_index_or}
 use Rattle.std.specs.List.{Contains}
 use Rattle.cj_hermite.specs.declared.pair.Pair.{Pair}
-use Rattle.cj_hermite.specs.Pairs.{objects_of}
+use Rattle.cj_hermite.specs.Pairs.{HasPair, objects_of}
 use Rattle.cj_bezier.specs.declared.axis_box.AxisBox.{AxisBox}
 use Rattle.cj_bezier.specs.SlotBoxes.{plain_boxes, touch_between}
 use Rattle.cj_grid.specs.declared.entries.Entry.{Entry}
@@ -10,18 +10,6 @@ use Rattle.cj_grid.specs.declared.entries.Entry.{Entry}
 -- the boxes of each pair touch
 abbrev pub AreTouching : ℕ → List ℕ → List (Option AxisBox) → List Pair → Type 0
 AreTouching thr sizes boxes pairs = All (λ pair. touch_between thr sizes (plain_boxes boxes) (objects_of pair) ≡ true) pairs
-
--- the pair of two objects is in the list
-abbrev pub HasPair : List Pair → ℕ → ℕ → Type 0
-HasPair pairs a b = Contains (map objects_of pairs) (a, b)
-
--- a pair of a list is in a later one too
-abbrev pub AreKept : List Pair → List Pair → Type 0
-AreKept old new = (a b : ℕ) → HasPair old a b → HasPair new a b
-
--- two objects are a and b, whichever comes first
-abbrev pub AreBoth : ℕ → ℕ → ℕ → ℕ → Type 0
-AreBoth one other a b = (one ≡ a) × (other ≡ b) ⊎ (one ≡ b) × (other ≡ a)
 
 -- an entry of a list by its place
 abbrev pub entry_at : List Entry → ℕ → Entry

@@ -14,14 +14,6 @@ reaches_of_spans b = record {
   z = record { least = b.z.lo; most = b.z.hi };
 }
 
--- how far two reach together
-abbrev pub joined : Reach → Reach → Reach
-joined a b = record { least = int_min a.least b.least; most = int_max a.most b.most }
-
--- the same on each axis
-abbrev pub joined_reaches : PlainBox → PlainBox → PlainBox
-joined_reaches a b = record { x = joined a.x b.x; y = joined a.y b.y; z = joined a.z b.z }
-
 -- how far a hull reaches on an axis
 abbrev pub reach_of_hull : Ends → Reach
 reach_of_hull e = record { least = least_four e.low; most = greatest_four e.high }

@@ -1,10 +1,10 @@
 //! The pairs of objects that share a bucket, or of which one has a wide box.
 ghost use Rattle.std.specs.Prelude.{◌≡◌, ◌⊎◌, ℕ, ◌+◌, ◌*◌, ◌<◌, ◌≤◌, true, ◌&&◌, nat_eq, nat_lt, is_some, if◌then◌else◌, option_map, slice_index_or, length, count_by, All, Some, None, IfSome, OnOk};
 ghost use Rattle.std.specs.List.{Contains};
-ghost use Rattle.cj_hermite.specs.Pairs.{objects_of};
+ghost use Rattle.cj_hermite.specs.Pairs.{AreBoth, ArePairsKept, HasPair, objects_of};
 ghost use Rattle.cj_grid.specs.Buckets.{entered_in, bucket_squares};
 ghost use Rattle.cj_grid.specs.Among.{touch_among, StillTouchAmong, AreFound, AreFoundAt};
-ghost use Rattle.cj_grid.specs.Found.{AreKept, AreBoth, ShareBucket, HasPair, AreInOrder, entry_at};
+ghost use Rattle.cj_grid.specs.Found.{ShareBucket, AreInOrder, entry_at};
 
 use crate::box_touch::touches;
 use crate::entries::Entry;
@@ -54,7 +54,7 @@ fn append_touching<L: Ledger>(
 ) -> Result<(), AllocError>
     requires exists { pair.b < length objects.now.boxes.now }
     ensures touching { OnOk result (StillTouchAmong objects.now pairs.old.items pairs.new.items) }
-    ensures kept { OnOk result (AreKept pairs.old.items pairs.new.items) }
+    ensures kept { OnOk result (ArePairsKept pairs.old.items pairs.new.items) }
     ensures found { OnOk result (touch_among objects.now (objects_of pair) ≡ true → HasPair pairs.new.items pair.a pair.b) }
     ensures no_fewer { steps.old ≤ steps.new }
     ensures one { steps.new ≤ steps.old + 1 }
@@ -77,7 +77,7 @@ fn append_pair<L: Ledger>(
     requires one { one < length objects.now.boxes.now }
     requires other { other < length objects.now.boxes.now }
     ensures touching { OnOk result (StillTouchAmong objects.now pairs.old.items pairs.new.items) }
-    ensures kept { OnOk result (AreKept pairs.old.items pairs.new.items) }
+    ensures kept { OnOk result (ArePairsKept pairs.old.items pairs.new.items) }
     ensures found { OnOk result (AreFound objects.now (AreBoth one other) pairs.new.items) }
     ensures no_fewer { steps.old ≤ steps.new }
     ensures one { steps.new ≤ steps.old + 1 }
@@ -123,7 +123,7 @@ fn append_row<L: Ledger>(
     requires order { AreInOrder entries.now }
     requires objects { All (λ entry. entry.object < length objects.now.boxes.now) entries.now }
     ensures touching { OnOk result (StillTouchAmong objects.now pairs.old.items pairs.new.items) }
-    ensures kept { OnOk result (AreKept pairs.old.items pairs.new.items) }
+    ensures kept { OnOk result (ArePairsKept pairs.old.items pairs.new.items) }
     ensures found { OnOk result ((k : ℕ) → at < k → ShareBucket entries.now at k → AreFoundAt objects.now entries.now at k pairs.new.items) }
     ensures no_fewer { steps.old ≤ steps.new }
     ensures steps { steps.new ≤ steps.old + entered_in (entry_at entries.now at).bucket entries.now }
@@ -148,7 +148,7 @@ pub fn append_shared<L: Ledger>(
     requires order { AreInOrder entries.now }
     requires objects { All (λ entry. entry.object < length objects.now.boxes.now) entries.now }
     ensures touching { OnOk result (StillTouchAmong objects.now pairs.old.items pairs.new.items) }
-    ensures kept { OnOk result (AreKept pairs.old.items pairs.new.items) }
+    ensures kept { OnOk result (ArePairsKept pairs.old.items pairs.new.items) }
     ensures found { OnOk result ((j k : ℕ) → j < k → ShareBucket entries.now j k → AreFoundAt objects.now entries.now j k pairs.new.items) }
     ensures no_fewer { steps.old ≤ steps.new }
     ensures steps { steps.new ≤ steps.old + bucket_squares entries.now }
@@ -178,7 +178,7 @@ fn append_with<L: Ledger>(
     requires one { one < length objects.now.boxes.now }
     requires other { other < length objects.now.boxes.now }
     ensures touching { OnOk result (StillTouchAmong objects.now pairs.old.items pairs.new.items) }
-    ensures kept { OnOk result (AreKept pairs.old.items pairs.new.items) }
+    ensures kept { OnOk result (ArePairsKept pairs.old.items pairs.new.items) }
     ensures found { OnOk result (AreFound objects.now (AreBoth one other) pairs.new.items) }
     ensures no_fewer { steps.old ≤ steps.new }
     ensures steps { steps.new ≤ steps.old + (if is_some (slice_index_or objects.now.boxes.now other None) then 1 else 0) }
@@ -198,7 +198,7 @@ fn append_with_all<L: Ledger>(
 ) -> Result<(), AllocError>
     requires exists { one < length objects.now.boxes.now }
     ensures touching { OnOk result (StillTouchAmong objects.now pairs.old.items pairs.new.items) }
-    ensures kept { OnOk result (AreKept pairs.old.items pairs.new.items) }
+    ensures kept { OnOk result (ArePairsKept pairs.old.items pairs.new.items) }
     ensures found { OnOk result (AreFound objects.now (λ a b. (one ≡ a) ⊎ (one ≡ b)) pairs.new.items) }
     ensures no_fewer { steps.old ≤ steps.new }
     ensures steps { steps.new ≤ steps.old + count_by is_some objects.now.boxes.now }
@@ -218,7 +218,7 @@ pub fn append_wide<L: Ledger>(
 ) -> Result<(), AllocError>
     requires exist { All (λ object. object < length objects.now.boxes.now) wide.now }
     ensures touching { OnOk result (StillTouchAmong objects.now pairs.old.items pairs.new.items) }
-    ensures kept { OnOk result (AreKept pairs.old.items pairs.new.items) }
+    ensures kept { OnOk result (ArePairsKept pairs.old.items pairs.new.items) }
     ensures found { OnOk result (AreFound objects.now (λ a b. Contains wide.now a ⊎ Contains wide.now b) pairs.new.items) }
     ensures no_fewer { steps.old ≤ steps.new }
     ensures steps { steps.new ≤ steps.old + length wide.now * count_by is_some objects.now.boxes.now }

@@ -4,7 +4,8 @@ ghost use Rattle.std.specs.Int.{int_min, int_max};
 ghost use Rattle.cj_hermite.specs.Boxes.{IsBoxWithin};
 ghost use Rattle.cj_bezier.specs.Hulls.{axes_of};
 ghost use Rattle.cj_bezier.specs.Sizes.{HULL_REACH};
-ghost use Rattle.cj_grid.specs.JoinedBoxes.{reaches_of_spans, joined_reaches, reaches_of_hull};
+ghost use Rattle.cj_bezier.specs.SlotBoxes.{round_two};
+ghost use Rattle.cj_grid.specs.JoinedBoxes.{reaches_of_spans, reaches_of_hull};
 
 use cj_bezier::Hull;
 use cj_hermite::Box3;
@@ -23,7 +24,7 @@ fn join_spans(a: Span, b: Span) -> Span
 
 /// The smallest box round two.
 pub fn join_boxes(a: Box3, b: Box3) -> Box3
-    ensures value { reaches_of_spans result ≡ joined_reaches (reaches_of_spans a) (reaches_of_spans b) }
+    ensures value { reaches_of_spans result ≡ round_two (reaches_of_spans a) (reaches_of_spans b) }
     ensures within { (m : ℕ) → IsBoxWithin m a → IsBoxWithin m b → IsBoxWithin m result }
 {
     Box3 {

@@ -2,11 +2,11 @@
 ghost use Rattle.std.specs.Prelude.{◌≡◌, ℕ, ◌+◌, ◌^◌, ◌<◌, ◌≤◌, map, filter, length, option_map, All, true, None, IfOk};
 ghost use Rattle.std.specs.List.Sorted.{IsPermutation};
 ghost use Rattle.cj_hermite.specs.Limits.{MAX_SIZE};
-ghost use Rattle.cj_hermite.specs.Pairs.{objects_of, pairs_of};
+ghost use Rattle.cj_hermite.specs.Pairs.{HasPair, objects_of, pairs_of};
 ghost use Rattle.cj_bezier.specs.SlotBoxes.{plain_boxes, touch_between};
 ghost use Rattle.cj_grid.specs.Among.{touch_among, entries_among, bound_among, TouchAmong};
 ghost use Rattle.cj_grid.specs.Buckets.{step_bound};
-ghost use Rattle.cj_grid.specs.Found.{AreInOrder, HasPair, is_again, unrepeated};
+ghost use Rattle.cj_grid.specs.Found.{AreInOrder, is_again, unrepeated};
 
 use crate::bucket_pairs::{append_shared, append_wide};
 use crate::entries::{Entry, enter_objects, wide_objects};

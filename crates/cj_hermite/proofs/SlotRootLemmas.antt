@@ -34,7 +34,7 @@ walked p slot ts a b first last x y same is_x is_y ordered in_b is_first is_last
     ∙ (λ i. roots_between (plain_problem p) a b (is_first i) (is_last i))
 
 -- a slot without ticks has no roots
-no_roots : (case : PlainProblem) (a b first last : ℕ) → last < first → roots_between case a b first last ≡ []
+pub no_roots : (case : PlainProblem) (a b first last : ℕ) → last < first → roots_between case a b first last ≡ []
 unfolding roots_between runs_between
 no_roots case a b first last empty =
     let n : last + 1 - first ≡ 0 = omega arith in

@@ -1,11 +1,8 @@
 -- The window of a run: its ends as they are asked for, else the useable spans' own.
 use Rattle.std.specs.Prelude.{ℕ, min, max, List, [], ◌∷◌, map, fold, unwrap_or}
+use Rattle.cj_epoch.specs.Ticks.{FIRST_TICK}
 use Rattle.cj_track.specs.PlainTracks.{PlainSegment, PlainTrack}
 use Rattle.cj_words.specs.Settings.{Asked}
-
--- 1972-01-01T00:00:00
-abbrev pub FIRST_TICK : ℕ
-FIRST_TICK = 63_072_000_000_000
 
 -- the least of ticks, and 1972 where there are none
 abbrev pub least : List ℕ → ℕ

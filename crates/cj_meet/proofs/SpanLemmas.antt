@@ -6,12 +6,12 @@ use Rattle.std.specs.Prelude.{All, Any}
 use Rattle.cj_interval.proofs.ListLemmas.{Exists, Any-from_exists, exists_from_Any}
 use Rattle.cj_bezier.specs.declared.kind.Kind.{Kind}
 use Rattle.cj_bezier.specs.declared.kind.Kind.TheVariants.{Far, Near, Undecided}
-use Rattle.cj_bezier.specs.Leaves.{PlainLeaf, plain_leaf, plain_leaves}
+use Rattle.cj_bezier.specs.Leaves.{PlainLeaf, plain_leaf, plain_leaves, Covers, LiesIn, same_kind}
 use Rattle.cj_bezier.specs.declared.leaf.Leaf.{Leaf}
 use Rattle.cj_bezier.specs.Order.{HaveTicks}
 use Rattle.cj_meet.specs.Encounters.{is_far, follows, with_front, encounters_of, first_object, second_object}
-use Rattle.cj_meet.specs.Spans.{same_kind, with_span, spans_of, LiesInSpan, HaveExactSpans}
-use Rattle.cj_bezier.specs.Leaves.{Covers, LiesIn}
+use Rattle.cj_meet.specs.Spans.{with_span, spans_of, LiesInSpan, HaveExactSpans}
+use Rattle.cj_bezier.proofs.KindLemmas.{from_same_kind}
 
 -- one stretch goes on from another
 pub record GoesOn (s t : PlainLeaf) : Type 0 where
@@ -24,17 +24,6 @@ goes_on-from s t on =
     let test = and_parts (s.a == t.a) (s.b == t.b && s.last + 1 == t.first) on in
     let tests = and_parts (s.b == t.b) (s.last + 1 == t.first) test.1 in
     record { a = eqb-true _ _ test.0; b = eqb-true _ _ tests.0; next = eqb-true _ _ tests.1 }
-
-pub kinds_equal : (k l : Kind) → same_kind k l ≡ true → k ≡ l
-kinds_equal Far Far h = refl
-kinds_equal Far Near h = cc
-kinds_equal Far Undecided h = cc
-kinds_equal Near Far h = cc
-kinds_equal Near Near h = refl
-kinds_equal Near Undecided h = cc
-kinds_equal Undecided Far h = cc
-kinds_equal Undecided Near h = cc
-kinds_equal Undecided Undecided h = refl
 
 abbrev HasTick : PlainLeaf → Type 0
 HasTick s = s.first ≤ s.last
@@ -81,7 +70,7 @@ with_span-covers kind tick s (t ∷ ts) some all =
     with_span-case (λ l. Exists (Covers kind tick) l ↔ (Covers kind tick s ⊎ Exists (Covers kind tick) (t ∷ ts))) s t ts
     (λ on alike.
     let goes = goes_on-from s t on in
-    let same = kinds_equal s.kind t.kind alike in (
+    let same = from_same_kind s.kind t.kind alike in (
       ⊎_elim (λ h. ⊎_elim inl (λ g. inr (inl g)) (covers_either kind tick s t goes same h)) (λ g. inr (inr g)),
       ⊎_elim (λ h. inl (covers_first kind tick s t goes here same h)) (⊎_elim (λ h. inl (covers_second kind tick s t goes some h)) inr),
     ))
@@ -263,7 +252,7 @@ with_span-head t (u ∷ us) =
     with_span-case (IsHead t) t u us
     (λ on alike.
     let goes = goes_on-from t u on in
-    record { head = joined t u; rest = us; is = refl; a = sym goes.a; b = sym goes.b; first = refl; kind = sym (kinds_equal t.kind u.kind alike) })
+    record { head = joined t u; rest = us; is = refl; a = sym goes.a; b = sym goes.b; first = refl; kind = sym (from_same_kind t.kind u.kind alike) })
     (record { head = t; rest = u ∷ us; is = refl; a = refl; b = refl; first = refl; kind = refl })
 
 -- a stretch in front of spans that goes on with the first of them
@@ -283,7 +272,7 @@ with_span-joined s t (u ∷ us) on alike =
     let parts = and_parts (follows t u) (same_kind t.kind u.kind) yes_t in
     let next = goes_on-from t u parts.0 in
     let through : follows s (joined t u) ≡ true = follows-from s (joined t u) (record { a = goes.a ∙ next.a; b = goes.b ∙ next.b; next = goes.next }) in
-    let kinds : same_kind s.kind u.kind ≡ true = rw (kinds_equal s.kind t.kind alike) parts.1 in
+    let kinds : same_kind s.kind u.kind ≡ true = rw (from_same_kind s.kind t.kind alike) parts.1 in
     ap (with_span s) (with_span-on t u us parts.0 parts.1) ∙ (with_span-on s (joined t u) us through kinds ∙ sym (with_span-on (joined s t) u us parts.0 parts.1)))
     (λ no_t.
     ap (with_span s) (with_span-off t u us no_t) ∙ (with_span-on s t (u ∷ us) on alike ∙ sym (with_span-off (joined s t) u us no_t)))

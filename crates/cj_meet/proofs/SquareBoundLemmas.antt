@@ -14,7 +14,7 @@ use Rattle.cj_bezier.specs.Squares.{from_zero, part_up, least_part, greatest_par
 use Rattle.cj_bezier.specs.Verdicts.{choose6}
 use Rattle.cj_bezier.proofs.GapLemmas.{at_least_of_gap, at_most_of_gap, hull_gap_at}
 use Rattle.cj_bezier.proofs.SevenLemmas.{from_seven}
-use Rattle.cj_bezier.proofs.ShellLemmas.{max-left, not_negative, shares_of_least}
+use Rattle.cj_bezier.proofs.ShellLemmas.{from_zero-mono, max-left, not_negative, shares_of_least}
 
 -- the square of the denominator of a squared distance
 abbrev pub scale : Curve → Curve → ℕ
@@ -53,12 +53,6 @@ least_holds c d first m last p q oc od = go (least_part (gap_terms (hull_gap c d
 pub le_from_zero : (z : ℤ) → z ≤ℤ pos (from_zero z)
 le_from_zero (pos n) = omega (arith, ints)
 le_from_zero (negsuc n) = omega (arith, ints)
-
-pub from_zero-mono : (x y : ℤ) → x ≤ℤ y → from_zero x ≤ from_zero y
-from_zero-mono (pos m) (pos n) h = omega (arith, ints)
-from_zero-mono (pos m) (negsuc n) h = absurd (omega (arith, ints))
-from_zero-mono (negsuc m) (pos n) h = omega arith
-from_zero-mono (negsuc m) (negsuc n) h = omega arith
 
 first_part : (ends : List ℤ) → part_up ends 0 ≤ℤ greatest_part ends
 unfolding greatest_part

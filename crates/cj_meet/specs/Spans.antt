@@ -2,19 +2,8 @@
 use Rattle.std.specs.Prelude.{◌≡◌, ◌≢◌, ◌↔◌, ℕ, Bool, true, false, ◌&&◌, if◌then◌else◌, List, [], ◌∷◌, All, Any}
 use Rattle.cj_bezier.specs.declared.kind.Kind.{Kind}
 use Rattle.cj_bezier.specs.declared.kind.Kind.TheVariants.{Far, Near, Undecided}
-use Rattle.cj_bezier.specs.Leaves.{PlainLeaf, Covers, LiesIn}
+use Rattle.cj_bezier.specs.Leaves.{PlainLeaf, Covers, LiesIn, same_kind}
 use Rattle.cj_meet.specs.Encounters.{follows, encounters_of, first_object, second_object}
-
-abbrev pub same_kind : Kind → Kind → Bool
-same_kind Far Far = true
-same_kind Far Near = false
-same_kind Far Undecided = false
-same_kind Near Far = false
-same_kind Near Near = true
-same_kind Near Undecided = false
-same_kind Undecided Far = false
-same_kind Undecided Near = false
-same_kind Undecided Undecided = true
 
 -- a stretch in front of spans: the first of them begins with it where that follows and is of the same kind
 abbrev pub with_span : PlainLeaf → List PlainLeaf → List PlainLeaf

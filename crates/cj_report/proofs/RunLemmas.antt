@@ -4,10 +4,11 @@ use Rattle.std.proofs.lemmas.Bool.{and_parts}
 use Rattle.std.proofs.lemmas.List.{drop_more}
 use Rattle.std.specs.Prelude.{flat_map}
 use Rattle.cj_bezier.specs.declared.leaf.Leaf.{Leaf}
-use Rattle.cj_bezier.specs.Leaves.{PlainLeaf, plain_leaf, plain_leaves}
+use Rattle.cj_bezier.specs.Leaves.{PlainLeaf, plain_leaf, plain_leaves, same_kind}
 use Rattle.cj_meet.specs.Encounters.{follows}
-use Rattle.cj_meet.specs.Spans.{same_kind, spans_of}
-use Rattle.cj_meet.proofs.SpanLemmas.{spans_of-joined, spans_of-parted, joined, goes_on-from, kinds_equal}
+use Rattle.cj_bezier.proofs.KindLemmas.{from_same_kind}
+use Rattle.cj_meet.specs.Spans.{spans_of}
+use Rattle.cj_meet.proofs.SpanLemmas.{spans_of-joined, spans_of-parted, joined, goes_on-from}
 use Rattle.cj_report.specs.Report.{span_line}
 
 -- the lines of the spans of a run and the leaves from place i on
@@ -24,7 +25,7 @@ longer_run : (run x : PlainLeaf) → (follows run x && same_kind run.kind x.kind
 longer_run run x on =
     let test = and_parts (follows run x) (same_kind run.kind x.kind) on in
     let goes = goes_on-from run x test.0 in
-    rw (goes.a, goes.b, kinds_equal run.kind x.kind test.1) refl
+    rw (goes.a, goes.b, from_same_kind run.kind x.kind test.1) refl
 
 -- a leaf that goes on with the run lengthens it
 pub step_longer : (was now whole : List ℕ) (run next : PlainLeaf) (leaves : List Leaf) (i : ℕ) (leaf : Leaf) → i < length leaves → leaf ≡ get_or leaves i leaf →

@@ -4,7 +4,7 @@ use Rattle.cj_hermite.specs.PlainProblems.{PlainProblem}
 use Rattle.cj_hermite.specs.Pairs.{pairs_of}
 use Rattle.cj_bezier.specs.declared.kind.Kind.{Kind}
 use Rattle.cj_bezier.specs.declared.kind.Kind.TheVariants.{Far, Near, Undecided}
-use Rattle.cj_bezier.specs.Leaves.{PlainLeaf}
+use Rattle.cj_bezier.specs.Leaves.{PlainLeaf, same_kind}
 use Rattle.cj_bezier.specs.Looked.{is_looked, pairs_kept}
 use Rattle.cj_hermite.specs.Roots.{roots_of}
 use Rattle.cj_cells.specs.Lists.{splits_of}
@@ -13,20 +13,9 @@ use Rattle.cj_meet.specs.Encounters.{encounters_of}
 use Rattle.cj_report.specs.Summary.{Tally}
 use Rattle.cj_screen.specs.Messages.{has_message}
 
-abbrev pub is_kind : Kind → Kind → Bool
-is_kind Far Far = true
-is_kind Far Near = false
-is_kind Far Undecided = false
-is_kind Near Far = false
-is_kind Near Near = true
-is_kind Near Undecided = false
-is_kind Undecided Far = false
-is_kind Undecided Near = false
-is_kind Undecided Undecided = true
-
 -- whether a stretch is of this kind
 abbrev pub is_of : Kind → PlainLeaf → Bool
-is_of kind s = is_kind kind s.kind
+is_of kind s = same_kind kind s.kind
 
 -- how many pairs there are, and how many of them are kept
 abbrev pub pair_count : PlainProblem → ℕ

@@ -7,7 +7,8 @@ use Rattle.std.proofs.lemmas.List.Sums.{sum_by-cons}
 use Rattle.cj_words.specs.declared.command.Verb.{Verb}
 use Rattle.cj_words.specs.declared.front.Front.{Front}
 use Rattle.cj_words.specs.declared.option.Opt.{Opt}
-use Rattle.cj_words.specs.Options.{Given, flag, given_of, has_equals, if_empty, in_one_word, in_two_words, is_equals, is_flag, is_one_word, is_value, may_have, none_next, in_front, is_named, are_accepted, are_known, are_listed, listed, count_of, value_of}
+use Rattle.cj_kvn.specs.Lines.{is_equals}
+use Rattle.cj_words.specs.Options.{Given, flag, given_of, has_equals, if_empty, in_one_word, in_two_words, is_flag, is_one_word, is_value, may_have, none_next, in_front, is_named, are_accepted, are_known, are_listed, listed, count_of, value_of}
 
 -- ---- what stands at the front
 

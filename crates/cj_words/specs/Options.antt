@@ -2,6 +2,7 @@
 use Rattle.std.specs.Prelude.{ℕ, Bool, true, false, not, ◌&&◌, ◌||◌, ◌==◌, nat_le, nat_lt, length, if◌then◌else◌, List, [], ◌∷◌, Option, Some, None, codes, count_by, find}
 use Rattle.std.specs.List.{list_all, before_first, after_first}
 use Rattle.std.specs.Str.{bytes_eq}
+use Rattle.cj_kvn.specs.Lines.{is_equals}
 use Rattle.cj_words.specs.declared.option.Opt.{Opt}
 use Rattle.cj_words.specs.declared.option.Opt.TheVariants.{Threshold, Workers, From, To, Suffix, Cert, Originator, Cells, Seed, Objects, Minutes, AsHermite3, Sizes, CertVersion}
 use Rattle.cj_words.specs.declared.command.Verb.{Verb}
@@ -55,9 +56,6 @@ is_name Rewrite name = is_directory_name name || bytes_eq name (name_of Cert)
 -- the name of a flag: an option that has no value
 abbrev pub is_flag : List ℕ → Bool
 is_flag name = bytes_eq name (name_of AsHermite3)
-
-abbrev pub is_equals : ℕ → Bool
-is_equals b = b == 61
 
 -- a word that may stand on its own as a directory or as a value: not empty, and no option
 abbrev pub is_value : List ℕ → Bool

@@ -1,7 +1,8 @@
 //! Options at the front of words.
 ghost use Rattle.std.specs.Prelude.{◌≡◌, ◌≤◌, ◌<◌, List, [], ◌∷◌, false, Option, Some, None, IfSome, IfNone, length, true, position, ◌==◌};
 ghost use Rattle.cj_words.specs.Options as spec;
-ghost use Rattle.cj_words.specs.Options.{given_of, in_front, is_equals, has_equals};
+ghost use Rattle.cj_kvn.specs.Lines.{is_equals};
+ghost use Rattle.cj_words.specs.Options.{given_of, in_front, has_equals};
 ghost use Rattle.std.specs.List.{before_first, after_first, position_or_len};
 
 use crate::option::{Opt, option_name};

@@ -2,7 +2,7 @@ use Rattle.std.proofs.Common.{Ok, ap, arith, sym, to_z-of_z, ◌≡◌, ◌∙�
 use Rattle.std.specs.Prelude.{unsigned_abs}
 use Rattle.std.proofs.lemmas.Result.{err_from_is_err_and}
 use Rattle.cj_cert.specs.Lines.{PlainLine, object_of}
-use Rattle.cj_cert.proofs.BoxLemmas.{HasCell, as_cause, cell_taken, last_refused, objects_refused, same_cell, ticks_refused}
+use Rattle.cj_cert.proofs.BoxLemmas.{as_cause, cell_taken, has_cell, last_refused, objects_refused, same_cell, ticks_refused}
 use Rattle.cj_cert.proofs.line_text.cell_of.Goals as goal
 
 pub returns-in_err-last : goal.returns-in_err-last
@@ -13,36 +13,27 @@ returns-in_err-last c =
 
 pub returns-then-b-a : goal.returns-then-b-a
 returns-then-b-a c =
-    let has : HasCell c.args.a c.args.b c.args.first c.args.last = record {
-      one = rw (to_z-of_z c.ranges.a) at c.in_ok-a.ensures.0;
-      other = rw (to_z-of_z c.ranges.b) at c.in_ok-b.ensures.0;
-      from = rw (to_z-of_z c.ranges.first) at c.in_ok-first.ensures.0;
-      to = rw (to_z-of_z c.ranges.last) at c.in_ok-last.ensures.0;
-    } in
+    let has =
+    has_cell c.args.a c.args.b c.args.first c.args.last c.ranges.a c.ranges.b c.ranges.first c.ranges.last
+    c.in_ok-a.ensures.0 c.in_ok-b.ensures.0 c.in_ok-first.ensures.0 c.in_ok-last.ensures.0 in
     let a : c.in_ok-a.a ≡ object_of c.args.a = rw (to_z-of_z c.ranges.a) at c.in_ok-a.ensures.1 in
     let b : c.in_ok-b.b ≡ object_of c.args.b = rw (to_z-of_z c.ranges.b) at c.in_ok-b.ensures.1 in
     objects_refused c.args.a c.args.b c.args.first c.args.last c.args.kind has (omega (arith, a, b, c.if-b-a.true))
 
 pub returns-then-last-first : goal.returns-then-last-first
 returns-then-last-first c =
-    let has : HasCell c.args.a c.args.b c.args.first c.args.last = record {
-      one = rw (to_z-of_z c.ranges.a) at c.in_ok-a.ensures.0;
-      other = rw (to_z-of_z c.ranges.b) at c.in_ok-b.ensures.0;
-      from = rw (to_z-of_z c.ranges.first) at c.in_ok-first.ensures.0;
-      to = rw (to_z-of_z c.ranges.last) at c.in_ok-last.ensures.0;
-    } in
+    let has =
+    has_cell c.args.a c.args.b c.args.first c.args.last c.ranges.a c.ranges.b c.ranges.first c.ranges.last
+    c.in_ok-a.ensures.0 c.in_ok-b.ensures.0 c.in_ok-first.ensures.0 c.in_ok-last.ensures.0 in
     let first : c.in_ok-first.first.micros ≡ unsigned_abs c.args.first = rw (to_z-of_z c.ranges.first) at c.in_ok-first.ensures.1 in
     let last : c.in_ok-last.last.micros ≡ unsigned_abs c.args.last = rw (to_z-of_z c.ranges.last) at c.in_ok-last.ensures.1 in
     ticks_refused c.args.a c.args.b c.args.first c.args.last c.args.kind has (omega (arith, first, last, c.if-last-first.true))
 
 pub returns : goal.returns
 returns c =
-    let has : HasCell c.args.a c.args.b c.args.first c.args.last = record {
-      one = rw (to_z-of_z c.ranges.a) at c.in_ok-a.ensures.0;
-      other = rw (to_z-of_z c.ranges.b) at c.in_ok-b.ensures.0;
-      from = rw (to_z-of_z c.ranges.first) at c.in_ok-first.ensures.0;
-      to = rw (to_z-of_z c.ranges.last) at c.in_ok-last.ensures.0;
-    } in
+    let has =
+    has_cell c.args.a c.args.b c.args.first c.args.last c.ranges.a c.ranges.b c.ranges.first c.ranges.last
+    c.in_ok-a.ensures.0 c.in_ok-b.ensures.0 c.in_ok-first.ensures.0 c.in_ok-last.ensures.0 in
     let a : c.in_ok-a.a ≡ object_of c.args.a = rw (to_z-of_z c.ranges.a) at c.in_ok-a.ensures.1 in
     let b : c.in_ok-b.b ≡ object_of c.args.b = rw (to_z-of_z c.ranges.b) at c.in_ok-b.ensures.1 in
     let first : c.in_ok-first.first.micros ≡ unsigned_abs c.args.first = rw (to_z-of_z c.ranges.first) at c.in_ok-first.ensures.1 in

@@ -5,7 +5,8 @@ use Rattle.cj_hermite.specs.Problems.{plain_problem}
 use Rattle.cj_hermite.specs.Slots.{slot_count}
 use Rattle.cj_cert.specs.Certificates.{plain_certificate}
 use Rattle.cj_cert.specs.Listed.{is_looked_listed}
-use Rattle.cj_checker.specs.Keys.{HasKey, HasPair, IsKeyIn}
+use Rattle.cj_hermite.specs.Pairs.{HasPair}
+use Rattle.cj_checker.specs.Keys.{HasKey, IsKeyIn}
 use Rattle.cj_checker.proofs.rounds.collect.Goals as goal
 
 pub append_keys-requires : goal.append_keys-requires

@@ -1,12 +1,11 @@
 use Rattle.std.proofs.Common.{List, map, sym, subst, ◌∙◌}
 use Rattle.cj_interval.proofs.ListLemmas.{Contains-map_longer, Contains-map_push}
 use Rattle.cj_hermite.specs.declared.pair.Pair.{Pair}
-use Rattle.cj_hermite.specs.Pairs.{objects_of}
+use Rattle.cj_hermite.specs.Pairs.{ArePairsKept, HasPair, objects_of}
 use Rattle.cj_hermite.specs.Problems.{plain_problem}
 use Rattle.cj_bezier.specs.SlotBoxes.{plain_boxes}
 use Rattle.cj_cert.specs.declared.cert_lines.ShellLine.{ShellLine}
-use Rattle.cj_checker.specs.Keys.{HasPair}
-use Rattle.cj_checker.specs.Sweeps.{AreLooked, ArePairsKept}
+use Rattle.cj_checker.specs.Sweeps.{AreLooked}
 use Rattle.cj_checker.proofs.SweepLemmas.{looked_more}
 use Rattle.cj_checker.proofs.sweep.append_looked.Goals as goal
 

@@ -4,8 +4,8 @@ use Rattle.cj_hermite.specs.Problems.{plain_problem}
 use Rattle.cj_bezier.specs.SlotBoxes.{plain_boxes}
 use Rattle.cj_cert.specs.declared.cert_lines.ShellLine.{ShellLine}
 use Rattle.cj_checker.specs.declared.reach.Reach.{Reach}
-use Rattle.cj_checker.specs.Keys.{HasPair, looked_with}
-use Rattle.cj_checker.specs.Sweeps.{AreBoth}
+use Rattle.cj_hermite.specs.Pairs.{AreBoth, HasPair}
+use Rattle.cj_checker.specs.Keys.{looked_with}
 use Rattle.cj_checker.proofs.sweep.append_row.Goals as goal
 
 pub loop-other-init : goal.loop-other-init

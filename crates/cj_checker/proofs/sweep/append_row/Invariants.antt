@@ -3,8 +3,9 @@ use Rattle.cj_hermite.specs.Problems.{plain_problem}
 use Rattle.cj_bezier.specs.SlotBoxes.{plain_boxes}
 use Rattle.cj_cert.specs.declared.cert_lines.ShellLine.{ShellLine}
 use Rattle.cj_checker.specs.declared.reach.Reach.{Reach}
-use Rattle.cj_checker.specs.Keys.{HasPair, looked_with}
-use Rattle.cj_checker.specs.Sweeps.{AreBoth, AreLooked, ArePairsKept}
+use Rattle.cj_hermite.specs.Pairs.{AreBoth, ArePairsKept, HasPair}
+use Rattle.cj_checker.specs.Keys.{looked_with}
+use Rattle.cj_checker.specs.Sweeps.{AreLooked}
 use Rattle.cj_checker.proofs.sweep.append_row.Given as goal
 
 abbrev pub invariant-loop-other : goal.invariant-loop-other

@@ -4,11 +4,11 @@ use Rattle.cj_hermite.specs.Roots.{PlainCell}
 use Rattle.cj_hermite.specs.Slots.{slot_first, slot_last}
 use Rattle.cj_cert.specs.Certificates.{plain_cell_line}
 use Rattle.cj_checker.specs.First.{cells_from}
-use Rattle.cj_checker.proofs.TilingLemmas.{roots_past}
+use Rattle.cj_hermite.proofs.SlotRootLemmas.{no_roots}
 use Rattle.cj_checker.proofs.tiling.tile_slot.Goals as goal
 
 pub returns-in-None-clause-tiles : goal.returns-in-None-clause-tiles
 returns-in-None-clause-tiles c line left =
     let case = plain_problem c.args.problem.now in
     ap (λ (rs : List PlainCell). cells_from case (line + c.args.at) (rs ++ left) (drop c.args.at (map plain_cell_line c.args.cells.now)))
-    (roots_past case c.args.pair.a c.args.pair.b (slot_first case.first c.args.slot) (slot_last case.first case.last c.args.slot) c.in-None.ensures.none)
+    (no_roots case c.args.pair.a c.args.pair.b (slot_first case.first c.args.slot) (slot_last case.first case.last c.args.slot) c.in-None.ensures.none)

@@ -7,7 +7,8 @@ use Rattle.cj_hermite.specs.Roots.{PlainCell, root_of_run, roots_between}
 use Rattle.cj_cert.specs.Certificates.{plain_cell_line}
 use Rattle.cj_checker.specs.First.{cells_from}
 use Rattle.cj_checker.specs.Tiling.{IsOf, goes_on, root_from}
-use Rattle.cj_checker.proofs.TilingLemmas.{roots_next, roots_none, roots_past, ready_over, ready_of, ready_is}
+use Rattle.cj_hermite.proofs.SlotRootLemmas.{no_roots}
+use Rattle.cj_checker.proofs.TilingLemmas.{roots_next, roots_none, ready_over, ready_of, ready_is}
 use Rattle.cj_checker.proofs.tiling.tile_ticks.Goals as goal
 use Rattle.cj_checker.proofs.tiling.tile_ticks.Goals.{After-tile_root}
 
@@ -111,7 +112,7 @@ returns-then-run-ticks-clause-tiles c line left =
     step (goal.at.returns-then-run-ticks-clause-tiles c).After-tile_root line left
     ∙ ap (goes_on case line (roots_between case pair.a pair.b (c.in-Some.run'.ticks.last.micros + 1) c.args.ticks.last.micros ++ left) cells) c.in_ok-at.was
     ∙ ap (λ (rs : List PlainCell). cells_from case (line + c.in_ok-at.at) (rs ++ left) (drop c.in_ok-at.at cells))
-    (roots_past case pair.a pair.b (c.in-Some.run'.ticks.last.micros + 1) c.args.ticks.last.micros (omega arith))
+    (no_roots case pair.a pair.b (c.in-Some.run'.ticks.last.micros + 1) c.args.ticks.last.micros (omega arith))
 
 pub loop-run-preserved : goal.loop-run-preserved
 loop-run-preserved c =

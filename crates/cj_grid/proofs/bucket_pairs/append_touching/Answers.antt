@@ -1,9 +1,8 @@
 use Rattle.std.proofs.Common.{List, sym, subst, ◌∙◌}
 use Rattle.cj_interval.proofs.ListLemmas.{Contains-map_longer, Contains-map_push}
 use Rattle.cj_hermite.specs.declared.pair.Pair.{Pair}
-use Rattle.cj_hermite.specs.Pairs.{objects_of}
+use Rattle.cj_hermite.specs.Pairs.{ArePairsKept, HasPair, objects_of}
 use Rattle.cj_grid.specs.Among.{TouchAmong}
-use Rattle.cj_grid.specs.Found.{AreKept, HasPair}
 use Rattle.cj_grid.proofs.PairingLemmas.{touching_more}
 use Rattle.cj_grid.proofs.bucket_pairs.append_touching.Goals as goal
 
@@ -14,7 +13,7 @@ returns-clause-touching g c all =
     (touching_more objects.thr objects.sizes.now objects.boxes.now c.args.pairs.now.items c.args.pair (sym c.pair_touches.ensures.value ∙ c.if-not-pair_touches.false) all)
 
 pub returns-clause-kept : goal.returns-clause-kept
-returns-clause-kept g c = subst (λ (ps : List Pair). AreKept c.args.pairs.now.items ps) (sym c.in_ok-push.ensures.items) (λ a b has. Contains-map_longer objects_of c.args.pairs.now.items c.args.pair (a, b) has)
+returns-clause-kept g c = subst (λ (ps : List Pair). ArePairsKept c.args.pairs.now.items ps) (sym c.in_ok-push.ensures.items) (λ a b has. Contains-map_longer objects_of c.args.pairs.now.items c.args.pair (a, b) has)
 
 pub returns-clause-found : goal.returns-clause-found
 returns-clause-found g c touch = subst (λ (ps : List Pair). HasPair ps c.args.pair.a c.args.pair.b) (sym c.in_ok-push.ensures.items) (Contains-map_push objects_of c.args.pairs.now.items c.args.pair)

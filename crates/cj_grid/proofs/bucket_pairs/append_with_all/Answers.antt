@@ -3,7 +3,7 @@ use Rattle.std.specs.Prelude.{count_by, is_some}
 use Rattle.std.proofs.lemmas.List.Sums.{sum_by_more, sum_by_more_le}
 use Rattle.cj_bezier.specs.declared.axis_box.AxisBox.{AxisBox}
 use Rattle.cj_grid.specs.Among.{AreFound}
-use Rattle.cj_grid.specs.Found.{AreBoth}
+use Rattle.cj_hermite.specs.Pairs.{AreBoth}
 use Rattle.std.proofs.lemmas.Result.{IfOk-from_err}
 use Rattle.cj_grid.proofs.BucketLemmas.{at_least, touching_near}
 use Rattle.cj_grid.proofs.bucket_pairs.append_with_all.Goals as goal

@@ -2,7 +2,7 @@ use Rattle.std.proofs.Common.{arith, ◌≡◌, ◌+◌, ℕ, ap, ◌∙◌, tak
 use Rattle.std.specs.Prelude.{IfNone}
 use Rattle.std.proofs.lemmas.List.{take_all, length-drop}
 use Rattle.cj_kvn.proofs.LineLemmas.{found}
-use Rattle.cj_words.specs.Options.{is_equals}
+use Rattle.cj_kvn.specs.Lines.{is_equals}
 use Rattle.cj_words.proofs.PlaceLemmas.{stands, stands_not}
 use Rattle.cj_words.proofs.front.split_at_equals.Goals as goal
 
