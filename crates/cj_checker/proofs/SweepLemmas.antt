@@ -14,6 +14,7 @@ use Rattle.std.proofs.lemmas.Cmp.{then_total, on_total, nat_cmp_total, int_cmp_t
 use Rattle.std.proofs.lemmas.List.Sorted.{sorted_far, ranks_by}
 use Rattle.std.proofs.lemmas.List.{get_or_default}
 use Rattle.std.proofs.lemmas.List.Elements.{All-push, Contains-append_left, Contains-push}
+use Rattle.cj_interval.proofs.IntegerLemmas.{le_test}
 use Rattle.cj_hermite.specs.declared.pair.Pair.{Pair}
 use Rattle.cj_hermite.specs.Pairs.{AreBoth, HasPair, objects_of}
 use Rattle.cj_hermite.specs.PlainProblems.{PlainProblem, threshold_between}

@@ -97,7 +97,7 @@ entered slots slot object number line old some within rows inside =
     let n = run_length line in
     let place = place_in_table slots slot object in
     elim (cases_Bool (is_line_of object slot line)) [
-      | inl is ↦ let at = place_told slots slot object line (told object slot line is) in rw is (filled_in old from n number place all at.0 at.1)
+      | inl is ↦ let at = place_told slots slot object line (told_by object slot line is) in rw is (filled_in old from n number place all at.0 at.1)
       | inr other ↦ rw other (outside place all
           (λ low high. let is = told_place slots slot object line inside within low high in absurd cc))
     ]

@@ -7,6 +7,7 @@ use Rattle.std.specs.Option.{option_map_or}
 use Rattle.std.proofs.lemmas.Bool.{and_parts, cases_eq, leb-true, le-leb, not-true}
 use Rattle.std.proofs.lemmas.Bool.Decides.{Decides-and, Decides-by_and, Decides-eqb}
 use Rattle.std.proofs.lemmas.Int.{ints}
+use Rattle.cj_interval.proofs.IntegerLemmas.{decides_le}
 use Rattle.cj_track.specs.PlainTracks.{PlainTrack}
 use Rattle.cj_hermite.specs.Interpolant.{Four}
 use Rattle.cj_hermite.specs.Pieces.{interval_at, interval_index_at, curve_of_interval}

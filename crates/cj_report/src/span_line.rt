@@ -1,7 +1,6 @@
 ghost use Rattle.std.specs.Prelude.{◌≡◌, ◌&&◌};
-ghost use Rattle.cj_bezier.specs.Leaves.{plain_leaf};
+ghost use Rattle.cj_bezier.specs.Leaves.{plain_leaf, same_kind};
 ghost use Rattle.cj_meet.specs.Encounters.{follows};
-ghost use Rattle.cj_meet.specs.Spans as spec;
 
 use cj_bezier::{Kind, Leaf};
 use cj_epoch::Tick;
@@ -34,7 +33,7 @@ impl SpanLine {
     /// Whether the line tells of the leaf too.
     pub(crate) fn goes_on(&self, leaf: &Leaf) -> bool
         ensures { result ≡ (follows (stretch_of_line self.now) (plain_leaf leaf.now)
-            && spec.same_kind self.now.kind leaf.now.kind) }
+            && same_kind self.now.kind leaf.now.kind) }
     {
         self.pair == leaf.cell.pair
             && self.last.micros + 1 == leaf.cell.first.micros
