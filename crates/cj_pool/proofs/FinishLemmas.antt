@@ -12,12 +12,11 @@ use Rattle.cj_interval.proofs.SumLemmas.{total, same_totals, same_list}
 use Rattle.cj_hermite.specs.PlainProblems.{PlainProblem}
 use Rattle.cj_hermite.specs.Roots.{IsRootBefore, IsRootUpTo}
 use Rattle.cj_bezier.specs.declared.cell.Cell.{Cell}
-use Rattle.cj_bezier.specs.declared.kind.Kind.{Kind}
-use Rattle.cj_bezier.specs.declared.kind.Kind.TheVariants as kinds
 use Rattle.cj_bezier.specs.declared.leaf.Leaf.{Leaf}
 use Rattle.cj_bezier.specs.Cells.{plain_cell, plain_cells}
-use Rattle.cj_bezier.specs.Leaves.{PlainLeaf, plain_leaf, plain_leaves}
+use Rattle.cj_bezier.specs.Leaves.{PlainLeaf, plain_leaf, plain_leaves, same_kind}
 use Rattle.cj_bezier.specs.Order.{IsBefore}
+use Rattle.cj_bezier.proofs.KindLemmas.{from_same_kind, same_kind-self}
 use Rattle.cj_bezier.specs.RootLeaves.{leaves_of_root, leaves_of_roots, Describe}
 use Rattle.cj_pool.specs.Hands.{HandSeen, Accounts, cells_of}
 use Rattle.cj_hermite.specs.Lengths.{HaveLengths}
@@ -33,33 +32,6 @@ use Rattle.cj_pool.proofs.TreeLemmas.{tree_keeps}
 use Rattle.cj_pool.proofs.WeightLemmas.{weigh_append, weigh_is, weigh_one}
 
 -- ---- a test of two leaves
-
-abbrev same_kind : Kind → Kind → Bool
-same_kind kinds.Far kinds.Far = true
-same_kind kinds.Far kinds.Near = false
-same_kind kinds.Far kinds.Undecided = false
-same_kind kinds.Near kinds.Far = false
-same_kind kinds.Near kinds.Near = true
-same_kind kinds.Near kinds.Undecided = false
-same_kind kinds.Undecided kinds.Far = false
-same_kind kinds.Undecided kinds.Near = false
-same_kind kinds.Undecided kinds.Undecided = true
-
-same_kind-self : (k : Kind) → same_kind k k ≡ true
-same_kind-self kinds.Far = refl
-same_kind-self kinds.Near = refl
-same_kind-self kinds.Undecided = refl
-
-from_same_kind : (j k : Kind) → same_kind j k ≡ true → j ≡ k
-from_same_kind kinds.Far kinds.Far e = refl
-from_same_kind kinds.Far kinds.Near e = absurd cc
-from_same_kind kinds.Far kinds.Undecided e = absurd cc
-from_same_kind kinds.Near kinds.Far e = absurd cc
-from_same_kind kinds.Near kinds.Near e = refl
-from_same_kind kinds.Near kinds.Undecided e = absurd cc
-from_same_kind kinds.Undecided kinds.Far e = absurd cc
-from_same_kind kinds.Undecided kinds.Near e = absurd cc
-from_same_kind kinds.Undecided kinds.Undecided e = refl
 
 abbrev is_leaf : PlainLeaf → PlainLeaf → Bool
 is_leaf s t = eqb s.a t.a && (eqb s.b t.b && (eqb s.first t.first && (eqb s.last t.last && same_kind s.kind t.kind)))
