@@ -6,7 +6,7 @@ use Rattle.std.specs.Prelude.{ℤ, pos, ◌+ℤ◌, ◌-ℤ◌, ◌*ℤ◌, ◌�
 use Rattle.cj_interval.specs.Rounding.{floor_div, ceil_div}
 use Rattle.cj_interval.specs.Spans.{IsIn, least, greatest}
 use Rattle.cj_interval.proofs.RingLemmas.{ring, var, num, ◌:+◌, ◌:-◌, ◌:*◌, from}
-use Rattle.cj_interval.proofs.IntegerLemmas.{mul-le_right, le_trans_ℤ, corners_low, corners_high}
+use Rattle.cj_interval.proofs.IntegerLemmas.{mul-le_right, le_trans_ℤ}
 use Rattle.cj_interval.proofs.RoundingLemmas.{scaled_product_of_spans}
 use Rattle.cj_interval.proofs.SizeLemmas.{mul_pos}
 use Rattle.cj_hermite.specs.Interpolant.{Four, Curve, IsOver, place_numerator, place_denominator}

@@ -14,10 +14,11 @@ use Rattle.cj_kvn.specs.Numbers.{Number, are_digits, scaled_of}
 use Rattle.cj_kvn.specs.Scanning.{exponent_said}
 use Rattle.cj_kvn.specs.Decimals.{IsReadable, decimal_form, decimal_of, decimal_text_of, digit_count, exponent_text, leading_power, minus_if, shifted, significand_text, zero_number}
 use Rattle.cj_kvn.proofs.AgainLemmas as kvn
-use Rattle.cj_kvn.proofs.AgainLemmas.{IsNormal, behind_sign, digits_of_number, first_digit, other_digits, padded_if, sign_text}
+use Rattle.cj_kvn.proofs.AgainLemmas.{IsNormal, behind_sign, digits_of_number, first_digit, other_digits, padded_if}
 use Rattle.cj_kvn.proofs.CountLemmas.{count_most, count_pos, huge_no, tiny_no}
 use Rattle.cj_kvn.proofs.DecimalLemmas.{zero_readable}
 use Rattle.cj_kvn.proofs.NumberTextLemmas.{Says, decimal_digits, decimal_some, decimal_value, decimals_say, decimals_shape, fraction_says, make, scaled_told, signed_digits, signed_is, whole_says}
+use Rattle.cj_kvn.proofs.PrintLemmas.{sign_text}
 use Rattle.cj_kvn.specs.declared.numbers.NumFault.{NumFault}
 use Rattle.cj_kvn.proofs.ListLemmas.{HeadFails}
 use Rattle.cj_kvn.specs.Lines.{is_feed}

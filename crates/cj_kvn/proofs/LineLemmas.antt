@@ -1,6 +1,6 @@
 -- What a line says, and the first line of a text.
 use Rattle.std.proofs.Common.{◌≡◌, ℕ, suc, ◌+◌, ◌-◌, ◌<◌, ◌≤◌, List, [], ◌∷◌, Bool, true, false, take, drop, length, eqb, arith, ap, sym, ◌∙◌, refl, subst, Some, None, Ok, Err, inl, inr}
-use Rattle.std.specs.Prelude.{◌==◌, nat_lt, cond, slice_range, position}
+use Rattle.std.specs.Prelude.{nat_lt, cond, slice_range, position}
 use Rattle.std.specs.List.{position_or_len, list_all, list_any, slice_split}
 use Rattle.std.specs.Str.Lines.{lines, lines_of_parts, strip_carriage_return}
 use Rattle.std.proofs.lemmas.Bool.Decides.{nat_tests, leb_tells, eqb_tells}

@@ -1,5 +1,5 @@
 -- When nodes, covariances and segments are the same: each of these is an equivalence.
-use Rattle.std.specs.Prelude.{Bool, List, nat_eq}
+use Rattle.std.specs.Prelude.{Bool, nat_eq}
 use Rattle.std.specs.Bool.{beq}
 use Rattle.std.specs.Cmp.{IsEquivalence, and_equiv, bool_eq_equiv, int_eq_equiv, nat_eq_equiv, on_equiv}
 use Rattle.std.specs.Cmp.Lexicographic.{lists_equiv, pointwise}

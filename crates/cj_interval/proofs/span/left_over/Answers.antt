@@ -1,4 +1,4 @@
-use Rattle.std.proofs.Common.{◌≡◌, ◌^◌, ◌+◌, ◌<◌, pos, ◌*ℤ◌, arith, refl, FitsSigned, to_z-of_z}
+use Rattle.std.proofs.Common.{◌^◌, ◌+◌, ◌<◌, pos, ◌*ℤ◌, arith, refl, FitsSigned, to_z-of_z}
 use Rattle.std.specs.Prelude.{ℤ, unsigned_abs}
 use Rattle.std.specs.Int.{w128}
 use Rattle.cj_interval.specs.Sizes.{IsWithin}
