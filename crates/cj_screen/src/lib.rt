@@ -17,6 +17,3 @@ mod top;
 mod trying;
 
 pub use top::conj;
-
-#[cfg(test)]
-mod tests;

@@ -1,5 +1,5 @@
 //! Certificates that end early, or have a line too few or too many.
-use super::checks::{Change, LINES, is_told};
+use crate::checks::{Change, LINES, is_told};
 use std::alloc::{AllocError, Global};
 use std::string::String;
 use std::sync::Wait;

@@ -1,5 +1,5 @@
 //! Folders for the tests.
-use super::runs::file;
+use crate::runs::file;
 use cj_io::FileBytes;
 use cj_samples::{HEAD, append_lines};
 use std::alloc::{AllocError, Global};

@@ -1,6 +1,6 @@
 //! Folders and shelves that fail.
-use super::runs::{End, end_failing};
-use super::scenes::{COVERED, files_of};
+use crate::runs::{End, end_failing};
+use crate::scenes::{COVERED, files_of};
 use cj_io::{CalmShelf, FileBytes, MemShelf, Shelf};
 use std::alloc::{AllocError, Global};
 use std::sync::Wait;

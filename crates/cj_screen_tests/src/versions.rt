@@ -1,8 +1,8 @@
 //! Certificates of version 2: written, checked and rewritten.
-use super::catalogues::{files_of as copies_of, made_by};
-use super::certificates::{AT_REST, RESTING, is_certified};
-use super::runs::{certificate_of, is_told, piece_of, run, run_at, with_certificate};
-use super::scenes::{CROSSING, files_of};
+use crate::catalogues::{files_of as copies_of, made_by};
+use crate::certificates::{AT_REST, RESTING, is_certified};
+use crate::runs::{certificate_of, is_told, piece_of, run, run_at, with_certificate};
+use crate::scenes::{CROSSING, files_of};
 use cj_epoch::Tick;
 use cj_io::FileBytes;
 use std::alloc::{AllocError, Global};

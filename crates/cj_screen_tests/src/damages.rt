@@ -1,7 +1,7 @@
 //! Damages of a certificate of real size, the one of a made-up catalogue, a line at a time. What a damage is refused for, and at which
 //! line, is told here by what the lines mean.
-use super::catalogues::{files_of, made_by};
-use super::runs::{certificate_of, is_told, with_certificate};
+use crate::catalogues::{files_of, made_by};
+use crate::runs::{certificate_of, is_told, with_certificate};
 use cj_io::FileBytes;
 use std::alloc::{AllocError, Global};
 use std::sync::Wait;

@@ -1,7 +1,7 @@
 //! Certificates that are checked.
-use super::certificates::RESTING;
-use super::runs::{end_failing, file, told};
-use super::scenes::files_of;
+use crate::certificates::RESTING;
+use crate::runs::{end_failing, file, told};
+use crate::scenes::files_of;
 use cj_io::{CalmShelf, FileBytes};
 use std::alloc::{AllocError, Global};
 use std::sync::Wait;

@@ -1,6 +1,6 @@
 //! The messages of runs.
-use super::runs::{are_named, piece_of, run_at};
-use super::scenes::{COVARIANCE, COVERED, CROSSING, Content, OF_ONE_ELEMENT, Scene, files_of};
+use crate::runs::{are_named, piece_of, run_at};
+use crate::scenes::{COVARIANCE, COVERED, CROSSING, Content, OF_ONE_ELEMENT, Scene, files_of};
 use cj_epoch::Tick;
 use cj_io::{CalmShelf, FileBytes};
 use std::alloc::{AllocError, Global};

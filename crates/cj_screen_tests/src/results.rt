@@ -1,6 +1,6 @@
 //! The reports and summaries of runs.
-use super::runs::run;
-use super::scenes::{CROSSING, Content, GCRF, OF_DEGREE_SEVEN, SHARING_ONE_TICK, Scene, files_of};
+use crate::runs::run;
+use crate::scenes::{CROSSING, Content, GCRF, OF_DEGREE_SEVEN, SHARING_ONE_TICK, Scene, files_of};
 use std::alloc::{AllocError, Global};
 use std::sync::Wait;
 use std::test::Fail;

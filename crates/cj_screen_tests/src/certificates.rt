@@ -1,6 +1,6 @@
 //! The certificates of runs.
-use super::runs::certificate_of;
-use super::scenes::{Content, SHARING_ONE_TICK, Scene, files_of};
+use crate::runs::certificate_of;
+use crate::scenes::{Content, SHARING_ONE_TICK, Scene, files_of};
 use std::alloc::{AllocError, Global};
 use std::sync::Wait;
 use std::test::Fail;

@@ -1,6 +1,6 @@
 //! Words, files and problems that are refused.
-use super::runs::{is_told, run};
-use super::scenes::{CROSSING, Content, GCRF, OF_DEGREE_SEVEN, Scene, base_text, copies, files_of};
+use crate::runs::{is_told, run};
+use crate::scenes::{CROSSING, Content, GCRF, OF_DEGREE_SEVEN, Scene, base_text, copies, files_of};
 use cj_io::FileBytes;
 use std::alloc::{AllocError, Global};
 use std::sync::Wait;

@@ -1,6 +1,6 @@
 //! Made-up catalogues that are screened in memory.
-use super::catalogues::made_by;
-use super::runs::{end_alone, piece_of, told};
+use crate::catalogues::made_by;
+use crate::runs::{end_alone, piece_of, told};
 use cj_io::{CalmShelf, MemShelf};
 use std::alloc::{AllocError, Global};
 use std::sync::Wait;

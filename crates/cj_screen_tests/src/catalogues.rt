@@ -1,5 +1,5 @@
 //! Catalogues that are written.
-use super::runs::{are_named, end_alone, file, piece_of, run_at};
+use crate::runs::{are_named, end_alone, file, piece_of, run_at};
 use cj_epoch::Tick;
 use cj_io::{CalmShelf, FileBytes, MemShelf};
 use std::alloc::{AllocError, Global};

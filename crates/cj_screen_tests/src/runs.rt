@@ -1,8 +1,8 @@
 //! Runs of the top call.
-use crate::conj;
 use cj_epoch::Tick;
 use cj_io::{Bytes, CalmFolder, CalmShelf, FileBytes, Folder, MemFolder, Name, OpenGate, Shelf};
 use cj_kvn::Text;
+use cj_screen::conj;
 use cj_status::{Status, fault_text};
 use cj_words::Word;
 use std::alloc::{AllocError, Global};

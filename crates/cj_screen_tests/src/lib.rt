@@ -1,0 +1,29 @@
+//! Tests of `cj_screen`, over its one call: in a crate of their own they do not have it proved a second time.
+#![tactic(auto)]
+
+#[cfg(test)]
+mod catalogues;
+#[cfg(test)]
+mod certificates;
+#[cfg(test)]
+mod checks;
+#[cfg(test)]
+mod cuts;
+#[cfg(test)]
+mod damages;
+#[cfg(test)]
+mod failures;
+#[cfg(test)]
+mod messages;
+#[cfg(test)]
+mod refusals;
+#[cfg(test)]
+mod results;
+#[cfg(test)]
+mod runs;
+#[cfg(test)]
+mod scenes;
+#[cfg(test)]
+mod trials;
+#[cfg(test)]
+mod versions;
