@@ -35,6 +35,3 @@ pub use printing::{cert_parts, cert_text};
 pub use reading::read_cert;
 pub use written::written_certificate;
 pub use written_text::written_parts;
-
-#[cfg(test)]
-mod tests;

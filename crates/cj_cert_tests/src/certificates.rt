@@ -1,13 +1,11 @@
+//! Small certificates, their texts, and how these are read again.
 ghost use Rattle.std.specs.Prelude.{◌≡◌, ◌≤◌, true, [], ◌∷◌, Some, IfOk};
 ghost use Rattle.cj_cert.specs.Certificates.{plain_certificate};
 ghost use Rattle.cj_cert.specs.Listed.{shells_listed};
 ghost use Rattle.cj_cert.specs.Versions.{is_of_version};
 
-mod blocks;
-mod faults;
-
-use crate::{BoxLine, CellLine, Certificate, ShellLine, SizeOfLine, cert_text, read_cert};
 use cj_bezier::{AxisBox, Kind, Shell};
+use cj_cert::{BoxLine, CellLine, Certificate, ShellLine, SizeOfLine, cert_text, read_cert};
 use cj_epoch::{Tick, Window};
 use cj_hermite::Pair;
 use cj_track::Vec3;
@@ -39,7 +37,7 @@ END
 ";
 
 /// The same in version 2.
-const AT_REST_2: &[u8] = b"CONJ-CERT 2
+pub const AT_REST_2: &[u8] = b"CONJ-CERT 2
 WINDOW 1735689600000000 1735689660000000
 THRESHOLD 5000000000000
 OBJECTS 2
@@ -155,7 +153,7 @@ fn at_rest(
     })
 }
 
-fn at_rest_1(alloc: Global) -> Result<Certificate, AllocError>
+pub fn at_rest_1(alloc: Global) -> Result<Certificate, AllocError>
     ensures shells { IfOk result (λ cert. shells_listed (plain_certificate cert)
         ≡ Some (record { lo = 7000000000000000; hi = 7000000000000000 }) ∷ Some (record { lo = 7005000000000000; hi = 7005000000000000 }) ∷ []) }
 {
@@ -168,7 +166,7 @@ fn at_rest_1(alloc: Global) -> Result<Certificate, AllocError>
     at_rest(alloc, 1, Vec::new(alloc), boxes)
 }
 
-fn at_rest_2(alloc: Global) -> Result<Certificate, AllocError>
+pub fn at_rest_2(alloc: Global) -> Result<Certificate, AllocError>
     ensures shells { IfOk result (λ cert. shells_listed (plain_certificate cert)
         ≡ Some (record { lo = 7000000000000000; hi = 7000000000000000 }) ∷ Some (record { lo = 7005000000000000; hi = 7005000000000000 }) ∷ []) }
 {

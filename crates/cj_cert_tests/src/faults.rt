@@ -1,5 +1,5 @@
 //! Texts that are no certificates, each with its first fault.
-use crate::{CertCause, CertFault, read_cert};
+use cj_cert::{CertCause, CertFault, read_cert};
 use std::alloc::{AllocError, Global};
 use std::test::Fail;
 

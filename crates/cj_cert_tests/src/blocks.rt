@@ -1,9 +1,10 @@
+//! Certificates in version 2, of boxes that stand for blocks of slots.
 ghost use Rattle.std.specs.Prelude.{◌≡◌, [], ◌∷◌, Some, length};
 ghost use Rattle.cj_cert.specs.Certificates.{plain_certificate};
 ghost use Rattle.cj_cert.specs.Listed.{shells_listed};
 
-use super::{AT_REST_2, at_rest_1, at_rest_2};
-use crate::{Certificate, cert_text, in_version_2, listed_shells};
+use crate::certificates::{AT_REST_2, at_rest_1, at_rest_2};
+use cj_cert::{Certificate, cert_text, in_version_2, listed_shells};
 use cj_hermite::{Pair, Problem};
 use cj_scenes::resting;
 use std::alloc::{AllocError, Global};
