@@ -35,10 +35,3 @@ pub use header::header_failure;
 pub use laws::acceptance;
 pub use shells::hull_failure;
 pub use sizes::size_failure;
-
-#[cfg(test)]
-mod cell_tests;
-#[cfg(test)]
-mod line_tests;
-#[cfg(test)]
-mod row_tests;

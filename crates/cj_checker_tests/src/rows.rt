@@ -2,9 +2,9 @@
 ghost use Rattle.std.specs.Prelude.{◌≡◌, ◌^◌, ◌<◌, ◌≤◌, pos, vec_len, IfOk};
 ghost use Rattle.cj_hermite.specs.Limits.{MAX_SIZE};
 
-use super::*;
 use cj_bezier::{AxisBox, Kind, Shell};
 use cj_cert::{BoxLine, CellLine, Certificate, ShellLine, SizeOfLine};
+use cj_checker::{Answer, CheckCause, check};
 use cj_hermite::{Pair, Problem, Sizes, Tracks};
 use cj_samples::{rest, seconds, tick, track_of};
 use cj_track::Vec3;

@@ -1,9 +1,9 @@
 //! Whole certificates of two objects at rest exactly at the threshold, for a minute and a tick.
 ghost use Rattle.std.specs.Prelude.{◌≤◌, length};
 
-use super::*;
 use cj_bezier::{AxisBox, Kind, Shell};
 use cj_cert::{BoxLine, CellLine, Certificate, ShellLine, SizeOfLine};
+use cj_checker::{Answer, CheckCause, check};
 use cj_hermite::Pair;
 use cj_samples::{seconds, tick};
 use cj_scenes::resting;
