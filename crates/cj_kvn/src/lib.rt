@@ -33,6 +33,3 @@ pub use range::Range32;
 pub use reading::read_lines;
 pub use rounding::read_decimal;
 pub use text::Text;
-
-#[cfg(test)]
-mod tests;

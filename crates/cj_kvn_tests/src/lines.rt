@@ -1,8 +1,4 @@
-use crate::fields::{field, row_fields};
-use crate::lines::{KvnFault, Line, LineKind, MarkKind};
-use crate::range::Range32;
-use crate::reading::read_lines;
-use crate::text::Text;
+use cj_kvn::{KvnFault, Line, LineKind, MarkKind, Range32, Text, field, read_lines, row_fields};
 use std::test::Fail;
 
 #[test]

@@ -1,6 +1,4 @@
-use crate::numbers::NumFault;
-use crate::printing::decimal_text;
-use crate::rounding::read_decimal;
+use cj_kvn::{NumFault, decimal_text, read_decimal};
 use std::test::Fail;
 
 #[test]

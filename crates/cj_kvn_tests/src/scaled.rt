@@ -1,4 +1,4 @@
-use crate::numbers::{NumFault, read_scaled};
+use cj_kvn::{NumFault, read_scaled};
 use std::test::Fail;
 
 #[test]

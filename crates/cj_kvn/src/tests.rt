@@ -1,3 +1,0 @@
-mod decimals;
-mod lines;
-mod scaled;
