@@ -54,8 +54,3 @@ pub use slots::{SLOT, slot_count, slot_window};
 pub use thresholds::threshold_between;
 pub use tracks::Tracks;
 pub use walking::{next_run, run_from};
-
-#[cfg(test)]
-mod tests;
-#[cfg(test)]
-mod track_tests;

@@ -1,9 +1,10 @@
+//! The pieces of a track, and its runs of ticks.
 ghost use Rattle.std.specs.Prelude.{◌≡◌, ◌+◌, ◌*◌, ◌<◌, ◌≤◌, length, IfOk};
 ghost use Rattle.cj_track.specs.Tracks.{plain_track};
 ghost use Rattle.cj_hermite.specs.Pieces.{intervals_of};
 
-use super::*;
 use cj_epoch::{Tick, Window, leap_between};
+use cj_hermite::{Hint, cut, piece, piece_at, run_from, segment_of};
 use cj_kvn::Text;
 use cj_track::{Frame, Matrices, Node, Nodes, Segment, Segments, Track, Vec3};
 use std::alloc::{AllocError, Global};

@@ -2,7 +2,7 @@ use Rattle.std.proofs.Common.{◌≡◌, ◌∙◌, List, [], ◌∷◌, length,
 use Rattle.std.proofs.lemmas.Result.{IfOk-weaker}
 use Rattle.cj_track.specs.declared.segment.Segment.{Segment}
 use Rattle.cj_hermite.proofs.PieceLemmas.{intervals_through, count-through}
-use Rattle.cj_hermite.proofs.track_tests.track.Goals as goal
+use Rattle.cj_hermite_tests.proofs.tracks.track.Goals as goal
 
 pub returns : goal.returns
 returns g c =

@@ -1,7 +1,8 @@
+//! Places, rates and control values of a piece, and the slots of a window.
 ghost use Rattle.std.specs.Prelude.{◌≡◌, ◌≤◌};
 
-use super::*;
 use cj_epoch::{Tick, Window};
+use cj_hermite::{Piece, controls, point, rate, slot_count};
 use cj_interval::Span;
 use cj_track::Vec3;
 use std::test::Fail;
