@@ -16,6 +16,3 @@ pub use command::{Checking, Command, Recipe, Screening, Trial};
 pub use commands::read_command;
 pub use option::{Opt, UsageFault, option_name};
 pub use settings::{Settings, Word};
-
-#[cfg(test)]
-mod tests;

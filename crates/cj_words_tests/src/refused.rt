@@ -1,53 +1,8 @@
-use crate::{
-    Checking, Command, Opt, Recipe, Screening, Settings, Trial, UsageFault, Word, option_name,
-    read_command,
-};
-use cj_epoch::{Tick, read_epoch};
-use cj_kvn::Text;
+//! Command lines that are refused, and why, beside those that are just taken.
+use crate::lines::{Case, fault_of, first_wrong};
+use cj_words::{Opt, UsageFault};
 use std::alloc::{AllocError, Global};
 use std::test::Fail;
-
-/// The words of a command line that are separated by spaces.
-fn words(alloc: Global, line: &str) -> Result<Vec<Word>, AllocError> {
-    let mut words = Vec::new(alloc);
-    for word in line.as_bytes().split(|b| *b == b' ') {
-        words.push(Text::copy_of(alloc, word)?)?;
-    }
-    Ok(words)
-}
-
-/// What is wrong with a command line, where anything is.
-fn fault(alloc: Global, line: &str) -> Result<Option<UsageFault>, AllocError> {
-    let words = words(alloc, line)?;
-    Ok(read_command(&words).err())
-}
-
-/// The tick that an epoch says.
-fn tick(text: &[u8]) -> Tick {
-    read_epoch(text).unwrap_or(Tick::FIRST)
-}
-
-/// A command line, and what is wrong with it.
-type Case<'a> = (&'a str, Option<UsageFault>);
-
-/// The place of the first line with which something else is wrong.
-fn first_wrong(alloc: Global, cases: &[Case]) -> Result<Option<usize>, AllocError> {
-    for (place, (line, expected)) in cases.iter().enumerate() {
-        if fault(alloc, line)? != *expected {
-            return Ok(Some(place));
-        }
-    }
-    Ok(None)
-}
-
-/// Whether a command line asks for files whose names end with this suffix.
-fn asks_for(alloc: Global, line: &str, suffix: &[u8]) -> Result<bool, AllocError> {
-    let words = words(alloc, line)?;
-    match read_command(&words) {
-        Ok(Command::Screen(screening)) => Ok(screening.settings.suffix == suffix),
-        _ => Ok(false),
-    }
-}
 
 const WORDS: Option<UsageFault> = Some(UsageFault::Words);
 
@@ -91,138 +46,6 @@ const BAD_MINUTES: Option<UsageFault> = Some(UsageFault::Value {
     option: Opt::Minutes,
 });
 
-/// The settings where all options are left out.
-const USUAL: Settings = Settings {
-    threshold: 5000,
-    from: None,
-    to: None,
-    suffix: b".oem",
-    as_hermite3: false,
-    sizes: None,
-};
-
-const USUAL_RECIPE: Recipe = Recipe {
-    seed: 1,
-    objects: 50,
-    minutes: 120,
-};
-
-#[test]
-fn what_is_left_out(rt: HostRuntime) -> Result<(), Fail> {
-    let cases = [
-        (
-            "screen .",
-            Command::Screen(Screening {
-                settings: USUAL,
-                workers: 1,
-                originator: b"CONJ",
-                cells: 4_000_000,
-                version: 1,
-            }),
-        ),
-        (
-            "check .",
-            Command::Check(Checking {
-                settings: USUAL,
-                certificate: b"screen.cert",
-            }),
-        ),
-        (
-            "rewrite .",
-            Command::Rewrite(Checking {
-                settings: USUAL,
-                certificate: b"screen.cert",
-            }),
-        ),
-        ("generate .", Command::Generate(USUAL_RECIPE)),
-        (
-            "selfrun",
-            Command::Selfrun(Trial {
-                threshold: 5000,
-                workers: 1,
-                cells: 4_000_000,
-                recipe: USUAL_RECIPE,
-            }),
-        ),
-    ];
-    for (line, expected) in cases {
-        let words = words(rt.alloc(), line)?;
-        assert_eq!(rt; read_command(&words), Ok(expected), "{line}");
-    }
-    Ok(())
-}
-
-#[test]
-fn all_that_can_be_asked_of_a_screening(rt: HostRuntime) -> Result<(), Fail> {
-    let line =
-        "screen . --cert-version 2 --cells 9 --sizes r.txt --originator=MY_site-1 --workers 16 --as-hermite3 \
-        --to 2025-01-01T00:00:01 --from=2025-001T00:00:00Z --suffix .txt --threshold=7";
-    let words = words(rt.alloc(), line)?;
-    let screening = Screening {
-        settings: Settings {
-            threshold: 7,
-            from: Some(tick(b"2025-01-01T00:00:00")),
-            to: Some(tick(b"2025-01-01T00:00:01")),
-            suffix: b".txt",
-            as_hermite3: true,
-            sizes: Some(b"r.txt"),
-        },
-        workers: 16,
-        originator: b"MY_site-1",
-        cells: 9,
-        version: 2,
-    };
-    assert_eq!(rt; read_command(&words), Ok(Command::Screen(screening)));
-    Ok(())
-}
-
-#[test]
-fn all_that_can_be_asked_of_a_check(rt: HostRuntime) -> Result<(), Fail> {
-    let line =
-        "check . --sizes=r.txt --cert other.cert --suffix .txt --as-hermite3 --threshold 1000000";
-    let words = words(rt.alloc(), line)?;
-    let checking = Checking {
-        settings: Settings {
-            threshold: 1_000_000,
-            from: None,
-            to: None,
-            suffix: b".txt",
-            as_hermite3: true,
-            sizes: Some(b"r.txt"),
-        },
-        certificate: b"other.cert",
-    };
-    assert_eq!(rt; read_command(&words), Ok(Command::Check(checking)));
-    Ok(())
-}
-
-/// Command lines, and the suffix for which each asks.
-const SUFFIXES: [(&str, &[u8]); 9] = [
-    // In one word and in two.
-    ("screen . --suffix=.txt", b".txt"),
-    ("screen . --suffix .txt", b".txt"),
-    ("screen . --suffix=a=b", b"a=b"),
-    ("screen . --suffix a=b", b"a=b"),
-    // One that looks like an option.
-    ("screen . --suffix=-x", b"-x"),
-    ("screen . --suffix=--as-hermite3", b"--as-hermite3"),
-    // From one byte to twenty, each printable.
-    ("screen . --suffix m", b"m"),
-    (
-        "screen . --suffix abcdefghijklmnopqrst",
-        b"abcdefghijklmnopqrst",
-    ),
-    ("screen . --suffix=!.0~", b"!.0~"),
-];
-
-#[test]
-fn suffixes_that_are_taken(rt: HostRuntime) -> Result<(), Fail> {
-    for (line, suffix) in &SUFFIXES {
-        assert!(rt; asks_for(rt.alloc(), line, suffix)?, "{line}");
-    }
-    Ok(())
-}
-
 const BAD_SUFFIXES: [Case; 11] = [
     ("screen . --suffix -x", WORDS),
     ("screen . --suffix --as-hermite3", WORDS),
@@ -241,13 +64,6 @@ const BAD_SUFFIXES: [Case; 11] = [
 fn suffixes_that_are_not_taken(rt: HostRuntime) -> Result<(), Fail> {
     assert_eq!(rt; first_wrong(rt.alloc(), BAD_SUFFIXES.as_slice())?, None);
     Ok(())
-}
-
-/// The fault of the words `screen .`, an option, and a value that may hold spaces.
-fn fault_of(alloc: Global, option: &str, value: &[u8]) -> Result<Option<UsageFault>, AllocError> {
-    let mut words = words(alloc, option)?;
-    words.push(Text::copy_of(alloc, value)?)?;
-    Ok(read_command(&words).err())
 }
 
 #[test]
@@ -330,19 +146,6 @@ fn words_come_first_and_then_the_first_option_of_the_table(rt: HostRuntime) -> R
     Ok(())
 }
 
-#[test]
-fn the_names_of_fault_lines(rt: HostRuntime) -> Result<(), Fail> {
-    assert_eq!(rt; option_name(Opt::Suffix), b"--suffix".as_slice());
-    assert_eq!(rt; option_name(Opt::AsHermite3), b"--as-hermite3".as_slice());
-    assert_eq!(rt; option_name(Opt::Sizes), b"--sizes".as_slice());
-    assert_eq!(rt; option_name(Opt::Cert), b"--cert".as_slice());
-    assert_eq!(rt; option_name(Opt::Originator), b"--originator".as_slice());
-    assert_eq!(rt; option_name(Opt::Seed), b"--seed".as_slice());
-    assert_eq!(rt; option_name(Opt::Objects), b"--objects".as_slice());
-    assert_eq!(rt; option_name(Opt::Minutes), b"--minutes".as_slice());
-    Ok(())
-}
-
 const SIZES: [Case; 5] = [
     ("screen . --sizes ~", None),
     ("screen . --sizes sizes.txt", None),
@@ -413,40 +216,6 @@ fn a_certificate_is_named_by_two_hundred_bytes_at_most(rt: HostRuntime) -> Resul
         assert_eq!(rt; fault_of(alloc, "check . --cert", &name)?, expected);
     }
     assert_eq!(rt; fault_of(alloc, "check . --cert", b"a b")?, BAD_CERT);
-    Ok(())
-}
-
-#[test]
-fn what_a_catalogue_is_made_of(rt: HostRuntime) -> Result<(), Fail> {
-    let line = "generate . --minutes 1 --seed=18446744073709551615 --objects 02000";
-    let given = words(rt.alloc(), line)?;
-    let asked = Recipe {
-        seed: u64::MAX,
-        objects: 2000,
-        minutes: 1,
-    };
-    assert_eq!(rt; read_command(&given), Ok(Command::Generate(asked)));
-    Ok(())
-}
-
-#[test]
-fn how_a_catalogue_is_screened(rt: HostRuntime) -> Result<(), Fail> {
-    let words = words(
-        rt.alloc(),
-        "selfrun --cells 9 --minutes 1440 --threshold=7 --seed 0 --workers=4",
-    )?;
-    let recipe = Recipe {
-        seed: 0,
-        objects: 50,
-        minutes: 1440,
-    };
-    let trial = Trial {
-        threshold: 7,
-        workers: 4,
-        cells: 9,
-        recipe,
-    };
-    assert_eq!(rt; read_command(&words), Ok(Command::Selfrun(trial)));
     Ok(())
 }
 

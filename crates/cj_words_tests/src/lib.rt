@@ -1,0 +1,9 @@
+//! Tests of `cj_words`, over its public calls alone: in a crate of their own they do not have it proved a second time.
+#![tactic(auto)]
+
+#[cfg(test)]
+mod asked;
+#[cfg(test)]
+mod lines;
+#[cfg(test)]
+mod refused;

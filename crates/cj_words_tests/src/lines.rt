@@ -1,0 +1,43 @@
+//! Command lines, and what is wrong with them.
+use cj_kvn::Text;
+use cj_words::{UsageFault, Word, read_command};
+use std::alloc::{AllocError, Global};
+
+/// The words of a command line that are separated by spaces.
+pub fn words(alloc: Global, line: &str) -> Result<Vec<Word>, AllocError> {
+    let mut words = Vec::new(alloc);
+    for word in line.as_bytes().split(|b| *b == b' ') {
+        words.push(Text::copy_of(alloc, word)?)?;
+    }
+    Ok(words)
+}
+
+/// What is wrong with a command line, where anything is.
+fn fault(alloc: Global, line: &str) -> Result<Option<UsageFault>, AllocError> {
+    let words = words(alloc, line)?;
+    Ok(read_command(&words).err())
+}
+
+/// The fault of the words `screen .`, an option, and a value that may hold spaces.
+pub fn fault_of(
+    alloc: Global,
+    option: &str,
+    value: &[u8],
+) -> Result<Option<UsageFault>, AllocError> {
+    let mut words = words(alloc, option)?;
+    words.push(Text::copy_of(alloc, value)?)?;
+    Ok(read_command(&words).err())
+}
+
+/// A command line, and what is wrong with it.
+pub type Case<'a> = (&'a str, Option<UsageFault>);
+
+/// The place of the first line with which something else is wrong.
+pub fn first_wrong(alloc: Global, cases: &[Case]) -> Result<Option<usize>, AllocError> {
+    for (place, (line, expected)) in cases.iter().enumerate() {
+        if fault(alloc, line)? != *expected {
+            return Ok(Some(place));
+        }
+    }
+    Ok(None)
+}
