@@ -10,6 +10,3 @@ pub use divisors::Divisor;
 pub use fractions::{Fraction, rounded_up};
 pub use root::{isqrt_down, isqrt_up};
 pub use span::Span;
-
-#[cfg(test)]
-mod tests;

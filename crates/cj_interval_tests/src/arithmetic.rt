@@ -1,6 +1,7 @@
+//! Sums, products, fractions and roots by their numbers.
 ghost use Rattle.std.specs.Prelude.{◌≡◌, ◌≤ℤ◌};
 
-use super::*;
+use cj_interval::{Divisor, Span, isqrt_down, isqrt_up};
 use std::test::Fail;
 
 fn span(lo: i128, hi: i128) -> Span
