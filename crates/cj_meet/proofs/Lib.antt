@@ -8,5 +8,4 @@ pub mod RootLemmas
 pub mod SearchLemmas
 pub mod SpanLemmas
 pub mod SquareBoundLemmas
-pub mod TestLemmas
 pub mod TickLemmas

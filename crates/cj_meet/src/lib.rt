@@ -14,8 +14,3 @@ pub use approach_list::closest_approaches;
 pub use approaching::closest;
 pub use cj_bezier::{Closest, Encounter, Mark};
 pub use meeting::encounters;
-
-#[cfg(test)]
-mod approach_tests;
-#[cfg(test)]
-mod tests;

@@ -1,9 +1,10 @@
+//! Which leaves are one encounter.
 ghost use Rattle.std.specs.Prelude.{◌≡◌, ◌+◌, ◌<◌, ◌≤◌};
 
-use crate::encounters;
 use cj_bezier::{Cell, Encounter, Kind, Leaf, Mark};
 use cj_epoch::Tick;
 use cj_hermite::Pair;
+use cj_meet::encounters;
 use std::test::Fail;
 
 const START: u64 = 1_735_689_600_000_000;

@@ -1,10 +1,11 @@
+//! Closest approaches of two tracks.
 ghost use Rattle.std.specs.Prelude.{◌≡◌, ◌<◌, ◌≤◌, length, IfOk, IfSome};
 ghost use Rattle.cj_hermite.specs.Problems.{plain_problem};
 ghost use Rattle.cj_hermite.specs.Roots.{KeepIntervals};
 
-use crate::{closest, closest_approaches, encounters};
 use cj_bezier::{Cell, Closest, Kind, Leaf};
 use cj_hermite::{Pair, PairHint, Problem, next_common};
+use cj_meet::{closest, closest_approaches, encounters};
 use cj_samples::{AT_7000, AT_7005, AT_7100, moving, rest, tick, track_of, track_of_two};
 use cj_scenes::{crossing, problem_of, resting};
 use cj_track::Vec3;

@@ -1,4 +1,4 @@
--- What the tests of closest approaches need: a common run of two tracks keeps the intervals of both.
+-- A common run of two tracks keeps the intervals of both.
 use Rattle.std.proofs.Common.{◌≡◌, ℕ, ◌+◌, List, ◌∷◌, map, length, get_or, sym, ap, subst, ◌∙◌, arith}
 use Rattle.cj_interval.proofs.ListLemmas.{Each}
 use Rattle.cj_epoch.specs.declared.tick.Window.{Window}

@@ -1,7 +1,7 @@
 use Rattle.std.proofs.Common.{List, get_or, ap, ◌∙◌}
 use Rattle.cj_track.specs.declared.track.Track.{Track}
-use Rattle.cj_meet.proofs.TestLemmas.{keeps_run}
-use Rattle.cj_meet.proofs.approach_tests.leaf.Goals as goal
+use Rattle.cj_meet_tests.proofs.KeptLemmas.{keeps_run}
+use Rattle.cj_meet_tests.proofs.approaches.leaf.Goals as goal
 
 pub returns-clause-keeps : goal.returns-clause-keeps
 returns-clause-keeps c =
