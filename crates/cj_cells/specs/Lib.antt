@@ -1,3 +1,4 @@
 pub mod Cells
 pub mod Lists
 pub mod Looks
+pub mod ReadyPairs

@@ -2,17 +2,20 @@
 #![tactic(auto)]
 
 mod listing;
+mod looker;
 mod looking;
 mod ordering;
 mod outcome;
 mod preparing;
 mod ready_look;
+mod ready_pair;
 mod refine_error;
 mod refining;
 mod rooting;
 
 pub use listing::{leaves_of, refine_all};
-pub use looking::{look, look_next};
+pub use looker::Looker;
+pub use looking::look;
 pub use ordering::order_roots;
 pub use outcome::Look;
 pub use refine_error::RefineError;

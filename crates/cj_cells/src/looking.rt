@@ -1,12 +1,12 @@
 //! The look at a cell of a problem.
 ghost use Rattle.std.specs.Prelude.{◌≡◌};
 ghost use Rattle.cj_hermite.specs.Problems.{plain_problem};
-ghost use Rattle.cj_bezier.specs.Cells.{plain_cell};
+ghost use Rattle.cj_bezier.specs.Cells.{AreHalves, plain_cell};
 ghost use Rattle.cj_bezier.specs.RootLeaves.{kind_of_cell};
 ghost use Rattle.cj_cells.specs.Looks.{kind_found, IfClosed, IfHalves};
-ghost use Rattle.cj_bezier.specs.Cells.{AreHalves};
 ghost use Rattle.cj_hermite.specs.Roots.{KeepIntervals};
 
+use crate::looker::Looker;
 use crate::outcome::Look;
 use crate::preparing::prepare;
 use crate::ready_look::look_at;
@@ -14,25 +14,49 @@ use cj_bezier::Cell;
 use cj_hermite::Problem;
 use cj_interval::Divisor;
 
-/// The leaf of a cell whose ticks have the same two pieces, where they are of one kind, or else its halves.
+/// How long the pieces of most ephemerides are: a minute of ticks.
+pub(crate) const USUAL_SPAN: u64 = 60_000_000;
+
+impl<'p> Looker<'p> {
+    /// Looks at cells of a problem.
+    pub fn new(problem: &'p Problem) -> Self
+        ensures { result ≡ problem.now }
+    {
+        Looker {
+            problem,
+            last: None,
+        }
+    }
+
+    /// The leaf of a cell whose ticks have the same two pieces, where they are of one kind, or else its halves. Its pieces are made
+    /// ready where they are not those of the last cell for which that was done.
+    pub fn look(&mut self, cell: Cell) -> Look
+        requires { KeepIntervals (plain_problem self.old) cell.pair.a cell.pair.b cell.first.micros cell.last.micros }
+        ensures same { self.new ≡ self.old }
+        ensures kind { kind_found result ≡ kind_of_cell (plain_problem self.old) (plain_cell cell) }
+        ensures closed { IfClosed result (λ leaf. leaf.cell ≡ cell) }
+        ensures halved { IfHalves result (AreHalves cell) }
+    {
+        let threshold = self.problem.pair_threshold(cell.pair);
+        let mut like = Divisor::new(USUAL_SPAN);
+        if let Some(last) = &self.last {
+            if last.are_of(cell) {
+                return look_at(&last.a, &last.b, threshold, cell);
+            }
+            like = last.b.divisor;
+        }
+        let ready = prepare(self.problem, cell, &like);
+        self.last = Some(ready);
+        look_at(&ready.a, &ready.b, threshold, cell)
+    }
+}
+
+/// The same for one cell alone.
 pub fn look(problem: &Problem, cell: Cell) -> Look
     requires { KeepIntervals (plain_problem problem.now) cell.pair.a cell.pair.b cell.first.micros cell.last.micros }
     ensures kind { kind_found result ≡ kind_of_cell (plain_problem problem.now) (plain_cell cell) }
     ensures closed { IfClosed result (λ leaf. leaf.cell ≡ cell) }
     ensures halved { IfHalves result (AreHalves cell) }
 {
-    look_next(problem, cell, &mut Divisor::new(1))
-}
-
-/// The same where many cells are looked at in turn: their pieces are made ready for less where they are as long as those of the
-/// last one. What the divisor is at first changes nothing but the time.
-pub fn look_next(problem: &Problem, cell: Cell, divisor: &mut Divisor) -> Look
-    requires { KeepIntervals (plain_problem problem.now) cell.pair.a cell.pair.b cell.first.micros cell.last.micros }
-    ensures kind { kind_found result ≡ kind_of_cell (plain_problem problem.now) (plain_cell cell) }
-    ensures closed { IfClosed result (λ leaf. leaf.cell ≡ cell) }
-    ensures halved { IfHalves result (AreHalves cell) }
-{
-    let (a, b) = prepare(problem, cell, divisor);
-    *divisor = b.divisor;
-    look_at(&a, &b, problem.pair_threshold(cell.pair), cell)
+    Looker::new(problem).look(cell)
 }

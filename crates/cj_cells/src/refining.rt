@@ -9,6 +9,7 @@ ghost use Rattle.cj_bezier.specs.Halving.{leaves_between};
 ghost use Rattle.cj_bezier.specs.Cells.{plain_cell};
 ghost use Rattle.cj_cells.specs.Cells.{added_stretches};
 
+use crate::looking::USUAL_SPAN;
 use crate::outcome::Look;
 use crate::preparing::prepare;
 use crate::ready_look::look_at;
@@ -18,9 +19,6 @@ use cj_epoch::Tick;
 use cj_hermite::{Problem, Ready};
 use cj_interval::Divisor;
 use std::alloc::Global;
-
-/// How long the pieces of most ephemerides are: a minute of ticks.
-const USUAL_SPAN: u64 = 60_000_000;
 
 /// How many parts of a cell wait at most: one more than the halvings of 2^32 ticks, and a piece is shorter than that.
 const PLACES: usize = 33;
@@ -103,7 +101,7 @@ pub fn refine(
     ensures kept { take (vec_len leaves.old) leaves.new.items ≡ leaves.old.items }
     ensures root { All (λ leaf. leaf.cell.root ≡ cell.root) (drop (vec_len leaves.old) leaves.new.items) }
 {
-    let (a, b) = prepare(problem, cell, &Divisor::new(USUAL_SPAN));
+    let ready = prepare(problem, cell, &Divisor::new(USUAL_SPAN));
     let threshold = problem.pair_threshold(cell.pair);
-    refine_between(&a, &b, threshold, cell, limit, leaves)
+    refine_between(&ready.a, &ready.b, threshold, cell, limit, leaves)
 }

@@ -8,8 +8,7 @@ use crate::run::Run;
 use crate::station::Station;
 use arrayvec::ArrayVec;
 use cj_bezier::{Cell, Leaf};
-use cj_hermite::Problem;
-use cj_interval::Divisor;
+use cj_cells::Looker;
 use cj_ledger::Share;
 use std::marker::{Model, PhantomData};
 
@@ -17,14 +16,12 @@ use std::marker::{Model, PhantomData};
 /// the problem is the run's, that each leaf is what its cell was found to be, and that no cell is lost.
 #[derive(Drop)]
 pub struct Hand<'p, K: Run> {
-    pub(crate) problem: &'p Problem,
+    pub(crate) looker: Looker<'p>,
     pub(crate) station: Station<K>,
     pub(crate) kept: ArrayVec<Cell, 32>,
     pub(crate) leaves: Vec<Leaf>,
     pub(crate) share: Share,
     pub(crate) wants: u64,
-    /// What pieces of the last cell were made ready with.
-    pub(crate) divisor: Divisor,
     pub(crate) of: PhantomData<K>,
 }
 
@@ -37,12 +34,12 @@ impl<'p, K: Run> Model for Hand<'p, K> {
 
     ghost Value = { HandSeen };
 
-    ghost view = { λ h. hand_seen h.station.number h.problem.now (deques h.station.below.items) (worker_deque h.station.own) (deques h.station.above.items)
+    ghost view = { λ h. hand_seen h.station.number h.looker (deques h.station.below.items) (worker_deque h.station.own) (deques h.station.above.items)
         (takens h.station.below.items) (worker_view h.station.own) (takens h.station.above.items) h.kept.items h.leaves.items h.share h.wants };
 
-    ghost invariant = { λ h. (h.problem.now ≡ K.problem) × AreReady h.station.below.items × AreReady h.station.above.items
+    ghost invariant = { λ h. (h.looker ≡ K.problem) × AreReady h.station.below.items × AreReady h.station.above.items
         × IsSeated K.workers h.station.own × (length h.station.below.items ≡ h.station.number)
-        × Accounts (plain_problem K.problem) K.roots K.workers (hand_seen h.station.number h.problem.now (deques h.station.below.items) (worker_deque h.station.own) (deques h.station.above.items)
+        × Accounts (plain_problem K.problem) K.roots K.workers (hand_seen h.station.number h.looker (deques h.station.below.items) (worker_deque h.station.own) (deques h.station.above.items)
         (takens h.station.below.items) (worker_view h.station.own) (takens h.station.above.items) h.kept.items h.leaves.items h.share h.wants) };
 }
 

@@ -12,8 +12,8 @@ use crate::hand::Hand;
 use crate::run::Run;
 use crate::station::Station;
 use arrayvec::ArrayVec;
+use cj_cells::Looker;
 use cj_hermite::Problem;
-use cj_interval::Divisor;
 use cj_ledger::Share;
 use std::alloc::{AllocError, Global};
 use std::marker::PhantomData;
@@ -43,14 +43,14 @@ pub(crate) fn seat<'p, K: Run>(
         let Some(share) = shares.pop() else {
             unreachable!()
         };
+        let looker = Looker::new(problem);
         hands.push(Hand {
-            problem,
+            looker,
             station,
             kept: ArrayVec::new(),
             leaves: Vec::new(alloc),
             share,
             wants: 0,
-            divisor: Divisor::new(1),
             of: PhantomData,
         })?;
     }

@@ -38,13 +38,12 @@ fn take_one<'p, K: Run>(parts: &mut Parts<K>, hand: Hand<'p, K>) -> Result<(), A
     ensures account { Accounts (plain_problem K.problem) K.roots K.workers hand.entry }
 {
     let Hand {
-        problem: _,
+        looker: _,
         station,
         kept,
         leaves,
         share,
         wants: _,
-        divisor: _,
         of: _,
     } = hand;
     parts.stations.push(station)?;

@@ -20,7 +20,7 @@ use crate::turn::Turn;
 use crate::work::Work;
 use arrayvec::ArrayVec;
 use cj_bezier::Cell;
-use cj_cells::{Look, look_next};
+use cj_cells::Look;
 use cj_ledger::{Ledger, Share, Why};
 use std::alloc::{AllocError, Global};
 
@@ -114,7 +114,7 @@ impl<'p, K: Run> Hand<'p, K> {
         let Some(cell) = picked else {
             return Ok(without_cell(refinery.ledger.live(&mut self.share)));
         };
-        match look_next(self.problem, cell, &mut self.divisor) {
+        match self.looker.look(cell) {
             Look::Closed(leaf) => {
                 self.leaves.push_reserved(leaf);
                 refinery.ledger.close(&mut self.share);

@@ -23,12 +23,12 @@ invariant_of-push g c =
     r.stations r.len.0 r.len.1 r.unused r.dealt r.shares i.stations i.shares i.same i.few c.in-Some.ensures.items c.in-Some-pop.ensures.items in
     let is = seat.station in
     let len : length ds ≡ n = length-map all own_deque ∙ r.len.0 in (
-      r.problem,
+      c.new-looker.ensures ∙ r.problem,
       is.ready_below,
       is.ready_above,
       seated n (length rest) ds s is len seat.below,
       below_length n (length rest) ds s is len seat.below,
-      seated_accounts n (length rest) ds s is len seat.below (plain_problem g.K.Run.problem) g.K.Run.roots c.args.problem.now c.new.result.items
+      seated_accounts n (length rest) ds s is len seat.below (plain_problem g.K.Run.problem) g.K.Run.roots c.new-looker.result c.new.result.items
           c.new-in-Some.result.items c.in-Some-pop.share c.new.ensures c.new-in-Some.ensures.items seat.unused
           r.roots seat.opening seat.new,
     )
@@ -64,7 +64,7 @@ loop-station-preserved g c =
           (all_before (λ (h : HandSeen). h.deques ≡ own_deques all) l.hands.items _ i.deques (all_deques n k ds s is len seat.below));
       unstarted = subst (λ hs. All IsUnstarted (reverse hs)) (sym items)
           (all_before IsUnstarted l.hands.items _ i.unstarted
-          (seated_unstarted n k ds s is len seat.below (plain_problem g.K.Run.problem) g.K.Run.roots c.args.problem.now c.new.result.items
+          (seated_unstarted n k ds s is len seat.below (plain_problem g.K.Run.problem) g.K.Run.roots c.new-looker.result c.new.result.items
           c.new-in-Some.result.items c.in-Some-pop.share c.new.ensures c.new-in-Some.ensures.items seat.unused));
       opening = subst (λ hs. All (λ (h : HandSeen). h.opening ≡ roots_dealt g.K.Run.roots n h.number) (reverse hs)) (sym items)
           (all_before (λ (h : HandSeen). h.opening ≡ roots_dealt g.K.Run.roots n h.number) l.hands.items _ i.opening

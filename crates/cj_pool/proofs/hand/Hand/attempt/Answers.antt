@@ -18,17 +18,17 @@ use Rattle.cj_pool.proofs.TreeLemmas.{tree_keeps, tree_halves}
 use Rattle.cj_pool.proofs.TurnLemmas.{keeps_here, halved_here, closed_here, leaf_here, came_as, came_to, keeps_first, keeps_both, room, alone_settled, leaf_of, made_of, where_parted, without_of, still_of, sets_after}
 use Rattle.cj_pool.proofs.hand.Hand.attempt.Goals as goal
 
-pub look_next-requires : goal.look_next-requires
-look_next-requires g c =
+pub look-requires : goal.look-requires
+look-requires g c =
     let told = c.in-Some-picked.ensures {u = tt} in
-    keeps_here (plain_problem g.K.Run.problem) (plain_problem c.self.inside.problem.now) g.K.Run.roots c.in-Some-picked.cell (ap plain_problem c.self.invariant.0) c.self.invariant.5.roots_are told.cell
+    keeps_here (plain_problem g.K.Run.problem) (plain_problem c.self.inside.looker) g.K.Run.roots c.in-Some-picked.cell (ap plain_problem c.self.invariant.0) c.self.invariant.5.roots_are told.cell
 
 pub invariant_of-self-in-Closed : goal.invariant_of-self-in-Closed
 invariant_of-self-in-Closed g c =
     let i = c.self.inside in
     let inv = c.self.invariant in
     let case = plain_problem g.K.Run.problem in
-    let case' = plain_problem i.problem.now in
+    let case' = plain_problem i.looker in
     let roots = g.K.Run.roots in
     let problem = ap plain_problem inv.0 in
     let e = c.pick-picked.ensures in
@@ -39,12 +39,12 @@ invariant_of-self-in-Closed g c =
     let kept = c.pick-picked.new.kept.items in
     let count = c.halted.ensures.count in
     let close = c.close.ensures.count in (
-      inv.0,
+      c.look.ensures.same ∙ inv.0,
       e.below.1,
       e.above.1,
       e.seated.0,
       e.place,
-      closed_accounts case roots g.K.Run.workers _ _ inv.5 (record { number = e.number; problem = refl; opening = e.own.0 })
+      closed_accounts case roots g.K.Run.workers _ _ inv.5 (record { number = e.number; problem = c.look.ensures.same; opening = e.own.0 })
           (λ j. around (e.below.0 j) (e.seated.1 j) (e.above.0 j))
           (record {
             leaf = leaf;
@@ -112,7 +112,7 @@ returns-in-Closed-clause-made g c =
     let i = c.self.inside in
     let inv = c.self.invariant in
     let case = plain_problem g.K.Run.problem in
-    let case' = plain_problem i.problem.now in
+    let case' = plain_problem i.looker in
     let roots = g.K.Run.roots in
     let problem = ap plain_problem inv.0 in
     let e = c.pick-picked.ensures in
@@ -137,7 +137,7 @@ part_halves-requires-clause-tree g c =
     let look = c.in-Halves.ensures {u = tt} in
     let case = plain_problem g.K.Run.problem in
     let cell : Cell = c.in-Some-picked.cell in
-    (tree_halves case g.K.Run.roots cell c.in-Halves.first c.in-Halves.second told.cell (halved_here case (plain_problem c.self.inside.problem.now) cell c.in-Halves.first c.in-Halves.second (ap plain_problem c.self.invariant.0) look.halved look.kind)).1
+    (tree_halves case g.K.Run.roots cell c.in-Halves.first c.in-Halves.second told.cell (halved_here case (plain_problem c.self.inside.looker) cell c.in-Halves.first c.in-Halves.second (ap plain_problem c.self.invariant.0) look.halved look.kind)).1
 
 pub part_halves-requires-clause-room : goal.part_halves-requires-clause-room
 part_halves-requires-clause-room g c = room c.pick-picked.new.kept.items c.in-Some-picked.cell (c.in-Some-picked.ensures {u = tt}).narrow
@@ -147,7 +147,7 @@ returns-in-Closed-clause-hand g c =
     let e = c.pick-picked.ensures in
     still_of c.args.refinery.now _ _ _ c.self.view_is c.requires (λ j. around (e.below.0 j) (e.seated.1 j) (e.above.0 j))
     (c.close.ensures.ledger ∙ c.halted.ensures.ledger ∙ ap (λ (h : HandSeen). h.share.ledger) c.self.view_is ∙ c.requires.1.0, ap (λ (v : Count). v.opening) c.close.ensures.count ∙ ap (λ (v : Count). v.opening) c.halted.ensures.count ∙ ap (λ (h : HandSeen). h.share.count.opening) c.self.view_is ∙ c.requires.1.1)
-    (record { number = e.number; problem = refl; opening = e.own.0 })
+    (record { number = e.number; problem = c.look.ensures.same; opening = e.own.0 })
 
 pub returns-in-Closed-clause-wants : goal.returns-in-Closed-clause-wants
 returns-in-Closed-clause-wants g c = ap (λ (h : HandSeen). h.wants) c.self.view_is
@@ -225,7 +225,7 @@ invariant_of-self-in-Halves g c =
     let look = c.in-Halves.ensures {u = tt} in
     let first : Cell = c.in-Halves.first in
     let second : Cell = c.in-Halves.second in
-    let halved = halved_here case (plain_problem i.problem.now) cell first second (ap plain_problem inv.0) look.halved look.kind in
+    let halved = halved_here case (plain_problem i.looker) cell first second (ap plain_problem inv.0) look.halved look.kind in
     let kept : List Cell = c.pick-picked.new.kept.items in
     let ps = c.pick-picked.new.station in
     let same = c.part_halves.ensures.same in
@@ -233,12 +233,12 @@ invariant_of-self-in-Halves g c =
     let firsts = c.count_halving.ensures.firsts ∙ ap (λ (v : Count). v.firsts + 1) c.halted.ensures.count in
     where_parted c.part_halves.result (worker_view ps.own) (worker_view c.part_halves.new.own) kept c.part_halves.new.kept.items first second c.part_halves.ensures.parted
     (λ parted. (
-      inv.0,
+      c.look.ensures.same ∙ inv.0,
       e.below.1,
       e.above.1,
       still_seated g.K.Run.workers ps.own c.part_halves.new.own same (ap (λ (v : Account). v.parts) parted.own) (ap (λ (v : Account). v.all) parted.own) e.seated.0,
       e.place,
-      split_accounts case roots g.K.Run.workers _ _ inv.5 (record { number = e.number; problem = refl; opening = ap (λ (v : Account). v.opening) parted.own ∙ e.own.0 })
+      split_accounts case roots g.K.Run.workers _ _ inv.5 (record { number = e.number; problem = c.look.ensures.same; opening = ap (λ (v : Account). v.opening) parted.own ∙ e.own.0 })
           (λ j. around (e.below.0 j) ((same.0 ∙ e.seated.1) j) (e.above.0 j))
           (record {
             cell = cell;
@@ -258,12 +258,12 @@ invariant_of-self-in-Halves g c =
           firsts,
     ))
     (λ parted. (
-      inv.0,
+      c.look.ensures.same ∙ inv.0,
       e.below.1,
       e.above.1,
       still_seated g.K.Run.workers ps.own c.part_halves.new.own same (ap (λ (v : Account). v.parts) parted.own) (ap (λ (v : Account). v.all) parted.own) e.seated.0,
       e.place,
-      kept_accounts case roots g.K.Run.workers _ _ inv.5 (record { number = e.number; problem = refl; opening = ap (λ (v : Account). v.opening) parted.own ∙ e.own.0 })
+      kept_accounts case roots g.K.Run.workers _ _ inv.5 (record { number = e.number; problem = c.look.ensures.same; opening = ap (λ (v : Account). v.opening) parted.own ∙ e.own.0 })
           (λ j. around (e.below.0 j) ((same.0 ∙ e.seated.1) j) (e.above.0 j))
           (record {
             cell = cell;
@@ -294,7 +294,7 @@ returns-in-Halves-clause-made g c =
     let look = c.in-Halves.ensures {u = tt} in
     let first : Cell = c.in-Halves.first in
     let second : Cell = c.in-Halves.second in
-    let halved = halved_here case (plain_problem i.problem.now) cell first second (ap plain_problem inv.0) look.halved look.kind in
+    let halved = halved_here case (plain_problem i.looker) cell first second (ap plain_problem inv.0) look.halved look.kind in
     let kept : List Cell = c.pick-picked.new.kept.items in
     let ps = c.pick-picked.new.station in
     made_of case _ _ _ _ c.part_halves.result (worker_view ps.own) (worker_view c.part_halves.new.own) kept c.part_halves.new.kept.items first second c.self.view_is c.part_halves.ensures.parted
@@ -331,7 +331,7 @@ returns-in-Halves-clause-hand g c =
     c.in-Halves.first c.in-Halves.second c.part_halves.ensures.parted (λ parted. ap (λ (v : Account). v.opening) parted.own) (λ parted. ap (λ (v : Account). v.opening) parted.own) in
     still_of c.args.refinery.now _ _ _ c.self.view_is c.requires (λ j. around (e.below.0 j) ((same.0 ∙ e.seated.1) j) (e.above.0 j))
     (subst (λ (l : LedgerSeen). IsOf l c.count_halving.new.share) (ap (λ (r : RefinerySeen). r.ledger) c.refinery.view_is) c.count_halving.ensures.ledger)
-    (record { number = e.number; problem = refl; opening = opening ∙ e.own.0 })
+    (record { number = e.number; problem = c.look.ensures.same; opening = opening ∙ e.own.0 })
 
 pub returns-in-Halves-clause-wants : goal.returns-in-Halves-clause-wants
 returns-in-Halves-clause-wants g c = ap (λ (h : HandSeen). h.wants) c.self.view_is
