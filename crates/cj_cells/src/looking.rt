@@ -51,7 +51,7 @@ impl<'p> Looker<'p> {
     }
 }
 
-/// The same for one cell alone.
+/// The leaf of a cell whose ticks have the same two pieces, where they are of one kind, or else its halves: a look at one cell alone.
 pub fn look(problem: &Problem, cell: Cell) -> Look
     requires { KeepIntervals (plain_problem problem.now) cell.pair.a cell.pair.b cell.first.micros cell.last.micros }
     ensures kind { kind_found result ≡ kind_of_cell (plain_problem problem.now) (plain_cell cell) }
