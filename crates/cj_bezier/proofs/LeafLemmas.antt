@@ -2,11 +2,11 @@
 use Rattle.std.proofs.Common.{◌≡◌, ℕ, zero, suc, ◌+◌, ◌-◌, ◌^◌, ◌<◌, ◌≤◌, List, [], ◌∷◌, ◌++◌, length, Option, Some, None, refl, sym, ap, subst, ◌∙◌, arith, length-append}
 use Rattle.std.specs.List.{flat_map}
 use Rattle.cj_hermite.specs.Interpolant.{Curve, IsOver}
-use Rattle.cj_hermite.specs.PlainProblems.{PlainProblem, curve_at, threshold_of}
+use Rattle.cj_hermite.specs.PlainProblems.{PlainProblem, curve_at, threshold_of, HaveCurves}
 use Rattle.cj_hermite.specs.Roots.{PlainCell}
 use Rattle.cj_hermite.proofs.RootLemmas.{IsRootOf}
 use Rattle.cj_hermite.proofs.ObjectLemmas.{of_objects}
-use Rattle.cj_hermite.proofs.CurveLemmas.{HaveCurves, Curves, curves, curves_of, root_intervals}
+use Rattle.cj_hermite.proofs.CurveLemmas.{Curves, curves, curves_of, root_intervals}
 use Rattle.cj_hermite.proofs.TrackLemmas.{over_part}
 use Rattle.cj_bezier.specs.declared.kind.Kind.{Kind}
 use Rattle.cj_bezier.specs.Leaves.{PlainLeaf, IsTickOf}

@@ -1,6 +1,6 @@
 -- A generated file is short.
 use Rattle.std.proofs.Common.{ℕ, zero, suc, ◌+◌, ◌*◌, ◌/◌, ◌%◌, ◌^◌, ◌<◌, ◌≤◌, List, [], ◌∷◌, ◌++◌, Bool, true, false, length, decimal, ap, arith}
-use Rattle.std.specs.Prelude.{ℤ, pos, flat_map, int_lt, if◌then◌else◌, unsigned_abs}
+use Rattle.std.specs.Prelude.{ℤ, pos, flat_map, int_lt, unsigned_abs}
 use Rattle.std.specs.List.{range_with_len}
 use Rattle.std.proofs.lemmas.Fmt.{length-decimal-le}
 use Rattle.std.proofs.lemmas.List.{length-append}

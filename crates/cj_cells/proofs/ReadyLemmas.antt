@@ -8,7 +8,7 @@ use Rattle.cj_hermite.specs.declared.pair.Pair.{Pair}
 use Rattle.cj_hermite.proofs.TrackLemmas.{over_part}
 use Rattle.cj_bezier.specs.declared.cell.Cell.{Cell}
 use Rattle.cj_cells.specs.declared.ready_pair.ReadyPair.{ReadyPair}
-use Rattle.cj_cells.specs.ReadyPairs.{AreReady}
+use Rattle.cj_cells.specs.ReadyPairs.{IsReadyPair}
 
 -- they are the interpolants at the cell's first tick, and give places over all of its ticks
 pub record AreFor (case : PlainProblem) (c : Cell) (r : ReadyPair) : Type 0 where
@@ -17,17 +17,17 @@ pub record AreFor (case : PlainProblem) (c : Cell) (r : ReadyPair) : Type 0 wher
   pub first_over : IsOver (curve_ready r.a) c.first.micros c.last.micros
   pub second_over : IsOver (curve_ready r.b) c.first.micros c.last.micros
 
-pub for_part : (case : PlainProblem) (c : Cell) (r : ReadyPair) → AreReady case r → c.pair.a ≡ r.pair.a → c.pair.b ≡ r.pair.b → r.first.micros ≤ c.first.micros → c.last.micros ≤ r.last.micros → AreFor case c r
+pub for_part : (case : PlainProblem) (c : Cell) (r : ReadyPair) → IsReadyPair case r → c.pair.a ≡ r.pair.a → c.pair.b ≡ r.pair.b → r.first.micros ≤ c.first.micros → c.last.micros ≤ r.last.micros → AreFor case c r
 for_part case c r are a b from to =
     let some = c.some in
     record {
-      first = ap (λ (k : ℕ). curve_at case k c.first.micros) a ∙ are.first_curve c.first.micros from (omega arith);
-      second = ap (λ (k : ℕ). curve_at case k c.first.micros) b ∙ are.second_curve c.first.micros from (omega arith);
+      first = ap (λ (k : ℕ). curve_at case k c.first.micros) a ∙ are.curves.first_curve c.first.micros from (omega arith);
+      second = ap (λ (k : ℕ). curve_at case k c.first.micros) b ∙ are.curves.second_curve c.first.micros from (omega arith);
       first_over = over_part (curve_ready r.a) r.first.micros r.last.micros c.first.micros c.last.micros are.first_over from to;
       second_over = over_part (curve_ready r.b) r.first.micros r.last.micros c.first.micros c.last.micros are.second_over from to;
     }
 
-pub for_all : (case : PlainProblem) (c : Cell) (r : ReadyPair) → AreReady case r → r.pair ≡ c.pair → r.first ≡ c.first → r.last ≡ c.last → AreFor case c r
+pub for_all : (case : PlainProblem) (c : Cell) (r : ReadyPair) → IsReadyPair case r → r.pair ≡ c.pair → r.first ≡ c.first → r.last ≡ c.last → AreFor case c r
 for_all case c r are pair first last =
     let from = ap (λ (t : Tick). t.micros) first in
     let to = ap (λ (t : Tick). t.micros) last in

@@ -14,11 +14,11 @@ impl<'p> Model for Looker<'p> {
     ghost use Rattle.std.specs.Prelude.{IfSome};
     ghost use Rattle.cj_hermite.specs.declared.problem.Problem.{Problem};
     ghost use Rattle.cj_hermite.specs.Problems.{plain_problem};
-    ghost use Rattle.cj_cells.specs.ReadyPairs.{AreReady};
+    ghost use Rattle.cj_cells.specs.ReadyPairs.{IsReadyPair};
 
     ghost Value = { Problem };
 
     ghost view = { λ l. l.problem.now };
 
-    ghost invariant = { λ l. IfSome l.last (AreReady (plain_problem l.problem.now)) };
+    ghost invariant = { λ l. IfSome l.last (IsReadyPair (plain_problem l.problem.now)) };
 }

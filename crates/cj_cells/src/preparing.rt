@@ -2,7 +2,7 @@
 ghost use Rattle.std.specs.Prelude.{◌≡◌};
 ghost use Rattle.cj_hermite.specs.Problems.{plain_problem};
 ghost use Rattle.cj_hermite.specs.Roots.{KeepIntervals};
-ghost use Rattle.cj_cells.specs.ReadyPairs.{AreReady};
+ghost use Rattle.cj_cells.specs.ReadyPairs.{IsReadyPair};
 
 use crate::ready_pair::ReadyPair;
 use cj_bezier::Cell;
@@ -16,7 +16,7 @@ pub(crate) fn prepare(problem: &Problem, cell: Cell, like: &Divisor) -> ReadyPai
     ensures pair { result.pair ≡ cell.pair }
     ensures first { result.first ≡ cell.first }
     ensures last { result.last ≡ cell.last }
-    ensures ready { AreReady (plain_problem problem.now) result }
+    ensures ready { IsReadyPair (plain_problem problem.now) result }
 {
     let first = piece_of(problem, cell.pair.a, cell.first);
     let second = piece_of(problem, cell.pair.b, cell.first);

@@ -16,9 +16,9 @@ use Rattle.cj_cert.specs.declared.rank.Rank.TheVariants as rank
 use Rattle.cj_cert.specs.Certificates.{PlainBoxLine}
 use Rattle.cj_cert.specs.Fits.{FitsSize, FitsShell, FitsBox, FitsCell}
 use Rattle.cj_cert.specs.Lines as spec
-use Rattle.cj_cert.specs.Lines.{PlainLine, Heading, Window, Threshold, Objects, Size, Shell, Box, Cell, End, rank_of, said_by, in_range, is_from, is_tick, is_object, is_slot}
+use Rattle.cj_cert.specs.Lines.{PlainLine, Heading, Window, Threshold, Objects, Size, Shell, Box, Cell, End, rank_of, said_by, in_range, is_from, is_tick, is_object}
 use Rattle.cj_hermite.specs.Limits.{MAX_SIZE}
-use Rattle.cj_cert.specs.Lines.{is_radius, is_coordinate, is_reach, object_of, MAX_OBJECTS, MAX_THRESHOLD}
+use Rattle.cj_cert.specs.Lines.{is_radius, MAX_OBJECTS, MAX_THRESHOLD}
 use Rattle.cj_cert.specs.Readers.{HasNoNumber}
 use Rattle.cj_cert.specs.Texts.{number, ends, kind_word}
 use Rattle.cj_cert.proofs.WordLemmas.{AreAbove, AreSmall, AreWords, texts_words, nothing_first, other_first}

@@ -16,7 +16,7 @@ use Rattle.cj_cert.specs.declared.rank.Rank.{Rank}
 use Rattle.cj_cert.specs.declared.rank.Rank.TheVariants as rank
 use Rattle.cj_cert.specs.Lines as spec
 use Rattle.cj_hermite.specs.Limits.{MAX_SIZE}
-use Rattle.cj_cert.specs.Lines.{PlainLine, Heading, said_by, in_range, is_from, is_tick, is_object, is_radius, is_coordinate, is_reach, MAX_OBJECTS, MAX_THRESHOLD}
+use Rattle.cj_cert.specs.Lines.{PlainLine, Heading, said_by, in_range, is_from, is_tick, is_object, is_radius, is_coordinate, MAX_OBJECTS, MAX_THRESHOLD}
 use Rattle.cj_cert.specs.Readers.{capped}
 use Rattle.cj_cert.proofs.LineLemmas.{box_test, box_tests, from_range, reach_parts, small_coordinate}
 

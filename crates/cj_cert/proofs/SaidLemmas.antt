@@ -9,7 +9,7 @@ use Rattle.cj_cert.specs.declared.rank.Rank.{Rank}
 use Rattle.cj_cert.specs.declared.rank.Rank.TheVariants as rank
 use Rattle.cj_cert.specs.Certificates.{PlainCertificate}
 use Rattle.cj_cert.specs.Lines as spec
-use Rattle.cj_cert.specs.Lines.{PlainLine, line_said, rank_of, said, said_by}
+use Rattle.cj_cert.specs.Lines.{PlainLine, line_said, said, said_by}
 use Rattle.cj_cert.specs.Numbers.{numbers_in, others_in}
 use Rattle.cj_cert.specs.Readers.{Tells, capped, plain_line}
 use Rattle.cj_cert.specs.Ranks.{has_ended}

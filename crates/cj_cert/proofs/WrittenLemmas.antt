@@ -11,10 +11,10 @@ use Rattle.cj_track.specs.PlainTracks.{PlainTrack}
 use Rattle.cj_hermite.specs.Interpolant.{Curve}
 use Rattle.cj_hermite.specs.Pairs.{pairs_of}
 use Rattle.cj_hermite.specs.Pieces.{interval_index_at}
-use Rattle.cj_hermite.specs.PlainProblems.{PlainProblem, threshold_of, curve_at}
+use Rattle.cj_hermite.specs.PlainProblems.{PlainProblem, threshold_of, curve_at, HaveCurves}
 use Rattle.cj_hermite.specs.Roots.{PlainCell, roots_in, roots_of, slots_of}
 use Rattle.cj_hermite.specs.Slots.{slot_first, slot_last, slot_count}
-use Rattle.cj_hermite.proofs.CurveLemmas.{HaveCurves, Curves, curves, curves_of, root_intervals}
+use Rattle.cj_hermite.proofs.CurveLemmas.{Curves, curves, curves_of, root_intervals}
 use Rattle.cj_hermite.proofs.ObjectLemmas.{of_objects}
 use Rattle.cj_hermite.proofs.RootLemmas.{IsRootOf, Each-roots}
 use Rattle.cj_bezier.specs.declared.kind.Kind.{Kind}

@@ -1,12 +1,11 @@
 -- Each test decides what it tests.
 use Rattle.std.proofs.Common.{◌≡◌, ℕ, zero, suc, ◌+◌, ◌-◌, ◌<◌, ◌≤◌, Bool, true, false, ◌&&◌, ◌||◌, ◌⊎◌, List, [], ◌∷◌, ◌++◌, length, drop, Option, Some, None, refl, sym, ap, subst, inl, inr, arith}
-use Rattle.std.specs.Prelude.{All, IsSomeAnd, ◌==◌, not, nat_le, ℤ, ◌≤ℤ◌, int_le, is_some, slice_get}
+use Rattle.std.specs.Prelude.{All, IsSomeAnd, ◌==◌, not, nat_le, ℤ, is_some, slice_get}
 use Rattle.std.specs.Bool.{Decides}
 use Rattle.std.specs.List.{list_all, list_any, range_with_len}
 use Rattle.std.specs.Option.{option_map_or}
 use Rattle.std.proofs.lemmas.Bool.{and_parts, cases_eq, leb-true, le-leb, not-true}
 use Rattle.std.proofs.lemmas.Bool.Decides.{Decides-and, Decides-by_and, Decides-eqb}
-use Rattle.std.proofs.lemmas.Int.{ints}
 use Rattle.cj_interval.proofs.IntegerLemmas.{decides_le}
 use Rattle.cj_track.specs.PlainTracks.{PlainTrack}
 use Rattle.cj_hermite.specs.Interpolant.{Four}

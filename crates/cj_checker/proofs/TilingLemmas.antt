@@ -1,14 +1,13 @@
 -- Roots that cells tile, cell by cell, run by run and key by key.
 use Rattle.std.proofs.Common.{◌≡◌, ℕ, zero, suc, ◌+◌, ◌-◌, ◌<◌, ◌≤◌, true, List, [], ◌∷◌, map, drop, length, get_or, Option, Some, None, refl, sym, ap, ◌∙◌, subst, arith}
 use Rattle.std.specs.Prelude.{option_map}
-use Rattle.std.specs.List.{range_with_len}
 use Rattle.cj_epoch.specs.declared.tick.Window.{Window}
 use Rattle.cj_track.specs.declared.track.Track.{Track}
 use Rattle.cj_track.specs.Tracks.{plain_track}
 use Rattle.cj_hermite.specs.declared.pair.Pair.{Pair}
 use Rattle.cj_hermite.specs.declared.problem.Problem.{Problem}
 use Rattle.cj_hermite.specs.declared.common_run.CommonRun.{CommonRun}
-use Rattle.cj_hermite.specs.CommonRuns.{both, both_numbers, runs_over, runs_between, run_of, IsNextCommon}
+use Rattle.cj_hermite.specs.CommonRuns.{both, both_numbers, runs_between, run_of, IsNextCommon}
 use Rattle.cj_hermite.specs.Interpolant.{Curve, curve_of, IsOver}
 use Rattle.cj_hermite.specs.Pieces.{interval_at, curve_of_interval}
 use Rattle.cj_hermite.specs.PlainProblems.{PlainProblem, threshold_of, curve_at}

@@ -1,5 +1,5 @@
 -- A sweep along the x axis over the boxes of a slot.
-use Rattle.std.specs.Prelude.{◌≡◌, ◌⊎◌, ℕ, ◌+◌, ◌<◌, true, pos, ◌+ℤ◌, ◌-ℤ◌, ◌≤ℤ◌, List, All, map, length, Option, Some, slice_index}
+use Rattle.std.specs.Prelude.{◌≡◌, ℕ, ◌+◌, ◌<◌, true, pos, ◌+ℤ◌, ◌-ℤ◌, ◌≤ℤ◌, List, All, map, length, Option, Some, slice_index}
 use Rattle.std.specs.List.{AllPairs, Contains}
 use Rattle.cj_hermite.specs.declared.pair.Pair.{Pair}
 use Rattle.cj_hermite.specs.declared.problem.Problem.{Problem}

@@ -8,10 +8,11 @@ ghost use Rattle.cj_epoch.specs.Reading.{CALENDAR, ORDINAL, Gives, reading_of, c
 ghost use Rattle.cj_epoch.specs.Ticks.{IsTickDay};
 
 use crate::days::{day_at_date, day_at_ordinal};
-use crate::digits::{are_digits, are_zeros, number, raised};
+use crate::digits::{are_zeros, raised};
 use crate::fault::EpochFault;
 use crate::picture::begins_like;
 use crate::tick::{DAY, SECOND, Tick};
+use cj_kvn::{has_digits_alone, number_of_digits};
 
 /// The tick that an epoch text says, in one of the forms `YYYY-MM-DDThh:mm:ss` and `YYYY-DDDThh:mm:ss`, with decimals of the
 /// second and `Z` behind it or not.
@@ -39,14 +40,14 @@ fn read_calendar(text: &[u8]) -> Result<Tick, EpochFault>
     ensures { Gives result (calendar_reading text.now) }
 {
     let day = day_at_date(
-        number(&text[..4]),
-        number(&text[5..7]),
-        number(&text[8..10]),
+        number_of_digits(&text[..4]),
+        number_of_digits(&text[5..7]),
+        number_of_digits(&text[8..10]),
     );
     let second = second_of_day(
-        number(&text[11..13]),
-        number(&text[14..16]),
-        number(&text[17..19]),
+        number_of_digits(&text[11..13]),
+        number_of_digits(&text[14..16]),
+        number_of_digits(&text[17..19]),
     );
     moment(day, second, &text[19..])
 }
@@ -57,11 +58,11 @@ fn read_ordinal(text: &[u8]) -> Result<Tick, EpochFault>
     requires long { 17 ≤ length text.now }
     ensures { Gives result (ordinal_reading text.now) }
 {
-    let day = day_at_ordinal(number(&text[..4]), number(&text[5..8]));
+    let day = day_at_ordinal(number_of_digits(&text[..4]), number_of_digits(&text[5..8]));
     let second = second_of_day(
-        number(&text[9..11]),
-        number(&text[12..14]),
-        number(&text[15..17]),
+        number_of_digits(&text[9..11]),
+        number_of_digits(&text[12..14]),
+        number_of_digits(&text[15..17]),
     );
     moment(day, second, &text[17..])
 }
@@ -106,7 +107,7 @@ fn decimals_of(ending: &[u8]) -> Option<&[u8]>
 {
     match without_zulu(ending) {
         [] => Some(&[]),
-        [b'.', digits @ ..] if !digits.is_empty() && are_digits(digits) => Some(digits),
+        [b'.', digits @ ..] if !digits.is_empty() && has_digits_alone(digits) => Some(digits),
         _ => None,
     }
 }
@@ -129,7 +130,7 @@ fn micros_of(decimals: &[u8]) -> Result<u32, EpochFault>
 {
     let (six, rest) = decimals.split_at(decimals.len().min(6));
     if are_zeros(rest) {
-        Ok(raised(number(six), 6 - six.len()))
+        Ok(raised(number_of_digits(six), 6 - six.len()))
     } else {
         Err(EpochFault::TooFine)
     }

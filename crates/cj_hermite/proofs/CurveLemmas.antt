@@ -2,16 +2,11 @@
 use Rattle.std.proofs.Common.{◌≡◌, ℕ, ◌≤◌, true, Option, Some, None, refl, sym, ap, ◌∙◌, arith}
 use Rattle.std.specs.Prelude.{is_some}
 use Rattle.cj_hermite.specs.Interpolant.{Curve}
-use Rattle.cj_hermite.specs.PlainProblems.{PlainProblem, number_at, curve_at}
+use Rattle.cj_hermite.specs.PlainProblems.{PlainProblem, number_at, curve_at, HaveCurves}
 use Rattle.cj_hermite.specs.CommonRuns.{both}
 use Rattle.cj_hermite.specs.Roots.{PlainCell, KeepIntervals}
 use Rattle.cj_hermite.proofs.RootLemmas.{IsRootOf}
 use Rattle.cj_hermite.proofs.ObjectLemmas.{same_curve, curve_exists}
-
--- at each tick from first to last the objects a and b have these interpolants
-pub record HaveCurves (case : PlainProblem) (a b first last : ℕ) (c d : Curve) : Type 0 where
-  pub first_curve : (m : ℕ) → first ≤ m → m ≤ last → curve_at case a m ≡ Some c
-  pub second_curve : (m : ℕ) → first ≤ m → m ≤ last → curve_at case b m ≡ Some d
 
 -- two labels that are the same come of the same numbers
 pub same_numbers : (i j i' j' : Option ℕ) → is_some (both i' j') ≡ true → both i j ≡ both i' j' → (i ≡ i') × (j ≡ j')

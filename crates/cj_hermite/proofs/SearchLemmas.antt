@@ -1,5 +1,5 @@
 -- Segments and nodes are in order, and what a binary search over them finds.
-use Rattle.std.proofs.Common.{◌≡◌, ℕ, zero, suc, ◌+◌, ◌-◌, ◌<◌, ◌≤◌, inl, inr, eq-or-lt_of_le, min, List, [], ◌∷◌, length, get_or, Bool, true, false, not, Option, Some, None, refl, ap, ◌∙◌, subst, arith, leb}
+use Rattle.std.proofs.Common.{◌≡◌, ℕ, zero, suc, ◌+◌, ◌-◌, ◌<◌, ◌≤◌, inl, inr, eq-or-lt_of_le, min, List, [], ◌∷◌, length, get_or, Bool, true, false, not, Option, Some, None, refl, ap, subst, arith, leb}
 use Rattle.std.specs.Prelude.{MatchOption, ◌↔◌}
 use Rattle.std.specs.Option.{SomeIff}
 use Rattle.std.specs.List.Sorted.{IsNonDecreasing, IsNonDecreasingBy, IsPartitionPoint}

@@ -29,6 +29,11 @@ number_at case object m = option_and_then (λ e. interval_index_at e m) (slice_g
 unfoldable pub curve_at : PlainProblem → ℕ → ℕ → Option Curve
 curve_at case object m = option_map curve_of_interval (option_and_then (λ e. interval_at e m) (slice_get case.ephemerides object))
 
+-- at each tick from first to last the objects a and b have these interpolants
+pub record HaveCurves (case : PlainProblem) (a b first last : ℕ) (c d : Curve) : Type 0 where
+  pub first_curve : (m : ℕ) → first ≤ m → m ≤ last → curve_at case a m ≡ Some c
+  pub second_curve : (m : ℕ) → first ≤ m → m ≤ last → curve_at case b m ≡ Some d
+
 -- the objects a and b both have a state at the tick, and this holds of their interpolants
 abbrev pub OfObjectsAt : PlainProblem → ℕ → ℕ → ℕ → (Curve → Curve → Type 0) → Type 0
 OfObjectsAt case a b m P = IsSomeAnd (slice_get case.ephemerides a) (λ e. IsSomeAnd (slice_get case.ephemerides b) (λ f. OfBothAt e f m P))

@@ -4,6 +4,7 @@ ghost use Rattle.std.specs.Str.Parse.{digits_value, digits_value_after, signed_d
 ghost use Rattle.cj_kvn.specs.Numbers.{are_digits, is_exponent, is_number, number, parts_of};
 ghost use Rattle.cj_kvn.specs.Scanning.{Begins, Leads, after_fraction, after_run, exponent_said, fraction_run, run};
 
+use crate::digits::{has_digits_alone, number_of_digits};
 use crate::leading::{Leading, Scanned};
 
 /// The number that a text says, or none where it has not the form of a number.
@@ -108,7 +109,7 @@ fn read_power(text: &[u8]) -> Option<i64>
     if !is_short_run(digits) {
         return None;
     }
-    let size = i64::from(value_of(digits));
+    let size = i64::from(number_of_digits(digits));
     Some(if negative { -size } else { size })
 }
 
@@ -117,23 +118,4 @@ fn is_short_run(text: &[u8]) -> bool
     ensures { result ≡ (nat_le 1 (length text.now) && nat_le (length text.now) 4 && are_digits text.now) }
 {
     1 <= text.len() && text.len() <= 4 && has_digits_alone(text)
-}
-
-fn has_digits_alone(text: &[u8]) -> bool
-    ensures { result ≡ are_digits text.now }
-{
-    text.iter().all(|b| b.is_ascii_digit())
-}
-
-fn value_of(digits: &[u8]) -> u32
-    requires all { IsTrue (are_digits digits.now) }
-    requires short { length digits.now ≤ 4 }
-    ensures value { result ≡ digits_value 10 digits.now }
-    ensures small { result < 10 ^ 4 }
-{
-    let mut value = 0;
-    for b in digits {
-        value = value * 10 + u32::from(*b - b'0');
-    }
-    value
 }

@@ -4,6 +4,8 @@
 #[cfg(test)]
 mod decimals;
 #[cfg(test)]
+mod digits;
+#[cfg(test)]
 mod lines;
 #[cfg(test)]
 mod scaled;

@@ -15,9 +15,9 @@ use Rattle.cj_track.specs.PlainTracks.{PlainTrack}
 use Rattle.cj_hermite.specs.Distance.{BAND, IsWithinAt, square_bound, square_distance}
 use Rattle.cj_hermite.specs.Interpolant.{Curve, IsOver}
 use Rattle.cj_hermite.specs.Pieces.{PlainPiece, interval_at, curve_of_interval, OfBothAt}
-use Rattle.cj_hermite.specs.PlainProblems.{PlainProblem, curve_at, OfObjectsAt}
+use Rattle.cj_hermite.specs.PlainProblems.{PlainProblem, curve_at, OfObjectsAt, HaveCurves}
 use Rattle.cj_hermite.specs.Roots.{KeepIntervals}
-use Rattle.cj_hermite.proofs.CurveLemmas.{HaveCurves, have_curves}
+use Rattle.cj_hermite.proofs.CurveLemmas.{have_curves}
 use Rattle.cj_hermite.proofs.ObjectLemmas.{of_objects}
 use Rattle.cj_hermite.proofs.TrackLemmas.{over_part}
 use Rattle.cj_bezier.specs.declared.encounter.Closest.{Closest}

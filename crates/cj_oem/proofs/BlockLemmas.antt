@@ -1,6 +1,6 @@
 -- Blocks: from the metadata on, the lines that are accepted are those of blocks, and each block is accepted.
 use Rattle.std.proofs.Common.{◌≡◌, ℕ, zero, suc, ◌<◌, ◌≤◌, ◌⊎◌, inl, inr, ⊎_elim, List, [], ◌∷◌, ◌++◌, length, Bool, true, false, IsSomeAnd, Option, Some, None, Result, Ok, arith, ap, sym, ◌∙◌, refl, subst}
-use Rattle.std.specs.Prelude.{◌&&◌, not, nat_le, nat_lt}
+use Rattle.std.specs.Prelude.{not, nat_le, nat_lt}
 use Rattle.std.proofs.lemmas.Bool.{leb-true, ltb-false, not-false}
 use Rattle.std.proofs.lemmas.Bool.Decides.{nat_tests}
 use Rattle.std.proofs.lemmas.List.{append_assoc, append-nil, length-append}

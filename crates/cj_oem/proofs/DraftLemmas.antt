@@ -6,7 +6,7 @@ use Rattle.std.proofs.lemmas.Slice.{take-put_mid}
 use Rattle.std.proofs.lemmas.List.{append-nil, drop_all, drop_more, map-append}
 use Rattle.std.proofs.lemmas.List.Elements.{All-append, All-drop, All-take}
 use Rattle.cj_kvn.specs.Numbers.{Number}
-use Rattle.cj_kvn.specs.Decimals.{IsReadable, decimal_of, is_tiny, is_huge, number_of, zero_number}
+use Rattle.cj_kvn.specs.Decimals.{IsReadable, decimal_of, number_of}
 use Rattle.cj_kvn.specs.declared.decimals.Decimal.{Decimal}
 pub use Rattle.cj_kvn.proofs.DecimalLemmas.{written_more}
 use Rattle.cj_oem.specs.declared.fault.OemCause.{OemCause}

@@ -1,5 +1,5 @@
 -- The leaves of all hands and of the open cells, once they are sorted, are the leaves of the roots.
-use Rattle.std.proofs.Common.{◌≡◌, ℕ, zero, suc, ◌+◌, ◌^◌, ◌<◌, ◌≤◌, Bool, true, false, cond, ◌&&◌, eqb, leb, List, [], ◌∷◌, ◌++◌, length, get_or, take, drop, refl, sym, ap, ◌∙◌, subst, arith, length-append, inl, inr}
+use Rattle.std.proofs.Common.{◌≡◌, ℕ, zero, suc, ◌+◌, ◌^◌, ◌<◌, ◌≤◌, Bool, true, cond, ◌&&◌, eqb, leb, List, [], ◌∷◌, ◌++◌, length, get_or, take, drop, refl, sym, ap, ◌∙◌, subst, arith, length-append, inl, inr}
 use Rattle.std.specs.Prelude.{All, AllPairs, Contains}
 use Rattle.std.specs.List.{flat_map, range_with_len}
 use Rattle.std.specs.List.Sorted.{IsPermutation}

@@ -3,9 +3,9 @@ use Rattle.std.proofs.Common.{◌≡◌, ℕ, ◌+◌, ◌^◌, ◌<◌, ◌≤�
 use Rattle.std.specs.List.{flat_map}
 use Rattle.cj_interval.proofs.ListLemmas.{Each, Each-weaker, Each-flat_map, Ordered, Ordered-flat_map, each_from_All, ordered_from_AllPairs, exists_from_Any, Exists}
 use Rattle.cj_hermite.specs.Interpolant.{Curve}
-use Rattle.cj_hermite.specs.PlainProblems.{PlainProblem, threshold_of}
+use Rattle.cj_hermite.specs.PlainProblems.{PlainProblem, threshold_of, HaveCurves}
 use Rattle.cj_hermite.specs.Roots.{PlainCell, KeepIntervals, IsRootBefore}
-use Rattle.cj_hermite.proofs.CurveLemmas.{HaveCurves, Curves, curves, curves_of}
+use Rattle.cj_hermite.proofs.CurveLemmas.{Curves, curves, curves_of}
 use Rattle.cj_bezier.specs.declared.cell.Cell.{Cell}
 use Rattle.cj_bezier.specs.declared.kind.Kind.{Kind}
 use Rattle.cj_bezier.specs.declared.leaf.Leaf.{Leaf}

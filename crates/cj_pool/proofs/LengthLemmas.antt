@@ -5,8 +5,7 @@ use Rattle.cj_interval.proofs.ListLemmas.{each_from_All, each_at}
 use Rattle.cj_track.specs.PlainTracks.{PlainTrack}
 use Rattle.cj_hermite.specs.Interpolant.{Curve, IsOver}
 use Rattle.cj_hermite.specs.Pieces.{intervals_of, interval_at, curve_of_interval}
-use Rattle.cj_hermite.specs.PlainProblems.{PlainProblem, curve_at}
-use Rattle.cj_hermite.proofs.CurveLemmas.{HaveCurves}
+use Rattle.cj_hermite.specs.PlainProblems.{PlainProblem, curve_at, HaveCurves}
 use Rattle.cj_hermite.proofs.ObjectLemmas.{within_at}
 use Rattle.cj_hermite.proofs.StateLemmas.{has, lacks, state}
 use Rattle.cj_hermite.specs.Lengths.{Rises, IsRising, HaveLengths}

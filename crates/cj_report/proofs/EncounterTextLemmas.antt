@@ -6,7 +6,7 @@ use Rattle.cj_bezier.specs.declared.encounter.Encounter.{Encounter}
 use Rattle.cj_bezier.specs.declared.leaf.Leaf.{Leaf}
 use Rattle.cj_bezier.specs.Leaves.{PlainLeaf, plain_leaves}
 use Rattle.cj_bezier.specs.declared.encounter.Closest.{Closest}
-use Rattle.cj_meet.specs.Closest.{PlainClosest, plain_closest, some_closest}
+use Rattle.cj_meet.specs.Closest.{PlainClosest, some_closest}
 use Rattle.cj_meet.specs.Encounters.{first_object, second_object, mark_of, stretches_in, groups_in, Describes}
 use Rattle.cj_meet.specs.Spans.{spans_of}
 use Rattle.cj_meet.proofs.EncounterLemmas.{described_objects, stretches_in_leaves}

@@ -1,5 +1,5 @@
 -- What is counted in a case.
-use Rattle.std.specs.Prelude.{ℕ, ◌-◌, Bool, true, false, List, length, count_by}
+use Rattle.std.specs.Prelude.{ℕ, ◌-◌, Bool, List, length, count_by}
 use Rattle.cj_hermite.specs.PlainProblems.{PlainProblem}
 use Rattle.cj_hermite.specs.Pairs.{pairs_of}
 use Rattle.cj_bezier.specs.declared.kind.Kind.{Kind}

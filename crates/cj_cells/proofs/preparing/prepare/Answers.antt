@@ -13,12 +13,10 @@ returns-clause-ready c =
     let a = c.ready-a.result in
     let b = c.ready.result in
     let keep = c.requires in
-    let have = have_curves case cell.pair.a cell.pair.b cell.first.micros cell.last.micros (curve_ready a) (curve_ready b) cell.some keep
-    (c.piece_of-first.ensures ∙ ap (λ (k : Curve). Some k) (sym c.ready-a.ensures))
-    (c.piece_of-second.ensures ∙ ap (λ (k : Curve). Some k) (sym c.ready.ensures)) in
     record {
-      first_curve = have.first_curve;
-      second_curve = have.second_curve;
+      curves = have_curves case cell.pair.a cell.pair.b cell.first.micros cell.last.micros (curve_ready a) (curve_ready b) cell.some keep
+          (c.piece_of-first.ensures ∙ ap (λ (k : Curve). Some k) (sym c.ready-a.ensures))
+          (c.piece_of-second.ensures ∙ ap (λ (k : Curve). Some k) (sym c.ready.ensures));
       first_over = subst (λ (k : Curve). IsOver k cell.first.micros cell.last.micros) (sym c.ready-a.ensures)
           (first_is_over case cell.pair.a cell.pair.b cell.first.micros cell.last.micros c.piece_of-first.result cell.some keep c.piece_of-first.ensures);
       second_over = subst (λ (k : Curve). IsOver k cell.first.micros cell.last.micros) (sym c.ready.ensures)

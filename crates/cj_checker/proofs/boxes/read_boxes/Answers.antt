@@ -1,4 +1,4 @@
-use Rattle.std.proofs.Common.{◌≡◌, ◌∙◌, ◌+◌, ℕ, Bool, length, map, refl, sym, ap, arith}
+use Rattle.std.proofs.Common.{◌∙◌, ◌+◌, Bool, map, refl, sym, ap, arith}
 use Rattle.cj_track.specs.Tracks.{plain_track}
 use Rattle.cj_hermite.specs.Problems.{plain_problem}
 use Rattle.cj_cert.specs.Certificates.{plain_box_line}

@@ -1,4 +1,4 @@
-use Rattle.std.proofs.Common.{◌≡◌, ◌+◌, ◌≤◌, Bool, cond, None, get_or, sym, subst, ◌∙◌, arith}
+use Rattle.std.proofs.Common.{◌≡◌, ◌+◌, ◌≤◌, Bool, cond, None, get_or, sym, subst, ◌∙◌}
 use Rattle.std.specs.Prelude.{is_some, true}
 use Rattle.cj_grid.proofs.BucketLemmas.{other_there}
 use Rattle.cj_grid.proofs.bucket_pairs.append_with.Goals as goal

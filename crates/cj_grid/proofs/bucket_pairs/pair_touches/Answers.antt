@@ -1,4 +1,4 @@
-use Rattle.std.proofs.Common.{ℕ, ◌<◌, None, Some, get_or, length, refl, sym, subst, ap, ◌∙◌}
+use Rattle.std.proofs.Common.{ℕ, ◌<◌, None, Some, get_or, refl, sym, subst, ap, ◌∙◌}
 use Rattle.cj_bezier.specs.SlotBoxes.{are_touching}
 use Rattle.cj_grid.proofs.BucketLemmas.{at_least, earlier, far_most, touch_by_boxes}
 use Rattle.cj_grid.proofs.bucket_pairs.pair_touches.Goals as goal

@@ -1,5 +1,4 @@
-use Rattle.std.proofs.Common.{◌∙◌, ◌-◌, ℕ, List, get_or, subst, sym, ap, arith}
-use Rattle.cj_hermite.specs.Searches.{IsPlace}
+use Rattle.std.proofs.Common.{◌-◌, ℕ, List, get_or, ap}
 use Rattle.cj_hermite.proofs.PieceLemmas.{place_from}
 use Rattle.cj_hermite.proofs.finding.by_number.Goals as goal
 

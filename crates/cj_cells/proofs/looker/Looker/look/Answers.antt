@@ -9,7 +9,7 @@ use Rattle.cj_bezier.specs.Cells.{plain_cell}
 use Rattle.cj_bezier.specs.RootLeaves.{kind_of_cell}
 use Rattle.cj_bezier.proofs.LeafLemmas.{kind_of}
 use Rattle.cj_cells.specs.declared.ready_pair.ReadyPair.{ReadyPair}
-use Rattle.cj_cells.specs.ReadyPairs.{AreReady}
+use Rattle.cj_cells.specs.ReadyPairs.{IsReadyPair}
 use Rattle.cj_cells.proofs.ReadyLemmas.{for_all, for_part}
 use Rattle.cj_cells.proofs.looker.Looker.look.Goals as goal
 
@@ -25,7 +25,7 @@ returns-then-are_of-clause-kind c =
     let case = plain_problem c.self.inside.problem.now in
     let r = c.in-Some.last in
     let told = c.if-are_of.ensures in
-    let are = for_part case c.args.cell r (subst (λ (o : Option ReadyPair). IfSome o (AreReady case)) c.in-Some.is c.self.invariant) (told.first_object refl) (told.second_object refl) (told.from refl) (told.to refl) in
+    let are = for_part case c.args.cell r (subst (λ (o : Option ReadyPair). IfSome o (IsReadyPair case)) c.in-Some.is c.self.invariant) (told.first_object refl) (told.second_object refl) (told.from refl) (told.to refl) in
     c.look_at.ensures.kind
     ∙ kind_of case (plain_cell c.args.cell) (curve_ready r.a) (curve_ready r.b) c.pair_threshold-threshold.result are.first are.second c.pair_threshold-threshold.ensures.value
     ∙ ap (λ (p : Problem). kind_of_cell (plain_problem p) (plain_cell c.args.cell)) c.self.view_is

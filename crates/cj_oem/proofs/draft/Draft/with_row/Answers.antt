@@ -6,7 +6,7 @@ use Rattle.cj_kvn.specs.Decimals.{number_of}
 use Rattle.cj_kvn.specs.Fields.{fields}
 use Rattle.cj_kvn.specs.Ranges.{text_at}
 use Rattle.cj_oem.specs.Drafts.{draft_of}
-use Rattle.cj_oem.proofs.DraftLemmas.{count_most, row_added, row_kept, row_written}
+use Rattle.cj_oem.proofs.DraftLemmas.{row_added, row_kept, row_written}
 use Rattle.cj_oem.proofs.draft.Draft.with_row.Goals as goal
 
 pub returns : goal.returns

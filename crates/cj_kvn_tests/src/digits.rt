@@ -1,0 +1,28 @@
+use cj_kvn::{has_digits_alone, number_of_digits};
+use std::test::Fail;
+
+#[test]
+fn digits_write_their_number(rt: HostRuntime) -> Result<(), Fail> {
+    assert_eq!(rt; number_of_digits(b""), 0);
+    assert_eq!(rt; number_of_digits(b"7"), 7);
+    assert_eq!(rt; number_of_digits(b"0190"), 190);
+    assert_eq!(rt; number_of_digits(b"999999"), 999_999);
+    Ok(())
+}
+
+#[test]
+fn other_bytes_are_no_digits(rt: HostRuntime) -> Result<(), Fail> {
+    let texts: [(&[u8], bool); 7] = [
+        (b"", true),
+        (b"0", true),
+        (b"0123456789", true),
+        (b"/", false),
+        (b":", false),
+        (b"12a", false),
+        (b" 12", false),
+    ];
+    for (text, alone) in &texts {
+        assert_eq!(rt; has_digits_alone(text), *alone);
+    }
+    Ok(())
+}
