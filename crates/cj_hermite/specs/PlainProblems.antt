@@ -1,5 +1,5 @@
 -- Cases: what a run is asked, apart from how a program keeps it.
-use Rattle.std.specs.Prelude.{ℕ, ◌+◌, ◌<◌, ◌≤◌, List, Option, option_map, option_and_then, slice_get, slice_index, IsSomeAnd}
+use Rattle.std.specs.Prelude.{◌≡◌, ℕ, ◌+◌, ◌<◌, ◌≤◌, List, Option, Some, option_map, option_and_then, slice_get, slice_index, IsSomeAnd}
 use Rattle.cj_track.specs.PlainTracks.{PlainTrack}
 use Rattle.cj_hermite.specs.Interpolant.{Curve}
 use Rattle.cj_hermite.specs.Pieces.{interval_at, interval_index_at, curve_of_interval, OfBothAt}

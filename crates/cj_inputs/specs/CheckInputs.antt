@@ -8,6 +8,7 @@ use Rattle.cj_hermite.specs.Problems.{plain_problem}
 use Rattle.cj_status.specs.declared.status.Status.{Status}
 use Rattle.cj_status.specs.declared.status.Status.TheVariants.{NotAccepted}
 use Rattle.cj_status.specs.declared.status.CertificateCause.TheVariants.{NoFile}
+use Rattle.cj_status.specs.Steps.{◌>>=◌}
 use Rattle.cj_inputs.specs.declared.check_inputs.CheckInputs.{CheckInputs}
 use Rattle.cj_inputs.specs.Cases.{case_asked}
 use Rattle.cj_inputs.specs.ObjectSizes.{first_named}

@@ -9,6 +9,7 @@ use Rattle.cj_track.specs.PlainTracks.{PlainTrack}
 use Rattle.cj_status.specs.declared.status.Status.{Status}
 use Rattle.cj_status.specs.declared.status.Status.TheVariants.{BadFile}
 use Rattle.cj_status.specs.declared.status.FileCause.TheVariants.{Sizes, NoSizes}
+use Rattle.cj_status.specs.Steps.{◌>>=◌}
 use Rattle.cj_inputs.specs.Readings.{within_bytes}
 
 -- the number of the first file with a name

@@ -1,14 +1,10 @@
 -- Numbers of up to twenty digits.
-use Rattle.std.proofs.Common.{ℕ, ◌^◌, ◌≤◌, List, length, arith}
+use Rattle.std.proofs.Common.{ℕ, ◌≤◌, List, length, arith}
 use Rattle.std.specs.Prelude.{IsTrue}
 use Rattle.std.specs.Char.{is_ascii_digit}
 use Rattle.std.specs.List.{list_all}
 use Rattle.std.proofs.lemmas.Bool.Decides.{nat_tests}
-use Rattle.std.proofs.Math.Nat.{pow-le-pow_right}
 use Rattle.cj_words.specs.Settings.{is_number}
-
-pub ten_small : (n : ℕ) → n ≤ 20 → 10 ^ n ≤ 10 ^ 20
-ten_small n small = pow-le-pow_right (omega arith) small
 
 -- the parts of the test
 pub record IsNumber (text : List ℕ) : Type 0 where

@@ -6,6 +6,8 @@ ghost use Rattle.std.specs.Option.{SomeIff};
 ghost use Rattle.std.specs.Str.Parse.{digits_value};
 ghost use Rattle.cj_words.specs.Settings as spec;
 
+use cj_kvn::has_digits_alone;
+
 /// The number that one to twenty decimal digits say.
 pub fn read_number(text: &[u8]) -> Option<u128>
     ensures { SomeIff result (IsTrue (spec.is_number text.now)) (digits_value 10 text.now) }
@@ -20,13 +22,7 @@ pub fn read_number(text: &[u8]) -> Option<u128>
 fn is_number(text: &[u8]) -> bool
     ensures { result ≡ spec.is_number text.now }
 {
-    1 <= text.len() && text.len() <= 20 && are_digits(text)
-}
-
-fn are_digits(text: &[u8]) -> bool
-    ensures { result ≡ list_all is_ascii_digit text.now }
-{
-    text.iter().all(|b| b.is_ascii_digit())
+    1 <= text.len() && text.len() <= 20 && has_digits_alone(text)
 }
 
 fn value_of(digits: &[u8]) -> u128

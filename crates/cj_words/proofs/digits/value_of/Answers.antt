@@ -1,13 +1,13 @@
 use Rattle.std.proofs.Common.{arith}
-use Rattle.cj_epoch.proofs.DigitLemmas.{digit_at, value_more, ten_more}
-use Rattle.cj_words.proofs.DigitLemmas.{ten_small}
+use Rattle.cj_kvn.proofs.PowerLemmas.{ten_more, ten_grows}
+use Rattle.cj_kvn.proofs.RunLemmas.{digit_at, value_more}
 use Rattle.cj_words.proofs.digits.value_of.Goals as goal
 
 pub overflow_mul-value : goal.overflow_mul-value
-overflow_mul-value c = omega (arith, ten_small c.loop-digit.digit-index (omega arith))
+overflow_mul-value c = omega (arith, ten_grows c.loop-digit.digit-index 20 (omega arith))
 
 pub overflow_add-value : goal.overflow_add-value
-overflow_add-value c = omega (arith, ten_small c.loop-digit.digit-index (omega arith), digit_at c.args.digits.now c.loop-digit.digit-index c.requires.all c.loop-digit-test.true)
+overflow_add-value c = omega (arith, ten_grows c.loop-digit.digit-index 20 (omega arith), digit_at c.args.digits.now c.loop-digit.digit-index c.requires.all c.loop-digit-test.true)
 
 pub loop-digit-preserved : goal.loop-digit-preserved
 loop-digit-preserved c =
