@@ -1,13 +1,15 @@
 -- Runs of slots: one slot more, and a run with the one behind it.
-use Rattle.std.proofs.Common.{◌≡◌, ℕ, ◌+◌, ◌-◌, ◌<◌, ◌≤◌, ◌++◌, [], length, vec_len, sym, ap, ◌∙◌, arith, append-nil, length-append}
+use Rattle.std.proofs.Common.{◌≡◌, ℕ, ◌+◌, ◌-◌, ◌<◌, ◌≤◌, ◌++◌, List, [], length, vec_len, sym, ap, subst, ◌∙◌, arith, append-nil, length-append}
 use Rattle.std.specs.Prelude.{Result, Ok, Err, IfOk, IsErrOf}
 use Rattle.std.specs.List.{flat_map, range_with_len, sum_by}
+use Rattle.std.specs.List.Sorted.{IsPermutation}
 use Rattle.std.proofs.lemmas.List.{length-map}
 use Rattle.std.proofs.lemmas.List.Concat.{flat_map-append}
+use Rattle.std.proofs.lemmas.List.Sorted.{IsPermutation-append, IsPermutation-trans, length_permutation}
 use Rattle.std.proofs.lemmas.List.Sums.{sum_by-append, sum_by-cons}
 use Rattle.cj_interval.proofs.RangeLemmas.{range_cut}
 use Rattle.cj_hermite.specs.PlainProblems.{PlainProblem}
-use Rattle.cj_hermite.specs.Roots.{roots_in_slot}
+use Rattle.cj_hermite.specs.Roots.{PlainCell, roots_in_slot}
 use Rattle.cj_bezier.specs.Cells.{plain_cell, plain_cells}
 use Rattle.cj_bezier.specs.Looked.{pairs_looked}
 use Rattle.cj_cells.specs.declared.refine_error.RefineError.{RefineError}
@@ -88,14 +90,14 @@ back_fails case from a b n limit e sum sought = record {
 
 roots_counted : (case : PlainProblem) (from count limit : ℕ) (run : SlotRun) → IsFound case from count limit run → vec_len run.roots ≡ length (roots_over case from count)
 roots_counted case from count limit run found =
-    let same = ap length found.roots in
+    let same = length_permutation _ _ found.roots in
     omega (arith, same, length-map run.roots.items plain_cell, run.roots.ok.0)
 
 -- both runs together
 pub both_found : (case : PlainProblem) (from a b n limit : ℕ) (front back : SlotRun) (r : Result SlotRun RefineError) → n ≡ a + b
     → IsFound case from a limit front → IsFound case (from + a) b limit back
     → (IsErrOf r TooMany → limit < vec_len front.roots + vec_len back.roots)
-    → IfOk r (λ run. plain_cells run.roots.items ≡ plain_cells front.roots.items ++ plain_cells back.roots.items)
+    → IfOk r (λ run. IsPermutation (plain_cells front.roots.items ++ plain_cells back.roots.items) (plain_cells run.roots.items))
     → IfOk r (λ run. vec_len run.roots ≤ limit) → IfOk r (λ run. run.touching ≡ front.touching + back.touching) → AreSought case from n limit r
 both_found case from a b n limit front back r sum one two many roots few touching =
     let whole = ap (λ (k : ℕ). roots_over case from k) sum ∙ roots_both case from a b in
@@ -109,12 +111,12 @@ both_found case from a b n limit front back r sum one two many roots few touchin
       found = go r roots few touching;
     }
   where
-    go : (r : Result SlotRun RefineError) → IfOk r (λ run. plain_cells run.roots.items ≡ plain_cells front.roots.items ++ plain_cells back.roots.items)
+    go : (r : Result SlotRun RefineError) → IfOk r (λ run. IsPermutation (plain_cells front.roots.items ++ plain_cells back.roots.items) (plain_cells run.roots.items))
         → IfOk r (λ run. vec_len run.roots ≤ limit) → IfOk r (λ run. run.touching ≡ front.touching + back.touching) → IfOk r (IsFound case from n limit)
     go (Err e) roots few touching = tt
     go (Ok run) roots few touching = record {
-      roots = roots ∙ ap (λ cs. cs ++ plain_cells back.roots.items) one.roots ∙ ap (λ cs. roots_over case from a ++ cs) two.roots
-          ∙ sym (ap (λ (k : ℕ). roots_over case from k) sum ∙ roots_both case from a b);
+      roots = subst (λ (rs : List PlainCell). IsPermutation rs (plain_cells run.roots.items)) (sym (ap (λ (k : ℕ). roots_over case from k) sum ∙ roots_both case from a b))
+          (IsPermutation-trans _ _ _ (IsPermutation-append (roots_over case from a) (plain_cells front.roots.items) (roots_over case (from + a) b) (plain_cells back.roots.items) one.roots two.roots) roots);
       few = few;
       touching = touching ∙ ap (λ (k : ℕ). k + back.touching) one.touching ∙ ap (λ (k : ℕ). looked_over case from a + k) two.touching
           ∙ sym (ap (λ (k : ℕ). looked_over case from k) sum ∙ looked_both case from a b);

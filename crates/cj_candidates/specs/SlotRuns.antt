@@ -1,6 +1,7 @@
 -- What is found in a run of slots.
 use Rattle.std.specs.Prelude.{◌≡◌, ℕ, ◌*◌, ◌<◌, ◌≤◌, List, length, vec_len, Result, IfOk, IsErrOf}
 use Rattle.std.specs.List.{flat_map, range_with_len, sum_by}
+use Rattle.std.specs.List.Sorted.{IsPermutation}
 use Rattle.cj_hermite.specs.PlainProblems.{PlainProblem}
 use Rattle.cj_hermite.specs.Roots.{PlainCell, roots_in_slot}
 use Rattle.cj_bezier.specs.Cells.{plain_cells}
@@ -17,9 +18,9 @@ roots_over case from count = flat_map (λ slot. roots_in_slot case slot (pairs_l
 abbrev pub looked_over : PlainProblem → ℕ → ℕ → ℕ
 looked_over case from count = sum_by (λ slot. length (pairs_looked case slot)) (range_with_len from count)
 
--- these are found, at most so many
+-- these are found, in whatever order, at most so many
 pub record IsFound (case : PlainProblem) (from count limit : ℕ) (run : SlotRun) : Type 0 where
-  pub roots : plain_cells run.roots.items ≡ roots_over case from count
+  pub roots : IsPermutation (roots_over case from count) (plain_cells run.roots.items)
   pub few : vec_len run.roots ≤ limit
   pub touching : run.touching ≡ looked_over case from count
   pub small : run.touching ≤ count * 4_000_000

@@ -1,5 +1,6 @@
 //! From a problem to its candidates: shells and boxes first, and then slot by slot the pairs that are looked at and their roots.
 ghost use Rattle.std.specs.Prelude.{◌≡◌, ◌<◌, ◌≤◌, length, vec_len, IfOk, OnOk, IsErrOf};
+ghost use Rattle.std.specs.List.Sorted.{IsPermutation};
 ghost use Rattle.cj_hermite.specs.Problems.{plain_problem};
 ghost use Rattle.cj_hermite.specs.Slots.{slot_count};
 ghost use Rattle.cj_bezier.specs.SlotBoxes.{plain_boxes};
@@ -36,7 +37,7 @@ pub fn find_candidates<R: Threads + Sync>(
     ensures shells { IfOk result (λ found. found.shells.items ≡ shells_of (plain_problem problem.now)) }
     ensures boxes { IfOk result (λ found. plain_boxes found.boxes.items ≡ boxes_of (plain_problem problem.now)) }
     ensures kept { IfOk result (λ found. found.kept ≡ length (pairs_kept (plain_problem problem.now))) }
-    ensures roots { IfOk result (λ found. plain_cells found.roots.items ≡ roots_by_slot (is_looked (plain_problem problem.now)) (plain_problem problem.now)) }
+    ensures roots { IfOk result (λ found. IsPermutation (roots_by_slot (is_looked (plain_problem problem.now)) (plain_problem problem.now)) (plain_cells found.roots.items)) }
     ensures few { IfOk result (λ found. vec_len found.roots ≤ limit) }
     ensures touching { IfOk result (λ found. found.touching ≡ looked_count (plain_problem problem.now)) }
 

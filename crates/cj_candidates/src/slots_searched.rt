@@ -1,6 +1,7 @@
 //! The roots of a run of slots: slot by slot, or half of the slots on another thread.
 ghost use Rattle.std.specs.Prelude.{◌≡◌, ◌+◌, ◌^◌, ◌<◌, ◌≤◌, ◌++◌, map, vec_len, IfOk, IsErrOf};
 ghost use Rattle.std.specs.Thread.{IsSync};
+ghost use Rattle.std.specs.List.Sorted.{IsPermutation};
 ghost use Rattle.cj_hermite.specs.Pairs.{objects_of};
 ghost use Rattle.cj_hermite.specs.Problems.{plain_problem};
 ghost use Rattle.cj_bezier.specs.Cells.{plain_cells};
@@ -11,9 +12,11 @@ use crate::ground::Ground;
 use crate::keeping::kept_of;
 use crate::slot_boxes::boxes_in_slot;
 use crate::slot_run::SlotRun;
+use cj_bezier::Cell;
 use cj_cells::{RefineError, roots_of_slot};
 use cj_grid::find_touching;
 use cj_hermite::{Hints, Pair};
+use cj_merge::{Placed, merge_two};
 use cj_sieve::ShelledObjects;
 use std::alloc::{AllocError, Global};
 use std::thread::{Threads, join};
@@ -35,7 +38,7 @@ fn looked_pairs(alloc: Global, ground: &Ground<'_>, slot: u32) -> Result<Vec<Pai
     kept_of(alloc, &touching, &objects)
 }
 
-/// So many slots from one on, one after another, with at most so many roots.
+/// So many slots from one on, one after another, with at most so many roots, which are put in order of pair and tick.
 fn search_in_turn(
     alloc: Global,
     ground: &Ground<'_>,
@@ -56,23 +59,31 @@ fn search_in_turn(
         touching += pairs.len() as u64;
         roots_of_slot(alloc, problem, slot, &pairs, limit, &mut hints, &mut roots)?;
     }
+    roots.sort_by_key(|root: &Cell| root.place())?;
     Ok(SlotRun { roots, touching })
 }
 
-/// What is found in a run of slots and in the one behind it.
-fn joined(mut front: SlotRun, mut back: SlotRun, limit: u64) -> Result<SlotRun, RefineError>
-    requires { front.touching + back.touching < 2 ^ 64 }
-    ensures too_many { IsErrOf result RefineError.TooMany → limit < vec_len front.roots + vec_len back.roots }
-    ensures roots { IfOk result (λ run. plain_cells run.roots.items ≡ plain_cells front.roots.items ++ plain_cells back.roots.items) }
+/// What is found in a run of slots and in the one behind it, the roots merged by as many threads as there are workers.
+fn joined<R: Threads + Sync>(
+    rt: &R,
+    alloc: Global,
+    front: &SlotRun,
+    back: &SlotRun,
+    workers: u32,
+    limit: u64,
+) -> Result<SlotRun, RefineError>
+    requires { front.now.touching + back.now.touching < 2 ^ 64 }
+    ensures too_many { IsErrOf result RefineError.TooMany → limit < vec_len front.now.roots + vec_len back.now.roots }
+    ensures roots { IfOk result (λ run. IsPermutation (plain_cells front.now.roots.items ++ plain_cells back.now.roots.items) (plain_cells run.roots.items)) }
     ensures few { IfOk result (λ run. vec_len run.roots ≤ limit) }
-    ensures touching { IfOk result (λ run. run.touching ≡ front.touching + back.touching) }
+    ensures touching { IfOk result (λ run. run.touching ≡ front.now.touching + back.now.touching) }
 {
     if front.roots.len() as u64 + back.roots.len() as u64 > limit {
         return Err(RefineError::TooMany);
     }
-    front.roots.append(&mut back.roots)?;
+    let roots = merge_two(rt, alloc, &front.roots, &back.roots, workers as usize)?;
     Ok(SlotRun {
-        roots: front.roots,
+        roots,
         touching: front.touching + back.touching,
     })
 }
@@ -117,5 +128,5 @@ pub fn search_slots<R: Threads + Sync>(
         )
     };
     let (front, back) = join(rt, first, second);
-    joined(front?, back?, limit)
+    joined(rt, alloc, &front?, &back?, workers, limit)
 }

@@ -13,7 +13,7 @@ use Rattle.cj_hermite.specs.Roots.{PlainCell, IsRootUpTo, roots_of, roots_by_slo
 use Rattle.cj_interval.proofs.ListLemmas.{Ordered, Each-weaker, AllPairs-from_ordered, ordered_from_AllPairs}
 use Rattle.cj_interval.proofs.RangeLemmas.{range_more}
 use Rattle.cj_hermite.proofs.RootLemmas.{Each-roots, Ordered-roots, IsRootOf}
-use Rattle.cj_interval.proofs.SumLemmas.{total, same_totals}
+use Rattle.cj_interval.proofs.SumLemmas.{same_totals}
 use Rattle.cj_hermite.proofs.RootSumLemmas.{same_roots, same_root_list}
 
 -- d does not come before c
@@ -55,14 +55,14 @@ Ordered-sorted (c ∷ d ∷ cells) h =
 pub sorted_up_to : (cells : List Cell) → ((k : ℕ) (d : Cell) → 0 ≤ k → k + 1 < length cells → IsNotBefore (get_or cells (k + 1) d) (get_or cells k d)) → AllPairs IsRootUpTo (plain_cells cells)
 sorted_up_to cells h = AllPairs-from_ordered IsRootUpTo (plain_cells cells) (Ordered-sorted cells h)
 
--- the roots that were found slot by slot, once they are sorted
-pub sorted_roots : (looked : ℕ → ℕ → ℕ → Bool) (case : PlainProblem) (found sorted : List PlainCell) → found ≡ roots_by_slot looked case → IsPermutation found sorted → AllPairs IsRootUpTo sorted → sorted ≡ roots_of looked case
-sorted_roots looked case found sorted e moved ordered =
+-- the roots that were found slot by slot, in whatever order they came, once they are sorted
+pub sorted_roots : (looked : ℕ → ℕ → ℕ → Bool) (case : PlainProblem) (found sorted : List PlainCell) → IsPermutation (roots_by_slot looked case) found → IsPermutation found sorted → AllPairs IsRootUpTo sorted → sorted ≡ roots_of looked case
+sorted_roots looked case found sorted found_all moved ordered =
     sym (same_root_list (roots_of looked case) sorted
     (Each-weaker (IsRootOf case) (λ r. r.first ≤ r.last) (λ r is. let root = is.root in omega (arith, root.some)) (roots_of looked case) (Each-roots looked case))
     (Ordered-roots looked case)
     (ordered_from_AllPairs IsRootUpTo sorted ordered)
-    (λ f. sym (same_roots looked case f) ∙ ap (total f) (sym e) ∙ sym (same_totals f found sorted moved)))
+    (λ f. sym (same_roots looked case f) ∙ sym (same_totals f (roots_by_slot looked case) found found_all) ∙ sym (same_totals f found sorted moved)))
 
 -- ---- numbering
 

@@ -1,5 +1,6 @@
 //! The one-thread list of a problem.
 ghost use Rattle.std.specs.Prelude.{◌≡◌, ℕ, ◌+◌, ◌<◌, ◌≤◌, true, length, vec_len, All, Any, IfOk, OnOk, IsErrOf};
+ghost use Rattle.std.specs.List.Sorted.{IsPermutation};
 ghost use Rattle.cj_hermite.specs.PlainProblems.{IsCommonOf};
 ghost use Rattle.cj_hermite.specs.Problems.{plain_problem};
 ghost use Rattle.cj_hermite.specs.Slots.{slot_of};
@@ -42,7 +43,7 @@ pub fn refine_all(
     Ok(leaves)
 }
 
-/// The one-thread list, of the roots of the pairs that are looked at, as they are found slot by slot.
+/// The one-thread list, of the roots of the pairs that are looked at in each slot, in whatever order they come.
 pub fn leaves_of(
     alloc: Global,
     problem: &Problem,
@@ -50,7 +51,7 @@ pub fn leaves_of(
     limit: u64,
 ) -> Result<Vec<Leaf>, RefineError>
     requires few { vec_len roots ≤ 4_000_000 }
-    requires found { plain_cells roots.items ≡ roots_by_slot (is_looked (plain_problem problem.now)) (plain_problem problem.now) }
+    requires found { IsPermutation (roots_by_slot (is_looked (plain_problem problem.now)) (plain_problem problem.now)) (plain_cells roots.items) }
 
     ensures value { IfOk result (λ leaves. plain_leaves leaves.items ≡ list_looked (plain_problem problem.now)) }
     ensures within { IfOk result (λ leaves. vec_len leaves ≤ limit) }

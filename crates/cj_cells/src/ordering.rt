@@ -9,8 +9,8 @@ ghost use Rattle.cj_cells.specs.Cells.{root_numbers};
 
 use cj_bezier::Cell;
 
-/// Sorts roots by pair and first tick. Slot by slot they are runs in order, which a stable sort merges; it wants memory, and does
-/// without where there is none.
+/// Sorts roots by pair and first tick. They come as runs in order, which a stable sort merges; it wants memory, and does without
+/// where there is none.
 fn sort(roots: &mut Vec<Cell>)
     ensures permutation { IsPermutation (plain_cells roots.old.items) (plain_cells roots.new.items) }
     ensures ordered { AllPairs IsRootUpTo (plain_cells roots.new.items) }
@@ -41,8 +41,8 @@ pub fn order_roots(roots: &mut Vec<Cell>)
     ensures ordered { AllPairs IsRootUpTo (plain_cells roots.new.items) }
     ensures numbered { root_numbers roots.new.items ≡ range_with_len 0 (vec_len roots.new) }
 
-    // The roots that were found slot by slot are then all roots in order.
-    ensures all { (looked : ℕ → ℕ → ℕ → Bool) (case : PlainProblem) → plain_cells roots.old.items ≡ roots_by_slot looked case → plain_cells roots.new.items ≡ roots_of looked case }
+    // The roots that were found slot by slot, in whatever order they came, are then all roots in order.
+    ensures all { (looked : ℕ → ℕ → ℕ → Bool) (case : PlainProblem) → IsPermutation (roots_by_slot looked case) (plain_cells roots.old.items) → plain_cells roots.new.items ≡ roots_of looked case }
 {
     sort(roots);
     number(roots);

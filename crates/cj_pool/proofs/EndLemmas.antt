@@ -7,7 +7,7 @@ use Rattle.std.specs.declared.alloc.Global.{Global}
 use Rattle.std.proofs.lemmas.List.{length-map}
 use Rattle.std.proofs.lemmas.List.Elements.{All-map, All-weaker}
 use Rattle.std.proofs.lemmas.List.FromFn.{length-range_with_len}
-use Rattle.std.proofs.lemmas.List.Sorted.{length_permutation}
+use Rattle.std.proofs.lemmas.List.Sorted.{IsPermutation-append_left, IsPermutation-map, IsPermutation-trans, length_permutation}
 use Rattle.atomic_blocks.specs.Lent.{RowsId}
 use Rattle.cj_interval.proofs.ListLemmas.{each_from_All, All-from_each}
 use Rattle.cj_hermite.specs.Problems.{plain_problem}
@@ -58,6 +58,16 @@ module _ (r : RefinerySeen) (hands : List HandSeen) (cells : List Cell) (are : A
       same_length (plain_problem r.problem) r.roots s.long r.problem.least s.roots_are r.hands hands cells s.some
       (each_from_All (Accounts (plain_problem r.problem) r.roots r.hands) hands are.accounts) are.numbers are.open_cells
       (closed_leaves (plain_problem r.problem) r.roots r.hands hands are.accounts)
+
+  -- whatever the order in which the leaves of the hands came
+  pub all_moved : (leaves sorted : List Leaf) (rest : List Cell) → IsPermutation (leaves_in hands) leaves → rest ≡ cells →
+      IsPermutation (plain_leaves leaves ++ leaves_of_roots (plain_problem r.problem) (plain_cells rest)) (plain_leaves sorted) →
+      IsPermutation (plain_leaves (leaves_in hands) ++ leaves_of_roots (plain_problem r.problem) (plain_cells cells)) (plain_leaves sorted)
+  all_moved leaves sorted rest came is moved =
+      IsPermutation-trans _ _ _
+      (IsPermutation-append_left (leaves_of_roots (plain_problem r.problem) (plain_cells cells)) (plain_leaves (leaves_in hands)) (plain_leaves leaves)
+      (IsPermutation-map plain_leaf (leaves_in hands) leaves came))
+      (subst (λ (cs : List Cell). IsPermutation (plain_leaves leaves ++ leaves_of_roots (plain_problem r.problem) (plain_cells cs)) (plain_leaves sorted)) is moved)
 
   pub all_value : (sorted : List Leaf) →
       IsPermutation (plain_leaves (leaves_in hands) ++ leaves_of_roots (plain_problem r.problem) (plain_cells cells)) (plain_leaves sorted) →

@@ -1,5 +1,6 @@
 -- What the hands of a refinery come to.
 use Rattle.std.specs.Prelude.{◌≡◌, ℕ, ◌+◌, ◌<◌, ◌≤◌, List, map, take, length, All}
+use Rattle.std.specs.Global.{Vec}
 use Rattle.std.specs.List.{flat_map, range_with_len}
 use Rattle.cj_hermite.specs.Lengths.{HaveLengths}
 use Rattle.cj_hermite.specs.Problems.{plain_problem}
@@ -49,6 +50,10 @@ numbers_of hands = map (λ h. h.number) hands
 -- the leaves that hands have closed, hand by hand
 abbrev pub leaves_in : List HandSeen → List Leaf
 leaves_in hands = flat_map (λ h. h.closed) hands
+
+-- the leaves of several runs, run by run
+abbrev pub in_runs : List (Vec Leaf) → List Leaf
+in_runs runs = flat_map (λ run. run.items) runs
 
 -- the cells that hands keep
 abbrev pub kept_in : List HandSeen → List Cell

@@ -1,6 +1,7 @@
 //! What all hands have come to.
 ghost use Rattle.std.specs.Prelude.{◌≡◌, map, All, IfOk};
 ghost use Rattle.std.specs.List.{range_with_len};
+ghost use Rattle.std.specs.List.Sorted.{IsPermutation};
 ghost use Rattle.cj_pool.specs.Hands.{IsHandOf};
 ghost use Rattle.cj_pool.specs.Refined.{AreAll, IsOfRun, IsSound, leaves_in, numbers_of};
 
@@ -11,12 +12,14 @@ use crate::run::Run;
 use crate::taking::take_apart;
 use cj_bezier::{Cell, Leaf};
 use cj_ledger::Share;
+use cj_merge::merge_runs;
 use std::alloc::{AllocError, Global};
+use std::thread::Threads;
 
 /// What the hands of a refinery have come to.
 #[derive(Drop)]
 pub(crate) struct Collected {
-    /// The leaves that they have closed.
+    /// The leaves that they have closed: in order where each hand has its own in order.
     pub leaves: Vec<Leaf>,
     /// The cells that they keep, and those that are left in the deques.
     pub cells: Vec<Cell>,
@@ -24,9 +27,10 @@ pub(crate) struct Collected {
 }
 
 impl<'p, K: Run> Refinery<'p, K> {
-    /// Takes all hands apart, and empties their deques.
-    pub(crate) fn collect(
+    /// Takes all hands apart, empties their deques, and merges their leaves by as many threads as there are hands.
+    pub(crate) fn collect<R: Threads + Sync>(
         &self,
+        rt: &R,
         alloc: Global,
         hands: Vec<Hand<'p, K>>,
     ) -> Result<Collected, AllocError>
@@ -35,14 +39,15 @@ impl<'p, K: Run> Refinery<'p, K> {
         requires hands { All (IsHandOf self.now) hands.items }
         requires all { numbers_of hands.items ≡ range_with_len 0 self.now.hands }
         ensures all { IfOk result (λ found. AreAll self.now hands.entry.items found.cells.items) }
-        ensures leaves { IfOk result (λ found. found.leaves.items ≡ leaves_in hands.entry.items) }
+        ensures leaves { IfOk result (λ found. IsPermutation (leaves_in hands.entry.items) found.leaves.items) }
         ensures shares { IfOk result (λ found. found.shares.items ≡ map (λ h. h.share) hands.entry.items) }
     {
         let parts = take_apart(alloc, self, hands)?;
         let mut cells = parts.kept;
         gather(parts.stations, &mut cells)?;
+        let leaves = merge_runs(rt, alloc, &parts.runs, parts.runs.len())?;
         Ok(Collected {
-            leaves: parts.leaves,
+            leaves,
             cells,
             shares: parts.shares,
         })

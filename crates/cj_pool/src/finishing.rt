@@ -28,6 +28,7 @@ use cj_cells::{RefineError, refine};
 use cj_hermite::Problem;
 use cj_ledger::{Share, Totals};
 use std::alloc::Global;
+use std::thread::Threads;
 
 /// What a cell that could not be refined says of all.
 fn refusal(error: RefineError, limit: u64) -> FinishError
@@ -138,7 +139,12 @@ impl<'p, K: Run> Refinery<'p, K> {
     }
 
     /// The leaves of all roots, in order, from all hands of the refinery. Cells that are left are refined here.
-    pub fn finish(self, alloc: Global, hands: Vec<Hand<'p, K>>) -> Result<Refined, FinishError>
+    pub fn finish<R: Threads + Sync>(
+        self,
+        rt: &R,
+        alloc: Global,
+        hands: Vec<Hand<'p, K>>,
+    ) -> Result<Refined, FinishError>
         requires hands { All (IsHandOf self) hands.items }
         requires all { numbers_of hands.items ≡ range_with_len 0 self.hands }
 
@@ -162,7 +168,7 @@ impl<'p, K: Run> Refinery<'p, K> {
             (leaves_of_root (plain_problem self.entry.problem) root)) (plain_cells self.entry.roots) }
     {
         self.have_roots();
-        let found = self.collect(alloc, hands)?;
+        let found = self.collect(rt, alloc, hands)?;
         let cells = found.cells;
         let closed = found.leaves.len() as u64;
         let leaves = self.refine_rest(alloc, &cells, found.leaves)?;

@@ -1,5 +1,6 @@
 //! The one-thread list of a problem, by several hands.
 ghost use Rattle.std.specs.Prelude.{◌≡◌, ℕ, ◌+◌, ◌<◌, ◌≤◌, true, length, vec_len, All, Any, IfOk, OnOk, IsErrOf};
+ghost use Rattle.std.specs.List.Sorted.{IsPermutation};
 ghost use Rattle.cj_hermite.specs.PlainProblems.{IsCommonOf};
 ghost use Rattle.cj_hermite.specs.Problems.{plain_problem};
 ghost use Rattle.cj_hermite.specs.Roots.{KeepIntervals, roots_by_slot};
@@ -52,15 +53,15 @@ pub(crate) fn leaves_by_hands<K: Run + Send + Sync, R: Threads + Wait + Sync, G:
 {
     let (refinery, hands) = Refinery::<K>::new(alloc, problem, roots, workers, limit)?;
     let hands = run_hands(rt, alloc, &refinery, gate, hands)?;
-    match refinery.finish(alloc, hands) {
+    match refinery.finish(rt, alloc, hands) {
         Ok(refined) => Ok(refined.leaves),
         Err(FinishError::Memory) => Err(RefineError::Memory),
         Err(FinishError::TooMany { limit: _ }) => Err(RefineError::TooMany),
     }
 }
 
-/// The one-thread list, by so many workers, of the roots of the pairs that are looked at, as they are found slot by slot. Each
-/// worker calls the gate before each of its turns.
+/// The one-thread list, by so many workers, of the roots of the pairs that are looked at in each slot, in whatever order they
+/// come. Each worker calls the gate before each of its turns.
 pub fn leaves_by_workers<R: Threads + Wait + Sync, G: Gate + Sync>(
     rt: &R,
     alloc: Global,
@@ -74,7 +75,7 @@ pub fn leaves_by_workers<R: Threads + Wait + Sync, G: Gate + Sync>(
     requires limit { limit ≤ 4_000_000 }
     requires some { 1 ≤ workers }
     requires few_workers { workers ≤ 16 }
-    requires found { plain_cells roots.items ≡ roots_by_slot (is_looked (plain_problem problem.now)) (plain_problem problem.now) }
+    requires found { IsPermutation (roots_by_slot (is_looked (plain_problem problem.now)) (plain_problem problem.now)) (plain_cells roots.items) }
 
     ensures value { IfOk result (λ leaves. plain_leaves leaves.items ≡ list_looked (plain_problem problem.now)) }
     ensures within { IfOk result (λ leaves. vec_len leaves ≤ limit) }

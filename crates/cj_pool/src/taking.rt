@@ -5,7 +5,7 @@ ghost use Rattle.std.specs.List.{range_with_len};
 ghost use Rattle.cj_bezier.specs.declared.cell.Cell.{Cell};
 ghost use Rattle.cj_hermite.specs.Problems.{plain_problem};
 ghost use Rattle.cj_pool.specs.Hands.{Accounts, IsHandOf};
-ghost use Rattle.cj_pool.specs.Refined.{kept_in, leaves_in, numbers_of};
+ghost use Rattle.cj_pool.specs.Refined.{in_runs, kept_in, leaves_in, numbers_of};
 ghost use Rattle.cj_pool.specs.Stations.{AreStations, IsStationOf, weigh_all_taken, weigh_given};
 ghost use Rattle.cj_pool.specs.Weights.{weigh};
 
@@ -22,8 +22,8 @@ use std::alloc::{AllocError, Global};
 pub(crate) struct Parts<K: Run> {
     pub stations: Vec<Station<K>>,
     pub shares: Vec<Share>,
-    /// The leaves that they have closed.
-    pub leaves: Vec<Leaf>,
+    /// The leaves that they have closed, hand by hand.
+    pub runs: Vec<Vec<Leaf>>,
     /// The cells that they keep.
     pub kept: Vec<Cell>,
 }
@@ -31,7 +31,7 @@ pub(crate) struct Parts<K: Run> {
 /// Adds the parts of one hand.
 fn take_one<'p, K: Run>(parts: &mut Parts<K>, hand: Hand<'p, K>) -> Result<(), AllocError>
     ensures shares { OnOk result (parts.new.shares.items ≡ parts.old.shares.items ++ hand.entry.share ∷ []) }
-    ensures leaves { OnOk result (parts.new.leaves.items ≡ parts.old.leaves.items ++ hand.entry.closed) }
+    ensures leaves { OnOk result (in_runs parts.new.runs.items ≡ in_runs parts.old.runs.items ++ hand.entry.closed) }
     ensures kept { OnOk result (parts.new.kept.items ≡ parts.old.kept.items ++ hand.entry.kept) }
     ensures station { OnOk result ((s : Station K) × (parts.new.stations.items ≡ parts.old.stations.items ++ s ∷ [])
         × IsStationOf K.workers hand.entry s) }
@@ -48,7 +48,7 @@ fn take_one<'p, K: Run>(parts: &mut Parts<K>, hand: Hand<'p, K>) -> Result<(), A
     } = hand;
     parts.stations.push(station)?;
     parts.shares.push(share)?;
-    parts.leaves.extend_from_slice(&leaves)?;
+    parts.runs.push(leaves)?;
     parts.kept.extend_from_slice(kept.as_slice())?;
     Ok(())
 }
@@ -72,14 +72,14 @@ pub(crate) fn take_apart<'p, K: Run>(
 
     // The shares, leaves and kept cells are those of the hands, in their order.
     ensures shares { IfOk result (λ parts. parts.shares.items ≡ map (λ h. h.share) hands.entry.items) }
-    ensures leaves { IfOk result (λ parts. parts.leaves.items ≡ leaves_in hands.entry.items) }
+    ensures leaves { IfOk result (λ parts. in_runs parts.runs.items ≡ leaves_in hands.entry.items) }
     ensures kept { IfOk result (λ parts. parts.kept.items ≡ kept_in hands.entry.items) }
     ensures accounts { OnOk result (All (Accounts (plain_problem K.problem) K.roots K.workers) hands.entry.items) }
 {
     let mut parts = Parts {
         stations: Vec::new(alloc),
         shares: Vec::new(alloc),
-        leaves: Vec::new(alloc),
+        runs: Vec::new(alloc),
         kept: Vec::new(alloc),
     };
     while !hands.is_empty() {

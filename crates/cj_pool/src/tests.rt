@@ -90,7 +90,8 @@ fn for_two<'p, K: Run>(
 }
 
 /// The leaves and totals of a refinery, from its two hands.
-fn finished<'p, K: Run>(
+fn finished<'p, K: Run, R: Threads + Sync>(
+    rt: &R,
     alloc: Global,
     refinery: Refinery<'p, K>,
     zero: Hand<'p, K>,
@@ -101,7 +102,7 @@ fn finished<'p, K: Run>(
     requires two { refinery.hands ≡ 2 }
 {
     let hands = vec![in alloc; zero, one]?;
-    refinery.finish(alloc, hands)
+    refinery.finish(rt, alloc, hands)
 }
 
 /// A turn in which the hand halves a cell.
@@ -160,7 +161,7 @@ fn take_turns<'p, K: Run, R: Abort>(
 }
 
 /// What such a script comes to.
-fn by_turns<K: Run, R: Abort>(
+fn by_turns<K: Run, R: Threads + Sync + Abort>(
     rt: &R,
     alloc: Global,
     problem: &Problem,
@@ -171,11 +172,11 @@ fn by_turns<K: Run, R: Abort>(
 {
     let (refinery, mut zero, mut one) = for_two::<K>(alloc, problem, roots)?;
     take_turns(rt, alloc, &refinery, &mut zero, &mut one, script)?;
-    finished(alloc, refinery, zero, one)
+    finished(rt, alloc, refinery, zero, one)
 }
 
 /// What the run of hand zero comes to. Hand one finds that no cell is live.
-fn by_zero<K: Run, R: Wait + Abort>(
+fn by_zero<K: Run, R: Threads + Wait + Sync + Abort>(
     rt: &R,
     alloc: Global,
     problem: &Problem,
@@ -187,11 +188,11 @@ fn by_zero<K: Run, R: Wait + Abort>(
     let zero = zero.run(rt, alloc, &refinery, &OpenGate);
     let turn = one.turn(alloc, &refinery)?;
     assert_eq!(rt; turn, Turn::Done);
-    finished(alloc, refinery, zero, one)
+    finished(rt, alloc, refinery, zero, one)
 }
 
 /// What a script comes to.
-fn refined_by<K: Run, R: Wait + Abort>(
+fn refined_by<K: Run, R: Threads + Wait + Sync + Abort>(
     rt: &R,
     alloc: Global,
     problem: &Problem,
@@ -216,7 +217,11 @@ fn of_one_thread(alloc: Global, problem: &Problem) -> Result<Vec<Leaf>, RefineEr
 }
 
 /// What the crossing comes to by a script is what one thread finds, with its totals.
-fn assert_script<R: Wait + Abort>(rt: &R, alloc: Global, script: Script) -> Result<(), Fail> {
+fn assert_script<R: Threads + Wait + Sync + Abort>(
+    rt: &R,
+    alloc: Global,
+    script: Script,
+) -> Result<(), Fail> {
     let problem = crossing(alloc)?;
     let roots = roots_of(alloc, &problem)?;
     let refined = refined_by::<Brand, R>(rt, alloc, &problem, roots, script)?;

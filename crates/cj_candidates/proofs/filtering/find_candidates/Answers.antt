@@ -1,9 +1,12 @@
-use Rattle.std.proofs.Common.{◌≡◌, ℕ, List, length, map, ap, ◌∙◌, arith}
+use Rattle.std.proofs.Common.{◌≡◌, ℕ, List, length, map, ap, subst, ◌∙◌, arith}
+use Rattle.std.specs.List.Sorted.{IsPermutation}
 use Rattle.std.proofs.lemmas.Result.{err_from_is_err_and}
 use Rattle.cj_track.specs.declared.track.Track.{Track}
 use Rattle.cj_track.specs.Tracks.{plain_track}
 use Rattle.cj_hermite.specs.Problems.{plain_problem}
+use Rattle.cj_hermite.specs.Roots.{PlainCell}
 use Rattle.cj_bezier.specs.SlotBoxes.{plain_boxes}
+use Rattle.cj_bezier.specs.Cells.{plain_cells}
 use Rattle.cj_bezier.specs.Looked.{boxes_in, is_looked, shells_of}
 use Rattle.cj_bezier.proofs.FarLemmas.{unlooked_far}
 use Rattle.cj_cells.proofs.ListingLemmas.{error_is, by_slot, same_count}
@@ -34,7 +37,8 @@ returns-in_err-roots-clause-too_many g c =
 pub returns-clause-roots : goal.returns-clause-roots
 returns-clause-roots g c =
     let case = plain_problem c.args.problem.now in
-    c.in_ok-roots.ensures.found.roots ∙ ap (λ (n : ℕ). roots_over case 0 n) c.slot_count-slots.ensures ∙ by_slot case
+    subst (λ (rs : List PlainCell). IsPermutation rs (plain_cells c.in_ok-roots.field-0.roots.items)) (ap (λ (n : ℕ). roots_over case 0 n) c.slot_count-slots.ensures ∙ by_slot case)
+    c.in_ok-roots.ensures.found.roots
 
 pub returns-clause-far : goal.returns-clause-far
 unfolding is_looked

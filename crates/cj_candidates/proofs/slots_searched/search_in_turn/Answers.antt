@@ -1,12 +1,14 @@
 use Rattle.std.proofs.Common.{◌≡◌, ◌+◌, ◌-◌, ◌<◌, ◌++◌, ℕ, List, length, take, map, vec_len, All, sym, ap, subst, ◌∙◌, arith}
+use Rattle.std.specs.List.Sorted.{IsPermutation}
 use Rattle.std.proofs.lemmas.Result.{err_from_is_err_and}
+use Rattle.std.proofs.lemmas.List.Sorted.{IsPermutation-map}
 use Rattle.std.proofs.lemmas.List.{length-map}
 use Rattle.cj_track.specs.Tracks.{plain_track}
 use Rattle.cj_hermite.specs.declared.pair.Pair.{Pair}
 use Rattle.cj_hermite.specs.Pairs.{objects_of}
 use Rattle.cj_hermite.specs.Problems.{plain_problem}
 use Rattle.cj_hermite.specs.Roots.{PlainCell, roots_in_slot}
-use Rattle.cj_bezier.specs.Cells.{plain_cell}
+use Rattle.cj_bezier.specs.Cells.{plain_cell, plain_cells}
 use Rattle.cj_bezier.specs.Looked.{is_looked, pairs_looked}
 use Rattle.cj_cells.specs.Cells.{added_roots}
 use Rattle.cj_cells.proofs.ListingLemmas.{error_is, cells_more}
@@ -62,4 +64,23 @@ loop-slot-preserved c =
           ∙ sym (slots_more case from slot (omega arith));
       counted = ap (λ k. k + c.len.result) i.counted ∙ ap (λ k. looked_over case from (slot - from) + k) size ∙ sym (counts_more case from slot (omega arith));
       small = omega (arith, i.small, size, looked_few case slot (omega (arith, length-map problem.tracks plain_track)));
+    }
+
+pub returns : goal.returns
+returns c =
+    let l = c.loop-slot in
+    let i = l.invariant in
+    let case = plain_problem c.args.ground.now.problem.now in
+    let from = c.args.from in
+    let new = c.sort_by_key.new.self in
+    let all : l.slot - from ≡ c.args.count = omega arith in
+    let moved = IsPermutation-map plain_cell l.roots.items new.items c.in_ok-sort_by_key.ensures.permutation in
+    record {
+      too_many = λ is. absurd cc;
+      found = record {
+        roots = subst (λ (rs : List PlainCell). IsPermutation rs (plain_cells new.items)) (i.found ∙ ap (roots_over case from) all) moved;
+        few = omega (arith, i.room, c.in_ok-sort_by_key.ensures.len);
+        touching = i.counted ∙ ap (looked_over case from) all;
+        small = omega (arith, i.small, all);
+      };
     }

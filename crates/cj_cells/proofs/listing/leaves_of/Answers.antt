@@ -2,6 +2,7 @@ use Rattle.std.proofs.Common.{◌≡◌, ◌+◌, List, length, Result, Ok, Err,
 use Rattle.std.proofs.lemmas.Result.{on_ok_weaker}
 use Rattle.std.specs.Prelude.{IfOk}
 use Rattle.std.proofs.lemmas.List.{length-map}
+use Rattle.std.proofs.lemmas.List.Sorted.{length_permutation}
 use Rattle.cj_bezier.specs.declared.cell.Cell.{Cell}
 use Rattle.cj_bezier.specs.declared.leaf.Leaf.{Leaf}
 use Rattle.cj_bezier.specs.Leaves.{plain_leaf, plain_leaves}
@@ -79,5 +80,5 @@ returns-clause-splits c = go c.refine_all.result (returns-clause-value c)
         let found = ap length h in
         let split = list_split case in
         let count = same_count case in
-        let roots = ap length c.requires.found in
+        let roots = length_permutation _ _ c.requires.found in
         omega (arith, length-map leaves.items plain_leaf, length-map c.args.roots.items plain_cell, leaves.ok.0, c.args.roots.ok.0)

@@ -9,14 +9,14 @@ use Rattle.cj_pool.proofs.ListingLemmas.{back_all, back_numbers}
 use Rattle.cj_pool.proofs.listing.leaves_by_hands.Goals as goal
 
 pub finish-requires-clause-hands : goal.finish-requires-clause-hands
-finish-requires-clause-hands g c =
+finish-requires-clause-hands g c _ _ =
     let hands = c.in_ok-refinery.hands in
     let done = c.in_ok-hands.hands in
     let long : length done.items ≡ length hands.items = omega (arith, c.in_ok-hands.ensures.len, hands.ok.0, done.ok.0) in
     back_all c.in_ok-refinery.refinery hands.items done.items long (λ i d e lt. c.in_ok-hands.ensures.each i d e (omega (arith, lt, hands.ok.0)))
 
 pub finish-requires-clause-all : goal.finish-requires-clause-all
-finish-requires-clause-all g c =
+finish-requires-clause-all g c _ _ =
     let hands = c.in_ok-refinery.hands in
     let done = c.in_ok-hands.hands in
     let long : length done.items ≡ length hands.items = omega (arith, c.in_ok-hands.ensures.len, hands.ok.0, done.ok.0) in

@@ -85,5 +85,5 @@ returns-clause-splits g c = go c.leaves_by_hands.result (returns-clause-value g 
         let found = ap length h in
         let split = list_split case in
         let count = same_count case in
-        let roots = ap length c.requires.found in
+        let roots = length_permutation _ _ c.requires.found in
         omega (arith, length-map leaves.items plain_leaf, length-map c.args.roots.items plain_cell, leaves.ok.0, c.args.roots.ok.0)

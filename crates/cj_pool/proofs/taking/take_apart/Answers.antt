@@ -2,6 +2,7 @@ use Rattle.std.proofs.Common.{◌≡◌, ◌+◌, ◌<◌, List, ◌∷◌, rule
 use Rattle.std.proofs.lemmas.List.{nil_from_length}
 use Rattle.cj_hermite.specs.Problems.{plain_problem}
 use Rattle.cj_pool.specs.Hands.{HandSeen}
+use Rattle.cj_pool.specs.Refined.{in_runs}
 use Rattle.cj_pool.specs.Weights.{weigh}
 use Rattle.cj_pool.proofs.HandSumLemmas.{all_taken}
 use Rattle.cj_pool.proofs.TakeLemmas.{AreTaken, first_of, sum_ends, taken_begins, taken_step, taken_stations}
@@ -18,15 +19,15 @@ loop-parts-preserved g c =
     let first = first_of rest h (omega (arith, some, l.hands.ok.0)) c.remove.ensures.value ∙ ap (λ (hs : List HandSeen). h ∷ hs)
     (sym c.remove.ensures.items) in
     taken_step (plain_problem g.K.Run.problem) g.K.Run.roots n c.args._refinery.now c.args.hands.items rest h c.remove.new.self.items
-    l.parts.stations.items c.take_one.new.parts.stations.items l.parts.shares.items c.take_one.new.parts.shares.items l.parts.leaves.items
-    c.take_one.new.parts.leaves.items l.parts.kept.items c.take_one.new.parts.kept.items
+    l.parts.stations.items c.take_one.new.parts.stations.items l.parts.shares.items c.take_one.new.parts.shares.items (in_runs l.parts.runs.items)
+    (in_runs c.take_one.new.parts.runs.items) l.parts.kept.items c.take_one.new.parts.kept.items
     one.station.0 l.invariant first one.station.1 one.station.2 one.account one.shares one.leaves one.kept
 
 pub loop-parts-init : goal.loop-parts-init
 loop-parts-init g c =
     taken_begins (plain_problem g.K.Run.problem) g.K.Run.roots g.K.Run.workers c.args._refinery.now c.args.hands.items c.new.result.items
-    c.new-2.result.items c.new-3.result.items c.new-4.result.items c.requires.hands c.requires.all
-    c.new.ensures.items c.new-2.ensures.items c.new-3.ensures.items c.new-4.ensures.items
+    c.new-2.result.items (in_runs c.new-3.result.items) c.new-4.result.items c.requires.hands c.requires.all
+    c.new.ensures.items c.new-2.ensures.items (ap in_runs c.new-3.ensures.items) c.new-4.ensures.items
 
 pub returns-clause-stations : goal.returns-clause-stations
 returns-clause-stations g c =
@@ -34,9 +35,9 @@ returns-clause-stations g c =
     let none : vec_len l.hands ≡ 0 = search rules in
     let rest = nil_from_length l.hands.items (omega (arith, none, l.hands.ok.0)) in
     taken_stations (plain_problem g.K.Run.problem) g.K.Run.roots g.K.Run.workers c.args._refinery.now c.args.hands.items l.parts.stations.items
-    l.parts.shares.items l.parts.leaves.items l.parts.kept.items
+    l.parts.shares.items (in_runs l.parts.runs.items) l.parts.kept.items
     (subst (λ (hs : List HandSeen). AreTaken (plain_problem g.K.Run.problem) g.K.Run.roots g.K.Run.workers c.args._refinery.now c.args.hands.items hs
-    l.parts.stations.items l.parts.shares.items l.parts.leaves.items l.parts.kept.items) rest l.invariant)
+    l.parts.stations.items l.parts.shares.items (in_runs l.parts.runs.items) l.parts.kept.items) rest l.invariant)
 
 pub returns-clause-given : goal.returns-clause-given
 returns-clause-given g c w =

@@ -1,9 +1,11 @@
-use Rattle.std.proofs.Common.{◌≡◌, List, length, drop, vec_len, sym, ap, ◌∙◌, arith}
+use Rattle.std.proofs.Common.{◌≡◌, List, length, drop, vec_len, sym, ap, subst, ◌∙◌, arith}
 use Rattle.std.specs.List.{range_with_len}
+use Rattle.std.specs.List.Sorted.{IsPermutation}
 use Rattle.std.proofs.lemmas.List.{length-map}
-use Rattle.std.proofs.lemmas.List.Sorted.{length_permutation}
+use Rattle.std.proofs.lemmas.List.Sorted.{IsPermutation-refl, length_permutation}
 use Rattle.cj_track.specs.Tracks.{plain_track}
 use Rattle.cj_hermite.specs.Problems.{plain_problem}
+use Rattle.cj_hermite.specs.Roots.{roots_by_slot}
 use Rattle.cj_bezier.specs.declared.cell.Cell.{Cell}
 use Rattle.cj_bezier.specs.Cells.{plain_cell, plain_cells}
 use Rattle.cj_pool.proofs.RootListLemmas.{are_roots, first_slot, one_slot}
@@ -17,7 +19,9 @@ returns-clause-roots c =
     let all = sym (ap (λ (xs : List Cell). plain_cells (drop (length xs) found)) c.new-roots.ensures.items) ∙ c.in_ok-roots_of_slot.ensures.ok in
     let two = length-map c.args.problem.now.tracks plain_track ∙ c.requires.tracks in
     let long : vec_len new ≡ length new.items = omega (arith, new.ok.0) in
-    are_roots first_slot case new.items (c.order_roots.ensures.all first_slot case (all ∙ sym (one_slot case 1 two c.requires.slots))) (c.order_roots.ensures.numbered ∙ ap (range_with_len 0) long)
+    let by_slot = roots_by_slot first_slot case in
+    let came = subst (IsPermutation by_slot) (sym (all ∙ sym (one_slot case 1 two c.requires.slots))) (IsPermutation-refl by_slot) in
+    are_roots first_slot case new.items (c.order_roots.ensures.all first_slot case came) (c.order_roots.ensures.numbered ∙ ap (range_with_len 0) long)
 
 pub returns-clause-few : goal.returns-clause-few
 returns-clause-few c =

@@ -1,7 +1,7 @@
 use Rattle.std.proofs.Common.{◌≡◌, ◌≤◌, ◌∙◌, All, List, Ok, Err, length, map, ap, refl, sym, subst, arith}
+use Rattle.std.proofs.lemmas.List.Sorted.{length_permutation}
 use Rattle.std.proofs.lemmas.List.{length-map}
 use Rattle.cj_hermite.specs.Problems.{plain_problem}
-use Rattle.cj_hermite.specs.Roots.{PlainCell}
 use Rattle.cj_bezier.specs.Cells.{plain_cell}
 use Rattle.cj_bezier.specs.Leaves.{PlainLeaf, plain_leaf, plain_leaves}
 use Rattle.cj_bezier.specs.declared.encounter.Closest.{Closest}
@@ -34,7 +34,7 @@ returns-in-Err-clause-told g c = λ origin.
 pub count-counts-requires-clause-roots : goal.count-counts-requires-clause-roots
 count-counts-requires-clause-roots g c =
     let case = plain_problem c.args.problem in
-    let found = ap (λ (rs : List PlainCell). length rs) c.in-Ok.ensures.roots in
+    let found = length_permutation _ _ c.in-Ok.ensures.roots in
     let count = same_count case in
     omega (arith, found, count, c.in-Ok.candidates.roots.ok.0, length-map c.in-Ok.candidates.roots.items plain_cell)
 

@@ -1,19 +1,19 @@
-use Rattle.std.proofs.Common.{◌≡◌, ℕ, ◌+◌, ◌-◌, List, ◌++◌, length, sym, ap, subst, arith}
+use Rattle.std.proofs.Common.{◌≡◌, ℕ, ◌+◌, ◌-◌, List, length, sym, ap, subst, arith}
 use Rattle.std.specs.Prelude.{All, Contains}
 use Rattle.std.specs.List.{sum_by}
-use Rattle.std.specs.List.Sorted.{IsPermutation}
+use Rattle.std.proofs.lemmas.List.Sorted.{All-permutation, IsPermutation-sym, length_permutation}
 use Rattle.std.proofs.lemmas.Result.{err_from_is_err_and}
 use Rattle.cj_hermite.specs.Problems.{plain_problem}
+use Rattle.cj_bezier.specs.declared.cell.Cell.{Cell}
 use Rattle.cj_bezier.specs.declared.leaf.Leaf.{Leaf}
 use Rattle.cj_bezier.specs.Cells.{plain_cells}
-use Rattle.cj_bezier.specs.Leaves.{PlainLeaf, plain_leaves}
 use Rattle.cj_bezier.specs.RootLeaves.{leaves_of_roots}
 use Rattle.cj_ledger.specs.Shares.{ShareSeen, IsOf}
 use Rattle.cj_pool.specs.declared.refined.FinishError.{FinishError}
 use Rattle.cj_pool.specs.Refined.{IsTooMany, leaves_in}
 use Rattle.cj_pool.specs.RootLists.{IsKept}
 use Rattle.cj_pool.specs.Tree.{InTree, IsLeafOf}
-use Rattle.cj_pool.proofs.EndLemmas.{all_value, all_refused, all_left, all_kept, all_closed, all_mine, all_shares, all_counts, few_splits, few_closes, fewer, sorted_length}
+use Rattle.cj_pool.proofs.EndLemmas.{all_moved, all_value, all_refused, all_left, all_kept, all_closed, all_mine, all_shares, all_counts, few_splits, few_closes, fewer, sorted_length}
 use Rattle.cj_pool.proofs.FinishLemmas.{closed_found}
 use Rattle.cj_pool.proofs.HandSumLemmas.{left_of}
 use Rattle.cj_pool.proofs.refinery.Refinery.finish.Goals as goal
@@ -33,7 +33,8 @@ returns-in_err-leaves-clause-refused g c =
     let error : FinishError = c.in_err-leaves.field-0.0 in
     let many : length c.in_ok-found.found.leaves.items + length (leaves_of_roots (plain_problem r.problem) (plain_cells c.deref.result.now))
     ≡ length (leaves_in hands) + length (leaves_of_roots (plain_problem r.problem) (plain_cells cells)) =
-    (λ i. length (came.leaves i) + length (leaves_of_roots (plain_problem r.problem) (plain_cells (c.deref.ensures.value i)))) in
+    (let same = length_permutation _ _ came.leaves in
+    let left = ap (λ (cs : List Cell). length (leaves_of_roots (plain_problem r.problem) (plain_cells cs))) c.deref.ensures.value in omega (arith, same, left)) in
     let stands = all_refused r hands cells came.all error (subst (λ (m : ℕ). IsTooMany r.limit m error) many c.in_err-leaves.ensures.too_many) in
     let q = err_from_is_err_and c.from_residual-in_err-leaves.result c.from_residual-in_err-leaves.ensures.1 in
     rw (q.1, q.2) stands
@@ -44,11 +45,10 @@ overflow_sub-added g c =
     let came = c.in_ok-found.ensures in
     let found = c.in_ok-found.found in
     let sorted = c.in_ok-leaves.leaves in
-    let moved = subst (λ (xs : List PlainLeaf). IsPermutation xs (plain_leaves sorted.items))
-    (λ i. plain_leaves (came.leaves i) ++ leaves_of_roots (plain_problem r.problem) (plain_cells (c.deref.ensures.value i))) c.in_ok-leaves.ensures.moved in
+    let moved = all_moved r c.args.hands.items found.cells.items came.all found.leaves.items sorted.items _ came.leaves c.deref.ensures.value c.in_ok-leaves.ensures.moved in
     let long = sorted_length r c.args.hands.items found.cells.items came.all found.shares.items came.shares sorted.items moved
     c.in_ok-leaves.ensures.within in
-    omega (arith, c.len.ensures, c.len-closed.ensures, long, ap length came.leaves, sorted.ok.0, found.leaves.ok.0)
+    omega (arith, c.len.ensures, c.len-closed.ensures, long, length_permutation _ _ came.leaves, sorted.ok.0, found.leaves.ok.0)
 
 pub count-totals-requires-clause-mine : goal.count-totals-requires-clause-mine
 count-totals-requires-clause-mine g c =
@@ -68,11 +68,10 @@ count-totals-requires-clause-enough g c =
     let found = c.in_ok-found.found in
     let cells = found.cells.items in
     let sorted = c.in_ok-leaves.leaves in
-    let moved = subst (λ (xs : List PlainLeaf). IsPermutation xs (plain_leaves sorted.items))
-    (λ i. plain_leaves (came.leaves i) ++ leaves_of_roots (plain_problem r.problem) (plain_cells (c.deref.ensures.value i))) c.in_ok-leaves.ensures.moved in
+    let moved = all_moved r hands cells came.all found.leaves.items sorted.items _ came.leaves c.deref.ensures.value c.in_ok-leaves.ensures.moved in
     let long = sorted_length r hands cells came.all found.shares.items came.shares sorted.items moved c.in_ok-leaves.ensures.within in
     let added : c.len.result - c.len-closed.result ≡ length (leaves_of_roots (plain_problem r.problem) (plain_cells cells)) = omega
-    (arith, c.len.ensures, c.len-closed.ensures, long, ap length came.leaves, sorted.ok.0, found.leaves.ok.0) in
+    (arith, c.len.ensures, c.len-closed.ensures, long, length_permutation _ _ came.leaves, sorted.ok.0, found.leaves.ok.0) in
     omega (arith, added, fewer r hands cells came.all, c.len-2.ensures, found.cells.ok.0)
 
 pub count-totals-requires-clause-few_splits : goal.count-totals-requires-clause-few_splits
@@ -84,11 +83,10 @@ count-totals-requires-clause-few_splits g c =
     let cells = found.cells.items in
     let sorted = c.in_ok-leaves.leaves in
     let within = c.in_ok-leaves.ensures.within in
-    let moved = subst (λ (xs : List PlainLeaf). IsPermutation xs (plain_leaves sorted.items))
-    (λ i. plain_leaves (came.leaves i) ++ leaves_of_roots (plain_problem r.problem) (plain_cells (c.deref.ensures.value i))) c.in_ok-leaves.ensures.moved in
+    let moved = all_moved r hands cells came.all found.leaves.items sorted.items _ came.leaves c.deref.ensures.value c.in_ok-leaves.ensures.moved in
     let long = sorted_length r hands cells came.all found.shares.items came.shares sorted.items moved within in
     let added : c.len.result - c.len-closed.result ≡ length (leaves_of_roots (plain_problem r.problem) (plain_cells cells)) = omega
-    (arith, c.len.ensures, c.len-closed.ensures, long, ap length came.leaves, sorted.ok.0, found.leaves.ok.0) in
+    (arith, c.len.ensures, c.len-closed.ensures, long, length_permutation _ _ came.leaves, sorted.ok.0, found.leaves.ok.0) in
     omega (arith, added, few_splits r hands cells came.all found.shares.items came.shares sorted.items moved within)
 
 pub count-totals-requires-clause-few_closes : goal.count-totals-requires-clause-few_closes
@@ -100,11 +98,10 @@ count-totals-requires-clause-few_closes g c =
     let cells = found.cells.items in
     let sorted = c.in_ok-leaves.leaves in
     let within = c.in_ok-leaves.ensures.within in
-    let moved = subst (λ (xs : List PlainLeaf). IsPermutation xs (plain_leaves sorted.items))
-    (λ i. plain_leaves (came.leaves i) ++ leaves_of_roots (plain_problem r.problem) (plain_cells (c.deref.ensures.value i))) c.in_ok-leaves.ensures.moved in
+    let moved = all_moved r hands cells came.all found.leaves.items sorted.items _ came.leaves c.deref.ensures.value c.in_ok-leaves.ensures.moved in
     let long = sorted_length r hands cells came.all found.shares.items came.shares sorted.items moved within in
     let added : c.len.result - c.len-closed.result ≡ length (leaves_of_roots (plain_problem r.problem) (plain_cells cells)) = omega
-    (arith, c.len.ensures, c.len-closed.ensures, long, ap length came.leaves, sorted.ok.0, found.leaves.ok.0) in
+    (arith, c.len.ensures, c.len-closed.ensures, long, length_permutation _ _ came.leaves, sorted.ok.0, found.leaves.ok.0) in
     omega (arith, added, few_closes r hands cells came.all found.shares.items came.shares sorted.items moved within)
 
 pub returns-clause-value : goal.returns-clause-value
@@ -112,8 +109,7 @@ returns-clause-value g c =
     let r = c.args.self in
     let came = c.in_ok-found.ensures in
     let sorted = c.in_ok-leaves.leaves in
-    let moved = subst (λ (xs : List PlainLeaf). IsPermutation xs (plain_leaves sorted.items))
-    (λ i. plain_leaves (came.leaves i) ++ leaves_of_roots (plain_problem r.problem) (plain_cells (c.deref.ensures.value i))) c.in_ok-leaves.ensures.moved in
+    let moved = all_moved r c.args.hands.items c.in_ok-found.found.cells.items came.all c.in_ok-found.found.leaves.items sorted.items _ came.leaves c.deref.ensures.value c.in_ok-leaves.ensures.moved in
     all_value r c.args.hands.items c.in_ok-found.found.cells.items came.all sorted.items moved c.in_ok-leaves.ensures.ordered
 
 pub returns-clause-judged : goal.returns-clause-judged
@@ -124,13 +120,13 @@ returns-clause-judged g c =
     let all = came.all in
     let sound = all.sound in
     c.in_ok-leaves.ensures.judged r.roots sound.roots_are (subst (All (InTree case r.roots)) (sym c.deref.ensures.value) all.trees)
-    (subst (All (IsLeafOf case r.roots)) (sym came.leaves) (all_closed r c.args.hands.items c.in_ok-found.found.cells.items all))
+    (All-permutation (IsLeafOf case r.roots) _ _ came.leaves (all_closed r c.args.hands.items c.in_ok-found.found.cells.items all))
 
 pub returns-clause-closed : goal.returns-clause-closed
 returns-clause-closed g c =
     let sorted = c.in_ok-leaves.leaves.items in
     closed_found c.args.hands.items sorted
-    (subst (λ (xs : List Leaf). All (λ (leaf : Leaf). Contains sorted leaf) xs) c.in_ok-found.ensures.leaves c.in_ok-leaves.ensures.among)
+    (All-permutation (λ (leaf : Leaf). Contains sorted leaf) _ _ (IsPermutation-sym _ _ c.in_ok-found.ensures.leaves) c.in_ok-leaves.ensures.among)
 
 pub returns-clause-totals : goal.returns-clause-totals
 returns-clause-totals g c =
@@ -141,12 +137,11 @@ returns-clause-totals g c =
     let cells = found.cells.items in
     let sorted = c.in_ok-leaves.leaves in
     let within = c.in_ok-leaves.ensures.within in
-    let moved = subst (λ (xs : List PlainLeaf). IsPermutation xs (plain_leaves sorted.items))
-    (λ i. plain_leaves (came.leaves i) ++ leaves_of_roots (plain_problem r.problem) (plain_cells (c.deref.ensures.value i))) c.in_ok-leaves.ensures.moved in
+    let moved = all_moved r hands cells came.all found.leaves.items sorted.items _ came.leaves c.deref.ensures.value c.in_ok-leaves.ensures.moved in
     let long = sorted_length r hands cells came.all found.shares.items came.shares sorted.items moved within in
     let left = length (leaves_of_roots (plain_problem r.problem) (plain_cells cells)) in
     let added : c.len.result - c.len-closed.result ≡ left = omega
-    (arith, c.len.ensures, c.len-closed.ensures, long, ap length came.leaves, sorted.ok.0, found.leaves.ok.0) in
+    (arith, c.len.ensures, c.len-closed.ensures, long, length_permutation _ _ came.leaves, sorted.ok.0, found.leaves.ok.0) in
     let told = c.count-totals.ensures in
     let totals = c.count-totals.result in
     let splits : totals.splits + length cells ≡ sum_by (λ (s : ShareSeen). s.count.firsts) found.shares.items + left = omega
