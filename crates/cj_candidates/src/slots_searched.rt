@@ -38,7 +38,8 @@ fn looked_pairs(alloc: Global, ground: &Ground<'_>, slot: u32) -> Result<Vec<Pai
     kept_of(alloc, &touching, &objects)
 }
 
-/// So many slots from one on, one after another, with at most so many roots, which are put in order of pair and tick.
+/// So many slots from one on, one after another, with at most so many roots. They are sorted, so that merging them takes one pass;
+/// no clause hangs on their order.
 fn search_in_turn(
     alloc: Global,
     ground: &Ground<'_>,

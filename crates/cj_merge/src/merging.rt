@@ -82,7 +82,8 @@ fn joined<T: Drop>(mut front: Vec<T>, mut back: Vec<T>) -> Result<Vec<T>, AllocE
     Ok(front)
 }
 
-/// All elements of some runs, by as many threads as there are workers. Where each run is in order, what a sort then has to do is small.
+/// The elements of some runs, by as many threads as there are workers. It is meant for runs in order, and no clause says that its list
+/// is in order then.
 #[cycle(runs)]
 pub fn merge_runs<T: Placed + Copy + Send + Sync, R: Threads + Sync>(
     rt: &R,

@@ -19,7 +19,7 @@ use std::thread::Threads;
 /// What the hands of a refinery have come to.
 #[derive(Drop)]
 pub(crate) struct Collected {
-    /// The leaves that they have closed: in order where each hand has its own in order.
+    /// The leaves that they have closed, merged.
     pub leaves: Vec<Leaf>,
     /// The cells that they keep, and those that are left in the deques.
     pub cells: Vec<Cell>,
