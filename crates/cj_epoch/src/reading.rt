@@ -12,7 +12,7 @@ use crate::digits::{are_zeros, raised};
 use crate::fault::EpochFault;
 use crate::picture::begins_like;
 use crate::tick::{DAY, SECOND, Tick};
-use cj_kvn::{has_digits_alone, number_of_digits};
+use cj_kvn::{has_digits_alone, number_from_digits};
 
 /// The tick that an epoch text says, in one of the forms `YYYY-MM-DDThh:mm:ss` and `YYYY-DDDThh:mm:ss`, with decimals of the
 /// second and `Z` behind it or not.
@@ -40,14 +40,14 @@ fn read_calendar(text: &[u8]) -> Result<Tick, EpochFault>
     ensures { Gives result (calendar_reading text.now) }
 {
     let day = day_at_date(
-        number_of_digits(&text[..4]),
-        number_of_digits(&text[5..7]),
-        number_of_digits(&text[8..10]),
+        number_from_digits(&text[..4]),
+        number_from_digits(&text[5..7]),
+        number_from_digits(&text[8..10]),
     );
     let second = second_of_day(
-        number_of_digits(&text[11..13]),
-        number_of_digits(&text[14..16]),
-        number_of_digits(&text[17..19]),
+        number_from_digits(&text[11..13]),
+        number_from_digits(&text[14..16]),
+        number_from_digits(&text[17..19]),
     );
     moment(day, second, &text[19..])
 }
@@ -58,11 +58,14 @@ fn read_ordinal(text: &[u8]) -> Result<Tick, EpochFault>
     requires long { 17 ≤ length text.now }
     ensures { Gives result (ordinal_reading text.now) }
 {
-    let day = day_at_ordinal(number_of_digits(&text[..4]), number_of_digits(&text[5..8]));
+    let day = day_at_ordinal(
+        number_from_digits(&text[..4]),
+        number_from_digits(&text[5..8]),
+    );
     let second = second_of_day(
-        number_of_digits(&text[9..11]),
-        number_of_digits(&text[12..14]),
-        number_of_digits(&text[15..17]),
+        number_from_digits(&text[9..11]),
+        number_from_digits(&text[12..14]),
+        number_from_digits(&text[15..17]),
     );
     moment(day, second, &text[17..])
 }
@@ -130,7 +133,7 @@ fn micros_of(decimals: &[u8]) -> Result<u32, EpochFault>
 {
     let (six, rest) = decimals.split_at(decimals.len().min(6));
     if are_zeros(rest) {
-        Ok(raised(number_of_digits(six), 6 - six.len()))
+        Ok(raised(number_from_digits(six), 6 - six.len()))
     } else {
         Err(EpochFault::TooFine)
     }

@@ -11,7 +11,7 @@ pub fn has_digits_alone(text: &[u8]) -> bool
 }
 
 /// The number that at most six digits write, and 0 where there are none.
-pub fn number_of_digits(digits: &[u8]) -> u32
+pub fn number_from_digits(digits: &[u8]) -> u32
     requires all { IsTrue (are_digits digits.now) }
     requires short { length digits.now ≤ 6 }
     ensures value { result ≡ digits_value 10 digits.now }

@@ -24,7 +24,7 @@ mod text;
 mod words;
 
 pub use decimals::Decimal;
-pub use digits::{has_digits_alone, number_of_digits};
+pub use digits::{has_digits_alone, number_from_digits};
 pub use entries::{push_entry, push_line};
 pub use fields::{RowFields, field, row_fields};
 pub use lines::{KvnCause, KvnFault, Line, LineKind, MarkKind};

@@ -4,7 +4,7 @@ ghost use Rattle.std.specs.Str.Parse.{digits_value, digits_value_after, signed_d
 ghost use Rattle.cj_kvn.specs.Numbers.{are_digits, is_exponent, is_number, number, parts_of};
 ghost use Rattle.cj_kvn.specs.Scanning.{Begins, Leads, after_fraction, after_run, exponent_said, fraction_run, run};
 
-use crate::digits::{has_digits_alone, number_of_digits};
+use crate::digits::{has_digits_alone, number_from_digits};
 use crate::leading::{Leading, Scanned};
 
 /// The number that a text says, or none where it has not the form of a number.
@@ -109,7 +109,7 @@ fn read_power(text: &[u8]) -> Option<i64>
     if !is_short_run(digits) {
         return None;
     }
-    let size = i64::from(number_of_digits(digits));
+    let size = i64::from(number_from_digits(digits));
     Some(if negative { -size } else { size })
 }
 

@@ -1,12 +1,12 @@
-use cj_kvn::{has_digits_alone, number_of_digits};
+use cj_kvn::{has_digits_alone, number_from_digits};
 use std::test::Fail;
 
 #[test]
 fn digits_write_their_number(rt: HostRuntime) -> Result<(), Fail> {
-    assert_eq!(rt; number_of_digits(b""), 0);
-    assert_eq!(rt; number_of_digits(b"7"), 7);
-    assert_eq!(rt; number_of_digits(b"0190"), 190);
-    assert_eq!(rt; number_of_digits(b"999999"), 999_999);
+    assert_eq!(rt; number_from_digits(b""), 0);
+    assert_eq!(rt; number_from_digits(b"7"), 7);
+    assert_eq!(rt; number_from_digits(b"0190"), 190);
+    assert_eq!(rt; number_from_digits(b"999999"), 999_999);
     Ok(())
 }
 

@@ -4,28 +4,28 @@ use Rattle.cj_epoch.proofs.PictureLemmas.{calendar_numbers}
 use Rattle.cj_epoch.proofs.ReadingLemmas.{calendar_gives}
 use Rattle.cj_epoch.proofs.reading.read_calendar.Goals as goal
 
-pub number_of_digits-requires-clause-all : goal.number_of_digits-requires-clause-all
-number_of_digits-requires-clause-all c = (calendar_numbers c.args.text.now c.requires.like).year.digits
+pub number_from_digits-requires-clause-all : goal.number_from_digits-requires-clause-all
+number_from_digits-requires-clause-all c = (calendar_numbers c.args.text.now c.requires.like).year.digits
 
-pub number_of_digits-requires-2-clause-all : goal.number_of_digits-requires-2-clause-all
-number_of_digits-requires-2-clause-all c = (calendar_numbers c.args.text.now c.requires.like).month.digits
+pub number_from_digits-requires-2-clause-all : goal.number_from_digits-requires-2-clause-all
+number_from_digits-requires-2-clause-all c = (calendar_numbers c.args.text.now c.requires.like).month.digits
 
-pub number_of_digits-requires-3-clause-all : goal.number_of_digits-requires-3-clause-all
-number_of_digits-requires-3-clause-all c = (calendar_numbers c.args.text.now c.requires.like).day.digits
+pub number_from_digits-requires-3-clause-all : goal.number_from_digits-requires-3-clause-all
+number_from_digits-requires-3-clause-all c = (calendar_numbers c.args.text.now c.requires.like).day.digits
 
-pub number_of_digits-requires-4-clause-all : goal.number_of_digits-requires-4-clause-all
-number_of_digits-requires-4-clause-all c = (calendar_numbers c.args.text.now c.requires.like).hour.digits
+pub number_from_digits-requires-4-clause-all : goal.number_from_digits-requires-4-clause-all
+number_from_digits-requires-4-clause-all c = (calendar_numbers c.args.text.now c.requires.like).hour.digits
 
-pub number_of_digits-requires-5-clause-all : goal.number_of_digits-requires-5-clause-all
-number_of_digits-requires-5-clause-all c = (calendar_numbers c.args.text.now c.requires.like).minute.digits
+pub number_from_digits-requires-5-clause-all : goal.number_from_digits-requires-5-clause-all
+number_from_digits-requires-5-clause-all c = (calendar_numbers c.args.text.now c.requires.like).minute.digits
 
-pub number_of_digits-requires-6-clause-all : goal.number_of_digits-requires-6-clause-all
-number_of_digits-requires-6-clause-all c = (calendar_numbers c.args.text.now c.requires.like).second.digits
+pub number_from_digits-requires-6-clause-all : goal.number_from_digits-requires-6-clause-all
+number_from_digits-requires-6-clause-all c = (calendar_numbers c.args.text.now c.requires.like).second.digits
 
 pub returns : goal.returns
 returns c =
     let text = c.args.text.now in
-    calendar_gives c.moment.result text c.day_at_date-day.result c.second_of_day-second.result _ c.number_of_digits.result c.number_of_digits-2.result c.number_of_digits-3.result c.number_of_digits-4.result c.number_of_digits-5.result c.number_of_digits-6.result (calendar_numbers text c.requires.like)
-    c.number_of_digits.ensures.value c.number_of_digits-2.ensures.value c.number_of_digits-3.ensures.value c.day_at_date-day.ensures.value
-    c.number_of_digits-4.ensures.value c.number_of_digits-5.ensures.value c.number_of_digits-6.ensures.value c.second_of_day-second.ensures.value
+    calendar_gives c.moment.result text c.day_at_date-day.result c.second_of_day-second.result _ c.number_from_digits.result c.number_from_digits-2.result c.number_from_digits-3.result c.number_from_digits-4.result c.number_from_digits-5.result c.number_from_digits-6.result (calendar_numbers text c.requires.like)
+    c.number_from_digits.ensures.value c.number_from_digits-2.ensures.value c.number_from_digits-3.ensures.value c.day_at_date-day.ensures.value
+    c.number_from_digits-4.ensures.value c.number_from_digits-5.ensures.value c.number_from_digits-6.ensures.value c.second_of_day-second.ensures.value
     (take_all (length text - 19) (drop 19 text) (omega (arith, length-drop 19 text))) c.moment.ensures

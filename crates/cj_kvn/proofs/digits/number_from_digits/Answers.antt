@@ -1,7 +1,7 @@
 use Rattle.std.proofs.Common.{arith}
 use Rattle.cj_kvn.proofs.PowerLemmas.{ten_more, ten_grows}
 use Rattle.cj_kvn.proofs.RunLemmas.{digit_at, value_more}
-use Rattle.cj_kvn.proofs.digits.number_of_digits.Goals as goal
+use Rattle.cj_kvn.proofs.digits.number_from_digits.Goals as goal
 
 pub overflow_mul-value : goal.overflow_mul-value
 overflow_mul-value c = omega (arith, ten_grows c.loop-digit.digit-index 6 (omega arith))
