@@ -1,8 +1,10 @@
 -- Elements that are moved from several lists into one.
 use Rattle.std.proofs.Common.{◌≡◌, ℕ, List, ◌++◌, take, drop, sym, ap, subst, ◌∙◌}
+use Rattle.std.specs.List.{All}
 use Rattle.std.specs.List.Sorted.{IsPermutation}
 use Rattle.std.proofs.lemmas.List.{append_assoc, take-append-drop}
 use Rattle.std.proofs.lemmas.List.Sorted.{IsPermutation-append, IsPermutation-append_comm, IsPermutation-append_left, IsPermutation-append_right, IsPermutation-trans}
+use Rattle.cj_interval.proofs.ListLemmas.{All-from_each, each_from_All, each_from_append}
 
 module _ {X : Type 0} where
   -- both parts of a list that is split
@@ -25,3 +27,9 @@ module _ {X : Type 0} where
   moved l h b a xs ys front back x y low high =
       subst (λ (all : List X). IsPermutation all (front ++ back)) (sym (ap (λ (all : List X). all ++ ys) x ∙ ap (λ (all : List X). (l ++ h) ++ all) y))
       (IsPermutation-trans _ _ _ (exchanged l h b a) (IsPermutation-append (l ++ b) front (h ++ a) back low high))
+
+  -- what holds of each element of a list holds of those of both its parts
+  pub all_parts : (P : X → Type 0) (xs front back : List X) → xs ≡ front ++ back → All P xs → All P front × All P back
+  all_parts P xs front back e all =
+      let each = each_from_append P front back (each_from_All P (front ++ back) (subst (All P) e all)) in
+      (All-from_each P front each.0, All-from_each P back each.1)

@@ -10,5 +10,5 @@ decreases-merge_cut-second g l = 3 * (length l.high.now + length l.above.now) + 
 abbrev pub decreases-merge_cut : goal.decreases-merge_cut
 decreases-merge_cut g l = 3 * (length l.longer.now + length l.shorter.now)
 
-abbrev pub decreases-merge_two : goal.decreases-merge_two
-decreases-merge_two g l = 3 * (length l.first.now + length l.second.now) + 1
+abbrev pub decreases-merge_with_room : goal.decreases-merge_with_room
+decreases-merge_with_room g l = 3 * (length l.first.now + length l.second.now) + 1
