@@ -37,6 +37,18 @@ pub record IsFound (e : PlainTrack) (from last index : ℕ) (run : Window) : Typ
   pub number : interval_index_at e run.last.micros ≡ Some index
   pub behind : (m number : ℕ) → run.last.micros ≤ m → interval_index_at e m ≡ Some number → index ≤ number
 
+-- what is found up to a tick is found up to an earlier one, if not before its own last
+pub found_upto : (e : PlainTrack) (from upto last index : ℕ) (run : Window) → run.last.micros ≤ upto → upto ≤ last → IsFound e from last index run → IsFound e from upto index run
+found_upto e from upto last index run low high is =
+    let next = is.next in
+    record {
+      next = record { later = next.later; within = low; none = next.none; same = next.same; some = next.some; ends = λ short. next.ends (omega (arith, short, high)) };
+      after = is.after;
+      ended = λ short. is.ended (omega (arith, short, high));
+      number = is.number;
+      behind = is.behind;
+    }
+
 run_of : (e : PlainTrack) (from last index : ℕ) (x : PlainPiece) (run : Window) → slice_get (intervals_of e) index ≡ Some x → x.from.at < x.to.at → IsFound e from last index run
     → IsRunOf e from last run.first.micros run.last.micros index x
 run_of e from last index x run is rises found =

@@ -1,6 +1,7 @@
 pub mod AllBoxes
 pub mod Cells
 pub mod Enclosed
+pub mod FirstParts
 pub mod Gaps
 pub mod Halving
 pub mod Hulls

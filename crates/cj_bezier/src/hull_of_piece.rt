@@ -1,7 +1,6 @@
 //! The hull of a piece.
-ghost use Rattle.std.specs.Prelude.{◌≡◌, ℕ, ◌+◌, ◌-◌, ◌≤◌};
+ghost use Rattle.std.specs.Prelude.{◌≡◌, ℕ, ◌+◌, ◌≤◌};
 ghost use Rattle.std.specs.List.{All};
-ghost use Rattle.cj_hermite.specs.Interpolant.{curve_of};
 ghost use Rattle.cj_hermite.specs.Boxes.{IsBoxWithin, IsBoxNarrow};
 ghost use Rattle.cj_hermite.specs.Limits.{MAX_SPAN, REACH};
 ghost use Rattle.cj_hermite.specs.Ready.{controls_ready, curve_ready};
@@ -10,8 +9,8 @@ ghost use Rattle.cj_bezier.specs.Sizes.{HasEndsWithin, IsNarrow};
 
 use crate::hulls::Hull;
 use cj_epoch::Tick;
-use cj_hermite::{Box3, Piece, Ready, ReadyAxis, first_level, ready, second_level, third_level};
-use cj_interval::{Divisor, Fraction, Span};
+use cj_hermite::{Box3, Ready, ReadyAxis, first_level, second_level, third_level};
+use cj_interval::{Fraction, Span};
 
 /// The hull of one axis between two fractions of its piece. Its points share their levels.
 fn hull_axis(axis: &ReadyAxis, a: &Fraction, b: &Fraction) -> [Span; 4]
@@ -92,19 +91,4 @@ pub fn hull_ready(ready: &Ready, first: Tick, last: Tick) -> Hull
         &hull_axis(&ready.y, &from, &to),
         &hull_axis(&ready.z, &from, &to),
     )
-}
-
-/// The hull of a piece over the ticks from `first` to `last`.
-pub fn hull(piece: &Piece, first: Tick, last: Tick) -> Hull
-    requires order { first.micros ≤ last.micros }
-    requires after { piece.now.t0.micros ≤ first.micros }
-    requires before { last.micros ≤ piece.now.t1.micros }
-    ensures value { axes_of result.points ≡ hull_axes (curve_of piece.now) first.micros last.micros }
-    ensures within { All (IsBoxWithin REACH) result.points }
-    ensures narrow { All (IsBoxNarrow 3) result.points }
-    ensures encloses { (m : ℕ) → first.micros ≤ m → m ≤ last.micros
-        → Encloses (axes_of result.points) (curve_of piece.now) m }
-{
-    let divisor = Divisor::new(piece.t1.since(piece.t0));
-    hull_ready(&ready(piece, &divisor), first, last)
 }

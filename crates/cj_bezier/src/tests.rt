@@ -3,8 +3,8 @@ ghost use Rattle.cj_track.specs.Limits.{MAX_COORDINATE, MAX_RATE, IsWithin};
 
 use super::*;
 use cj_epoch::Tick;
-use cj_hermite::Piece;
-use cj_interval::Span;
+use cj_hermite::{Piece, ready};
+use cj_interval::{Divisor, Span};
 use cj_track::Vec3;
 use std::test::Fail;
 
@@ -95,6 +95,15 @@ fn along_z() -> Piece
             z: 225_000_000_000_000,
         },
     )
+}
+
+/// The hull of a piece over the ticks from `first` to `last`.
+fn hull(piece: &Piece, first: Tick, last: Tick) -> Hull
+    requires order { first.micros ≤ last.micros }
+    requires after { piece.now.t0.micros ≤ first.micros }
+    requires before { last.micros ≤ piece.now.t1.micros }
+{
+    hull_ready(&ready(piece, &Divisor::new(1)), first, last)
 }
 
 /// The gap of two pieces over some of their minute.

@@ -1,6 +1,7 @@
 mod BoxLemmas
-pub mod CountLemmas
 mod KeepingLemmas
-pub mod ObjectLemmas
 mod ObjectRunLemmas
 mod SlotRunLemmas
+pub mod CountLemmas
+pub mod NoStateLemmas
+pub mod ObjectLemmas

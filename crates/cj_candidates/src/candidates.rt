@@ -9,7 +9,7 @@ pub struct Candidates {
     pub boxes: Vec<Option<AxisBox>>,
     /// How many pairs are kept: their shells are not parted.
     pub kept: u64,
-    /// The roots of the pairs that are looked at in each slot.
+    /// The roots of the pairs that are looked at in each slot, in order of pair and time, each with its place as its number.
     pub roots: Vec<Cell>,
     /// How many pairs are looked at, summed over all slots.
     pub touching: u64,

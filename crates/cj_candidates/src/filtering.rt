@@ -1,13 +1,15 @@
-//! From a problem to its candidates: shells and boxes first, and then slot by slot the pairs that are looked at and their roots.
+//! From a problem to its candidates: shells and boxes first, then slot by slot the pairs that are looked at and their roots, and these
+//! in order at the end.
 ghost use Rattle.std.specs.Prelude.{◌≡◌, ◌<◌, ◌≤◌, length, vec_len, IfOk, OnOk, IsErrOf};
-ghost use Rattle.std.specs.List.Sorted.{IsPermutation};
+ghost use Rattle.std.specs.List.{range_with_len};
 ghost use Rattle.cj_hermite.specs.Problems.{plain_problem};
 ghost use Rattle.cj_hermite.specs.Slots.{slot_count};
 ghost use Rattle.cj_bezier.specs.SlotBoxes.{plain_boxes};
 ghost use Rattle.cj_bezier.specs.Cells.{plain_cells};
 ghost use Rattle.cj_bezier.specs.Looked.{shells_of, is_looked, pairs_kept};
-ghost use Rattle.cj_hermite.specs.Roots.{roots_of, roots_by_slot};
+ghost use Rattle.cj_hermite.specs.Roots.{roots_of};
 ghost use Rattle.cj_bezier.specs.AllBoxes.{boxes_of};
+ghost use Rattle.cj_cells.specs.Cells.{root_numbers};
 ghost use Rattle.cj_candidates.specs.Counts.{looked_count};
 ghost use Rattle.cj_bezier.specs.Enclosed.{UnlookedAreFar};
 
@@ -17,7 +19,7 @@ use crate::object_run::ObjectRun;
 use crate::objects_measured::measure_objects;
 use crate::slot_run::SlotRun;
 use crate::slots_searched::search_slots;
-use cj_cells::RefineError;
+use cj_cells::{RefineError, order_roots};
 use cj_hermite::{Problem, slot_count};
 use cj_sieve::{ShelledObjects, count_kept};
 use std::alloc::Global;
@@ -37,7 +39,8 @@ pub fn find_candidates<R: Threads + Sync>(
     ensures shells { IfOk result (λ found. found.shells.items ≡ shells_of (plain_problem problem.now)) }
     ensures boxes { IfOk result (λ found. plain_boxes found.boxes.items ≡ boxes_of (plain_problem problem.now)) }
     ensures kept { IfOk result (λ found. found.kept ≡ length (pairs_kept (plain_problem problem.now))) }
-    ensures roots { IfOk result (λ found. IsPermutation (roots_by_slot (is_looked (plain_problem problem.now)) (plain_problem problem.now)) (plain_cells found.roots.items)) }
+    ensures roots { IfOk result (λ found. plain_cells found.roots.items ≡ roots_of (is_looked (plain_problem problem.now)) (plain_problem problem.now)) }
+    ensures numbered { IfOk result (λ found. root_numbers found.roots.items ≡ range_with_len 0 (vec_len found.roots)) }
     ensures few { IfOk result (λ found. vec_len found.roots ≤ limit) }
     ensures touching { IfOk result (λ found. found.touching ≡ looked_count (plain_problem problem.now)) }
 
@@ -65,7 +68,11 @@ pub fn find_candidates<R: Threads + Sync>(
         boxes: &boxes,
         slots,
     };
-    let SlotRun { roots, touching } = search_slots(rt, alloc, &ground, 0, slots, workers, limit)?;
+    let SlotRun {
+        mut roots,
+        touching,
+    } = search_slots(rt, alloc, &ground, 0, slots, workers, limit)?;
+    order_roots(&mut roots);
     Ok(Candidates {
         shells,
         boxes,

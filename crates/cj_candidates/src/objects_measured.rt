@@ -2,36 +2,62 @@
 ghost use Rattle.std.specs.Prelude.{◌≡◌, ◌<◌, ◌++◌, IfOk, OnOk};
 ghost use Rattle.std.specs.Thread.{IsSync};
 ghost use Rattle.cj_track.specs.Tracks.{plain_track};
+ghost use Rattle.cj_bezier.specs.Shells.{shell_of};
 ghost use Rattle.cj_bezier.specs.SlotBoxes.{plain_boxes};
 ghost use Rattle.cj_bezier.specs.AllBoxes.{boxes_over};
-ghost use Rattle.cj_candidates.specs.ObjectRuns.{AreMeasured, IsInOwnBoxes};
+ghost use Rattle.cj_walk.specs.TrackWalks.{IsWalk};
+ghost use Rattle.cj_candidates.specs.ObjectRuns.{AreMeasured, IsInOwnBoxes, IsInOwnShell};
 
 use crate::object_run::ObjectRun;
-use cj_bezier::AxisBox;
+use cj_bezier::{AxisBox, Shell};
 use cj_epoch::Window;
 use cj_grid::slot_box;
-use cj_hermite::Hint;
 use cj_sieve::shell;
 use cj_track::Track;
+use cj_walk::TrackWalk;
 use std::alloc::{AllocError, Global};
 use std::thread::{Threads, join};
 
-/// Appends the boxes of an object in so many slots.
+/// Appends the boxes of a walk's track in so many slots.
 fn append_boxes(
+    walk: &mut TrackWalk<'_>,
+    slots: u32,
+    boxes: &mut Vec<Option<AxisBox>>,
+) -> Result<(), AllocError>
+    requires { IsWalk walk.old }
+    ensures value { OnOk result (plain_boxes boxes.new.items
+        ≡ plain_boxes boxes.old.items ++ boxes_over (plain_track walk.old.track.now) walk.old.window.first.micros walk.old.window.last.micros slots) }
+    ensures hold { OnOk result (IsInOwnBoxes walk.old.window.first.micros walk.old.window.last.micros slots (plain_track walk.old.track.now)) }
+
+    ensures track { walk.new.track.now ≡ walk.old.track.now }
+    ensures window { walk.new.window ≡ walk.old.window }
+    ensures walks { IsWalk walk.new }
+{
+    for slot in 0..slots {
+        boxes.push(slot_box(walk, slot))?;
+    }
+    Ok(())
+}
+
+/// The shell of an object in a window, if it has a state there. Its boxes in so many slots are appended.
+fn measure(
     track: &Track,
     window: Window,
     slots: u32,
     boxes: &mut Vec<Option<AxisBox>>,
-) -> Result<(), AllocError>
-    ensures value { OnOk result (plain_boxes boxes.new.items
+) -> Result<Option<Shell>, AllocError>
+    ensures shell { IfOk result (λ shell. shell ≡ shell_of (plain_track track.now) window.first.micros window.last.micros) }
+    ensures in_shell { OnOk result (IsInOwnShell window.first.micros window.last.micros (plain_track track.now)) }
+    ensures boxes { OnOk result (plain_boxes boxes.new.items
         ≡ plain_boxes boxes.old.items ++ boxes_over (plain_track track.now) window.first.micros window.last.micros slots) }
-    ensures hold { OnOk result (IsInOwnBoxes window.first.micros window.last.micros slots (plain_track track.now)) }
+    ensures in_boxes { OnOk result (IsInOwnBoxes window.first.micros window.last.micros slots (plain_track track.now)) }
 {
-    let mut hint = Hint::default();
-    for slot in 0..slots {
-        boxes.push(slot_box(track, window, slot, &mut hint))?;
-    }
-    Ok(())
+    let Some(mut walk) = TrackWalk::new(track, window) else {
+        boxes.resize(boxes.len() + slots as usize, None)?;
+        return Ok(None);
+    };
+    append_boxes(&mut walk, slots, boxes)?;
+    Ok(Some(shell(walk)))
 }
 
 /// Some objects, one after another.
@@ -46,8 +72,8 @@ fn measure_in_turn(
     let mut shells = Vec::with_capacity(alloc, tracks.len())?;
     let mut boxes = Vec::with_capacity(alloc, tracks.len().saturating_mul(slots as usize))?;
     for track in tracks {
-        shells.push(shell(track, window))?;
-        append_boxes(track, window, slots, &mut boxes)?;
+        let shell = measure(track, window, slots, &mut boxes)?;
+        shells.push(shell)?;
     }
     Ok(ObjectRun { shells, boxes })
 }

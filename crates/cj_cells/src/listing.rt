@@ -1,19 +1,17 @@
 //! The one-thread list of a problem.
 ghost use Rattle.std.specs.Prelude.{◌≡◌, ℕ, ◌+◌, ◌<◌, ◌≤◌, true, length, vec_len, All, Any, IfOk, OnOk, IsErrOf};
-ghost use Rattle.std.specs.List.Sorted.{IsPermutation};
 ghost use Rattle.cj_hermite.specs.PlainProblems.{IsCommonOf};
 ghost use Rattle.cj_hermite.specs.Problems.{plain_problem};
 ghost use Rattle.cj_hermite.specs.Slots.{slot_of};
 ghost use Rattle.cj_bezier.specs.Leaves.{plain_leaves};
 ghost use Rattle.cj_bezier.specs.Order.{AreInOrder};
 ghost use Rattle.cj_bezier.specs.Looked.{is_looked};
-ghost use Rattle.cj_hermite.specs.Roots.{KeepIntervals, roots_by_slot};
+ghost use Rattle.cj_hermite.specs.Roots.{KeepIntervals, roots_of};
 ghost use Rattle.cj_bezier.specs.Cells.{plain_cells};
 ghost use Rattle.cj_bezier.specs.RootLeaves.{leaves_of_root, leaves_of_roots, Describe};
 ghost use Rattle.cj_cells.specs.Lists.{list_looked, splits_of, IsSound};
 ghost use Rattle.cj_bezier.specs.Leaves.{IsTickOf};
 
-use crate::ordering::order_roots;
 use crate::refine_error::RefineError;
 use crate::refining::refine;
 use cj_bezier::{Cell, Leaf};
@@ -43,22 +41,21 @@ pub fn refine_all(
     Ok(leaves)
 }
 
-/// The one-thread list, of the roots of the pairs that are looked at in each slot, in whatever order they come.
+/// The one-thread list, of the roots of the pairs that are looked at in each slot.
 pub fn leaves_of(
     alloc: Global,
     problem: &Problem,
-    mut roots: Vec<Cell>,
+    roots: &[Cell],
     limit: u64,
 ) -> Result<Vec<Leaf>, RefineError>
-    requires few { vec_len roots ≤ 4_000_000 }
-    requires found { IsPermutation (roots_by_slot (is_looked (plain_problem problem.now)) (plain_problem problem.now)) (plain_cells roots.items) }
+    requires { plain_cells roots.now ≡ roots_of (is_looked (plain_problem problem.now)) (plain_problem problem.now) }
 
     ensures value { IfOk result (λ leaves. plain_leaves leaves.items ≡ list_looked (plain_problem problem.now)) }
     ensures within { IfOk result (λ leaves. vec_len leaves ≤ limit) }
     ensures too_many { IsErrOf result RefineError.TooMany → limit < length (list_looked (plain_problem problem.now)) }
 
     // Each halving makes one leaf more.
-    ensures splits { IfOk result (λ leaves. vec_len leaves ≡ vec_len roots + splits_of (plain_problem problem.now)) }
+    ensures splits { IfOk result (λ leaves. vec_len leaves ≡ length roots.now + splits_of (plain_problem problem.now)) }
 
     // Each stretch of the list is true at each of its ticks, each common tick of a pair that is looked at lies in a stretch of that
     // pair, and they are in order of pair and time.
@@ -70,6 +67,5 @@ pub fn leaves_of(
     // Over each stretch both its objects are in one interval.
     ensures intervals { OnOk result (All (λ s. KeepIntervals (plain_problem problem.now) s.a s.b s.first s.last) (list_looked (plain_problem problem.now))) }
 {
-    order_roots(&mut roots);
-    refine_all(alloc, problem, &roots, limit)
+    refine_all(alloc, problem, roots, limit)
 }

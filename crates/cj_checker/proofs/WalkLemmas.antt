@@ -1,27 +1,11 @@
--- A walk along an ephemeris, part by part.
-use Rattle.std.proofs.Common.{◌≡◌, ℕ, ◌+◌, ◌≤◌, Bool, true, false, ◌&&◌, ◌∷◌, sym, ap, ◌∙◌, arith}
+-- Whether the hulls of an ephemeris pass a test, part by part.
+use Rattle.std.proofs.Common.{◌≡◌, ℕ, ◌+◌, Bool, true, false, ◌&&◌, ◌∷◌, sym, ap, ◌∙◌}
 use Rattle.std.specs.List.{list_all}
-use Rattle.cj_epoch.specs.declared.tick.Window.{Window}
 use Rattle.cj_track.specs.PlainTracks.{PlainTrack}
 use Rattle.cj_hermite.specs.Walks.{HasNone}
 use Rattle.cj_bezier.specs.Hulls.{PlainHull}
 use Rattle.cj_bezier.specs.Parts.{hulls_of}
 use Rattle.cj_bezier.proofs.HullListLemmas.{no_hulls}
-use Rattle.cj_bezier.proofs.NextPartLemmas.{IsFound}
-
--- what is found up to a tick is found up to an earlier one, if not before its own last
-pub found_upto : (e : PlainTrack) (from upto last index : ℕ) (run : Window) → run.last.micros ≤ upto → upto ≤ last → IsFound e from last index run → IsFound e from upto index run
-found_upto e from upto last index run low high is =
-    let next = is.next in
-    record {
-      next = record { later = next.later; within = low; none = next.none; same = next.same; some = next.some; ends = λ short. next.ends (omega (arith, short, high)) };
-      after = is.after;
-      ended = λ short. is.ended (omega (arith, short, high));
-      number = is.number;
-      behind = is.behind;
-    }
-
--- ---- whether the hulls pass a test
 
 -- a first hull, and those behind it
 pub first_passes : (p : PlainHull → Bool) (e : PlainTrack) (from at last : ℕ) (h : PlainHull) (b : Bool) → hulls_of e from last ≡ h ∷ hulls_of e (at + 1) last → b ≡ p h

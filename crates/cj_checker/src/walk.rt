@@ -6,38 +6,12 @@ ghost use Rattle.cj_hermite.specs.Walks.{HasNone};
 ghost use Rattle.cj_bezier.specs.Hulls.{axes_of};
 ghost use Rattle.cj_bezier.specs.Parts.{hulls_of};
 ghost use Rattle.cj_checker.specs.Tests.{shows_radii as shows};
-ghost use Rattle.cj_checker.specs.Walks.{IsFirstPart, IsWalk};
+ghost use Rattle.cj_checker.specs.Walks.{IsWalk};
 
 use crate::bound::shows_radii;
 use crate::course::Course;
-use cj_bezier::{Part, hull_ready};
+use cj_bezier::{Guide, Part, next_part};
 use cj_epoch::Tick;
-use cj_hermite::{Hint, ready, run_from};
-use cj_interval::Divisor;
-use cj_track::Track;
-
-/// Where to look for the next part: where the last one was found, and how long its piece is.
-#[derive(Clone, Copy)]
-struct Guide {
-    hint: Hint,
-    divisor: Divisor,
-}
-
-/// The first part of a track from one tick to another. The guide then says where it is.
-fn part_from(track: &Track, from: Tick, last: Tick, guide: &mut Guide) -> Option<Part>
-    ensures none { IfNone result (HasNone (plain_track track.now) from.micros last.micros) }
-    ensures later { IfSome result (λ part. from.micros ≤ part.last.micros) }
-    ensures within { IfSome result (λ part. part.last.micros ≤ last.micros) }
-    ensures first { IfSome result (λ part. IsFirstPart (plain_track track.now) from.micros last.micros part) }
-{
-    let run = run_from(track, from, last, &mut guide.hint)?;
-    let piece = ready(&run.piece, &guide.divisor);
-    guide.divisor = piece.divisor;
-    Some(Part {
-        hull: hull_ready(&piece, run.ticks.first, run.ticks.last),
-        last: run.ticks.last,
-    })
-}
 
 /// Where a walk is: at a part of the track in the window, which is the first one from a tick on.
 #[derive(Clone, Copy)]
@@ -59,11 +33,8 @@ impl Walk {
         ensures walks { IfSome result (IsWalk course.now) }
     {
         let window = course.problem.window;
-        let mut guide = Guide {
-            hint: Hint::default(),
-            divisor: Divisor::new(1),
-        };
-        let part = part_from(course.track, window.first, window.last, &mut guide)?;
+        let mut guide = Guide::new();
+        let part = next_part(course.track, window.first, window.last, &mut guide)?;
         let shown = shows_radii(course.shell, &part.hull);
         Some(Walk {
             from: window.first,
@@ -88,7 +59,7 @@ impl Walk {
         let from = Tick {
             micros: self.part.last.micros + 1,
         };
-        let Some(part) = part_from(course.track, from, last, &mut self.guide) else {
+        let Some(part) = next_part(course.track, from, last, &mut self.guide) else {
             return false;
         };
         self.shown = self.shown && shows_radii(course.shell, &part.hull);
@@ -124,7 +95,7 @@ impl Walk {
         if self.from.micros == from.micros && self.part.last.micros <= last.micros {
             return Some(self.part);
         }
-        part_from(course.track, from, last, &mut self.guide)
+        next_part(course.track, from, last, &mut self.guide)
     }
 
     /// Whether all hulls of the track in the window show the radii of the shell. The walk goes on to its end.

@@ -3,9 +3,11 @@ ghost use Rattle.cj_bezier.specs.SlotBoxes.{plain_box, plain_boxes};
 ghost use Rattle.cj_grid.specs.Rows.{box_in_row, boxes_in_row};
 
 use super::*;
-use cj_hermite::{Hint, Pair};
+use cj_epoch::Window;
+use cj_hermite::Pair;
 use cj_samples::{REST, moving, rest, track_of, track_of_two, window};
 use cj_track::{Track, Vec3};
+use cj_walk::TrackWalk;
 use std::alloc::{AllocError, Global};
 use std::marker::Brand;
 use std::process::Abort;
@@ -20,6 +22,19 @@ const ASLANT: Vec3 = Vec3 {
     x: 3_000_000_000_000,
     y: -3_000_000_000_000,
     z: 0,
+};
+
+/// The corners of the box round the high place and the low one.
+const LEAST_OF_BOTH: Vec3 = Vec3 {
+    x: 6_999_999_999_999_999,
+    y: -3,
+    z: -5,
+};
+
+const MOST_OF_BOTH: Vec3 = Vec3 {
+    x: 7_000_000_000_000_000,
+    y: 2,
+    z: 11,
 };
 
 const HIGH: Vec3 = Vec3 {
@@ -64,13 +79,18 @@ fn corners(least: Vec3, most: Vec3) -> AxisBox
     AxisBox { least, most }
 }
 
+/// The box of a track in a slot, found by a walk of its own.
+fn box_in(track: &Track, window: Window, slot: u32) -> Option<AxisBox> {
+    let mut walk = TrackWalk::new(track, window)?;
+    slot_box(&mut walk, slot)
+}
+
 /// The whole of the first slot; the six ticks of the last, which ends with the window; the two of a slot that is counted from a
 /// later window.
 #[test]
 fn a_straight_track_has_its_ends_in_the_slot(rt: HostRuntime) -> Result<(), Fail> {
     let track = straight(rt.alloc())?;
     let place = |x, y| Vec3 { x, y, z: 17 };
-    let mut hint = Hint::default();
     for (ticks, slot, least, most) in [
         (
             window(0, 90_000_000),
@@ -91,7 +111,7 @@ fn a_straight_track_has_its_ends_in_the_slot(rt: HostRuntime) -> Result<(), Fail
             place(7_201_000_003_000_000, 99_000_000_000_000),
         ),
     ] {
-        let area = slot_box(&track, ticks, slot, &mut hint);
+        let area = box_in(&track, ticks, slot);
         assert_eq!(rt; area.map(|area| area.least), Some(least));
         assert_eq!(rt; area.map(|area| area.most), Some(most));
     }
@@ -101,21 +121,14 @@ fn a_straight_track_has_its_ends_in_the_slot(rt: HostRuntime) -> Result<(), Fail
 #[test]
 fn a_box_goes_round_the_segments_of_its_slot(rt: HostRuntime) -> Result<(), Fail> {
     let track = stepping(rt.alloc())?;
-    let least = Vec3 {
-        x: 6_999_999_999_999_999,
-        y: -3,
-        z: -5,
-    };
-    let most = Vec3 {
-        x: 7_000_000_000_000_000,
-        y: 2,
-        z: 11,
-    };
     let high = Some(corners(HIGH, HIGH));
     let low = Some(corners(LOW, LOW));
-    let mut hint = Hint::default();
     for (ticks, slot, expected) in [
-        (window(0, 90_000_000), 0, Some(corners(least, most))),
+        (
+            window(0, 90_000_000),
+            0,
+            Some(corners(LEAST_OF_BOTH, MOST_OF_BOTH)),
+        ),
         (window(0, 90_000_000), 1, low),
         (window(0, 90_000_000), 2, None),
         (window(0, 39_999_999), 0, high),
@@ -124,7 +137,33 @@ fn a_box_goes_round_the_segments_of_its_slot(rt: HostRuntime) -> Result<(), Fail
         (window(20_000_001, 40_000_000), 0, low),
         (window(90_000_000, 0), 0, None),
     ] {
-        assert_eq!(rt; slot_box(&track, ticks, slot, &mut hint), expected);
+        assert_eq!(rt; box_in(&track, ticks, slot), expected);
+    }
+    Ok(())
+}
+
+/// The boxes of a track in two slots of its first 90 seconds, by one walk.
+fn boxes_by_one_walk(track: &Track, one: u32, other: u32) -> Option<[Option<AxisBox>; 2]> {
+    let mut walk = TrackWalk::new(track, window(0, 90_000_000))?;
+    let first = slot_box(&mut walk, one);
+    let second = slot_box(&mut walk, other);
+    Some([first, second])
+}
+
+/// A walk that has come to a later slot gives the box of an earlier one too.
+#[test]
+fn one_walk_gives_the_boxes_of_all_slots(rt: HostRuntime) -> Result<(), Fail> {
+    let track = stepping(rt.alloc())?;
+    let both = Some(corners(LEAST_OF_BOTH, MOST_OF_BOTH));
+    let low = Some(corners(LOW, LOW));
+    for (one, other, expected) in [
+        (0, 1, [both, low]),
+        (1, 0, [low, both]),
+        (0, 0, [both, both]),
+        (2, 1, [None, low]),
+        (1, 2, [low, None]),
+    ] {
+        assert_eq!(rt; boxes_by_one_walk(&track, one, other), Some(expected));
     }
     Ok(())
 }

@@ -9,27 +9,35 @@ ghost use Rattle.cj_hermite.specs.Walks.{HasNone};
 ghost use Rattle.cj_bezier.specs.Parts.{AreInTime};
 ghost use Rattle.cj_bezier.specs.Sizes.{HULL_REACH};
 ghost use Rattle.cj_bezier.specs.SlotBoxes.{IsBoxOf, IsPlaceIn, box_of, plain_box};
+ghost use Rattle.cj_walk.specs.TrackWalks.{IsWalk};
 ghost use Rattle.cj_grid.specs.JoinedBoxes.{reaches_of_spans};
 
 use crate::joined_boxes::{box_of_hull, join_boxes};
-use cj_bezier::{AxisBox, next_part};
+use cj_bezier::AxisBox;
 use cj_epoch::{Tick, Window};
-use cj_hermite::{Box3, Hint, slot_window};
-use cj_track::{Track, Vec3};
+use cj_hermite::{Box3, slot_window};
+use cj_track::Vec3;
+use cj_walk::TrackWalk;
 
 /// The smallest box round the hulls of all parts of a track in a window.
-fn box_round(track: &Track, window: Window, hint: &mut Hint) -> Option<Box3>
-    ensures value { option_map reaches_of_spans result ≡ box_of (plain_track track.now) window.first.micros window.last.micros }
+fn box_round(walk: &mut TrackWalk<'_>, window: Window) -> Option<Box3>
+    requires walks { IsWalk walk.old }
+    requires inside { window.last.micros ≤ walk.old.window.last.micros }
+    ensures value { option_map reaches_of_spans result ≡ box_of (plain_track walk.old.track.now) window.first.micros window.last.micros }
     ensures within { IfSome result (IsBoxWithin HULL_REACH) }
-    ensures time { AreInTime (plain_track track.now) window.first.micros window.last.micros }
+    ensures time { AreInTime (plain_track walk.old.track.now) window.first.micros window.last.micros }
+
+    ensures track { walk.new.track.now ≡ walk.old.track.now }
+    ensures window { walk.new.window ≡ walk.old.window }
+    ensures walks { IsWalk walk.new }
 {
-    let mut part = next_part(track, window.first, window.last, hint)?;
+    let mut part = walk.part_in(window.first, window.last)?;
     let mut area = box_of_hull(&part.hull);
     while part.last.micros < window.last.micros {
         let from = Tick {
             micros: part.last.micros + 1,
         };
-        let Some(next) = next_part(track, from, window.last, hint) else {
+        let Some(next) = walk.part_in(from, window.last) else {
             break;
         };
         area = join_boxes(area, box_of_hull(&next.hull));
@@ -65,23 +73,27 @@ fn by_corners(area: Box3) -> AxisBox
     }
 }
 
-/// The smallest box in nm round the hulls of a track's parts in a slot of a window, if it has a state there.
-/// The hint then says where the last of them is.
-pub fn slot_box(track: &Track, window: Window, slot: u32, hint: &mut Hint) -> Option<AxisBox>
-    ensures value { IfSome result (IsBoxOf (plain_track track.now) (slot_first window.first.micros slot) (slot_last window.first.micros window.last.micros slot)) }
-    ensures none { IfNone result (HasNone (plain_track track.now) (slot_first window.first.micros slot) (slot_last window.first.micros window.last.micros slot)) }
-    ensures some { IfSome result (λ area. ¬ HasNone (plain_track track.now) (slot_first window.first.micros slot) (slot_last window.first.micros window.last.micros slot)) }
+/// The smallest box in nm round the hulls of the walk's track in a slot of its window, if it has a state there. The walk goes on to the slot.
+pub fn slot_box(walk: &mut TrackWalk<'_>, slot: u32) -> Option<AxisBox>
+    requires { IsWalk walk.old }
+    ensures value { IfSome result (IsBoxOf (plain_track walk.old.track.now) (slot_first walk.old.window.first.micros slot) (slot_last walk.old.window.first.micros walk.old.window.last.micros slot)) }
+    ensures none { IfNone result (HasNone (plain_track walk.old.track.now) (slot_first walk.old.window.first.micros slot) (slot_last walk.old.window.first.micros walk.old.window.last.micros slot)) }
+    ensures some { IfSome result (λ area. ¬ HasNone (plain_track walk.old.track.now) (slot_first walk.old.window.first.micros slot) (slot_last walk.old.window.first.micros walk.old.window.last.micros slot)) }
 
-    ensures exact { option_map plain_box result ≡ box_of (plain_track track.now) (slot_first window.first.micros slot) (slot_last window.first.micros window.last.micros slot) }
+    ensures exact { option_map plain_box result ≡ box_of (plain_track walk.old.track.now) (slot_first walk.old.window.first.micros slot) (slot_last walk.old.window.first.micros walk.old.window.last.micros slot) }
 
     // At each tick of the slot with a state the place lies in the box.
-    ensures holds { IfSome result (λ area. (m : ℕ) → slot_first window.first.micros slot ≤ m → m ≤ slot_last window.first.micros window.last.micros slot
-        → IfSome (interval_at (plain_track track.now) m) (λ x. IsPlaceIn (curve_of_interval x) m (plain_box area))) }
+    ensures holds { IfSome result (λ area. (m : ℕ) → slot_first walk.old.window.first.micros slot ≤ m → m ≤ slot_last walk.old.window.first.micros walk.old.window.last.micros slot
+        → IfSome (interval_at (plain_track walk.old.track.now) m) (λ x. IsPlaceIn (curve_of_interval x) m (plain_box area))) }
 
     // A track's intervals come in order of time, as the laws of hulls ask.
-    ensures time { AreInTime (plain_track track.now) (slot_first window.first.micros slot) (slot_last window.first.micros window.last.micros slot) }
+    ensures time { AreInTime (plain_track walk.old.track.now) (slot_first walk.old.window.first.micros slot) (slot_last walk.old.window.first.micros walk.old.window.last.micros slot) }
+
+    ensures track { walk.new.track.now ≡ walk.old.track.now }
+    ensures window { walk.new.window ≡ walk.old.window }
+    ensures walks { IsWalk walk.new }
 {
-    let ticks = slot_window(window, slot)?;
-    let area = box_round(track, ticks, hint)?;
+    let ticks = slot_window(walk.window, slot)?;
+    let area = box_round(walk, ticks)?;
     Some(by_corners(area))
 }

@@ -1,15 +1,16 @@
 //! The one-thread list of a problem, by several hands.
 ghost use Rattle.std.specs.Prelude.{◌≡◌, ℕ, ◌+◌, ◌<◌, ◌≤◌, true, length, vec_len, All, Any, IfOk, OnOk, IsErrOf};
-ghost use Rattle.std.specs.List.Sorted.{IsPermutation};
+ghost use Rattle.std.specs.List.{range_with_len};
 ghost use Rattle.cj_hermite.specs.PlainProblems.{IsCommonOf};
 ghost use Rattle.cj_hermite.specs.Problems.{plain_problem};
-ghost use Rattle.cj_hermite.specs.Roots.{KeepIntervals, roots_by_slot};
+ghost use Rattle.cj_hermite.specs.Roots.{KeepIntervals, roots_of};
 ghost use Rattle.cj_hermite.specs.Slots.{slot_of};
 ghost use Rattle.cj_bezier.specs.Cells.{plain_cells};
 ghost use Rattle.cj_bezier.specs.Leaves.{plain_leaves, IsTickOf};
 ghost use Rattle.cj_bezier.specs.Looked.{is_looked};
 ghost use Rattle.cj_bezier.specs.Order.{AreInOrder};
 ghost use Rattle.cj_bezier.specs.RootLeaves.{leaves_of_root, leaves_of_roots, Describe};
+ghost use Rattle.cj_cells.specs.Cells.{root_numbers};
 ghost use Rattle.cj_cells.specs.Lists.{list_looked, splits_of, IsSound};
 ghost use Rattle.cj_pool.specs.RootLists.{AreRoots};
 
@@ -18,7 +19,7 @@ use crate::refined::FinishError;
 use crate::refinery::Refinery;
 use crate::run::Run;
 use cj_bezier::{Cell, Leaf};
-use cj_cells::{RefineError, leaves_of, order_roots};
+use cj_cells::{RefineError, leaves_of};
 use cj_hermite::Problem;
 use cj_io::Gate;
 use std::alloc::Global;
@@ -60,14 +61,14 @@ pub(crate) fn leaves_by_hands<K: Run + Send + Sync, R: Threads + Wait + Sync, G:
     }
 }
 
-/// The one-thread list, by so many workers, of the roots of the pairs that are looked at in each slot, in whatever order they
-/// come. Each worker calls the gate before each of its turns.
+/// The one-thread list, by so many workers, of the roots of the pairs that are looked at in each slot, each with its place as its
+/// number. Each worker calls the gate before each of its turns.
 pub fn leaves_by_workers<R: Threads + Wait + Sync, G: Gate + Sync>(
     rt: &R,
     alloc: Global,
     gate: &G,
     problem: &Problem,
-    mut roots: Vec<Cell>,
+    roots: Vec<Cell>,
     workers: u32,
     limit: u64,
 ) -> Result<Vec<Leaf>, RefineError>
@@ -75,7 +76,8 @@ pub fn leaves_by_workers<R: Threads + Wait + Sync, G: Gate + Sync>(
     requires limit { limit ≤ 4_000_000 }
     requires some { 1 ≤ workers }
     requires few_workers { workers ≤ 16 }
-    requires found { IsPermutation (roots_by_slot (is_looked (plain_problem problem.now)) (plain_problem problem.now)) (plain_cells roots.items) }
+    requires found { plain_cells roots.items ≡ roots_of (is_looked (plain_problem problem.now)) (plain_problem problem.now) }
+    requires numbered { root_numbers roots.items ≡ range_with_len 0 (vec_len roots) }
 
     ensures value { IfOk result (λ leaves. plain_leaves leaves.items ≡ list_looked (plain_problem problem.now)) }
     ensures within { IfOk result (λ leaves. vec_len leaves ≤ limit) }
@@ -97,8 +99,7 @@ pub fn leaves_by_workers<R: Threads + Wait + Sync, G: Gate + Sync>(
         (λ s. KeepIntervals (plain_problem problem.now) s.a s.b s.first s.last) (list_looked (plain_problem problem.now))) }
 {
     if workers == 1 {
-        return leaves_of(alloc, problem, roots, limit);
+        return leaves_of(alloc, problem, &roots, limit);
     }
-    order_roots(&mut roots);
     leaves_by_hands::<Brand, R, G>(rt, alloc, gate, problem, roots, workers, limit)
 }

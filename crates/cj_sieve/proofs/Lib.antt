@@ -1,2 +1,1 @@
-pub mod JoinedGapLemmas
 pub mod KeptLemmas

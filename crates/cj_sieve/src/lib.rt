@@ -1,7 +1,6 @@
 //! The perigee and apogee filter: the shells in which tracks stay, and the pairs whose shells are not parted.
 #![tactic(auto)]
 
-mod joined_gaps;
 mod pair_filter;
 mod parted_shells;
 mod shelled_objects;

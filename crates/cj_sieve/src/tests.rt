@@ -3,9 +3,12 @@ ghost use Rattle.cj_hermite.specs.Limits.{MAX_SIZE};
 
 use super::*;
 use cj_bezier::Shell;
+use cj_epoch::Window;
 use cj_hermite::Pair;
 use cj_samples::{AT_7000, AT_7100, rest, seconds, track_of_two};
 use cj_scenes::along_y;
+use cj_track::Track;
+use cj_walk::TrackWalk;
 use std::alloc::{AllocError, Global};
 use std::process::Abort;
 use std::test::Fail;
@@ -19,6 +22,12 @@ fn thin(radius: u64) -> Shell {
         lo: radius,
         hi: radius,
     }
+}
+
+/// The shell of a track in a window, none where it has no state there.
+fn shell_in(track: &Track, window: Window) -> Option<Shell> {
+    let walk = TrackWalk::new(track, window)?;
+    Some(shell(walk))
 }
 
 /// At rest at 7,100 km for 20 seconds, from then on at 7,000 km until second 40.
@@ -43,7 +52,7 @@ fn a_shell_goes_round_the_segments_of_its_seconds(rt: HostRuntime) -> Result<(),
         (seconds(41, 60), None),
         (seconds(30, 10), None),
     ] {
-        assert_eq!(rt; shell(&track, ticks), expected);
+        assert_eq!(rt; shell_in(&track, ticks), expected);
     }
     Ok(())
 }
@@ -58,8 +67,8 @@ fn a_gap_between_segments_is_passed_over(rt: HostRuntime) -> Result<(), Fail> {
         lo: 7_000_000_000_000_000,
         hi: 7_100_000_000_000_000,
     });
-    assert_eq!(rt; shell(&track, seconds(0, 120)), both);
-    assert_eq!(rt; shell(&track, seconds(21, 39)), None);
+    assert_eq!(rt; shell_in(&track, seconds(0, 120)), both);
+    assert_eq!(rt; shell_in(&track, seconds(21, 39)), None);
     Ok(())
 }
 
@@ -69,7 +78,7 @@ fn a_gap_between_segments_is_passed_over(rt: HostRuntime) -> Result<(), Fail> {
 fn the_shell_of_a_moving_track_holds_its_ends(rt: HostRuntime) -> Result<(), Fail> {
     let track = along_y(rt.alloc())?;
     assert_eq!(rt;
-        shell(&track, seconds(0, 60)),
+        shell_in(&track, seconds(0, 60)),
         Some(Shell {
             lo: 6999276748350503,
             hi: 7003615137912706

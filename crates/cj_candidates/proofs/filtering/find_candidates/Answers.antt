@@ -1,12 +1,14 @@
 use Rattle.std.proofs.Common.{◌≡◌, ℕ, List, length, map, ap, subst, ◌∙◌, arith}
 use Rattle.std.specs.List.Sorted.{IsPermutation}
+use Rattle.std.proofs.lemmas.List.{length-map}
+use Rattle.std.proofs.lemmas.List.Sorted.{length_permutation}
 use Rattle.std.proofs.lemmas.Result.{err_from_is_err_and}
 use Rattle.cj_track.specs.declared.track.Track.{Track}
 use Rattle.cj_track.specs.Tracks.{plain_track}
 use Rattle.cj_hermite.specs.Problems.{plain_problem}
 use Rattle.cj_hermite.specs.Roots.{PlainCell}
 use Rattle.cj_bezier.specs.SlotBoxes.{plain_boxes}
-use Rattle.cj_bezier.specs.Cells.{plain_cells}
+use Rattle.cj_bezier.specs.Cells.{plain_cell, plain_cells}
 use Rattle.cj_bezier.specs.Looked.{boxes_in, is_looked, shells_of}
 use Rattle.cj_bezier.proofs.FarLemmas.{unlooked_far}
 use Rattle.cj_cells.proofs.ListingLemmas.{error_is, by_slot, same_count}
@@ -34,11 +36,21 @@ returns-in_err-roots-clause-too_many g c =
     let slots = ap length (by_slot case) in
     rw (p.1, p.2) (λ is. let many = c.in_err-roots.ensures.too_many (error_is _ _ is) in omega (arith, many, all, slots, same_count case))
 
+pub order_roots-requires : goal.order_roots-requires
+order_roots-requires g c = omega (arith, c.in_ok-roots.ensures.found.few, c.requires)
+
 pub returns-clause-roots : goal.returns-clause-roots
 returns-clause-roots g c =
     let case = plain_problem c.args.problem.now in
-    subst (λ (rs : List PlainCell). IsPermutation rs (plain_cells c.in_ok-roots.field-0.roots.items)) (ap (λ (n : ℕ). roots_over case 0 n) c.slot_count-slots.ensures ∙ by_slot case)
-    c.in_ok-roots.ensures.found.roots
+    c.order_roots.ensures.all (is_looked case) case
+    (subst (λ (rs : List PlainCell). IsPermutation rs (plain_cells c.in_ok-roots.field-0.roots.items)) (ap (λ (n : ℕ). roots_over case 0 n) c.slot_count-slots.ensures ∙ by_slot case)
+    c.in_ok-roots.ensures.found.roots)
+
+pub returns-clause-few : goal.returns-clause-few
+returns-clause-few g c =
+    let old = c.in_ok-roots.field-0.roots in
+    let new = c.order_roots.new.roots in
+    omega (arith, c.in_ok-roots.ensures.found.few, length_permutation _ _ c.order_roots.ensures.permutation, length-map old.items plain_cell, length-map new.items plain_cell, old.ok.0, new.ok.0)
 
 pub returns-clause-far : goal.returns-clause-far
 unfolding is_looked

@@ -7,7 +7,7 @@ use Rattle.cj_bezier.specs.Shells.{shell_of}
 use Rattle.cj_bezier.specs.SlotBoxes.{PlainBox, plain_boxes}
 use Rattle.cj_bezier.specs.AllBoxes.{boxes_over}
 use Rattle.cj_candidates.specs.ObjectRuns.{IsInOwnShell, IsInOwnBoxes}
-use Rattle.cj_candidates.proofs.ObjectLemmas.{made_more, held_more, in_own_shell}
+use Rattle.cj_candidates.proofs.ObjectLemmas.{made_more, held_more}
 use Rattle.cj_candidates.proofs.ObjectRunLemmas.{measured_to}
 use Rattle.cj_candidates.proofs.BoxLemmas.{objects_more}
 use Rattle.cj_candidates.proofs.objects_measured.measure_in_turn.Goals as goal
@@ -29,14 +29,14 @@ loop-track-preserved c =
     let tracks = c.args.tracks.now in
     let at = c.loop-track.track-index in
     let t = c.track-item.result in
+    let told = c.in_ok-shell.ensures in
     let row : PlainTrack → List (Option PlainBox) = λ e. boxes_over e first last n in
     record {
-      shells = made_more (λ e. shell_of e first last) at tracks t c.loop-track.shells.items c.push.new.self.items c.shell.result
-          (omega arith) c.track-item.is i.shells c.in_ok-push.ensures.items c.shell.ensures.exact;
-      boxes = c.in_ok-append_boxes.ensures.value ∙ ap (λ bs. bs ++ row (plain_track t)) i.boxes ∙ objects_more row at tracks t (omega arith) c.track-item.is;
-      in_shells = held_more (IsInOwnShell first last) at tracks t (omega arith) c.track-item.is i.in_shells
-          (in_own_shell (plain_track t) first last c.shell.result c.shell.ensures.exact c.shell.ensures.none c.shell.ensures.holds);
-      in_boxes = held_more (IsInOwnBoxes first last n) at tracks t (omega arith) c.track-item.is i.in_boxes c.in_ok-append_boxes.ensures.hold;
+      shells = made_more (λ e. shell_of e first last) at tracks t c.loop-track.shells.items c.push.new.self.items c.in_ok-shell.shell
+          (omega arith) c.track-item.is i.shells c.in_ok-push.ensures.items told.shell;
+      boxes = told.boxes ∙ ap (λ bs. bs ++ row (plain_track t)) i.boxes ∙ objects_more row at tracks t (omega arith) c.track-item.is;
+      in_shells = held_more (IsInOwnShell first last) at tracks t (omega arith) c.track-item.is i.in_shells told.in_shell;
+      in_boxes = held_more (IsInOwnBoxes first last n) at tracks t (omega arith) c.track-item.is i.in_boxes told.in_boxes;
     }
 
 pub returns : goal.returns

@@ -1,71 +1,61 @@
-use Rattle.std.proofs.Common.{◌≡◌, ◌+◌, List, length, Result, Ok, Err, Vec, Global, vec_len, All, sym, ap, subst, ◌∙◌, arith}
+use Rattle.std.proofs.Common.{◌≡◌, ◌+◌, length, Result, Ok, Err, Vec, Global, vec_len, sym, ap, arith}
 use Rattle.std.proofs.lemmas.Result.{on_ok_weaker}
 use Rattle.std.specs.Prelude.{IfOk}
 use Rattle.std.proofs.lemmas.List.{length-map}
-use Rattle.std.proofs.lemmas.List.Sorted.{length_permutation}
-use Rattle.cj_bezier.specs.declared.cell.Cell.{Cell}
 use Rattle.cj_bezier.specs.declared.leaf.Leaf.{Leaf}
 use Rattle.cj_bezier.specs.Leaves.{plain_leaf, plain_leaves}
 use Rattle.cj_cells.specs.declared.refine_error.RefineError.{RefineError}
 use Rattle.cj_hermite.specs.PlainProblems.{PlainProblem}
 use Rattle.cj_hermite.specs.Problems.{plain_problem}
 use Rattle.cj_bezier.specs.Looked.{is_looked}
-use Rattle.cj_hermite.specs.Roots.{KeepIntervals, roots_of}
+use Rattle.cj_hermite.specs.Roots.{roots_of}
 use Rattle.cj_bezier.specs.Cells.{plain_cell, plain_cells}
 use Rattle.cj_bezier.specs.RootLeaves.{leaves_of_roots}
 use Rattle.cj_cells.specs.Lists.{list_of, list_looked, splits_of}
 use Rattle.cj_cells.proofs.LeafLemmas.{list_described, list_split}
-use Rattle.cj_cells.proofs.ListingLemmas.{same_count, cells_keep}
+use Rattle.cj_cells.proofs.ListingLemmas.{cells_keep}
 use Rattle.cj_cells.proofs.listing.leaves_of.Goals as goal
 
 pub refine_all-requires : goal.refine_all-requires
 refine_all-requires c =
     let case = plain_problem c.args.problem.now in
-    let roots = c.order_roots.ensures.all (is_looked case) case c.requires.found in
-    subst (λ (cells : List Cell). All (λ cell. KeepIntervals case cell.pair.a cell.pair.b cell.first.micros cell.last.micros) cells) (sym c.deref.ensures.value)
-    (cells_keep (is_looked case) case c.order_roots.new.roots.items roots)
+    cells_keep (is_looked case) case c.args.roots.now c.requires
 
 pub returns-clause-value : goal.returns-clause-value
 unfolding list_of
 returns-clause-value c =
     let case = plain_problem c.args.problem.now in
-    let roots = c.order_roots.ensures.all (is_looked case) case c.requires.found in
-    let same : leaves_of_roots case (roots_of (is_looked case) case) ≡ leaves_of_roots case (plain_cells c.deref.result.now) =
-    ap (leaves_of_roots case) (sym (ap plain_cells c.deref.ensures.value ∙ roots)) in
+    let same : leaves_of_roots case (roots_of (is_looked case) case) ≡ leaves_of_roots case (plain_cells c.args.roots.now) =
+    ap (leaves_of_roots case) (sym c.requires) in
     rw same c.refine_all.ensures.value
 
 pub returns-clause-too_many : goal.returns-clause-too_many
 unfolding list_of
 returns-clause-too_many c =
     let case = plain_problem c.args.problem.now in
-    let roots = c.order_roots.ensures.all (is_looked case) case c.requires.found in
-    let same : leaves_of_roots case (roots_of (is_looked case) case) ≡ leaves_of_roots case (plain_cells c.deref.result.now) =
-    ap (leaves_of_roots case) (sym (ap plain_cells c.deref.ensures.value ∙ roots)) in
+    let same : leaves_of_roots case (roots_of (is_looked case) case) ≡ leaves_of_roots case (plain_cells c.args.roots.now) =
+    ap (leaves_of_roots case) (sym c.requires) in
     rw same c.refine_all.ensures.too_many
 
 pub returns-clause-sound : goal.returns-clause-sound
 returns-clause-sound c =
     let case = plain_problem c.args.problem.now in
-    let same = ap plain_cells c.deref.ensures.value ∙ c.order_roots.ensures.all (is_looked case) case c.requires.found in
-    on_ok_weaker c.refine_all.result (λ leaves. let list = list_described case (plain_cells c.deref.result.now) same leaves in list.sound) c.refine_all.ensures.leaves
+    on_ok_weaker c.refine_all.result (λ leaves. let list = list_described case (plain_cells c.args.roots.now) c.requires leaves in list.sound) c.refine_all.ensures.leaves
 
 pub returns-clause-complete : goal.returns-clause-complete
 returns-clause-complete c =
     let case = plain_problem c.args.problem.now in
-    let same = ap plain_cells c.deref.ensures.value ∙ c.order_roots.ensures.all (is_looked case) case c.requires.found in
-    on_ok_weaker c.refine_all.result (λ leaves. let list = list_described case (plain_cells c.deref.result.now) same leaves in list.complete) c.refine_all.ensures.leaves
+    on_ok_weaker c.refine_all.result (λ leaves. let list = list_described case (plain_cells c.args.roots.now) c.requires leaves in list.complete) c.refine_all.ensures.leaves
 
 pub returns-clause-ordered : goal.returns-clause-ordered
 returns-clause-ordered c =
     let case = plain_problem c.args.problem.now in
-    let same = ap plain_cells c.deref.ensures.value ∙ c.order_roots.ensures.all (is_looked case) case c.requires.found in
-    on_ok_weaker c.refine_all.result (λ leaves. let list = list_described case (plain_cells c.deref.result.now) same leaves in list.ordered) c.refine_all.ensures.leaves
+    on_ok_weaker c.refine_all.result (λ leaves. let list = list_described case (plain_cells c.args.roots.now) c.requires leaves in list.ordered) c.refine_all.ensures.leaves
 
 pub returns-clause-intervals : goal.returns-clause-intervals
 returns-clause-intervals c =
     let case = plain_problem c.args.problem.now in
-    let same = ap plain_cells c.deref.ensures.value ∙ c.order_roots.ensures.all (is_looked case) case c.requires.found in
-    on_ok_weaker c.refine_all.result (λ leaves. let list = list_described case (plain_cells c.deref.result.now) same leaves in list.intervals) c.refine_all.ensures.leaves
+    on_ok_weaker c.refine_all.result (λ leaves. let list = list_described case (plain_cells c.args.roots.now) c.requires leaves in list.intervals) c.refine_all.ensures.leaves
 
 pub returns-clause-splits : goal.returns-clause-splits
 unfolding list_of
@@ -74,11 +64,10 @@ returns-clause-splits c = go c.refine_all.result (returns-clause-value c)
     case : PlainProblem
     case = plain_problem c.args.problem.now
 
-    go : (r : Result (Vec Leaf Global) RefineError) → IfOk r (λ leaves. plain_leaves leaves.items ≡ list_looked case) → IfOk r (λ leaves. vec_len leaves ≡ vec_len c.args.roots + splits_of case)
+    go : (r : Result (Vec Leaf Global) RefineError) → IfOk r (λ leaves. plain_leaves leaves.items ≡ list_looked case) → IfOk r (λ leaves. vec_len leaves ≡ length c.args.roots.now + splits_of case)
     go (Err e) h = tt
     go (Ok leaves) h =
         let found = ap length h in
         let split = list_split case in
-        let count = same_count case in
-        let roots = length_permutation _ _ c.requires.found in
-        omega (arith, length-map leaves.items plain_leaf, length-map c.args.roots.items plain_cell, leaves.ok.0, c.args.roots.ok.0)
+        let roots = ap length c.requires in
+        omega (arith, length-map leaves.items plain_leaf, length-map c.args.roots.now plain_cell, leaves.ok.0)

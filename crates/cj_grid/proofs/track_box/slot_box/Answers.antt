@@ -24,35 +24,35 @@ returns-in_err-ticks-clause-time c m after upto = let before = c.in_err-ticks.en
 
 pub returns-in_err-area-clause-exact : goal.returns-in_err-area-clause-exact
 returns-in_err-area-clause-exact c =
-    let e = plain_track c.args.track.now in
+    let e = plain_track c.args.walk.now.track.now in
     ap (option_map plain_box) c.from_residual-in_err-area.ensures
     ∙ at_ends (λ (a b : ℕ). None ≡ box_of e a b) _ _ _ _ c.in_ok-ticks.ensures.first c.in_ok-ticks.ensures.last c.in_err-area.ensures.value
 
 pub returns-in_err-area-clause-none : goal.returns-in_err-area-clause-none
 returns-in_err-area-clause-none c =
-    let e = plain_track c.args.track.now in
+    let e = plain_track c.args.walk.now.track.now in
     rw c.from_residual-in_err-area.ensures
     (at_ends (HasNone e) _ _ _ _ c.in_ok-ticks.ensures.first c.in_ok-ticks.ensures.last (none_without e _ _ (sym c.in_err-area.ensures.value)))
 
 pub returns-in_err-area-clause-time : goal.returns-in_err-area-clause-time
-returns-in_err-area-clause-time c = at_ends (AreInTime (plain_track c.args.track.now)) _ _ _ _ c.in_ok-ticks.ensures.first c.in_ok-ticks.ensures.last c.in_err-area.ensures.time
+returns-in_err-area-clause-time c = at_ends (AreInTime (plain_track c.args.walk.now.track.now)) _ _ _ _ c.in_ok-ticks.ensures.first c.in_ok-ticks.ensures.last c.in_err-area.ensures.time
 
 -- ---- the box
 
 pub returns-clause-exact : goal.returns-clause-exact
 returns-clause-exact c =
-    let e = plain_track c.args.track.now in
+    let e = plain_track c.args.walk.now.track.now in
     let told = c.in_ok-area.ensures in
     ap Some c.by_corners.ensures ∙ at_ends (λ (a b : ℕ). Some (reaches_of_spans c.in_ok-area.area) ≡ box_of e a b) _ _ _ _ c.in_ok-ticks.ensures.first c.in_ok-ticks.ensures.last told.value
 
 pub returns-clause-time : goal.returns-clause-time
-returns-clause-time c = at_ends (AreInTime (plain_track c.args.track.now)) _ _ _ _ c.in_ok-ticks.ensures.first c.in_ok-ticks.ensures.last c.in_ok-area.ensures.time
+returns-clause-time c = at_ends (AreInTime (plain_track c.args.walk.now.track.now)) _ _ _ _ c.in_ok-ticks.ensures.first c.in_ok-ticks.ensures.last c.in_ok-area.ensures.time
 
 pub returns-clause-value : goal.returns-clause-value
-returns-clause-value c = box_of_parts (plain_track c.args.track.now) _ _ c.by_corners.result (have_parts (plain_track c.args.track.now) _ _ (returns-clause-time c)) (sym (returns-clause-exact c))
+returns-clause-value c = box_of_parts (plain_track c.args.walk.now.track.now) _ _ c.by_corners.result (have_parts (plain_track c.args.walk.now.track.now) _ _ (returns-clause-time c)) (sym (returns-clause-exact c))
 
 pub returns-clause-some : goal.returns-clause-some
-returns-clause-some c = some_with (plain_track c.args.track.now) _ _ (plain_box c.by_corners.result) (sym (returns-clause-exact c))
+returns-clause-some c = some_with (plain_track c.args.walk.now.track.now) _ _ (plain_box c.by_corners.result) (sym (returns-clause-exact c))
 
 pub returns-clause-holds : goal.returns-clause-holds
-returns-clause-holds c m = box_holds (plain_track c.args.track.now) _ _ m (plain_box c.by_corners.result) (returns-clause-time c) (sym (returns-clause-exact c))
+returns-clause-holds c m = box_holds (plain_track c.args.walk.now.track.now) _ _ m (plain_box c.by_corners.result) (returns-clause-time c) (sym (returns-clause-exact c))

@@ -2,7 +2,6 @@ use Rattle.std.proofs.Common.{◌≡◌, ◌+◌, length, Result, Ok, Err, Vec, 
 use Rattle.std.specs.Prelude.{IfOk}
 use Rattle.std.specs.List.{range_with_len}
 use Rattle.std.proofs.lemmas.List.{length-map}
-use Rattle.std.proofs.lemmas.List.Sorted.{length_permutation}
 use Rattle.std.proofs.lemmas.Result.{on_ok_weaker}
 use Rattle.cj_hermite.specs.PlainProblems.{PlainProblem}
 use Rattle.cj_hermite.specs.Problems.{plain_problem}
@@ -15,62 +14,50 @@ use Rattle.cj_bezier.specs.RootLeaves.{leaves_of_roots}
 use Rattle.cj_cells.specs.declared.refine_error.RefineError.{RefineError}
 use Rattle.cj_cells.specs.Lists.{list_of, list_looked, splits_of}
 use Rattle.cj_cells.proofs.LeafLemmas.{list_described, list_split}
-use Rattle.cj_cells.proofs.ListingLemmas.{same_count}
 use Rattle.cj_pool.proofs.RootListLemmas.{are_roots}
 use Rattle.cj_pool.proofs.listing.leaves_by_workers.Goals as goal
 
 pub leaves_by_hands-requires-clause-are_roots : goal.leaves_by_hands-requires-clause-are_roots
 leaves_by_hands-requires-clause-are_roots g c =
     let case = plain_problem c.args.problem.now in
-    let roots = c.order_roots.new.roots.items in
-    let long : vec_len c.order_roots.new.roots ≡ length roots = omega (arith, c.order_roots.new.roots.ok.0) in
-    λ later within. are_roots (is_looked case) case roots (c.order_roots.ensures.all (is_looked case) case c.requires.found) (c.order_roots.ensures.numbered ∙ ap (range_with_len 0) long)
-
-pub leaves_by_hands-requires-clause-few_roots : goal.leaves_by_hands-requires-clause-few_roots
-leaves_by_hands-requires-clause-few_roots g c =
-    let old = c.args.roots.items in
-    let new = c.order_roots.new.roots.items in
-    omega (arith, length_permutation (plain_cells old) (plain_cells new) c.order_roots.ensures.permutation, length-map old plain_cell, length-map new plain_cell, c.args.roots.ok.0, c.requires.few)
+    let long : vec_len c.args.roots ≡ length c.args.roots.items = omega (arith, c.args.roots.ok.0) in
+    λ later within. are_roots (is_looked case) case c.args.roots.items c.requires.found (c.requires.numbered ∙ ap (range_with_len 0) long)
 
 pub returns-clause-value : goal.returns-clause-value
 unfolding list_of
 returns-clause-value g c =
     let case = plain_problem c.args.problem.now in
-    let same : leaves_of_roots case (roots_of (is_looked case) case) ≡ leaves_of_roots case (plain_cells c.order_roots.new.roots.items) =
-    ap (leaves_of_roots case) (sym (c.order_roots.ensures.all (is_looked case) case c.requires.found)) in
+    let same : leaves_of_roots case (roots_of (is_looked case) case) ≡ leaves_of_roots case (plain_cells c.args.roots.items) =
+    ap (leaves_of_roots case) (sym c.requires.found) in
     rw same c.leaves_by_hands.ensures.value
 
 pub returns-clause-too_many : goal.returns-clause-too_many
 unfolding list_of
 returns-clause-too_many g c =
     let case = plain_problem c.args.problem.now in
-    let same : leaves_of_roots case (roots_of (is_looked case) case) ≡ leaves_of_roots case (plain_cells c.order_roots.new.roots.items) =
-    ap (leaves_of_roots case) (sym (c.order_roots.ensures.all (is_looked case) case c.requires.found)) in
+    let same : leaves_of_roots case (roots_of (is_looked case) case) ≡ leaves_of_roots case (plain_cells c.args.roots.items) =
+    ap (leaves_of_roots case) (sym c.requires.found) in
     rw same c.leaves_by_hands.ensures.too_many
 
 pub returns-clause-sound : goal.returns-clause-sound
 returns-clause-sound g c =
     let case = plain_problem c.args.problem.now in
-    let same = c.order_roots.ensures.all (is_looked case) case c.requires.found in
-    on_ok_weaker c.leaves_by_hands.result (λ leaves. let list = list_described case (plain_cells c.order_roots.new.roots.items) same leaves in list.sound) c.leaves_by_hands.ensures.leaves
+    on_ok_weaker c.leaves_by_hands.result (λ leaves. let list = list_described case (plain_cells c.args.roots.items) c.requires.found leaves in list.sound) c.leaves_by_hands.ensures.leaves
 
 pub returns-clause-complete : goal.returns-clause-complete
 returns-clause-complete g c =
     let case = plain_problem c.args.problem.now in
-    let same = c.order_roots.ensures.all (is_looked case) case c.requires.found in
-    on_ok_weaker c.leaves_by_hands.result (λ leaves. let list = list_described case (plain_cells c.order_roots.new.roots.items) same leaves in list.complete) c.leaves_by_hands.ensures.leaves
+    on_ok_weaker c.leaves_by_hands.result (λ leaves. let list = list_described case (plain_cells c.args.roots.items) c.requires.found leaves in list.complete) c.leaves_by_hands.ensures.leaves
 
 pub returns-clause-ordered : goal.returns-clause-ordered
 returns-clause-ordered g c =
     let case = plain_problem c.args.problem.now in
-    let same = c.order_roots.ensures.all (is_looked case) case c.requires.found in
-    on_ok_weaker c.leaves_by_hands.result (λ leaves. let list = list_described case (plain_cells c.order_roots.new.roots.items) same leaves in list.ordered) c.leaves_by_hands.ensures.leaves
+    on_ok_weaker c.leaves_by_hands.result (λ leaves. let list = list_described case (plain_cells c.args.roots.items) c.requires.found leaves in list.ordered) c.leaves_by_hands.ensures.leaves
 
 pub returns-clause-intervals : goal.returns-clause-intervals
 returns-clause-intervals g c =
     let case = plain_problem c.args.problem.now in
-    let same = c.order_roots.ensures.all (is_looked case) case c.requires.found in
-    on_ok_weaker c.leaves_by_hands.result (λ leaves. let list = list_described case (plain_cells c.order_roots.new.roots.items) same leaves in list.intervals) c.leaves_by_hands.ensures.leaves
+    on_ok_weaker c.leaves_by_hands.result (λ leaves. let list = list_described case (plain_cells c.args.roots.items) c.requires.found leaves in list.intervals) c.leaves_by_hands.ensures.leaves
 
 pub returns-clause-splits : goal.returns-clause-splits
 unfolding list_of
@@ -84,6 +71,5 @@ returns-clause-splits g c = go c.leaves_by_hands.result (returns-clause-value g 
     go (Ok leaves) h =
         let found = ap length h in
         let split = list_split case in
-        let count = same_count case in
-        let roots = length_permutation _ _ c.requires.found in
+        let roots = ap length c.requires.found in
         omega (arith, length-map leaves.items plain_leaf, length-map c.args.roots.items plain_cell, leaves.ok.0, c.args.roots.ok.0)

@@ -1,17 +1,13 @@
-use Rattle.std.proofs.Common.{◌^◌, ◌≤◌, sym, ◌∙◌, arith}
+use Rattle.std.proofs.Common.{◌^◌, ◌≤◌, sym, arith}
 use Rattle.cj_track.specs.Tracks.{plain_track}
 use Rattle.cj_bezier.specs.Parts.{hulls_of}
 use Rattle.cj_bezier.proofs.HullListLemmas.{have_parts, no_state}
-use Rattle.cj_bezier.proofs.ShellRoundLemmas.{IsShellRound, shell_is, shell_none, shell_of_parts, radii_hold}
+use Rattle.cj_bezier.proofs.ShellRoundLemmas.{IsShellRound, shell_is, shell_of_parts, radii_hold}
 use Rattle.cj_sieve.proofs.track_shell.shell.Goals as goal
 
-pub returns-in_err-gap-clause-exact : goal.returns-in_err-gap-clause-exact
-returns-in_err-gap-clause-exact c =
-    c.from_residual.ensures ∙ sym (shell_none (plain_track c.args.track.now) c.args.window.first.micros c.args.window.last.micros c.in_err-gap.ensures.none)
-
-round : (c : goal.After-radii) → IsShellRound (hulls_of (plain_track c.args.track.now) c.args.window.first.micros c.args.window.last.micros) c.radii.result
+round : (c : goal.After-radii) → IsShellRound (hulls_of (plain_track c.args.walk.track.now) c.args.walk.window.first.micros c.args.walk.window.last.micros) c.radii.result
 round c =
-    let round = c.in_ok-gap.ensures.round in
+    let round = c.gap_of_all.ensures.round in
     let shell = c.radii.ensures in
     record {
       inner = (round.inner c.radii.result.lo).0 shell.inner;
@@ -22,22 +18,22 @@ round c =
 
 pub returns-clause-value : goal.returns-clause-value
 returns-clause-value c =
-    let e = plain_track c.args.track.now in
-    let from = c.args.window.first.micros in
-    let to = c.args.window.last.micros in
-    shell_of_parts e from to c.radii.result (have_parts e from to c.in_ok-gap.ensures.time) (round c)
+    let e = plain_track c.args.walk.track.now in
+    let from = c.args.walk.window.first.micros in
+    let to = c.args.walk.window.last.micros in
+    shell_of_parts e from to c.radii.result (have_parts e from to c.gap_of_all.ensures.time) (round c)
 
 pub returns-clause-holds : goal.returns-clause-holds
 returns-clause-holds c m =
     let is = round c in
-    radii_hold (plain_track c.args.track.now) c.args.window.first.micros c.args.window.last.micros c.radii.result.lo c.radii.result.hi m c.in_ok-gap.ensures.time is.inner is.outer
+    radii_hold (plain_track c.args.walk.track.now) c.args.walk.window.first.micros c.args.walk.window.last.micros c.radii.result.lo c.radii.result.hi m c.gap_of_all.ensures.time is.inner is.outer
 
 pub returns-clause-exact : goal.returns-clause-exact
 returns-clause-exact c =
-    let e = plain_track c.args.track.now in
-    let from = c.args.window.first.micros in
-    let to = c.args.window.last.micros in
-    let gap = c.in_ok-gap.ensures in
+    let e = plain_track c.args.walk.track.now in
+    let from = c.args.walk.window.first.micros in
+    let to = c.args.walk.window.last.micros in
+    let gap = c.gap_of_all.ensures in
     let shell = c.radii.ensures in
     let hi : c.radii.result.hi ≤ 10 ^ 18 = shell.least (10 ^ 18) gap.bounded in
     sym (shell_is e from to c.radii.result (λ empty. gap.some (no_state e from to empty)) (round c) hi (omega (arith, hi, shell.ordered)))

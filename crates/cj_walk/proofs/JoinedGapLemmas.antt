@@ -1,5 +1,5 @@
 -- Joined gaps: the radii that they show are those that each shows.
-use Rattle.std.proofs.Common.{◌≡◌, ℕ, ◌+◌, ◌^◌, ◌<◌, ◌≤◌, ◌↔◌, inl, inr, true, arith, sym, ap, ◌∙◌, subst, List, [], ◌∷◌, slice_index_or}
+use Rattle.std.proofs.Common.{◌≡◌, ℕ, ◌+◌, ◌^◌, ◌<◌, ◌≤◌, ◌↔◌, inl, inr, arith, sym, ap, ◌∙◌, subst, List, [], ◌∷◌, slice_index_or}
 use Rattle.std.specs.Prelude.{ℤ, pos, ◌≤ℤ◌}
 use Rattle.std.specs.Int.{int_min, int_max}
 use Rattle.cj_track.specs.PlainTracks.{PlainTrack}
@@ -7,14 +7,14 @@ use Rattle.cj_hermite.specs.Walks.{HasNone}
 use Rattle.cj_bezier.specs.Hulls.{PlainHull}
 use Rattle.cj_bezier.specs.Gaps.{PlainGap, gap_terms}
 use Rattle.cj_bezier.specs.Parts.{hulls_of, AreInTime}
-use Rattle.cj_bezier.specs.Shells.{IsInner, IsOuter, is_inner, is_outer}
+use Rattle.cj_bezier.specs.Shells.{IsInner, IsOuter}
 use Rattle.cj_bezier.specs.Verdicts.{share, AreAtLeast, AreAtMost}
 use Rattle.cj_bezier.proofs.HullListLemmas.{no_hulls}
 use Rattle.cj_bezier.proofs.NextPartLemmas.{none_in_time, join_time}
 use Rattle.cj_bezier.proofs.SevenLemmas.{at_seven}
 use Rattle.cj_bezier.proofs.ShellLemmas.{le-min, min-left, min-right, max-le, max-left, max-right}
 use Rattle.cj_bezier.proofs.ShellRoundLemmas.{inner_front, inner_test, outer_front, outer_test}
-use Rattle.cj_sieve.specs.JoinedGaps.{lesser, greater, IsGapRound}
+use Rattle.cj_walk.specs.JoinedGaps.{lesser, greater, IsGapRound, IsGapBefore, IsGapUpTo}
 
 -- ---- two gaps
 
@@ -54,11 +54,6 @@ outer_of_both g h k r e = (
 
 -- ---- hull by hull
 
--- the radii that all hulls show are those of the gap so far and of the hulls that are left
-pub record IsGapBefore (all left : List PlainHull) (g : PlainGap) : Type 0 where
-  pub inner : (r : ℕ) → (is_inner all r ≡ true) ↔ (IsInner g r × (is_inner left r ≡ true))
-  pub outer : (r : ℕ) → (is_outer all r ≡ true) ↔ (IsOuter g r × (is_outer left r ≡ true))
-
 first_gap : (all left : List PlainHull) (h : PlainHull) (g : PlainGap) → all ≡ h ∷ left → g ≡ gap_terms h → IsGapBefore all left g
 first_gap all left h g front same =
     subst (λ (hs : List PlainHull). IsGapBefore hs left g) (sym front)
@@ -88,15 +83,6 @@ last_gap all left g none so_far =
     }
 
 -- ---- part by part
-
--- the gap of the parts up to tick `at`
-pub record IsGapUpTo (e : PlainTrack) (from at to : ℕ) (g : PlainGap) : Type 0 where
-  pub after : from ≤ at
-  pub within : at ≤ to
-  pub gap : IsGapBefore (hulls_of e from to) (hulls_of e (at + 1) to) g
-  pub some : HasNone e from to → ⊥
-  pub time : AreInTime e from at
-  pub reach : IsOuter g (10 ^ 18)
 
 pub first_part : (e : PlainTrack) (from at to : ℕ) (h : PlainHull) (g : PlainGap) → from ≤ at → at ≤ to → hulls_of e from to ≡ h ∷ hulls_of e (at + 1) to → AreInTime e from at → IsOuter (gap_terms h) (10 ^ 18) → g ≡ gap_terms h
     → IsGapUpTo e from at to g

@@ -5,7 +5,7 @@ ghost use Rattle.cj_bezier.specs.Gaps.{terms_of};
 ghost use Rattle.cj_bezier.specs.Hulls.{lows, highs};
 ghost use Rattle.cj_bezier.specs.Shells.{IsInner, IsOuter};
 ghost use Rattle.cj_bezier.specs.Sizes.{HasEndsWithin};
-ghost use Rattle.cj_sieve.specs.JoinedGaps.{lesser, greater};
+ghost use Rattle.cj_walk.specs.JoinedGaps.{lesser, greater};
 
 use cj_bezier::Gap;
 use cj_interval::Span;

@@ -1,7 +1,7 @@
 use Rattle.std.proofs.Common.{[], ◌∷◌}
 use Rattle.cj_bezier.specs.Gaps.{terms_of}
-use Rattle.cj_sieve.proofs.JoinedGapLemmas.{inner_of_both, outer_of_both}
-use Rattle.cj_sieve.proofs.joined_gaps.join_gaps.Goals as goal
+use Rattle.cj_walk.proofs.JoinedGapLemmas.{inner_of_both, outer_of_both}
+use Rattle.cj_walk.proofs.joined_gaps.join_gaps.Goals as goal
 
 pub returns-clause-lower : goal.returns-clause-lower
 returns-clause-lower c = λ i.

@@ -1,0 +1,24 @@
+use Rattle.std.proofs.Common.{◌∙◌, subst}
+use Rattle.cj_epoch.specs.declared.tick.Window.{Window}
+use Rattle.cj_track.specs.declared.track.Track.{Track}
+use Rattle.cj_track.specs.Tracks.{plain_track}
+use Rattle.cj_bezier.specs.Gaps.{terms_of}
+use Rattle.cj_walk.proofs.JoinedGapLemmas.{IsGapOfAll, no_part_more}
+use Rattle.cj_walk.proofs.track_walk.TrackWalk.gap_of_all.Goals as goal
+
+-- the walk has come to its end
+all : (c : goal.After-result-1) → IsGapOfAll (plain_track c.args.self.now.track.now) c.args.self.now.window.first.micros c.args.self.now.window.last.micros (terms_of c.advance.new.self.gap.terms)
+all c =
+    let walk = c.advance.new.self in
+    let told = c.advance.ensures in
+    let walks = told.walks in
+    let g = terms_of walk.gap.terms in
+    subst (λ (t : Track). IsGapOfAll (plain_track t) c.args.self.now.window.first.micros c.args.self.now.window.last.micros g) (told.track ∙ c.loop.invariant.track)
+    (subst (λ (w : Window). IsGapOfAll (plain_track walk.track.now) w.first.micros w.last.micros g) (told.window ∙ c.loop.invariant.window)
+    (no_part_more _ _ _ _ _ walks.round (told.ended c.loop-test.false)))
+
+pub returns-clause-round : goal.returns-clause-round
+returns-clause-round c = (all c).round
+
+pub returns-clause-time : goal.returns-clause-time
+returns-clause-time c = (all c).time

@@ -1,0 +1,2 @@
+pub mod JoinedGaps
+pub mod TrackWalks
