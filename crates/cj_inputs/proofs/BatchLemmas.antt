@@ -1,9 +1,9 @@
 -- Files that are read one after another and parsed side by side, and the reading of all.
-use Rattle.std.proofs.Common.{◌≡◌, ℕ, suc, ◌+◌, ◌-◌, ◌<◌, List, [], ◌∷◌, ◌++◌, length, map, take, drop, get_or, Ok, Err, Result, Bool, Vec, Global, refl, sym, ap, subst, ◌∙◌, arith}
+use Rattle.std.proofs.Common.{◌≡◌, ℕ, suc, ◌+◌, ◌-◌, ◌<◌, ◌≤◌, List, [], ◌∷◌, ◌++◌, length, map, take, drop, get_or, Ok, Err, Result, Bool, Vec, Global, refl, sym, ap, subst, ◌∙◌, arith}
 use Rattle.std.specs.List.{AllZip}
-use Rattle.std.specs.Prelude.{IfOk, IfSome, Option, Some, None}
+use Rattle.std.specs.Prelude.{IfOk, IfSome, Option, Some, None, ⊤}
 use Rattle.std.specs.declared.alloc.AllocError.{AllocError}
-use Rattle.std.proofs.lemmas.List.{length-map, map-append, map_more, take_more}
+use Rattle.std.proofs.lemmas.List.{drop-drop, length-drop, length-map, map-append, map_more, take_all, take_more}
 use Rattle.std.proofs.lemmas.Slice.Zip.{AllZip-long, all_zipped_more}
 use Rattle.cj_io.specs.declared.file.FileBytes.{FileBytes}
 use Rattle.cj_io.specs.Files.{bytes_of}
@@ -14,13 +14,13 @@ use Rattle.cj_oem.specs.Reading.{Fault, reading}
 use Rattle.cj_oem.proofs.GrammarLemmas.{reading_says}
 use Rattle.cj_status.specs.declared.status.Status.{Status}
 use Rattle.cj_status.specs.Steps.{◌>>=◌}
-use Rattle.cj_inputs.specs.declared.batch.Batch.{Batch}
 use Rattle.cj_inputs.specs.declared.batch.FileRead.{FileRead}
 use Rattle.cj_inputs.specs.declared.input_files.Entry.{Entry}
+use Rattle.cj_inputs.specs.declared.progress.Progress.{Progress}
 use Rattle.cj_inputs.specs.declared.reading.InputError.{InputError}
 use Rattle.cj_inputs.specs.declared.reading.InputError.TheVariants as input
 use Rattle.cj_inputs.specs.declared.taken.Taken.{Taken}
-use Rattle.cj_inputs.specs.Batches.{AreParsed, GoesOn, IsBatchOf, IsCause, WasRead, said_by, tracks_after}
+use Rattle.cj_inputs.specs.Batches.{AreParsed, Fits, GoesOn, IsBatchOf, IsCause, IsOnTheWay, WasRead, said_by, tracks_after}
 use Rattle.cj_inputs.specs.Readings.{Reads, checked_after, reading_after, reading_of, readings_after, refused_of, within_bytes}
 use Rattle.cj_inputs.proofs.ReadingLemmas.{from_on, reads_on}
 
@@ -85,20 +85,20 @@ front_fails rose view seen why whole front f is here =
     subst (λ (r : Result (List PlainTrack) Status). Reads rose seen (Err why) r) (sym is) (reads_wider ⊥ rose seen seen why (front >>= f) (λ none. absurd none) (reads_on ⊥ view seen why front f here))
 
 -- the file at a place is not read
-pub next_fails : {Y : Type 0} (rose : Type 0) (seen : Y → List PlainTrack) (as_hermite3 : Bool) (files : List FileBytes) (before : List PlainTrack) (entries : List Entry) (place : ℕ) (why : InputError)
-    → IsCause rose files entries place why → Reads rose seen (Err why) (readings_after as_hermite3 files before (drop place entries))
+pub next_fails : {Y : Type 0} (seen : Y → List PlainTrack) (as_hermite3 : Bool) (files : List FileBytes) (before : List PlainTrack) (entries : List Entry) (place : ℕ) (why : InputError)
+    → IsCause files entries place why → Reads ⊤ seen (Err why) (readings_after as_hermite3 files before (drop place entries))
 unfolding reading_of
-next_fails {Y} rose seen as_hermite3 files before entries place why cause =
+next_fails {Y} seen as_hermite3 files before entries place why cause =
     let entry = cause.entry in
     let bytes : List ℕ → List ℕ = λ bs. bs in
     let track : PlainTrack → PlainTrack = λ e. e in
     let rest : PlainTrack → Result (List PlainTrack) Status = λ e. readings_after as_hermite3 files (before ++ e ∷ []) (drop (suc place) entries) in
-    let one = reads_on rose bytes track why (within_bytes entry.name (bytes_of files entry.number)) (λ whole. refused_of entry.name (reading entry.name whole as_hermite3)) cause.read in
-    let two = reads_on rose track track why (reading_of as_hermite3 entry.name (bytes_of files entry.number)) (checked_after before entry.name) one in
-    let three = reads_on rose track seen why (reading_after as_hermite3 files before entry) rest two in
+    let one = reads_on ⊤ bytes track why (within_bytes entry.name (bytes_of files entry.number)) (λ whole. refused_of entry.name (reading entry.name whole as_hermite3)) cause.read in
+    let two = reads_on ⊤ track track why (reading_of as_hermite3 entry.name (bytes_of files entry.number)) (checked_after before entry.name) one in
+    let three = reads_on ⊤ track seen why (reading_after as_hermite3 files before entry) rest two in
     let here : readings_after as_hermite3 files before (drop place entries) ≡ (reading_after as_hermite3 files before entry >>= rest) =
     from_on as_hermite3 files before entries place entry cause.exists ∙ ap (λ (x : Entry). reading_after as_hermite3 files before x >>= rest) cause.stands in
-    subst (λ (r : Result (List PlainTrack) Status). Reads rose seen (Err why) r) (sym here) three
+    subst (λ (r : Result (List PlainTrack) Status). Reads ⊤ seen (Err why) r) (sym here) three
 
 -- all that were read are taken: the rest leads where all lead
 pub front_taken : (as_hermite3 : Bool) (files : List FileBytes) (before after : List PlainTrack) (entries : List Entry) (read : List FileRead) → AllZip (WasRead files) (take (length read) entries) read
@@ -226,41 +226,66 @@ read_more files entries i entry read file below is front was =
 abbrev taken_seen : Taken → List PlainTrack
 taken_seen taken = map plain_track taken.tracks.items
 
+abbrev seen : Progress → List PlainTrack
+seen progress = taken_seen progress.taken
+
 -- one of the files that were read is not taken
-pub batch_fails : (rose wide : Type 0) (as_hermite3 : Bool) (files : List FileBytes) (before : List PlainTrack) (entries : List Entry) (batch : Batch) (why : InputError) → IsBatchOf rose files entries batch
-    → Reads ⊥ taken_seen (Err why) (tracks_after before (map (said_by as_hermite3) batch.files.items)) → GoesOn wide as_hermite3 files before entries (Err why)
-batch_fails rose wide as_hermite3 files before entries batch why of here =
-    front_fails wide taken_seen taken_seen why (readings_after as_hermite3 files before entries) (tracks_after before (map (said_by as_hermite3) batch.files.items))
-    (λ es. readings_after as_hermite3 files es (drop (length batch.files.items) entries)) (front_read as_hermite3 files before entries batch.files.items of.front) here
+pub batch_fails : (as_hermite3 : Bool) (files : List FileBytes) (entries : List Entry) (progress : Progress) (why : InputError) → IsOnTheWay as_hermite3 files entries progress
+    → Reads ⊥ taken_seen (Err why) (tracks_after (seen progress) (map (said_by as_hermite3) progress.batch.files.items)) → GoesOn as_hermite3 files entries (Err why)
+batch_fails as_hermite3 files entries progress why way here =
+    let read = progress.batch.files.items in
+    let rest = drop (length progress.taken.tracks.items) entries in
+    subst (λ (r : Result (List PlainTrack) Status). Reads ⊤ seen (Err why) r) way.leads
+    (front_fails ⊤ taken_seen seen why (readings_after as_hermite3 files (seen progress) rest) (tracks_after (seen progress) (map (said_by as_hermite3) read))
+    (λ es. readings_after as_hermite3 files es (drop (length read) rest)) (front_read as_hermite3 files (seen progress) rest read way.batch.front) here)
 
 cause_of : (P : InputError → Type 0) (o : Option InputError) (why : InputError) → o ≡ Some why → IfSome o P → P why
 cause_of P None why is here = absurd cc
 cause_of P (Some other) why is here = let same : other ≡ why = cc in subst P same here
 
 -- all are taken, and the next was not read
-pub batch_stops : (rose : Type 0) (as_hermite3 : Bool) (files : List FileBytes) (before after : List PlainTrack) (entries : List Entry) (batch : Batch) (why : InputError) → IsBatchOf rose files entries batch
-    → tracks_after before (map (said_by as_hermite3) batch.files.items) ≡ Ok after → batch.stop ≡ Some why → GoesOn rose as_hermite3 files before entries (Err why)
-batch_stops rose as_hermite3 files before after entries batch why of taken stop =
-    subst (λ (r : Result (List PlainTrack) Status). Reads rose taken_seen (Err why) r) (sym (front_taken as_hermite3 files before after entries batch.files.items of.front taken))
-    (next_fails rose taken_seen as_hermite3 files after entries (length batch.files.items) why
-    (cause_of (IsCause rose files entries (length batch.files.items)) batch.stop why stop of.stop))
+pub batch_stops : (as_hermite3 : Bool) (files : List FileBytes) (entries : List Entry) (progress : Progress) (after : List PlainTrack) (why : InputError) → IsOnTheWay as_hermite3 files entries progress
+    → tracks_after (seen progress) (map (said_by as_hermite3) progress.batch.files.items) ≡ Ok after → progress.batch.stop ≡ Some why → GoesOn as_hermite3 files entries (Err why)
+batch_stops as_hermite3 files entries progress after why way taken stop =
+    let read = progress.batch.files.items in
+    let rest = drop (length progress.taken.tracks.items) entries in
+    subst (λ (r : Result (List PlainTrack) Status). Reads ⊤ seen (Err why) r) (sym (front_taken as_hermite3 files (seen progress) after rest read way.batch.front taken) ∙ way.leads)
+    (next_fails seen as_hermite3 files after rest (length read) why (cause_of (IsCause files rest (length read)) progress.batch.stop why stop way.batch.stop))
 
--- all are taken
-pub batch_taken : (rose : Type 0) (as_hermite3 : Bool) (files : List FileBytes) (before : List PlainTrack) (entries : List Entry) (batch : Batch) (all : Taken) → IsBatchOf rose files entries batch
-    → tracks_after before (map (said_by as_hermite3) batch.files.items) ≡ Ok (taken_seen all) → length all.tracks.items ≡ length before + length batch.files.items
-    → GoesOn rose as_hermite3 files before entries (Ok all)
-batch_taken rose as_hermite3 files before entries batch all of taken many =
-    let place : length batch.files.items ≡ length all.tracks.items - length before = omega (arith, many) in
-    front_taken as_hermite3 files before (taken_seen all) entries batch.files.items of.front taken
-    ∙ ap (λ (k : ℕ). readings_after as_hermite3 files (taken_seen all) (drop k entries)) place
+-- all are taken, and the next batch is read
+pub batch_taken : (as_hermite3 : Bool) (files : List FileBytes) (entries rest : List Entry) (progress next : Progress) → IsOnTheWay as_hermite3 files entries progress
+    → tracks_after (seen progress) (map (said_by as_hermite3) progress.batch.files.items) ≡ Ok (seen next)
+    → length next.taken.tracks.items ≡ length progress.taken.tracks.items + length progress.batch.files.items
+    → rest ≡ drop (length progress.taken.tracks.items + length progress.batch.files.items) entries → IsBatchOf files rest next.batch → IsOnTheWay as_hermite3 files entries next
+batch_taken as_hermite3 files entries rest progress next way taken many left batch =
+    let read = progress.batch.files.items in
+    let done = length progress.taken.tracks.items in
+    let behind : drop (length read) (drop done entries) ≡ drop (length next.taken.tracks.items) entries = drop-drop (length read) done entries ∙ ap (λ (n : ℕ). drop n entries) (omega (arith, many)) in
+    let here : rest ≡ drop (length next.taken.tracks.items) entries = left ∙ ap (λ (n : ℕ). drop n entries) (sym many) in
+    record {
+      leads =
+          ap (readings_after as_hermite3 files (seen next)) (sym behind)
+          ∙ sym (front_taken as_hermite3 files (seen progress) (seen next) (drop done entries) read way.batch.front taken) ∙ way.leads;
+      batch = subst (λ (es : List Entry). IsBatchOf files es next.batch) here batch;
+    }
+
+-- the entries from a place on
+pub all_left : (entries : List Entry) (k m : ℕ) → k ≡ m → take (length entries - k) (drop k entries) ≡ drop m entries
+all_left entries k m same = take_all (length entries - k) (drop k entries) (omega (arith, length-drop k entries)) ∙ ap (λ (n : ℕ). drop n entries) same
+
+-- the next batch is one of the files behind those that are taken
+pub next_fits : (entries rest : List Entry) (progress next : Progress) → Fits entries progress → length next.taken.tracks.items ≡ length progress.taken.tracks.items + length progress.batch.files.items
+    → rest ≡ drop (length progress.taken.tracks.items + length progress.batch.files.items) entries → length next.batch.files.items ≤ length rest
+    → (next.batch.stop ≡ None → 0 < length rest → 0 < length next.batch.files.items) → Fits entries next
+next_fits entries rest progress next fits many left few some =
+    let behind = length progress.taken.tracks.items + length progress.batch.files.items in
+    let size : length rest ≡ length entries - behind = ap (λ (es : List Entry). length es) left ∙ length-drop behind entries in
+    let before = fits.few in
+    record {
+      few = omega (arith, few, many, size, before);
+      some = λ none more. some none (omega (arith, more, many, size));
+    }
 
 -- as many readings as files
 pub many_parsed : (as_hermite3 : Bool) (files : List FileRead) (readings : List (Result Track InputError)) → AreParsed as_hermite3 files readings → length readings ≡ length files
 many_parsed as_hermite3 files readings parsed = sym (AllZip-long (Reads ⊥ plain_track) readings (map (said_by as_hermite3) files) parsed) ∙ length-map files (said_by as_hermite3)
-
--- a reading that was given up for no fault of the folder
-pub not_failed : {X A : Type 0} (view : X → A) (why : InputError) (read : Result A Status) → Reads ⊥ view (Err why) read → why ≡ input.Failed → ⊥
-not_failed view input.Memory read here is = absurd cc
-not_failed view input.Failed read here is = here
-not_failed view (input.Refused file line cause) read here is = absurd cc
-not_failed view (input.Limit fault) read here is = absurd cc

@@ -1,5 +1,5 @@
--- Files that are read one after another and parsed side by side.
-use Rattle.std.specs.Prelude.{◌≡◌, ℕ, ◌-◌, ◌<◌, Bool, List, [], ◌∷◌, ◌++◌, length, take, drop, map, slice_index_or, Result, Ok, Err, IfSome}
+-- Files that are read one after another, and parsed side by side while the next are read. Whether the folder failed is said elsewhere.
+use Rattle.std.specs.Prelude.{◌≡◌, ℕ, ◌+◌, ◌<◌, ◌≤◌, Bool, List, [], ◌∷◌, ◌++◌, length, take, drop, map, slice_index_or, None, Result, Ok, Err, IfSome, ⊤}
 use Rattle.std.specs.List.{AllZip}
 use Rattle.cj_io.specs.declared.file.FileBytes.{FileBytes}
 use Rattle.cj_io.specs.Files.{bytes_of}
@@ -12,9 +12,9 @@ use Rattle.cj_status.specs.Steps.{◌>>=◌}
 use Rattle.cj_inputs.specs.declared.batch.Batch.{Batch}
 use Rattle.cj_inputs.specs.declared.batch.FileRead.{FileRead}
 use Rattle.cj_inputs.specs.declared.input_files.Entry.{Entry}
+use Rattle.cj_inputs.specs.declared.progress.Progress.{Progress}
 use Rattle.cj_inputs.specs.declared.reading.InputError.{InputError}
-use Rattle.cj_inputs.specs.declared.taken.Taken.{Taken}
-use Rattle.cj_inputs.specs.Readings.{Reads, checked_after, readings_after, refused_of, within_bytes}
+use Rattle.cj_inputs.specs.Readings.{Reads, checked_after, readings_after, readings_of, refused_of, within_bytes}
 
 -- the file that was read has the entry's name, and these are its bytes
 pub record WasRead (files : List FileBytes) (entry : Entry) (file : FileRead) : Type 0 where
@@ -22,16 +22,16 @@ pub record WasRead (files : List FileBytes) (entry : Entry) (file : FileRead) : 
   pub bytes : within_bytes entry.name (bytes_of files entry.number) ≡ Ok file.bytes.items
 
 -- why the file at this place is not read
-pub record IsCause (rose : Type 0) (files : List FileBytes) (entries : List Entry) (place : ℕ) (why : InputError) : Type 0 where
+pub record IsCause (files : List FileBytes) (entries : List Entry) (place : ℕ) (why : InputError) : Type 0 where
   pub entry : Entry
   pub exists : place < length entries
   pub stands : slice_index_or entries place entry ≡ entry
-  pub read : Reads rose (λ (bytes : List ℕ). bytes) (Err why) (within_bytes entry.name (bytes_of files entry.number))
+  pub read : Reads ⊤ (λ (bytes : List ℕ). bytes) (Err why) (within_bytes entry.name (bytes_of files entry.number))
 
 -- the first of these files were read, and where there is a cause, it is why the next was not
-pub record IsBatchOf (rose : Type 0) (files : List FileBytes) (entries : List Entry) (batch : Batch) : Type 0 where
+pub record IsBatchOf (files : List FileBytes) (entries : List Entry) (batch : Batch) : Type 0 where
   pub front : AllZip (WasRead files) (take (length batch.files.items) entries) batch.files.items
-  pub stop : IfSome batch.stop (IsCause rose files entries (length batch.files.items))
+  pub stop : IfSome batch.stop (IsCause files entries (length batch.files.items))
 
 -- what a file says that was read
 abbrev pub said_by : Bool → FileRead → Result PlainTrack Status
@@ -46,11 +46,19 @@ abbrev pub tracks_after : List PlainTrack → List (Result PlainTrack Status) �
 tracks_after before [] = Ok before
 tracks_after before (said ∷ more) = (said >>= λ e. checked_after before e.file e) >>= λ e. tracks_after (before ++ e ∷ []) more
 
--- Some of these files are taken behind the ephemerides before, and what is left leads where all of them lead; or this is why the first that
--- is not taken is not.
-abbrev pub GoesOn : Type 0 → Bool → List FileBytes → List PlainTrack → List Entry → Result Taken InputError → Type 0
-GoesOn rose as_hermite3 files before entries (Ok taken) =
-    readings_after as_hermite3 files before entries
-    ≡ readings_after as_hermite3 files (map plain_track taken.tracks.items) (drop (length taken.tracks.items - length before) entries)
-GoesOn rose as_hermite3 files before entries (Err why) =
-    Reads rose (λ (taken : Taken). map plain_track taken.tracks.items) (Err why) (readings_after as_hermite3 files before entries)
+-- tracks and batch are of no more than these files; where nothing stops the batch and files are left, it has some
+pub record Fits (entries : List Entry) (progress : Progress) : Type 0 where
+  pub few : length progress.taken.tracks.items + length progress.batch.files.items ≤ length entries
+  pub some : progress.batch.stop ≡ None → length progress.taken.tracks.items < length entries → 0 < length progress.batch.files.items
+
+-- the first of these files are taken, what is left leads where all of them lead, and the batch was read of what is left
+pub record IsOnTheWay (as_hermite3 : Bool) (files : List FileBytes) (entries : List Entry) (progress : Progress) : Type 0 where
+  pub leads : readings_after as_hermite3 files (map plain_track progress.taken.tracks.items) (drop (length progress.taken.tracks.items) entries)
+      ≡ readings_of as_hermite3 files entries
+  pub batch : IsBatchOf files (drop (length progress.taken.tracks.items) entries) progress.batch
+
+-- more of them are taken, or this is why the first that is not taken is not
+abbrev pub GoesOn : Bool → List FileBytes → List Entry → Result Progress InputError → Type 0
+GoesOn as_hermite3 files entries (Ok progress) = IsOnTheWay as_hermite3 files entries progress
+GoesOn as_hermite3 files entries (Err why) =
+    Reads ⊤ (λ (progress : Progress). map plain_track progress.taken.tracks.items) (Err why) (readings_of as_hermite3 files entries)

@@ -11,13 +11,13 @@ use crate::reading::{InputError, read_file};
 use cj_io::Folder;
 use std::alloc::{AllocError, Global};
 
-/// How many files are read for each of several workers, before they are parsed.
-const FILES_A_WORKER: usize = 125;
+/// How many files of a batch there are, at most, for each of several workers. The first batch is read before any file is parsed, so it is small.
+const FILES_A_WORKER: usize = 16;
 
-/// From so many bytes on no more files are read before these are parsed.
-const MANY_BYTES: u64 = 67_108_864;
+/// A batch ends with the file that brings it to so many bytes.
+const MANY_BYTES: u64 = 33_554_432;
 
-/// How many files are read, at most, before they are parsed. One worker parses each as it is read.
+/// How many files a batch has, at most. One worker parses each file as it is read.
 fn most_files(workers: u32) -> usize
     ensures { 1 ≤ result }
 {
@@ -39,7 +39,7 @@ pub fn read_batch<'a, F: Folder>(
 
     ensures fault { IfOk result (λ batch. batch.stop ≡ Some InputError.Failed → Rose (F.faults folder.old) (F.faults folder.new)) }
     ensures told { (files : List FileBytes) → F.files folder.old ≡ Some files
-        → IfOk result (IsBatchOf (Rose (F.faults folder.old) (F.faults folder.new)) files entries.now) }
+        → IfOk result (IsBatchOf files entries.now) }
     ensures few { IfOk result (λ batch. length batch.files.items ≤ length entries.now) }
     ensures some { IfOk result (λ batch. batch.stop ≡ None → 0 < length entries.now → 0 < length batch.files.items) }
 

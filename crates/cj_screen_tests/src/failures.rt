@@ -1,6 +1,6 @@
 //! Folders and shelves that fail.
 use crate::runs::{End, end_failing};
-use crate::scenes::{COVERED, files_of};
+use crate::scenes::{COVERED, Content, Scene, base_text, copies, files_of};
 use cj_io::{CalmShelf, FileBytes, MemShelf, Shelf};
 use std::alloc::{AllocError, Global};
 use std::sync::Wait;
@@ -49,6 +49,42 @@ fn nothing_is_put_where_the_folder_fails(rt: HostRuntime) -> Result<(), Fail> {
         );
     }
     assert_eq!(rt; put_where(&rt, alloc, CALLS + 1, 0, b"")?, Some(4));
+    Ok(())
+}
+
+/// A file that is read, and one that is refused.
+const GOOD: Scene = &[("a.oem", Content::One(&[]))];
+
+const BAD: Scene = &[(
+    "a.oem",
+    Content::One(&[(15, b"2025-01-01T00:00:00 7000 X 0 0 0 0")]),
+)];
+
+/// What two workers tell of this file and ninety-nine that are read, where this call of their folder fails.
+fn told_by_two<R: Threads + Wait + Sync>(
+    rt: &R,
+    alloc: Global,
+    first: Scene,
+    call: u64,
+) -> Result<Vec<u8>, AllocError> {
+    let mut files = files_of(alloc, first)?;
+    files.append(&mut copies(alloc, 99, &base_text(alloc)?)?)?;
+    let calls = Vec::from_array(alloc, [call])?;
+    let mut shelf = CalmShelf::new(alloc);
+    let end = end_failing(rt, alloc, "screen . --workers 2", files, calls, &mut shelf)?;
+    Ok(end.line)
+}
+
+/// The call for the bytes of the thirty-third file, which two workers read while the first thirty-two are parsed.
+const NEXT_BATCH: u64 = 66;
+
+#[test]
+fn what_fails_while_files_are_parsed_is_told_behind_them(rt: HostRuntime) -> Result<(), Fail> {
+    let alloc = rt.alloc();
+    let read = told_by_two(&rt, alloc, GOOD, NEXT_BATCH)?;
+    assert!(rt; read.as_slice() == b"conj: read fault\n".as_slice());
+    let refused = told_by_two(&rt, alloc, BAD, NEXT_BATCH)?;
+    assert!(rt; refused.as_slice() == b"conj: a.oem: line 15: Number\n".as_slice());
     Ok(())
 }
 
