@@ -42,6 +42,7 @@ pub fn count(
     let objects = problem.tracks.as_slice().len() as u64;
     let pairs = pairs(objects);
     let all = leaves.len() as u64;
+    let kinds = count_kinds(leaves);
     Counts {
         objects,
         pairs,
@@ -50,9 +51,9 @@ pub fn count(
         roots: candidates.roots,
         splits: all - candidates.roots,
         leaves: all,
-        far: count_kind(leaves, Kind::Far),
-        near: count_kind(leaves, Kind::Near),
-        undecided: count_kind(leaves, Kind::Undecided),
+        far: kinds.far,
+        near: kinds.near,
+        undecided: kinds.undecided,
         encounters: messages.len() as u64,
         messages: count_set(messages),
     }
@@ -66,18 +67,36 @@ fn pairs(objects: u64) -> u64
     objects * objects.saturating_sub(1) / 2
 }
 
-/// How many leaves are of a kind.
-fn count_kind(leaves: &[Leaf], kind: Kind) -> u64
+/// How many leaves are of each kind.
+#[derive(Clone, Copy, Debug)]
+struct KindCounts {
+    far: u64,
+    near: u64,
+    undecided: u64,
+}
+
+/// How many of these leaves are of each kind, in one pass.
+fn count_kinds(leaves: &[Leaf]) -> KindCounts
     requires { length leaves.now ≤ 4_000_000 }
-    ensures { result ≡ count_by (spec.is_of kind) (plain_leaves leaves.now) }
+    ensures far { result.far ≡ count_by (spec.is_of Kind.Far) (plain_leaves leaves.now) }
+    ensures near { result.near ≡ count_by (spec.is_of Kind.Near) (plain_leaves leaves.now) }
+    ensures undecided { result.undecided ≡ count_by (spec.is_of Kind.Undecided) (plain_leaves leaves.now) }
 {
-    let mut count = 0;
+    let mut far = 0;
+    let mut near = 0;
+    let mut undecided = 0;
     for leaf in leaves {
-        if leaf.kind == kind {
-            count += 1;
+        match leaf.kind {
+            Kind::Far => far += 1,
+            Kind::Near => near += 1,
+            Kind::Undecided => undecided += 1,
         }
     }
-    count
+    KindCounts {
+        far,
+        near,
+        undecided,
+    }
 }
 
 /// How many of these are true.

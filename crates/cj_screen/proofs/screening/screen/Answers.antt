@@ -1,5 +1,4 @@
 use Rattle.std.proofs.Common.{◌≡◌, ◌≤◌, ◌∙◌, All, List, Ok, Err, length, map, ap, refl, sym, subst, arith}
-use Rattle.std.proofs.lemmas.List.Sorted.{length_permutation}
 use Rattle.std.proofs.lemmas.List.{length-map}
 use Rattle.cj_hermite.specs.Problems.{plain_problem}
 use Rattle.cj_bezier.specs.Cells.{plain_cell}
@@ -10,7 +9,6 @@ use Rattle.cj_bezier.specs.declared.leaf.Leaf.{Leaf}
 use Rattle.cj_bezier.specs.Order.{AreInOrder}
 use Rattle.cj_cells.specs.Lists.{list_looked}
 use Rattle.cj_cells.proofs.LeafLemmas.{list_split}
-use Rattle.cj_cells.proofs.ListingLemmas.{same_count}
 use Rattle.cj_cert.specs.Rewritten.{written_in}
 use Rattle.cj_meet.specs.Closest.{closest_of}
 use Rattle.cj_meet.specs.Encounters.{Describes, encounters_of, groups_in}
@@ -33,10 +31,7 @@ returns-in-Err-clause-told g c = λ origin.
 
 pub count-counts-requires-clause-roots : goal.count-counts-requires-clause-roots
 count-counts-requires-clause-roots g c =
-    let case = plain_problem c.args.problem in
-    let found = length_permutation _ _ c.in-Ok.ensures.roots in
-    let count = same_count case in
-    omega (arith, found, count, c.in-Ok.candidates.roots.ok.0, length-map c.in-Ok.candidates.roots.items plain_cell)
+    omega (arith, ap length c.in-Ok.ensures.roots, c.in-Ok.candidates.roots.ok.0, length-map c.in-Ok.candidates.roots.items plain_cell)
 
 pub encounters-requires-clause-in_order : goal.encounters-requires-clause-in_order
 encounters-requires-clause-in_order g c =
