@@ -1,23 +1,12 @@
 //! The screener as a program: the files of a directory, the standard streams and the clock around one call.
 #![tactic(auto)]
 
-mod clock;
-mod folder;
-mod notice;
-mod request;
-mod shelf;
-mod system_fault;
-
+use cj_host::{DirFolder, DirShelf, Request, SystemFault, now, print_notice, read_request};
 use cj_io::OpenGate;
 use cj_screen::conj;
 use cj_status::{Status, fault_text};
-use folder::DirFolder;
-use notice::print_notice;
-use request::{Request, read_request};
-use shelf::DirShelf;
 use std::io::Write;
 use std::process::ExitCode;
-use system_fault::SystemFault;
 
 fn main(rt: HostRuntime) -> ExitCode {
     let status = match read_request(&rt) {
@@ -30,7 +19,7 @@ fn main(rt: HostRuntime) -> ExitCode {
                 &words,
                 &mut folder,
                 &mut shelf,
-                clock::now(&rt),
+                now(&rt),
                 &OpenGate,
             );
             let fault = known_fault(&status, &folder, &shelf);

@@ -1,7 +1,7 @@
 -- What the words of a command line ask of the program, the program's name left out.
 use Rattle.std.specs.Prelude.{ℕ, List, [], ◌∷◌, Option, Some, None, codes, bytes_eq, if◌then◌else◌}
-use Rattle.conj.specs.declared.notice.Notice.{Notice}
-use Rattle.conj.specs.declared.notice.Notice.TheVariants.{Help, Version}
+use Rattle.cj_host.specs.declared.notice.Notice.{Notice}
+use Rattle.cj_host.specs.declared.notice.Notice.TheVariants.{Help, Version}
 
 -- the notice that the only word asks for
 abbrev pub notice_of : List (List ℕ) → Option Notice

@@ -21,6 +21,7 @@ pub struct DirShelf<'a> {
 }
 
 impl<'a> DirShelf<'a> {
+    /// A shelf whose pieces become files of the directory with this path. Nothing is written yet.
     pub fn new(rt: &'a HostRuntime, directory: &'a str) -> Self {
         DirShelf {
             rt,

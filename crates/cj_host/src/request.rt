@@ -1,5 +1,5 @@
 ghost use Rattle.std.specs.Prelude.{◌≡◌};
-ghost use Rattle.conj.specs.CommandLine as spec;
+ghost use Rattle.cj_host.specs.CommandLine as spec;
 
 use crate::notice::{Notice, asked_notice};
 use cj_status::Status;

@@ -1,5 +1,5 @@
 ghost use Rattle.std.specs.Prelude.{◌≡◌};
-ghost use Rattle.conj.specs.CommandLine.{notice_of};
+ghost use Rattle.cj_host.specs.CommandLine.{notice_of};
 
 use cj_status::Status;
 use cj_words::Word;

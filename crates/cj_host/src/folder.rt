@@ -19,6 +19,7 @@ pub struct DirFolder<'a> {
 }
 
 impl<'a> DirFolder<'a> {
+    /// The files of the directory with this path. Nothing is opened yet.
     pub fn new(rt: &'a HostRuntime, directory: &'a str) -> Self {
         DirFolder {
             rt,
