@@ -1,6 +1,5 @@
-//! The shells and boxes of some objects: one object after another, or half of the objects on another thread.
+//! The shells and boxes of some objects: one object after another, or by several threads that take the next few objects each.
 ghost use Rattle.std.specs.Prelude.{◌≡◌, ◌<◌, ◌++◌, IfOk, OnOk};
-ghost use Rattle.std.specs.Thread.{IsSync};
 ghost use Rattle.cj_track.specs.Tracks.{plain_track};
 ghost use Rattle.cj_bezier.specs.Shells.{shell_of};
 ghost use Rattle.cj_bezier.specs.SlotBoxes.{plain_boxes};
@@ -12,11 +11,12 @@ use crate::object_run::ObjectRun;
 use cj_bezier::{AxisBox, Shell};
 use cj_epoch::Window;
 use cj_grid::slot_box;
+use cj_jobs::{Jobs, run_jobs};
 use cj_sieve::shell;
 use cj_track::Track;
 use cj_walk::TrackWalk;
 use std::alloc::{AllocError, Global};
-use std::thread::{Threads, join};
+use std::thread::Threads;
 
 /// Appends the boxes of a walk's track in so many slots.
 fn append_boxes(
@@ -88,8 +88,31 @@ fn joined(mut front: ObjectRun, mut back: ObjectRun) -> Result<ObjectRun, AllocE
     Ok(front)
 }
 
+/// What is done with objects: each is measured in a window and so many of its slots.
+#[derive(Clone, Copy)]
+struct Measuring {
+    window: Window,
+    slots: u32,
+}
+
+impl Jobs<Track> for Measuring {
+    type Output = ObjectRun;
+
+    ghost comes_of = { λ measuring tracks run. AreMeasured tracks measuring.window.first.micros measuring.window.last.micros measuring.slots run };
+
+    fn run(&self, alloc: Global, part: &[Track]) -> Result<ObjectRun, AllocError> {
+        measure_in_turn(alloc, part, self.window, self.slots)
+    }
+
+    fn join(&self, front: ObjectRun, back: ObjectRun) -> Result<ObjectRun, AllocError> {
+        joined(front, back)
+    }
+}
+
+/// So many objects a thread takes at once.
+const OBJECTS_A_PART: usize = 4;
+
 /// The shells of some objects in a window, and their boxes in so many of its slots, by as many threads as there are workers.
-#[cycle(objects)]
 pub fn measure_objects<R: Threads + Sync>(
     rt: &R,
     alloc: Global,
@@ -100,18 +123,13 @@ pub fn measure_objects<R: Threads + Sync>(
 ) -> Result<ObjectRun, AllocError>
     ensures { IfOk result (AreMeasured tracks.now window.first.micros window.last.micros slots) }
 {
-    if workers < 2 || tracks.len() < 2 {
-        return measure_in_turn(alloc, tracks, window, slots);
-    }
-    let (some, others) = tracks.split_at(tracks.len() / 2);
-    let first = || -> Result<ObjectRun, AllocError>
-        requires { IsSync R.row }
-        ensures { IfOk result (AreMeasured some.entry.now window.first.micros window.last.micros slots) }
-    { measure_objects(rt, alloc, some, window, slots, workers / 2) };
-    let second = || -> Result<ObjectRun, AllocError>
-        requires { IsSync R.row }
-        ensures { IfOk result (AreMeasured others.entry.now window.first.micros window.last.micros slots) }
-    { measure_objects(rt, alloc, others, window, slots, workers - workers / 2) };
-    let (front, back) = join(rt, first, second);
-    joined(front?, back?)
+    let measuring = Measuring { window, slots };
+    run_jobs(
+        rt,
+        alloc,
+        &measuring,
+        tracks,
+        OBJECTS_A_PART,
+        workers as usize,
+    )
 }

@@ -1,18 +1,19 @@
-//! What files say that were read: one after another, or half of them on another thread.
-ghost use Rattle.std.specs.Prelude.{◌≡◌, ◌++◌, IfOk};
-ghost use Rattle.std.specs.Thread.{IsSync};
+//! What files say that were read: one after another, or by several threads that take the next file each.
+ghost use Rattle.std.specs.Prelude.{◌≡◌, List, ◌++◌, IfOk};
 ghost use Rattle.cj_track.specs.Tracks.{plain_track};
 ghost use Rattle.cj_inputs.specs.Batches.{AreParsed, said_by};
 ghost use Rattle.cj_inputs.specs.Readings.{Reads};
+ghost use Rattle.cj_inputs.specs.declared.batch.FileRead.{FileRead};
 
 use crate::batch::FileRead;
 use crate::reading::InputError;
 use cj_io::Name;
+use cj_jobs::{Jobs, run_jobs};
 use cj_oem::{OemFault, read_oem};
 use cj_status::FileCause;
 use cj_track::Track;
 use std::alloc::{AllocError, Global};
-use std::thread::{Threads, join};
+use std::thread::Threads;
 
 /// The track that a file says.
 fn parse_file(alloc: Global, file: &FileRead<'_>, as_hermite3: bool) -> Result<Track, InputError>
@@ -55,8 +56,40 @@ fn joined(
     Ok(front)
 }
 
-/// What the files say, each for itself, by as many threads as there are workers.
-#[cycle(files)]
+/// What is done with files: each is parsed.
+#[derive(Clone, Copy)]
+struct Parsing {
+    as_hermite3: bool,
+}
+
+impl<'a> Jobs<FileRead<'a>> for Parsing {
+    type Output = Vec<Result<Track, InputError>>;
+
+    ghost comes_of = { λ parsing files readings. AreParsed parsing.as_hermite3 files readings.items };
+
+    fn run(
+        &self,
+        alloc: Global,
+        part: &[FileRead<'a>],
+    ) -> Result<Vec<Result<Track, InputError>>, AllocError>
+        ensures { IfOk result (λ readings. AreParsed self.now.as_hermite3 part.now readings.items) }
+    {
+        parse_in_turn(alloc, part, self.as_hermite3)
+    }
+
+    fn join(
+        &self,
+        front: Vec<Result<Track, InputError>>,
+        back: Vec<Result<Track, InputError>>,
+    ) -> Result<Vec<Result<Track, InputError>>, AllocError>
+        ensures { (some others : List FileRead) → AreParsed self.now.as_hermite3 some front.items → AreParsed self.now.as_hermite3 others back.items
+            → IfOk result (λ readings. AreParsed self.now.as_hermite3 (some ++ others) readings.items) }
+    {
+        joined(front, back)
+    }
+}
+
+/// What the files say, each for itself, by as many threads as there are workers: each takes the next file.
 pub fn parse_files<R: Threads + Sync>(
     rt: &R,
     alloc: Global,
@@ -66,18 +99,6 @@ pub fn parse_files<R: Threads + Sync>(
 ) -> Result<Vec<Result<Track, InputError>>, AllocError>
     ensures { IfOk result (λ readings. AreParsed as_hermite3 files.now readings.items) }
 {
-    if workers < 2 || files.len() < 2 {
-        return parse_in_turn(alloc, files, as_hermite3);
-    }
-    let (some, others) = files.split_at(files.len() / 2);
-    let first = || -> Result<Vec<Result<Track, InputError>>, AllocError>
-        requires { IsSync R.row }
-        ensures { IfOk result (λ readings. AreParsed as_hermite3 some.entry.now readings.items) }
-    { parse_files(rt, alloc, some, as_hermite3, workers / 2) };
-    let second = || -> Result<Vec<Result<Track, InputError>>, AllocError>
-        requires { IsSync R.row }
-        ensures { IfOk result (λ readings. AreParsed as_hermite3 others.entry.now readings.items) }
-    { parse_files(rt, alloc, others, as_hermite3, workers - workers / 2) };
-    let (front, back) = join(rt, first, second);
-    joined(front?, back?)
+    let parsing = Parsing { as_hermite3 };
+    run_jobs(rt, alloc, &parsing, files, 1, workers as usize)
 }
