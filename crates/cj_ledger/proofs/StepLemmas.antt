@@ -6,21 +6,25 @@ use Rattle.std.proofs.lemmas.List.Sums.{sum_by_push}
 use mathlib.Core.Option.{some}
 use lib.ListN.{get_elem?}
 use Rattle.atomic_table.specs.Table.{State, keeps, stepped, Allows, Splits, Joins}
-use Rattle.cj_ledger.specs.Counts.{nobody, told_live, told_leaves, told_halts, after_first, after_second, after_close, after_halt, less_a_part, cut_off, both}
-use Rattle.cj_ledger.specs.Words.{live_from, leaves_from, halts_from, live_of, leaves_of, halts_of, words_of, Fits, Kept, KnowsLive, KnowsLeaves, KnowsHalts}
+use Rattle.cj_ledger.specs.Counts.{nobody, told_live, told_leaves, told_halts, after_first, after_second, after_split, after_closes, after_halt, less_a_part, cut_off, both}
+use Rattle.cj_ledger.specs.Words.{live_from, leaves_from, halts_from, live_of, leaves_of, halts_of, laid, words_of, Fits, Kept, KnowsLive, KnowsLeaves, KnowsHalts}
 use Rattle.cj_ledger.specs.declared.count.Count.{Count}
 use Rattle.cj_ledger.specs.declared.count.Opening.{Opening}
 use Rattle.cj_ledger.specs.declared.why.Why.TheVariants.{Cells, Memory}
 use Rattle.cj_ledger.proofs.SumLemmas.{sum_set, sum_same, sum_more, at_most_sum, fits_set, fits_push, alone}
 
-three : {a b c x y z : ℕ} → a ≡ x → b ≡ y → c ≡ z → (a ∷ b ∷ c ∷ []) ≡ (x ∷ y ∷ z ∷ [])
-three p q r = λ i. p i ∷ q i ∷ r i ∷ []
+three : {a b c x y z : ℕ} → a ≡ x → b ≡ y → c ≡ z → laid a b c ≡ laid x y z
+three p q r = λ i. laid (p i) (q i) (r i)
 
 one_live_more : (r f c : ℕ) → (live_from r f c + 1) % 2 ^ 64 ≡ live_from r (f + 1) c
 one_live_more r f c = omega arith
 
-one_live_less : (r f c : ℕ) → (live_from r f c + (2 ^ 64 - 1)) % 2 ^ 64 ≡ live_from r f (c + 1)
-one_live_less r f c = omega arith
+live_less_by : (r f c k : ℕ) → k < 2 ^ 64 → (live_from r f c + (2 ^ 64 - k)) % 2 ^ 64 ≡ live_from r f (c + k)
+live_less_by r f c k few = omega (arith, few)
+
+-- one first step and one close leave the live cells as they are
+live_kept : (r f c : ℕ) → live_from r f c ≡ live_from r (f + 1) (c + 1)
+live_kept r f c = omega arith
 
 one_leaf_more : (r s : ℕ) → (leaves_from r s + 1) % 2 ^ 64 ≡ leaves_from r (s + 1)
 one_leaf_more r s = omega arith
@@ -63,8 +67,8 @@ module _ (vs : List Count) (id : ℕ) (v w : Count) (at : get_elem? vs id ≡ so
   same : (f : Count → ℕ) → f w ≡ f v → sum_by f vs ≡ sum_by f (set vs id w)
   same f e = sym (sum_same f vs id v w at e)
 
-  more : (f : Count → ℕ) → f w ≡ f v + 1 → sum_by f vs + 1 ≡ sum_by f (set vs id w)
-  more f e = sym (sum_more f vs id v w at e)
+  more : (f : Count → ℕ) (k : ℕ) → f w ≡ f v + k → sum_by f vs + k ≡ sum_by f (set vs id w)
+  more f k e = sym (sum_more f vs id v w k at e)
 
   pub live_same : w.roots ≡ v.roots → w.firsts ≡ v.firsts → w.closes ≡ v.closes → live_of vs ≡ live_of (set vs id w)
   live_same r f c =
@@ -76,16 +80,23 @@ module _ (vs : List Count) (id : ℕ) (v w : Count) (at : get_elem? vs id ≡ so
   pub live_more : w.roots ≡ v.roots → w.firsts ≡ v.firsts + 1 → w.closes ≡ v.closes → (live_of vs + 1) % 2 ^ 64 ≡ live_of (set vs id w)
   live_more r f c =
       let p = same (λ u. u.roots) r in
-      let q = more (λ u. u.firsts) f in
+      let q = more (λ u. u.firsts) 1 f in
       let x = same (λ u. u.closes) c in
       one_live_more (sum_by (λ u. u.roots) vs) (sum_by (λ u. u.firsts) vs) (sum_by (λ u. u.closes) vs) ∙ (λ i. live_from (p i) (q i) (x i))
 
-  pub live_less : w.roots ≡ v.roots → w.firsts ≡ v.firsts → w.closes ≡ v.closes + 1 → (live_of vs + (2 ^ 64 - 1)) % 2 ^ 64 ≡ live_of (set vs id w)
-  live_less r f c =
+  pub live_less : (k : ℕ) → k < 2 ^ 64 → w.roots ≡ v.roots → w.firsts ≡ v.firsts → w.closes ≡ v.closes + k → (live_of vs + (2 ^ 64 - k)) % 2 ^ 64 ≡ live_of (set vs id w)
+  live_less k few r f c =
       let p = same (λ u. u.roots) r in
       let q = same (λ u. u.firsts) f in
-      let x = more (λ u. u.closes) c in
-      one_live_less (sum_by (λ u. u.roots) vs) (sum_by (λ u. u.firsts) vs) (sum_by (λ u. u.closes) vs) ∙ (λ i. live_from (p i) (q i) (x i))
+      let x = more (λ u. u.closes) k c in
+      live_less_by (sum_by (λ u. u.roots) vs) (sum_by (λ u. u.firsts) vs) (sum_by (λ u. u.closes) vs) k few ∙ (λ i. live_from (p i) (q i) (x i))
+
+  pub live_split : w.roots ≡ v.roots → w.firsts ≡ v.firsts + 1 → w.closes ≡ v.closes + 1 → live_of vs ≡ live_of (set vs id w)
+  live_split r f c =
+      let p = same (λ u. u.roots) r in
+      let q = more (λ u. u.firsts) 1 f in
+      let x = more (λ u. u.closes) 1 c in
+      live_kept (sum_by (λ u. u.roots) vs) (sum_by (λ u. u.firsts) vs) (sum_by (λ u. u.closes) vs) ∙ (λ i. live_from (p i) (q i) (x i))
 
   pub leaves_same : w.roots ≡ v.roots → w.seconds ≡ v.seconds → leaves_of vs ≡ leaves_of (set vs id w)
   leaves_same r s =
@@ -96,7 +107,7 @@ module _ (vs : List Count) (id : ℕ) (v w : Count) (at : get_elem? vs id ≡ so
   pub leaves_more : w.roots ≡ v.roots → w.seconds ≡ v.seconds + 1 → (leaves_of vs + 1) % 2 ^ 64 ≡ leaves_of (set vs id w)
   leaves_more r s =
       let p = same (λ u. u.roots) r in
-      let q = more (λ u. u.seconds) s in
+      let q = more (λ u. u.seconds) 1 s in
       one_leaf_more (sum_by (λ u. u.roots) vs) (sum_by (λ u. u.seconds) vs) ∙ (λ i. leaves_from (p i) (q i))
 
   pub halts_same : w.cells ≡ v.cells → w.memory ≡ v.memory → halts_of vs ≡ halts_of (set vs id w)
@@ -108,13 +119,13 @@ module _ (vs : List Count) (id : ℕ) (v w : Count) (at : get_elem? vs id ≡ so
   pub halts_cells : w.cells ≡ v.cells + 1 → w.memory ≡ v.memory → bit_or (halts_of vs) 1 ≡ halts_of (set vs id w)
   halts_cells c m =
       let q = same (λ u. u.memory) m in
-      cells_set (sum_by (λ u. u.cells) vs) (sum_by (λ u. u.memory) vs) (sum_by (λ u. u.cells) (set vs id w)) (sum_more (λ u. u.cells) vs id v w at c)
+      cells_set (sum_by (λ u. u.cells) vs) (sum_by (λ u. u.memory) vs) (sum_by (λ u. u.cells) (set vs id w)) (sum_more (λ u. u.cells) vs id v w 1 at c)
       ∙ (λ i. halts_from (sum_by (λ u. u.cells) (set vs id w)) (q i))
 
   pub halts_memory : w.cells ≡ v.cells → w.memory ≡ v.memory + 1 → bit_or (halts_of vs) 2 ≡ halts_of (set vs id w)
   halts_memory c m =
       let p = same (λ u. u.cells) c in
-      memory_set (sum_by (λ u. u.cells) vs) (sum_by (λ u. u.memory) vs) (sum_by (λ u. u.memory) (set vs id w)) (sum_more (λ u. u.memory) vs id v w at m)
+      memory_set (sum_by (λ u. u.cells) vs) (sum_by (λ u. u.memory) vs) (sum_by (λ u. u.memory) (set vs id w)) (sum_more (λ u. u.memory) vs id v w 1 at m)
       ∙ (λ i. halts_from (p i) (sum_by (λ u. u.memory) (set vs id w)))
 
 -- a step of one share, after which the words are those of the new views
@@ -149,36 +160,36 @@ module _ {S : Type 0} (o : Opening) (slots id : ℕ) (v : Count) (c : List (ℕ 
       (sym r ∙ kept.roots ∙ sym (ap (λ (u : Opening). u.roots) ((kept.fits id v at).knows some_part)), ap (λ ws. slice_index ws 0) kept.words ∙ (λ i. live_from (r i) (f i) (x i))) in
       (w, keeps, tt, keep o s id 0 n c v w kept at some_part refl refl refl (kept.fits id v at).splits is, (refl, knows))
 
-  pub loads_leaves : Allows (Kept o) slots id (v, c) 1 (λ n. n) (λ n r. (r ≡ (told_leaves v n, c)) × KnowsLeaves v n)
+  pub loads_leaves : Allows (Kept o) slots id (v, c) 8 (λ n. n) (λ n r. (r ≡ (told_leaves v n, c)) × KnowsLeaves v n)
   loads_leaves s kept homes at small =
-      let n = slice_index s.words 1 in
+      let n = slice_index s.words 8 in
       let w = told_leaves v n in
       let vs = s.views in
-      let is : slice_set s.words 1 n ≡ words_of (set vs id w) =
-      ap (λ ws. slice_set ws 1 (slice_index ws 1)) kept.words
+      let is : slice_set s.words 8 n ≡ words_of (set vs id w) =
+      ap (λ ws. slice_set ws 8 (slice_index ws 8)) kept.words
       ∙ three (live_same vs id v w at refl refl refl) (leaves_same vs id v w at refl refl) (halts_same vs id v w at refl refl) in
       let knows : KnowsLeaves v n = λ whole.
       let sums = whole_sums s kept at whole in
       let r = sums (λ u. u.roots) refl in
       let f = sums (λ u. u.seconds) refl in
-      ap (λ ws. slice_index ws 1) kept.words ∙ (λ i. leaves_from (r i) (f i)) in
-      (w, keeps, tt, keep o s id 1 n c v w kept at some_part refl refl refl (kept.fits id v at).splits is, (refl, knows))
+      ap (λ ws. slice_index ws 8) kept.words ∙ (λ i. leaves_from (r i) (f i)) in
+      (w, keeps, tt, keep o s id 8 n c v w kept at some_part refl refl refl (kept.fits id v at).splits is, (refl, knows))
 
-  pub loads_halts : Allows (Kept o) slots id (v, c) 2 (λ n. n) (λ n r. (r ≡ (told_halts v n, c)) × KnowsHalts v n)
+  pub loads_halts : Allows (Kept o) slots id (v, c) 16 (λ n. n) (λ n r. (r ≡ (told_halts v n, c)) × KnowsHalts v n)
   loads_halts s kept homes at small =
-      let n = slice_index s.words 2 in
+      let n = slice_index s.words 16 in
       let w = told_halts v n in
       let vs = s.views in
       let cells = sum_by (λ u. u.cells) vs in
       let memory = sum_by (λ u. u.memory) vs in
-      let is : slice_set s.words 2 n ≡ words_of (set vs id w) =
-      ap (λ ws. slice_set ws 2 (slice_index ws 2)) kept.words
+      let is : slice_set s.words 16 n ≡ words_of (set vs id w) =
+      ap (λ ws. slice_set ws 16 (slice_index ws 16)) kept.words
       ∙ three (live_same vs id v w at refl refl refl) (leaves_same vs id v w at refl refl) (halts_same vs id v w at refl refl) in
-      let here : halts_from cells memory ≡ n = sym (ap (λ ws. slice_index ws 2) kept.words) in
+      let here : halts_from cells memory ≡ n = sym (ap (λ ws. slice_index ws 16) kept.words) in
       let mine : v.cells ≤ cells = at_most_sum (λ u. u.cells) vs id v refl at in
       let mine' : v.memory ≤ memory = at_most_sum (λ u. u.memory) vs id v refl at in
       let knows : KnowsHalts v n = (subst (λ m. m < 4) here (two_bits cells memory), λ mine_set. subst (λ m. 0 < m) here (some_bit cells memory (omega (arith, mine_set, mine, mine')))) in
-      (w, keeps, tt, keep o s id 2 n c v w kept at some_part refl refl refl (kept.fits id v at).splits is, (refl, knows))
+      (w, keeps, tt, keep o s id 16 n c v w kept at some_part refl refl refl (kept.fits id v at).splits is, (refl, knows))
 
   -- the first step of a split
   pub adds_live : v.firsts ≡ v.seconds → Allows (Kept o) slots id (v, c) 0 (λ n. (n + 1) % 2 ^ 64) (λ n r. r ≡ (after_first v, c))
@@ -192,45 +203,56 @@ module _ {S : Type 0} (o : Opening) (slots id : ℕ) (v : Count) (c : List (ℕ 
       (w, keeps, tt, keep o s id 0 n c v w kept at some_part refl refl refl (omega (arith, even), omega (arith, even)) is, refl)
 
   -- the second step, which only the first can go before
-  pub adds_leaf : v.firsts ≡ v.seconds + 1 → Allows (Kept o) slots id (v, c) 1 (λ n. (n + 1) % 2 ^ 64) (λ n r. r ≡ (after_second v ((n + 1) % 2 ^ 64), c))
+  pub adds_leaf : v.firsts ≡ v.seconds + 1 → Allows (Kept o) slots id (v, c) 8 (λ n. (n + 1) % 2 ^ 64) (λ n r. r ≡ (after_second v ((n + 1) % 2 ^ 64), c))
   adds_leaf odd s kept homes at small =
-      let n = (slice_index s.words 1 + 1) % 2 ^ 64 in
+      let n = (slice_index s.words 8 + 1) % 2 ^ 64 in
       let w = after_second v n in
       let vs = s.views in
-      let is : slice_set s.words 1 n ≡ words_of (set vs id w) =
-      ap (λ ws. slice_set ws 1 ((slice_index ws 1 + 1) % 2 ^ 64)) kept.words
+      let is : slice_set s.words 8 n ≡ words_of (set vs id w) =
+      ap (λ ws. slice_set ws 8 ((slice_index ws 8 + 1) % 2 ^ 64)) kept.words
       ∙ three (live_same vs id v w at refl refl refl) (leaves_more vs id v w at refl refl) (halts_same vs id v w at refl refl) in
-      (w, keeps, tt, keep o s id 1 n c v w kept at some_part refl refl refl (omega (arith, odd), omega (arith, odd)) is, refl)
+      (w, keeps, tt, keep o s id 8 n c v w kept at some_part refl refl refl (omega (arith, odd), omega (arith, odd)) is, refl)
 
-  pub closes : Allows (Kept o) slots id (v, c) 0 (λ n. (n + (2 ^ 64 - 1)) % 2 ^ 64) (λ n r. r ≡ (after_close v, c))
-  closes s kept homes at small =
-      let n = (slice_index s.words 0 + (2 ^ 64 - 1)) % 2 ^ 64 in
-      let w = after_close v in
+  -- a close and both steps of a split at once
+  pub closes_and_splits : v.firsts ≡ v.seconds → Allows (Kept o) slots id (v, c) 8 (λ n. (n + 1) % 2 ^ 64) (λ n r. r ≡ (after_split (after_closes v 1) ((n + 1) % 2 ^ 64), c))
+  closes_and_splits even s kept homes at small =
+      let n = (slice_index s.words 8 + 1) % 2 ^ 64 in
+      let w = after_split (after_closes v 1) n in
+      let vs = s.views in
+      let is : slice_set s.words 8 n ≡ words_of (set vs id w) =
+      ap (λ ws. slice_set ws 8 ((slice_index ws 8 + 1) % 2 ^ 64)) kept.words
+      ∙ three (live_split vs id v w at refl refl refl) (leaves_more vs id v w at refl refl) (halts_same vs id v w at refl refl) in
+      (w, keeps, tt, keep o s id 8 n c v w kept at some_part refl refl refl (omega (arith, even), omega (arith, even)) is, refl)
+
+  pub closes : (k : ℕ) → k < 2 ^ 64 → Allows (Kept o) slots id (v, c) 0 (λ n. (n + (2 ^ 64 - k)) % 2 ^ 64) (λ n r. r ≡ (after_closes v k, c))
+  closes k few s kept homes at small =
+      let n = (slice_index s.words 0 + (2 ^ 64 - k)) % 2 ^ 64 in
+      let w = after_closes v k in
       let vs = s.views in
       let is : slice_set s.words 0 n ≡ words_of (set vs id w) =
-      ap (λ ws. slice_set ws 0 ((slice_index ws 0 + (2 ^ 64 - 1)) % 2 ^ 64)) kept.words
-      ∙ three (live_less vs id v w at refl refl refl) (leaves_same vs id v w at refl refl) (halts_same vs id v w at refl refl) in
+      ap (λ ws. slice_set ws 0 ((slice_index ws 0 + (2 ^ 64 - k)) % 2 ^ 64)) kept.words
+      ∙ three (live_less vs id v w at k few refl refl refl) (leaves_same vs id v w at refl refl) (halts_same vs id v w at refl refl) in
       (w, keeps, tt, keep o s id 0 n c v w kept at some_part refl refl refl (kept.fits id v at).splits is, refl)
 
-  pub sets_cells : Allows (Kept o) slots id (v, c) 2 (λ n. bit_or n 1) (λ n r. r ≡ (after_halt Cells v, c))
+  pub sets_cells : Allows (Kept o) slots id (v, c) 16 (λ n. bit_or n 1) (λ n r. r ≡ (after_halt Cells v, c))
   sets_cells s kept homes at small =
-      let n = bit_or (slice_index s.words 2) 1 in
+      let n = bit_or (slice_index s.words 16) 1 in
       let w = after_halt Cells v in
       let vs = s.views in
-      let is : slice_set s.words 2 n ≡ words_of (set vs id w) =
-      ap (λ ws. slice_set ws 2 (bit_or (slice_index ws 2) 1)) kept.words
+      let is : slice_set s.words 16 n ≡ words_of (set vs id w) =
+      ap (λ ws. slice_set ws 16 (bit_or (slice_index ws 16) 1)) kept.words
       ∙ three (live_same vs id v w at refl refl refl) (leaves_same vs id v w at refl refl) (halts_cells vs id v w at refl refl) in
-      (w, keeps, tt, keep o s id 2 n c v w kept at some_part refl refl refl (kept.fits id v at).splits is, refl)
+      (w, keeps, tt, keep o s id 16 n c v w kept at some_part refl refl refl (kept.fits id v at).splits is, refl)
 
-  pub sets_memory : Allows (Kept o) slots id (v, c) 2 (λ n. bit_or n 2) (λ n r. r ≡ (after_halt Memory v, c))
+  pub sets_memory : Allows (Kept o) slots id (v, c) 16 (λ n. bit_or n 2) (λ n r. r ≡ (after_halt Memory v, c))
   sets_memory s kept homes at small =
-      let n = bit_or (slice_index s.words 2) 2 in
+      let n = bit_or (slice_index s.words 16) 2 in
       let w = after_halt Memory v in
       let vs = s.views in
-      let is : slice_set s.words 2 n ≡ words_of (set vs id w) =
-      ap (λ ws. slice_set ws 2 (bit_or (slice_index ws 2) 2)) kept.words
+      let is : slice_set s.words 16 n ≡ words_of (set vs id w) =
+      ap (λ ws. slice_set ws 16 (bit_or (slice_index ws 16) 2)) kept.words
       ∙ three (live_same vs id v w at refl refl refl) (leaves_same vs id v w at refl refl) (halts_memory vs id v w at refl refl) in
-      (w, keeps, tt, keep o s id 2 n c v w kept at some_part refl refl refl (kept.fits id v at).splits is, refl)
+      (w, keeps, tt, keep o s id 16 n c v w kept at some_part refl refl refl (kept.fits id v at).splits is, refl)
 
 -- a share is cut off
 pub cuts_off : {S : Type 0} (o : Opening) (id : ℕ) (v : Count) → 1 < v.parts → Splits {S = S} (Kept o) id v (less_a_part v) (cut_off v)

@@ -22,8 +22,8 @@ sum_set f (x ∷ xs) (suc i) v w at =
 pub sum_same : (f : Count → ℕ) (vs : List Count) (i : ℕ) (v w : Count) → get_elem? vs i ≡ some v → f w ≡ f v → sum_by f (set vs i w) ≡ sum_by f vs
 sum_same f vs i v w at same = let changed = sum_set f vs i v w at in omega arith
 
-pub sum_more : (f : Count → ℕ) (vs : List Count) (i : ℕ) (v w : Count) → get_elem? vs i ≡ some v → f w ≡ f v + 1 → sum_by f (set vs i w) ≡ sum_by f vs + 1
-sum_more f vs i v w at more = let changed = sum_set f vs i v w at in omega arith
+pub sum_more : (f : Count → ℕ) (vs : List Count) (i : ℕ) (v w : Count) (k : ℕ) → get_elem? vs i ≡ some v → f w ≡ f v + k → sum_by f (set vs i w) ≡ sum_by f vs + k
+sum_more f vs i v w k at more = let changed = sum_set f vs i v w at in omega arith
 
 pub at_most_sum : (f : Count → ℕ) (vs : List Count) (i : ℕ) (v : Count) → f nobody ≡ 0 → get_elem? vs i ≡ some v → f v ≤ sum_by f vs
 at_most_sum f vs i v none at = let without = sum_set f vs i v nobody at in omega arith

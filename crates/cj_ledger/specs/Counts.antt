@@ -62,9 +62,9 @@ after_second v leaves = record v { seconds = v.seconds + 1; leaves = told v.leav
 abbrev pub after_split : Count → ℕ → Count
 after_split v leaves = after_second (after_first v) leaves
 
--- after a close
-abbrev pub after_close : Count → Count
-after_close v = record v { closes = v.closes + 1 }
+-- after so many cells were closed
+abbrev pub after_closes : Count → ℕ → Count
+after_closes v cells = record v { closes = v.closes + cells }
 
 -- after a cause to stop was set
 abbrev pub after_halt : Why → Count → Count

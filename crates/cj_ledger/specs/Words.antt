@@ -1,5 +1,5 @@
 -- What the words of a ledger are, from what its shares have counted.
-use Rattle.std.specs.Prelude.{◌≡◌, ℕ, ◌+◌, ◌-◌, ◌*◌, ◌%◌, ◌^◌, ◌<◌, ◌≤◌, zero, suc, List, [], ◌∷◌, Option, Some, None, nat_lt, bit_and, if◌then◌else◌}
+use Rattle.std.specs.Prelude.{◌≡◌, ℕ, ◌+◌, ◌-◌, ◌*◌, ◌%◌, ◌^◌, ◌<◌, ◌≤◌, zero, suc, List, [], ◌∷◌, ◌++◌, Option, Some, None, nat_lt, bit_and, if◌then◌else◌}
 use Rattle.std.specs.List.{sum_by}
 use mathlib.Core.Option.{some}
 use lib.ListN.{get_elem?}
@@ -43,9 +43,17 @@ leaves_of vs = leaves_from (sum_by (λ v. v.roots) vs) (sum_by (λ v. v.seconds)
 abbrev pub halts_of : List Count → ℕ
 halts_of vs = halts_from (sum_by (λ v. v.cells) vs) (sum_by (λ v. v.memory) vs)
 
--- their three words
+-- the words between two that count, which fill a cache line
+abbrev pub unused : List ℕ
+unused = 0 ∷ 0 ∷ 0 ∷ 0 ∷ 0 ∷ 0 ∷ 0 ∷ []
+
+-- the words of a ledger, where its live cells, its leaves and its halt bits are these
+abbrev pub laid : ℕ → ℕ → ℕ → List ℕ
+laid live leaves halts = live ∷ (unused ++ leaves ∷ (unused ++ halts ∷ []))
+
+-- their words
 abbrev pub words_of : List Count → List ℕ
-words_of vs = live_of vs ∷ leaves_of vs ∷ halts_of vs ∷ []
+words_of vs = laid (live_of vs) (leaves_of vs) (halts_of vs)
 
 -- a share without parts has counted nothing; each other knows how the ledger was opened, and is in one split at most
 pub record Fits (opening : Opening) (v : Count) : Type 0 where

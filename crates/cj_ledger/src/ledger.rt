@@ -1,10 +1,12 @@
 ghost use Rattle.std.specs.Prelude.{◌≡◌, ◌+◌, ◌<◌, IfNone};
-ghost use Rattle.cj_ledger.specs.Counts.{told_live, told_halts, after_split, after_close, after_halt};
+ghost use Rattle.cj_ledger.specs.Counts.{told_live, told_halts, after_split, after_closes, after_halt};
 ghost use Rattle.cj_ledger.specs.Shares.{IsOf};
 ghost use Rattle.cj_ledger.specs.Words.{why_of};
 
 use crate::count::{Count, Opening};
-use crate::plays::{AddsLeaf, AddsLive, Closes, LoadsHalts, LoadsLive, SetsCells, SetsMemory};
+use crate::plays::{
+    AddsLeaf, AddsLive, Closes, ClosesAndSplits, LoadsHalts, LoadsLive, SetsCells, SetsMemory,
+};
 use crate::rule::WordsAreSums;
 use crate::words::{CELLS, HALTS, LEAVES, LIVE, MEMORY};
 use crate::{Share, Why};
@@ -27,7 +29,7 @@ impl Model for Ledger {
 
     ghost view = { λ l. record { id = l.table.shared.table_id; opening = l.opening } };
 
-    ghost invariant = { λ l. (l.table.shared.key ≡ l.opening) × (l.table.shared.table_id.words ≡ 3) × (0 < l.opening.shares) };
+    ghost invariant = { λ l. (l.table.shared.key ≡ l.opening) × (l.table.shared.table_id.words ≡ 17) × (0 < l.opening.shares) };
 }
 
 impl Ledger {
@@ -44,15 +46,28 @@ impl Ledger {
             .wrapping_add(1)
     }
 
-    /// Counts a cell that became a leaf: one live cell less.
-    pub fn close(&self, share: &mut Share)
+    /// Counts a cell that became a leaf before, and one that is halved now, in one step: so many live cells as before, and one leaf
+    /// more. Answers the number of leaves.
+    pub fn close_and_split(&self, share: &mut Share) -> u64
         requires { IsOf self.now share.old }
         ensures ledger { share.new.ledger ≡ share.old.ledger }
-        ensures count { share.new.count ≡ after_close share.old.count }
+        ensures count { share.new.count ≡ after_split (after_closes share.old.count 1) result }
     {
         self.table
             .shared
-            .fetch_sub::<Closes>(&mut share.seat, LIVE, 1);
+            .fetch_add::<ClosesAndSplits>(&mut share.seat, LEAVES, 1)
+            .wrapping_add(1)
+    }
+
+    /// Counts so many cells that became leaves: so many live cells less.
+    pub fn close(&self, share: &mut Share, cells: u64)
+        requires { IsOf self.now share.old }
+        ensures ledger { share.new.ledger ≡ share.old.ledger }
+        ensures count { share.new.count ≡ after_closes share.old.count cells }
+    {
+        self.table
+            .shared
+            .fetch_sub::<Closes>(&mut share.seat, LIVE, cells);
     }
 
     /// The number of live cells at a step of this call.

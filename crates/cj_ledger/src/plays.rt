@@ -55,14 +55,24 @@ impl<S> Play<S, Count> for AddsLeaf {
     ghost then = { λ step before found after. after ≡ (after_second before.0 ((found + 1) % 2 ^ 64), before.1) };
 }
 
-/// One live cell less.
+/// Both steps of a split and a close, which leave the live cells as they are: one leaf more, and their new number is told.
+pub struct ClosesAndSplits;
+
+impl<S> Play<S, Count> for ClosesAndSplits {
+    ghost use Rattle.std.specs.Prelude.{◌≡◌, ◌+◌, ◌%◌, ◌^◌};
+    ghost use Rattle.cj_ledger.specs.Counts.{after_split, after_closes};
+
+    ghost then = { λ step before found after. after ≡ (after_split (after_closes before.0 1) ((found + 1) % 2 ^ 64), before.1) };
+}
+
+/// So many live cells less.
 pub struct Closes;
 
 impl<S> Play<S, Count> for Closes {
     ghost use Rattle.std.specs.Prelude.{◌≡◌};
-    ghost use Rattle.cj_ledger.specs.Counts.{after_close};
+    ghost use Rattle.cj_ledger.specs.Counts.{after_closes};
 
-    ghost then = { λ step before found after. after ≡ (after_close before.0, before.1) };
+    ghost then = { λ step before found after. after ≡ (after_closes before.0 step.first, before.1) };
 }
 
 /// The bit of `Why::Cells` is set.

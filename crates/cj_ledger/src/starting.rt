@@ -5,6 +5,7 @@ ghost use Rattle.cj_ledger.specs.Shares.{IsNew, IsOf};
 
 use crate::count::{Count, Opening};
 use crate::rule::CutsOff;
+use crate::words::{LEAVES, LIVE, WORDS};
 use crate::{Ledger, Share};
 use atomic_table::{Seat, Table};
 use std::alloc::{AllocError, Global};
@@ -59,7 +60,10 @@ impl Ledger {
             roots,
             shares: u64::from(shares),
         };
-        let (table, seat) = Table::of_words(alloc, &[roots, roots, 0], &opening)?;
+        let mut words = [0; WORDS];
+        words[LIVE] = roots;
+        words[LEAVES] = roots;
+        let (table, seat) = Table::of_words(alloc, &words, &opening)?;
         let ledger = Ledger { table, opening };
         let made = ledger.shares_of(alloc, seat, shares)?;
         Ok((ledger, made))

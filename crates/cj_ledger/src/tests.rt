@@ -11,7 +11,8 @@ use std::thread::{Threads, join};
 #[derive(Clone, Copy)]
 enum Call {
     Split,
-    Close,
+    CloseAndSplit,
+    Close(u64),
     Live,
     Halt(Why),
     Halted,
@@ -27,7 +28,7 @@ enum Answer {
 
 use crate::why::Why::{Cells, Memory};
 use Answer::{Cause, Nothing, Number};
-use Call::{Close, Halt, Halted, Live, Split};
+use Call::{Close, CloseAndSplit, Halt, Halted, Live, Split};
 
 /// Which share is asked what, and what it is answered.
 type Line = (usize, Call, Answer);
@@ -38,8 +39,9 @@ fn asked(ledger: &Ledger, share: &mut Share, call: Call) -> Answer
 {
     match call {
         Split => Number(ledger.split(share)),
-        Close => {
-            ledger.close(share);
+        CloseAndSplit => Number(ledger.close_and_split(share)),
+        Close(cells) => {
+            ledger.close(share, cells);
             Nothing
         }
         Live => Number(ledger.live(share)),
@@ -74,8 +76,8 @@ const ALONE: [Line; 7] = [
     (0, Live, Number(3)),
     (0, Split, Number(4)),
     (0, Live, Number(4)),
-    (0, Close, Nothing),
-    (0, Close, Nothing),
+    (0, Close(1), Nothing),
+    (0, Close(1), Nothing),
     (0, Live, Number(2)),
     (0, Halted, Cause(None)),
 ];
@@ -84,8 +86,8 @@ const ALONE: [Line; 7] = [
 const TWO_AND_ONE_ROOT: [Line; 5] = [
     (0, Split, Number(2)),
     (1, Live, Number(2)),
-    (0, Close, Nothing),
-    (1, Close, Nothing),
+    (0, Close(1), Nothing),
+    (1, Close(1), Nothing),
     (1, Live, Number(0)),
 ];
 
@@ -109,18 +111,29 @@ const STOPPED_BY_CELLS_AND_MEMORY: [Line; 4] = [
 const THREE_IN_TURN: [Line; 9] = [
     (2, Split, Number(11)),
     (0, Split, Number(12)),
-    (1, Close, Nothing),
+    (1, Close(1), Nothing),
     (2, Split, Number(13)),
     (1, Live, Number(12)),
-    (0, Close, Nothing),
-    (0, Close, Nothing),
-    (2, Close, Nothing),
+    (0, Close(1), Nothing),
+    (0, Close(1), Nothing),
+    (2, Close(1), Nothing),
     (1, Live, Number(9)),
+];
+
+/// A close that is counted with the next split, and two that are counted together. No closes change nothing.
+const CLOSES_KEPT_BACK: [Line; 7] = [
+    (0, Split, Number(2)),
+    (0, CloseAndSplit, Number(3)),
+    (1, Live, Number(2)),
+    (0, Close(2), Nothing),
+    (1, Live, Number(0)),
+    (0, Close(0), Nothing),
+    (1, Live, Number(0)),
 ];
 
 /// The numbers are taken modulo 2^64.
 const BELOW_NONE: [Line; 4] = [
-    (0, Close, Nothing),
+    (0, Close(1), Nothing),
     (1, Live, Number(u64::MAX)),
     (1, Split, Number(1)),
     (0, Live, Number(0)),
@@ -142,12 +155,13 @@ fn counted(roots: u64, splits: u64, closes: u64) -> Totals {
 
 #[test]
 fn shares_follow_scripts(rt: HostRuntime) -> Result<(), Fail> {
-    let scripts: [(u64, u32, &[Line], Totals); 7] = [
+    let scripts: [(u64, u32, &[Line], Totals); 8] = [
         (3, 1, &ALONE, counted(3, 1, 2)),
         (1, 2, &TWO_AND_ONE_ROOT, counted(1, 1, 2)),
         (5, 2, &STOPPED_BY_MEMORY_AND_CELLS, counted(5, 0, 0)),
         (5, 2, &STOPPED_BY_CELLS_AND_MEMORY, counted(5, 0, 0)),
         (10, 16, &THREE_IN_TURN, counted(10, 3, 4)),
+        (1, 2, &CLOSES_KEPT_BACK, counted(1, 2, 3)),
         (0, 2, &BELOW_NONE, counted(0, 1, 1)),
         (u64::MAX, 1, &BEYOND_ALL, counted(u64::MAX, 2, 0)),
     ];
@@ -158,14 +172,15 @@ fn shares_follow_scripts(rt: HostRuntime) -> Result<(), Fail> {
     Ok(())
 }
 
-/// Splits and closes so many times.
+/// Splits and closes so many times, in two calls and in one.
 fn work(ledger: &Ledger, mut share: Share, times: u64) -> Share
     requires { IsOf ledger.now share }
     ensures { IsOf ledger.now result }
 {
     for _ in 0..times {
         ledger.split(&mut share);
-        ledger.close(&mut share);
+        ledger.close_and_split(&mut share);
+        ledger.close(&mut share, 1);
     }
     share
 }
@@ -203,6 +218,6 @@ fn two_threads_count_beside_each_other(rt: HostRuntime) -> Result<(), Fail> {
     let second = shares.pop().unwrap();
     let first = shares.pop().unwrap();
     let totals = totals_of_two_threads(&rt, ledger, shares, first, second)?;
-    assert_eq!(rt; totals, counted(3, 150_000, 150_000));
+    assert_eq!(rt; totals, counted(3, 300_000, 300_000));
     Ok(())
 }

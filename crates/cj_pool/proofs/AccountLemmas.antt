@@ -41,7 +41,7 @@ module _ (case : PlainProblem) (roots : List Cell) (n : ℕ) (old new : HandSeen
   opening_is = same.opening ∙ a.opening ∙ ap (λ (k : ℕ). roots_dealt roots n k) (sym same.number)
 
   -- no cell was touched
-  pub same_accounts : SameCells old new → new.share.count.closes ≡ old.share.count.closes → new.share.count.firsts ≡ old.share.count.firsts → Accounts case roots n new
+  pub same_accounts : SameCells old new → new.share.count.closes + new.uncounted ≡ old.share.count.closes + old.uncounted → new.share.count.firsts ≡ old.share.count.firsts → Accounts case roots n new
   same_accounts cells closes firsts = record {
     roots_are = a.roots_are;
     number = omega (arith, a.number, same.number);
@@ -59,7 +59,7 @@ module _ (case : PlainProblem) (roots : List Cell) (n : ℕ) (old new : HandSeen
 
   -- the leaves were put in another order
   pub sorted_accounts : IsPermutation old.closed new.closed → new.taken ≡ old.taken → new.pushed ≡ old.pushed → new.kept ≡ old.kept
-      → new.share.count.closes ≡ old.share.count.closes → new.share.count.firsts ≡ old.share.count.firsts → Accounts case roots n new
+      → new.share.count.closes + new.uncounted ≡ old.share.count.closes + old.uncounted → new.share.count.firsts ≡ old.share.count.firsts → Accounts case roots n new
   sorted_accounts moved taken pushed kept closes firsts =
       let long = length_permutation old.closed new.closed moved in
       record {
@@ -80,7 +80,7 @@ module _ (case : PlainProblem) (roots : List Cell) (n : ℕ) (old new : HandSeen
       }
 
   -- a cell became a leaf
-  pub closed_accounts : (m : MadeLeaf case old new) → IsLeafOf case roots m.leaf → All (InTree case roots) new.kept → Narrow 26 new.kept → new.share.count.closes ≡ old.share.count.closes + 1 → new.share.count.firsts ≡ old.share.count.firsts
+  pub closed_accounts : (m : MadeLeaf case old new) → IsLeafOf case roots m.leaf → All (InTree case roots) new.kept → Narrow 26 new.kept → new.share.count.closes + new.uncounted ≡ old.share.count.closes + old.uncounted + 1 → new.share.count.firsts ≡ old.share.count.firsts
       → Accounts case roots n new
   closed_accounts m is tree narrow closes firsts =
       let leaf = m.leaf in
@@ -109,7 +109,7 @@ module _ (case : PlainProblem) (roots : List Cell) (n : ℕ) (old new : HandSeen
       }
 
   -- a cell was halved, and a half was pushed
-  pub split_accounts : (m : MadeHalves case old new) → IsKept case m.cell → All (InTree case roots) new.kept → Narrow 26 new.kept → new.share.count.closes ≡ old.share.count.closes → new.share.count.firsts ≡ old.share.count.firsts + 1
+  pub split_accounts : (m : MadeHalves case old new) → IsKept case m.cell → All (InTree case roots) new.kept → Narrow 26 new.kept → new.share.count.closes + new.uncounted ≡ old.share.count.closes + old.uncounted → new.share.count.firsts ≡ old.share.count.firsts + 1
       → Accounts case roots n new
   split_accounts m keeps tree narrow closes firsts =
       let same_closed : length new.closed ≡ length old.closed = ap length m.closed in
@@ -138,7 +138,7 @@ module _ (case : PlainProblem) (roots : List Cell) (n : ℕ) (old new : HandSeen
       }
 
   -- a cell was halved, and both halves are kept
-  pub kept_accounts : (m : KeptBoth case old new) → IsKept case m.cell → All (InTree case roots) new.kept → Narrow 26 new.kept → new.share.count.closes ≡ old.share.count.closes → new.share.count.firsts ≡ old.share.count.firsts + 1
+  pub kept_accounts : (m : KeptBoth case old new) → IsKept case m.cell → All (InTree case roots) new.kept → Narrow 26 new.kept → new.share.count.closes + new.uncounted ≡ old.share.count.closes + old.uncounted → new.share.count.firsts ≡ old.share.count.firsts + 1
       → Accounts case roots n new
   kept_accounts m keeps tree narrow closes firsts =
       let same_closed : length new.closed ≡ length old.closed = ap length m.closed in

@@ -21,7 +21,7 @@ use Rattle.cj_bezier.specs.RootLeaves.{leaves_of_root, leaves_of_roots, Describe
 use Rattle.cj_ledger.specs.Shares.{LedgerSeen, ShareSeen, IsOf}
 use Rattle.cj_ledger.specs.declared.totals.Totals.{Totals}
 use Rattle.cj_pool.specs.declared.refined.FinishError.{FinishError}
-use Rattle.cj_pool.specs.Hands.{RefinerySeen, HandSeen, Accounts, IsHandOf, cells_of}
+use Rattle.cj_pool.specs.Hands.{RefinerySeen, HandSeen, Accounts, IsHandOf, cells_of, settled_share}
 use Rattle.cj_hermite.specs.Lengths.{HaveLengths}
 use Rattle.cj_pool.specs.Refined.{AreAll, AreLeft, AreOpen, IsOfRun, IsSound, IsTooMany, Stands, TotalsOf, leaves_in, leaves_wanted, numbers_of}
 use Rattle.cj_pool.specs.RootLists.{IsKept, AreRoots}
@@ -106,27 +106,27 @@ module _ (r : RefinerySeen) (hands : List HandSeen) (cells : List Cell) (are : A
       open_splits (plain_problem r.problem) r.roots r.hands hands cells s.some
       (each_from_All (Accounts (plain_problem r.problem) r.roots r.hands) hands are.accounts) are.numbers are.open_cells
 
-  closings : weigh (λ h. h.share.count.closes) hands ≡ length (leaves_in hands)
+  closings : weigh (λ h. h.share.count.closes + h.uncounted) hands ≡ length (leaves_in hands)
   closings =
       let s = are.sound in
       open_closes (plain_problem r.problem) r.roots r.hands hands cells s.some
       (each_from_All (Accounts (plain_problem r.problem) r.roots r.hands) hands are.accounts) are.numbers are.open_cells
 
   -- as many hands as the refinery has
-  pub all_shares : (shares : List ShareSeen) → shares ≡ map (λ (h : HandSeen). h.share) hands → length shares ≡ r.hands
-  all_shares shares same = ap length same ∙ length-map hands (λ (h : HandSeen). h.share) ∙ sym (length-map hands (λ (h : HandSeen). h.number))
+  pub all_shares : (shares : List ShareSeen) → shares ≡ map settled_share hands → length shares ≡ r.hands
+  all_shares shares same = ap length same ∙ length-map hands settled_share ∙ sym (length-map hands (λ (h : HandSeen). h.number))
       ∙ ap length are.numbers ∙ length-range_with_len 0 r.hands
 
   -- ---- what the shares of all hands count, once the leaves are found and sorted
 
-  module _ (shares : List ShareSeen) (same : shares ≡ map (λ (h : HandSeen). h.share) hands) (sorted : List Leaf)
+  module _ (shares : List ShareSeen) (same : shares ≡ map settled_share hands) (sorted : List Leaf)
       (moved : IsPermutation (plain_leaves (leaves_in hands) ++ leaves_of_roots (plain_problem r.problem) (plain_cells cells)) (plain_leaves sorted))
       (within : length sorted ≤ r.limit) where
     firsts_are : sum_by (λ (s : ShareSeen). s.count.firsts) shares + length r.roots ≡ length (leaves_in hands) + length cells
-    firsts_are = let e = share_sum (λ (s : ShareSeen). s.count.firsts) hands shares (sym same) in let h = halvings in omega (arith, e, h)
+    firsts_are = let e = share_sum settled_share (λ (s : ShareSeen). s.count.firsts) hands shares (sym same) in let h = halvings in omega (arith, e, h)
 
     closes_are : sum_by (λ (s : ShareSeen). s.count.closes) shares ≡ length (leaves_in hands)
-    closes_are = sym (share_sum (λ (s : ShareSeen). s.count.closes) hands shares (sym same)) ∙ closings
+    closes_are = sym (share_sum settled_share (λ (s : ShareSeen). s.count.closes) hands shares (sym same)) ∙ closings
 
     pub sorted_length : length sorted ≡ length (leaves_in hands) + leaves_left
     sorted_length = omega (
@@ -196,6 +196,6 @@ run_all problem roots n r hands cells is sound accounts numbers open_cells trees
 }
 
 -- the shares of all hands are of the refinery's ledger
-pub all_mine : (r : RefinerySeen) (hands : List HandSeen) → All (IsHandOf r) hands → All (IsOf r.ledger) (map (λ (h : HandSeen). h.share) hands)
-all_mine r hands are = All-map (IsOf r.ledger) (λ (h : HandSeen). h.share) hands
+pub all_mine : (r : RefinerySeen) (hands : List HandSeen) → All (IsHandOf r) hands → All (IsOf r.ledger) (map settled_share hands)
+all_mine r hands are = All-map (IsOf r.ledger) settled_share hands
     (All-weaker (IsHandOf r) (λ (h : HandSeen). IsOf r.ledger h.share) (λ h is. is.1) hands are)

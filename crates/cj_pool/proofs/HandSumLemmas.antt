@@ -73,7 +73,7 @@ module _ (case : PlainProblem) (roots : List Cell) (n : ℕ) where
       some
 
   -- what the shares of hands count
-  all_closes : (hands : List HandSeen) → Each (Accounts case roots n) hands → weigh (λ h. h.share.count.closes) hands ≡ length (leaves_in hands)
+  all_closes : (hands : List HandSeen) → Each (Accounts case roots n) hands → weigh (λ h. h.share.count.closes + h.uncounted) hands ≡ length (leaves_in hands)
   all_closes [] each = refl
   all_closes (h ∷ hands) each =
       let account = each.0 in
@@ -137,7 +137,7 @@ module _ (case : PlainProblem) (roots : List Cell) (n : ℕ) (hands : List HandS
       let whole = ap length open_cells in
       omega (arith, q, f, whole, weigh_one roots, weigh_one (left_of hands cells), length-append (kept_in hands) (left_of hands cells))
 
-  pub open_closes : weigh (λ h. h.share.count.closes) hands ≡ length (leaves_in hands)
+  pub open_closes : weigh (λ h. h.share.count.closes + h.uncounted) hands ≡ length (leaves_in hands)
   open_closes = all_closes case roots n hands accounts
 
 -- no cell was lost or made twice

@@ -66,9 +66,9 @@ sum_is f [] = refl
 sum_is f (x ∷ xs) = sum_by-cons f x xs ∙ ap (λ n. f x + n) (sum_is f xs)
 
 -- the sum over the shares of hands
-pub share_sum : (f : ShareSeen → ℕ) (hands : List HandSeen) (shares : List ShareSeen) → map (λ (h : HandSeen). h.share) hands ≡ shares →
-    weigh (λ h. f h.share) hands ≡ sum_by f shares
-share_sum f hands shares is = sym (weigh_map (λ (h : HandSeen). h.share) f hands) ∙ ap (weigh f) is ∙ sym (sum_is f shares)
+pub share_sum : (share_of : HandSeen → ShareSeen) (f : ShareSeen → ℕ) (hands : List HandSeen) (shares : List ShareSeen) → map share_of hands ≡ shares →
+    weigh (λ h. f (share_of h)) hands ≡ sum_by f shares
+share_sum share_of f hands shares is = sym (weigh_map share_of f hands) ∙ ap (weigh f) is ∙ sym (sum_is f shares)
 
 -- a share that made no step tells how the ledger was opened
 pub fresh_itself : (c : Count) (o : _) → c ≡ fresh o c.roots → c ≡ fresh c.opening c.roots
@@ -128,7 +128,7 @@ module _ {K : Type 0} where
     module _ (case : PlainProblem) (roots : List Cell) (problem : Problem) (kept : List Cell) (leaves : List Leaf) (share : ShareSeen) (no_kept : kept ≡ []) (no_leaves : leaves ≡ []) (unused : IsUnused s) where
       abbrev seen : HandSeen
       seen = hand_seen s.number problem (deques s.below.items) (worker_deque s.own) (deques s.above.items) (takens s.below.items) (worker_view s.own)
-          (takens s.above.items) kept leaves share 0
+          (takens s.above.items) kept leaves share 0 0
 
       pub seated_accounts : AreRoots case roots → (worker_view s.own).opening ≡ roots_dealt roots n j →
           share.count ≡ fresh share.count.opening share.count.roots → Accounts case roots n seen

@@ -14,7 +14,7 @@ use Rattle.cj_bezier.specs.declared.cell.Cell.{Cell}
 use Rattle.cj_bezier.specs.declared.leaf.Leaf.{Leaf}
 use Rattle.cj_ledger.specs.Shares.{ShareSeen}
 use Rattle.cj_pool.specs.declared.station.Station.{Station}
-use Rattle.cj_pool.specs.Hands.{RefinerySeen, HandSeen, Accounts, IsHandOf, hand_seen}
+use Rattle.cj_pool.specs.Hands.{RefinerySeen, HandSeen, Accounts, IsHandOf, hand_seen, settled_share}
 use Rattle.cj_pool.specs.Passes.{deques, takens, around, AreReady, IsSeated}
 use Rattle.cj_pool.specs.Refined.{kept_in, leaves_in, numbers_of}
 use Rattle.cj_pool.specs.Stations.{own_deque, own_deques, station_taken, IsStation, IsStationOf, AreStations, weigh_given, weigh_all_taken}
@@ -43,12 +43,12 @@ middle_at [] x above n len = let e : n ≡ 0 = sym len in rw e refl
 middle_at (y ∷ below) x above n len = let e : n ≡ suc (length below) = sym len in rw e (middle_at below x above (length below) refl)
 
 module _ {K : Type 0} where
-  pub station_of : (n : ℕ) (s : Station K) (problem : Problem) (kept : List Cell) (leaves : List Leaf) (share : ShareSeen) (wants : ℕ) →
+  pub station_of : (n : ℕ) (s : Station K) (problem : Problem) (kept : List Cell) (leaves : List Leaf) (share : ShareSeen) (uncounted wants : ℕ) →
       AreReady s.below.items → AreReady s.above.items → IsSeated n s.own → length s.below.items ≡ s.number →
       length (around (deques s.below.items) (worker_deque s.own) (deques s.above.items)) ≡ n →
       IsStationOf n (hand_seen s.number problem (deques s.below.items) (worker_deque s.own) (deques s.above.items) (takens s.below.items)
-      (worker_view s.own) (takens s.above.items) kept leaves share wants) s
-  station_of n s problem kept leaves share wants below above seated number len =
+      (worker_view s.own) (takens s.above.items) kept leaves share uncounted wants) s
+  station_of n s problem kept leaves share uncounted wants below above seated number len =
       let ds = around (deques s.below.items) (worker_deque s.own) (deques s.above.items) in
       let count : length (deques s.below.items) ≡ s.number = length-map s.below.items _ ∙ number in
       record {
@@ -80,7 +80,7 @@ module _ {K : Type 0} where
     pub given : (w : Cell → ℕ) →
         weigh_given w stations + weigh (λ h. weigh w h.opening + weigh w h.pushed) rest ≡ weigh (λ h. weigh w h.opening + weigh w h.pushed) all
     pub taken : (w : Cell → ℕ) → weigh_all_taken w stations + all_taken w rest ≡ all_taken w all
-    pub shares_are : shares ++ map (λ (h : HandSeen). h.share) rest ≡ map (λ (h : HandSeen). h.share) all
+    pub shares_are : shares ++ map settled_share rest ≡ map settled_share all
     pub leaves_are : leaves ++ leaves_in rest ≡ leaves_in all
     pub kept_are : kept ++ kept_in rest ≡ kept_in all
     pub accounts : All (Accounts case roots n) rest → All (Accounts case roots n) all
@@ -116,7 +116,7 @@ module _ {K : Type 0} where
       →
       AreTaken case roots n r all rest stations shares leaves kept → rest ≡ h ∷ rest' → stations' ≡ stations ++ s ∷ [] → IsStationOf n h s → Accounts
       case roots n h →
-      shares' ≡ shares ++ h.share ∷ [] → leaves' ≡ leaves ++ h.closed → kept' ≡ kept ++ h.kept → AreTaken case roots n r all rest' stations' shares'
+      shares' ≡ shares ++ settled_share h ∷ [] → leaves' ≡ leaves ++ h.closed → kept' ≡ kept ++ h.kept → AreTaken case roots n r all rest' stations' shares'
       leaves' kept'
   taken_step case roots n r all rest h rest' stations stations' shares shares' leaves leaves' kept kept' s are first more is account more_shares
       more_leaves more_kept =
@@ -159,9 +159,9 @@ module _ {K : Type 0} where
             let b = ap (weigh_all_taken w) more in
             let t = ap (weigh (weigh w)) is.taken in
             omega (arith, before, a, b, t, weigh_snoc (λ (x : Station K). weigh (weigh w) (station_taken x)) stations s);
-        shares_are = ap (λ xs. xs ++ map (λ (x : HandSeen). x.share) rest') more_shares ∙ next_list shares (h.share ∷ [])
-            (map (λ (x : HandSeen). x.share) rest') (map (λ (x : HandSeen). x.share) all)
-            (ap (λ hs. shares ++ map (λ (x : HandSeen). x.share) hs) (sym first) ∙ are.shares_are);
+        shares_are = ap (λ xs. xs ++ map settled_share rest') more_shares ∙ next_list shares (settled_share h ∷ [])
+            (map settled_share rest') (map settled_share all)
+            (ap (λ hs. shares ++ map settled_share hs) (sym first) ∙ are.shares_are);
         leaves_are = ap (λ xs. xs ++ leaves_in rest') more_leaves ∙ next_list leaves h.closed (leaves_in rest') (leaves_in all)
             (ap (λ hs. leaves ++ leaves_in hs) (sym first) ∙ are.leaves_are);
         kept_are = ap (λ xs. xs ++ kept_in rest') more_kept ∙ next_list kept h.kept (kept_in rest') (kept_in all)

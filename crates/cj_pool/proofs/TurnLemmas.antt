@@ -100,13 +100,13 @@ both_of case old old' new same made = subst (λ (h : HandSeen). Wanted case h ne
 
 -- a turn that found no cell tells the end where none is live
 pub without_of : (case : PlainProblem) (r : RefinerySeen) (old old' new : HandSeen) (live : ℕ) (t : Turn) → old' ≡ old → (live ≡ 0 → t ≡ Done) → (0 < live → t ≡ Idle live)
-    → SameCells old' new → old'.kept ≡ [] → Heard live old' new → (r.hands ≡ 1 → (w : Cell → ℕ) → weigh w new.opening + weigh w new.pushed ≡ weigh (weigh w) new.taken)
+    → SameCells old' new → old'.kept ≡ [] → new.uncounted ≡ 0 → Heard live old' new → (r.hands ≡ 1 → (w : Cell → ℕ) → weigh w new.opening + weigh w new.pushed ≡ weigh (weigh w) new.taken)
     → Made case r old new t
-without_of case r old old' new zero t same done idle cells held heard alone =
-    subst (Made case r old new) (sym (done refl)) (subst (λ (h : HandSeen). FoundEnd h new) same (record { same = cells; heard = heard }))
-without_of case r old old' new (suc n) t same done idle cells held heard alone =
+without_of case r old old' new zero t same done idle cells held counted heard alone =
+    subst (Made case r old new) (sym (done refl)) (subst (λ (h : HandSeen). FoundEnd h new) same (record { same = cells; counted = counted; heard = heard }))
+without_of case r old old' new (suc n) t same done idle cells held counted heard alone =
     subst (Made case r old new) (sym (idle (omega arith)))
-    (subst (λ (h : HandSeen). FoundNone r h new (suc n)) same (record { same = cells; held = held; some = omega arith; heard = heard; alone = alone }))
+    (subst (λ (h : HandSeen). FoundNone r h new (suc n)) same (record { same = cells; held = held; counted = counted; some = omega arith; heard = heard; alone = alone }))
 
 -- the hand stays what it is, as it was seen before
 pub still_of : (r : RefinerySeen) (old old' new : HandSeen) → old' ≡ old → IsHandOf r old → new.deques ≡ old'.deques → IsOf r.ledger new.share → SameHand old' new

@@ -6,6 +6,7 @@ use Rattle.cj_hermite.specs.PlainProblems.{PlainProblem}
 use Rattle.cj_hermite.specs.declared.problem.Problem.{Problem}
 use Rattle.cj_bezier.specs.declared.cell.Cell.{Cell}
 use Rattle.cj_bezier.specs.declared.leaf.Leaf.{Leaf}
+use Rattle.cj_ledger.specs.Counts.{after_closes}
 use Rattle.cj_ledger.specs.Shares.{LedgerSeen, ShareSeen, IsOf, IsNew}
 use Rattle.cj_pool.specs.declared.account.Account.{Account}
 use Rattle.cj_pool.specs.Narrow.{Narrow}
@@ -23,7 +24,8 @@ pub record RefinerySeen : Type 0 where
   pub deques : List (RowsId × Global)
   pub ledger : LedgerSeen
 
--- `opening` are the roots that its deque began with, and `taken` the cells that it took from each deque, by the deque's number
+-- `opening` are the roots that its deque began with, and `taken` the cells that it took from each deque, by the deque's number;
+-- `uncounted` is how many of its leaves its share has not counted yet
 pub record HandSeen : Type 0 where
   pub number : ℕ
   pub problem : Problem
@@ -34,12 +36,13 @@ pub record HandSeen : Type 0 where
   pub kept : List Cell
   pub closed : List Leaf
   pub share : ShareSeen
+  pub uncounted : ℕ
   pub wants : ℕ
 
 -- what a hand has by the account of its own deque, and by the passes below and above it
 abbrev pub hand_seen : ℕ → Problem → List (RowsId × Global) → RowsId × Global → List (RowsId × Global) → List (List Cell) → Account →
-    List (List Cell) → List Cell → List Leaf → ShareSeen → ℕ → HandSeen
-hand_seen number problem below own above taken_below account taken_above kept closed share wants = record {
+    List (List Cell) → List Cell → List Leaf → ShareSeen → ℕ → ℕ → HandSeen
+hand_seen number problem below own above taken_below account taken_above kept closed share uncounted wants = record {
   number = number;
   problem = problem;
   deques = around below own above;
@@ -49,6 +52,7 @@ hand_seen number problem below own above taken_below account taken_above kept cl
   kept = kept;
   closed = closed;
   share = share;
+  uncounted = uncounted;
   wants = wants;
 }
 
@@ -70,7 +74,7 @@ cells_of leaves = map (λ leaf. leaf.cell) leaves
 abbrev pub roots_dealt : List Cell → ℕ → ℕ → List Cell
 roots_dealt roots hands number = filter (λ c. nat_eq (c.root % hands) number) roots
 
--- The account of a hand, of so many: what it took is what it closed, pushed and keeps.
+-- The account of a hand, of so many: what it took is what it closed, pushed and keeps. Its leaves are counted, or are to be counted.
 pub record Accounts (case : PlainProblem) (roots : List Cell) (n : ℕ) (h : HandSeen) : Type 0 where
   pub roots_are : AreRoots case roots
   pub number : h.number < n
@@ -80,10 +84,14 @@ pub record Accounts (case : PlainProblem) (roots : List Cell) (n : ℕ) (h : Han
   pub balanced : (w : Cell → ℕ) → IsShared case w → weigh (weigh w) h.taken ≡ weigh w (cells_of h.closed) + weigh w h.pushed + weigh w h.kept
   pub tree : All (InTree case roots) h.kept
   pub leaves : All (IsLeafOf case roots) h.closed
-  pub closes : h.share.count.closes ≡ length h.closed
+  pub closes : h.share.count.closes + h.uncounted ≡ length h.closed
   pub splits : h.share.count.firsts + weigh length h.taken ≡ length h.closed + length h.pushed + length h.kept
   pub pushes : length h.pushed ≤ h.share.count.firsts
   pub narrow : Narrow 26 h.kept
+
+-- the share of a hand, once it has counted all of its leaves
+abbrev pub settled_share : HandSeen → ShareSeen
+settled_share h = record { ledger = h.share.ledger; count = after_closes h.share.count h.uncounted }
 
 -- nothing was closed, pushed, kept or taken, and no turn wanted memory
 pub record IsUnstarted (h : HandSeen) : Type 0 where

@@ -67,17 +67,20 @@ pub record KeptBoth (case : PlainProblem) (old new : HandSeen) : Type 0 where
   pub pushed : new.pushed ≡ old.pushed
   pub closed : new.closed ≡ old.closed
 
--- no cell was found, and some are live; a hand that is alone then has taken all that its deque ever had
+-- no cell was found, all leaves of the hand are counted, and some cells are live, or are leaves of others that are not counted yet; a hand
+-- that is alone then has taken all that its deque ever had
 pub record FoundNone (r : RefinerySeen) (old new : HandSeen) (live : ℕ) : Type 0 where
   pub same : SameCells old new
   pub held : old.kept ≡ []
+  pub counted : new.uncounted ≡ 0
   pub some : 0 < live
   pub heard : Heard live old new
   pub alone : r.hands ≡ 1 → (w : Cell → ℕ) → weigh w new.opening + weigh w new.pushed ≡ weigh (weigh w) new.taken
 
--- no cell is live
+-- no cell was found, all leaves of the hand are counted, and no cell is live
 pub record FoundEnd (old new : HandSeen) : Type 0 where
   pub same : SameCells old new
+  pub counted : new.uncounted ≡ 0
   pub heard : Heard 0 old new
 
 -- the hands are to stop, as was told in this turn

@@ -2,7 +2,7 @@
 ghost use Rattle.std.specs.Prelude.{◌≡◌, map, All, IfOk};
 ghost use Rattle.std.specs.List.{range_with_len};
 ghost use Rattle.std.specs.List.Sorted.{IsPermutation};
-ghost use Rattle.cj_pool.specs.Hands.{IsHandOf};
+ghost use Rattle.cj_pool.specs.Hands.{IsHandOf, settled_share};
 ghost use Rattle.cj_pool.specs.Refined.{AreAll, IsOfRun, IsSound, leaves_in, numbers_of};
 
 use crate::hand::Hand;
@@ -40,7 +40,7 @@ impl<'p, K: Run> Refinery<'p, K> {
         requires all { numbers_of hands.items ≡ range_with_len 0 self.now.hands }
         ensures all { IfOk result (λ found. AreAll self.now hands.entry.items found.cells.items) }
         ensures leaves { IfOk result (λ found. IsPermutation (leaves_in hands.entry.items) found.leaves.items) }
-        ensures shares { IfOk result (λ found. found.shares.items ≡ map (λ h. h.share) hands.entry.items) }
+        ensures shares { IfOk result (λ found. found.shares.items ≡ map settled_share hands.entry.items) }
     {
         let parts = take_apart(alloc, self, hands)?;
         let mut cells = parts.kept;

@@ -21,6 +21,8 @@ pub struct Hand<'p, K: Run> {
     pub(crate) kept: ArrayVec<Cell, 32>,
     pub(crate) leaves: Vec<Leaf>,
     pub(crate) share: Share,
+    /// Leaves whose close the ledger was not told yet.
+    pub(crate) uncounted: u64,
     pub(crate) wants: u64,
     pub(crate) of: PhantomData<K>,
 }
@@ -35,12 +37,12 @@ impl<'p, K: Run> Model for Hand<'p, K> {
     ghost Value = { HandSeen };
 
     ghost view = { λ h. hand_seen h.station.number h.looker (deques h.station.below.items) (worker_deque h.station.own) (deques h.station.above.items)
-        (takens h.station.below.items) (worker_view h.station.own) (takens h.station.above.items) h.kept.items h.leaves.items h.share h.wants };
+        (takens h.station.below.items) (worker_view h.station.own) (takens h.station.above.items) h.kept.items h.leaves.items h.share h.uncounted h.wants };
 
     ghost invariant = { λ h. (h.looker ≡ K.problem) × AreReady h.station.below.items × AreReady h.station.above.items
         × IsSeated K.workers h.station.own × (length h.station.below.items ≡ h.station.number)
         × Accounts (plain_problem K.problem) K.roots K.workers (hand_seen h.station.number h.looker (deques h.station.below.items) (worker_deque h.station.own) (deques h.station.above.items)
-        (takens h.station.below.items) (worker_view h.station.own) (takens h.station.above.items) h.kept.items h.leaves.items h.share h.wants) };
+        (takens h.station.below.items) (worker_view h.station.own) (takens h.station.above.items) h.kept.items h.leaves.items h.share h.uncounted h.wants) };
 }
 
 impl<'p, K: Run> Hand<'p, K> {
@@ -56,8 +58,8 @@ impl<'p, K: Run> Hand<'p, K> {
         ensures tree { All (InTree (plain_problem K.problem) K.roots) self.now.kept }
         ensures leaves { All (IsLeafOf (plain_problem K.problem) K.roots) self.now.closed }
 
-        // Its share counts its leaves and its halvings.
-        ensures closes { self.now.share.count.closes ≡ length self.now.closed }
+        // Its share counts its leaves, but for some that it counts later, and its halvings.
+        ensures closes { self.now.share.count.closes + self.now.uncounted ≡ length self.now.closed }
         ensures splits { self.now.share.count.firsts + weigh length self.now.taken
             ≡ length self.now.closed + length self.now.pushed + length self.now.kept }
         ensures pushes { length self.now.pushed ≤ self.now.share.count.firsts }

@@ -50,6 +50,7 @@ pub(crate) fn seat<'p, K: Run>(
             kept: ArrayVec::new(),
             leaves: Vec::new(alloc),
             share,
+            uncounted: 0,
             wants: 0,
             of: PhantomData,
         })?;

@@ -4,7 +4,8 @@ ghost use Rattle.std.specs.Prelude.{◌≡◌, ℕ, ◌+◌, [], ◌∷◌, ◌+
 ghost use Rattle.std.specs.List.{range_with_len};
 ghost use Rattle.cj_bezier.specs.declared.cell.Cell.{Cell};
 ghost use Rattle.cj_hermite.specs.Problems.{plain_problem};
-ghost use Rattle.cj_pool.specs.Hands.{Accounts, IsHandOf};
+ghost use Rattle.cj_ledger.specs.Shares.{IsOf};
+ghost use Rattle.cj_pool.specs.Hands.{Accounts, IsHandOf, settled_share};
 ghost use Rattle.cj_pool.specs.Refined.{in_runs, kept_in, leaves_in, numbers_of};
 ghost use Rattle.cj_pool.specs.Stations.{AreStations, IsStationOf, weigh_all_taken, weigh_given};
 ghost use Rattle.cj_pool.specs.Weights.{weigh};
@@ -14,7 +15,7 @@ use crate::refinery::Refinery;
 use crate::run::Run;
 use crate::station::Station;
 use cj_bezier::{Cell, Leaf};
-use cj_ledger::Share;
+use cj_ledger::{Ledger, Share};
 use std::alloc::{AllocError, Global};
 
 /// What hands are made of.
@@ -28,9 +29,14 @@ pub(crate) struct Parts<K: Run> {
     pub kept: Vec<Cell>,
 }
 
-/// Adds the parts of one hand.
-fn take_one<'p, K: Run>(parts: &mut Parts<K>, hand: Hand<'p, K>) -> Result<(), AllocError>
-    ensures shares { OnOk result (parts.new.shares.items ≡ parts.old.shares.items ++ hand.entry.share ∷ []) }
+/// Adds the parts of one hand, whose share has then counted all of its leaves.
+fn take_one<'p, K: Run>(
+    parts: &mut Parts<K>,
+    ledger: &Ledger,
+    hand: Hand<'p, K>,
+) -> Result<(), AllocError>
+    requires { IsOf ledger.now hand.share }
+    ensures shares { OnOk result (parts.new.shares.items ≡ parts.old.shares.items ++ settled_share hand.entry ∷ []) }
     ensures leaves { OnOk result (in_runs parts.new.runs.items ≡ in_runs parts.old.runs.items ++ hand.entry.closed) }
     ensures kept { OnOk result (parts.new.kept.items ≡ parts.old.kept.items ++ hand.entry.kept) }
     ensures station { OnOk result ((s : Station K) × (parts.new.stations.items ≡ parts.old.stations.items ++ s ∷ [])
@@ -42,10 +48,12 @@ fn take_one<'p, K: Run>(parts: &mut Parts<K>, hand: Hand<'p, K>) -> Result<(), A
         station,
         kept,
         leaves,
-        share,
+        mut share,
+        uncounted,
         wants: _,
         of: _,
     } = hand;
+    ledger.close(&mut share, uncounted);
     parts.stations.push(station)?;
     parts.shares.push(share)?;
     parts.runs.push(leaves)?;
@@ -56,10 +64,10 @@ fn take_one<'p, K: Run>(parts: &mut Parts<K>, hand: Hand<'p, K>) -> Result<(), A
 /// Takes hands apart, in their order.
 pub(crate) fn take_apart<'p, K: Run>(
     alloc: Global,
-    _refinery: &Refinery<'p, K>,
+    refinery: &Refinery<'p, K>,
     mut hands: Vec<Hand<'p, K>>,
 ) -> Result<Parts<K>, AllocError>
-    requires hands { All (IsHandOf _refinery.now) hands.items }
+    requires hands { All (IsHandOf refinery.now) hands.items }
     requires all { numbers_of hands.items ≡ range_with_len 0 K.workers }
 
     // The stations are those of all hands, with what was given to them and what they have taken.
@@ -70,8 +78,8 @@ pub(crate) fn take_apart<'p, K: Run>(
     ensures taken { IfOk result (λ parts. (w : Cell → ℕ) → weigh_all_taken w parts.stations.items
         ≡ weigh (λ h. weigh (weigh w) h.taken) hands.entry.items) }
 
-    // The shares, leaves and kept cells are those of the hands, in their order.
-    ensures shares { IfOk result (λ parts. parts.shares.items ≡ map (λ h. h.share) hands.entry.items) }
+    // The shares, which have counted all leaves, the leaves and the kept cells are those of the hands, in their order.
+    ensures shares { IfOk result (λ parts. parts.shares.items ≡ map settled_share hands.entry.items) }
     ensures leaves { IfOk result (λ parts. in_runs parts.runs.items ≡ leaves_in hands.entry.items) }
     ensures kept { IfOk result (λ parts. parts.kept.items ≡ kept_in hands.entry.items) }
     ensures accounts { OnOk result (All (Accounts (plain_problem K.problem) K.roots K.workers) hands.entry.items) }
@@ -83,7 +91,7 @@ pub(crate) fn take_apart<'p, K: Run>(
         kept: Vec::new(alloc),
     };
     while !hands.is_empty() {
-        take_one(&mut parts, hands.remove(0))?;
+        take_one(&mut parts, &refinery.ledger, hands.remove(0))?;
     }
     Ok(parts)
 }

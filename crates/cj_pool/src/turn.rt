@@ -9,7 +9,7 @@ pub enum Turn {
     Split,
     /// A cell was halved, and both halves are kept: in the hand's deque are cells enough for others.
     Kept,
-    /// No cell was found, and so many are live.
+    /// No cell was found, and so many are live or are leaves that other hands have not counted yet.
     Idle { live: u64 },
     /// No cell is live.
     Done,

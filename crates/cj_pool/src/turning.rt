@@ -1,8 +1,9 @@
 //! One turn of a hand.
-ghost use Rattle.std.specs.Prelude.{◌≡◌, ◌+◌, ◌<◌, ◌≤◌, length, MatchResult, Ok};
+ghost use Rattle.std.specs.Prelude.{◌≡◌, ◌+◌, ◌-◌, ◌<◌, ◌≤◌, length, MatchResult, Ok};
 ghost use Rattle.crossbeam_deque.specs.Handles.{SameWorker, worker_view};
 ghost use Rattle.cj_hermite.specs.Problems.{plain_problem};
 ghost use Rattle.cj_ledger.specs.declared.why.Why.{Why};
+ghost use Rattle.cj_ledger.specs.Counts.{after_closes, told, told_live};
 ghost use Rattle.cj_ledger.specs.Shares.{IsOf};
 ghost use Rattle.cj_pool.specs.declared.turn.Turn.TheVariants.{Done, Halted, Idle};
 ghost use Rattle.cj_pool.specs.Hands.{IsHandOf, SameHand};
@@ -24,27 +25,63 @@ use cj_cells::Look;
 use cj_ledger::{Ledger, Share, Why};
 use std::alloc::{AllocError, Global};
 
-/// Counts a halving, and tells all hands to stop where there are then more leaves than the limit.
-fn count_halving(ledger: &Ledger, share: &mut Share, limit: u64)
+/// Counts a halving, and with it one of the leaves that are not counted yet, where there is one. Answers the number of leaves.
+fn split(ledger: &Ledger, share: &mut Share, uncounted: &mut u64) -> u64
     requires { IsOf ledger.now share.old }
     ensures ledger { IsOf ledger.now share.new }
     ensures firsts { share.new.count.firsts ≡ share.old.count.firsts + 1 }
-    ensures closes { share.new.count.closes ≡ share.old.count.closes }
+    ensures uncounted { uncounted.new ≡ uncounted.old - 1 }
+    ensures closes { share.new.count.closes + uncounted.new ≡ share.old.count.closes + uncounted.old }
+    ensures roots { share.new.count.roots ≡ share.old.count.roots }
+    ensures halts { (share.new.count.cells ≡ share.old.count.cells) × (share.new.count.memory ≡ share.old.count.memory) }
+    ensures told { share.new.count.leaves ≡ told share.old.count.leaves result }
+{
+    if *uncounted == 0 {
+        return ledger.split(share);
+    }
+    *uncounted -= 1;
+    ledger.close_and_split(share)
+}
+
+/// Counts a halving, and tells all hands to stop where there are then more leaves than the limit.
+fn count_halving(ledger: &Ledger, share: &mut Share, uncounted: &mut u64, limit: u64)
+    requires { IsOf ledger.now share.old }
+    ensures ledger { IsOf ledger.now share.new }
+    ensures firsts { share.new.count.firsts ≡ share.old.count.firsts + 1 }
+    ensures closes { share.new.count.closes + uncounted.new ≡ share.old.count.closes + uncounted.old }
     ensures roots { share.new.count.roots ≡ share.old.count.roots }
     ensures memory { share.new.count.memory ≡ share.old.count.memory }
     ensures told { share.new.count.leaves.times ≡ share.old.count.leaves.times + 1 }
     ensures cells { SetsCells limit share.old.count share.new.count }
 {
-    if ledger.split(share) > limit {
+    if split(ledger, share, uncounted) > limit {
         ledger.halt(share, Why::Cells);
     }
 }
 
-/// What a hand that found no cell is told, where so many are live.
-fn without_cell(live: u64) -> Turn
-    ensures done { live ≡ 0 → result ≡ Done }
-    ensures idle { 0 < live → result ≡ Idle live }
+/// Counts the leaves that are not counted yet.
+fn count_leaves(ledger: &Ledger, share: &mut Share, uncounted: &mut u64)
+    requires { IsOf ledger.now share.old }
+    ensures none { uncounted.new ≡ 0 }
+    ensures ledger { share.new.ledger ≡ share.old.ledger }
+    ensures count { share.new.count ≡ after_closes share.old.count uncounted.old }
 {
+    if *uncounted > 0 {
+        ledger.close(share, *uncounted);
+        *uncounted = 0;
+    }
+}
+
+/// What a hand is told that found no cell and has counted all of its leaves.
+fn without_cell(ledger: &Ledger, share: &mut Share, _uncounted: u64) -> Turn
+    requires ledger { IsOf ledger.now share.old }
+    requires counted { _uncounted ≡ 0 }
+    ensures ledger { share.new.ledger ≡ share.old.ledger }
+    ensures count { share.new.count ≡ told_live share.old.count share.new.count.live.last }
+    ensures done { share.new.count.live.last ≡ 0 → result ≡ Done }
+    ensures idle { 0 < share.new.count.live.last → result ≡ Idle share.new.count.live.last }
+{
+    let live = ledger.live(share);
     if live == 0 {
         Turn::Done
     } else {
@@ -112,16 +149,22 @@ impl<'p, K: Run> Hand<'p, K> {
             refinery.thieves.as_slice(),
         );
         let Some(cell) = picked else {
-            return Ok(without_cell(refinery.ledger.live(&mut self.share)));
+            count_leaves(&refinery.ledger, &mut self.share, &mut self.uncounted);
+            return Ok(without_cell(&refinery.ledger, &mut self.share, self.uncounted));
         };
         match self.looker.look(cell) {
             Look::Closed(leaf) => {
                 self.leaves.push_reserved(leaf);
-                refinery.ledger.close(&mut self.share);
+                self.uncounted += 1;
                 Ok(Turn::Closed)
             }
             Look::Halves(first, second) => {
-                count_halving(&refinery.ledger, &mut self.share, refinery.limit);
+                count_halving(
+                    &refinery.ledger,
+                    &mut self.share,
+                    &mut self.uncounted,
+                    refinery.limit,
+                );
                 part_halves(
                     &mut self.kept,
                     &mut self.station.own,

@@ -8,9 +8,9 @@ use Rattle.cj_pool.proofs.HandSumLemmas.{all_taken}
 use Rattle.cj_pool.proofs.TakeLemmas.{AreTaken, first_of, sum_ends, taken_begins, taken_step, taken_stations}
 use Rattle.cj_pool.proofs.taking.take_apart.Goals as goal
 
-pub loop-parts-preserved : goal.loop-parts-preserved
-loop-parts-preserved g c =
-    let l = c.loop-parts in
+pub loop-refinery-preserved : goal.loop-refinery-preserved
+loop-refinery-preserved g c =
+    let l = c.loop-refinery in
     let n = g.K.Run.workers in
     let rest = l.hands.items in
     let h : HandSeen = c.remove.result in
@@ -18,30 +18,30 @@ loop-parts-preserved g c =
     let some : 0 < vec_len l.hands = search rules in
     let first = first_of rest h (omega (arith, some, l.hands.ok.0)) c.remove.ensures.value ∙ ap (λ (hs : List HandSeen). h ∷ hs)
     (sym c.remove.ensures.items) in
-    taken_step (plain_problem g.K.Run.problem) g.K.Run.roots n c.args._refinery.now c.args.hands.items rest h c.remove.new.self.items
+    taken_step (plain_problem g.K.Run.problem) g.K.Run.roots n c.args.refinery.now c.args.hands.items rest h c.remove.new.self.items
     l.parts.stations.items c.take_one.new.parts.stations.items l.parts.shares.items c.take_one.new.parts.shares.items (in_runs l.parts.runs.items)
     (in_runs c.take_one.new.parts.runs.items) l.parts.kept.items c.take_one.new.parts.kept.items
     one.station.0 l.invariant first one.station.1 one.station.2 one.account one.shares one.leaves one.kept
 
-pub loop-parts-init : goal.loop-parts-init
-loop-parts-init g c =
-    taken_begins (plain_problem g.K.Run.problem) g.K.Run.roots g.K.Run.workers c.args._refinery.now c.args.hands.items c.new.result.items
+pub loop-refinery-init : goal.loop-refinery-init
+loop-refinery-init g c =
+    taken_begins (plain_problem g.K.Run.problem) g.K.Run.roots g.K.Run.workers c.args.refinery.now c.args.hands.items c.new.result.items
     c.new-2.result.items (in_runs c.new-3.result.items) c.new-4.result.items c.requires.hands c.requires.all
     c.new.ensures.items c.new-2.ensures.items (ap in_runs c.new-3.ensures.items) c.new-4.ensures.items
 
 pub returns-clause-stations : goal.returns-clause-stations
 returns-clause-stations g c =
-    let l = c.loop-parts in
+    let l = c.loop-refinery in
     let none : vec_len l.hands ≡ 0 = search rules in
     let rest = nil_from_length l.hands.items (omega (arith, none, l.hands.ok.0)) in
-    taken_stations (plain_problem g.K.Run.problem) g.K.Run.roots g.K.Run.workers c.args._refinery.now c.args.hands.items l.parts.stations.items
+    taken_stations (plain_problem g.K.Run.problem) g.K.Run.roots g.K.Run.workers c.args.refinery.now c.args.hands.items l.parts.stations.items
     l.parts.shares.items (in_runs l.parts.runs.items) l.parts.kept.items
-    (subst (λ (hs : List HandSeen). AreTaken (plain_problem g.K.Run.problem) g.K.Run.roots g.K.Run.workers c.args._refinery.now c.args.hands.items hs
+    (subst (λ (hs : List HandSeen). AreTaken (plain_problem g.K.Run.problem) g.K.Run.roots g.K.Run.workers c.args.refinery.now c.args.hands.items hs
     l.parts.stations.items l.parts.shares.items (in_runs l.parts.runs.items) l.parts.kept.items) rest l.invariant)
 
 pub returns-clause-given : goal.returns-clause-given
 returns-clause-given g c w =
-    let l = c.loop-parts in
+    let l = c.loop-refinery in
     let none : vec_len l.hands ≡ 0 = search rules in
     let rest = nil_from_length l.hands.items (omega (arith, none, l.hands.ok.0)) in
     let all = l.invariant.given w in
@@ -51,7 +51,7 @@ returns-clause-given g c w =
 
 pub returns-clause-taken : goal.returns-clause-taken
 returns-clause-taken g c w =
-    let l = c.loop-parts in
+    let l = c.loop-refinery in
     let none : vec_len l.hands ≡ 0 = search rules in
     let rest = nil_from_length l.hands.items (omega (arith, none, l.hands.ok.0)) in
     let all = l.invariant.taken w in

@@ -4,9 +4,9 @@ use Rattle.cj_pool.specs.Refined.{in_runs}
 use Rattle.cj_pool.proofs.TakeLemmas.{AreTaken}
 use Rattle.cj_pool.proofs.taking.take_apart.Given as goal
 
-abbrev pub invariant-loop-parts : goal.invariant-loop-parts
-invariant-loop-parts g l =
-    AreTaken (plain_problem g.K.Run.problem) g.K.Run.roots g.K.Run.workers l._refinery l.initial.hands.items l.hands.items l.parts.stations.items l.parts.shares.items (in_runs l.parts.runs.items) l.parts.kept.items
+abbrev pub invariant-loop-refinery : goal.invariant-loop-refinery
+invariant-loop-refinery g l =
+    AreTaken (plain_problem g.K.Run.problem) g.K.Run.roots g.K.Run.workers l.refinery l.initial.hands.items l.hands.items l.parts.stations.items l.parts.shares.items (in_runs l.parts.runs.items) l.parts.kept.items
 
-abbrev pub decreases-loop-parts : goal.decreases-loop-parts
-decreases-loop-parts g l = vec_len l.hands
+abbrev pub decreases-loop-refinery : goal.decreases-loop-refinery
+decreases-loop-refinery g l = vec_len l.hands

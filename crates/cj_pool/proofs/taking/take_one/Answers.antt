@@ -12,5 +12,5 @@ returns-clause-station g c =
       h.station,
       c.in_ok-push.ensures.items,
       subst (λ (x : HandSeen). IsStationOf g.K.Run.workers x h.station) c.hand.view_is
-          (station_of g.K.Run.workers h.station h.looker h.kept.items h.leaves.items h.share h.wants i.1 i.2 i.3 i.4 account.deques),
+          (station_of g.K.Run.workers h.station h.looker h.kept.items h.leaves.items h.share h.uncounted h.wants i.1 i.2 i.3 i.4 account.deques),
     )

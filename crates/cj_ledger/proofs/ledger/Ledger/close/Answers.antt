@@ -7,4 +7,4 @@ fetch_sub-requires c =
     let table = c.self.inside.table.shared in
     let seat = c.share.inside.seat in
     let some_part : 0 < seat.me.0.parts = omega (arith, c.share.invariant.0) in
-    (search rules, search rules, closes table.key table.table_id.slots seat.id seat.me.0 seat.me.1 some_part)
+    (search rules, search rules, closes table.key table.table_id.slots seat.id seat.me.0 seat.me.1 some_part c.args.cells (search rules))

@@ -37,8 +37,7 @@ invariant_of-self-in-Closed g c =
     let look = c.in-Closed.ensures {u = tt} in
     let leaf = c.in-Closed.leaf in
     let kept = c.pick-picked.new.kept.items in
-    let count = c.halted.ensures.count in
-    let close = c.close.ensures.count in (
+    let count = c.halted.ensures.count in (
       c.look.ensures.same ∙ inv.0,
       e.below.1,
       e.above.1,
@@ -56,8 +55,8 @@ invariant_of-self-in-Closed g c =
           (leaf_here case case' roots cell leaf problem told.cell look.closed look.kind)
           e.tree
           (narrow_front 26 kept cell told.narrow)
-          (ap (λ (v : Count). v.closes) close ∙ ap (λ (v : Count). v.closes + 1) count)
-          (ap (λ (v : Count). v.firsts) close ∙ ap (λ (v : Count). v.firsts) count),
+          (omega (arith, ap (λ (v : Count). v.closes) count))
+          (ap (λ (v : Count). v.firsts) count),
     )
 
 pub invariant_of-self-in_err-reserve : goal.invariant_of-self-in_err-reserve
@@ -70,7 +69,7 @@ invariant_of-self-in_err-reserve g c =
       inv.4,
       same_accounts (plain_problem g.K.Run.problem) g.K.Run.roots g.K.Run.workers _ _ inv.5 (record { number = refl; problem = refl; opening = refl }) refl
           (record { taken = refl; closed = c.reserve.ensures.items; pushed = refl; kept = refl })
-          (ap (λ (v : Count). v.closes) c.halted.ensures.count)
+          (omega (arith, ap (λ (v : Count). v.closes) c.halted.ensures.count))
           (ap (λ (v : Count). v.firsts) c.halted.ensures.count),
     )
 
@@ -87,8 +86,14 @@ invariant_of-self-in_default-picked g c =
       same_accounts (plain_problem g.K.Run.problem) g.K.Run.roots g.K.Run.workers _ _ inv.5 (record { number = e.number; problem = refl; opening = e.own.0 })
           (λ j. around (e.below.0 j) (e.seated.1 j) (e.above.0 j))
           (record { taken = told.came.0; closed = c.reserve.ensures.items; pushed = e.own.1; kept = told.came.1 })
-          (ap (λ (v : Count). v.closes) c.live.ensures.count ∙ ap (λ (v : Count). v.closes) c.halted.ensures.count)
-          (ap (λ (v : Count). v.firsts) c.live.ensures.count ∙ ap (λ (v : Count). v.firsts) c.halted.ensures.count),
+          (omega (
+            arith,
+            ap (λ (v : Count). v.closes) c.without_cell.ensures.count,
+            ap (λ (v : Count). v.closes) c.count_leaves.ensures.count,
+            ap (λ (v : Count). v.closes) c.halted.ensures.count,
+            c.count_leaves.ensures.none,
+          ))
+          (ap (λ (v : Count). v.firsts) c.without_cell.ensures.count ∙ ap (λ (v : Count). v.firsts) c.count_leaves.ensures.count ∙ ap (λ (v : Count). v.firsts) c.halted.ensures.count),
     )
 
 pub returns-in_default-picked-clause-made : goal.returns-in_default-picked-clause-made
@@ -98,11 +103,12 @@ returns-in_default-picked-clause-made g c =
     let e = c.pick-picked.ensures in
     let told = c.in_default-picked.ensures {u = tt} in
     let t = c.pick-picked.new.station in
-    let live = c.live.ensures.count in
+    let live = c.without_cell.ensures.count in
     without_of (plain_problem g.K.Run.problem) _ _ _ _ _ _ c.self.view_is c.without_cell.ensures.done c.without_cell.ensures.idle
     (record { taken = told.came.0; closed = c.reserve.ensures.items; pushed = e.own.1; kept = told.came.1 })
     told.came.2
-    (ap (λ (v : Count). v.live.last) live, omega (arith, ap (λ (v : Count). v.live.times) live, ap (λ (v : Count). v.live.times) c.halted.ensures.count))
+    c.count_leaves.ensures.none
+    (refl, omega (arith, ap (λ (v : Count). v.live.times) live, ap (λ (v : Count). v.live.times) c.count_leaves.ensures.count, ap (λ (v : Count). v.live.times) c.halted.ensures.count))
     (λ one.
     alone_settled g.K.Run.workers (worker_view t.own) (takens t.below.items) (takens t.above.items) e.seated.0.parts e.seated.0.all told.none (ap length told.came.0 ∙ inv.5.passes)
     (ap (λ (r : RefinerySeen). r.hands) c.refinery.view_is ∙ one))
@@ -121,8 +127,6 @@ returns-in-Closed-clause-made g c =
     let look = c.in-Closed.ensures {u = tt} in
     let leaf = c.in-Closed.leaf in
     let kept = c.pick-picked.new.kept.items in
-    let count = c.halted.ensures.count in
-    let close = c.close.ensures.count in
     leaf_of _ _ _ _ c.self.view_is (record {
       leaf = leaf;
       came = came_as _ _ _ cell leaf.cell kept look.closed told.came;
@@ -146,7 +150,7 @@ pub returns-in-Closed-clause-hand : goal.returns-in-Closed-clause-hand
 returns-in-Closed-clause-hand g c =
     let e = c.pick-picked.ensures in
     still_of c.args.refinery.now _ _ _ c.self.view_is c.requires (λ j. around (e.below.0 j) (e.seated.1 j) (e.above.0 j))
-    (c.close.ensures.ledger ∙ c.halted.ensures.ledger ∙ ap (λ (h : HandSeen). h.share.ledger) c.self.view_is ∙ c.requires.1.0, ap (λ (v : Count). v.opening) c.close.ensures.count ∙ ap (λ (v : Count). v.opening) c.halted.ensures.count ∙ ap (λ (h : HandSeen). h.share.count.opening) c.self.view_is ∙ c.requires.1.1)
+    (c.halted.ensures.ledger ∙ ap (λ (h : HandSeen). h.share.ledger) c.self.view_is ∙ c.requires.1.0, ap (λ (v : Count). v.opening) c.halted.ensures.count ∙ ap (λ (h : HandSeen). h.share.count.opening) c.self.view_is ∙ c.requires.1.1)
     (record { number = e.number; problem = c.look.ensures.same; opening = e.own.0 })
 
 pub returns-in-Closed-clause-wants : goal.returns-in-Closed-clause-wants
@@ -155,18 +159,18 @@ returns-in-Closed-clause-wants g c = ap (λ (h : HandSeen). h.wants) c.self.view
 pub returns-in-Closed-clause-cells : goal.returns-in-Closed-clause-cells
 returns-in-Closed-clause-cells g c =
     inl (
-      ap (λ (v : Count). v.cells) c.close.ensures.count ∙ ap (λ (v : Count). v.cells) c.halted.ensures.count ∙ ap (λ (h : HandSeen). h.share.count.cells) c.self.view_is,
-      inl (ap (λ (v : Count). v.leaves) c.close.ensures.count ∙ ap (λ (v : Count). v.leaves) c.halted.ensures.count ∙ ap (λ (h : HandSeen). h.share.count.leaves) c.self.view_is),
+      ap (λ (v : Count). v.cells) c.halted.ensures.count ∙ ap (λ (h : HandSeen). h.share.count.cells) c.self.view_is,
+      inl (ap (λ (v : Count). v.leaves) c.halted.ensures.count ∙ ap (λ (h : HandSeen). h.share.count.leaves) c.self.view_is),
     )
 
 pub returns-in-Closed-clause-memory : goal.returns-in-Closed-clause-memory
-returns-in-Closed-clause-memory g c = ap (λ (v : Count). v.memory) c.close.ensures.count ∙ ap (λ (v : Count). v.memory) c.halted.ensures.count ∙ ap (λ (h : HandSeen). h.share.count.memory) c.self.view_is
+returns-in-Closed-clause-memory g c = ap (λ (v : Count). v.memory) c.halted.ensures.count ∙ ap (λ (h : HandSeen). h.share.count.memory) c.self.view_is
 
 pub returns-in_default-picked-clause-hand : goal.returns-in_default-picked-clause-hand
 returns-in_default-picked-clause-hand g c =
     let e = c.pick-picked.ensures in
     still_of c.args.refinery.now _ _ _ c.self.view_is c.requires (λ j. around (e.below.0 j) (e.seated.1 j) (e.above.0 j))
-    (c.live.ensures.ledger ∙ c.halted.ensures.ledger ∙ ap (λ (h : HandSeen). h.share.ledger) c.self.view_is ∙ c.requires.1.0, ap (λ (v : Count). v.opening) c.live.ensures.count ∙ ap (λ (v : Count). v.opening) c.halted.ensures.count ∙ ap (λ (h : HandSeen). h.share.count.opening) c.self.view_is ∙ c.requires.1.1)
+    (c.without_cell.ensures.ledger ∙ c.count_leaves.ensures.ledger ∙ c.halted.ensures.ledger ∙ ap (λ (h : HandSeen). h.share.ledger) c.self.view_is ∙ c.requires.1.0, ap (λ (v : Count). v.opening) c.without_cell.ensures.count ∙ ap (λ (v : Count). v.opening) c.count_leaves.ensures.count ∙ ap (λ (v : Count). v.opening) c.halted.ensures.count ∙ ap (λ (h : HandSeen). h.share.count.opening) c.self.view_is ∙ c.requires.1.1)
     (record { number = e.number; problem = refl; opening = e.own.0 })
 
 pub returns-in_default-picked-clause-wants : goal.returns-in_default-picked-clause-wants
@@ -175,12 +179,12 @@ returns-in_default-picked-clause-wants g c = ap (λ (h : HandSeen). h.wants) c.s
 pub returns-in_default-picked-clause-cells : goal.returns-in_default-picked-clause-cells
 returns-in_default-picked-clause-cells g c =
     inl (
-      ap (λ (v : Count). v.cells) c.live.ensures.count ∙ ap (λ (v : Count). v.cells) c.halted.ensures.count ∙ ap (λ (h : HandSeen). h.share.count.cells) c.self.view_is,
-      inl (ap (λ (v : Count). v.leaves) c.live.ensures.count ∙ ap (λ (v : Count). v.leaves) c.halted.ensures.count ∙ ap (λ (h : HandSeen). h.share.count.leaves) c.self.view_is),
+      ap (λ (v : Count). v.cells) c.without_cell.ensures.count ∙ ap (λ (v : Count). v.cells) c.count_leaves.ensures.count ∙ ap (λ (v : Count). v.cells) c.halted.ensures.count ∙ ap (λ (h : HandSeen). h.share.count.cells) c.self.view_is,
+      inl (ap (λ (v : Count). v.leaves) c.without_cell.ensures.count ∙ ap (λ (v : Count). v.leaves) c.count_leaves.ensures.count ∙ ap (λ (v : Count). v.leaves) c.halted.ensures.count ∙ ap (λ (h : HandSeen). h.share.count.leaves) c.self.view_is),
     )
 
 pub returns-in_default-picked-clause-memory : goal.returns-in_default-picked-clause-memory
-returns-in_default-picked-clause-memory g c = ap (λ (v : Count). v.memory) c.live.ensures.count ∙ ap (λ (v : Count). v.memory) c.halted.ensures.count ∙ ap (λ (h : HandSeen). h.share.count.memory) c.self.view_is
+returns-in_default-picked-clause-memory g c = ap (λ (v : Count). v.memory) c.without_cell.ensures.count ∙ ap (λ (v : Count). v.memory) c.count_leaves.ensures.count ∙ ap (λ (v : Count). v.memory) c.halted.ensures.count ∙ ap (λ (h : HandSeen). h.share.count.memory) c.self.view_is
 
 pub returns-in_err-reserve-clause-hand : goal.returns-in_err-reserve-clause-hand
 returns-in_err-reserve-clause-hand g c =
@@ -229,7 +233,7 @@ invariant_of-self-in-Halves g c =
     let kept : List Cell = c.pick-picked.new.kept.items in
     let ps = c.pick-picked.new.station in
     let same = c.part_halves.ensures.same in
-    let closes = c.count_halving.ensures.closes ∙ ap (λ (v : Count). v.closes) c.halted.ensures.count in
+    let closes = c.count_halving.ensures.closes ∙ ap (λ (v : Count). v.closes + i.uncounted) c.halted.ensures.count in
     let firsts = c.count_halving.ensures.firsts ∙ ap (λ (v : Count). v.firsts + 1) c.halted.ensures.count in
     where_parted c.part_halves.result (worker_view ps.own) (worker_view c.part_halves.new.own) kept c.part_halves.new.kept.items first second c.part_halves.ensures.parted
     (λ parted. (

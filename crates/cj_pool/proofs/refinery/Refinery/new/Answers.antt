@@ -74,5 +74,5 @@ returns-clause-fresh g c k d lt =
 
 pub returns-clause-shares : goal.returns-clause-shares
 returns-clause-shares g c =
-    share_sum (λ (s : ShareSeen). s.count.roots) c.in_ok-hands.hands.items c.in_ok-ledger.shares.items c.in_ok-hands.ensures.shares ∙
+    share_sum (λ (h : HandSeen). h.share) (λ (s : ShareSeen). s.count.roots) c.in_ok-hands.hands.items c.in_ok-ledger.shares.items c.in_ok-hands.ensures.shares ∙
     c.in_ok-ledger.ensures.roots ∙ omega (arith, c.len.ensures, c.args.roots.ok.0)
