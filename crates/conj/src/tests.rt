@@ -1,6 +1,6 @@
 use super::*;
 use cj_words::Word;
-use std::alloc::AllocError;
+use std::alloc::{AllocError, Global};
 use std::fs;
 use std::sync::Wait;
 use std::test::Fail;
