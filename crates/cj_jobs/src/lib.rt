@@ -1,5 +1,5 @@
-//! A list that several threads go over together: each takes the next part that none has taken, so that none waits while another has
-//! more than one part left. What comes out is put together in order, and hangs on nobody's speed.
+//! A list that several threads go over together. Each asks a counter for the number of its next part, and nothing is proved of that
+//! counter: an output is put at the place of its part, and a part whose output is missing is worked on at the end.
 #![tactic(auto)]
 
 mod jobs;

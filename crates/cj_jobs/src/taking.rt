@@ -13,7 +13,7 @@ pub struct Done<X> {
     pub output: X,
 }
 
-/// What comes of the parts that this thread takes: each time the next that no thread has taken.
+/// What comes of the parts whose numbers this thread is given by the counter.
 pub fn take_parts<T, J: Jobs<T>>(
     alloc: Global,
     jobs: &J,

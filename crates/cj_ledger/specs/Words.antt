@@ -43,7 +43,7 @@ leaves_of vs = leaves_from (sum_by (λ v. v.roots) vs) (sum_by (λ v. v.seconds)
 abbrev pub halts_of : List Count → ℕ
 halts_of vs = halts_from (sum_by (λ v. v.cells) vs) (sum_by (λ v. v.memory) vs)
 
--- the words between two that count, which fill a cache line
+-- the words between two that count, of which no use is made
 abbrev pub unused : List ℕ
 unused = 0 ∷ 0 ∷ 0 ∷ 0 ∷ 0 ∷ 0 ∷ 0 ∷ []
 

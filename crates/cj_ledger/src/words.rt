@@ -1,5 +1,5 @@
-//! The three words that the shares count with. Each lies on a cache line of its own, so that a step on one does not take the
-//! others from who reads them.
+//! The three words that the shares count with. They are eight words apart, which is a cache line on usual machines; no clause speaks
+//! of that.
 
 /// The number of live cells, modulo 2^64.
 pub(crate) const LIVE: usize = 0;
