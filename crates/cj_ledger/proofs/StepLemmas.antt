@@ -160,36 +160,36 @@ module _ {S : Type 0} (o : Opening) (slots id : ℕ) (v : Count) (c : List (ℕ 
       (sym r ∙ kept.roots ∙ sym (ap (λ (u : Opening). u.roots) ((kept.fits id v at).knows some_part)), ap (λ ws. slice_index ws 0) kept.words ∙ (λ i. live_from (r i) (f i) (x i))) in
       (w, keeps, tt, keep o s id 0 n c v w kept at some_part refl refl refl (kept.fits id v at).splits is, (refl, knows))
 
-  pub loads_leaves : Allows (Kept o) slots id (v, c) 8 (λ n. n) (λ n r. (r ≡ (told_leaves v n, c)) × KnowsLeaves v n)
+  pub loads_leaves : Allows (Kept o) slots id (v, c) 16 (λ n. n) (λ n r. (r ≡ (told_leaves v n, c)) × KnowsLeaves v n)
   loads_leaves s kept homes at small =
-      let n = slice_index s.words 8 in
+      let n = slice_index s.words 16 in
       let w = told_leaves v n in
       let vs = s.views in
-      let is : slice_set s.words 8 n ≡ words_of (set vs id w) =
-      ap (λ ws. slice_set ws 8 (slice_index ws 8)) kept.words
+      let is : slice_set s.words 16 n ≡ words_of (set vs id w) =
+      ap (λ ws. slice_set ws 16 (slice_index ws 16)) kept.words
       ∙ three (live_same vs id v w at refl refl refl) (leaves_same vs id v w at refl refl) (halts_same vs id v w at refl refl) in
       let knows : KnowsLeaves v n = λ whole.
       let sums = whole_sums s kept at whole in
       let r = sums (λ u. u.roots) refl in
       let f = sums (λ u. u.seconds) refl in
-      ap (λ ws. slice_index ws 8) kept.words ∙ (λ i. leaves_from (r i) (f i)) in
-      (w, keeps, tt, keep o s id 8 n c v w kept at some_part refl refl refl (kept.fits id v at).splits is, (refl, knows))
+      ap (λ ws. slice_index ws 16) kept.words ∙ (λ i. leaves_from (r i) (f i)) in
+      (w, keeps, tt, keep o s id 16 n c v w kept at some_part refl refl refl (kept.fits id v at).splits is, (refl, knows))
 
-  pub loads_halts : Allows (Kept o) slots id (v, c) 16 (λ n. n) (λ n r. (r ≡ (told_halts v n, c)) × KnowsHalts v n)
+  pub loads_halts : Allows (Kept o) slots id (v, c) 32 (λ n. n) (λ n r. (r ≡ (told_halts v n, c)) × KnowsHalts v n)
   loads_halts s kept homes at small =
-      let n = slice_index s.words 16 in
+      let n = slice_index s.words 32 in
       let w = told_halts v n in
       let vs = s.views in
       let cells = sum_by (λ u. u.cells) vs in
       let memory = sum_by (λ u. u.memory) vs in
-      let is : slice_set s.words 16 n ≡ words_of (set vs id w) =
-      ap (λ ws. slice_set ws 16 (slice_index ws 16)) kept.words
+      let is : slice_set s.words 32 n ≡ words_of (set vs id w) =
+      ap (λ ws. slice_set ws 32 (slice_index ws 32)) kept.words
       ∙ three (live_same vs id v w at refl refl refl) (leaves_same vs id v w at refl refl) (halts_same vs id v w at refl refl) in
-      let here : halts_from cells memory ≡ n = sym (ap (λ ws. slice_index ws 16) kept.words) in
+      let here : halts_from cells memory ≡ n = sym (ap (λ ws. slice_index ws 32) kept.words) in
       let mine : v.cells ≤ cells = at_most_sum (λ u. u.cells) vs id v refl at in
       let mine' : v.memory ≤ memory = at_most_sum (λ u. u.memory) vs id v refl at in
       let knows : KnowsHalts v n = (subst (λ m. m < 4) here (two_bits cells memory), λ mine_set. subst (λ m. 0 < m) here (some_bit cells memory (omega (arith, mine_set, mine, mine')))) in
-      (w, keeps, tt, keep o s id 16 n c v w kept at some_part refl refl refl (kept.fits id v at).splits is, (refl, knows))
+      (w, keeps, tt, keep o s id 32 n c v w kept at some_part refl refl refl (kept.fits id v at).splits is, (refl, knows))
 
   -- the first step of a split
   pub adds_live : v.firsts ≡ v.seconds → Allows (Kept o) slots id (v, c) 0 (λ n. (n + 1) % 2 ^ 64) (λ n r. r ≡ (after_first v, c))
@@ -203,26 +203,26 @@ module _ {S : Type 0} (o : Opening) (slots id : ℕ) (v : Count) (c : List (ℕ 
       (w, keeps, tt, keep o s id 0 n c v w kept at some_part refl refl refl (omega (arith, even), omega (arith, even)) is, refl)
 
   -- the second step, which only the first can go before
-  pub adds_leaf : v.firsts ≡ v.seconds + 1 → Allows (Kept o) slots id (v, c) 8 (λ n. (n + 1) % 2 ^ 64) (λ n r. r ≡ (after_second v ((n + 1) % 2 ^ 64), c))
+  pub adds_leaf : v.firsts ≡ v.seconds + 1 → Allows (Kept o) slots id (v, c) 16 (λ n. (n + 1) % 2 ^ 64) (λ n r. r ≡ (after_second v ((n + 1) % 2 ^ 64), c))
   adds_leaf odd s kept homes at small =
-      let n = (slice_index s.words 8 + 1) % 2 ^ 64 in
+      let n = (slice_index s.words 16 + 1) % 2 ^ 64 in
       let w = after_second v n in
       let vs = s.views in
-      let is : slice_set s.words 8 n ≡ words_of (set vs id w) =
-      ap (λ ws. slice_set ws 8 ((slice_index ws 8 + 1) % 2 ^ 64)) kept.words
+      let is : slice_set s.words 16 n ≡ words_of (set vs id w) =
+      ap (λ ws. slice_set ws 16 ((slice_index ws 16 + 1) % 2 ^ 64)) kept.words
       ∙ three (live_same vs id v w at refl refl refl) (leaves_more vs id v w at refl refl) (halts_same vs id v w at refl refl) in
-      (w, keeps, tt, keep o s id 8 n c v w kept at some_part refl refl refl (omega (arith, odd), omega (arith, odd)) is, refl)
+      (w, keeps, tt, keep o s id 16 n c v w kept at some_part refl refl refl (omega (arith, odd), omega (arith, odd)) is, refl)
 
   -- a close and both steps of a split at once
-  pub closes_and_splits : v.firsts ≡ v.seconds → Allows (Kept o) slots id (v, c) 8 (λ n. (n + 1) % 2 ^ 64) (λ n r. r ≡ (after_split (after_closes v 1) ((n + 1) % 2 ^ 64), c))
+  pub closes_and_splits : v.firsts ≡ v.seconds → Allows (Kept o) slots id (v, c) 16 (λ n. (n + 1) % 2 ^ 64) (λ n r. r ≡ (after_split (after_closes v 1) ((n + 1) % 2 ^ 64), c))
   closes_and_splits even s kept homes at small =
-      let n = (slice_index s.words 8 + 1) % 2 ^ 64 in
+      let n = (slice_index s.words 16 + 1) % 2 ^ 64 in
       let w = after_split (after_closes v 1) n in
       let vs = s.views in
-      let is : slice_set s.words 8 n ≡ words_of (set vs id w) =
-      ap (λ ws. slice_set ws 8 ((slice_index ws 8 + 1) % 2 ^ 64)) kept.words
+      let is : slice_set s.words 16 n ≡ words_of (set vs id w) =
+      ap (λ ws. slice_set ws 16 ((slice_index ws 16 + 1) % 2 ^ 64)) kept.words
       ∙ three (live_split vs id v w at refl refl refl) (leaves_more vs id v w at refl refl) (halts_same vs id v w at refl refl) in
-      (w, keeps, tt, keep o s id 8 n c v w kept at some_part refl refl refl (omega (arith, even), omega (arith, even)) is, refl)
+      (w, keeps, tt, keep o s id 16 n c v w kept at some_part refl refl refl (omega (arith, even), omega (arith, even)) is, refl)
 
   pub closes : (k : ℕ) → k < 2 ^ 64 → Allows (Kept o) slots id (v, c) 0 (λ n. (n + (2 ^ 64 - k)) % 2 ^ 64) (λ n r. r ≡ (after_closes v k, c))
   closes k few s kept homes at small =
@@ -234,25 +234,25 @@ module _ {S : Type 0} (o : Opening) (slots id : ℕ) (v : Count) (c : List (ℕ 
       ∙ three (live_less vs id v w at k few refl refl refl) (leaves_same vs id v w at refl refl) (halts_same vs id v w at refl refl) in
       (w, keeps, tt, keep o s id 0 n c v w kept at some_part refl refl refl (kept.fits id v at).splits is, refl)
 
-  pub sets_cells : Allows (Kept o) slots id (v, c) 16 (λ n. bit_or n 1) (λ n r. r ≡ (after_halt Cells v, c))
+  pub sets_cells : Allows (Kept o) slots id (v, c) 32 (λ n. bit_or n 1) (λ n r. r ≡ (after_halt Cells v, c))
   sets_cells s kept homes at small =
-      let n = bit_or (slice_index s.words 16) 1 in
+      let n = bit_or (slice_index s.words 32) 1 in
       let w = after_halt Cells v in
       let vs = s.views in
-      let is : slice_set s.words 16 n ≡ words_of (set vs id w) =
-      ap (λ ws. slice_set ws 16 (bit_or (slice_index ws 16) 1)) kept.words
+      let is : slice_set s.words 32 n ≡ words_of (set vs id w) =
+      ap (λ ws. slice_set ws 32 (bit_or (slice_index ws 32) 1)) kept.words
       ∙ three (live_same vs id v w at refl refl refl) (leaves_same vs id v w at refl refl) (halts_cells vs id v w at refl refl) in
-      (w, keeps, tt, keep o s id 16 n c v w kept at some_part refl refl refl (kept.fits id v at).splits is, refl)
+      (w, keeps, tt, keep o s id 32 n c v w kept at some_part refl refl refl (kept.fits id v at).splits is, refl)
 
-  pub sets_memory : Allows (Kept o) slots id (v, c) 16 (λ n. bit_or n 2) (λ n r. r ≡ (after_halt Memory v, c))
+  pub sets_memory : Allows (Kept o) slots id (v, c) 32 (λ n. bit_or n 2) (λ n r. r ≡ (after_halt Memory v, c))
   sets_memory s kept homes at small =
-      let n = bit_or (slice_index s.words 16) 2 in
+      let n = bit_or (slice_index s.words 32) 2 in
       let w = after_halt Memory v in
       let vs = s.views in
-      let is : slice_set s.words 16 n ≡ words_of (set vs id w) =
-      ap (λ ws. slice_set ws 16 (bit_or (slice_index ws 16) 2)) kept.words
+      let is : slice_set s.words 32 n ≡ words_of (set vs id w) =
+      ap (λ ws. slice_set ws 32 (bit_or (slice_index ws 32) 2)) kept.words
       ∙ three (live_same vs id v w at refl refl refl) (leaves_same vs id v w at refl refl) (halts_memory vs id v w at refl refl) in
-      (w, keeps, tt, keep o s id 16 n c v w kept at some_part refl refl refl (kept.fits id v at).splits is, refl)
+      (w, keeps, tt, keep o s id 32 n c v w kept at some_part refl refl refl (kept.fits id v at).splits is, refl)
 
 -- a share is cut off
 pub cuts_off : {S : Type 0} (o : Opening) (id : ℕ) (v : Count) → 1 < v.parts → Splits {S = S} (Kept o) id v (less_a_part v) (cut_off v)

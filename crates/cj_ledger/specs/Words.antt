@@ -45,7 +45,7 @@ halts_of vs = halts_from (sum_by (λ v. v.cells) vs) (sum_by (λ v. v.memory) vs
 
 -- the words between two that count, of which no use is made
 abbrev pub unused : List ℕ
-unused = 0 ∷ 0 ∷ 0 ∷ 0 ∷ 0 ∷ 0 ∷ 0 ∷ []
+unused = 0 ∷ 0 ∷ 0 ∷ 0 ∷ 0 ∷ 0 ∷ 0 ∷ 0 ∷ 0 ∷ 0 ∷ 0 ∷ 0 ∷ 0 ∷ 0 ∷ 0 ∷ []
 
 -- the words of a ledger, where its live cells, its leaves and its halt bits are these
 abbrev pub laid : ℕ → ℕ → ℕ → List ℕ

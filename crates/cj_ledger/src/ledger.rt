@@ -29,7 +29,7 @@ impl Model for Ledger {
 
     ghost view = { λ l. record { id = l.table.shared.table_id; opening = l.opening } };
 
-    ghost invariant = { λ l. (l.table.shared.key ≡ l.opening) × (l.table.shared.table_id.words ≡ 17) × (0 < l.opening.shares) };
+    ghost invariant = { λ l. (l.table.shared.key ≡ l.opening) × (l.table.shared.table_id.words ≡ 33) × (0 < l.opening.shares) };
 }
 
 impl Ledger {
