@@ -1,2 +1,2 @@
-pub mod MoveLemmas
 pub mod OrderLemmas
+pub mod RunLemmas

@@ -1,10 +1,13 @@
-//! Lists that are each in order of pair and first tick, merged by several threads.
+//! Lists merged by several threads into one list in order of pair and first tick, and lists whose memory is ready.
 #![tactic(auto)]
 
+mod joining;
 mod merging;
 mod placed;
+mod ranges;
 
-pub use merging::{merge_runs, merge_two};
+pub use joining::ready_list;
+pub use merging::merge_runs;
 pub use placed::Placed;
 
 #[cfg(test)]

@@ -1,103 +1,48 @@
-//! Runs that are each in order, put together by halves: each half is cut at one place, so that threads need nothing of each other.
-ghost use Rattle.std.specs.Prelude.{◌≡◌, ◌++◌, flat_map, All, IfOk};
+//! Runs merged into one list: ranges of them are merged by threads, and what comes of them is put behind one another.
+ghost use Rattle.std.specs.Prelude.{◌≡◌, ◌++◌, [], map, flat_map, IfOk};
 ghost use Rattle.std.specs.List.Sorted.{IsPermutation};
 ghost use Rattle.std.specs.Thread.{IsSync};
 ghost use Rattle.cj_merge.specs.Places.{AreInOrderBy};
+ghost use Rattle.cj_merge.specs.Runs.{elements_of, AreMerged};
 
+use crate::joining::{put_together, ready_list};
 use crate::placed::Placed;
+use crate::ranges::{count_of, cut_into_ranges};
+use cj_jobs::{Jobs, run_jobs};
 use std::alloc::{AllocError, Global};
 use std::thread::{Threads, join};
 
 /// From so many elements on a merge is worth a second thread.
-const MANY: usize = 8_192;
+const MANY: usize = 16_384;
 
-/// The elements of two runs, by one thread, in a list with room for so many: they are sorted, and so come out in order whatever came.
-fn merge_in_turn<T: Placed + Copy>(
-    alloc: Global,
-    first: &[T],
-    second: &[T],
-    room: usize,
-) -> Result<Vec<T>, AllocError>
-    ensures elements { IfOk result (λ all. IsPermutation (first.now ++ second.now) all.items) }
+/// So many ranges for each worker.
+const RANGES_A_WORKER: usize = 4;
+
+/// The elements of some runs, by one thread: they are sorted, and so come out in order whatever came.
+fn merge_in_turn<T: Placed + Copy>(alloc: Global, runs: &[&[T]]) -> Result<Vec<T>, AllocError>
+    ensures elements { IfOk result (λ all. IsPermutation (elements_of runs.now) all.items) }
     ensures ordered { IfOk result (λ all. AreInOrderBy T.place_of all.items) }
 {
-    let count = first.len().saturating_add(second.len());
-    let mut all = Vec::with_capacity(alloc, count.max(room))?;
-    all.extend_from_slice(first)?;
-    all.extend_from_slice(second)?;
+    let mut all = Vec::with_capacity(alloc, count_of(runs))?;
+    for run in runs {
+        all.extend_from_slice(run)?;
+    }
     all.sort_by_key(|item: &T| item.place())?;
     Ok(all)
 }
 
-/// The elements of two runs, the longer one first, by as many threads as there are workers, in a list with room for so many: what comes
-/// behind them is then appended in place.
-#[cycle(merge)]
-fn merge_cut<T: Placed + Copy + Send + Sync, R: Threads + Sync>(
-    rt: &R,
+/// Ranges merged each into a list of its own.
+fn merge_each<T: Placed + Copy>(
     alloc: Global,
-    longer: &[T],
-    shorter: &[T],
-    workers: usize,
-    room: usize,
-) -> Result<Vec<T>, AllocError>
-    ensures elements { IfOk result (λ all. IsPermutation (longer.now ++ shorter.now) all.items) }
-    ensures ordered { AreInOrderBy T.place_of longer.now → AreInOrderBy T.place_of shorter.now → IfOk result (λ all. AreInOrderBy T.place_of all.items) }
+    ranges: &[Vec<&[T]>],
+) -> Result<Vec<Vec<T>>, AllocError>
+    ensures { IfOk result (λ lists. AreMerged T.place_of ranges.now lists.items) }
 {
-    if workers < 2 || longer.len() < MANY {
-        return merge_in_turn(alloc, longer, shorter, room);
+    let mut lists = Vec::with_capacity(alloc, ranges.len())?;
+    for range in ranges {
+        lists.push(merge_in_turn(alloc, range)?)?;
     }
-    let middle = longer.len() / 2;
-    let place = longer[middle].place();
-    let cut = shorter.partition_point(|item: &T| item.place() < place);
-    let (low, high) = longer.split_at(middle);
-    let (below, above) = shorter.split_at(cut);
-    let first = || -> Result<Vec<T>, AllocError>
-        requires { IsSync R.row }
-        ensures elements { IfOk result (λ all. IsPermutation (low.entry.now ++ below.entry.now) all.items) }
-        ensures ordered { AreInOrderBy T.place_of low.entry.now → AreInOrderBy T.place_of below.entry.now → IfOk result (λ all. AreInOrderBy T.place_of all.items) }
-    { merge_with_room(rt, alloc, low, below, workers / 2, room) };
-    let second = || -> Result<Vec<T>, AllocError>
-        requires { IsSync R.row }
-        ensures elements { IfOk result (λ all. IsPermutation (high.entry.now ++ above.entry.now) all.items) }
-        ensures ordered { AreInOrderBy T.place_of high.entry.now → AreInOrderBy T.place_of above.entry.now → IfOk result (λ all. AreInOrderBy T.place_of all.items) }
-    { merge_with_room(rt, alloc, high, above, workers - workers / 2, 0) };
-    let (front, back) = join(rt, first, second);
-    joined(front?, back?)
-}
-
-/// The elements of two runs, by as many threads as there are workers, in a list with room for so many.
-#[cycle(merge)]
-fn merge_with_room<T: Placed + Copy + Send + Sync, R: Threads + Sync>(
-    rt: &R,
-    alloc: Global,
-    first: &[T],
-    second: &[T],
-    workers: usize,
-    room: usize,
-) -> Result<Vec<T>, AllocError>
-    ensures elements { IfOk result (λ all. IsPermutation (first.now ++ second.now) all.items) }
-    ensures ordered { AreInOrderBy T.place_of first.now → AreInOrderBy T.place_of second.now → IfOk result (λ all. AreInOrderBy T.place_of all.items) }
-{
-    if first.len() < second.len() {
-        merge_cut(rt, alloc, second, first, workers, room)
-    } else {
-        merge_cut(rt, alloc, first, second, workers, room)
-    }
-}
-
-/// The elements of two runs, by as many threads as there are workers, in order where both runs are.
-pub fn merge_two<T: Placed + Copy + Send + Sync, R: Threads + Sync>(
-    rt: &R,
-    alloc: Global,
-    first: &[T],
-    second: &[T],
-    workers: usize,
-) -> Result<Vec<T>, AllocError>
-    ensures elements { IfOk result (λ all. IsPermutation (first.now ++ second.now) all.items) }
-    ensures ordered { AreInOrderBy T.place_of first.now → AreInOrderBy T.place_of second.now → IfOk result (λ all. AreInOrderBy T.place_of all.items) }
-{
-    let room = first.len().saturating_add(second.len());
-    merge_with_room(rt, alloc, first, second, workers, room)
+    Ok(lists)
 }
 
 /// One list behind another.
@@ -108,8 +53,67 @@ fn joined<T: Drop>(mut front: Vec<T>, mut back: Vec<T>) -> Result<Vec<T>, AllocE
     Ok(front)
 }
 
-/// The elements of some runs, by as many threads as there are workers, in order where each run is.
-#[cycle(runs)]
+/// What is done with ranges: each is merged into a list of its own.
+struct Merging;
+
+impl<'r, T: Placed + Copy + Send + Sync> Jobs<Vec<&'r [T]>> for Merging {
+    type Output = Vec<Vec<T>>;
+
+    ghost comes_of = { λ merging ranges lists. AreMerged T.place_of ranges lists.items };
+
+    fn run(&self, alloc: Global, part: &[Vec<&'r [T]>]) -> Result<Vec<Vec<T>>, AllocError> {
+        merge_each(alloc, part)
+    }
+
+    fn join(&self, front: Vec<Vec<T>>, back: Vec<Vec<T>>) -> Result<Vec<Vec<T>>, AllocError> {
+        joined(front, back)
+    }
+}
+
+/// Some element of runs, if they have any.
+fn some_element<T: Copy>(runs: &[&[T]]) -> Option<T> {
+    runs.iter().find_map(|run| run.first().copied())
+}
+
+/// The elements of some runs, so many as are counted: their ranges are merged by as many threads as there are workers, and beside that the list is
+/// made that takes all of them.
+fn merge_by_threads<T: Placed + Copy + Send + Sync, R: Threads + Sync>(
+    rt: &R,
+    alloc: Global,
+    runs: Vec<&[T]>,
+    count: usize,
+    workers: usize,
+) -> Result<Vec<T>, AllocError>
+    ensures elements { IfOk result (λ all. IsPermutation (elements_of runs.entry.items) all.items) }
+    ensures ordered { IfOk result (λ all. AreInOrderBy T.place_of all.items) }
+{
+    let filler = some_element(&runs);
+    let ranges = cut_into_ranges(alloc, runs, workers.saturating_mul(RANGES_A_WORKER))?;
+    let parts = ranges.as_slice();
+    let merge = || -> Result<Vec<Vec<T>>, AllocError>
+        requires { IsSync R.row }
+        ensures { IfOk result (λ lists. AreMerged T.place_of parts.entry.now lists.items) }
+    { run_jobs(rt, alloc, &Merging, parts, 1, workers) };
+    let make = || -> Result<Vec<T>, AllocError>
+        ensures { IfOk result (λ all. all.items ≡ []) }
+    { ready_list(alloc, filler, count) };
+    let (lists, all) = join(rt, merge, make);
+    let lists = lists?;
+    put_together(&lists, all?)
+}
+
+/// Runs as slices.
+fn slices<T>(alloc: Global, runs: &[Vec<T>]) -> Result<Vec<&[T]>, AllocError>
+    ensures { IfOk result (λ all. map (λ run. run.now) all.items ≡ map (λ run. run.items) runs.now) }
+{
+    let mut all = Vec::with_capacity(alloc, runs.len())?;
+    for run in runs {
+        all.push(run.as_slice())?;
+    }
+    Ok(all)
+}
+
+/// The elements of some runs, in order whatever came, by as many threads as there are workers.
 pub fn merge_runs<T: Placed + Copy + Send + Sync, R: Threads + Sync>(
     rt: &R,
     alloc: Global,
@@ -117,26 +121,12 @@ pub fn merge_runs<T: Placed + Copy + Send + Sync, R: Threads + Sync>(
     workers: usize,
 ) -> Result<Vec<T>, AllocError>
     ensures elements { IfOk result (λ all. IsPermutation (flat_map (λ run. run.items) runs.now) all.items) }
-    ensures ordered { All (λ run. AreInOrderBy T.place_of run.items) runs.now → IfOk result (λ all. AreInOrderBy T.place_of all.items) }
+    ensures ordered { IfOk result (λ all. AreInOrderBy T.place_of all.items) }
 {
-    match runs {
-        [] => Ok(Vec::new(alloc)),
-        [only] => merge_in_turn(alloc, only, &[], 0),
-        [first, second] => merge_two(rt, alloc, first, second, workers),
-        _ => {
-            let (some, others) = runs.split_at(runs.len() / 2);
-            let first = || -> Result<Vec<T>, AllocError>
-                requires { IsSync R.row }
-                ensures elements { IfOk result (λ all. IsPermutation (flat_map (λ run. run.items) some.entry.now) all.items) }
-                ensures ordered { All (λ run. AreInOrderBy T.place_of run.items) some.entry.now → IfOk result (λ all. AreInOrderBy T.place_of all.items) }
-            { merge_runs(rt, alloc, some, workers / 2) };
-            let second = || -> Result<Vec<T>, AllocError>
-                requires { IsSync R.row }
-                ensures elements { IfOk result (λ all. IsPermutation (flat_map (λ run. run.items) others.entry.now) all.items) }
-                ensures ordered { All (λ run. AreInOrderBy T.place_of run.items) others.entry.now → IfOk result (λ all. AreInOrderBy T.place_of all.items) }
-            { merge_runs(rt, alloc, others, workers - workers / 2) };
-            let (front, back) = join(rt, first, second);
-            merge_two(rt, alloc, &front?, &back?, workers)
-        }
+    let runs = slices(alloc, runs)?;
+    let count = count_of(&runs);
+    if workers < 2 || count < MANY {
+        return merge_in_turn(alloc, &runs);
     }
+    merge_by_threads(rt, alloc, runs, count, workers)
 }

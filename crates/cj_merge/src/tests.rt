@@ -1,4 +1,4 @@
-use crate::{merge_runs, merge_two};
+use crate::merge_runs;
 use cj_bezier::Cell;
 use cj_epoch::Tick;
 use cj_hermite::Pair;
@@ -70,15 +70,97 @@ fn runs_become_one_list(rt: HostRuntime) -> Result<(), Fail> {
     Ok(())
 }
 
-/// One run lies within a gap of the other, or they do not meet.
+/// Runs of so many cells each, one behind the other, become one list in order, by so many workers.
+fn follow_each_other<R: Threads + Sync + Abort>(
+    rt: &R,
+    alloc: Global,
+    lengths: &[u32],
+    workers: usize,
+) -> Result<(), Fail> {
+    let mut runs = Vec::new(alloc);
+    let mut count = 0u32;
+    for length in lengths {
+        runs.push(cells(alloc, count, 1, *length)?)?;
+        count = count.wrapping_add(*length);
+    }
+    let merged = merge_runs(rt, alloc, &runs, workers)?;
+    let expected = cells(alloc, 0, 1, count)?;
+    assert!(rt; merged.as_slice() == expected.as_slice());
+    Ok(())
+}
+
+/// One run lies within a gap of another, is empty, or is all that there is.
 #[test]
 fn runs_of_unlike_lengths(rt: HostRuntime) -> Result<(), Fail> {
-    let alloc = rt.alloc();
-    let long = cells(alloc, 0, 1, 20_000)?;
-    let short = cells(alloc, 20_000, 1, 3)?;
-    let expected = cells(alloc, 0, 1, 20_003)?;
-    assert!(rt; merge_two(&rt, alloc, &long, &short, 4)?.as_slice() == expected.as_slice());
-    assert!(rt; merge_two(&rt, alloc, &short, &long, 4)?.as_slice() == expected.as_slice());
-    assert!(rt; merge_two(&rt, alloc, &long, &[], 4)?.as_slice() == long.as_slice());
+    let lengths: [[u32; 3]; 5] = [
+        [20_000, 3, 0],
+        [3, 20_000, 0],
+        [0, 40_000, 0],
+        [0, 1, 40_000],
+        [9_000, 30_000, 2],
+    ];
+    for workers in [1usize, 4, 16] {
+        for row in &lengths {
+            follow_each_other(&rt, rt.alloc(), row, workers)?;
+        }
+    }
+    Ok(())
+}
+
+/// So many cells from a number down to 0.
+fn falling(alloc: Global, count: u32) -> Result<Vec<Cell>, AllocError> {
+    let mut all = Vec::new(alloc);
+    for at in 0..count {
+        all.push(cell(count.wrapping_sub(at).wrapping_sub(1)))?;
+    }
+    Ok(all)
+}
+
+/// A run that falls becomes one list in order with a run that rises, by so many workers.
+fn come_in_order<R: Threads + Sync + Abort>(
+    rt: &R,
+    alloc: Global,
+    count: u32,
+    workers: usize,
+) -> Result<(), Fail> {
+    let mut runs = Vec::new(alloc);
+    runs.push(falling(alloc, count)?)?;
+    runs.push(cells(alloc, count, 1, count)?)?;
+    let merged = merge_runs(rt, alloc, &runs, workers)?;
+    let expected = cells(alloc, 0, 1, count.wrapping_mul(2))?;
+    assert!(rt; merged.as_slice() == expected.as_slice());
+    Ok(())
+}
+
+#[test]
+fn runs_that_are_not_in_order(rt: HostRuntime) -> Result<(), Fail> {
+    for workers in [1usize, 4, 16] {
+        come_in_order(&rt, rt.alloc(), 10, workers)?;
+        come_in_order(&rt, rt.alloc(), 20_000, workers)?;
+    }
+    Ok(())
+}
+
+/// Runs of cells that are all at one place come to as many such cells, by so many workers.
+fn stay_at_one_place<R: Threads + Sync + Abort>(
+    rt: &R,
+    alloc: Global,
+    workers: usize,
+) -> Result<(), Fail> {
+    let mut runs = Vec::new(alloc);
+    for _ in 0..3 {
+        runs.push(cells(alloc, 7, 0, 10_000)?)?;
+    }
+    let merged = merge_runs(rt, alloc, &runs, workers)?;
+    let expected = cells(alloc, 7, 0, 30_000)?;
+    assert!(rt; merged.as_slice() == expected.as_slice());
+    Ok(())
+}
+
+#[test]
+fn cells_at_one_place(rt: HostRuntime) -> Result<(), Fail> {
+    for workers in [1usize, 4, 16] {
+        stay_at_one_place(&rt, rt.alloc(), workers)?;
+    }
     Ok(())
 }
