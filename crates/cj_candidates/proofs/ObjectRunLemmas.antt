@@ -1,9 +1,9 @@
 -- Runs of objects: all of a list, and a run with the one behind it.
-use Rattle.std.proofs.Common.{◌≡◌, ℕ, ◌++◌, List, map, take, drop, All, sym, ap, subst, ◌∙◌}
-use Rattle.std.specs.Prelude.{Option, Result, Ok, Err, IfOk}
+use Rattle.std.proofs.Common.{◌≡◌, ℕ, ◌+◌, ◌<◌, ◌++◌, List, [], ◌∷◌, length, get_or, map, take, All, sym, ap, subst, ◌∙◌}
+use Rattle.std.specs.Prelude.{Option, Result, Ok, Err, IfOk, option_map}
 use Rattle.std.specs.declared.alloc.AllocError.{AllocError}
 use Rattle.std.specs.List.{flat_map}
-use Rattle.std.proofs.lemmas.List.{map-append, take-append-drop}
+use Rattle.std.proofs.lemmas.List.{append-nil, map-append, take_more}
 use Rattle.std.proofs.lemmas.List.Concat.{flat_map-append}
 use Rattle.std.proofs.lemmas.List.Elements.{All-append, All-same}
 use Rattle.cj_track.specs.declared.track.Track.{Track}
@@ -11,49 +11,79 @@ use Rattle.cj_track.specs.PlainTracks.{PlainTrack}
 use Rattle.cj_track.specs.Tracks.{plain_track}
 use Rattle.cj_hermite.specs.PlainProblems.{PlainProblem}
 use Rattle.cj_hermite.specs.Slots.{slot_count}
+use Rattle.cj_bezier.specs.declared.axis_box.AxisBox.{AxisBox}
+use Rattle.cj_bezier.specs.declared.shells.Shell.{Shell}
 use Rattle.cj_bezier.specs.Shells.{shell_of}
-use Rattle.cj_bezier.specs.SlotBoxes.{PlainBox, plain_boxes}
+use Rattle.cj_bezier.specs.SlotBoxes.{PlainBox, plain_box, plain_boxes}
 use Rattle.cj_bezier.specs.Enclosed.{AreInBoxes, AreInShells}
 use Rattle.cj_bezier.specs.Looked.{boxes_in, shells_of}
 use Rattle.cj_bezier.specs.AllBoxes.{boxes_of, boxes_over}
 use Rattle.cj_candidates.specs.declared.object_run.ObjectRun.{ObjectRun}
-use Rattle.cj_candidates.specs.ObjectRuns.{AreMeasured, IsInOwnShell, IsInOwnBoxes}
+use Rattle.cj_candidates.specs.ObjectRuns.{AreMeasured, AreMeasuredIn, AreTheirs, IsInOwnShell, IsInOwnBoxes}
 use Rattle.cj_candidates.proofs.ObjectLemmas.{objects_to, in_shells, in_boxes}
 
 -- a list that was gone through to its end
-pub measured_to : (k : ℕ) (tracks : List Track) (first last n : ℕ) (run : ObjectRun) → take k tracks ≡ tracks
-    → run.shells.items ≡ map (λ e. shell_of e first last) (objects_to k tracks) → plain_boxes run.boxes.items ≡ flat_map (λ e. boxes_over e first last n) (objects_to k tracks)
-    → All (IsInOwnShell first last) (objects_to k tracks) → All (IsInOwnBoxes first last n) (objects_to k tracks) → AreMeasured tracks first last n run
-measured_to k tracks first last n run all shells boxes in_shells in_boxes = record {
+pub measured_to : (k : ℕ) (tracks : List Track) (first last n : ℕ) (found_shells : List (Option Shell)) (found_boxes : List (Option AxisBox)) → take k tracks ≡ tracks
+    → found_shells ≡ map (λ e. shell_of e first last) (objects_to k tracks) → plain_boxes found_boxes ≡ flat_map (λ e. boxes_over e first last n) (objects_to k tracks)
+    → All (IsInOwnShell first last) (objects_to k tracks) → All (IsInOwnBoxes first last n) (objects_to k tracks) → AreTheirs tracks first last n found_shells found_boxes
+measured_to k tracks first last n found_shells found_boxes all shells boxes in_shells in_boxes = record {
   shells = shells ∙ ap (λ (ts : List Track). map (λ e. shell_of e first last) (map plain_track ts)) all;
   boxes = boxes ∙ ap (λ (ts : List Track). flat_map (λ e. boxes_over e first last n) (map plain_track ts)) all;
   in_shells = subst (λ (ts : List Track). All (IsInOwnShell first last) (map plain_track ts)) all in_shells;
   in_boxes = subst (λ (ts : List Track). All (IsInOwnBoxes first last n) (map plain_track ts)) all in_boxes;
 }
 
-pub cut_in_two : {A : Type 0} (n : ℕ) (xs front back : List A) → front ≡ take n xs → back ≡ drop n xs → xs ≡ front ++ back
-cut_in_two n xs front back before behind = sym (take-append-drop n xs) ∙ (λ i. sym before i ++ sym behind i)
+-- one run is a list of runs
+pub one_run : (tracks : List Track) (first last n : ℕ) (run : ObjectRun) → AreMeasured tracks first last n run → AreMeasuredIn tracks first last n (run ∷ [])
+one_run tracks first last n run one = record {
+  shells = append-nil run.shells.items ∙ one.shells;
+  boxes = ap plain_boxes (append-nil run.boxes.items) ∙ one.boxes;
+  in_shells = one.in_shells;
+  in_boxes = one.in_boxes;
+}
 
--- both runs together
-pub both_measured : (some others all : List Track) (first last n : ℕ) (front back : ObjectRun) (r : Result ObjectRun AllocError) → all ≡ some ++ others
-    → AreMeasured some first last n front → AreMeasured others first last n back
-    → IfOk r (λ run. run.shells.items ≡ front.shells.items ++ back.shells.items) → IfOk r (λ run. plain_boxes run.boxes.items ≡ plain_boxes front.boxes.items ++ plain_boxes back.boxes.items)
-    → IfOk r (AreMeasured all first last n)
-both_measured some others all first last n front back (Err e) same one two shells boxes = tt
-both_measured some others all first last n front back (Ok run) same one two shells boxes =
-    let tracks : map plain_track all ≡ map plain_track some ++ map plain_track others = ap (λ (ts : List Track). map plain_track ts) same ∙ map-append plain_track some others in
-    let shell : PlainTrack → _ = λ e. shell_of e first last in
+-- the runs of some objects and of others behind them
+pub both_measured : (some others : List Track) (first last n : ℕ) (front back : List ObjectRun) → AreMeasuredIn some first last n front → AreMeasuredIn others first last n back
+    → AreMeasuredIn (some ++ others) first last n (front ++ back)
+both_measured some others first last n front back one two =
+    let tracks : map plain_track (some ++ others) ≡ map plain_track some ++ map plain_track others = map-append plain_track some others in
+    let shell : PlainTrack → Option Shell = λ e. shell_of e first last in
     let row : PlainTrack → List (Option PlainBox) = λ e. boxes_over e first last n in
+    let shells_in : List ObjectRun → List (Option Shell) = flat_map (λ run. run.shells.items) in
+    let boxes_in : List ObjectRun → List (Option AxisBox) = flat_map (λ run. run.boxes.items) in
     record {
-      shells = shells ∙ ap (λ xs. xs ++ back.shells.items) one.shells ∙ ap (λ xs. map shell (map plain_track some) ++ xs) two.shells
+      shells = flat_map-append (λ (run : ObjectRun). run.shells.items) front back
+          ∙ ap (λ (xs : List (Option Shell)). xs ++ shells_in back) one.shells ∙ ap (λ (xs : List (Option Shell)). map shell (map plain_track some) ++ xs) two.shells
           ∙ sym (ap (map shell) tracks ∙ map-append shell (map plain_track some) (map plain_track others));
-      boxes = boxes ∙ ap (λ xs. xs ++ plain_boxes back.boxes.items) one.boxes ∙ ap (λ xs. flat_map row (map plain_track some) ++ xs) two.boxes
+      boxes = ap plain_boxes (flat_map-append (λ (run : ObjectRun). run.boxes.items) front back)
+          ∙ map-append (option_map plain_box) (boxes_in front) (boxes_in back)
+          ∙ ap (λ (xs : List (Option PlainBox)). xs ++ plain_boxes (boxes_in back)) one.boxes
+          ∙ ap (λ (xs : List (Option PlainBox)). flat_map row (map plain_track some) ++ xs) two.boxes
           ∙ sym (ap (flat_map row) tracks ∙ flat_map-append row (map plain_track some) (map plain_track others));
-      in_shells = All-same (IsInOwnShell first last) (map plain_track all) (map plain_track some ++ map plain_track others) tracks
+      in_shells = All-same (IsInOwnShell first last) (map plain_track (some ++ others)) (map plain_track some ++ map plain_track others) tracks
           (All-append (IsInOwnShell first last) (map plain_track some) (map plain_track others) one.in_shells two.in_shells);
-      in_boxes = All-same (IsInOwnBoxes first last n) (map plain_track all) (map plain_track some ++ map plain_track others) tracks
+      in_boxes = All-same (IsInOwnBoxes first last n) (map plain_track (some ++ others)) (map plain_track some ++ map plain_track others) tracks
           (All-append (IsInOwnBoxes first last n) (map plain_track some) (map plain_track others) one.in_boxes two.in_boxes);
     }
+
+-- runs put behind one another
+pub as_one_run : (tracks : List Track) (first last n : ℕ) (runs : List ObjectRun) (r : Result ObjectRun AllocError) → AreMeasuredIn tracks first last n runs
+    → IfOk r (λ all. all.shells.items ≡ flat_map (λ run. run.shells.items) runs) → IfOk r (λ all. all.boxes.items ≡ flat_map (λ run. run.boxes.items) runs)
+    → IfOk r (AreMeasured tracks first last n)
+as_one_run tracks first last n runs (Err e) measured shells boxes = tt
+as_one_run tracks first last n runs (Ok all) measured shells boxes = record {
+  shells = shells ∙ measured.shells;
+  boxes = ap plain_boxes boxes ∙ measured.boxes;
+  in_shells = measured.in_shells;
+  in_boxes = measured.in_boxes;
+}
+
+-- of the first runs, and of one more
+pub run_more : {X : Type 0} (items : ObjectRun → List X) (runs : List ObjectRun) (i : ℕ) (run : ObjectRun) → i < length runs → run ≡ get_or runs i run
+    → flat_map items (take (i + 1) runs) ≡ flat_map items (take i runs) ++ items run
+run_more items runs i run lt is =
+    ap (flat_map items) (take_more runs i run lt ∙ ap (λ (r : ObjectRun). take i runs ++ r ∷ []) (sym is))
+    ∙ flat_map-append items (take i runs) (run ∷ []) ∙ ap (λ xs. flat_map items (take i runs) ++ xs) (append-nil (items run))
 
 -- ---- all objects of a case
 

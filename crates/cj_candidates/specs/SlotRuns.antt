@@ -1,14 +1,17 @@
 -- What is found in a run of slots.
-use Rattle.std.specs.Prelude.{◌≡◌, ℕ, ◌*◌, ◌<◌, ◌≤◌, List, length, vec_len, Result, IfOk, IsErrOf}
+use Rattle.std.specs.Prelude.{◌≡◌, ℕ, ◌<◌, ◌≤◌, List, length, min, vec_len, Result, IfOk, IsErrOf}
 use Rattle.std.specs.List.{flat_map, range_with_len, sum_by}
 use Rattle.std.specs.List.Sorted.{IsPermutation}
 use Rattle.cj_hermite.specs.PlainProblems.{PlainProblem}
+use Rattle.cj_hermite.specs.Problems.{plain_problem}
 use Rattle.cj_hermite.specs.Roots.{PlainCell, roots_in_slot}
 use Rattle.cj_bezier.specs.Cells.{plain_cells}
 use Rattle.cj_bezier.specs.Looked.{pairs_looked}
 use Rattle.cj_cells.specs.declared.refine_error.RefineError.{RefineError}
 use Rattle.cj_cells.specs.declared.refine_error.RefineError.TheVariants.{TooMany}
 use Rattle.cj_candidates.specs.declared.slot_run.SlotRun.{SlotRun}
+use Rattle.cj_candidates.specs.declared.slot_run.SlotRuns.{SlotRuns}
+use Rattle.cj_candidates.specs.declared.stretch.Stretch.{Stretch}
 
 -- the roots of the pairs that are looked at in so many slots from one on, slot by slot
 abbrev pub roots_over : PlainProblem → ℕ → ℕ → List PlainCell
@@ -18,14 +21,37 @@ roots_over case from count = flat_map (λ slot. roots_in_slot case slot (pairs_l
 abbrev pub looked_over : PlainProblem → ℕ → ℕ → ℕ
 looked_over case from count = sum_by (λ slot. length (pairs_looked case slot)) (range_with_len from count)
 
+-- a run's
+abbrev pub roots_of_stretch : Stretch → List PlainCell
+roots_of_stretch stretch = roots_over (plain_problem stretch.ground.problem.now) stretch.from stretch.count
+
+abbrev pub looked_of_stretch : Stretch → ℕ
+looked_of_stretch stretch = looked_over (plain_problem stretch.ground.problem.now) stretch.from stretch.count
+
+-- those of several runs, one run behind another
+abbrev pub roots_at : List Stretch → List PlainCell
+roots_at stretches = flat_map roots_of_stretch stretches
+
+abbrev pub looked_at : List Stretch → ℕ
+looked_at stretches = sum_by looked_of_stretch stretches
+
 -- these are found, in whatever order, at most so many
 pub record IsFound (case : PlainProblem) (from count limit : ℕ) (run : SlotRun) : Type 0 where
   pub roots : IsPermutation (roots_over case from count) (plain_cells run.roots.items)
   pub few : vec_len run.roots ≤ limit
   pub touching : run.touching ≡ looked_over case from count
-  pub small : run.touching ≤ count * 4_000_000
 
 -- they are found, or there are more, or memory ran out
 pub record AreSought (case : PlainProblem) (from count limit : ℕ) (result : Result SlotRun RefineError) : Type 0 where
   pub too_many : IsErrOf result TooMany → limit < length (roots_over case from count)
   pub found : IfOk result (IsFound case from count limit)
+
+-- of several runs these are found, in whatever order
+pub record IsFoundAt (stretches : List Stretch) (runs : SlotRuns) : Type 0 where
+  pub roots : IsPermutation (roots_at stretches) (plain_cells (flat_map (λ list. list.items) runs.roots.items))
+  pub touching : runs.touching ≡ min (looked_at stretches) 18_446_744_073_709_551_615
+
+-- they are found, or there are more in all, or memory ran out
+pub record AreSoughtAt (stretches : List Stretch) (limit : ℕ) (result : Result SlotRuns RefineError) : Type 0 where
+  pub too_many : IsErrOf result TooMany → limit < length (roots_at stretches)
+  pub found : IfOk result (IsFoundAt stretches)

@@ -11,6 +11,7 @@ mod objects_measured;
 mod slot_boxes;
 mod slot_run;
 mod slots_searched;
+mod stretch;
 
 pub use candidates::Candidates;
 pub use filtering::find_candidates;

@@ -1,22 +1,24 @@
 //! The shells and boxes of some objects: one object after another, or by several threads that take the next few objects each.
-ghost use Rattle.std.specs.Prelude.{◌≡◌, ◌<◌, ◌++◌, IfOk, OnOk};
+ghost use Rattle.std.specs.Prelude.{◌≡◌, ◌<◌, ◌++◌, [], flat_map, IfOk, OnOk};
+ghost use Rattle.std.specs.Thread.{IsSync};
 ghost use Rattle.cj_track.specs.Tracks.{plain_track};
 ghost use Rattle.cj_bezier.specs.Shells.{shell_of};
 ghost use Rattle.cj_bezier.specs.SlotBoxes.{plain_boxes};
 ghost use Rattle.cj_bezier.specs.AllBoxes.{boxes_over};
 ghost use Rattle.cj_walk.specs.TrackWalks.{IsWalk};
-ghost use Rattle.cj_candidates.specs.ObjectRuns.{AreMeasured, IsInOwnBoxes, IsInOwnShell};
+ghost use Rattle.cj_candidates.specs.ObjectRuns.{AreMeasured, AreMeasuredIn, IsInOwnBoxes, IsInOwnShell};
 
 use crate::object_run::ObjectRun;
 use cj_bezier::{AxisBox, Shell};
 use cj_epoch::Window;
 use cj_grid::slot_box;
 use cj_jobs::{Jobs, run_jobs};
+use cj_merge::ready_list;
 use cj_sieve::shell;
 use cj_track::Track;
 use cj_walk::TrackWalk;
 use std::alloc::{AllocError, Global};
-use std::thread::Threads;
+use std::thread::{Threads, join};
 
 /// Appends the boxes of a walk's track in so many slots.
 fn append_boxes(
@@ -78,13 +80,25 @@ fn measure_in_turn(
     Ok(ObjectRun { shells, boxes })
 }
 
-/// What is found of some objects and of those behind them.
-fn joined(mut front: ObjectRun, mut back: ObjectRun) -> Result<ObjectRun, AllocError>
-    ensures shells { IfOk result (λ run. run.shells.items ≡ front.shells.items ++ back.shells.items) }
-    ensures boxes { IfOk result (λ run. plain_boxes run.boxes.items ≡ plain_boxes front.boxes.items ++ plain_boxes back.boxes.items) }
+/// Some objects, as a list of one run.
+fn measure_part(
+    alloc: Global,
+    tracks: &[Track],
+    window: Window,
+    slots: u32,
+) -> Result<Vec<ObjectRun>, AllocError>
+    ensures { IfOk result (λ runs. AreMeasuredIn tracks.now window.first.micros window.last.micros slots runs.items) }
 {
-    front.shells.append(&mut back.shells)?;
-    front.boxes.append(&mut back.boxes)?;
+    let mut runs = Vec::with_capacity(alloc, 1)?;
+    runs.push(measure_in_turn(alloc, tracks, window, slots)?)?;
+    Ok(runs)
+}
+
+/// The runs of some objects and of those behind them.
+fn joined(mut front: Vec<ObjectRun>, mut back: Vec<ObjectRun>) -> Result<Vec<ObjectRun>, AllocError>
+    ensures { IfOk result (λ runs. runs.items ≡ front.items ++ back.items) }
+{
+    front.append(&mut back)?;
     Ok(front)
 }
 
@@ -96,21 +110,69 @@ struct Measuring {
 }
 
 impl Jobs<Track> for Measuring {
-    type Output = ObjectRun;
+    type Output = Vec<ObjectRun>;
 
-    ghost comes_of = { λ measuring tracks run. AreMeasured tracks measuring.window.first.micros measuring.window.last.micros measuring.slots run };
+    ghost comes_of = { λ measuring tracks runs. AreMeasuredIn tracks measuring.window.first.micros measuring.window.last.micros measuring.slots runs.items };
 
-    fn run(&self, alloc: Global, part: &[Track]) -> Result<ObjectRun, AllocError> {
-        measure_in_turn(alloc, part, self.window, self.slots)
+    fn run(&self, alloc: Global, part: &[Track]) -> Result<Vec<ObjectRun>, AllocError> {
+        measure_part(alloc, part, self.window, self.slots)
     }
 
-    fn join(&self, front: ObjectRun, back: ObjectRun) -> Result<ObjectRun, AllocError> {
+    fn join(
+        &self,
+        front: Vec<ObjectRun>,
+        back: Vec<ObjectRun>,
+    ) -> Result<Vec<ObjectRun>, AllocError> {
         joined(front, back)
     }
 }
 
+/// The shells and boxes of some runs, one run behind another: shells into a list with room for so many, boxes into an empty list that is given.
+fn put_together(
+    alloc: Global,
+    runs: &[ObjectRun],
+    count: usize,
+    mut boxes: Vec<Option<AxisBox>>,
+) -> Result<ObjectRun, AllocError>
+    requires empty { boxes.items ≡ [] }
+    ensures shells { IfOk result (λ all. all.shells.items ≡ flat_map (λ run. run.shells.items) runs.now) }
+    ensures boxes { IfOk result (λ all. all.boxes.items ≡ flat_map (λ run. run.boxes.items) runs.now) }
+{
+    let mut shells = Vec::with_capacity(alloc, count)?;
+    for run in runs {
+        shells.extend_from_slice(&run.shells)?;
+        boxes.extend_from_slice(&run.boxes)?;
+    }
+    Ok(ObjectRun { shells, boxes })
+}
+
 /// So many objects a thread takes at once.
 const OBJECTS_A_PART: usize = 4;
+
+/// Some objects, by as many threads as there are workers, and beside that the list is made that takes all boxes.
+fn measure_by_threads<R: Threads + Sync>(
+    rt: &R,
+    alloc: Global,
+    tracks: &[Track],
+    window: Window,
+    slots: u32,
+    workers: usize,
+) -> Result<ObjectRun, AllocError>
+    ensures { IfOk result (AreMeasured tracks.now window.first.micros window.last.micros slots) }
+{
+    let measuring = &Measuring { window, slots };
+    let count = tracks.len().saturating_mul(slots as usize);
+    let measure = || -> Result<Vec<ObjectRun>, AllocError>
+        requires { IsSync R.row }
+        ensures { IfOk result (λ runs. AreMeasuredIn tracks.entry.now measuring.entry.now.window.first.micros measuring.entry.now.window.last.micros measuring.entry.now.slots runs.items) }
+    { run_jobs(rt, alloc, measuring, tracks, OBJECTS_A_PART, workers) };
+    let make = || -> Result<Vec<Option<AxisBox>>, AllocError>
+        ensures { IfOk result (λ boxes. boxes.items ≡ []) }
+    { ready_list(alloc, Some(None), count) };
+    let (runs, boxes) = join(rt, measure, make);
+    let runs = runs?;
+    put_together(alloc, &runs, tracks.len(), boxes?)
+}
 
 /// The shells of some objects in a window, and their boxes in so many of its slots, by as many threads as there are workers.
 pub fn measure_objects<R: Threads + Sync>(
@@ -123,13 +185,8 @@ pub fn measure_objects<R: Threads + Sync>(
 ) -> Result<ObjectRun, AllocError>
     ensures { IfOk result (AreMeasured tracks.now window.first.micros window.last.micros slots) }
 {
-    let measuring = Measuring { window, slots };
-    run_jobs(
-        rt,
-        alloc,
-        &measuring,
-        tracks,
-        OBJECTS_A_PART,
-        workers as usize,
-    )
+    if workers < 2 {
+        return measure_in_turn(alloc, tracks, window, slots);
+    }
+    measure_by_threads(rt, alloc, tracks, window, slots, workers as usize)
 }

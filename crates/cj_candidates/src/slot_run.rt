@@ -3,8 +3,17 @@ use cj_bezier::Cell;
 /// What is found in a run of slots.
 #[derive(Drop)]
 pub struct SlotRun {
-    /// The roots of the pairs that are looked at, slot by slot.
+    /// The roots of the pairs that are looked at.
     pub roots: Vec<Cell>,
     /// How many pairs these are, summed over the slots.
+    pub touching: u64,
+}
+
+/// What is found in several runs of slots.
+#[derive(Drop)]
+pub struct SlotRuns {
+    /// The roots of the pairs that are looked at, a list for each run.
+    pub roots: Vec<Vec<Cell>>,
+    /// How many pairs these are, summed over the slots of all runs, or the greatest number that there is.
     pub touching: u64,
 }

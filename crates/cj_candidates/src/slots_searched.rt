@@ -1,25 +1,26 @@
-//! The roots of a run of slots: slot by slot, or half of the slots on another thread.
-ghost use Rattle.std.specs.Prelude.{◌≡◌, ◌+◌, ◌^◌, ◌<◌, ◌≤◌, ◌++◌, map, vec_len, IfOk, IsErrOf};
-ghost use Rattle.std.specs.Thread.{IsSync};
+//! The roots of a run of slots: slot by slot, or by several threads that take the next few slots each.
+ghost use Rattle.std.specs.Prelude.{◌≡◌, ℕ, ◌+◌, ◌<◌, ◌≤◌, ◌++◌, List, length, map, min, vec_len, flat_map, IfOk, IsErrOf};
 ghost use Rattle.std.specs.List.Sorted.{IsPermutation};
 ghost use Rattle.cj_hermite.specs.Pairs.{objects_of};
 ghost use Rattle.cj_hermite.specs.Problems.{plain_problem};
-ghost use Rattle.cj_bezier.specs.Cells.{plain_cells};
 ghost use Rattle.cj_bezier.specs.Looked.{pairs_looked};
-ghost use Rattle.cj_candidates.specs.SlotRuns.{AreSought};
+ghost use Rattle.cj_candidates.specs.declared.stretch.Stretch.{Stretch};
+ghost use Rattle.cj_candidates.specs.SlotRuns.{AreSought, AreSoughtAt, looked_at, looked_over, roots_at, roots_over};
 
 use crate::ground::Ground;
 use crate::keeping::kept_of;
 use crate::slot_boxes::boxes_in_slot;
-use crate::slot_run::SlotRun;
+use crate::slot_run::{SlotRun, SlotRuns};
+use crate::stretch::Stretch;
 use cj_bezier::Cell;
 use cj_cells::{RefineError, roots_of_slot};
 use cj_grid::find_touching;
 use cj_hermite::{Hints, Pair};
-use cj_merge::{Placed, merge_two};
+use cj_jobs::{Jobs, run_jobs};
+use cj_merge::{Placed, merge_runs};
 use cj_sieve::ShelledObjects;
 use std::alloc::{AllocError, Global};
-use std::thread::{Threads, join};
+use std::thread::Threads;
 
 /// The pairs that are looked at in a slot: of those whose boxes touch the ones that are kept.
 fn looked_pairs(alloc: Global, ground: &Ground<'_>, slot: u32) -> Result<Vec<Pair>, AllocError>
@@ -64,33 +65,152 @@ fn search_in_turn(
     Ok(SlotRun { roots, touching })
 }
 
-/// What is found in a run of slots and in the one behind it, the roots merged by as many threads as there are workers.
-fn joined<R: Threads + Sync>(
-    rt: &R,
+/// Some runs of slots, one after another, each with at most so many roots.
+fn search_each(
     alloc: Global,
-    front: &SlotRun,
-    back: &SlotRun,
-    workers: u32,
+    stretches: &[Stretch<'_>],
     limit: u64,
-) -> Result<SlotRun, RefineError>
-    requires { front.now.touching + back.now.touching < 2 ^ 64 }
-    ensures too_many { IsErrOf result RefineError.TooMany → limit < vec_len front.now.roots + vec_len back.now.roots }
-    ensures roots { IfOk result (λ run. IsPermutation (plain_cells front.now.roots.items ++ plain_cells back.now.roots.items) (plain_cells run.roots.items)) }
-    ensures few { IfOk result (λ run. vec_len run.roots ≤ limit) }
-    ensures touching { IfOk result (λ run. run.touching ≡ front.now.touching + back.now.touching) }
+) -> Result<SlotRuns, RefineError>
+    requires { limit ≤ 4_000_000 }
+    ensures { AreSoughtAt stretches.now limit result }
 {
-    if front.roots.len() as u64 + back.roots.len() as u64 > limit {
-        return Err(RefineError::TooMany);
+    let mut all = Vec::with_capacity(alloc, stretches.len())?;
+    let mut sum = 0u64;
+    for stretch in stretches {
+        let SlotRun { roots, touching } = search_in_turn(
+            alloc,
+            &stretch.ground,
+            stretch.from,
+            stretch.count,
+            limit,
+        )?;
+        all.push(roots)?;
+        sum = sum.saturating_add(touching);
     }
-    let roots = merge_two(rt, alloc, &front.roots, &back.roots, workers as usize)?;
-    Ok(SlotRun {
-        roots,
-        touching: front.touching + back.touching,
+    Ok(SlotRuns {
+        roots: all,
+        touching: sum,
     })
 }
 
+/// What is found in some runs of slots and in others behind them.
+fn joined(
+    front: Result<SlotRuns, RefineError>,
+    back: Result<SlotRuns, RefineError>,
+) -> Result<SlotRuns, RefineError>
+    ensures { (some others : List Stretch) → (limit : ℕ) → AreSoughtAt some limit front → AreSoughtAt others limit back
+        → AreSoughtAt (some ++ others) limit result }
+{
+    let SlotRuns {
+        mut roots,
+        touching,
+    } = front?;
+    let mut back = back?;
+    roots.append(&mut back.roots)?;
+    Ok(SlotRuns {
+        roots,
+        touching: touching.saturating_add(back.touching),
+    })
+}
+
+/// What is done with runs of slots: each is searched, with at most so many roots. That there are more is an output too.
+#[derive(Clone, Copy)]
+struct Searching {
+    limit: u64,
+    ghost few: { limit ≤ 4_000_000 },
+}
+
+impl<'g> Jobs<Stretch<'g>> for Searching {
+    type Output = Result<SlotRuns, RefineError>;
+
+    ghost comes_of = { λ searching stretches found. AreSoughtAt stretches searching.limit found };
+
+    fn run(
+        &self,
+        alloc: Global,
+        part: &[Stretch<'g>],
+    ) -> Result<Result<SlotRuns, RefineError>, AllocError> {
+        Ok(search_each(alloc, part, self.limit))
+    }
+
+    fn join(
+        &self,
+        front: Result<SlotRuns, RefineError>,
+        back: Result<SlotRuns, RefineError>,
+    ) -> Result<Result<SlotRuns, RefineError>, AllocError>
+        ensures { (some others : List Stretch) → AreSoughtAt some self.now.limit front → AreSoughtAt others self.now.limit back
+            → IfOk result (AreSoughtAt (some ++ others) self.now.limit) }
+    {
+        Ok(joined(front, back))
+    }
+}
+
+/// So many slots from one on, in runs of so many, the last of which may have fewer.
+fn cut<'g>(
+    alloc: Global,
+    ground: &Ground<'g>,
+    from: u32,
+    count: u32,
+    size: u32,
+) -> Result<Vec<Stretch<'g>>, AllocError>
+    requires within { from + count ≤ ground.now.slots }
+    requires some { 0 < size }
+    ensures roots { IfOk result (λ stretches. roots_at stretches.items ≡ roots_over (plain_problem ground.now.problem.now) from count) }
+    ensures touching { IfOk result (λ stretches. looked_at stretches.items ≡ looked_over (plain_problem ground.now.problem.now) from count) }
+{
+    let mut stretches = Vec::new(alloc);
+    let mut done = 0;
+    while done < count {
+        let next = size.min(count - done);
+        stretches.push(Stretch {
+            ground: *ground,
+            from: from + done,
+            count: next,
+        })?;
+        done += next;
+    }
+    Ok(stretches)
+}
+
+/// How many roots there are in some lists, or the greatest number that there is.
+fn count_of(lists: &[Vec<Cell>]) -> usize
+    ensures { result ≡ min (length (flat_map (λ list. list.items) lists.now)) usize.MAX }
+{
+    let mut count = 0usize;
+    for list in lists {
+        count = count.saturating_add(list.len());
+    }
+    count
+}
+
+/// The roots of some runs of slots merged by as many threads as there are workers, if there are at most so many.
+fn merged<R: Threads + Sync>(
+    rt: &R,
+    alloc: Global,
+    runs: &SlotRuns,
+    workers: u32,
+    limit: u64,
+) -> Result<SlotRun, RefineError>
+    requires { limit ≤ 4_000_000 }
+    ensures too_many { IsErrOf result RefineError.TooMany → limit < length (flat_map (λ list. list.items) runs.now.roots.items) }
+    ensures roots { IfOk result (λ run. IsPermutation (flat_map (λ list. list.items) runs.now.roots.items) run.roots.items) }
+    ensures few { IfOk result (λ run. vec_len run.roots ≤ limit) }
+    ensures touching { IfOk result (λ run. run.touching ≡ runs.now.touching) }
+{
+    if count_of(&runs.roots) as u64 > limit {
+        return Err(RefineError::TooMany);
+    }
+    let roots = merge_runs(rt, alloc, &runs.roots, workers as usize)?;
+    Ok(SlotRun {
+        roots,
+        touching: runs.touching,
+    })
+}
+
+/// Slots are cut into so many runs for each worker, or fewer.
+const RUNS_A_WORKER: u32 = 8;
+
 /// So many slots from one on, by as many threads as there are workers, with at most so many roots.
-#[cycle(slots)]
 pub fn search_slots<R: Threads + Sync>(
     rt: &R,
     alloc: Global,
@@ -104,30 +224,12 @@ pub fn search_slots<R: Threads + Sync>(
     requires limit { limit ≤ 4_000_000 }
     ensures { AreSought (plain_problem ground.now.problem.now) from count limit result }
 {
-    if workers < 2 || count < 2 {
+    if workers < 2 {
         return search_in_turn(alloc, ground, from, count, limit);
     }
-    let low = count / 2;
-    let high = count - low;
-    let middle = from + low;
-    let first = || -> Result<SlotRun, RefineError>
-        requires { IsSync R.row × (from + low ≤ ground.now.slots) × (limit ≤ 4_000_000) }
-        ensures { AreSought (plain_problem ground.entry.now.problem.now) from low limit result }
-    { search_slots(rt, alloc, ground, from, low, workers / 2, limit) };
-    let second = || -> Result<SlotRun, RefineError>
-        requires { IsSync R.row × (middle + high ≤ ground.now.slots) × (limit ≤ 4_000_000) }
-        ensures { AreSought (plain_problem ground.entry.now.problem.now) middle high limit result }
-    {
-        search_slots(
-            rt,
-            alloc,
-            ground,
-            middle,
-            high,
-            workers - workers / 2,
-            limit,
-        )
-    };
-    let (front, back) = join(rt, first, second);
-    joined(rt, alloc, &front?, &back?, workers, limit)
+    let size = count.div_ceil(workers.saturating_mul(RUNS_A_WORKER));
+    let stretches = cut(alloc, ground, from, count, size.max(1))?;
+    let searching = Searching { limit };
+    let runs = run_jobs(rt, alloc, &searching, &stretches, 1, workers as usize)??;
+    merged(rt, alloc, &runs, workers, limit)
 }

@@ -42,5 +42,6 @@ loop-track-preserved c =
 pub returns : goal.returns
 returns c =
     let i = c.loop-track.invariant in
-    measured_to c.loop-track.track-index c.args.tracks.now c.args.window.first.micros c.args.window.last.micros c.args.slots _ (take_all c.loop-track.track-index c.args.tracks.now (omega arith))
+    measured_to c.loop-track.track-index c.args.tracks.now c.args.window.first.micros c.args.window.last.micros c.args.slots c.loop-track.shells.items c.loop-track.boxes.items
+    (take_all c.loop-track.track-index c.args.tracks.now (omega arith))
     i.shells i.boxes i.in_shells i.in_boxes

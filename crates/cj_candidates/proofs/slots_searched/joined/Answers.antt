@@ -1,26 +1,20 @@
-use Rattle.std.proofs.Common.{◌≡◌, List, ◌++◌, ap, subst, ◌∙◌, arith, length-append}
-use Rattle.std.specs.List.Sorted.{IsPermutation}
-use Rattle.std.proofs.lemmas.List.{map-append}
-use Rattle.std.proofs.lemmas.List.Sorted.{IsPermutation-map, length_permutation}
-use Rattle.cj_hermite.specs.Roots.{PlainCell}
-use Rattle.cj_bezier.specs.declared.cell.Cell.{Cell}
-use Rattle.cj_bezier.specs.Cells.{plain_cell, plain_cells}
+use Rattle.std.proofs.Common.{subst}
+use Rattle.std.specs.Prelude.{IfOk}
+use Rattle.cj_candidates.specs.declared.slot_run.SlotRuns.{SlotRuns}
+use Rattle.cj_candidates.specs.SlotRuns.{IsFoundAt}
+use Rattle.cj_candidates.proofs.SlotRunLemmas.{both_found}
 use Rattle.cj_candidates.proofs.slots_searched.joined.Goals as goal
 
-pub returns-clause-roots : goal.returns-clause-roots
-returns-clause-roots g c =
-    let front = c.args.front.now.roots.items in
-    let back = c.args.back.now.roots.items in
-    let all = c.in_ok-roots.roots.items in
-    let lent : c.deref.result.now ++ c.deref-2.result.now ≡ front ++ back =
-    ap (λ (cs : List Cell). cs ++ c.deref-2.result.now) c.deref.ensures.value ∙ ap (λ (cs : List Cell). front ++ cs) c.deref-2.ensures.value in
-    subst (λ (rs : List PlainCell). IsPermutation rs (plain_cells all)) (map-append plain_cell front back)
-    (IsPermutation-map plain_cell (front ++ back) all (subst (λ (cs : List Cell). IsPermutation cs all) lent c.in_ok-roots.ensures.elements))
-
-pub returns-clause-few : goal.returns-clause-few
-returns-clause-few g c =
-    let front = c.args.front.now.roots in
-    let back = c.args.back.now.roots in
-    let all = c.in_ok-roots.roots in
-    let long = length_permutation (c.deref.result.now ++ c.deref-2.result.now) all.items c.in_ok-roots.ensures.elements in
-    omega (arith, long, length-append c.deref.result.now c.deref-2.result.now, c.deref.ensures.len, c.deref-2.ensures.len, front.ok.0, back.ok.0, all.ok.0)
+pub returns : goal.returns
+returns c = λ some others limit one two.
+    let front = c.in_ok-roots.field-0 in
+    let back = c.in_ok-back.back in
+    let all : SlotRuns = record { roots = c.append.new.self; touching = c.saturating_add.result } in
+    record {
+      too_many = λ is. absurd cc;
+      found = both_found some others front back all
+          (subst (λ r. IfOk r (IsFoundAt some)) c.in_ok-roots.was one.found)
+          (subst (λ r. IfOk r (IsFoundAt others)) c.in_ok-back.was two.found)
+          c.in_ok-append.ensures.items
+          c.saturating_add.ensures;
+    }

@@ -81,6 +81,5 @@ returns c =
         roots = subst (λ (rs : List PlainCell). IsPermutation rs (plain_cells new.items)) (i.found ∙ ap (roots_over case from) all) moved;
         few = omega (arith, i.room, c.in_ok-sort_by_key.ensures.len);
         touching = i.counted ∙ ap (looked_over case from) all;
-        small = omega (arith, i.small, all);
       };
     }
