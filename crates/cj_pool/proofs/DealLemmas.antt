@@ -1,10 +1,9 @@
--- Roots on deques, and hands on stations.
-use Rattle.std.proofs.Common.{◌≡◌, ◌≢◌, ℕ, zero, suc, ◌+◌, ◌%◌, ◌<◌, ◌≤◌, Bool, true, false, cond, List, [], ◌∷◌, ◌++◌, length, take, set, get_or, refl, sym, ap, ◌∙◌, subst, inl, inr, arith, append-nil}
-use Rattle.std.specs.Prelude.{All, Some, filter, nat_eq, slice_get}
+-- Roots on deques.
+use Rattle.std.proofs.Common.{◌≡◌, ◌≢◌, ℕ, zero, suc, ◌+◌, ◌%◌, ◌<◌, ◌≤◌, Bool, true, false, cond, List, [], ◌∷◌, length, map, get_or, refl, sym, ap, ◌∙◌, subst, inl, inr, arith}
+use Rattle.std.specs.Prelude.{All, IfOk, Ok, Result, Some, filter, nat_eq, slice_get}
 use Rattle.std.specs.List.{range_with_len}
 use Rattle.std.specs.declared.alloc.Global.{Global}
-use Rattle.std.proofs.lemmas.List.{length-set, get_or-set_same, get_or-set_other, get_or-map}
-use Rattle.std.proofs.lemmas.List.Elements.{filter_more, All-set}
+use Rattle.std.proofs.lemmas.List.{get_or-map, length-map}
 use Rattle.std.proofs.lemmas.List.FromFn.{get_or-range_with_len}
 use Rattle.std.proofs.Math.Nat.{mod-lt}
 use Rattle.std.proofs.lemmas.Bool.{cases_eq}
@@ -18,10 +17,9 @@ use Rattle.cj_cells.specs.Cells.{root_numbers}
 use Rattle.cj_pool.specs.declared.station.Station.{Station}
 use Rattle.cj_pool.specs.Hands.{roots_dealt}
 use Rattle.cj_pool.specs.Passes.{deques}
-use Rattle.cj_pool.specs.Stations.{own_deque, own_deques, IsStation, AreStations, IsUnused, IsLike, AreDealt}
+use Rattle.cj_pool.specs.Stations.{own_deques, IsStation, AreStations, IsUnused, IsLike, AreDealt}
 use Rattle.cj_pool.specs.Tree.{InTree}
 use Rattle.cj_pool.specs.Weights.{weigh}
-use Rattle.cj_pool.proofs.PassLemmas.{map_set_same}
 use Rattle.cj_pool.proofs.StationLemmas.{got}
 
 -- ---- a root's number is its place
@@ -32,30 +30,11 @@ numbered_at roots i c numbered lt is =
     ap (λ (x : Cell). x.root) is ∙ sym (get_or-map (λ (x : Cell). x.root) roots i c 0 lt) ∙ ap (λ ks. get_or ks i 0) numbered ∙ get_or-range_with_len
     0 (length roots) i 0 lt ∙ omega arith
 
--- the roots of a deque, with one root more dealt
-dealt_more : (roots : List Cell) (n j i : ℕ) (c : Cell) → i < length roots → c ≡ get_or roots i c → c.root ≡ i →
-    roots_dealt (take (i + 1) roots) n j ≡ roots_dealt (take i roots) n j ++ cond (nat_eq (i % n) j) (c ∷ []) []
-dealt_more roots n j i c lt is at =
-    filter_more (λ x. nat_eq (x.root % n) j) roots i c lt
-    ∙ ap (λ (x : Cell). roots_dealt (take i roots) n j ++ cond (nat_eq (x.root % n) j) (x ∷ []) []) (sym is)
-    ∙ ap (λ (k : ℕ). roots_dealt (take i roots) n j ++ cond (nat_eq (k % n) j) (c ∷ []) []) at
-
 same_test : (a b : ℕ) → a ≡ b → nat_eq a b ≡ true
 same_test a b e = grind (arith, nat_tests)
 
 other_test : (a b : ℕ) → a ≢ b → nat_eq a b ≡ false
 other_test a b ne = grind (arith, nat_tests)
-
-pub dealt_here : (roots : List Cell) (n j i : ℕ) (c : Cell) → i < length roots → c ≡ get_or roots i c → c.root ≡ i → i % n ≡ j →
-    roots_dealt (take (i + 1) roots) n j ≡ roots_dealt (take i roots) n j ++ c ∷ []
-dealt_here roots n j i c lt is at e = dealt_more roots n j i c lt is at ∙ ap (λ b. roots_dealt (take i roots) n j ++ cond b (c ∷ []) [])
-    (same_test (i % n) j e)
-
-pub dealt_elsewhere : (roots : List Cell) (n j i : ℕ) (c : Cell) → i < length roots → c ≡ get_or roots i c → c.root ≡ i → i % n ≢ j →
-    roots_dealt (take (i + 1) roots) n j ≡ roots_dealt (take i roots) n j
-dealt_elsewhere roots n j i c lt is at ne =
-    dealt_more roots n j i c lt is at ∙ ap (λ b. roots_dealt (take i roots) n j ++ cond b (c ∷ []) []) (other_test (i % n) j ne) ∙ append-nil
-    (roots_dealt (take i roots) n j)
 
 -- ---- a root is in its own tree
 
@@ -92,45 +71,68 @@ module _ {K : Type 0} where
     taken = rw (like.below, like.taken, like.above) is.taken;
   }
 
-  module _ (n i : ℕ) (ss : List (Station K)) (old new : Station K) (lt : i < length ss) (is : old ≡ get_or ss i old) (like : IsLike old new) where
-    pub like_deques : own_deques (set ss i new) ≡ own_deques ss
-    like_deques = map_set_same own_deque ss i old new lt is like.same.0
+-- ---- stations that got their roots
 
-    pub like_stations : AreStations n ss → AreStations n (set ss i new)
-    like_stations are j d lt' =
-        rw like_deques (elim (cases_eq j i) [
-          | inl e ↦ subst (λ (k : ℕ). IsStation n (own_deques ss) k (get_or (set ss i new) k d)) (sym e)
-              (subst (IsStation n (own_deques ss) i) (sym (get_or-set_same ss i new d lt))
-              (like_station n i (own_deques ss) old new (subst (IsStation n (own_deques ss) i) (sym is) (are i old lt)) like))
-          | inr ne ↦ subst (IsStation n (own_deques ss) j) (sym (get_or-set_other ss i j new d ne))
-              (are j d (omega (arith, lt', length-set ss i new)))
-        ])
+module _ {K : Type 0} where
+  -- each station got its own of these roots, of so many stations
+  pub record AreServed (roots : List Cell) (n : ℕ) (old new : List (Station K)) : Type 0 where
+    pub len : length new ≡ length old
+    pub like : (i : ℕ) (d e : Station K) → i < length old → IsLike (get_or old i e) (get_or new i d)
+    pub dealt : (i : ℕ) (d e : Station K) → i < length old → (worker_view (get_or new i d).own).opening ≡ roots_dealt roots n (get_or old i e).number
 
-    pub like_all_unused : All IsUnused ss → All IsUnused (set ss i new)
-    like_all_unused all = All-set IsUnused ss i new (like_unused old new (subst IsUnused (sym is) (all i old lt)) like) all
+  -- what threads gave back, where each of it is a station
+  pub all_served : {E : Type 0} (roots : List Cell) (n : ℕ) (old new : List (Station K)) (served : List (Result (Station K) E)) →
+      map Ok new ≡ served → length served ≡ length old →
+      ((i : ℕ) (d : Result (Station K) E) (e : Station K) → i < length old → IfOk (get_or served i d) (IsLike (get_or old i e))) →
+      ((i : ℕ) (d : Result (Station K) E) (e : Station K) → i < length old →
+      IfOk (get_or served i d) (λ s. (worker_view s.own).opening ≡ roots_dealt roots n (get_or old i e).number)) →
+      AreServed roots n old new
+  all_served {E} roots n old new served is long like dealt = record {
+    len = len;
+    like = λ i d e lt. subst (λ (r : Result (Station K) E). IfOk r (IsLike (get_or old i e))) (here i d lt) (like i (Ok d) e lt);
+    dealt = λ i d e lt. subst
+        (λ (r : Result (Station K) E). IfOk r (λ s. (worker_view s.own).opening ≡ roots_dealt roots n (get_or old i e).number)) (here i d lt) (dealt i (Ok d) e lt);
+  }
+    where
+      given : Station K → Result (Station K) E
+      given s = Ok s
 
-  -- one root more is on its deque
-  pub dealt_step : (roots : List Cell) (at i : ℕ) (c : Cell) (ss : List (Station K)) (old new : Station K) → i < length ss → old ≡ get_or ss i old →
-      at < length roots → c ≡ get_or roots at c → c.root ≡ at → at % length ss ≡ i →
-      (worker_view new.own).opening ≡ (worker_view old.own).opening ++ c ∷ [] → AreDealt (take at roots) ss → AreDealt (take (at + 1) roots)
-      (set ss i new)
-  dealt_step roots at i c ss old new lt is lt_root is_root number place opening are j d lt' =
-      let len : length (set ss i new) ≡ length ss = length-set ss i new in
-      rw len (elim (cases_eq j i) [
-        | inl e ↦
-            ap (λ (k : ℕ). (worker_view (get_or (set ss i new) k d).own).opening) e
-            ∙ ap (λ (s : Station K). (worker_view s.own).opening) (get_or-set_same ss i new d lt)
-            ∙ opening
-            ∙ ap (λ (s : Station K). (worker_view s.own).opening ++ c ∷ []) is
-            ∙ ap (λ xs. xs ++ c ∷ []) (are i old lt)
-            ∙ sym (dealt_here roots (length ss) i at c lt_root is_root number place)
-            ∙ ap (λ (k : ℕ). roots_dealt (take (at + 1) roots) (length ss) k) (sym e)
-        | inr ne ↦
-            let other : at % length ss ≢ j = λ e. ne (sym e ∙ place) in
-            ap (λ (s : Station K). (worker_view s.own).opening) (get_or-set_other ss i j new d ne)
-            ∙ are j d (omega (arith, lt', len))
-            ∙ sym (dealt_elsewhere roots (length ss) j at c lt_root is_root number other)
-      ])
+      len : length new ≡ length old
+      len = sym (length-map new given) ∙ ap length is ∙ long
+
+      here : (i : ℕ) (d : Station K) → i < length old → get_or served i (Ok d) ≡ Ok (get_or new i d)
+      here i d lt = ap (λ rs. get_or rs i (given d)) (sym is) ∙ get_or-map given new i d (given d) (omega (arith, lt, len))
+
+  same_deques : (old new : List (Station K)) → length new ≡ length old →
+      ((i : ℕ) (d e : Station K) → i < length old → IsLike (get_or old i e) (get_or new i d)) → own_deques new ≡ own_deques old
+  same_deques [] [] len like = refl
+  same_deques [] (t ∷ ts) len like = absurd (omega arith)
+  same_deques (s ∷ ss) [] len like = absurd (omega arith)
+  same_deques (s ∷ ss) (t ∷ ts) len like =
+      let here = (like 0 t s (omega arith)).same.0 in
+      let rest = same_deques ss ts (omega (arith, len)) (λ i d e lt. like (suc i) d e (omega (arith, lt))) in
+      λ j. here j ∷ rest j
+
+  module _ (roots : List Cell) (n : ℕ) (old new : List (Station K)) (served : AreServed roots n old new) where
+    pub served_deques : own_deques new ≡ own_deques old
+    served_deques = same_deques old new served.len served.like
+
+    pub served_stations : (k : ℕ) → AreStations k old → AreStations k new
+    served_stations k are j d lt =
+        let lt' : j < length old = omega (arith, lt, served.len) in
+        subst (λ ds. IsStation k ds j (get_or new j d)) (sym served_deques)
+        (like_station k j (own_deques old) (get_or old j d) (get_or new j d) (are j d lt') (served.like j d d lt'))
+
+    pub served_unused : All IsUnused old → All IsUnused new
+    served_unused unused j d lt =
+        let lt' : j < length old = omega (arith, lt, served.len) in
+        like_unused (get_or old j d) (get_or new j d) (unused j d lt') (served.like j d d lt')
+
+    pub served_dealt : (k : ℕ) → AreStations k old → length old ≡ n → AreDealt roots new
+    served_dealt k are long j d lt =
+        let lt' : j < length old = omega (arith, lt, served.len) in
+        let all : n ≡ length new = omega (arith, long, served.len) in
+        served.dealt j d d lt' ∙ (λ i. roots_dealt roots (all i) ((are j d lt').number i))
 
 -- ---- the roots of all deques are the roots
 

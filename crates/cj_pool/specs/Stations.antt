@@ -56,7 +56,7 @@ module _ {K : Type 0} where
   abbrev pub AreStations : ℕ → List (Station K) → Type 0
   AreStations n ss = (j : ℕ) (d : Station K) → j < length ss → IsStation n (own_deques ss) j (slice_index_or ss j d)
 
-  -- the same station, whose worker only opened a root
+  -- the same station, whose worker only opened roots
   pub record IsLike (old new : Station K) : Type 0 where
     pub number : new.number ≡ old.number
     pub below : new.below ≡ old.below
@@ -66,6 +66,10 @@ module _ {K : Type 0} where
     pub all : (worker_view new.own).all ≡ (worker_view old.own).all
     pub pushed : (worker_view new.own).pushed ≡ (worker_view old.own).pushed
     pub taken : (worker_view new.own).taken ≡ (worker_view old.own).taken
+
+  -- its worker has a part of its deque
+  abbrev pub HasPart : Station K → Type 0
+  HasPart s = 0 < (worker_view s.own).parts
 
   -- nothing was pushed, and nothing was taken
   pub record IsUnused (s : Station K) : Type 0 where

@@ -1,8 +1,10 @@
 //! What all hands have come to.
-ghost use Rattle.std.specs.Prelude.{◌≡◌, map, All, IfOk};
+ghost use Rattle.std.specs.Prelude.{◌≡◌, map, All, AllPairs, IfOk};
 ghost use Rattle.std.specs.List.{range_with_len};
 ghost use Rattle.std.specs.List.Sorted.{IsPermutation};
-ghost use Rattle.cj_pool.specs.Hands.{IsHandOf, settled_share};
+ghost use Rattle.cj_hermite.specs.Roots.{IsRootUpTo};
+ghost use Rattle.cj_bezier.specs.Cells.{plain_cells};
+ghost use Rattle.cj_pool.specs.Hands.{IsHandOf, cells_of, settled_share};
 ghost use Rattle.cj_pool.specs.Refined.{AreAll, IsOfRun, IsSound, leaves_in, numbers_of};
 
 use crate::hand::Hand;
@@ -19,7 +21,7 @@ use std::thread::Threads;
 /// What the hands of a refinery have come to.
 #[derive(Drop)]
 pub(crate) struct Collected {
-    /// The leaves that they have closed, merged.
+    /// The leaves that they have closed, in order.
     pub leaves: Vec<Leaf>,
     /// The cells that they keep, and those that are left in the deques.
     pub cells: Vec<Cell>,
@@ -40,6 +42,7 @@ impl<'p, K: Run> Refinery<'p, K> {
         requires all { numbers_of hands.items ≡ range_with_len 0 self.now.hands }
         ensures all { IfOk result (λ found. AreAll self.now hands.entry.items found.cells.items) }
         ensures leaves { IfOk result (λ found. IsPermutation (leaves_in hands.entry.items) found.leaves.items) }
+        ensures ordered { IfOk result (λ found. AllPairs IsRootUpTo (plain_cells (cells_of found.leaves.items))) }
         ensures shares { IfOk result (λ found. found.shares.items ≡ map settled_share hands.entry.items) }
     {
         let parts = take_apart(alloc, self, hands)?;

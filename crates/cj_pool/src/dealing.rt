@@ -1,17 +1,20 @@
 //! The roots on the deques.
-ghost use Rattle.std.specs.Prelude.{◌≡◌, ◌<◌, [], ◌∷◌, ◌++◌, length, All, OnOk};
+ghost use Rattle.std.specs.Prelude.{◌≡◌, ℕ, ◌<◌, [], ◌∷◌, ◌++◌, Ok, length, map, vec_len, slice_index_or, All, IfOk, OnOk};
 ghost use Rattle.crossbeam_deque.specs.Handles.{worker_view};
 ghost use Rattle.cj_hermite.specs.Problems.{plain_problem};
+ghost use Rattle.cj_pool.specs.Hands.{roots_dealt};
 ghost use Rattle.cj_pool.specs.RootLists.{AreRoots};
+ghost use Rattle.cj_pool.specs.Stations.{AreDealt, AreStations, HasPart, IsLike, IsUnopened, IsUnused, own_deques};
 ghost use Rattle.cj_pool.specs.Tree.{InTree};
-ghost use Rattle.cj_pool.specs.Stations.{AreDealt, AreStations, IsLike, IsUnopened, IsUnused, own_deques};
 
 use crate::run::Run;
 use crate::station::Station;
 use crate::steps::open;
 use crate::work::Work;
 use cj_bezier::Cell;
-use std::alloc::AllocError;
+use std::alloc::{AllocError, Global};
+use std::thread;
+use std::thread::Threads;
 
 /// Pushes a root to the deque of a station.
 fn receive<K: Run>(station: &mut Station<K>, root: Cell) -> Result<(), AllocError>
@@ -26,20 +29,98 @@ fn receive<K: Run>(station: &mut Station<K>, root: Cell) -> Result<(), AllocErro
     }
 }
 
-/// Pushes each root to the deque whose number is that of the root modulo the number of deques.
-pub(crate) fn deal<K: Run>(stations: &mut [Station<K>], roots: &[Cell]) -> Result<(), AllocError>
-    requires stations { AreStations K.workers stations.old }
-    requires len { (0 < K.workers) × (length stations.old ≡ K.workers) }
-    requires unopened { All IsUnopened stations.old }
+/// Pushes to the deque of a station its own of these roots, in order: those whose number modulo so many is the station's.
+fn receive_own<K: Run>(
+    station: &mut Station<K>,
+    roots: &[Cell],
+    count: u32,
+) -> Result<(), AllocError>
+    requires some { 0 < count }
     requires roots { (roots.now ≡ K.roots) × AreRoots (plain_problem K.problem) roots.now }
-    ensures stations { AreStations K.workers stations.new }
-    ensures deques { own_deques stations.new ≡ own_deques stations.old }
-    ensures unused { All IsUnused stations.old → All IsUnused stations.new }
-    ensures dealt { OnOk result (AreDealt roots.now stations.new) }
+    requires part { HasPart station.old }
+    requires unopened { IsUnopened station.old }
+    ensures like { IsLike station.old station.new }
+    ensures dealt { OnOk result ((worker_view station.new.own).opening ≡ roots_dealt roots.now count station.old.number) }
 {
-    let count = stations.len();
-    for (at, root) in roots.iter().enumerate() {
-        receive(&mut stations[at % count], *root)?;
+    for root in roots {
+        if root.root % count == station.number {
+            receive(station, *root)?;
+        }
     }
     Ok(())
+}
+
+/// A station with its own of these roots.
+fn served<K: Run>(
+    mut station: Station<K>,
+    roots: &[Cell],
+    count: u32,
+) -> Result<Station<K>, AllocError>
+    requires some { 0 < count }
+    requires roots { (roots.now ≡ K.roots) × AreRoots (plain_problem K.problem) roots.now }
+    requires part { HasPart station }
+    requires unopened { IsUnopened station }
+    ensures like { IfOk result (λ with_roots. IsLike station with_roots) }
+    ensures dealt { IfOk result (λ with_roots. (worker_view with_roots.own).opening ≡ roots_dealt roots.now count station.number) }
+{
+    receive_own(&mut station, roots, count)?;
+    Ok(station)
+}
+
+/// Each station with its own of these roots, by a thread of its own, where there are so many.
+fn serve_each<K: Run + Send + Sync, R: Threads + Sync>(
+    rt: &R,
+    stations: Vec<Station<K>>,
+    roots: &[Cell],
+    count: u32,
+) -> Result<Vec<Result<Station<K>, AllocError>>, AllocError>
+    requires some { 0 < count }
+    requires roots { (roots.now ≡ K.roots) × AreRoots (plain_problem K.problem) roots.now }
+    requires parts { All HasPart stations.items }
+    requires unopened { All IsUnopened stations.items }
+    ensures len { IfOk result (λ served. vec_len served ≡ vec_len stations) }
+    ensures like { IfOk result (λ served. (i : ℕ) (d e : _) → i < vec_len stations
+        → IfOk (slice_index_or served.items i d) (IsLike (slice_index_or stations.items i e))) }
+    ensures dealt { IfOk result (λ served. (i : ℕ) (d e : _) → i < vec_len stations
+        → IfOk (slice_index_or served.items i d) (λ station. (worker_view station.own).opening
+        ≡ roots_dealt roots.now count (slice_index_or stations.items i e).number)) }
+{
+    thread::map_vec(rt, stations, &|station| served(station, roots, count))
+}
+
+/// All stations, where each was served.
+fn all_served<K: Run>(
+    alloc: Global,
+    served: Vec<Result<Station<K>, AllocError>>,
+) -> Result<Vec<Station<K>>, AllocError>
+    ensures { IfOk result (λ stations. map Ok stations.items ≡ served.items) }
+{
+    let mut stations = Vec::new(alloc);
+    for station in served {
+        stations.push(station?)?;
+    }
+    Ok(stations)
+}
+
+/// The stations with all roots, each of which is pushed to the deque whose number is that of the root modulo the number of deques.
+pub(crate) fn deal<K: Run + Send + Sync, R: Threads + Sync>(
+    rt: &R,
+    alloc: Global,
+    stations: Vec<Station<K>>,
+    roots: &[Cell],
+    workers: u32,
+) -> Result<Vec<Station<K>>, AllocError>
+    requires workers { (workers ≡ K.workers) × (0 < workers) }
+    requires stations { AreStations K.workers stations.items }
+    requires len { length stations.items ≡ workers }
+    requires unopened { All IsUnopened stations.items }
+    requires roots { (roots.now ≡ K.roots) × AreRoots (plain_problem K.problem) roots.now }
+    ensures len { IfOk result (λ dealt. length dealt.items ≡ workers) }
+    ensures stations { IfOk result (λ dealt. AreStations K.workers dealt.items) }
+    ensures deques { IfOk result (λ dealt. own_deques dealt.items ≡ own_deques stations.items) }
+    ensures unused { All IsUnused stations.items → IfOk result (λ dealt. All IsUnused dealt.items) }
+    ensures dealt { IfOk result (λ dealt. AreDealt roots.now dealt.items) }
+{
+    let served = serve_each(rt, stations, roots, workers)?;
+    all_served(alloc, served)
 }

@@ -22,7 +22,7 @@ use crate::lengths::have_lengths;
 use crate::refined::{FinishError, Refined};
 use crate::refinery::Refinery;
 use crate::run::Run;
-use crate::sorting::merge;
+use crate::sorting::merge_from;
 use cj_bezier::{Cell, Leaf};
 use cj_cells::{RefineError, refine};
 use cj_hermite::Problem;
@@ -86,7 +86,7 @@ impl<'p, K: Run> Refinery<'p, K> {
         have_lengths(self.problem);
     }
 
-    /// These leaves and those of cells that are still open, in order of pair and tick.
+    /// These leaves, which are in order, and those of cells that are still open, in order of pair and tick.
     fn refine_rest(
         &self,
         alloc: Global,
@@ -95,6 +95,7 @@ impl<'p, K: Run> Refinery<'p, K> {
     ) -> Result<Vec<Leaf>, FinishError>
         requires kept { All (IsKept (plain_problem self.now.problem)) cells.now }
         requires lengths { HaveLengths (plain_problem self.now.problem) }
+        requires ordered { AllPairs IsRootUpTo (plain_cells (cells_of leaves.items)) }
         ensures moved { IfOk result (λ sorted. IsPermutation (plain_leaves leaves.items
             ++ leaves_of_roots (plain_problem self.now.problem) (plain_cells cells.now)) (plain_leaves sorted.items)) }
         ensures ordered { IfOk result (λ sorted. AllPairs IsRootUpTo (plain_cells (cells_of sorted.items))) }
@@ -107,8 +108,9 @@ impl<'p, K: Run> Refinery<'p, K> {
         ensures too_many { IfErr result (IsTooMany self.now.limit (length leaves.items
             + length (leaves_of_roots (plain_problem self.now.problem) (plain_cells cells.now)))) }
     {
+        let merged = leaves.len();
         refine_open(alloc, self.problem, cells, self.limit, &mut leaves)?;
-        merge(&mut leaves)?;
+        merge_from(&mut leaves, merged)?;
         Ok(leaves)
     }
 

@@ -52,7 +52,7 @@ pub(crate) fn leaves_by_hands<K: Run + Send + Sync, R: Threads + Wait + Sync, G:
     ensures leaves { OnOk result (All
         (λ root. Describe (plain_problem problem.now) root (leaves_of_root (plain_problem problem.now) root)) (plain_cells roots.items)) }
 {
-    let (refinery, hands) = Refinery::<K>::new(alloc, problem, roots, workers, limit)?;
+    let (refinery, hands) = Refinery::<K>::new(rt, alloc, problem, roots, workers, limit)?;
     let hands = run_hands(rt, alloc, &refinery, gate, hands)?;
     match refinery.finish(rt, alloc, hands) {
         Ok(refined) => Ok(refined.leaves),

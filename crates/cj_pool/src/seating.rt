@@ -18,12 +18,13 @@ use cj_ledger::Share;
 use std::alloc::{AllocError, Global};
 use std::marker::PhantomData;
 
-/// A hand for each station, with one of the shares.
+/// A hand for each station, with one of the shares and room for so many leaves.
 pub(crate) fn seat<'p, K: Run>(
     alloc: Global,
     problem: &'p Problem,
     mut stations: Vec<Station<K>>,
     mut shares: Vec<Share>,
+    room: usize,
 ) -> Result<Vec<Hand<'p, K>>, AllocError>
     requires problem { problem.now ≡ K.problem }
     requires roots { AreRoots (plain_problem K.problem) K.roots }
@@ -44,11 +45,12 @@ pub(crate) fn seat<'p, K: Run>(
             unreachable!()
         };
         let looker = Looker::new(problem);
+        let leaves = Vec::with_capacity(alloc, room)?;
         hands.push(Hand {
             looker,
             station,
             kept: ArrayVec::new(),
-            leaves: Vec::new(alloc),
+            leaves,
             share,
             uncounted: 0,
             wants: 0,

@@ -1,5 +1,5 @@
 //! Leaves in order of pair and tick.
-ghost use Rattle.std.specs.Prelude.{AllPairs, OnOk};
+ghost use Rattle.std.specs.Prelude.{take, AllPairs, OnOk};
 ghost use Rattle.std.specs.List.Sorted.{IsPermutation};
 ghost use Rattle.cj_hermite.specs.Roots.{IsRootUpTo};
 ghost use Rattle.cj_bezier.specs.Cells.{plain_cells};
@@ -19,8 +19,20 @@ pub(crate) fn sort(leaves: &mut Vec<Leaf>)
     }
 }
 
+/// Puts leaves in order of which so many at the front are: where there are no others, nothing is to be done.
+pub(crate) fn merge_from(leaves: &mut Vec<Leaf>, sorted: usize) -> Result<(), AllocError>
+    requires { AllPairs IsRootUpTo (plain_cells (cells_of (take sorted leaves.old.items))) }
+    ensures permutation { IsPermutation leaves.old.items leaves.new.items }
+    ensures ordered { OnOk result (AllPairs IsRootUpTo (plain_cells (cells_of leaves.new.items))) }
+{
+    if leaves.len() > sorted {
+        return merge(leaves);
+    }
+    Ok(())
+}
+
 /// Puts leaves in order that are a few runs, each in order: the runs are merged.
-pub(crate) fn merge(leaves: &mut Vec<Leaf>) -> Result<(), AllocError>
+fn merge(leaves: &mut Vec<Leaf>) -> Result<(), AllocError>
     ensures permutation { IsPermutation leaves.old.items leaves.new.items }
     ensures ordered { OnOk result (AllPairs IsRootUpTo (plain_cells (cells_of leaves.new.items))) }
 {

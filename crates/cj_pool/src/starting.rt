@@ -18,14 +18,19 @@ use cj_hermite::Problem;
 use cj_ledger::Ledger;
 use std::alloc::{AllocError, Global};
 use std::marker::PhantomData;
+use std::thread::Threads;
 
-/// Room in each deque for halves, beside the roots.
+/// Room in each deque at first. It grows while its thread pushes the roots, so that no thread makes the memory of all.
 const ROOM: usize = 64;
 
-impl<'p, K: Run> Refinery<'p, K> {
+/// For each root a hand has room for so many leaves at first.
+const LEAVES_A_ROOT: usize = 3;
+
+impl<'p, K: Run + Send + Sync> Refinery<'p, K> {
     /// A refinery of these roots, for so many workers, which is to stop at more leaves than the limit, and its hands. The root at
     /// place `i` is pushed to the deque of the hand with the number `i` modulo `workers`.
-    pub fn new(
+    pub fn new<R: Threads + Sync>(
+        rt: &R,
         alloc: Global,
         problem: &'p Problem,
         roots: Vec<Cell>,
@@ -48,9 +53,9 @@ impl<'p, K: Run> Refinery<'p, K> {
         ensures shares { IfOk result (λ r. weigh (λ h. h.share.count.roots) r.1.items ≡ length roots.items) }
     {
         let (ledger, shares) = Ledger::start(alloc, roots.len() as u64, workers)?;
-        let room = roots.len() / workers as usize + ROOM;
-        let mut stations = new_stations(alloc, workers, room)?;
-        deal(&mut stations, &roots)?;
+        let room = (roots.len() / workers as usize).saturating_mul(LEAVES_A_ROOT);
+        let unopened = new_stations(alloc, workers, ROOM)?;
+        let stations = deal(rt, alloc, unopened, &roots, workers)?;
         let refinery = Refinery {
             problem,
             limit,
@@ -58,7 +63,7 @@ impl<'p, K: Run> Refinery<'p, K> {
             ledger,
             of: PhantomData,
         };
-        let hands = seat(alloc, problem, stations, shares)?;
+        let hands = seat(alloc, problem, stations, shares, room)?;
         Ok((refinery, hands))
     }
 }

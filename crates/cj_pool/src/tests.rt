@@ -74,7 +74,8 @@ fn pair_of<'p, K: Run>(
 }
 
 /// A refinery for two hands.
-fn for_two<'p, K: Run>(
+fn for_two<'p, K: Run + Send + Sync, R: Threads + Sync>(
+    rt: &R,
     alloc: Global,
     problem: &'p Problem,
     roots: Vec<Cell>,
@@ -84,7 +85,7 @@ fn for_two<'p, K: Run>(
     ensures one { IfOk result (λ r. IsHandOf r.0 r.2 × (r.2.number ≡ 1)) }
     ensures refinery { IfOk result (λ r. r.0.hands ≡ 2) }
 {
-    let (refinery, hands) = Refinery::new(alloc, problem, roots, 2, LIMIT)?;
+    let (refinery, hands) = Refinery::new(rt, alloc, problem, roots, 2, LIMIT)?;
     let (zero, one) = pair_of(&refinery, hands);
     Ok((refinery, zero, one))
 }
@@ -161,7 +162,7 @@ fn take_turns<'p, K: Run, R: Abort>(
 }
 
 /// What such a script comes to.
-fn by_turns<K: Run, R: Threads + Sync + Abort>(
+fn by_turns<K: Run + Send + Sync, R: Threads + Sync + Abort>(
     rt: &R,
     alloc: Global,
     problem: &Problem,
@@ -170,13 +171,13 @@ fn by_turns<K: Run, R: Threads + Sync + Abort>(
 ) -> Result<Refined, FinishError>
     requires { IsRunOf problem.now roots.items 2 1000 K.problem K.roots K.workers }
 {
-    let (refinery, mut zero, mut one) = for_two::<K>(alloc, problem, roots)?;
+    let (refinery, mut zero, mut one) = for_two::<K, R>(rt, alloc, problem, roots)?;
     take_turns(rt, alloc, &refinery, &mut zero, &mut one, script)?;
     finished(rt, alloc, refinery, zero, one)
 }
 
 /// What the run of hand zero comes to. Hand one finds that no cell is live.
-fn by_zero<K: Run, R: Threads + Wait + Sync + Abort>(
+fn by_zero<K: Run + Send + Sync, R: Threads + Wait + Sync + Abort>(
     rt: &R,
     alloc: Global,
     problem: &Problem,
@@ -184,7 +185,7 @@ fn by_zero<K: Run, R: Threads + Wait + Sync + Abort>(
 ) -> Result<Refined, FinishError>
     requires { IsRunOf problem.now roots.items 2 1000 K.problem K.roots K.workers }
 {
-    let (refinery, zero, mut one) = for_two::<K>(alloc, problem, roots)?;
+    let (refinery, zero, mut one) = for_two::<K, R>(rt, alloc, problem, roots)?;
     let zero = zero.run(rt, alloc, &refinery, &OpenGate);
     let turn = one.turn(alloc, &refinery)?;
     assert_eq!(rt; turn, Turn::Done);
@@ -192,7 +193,7 @@ fn by_zero<K: Run, R: Threads + Wait + Sync + Abort>(
 }
 
 /// What a script comes to.
-fn refined_by<K: Run, R: Threads + Wait + Sync + Abort>(
+fn refined_by<K: Run + Send + Sync, R: Threads + Wait + Sync + Abort>(
     rt: &R,
     alloc: Global,
     problem: &Problem,
@@ -272,7 +273,7 @@ fn first_without_cell<'p, K: Run>(
 }
 
 /// The first turn of hand one that finds no cell, while hand zero keeps one.
-fn one_beside_zero<K: Run, R: Abort>(
+fn one_beside_zero<K: Run + Send + Sync, R: Threads + Sync + Abort>(
     rt: &R,
     alloc: Global,
     problem: &Problem,
@@ -280,7 +281,7 @@ fn one_beside_zero<K: Run, R: Abort>(
 ) -> Result<Option<Turn>, AllocError>
     requires { IsRunOf problem.now roots.items 2 1000 K.problem K.roots K.workers }
 {
-    let (refinery, mut zero, mut one) = for_two::<K>(alloc, problem, roots)?;
+    let (refinery, mut zero, mut one) = for_two::<K, R>(rt, alloc, problem, roots)?;
     split(rt, alloc, &refinery, &mut zero)?;
     first_without_cell(alloc, &refinery, &mut one, 1000)
 }

@@ -1,84 +1,46 @@
-use Rattle.std.proofs.Common.{◌%◌, ◌<◌, List, length, get_or, ap, ◌∙◌, subst, arith}
-use Rattle.std.proofs.lemmas.List.{length-map, length-set, get_or_default}
-use Rattle.std.proofs.Math.Nat.{mod-lt}
-use Rattle.cj_bezier.specs.declared.cell.Cell.{Cell}
-use Rattle.cj_hermite.specs.Problems.{plain_problem}
-use Rattle.cj_pool.specs.Stations.{own_deque}
-use Rattle.cj_pool.specs.Tree.{InTree}
-use Rattle.cj_pool.proofs.DealLemmas.{numbered_at, root_tree, like_deques, like_stations, like_all_unused, dealt_step}
+use Rattle.std.proofs.Common.{◌≡◌, length, arith}
+use Rattle.std.proofs.lemmas.Result.{IfOk-weaker}
+use Rattle.cj_pool.proofs.DealLemmas.{all_served, served_deques, served_stations, served_unused, served_dealt}
 use Rattle.cj_pool.proofs.dealing.deal.Goals as goal
 
-pub receive-requires-clause-tree : goal.receive-requires-clause-tree
-receive-requires-clause-tree g c =
-    let case = plain_problem g.K.Run.problem in
-    let are = c.requires.roots.1 in
-    subst (λ (roots : List Cell). InTree case roots c.index-roots-at.result) c.requires.roots.0
-    (root_tree case c.args.roots.now c.loop-at.at c.index-roots-at.result are.numbered (omega arith) c.index-roots-at.is)
+pub returns-clause-stations : goal.returns-clause-stations
+returns-clause-stations g c =
+    let old = c.args.stations in
+    let given = c.in_ok-served in
+    let long : length given.served.items ≡ length old.items = omega (arith, given.ensures.len, given.served.ok.0, old.ok.0) in
+    IfOk-weaker c.all_served.result _ _ (λ new is.
+    served_stations c.args.roots.now c.args.workers old.items new.items
+    (all_served c.args.roots.now c.args.workers old.items new.items given.served.items is long
+    (λ i d e lt. given.ensures.like i d e (omega (arith, lt, old.ok.0))) (λ i d e lt. given.ensures.dealt i d e (omega (arith, lt, old.ok.0))))
+    g.K.Run.workers c.requires.stations) c.all_served.ensures
 
-pub receive-requires-clause-part : goal.receive-requires-clause-part
-receive-requires-clause-part g c =
-    let l = c.loop-at in
-    let i = l.invariant in
-    let count = length c.args.stations.now in
-    let some : 0 < count = omega (arith, c.requires.len.0, c.requires.len.1) in
-    let lt : l.at % count < length l.stations = omega (arith, mod-lt l.at some, i.len) in
-    let here = i.stations (l.at % count) c.index-stations-at.result lt in
-    omega (arith, here.parts, length-map l.stations own_deque, i.len, c.requires.len.1)
+pub returns-clause-deques : goal.returns-clause-deques
+returns-clause-deques g c =
+    let old = c.args.stations in
+    let given = c.in_ok-served in
+    let long : length given.served.items ≡ length old.items = omega (arith, given.ensures.len, given.served.ok.0, old.ok.0) in
+    IfOk-weaker c.all_served.result _ _ (λ new is.
+    served_deques c.args.roots.now c.args.workers old.items new.items
+    (all_served c.args.roots.now c.args.workers old.items new.items given.served.items is long
+    (λ i d e lt. given.ensures.like i d e (omega (arith, lt, old.ok.0))) (λ i d e lt. given.ensures.dealt i d e (omega (arith, lt, old.ok.0))))) c.all_served.ensures
 
-pub returns-in_err-receive-clause-stations : goal.returns-in_err-receive-clause-stations
-returns-in_err-receive-clause-stations g c =
-    let l = c.loop-at in
-    let i = l.invariant in
-    let count = length c.args.stations.now in
-    let some : 0 < count = omega (arith, c.requires.len.0, c.requires.len.1) in
-    let lt : l.at % count < length l.stations = omega (arith, mod-lt l.at some, i.len) in
-    let old = get_or l.stations (l.at % count) c.index-stations-at.result in
-    like_stations g.K.Run.workers (l.at % count) l.stations old c.receive.new.station lt
-    (get_or_default l.stations (l.at % count) c.index-stations-at.result old lt) c.receive.ensures.like i.stations
+pub returns-clause-unused : goal.returns-clause-unused
+returns-clause-unused g c unused =
+    let old = c.args.stations in
+    let given = c.in_ok-served in
+    let long : length given.served.items ≡ length old.items = omega (arith, given.ensures.len, given.served.ok.0, old.ok.0) in
+    IfOk-weaker c.all_served.result _ _ (λ new is.
+    served_unused c.args.roots.now c.args.workers old.items new.items
+    (all_served c.args.roots.now c.args.workers old.items new.items given.served.items is long
+    (λ i d e lt. given.ensures.like i d e (omega (arith, lt, old.ok.0))) (λ i d e lt. given.ensures.dealt i d e (omega (arith, lt, old.ok.0)))) unused) c.all_served.ensures
 
-pub returns-in_err-receive-clause-deques : goal.returns-in_err-receive-clause-deques
-returns-in_err-receive-clause-deques g c =
-    let l = c.loop-at in
-    let i = l.invariant in
-    let count = length c.args.stations.now in
-    let some : 0 < count = omega (arith, c.requires.len.0, c.requires.len.1) in
-    let lt : l.at % count < length l.stations = omega (arith, mod-lt l.at some, i.len) in
-    let old = get_or l.stations (l.at % count) c.index-stations-at.result in
-    like_deques g.K.Run.workers (l.at % count) l.stations old c.receive.new.station lt
-    (get_or_default l.stations (l.at % count) c.index-stations-at.result old lt) c.receive.ensures.like ∙ i.deques
-
-pub returns-in_err-receive-clause-unused : goal.returns-in_err-receive-clause-unused
-returns-in_err-receive-clause-unused g c unused =
-    let l = c.loop-at in
-    let i = l.invariant in
-    let count = length c.args.stations.now in
-    let some : 0 < count = omega (arith, c.requires.len.0, c.requires.len.1) in
-    let lt : l.at % count < length l.stations = omega (arith, mod-lt l.at some, i.len) in
-    let old = get_or l.stations (l.at % count) c.index-stations-at.result in
-    like_all_unused g.K.Run.workers (l.at % count) l.stations old c.receive.new.station lt
-    (get_or_default l.stations (l.at % count) c.index-stations-at.result old lt) c.receive.ensures.like (i.unused unused)
-
-pub loop-at-preserved : goal.loop-at-preserved
-loop-at-preserved g c =
-    let l = c.loop-at in
-    let i = l.invariant in
-    let n = g.K.Run.workers in
-    let count = length c.args.stations.now in
-    let some : 0 < count = omega (arith, c.requires.len.0, c.requires.len.1) in
-    let at = l.at % count in
-    let lt : at < length l.stations = omega (arith, mod-lt l.at some, i.len) in
-    let old = get_or l.stations at c.index-stations-at.result in
-    let is = get_or_default l.stations at c.index-stations-at.result old lt in
-    let like = c.receive.ensures.like in
-    let new = c.receive.new.station in
-    let roots = c.args.roots.now in
-    let are = c.requires.roots.1 in
-    let number = numbered_at roots l.at c.index-roots-at.result are.numbered (omega arith) c.index-roots-at.is in
-    record {
-      len = length-set l.stations at new ∙ i.len;
-      stations = like_stations n at l.stations old new lt is like i.stations;
-      deques = like_deques n at l.stations old new lt is like ∙ i.deques;
-      unused = λ u. like_all_unused n at l.stations old new lt is like (i.unused u);
-      dealt = dealt_step roots l.at at c.index-roots-at.result l.stations old new lt is (omega arith) c.index-roots-at.is number
-          (ap (λ (k : _). l.at % k) i.len) c.in_ok-receive.ensures.opening i.dealt;
-    }
+pub returns-clause-dealt : goal.returns-clause-dealt
+returns-clause-dealt g c =
+    let old = c.args.stations in
+    let given = c.in_ok-served in
+    let long : length given.served.items ≡ length old.items = omega (arith, given.ensures.len, given.served.ok.0, old.ok.0) in
+    IfOk-weaker c.all_served.result _ _ (λ new is.
+    served_dealt c.args.roots.now c.args.workers old.items new.items
+    (all_served c.args.roots.now c.args.workers old.items new.items given.served.items is long
+    (λ i d e lt. given.ensures.like i d e (omega (arith, lt, old.ok.0))) (λ i d e lt. given.ensures.dealt i d e (omega (arith, lt, old.ok.0))))
+    g.K.Run.workers c.requires.stations c.requires.len) c.all_served.ensures

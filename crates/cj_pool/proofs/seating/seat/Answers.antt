@@ -29,7 +29,7 @@ invariant_of-push g c =
       seated n (length rest) ds s is len seat.below,
       below_length n (length rest) ds s is len seat.below,
       seated_accounts n (length rest) ds s is len seat.below (plain_problem g.K.Run.problem) g.K.Run.roots c.new-looker.result c.new.result.items
-          c.new-in-Some.result.items c.in-Some-pop.share c.new.ensures c.new-in-Some.ensures.items seat.unused
+          c.in_ok-leaves.leaves.items c.in-Some-pop.share c.new.ensures c.in_ok-leaves.ensures.items seat.unused
           r.roots seat.opening seat.new,
     )
 
@@ -65,7 +65,7 @@ loop-station-preserved g c =
       unstarted = subst (λ hs. All IsUnstarted (reverse hs)) (sym items)
           (all_before IsUnstarted l.hands.items _ i.unstarted
           (seated_unstarted n k ds s is len seat.below (plain_problem g.K.Run.problem) g.K.Run.roots c.new-looker.result c.new.result.items
-          c.new-in-Some.result.items c.in-Some-pop.share c.new.ensures c.new-in-Some.ensures.items seat.unused));
+          c.in_ok-leaves.leaves.items c.in-Some-pop.share c.new.ensures c.in_ok-leaves.ensures.items seat.unused));
       opening = subst (λ hs. All (λ (h : HandSeen). h.opening ≡ roots_dealt g.K.Run.roots n h.number) (reverse hs)) (sym items)
           (all_before (λ (h : HandSeen). h.opening ≡ roots_dealt g.K.Run.roots n h.number) l.hands.items _ i.opening
           (seat.opening ∙ ap (λ (m : ℕ). roots_dealt g.K.Run.roots n m) (sym is.number)));

@@ -6,6 +6,7 @@ use Rattle.cj_pool.specs.Stations.{weigh_given, weigh_all_taken}
 use Rattle.cj_pool.specs.Tree.{InTree}
 use Rattle.cj_pool.proofs.EndLemmas.{run_all}
 use Rattle.cj_pool.proofs.FinishLemmas.{are_open, kept_trees}
+use Rattle.cj_pool.proofs.SortLemmas.{leaves_in_order}
 use Rattle.cj_pool.proofs.refinery.Refinery.collect.Goals as goal
 
 pub take_apart-requires-clause-all : goal.take_apart-requires-clause-all
@@ -28,3 +29,6 @@ returns-clause-all g c =
     run_all g.K.Run.problem g.K.Run.roots g.K.Run.workers c.args.self.now hands cells c.requires.run c.requires.sound taken.accounts c.requires.all
     (are_open hands parts.kept.items cells (λ w. weigh_given w parts.stations.items) (λ w. weigh_all_taken w parts.stations.items)
     taken.kept front c.in_ok-gather.ensures.left taken.given taken.taken) c.gather.ensures.tree
+
+pub returns-clause-ordered : goal.returns-clause-ordered
+returns-clause-ordered g c = leaves_in_order c.in_ok-leaves.leaves.items c.in_ok-leaves.ensures.ordered

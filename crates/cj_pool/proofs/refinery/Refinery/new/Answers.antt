@@ -1,48 +1,20 @@
-use Rattle.std.proofs.Common.{◌≡◌, List, length, sym, ap, ◌∙◌, subst, arith}
-use Rattle.std.specs.Prelude.{All}
-use Rattle.std.proofs.lemmas.List.{with_items_is, length-map}
+use Rattle.std.proofs.Common.{◌≡◌, length, sym, ap, ◌∙◌, subst, arith}
+use Rattle.std.proofs.lemmas.List.{length-map}
 use Rattle.cj_hermite.specs.Problems.{plain_problem}
 use Rattle.cj_hermite.specs.declared.problem.Problem.{Problem}
-use Rattle.cj_bezier.specs.declared.cell.Cell.{Cell}
 use Rattle.cj_ledger.specs.Shares.{ShareSeen, IsOf, IsNew}
 use Rattle.cj_pool.specs.Hands.{HandSeen}
 use Rattle.cj_pool.specs.RootLists.{AreRoots}
-use Rattle.cj_pool.specs.Stations.{AreDealt, AreStations, IsUnused, own_deque, own_deques}
+use Rattle.cj_pool.specs.Stations.{own_deque, own_deques}
 use Rattle.cj_pool.proofs.SeatLemmas.{all_of_map, share_sum}
 use Rattle.cj_pool.proofs.refinery.Refinery.new.Goals as goal
-
-pub seat-requires-clause-stations : goal.seat-requires-clause-stations
-seat-requires-clause-stations g c =
-    let v = c.in_ok-stations.stations in
-    let ss = c.deal.new.stations in
-    let len : length ss ≡ v.len = omega (arith, c.deal.auto.stations, ap length c.deref_mut.ensures.value, v.ok.0) in
-    subst (AreStations g.K.Run.workers) (sym (with_items_is v ss len)) c.deal.ensures.stations
-
-pub seat-requires-clause-unused : goal.seat-requires-clause-unused
-seat-requires-clause-unused g c =
-    let v = c.in_ok-stations.stations in
-    let ss = c.deal.new.stations in
-    let len : length ss ≡ v.len = omega (arith, c.deal.auto.stations, ap length c.deref_mut.ensures.value, v.ok.0) in
-    subst (All IsUnused) (sym (with_items_is v ss len)) (c.deal.ensures.unused
-    (subst (All IsUnused) (sym c.deref_mut.ensures.value) c.in_ok-stations.ensures.unused))
-
-pub seat-requires-clause-dealt : goal.seat-requires-clause-dealt
-seat-requires-clause-dealt g c =
-    let v = c.in_ok-stations.stations in
-    let ss = c.deal.new.stations in
-    let len : length ss ≡ v.len = omega (arith, c.deal.auto.stations, ap length c.deref_mut.ensures.value, v.ok.0) in
-    let roots = c.deref.ensures.value ∙ c.requires.roots in
-    subst (AreDealt g.K.Run.roots) (sym (with_items_is v ss len)) (subst (λ (rs : List Cell). AreDealt rs ss) roots c.in_ok-deal.ensures.dealt)
 
 pub invariant_of-refinery : goal.invariant_of-refinery
 invariant_of-refinery g c =
     let r = c.requires in
-    let v = c.in_ok-stations.stations in
-    let ss = c.deal.new.stations in
-    let len : length ss ≡ v.len = omega (arith, c.deal.auto.stations, ap length c.deref_mut.ensures.value, v.ok.0) in
-    let seen : length c.deref-2.result.now ≡ length ss = ap length (c.deref-2.ensures.value ∙ with_items_is v ss len) in
-    let thieves : length c.in_ok-thieves_of.field-0.items ≡ length c.deref-2.result.now =
-    sym (length-map c.in_ok-thieves_of.field-0.items _) ∙ ap length c.in_ok-thieves_of.ensures ∙ length-map c.deref-2.result.now own_deque in
+    let stations = c.in_ok-stations.stations in
+    let thieves : length c.in_ok-thieves_of.field-0.items ≡ length stations.items =
+    sym (length-map c.in_ok-thieves_of.field-0.items _) ∙ ap length c.in_ok-thieves_of.ensures ∙ length-map c.deref-2.result.now own_deque ∙ ap length c.deref-2.ensures.value in
     let same_roots : length c.args.roots.items ≡ length g.K.Run.roots = ap length r.roots in
     let count : c.len.result ≡ length g.K.Run.roots = omega (arith, c.len.ensures, c.args.roots.ok.0, same_roots) in
     let opening : c.in_ok-ledger.ledger.opening ≡ record { roots = length g.K.Run.roots; shares = g.K.Run.workers } =
@@ -54,7 +26,7 @@ invariant_of-refinery g c =
       r.few_leaves,
       omega (arith, r.some, r.workers),
       omega (arith, r.few_workers, r.workers),
-      omega (arith, thieves, seen, len, v.ok.0, c.in_ok-stations.ensures.len, r.workers),
+      omega (arith, thieves, c.in_ok-stations.ensures.len, r.workers),
       opening,
     )
 

@@ -1,27 +1,37 @@
-use Rattle.std.proofs.Common.{◌≡◌, ℕ, List, ◌++◌, length, take, vec_len, ap, subst, arith}
-use Rattle.std.specs.Prelude.{All}
+use Rattle.std.proofs.Common.{◌≡◌, ℕ, List, ◌++◌, length, take, vec_len, sym, ap, subst, arith}
+use Rattle.std.specs.Prelude.{All, AllPairs}
 use Rattle.std.specs.List.Sorted.{IsPermutation}
 use Rattle.std.proofs.lemmas.List.Sorted.{IsPermutation-map, All-permutation, length_permutation}
 use Rattle.cj_hermite.specs.Problems.{plain_problem}
+use Rattle.cj_hermite.specs.Roots.{IsRootUpTo}
 use Rattle.cj_hermite.specs.declared.problem.Problem.{Problem}
 use Rattle.cj_bezier.specs.declared.cell.Cell.{Cell}
+use Rattle.cj_bezier.specs.declared.leaf.Leaf.{Leaf}
 use Rattle.cj_bezier.specs.Cells.{plain_cells}
 use Rattle.cj_bezier.specs.Leaves.{PlainLeaf, plain_leaf, plain_leaves}
 use Rattle.cj_bezier.specs.RootLeaves.{leaves_of_roots}
-use Rattle.cj_pool.specs.Hands.{RefinerySeen}
+use Rattle.cj_pool.specs.Hands.{RefinerySeen, cells_of}
 use Rattle.cj_pool.specs.RootLists.{AreRoots}
 use Rattle.cj_pool.specs.Tree.{InTree, IsLeafOf}
 use Rattle.cj_pool.proofs.FinishLemmas.{first_found}
 use Rattle.cj_pool.proofs.refinery.Refinery.refine_rest.Goals as goal
 
+pub merge_from-requires : goal.merge_from-requires
+merge_from-requires g c =
+    let v = c.refine_open.new.leaves in
+    let first = c.args.leaves in
+    let l : vec_len first ≡ c.len-merged.result = omega (arith, c.len-merged.ensures) in
+    let kept = subst (λ (m : ℕ). take m v.items ≡ first.items) l c.refine_open.ensures.kept in
+    subst (λ (xs : List Leaf). AllPairs IsRootUpTo (plain_cells (cells_of xs))) (sym kept) c.requires.ordered
+
 pub returns-clause-moved : goal.returns-clause-moved
 returns-clause-moved g c =
     let v = c.refine_open.new.leaves in
-    let sorted = c.merge.new.leaves in
+    let sorted = c.merge_from.new.leaves in
     let case = ap (λ (r : RefinerySeen). r.problem) c.self.view_is in
     let is = subst (λ (q : Problem). plain_leaves v.items ≡ plain_leaves c.args.leaves.items ++ leaves_of_roots (plain_problem q)
     (plain_cells c.args.cells.now)) case c.in_ok-refine_open.ensures.ok in
-    subst (λ (xs : List PlainLeaf). IsPermutation xs (plain_leaves sorted.items)) is (IsPermutation-map plain_leaf v.items sorted.items c.merge.ensures.permutation)
+    subst (λ (xs : List PlainLeaf). IsPermutation xs (plain_leaves sorted.items)) is (IsPermutation-map plain_leaf v.items sorted.items c.merge_from.ensures.permutation)
 
 pub returns-clause-among : goal.returns-clause-among
 returns-clause-among g c =
@@ -29,7 +39,7 @@ returns-clause-among g c =
     let first = c.args.leaves in
     let l : vec_len first ≡ length first.items = omega (arith, first.ok.0) in
     let kept = subst (λ (m : ℕ). take m v.items ≡ first.items) l c.refine_open.ensures.kept in
-    first_found first.items v.items c.merge.new.leaves.items kept c.merge.ensures.permutation
+    first_found first.items v.items c.merge_from.new.leaves.items kept c.merge_from.ensures.permutation
 
 pub returns-clause-judged : goal.returns-clause-judged
 returns-clause-judged g c =
@@ -38,11 +48,11 @@ returns-clause-judged g c =
     let told = subst (λ (q : Problem). (rs : List Cell) → AreRoots (plain_problem q) rs → All (InTree (plain_problem q) rs) c.args.cells.now → All
     (IsLeafOf (plain_problem q) rs) c.args.leaves.items → All (IsLeafOf (plain_problem q) rs) v.items) case c.in_ok-refine_open.ensures.judged in
     λ roots are trees closed.
-    All-permutation (IsLeafOf (plain_problem c.args.self.now.problem) roots) v.items c.merge.new.leaves.items c.merge.ensures.permutation
+    All-permutation (IsLeafOf (plain_problem c.args.self.now.problem) roots) v.items c.merge_from.new.leaves.items c.merge_from.ensures.permutation
     (told roots are trees closed)
 
 pub returns-clause-within : goal.returns-clause-within
 returns-clause-within g c =
     let v = c.refine_open.new.leaves in
     let limit = ap (λ (r : RefinerySeen). r.limit) c.self.view_is in
-    omega (arith, length_permutation v.items c.merge.new.leaves.items c.merge.ensures.permutation, c.in_ok-refine_open.ensures.within, v.ok.0, limit)
+    omega (arith, length_permutation v.items c.merge_from.new.leaves.items c.merge_from.ensures.permutation, c.in_ok-refine_open.ensures.within, v.ok.0, limit)
