@@ -1,20 +1,20 @@
-//! The closest approaches of several encounters: one after another, or half of the encounters on another thread.
-ghost use Rattle.std.specs.Prelude.{◌≡◌, ◌++◌, map, All, IfOk, OnOk};
-ghost use Rattle.std.specs.Thread.{IsSync};
+//! The closest approaches of several encounters: one after another, or by several threads that take the next few encounters each.
+ghost use Rattle.std.specs.Prelude.{◌≡◌, ◌<◌, ◌++◌, List, map, All, IfOk, OnOk};
 ghost use Rattle.cj_hermite.specs.Problems.{plain_problem};
+ghost use Rattle.cj_bezier.specs.declared.encounter.Closest.{Closest};
 ghost use Rattle.cj_bezier.specs.Leaves.{plain_leaves};
-ghost use Rattle.cj_meet.specs.ApproachLists.{AreClosest};
+ghost use Rattle.cj_meet.specs.ApproachLists.{AreClosest, AreClosestAt};
 ghost use Rattle.cj_meet.specs.Closest.{KeepTheirIntervals, HasNearest, closest_of, some_closest};
 ghost use Rattle.cj_meet.specs.Encounters.{Describes, groups_in};
+ghost use Rattle.cj_meet.specs.declared.portion.Portion.{Portion};
 
 use crate::approaching::closest;
+use crate::portion::Portion;
 use cj_bezier::{Closest, Encounter, Leaf};
 use cj_hermite::Problem;
+use cj_jobs::{Jobs, run_jobs};
 use std::alloc::{AllocError, Global};
-use std::thread::{Threads, join};
-
-/// How many parts of the encounters each worker gets: one encounter takes far longer than another, and many parts even that out.
-const PARTS_OF_A_WORKER: u32 = 4;
+use std::thread::Threads;
 
 /// The closest approaches of some encounters, one after another.
 fn search_in_turn(
@@ -34,7 +34,19 @@ fn search_in_turn(
     Ok(found)
 }
 
-/// What is found of some encounters and of those behind them.
+/// The closest approaches of some portions of encounters, one portion after another.
+fn search_each(alloc: Global, portions: &[Portion<'_>]) -> Result<Vec<Closest>, AllocError>
+    ensures { IfOk result (λ found. AreClosestAt portions.now found.items) }
+{
+    let mut all = Vec::new(alloc);
+    for portion in portions {
+        let mut found = search_in_turn(alloc, portion.problem, portion.leaves, portion.encounters)?;
+        all.append(&mut found)?;
+    }
+    Ok(all)
+}
+
+/// What is found of some portions and of those behind them.
 fn joined(mut front: Vec<Closest>, mut back: Vec<Closest>) -> Result<Vec<Closest>, AllocError>
     ensures { IfOk result (λ found. found.items ≡ front.items ++ back.items) }
 {
@@ -42,35 +54,62 @@ fn joined(mut front: Vec<Closest>, mut back: Vec<Closest>) -> Result<Vec<Closest
     Ok(front)
 }
 
-/// The closest approaches of some encounters, searched in so many parts, each on a thread of its own.
-#[cycle(parts)]
-fn search_in_parts<R: Threads + Sync>(
-    rt: &R,
+/// What is done with portions of encounters: the closest approaches of each are searched.
+#[derive(Clone, Copy)]
+struct Searching;
+
+impl<'a> Jobs<Portion<'a>> for Searching {
+    type Output = Vec<Closest>;
+
+    ghost comes_of = { λ searching portions found. AreClosestAt portions found.items };
+
+    fn run(&self, alloc: Global, part: &[Portion<'a>]) -> Result<Vec<Closest>, AllocError>
+        ensures { IfOk result (λ found. AreClosestAt part.now found.items) }
+    {
+        search_each(alloc, part)
+    }
+
+    fn join(&self, front: Vec<Closest>, back: Vec<Closest>) -> Result<Vec<Closest>, AllocError>
+        ensures { (some others : List Portion) → AreClosestAt some front.items → AreClosestAt others back.items
+            → IfOk result (λ found. AreClosestAt (some ++ others) found.items) }
+    {
+        joined(front, back)
+    }
+}
+
+/// The encounters in portions of so many, the last of which may have fewer.
+fn cut<'a>(
     alloc: Global,
-    problem: &Problem,
-    leaves: &[Leaf],
-    encounters: &[Encounter],
-    parts: u32,
-) -> Result<Vec<Closest>, AllocError>
+    problem: &'a Problem,
+    leaves: &'a [Leaf],
+    encounters: &'a [Encounter],
+    size: usize,
+) -> Result<Vec<Portion<'a>>, AllocError>
     requires described { All (Describes (plain_leaves leaves.now)) encounters.now }
     requires intervals { KeepTheirIntervals (plain_problem problem.now) (plain_leaves leaves.now) }
-    ensures { IfOk result (λ found. AreClosest (plain_problem problem.now) (plain_leaves leaves.now) encounters.now found.items) }
+    requires some { 0 < size }
+    ensures { IfOk result (λ portions. (found : List Closest) → AreClosestAt portions.items found
+        → AreClosest (plain_problem problem.now) (plain_leaves leaves.now) encounters.now found) }
 {
-    if parts < 2 || encounters.len() < 2 {
-        return search_in_turn(alloc, problem, leaves, encounters);
+    let mut portions = Vec::new(alloc);
+    let mut rest = encounters;
+    while !rest.is_empty() {
+        let (next, others) = rest.split_at(size.min(rest.len()));
+        portions.push(Portion {
+            problem,
+            leaves,
+            encounters: next,
+        })?;
+        rest = others;
     }
-    let (some, others) = encounters.split_at(encounters.len() / 2);
-    let first = || -> Result<Vec<Closest>, AllocError>
-        requires { IsSync R.row × All (Describes (plain_leaves leaves.now)) some.now × KeepTheirIntervals (plain_problem problem.now) (plain_leaves leaves.now) }
-        ensures { IfOk result (λ found. AreClosest (plain_problem problem.entry.now) (plain_leaves leaves.entry.now) some.entry.now found.items) }
-    { search_in_parts(rt, alloc, problem, leaves, some, parts / 2) };
-    let second = || -> Result<Vec<Closest>, AllocError>
-        requires { IsSync R.row × All (Describes (plain_leaves leaves.now)) others.now × KeepTheirIntervals (plain_problem problem.now) (plain_leaves leaves.now) }
-        ensures { IfOk result (λ found. AreClosest (plain_problem problem.entry.now) (plain_leaves leaves.entry.now) others.entry.now found.items) }
-    { search_in_parts(rt, alloc, problem, leaves, others, parts - parts / 2) };
-    let (front, back) = join(rt, first, second);
-    joined(front?, back?)
+    Ok(portions)
 }
+
+/// So many encounters a thread takes at once, or more where there would be more portions than `PORTIONS`.
+const ENCOUNTERS_A_PORTION: usize = 64;
+
+/// About so many portions there are at most: the outputs of all are looked through for that of each.
+const PORTIONS: usize = 1000;
 
 /// The closest approaches of these encounters of these leaves, in order, searched by so many workers. The only error is want of memory.
 ///
@@ -92,10 +131,10 @@ pub fn closest_approaches<R: Threads + Sync>(
     // Each says what `closest` says of the distance.
     ensures law { OnOk result (All (HasNearest (plain_problem problem.now)) (groups_in (plain_leaves leaves.now) encounters.now)) }
 {
-    let parts = if workers < 2 {
-        1
-    } else {
-        workers.saturating_mul(PARTS_OF_A_WORKER)
-    };
-    search_in_parts(rt, alloc, problem, leaves, encounters, parts)
+    if workers < 2 || encounters.len() <= ENCOUNTERS_A_PORTION {
+        return search_in_turn(alloc, problem, leaves, encounters);
+    }
+    let size = ENCOUNTERS_A_PORTION.max(encounters.len() / PORTIONS);
+    let portions = cut(alloc, problem, leaves, encounters, size)?;
+    run_jobs(rt, alloc, &Searching, &portions, 1, workers as usize)
 }

@@ -7,6 +7,7 @@ mod approaching;
 mod flatness;
 mod looking;
 mod meeting;
+mod portion;
 mod runs;
 mod searching;
 

@@ -1,9 +1,11 @@
 //! Closest approaches of two tracks.
-ghost use Rattle.std.specs.Prelude.{◌≡◌, ◌<◌, ◌≤◌, length, IfOk, IfSome};
+ghost use Rattle.std.specs.Prelude.{◌≡◌, ◌<◌, ◌≤◌, List, length, All, IfOk, IfSome};
 ghost use Rattle.cj_hermite.specs.Problems.{plain_problem};
 ghost use Rattle.cj_hermite.specs.Roots.{KeepIntervals};
+ghost use Rattle.cj_bezier.specs.Leaves.{PlainLeaf};
+ghost use Rattle.cj_meet.specs.Encounters.{Describes};
 
-use cj_bezier::{Cell, Closest, Kind, Leaf};
+use cj_bezier::{Cell, Closest, Encounter, Kind, Leaf};
 use cj_hermite::{Pair, PairHint, Problem, next_common};
 use cj_meet::{closest, closest_approaches, encounters};
 use cj_samples::{AT_7000, AT_7005, AT_7100, moving, rest, tick, track_of, track_of_two};
@@ -166,11 +168,23 @@ fn each_encounter_of_separate_segments_has_its_own(rt: HostRuntime) -> Result<()
     Ok(())
 }
 
-/// What so many workers find of two encounters: one of the first twenty seconds, and one of the last twenty.
+/// Each encounter so many times.
+fn again(alloc: Global, some: &[Encounter], times: usize) -> Result<Vec<Encounter>, AllocError>
+    ensures { IfOk result (λ many. (leaves : List PlainLeaf) → All (Describes leaves) some.now → All (Describes leaves) many.items) }
+{
+    let mut many = Vec::new(alloc);
+    for encounter in some {
+        many.resize(many.len().saturating_add(times), *encounter)?;
+    }
+    Ok(many)
+}
+
+/// What so many workers find of two encounters, each so many times: one of the first twenty seconds, and one of the last twenty.
 fn approaches<R: Threads + Sync>(
     rt: &R,
     alloc: Global,
     problem: &Problem,
+    times: usize,
     workers: u32,
 ) -> Result<Vec<Closest>, AllocError>
     requires { length problem.now.tracks ≡ 2 }
@@ -186,7 +200,8 @@ fn approaches<R: Threads + Sync>(
     }
     let leaves = [early, late];
     let found = encounters(alloc, &leaves)?;
-    closest_approaches(rt, alloc, problem, &leaves, &found, workers)
+    let many = again(alloc, &found, times)?;
+    closest_approaches(rt, alloc, problem, &leaves, &many, workers)
 }
 
 #[test]
@@ -197,19 +212,23 @@ fn approaches_come_in_order_from_one_worker_and_from_many(rt: HostRuntime) -> Re
     let a = track_of_two(alloc, apart, together)?;
     let b = track_of(alloc, rest(alloc, 0, 60, AT_7005)?)?;
     let problem = problem_of(alloc, a, b)?;
-    let expected = [
-        Closest {
-            tick: tick(0),
-            high: 5_000_000_000_000,
-        },
-        Closest {
-            tick: tick(40 * SECOND),
-            high: 0,
-        },
-    ];
-    for workers in [1, 2, 16] {
-        let found = approaches(&rt, alloc, &problem, workers)?;
-        assert_eq!(rt; found.as_slice(), expected.as_slice());
+    let early = Closest {
+        tick: tick(0),
+        high: 5_000_000_000_000,
+    };
+    let late = Closest {
+        tick: tick(40 * SECOND),
+        high: 0,
+    };
+    for times in [1usize, 100] {
+        for workers in [1, 2, 16] {
+            let found = approaches(&rt, alloc, &problem, times, workers)?;
+            assert_eq!(rt; found.len(), times.saturating_mul(2));
+            for (place, closest) in found.iter().enumerate() {
+                let expected = if place < times { early } else { late };
+                assert_eq!(rt; *closest, expected);
+            }
+        }
     }
     Ok(())
 }

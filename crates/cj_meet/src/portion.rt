@@ -1,0 +1,19 @@
+ghost use Rattle.std.specs.Prelude.{All};
+ghost use Rattle.cj_hermite.specs.Problems.{plain_problem};
+ghost use Rattle.cj_bezier.specs.Leaves.{plain_leaves};
+ghost use Rattle.cj_meet.specs.Closest.{KeepTheirIntervals};
+ghost use Rattle.cj_meet.specs.Encounters.{Describes};
+
+use cj_bezier::{Encounter, Leaf};
+use cj_hermite::Problem;
+
+/// Some encounters of the leaves of a problem, whose closest approaches are to be found.
+#[derive(Clone, Copy)]
+pub struct Portion<'a> {
+    pub problem: &'a Problem,
+    /// Leaves of the problem, those of these encounters among them.
+    pub leaves: &'a [Leaf],
+    pub encounters: &'a [Encounter],
+    pub ghost described: { All (Describes (plain_leaves leaves.now)) encounters.now },
+    pub ghost intervals: { KeepTheirIntervals (plain_problem problem.now) (plain_leaves leaves.now) },
+}
