@@ -11,29 +11,31 @@ use crate::reading::{InputError, read_file};
 use cj_io::Folder;
 use std::alloc::{AllocError, Global};
 
-/// How many files of a batch there are, at most, for each of several workers. The first batch is read before any file is parsed, so it is small.
-const FILES_A_WORKER: usize = 16;
+/// How many files of the first batch there are, at most, for each of several workers. It is read before any file is parsed, so it is small.
+const FILES_A_WORKER: usize = 8;
 
 /// A batch ends with the file that brings it to so many bytes.
 const MANY_BYTES: u64 = 33_554_432;
 
-/// How many files a batch has, at most. One worker parses each file as it is read.
-fn most_files(workers: u32) -> usize
+/// How many files a batch has, at most, behind one of so many: twice as many, since threads begin anew with each batch. One worker parses
+/// each file as it is read.
+fn most_files(workers: u32, before: usize) -> usize
     ensures { 1 ≤ result }
 {
     if workers < 2 {
-        1
-    } else {
-        workers as usize * FILES_A_WORKER
+        return 1;
     }
+    let first = workers as usize * FILES_A_WORKER;
+    first.max(before.saturating_mul(2))
 }
 
-/// Reads the first of these files, as many as so many workers parse together.
+/// Reads the first of these files, as many as so many workers parse together behind a batch of so many.
 pub fn read_batch<'a, F: Folder>(
     alloc: Global,
     folder: &mut F,
     entries: &'a [Entry],
     workers: u32,
+    before: usize,
 ) -> Result<Batch<'a>, AllocError>
     requires { All (λ entry. entry.number < F.count folder.old) entries.now }
 
@@ -47,7 +49,7 @@ pub fn read_batch<'a, F: Folder>(
     ensures files { F.files folder.new ≡ F.files folder.old }
     ensures later { F.faults folder.old ≤ F.faults folder.new }
 {
-    let most = most_files(workers);
+    let most = most_files(workers, before);
     let mut files = Vec::new(alloc);
     let mut total = 0;
     for entry in entries {

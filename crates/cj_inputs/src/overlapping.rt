@@ -46,6 +46,6 @@ pub fn parse_and_read<'a, R: Threads + Sync, F: Folder>(
         requires { IsSync R.row }
         ensures { IfOk result (λ readings. AreParsed as_hermite3 read.entry.now readings.items) }
     { parse_files(rt, alloc, read, as_hermite3, workers) };
-    let mut read_on = || read_batch(alloc, folder, entries, workers);
+    let mut read_on = || read_batch(alloc, folder, entries, workers, read.len());
     join_mut(rt, &mut parse, &mut read_on)
 }

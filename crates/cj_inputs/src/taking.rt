@@ -48,7 +48,7 @@ pub fn read_tracks<R: Threads + Sync, F: Folder>(
     ensures later { F.faults folder.old ≤ F.faults folder.new }
 {
     let taken = Taken::with_capacity(alloc, entries.len())?;
-    let batch = read_batch(alloc, folder, entries, workers)?;
+    let batch = read_batch(alloc, folder, entries, workers, 0)?;
     let mut progress = Progress { taken, batch };
     while progress.taken.tracks.len() < entries.len() {
         progress = go_on(rt, alloc, folder, progress, entries, as_hermite3, workers)?;
@@ -94,7 +94,7 @@ fn go_on<'a, R: Threads + Sync, F: Folder>(
         if let Some(why) = stop {
             return Err(why);
         }
-        let batch = read_batch(alloc, folder, rest, workers)?;
+        let batch = read_batch(alloc, folder, rest, workers, files.len())?;
         return Ok(Progress { taken, batch });
     }
     let (readings, next) = parse_and_read(rt, alloc, folder, &files, rest, as_hermite3, workers);
