@@ -57,22 +57,27 @@ object_added version lines object each new own added is before =
     ∙ sym (flat_map-append (box_text version) (flat_map lines (range_with_len 0 object)) (lines object))
     ∙ ap (flat_map (box_text version)) (sym (flat_map-range_more lines 0 object object (omega arith)))
 
--- ---- the whole, part by part
+-- ---- the whole, of which nothing is printed yet
 
-pub parts_written : (case : PlainProblem) (objects : ℕ) (shells : List ShellLine) (each : List ObjectBoxes) (leaves : List Leaf) (t0 t1 t2 t3 t4 t5 : List ℕ)
+pub all_left : (case : PlainProblem) (objects : ℕ) (shells : List ShellLine) (each : List ObjectBoxes) (leaves : List Leaf) (front back : List ℕ)
     → objects ≡ length case.ephemerides → shells ≡ map (shell_line case) (enumerate_from 0 case.ephemerides)
     → flat_map (object_text 1) each ≡ flat_map (box_text 1) (flat_map (box_lines case) (enumerate_from 0 case.ephemerides))
     → plain_leaves leaves ≡ leaves_in_order case
-    → t0 ≡ [] → t1 ≡ t0 ++ first_lines 1 case.first case.last case.threshold objects → t2 ≡ t1 ++ flat_map shell_text shells
-    → t3 ≡ t2 ++ flat_map (object_text 1) each → t4 ≡ t3 ++ flat_map (λ (leaf : Leaf). cell_text (plain_leaf leaf)) leaves
-    → t5 ≡ t4 ++ row (codes "END") [] → t5 ≡ text_of (written case)
+    → front ≡ first_lines 1 case.first case.last case.threshold objects → back ≡ row (codes "END") []
+    → front ++ (flat_map shell_text shells ++ (flat_map (object_text 1) each ++ (flat_map (λ (leaf : Leaf). cell_text (plain_leaf leaf)) leaves ++ back)))
+    ≡ text_of (written case)
 unfolding text_of written
-parts_written case objects shells each leaves t0 t1 t2 t3 t4 t5 count of_shells of_boxes of_leaves e0 e1 e2 e3 e4 e5 =
-    let front = first_lines 1 case.first case.last case.threshold (length case.ephemerides) in
-    let of_cells : flat_map (λ (leaf : Leaf). cell_text (plain_leaf leaf)) leaves ≡ flat_map cell_text (leaves_in_order case) =
+all_left case objects shells each leaves front back count of_shells of_boxes of_leaves of_front of_back =
+    let head = first_lines 1 case.first case.last case.threshold (length case.ephemerides) in
+    let s = flat_map shell_text (map (shell_line case) (enumerate_from 0 case.ephemerides)) in
+    let b = flat_map (box_text 1) (flat_map (box_lines case) (enumerate_from 0 case.ephemerides)) in
+    let l = flat_map cell_text (leaves_in_order case) in
+    let e = row (codes "END") [] in
+    let of_cells : flat_map (λ (leaf : Leaf). cell_text (plain_leaf leaf)) leaves ≡ l =
     sym (flat_map-map cell_text plain_leaf leaves) ∙ ap (flat_map cell_text) of_leaves in
-    let s1 : t1 ≡ front ++ [] = e1 ∙ (λ i. e0 i ++ first_lines 1 case.first case.last case.threshold (count i)) ∙ sym (append-nil front) in
-    let s2 = e2 ∙ (λ i. s1 i ++ flat_map shell_text (of_shells i)) in
-    let s3 = e3 ∙ (λ i. s2 i ++ of_boxes i) in
-    let s4 = e4 ∙ (λ i. s3 i ++ of_cells i) in
-    e5 ∙ ap (λ (t : List ℕ). t ++ row (codes "END") []) s4
+    let fronts : front ≡ head = of_front ∙ ap (first_lines 1 case.first case.last case.threshold) count in
+    (λ i. fronts i ++ (flat_map shell_text (of_shells i) ++ (of_boxes i ++ (of_cells i ++ of_back i))))
+    ∙ sym (append_assoc (((head ++ []) ++ s) ++ b) l e
+    ∙ append_assoc ((head ++ []) ++ s) b (l ++ e)
+    ∙ append_assoc (head ++ []) s (b ++ (l ++ e))
+    ∙ ap (λ (t : List ℕ). t ++ (s ++ (b ++ (l ++ e)))) (append-nil head))

@@ -5,6 +5,7 @@ pub mod Parts
 pub mod Numbers
 pub mod Ranks
 pub mod Lines
+pub mod TextLeft
 pub mod Reading
 pub mod Readers
 pub mod Fits

@@ -1,8 +1,9 @@
 -- Texts that are made part by part.
-use Rattle.std.specs.Prelude.{ℕ, List, [], Result, Ok, Err}
+use Rattle.std.specs.Prelude.{◌≡◌, ℕ, ◌<◌, List, flat_map, length}
 use Rattle.std.specs.Global.{Vec}
+use Rattle.cj_io.specs.Parts.{joined}
 
--- the bytes of a part, where it was made
-abbrev pub bytes_in : {E : Type 0} → Result (Vec ℕ) E → List ℕ
-bytes_in (Ok part) = part.items
-bytes_in (Err _) = []
+-- they are the text of these lines, one behind another, and there is one at least
+pub record AreTexts {L : Type 0} (text_of : L → List ℕ) (lines : List L) (texts : List (Vec ℕ)) : Type 0 where
+  pub whole : joined texts ≡ flat_map text_of lines
+  pub some : 0 < length texts

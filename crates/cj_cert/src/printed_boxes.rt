@@ -13,9 +13,6 @@ use cj_bezier::AxisBox;
 use std::alloc::{AllocError, Global};
 
 impl PrintedLine for ObjectBoxes<'_> {
-    // They are many lines.
-    const LEAST_PART: usize = 4;
-
     ghost text_by = { object_text };
 
     fn room(&self) -> usize {

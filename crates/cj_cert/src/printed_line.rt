@@ -11,9 +11,6 @@ use cj_epoch::Tick;
 use cj_hermite::Pair;
 use std::alloc::AllocError;
 
-/// So many lines at least are worth a thread.
-const LEAST_LINES: usize = 4_096;
-
 /// How long the line of a box can be, and that of a cell.
 pub(crate) const BOX_ROOM: usize = 157;
 
@@ -21,9 +18,6 @@ const CELL_ROOM: usize = 51;
 
 /// What has a text in each version: a line, or lines that belong together.
 pub(crate) trait PrintedLine {
-    /// So many of them at least are worth a thread.
-    const LEAST_PART: usize;
-
     /// How many bytes its text has at most.
     fn room(&self) -> usize;
 
@@ -35,8 +29,6 @@ pub(crate) trait PrintedLine {
 }
 
 impl PrintedLine for SizeOfLine {
-    const LEAST_PART: usize = LEAST_LINES;
-
     ghost text_by = { λ _ s. size_text s };
 
     fn room(&self) -> usize {
@@ -50,8 +42,6 @@ impl PrintedLine for SizeOfLine {
 }
 
 impl PrintedLine for ShellLine {
-    const LEAST_PART: usize = LEAST_LINES;
-
     ghost text_by = { λ _ s. shell_text s };
 
     fn room(&self) -> usize {
@@ -72,8 +62,6 @@ impl PrintedLine for ShellLine {
 }
 
 impl PrintedLine for BoxLine {
-    const LEAST_PART: usize = LEAST_LINES;
-
     ghost text_by = { λ version b. box_text version (plain_box_line b) };
 
     fn room(&self) -> usize {
@@ -108,8 +96,6 @@ impl PrintedLine for BoxLine {
 }
 
 impl PrintedLine for CellLine {
-    const LEAST_PART: usize = LEAST_LINES;
-
     ghost text_by = { λ _ c. cell_text (plain_cell_line c) };
 
     fn room(&self) -> usize {
@@ -122,8 +108,6 @@ impl PrintedLine for CellLine {
 }
 
 impl PrintedLine for Leaf {
-    const LEAST_PART: usize = LEAST_LINES;
-
     ghost text_by = { λ _ leaf. cell_text (plain_leaf leaf) };
 
     fn room(&self) -> usize {

@@ -1,14 +1,51 @@
-//! Lists of lines as text, by parts side by side.
-ghost use Rattle.std.specs.Prelude.{◌≡◌, ℕ, ◌+◌, ◌/◌, ◌%◌, ◌<◌, ◌++◌, All, IfOk, IsOk, OnOk, flat_map, length, min, slice_index_or, vec_len};
-ghost use Rattle.std.specs.Fork.{slice_chunk};
+//! Lists of lines as text, by parts that several threads take.
+ghost use Rattle.std.specs.Prelude.{◌≡◌, ◌<◌, ◌++◌, IfOk, OnOk, flat_map, length};
 ghost use Rattle.cj_io.specs.Parts.{joined};
-ghost use Rattle.cj_cert.specs.Parts.{bytes_in};
+ghost use Rattle.cj_cert.specs.Parts.{AreTexts};
 
 use crate::printed_line::PrintedLine;
+use cj_jobs::{Jobs, run_jobs};
 use std::alloc::{AllocError, Global};
-use std::thread::{Threads, map_chunks};
+use std::thread::Threads;
 
-/// Adds the text of lines in order, in parts. As many threads as there are workers make a part each.
+/// So many lines at least are a part of a list that is printed at once.
+const LEAST_PART: usize = 4_096;
+
+/// So many parts for each worker.
+pub(crate) const PARTS_A_WORKER: usize = 4;
+
+/// What is done with lines: their text is made in a version.
+#[derive(Clone, Copy)]
+struct Printing {
+    version: u32,
+}
+
+impl<L: PrintedLine + Sync> Jobs<L> for Printing {
+    type Output = Vec<Vec<u8>>;
+
+    ghost comes_of = { λ printing lines texts. AreTexts (L.text_by printing.version) lines texts.items };
+
+    fn run(&self, alloc: Global, part: &[L]) -> Result<Vec<Vec<u8>>, AllocError> {
+        let text = part_text(alloc, self.version, part)?;
+        let mut texts = Vec::new(alloc);
+        texts.push(text)?;
+        Ok(texts)
+    }
+
+    fn join(&self, front: Vec<Vec<u8>>, back: Vec<Vec<u8>>) -> Result<Vec<Vec<u8>>, AllocError> {
+        put_behind(front, back)
+    }
+}
+
+/// Texts, and others behind them.
+fn put_behind(mut front: Vec<Vec<u8>>, mut back: Vec<Vec<u8>>) -> Result<Vec<Vec<u8>>, AllocError>
+    ensures { IfOk result (λ all. all.items ≡ front.items ++ back.items) }
+{
+    front.append(&mut back)?;
+    Ok(front)
+}
+
+/// Adds the text of lines in order, in parts that as many threads as there are workers take.
 pub(crate) fn push_lines<R: Threads + Sync, L: PrintedLine + Sync>(
     rt: &R,
     alloc: Global,
@@ -19,38 +56,33 @@ pub(crate) fn push_lines<R: Threads + Sync, L: PrintedLine + Sync>(
 ) -> Result<(), AllocError>
     ensures { OnOk result (joined parts.new.items ≡ joined parts.old.items ++ flat_map (L.text_by version) lines.now) }
 {
-    let size = part_size(lines.len(), L::LEAST_PART, workers);
-    let texts = part_texts(rt, alloc, version, lines, size)?;
-    push_parts(parts, texts)
+    let size = part_size(lines.len(), workers);
+    push_parted(rt, alloc, parts, version, lines, size, workers)
 }
 
-/// How many lines stand in each part but the last: so many at least.
-fn part_size(count: usize, least: usize, workers: u32) -> usize
-    ensures { 0 < result }
-{
-    count.div_ceil(workers.max(1) as usize).max(least).max(1)
-}
-
-/// The texts of the parts of so many lines each, made side by side.
-fn part_texts<R: Threads + Sync, L: PrintedLine + Sync>(
+/// Adds the text of lines in order, in parts of so many lines, which as many threads as there are workers take.
+pub(crate) fn push_parted<R: Threads + Sync, L: PrintedLine + Sync>(
     rt: &R,
     alloc: Global,
+    parts: &mut Vec<Vec<u8>>,
     version: u32,
     lines: &[L],
     size: usize,
-) -> Result<Vec<Result<Vec<u8>, AllocError>>, AllocError>
-    requires { 0 < size }
-    ensures count { IfOk result (λ parts. vec_len parts ≡ length lines.now / size + min 1 (length lines.now % size)) }
-    ensures each { IfOk result (λ parts. (n : ℕ) (d : _) → n < vec_len parts
-        → IfOk (slice_index_or parts.items n d) (λ part. part.items ≡ flat_map (L.text_by version) (slice_chunk lines.now size n))) }
+    workers: u32,
+) -> Result<(), AllocError>
+    ensures value { OnOk result (joined parts.new.items ≡ joined parts.old.items ++ flat_map (L.text_by version) lines.now) }
+    ensures some { OnOk result (0 < length parts.new.items) }
 {
-    map_chunks(
-        rt,
-        alloc,
-        lines,
-        size,
-        &|_, part| part_text(alloc, version, part),
-    )
+    let printing = Printing { version };
+    let mut texts = run_jobs(rt, alloc, &printing, lines, size, workers as usize)?;
+    parts.append(&mut texts)?;
+    Ok(())
+}
+
+/// How many lines stand in each part but the last, so that there are some for each worker, where they are enough.
+fn part_size(count: usize, workers: u32) -> usize {
+    let most = PARTS_A_WORKER.saturating_mul(workers.max(1) as usize);
+    count.div_ceil(most).max(LEAST_PART)
 }
 
 /// The text of some lines.
@@ -81,20 +113,6 @@ fn push_in_turn<L: PrintedLine>(
 {
     for line in lines {
         line.push_onto(text, version)?;
-    }
-    Ok(())
-}
-
-/// Adds the parts of a text, where each was made.
-fn push_parts(
-    parts: &mut Vec<Vec<u8>>,
-    texts: Vec<Result<Vec<u8>, AllocError>>,
-) -> Result<(), AllocError>
-    ensures whole { OnOk result (All IsOk texts.items) }
-    ensures value { OnOk result (joined parts.new.items ≡ joined parts.old.items ++ flat_map bytes_in texts.items) }
-{
-    for text in texts {
-        parts.push(text?)?;
     }
     Ok(())
 }

@@ -7,6 +7,7 @@ mod folder;
 mod notice;
 mod request;
 mod shelf;
+mod streaming;
 mod system_fault;
 
 pub use clock::now;

@@ -1,12 +1,15 @@
 ghost use Rattle.std.specs.Prelude.{◌≡◌, ◌≤◌, None, IsErrOf};
 ghost use Rattle.cj_io.specs.Faults.{Rose};
 
+use crate::streaming::{MakeError, write_all_made, write_while_made};
 use crate::system_fault::SystemFault;
 use cj_io::{PutError, Shelf};
+use cj_stream::{PartSource, StreamShelf};
 use std::alloc::{AllocError, Global};
 use std::fs::File;
 use std::io::{ErrorKind, Write};
 use std::path::{Path, PathBuf};
+use std::thread::Threads;
 use std::{fs, io};
 
 /// Files that are made anew in a directory. The name `-` goes to standard output.
@@ -75,6 +78,25 @@ impl Shelf for DirShelf<'_> {
     }
 }
 
+impl StreamShelf for DirShelf<'_> {
+    fn put_made<R: Threads + Sync, M: PartSource>(
+        &mut self,
+        rt: &R,
+        alloc: Global,
+        name: &[u8],
+        source: &mut M,
+    ) -> Result<(), PutError> {
+        let place = place_of(alloc, self.directory, name)?;
+        // Where already the first parts want memory, no file is begun.
+        let first = source.next_parts(rt, alloc)?;
+        match make_whole(self.rt, rt, alloc, &place, first, source) {
+            Ok(()) => Ok(()),
+            Err(MakeError::Memory) => Err(PutError::Memory),
+            Err(MakeError::Fault(reason)) => self.end(alloc, &place, Err(reason)),
+        }
+    }
+}
+
 /// Where a piece goes.
 #[derive(Drop)]
 enum Place {
@@ -121,6 +143,44 @@ fn write_parts<W: Write>(to: &mut W, parts: &[&[u8]]) -> io::Result<()> {
         to.write_all(part)?;
     }
     Ok(())
+}
+
+/// Writes parts and what the source makes behind them. Where a file is not written whole, its part is taken away again.
+fn make_whole<R: Threads + Sync, M: PartSource>(
+    files: &HostRuntime,
+    rt: &R,
+    alloc: Global,
+    place: &Place,
+    first: Vec<Vec<u8>>,
+    source: &mut M,
+) -> Result<(), MakeError> {
+    match place {
+        Place::Output => write_all_made(&mut files.stdout(), rt, alloc, first, source),
+        Place::File { file, part } => {
+            let made = make_file(files, rt, alloc, part, file, first, source);
+            if made.is_err() {
+                let _ = fs::remove_file(files, part.as_path());
+            }
+            made
+        }
+        Place::Nowhere => Err(MakeError::Fault(io::Error::from(ErrorKind::InvalidFilename))),
+    }
+}
+
+/// Writes a file under the name of its part while it is made, and then renames it.
+fn make_file<R: Threads + Sync, M: PartSource>(
+    files: &HostRuntime,
+    rt: &R,
+    alloc: Global,
+    part: &PathBuf,
+    file: &PathBuf,
+    first: Vec<Vec<u8>>,
+    source: &mut M,
+) -> Result<(), MakeError> {
+    let mut to = File::create(files, part.as_path())?;
+    write_while_made(&mut to, rt, alloc, first, source)?;
+    drop(to);
+    Ok(fs::rename(files, part.as_path(), file.as_path())?)
 }
 
 /// Writes a file under the name of its part and then renames it. Where either fails, the part is taken away again.

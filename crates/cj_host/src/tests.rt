@@ -1,8 +1,13 @@
+ghost use Rattle.std.specs.Prelude.{[], ◌∷◌, if◌then◌else◌};
+
 use super::*;
+use crate::streaming::{MakeError, write_while_made};
 use cj_io::{Folder, FolderError, PutError, Shelf, read_whole};
-use std::alloc::Global;
+use cj_stream::{MemSource, PartSource, StreamShelf};
+use std::alloc::{AllocError, Global};
 use std::fs;
 use std::test::Fail;
+use std::thread::Threads;
 
 #[test]
 fn files_of_a_directory_are_read(rt: HostRuntime) -> Result<(), Fail> {
@@ -79,6 +84,101 @@ fn a_piece_that_cannot_take_its_name_leaves_nothing(rt: HostRuntime) -> Result<(
     );
     assert_eq!(rt; fs::exists(&rt, "taken_here/.screen.report.part")?, false);
     fs::remove_dir_all(&rt, "taken_here")?;
+    Ok(())
+}
+
+#[test]
+fn a_piece_is_written_while_it_is_made(rt: HostRuntime) -> Result<(), Fail> {
+    let alloc = rt.alloc();
+    fs::create_dir(&rt, "made_here")?;
+    let mut shelf = DirShelf::new(&rt, "made_here");
+    shelf.put_made(
+        &rt,
+        alloc,
+        b"screen.cert",
+        &mut MemSource::new(b"abcdefghi", 2),
+    )?;
+    shelf.put_made(&rt, alloc, b"empty", &mut MemSource::new(b"", 2))?;
+    assert_eq!(rt;
+        fs::read_to_string(&rt, "made_here/screen.cert")?.as_str(),
+        "abcdefghi"
+    );
+    assert_eq!(rt; fs::read_to_string(&rt, "made_here/empty")?.as_str(), "");
+    assert_eq!(rt; fs::exists(&rt, "made_here/.screen.cert.part")?, false);
+    fs::remove_dir_all(&rt, "made_here")?;
+    assert_eq!(rt;
+        shelf.put_made(&rt, alloc, b"screen.cert", &mut MemSource::new(b"abc", 2)),
+        Err(PutError::Failed)
+    );
+    assert!(rt;
+        is_told(
+            alloc,
+            shelf.last_fault(),
+            b"conj: made_here/screen.cert: No such file or directory (os error 2)\n"
+        )
+    );
+    Ok(())
+}
+
+/// A source of one part, and behind it no memory.
+#[derive(Drop)]
+struct Starved {
+    made: bool,
+}
+
+impl PartSource for Starved {
+    ghost rest = { λ s. if s.made then [] else 120 ∷ [] };
+
+    ghost left = { λ s. if s.made then 0 else 1 };
+
+    fn next_parts<R: Threads + Sync>(
+        &mut self,
+        _rt: &R,
+        alloc: Global,
+    ) -> Result<Vec<Vec<u8>>, AllocError> {
+        if self.made {
+            return Err(AllocError);
+        }
+        let mut parts = Vec::new(alloc);
+        parts.push(Vec::from_slice(alloc, b"x")?)?;
+        self.made = true;
+        Ok(parts)
+    }
+
+    fn is_shared(&self) -> bool {
+        true
+    }
+}
+
+#[test]
+fn a_piece_that_wants_memory_while_it_is_made_leaves_nothing(rt: HostRuntime) -> Result<(), Fail> {
+    let alloc = rt.alloc();
+    fs::create_dir(&rt, "starved_here")?;
+    fs::write(&rt, "starved_here/screen.cert", "older")?;
+    let mut shelf = DirShelf::new(&rt, "starved_here");
+    assert_eq!(rt;
+        shelf.put_made(&rt, alloc, b"screen.cert", &mut Starved { made: false }),
+        Err(PutError::Memory)
+    );
+    assert!(rt; shelf.last_fault().is_none());
+    assert_eq!(rt;
+        fs::read_to_string(&rt, "starved_here/screen.cert")?.as_str(),
+        "older"
+    );
+    assert_eq!(rt; fs::exists(&rt, "starved_here/.screen.cert.part")?, false);
+    fs::remove_dir_all(&rt, "starved_here")?;
+    Ok(())
+}
+
+#[test]
+fn a_fault_of_a_write_is_told_before_want_of_memory(rt: HostRuntime) -> Result<(), Fail> {
+    let alloc = rt.alloc();
+    let mut source = Starved { made: false };
+    let first = source.next_parts(&rt, alloc)?;
+    let mut no_room = [0u8; 0];
+    let mut to = no_room.as_mut_slice();
+    let ended = write_while_made(&mut to, &rt, alloc, first, &mut source);
+    assert!(rt; matches!(ended, Err(MakeError::Fault(_))));
     Ok(())
 }
 

@@ -1,4 +1,4 @@
-//! Putting one piece onto a shelf, whole or in parts.
+//! Putting one piece onto a shelf: whole, in parts, or while it is made.
 ghost use Rattle.std.specs.Prelude.{◌≡◌, ◌≤◌, List, [], ◌∷◌, Some, Ok, Err, IfErr};
 ghost use Rattle.cj_io.specs.Faults.{Rose};
 ghost use Rattle.cj_io.specs.Parts.{joined};
@@ -8,7 +8,9 @@ ghost use Rattle.cj_screen.specs.Outcome.{ComesOfPuts, Leaves, piece};
 
 use cj_io::Shelf;
 use cj_status::Status;
+use cj_stream::{PartSource, StreamShelf};
 use std::alloc::Global;
+use std::thread::Threads;
 
 /// Puts one piece.
 pub fn put<S: Shelf>(alloc: Global, shelf: &mut S, name: &[u8], bytes: &[u8]) -> Result<(), Status>
@@ -33,4 +35,20 @@ pub fn put_parts<S: Shelf>(
     ensures later { S.faults shelf.old ≤ S.faults shelf.new }
 {
     Ok(shelf.put_parts(alloc, name, parts)?)
+}
+
+/// Puts one piece of the bytes that the source still has to make.
+pub fn put_made<R: Threads + Sync, S: StreamShelf, M: PartSource>(
+    rt: &R,
+    alloc: Global,
+    shelf: &mut S,
+    name: &[u8],
+    source: &mut M,
+) -> Result<(), Status>
+    ensures comes { IfErr result ComesOfPuts }
+    ensures write { result ≡ Err Status.WriteFault → Rose (S.faults shelf.old) (S.faults shelf.new) }
+    ensures leaves { (old : List FileBytes) → S.pieces shelf.old ≡ Some old → Leaves (ended result) (Ok (piece name.now (M.rest source.old) ∷ [])) old (S.pieces shelf.new) }
+    ensures later { S.faults shelf.old ≤ S.faults shelf.new }
+{
+    Ok(shelf.put_made(rt, alloc, name, source)?)
 }

@@ -5,6 +5,7 @@ ghost use Rattle.cj_io.specs.Parts.{joined};
 ghost use Rattle.cj_io.specs.declared.file.FileBytes.{FileBytes};
 ghost use Rattle.cj_cert.specs.Certificates.{plain_certificate};
 ghost use Rattle.cj_cert.specs.Rewritten.{written_in};
+ghost use Rattle.cj_cert.specs.TextLeft.{text_left};
 ghost use Rattle.cj_screen.specs.Findings.{AreFound, case_in, cert_in, ended, pieces_in, report_in, summary_in};
 ghost use Rattle.cj_screen.specs.Origins.{plain_origin};
 ghost use Rattle.cj_screen.specs.Outcome.{ComesOfPuts, Leaves, cert_bytes};
@@ -12,17 +13,18 @@ ghost use Rattle.cj_screen.specs.Outcome.{ComesOfPuts, Leaves, cert_bytes};
 use crate::findings::Findings;
 use crate::messages::put_messages;
 use crate::origin::Origin;
-use crate::putting::{put, put_parts};
-use cj_cert::{Certificate, cert_parts, certificate_in_blocks, written_parts};
+use crate::putting::{put, put_made, put_parts};
+use cj_cert::{Certificate, CertificateText, cert_parts, certificate_in_blocks};
 use cj_io::Shelf;
 use cj_report::{report_text, summary_text};
 use cj_sieve::kept_pairs;
 use cj_status::Status;
+use cj_stream::StreamShelf;
 use std::alloc::{AllocError, Global};
 use std::thread::Threads;
 
 /// Makes and puts the pieces one after another, messages with this origin. Each is dropped after its put.
-pub fn put_pieces<R: Threads + Sync, S: Shelf>(
+pub fn put_pieces<R: Threads + Sync, S: StreamShelf>(
     rt: &R,
     alloc: Global,
     shelf: &mut S,
@@ -62,8 +64,8 @@ fn put_report<S: Shelf>(alloc: Global, shelf: &mut S, found: &Findings) -> Resul
     put(alloc, shelf, b"screen.report", &report)
 }
 
-/// Puts the certificate.
-fn put_certificate<R: Threads + Sync, S: Shelf>(
+/// Puts the certificate in the version that was asked.
+fn put_certificate<R: Threads + Sync, S: StreamShelf>(
     rt: &R,
     alloc: Global,
     shelf: &mut S,
@@ -75,33 +77,42 @@ fn put_certificate<R: Threads + Sync, S: Shelf>(
     ensures leaves { (old : List FileBytes) → S.pieces shelf.old ≡ Some old → Leaves (ended result) (Ok (cert_in found.now ∷ [])) old (S.pieces shelf.new) }
     ensures later { S.faults shelf.old ≤ S.faults shelf.new }
 {
-    let parts = certificate_parts(rt, alloc, found)?;
-    put_parts(alloc, shelf, b"screen.cert", &parts)
+    if found.version == 1 {
+        let mut text = certificate_text(alloc, found)?;
+        put_made(rt, alloc, shelf, b"screen.cert", &mut text)
+    } else {
+        let parts = parts_by_blocks(rt, alloc, found)?;
+        put_parts(alloc, shelf, b"screen.cert", &parts)
+    }
 }
 
-/// The text of the certificate in the version that was asked, in parts.
-fn certificate_parts<R: Threads + Sync>(
+/// The text of the certificate in version 1, which is still to be made.
+fn certificate_text(alloc: Global, found: &Findings) -> Result<CertificateText<'_>, AllocError>
+    requires { AreFound found.now }
+    ensures { IfOk result (λ text. text_left text ≡ cert_bytes 1 (case_in found.now)) }
+{
+    let Findings {
+        problem,
+        workers,
+        shells,
+        boxes,
+        leaves,
+        ..
+    } = found;
+    CertificateText::new(alloc, problem, shells, boxes, leaves, *workers)
+}
+
+/// The text of the certificate in version 2, in parts.
+fn parts_by_blocks<R: Threads + Sync>(
     rt: &R,
     alloc: Global,
     found: &Findings,
 ) -> Result<Vec<Vec<u8>>, AllocError>
     requires { AreFound found.now }
-    ensures { IfOk result (λ parts. joined parts.items ≡ cert_bytes found.now.version (case_in found.now)) }
+    ensures { IfOk result (λ parts. joined parts.items ≡ cert_bytes 2 (case_in found.now)) }
 {
-    if found.version == 1 {
-        let Findings {
-            problem,
-            workers,
-            shells,
-            boxes,
-            leaves,
-            ..
-        } = found;
-        written_parts(rt, alloc, problem, shells, boxes, leaves, *workers)
-    } else {
-        let certificate = certificate_by_blocks(alloc, found)?;
-        cert_parts(rt, alloc, &certificate, found.workers)
-    }
+    let certificate = certificate_by_blocks(alloc, found)?;
+    cert_parts(rt, alloc, &certificate, found.workers)
 }
 
 /// The certificate in version 2, with blocks by the pairs that are kept.

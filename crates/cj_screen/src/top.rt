@@ -22,8 +22,9 @@ use crate::results::Results;
 use crate::rewriting::put_rewritten;
 use crate::trying::put_trial;
 use cj_epoch::Tick;
-use cj_io::{Folder, Gate, Shelf};
+use cj_io::{Folder, Gate};
 use cj_status::Status;
+use cj_stream::StreamShelf;
 use cj_words::Word;
 use std::alloc::Global;
 use std::sync::Wait;
@@ -32,7 +33,7 @@ use std::thread::Threads;
 /// Runs one command line over a folder and a shelf. The words do not hold the program's name.
 ///
 /// `Status` says how it ended; `fault_text` gives the line for standard error.
-pub fn conj<R: Threads + Wait + Sync, F: Folder, S: Shelf, G: Gate + Sync>(
+pub fn conj<R: Threads + Wait + Sync, F: Folder, S: StreamShelf, G: Gate + Sync>(
     rt: &R,
     alloc: Global,
     words: &[Word],
@@ -100,7 +101,7 @@ fn end(put: Result<(), Status>) -> Status
 }
 
 /// Makes and puts all that is due.
-fn put_results<R: Threads + Sync, S: Shelf>(
+fn put_results<R: Threads + Sync, S: StreamShelf>(
     rt: &R,
     alloc: Global,
     shelf: &mut S,

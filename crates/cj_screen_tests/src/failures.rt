@@ -1,14 +1,15 @@
 //! Folders and shelves that fail.
 use crate::runs::{End, end_failing};
 use crate::scenes::{COVERED, Content, Scene, base_text, copies, files_of};
-use cj_io::{CalmShelf, FileBytes, MemShelf, Shelf};
+use cj_io::{CalmShelf, FileBytes, MemShelf};
+use cj_stream::StreamShelf;
 use std::alloc::{AllocError, Global};
 use std::sync::Wait;
 use std::test::Fail;
 use std::thread::Threads;
 
 /// How a run over the crossing ends where these calls of the folder fail.
-fn end_over<R: Threads + Wait + Sync, S: Shelf>(
+fn end_over<R: Threads + Wait + Sync, S: StreamShelf>(
     rt: &R,
     alloc: Global,
     calls: Vec<u64>,

@@ -1,9 +1,10 @@
 //! Runs of the top call.
 use cj_epoch::Tick;
-use cj_io::{Bytes, CalmFolder, CalmShelf, FileBytes, Folder, MemFolder, Name, OpenGate, Shelf};
+use cj_io::{Bytes, CalmFolder, CalmShelf, FileBytes, Folder, MemFolder, Name, OpenGate};
 use cj_kvn::Text;
 use cj_screen::conj;
 use cj_status::{Status, fault_text};
+use cj_stream::StreamShelf;
 use cj_words::Word;
 use std::alloc::{AllocError, Global};
 use std::sync::Wait;
@@ -88,7 +89,7 @@ fn end_of(alloc: Global, status: &Status) -> Result<End, AllocError> {
 }
 
 /// How a command line ends over this folder and shelf at this time.
-fn end_over<R: Threads + Wait + Sync, F: Folder, S: Shelf>(
+fn end_over<R: Threads + Wait + Sync, F: Folder, S: StreamShelf>(
     rt: &R,
     alloc: Global,
     line: &str,
@@ -102,7 +103,7 @@ fn end_over<R: Threads + Wait + Sync, F: Folder, S: Shelf>(
 }
 
 /// How a command line ends over these files where these calls of their folder fail.
-pub fn end_failing<R: Threads + Wait + Sync, S: Shelf>(
+pub fn end_failing<R: Threads + Wait + Sync, S: StreamShelf>(
     rt: &R,
     alloc: Global,
     line: &str,
@@ -115,7 +116,7 @@ pub fn end_failing<R: Threads + Wait + Sync, S: Shelf>(
 }
 
 /// How a command line ends that needs no folder: each call of its folder fails.
-pub fn end_alone<R: Threads + Wait + Sync, S: Shelf>(
+pub fn end_alone<R: Threads + Wait + Sync, S: StreamShelf>(
     rt: &R,
     alloc: Global,
     line: &str,

@@ -1,0 +1,99 @@
+//! Writing bytes while the next are made.
+ghost use Rattle.std.specs.Prelude.{◌<◌, length, IfOk};
+ghost use Rattle.std.specs.Thread.{IsSync};
+
+use cj_stream::{PartSource, all_parts};
+use std::alloc::{AllocError, AllocFailed, Global};
+use std::io;
+use std::io::Write;
+use std::thread::{Threads, join_mut};
+
+/// Why bytes were not made and written to their end.
+#[derive(Drop)]
+pub enum MakeError {
+    /// There was no memory.
+    Memory,
+    /// A write failed.
+    Fault(io::Error),
+}
+
+impl From<AllocError> for MakeError {
+    fn from(_: AllocError) -> Self {
+        MakeError::Memory
+    }
+}
+
+impl<T: Drop> From<AllocFailed<T>> for MakeError {
+    fn from(_: AllocFailed<T>) -> Self {
+        MakeError::Memory
+    }
+}
+
+impl From<io::Error> for MakeError {
+    fn from(reason: io::Error) -> Self {
+        MakeError::Fault(reason)
+    }
+}
+
+/// Writes parts, and behind them all that the source makes: each batch while the next is made, where several threads make it.
+pub fn write_while_made<W: Write + Send, R: Threads + Sync, M: PartSource>(
+    to: &mut W,
+    rt: &R,
+    alloc: Global,
+    first: Vec<Vec<u8>>,
+    source: &mut M,
+) -> Result<(), MakeError> {
+    let mut ready = first;
+    loop {
+        let next = write_and_make(to, rt, alloc, &ready, source)?;
+        if next.is_empty() {
+            return Ok(());
+        }
+        ready = next;
+    }
+}
+
+/// Writes parts, and answers the next, which are made meanwhile where several threads make them. A fault of the write is told before a
+/// want of memory.
+fn write_and_make<W: Write + Send, R: Threads + Sync, M: PartSource>(
+    to: &mut W,
+    rt: &R,
+    alloc: Global,
+    ready: &[Vec<u8>],
+    source: &mut M,
+) -> Result<Vec<Vec<u8>>, MakeError>
+    ensures { IfOk result (λ next. 0 < length next.items → M.left source.new < M.left source.old) }
+{
+    if !source.is_shared() {
+        write_parts(to, ready)?;
+        return Ok(source.next_parts(rt, alloc)?);
+    }
+    let mut make = || -> Result<Vec<Vec<u8>>, AllocError>
+        requires { IsSync R.row }
+        ensures { IfOk result (λ next. 0 < length next.items → M.left source.exit.now < M.left source.entry.now) }
+    { source.next_parts(rt, alloc) };
+    let mut write = || write_parts(to, ready);
+    let (written, made) = join_mut(rt, &mut write, &mut make);
+    written?;
+    Ok(made?)
+}
+
+/// Makes all that the source still has to make, and writes it behind the first parts.
+pub fn write_all_made<W: Write, R: Threads + Sync, M: PartSource>(
+    to: &mut W,
+    rt: &R,
+    alloc: Global,
+    first: Vec<Vec<u8>>,
+    source: &mut M,
+) -> Result<(), MakeError> {
+    let rest = all_parts(rt, alloc, source)?;
+    write_parts(to, &first)?;
+    Ok(write_parts(to, &rest)?)
+}
+
+fn write_parts<W: Write>(to: &mut W, parts: &[Vec<u8>]) -> io::Result<()> {
+    for part in parts {
+        to.write_all(part)?;
+    }
+    Ok(())
+}

@@ -1,0 +1,39 @@
+ghost use Rattle.std.specs.Prelude.{◌≡◌, ◌≤◌, IsErrOf};
+ghost use Rattle.std.specs.Thread.{IsSync};
+ghost use Rattle.cj_io.specs.Faults.{Rose};
+ghost use Rattle.cj_io.specs.Files.{Puts, Told};
+ghost use Rattle.cj_io.specs.declared.shelf.PutError.{PutError};
+
+use crate::gathering::all_parts;
+use crate::part_source::PartSource;
+use cj_io::{CalmShelf, MemShelf, PutError, Shelf};
+use std::alloc::Global;
+use std::thread::Threads;
+
+/// A shelf on which a piece is put while it is made.
+pub trait StreamShelf: Shelf {
+    /// Puts one piece behind those that stand, of the bytes that the source still has to make. Want of memory, also of the source,
+    /// leaves all as it was; after a fault a last piece of this name may stand cut short.
+    fn put_made<R: Threads + Sync, M: PartSource>(
+        &mut self,
+        rt: &R,
+        alloc: Global,
+        name: &[u8],
+        source: &mut M,
+    ) -> Result<(), PutError>
+        // What the bound says: the threads share the runtime.
+        requires shared { IsSync R.row }
+
+        ensures failed { IsErrOf result PutError.Failed → Rose (Self.faults self.old) (Self.faults self.new) }
+        ensures memory { IsErrOf result PutError.Memory → Self.faults self.new ≡ Self.faults self.old }
+        ensures pieces { Told (Puts name.now (M.rest source.old) result) (Self.pieces self.old) (Self.pieces self.new) }
+        ensures later { Self.faults self.old ≤ Self.faults self.new }
+    {
+        let parts = all_parts(rt, alloc, source)?;
+        self.put_parts(alloc, name, &parts)
+    }
+}
+
+impl StreamShelf for CalmShelf {}
+
+impl StreamShelf for MemShelf {}
