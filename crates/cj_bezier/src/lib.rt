@@ -39,6 +39,3 @@ pub use shells::Shell;
 pub use squares::{greatest_square, least_square};
 pub use verdict_of_gap::{supports, verdict};
 pub use verdicts::Verdict;
-
-#[cfg(test)]
-mod tests;

@@ -11,7 +11,7 @@ use Rattle.cj_kvn.proofs.ListLemmas.{last_push}
 use Rattle.cj_epoch.proofs.LeapLemmas.{no_leap}
 use Rattle.cj_track.specs.Limits.{MAX_COORDINATE, MAX_RATE}
 use Rattle.cj_track.specs.PlainTracks.{PlainNode, first_state, last_state}
-use Rattle.cj_oem.specs.declared.fault.OemCause.TheVariants as causes
+use Rattle.cj_causes.specs.declared.oem_cause.OemCause.TheVariants as causes
 use Rattle.cj_oem.specs.Metadata.{Metadata, epoch_or, parse_epoch}
 use Rattle.cj_oem.specs.NodeRows.{figure_or, figures_in, following, parse_figure, state_of_fields, state_of_row, state_said}
 use Rattle.cj_oem.specs.Stages.{Body, Data, follows}

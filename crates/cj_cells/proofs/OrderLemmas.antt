@@ -6,8 +6,8 @@ use Rattle.std.proofs.lemmas.List.{take_more_set, map_push}
 use Rattle.cj_bezier.specs.declared.cell.Cell.{Cell}
 use Rattle.cj_hermite.specs.PlainProblems.{PlainProblem}
 use Rattle.cj_bezier.specs.Cells.{plain_cell, plain_cells}
-use Rattle.cj_merge.specs.Places.{AreInOrderBy}
-use Rattle.cj_merge.proofs.OrderLemmas.{before, sorted}
+use Rattle.cj_hermite.specs.PairOrder.{AreInOrderBy}
+use Rattle.cj_hermite.proofs.PairOrderLemmas.{before, sorted}
 use Rattle.cj_cells.specs.Cells.{root_numbers}
 use Rattle.cj_hermite.specs.Roots.{PlainCell, IsRootUpTo, roots_of, roots_by_slot}
 use Rattle.cj_interval.proofs.ListLemmas.{Each-weaker, Ordered-map, AllPairs-from_ordered, ordered_from_AllPairs}

@@ -21,6 +21,3 @@ pub use outcome::Look;
 pub use refine_error::RefineError;
 pub use refining::refine;
 pub use rooting::roots_of_slot;
-
-#[cfg(test)]
-mod tests;

@@ -8,8 +8,8 @@ use Rattle.std.proofs.lemmas.Int.{ints}
 use Rattle.std.proofs.lemmas.List.{take_all}
 use Rattle.cj_epoch.specs.Ticks.{FIRST_TICK, LAST_TICK}
 use Rattle.cj_bezier.specs.declared.kind.Kind.{Kind}
-use Rattle.cj_cert.specs.declared.fault.CertCause.{CertCause}
-use Rattle.cj_cert.specs.declared.fault.CertCause.TheVariants as causes
+use Rattle.cj_causes.specs.declared.cert_cause.CertCause.{CertCause}
+use Rattle.cj_causes.specs.declared.cert_cause.CertCause.TheVariants as causes
 use Rattle.cj_cert.specs.Certificates.{PlainBoxLine}
 use Rattle.cj_cert.specs.Lines as spec
 use Rattle.cj_cert.specs.Lines.{Box, Cell, MAX_OBJECTS, PlainLine, in_range, is_from, is_object, is_reach, is_slot, is_tick, object_of}

@@ -10,8 +10,8 @@ use Rattle.std.proofs.lemmas.List.{length-map, take_all}
 use Rattle.cj_epoch.specs.Ticks.{FIRST_TICK, LAST_TICK}
 use Rattle.cj_bezier.specs.declared.kind.Kind.{Kind}
 use Rattle.cj_bezier.specs.Shells.{MAX_RADIUS}
-use Rattle.cj_cert.specs.declared.fault.CertCause.{CertCause}
-use Rattle.cj_cert.specs.declared.fault.CertCause.TheVariants as causes
+use Rattle.cj_causes.specs.declared.cert_cause.CertCause.{CertCause}
+use Rattle.cj_causes.specs.declared.cert_cause.CertCause.TheVariants as causes
 use Rattle.cj_cert.specs.declared.rank.Rank.{Rank}
 use Rattle.cj_cert.specs.declared.rank.Rank.TheVariants as rank
 use Rattle.cj_cert.specs.Lines as spec

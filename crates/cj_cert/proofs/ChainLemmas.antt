@@ -12,8 +12,8 @@ use Rattle.std.proofs.lemmas.List.Splits.{length-slice_split}
 use Rattle.cj_bezier.specs.Leaves.{PlainLeaf}
 use Rattle.cj_cert.specs.declared.cert_lines.ShellLine.{ShellLine}
 use Rattle.cj_cert.specs.declared.cert_lines.SizeOfLine.{SizeOfLine}
-use Rattle.cj_cert.specs.declared.fault.CertCause.{CertCause}
-use Rattle.cj_cert.specs.declared.fault.CertCause.TheVariants as causes
+use Rattle.cj_causes.specs.declared.cert_cause.CertCause.{CertCause}
+use Rattle.cj_causes.specs.declared.cert_cause.CertCause.TheVariants as causes
 use Rattle.cj_cert.specs.declared.rank.Rank.{Rank}
 use Rattle.cj_cert.specs.declared.rank.Rank.TheVariants as rank
 use Rattle.cj_cert.specs.Certificates.{PlainBoxLine, PlainCertificate}

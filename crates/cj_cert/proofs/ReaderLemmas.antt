@@ -7,7 +7,7 @@ use Rattle.std.proofs.lemmas.List.Elements.{All-head, All-tail}
 use Rattle.std.proofs.lemmas.List.Splits.{length-slice_split}
 use Rattle.cj_cert.specs.declared.cert_lines.BoxLine.{BoxLine}
 use Rattle.cj_cert.specs.declared.certificate.Certificate.{Certificate}
-use Rattle.cj_cert.specs.declared.fault.CertCause.{CertCause}
+use Rattle.cj_causes.specs.declared.cert_cause.CertCause.{CertCause}
 use Rattle.cj_cert.specs.declared.fault.CertFault.{CertFault}
 use Rattle.cj_cert.specs.declared.rank.Rank.{Rank}
 use Rattle.cj_cert.specs.Certificates.{PlainCertificate, plain_certificate, plain_box_line}

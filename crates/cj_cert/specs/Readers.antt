@@ -6,8 +6,8 @@ use Rattle.std.specs.List.{slice_split}
 use Rattle.cj_cert.specs.declared.cert_line.CertLine.{CertLine}
 use Rattle.cj_cert.specs.declared.cert_line.CertLine.TheVariants as lines
 use Rattle.cj_cert.specs.declared.draft.Draft.{Draft}
-use Rattle.cj_cert.specs.declared.fault.CertCause.{CertCause}
-use Rattle.cj_cert.specs.declared.fault.CertCause.TheVariants as causes
+use Rattle.cj_causes.specs.declared.cert_cause.CertCause.{CertCause}
+use Rattle.cj_causes.specs.declared.cert_cause.CertCause.TheVariants as causes
 use Rattle.cj_cert.specs.declared.fault.CertFault.{CertFault}
 use Rattle.cj_cert.specs.declared.fault.CertFault.TheVariants.{Memory, At}
 use Rattle.cj_cert.specs.Certificates.{PlainCertificate, plain_box_line, plain_cell_line}

@@ -2,8 +2,8 @@
 use Rattle.std.specs.Prelude.{ℕ, ◌+◌, ◌==◌, if◌then◌else◌, List, [], ◌∷◌, ◌++◌, codes, Option, Some, None, Result, Ok, Err}
 use Rattle.std.specs.List.{slice_split, starts_with}
 use Rattle.cj_epoch.specs.Ticks.{FIRST_TICK}
-use Rattle.cj_cert.specs.declared.fault.CertCause.{CertCause}
-use Rattle.cj_cert.specs.declared.fault.CertCause.TheVariants as causes
+use Rattle.cj_causes.specs.declared.cert_cause.CertCause.{CertCause}
+use Rattle.cj_causes.specs.declared.cert_cause.CertCause.TheVariants as causes
 use Rattle.cj_cert.specs.declared.rank.Rank.{Rank}
 use Rattle.cj_cert.specs.Certificates.{PlainCertificate}
 use Rattle.cj_cert.specs.Lines.{PlainLine, Heading, Window, Threshold, Objects, Size, Shell, Box, Cell, End, line_said, rank_of}

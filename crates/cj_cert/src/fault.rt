@@ -2,6 +2,7 @@
 ghost use Rattle.std.specs.Prelude.{◌≡◌};
 ghost use Rattle.cj_cert.specs.declared.fault.CertFault.TheVariants.{Memory};
 
+use cj_causes::CertCause;
 use std::alloc::{AllocError, AllocFailed};
 
 /// Why a text is not read as a certificate.
@@ -27,15 +28,4 @@ impl<T: Drop> From<AllocFailed<T>> for CertFault {
     fn from(_: AllocFailed<T>) -> Self {
         CertFault::Memory
     }
-}
-
-/// What is wrong with a line.
-#[derive(Clone, Copy, Debug, PartialEq, Eq)]
-pub enum CertCause {
-    /// It is none of the lines that may stand there.
-    Form,
-    /// A number is out of its range.
-    Range,
-    /// The text ends too early, or goes on behind its last line.
-    End,
 }

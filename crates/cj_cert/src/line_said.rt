@@ -5,10 +5,10 @@ ghost use Rattle.cj_cert.specs.Ranks as ranks;
 ghost use Rattle.cj_cert.specs.Readers.{Tells, plain_line};
 
 use crate::cert_line::CertLine;
-use crate::fault::CertCause;
 use crate::line_text::said;
 use crate::rank::Rank;
 use crate::words::Words;
+use cj_causes::CertCause;
 
 /// What a line says behind a line of that kind, or first of all.
 ///

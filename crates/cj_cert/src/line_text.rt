@@ -6,12 +6,12 @@ ghost use Rattle.cj_cert.specs.Readers.{HasNoNumber, LeadsTo, Tells, capped, pla
 
 use crate::cert_line::CertLine;
 use crate::cert_lines::{BoxLine, CellLine, ShellLine, SizeOfLine};
-use crate::fault::CertCause;
 use crate::number::{MAX_OBJECTS, object, reach, read_number, slot, tick, within};
 use crate::rank::Rank;
 use crate::words::Words;
 use arrayvec::ArrayVec;
 use cj_bezier::{AxisBox, Kind, Shell};
+use cj_causes::CertCause;
 use cj_epoch::Window;
 use cj_hermite::Pair;
 use cj_track::Vec3;

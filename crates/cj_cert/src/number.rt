@@ -8,7 +8,7 @@ ghost use Rattle.cj_cert.specs.Lines.{is_coordinate, is_from, is_object, is_reac
 ghost use Rattle.cj_cert.specs.Numbers as spec;
 ghost use Rattle.cj_cert.specs.Readers.{Takes, capped};
 
-use crate::fault::CertCause;
+use cj_causes::CertCause;
 use cj_epoch::Tick;
 
 /// The number that a text says. The greatest u64 stands for all that is greater too, and its negative for all that is less.

@@ -9,10 +9,11 @@ ghost use Rattle.cj_cert.specs.Texts.{text_of};
 
 use crate::certificate::Certificate;
 use crate::draft::Draft;
-use crate::fault::{CertCause, CertFault};
+use crate::fault::CertFault;
 use crate::line_said::{has_ended, line_said};
 use crate::rank::Rank;
 use crate::words::split_at_byte;
+use cj_causes::CertCause;
 use std::alloc::Global;
 
 /// The certificate that a text says, of the first version or of the second.

@@ -11,7 +11,7 @@ use Rattle.cj_hermite.specs.Slots.{slot_count}
 use Rattle.cj_bezier.specs.SlotBoxes.{PlainBox}
 use Rattle.cj_cert.specs.Certificates.{PlainBoxLine}
 use Rattle.cj_cert.specs.Listed.{slots_of_line}
-use Rattle.cj_checker.specs.declared.check_cause.CheckCause.TheVariants.{BoxOf}
+use Rattle.cj_causes.specs.declared.check_cause.CheckCause.TheVariants.{BoxOf}
 use Rattle.cj_checker.specs.First.{failed, unlisted, boxes_from}
 use Rattle.cj_checker.specs.Places.{places_from}
 use Rattle.cj_checker.specs.Tests.{are_in_front, holds_hulls, is_box_line, is_in_box}

@@ -18,8 +18,8 @@ use Rattle.cj_cert.specs.declared.cert_lines.SizeOfLine.{SizeOfLine}
 use Rattle.cj_cert.specs.Accepted.{AreSizes, AreShells, IsShellOver, slots_with_states, HoldsHulls, AreBoxes, IsSupported, TileRoots, Accepted}
 use Rattle.cj_cert.specs.Certificates.{PlainBoxLine, PlainCertificate}
 use Rattle.cj_cert.specs.Listed.{slots_of_line, is_looked_listed}
-use Rattle.cj_checker.specs.declared.check_cause.CheckCause.{CheckCause}
-use Rattle.cj_checker.specs.declared.check_cause.CheckCause.TheVariants.{Header, SizeOf, ShellOf, BoxOf, Untiled, Stranger}
+use Rattle.cj_causes.specs.declared.check_cause.CheckCause.{CheckCause}
+use Rattle.cj_causes.specs.declared.check_cause.CheckCause.TheVariants.{Header, SizeOf, ShellOf, BoxOf, Untiled, Stranger}
 use Rattle.cj_checker.specs.declared.failure.Failure.{Failure}
 use Rattle.cj_checker.specs.Tests.{is_size_line, is_shell_over, is_shell_line, is_box_line, are_in_front, holds_hulls, is_supported}
 use Rattle.cj_checker.specs.First.{failed, header_failure, first_unfit, first_line, size_failure, first_shell_line, shell_failure}

@@ -3,7 +3,7 @@ use Rattle.std.specs.Prelude.{◌≡◌, ℕ, ◌+◌, if◌then◌else◌, List
 use Rattle.cj_hermite.specs.PlainProblems.{PlainProblem}
 use Rattle.cj_cert.specs.Certificates.{PlainBoxLine}
 use Rattle.cj_checker.specs.declared.boxes_read.BoxesRead.{BoxesRead}
-use Rattle.cj_checker.specs.declared.check_cause.CheckCause.TheVariants.{BoxOf}
+use Rattle.cj_causes.specs.declared.check_cause.CheckCause.TheVariants.{BoxOf}
 use Rattle.cj_checker.specs.declared.failure.Failure.{Failure}
 use Rattle.cj_checker.specs.First.{failed, boxes_from}
 use Rattle.cj_checker.specs.Places.{places_from}

@@ -10,8 +10,8 @@ use Rattle.cj_bezier.specs.Leaves.{PlainLeaf}
 use Rattle.cj_cert.specs.Accepted.{slots_with_states}
 use Rattle.cj_cert.specs.Certificates.{PlainBoxLine, PlainCertificate}
 use Rattle.cj_cert.specs.Listed.{slots_of_line, is_looked_listed}
-use Rattle.cj_checker.specs.declared.check_cause.CheckCause.{CheckCause}
-use Rattle.cj_checker.specs.declared.check_cause.CheckCause.TheVariants.{Header, SizeOf, ShellOf, BoxOf, Untiled, Stranger, NotFar, NotNear, NotBand}
+use Rattle.cj_causes.specs.declared.check_cause.CheckCause.{CheckCause}
+use Rattle.cj_causes.specs.declared.check_cause.CheckCause.TheVariants.{Header, SizeOf, ShellOf, BoxOf, Untiled, Stranger, NotFar, NotNear, NotBand}
 use Rattle.cj_checker.specs.declared.failure.Failure.{Failure}
 use Rattle.cj_checker.specs.Tests.{is_size_line, is_shell_line, is_box_line, is_supported}
 

@@ -1,4 +1,4 @@
-use crate::check_cause::CheckCause;
+use cj_causes::CheckCause;
 
 /// Whether a certificate is accepted, or the first line at which it is not, counted from 1, and why.
 #[derive(Clone, Copy, Debug, PartialEq, Eq)]

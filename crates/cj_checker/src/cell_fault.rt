@@ -1,4 +1,4 @@
-use crate::check_cause::CheckCause;
+use cj_causes::CheckCause;
 
 /// A cell that fails, by its place in the list, and why.
 #[derive(Clone, Copy)]

@@ -8,11 +8,11 @@ ghost use Rattle.cj_checker.specs.ListedBoxes.{table_of};
 ghost use Rattle.cj_checker.specs.First.{box_failure, cell_failure as the_failure, failed, first_cell_line};
 
 use crate::cell_fault::CellFault;
-use crate::check_cause::CheckCause;
 use crate::failure::{FIRST_LINE, Failure};
 use crate::listed::Listed;
 use crate::rounds::round_from;
 use crate::tiling::tile_keys;
+use cj_causes::CheckCause;
 use cj_cert::Certificate;
 use cj_hermite::Problem;
 use std::alloc::{AllocError, Global};

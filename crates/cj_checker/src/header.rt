@@ -4,8 +4,8 @@ ghost use Rattle.cj_hermite.specs.Problems.{plain_problem};
 ghost use Rattle.cj_cert.specs.Certificates.{plain_certificate};
 ghost use Rattle.cj_checker.specs.First.{header_failure as the_failure};
 
-use crate::check_cause::CheckCause;
 use crate::failure::{Failure, failed};
+use cj_causes::CheckCause;
 use cj_cert::Certificate;
 use cj_hermite::Problem;
 

@@ -7,7 +7,6 @@ mod boxes;
 mod boxes_read;
 mod cell_fault;
 mod cells;
-mod check_cause;
 mod checking;
 mod course;
 mod failure;
@@ -28,8 +27,8 @@ mod tiling;
 mod walk;
 
 pub use answer::Answer;
-pub use check_cause::CheckCause;
 pub use checking::check;
+pub use cj_causes::CheckCause;
 pub use failure::Failure;
 pub use header::header_failure;
 pub use laws::acceptance;

@@ -12,10 +12,10 @@ ghost use Rattle.cj_checker.specs.Tests.{has_state_between, is_shell_over, is_sh
 
 use crate::boxes::read_boxes;
 use crate::boxes_read::BoxesRead;
-use crate::check_cause::CheckCause;
 use crate::course::Course;
 use crate::failure::{FIRST_LINE, Failure, failed};
 use crate::walk::Walk;
+use cj_causes::CheckCause;
 use cj_cert::{BoxLine, Certificate, ShellLine};
 use cj_epoch::Window;
 use cj_hermite::{Problem, next_run};

@@ -3,12 +3,12 @@ ghost use Rattle.std.specs.Prelude.{◌≡◌, ◌+◌, ◌-◌, ◌^◌, ◌<�
 ghost use Rattle.std.specs.List.{enumerate_from};
 ghost use Rattle.cj_hermite.specs.Problems.{plain_problem};
 ghost use Rattle.cj_cert.specs.Certificates.{plain_certificate};
-ghost use Rattle.cj_checker.specs.declared.check_cause.CheckCause.TheVariants.{SizeOf};
+ghost use Rattle.cj_causes.specs.declared.check_cause.CheckCause.TheVariants.{SizeOf};
 ghost use Rattle.cj_checker.specs.First.{first_line, first_unfit, fits_at, size_failure as the_failure};
 ghost use Rattle.cj_checker.specs.Tests.{is_size_line as the_test};
 
-use crate::check_cause::CheckCause;
 use crate::failure::{FIRST_LINE, Failure, failed};
+use cj_causes::CheckCause;
 use cj_cert::{Certificate, SizeOfLine};
 use cj_hermite::Problem;
 

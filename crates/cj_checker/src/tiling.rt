@@ -9,10 +9,10 @@ ghost use Rattle.cj_checker.specs.Keys.{plain_key, roots_of_keys};
 ghost use Rattle.cj_checker.specs.Tiling.{AreOver, IsOf, Tiles, cause_at, is_shown, root_from};
 
 use crate::cell_fault::CellFault;
-use crate::check_cause::CheckCause;
 use crate::keys::Key;
 use crate::root::Root;
 use cj_bezier::Kind;
+use cj_causes::CheckCause;
 use cj_cert::CellLine;
 use cj_epoch::{Tick, Window};
 use cj_hermite::{Pair, PairHint, Problem, next_common_pieces, slot_window};

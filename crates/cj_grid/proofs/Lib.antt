@@ -3,5 +3,4 @@ pub mod EntryLemmas
 pub mod FoundLemmas
 pub mod JoinedBoxLemmas
 pub mod PairingLemmas
-pub mod RowLemmas
 pub mod TrackBoxLemmas

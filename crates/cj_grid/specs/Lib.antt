@@ -2,4 +2,3 @@ pub mod Among
 pub mod Buckets
 pub mod Found
 pub mod JoinedBoxes
-pub mod Rows

@@ -18,6 +18,3 @@ pub use cj_bezier::AxisBox;
 pub use steps::Steps;
 pub use touching_pairs::{find_touching, touching};
 pub use track_box::slot_box;
-
-#[cfg(test)]
-mod tests;

@@ -9,6 +9,7 @@ pub mod LevelLemmas
 pub mod NextRunLemmas
 pub mod ObjectLemmas
 pub mod PairLemmas
+pub mod PairOrderLemmas
 pub mod PieceLemmas
 pub mod PlaceLemmas
 pub mod RateLemmas

@@ -1,6 +1,5 @@
 pub mod Boxes
 pub mod CaseLimits
-pub mod PlainProblems
 pub mod CommonRuns
 pub mod Distance
 pub mod Frames
@@ -8,9 +7,11 @@ pub mod Interpolant
 pub mod Lengths
 pub mod Levels
 pub mod Limits
+pub mod PairOrder
 pub mod Pairs
 pub mod Pieces
 pub mod PiecesOfTracks
+pub mod PlainProblems
 pub mod Problems
 pub mod Rates
 pub mod Ready

@@ -29,6 +29,3 @@ pub use name::Name;
 pub use parts::join_parts;
 pub use shelf::{PutError, Shelf};
 pub use whole::{ReadError, read_whole};
-
-#[cfg(test)]
-mod tests;

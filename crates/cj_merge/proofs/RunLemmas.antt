@@ -11,7 +11,7 @@ use Rattle.std.proofs.lemmas.List.Sorted.{IsPermutation-append, IsPermutation-ap
 use Rattle.cj_interval.proofs.ListLemmas.{All-from_each}
 use Rattle.cj_epoch.specs.declared.tick.Tick.{Tick}
 use Rattle.cj_hermite.specs.declared.pair.Pair.{Pair}
-use Rattle.cj_merge.specs.Places.{AreInOrderBy}
+use Rattle.cj_hermite.specs.PairOrder.{AreInOrderBy}
 use Rattle.cj_merge.specs.Runs.{elements_of, elements_in, AreMerged}
 
 module _ {X : Type 0} where

@@ -5,7 +5,7 @@ use Rattle.std.specs.Global.{Vec}
 use Rattle.std.specs.List.Sorted.{IsPermutation}
 use Rattle.cj_epoch.specs.declared.tick.Tick.{Tick}
 use Rattle.cj_hermite.specs.declared.pair.Pair.{Pair}
-use Rattle.cj_merge.specs.Places.{AreInOrderBy}
+use Rattle.cj_hermite.specs.PairOrder.{AreInOrderBy}
 
 -- the elements of runs, one run behind another
 abbrev pub elements_of : {X : Type 0} → List (Bor (List X)) → List X

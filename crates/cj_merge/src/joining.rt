@@ -1,7 +1,7 @@
 //! Lists put behind one another into a list whose memory is ready.
 ghost use Rattle.std.specs.Prelude.{◌≡◌, ◌++◌, [], flat_map, All, IfOk, IsTrue};
 ghost use Rattle.std.specs.List.Sorted.{IsPermutation};
-ghost use Rattle.cj_merge.specs.Places.{AreInOrderBy};
+ghost use Rattle.cj_hermite.specs.PairOrder.{AreInOrderBy};
 
 use crate::placed::Placed;
 use std::alloc::{AllocError, Global};

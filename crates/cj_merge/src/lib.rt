@@ -9,6 +9,3 @@ mod ranges;
 pub use joining::ready_list;
 pub use merging::merge_runs;
 pub use placed::Placed;
-
-#[cfg(test)]
-mod tests;

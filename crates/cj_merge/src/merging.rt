@@ -2,7 +2,7 @@
 ghost use Rattle.std.specs.Prelude.{◌≡◌, ◌++◌, [], map, flat_map, IfOk};
 ghost use Rattle.std.specs.List.Sorted.{IsPermutation};
 ghost use Rattle.std.specs.Thread.{IsSync};
-ghost use Rattle.cj_merge.specs.Places.{AreInOrderBy};
+ghost use Rattle.cj_hermite.specs.PairOrder.{AreInOrderBy};
 ghost use Rattle.cj_merge.specs.Runs.{elements_of, AreMerged};
 
 use crate::joining::{put_together, ready_list};

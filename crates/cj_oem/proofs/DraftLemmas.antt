@@ -9,7 +9,7 @@ use Rattle.cj_kvn.specs.Numbers.{Number}
 use Rattle.cj_kvn.specs.Decimals.{IsReadable, decimal_of, number_of}
 use Rattle.cj_kvn.specs.declared.decimals.Decimal.{Decimal}
 pub use Rattle.cj_kvn.proofs.DecimalLemmas.{written_more}
-use Rattle.cj_oem.specs.declared.fault.OemCause.{OemCause}
+use Rattle.cj_causes.specs.declared.oem_cause.OemCause.{OemCause}
 use Rattle.std.specs.Prelude.{◌==◌, ◌||◌, not, false, Some}
 use Rattle.cj_oem.specs.CovarianceRows.{Draft, number_or, numbers_said, with_fields}
 use Rattle.cj_oem.specs.Drafts.{value_count}

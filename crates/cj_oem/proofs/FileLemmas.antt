@@ -14,7 +14,7 @@ use Rattle.cj_track.specs.Segments.{node_count}
 use Rattle.cj_oem.specs.Stages.{Body, Start}
 use Rattle.cj_track.specs.Tracks.{plain_segment, plain_track}
 use Rattle.cj_oem.specs.declared.body.Body as program
-use Rattle.cj_oem.specs.declared.fault.OemCause.TheVariants as causes
+use Rattle.cj_causes.specs.declared.oem_cause.OemCause.TheVariants as causes
 use Rattle.cj_oem.specs.declared.fault.OemFault.{OemFault}
 use Rattle.cj_oem.specs.declared.fault.OemFault.TheVariants.{Memory, At}
 use Rattle.cj_track.specs.declared.track.Track.{Track}

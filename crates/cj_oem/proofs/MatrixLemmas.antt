@@ -10,8 +10,8 @@ use Rattle.cj_kvn.specs.Fields.{fields}
 use Rattle.cj_kvn.specs.Numbers.{Number}
 use Rattle.cj_kvn.specs.declared.numbers.NumFault.{NumFault}
 use Rattle.cj_epoch.specs.Reading.{reading_of}
-use Rattle.cj_oem.specs.declared.fault.OemCause.{OemCause}
-use Rattle.cj_oem.specs.declared.fault.OemCause.TheVariants as causes
+use Rattle.cj_causes.specs.declared.oem_cause.OemCause.{OemCause}
+use Rattle.cj_causes.specs.declared.oem_cause.OemCause.TheVariants as causes
 use Rattle.cj_oem.specs.CovarianceRows.{Covariances, Draft, NO_COVARIANCES, closed, closed_with, number_or, numbers_said, with_epoch, with_fields, with_frame, with_matrix_pair, with_matrix_row}
 use Rattle.cj_oem.specs.Drafts.{begun}
 use Rattle.cj_track.specs.PlainTracks.{PlainMatrix}

@@ -9,8 +9,8 @@ use Rattle.cj_kvn.specs.Lines.{spaced}
 use Rattle.cj_kvn.proofs.LogicLemmas.{some_is}
 use Rattle.cj_epoch.specs.Reading.{reading_of}
 use Rattle.cj_epoch.specs.declared.fault.EpochFault.{EpochFault}
-use Rattle.cj_oem.specs.declared.fault.OemCause.{OemCause}
-use Rattle.cj_oem.specs.declared.fault.OemCause.TheVariants as causes
+use Rattle.cj_causes.specs.declared.oem_cause.OemCause.{OemCause}
+use Rattle.cj_causes.specs.declared.oem_cause.OemCause.TheVariants as causes
 use Rattle.cj_track.specs.declared.frame.Frame.{Frame}
 use Rattle.cj_track.specs.declared.frame.Frame.TheVariants as frames
 use Rattle.cj_oem.specs.declared.key.Key.{Key}

@@ -6,7 +6,7 @@ use Rattle.cj_oem.specs.Answers as answers
 use Rattle.cj_oem.specs.Readers.{Gives, body_of, refused_at, stage_of}
 use Rattle.cj_oem.specs.Reading.{Fault, at_line, read_on, ◌>>=◌}
 use Rattle.cj_oem.specs.Stages.{Body, Stage, follows}
-use Rattle.cj_oem.specs.declared.fault.OemCause.{OemCause}
+use Rattle.cj_causes.specs.declared.oem_cause.OemCause.{OemCause}
 use Rattle.cj_oem.specs.declared.fault.OemFault.{OemFault}
 use Rattle.cj_oem.specs.declared.refused.Refused.{Refused}
 use Rattle.cj_oem.specs.declared.refused.Refused.TheVariants.{Memory, Because}

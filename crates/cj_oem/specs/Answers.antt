@@ -1,6 +1,6 @@
 -- How a part of a reader answers what a text says.
 use Rattle.std.specs.Prelude.{◌≡◌, Result, Ok, Err}
-use Rattle.cj_oem.specs.declared.fault.OemCause.{OemCause}
+use Rattle.cj_causes.specs.declared.oem_cause.OemCause.{OemCause}
 use Rattle.cj_oem.specs.declared.refused.Refused.{Refused}
 use Rattle.cj_oem.specs.declared.refused.Refused.TheVariants.{Memory, Because}
 

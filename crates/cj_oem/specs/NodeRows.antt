@@ -8,8 +8,8 @@ use Rattle.cj_kvn.specs.declared.numbers.NumFault.{NumFault}
 use Rattle.cj_kvn.specs.declared.numbers.NumFault.TheVariants.{NotNumber, TooLarge}
 use Rattle.cj_epoch.specs.LeapSeconds.{leap_lies_between}
 use Rattle.cj_track.specs.declared.vec3.Vec3.{Vec3}
-use Rattle.cj_oem.specs.declared.fault.OemCause.{OemCause}
-use Rattle.cj_oem.specs.declared.fault.OemCause.TheVariants as causes
+use Rattle.cj_causes.specs.declared.oem_cause.OemCause.{OemCause}
+use Rattle.cj_causes.specs.declared.oem_cause.OemCause.TheVariants as causes
 use Rattle.cj_oem.specs.declared.figures.Figures.{Figures}
 use Rattle.cj_track.specs.Limits.{MAX_COORDINATE, MAX_RATE, MAX_STEP}
 use Rattle.cj_track.specs.PlainTracks.{PlainNode}

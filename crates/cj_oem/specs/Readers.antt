@@ -11,7 +11,7 @@ use Rattle.cj_track.specs.Tracks.{plain_segment, plain_node}
 use Rattle.cj_oem.specs.declared.body.Body.{Body}
 use Rattle.cj_oem.specs.declared.body.OpenSegment.{OpenSegment}
 use Rattle.cj_kvn.specs.declared.lines.KvnCause.TheVariants as kvn
-use Rattle.cj_oem.specs.declared.fault.OemCause.TheVariants as causes
+use Rattle.cj_causes.specs.declared.oem_cause.OemCause.TheVariants as causes
 use Rattle.cj_oem.specs.declared.fault.OemFault.{OemFault}
 use Rattle.cj_oem.specs.declared.fault.OemFault.TheVariants.{Memory, At}
 use Rattle.cj_oem.specs.declared.head.Head.{Head}

@@ -5,8 +5,8 @@ use Rattle.cj_kvn.specs.Lines.{Numbered}
 use Rattle.cj_kvn.specs.declared.lines.KvnFault.{KvnFault}
 use Rattle.cj_kvn.specs.declared.lines.KvnFault.TheVariants as faults
 use Rattle.cj_track.specs.declared.track.Track.{Track}
-use Rattle.cj_oem.specs.declared.fault.OemCause.{OemCause}
-use Rattle.cj_oem.specs.declared.fault.OemCause.TheVariants as causes
+use Rattle.cj_causes.specs.declared.oem_cause.OemCause.{OemCause}
+use Rattle.cj_causes.specs.declared.oem_cause.OemCause.TheVariants as causes
 use Rattle.cj_kvn.specs.declared.lines.KvnCause.TheVariants.{NotPrintable, NoLineForm}
 use Rattle.cj_oem.specs.declared.fault.OemFault.{OemFault}
 use Rattle.cj_oem.specs.declared.fault.OemFault.TheVariants.{Memory, At}

@@ -4,9 +4,9 @@ ghost use Rattle.cj_track.specs.Tracks.{plain_segment};
 ghost use Rattle.cj_track.specs.Useable.{LiesWithin};
 
 use crate::body::{Body, OpenSegment};
-use crate::fault::OemCause;
 use crate::node_checks::check_nodes;
 use crate::segment_metadata::Metadata;
+use cj_causes::OemCause;
 use cj_track::{Matrices, Matrix, Segment};
 use std::alloc::AllocError;
 

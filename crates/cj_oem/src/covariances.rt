@@ -4,9 +4,9 @@ ghost use Rattle.cj_kvn.specs.Ranges.{IsWithin, text_at};
 ghost use Rattle.cj_oem.specs.Answers.{Gives, Tells};
 
 use crate::draft::Draft;
-use crate::fault::OemCause;
 use crate::refused::Refused;
 use crate::word::parse_epoch;
+use cj_causes::OemCause;
 use cj_kvn::Range32;
 use cj_track::Matrix;
 use std::alloc::Global;

@@ -3,10 +3,10 @@ ghost use Rattle.std.specs.Prelude.{◌≡◌, ◌≤◌};
 ghost use Rattle.std.specs.List.{All};
 ghost use Rattle.cj_kvn.specs.Decimals.{IsReadable, number_of};
 
-use crate::fault::OemCause;
 use crate::figures::decimal_said;
 use crate::row_fields::{field_text, has_fields};
 use crate::word::is_word;
+use cj_causes::OemCause;
 use cj_epoch::Tick;
 use cj_kvn::{Decimal, Range32};
 use cj_track::Matrix;

@@ -6,7 +6,7 @@ ghost use Rattle.cj_oem.specs.CovarianceRows.{number_or};
 ghost use Rattle.cj_track.specs.Limits.{IsWithin};
 ghost use Rattle.cj_oem.specs.NodeRows as spec;
 
-use crate::fault::OemCause;
+use cj_causes::OemCause;
 use cj_kvn::{Decimal, NumFault, read_decimal, read_scaled};
 use cj_track::Vec3;
 

@@ -4,7 +4,7 @@ ghost use Rattle.cj_oem.specs.Answers.{Tells};
 ghost use Rattle.cj_oem.specs.Readers.{head_of};
 ghost use Rattle.cj_oem.specs.Stages as spec;
 
-use crate::fault::OemCause;
+use cj_causes::OemCause;
 
 /// Which keys the header has given.
 #[derive(Clone, Copy)]

@@ -25,7 +25,8 @@ mod stage;
 mod values;
 mod word;
 
+pub use cj_causes::OemCause;
 pub use cj_track::{Frame, Matrices, Matrix, Node, Nodes, Segment, Segments, Track, Vec3};
-pub use fault::{OemCause, OemFault};
+pub use fault::OemFault;
 pub use printing::oem_text;
 pub use reader::read_oem;

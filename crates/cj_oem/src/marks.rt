@@ -9,11 +9,11 @@ ghost use Rattle.cj_oem.specs.Stages as spec;
 use crate::body::{Body, OpenSegment};
 use crate::complete_nodes::CompleteNodes;
 use crate::covariances::Covariances;
-use crate::fault::OemCause;
 use crate::head::Head;
 use crate::metadata_draft::MetadataDraft;
 use crate::refused::Refused;
 use crate::stage::Stage;
+use cj_causes::OemCause;
 use cj_kvn::MarkKind;
 use std::alloc::Global;
 

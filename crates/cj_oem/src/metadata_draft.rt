@@ -3,13 +3,13 @@ ghost use Rattle.std.specs.Prelude.{◌≡◌, true};
 ghost use Rattle.std.specs.Option.{ForSome};
 ghost use Rattle.cj_track.specs.Labels.{is_label};
 
-use crate::fault::OemCause;
 use crate::key::{Key, key_of};
 use crate::object::Object;
 use crate::refused::Refused;
 use crate::segment_metadata::Metadata;
 use crate::values::{frame_of, id_of, name_of, parse_frame, parse_label};
 use crate::word::{is_word, parse_epoch};
+use cj_causes::OemCause;
 use cj_epoch::Tick;
 use cj_kvn::Text;
 use cj_track::Frame;

@@ -7,7 +7,7 @@ ghost use Rattle.cj_track.specs.Tracks.{plain_segment, plain_node};
 ghost use Rattle.cj_track.specs.Useable.{LiesWithin};
 
 use crate::body::{Body, OpenSegment};
-use crate::fault::OemCause;
+use cj_causes::OemCause;
 use cj_epoch::Tick;
 use cj_track::Node;
 

@@ -10,9 +10,9 @@ ghost use Rattle.cj_oem.specs.NodeRows as spec;
 ghost use Rattle.cj_track.specs.Nodes.{IsStep};
 ghost use Rattle.cj_track.specs.Tracks.{plain_node};
 
-use crate::fault::OemCause;
 use crate::figures::{Figures, is_decimal, parse_figure, within_or};
 use crate::word::parse_epoch;
+use cj_causes::OemCause;
 use cj_epoch::leap_between;
 use cj_kvn::{Range32, RowFields, row_fields};
 use cj_track::{Node, Vec3};

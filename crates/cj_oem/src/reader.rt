@@ -13,8 +13,9 @@ ghost use Rattle.cj_oem.specs.Stages.{Start};
 ghost use Rattle.cj_track.specs.Tracks.{plain_track};
 
 use crate::body::Body;
-use crate::fault::{OemCause, OemFault};
+use crate::fault::OemFault;
 use crate::stage::Stage;
+use cj_causes::OemCause;
 use cj_kvn::{Line, Text, read_lines};
 use cj_track::Track;
 use std::alloc::Global;

@@ -1,7 +1,8 @@
 ghost use Rattle.std.specs.Prelude.{◌≡◌};
 ghost use Rattle.cj_oem.specs.declared.refused.Refused.TheVariants.{Memory, Because};
 
-use crate::fault::{OemCause, OemFault};
+use crate::fault::OemFault;
+use cj_causes::OemCause;
 use std::alloc::{AllocError, AllocFailed};
 
 /// Why a line is not followed.

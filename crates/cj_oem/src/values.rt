@@ -6,10 +6,10 @@ ghost use Rattle.cj_track.specs.Labels.{is_label};
 ghost use Rattle.cj_oem.specs.Metadata as spec;
 ghost use Rattle.cj_oem.specs.MetadataDrafts.{IsLabelled, object_of};
 
-use crate::fault::OemCause;
 use crate::object::Object;
 use crate::refused::Refused;
 use crate::word::is_word;
+use cj_causes::OemCause;
 use cj_kvn::Text;
 use cj_track::Frame;
 use std::alloc::Global;

@@ -4,7 +4,7 @@ ghost use Rattle.cj_oem.specs.Answers.{Tells};
 ghost use Rattle.cj_oem.specs.Words as words;
 ghost use Rattle.cj_oem.specs.Metadata as spec;
 
-use crate::fault::OemCause;
+use cj_causes::OemCause;
 use cj_epoch::{Tick, read_epoch};
 
 /// Whether a text is this word, without regard to the case of letters.

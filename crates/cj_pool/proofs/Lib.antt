@@ -9,7 +9,6 @@ pub mod LengthLemmas
 pub mod ListingLemmas
 pub mod MoveLemmas
 pub mod NarrowLemmas
-pub mod PairLemmas
 pub mod PartLemmas
 pub mod PassLemmas
 pub mod PickLemmas

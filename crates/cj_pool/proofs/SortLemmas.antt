@@ -5,8 +5,8 @@ use Rattle.cj_interval.proofs.ListLemmas.{Ordered-map, AllPairs-from_ordered, or
 use Rattle.cj_hermite.specs.Roots.{IsRootUpTo}
 use Rattle.cj_bezier.specs.declared.leaf.Leaf.{Leaf}
 use Rattle.cj_bezier.specs.Cells.{plain_cells}
-use Rattle.cj_merge.specs.Places.{IsUpTo, AreInOrderBy}
-use Rattle.cj_merge.proofs.OrderLemmas.{before, sorted}
+use Rattle.cj_hermite.specs.PairOrder.{IsUpTo, AreInOrderBy}
+use Rattle.cj_hermite.proofs.PairOrderLemmas.{before, sorted}
 use Rattle.cj_cells.proofs.OrderLemmas.{roots_in_order}
 use Rattle.cj_pool.specs.Hands.{cells_of}
 

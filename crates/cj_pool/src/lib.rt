@@ -32,11 +32,8 @@ mod work;
 
 pub use crew::run_hands;
 pub use hand::Hand;
-pub use listing::leaves_by_workers;
+pub use listing::{leaves_by_hands, leaves_by_workers};
 pub use refined::{FinishError, Refined};
 pub use refinery::Refinery;
 pub use run::Run;
 pub use turn::Turn;
-
-#[cfg(test)]
-mod tests;

@@ -28,7 +28,7 @@ use std::sync::Wait;
 use std::thread::Threads;
 
 /// The leaves of roots in order, by so many hands on threads.
-pub(crate) fn leaves_by_hands<K: Run + Send + Sync, R: Threads + Wait + Sync, G: Gate + Sync>(
+pub fn leaves_by_hands<K: Run + Send + Sync, R: Threads + Wait + Sync, G: Gate + Sync>(
     rt: &R,
     alloc: Global,
     gate: &G,

@@ -1,7 +1,3 @@
-pub mod CertificateLemmas
-pub mod CheckLemmas
-pub mod EndLemmas
-pub mod MessageLemmas
 pub mod ReportLemmas
 pub mod ResultLemmas
 pub mod SplitLemmas

@@ -1,28 +1,27 @@
 -- What the pieces that are due say.
-use Rattle.std.proofs.Common.{◌≡◌, ℕ, ◌<◌, Option, map, List, Bool, true, false, Result, Ok, Err, refl, sym, ap, subst, ◌∙◌, length, ◌≤◌, arith}
+use Rattle.std.proofs.Common.{◌≡◌, ℕ, ◌<◌, List, Bool, true, false, Result, Ok, Err, refl, sym, ap, subst, ◌∙◌, length, ◌≤◌, arith}
 use Rattle.std.specs.Prelude.{nat_le, All, IfOk, OnOk}
 use Rattle.std.proofs.lemmas.Bool.Decides.{nat_tests}
 use Rattle.cj_io.specs.declared.file.FileBytes.{FileBytes}
 use Rattle.cj_words.specs.Settings.{Asked}
 use Rattle.cj_hermite.specs.PlainProblems.{PlainProblem}
-use Rattle.cj_bezier.specs.declared.encounter.Closest.{Closest}
 use Rattle.cj_bezier.specs.declared.encounter.Encounter.{Encounter}
 use Rattle.cj_bezier.specs.declared.leaf.Leaf.{Leaf}
-use Rattle.cj_bezier.specs.Leaves.{PlainLeaf, plain_leaves}
+use Rattle.cj_bezier.specs.Leaves.{plain_leaves}
 use Rattle.cj_cells.specs.Lists.{list_looked}
 use Rattle.cj_cells.specs.declared.refine_error.RefineError.{RefineError}
 use Rattle.cj_cells.specs.declared.refine_error.RefineError.TheVariants as refine
-use Rattle.cj_meet.specs.Closest.{PlainClosest, HasNearest, closest_of, some_closest}
+use Rattle.cj_meet.specs.Closest.{HasNearest}
 use Rattle.cj_meet.specs.Encounters.{encounters_of, groups_in}
-use Rattle.cj_report.specs.Report.{report_of, told}
-use Rattle.cj_screen.specs.declared.findings.Findings.{Findings}
+use Rattle.cj_report.specs.Report.{told}
+use Rattle.cj_outputs.specs.declared.findings.Findings.{Findings}
 use Rattle.cj_status.specs.declared.status.Status.{Status}
 use Rattle.cj_status.specs.Steps.{Stops}
 use Rattle.cj_screen.specs.Errors.{refined_status}
-use Rattle.cj_screen.specs.Messages.{PlainOrigin, has_message}
+use Rattle.cj_outputs.specs.Messages.{PlainOrigin}
 use Rattle.cj_inputs.specs.Cases.{case_asked}
-use Rattle.cj_screen.specs.Outcome.{cert_bytes, encounters_in, pieces_with, pieces_within, report_bytes, tells_sizes}
-use Rattle.cj_screen.specs.Findings.{AreFound, case_in, cert_in, report_in}
+use Rattle.cj_outputs.specs.Outcome.{cert_bytes, encounters_in, pieces_with, pieces_within, report_bytes, tells_sizes}
+use Rattle.cj_outputs.specs.Findings.{AreFound, case_in, cert_in, report_in}
 use Rattle.cj_screen.specs.Headline.{Certifies, Reports, SplitsTicks}
 
 -- the pieces of a case with few leaves
@@ -56,21 +55,6 @@ reports files settings version case read (Ok found) same tells told are split ce
   nearest = nearest;
 }
 reports files settings version case read (Err s) same tells told are split certified nearest = tt
-
--- the text that is made of findings is their report
-pub report_is : (found : Findings) (leaves : List Leaf) (es : List Encounter) (xs : List Closest) (bs : List Bool) (text : List ℕ) → AreFound found →
-    leaves ≡ found.leaves.items → es ≡ found.encounters.items → xs ≡ found.closest.items → bs ≡ found.messages.items
-    → (let case = case_in found in (approach : List PlainLeaf → Option PlainClosest) (has : List PlainLeaf → Bool) → map some_closest xs ≡ map approach (groups_in (plain_leaves leaves) es)
-    → bs ≡ map has (groups_in (plain_leaves leaves) es)
-    → text ≡ report_of case.first case.last case.threshold case.ephemerides (told found.with_sizes case.sizes) approach has (groups_in (plain_leaves leaves) es))
-    → text ≡ report_bytes found.with_sizes (case_in found) (plain_leaves found.leaves.items)
-report_is found leaves es xs bs text are p q r b given =
-    let case = case_in found in
-    let groups : groups_in (plain_leaves leaves) es ≡ encounters_of (plain_leaves found.leaves.items) = (λ i. groups_in (plain_leaves (p i)) (q i)) ∙ are.encounters.groups in
-    let each = ap (map some_closest) r ∙ are.closest ∙ sym (λ i. map (closest_of case) (groups_in (plain_leaves (p i)) (q i))) in
-    let noted = b ∙ are.messages ∙ sym (λ i. map (has_message case) (groups_in (plain_leaves (p i)) (q i))) in
-    given (closest_of case) (has_message case) each noted
-    ∙ ap (report_of case.first case.last case.threshold case.ephemerides (told found.with_sizes case.sizes) (closest_of case) (has_message case)) groups
 
 -- the closest approaches of the encounters of the one-thread list say what they say of the distance
 pub nearest_in : (case : PlainProblem) (leaves : List Leaf) (es : List Encounter) → plain_leaves leaves ≡ list_looked case → groups_in (plain_leaves leaves) es ≡ encounters_of (plain_leaves leaves)

@@ -5,18 +5,18 @@ use Rattle.cj_io.specs.declared.file.FileBytes.{FileBytes}
 use Rattle.cj_words.specs.declared.option.UsageFault.{UsageFault}
 use Rattle.cj_words.specs.Commands.{Checking}
 use Rattle.cj_words.specs.Settings.{Asked}
-use Rattle.cj_screen.specs.Checks.{IsChecked}
+use Rattle.cj_outputs.specs.Checks.{IsChecked}
 use Rattle.cj_screen.specs.declared.results.Results.{Results}
 use Rattle.cj_screen.specs.declared.results.Results.TheVariants.{Screened, Checked, Made, Tried, Rewritten}
 use Rattle.cj_status.specs.declared.status.Status.{Status}
 use Rattle.cj_status.specs.declared.status.Status.TheVariants as status
 use Rattle.cj_status.specs.Steps.{ComesBetween}
-use Rattle.cj_screen.specs.Findings.{cert_in, ended, messages_in, report_in, summary_in}
+use Rattle.cj_outputs.specs.Findings.{cert_in, ended, messages_in, report_in, summary_in}
 use Rattle.cj_screen.specs.Headline.{IsScreened}
-use Rattle.cj_screen.specs.Origins.{plain_origin}
-use Rattle.cj_screen.specs.Outcome.{ComesOfPuts, ComesOfTrial, EndsTrial}
+use Rattle.cj_outputs.specs.Origins.{plain_origin}
+use Rattle.cj_outputs.specs.Outcome.{ComesOfPuts, ComesOfTrial, EndsTrial}
 use Rattle.cj_screen.specs.Results.{RenewsDue, ReportsDue, VouchesDue, pieces_due}
-use Rattle.cj_screen.specs.Rewrites.{IsRewritten}
+use Rattle.cj_outputs.specs.Rewrites.{IsRewritten}
 use Rattle.cj_cert.specs.Certificates.{plain_certificate}
 
 -- the report and the certificate of a screening stand in front

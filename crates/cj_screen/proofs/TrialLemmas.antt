@@ -31,10 +31,10 @@ use Rattle.cj_inputs.proofs.InputFileLemmas.{Stands, inputs_stand}
 use Rattle.cj_hermite.specs.Problems.{plain_problem}
 use Rattle.cj_bezier.specs.Leaves.{PlainLeaf}
 use Rattle.cj_cells.specs.Lists.{list_looked}
-use Rattle.cj_screen.specs.declared.findings.Findings.{Findings}
-use Rattle.cj_screen.specs.Findings.{AreFound, case_in, pieces_in, tried_in}
-use Rattle.cj_screen.specs.Messages.{PlainOrigin}
-use Rattle.cj_screen.specs.Outcome.{ComesOfTrial, case_tried, pieces_tried, pieces_with, pieces_within, settings_tried, tried_piece, tried_within, within_cells}
+use Rattle.cj_outputs.specs.declared.findings.Findings.{Findings}
+use Rattle.cj_outputs.specs.Findings.{AreFound, case_in, pieces_in, tried_in}
+use Rattle.cj_outputs.specs.Messages.{PlainOrigin}
+use Rattle.cj_outputs.specs.Outcome.{ComesOfTrial, case_tried, pieces_tried, pieces_with, pieces_within, settings_tried, tried_piece, tried_within, within_cells}
 
 -- ---- nothing but a limit
 

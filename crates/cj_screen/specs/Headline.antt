@@ -14,8 +14,8 @@ use Rattle.cj_cert.specs.Splits.{AcceptedSplits}
 use Rattle.cj_cert.specs.Texts.{text_of}
 use Rattle.cj_words.specs.Settings.{Asked}
 use Rattle.cj_inputs.specs.Cases.{case_asked}
-use Rattle.cj_screen.specs.Messages.{has_message}
-use Rattle.cj_screen.specs.Outcome.{cert_piece, encounters_in, report_piece, tells_sizes}
+use Rattle.cj_outputs.specs.Messages.{has_message}
+use Rattle.cj_outputs.specs.Outcome.{cert_piece, encounters_in, report_piece, tells_sizes}
 
 -- The spans of these encounters split the common ticks of every pair of objects a and b. A span holds common ticks only.
 pub record SplitsTicks (case : PlainProblem) (encounters : List (List PlainLeaf)) : Type 0 where

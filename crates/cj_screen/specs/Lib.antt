@@ -1,10 +1,3 @@
-pub mod Checks
 pub mod Errors
-pub mod Findings
 pub mod Headline
-pub mod Messages
-pub mod Origins
-pub mod Outcome
 pub mod Results
-pub mod Rewrites
-pub mod Summaries

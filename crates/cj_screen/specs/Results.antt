@@ -6,12 +6,12 @@ use Rattle.cj_words.specs.Commands.{Checking}
 use Rattle.cj_words.specs.Settings.{Asked}
 use Rattle.cj_screen.specs.declared.results.Results.{Results}
 use Rattle.cj_screen.specs.declared.results.Results.TheVariants.{Screened, Checked, Made, Tried, Rewritten}
-use Rattle.cj_screen.specs.Findings.{AreFound, cert_in, pieces_in, report_in, tried_in}
-use Rattle.cj_screen.specs.Checks.{Vouches}
+use Rattle.cj_outputs.specs.Findings.{AreFound, cert_in, pieces_in, report_in, tried_in}
+use Rattle.cj_outputs.specs.Checks.{Vouches}
 use Rattle.cj_screen.specs.Headline.{Reports}
-use Rattle.cj_screen.specs.Origins.{plain_origin}
-use Rattle.cj_screen.specs.Outcome.{accepted_piece, pieces_made, pieces_renewed}
-use Rattle.cj_screen.specs.Rewrites.{Renews}
+use Rattle.cj_outputs.specs.Origins.{plain_origin}
+use Rattle.cj_outputs.specs.Outcome.{accepted_piece, pieces_made, pieces_renewed}
+use Rattle.cj_outputs.specs.Rewrites.{Renews}
 
 -- the pieces of it, in the order in which they are put
 abbrev pub pieces_due : Results → List FileBytes

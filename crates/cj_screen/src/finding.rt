@@ -6,24 +6,21 @@ ghost use Rattle.cj_words.specs.declared.option.UsageFault.{UsageFault};
 ghost use Rattle.cj_words.specs.Commands as asks;
 ghost use Rattle.cj_words.specs.Commands.{Checks, Rewrites, Screens, Tries, command_of, plain_command, plain_screening};
 ghost use Rattle.cj_words.specs.Settings.{asked_of};
-ghost use Rattle.cj_screen.specs.Findings.{AreFound, cert_in, pieces_in, report_in};
+ghost use Rattle.cj_outputs.specs.Findings.{AreFound, cert_in, pieces_in, report_in};
 ghost use Rattle.cj_screen.specs.Headline.{Reports};
-ghost use Rattle.cj_screen.specs.Outcome as spec;
-ghost use Rattle.cj_screen.specs.Outcome.{ComesOfTrial};
+ghost use Rattle.cj_outputs.specs.Outcome as spec;
+ghost use Rattle.cj_outputs.specs.Outcome.{ComesOfTrial};
 ghost use Rattle.cj_screen.specs.Results.{AreDue, RenewsDue, ReportsDue, VouchesDue, pieces_due};
 ghost use Rattle.cj_status.specs.Steps.{Gives, ComesBefore, ComesBetween};
 
-use crate::checking::check_certificate;
-use crate::findings::Findings;
-use crate::origin::Origin;
 use crate::results::Results;
-use crate::rewriting::rewrite_certificate;
 use crate::screening::screen;
 use crate::trying::try_catalogue;
 use cj_epoch::Tick;
 use cj_gen::catalogue;
 use cj_inputs::prepare;
 use cj_io::{Folder, Gate};
+use cj_outputs::{Findings, Origin, check_certificate, rewrite_certificate};
 use cj_status::Status;
 use cj_words::{Command, Screening, Settings, Word, read_command};
 use std::alloc::Global;
@@ -31,7 +28,7 @@ use std::sync::Wait;
 use std::thread::Threads;
 
 /// What the words ask for, found in the folder's files or made.
-#[tactic(auto, unfolding(crate::specs::Outcome::pieces_of))]
+#[tactic(auto, unfolding(cj_outputs::specs::Outcome::pieces_of))]
 pub fn find<'w, R: Threads + Wait + Sync, F: Folder, G: Gate + Sync>(
     rt: &R,
     alloc: Global,
@@ -112,7 +109,7 @@ fn find_asked<'w, R: Threads + Wait + Sync, F: Folder, G: Gate + Sync>(
 }
 
 /// All that is found in the folder's files by a screening.
-#[tactic(auto, unfolding(crate::specs::Outcome::pieces_screened))]
+#[tactic(auto, unfolding(cj_outputs::specs::Outcome::pieces_screened))]
 fn find_encounters<R: Threads + Wait + Sync, F: Folder, G: Gate + Sync>(
     rt: &R,
     alloc: Global,

@@ -1,7 +1,6 @@
-use crate::findings::Findings;
-use crate::origin::Origin;
 use cj_cert::Certificate;
 use cj_io::FileBytes;
+use cj_outputs::{Findings, Origin};
 
 /// What a run is to put. From here on it can fail only for want of memory or in a write.
 #[derive(Debug, Drop)]

@@ -3,22 +3,20 @@ ghost use Rattle.std.specs.Prelude.{◌≡◌, ◌≢◌, ◌≤◌, Err, All, I
 ghost use Rattle.cj_hermite.specs.Problems.{plain_problem};
 ghost use Rattle.cj_meet.specs.Closest.{HasNearest};
 ghost use Rattle.cj_screen.specs.Errors.{refined_status};
-ghost use Rattle.cj_screen.specs.Findings.{AreFound, pieces_in};
+ghost use Rattle.cj_outputs.specs.Findings.{AreFound, pieces_in};
 ghost use Rattle.cj_screen.specs.Headline.{Certifies, SplitsTicks};
-ghost use Rattle.cj_screen.specs.Messages.{PlainOrigin};
-ghost use Rattle.cj_screen.specs.Outcome as spec;
-ghost use Rattle.cj_screen.specs.Outcome.{cert_bytes, encounters_in};
+ghost use Rattle.cj_outputs.specs.Messages.{PlainOrigin};
+ghost use Rattle.cj_outputs.specs.Outcome as spec;
+ghost use Rattle.cj_outputs.specs.Outcome.{cert_bytes, encounters_in};
 ghost use Rattle.cj_status.specs.Steps.{Gives, ComesBetween};
 
-use crate::counting::{CandidateCounts, count};
-use crate::findings::Findings;
-use crate::messages::note_messages;
 use cj_candidates::{Candidates, find_candidates};
 use cj_cells::RefineError;
 use cj_cert::acceptance;
 use cj_hermite::Problem;
 use cj_io::Gate;
 use cj_meet::{closest_approaches, encounters};
+use cj_outputs::{CandidateCounts, Findings, count, note_messages};
 use cj_pool::leaves_by_workers;
 use cj_status::{LimitFault, Status};
 use std::alloc::Global;
@@ -29,7 +27,7 @@ use std::thread::Threads;
 /// and the certificate is to be of this version.
 ///
 /// No clause names the workers: what is found is the same, however many there are.
-#[tactic(auto, unfolding(crate::specs::Outcome::pieces_within))]
+#[tactic(auto, unfolding(cj_outputs::specs::Outcome::pieces_within))]
 pub fn screen<R: Threads + Wait + Sync, G: Gate + Sync>(
     rt: &R,
     alloc: Global,

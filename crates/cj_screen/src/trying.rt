@@ -5,13 +5,11 @@ ghost use Rattle.cj_io.specs.declared.file.FileBytes.{FileBytes};
 ghost use Rattle.cj_hermite.specs.Problems.{plain_problem};
 ghost use Rattle.cj_words.specs.Commands.{plain_trial};
 ghost use Rattle.cj_words.specs.Settings.{asked_of};
-ghost use Rattle.cj_screen.specs.Findings.{AreFound, ended, tried_in};
-ghost use Rattle.cj_screen.specs.Outcome as spec;
-ghost use Rattle.cj_screen.specs.Outcome.{ComesOfPuts, ComesOfTrial, Leaves};
+ghost use Rattle.cj_outputs.specs.Findings.{AreFound, ended, tried_in};
+ghost use Rattle.cj_outputs.specs.Outcome as spec;
+ghost use Rattle.cj_outputs.specs.Outcome.{ComesOfPuts, ComesOfTrial, Leaves};
 ghost use Rattle.cj_status.specs.Steps.{Gives};
 
-use crate::findings::Findings;
-use crate::putting::put;
 use crate::screening::screen;
 use cj_cert::written_certificate;
 use cj_checker::{Answer, check};
@@ -19,6 +17,7 @@ use cj_gen::catalogue;
 use cj_hermite::Problem;
 use cj_inputs::prepare;
 use cj_io::{CalmFolder, Gate, Shelf};
+use cj_outputs::{Findings, put};
 use cj_report::summary_text;
 use cj_status::Status;
 use cj_words::{Settings, Trial};
@@ -27,7 +26,7 @@ use std::sync::Wait;
 use std::thread::Threads;
 
 /// Screens a made-up catalogue over its whole span, and checks the certificate of what is found.
-#[tactic(auto, unfolding(crate::specs::Outcome::pieces_tried))]
+#[tactic(auto, unfolding(cj_outputs::specs::Outcome::pieces_tried))]
 pub fn try_catalogue<R: Threads + Wait + Sync, G: Gate + Sync>(
     rt: &R,
     alloc: Global,
@@ -54,7 +53,7 @@ pub fn try_catalogue<R: Threads + Wait + Sync, G: Gate + Sync>(
 }
 
 /// The problem of a made-up catalogue: its files are read as those of a folder are.
-#[tactic(auto, unfolding(crate::specs::Outcome::case_tried))]
+#[tactic(auto, unfolding(cj_outputs::specs::Outcome::case_tried))]
 fn prepare_catalogue<R: Threads + Sync>(
     rt: &R,
     alloc: Global,

@@ -10,6 +10,3 @@ pub use pair_filter::{count_kept, keeps, kept_pairs};
 pub use parted_shells::parted;
 pub use shelled_objects::ShelledObjects;
 pub use track_shell::shell;
-
-#[cfg(test)]
-mod tests;

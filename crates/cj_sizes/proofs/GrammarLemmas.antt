@@ -16,8 +16,8 @@ use Rattle.cj_sizes.specs.Limits.{MAX_RADIUS}
 use Rattle.cj_sizes.specs.Reading.{and_then, at_line, is_named, lines_or, reading, with_line, with_lines, with_size}
 use Rattle.cj_sizes.specs.Rows.{◌>>=◌, radius_or, radius_said, size_of_fields, size_of_row}
 use Rattle.cj_sizes.specs.Sizes.{Size, ids_of}
-use Rattle.cj_sizes.specs.declared.fault.SizesCause.{SizesCause}
-use Rattle.cj_sizes.specs.declared.fault.SizesCause.TheVariants.{Range, Twice}
+use Rattle.cj_causes.specs.declared.sizes_cause.SizesCause.{SizesCause}
+use Rattle.cj_causes.specs.declared.sizes_cause.SizesCause.TheVariants.{Range, Twice}
 use Rattle.cj_sizes.proofs.DraftLemmas.{distinct_more, not_named}
 
 -- ---- rows

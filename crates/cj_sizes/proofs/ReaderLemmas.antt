@@ -6,7 +6,7 @@ use Rattle.cj_kvn.specs.declared.lines.Line.{Line}
 use Rattle.cj_sizes.specs.Reading.{Fault, at_line, and_then, with_line, with_lines}
 use Rattle.cj_sizes.specs.Readers.{Follows, Gives, refused_at}
 use Rattle.cj_sizes.specs.Sizes.{Size}
-use Rattle.cj_sizes.specs.declared.fault.SizesCause.{SizesCause}
+use Rattle.cj_causes.specs.declared.sizes_cause.SizesCause.{SizesCause}
 use Rattle.cj_sizes.specs.declared.fault.SizesFault.{SizesFault}
 use Rattle.cj_sizes.specs.declared.refused.Refused.{Refused}
 use Rattle.cj_sizes.specs.declared.refused.Refused.TheVariants.{Memory, Because}

@@ -7,8 +7,8 @@ use Rattle.std.specs.Ordering.{nat_cmp}
 use Rattle.cj_kvn.specs.declared.lines.KvnFault.{KvnFault}
 use Rattle.cj_kvn.specs.declared.lines.KvnFault.TheVariants as lines
 use Rattle.cj_kvn.specs.declared.lines.KvnCause.TheVariants as kvn
-use Rattle.cj_sizes.specs.declared.fault.SizesCause.{SizesCause}
-use Rattle.cj_sizes.specs.declared.fault.SizesCause.TheVariants as causes
+use Rattle.cj_causes.specs.declared.sizes_cause.SizesCause.{SizesCause}
+use Rattle.cj_causes.specs.declared.sizes_cause.SizesCause.TheVariants as causes
 use Rattle.cj_sizes.specs.declared.fault.SizesFault.{SizesFault}
 use Rattle.cj_sizes.specs.declared.fault.SizesFault.TheVariants.{Memory, At}
 use Rattle.cj_sizes.specs.declared.refused.Refused.{Refused}

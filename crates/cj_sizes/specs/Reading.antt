@@ -7,8 +7,8 @@ use Rattle.cj_kvn.specs.Lines.{Blank, Comment, Mark, Pair, Row, Numbered}
 use Rattle.cj_kvn.specs.declared.lines.KvnFault.{KvnFault}
 use Rattle.cj_kvn.specs.declared.lines.KvnFault.TheVariants as faults
 use Rattle.cj_kvn.specs.declared.lines.KvnCause.TheVariants.{NotPrintable, NoLineForm}
-use Rattle.cj_sizes.specs.declared.fault.SizesCause.{SizesCause}
-use Rattle.cj_sizes.specs.declared.fault.SizesCause.TheVariants as causes
+use Rattle.cj_causes.specs.declared.sizes_cause.SizesCause.{SizesCause}
+use Rattle.cj_causes.specs.declared.sizes_cause.SizesCause.TheVariants as causes
 use Rattle.cj_sizes.specs.Rows.{◌>>=◌, size_of_row}
 use Rattle.cj_sizes.specs.Sizes.{Size, ids_of}
 

@@ -1,8 +1,8 @@
-use crate::fault::SizesCause;
 use crate::refused::Refused;
 use crate::row::Row;
 use crate::rows::row_said;
 use crate::size_line::SizeLine;
+use cj_causes::SizesCause;
 use cj_kvn::{LineKind, Text};
 use std::alloc::Global;
 use std::collections::BTreeSet;

@@ -2,6 +2,7 @@
 ghost use Rattle.std.specs.Prelude.{◌≡◌};
 ghost use Rattle.cj_sizes.specs.declared.fault.SizesFault.TheVariants.{Memory};
 
+use cj_causes::SizesCause;
 use cj_kvn::{KvnCause, KvnFault};
 use std::alloc::AllocError;
 
@@ -40,19 +41,4 @@ impl From<KvnFault> for SizesFault {
             },
         }
     }
-}
-
-/// What is wrong with a line.
-#[derive(Clone, Copy, Debug, PartialEq, Eq)]
-pub enum SizesCause {
-    /// The line is none of key-value notation.
-    Kvn(KvnCause),
-    /// The line is not a row of two fields.
-    Form,
-    /// The radius is not a number.
-    Number,
-    /// The radius is below 0 or above a kilometre.
-    Range,
-    /// A radius was given for this designator before.
-    Twice,
 }

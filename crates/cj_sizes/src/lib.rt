@@ -10,7 +10,8 @@ mod row;
 mod rows;
 mod size_line;
 
-pub use fault::{SizesCause, SizesFault};
+pub use cj_causes::SizesCause;
+pub use fault::SizesFault;
 pub use radii::{radii_of, radius_of};
 pub use reader::read_sizes;
 pub use size_line::SizeLine;

@@ -1,7 +1,8 @@
 ghost use Rattle.std.specs.Prelude.{◌≡◌};
 ghost use Rattle.cj_sizes.specs.declared.refused.Refused.TheVariants.{Memory, Because};
 
-use crate::fault::{SizesCause, SizesFault};
+use crate::fault::SizesFault;
+use cj_causes::SizesCause;
 use std::alloc::{AllocError, AllocFailed};
 
 /// Why a line is not followed.

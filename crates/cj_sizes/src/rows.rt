@@ -6,8 +6,8 @@ ghost use Rattle.cj_sizes.specs.Limits.{MAX_RADIUS};
 ghost use Rattle.cj_sizes.specs.Readers.{Tells, row_of};
 ghost use Rattle.cj_sizes.specs.Rows as spec;
 
-use crate::fault::SizesCause;
 use crate::row::Row;
+use cj_causes::SizesCause;
 use cj_kvn::{NumFault, Range32, field, read_scaled};
 
 /// A kilometre in nm: the greatest radius.

@@ -1,11 +1,8 @@
 ghost use Rattle.std.specs.Prelude.{◌≡◌};
 ghost use Rattle.cj_status.specs.Statuses.{number_of};
 
-use cj_cert::CertCause;
-use cj_checker::CheckCause;
+use cj_causes::{CertCause, CheckCause, OemCause, SizesCause};
 use cj_io::Name;
-use cj_oem::OemCause;
-use cj_sizes::SizesCause;
 use cj_words::UsageFault;
 
 /// Why a file was refused.

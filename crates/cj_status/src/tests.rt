@@ -1,12 +1,9 @@
 //! The lines that say why a run failed.
 use crate::{CertificateCause, FileCause, LimitFault, Status, fault_text};
-use cj_cert::CertCause;
-use cj_checker::CheckCause;
+use cj_causes::{CertCause, CheckCause, OemCause, SizesCause};
 use cj_epoch::EpochFault;
 use cj_io::Name;
 use cj_kvn::KvnCause;
-use cj_oem::OemCause;
-use cj_sizes::SizesCause;
 use std::test::Fail;
 
 #[test]

@@ -1,5 +1,5 @@
 use Rattle.std.proofs.Common.{rules}
-use Rattle.cj_merge.proofs.OrderLemmas.{goes_on}
+use Rattle.cj_hermite.proofs.PairOrderLemmas.{goes_on}
 use Rattle.cj_merge.proofs.joining.goes_on.Goals as goal
 
 pub returns : goal.returns

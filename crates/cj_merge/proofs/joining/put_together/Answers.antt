@@ -1,8 +1,8 @@
 use Rattle.std.proofs.Common.{◌++◌, ◌∙◌, rules, ap, subst, sym}
 use Rattle.std.proofs.lemmas.Bool.{and_parts}
 use Rattle.std.proofs.lemmas.Fn.{always_returns_same}
-use Rattle.cj_merge.specs.Places.{AreInOrderBy}
-use Rattle.cj_merge.proofs.OrderLemmas.{sorted}
+use Rattle.cj_hermite.specs.PairOrder.{AreInOrderBy}
+use Rattle.cj_hermite.proofs.PairOrderLemmas.{sorted}
 use Rattle.cj_merge.proofs.RunLemmas.{items_more}
 use Rattle.cj_merge.proofs.joining.put_together.Goals as goal
 

@@ -1,7 +1,7 @@
 use Rattle.std.proofs.Common.{◌≡◌, take}
 use Rattle.std.specs.Prelude.{IsTrue}
 use Rattle.std.specs.List.{flat_map}
-use Rattle.cj_merge.specs.Places.{AreInOrderBy}
+use Rattle.cj_hermite.specs.PairOrder.{AreInOrderBy}
 use Rattle.cj_merge.proofs.joining.put_together.Given as goal
 
 abbrev pub invariant-loop-list : goal.invariant-loop-list

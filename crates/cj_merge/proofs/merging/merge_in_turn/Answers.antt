@@ -1,6 +1,6 @@
 use Rattle.std.proofs.Common.{rules}
 use Rattle.std.proofs.lemmas.Fn.{always_returns_same}
-use Rattle.cj_merge.proofs.OrderLemmas.{sorted}
+use Rattle.cj_hermite.proofs.PairOrderLemmas.{sorted}
 use Rattle.cj_merge.proofs.merging.merge_in_turn.Goals as goal
 
 pub returns-clause-ordered : goal.returns-clause-ordered

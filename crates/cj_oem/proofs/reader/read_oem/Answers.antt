@@ -3,7 +3,7 @@ use Rattle.std.proofs.lemmas.Result.{err_from_is_err_and}
 use Rattle.cj_kvn.specs.Lines.{form_at, lines_at}
 use Rattle.cj_kvn.specs.declared.lines.Line.{Line}
 use Rattle.cj_oem.specs.Readers.{body_of}
-use Rattle.cj_oem.specs.declared.fault.OemCause.TheVariants.{Name}
+use Rattle.cj_causes.specs.declared.oem_cause.OemCause.TheVariants.{Name}
 use Rattle.cj_oem.specs.declared.fault.OemFault.TheVariants.{At}
 use Rattle.cj_oem.specs.MetadataDrafts.{HasLabel}
 use Rattle.cj_oem.proofs.FileLemmas.{body_read, body_refused, few_nodes, lines_refused, name_refused, some_segment}

@@ -2,9 +2,9 @@ use Rattle.std.proofs.Common.{◌≡◌, Bool, Result, Ok, Err, ◌∙◌}
 use Rattle.std.specs.Prelude.{IfOk}
 use Rattle.cj_hermite.specs.Problems.{plain_problem}
 use Rattle.cj_words.specs.Settings.{asked_of}
-use Rattle.cj_screen.specs.declared.findings.Findings.{Findings}
+use Rattle.cj_outputs.specs.declared.findings.Findings.{Findings}
 use Rattle.cj_status.specs.declared.status.Status.{Status}
-use Rattle.cj_screen.specs.Outcome.{tells_sizes}
+use Rattle.cj_outputs.specs.Outcome.{tells_sizes}
 use Rattle.cj_screen.proofs.ReportLemmas.{reports}
 use Rattle.cj_screen.proofs.finding.find_encounters.Goals as goal
 

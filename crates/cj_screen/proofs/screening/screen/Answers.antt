@@ -13,11 +13,11 @@ use Rattle.cj_cert.specs.Rewritten.{written_in}
 use Rattle.cj_meet.specs.Closest.{closest_of}
 use Rattle.cj_meet.specs.Encounters.{Describes, encounters_of, groups_in}
 use Rattle.cj_meet.specs.Spans.{HaveExactSpans}
-use Rattle.cj_screen.specs.Outcome.{pieces_with, pieces_within}
-use Rattle.cj_screen.specs.Summaries.{tally_with}
+use Rattle.cj_outputs.specs.Outcome.{pieces_with, pieces_within}
+use Rattle.cj_outputs.specs.Summaries.{tally_with}
 use Rattle.cj_status.specs.Steps.{Stops}
-use Rattle.cj_screen.specs.Messages.{has_message}
-use Rattle.cj_screen.proofs.MessageLemmas.{as_many_closest, noted_in}
+use Rattle.cj_outputs.specs.Messages.{has_message}
+use Rattle.cj_outputs.proofs.MessageLemmas.{as_many_closest, noted_in}
 use Rattle.cj_screen.proofs.ReportLemmas.{due_of, nearest_in, stops_refined}
 use Rattle.cj_screen.proofs.SplitLemmas.{splits}
 use Rattle.cj_screen.proofs.screening.screen.Goals as goal

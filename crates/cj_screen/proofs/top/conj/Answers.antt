@@ -3,11 +3,11 @@ use Rattle.cj_io.specs.Faults.{Rose}
 use Rattle.cj_io.specs.declared.file.FileBytes.{FileBytes}
 use Rattle.cj_status.specs.declared.status.Status.{Status}
 use Rattle.cj_status.specs.declared.status.Status.TheVariants as status
-use Rattle.cj_screen.specs.Outcome as spec
-use Rattle.cj_screen.specs.Outcome.{Answers, EndsTrial, Leaves, PutsNothing}
-use Rattle.cj_screen.specs.Findings.{ended}
+use Rattle.cj_outputs.specs.Outcome as spec
+use Rattle.cj_outputs.specs.Outcome.{Answers, EndsTrial, Leaves, PutsNothing}
+use Rattle.cj_outputs.specs.Findings.{ended}
 use Rattle.cj_screen.specs.Results.{pieces_due}
-use Rattle.cj_screen.proofs.EndLemmas.{answers_put, answers_stop, first_stand, leaves_extends, leaves_stop, never_usage, nothing_more, put_or_memory, puts_some, refused_as, stopped_for}
+use Rattle.cj_outputs.proofs.EndLemmas.{answers_put, answers_stop, first_stand, leaves_extends, leaves_stop, never_usage, nothing_more, put_or_memory, puts_some, refused_as, stopped_for}
 use Rattle.cj_screen.proofs.ResultLemmas.{checked, ends_before, ends_put, renewed, screened}
 use Rattle.cj_screen.proofs.top.conj.Goals as goal
 

@@ -1,8 +1,8 @@
 use Rattle.std.proofs.Common.{◌≡◌, Ok, sym, subst}
 use Rattle.cj_screen.specs.declared.results.Results.{Results}
 use Rattle.cj_screen.specs.declared.results.Results.TheVariants.{Tried}
-use Rattle.cj_screen.specs.Findings.{ended}
-use Rattle.cj_screen.specs.Outcome.{Leaves}
+use Rattle.cj_outputs.specs.Findings.{ended}
+use Rattle.cj_outputs.specs.Outcome.{Leaves}
 use Rattle.cj_screen.specs.Results.{pieces_due}
 use Rattle.cj_screen.proofs.top.put_results.Goals as goal
 

@@ -3,9 +3,9 @@ use Rattle.cj_bezier.specs.Leaves.{plain_leaves}
 use Rattle.cj_bezier.specs.SlotBoxes.{plain_boxes}
 use Rattle.cj_cert.specs.Certificates.{PlainCertificate}
 use Rattle.cj_cert.specs.Fits.{line_count}
-use Rattle.cj_screen.specs.Findings.{case_in}
-use Rattle.cj_screen.proofs.CertificateLemmas.{leaves_alike}
-use Rattle.cj_screen.proofs.CheckLemmas.{found_few}
+use Rattle.cj_outputs.specs.Findings.{case_in}
+use Rattle.cj_outputs.proofs.CertificateLemmas.{leaves_alike}
+use Rattle.cj_outputs.proofs.CheckLemmas.{found_few}
 use Rattle.cj_screen.proofs.trying.confirm.Goals as goal
 
 pub written_certificate-requires-clause-boxes : goal.written_certificate-requires-clause-boxes

@@ -10,7 +10,7 @@ use Rattle.cj_words.specs.Settings.{asked_of}
 use Rattle.cj_status.specs.declared.status.Status.{Status}
 use Rattle.cj_status.specs.Steps.{IsLimit}
 use Rattle.cj_inputs.specs.Cases.{case_asked}
-use Rattle.cj_screen.specs.Outcome.{case_tried}
+use Rattle.cj_outputs.specs.Outcome.{case_tried}
 use Rattle.cj_screen.proofs.TrialLemmas.{calm_count, comes_of_trial, tried_limits}
 use Rattle.cj_screen.proofs.trying.prepare_catalogue.Goals as goal
 

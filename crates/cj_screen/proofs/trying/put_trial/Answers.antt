@@ -1,8 +1,8 @@
 use Rattle.std.proofs.Common.{ℕ, List, [], ◌∷◌, ◌++◌, Ok, ap, subst, ◌∙◌}
 use Rattle.std.specs.Prelude.{codes}
 use Rattle.cj_report.specs.Summary.{summary_of}
-use Rattle.cj_screen.specs.Findings.{ended}
-use Rattle.cj_screen.specs.Outcome.{Leaves, summary_piece}
+use Rattle.cj_outputs.specs.Findings.{ended}
+use Rattle.cj_outputs.specs.Outcome.{Leaves, summary_piece}
 use Rattle.cj_screen.proofs.trying.put_trial.Goals as goal
 
 pub returns-clause-leaves : goal.returns-clause-leaves

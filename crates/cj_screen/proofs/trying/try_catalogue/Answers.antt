@@ -5,9 +5,9 @@ use Rattle.cj_hermite.specs.Problems.{plain_problem}
 use Rattle.cj_words.specs.Commands.{plain_trial}
 use Rattle.cj_status.specs.declared.status.Status.{Status}
 use Rattle.cj_status.specs.Steps.{Stops}
-use Rattle.cj_screen.specs.Findings.{pieces_in}
-use Rattle.cj_screen.specs.Messages.{PlainOrigin}
-use Rattle.cj_screen.specs.Outcome.{pieces_within}
+use Rattle.cj_outputs.specs.Findings.{pieces_in}
+use Rattle.cj_outputs.specs.Messages.{PlainOrigin}
+use Rattle.cj_outputs.specs.Outcome.{pieces_within}
 use Rattle.cj_screen.proofs.TrialLemmas.{comes_of_trial, tried_after, tried_of, within_limits_of}
 use Rattle.cj_screen.proofs.trying.try_catalogue.Goals as goal
 

@@ -1,0 +1,185 @@
+-- How a run ends, of how its parts do.
+use Rattle.std.proofs.Common.{◌≡◌, List, [], ◌∷◌, ◌++◌, Option, Some, Result, Ok, Err, refl, sym, ap, ◌∙◌, inl, inr, ◌⊎◌, append-nil, append_assoc}
+use Rattle.std.specs.Prelude.{IfErr}
+use Rattle.cj_io.specs.declared.file.FileBytes.{FileBytes}
+use Rattle.cj_words.specs.declared.option.UsageFault.{UsageFault}
+use Rattle.cj_status.specs.declared.status.Status.{Status}
+use Rattle.cj_status.specs.declared.status.Status.TheVariants as status
+use Rattle.cj_status.specs.Steps.{Stops}
+use Rattle.cj_outputs.specs.Outcome.{Answers, IsFront, PartlyPut, Leaves, Extends, ComesOfPuts, PutsNothing}
+use Rattle.cj_outputs.specs.Findings.{ended}
+
+-- nothing was put
+pub nothing_put : (due : Result (List FileBytes) Status) (old : List FileBytes) (now : Option (List FileBytes)) → now ≡ Some old → PartlyPut due old now
+nothing_put (Ok pieces) old now same = ([], tt, same ∙ ap (λ (ps : List FileBytes). Some ps) (sym (append-nil old)))
+nothing_put (Err s) old now same = ([], refl, same ∙ ap (λ (ps : List FileBytes). Some ps) (sym (append-nil old)))
+
+pub nothing_more : (old : List FileBytes) (now : Option (List FileBytes)) → now ≡ Some old → Extends old now
+nothing_more old now same = ([], same ∙ ap (λ (ps : List FileBytes). Some ps) (sym (append-nil old)))
+
+-- ---- a run that stopped before its puts
+
+pub answers_stop : (read : Type 0) (s : Status) (due : Result (List FileBytes) Status) → Stops read s due → Answers read s due
+answers_stop read status.Ok due stops = absurd stops
+answers_stop read (status.NotAccepted line cause) due stops = stops
+answers_stop read (status.Usage fault) due stops = stops
+answers_stop read (status.BadFile file line cause) due stops = stops
+answers_stop read status.ReadFault due stops = stops
+answers_stop read status.WriteFault due stops = absurd stops
+answers_stop read (status.Limit fault) due stops = stops
+answers_stop read status.OutOfMemory due stops = tt
+
+pub leaves_stop : (read : Type 0) (s : Status) (due : Result (List FileBytes) Status) (old : List FileBytes) (now : Option (List FileBytes))
+    → now ≡ Some old → Stops read s due → Leaves s due old now
+leaves_stop read status.Ok due old now same stops = absurd stops
+leaves_stop read (status.NotAccepted line cause) due old now same stops = same
+leaves_stop read (status.Usage fault) due old now same stops = same
+leaves_stop read (status.BadFile file line cause) due old now same stops = same
+leaves_stop read status.ReadFault due old now same stops = same
+leaves_stop read status.WriteFault due old now same stops = absurd stops
+leaves_stop read (status.Limit fault) due old now same stops = same
+leaves_stop read status.OutOfMemory due old now same stops = nothing_put due old now same
+
+-- ---- a run that came to its puts
+
+pub answers_put : (read : Type 0) (r : Result (Unit {0}) Status) (due : Result (List FileBytes) Status) (pieces : List FileBytes) → due ≡ Ok pieces → IfErr r ComesOfPuts → Answers read (ended r) due
+answers_put read (Ok done) due pieces is comes = (pieces, is)
+answers_put read (Err status.Ok) due pieces is comes = absurd comes
+answers_put read (Err (status.NotAccepted line cause)) due pieces is comes = absurd comes
+answers_put read (Err (status.Usage fault)) due pieces is comes = absurd comes
+answers_put read (Err (status.BadFile file line cause)) due pieces is comes = absurd comes
+answers_put read (Err status.ReadFault) due pieces is comes = absurd comes
+answers_put read (Err status.WriteFault) due pieces is comes = (pieces, is)
+answers_put read (Err (status.Limit fault)) due pieces is comes = absurd comes
+answers_put read (Err status.OutOfMemory) due pieces is comes = tt
+
+-- puts that did not fail were made, or memory ran out
+pub put_or_memory : (write : Type 0) (r : Result (Unit {0}) Status) → ¬ write → IfErr r ComesOfPuts → (r ≡ Err status.WriteFault → write) → (ended r ≡ status.Ok) ⊎ (ended r ≡ status.OutOfMemory)
+put_or_memory write (Ok done) calm comes rose = inl refl
+put_or_memory write (Err status.Ok) calm comes rose = absurd comes
+put_or_memory write (Err (status.NotAccepted line cause)) calm comes rose = absurd comes
+put_or_memory write (Err (status.Usage fault)) calm comes rose = absurd comes
+put_or_memory write (Err (status.BadFile file line cause)) calm comes rose = absurd comes
+put_or_memory write (Err status.ReadFault) calm comes rose = absurd comes
+put_or_memory write (Err status.WriteFault) calm comes rose = absurd (calm (rose refl))
+put_or_memory write (Err (status.Limit fault)) calm comes rose = absurd comes
+put_or_memory write (Err status.OutOfMemory) calm comes rose = inr refl
+
+-- puts do not end as a run that leaves its shelf alone
+pub puts_some : (r : Result (Unit {0}) Status) → IfErr r ComesOfPuts → ¬ PutsNothing (ended r)
+puts_some (Ok done) comes = λ none. none
+puts_some (Err status.Ok) comes = absurd comes
+puts_some (Err (status.NotAccepted line cause)) comes = absurd comes
+puts_some (Err (status.Usage fault)) comes = absurd comes
+puts_some (Err (status.BadFile file line cause)) comes = absurd comes
+puts_some (Err status.ReadFault) comes = absurd comes
+puts_some (Err status.WriteFault) comes = λ none. none
+puts_some (Err (status.Limit fault)) comes = absurd comes
+puts_some (Err status.OutOfMemory) comes = λ none. none
+
+-- ---- puts, one after another
+
+-- a front of some pieces is a front of them and more
+front_of_more : (ps more front : List FileBytes) → IsFront front ps → IsFront front (ps ++ more)
+front_of_more ps more [] is = tt
+front_of_more [] more (f ∷ front) is = absurd is
+front_of_more (p ∷ ps) more (f ∷ []) is = is
+front_of_more (p ∷ ps) more (f ∷ g ∷ front) is = (is.0, front_of_more ps more (g ∷ front) is.1)
+
+-- a front behind a first piece
+front_behind_one : (p : FileBytes) (more front : List FileBytes) → IsFront front more → IsFront (p ∷ front) (p ∷ more)
+front_behind_one p more [] is = (refl, ([], sym (append-nil p.bytes)))
+front_behind_one p more (f ∷ front) is = (refl, is)
+
+-- a front behind some pieces
+front_behind : (ps more front : List FileBytes) → IsFront front more → IsFront (ps ++ front) (ps ++ more)
+front_behind [] more front is = is
+front_behind (p ∷ ps) more front is = front_behind_one p (ps ++ more) (ps ++ front) (front_behind ps more front is)
+
+-- a front of the first pieces alone was put
+first_partly : (ps more old : List FileBytes) (now : Option (List FileBytes)) → PartlyPut (Ok ps) old now → PartlyPut (Ok (ps ++ more)) old now
+first_partly ps more old now partly = (partly.0, front_of_more ps more partly.0 partly.1, partly.2)
+
+-- the first puts ended the run
+pub first_leaves : (s : Status) (ps more old : List FileBytes) (now : Option (List FileBytes)) → ComesOfPuts s → Leaves s (Ok ps) old now → Leaves s (Ok (ps ++ more)) old now
+first_leaves status.Ok ps more old now comes leaves = absurd comes
+first_leaves (status.NotAccepted line cause) ps more old now comes leaves = leaves
+first_leaves (status.Usage fault) ps more old now comes leaves = leaves
+first_leaves (status.BadFile file line cause) ps more old now comes leaves = leaves
+first_leaves status.ReadFault ps more old now comes leaves = leaves
+first_leaves status.WriteFault ps more old now comes leaves = first_partly ps more old now leaves
+first_leaves (status.Limit fault) ps more old now comes leaves = leaves
+first_leaves status.OutOfMemory ps more old now comes leaves = first_partly ps more old now leaves
+
+-- the first pieces stand
+pub first_stand : (ps old : List FileBytes) (now : Option (List FileBytes)) → Leaves status.Ok (Ok ps) old now → now ≡ Some (old ++ ps)
+first_stand ps old now leaves = let is : leaves.0 ≡ ps = cc (leaves.1) in leaves.2 ∙ ap (λ (qs : List FileBytes). Some (old ++ qs)) is
+
+-- a front behind the first pieces was put
+behind_partly : (ps more old : List FileBytes) (now : Option (List FileBytes)) → PartlyPut (Ok more) (old ++ ps) now → PartlyPut (Ok (ps ++ more)) old now
+behind_partly ps more old now partly =
+    (ps ++ partly.0, front_behind ps more partly.0 partly.1, partly.2 ∙ ap (λ (qs : List FileBytes). Some qs) (append_assoc old ps partly.0))
+
+-- the puts behind the first ended it
+pub second_leaves : (r : Result (Unit {0}) Status) (ps more old : List FileBytes) (now : Option (List FileBytes)) → IfErr r ComesOfPuts
+    → Leaves (ended r) (Ok more) (old ++ ps) now → Leaves (ended r) (Ok (ps ++ more)) old now
+second_leaves (Ok done) ps more old now comes leaves =
+    let is : more ≡ leaves.0 = cc (leaves.1) in
+    (ps ++ leaves.0, ap (λ (qs : List FileBytes). Ok (ps ++ qs)) is, leaves.2 ∙ ap (λ (qs : List FileBytes). Some qs) (append_assoc old ps leaves.0))
+second_leaves (Err status.Ok) ps more old now comes leaves = absurd comes
+second_leaves (Err (status.NotAccepted line cause)) ps more old now comes leaves = absurd comes
+second_leaves (Err (status.Usage fault)) ps more old now comes leaves = absurd comes
+second_leaves (Err (status.BadFile file line cause)) ps more old now comes leaves = absurd comes
+second_leaves (Err status.ReadFault) ps more old now comes leaves = absurd comes
+second_leaves (Err status.WriteFault) ps more old now comes leaves = behind_partly ps more old now leaves
+second_leaves (Err (status.Limit fault)) ps more old now comes leaves = absurd comes
+second_leaves (Err status.OutOfMemory) ps more old now comes leaves = behind_partly ps more old now leaves
+
+-- whatever ended the puts, the old pieces stand
+pub leaves_extends : (s : Status) (due : Result (List FileBytes) Status) (old : List FileBytes) (now : Option (List FileBytes)) → Leaves s due old now → Extends old now
+leaves_extends status.Ok due old now leaves = (leaves.0, leaves.2)
+leaves_extends (status.NotAccepted line cause) due old now leaves = nothing_more old now leaves
+leaves_extends (status.Usage fault) due old now leaves = nothing_more old now leaves
+leaves_extends (status.BadFile file line cause) due old now leaves = nothing_more old now leaves
+leaves_extends status.ReadFault due old now leaves = nothing_more old now leaves
+leaves_extends status.WriteFault due old now leaves = (leaves.0, leaves.2)
+leaves_extends (status.Limit fault) due old now leaves = nothing_more old now leaves
+leaves_extends status.OutOfMemory due old now leaves = (leaves.0, leaves.2)
+
+-- ---- completeness
+
+-- a run that stopped although pieces are due met a read fault or want of memory
+pub stopped_for : (read : Type 0) (s : Status) (due : Result (List FileBytes) Status) (pieces : List FileBytes) → due ≡ Ok pieces → ¬ read → Stops read s due
+    → s ≡ status.OutOfMemory
+stopped_for read status.Ok due pieces is calm stops = absurd stops
+stopped_for read (status.NotAccepted line cause) due pieces is calm stops = absurd cc
+stopped_for read (status.Usage fault) due pieces is calm stops = absurd cc
+stopped_for read (status.BadFile file line cause) due pieces is calm stops = absurd cc
+stopped_for read status.ReadFault due pieces is calm stops = absurd (calm stops)
+stopped_for read status.WriteFault due pieces is calm stops = absurd stops
+stopped_for read (status.Limit fault) due pieces is calm stops = absurd cc
+stopped_for read status.OutOfMemory due pieces is calm stops = refl
+
+-- a run that came to its puts has words of the grammar
+pub never_usage : (r : Result (Unit {0}) Status) (fault : UsageFault) → IfErr r ComesOfPuts → ¬ (ended r ≡ status.Usage fault)
+never_usage (Ok done) fault comes = λ e. absurd cc
+never_usage (Err status.Ok) fault comes = absurd comes
+never_usage (Err (status.NotAccepted line cause)) fault comes = λ e. absurd cc
+never_usage (Err (status.Usage other)) fault comes = λ e. absurd comes
+never_usage (Err (status.BadFile file line cause)) fault comes = λ e. absurd cc
+never_usage (Err status.ReadFault) fault comes = λ e. absurd cc
+never_usage (Err status.WriteFault) fault comes = λ e. absurd cc
+never_usage (Err (status.Limit limit)) fault comes = λ e. absurd cc
+never_usage (Err status.OutOfMemory) fault comes = λ e. absurd cc
+
+-- where a cause is due and no read failed, it comes, or memory ran out
+pub refused_as : (read : Type 0) (s cause : Status) (due : Result (List FileBytes) Status) → due ≡ Err cause → ¬ read → Answers read s due
+    → (s ≡ cause) ⊎ (s ≡ status.OutOfMemory)
+refused_as read status.Ok cause due is calm answers = absurd cc
+refused_as read (status.NotAccepted line why) cause due is calm answers = inl cc
+refused_as read (status.Usage fault) cause due is calm answers = inl cc
+refused_as read (status.BadFile file line why) cause due is calm answers = inl cc
+refused_as read status.ReadFault cause due is calm answers = absurd (calm answers)
+refused_as read status.WriteFault cause due is calm answers = absurd cc
+refused_as read (status.Limit fault) cause due is calm answers = inl cc
+refused_as read status.OutOfMemory cause due is calm answers = inr refl

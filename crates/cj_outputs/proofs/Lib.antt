@@ -1,0 +1,5 @@
+pub mod CertificateLemmas
+pub mod CheckLemmas
+pub mod EndLemmas
+pub mod MessageLemmas
+pub mod ReportTextLemmas

@@ -1,0 +1,28 @@
+-- What the report that is made of findings says.
+use Rattle.std.proofs.Common.{◌≡◌, ℕ, Option, map, List, Bool, sym, ap, ◌∙◌}
+use Rattle.cj_bezier.specs.declared.encounter.Closest.{Closest}
+use Rattle.cj_bezier.specs.declared.encounter.Encounter.{Encounter}
+use Rattle.cj_bezier.specs.declared.leaf.Leaf.{Leaf}
+use Rattle.cj_bezier.specs.Leaves.{PlainLeaf, plain_leaves}
+use Rattle.cj_meet.specs.Closest.{PlainClosest, closest_of, some_closest}
+use Rattle.cj_meet.specs.Encounters.{encounters_of, groups_in}
+use Rattle.cj_report.specs.Report.{report_of, told}
+use Rattle.cj_outputs.specs.declared.findings.Findings.{Findings}
+use Rattle.cj_outputs.specs.Messages.{has_message}
+use Rattle.cj_outputs.specs.Outcome.{report_bytes}
+use Rattle.cj_outputs.specs.Findings.{AreFound, case_in}
+
+-- the text that is made of findings is their report
+pub report_is : (found : Findings) (leaves : List Leaf) (es : List Encounter) (xs : List Closest) (bs : List Bool) (text : List ℕ) → AreFound found →
+    leaves ≡ found.leaves.items → es ≡ found.encounters.items → xs ≡ found.closest.items → bs ≡ found.messages.items
+    → (let case = case_in found in (approach : List PlainLeaf → Option PlainClosest) (has : List PlainLeaf → Bool) → map some_closest xs ≡ map approach (groups_in (plain_leaves leaves) es)
+    → bs ≡ map has (groups_in (plain_leaves leaves) es)
+    → text ≡ report_of case.first case.last case.threshold case.ephemerides (told found.with_sizes case.sizes) approach has (groups_in (plain_leaves leaves) es))
+    → text ≡ report_bytes found.with_sizes (case_in found) (plain_leaves found.leaves.items)
+report_is found leaves es xs bs text are p q r b given =
+    let case = case_in found in
+    let groups : groups_in (plain_leaves leaves) es ≡ encounters_of (plain_leaves found.leaves.items) = (λ i. groups_in (plain_leaves (p i)) (q i)) ∙ are.encounters.groups in
+    let each = ap (map some_closest) r ∙ are.closest ∙ sym (λ i. map (closest_of case) (groups_in (plain_leaves (p i)) (q i))) in
+    let noted = b ∙ are.messages ∙ sym (λ i. map (has_message case) (groups_in (plain_leaves (p i)) (q i))) in
+    given (closest_of case) (has_message case) each noted
+    ∙ ap (report_of case.first case.last case.threshold case.ephemerides (told found.with_sizes case.sizes) (closest_of case) (has_message case)) groups

@@ -1,0 +1,23 @@
+use Rattle.std.proofs.Common.{ℕ, List, length, ◌++◌, ◌∷◌, [], Ok, subst, ◌∙◌}
+use Rattle.std.proofs.lemmas.Result.{err_from_is_err_and}
+use Rattle.cj_outputs.specs.Findings.{ended}
+use Rattle.cj_outputs.specs.Outcome.{Leaves, count_bytes, summary_piece}
+use Rattle.cj_outputs.proofs.EndLemmas.{first_leaves, first_stand, second_leaves}
+use Rattle.cj_outputs.proofs.catalogues.put_catalogue.Goals as goal
+
+pub returns-in_err-put_files-clause-leaves : goal.returns-in_err-put_files-clause-leaves
+returns-in_err-put_files-clause-leaves g c = λ old stood.
+    let files = c.args.files.now in
+    let last = summary_piece (count_bytes (length files)) in
+    let p = err_from_is_err_and c.from_residual-in_err-put_files.result c.from_residual-in_err-put_files.ensures.1 in
+    rw (p.1, p.2) (first_leaves c.in_err-put_files.field-0.0 files (last ∷ []) old (g.S.Shelf.pieces c.put_files.new.shelf) c.in_err-put_files.ensures.comes
+    (c.in_err-put_files.ensures.leaves old stood))
+
+pub returns-clause-leaves : goal.returns-clause-leaves
+returns-clause-leaves g c = λ old stood.
+    let files = c.args.files.now in
+    let now = g.S.Shelf.pieces c.put.new.shelf in
+    let behind = first_stand files old (g.S.Shelf.pieces c.put_files.new.shelf) (c.in_ok-put_files.ensures.leaves old stood) in
+    subst (λ (bytes : List ℕ). Leaves (ended c.put.result) (Ok (files ++ summary_piece bytes ∷ [])) old now)
+    (c.deref.ensures.value ∙ c.in_ok-text.ensures)
+    (second_leaves c.put.result files (summary_piece c.deref.result.now ∷ []) old now c.put.ensures.comes (c.put.ensures.leaves (old ++ files) behind))

@@ -1,0 +1,64 @@
+use Rattle.std.proofs.lemmas.Result.{err_from_is_err_and}
+use Rattle.std.proofs.Common.{◌≡◌, ◌<◌, List, Ok, length, get_or, ap, subst, arith, rules}
+use Rattle.cj_bezier.specs.Leaves.{PlainLeaf, plain_leaves}
+use Rattle.cj_outputs.specs.Findings.{case_in}
+use Rattle.cj_outputs.specs.Messages.{message_pieces}
+use Rattle.cj_outputs.specs.Origins.{plain_origin}
+use Rattle.cj_outputs.specs.Outcome.{Leaves}
+use Rattle.cj_outputs.proofs.EndLemmas.{first_stand}
+use Rattle.cj_outputs.proofs.MessageLemmas.{encounters_within, made_of_found, messages_cut, messages_more, messages_tallied}
+use Rattle.cj_outputs.proofs.messages.put_messages.Goals as goal
+
+pub overflow_cast-place : goal.overflow_cast-place
+overflow_cast-place g c =
+    let found = c.args.found.now in
+    omega (arith, encounters_within found.leaves.items found.encounters.items c.requires.encounters c.requires.few)
+
+pub overflow_add-place : goal.overflow_add-place
+overflow_add-place g c =
+    let found = c.args.found.now in
+    omega (arith, encounters_within found.leaves.items found.encounters.items c.requires.encounters c.requires.few)
+
+pub returns-in_err-put_message-clause-leaves : goal.returns-in_err-put_message-clause-leaves
+returns-in_err-put_message-clause-leaves g c = λ old stood.
+    let found = c.args.found.now in
+    let case = case_in found in
+    let origin = plain_origin c.args.origin in
+    let ss = plain_leaves found.leaves.items in
+    let es = found.encounters.items in
+    let i = c.loop-place.place in
+    let e = c.encounter-item.result in
+    let now = g.S.Shelf.pieces c.put_message.new.shelf in
+    let e_is : e ≡ get_or es i e = search rules in
+    let lt : i < length es = omega arith in
+    let made = made_of_found found origin i c.stamp-stamp.result.number _ e c.index.result.now c.requires lt e_is c.index.ensures c.stamp-stamp.ensures (ap (λ s. s.number) c.stamp-stamp.ensures) in
+    let before = c.loop-place.invariant.put old stood in
+    let s = c.in_err-put_message.field-0.0 in
+    let p = err_from_is_err_and c.from_residual.result c.from_residual.ensures.1 in
+    rw (p.1, p.2)
+    (subst (λ (gs : List (List PlainLeaf)). Leaves s (Ok (message_pieces case origin gs)) old now) c.requires.encounters.groups
+    (messages_cut case origin ss es i e _ old now s lt e_is made c.in_err-put_message.ensures.comes (c.in_err-put_message.ensures.leaves _ before)))
+
+pub loop-place-preserved : goal.loop-place-preserved
+loop-place-preserved g c =
+    let found = c.args.found.now in
+    let case = case_in found in
+    let origin = plain_origin c.args.origin in
+    let ss = plain_leaves found.leaves.items in
+    let es = found.encounters.items in
+    let i = c.loop-place.place in
+    let e = c.encounter-item.result in
+    let now = g.S.Shelf.pieces c.put_message.new.shelf in
+    let e_is : e ≡ get_or es i e = search rules in
+    let lt : i < length es = omega arith in
+    let made = made_of_found found origin i c.stamp-stamp.result.number _ e c.index.result.now c.requires lt e_is c.index.ensures c.stamp-stamp.ensures (ap (λ s. s.number) c.stamp-stamp.ensures) in
+    record {
+      put = λ old stood. messages_more case origin ss es i e _ old now lt e_is made (first_stand _ _ now (c.in_ok-put_message.ensures.leaves _ (c.loop-place.invariant.put old stood)));
+      later = omega (arith, c.loop-place.invariant.later, c.in_ok-put_message.ensures.later);
+    }
+
+pub returns-clause-counted : goal.returns-clause-counted
+returns-clause-counted g c = messages_tallied c.args.found.now (plain_origin c.args.origin) c.requires
+
+pub returns-in_err-put_message-clause-counted : goal.returns-in_err-put_message-clause-counted
+returns-in_err-put_message-clause-counted g c = messages_tallied c.args.found.now (plain_origin c.args.origin) c.requires

@@ -1,0 +1,62 @@
+use Rattle.std.proofs.lemmas.Result.{err_from_is_err_and}
+use Rattle.std.proofs.Common.{Err, ◌++◌, ◌∷◌, []}
+use Rattle.cj_outputs.specs.Findings.{cert_in, messages_in, report_in, summary_in}
+use Rattle.cj_outputs.specs.Origins.{plain_origin}
+use Rattle.cj_outputs.proofs.EndLemmas.{first_leaves, first_stand, second_leaves}
+use Rattle.cj_outputs.proofs.reporting.put_pieces.Goals as goal
+
+pub returns-clause-leaves : goal.returns-clause-leaves
+returns-clause-leaves g c = λ old stood.
+    let found = c.args.found.now in
+    let report = report_in found ∷ [] in
+    let certificate = cert_in found ∷ [] in
+    let messages = messages_in (plain_origin c.args.origin) found in
+    let summary = summary_in found ∷ [] in
+    let now = g.S.Shelf.pieces c.put_summary.new.shelf in
+    let one = first_stand report old (g.S.Shelf.pieces c.put_report.new.shelf) (c.in_ok-put_report.ensures.leaves old stood) in
+    let two = first_stand certificate (old ++ report) (g.S.Shelf.pieces c.put_certificate.new.shelf) (c.in_ok-put_certificate.ensures.leaves (old ++ report) one) in
+    let three = first_stand messages ((old ++ report) ++ certificate) (g.S.Shelf.pieces c.put_messages.new.shelf) (c.in_ok-put_messages.ensures.leaves ((old ++ report) ++ certificate) two) in
+    let comes = c.put_summary.ensures.comes in
+    let last = c.put_summary.ensures.leaves (((old ++ report) ++ certificate) ++ messages) three in
+    second_leaves c.put_summary.result report (certificate ++ (messages ++ summary)) old now comes
+    (second_leaves c.put_summary.result certificate (messages ++ summary) (old ++ report) now comes
+    (second_leaves c.put_summary.result messages summary ((old ++ report) ++ certificate) now comes last))
+
+pub returns-in_err-put_report-clause-leaves : goal.returns-in_err-put_report-clause-leaves
+returns-in_err-put_report-clause-leaves g c = λ old stood.
+    let found = c.args.found.now in
+    let more = cert_in found ∷ (messages_in (plain_origin c.args.origin) found ++ summary_in found ∷ []) in
+    let p = err_from_is_err_and c.from_residual.result c.from_residual.ensures.1 in
+    rw (p.1, p.2) (first_leaves c.in_err-put_report.field-0.0 (report_in found ∷ []) more old (g.S.Shelf.pieces c.put_report.new.shelf)
+    c.in_err-put_report.ensures.comes (c.in_err-put_report.ensures.leaves old stood))
+
+pub returns-in_err-put_certificate-clause-leaves : goal.returns-in_err-put_certificate-clause-leaves
+returns-in_err-put_certificate-clause-leaves g c = λ old stood.
+    let found = c.args.found.now in
+    let report = report_in found ∷ [] in
+    let certificate = cert_in found ∷ [] in
+    let more = messages_in (plain_origin c.args.origin) found ++ summary_in found ∷ [] in
+    let now = g.S.Shelf.pieces c.put_certificate.new.shelf in
+    let s = c.in_err-put_certificate.field-0.0 in
+    let one = first_stand report old (g.S.Shelf.pieces c.put_report.new.shelf) (c.in_ok-put_report.ensures.leaves old stood) in
+    let comes = c.in_err-put_certificate.ensures.comes in
+    let p = err_from_is_err_and c.from_residual-in_err-put_certificate.result c.from_residual-in_err-put_certificate.ensures.1 in
+    rw (p.1, p.2) (second_leaves (Err s) report (certificate ++ more) old now comes
+    (first_leaves s certificate more (old ++ report) now comes (c.in_err-put_certificate.ensures.leaves (old ++ report) one)))
+
+pub returns-in_err-put_messages-clause-leaves : goal.returns-in_err-put_messages-clause-leaves
+returns-in_err-put_messages-clause-leaves g c = λ old stood.
+    let found = c.args.found.now in
+    let report = report_in found ∷ [] in
+    let certificate = cert_in found ∷ [] in
+    let messages = messages_in (plain_origin c.args.origin) found in
+    let summary = summary_in found ∷ [] in
+    let now = g.S.Shelf.pieces c.put_messages.new.shelf in
+    let s = c.in_err-put_messages.field-0.0 in
+    let one = first_stand report old (g.S.Shelf.pieces c.put_report.new.shelf) (c.in_ok-put_report.ensures.leaves old stood) in
+    let two = first_stand certificate (old ++ report) (g.S.Shelf.pieces c.put_certificate.new.shelf) (c.in_ok-put_certificate.ensures.leaves (old ++ report) one) in
+    let comes = c.in_err-put_messages.ensures.comes in
+    let p = err_from_is_err_and c.from_residual-in_err-put_messages.result c.from_residual-in_err-put_messages.ensures.1 in
+    rw (p.1, p.2) (second_leaves (Err s) report (certificate ++ (messages ++ summary)) old now comes
+    (second_leaves (Err s) certificate (messages ++ summary) (old ++ report) now comes
+    (first_leaves s messages summary ((old ++ report) ++ certificate) now comes (c.in_err-put_messages.ensures.leaves ((old ++ report) ++ certificate) two))))

@@ -1,0 +1,271 @@
+-- How a run over told files ends, and what it puts.
+use Rattle.std.specs.Prelude.{◌≡◌, ℕ, Bool, false, nat_le, if◌then◌else◌, List, [], ◌∷◌, ◌++◌, length, Option, Some, None, is_some, Result, Ok, Err, codes}
+use Rattle.std.specs.Fmt.{decimal}
+use Rattle.cj_io.specs.declared.file.FileBytes.{FileBytes}
+use Rattle.cj_io.specs.Files.{IsPrefix}
+use Rattle.cj_words.specs.declared.option.UsageFault.{UsageFault}
+use Rattle.cj_words.specs.Commands.{Asking, Screens, Checks, Generates, Tries, Rewrites, Checking, Screening, Trial, command_of}
+use Rattle.cj_words.specs.Settings.{Asked}
+use Rattle.cj_gen.specs.Catalogues.{catalogue_of}
+use Rattle.cj_hermite.specs.PlainProblems.{PlainProblem}
+use Rattle.cj_inputs.specs.Cases.{case_asked}
+use Rattle.cj_inputs.specs.CheckInputs.{inputs_asked}
+use Rattle.cj_bezier.specs.Leaves.{PlainLeaf}
+use Rattle.cj_meet.specs.Closest.{closest_of}
+use Rattle.cj_meet.specs.Encounters.{encounters_of}
+use Rattle.cj_cells.specs.Lists.{list_looked}
+use Rattle.cj_report.specs.Report.{report_of, told}
+use Rattle.cj_report.specs.Summary.{summary_of}
+use Rattle.cj_cert.specs.Certificates.{PlainCertificate}
+use Rattle.cj_cert.specs.Reading.{Fault, reading}
+use Rattle.cj_cert.specs.Texts.{text_of}
+use Rattle.cj_cert.specs.Rewritten.{in_version_2, written_in}
+use Rattle.cj_checker.specs.declared.failure.Failure.{Failure}
+use Rattle.cj_checker.specs.First.{first_failure}
+use Rattle.cj_status.specs.declared.status.Status.{Status}
+use Rattle.cj_status.specs.declared.status.Status.TheVariants as status
+use Rattle.cj_status.specs.declared.status.CertificateCause.TheVariants.{Text, Refused}
+use Rattle.cj_status.specs.declared.status.LimitFault.TheVariants.{Cells}
+use Rattle.cj_status.specs.Steps.{◌>>=◌}
+use Rattle.cj_outputs.specs.Messages.{PlainOrigin, has_message, message_pieces}
+use Rattle.cj_outputs.specs.Summaries.{tally_with}
+
+abbrev pub asked : Result Asking UsageFault → Result Asking Status
+asked (Ok asking) = Ok asking
+asked (Err fault) = Err (status.Usage fault)
+
+-- at most so many leaves
+abbrev pub within_cells : ℕ → List PlainLeaf → Result (List PlainLeaf) Status
+within_cells limit leaves = if nat_le (length leaves) limit then Ok leaves else Err (status.Limit (Cells limit))
+
+abbrev pub piece : List ℕ → List ℕ → FileBytes
+piece name bytes = record { name = name; bytes = bytes }
+
+-- the encounters of a case: those of its one-thread list
+abbrev pub encounters_in : PlainProblem → List (List PlainLeaf)
+encounters_in case = encounters_of (list_looked case)
+
+-- the report of a case with these leaves, which may tell the sizes; it tells which encounters have a message
+abbrev pub report_bytes : Bool → PlainProblem → List PlainLeaf → List ℕ
+report_bytes with_sizes case leaves =
+    report_of case.first case.last case.threshold case.ephemerides (told with_sizes case.sizes) (closest_of case) (has_message case) (encounters_of leaves)
+
+-- its certificate in a version
+abbrev pub cert_bytes : ℕ → PlainProblem → List ℕ
+cert_bytes version case = text_of (written_in version case)
+
+-- its summary
+abbrev pub summary_bytes : PlainProblem → List PlainLeaf → List ℕ
+summary_bytes case leaves = summary_of (tally_with case leaves)
+
+abbrev pub report_piece : List ℕ → FileBytes
+report_piece bytes = piece (codes "screen.report") bytes
+
+abbrev pub cert_piece : List ℕ → FileBytes
+cert_piece bytes = piece (codes "screen.cert") bytes
+
+abbrev pub summary_piece : List ℕ → FileBytes
+summary_piece bytes = piece (codes "-") bytes
+
+-- the pieces behind the report and the certificate: the messages by number, and the summary for standard output
+abbrev pub further_pieces : PlainOrigin → PlainProblem → List PlainLeaf → List FileBytes
+further_pieces origin case leaves = message_pieces case origin (encounters_of leaves) ++ summary_piece (summary_bytes case leaves) ∷ []
+
+-- the pieces of a case with these leaves: the report, the certificate, and those
+abbrev pub pieces_with : Bool → ℕ → PlainOrigin → PlainProblem → List PlainLeaf → List FileBytes
+pieces_with with_sizes version origin case leaves =
+    report_piece (report_bytes with_sizes case leaves) ∷ cert_piece (cert_bytes version case) ∷ further_pieces origin case leaves
+
+-- the pieces of a case, where it has at most so many leaves
+unfoldable pub pieces_within : ℕ → Bool → ℕ → PlainOrigin → PlainProblem → Result (List FileBytes) Status
+pieces_within limit with_sizes version origin case =
+    within_cells limit (list_looked case) >>= λ leaves. Ok (pieces_with with_sizes version origin case leaves)
+
+-- the report is to tell the sizes
+abbrev pub tells_sizes : Asked → Bool
+tells_sizes settings = is_some settings.sizes
+
+-- when the messages of a screening at this tick are made, and by whom
+abbrev pub origin_of : ℕ → Screening → PlainOrigin
+origin_of now screening = record { created = now; originator = screening.originator }
+
+-- the pieces of a screening of files at this tick, or the first cause for which there is none
+unfoldable pub pieces_screened : List FileBytes → ℕ → Screening → Result (List FileBytes) Status
+pieces_screened files now screening = do
+  case ← case_asked files screening.settings
+  pieces_within screening.cells (tells_sizes screening.settings) screening.version (origin_of now screening) case
+
+-- how many files were made
+abbrev pub count_bytes : ℕ → List ℕ
+count_bytes count = codes "GENERATED " ++ decimal count ++ 10 ∷ []
+
+-- the pieces of a catalogue: its files, and for standard output how many there are
+abbrev pub pieces_made : List FileBytes → List FileBytes
+pieces_made catalogue = catalogue ++ summary_piece (count_bytes (length catalogue)) ∷ []
+
+-- for standard output, where a certificate is accepted
+abbrev pub accepted_piece : FileBytes
+accepted_piece = piece (codes "-") (codes "ACCEPTED" ++ 10 ∷ [])
+
+-- what a text says as a certificate
+abbrev pub said_or : Result PlainCertificate Fault → Result PlainCertificate Status
+said_or (Ok certificate) = Ok certificate
+said_or (Err fault) = Err (status.NotAccepted fault.line (Text fault.cause))
+
+-- there is no failure
+abbrev pub none_of : Option Failure → Result (Unit {0}) Status
+none_of None = Ok tt
+none_of (Some failure) = Err (status.NotAccepted failure.line (Refused failure.cause))
+
+-- the certificate that the bytes are, which is accepted for the case, or the first cause for which there is none
+unfoldable pub accepting : PlainProblem → List ℕ → Result PlainCertificate Status
+accepting case bytes = do
+  certificate ← said_or (reading bytes)
+  done ← none_of (first_failure case certificate)
+  Ok certificate
+
+-- the piece of a check, or the first cause for which there is none
+unfoldable pub pieces_checked : List FileBytes → Checking → Result (List FileBytes) Status
+pieces_checked files checking = do
+  inputs ← inputs_asked files checking
+  certificate ← accepting inputs.case inputs.bytes
+  Ok (accepted_piece ∷ [])
+
+-- the pieces of a certificate that is rewritten: its text, and for standard output that it is
+abbrev pub pieces_renewed : PlainCertificate → List FileBytes
+pieces_renewed certificate = piece (codes "screen.cert2") (text_of certificate) ∷ piece (codes "-") (codes "REWRITTEN" ++ 10 ∷ []) ∷ []
+
+-- the pieces of the certificate that is named in version 2, or the first cause for which there are none
+unfoldable pub pieces_rewritten : List FileBytes → Checking → Result (List FileBytes) Status
+pieces_rewritten files checking = do
+  inputs ← inputs_asked files checking
+  certificate ← accepting inputs.case inputs.bytes
+  Ok (pieces_renewed (in_version_2 inputs.case certificate))
+
+-- the settings by which a made-up catalogue is screened: over its whole span
+abbrev pub settings_tried : Trial → Asked
+settings_tried trial = record { threshold = trial.threshold; from = None; to = None; suffix = codes ".oem"; as_hermite3 = false; sizes = None }
+
+-- the case of a made-up catalogue: that of its files
+unfoldable pub case_tried : Trial → Result PlainProblem Status
+case_tried trial = case_asked (catalogue_of trial.recipe.seed trial.recipe.objects trial.recipe.minutes) (settings_tried trial)
+
+-- for standard output: the summary of a catalogue that is screened, and that its certificate is accepted
+abbrev pub tried_piece : PlainProblem → List PlainLeaf → FileBytes
+tried_piece case leaves = summary_piece (summary_bytes case leaves ++ (codes "CHECK ACCEPTED" ++ 10 ∷ []))
+
+-- the piece of a case, where it has at most so many leaves
+abbrev pub tried_within : ℕ → PlainProblem → Result (List FileBytes) Status
+tried_within limit case = within_cells limit (list_looked case) >>= λ leaves. Ok (tried_piece case leaves ∷ [])
+
+-- the piece of a catalogue that is screened, or the first cause for which there is none
+unfoldable pub pieces_tried : Trial → Result (List FileBytes) Status
+pieces_tried trial = do
+  case ← case_tried trial
+  tried_within trial.cells case
+
+-- the pieces that a command asks of the files at this tick
+abbrev pub pieces_asked : List FileBytes → ℕ → Asking → Result (List FileBytes) Status
+pieces_asked files now (Screens screening) = pieces_screened files now screening
+pieces_asked files now (Checks checking) = pieces_checked files checking
+pieces_asked files now (Generates recipe) = Ok (pieces_made (catalogue_of recipe.seed recipe.objects recipe.minutes))
+pieces_asked files now (Tries trial) = pieces_tried trial
+pieces_asked files now (Rewrites checking) = pieces_rewritten files checking
+
+-- the pieces that the words ask of the files at this tick, or the first cause for which there is none
+unfoldable pub pieces_of : List (List ℕ) → List FileBytes → ℕ → Result (List FileBytes) Status
+pieces_of words files now = do
+  asking ← asked (command_of words)
+  pieces_asked files now asking
+
+-- fronts of the pieces, the last one perhaps cut
+abbrev pub IsFront : List FileBytes → List FileBytes → Type 0
+IsFront [] pieces = Unit {0}
+IsFront (p ∷ ps) [] = ⊥
+IsFront (p ∷ []) (q ∷ qs) = (p.name ≡ q.name) × IsPrefix p.bytes q.bytes
+IsFront (p ∷ r ∷ ps) (q ∷ qs) = (p ≡ q) × IsFront (r ∷ ps) qs
+
+-- a front of the pieces that are due, and none where there is a cause to put none
+abbrev pub IsPartOf : List FileBytes → Result (List FileBytes) Status → Type 0
+IsPartOf front (Ok pieces) = IsFront front pieces
+IsPartOf front (Err s) = front ≡ []
+
+-- a front of what is due stands behind the old pieces
+abbrev pub PartlyPut : Result (List FileBytes) Status → List FileBytes → Option (List FileBytes) → Type 0
+PartlyPut due old new = (front : List FileBytes) × IsPartOf front due × (new ≡ Some (old ++ front))
+
+-- there is no cause to put none
+abbrev pub ArePieces : Result (List FileBytes) Status → Type 0
+ArePieces due = (pieces : List FileBytes) × (due ≡ Ok pieces)
+
+-- Which status comes of a run over told files. Status 0 or a write fault: pieces were due. A cause: it is the first. A read fault: the
+-- folder's count rose. Want of memory: whatever is due.
+abbrev pub Answers : Type 0 → Status → Result (List FileBytes) Status → Type 0
+Answers read status.Ok due = ArePieces due
+Answers read (status.NotAccepted line cause) due = due ≡ Err (status.NotAccepted line cause)
+Answers read (status.Usage fault) due = due ≡ Err (status.Usage fault)
+Answers read (status.BadFile file line cause) due = due ≡ Err (status.BadFile file line cause)
+Answers read status.ReadFault due = read
+Answers read status.WriteFault due = ArePieces due
+Answers read (status.Limit fault) due = due ≡ Err (status.Limit fault)
+Answers read status.OutOfMemory due = Unit {0}
+
+-- a run that ends so has not touched its shelf
+abbrev pub PutsNothing : Status → Type 0
+PutsNothing status.Ok = ⊥
+PutsNothing (status.NotAccepted line cause) = Unit {0}
+PutsNothing (status.Usage fault) = Unit {0}
+PutsNothing (status.BadFile file line cause) = Unit {0}
+PutsNothing status.ReadFault = Unit {0}
+PutsNothing status.WriteFault = ⊥
+PutsNothing (status.Limit fault) = Unit {0}
+PutsNothing status.OutOfMemory = ⊥
+
+-- more pieces, or none, stand behind the old ones
+abbrev pub Extends : List FileBytes → Option (List FileBytes) → Type 0
+Extends old new = (more : List FileBytes) × (new ≡ Some (old ++ more))
+
+-- What a run over told files leaves on its shelf. Status 0: all that is due stands behind the old pieces. A write fault or want of
+-- memory: a front of what is due, the last piece perhaps cut. Else nothing.
+abbrev pub Leaves : Status → Result (List FileBytes) Status → List FileBytes → Option (List FileBytes) → Type 0
+Leaves status.Ok due old new = (pieces : List FileBytes) × (due ≡ Ok pieces) × (new ≡ Some (old ++ pieces))
+Leaves (status.NotAccepted line cause) due old new = new ≡ Some old
+Leaves (status.Usage fault) due old new = new ≡ Some old
+Leaves (status.BadFile file line cause) due old new = new ≡ Some old
+Leaves status.ReadFault due old new = new ≡ Some old
+Leaves status.WriteFault due old new = PartlyPut due old new
+Leaves (status.Limit fault) due old new = new ≡ Some old
+Leaves status.OutOfMemory due old new = PartlyPut due old new
+
+-- what may end the putting of pieces
+abbrev pub ComesOfPuts : Status → Type 0
+ComesOfPuts status.Ok = ⊥
+ComesOfPuts (status.NotAccepted line cause) = ⊥
+ComesOfPuts (status.Usage fault) = ⊥
+ComesOfPuts (status.BadFile file line cause) = ⊥
+ComesOfPuts status.ReadFault = ⊥
+ComesOfPuts status.WriteFault = Unit {0}
+ComesOfPuts (status.Limit fault) = ⊥
+ComesOfPuts status.OutOfMemory = Unit {0}
+
+-- what may end a made-up catalogue's screening before its put
+abbrev pub ComesOfTrial : Status → Type 0
+ComesOfTrial status.Ok = ⊥
+ComesOfTrial (status.NotAccepted line cause) = ⊥
+ComesOfTrial (status.Usage fault) = ⊥
+ComesOfTrial (status.BadFile file line cause) = ⊥
+ComesOfTrial status.ReadFault = ⊥
+ComesOfTrial status.WriteFault = ⊥
+ComesOfTrial (status.Limit fault) = Unit {0}
+ComesOfTrial status.OutOfMemory = Unit {0}
+
+-- how it may end: it is done, a write failed, a limit is exceeded, or memory ran out
+abbrev pub EndsTrial : Status → Type 0
+EndsTrial status.Ok = Unit {0}
+EndsTrial (status.NotAccepted line cause) = ⊥
+EndsTrial (status.Usage fault) = ⊥
+EndsTrial (status.BadFile file line cause) = ⊥
+EndsTrial status.ReadFault = ⊥
+EndsTrial status.WriteFault = Unit {0}
+EndsTrial (status.Limit fault) = Unit {0}
+EndsTrial status.OutOfMemory = Unit {0}

@@ -1,0 +1,36 @@
+-- What a rewriting says of the certificate that it puts.
+use Rattle.std.specs.Prelude.{◌≡◌, ℕ, List, ◌++◌, Option, Some, Ok}
+use Rattle.cj_io.specs.declared.file.FileBytes.{FileBytes}
+use Rattle.cj_words.specs.Commands.{Checking}
+use Rattle.cj_hermite.specs.PlainProblems.{PlainProblem}
+use Rattle.cj_cert.specs.Accepted.{Accepted}
+use Rattle.cj_cert.specs.Certificates.{PlainCertificate}
+use Rattle.cj_cert.specs.Fits.{Fits}
+use Rattle.cj_cert.specs.Rewritten.{in_version_2}
+use Rattle.cj_cert.specs.Texts.{text_of}
+use Rattle.cj_inputs.specs.Cases.{case_asked}
+use Rattle.cj_inputs.specs.CheckInputs.{certificate_named}
+use Rattle.cj_outputs.specs.Outcome.{pieces_renewed}
+
+-- The bytes are the text of a certificate that is accepted for a case. This is the same certificate in version 2, which is accepted too.
+pub record RenewedText (case : PlainProblem) (bytes : List ℕ) (renewed : PlainCertificate) : Type 0 where
+  pub certificate : PlainCertificate
+  pub text : bytes ≡ text_of certificate
+  pub fits : Fits certificate
+  pub accepted : Accepted case certificate
+  pub same : renewed ≡ in_version_2 case certificate
+  pub still : Accepted case renewed
+
+-- So are the bytes of the named file, for the case that was asked.
+pub record Renews (checking : Checking) (files : List FileBytes) (renewed : PlainCertificate) : Type 0 where
+  pub case : PlainProblem
+  pub read : case_asked files checking.settings ≡ Ok case
+  pub bytes : List ℕ
+  pub named : certificate_named files checking.certificate ≡ Ok bytes
+  pub holds : RenewedText case bytes renewed
+
+-- the new pieces are its text and that it was rewritten
+pub record IsRewritten (checking : Checking) (files old : List FileBytes) (new : Option (List FileBytes)) : Type 0 where
+  pub renewed : PlainCertificate
+  pub renews : Renews checking files renewed
+  pub put : new ≡ Some (old ++ pieces_renewed renewed)

@@ -1,0 +1,107 @@
+//! The messages of a run: which encounters have one, and putting them.
+ghost use Rattle.std.specs.Prelude.{◌≡◌, ◌≤◌, List, length, map, option_map, option_to_list, All, Some, Ok, Err, IfErr, IfOk};
+ghost use Rattle.cj_io.specs.Faults.{Rose};
+ghost use Rattle.cj_io.specs.declared.file.FileBytes.{FileBytes};
+ghost use Rattle.cj_hermite.specs.Problems.{plain_problem};
+ghost use Rattle.cj_bezier.specs.Leaves.{PlainLeaf};
+ghost use Rattle.cj_meet.specs.Closest.{closest_of, some_closest};
+ghost use Rattle.cj_meet.specs.Encounters.{Describes, groups_in};
+ghost use Rattle.cj_cdm.specs.Building.{message_of};
+ghost use Rattle.cj_cdm.specs.Fields.{stamp_of};
+ghost use Rattle.cj_outputs.specs.Findings.{AreFound, ended, messages_in};
+ghost use Rattle.cj_outputs.specs.Messages as spec;
+ghost use Rattle.cj_outputs.specs.Messages.{message_piece};
+ghost use Rattle.cj_outputs.specs.Origins.{plain_origin};
+ghost use Rattle.cj_outputs.specs.Outcome.{ComesOfPuts, Leaves};
+
+use crate::findings::Findings;
+use crate::origin::Origin;
+use crate::putting::put;
+use cj_bezier::{Closest, Encounter};
+use cj_cdm::{Stamp, has_message, message, message_name};
+use cj_hermite::Problem;
+use cj_io::Shelf;
+use cj_status::Status;
+use std::alloc::{AllocError, Global};
+
+/// Whether each of these encounters, whose closest approaches these are, has a message.
+pub fn note_messages(
+    alloc: Global,
+    problem: &Problem,
+    encounters: &[Encounter],
+    closest: &[Closest],
+) -> Result<Vec<bool>, AllocError>
+    requires one_each { length closest.now ≡ length encounters.now }
+    // Of whatever stretches they are the encounters.
+    ensures { IfOk result (λ noted. (ss : List PlainLeaf) → All (Describes ss) encounters.now
+        → map some_closest closest.now ≡ map (closest_of (plain_problem problem.now)) (groups_in ss encounters.now)
+        → noted.items ≡ map (spec.has_message (plain_problem problem.now)) (groups_in ss encounters.now)) }
+{
+    let mut noted = Vec::with_capacity(alloc, encounters.len())?;
+    for (place, encounter) in encounters.iter().enumerate() {
+        noted.push(has_message(problem, encounter.pair, closest[place].tick))?;
+    }
+    Ok(noted)
+}
+
+/// Makes and puts the message of each encounter that has one. Each is dropped after its put.
+pub fn put_messages<S: Shelf>(
+    alloc: Global,
+    shelf: &mut S,
+    found: &Findings,
+    origin: Origin,
+) -> Result<(), Status>
+    requires { AreFound found.now }
+    ensures comes { IfErr result ComesOfPuts }
+    ensures write { result ≡ Err Status.WriteFault → Rose (S.faults shelf.old) (S.faults shelf.new) }
+    ensures leaves { (old : List FileBytes) → S.pieces shelf.old ≡ Some old
+        → Leaves (ended result) (Ok (messages_in (plain_origin origin.entry) found.now)) old (S.pieces shelf.new) }
+    ensures later { S.faults shelf.old ≤ S.faults shelf.new }
+    // The summary counts them.
+    ensures counted { length (messages_in (plain_origin origin.entry) found.now) ≡ found.now.counts.messages }
+{
+    for (place, encounter) in found.encounters.iter().enumerate() {
+        let stamp = origin.stamp(place as u32 + 1);
+        put_message(
+            alloc,
+            shelf,
+            &found.problem,
+            encounter,
+            &found.closest[place],
+            stamp,
+        )?;
+    }
+    Ok(())
+}
+
+/// Makes and puts the message of an encounter, where it has one.
+fn put_message<S: Shelf>(
+    alloc: Global,
+    shelf: &mut S,
+    problem: &Problem,
+    encounter: &Encounter,
+    closest: &Closest,
+    stamp: Stamp,
+) -> Result<(), Status>
+    ensures comes { IfErr result ComesOfPuts }
+    ensures write { result ≡ Err Status.WriteFault → Rose (S.faults shelf.old) (S.faults shelf.new) }
+    ensures leaves { (old : List FileBytes) → S.pieces shelf.old ≡ Some old → Leaves (ended result)
+        (Ok (option_to_list (option_map (message_piece stamp.entry.number)
+        (message_of (plain_problem problem.now) encounter.now.pair.a encounter.now.pair.b closest.now.tick.micros closest.now.high (stamp_of stamp.entry)))))
+        old (S.pieces shelf.new) }
+    ensures later { S.faults shelf.old ≤ S.faults shelf.new }
+{
+    let made = message(
+        alloc,
+        problem,
+        encounter.pair,
+        closest.tick,
+        closest.high,
+        stamp,
+    )?;
+    let Some(text) = made else {
+        return Ok(());
+    };
+    let name = message_name(alloc, stamp.number)?;
+    put(alloc, shelf, &name, &text)
+}

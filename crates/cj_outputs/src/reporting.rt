@@ -1,0 +1,144 @@
+//! Putting what is due of the findings onto a shelf, piece by piece.
+ghost use Rattle.std.specs.Prelude.{◌≡◌, ◌≤◌, List, [], ◌∷◌, Some, Err, IfErr, IfOk};
+ghost use Rattle.cj_io.specs.Faults.{Rose};
+ghost use Rattle.cj_io.specs.Parts.{joined};
+ghost use Rattle.cj_io.specs.declared.file.FileBytes.{FileBytes};
+ghost use Rattle.cj_cert.specs.Certificates.{plain_certificate};
+ghost use Rattle.cj_cert.specs.Rewritten.{written_in};
+ghost use Rattle.cj_cert.specs.TextLeft.{text_left};
+ghost use Rattle.cj_outputs.specs.Findings.{AreFound, case_in, cert_in, ended, pieces_in, report_in, summary_in};
+ghost use Rattle.cj_outputs.specs.Origins.{plain_origin};
+ghost use Rattle.cj_outputs.specs.Outcome.{ComesOfPuts, Leaves, cert_bytes};
+
+use crate::findings::Findings;
+use crate::messages::put_messages;
+use crate::origin::Origin;
+use crate::putting::{put, put_made, put_parts};
+use cj_cert::{Certificate, CertificateText, cert_parts, certificate_in_blocks};
+use cj_io::Shelf;
+use cj_report::{report_text, summary_text};
+use cj_sieve::kept_pairs;
+use cj_status::Status;
+use cj_stream::StreamShelf;
+use std::alloc::{AllocError, Global};
+use std::thread::Threads;
+
+/// Makes and puts the pieces one after another, messages with this origin. Each is dropped after its put.
+pub fn put_pieces<R: Threads + Sync, S: StreamShelf>(
+    rt: &R,
+    alloc: Global,
+    shelf: &mut S,
+    found: &Findings,
+    origin: Origin,
+) -> Result<(), Status>
+    requires { AreFound found.now }
+    ensures comes { IfErr result ComesOfPuts }
+    ensures write { result ≡ Err Status.WriteFault → Rose (S.faults shelf.old) (S.faults shelf.new) }
+    ensures leaves { (old : List FileBytes) → S.pieces shelf.old ≡ Some old
+        → Leaves (ended result) (Ok (pieces_in (plain_origin origin.entry) found.now)) old (S.pieces shelf.new) }
+    ensures later { S.faults shelf.old ≤ S.faults shelf.new }
+{
+    put_report(alloc, shelf, found)?;
+    put_certificate(rt, alloc, shelf, found)?;
+    put_messages(alloc, shelf, found, origin)?;
+    put_summary(alloc, shelf, found)
+}
+
+/// Puts the report.
+fn put_report<S: Shelf>(alloc: Global, shelf: &mut S, found: &Findings) -> Result<(), Status>
+    requires { AreFound found.now }
+    ensures comes { IfErr result ComesOfPuts }
+    ensures write { result ≡ Err Status.WriteFault → Rose (S.faults shelf.old) (S.faults shelf.new) }
+    ensures leaves { (old : List FileBytes) → S.pieces shelf.old ≡ Some old → Leaves (ended result) (Ok (report_in found.now ∷ [])) old (S.pieces shelf.new) }
+    ensures later { S.faults shelf.old ≤ S.faults shelf.new }
+{
+    let report = report_text(
+        alloc,
+        &found.problem,
+        found.with_sizes,
+        &found.leaves,
+        &found.encounters,
+        &found.closest,
+        &found.messages,
+    )?;
+    put(alloc, shelf, b"screen.report", &report)
+}
+
+/// Puts the certificate in the version that was asked.
+fn put_certificate<R: Threads + Sync, S: StreamShelf>(
+    rt: &R,
+    alloc: Global,
+    shelf: &mut S,
+    found: &Findings,
+) -> Result<(), Status>
+    requires { AreFound found.now }
+    ensures comes { IfErr result ComesOfPuts }
+    ensures write { result ≡ Err Status.WriteFault → Rose (S.faults shelf.old) (S.faults shelf.new) }
+    ensures leaves { (old : List FileBytes) → S.pieces shelf.old ≡ Some old → Leaves (ended result) (Ok (cert_in found.now ∷ [])) old (S.pieces shelf.new) }
+    ensures later { S.faults shelf.old ≤ S.faults shelf.new }
+{
+    if found.version == 1 {
+        let mut text = certificate_text(alloc, found)?;
+        put_made(rt, alloc, shelf, b"screen.cert", &mut text)
+    } else {
+        let parts = parts_by_blocks(rt, alloc, found)?;
+        put_parts(alloc, shelf, b"screen.cert", &parts)
+    }
+}
+
+/// The text of the certificate in version 1, which is still to be made.
+fn certificate_text(alloc: Global, found: &Findings) -> Result<CertificateText<'_>, AllocError>
+    requires { AreFound found.now }
+    ensures { IfOk result (λ text. text_left text ≡ cert_bytes 1 (case_in found.now)) }
+{
+    let Findings {
+        problem,
+        workers,
+        shells,
+        boxes,
+        leaves,
+        ..
+    } = found;
+    CertificateText::new(alloc, problem, shells, boxes, leaves, *workers)
+}
+
+/// The text of the certificate in version 2, in parts.
+fn parts_by_blocks<R: Threads + Sync>(
+    rt: &R,
+    alloc: Global,
+    found: &Findings,
+) -> Result<Vec<Vec<u8>>, AllocError>
+    requires { AreFound found.now }
+    ensures { IfOk result (λ parts. joined parts.items ≡ cert_bytes 2 (case_in found.now)) }
+{
+    let certificate = certificate_by_blocks(alloc, found)?;
+    cert_parts(rt, alloc, &certificate, found.workers)
+}
+
+/// The certificate in version 2, with blocks by the pairs that are kept.
+fn certificate_by_blocks(alloc: Global, found: &Findings) -> Result<Certificate, AllocError>
+    requires { AreFound found.now }
+    ensures { IfOk result (λ cert. plain_certificate cert ≡ written_in 2 (case_in found.now)) }
+{
+    let Findings {
+        problem,
+        shells,
+        boxes,
+        leaves,
+        ..
+    } = found;
+    let kept = kept_pairs(alloc, shells, problem.sizes.as_slice(), problem.threshold)?;
+    certificate_in_blocks(alloc, problem, shells, boxes, &kept, leaves)
+}
+
+/// Puts the summary.
+fn put_summary<S: Shelf>(alloc: Global, shelf: &mut S, found: &Findings) -> Result<(), Status>
+    requires { AreFound found.now }
+    ensures comes { IfErr result ComesOfPuts }
+    ensures write { result ≡ Err Status.WriteFault → Rose (S.faults shelf.old) (S.faults shelf.new) }
+    ensures leaves { (old : List FileBytes) → S.pieces shelf.old ≡ Some old → Leaves (ended result) (Ok (summary_in found.now ∷ [])) old (S.pieces shelf.new) }
+    ensures later { S.faults shelf.old ≤ S.faults shelf.new }
+{
+    let summary = summary_text(alloc, &found.counts)?;
+    put(alloc, shelf, b"-", &summary)
+}

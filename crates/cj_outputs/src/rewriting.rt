@@ -1,0 +1,86 @@
+//! From the files of a folder to the certificate that is named in version 2, where it is accepted.
+ghost use Rattle.std.specs.Prelude.{◌≡◌, ◌≤◌, List, Some, Ok, Err, IfOk, IfErr};
+ghost use Rattle.cj_io.specs.Faults.{Rose};
+ghost use Rattle.cj_io.specs.declared.file.FileBytes.{FileBytes};
+ghost use Rattle.cj_hermite.specs.Problems.{plain_problem};
+ghost use Rattle.cj_cert.specs.Accepted.{Accepted};
+ghost use Rattle.cj_cert.specs.Certificates.{plain_certificate};
+ghost use Rattle.cj_cert.specs.Rewritten as cert;
+ghost use Rattle.cj_words.specs.Commands.{plain_checking};
+ghost use Rattle.cj_outputs.specs.Findings.{ended};
+ghost use Rattle.cj_outputs.specs.Outcome as spec;
+ghost use Rattle.cj_outputs.specs.Outcome.{ComesOfPuts, Leaves};
+ghost use Rattle.cj_outputs.specs.Rewrites.{Renews};
+ghost use Rattle.cj_status.specs.Steps.{Gives, ComesBetween};
+
+use crate::checking::{WORKERS, accept};
+use crate::putting::{put, put_parts};
+use cj_cert::{Certificate, cert_parts, in_version_2, listed_shells};
+use cj_hermite::Problem;
+use cj_inputs::{CheckInputs, prepare_check};
+use cj_io::{Folder, Shelf};
+use cj_sieve::kept_pairs;
+use cj_status::Status;
+use cj_words::Checking;
+use std::alloc::{AllocError, Global};
+use std::thread::Threads;
+
+/// The certificate that is named in version 2. It answers an error where the certificate is not accepted for the files.
+#[tactic(auto, unfolding(crate::specs::Outcome::pieces_rewritten))]
+pub fn rewrite_certificate<R: Threads + Sync, F: Folder>(
+    rt: &R,
+    alloc: Global,
+    folder: &mut F,
+    checking: &Checking,
+) -> Result<Certificate, Status>
+    ensures between { IfErr result ComesBetween }
+    ensures read { result ≡ Err Status.ReadFault → Rose (F.faults folder.old) (F.faults folder.new) }
+
+    ensures told { (files : List FileBytes) → F.files folder.old ≡ Some files
+        → Gives (Rose (F.faults folder.old) (F.faults folder.new)) (λ c. spec.pieces_renewed (plain_certificate c)) result
+        (spec.pieces_rewritten files (plain_checking checking.now)) }
+    ensures renews { (files : List FileBytes) → F.files folder.old ≡ Some files → IfOk result (λ c. Renews (plain_checking checking.now) files (plain_certificate c)) }
+
+    ensures files { F.files folder.new ≡ F.files folder.old }
+    ensures later { F.faults folder.old ≤ F.faults folder.new }
+{
+    let CheckInputs {
+        problem,
+        certificate,
+    } = prepare_check(rt, alloc, folder, checking, WORKERS)?;
+    let accepted = accept(alloc, &problem, certificate)?;
+    Ok(renewed(alloc, &problem, accepted)?)
+}
+
+/// An accepted certificate in version 2.
+fn renewed(
+    alloc: Global,
+    problem: &Problem,
+    certificate: Certificate,
+) -> Result<Certificate, AllocError>
+    requires { Accepted (plain_problem problem.now) (plain_certificate certificate) }
+    ensures value { IfOk result (λ c. plain_certificate c ≡ cert.in_version_2 (plain_problem problem.now) (plain_certificate certificate)) }
+    ensures accepted { IfOk result (λ c. Accepted (plain_problem problem.now) (plain_certificate c)) }
+{
+    let shells = listed_shells(alloc, &certificate)?;
+    let kept = kept_pairs(alloc, &shells, problem.sizes.as_slice(), problem.threshold)?;
+    in_version_2(alloc, problem, certificate, &kept)
+}
+
+/// Puts a certificate that was rewritten, and that it was.
+pub fn put_rewritten<R: Threads + Sync, S: Shelf>(
+    rt: &R,
+    alloc: Global,
+    shelf: &mut S,
+    certificate: &Certificate,
+) -> Result<(), Status>
+    ensures comes { IfErr result ComesOfPuts }
+    ensures write { result ≡ Err Status.WriteFault → Rose (S.faults shelf.old) (S.faults shelf.new) }
+    ensures leaves { (old : List FileBytes) → S.pieces shelf.old ≡ Some old
+        → Leaves (ended result) (Ok (spec.pieces_renewed (plain_certificate certificate.now))) old (S.pieces shelf.new) }
+    ensures later { S.faults shelf.old ≤ S.faults shelf.new }
+{
+    let parts = cert_parts(rt, alloc, certificate, WORKERS)?;
+    put_parts(alloc, shelf, b"screen.cert2", &parts)?;
+    put(alloc, shelf, b"-", b"REWRITTEN\n")
+}

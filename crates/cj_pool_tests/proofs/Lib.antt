@@ -1,0 +1,2 @@
+mod OneSlotLemmas
+mod PairLemmas

@@ -1,9 +1,0 @@
-use Rattle.std.proofs.Common.{◌≡◌, ◌≤◌, ◌++◌, List, Some, take}
-use Rattle.cj_io.specs.declared.file.FileBytes.{FileBytes}
-use Rattle.cj_screen.proofs.catalogues.put_files.Given as goal
-
-abbrev pub invariant-loop-file : goal.invariant-loop-file
-invariant-loop-file g l = record {
-  put : (old : List FileBytes) → g.S.Shelf.pieces l.fn.shelf ≡ Some old → g.S.Shelf.pieces l.shelf ≡ Some (old ++ take l.file-index l.files);
-  later : g.S.Shelf.faults l.fn.shelf ≤ g.S.Shelf.faults l.shelf;
-}

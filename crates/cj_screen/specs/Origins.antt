@@ -1,6 +1,0 @@
--- What an origin says.
-use Rattle.cj_screen.specs.declared.origin.Origin.{Origin}
-use Rattle.cj_screen.specs.Messages.{PlainOrigin}
-
-abbrev pub plain_origin : Origin → PlainOrigin
-plain_origin origin = record { created = origin.created.micros; originator = origin.originator.now }
