@@ -11,6 +11,3 @@ mod round_boxes;
 
 pub use block::Block;
 pub use listing::blocks;
-
-#[cfg(test)]
-mod tests;

@@ -15,6 +15,3 @@ pub use leap::leap_between;
 pub use reading::read_epoch;
 pub use text::epoch_text;
 pub use tick::{Tick, Window};
-
-#[cfg(test)]
-mod tests;

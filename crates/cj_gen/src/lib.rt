@@ -14,6 +14,3 @@ pub use files::catalogue;
 pub use orbit::Orbit;
 pub use plane::Point;
 pub use tilt::{Tilt, Vector};
-
-#[cfg(test)]
-mod tests;

@@ -8,6 +8,3 @@ mod taking;
 
 pub use jobs::Jobs;
 pub use running::run_jobs;
-
-#[cfg(test)]
-mod tests;

@@ -17,6 +17,3 @@ pub use ledger::Ledger;
 pub use share::Share;
 pub use totals::Totals;
 pub use why::Why;
-
-#[cfg(test)]
-mod tests;

@@ -12,6 +12,3 @@ mod summary;
 pub use counts::Counts;
 pub use report::report_text;
 pub use summary::summary_text;
-
-#[cfg(test)]
-mod tests;

@@ -15,6 +15,3 @@ pub use fault::SizesFault;
 pub use radii::{radii_of, radius_of};
 pub use reader::read_sizes;
 pub use size_line::SizeLine;
-
-#[cfg(test)]
-mod tests;

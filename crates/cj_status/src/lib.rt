@@ -7,6 +7,3 @@ mod status;
 
 pub use fault_line::fault_text;
 pub use status::{CertificateCause, FileCause, LimitFault, Status};
-
-#[cfg(test)]
-mod tests;

@@ -1,0 +1,174 @@
+ghost use Rattle.std.specs.Prelude.{◌≡◌, ◌+◌, ◌<◌, ◌≤◌, true, IfOk};
+ghost use Rattle.cj_track.specs.Labels.{is_file_name};
+ghost use Rattle.cj_track.specs.Segments.{node_count};
+
+use cj_bezier::{Cell, Closest, Kind, Leaf};
+use cj_epoch::{Tick, Window, leap_between};
+use cj_hermite::{Pair, Problem, Sizes, Tracks};
+use cj_kvn::Text;
+use cj_meet::encounters;
+use cj_report::report_text;
+use cj_track::{Frame, Matrices, Node, Nodes, Segment, Segments, Track, Vec3};
+use std::alloc::{AllocError, Global};
+use std::process::Abort;
+use std::test::Fail;
+
+/// 2025-01-01T00:00:00 in microseconds.
+const START: u64 = 1_735_689_600_000_000;
+
+const REPORT: &[u8] = b"CONJ-REPORT 1
+WINDOW 2025-01-01T00:00:29.500000 2025-01-01T00:00:30.499999
+THRESHOLD 5000000000000
+OBJECT 1
+FILE a.oem
+ID 2025-001A
+NAME SAT A
+OBJECT 2
+FILE b.oem
+ID 2025-001A
+NAME SAT A
+ENCOUNTER 1 1 2 NEAR 2025-01-01T00:00:30.000000 1000000000000 NOCOV
+SPAN NEAR 2025-01-01T00:00:29.538120 2025-01-01T00:00:30.461880
+END
+";
+
+const SIZED_REPORT: &[u8] = b"CONJ-REPORT 1
+WINDOW 2025-01-01T00:00:29.500000 2025-01-01T00:00:30.499999
+THRESHOLD 5000000000000
+OBJECT 1
+FILE a.oem
+ID 2025-001A
+NAME SAT A
+SIZE 1500000000
+OBJECT 2
+FILE b.oem
+ID 2025-001A
+NAME SAT A
+SIZE 0
+ENCOUNTER 1 1 2 NEAR 2025-01-01T00:00:30.000000 1000000000000 CDM
+SPAN NEAR 2025-01-01T00:00:29.538120 2025-01-01T00:00:30.461880
+END
+";
+
+fn tick(after: u64) -> Tick
+    requires { after < 100_000_000 }
+    ensures { result.micros ≡ 1_735_689_600_000_000 + after }
+{
+    Tick {
+        micros: START + after,
+    }
+}
+
+fn node(at: Tick) -> Node
+    ensures { result.at ≡ at }
+{
+    let zero = Vec3 { x: 0, y: 0, z: 0 };
+    Node {
+        at,
+        p: zero,
+        v: zero,
+    }
+}
+
+/// A minute at rest.
+fn segments(rt: &impl Abort, alloc: Global) -> Result<Segments, AllocError>
+    ensures { IfOk result (λ segments. node_count segments ≡ 2) }
+{
+    assert!(rt; !leap_between(tick(0), tick(60_000_000)));
+    let nodes = vec![in alloc; node(tick(0)), node(tick(60_000_000))]?;
+    let segment = Segment {
+        first: tick(0),
+        last: tick(60_000_000),
+        nodes: Nodes::new(nodes),
+        matrices: Matrices::new(Vec::new(alloc)),
+    };
+    Segments::new(alloc, vec![in alloc; segment]?)
+}
+
+#[tactic(auto, unfolding(cj_track::specs::Labels::is_label))]
+fn track_of(alloc: Global, file: Text, segments: Segments) -> Result<Track, AllocError>
+    requires { is_file_name file ≡ true }
+    ensures frame { IfOk result (λ track. track.frame ≡ Frame.Eme2000) }
+    ensures segments { IfOk result (λ track. track.segments ≡ segments) }
+{
+    Ok(Track {
+        file,
+        name: Text::copy_of(alloc, b"SAT A")?,
+        id: Text::copy_of(alloc, b"2025-001A")?,
+        frame: Frame::Eme2000,
+        segments,
+    })
+}
+
+/// A second of two tracks, by a threshold of 5 km.
+#[tactic(auto, unfolding(cj_track::specs::Labels::is_file_name))]
+fn problem(rt: &impl Abort, alloc: Global) -> Result<Problem, AllocError> {
+    let a = track_of(alloc, Text::copy_of(alloc, b"a.oem")?, segments(rt, alloc)?)?;
+    let b = track_of(alloc, Text::copy_of(alloc, b"b.oem")?, segments(rt, alloc)?)?;
+    Ok(Problem {
+        tracks: Tracks::new(vec![in alloc; a, b]?),
+        window: Window {
+            first: tick(29_500_000),
+            last: tick(30_499_999),
+        },
+        threshold: 5_000_000_000_000,
+        sizes: Sizes::new(vec![in alloc; 1_500_000_000, 0]?),
+    })
+}
+
+fn leaf(first: u64, last: u64, kind: Kind) -> Leaf
+    requires order { first ≤ last }
+    requires early { last < 100_000_000 }
+    ensures objects { (result.cell.pair.a ≡ 0) × (result.cell.pair.b ≡ 1) }
+    ensures first { result.cell.first.micros ≡ 1_735_689_600_000_000 + first }
+    ensures last { result.cell.last.micros ≡ 1_735_689_600_000_000 + last }
+    ensures kind { result.kind ≡ kind }
+{
+    Leaf {
+        cell: Cell {
+            pair: Pair { a: 0, b: 1 },
+            root: 0,
+            first: tick(first),
+            last: tick(last),
+        },
+        kind,
+    }
+}
+
+#[test]
+fn two_tracks_cross_at_one_kilometre(rt: HostRuntime) -> Result<(), Fail> {
+    let problem = problem(&rt, rt.alloc())?;
+    let leaves = [
+        leaf(29_500_000, 29_538_119, Kind::Far),
+        leaf(29_538_120, 29_999_999, Kind::Near),
+        leaf(30_000_000, 30_461_880, Kind::Near),
+        leaf(30_461_881, 30_499_999, Kind::Far),
+    ];
+    let found = encounters(rt.alloc(), &leaves)?;
+    assert!(rt; found.len() == 1);
+    let approaches = [Closest {
+        tick: tick(30_000_000),
+        high: 1_000_000_000_000,
+    }];
+    let text = report_text(
+        rt.alloc(),
+        &problem,
+        false,
+        &leaves,
+        &found,
+        &approaches,
+        &[false],
+    )?;
+    assert_eq!(rt; text.as_slice(), REPORT);
+    let text = report_text(
+        rt.alloc(),
+        &problem,
+        true,
+        &leaves,
+        &found,
+        &approaches,
+        &[true],
+    )?;
+    assert_eq!(rt; text.as_slice(), SIZED_REPORT);
+    Ok(())
+}

@@ -1,0 +1,126 @@
+//! The lines that say why a run failed.
+use cj_causes::{CertCause, CheckCause, OemCause, SizesCause};
+use cj_epoch::EpochFault;
+use cj_io::Name;
+use cj_kvn::KvnCause;
+use cj_status::{CertificateCause, FileCause, LimitFault, Status, fault_text};
+use std::test::Fail;
+
+#[test]
+fn the_cause_of_a_refused_file_is_told_by_its_name(rt: HostRuntime) -> Result<(), Fail> {
+    let cases: [(&[u8], u32, FileCause, &[u8]); 7] = [
+        (
+            b"sizes.txt",
+            5,
+            FileCause::Sizes(SizesCause::Kvn(KvnCause::NotPrintable)),
+            b"conj: sizes.txt: line 5: Sizes Kvn NotPrintable\n",
+        ),
+        (
+            b"sizes.txt",
+            2,
+            FileCause::Sizes(SizesCause::Kvn(KvnCause::NoLineForm)),
+            b"conj: sizes.txt: line 2: Sizes Kvn NoLineForm\n",
+        ),
+        (
+            b"a.oem",
+            14,
+            FileCause::Oem(OemCause::Interpolation),
+            b"conj: a.oem: line 14: Interpolation\n",
+        ),
+        (
+            b"a.oem",
+            16,
+            FileCause::Oem(OemCause::Epoch(EpochFault::SecondSixty)),
+            b"conj: a.oem: line 16: Epoch SecondSixty\n",
+        ),
+        // A byte that is not printable is shown as `?`.
+        (
+            b"c\n.oem",
+            0,
+            FileCause::Oem(OemCause::Name),
+            b"conj: c?.oem: line 0: Name\n",
+        ),
+        (
+            b"b.oem",
+            0,
+            FileCause::MixedFrames,
+            b"conj: b.oem: line 0: MixedFrames\n",
+        ),
+        (
+            b"a.oem",
+            3,
+            FileCause::Oem(OemCause::Kvn(KvnCause::NoLineForm)),
+            b"conj: a.oem: line 3: Kvn NoLineForm\n",
+        ),
+    ];
+    for (file, line, cause, told) in cases {
+        let file = Name::copy_of(rt.alloc(), file)?;
+        let text = fault_text(rt.alloc(), &Status::BadFile { file, line, cause })?;
+        assert_eq!(rt; text.as_slice(), told);
+    }
+    Ok(())
+}
+
+#[test]
+fn the_cause_of_a_refused_certificate_is_told_by_its_name(rt: HostRuntime) -> Result<(), Fail> {
+    let cases: [(u32, CertificateCause, &[u8]); 5] = [
+        (
+            0,
+            CertificateCause::NoFile,
+            b"conj: not accepted: line 0: NoFile\n",
+        ),
+        (
+            13,
+            CertificateCause::Text(CertCause::End),
+            b"conj: not accepted: line 13: Text End\n",
+        ),
+        (
+            2,
+            CertificateCause::Text(CertCause::Range),
+            b"conj: not accepted: line 2: Text Range\n",
+        ),
+        (
+            11,
+            CertificateCause::Refused(CheckCause::Untiled),
+            b"conj: not accepted: line 11: Untiled\n",
+        ),
+        (
+            7,
+            CertificateCause::Refused(CheckCause::BoxOf),
+            b"conj: not accepted: line 7: BoxOf\n",
+        ),
+    ];
+    for (line, cause, told) in cases {
+        let status = Status::NotAccepted { line, cause };
+        assert_eq!(rt; status.number(), 1);
+        let text = fault_text(rt.alloc(), &status)?;
+        assert_eq!(rt; text.as_slice(), told);
+    }
+    Ok(())
+}
+
+#[test]
+fn other_ends_are_told(rt: HostRuntime) -> Result<(), Fail> {
+    let file = Name::copy_of(rt.alloc(), b"a.oem")?;
+    let cases: [(Status, &[u8]); 5] = [
+        (Status::Ok, b""),
+        (
+            Status::Limit(LimitFault::Slots { count: 4_000_200 }),
+            b"conj: limit: Slots 4000200\n",
+        ),
+        (
+            Status::Limit(LimitFault::Nodes { count: 2_000_001 }),
+            b"conj: limit: Nodes 2000001\n",
+        ),
+        (
+            Status::Limit(LimitFault::FileBytes { file }),
+            b"conj: limit: FileBytes a.oem\n",
+        ),
+        (Status::OutOfMemory, b"conj: out of memory\n"),
+    ];
+    for (status, told) in cases {
+        let text = fault_text(rt.alloc(), &status)?;
+        assert_eq!(rt; text.as_slice(), told);
+    }
+    Ok(())
+}
