@@ -9,7 +9,6 @@ use cj_epoch::Tick;
 use cj_hermite::{Piece, ready};
 use cj_interval::{Divisor, Span};
 use cj_track::Vec3;
-use std::test::Fail;
 
 /// Five kilometres.
 const THRESHOLD: u64 = 5_000_000_000_000;
@@ -125,7 +124,7 @@ fn gap_over(a: &Piece, b: &Piece, first: u64, last: u64) -> Gap
 }
 
 #[test]
-fn two_tracks_cross_at_one_kilometre(rt: HostRuntime) -> Result<(), Fail> {
+fn two_tracks_cross_at_one_kilometre(rt: HostRuntime) {
     let a = along_y();
     let b = along_z();
     let whole = gap_over(&a, &b, 0, 59_999_999);
@@ -134,11 +133,10 @@ fn two_tracks_cross_at_one_kilometre(rt: HostRuntime) -> Result<(), Fail> {
     assert_eq!(rt; verdict(&early, THRESHOLD), Verdict::Far);
     let middle = gap_over(&a, &b, 29_600_000, 30_400_000);
     assert_eq!(rt; verdict(&middle, THRESHOLD), Verdict::Near);
-    Ok(())
 }
 
 #[test]
-fn exactly_at_the_threshold(rt: HostRuntime) -> Result<(), Fail> {
+fn exactly_at_the_threshold(rt: HostRuntime) {
     let a = resting(7_000_000_000_000_000);
     let apart = gap_over(&a, &resting(7_005_000_000_000_000), 0, 59_999_999);
     assert_eq!(rt; verdict(&apart, THRESHOLD), Verdict::Near);
@@ -146,11 +144,10 @@ fn exactly_at_the_threshold(rt: HostRuntime) -> Result<(), Fail> {
     let further = gap_over(&a, &resting(7_005_000_000_000_001), 0, 59_999_999);
     assert_eq!(rt; verdict(&further, THRESHOLD), Verdict::Far);
     assert!(rt; supports(&further, THRESHOLD, Kind::Undecided));
-    Ok(())
 }
 
 #[test]
-fn rounded_ends_leave_the_threshold_undecided(rt: HostRuntime) -> Result<(), Fail> {
+fn rounded_ends_leave_the_threshold_undecided(rt: HostRuntime) {
     let v = Vec3 { x: 0, y: 1, z: 0 };
     let a = minute(
         Vec3 {
@@ -182,11 +179,10 @@ fn rounded_ends_leave_the_threshold_undecided(rt: HostRuntime) -> Result<(), Fai
     assert_eq!(rt; verdict(&most, THRESHOLD), Verdict::Undecided);
     let end = gap_over(&a, &b, 60_000_000, 60_000_000);
     assert_eq!(rt; verdict(&end, THRESHOLD), Verdict::Near);
-    Ok(())
 }
 
 #[test]
-fn a_shell_holds_the_radii(rt: HostRuntime) -> Result<(), Fail> {
+fn a_shell_holds_the_radii(rt: HostRuntime) {
     let rest = resting(7_000_000_000_000_000);
     let shell = radius(&hull(&rest, into(0), into(59_999_999)));
     assert_eq!(rt;
@@ -198,11 +194,10 @@ fn a_shell_holds_the_radii(rt: HostRuntime) -> Result<(), Fail> {
     );
     let near = Shell { lo: 3, hi: 5 };
     assert_eq!(rt; join(near, Shell { lo: 4, hi: 9 }), Shell { lo: 3, hi: 9 });
-    Ok(())
 }
 
 #[test]
-fn a_square_distance_lies_between_its_whole_bounds(rt: HostRuntime) -> Result<(), Fail> {
+fn a_square_distance_lies_between_its_whole_bounds(rt: HostRuntime) {
     let a = resting(7_000_000_000_000_000);
     let b = resting(7_005_000_000_000_000);
     let apart = gap_over(&a, &b, 0, 59_999_999);
@@ -216,5 +211,4 @@ fn a_square_distance_lies_between_its_whole_bounds(rt: HostRuntime) -> Result<()
     );
     assert_eq!(rt; least_square(&apart), square);
     assert_eq!(rt; greatest_square(&apart), square);
-    Ok(())
 }

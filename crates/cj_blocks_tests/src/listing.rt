@@ -4,7 +4,7 @@ use cj_bezier::AxisBox;
 use cj_blocks::{Block, blocks};
 use cj_hermite::Pair;
 use cj_track::Vec3;
-use std::test::Fail;
+use std::panic::Expect;
 
 /// 5 km in nm.
 const THRESHOLD: u64 = 5_000_000_000_000;
@@ -76,26 +76,29 @@ fn block(object: u32, first: u32, last: u32, area: AxisBox) -> Block
 }
 
 #[test]
-fn objects_at_rest_have_one_box(rt: HostRuntime) -> Result<(), Fail> {
+fn objects_at_rest_have_one_box(rt: HostRuntime) {
     let here = place(HERE);
     let there = place(THERE);
     let boxes = [Some(here), Some(here), Some(there), Some(there)];
-    let found = blocks(rt.alloc(), &[FIRST_TWO], 2, 2, &boxes, &[0, 0], THRESHOLD)?;
+    let found = blocks(rt.alloc(), &[FIRST_TWO], 2, 2, &boxes, &[0, 0], THRESHOLD).expect(
+        &rt, "no fault",
+    );
     assert_eq!(rt;
         found.as_slice(),
         [block(0, 0, 1, here), block(1, 0, 1, there)].as_slice()
     );
-    Ok(())
 }
 
 /// The box of the first object round both slots touches nothing new. That of the second would touch it in the last slot.
 #[test]
-fn two_tracks_cross_at_one_kilometre(rt: HostRuntime) -> Result<(), Fail> {
+fn two_tracks_cross_at_one_kilometre(rt: HostRuntime) {
     let first = corners(SOUTH, NORTH);
     let second = corners(LOW, HIGH);
     let last = place(HIGH);
     let boxes = [Some(first), Some(place(NORTH)), Some(second), Some(last)];
-    let found = blocks(rt.alloc(), &[FIRST_TWO], 2, 2, &boxes, &[0, 0], THRESHOLD)?;
+    let found = blocks(rt.alloc(), &[FIRST_TWO], 2, 2, &boxes, &[0, 0], THRESHOLD).expect(
+        &rt, "no fault",
+    );
     let expected = [
         block(0, 0, 1, first),
         block(1, 0, 0, second),
@@ -103,18 +106,17 @@ fn two_tracks_cross_at_one_kilometre(rt: HostRuntime) -> Result<(), Fail> {
     ];
     assert_eq!(rt; found.as_slice(), expected.as_slice());
     // A pair that is not kept parts nothing.
-    let found = blocks(rt.alloc(), &[], 2, 2, &boxes, &[0, 0], THRESHOLD)?;
+    let found = blocks(rt.alloc(), &[], 2, 2, &boxes, &[0, 0], THRESHOLD).expect(&rt, "no fault");
     let expected = [block(0, 0, 1, first), block(1, 0, 1, second)];
     assert_eq!(rt; found.as_slice(), expected.as_slice());
-    Ok(())
 }
 
 #[test]
-fn a_block_has_four_slots_with_boxes(rt: HostRuntime) -> Result<(), Fail> {
+fn a_block_has_four_slots_with_boxes(rt: HostRuntime) {
     let here = place(HERE);
     let all = Some(here);
     let boxes = [all, all, all, all, all, all, None, all, all, all];
-    let found = blocks(rt.alloc(), &[], 1, 10, &boxes, &[0], THRESHOLD)?;
+    let found = blocks(rt.alloc(), &[], 1, 10, &boxes, &[0], THRESHOLD).expect(&rt, "no fault");
     let expected = [
         block(0, 0, 3, here),
         block(0, 4, 4, here),
@@ -123,16 +125,15 @@ fn a_block_has_four_slots_with_boxes(rt: HostRuntime) -> Result<(), Fail> {
         block(0, 8, 9, here),
     ];
     assert_eq!(rt; found.as_slice(), expected.as_slice());
-    let found = blocks(rt.alloc(), &[], 0, 10, &[], &[], THRESHOLD)?;
+    let found = blocks(rt.alloc(), &[], 0, 10, &[], &[], THRESHOLD).expect(&rt, "no fault");
     assert!(rt; found.is_empty());
-    let found = blocks(rt.alloc(), &[], 2, 0, &[], &[0, 0], THRESHOLD)?;
+    let found = blocks(rt.alloc(), &[], 2, 0, &[], &[0, 0], THRESHOLD).expect(&rt, "no fault");
     assert!(rt; found.is_empty());
-    Ok(())
 }
 
 /// From 10 to 12 km beside the first object, and then from 6 to 8 km, which is within the threshold where the first is 1 km in size.
 #[test]
-fn sizes_part_blocks(rt: HostRuntime) -> Result<(), Fail> {
+fn sizes_part_blocks(rt: HostRuntime) {
     let beside = |y| Vec3 {
         x: 7_000_000_000_000_000,
         y,
@@ -142,7 +143,9 @@ fn sizes_part_blocks(rt: HostRuntime) -> Result<(), Fail> {
     let near = corners(beside(6_000_000_000_000), beside(8_000_000_000_000));
     let here = Some(place(HERE));
     let boxes = [here, here, Some(far), Some(near)];
-    let found = blocks(rt.alloc(), &[FIRST_TWO], 2, 2, &boxes, &[0, 0], THRESHOLD)?;
+    let found = blocks(rt.alloc(), &[FIRST_TWO], 2, 2, &boxes, &[0, 0], THRESHOLD).expect(
+        &rt, "no fault",
+    );
     assert_eq!(rt; found.len(), 2);
     let found = blocks(
         rt.alloc(),
@@ -152,7 +155,7 @@ fn sizes_part_blocks(rt: HostRuntime) -> Result<(), Fail> {
         &boxes,
         &[1_000_000_000_000, 0],
         THRESHOLD,
-    )?;
+    )
+    .expect(&rt, "no fault");
     assert_eq!(rt; found.len(), 3);
-    Ok(())
 }

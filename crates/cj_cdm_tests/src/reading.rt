@@ -7,7 +7,7 @@ use cj_cdm::{Cdm, CdmCause, CdmFault, Side, Vector, read_cdm};
 use cj_kvn::{Decimal, Text};
 use cj_track::Frame;
 use std::alloc::{AllocError, Global};
-use std::test::Fail;
+use std::panic::Expect;
 
 /// Lines that do not begin with the key in their place.
 const OTHER_KEYS: [(u32, &[u8]); 12] = [
@@ -184,15 +184,14 @@ fn crossing_read(alloc: Global) -> Result<Cdm, AllocError> {
 }
 
 #[test]
-fn the_message_is_read_again(rt: HostRuntime) -> Result<(), Fail> {
+fn the_message_is_read_again(rt: HostRuntime) {
     let alloc = rt.alloc();
-    let text = crossing(alloc)?;
+    let text = crossing(alloc).expect(&rt, "no fault");
     if text.len() <= u32::MAX as usize {
-        let expected = crossing_read(alloc)?;
-        let cdm = read_cdm(alloc, &text)?;
+        let expected = crossing_read(alloc).expect(&rt, "no fault");
+        let cdm = read_cdm(alloc, &text).expect(&rt, "no fault");
         assert_eq!(rt; cdm, expected);
     }
-    Ok(())
 }
 
 /// A fault of this cause at a line, where there is a cause.
@@ -217,45 +216,45 @@ fn first_wrong(
 }
 
 #[test]
-fn a_line_with_another_key(rt: HostRuntime) -> Result<(), Fail> {
-    let text = crossing(rt.alloc())?;
+fn a_line_with_another_key(rt: HostRuntime) {
+    let text = crossing(rt.alloc()).expect(&rt, "no fault");
     let lines = OTHER_KEYS.as_slice();
     assert_eq!(rt;
-        first_wrong(rt.alloc(), &text, lines, Some(CdmCause::Key))?,
+        first_wrong(rt.alloc(), &text, lines, Some(CdmCause::Key)).expect(&rt, "no fault"),
         None
     );
-    Ok(())
 }
 
 #[test]
-fn a_line_with_a_bad_value(rt: HostRuntime) -> Result<(), Fail> {
-    let text = crossing(rt.alloc())?;
+fn a_line_with_a_bad_value(rt: HostRuntime) {
+    let text = crossing(rt.alloc()).expect(&rt, "no fault");
     let lines = BAD_VALUES.as_slice();
     assert_eq!(rt;
-        first_wrong(rt.alloc(), &text, lines, Some(CdmCause::Value))?,
+        first_wrong(rt.alloc(), &text, lines, Some(CdmCause::Value)).expect(&rt, "no fault"),
         None
     );
-    Ok(())
 }
 
 #[test]
-fn a_line_with_another_value(rt: HostRuntime) -> Result<(), Fail> {
-    let text = crossing(rt.alloc())?;
+fn a_line_with_another_value(rt: HostRuntime) {
+    let text = crossing(rt.alloc()).expect(&rt, "no fault");
     let lines = OTHER_VALUES.as_slice();
-    assert_eq!(rt; first_wrong(rt.alloc(), &text, lines, None)?, None);
-    Ok(())
+    assert_eq!(rt;
+        first_wrong(rt.alloc(), &text, lines, None).expect(&rt, "no fault"),
+        None
+    );
 }
 
 #[test]
-fn a_text_that_ends_early_or_goes_on(rt: HostRuntime) -> Result<(), Fail> {
+fn a_text_that_ends_early_or_goes_on(rt: HostRuntime) {
     let alloc = rt.alloc();
-    let whole = crossing(alloc)?;
+    let whole = crossing(alloc).expect(&rt, "no fault");
     let cut = match whole.as_slice() {
         [front @ .., _] => front,
         [] => b"",
     };
-    let mut longer = Vec::from_slice(alloc, &whole)?;
-    longer.push(b'\n')?;
+    let mut longer = Vec::from_slice(alloc, &whole).expect(&rt, "no fault");
+    longer.push(b'\n').expect(&rt, "no fault");
     assert_eq!(rt; fault(alloc, b""), Some((1, CdmCause::End)));
     assert_eq!(rt;
         fault(alloc, b"CCSDS_CDM_VERS = 1.0"),
@@ -267,5 +266,4 @@ fn a_text_that_ends_early_or_goes_on(rt: HostRuntime) -> Result<(), Fail> {
     );
     assert_eq!(rt; fault(alloc, cut), Some((83, CdmCause::End)));
     assert_eq!(rt; fault(alloc, &longer), Some((83, CdmCause::End)));
-    Ok(())
 }

@@ -11,8 +11,8 @@ use cj_hermite::{Pair, Problem, Sizes, Tracks};
 use cj_kvn::{Decimal, Text, read_decimal};
 use cj_track::{Frame, Matrices, Matrix, Node, Nodes, Segment, Segments, Track, Vec3};
 use std::alloc::{AllocError, Global};
+use std::panic::Expect;
 use std::process::Abort;
-use std::test::Fail;
 
 /// 2025-01-01T00:00:00 in microseconds.
 const START: u64 = 1_735_689_600_000_000;
@@ -161,33 +161,51 @@ fn stamp() -> Stamp<'static> {
 }
 
 #[test]
-fn two_tracks_cross_at_one_kilometre(rt: HostRuntime) -> Result<(), Fail> {
+fn two_tracks_cross_at_one_kilometre(rt: HostRuntime) {
     let alloc = rt.alloc();
     let a = matrix(
-        read_decimal(b"3.3313494e-04")?,
-        read_decimal(b"4.6189273e-04")?,
-        read_decimal(b"6.7824216e-04")?,
+        read_decimal(b"3.3313494e-04").expect(&rt, "no fault"),
+        read_decimal(b"4.6189273e-04").expect(&rt, "no fault"),
+        read_decimal(b"6.7824216e-04").expect(&rt, "no fault"),
     );
-    let b = matrix(read_decimal(b"1")?, Decimal::ZERO, Decimal::ZERO);
-    let problem = problem(&rt, alloc, vec![in alloc; a]?, vec![in alloc; b]?)?;
+    let b = matrix(
+        read_decimal(b"1").expect(&rt, "no fault"),
+        Decimal::ZERO,
+        Decimal::ZERO,
+    );
+    let problem = problem(
+        &rt,
+        alloc,
+        vec![in alloc; a].expect(&rt, "no fault"),
+        vec![in alloc; b].expect(&rt, "no fault"),
+    )
+    .expect(&rt, "no fault");
     let pair = Pair { a: 0, b: 1 };
     let tca = tick(30_000_000);
-    let text = message(alloc, &problem, pair, tca, 1_000_000_000_000, stamp())?;
-    let expected = crossing(alloc)?;
+    let text = message(alloc, &problem, pair, tca, 1_000_000_000_000, stamp()).expect(
+        &rt, "no fault",
+    );
+    let expected = crossing(alloc).expect(&rt, "no fault");
     assert_eq!(rt; text.as_deref(), Some(expected.as_slice()));
     assert!(rt; has_message(&problem, pair, tca));
-    Ok(())
 }
 
 #[test]
-fn no_message_without_both_covariances(rt: HostRuntime) -> Result<(), Fail> {
+fn no_message_without_both_covariances(rt: HostRuntime) {
     let alloc = rt.alloc();
     let a = matrix(Decimal::ZERO, Decimal::ZERO, Decimal::ZERO);
-    let problem = problem(&rt, alloc, vec![in alloc; a]?, Vec::new(alloc))?;
+    let problem = problem(
+        &rt,
+        alloc,
+        vec![in alloc; a].expect(&rt, "no fault"),
+        Vec::new(alloc),
+    )
+    .expect(&rt, "no fault");
     let pair = Pair { a: 0, b: 1 };
     let tca = tick(30_000_000);
-    let text = message(alloc, &problem, pair, tca, 1_000_000_000_000, stamp())?;
+    let text = message(alloc, &problem, pair, tca, 1_000_000_000_000, stamp()).expect(
+        &rt, "no fault",
+    );
     assert!(rt; text.is_none());
     assert!(rt; !has_message(&problem, pair, tca));
-    Ok(())
 }

@@ -10,8 +10,8 @@ use cj_samples::{
 use cj_scenes::{crossing, problem_of, sized};
 use cj_track::Vec3;
 use std::alloc::Global;
+use std::panic::Expect;
 use std::process::Abort;
-use std::test::Fail;
 
 const BOTH: [Pair; 1] = [Pair { a: 0, b: 1 }];
 
@@ -57,8 +57,8 @@ fn count(leaves: &[Leaf], kind: Kind) -> usize {
 }
 
 #[test]
-fn tracks_that_cross_have_49_leaves_in_a_minute(rt: HostRuntime) -> Result<(), Fail> {
-    let leaves = first_leaves(rt.alloc(), 49)?;
+fn tracks_that_cross_have_49_leaves_in_a_minute(rt: HostRuntime) {
+    let leaves = first_leaves(rt.alloc(), 49).expect(&rt, "no fault");
     assert_eq!(rt; leaves.len(), 49);
     assert_eq!(rt; count(&leaves, Kind::Far), 22);
     assert_eq!(rt; count(&leaves, Kind::Near), 27);
@@ -67,59 +67,78 @@ fn tracks_that_cross_have_49_leaves_in_a_minute(rt: HostRuntime) -> Result<(), F
     let near = leaves.iter().rev().find(|leaf| leaf.kind == Kind::Near);
     assert_eq!(rt; near.map(|leaf| leaf.cell.last), Some(tick(30_461_880)));
     assert_eq!(rt; first_leaves(rt.alloc(), 48), Err(RefineError::TooMany));
-    Ok(())
 }
 
 #[test]
-fn one_tick_behind_the_minute_has_a_leaf_too(rt: HostRuntime) -> Result<(), Fail> {
-    let problem = crossing(rt.alloc())?;
-    assert_eq!(rt; all_leaves(rt.alloc(), &problem, 50)?.len(), 50);
+fn one_tick_behind_the_minute_has_a_leaf_too(rt: HostRuntime) {
+    let problem = crossing(rt.alloc()).expect(&rt, "no fault");
+    assert_eq!(rt;
+        all_leaves(rt.alloc(), &problem, 50)
+            .expect(&rt, "no fault")
+            .len(),
+        50
+    );
     assert_eq!(rt;
         all_leaves(rt.alloc(), &problem, 49),
         Err(RefineError::TooMany)
     );
-    Ok(())
 }
 
 #[test]
-fn a_shared_tick_begins_the_later_run(rt: HostRuntime) -> Result<(), Fail> {
+fn a_shared_tick_begins_the_later_run(rt: HostRuntime) {
     let alloc = rt.alloc();
-    let one = rest(alloc, 0, 30, AT_7000)?;
-    let other = rest(alloc, 30, 60, AT_7100)?;
-    let a = track_of_two(alloc, one, other)?;
-    let b = track_of(alloc, rest(alloc, 0, 60, AT_7005)?)?;
-    let problem = problem_of(alloc, a, b)?;
+    let one = rest(alloc, 0, 30, AT_7000).expect(&rt, "no fault");
+    let other = rest(alloc, 30, 60, AT_7100).expect(&rt, "no fault");
+    let a = track_of_two(alloc, one, other).expect(&rt, "no fault");
+    let b = track_of(alloc, rest(alloc, 0, 60, AT_7005).expect(&rt, "no fault")).expect(
+        &rt, "no fault",
+    );
+    let problem = problem_of(alloc, a, b).expect(&rt, "no fault");
     assert_eq!(rt;
-        runs_in(alloc, &problem, 0)?.as_slice(),
+        runs_in(alloc, &problem, 0)
+            .expect(&rt, "no fault")
+            .as_slice(),
         [(0, 29_999_999), (30_000_000, 59_999_999)].as_slice()
     );
     assert_eq!(rt;
-        runs_in(alloc, &problem, 1)?.as_slice(),
+        runs_in(alloc, &problem, 1)
+            .expect(&rt, "no fault")
+            .as_slice(),
         [(60_000_000, 60_000_000)].as_slice()
     );
-    assert_eq!(rt; runs_in(alloc, &problem, 2)?.as_slice(), [].as_slice());
-    Ok(())
+    assert_eq!(rt;
+        runs_in(alloc, &problem, 2)
+            .expect(&rt, "no fault")
+            .as_slice(),
+        [].as_slice()
+    );
 }
 
 #[test]
-fn a_gap_is_in_no_run(rt: HostRuntime) -> Result<(), Fail> {
+fn a_gap_is_in_no_run(rt: HostRuntime) {
     let alloc = rt.alloc();
-    let one = rest(alloc, 0, 20, AT_7000)?;
-    let other = rest(alloc, 40, 60, AT_7000)?;
-    let a = track_of_two(alloc, one, other)?;
-    let b = track_of(alloc, rest(alloc, 0, 60, AT_7005)?)?;
-    let problem = problem_of(alloc, a, b)?;
+    let one = rest(alloc, 0, 20, AT_7000).expect(&rt, "no fault");
+    let other = rest(alloc, 40, 60, AT_7000).expect(&rt, "no fault");
+    let a = track_of_two(alloc, one, other).expect(&rt, "no fault");
+    let b = track_of(alloc, rest(alloc, 0, 60, AT_7005).expect(&rt, "no fault")).expect(
+        &rt, "no fault",
+    );
+    let problem = problem_of(alloc, a, b).expect(&rt, "no fault");
     assert_eq!(rt;
-        runs_in(alloc, &problem, 0)?.as_slice(),
+        runs_in(alloc, &problem, 0)
+            .expect(&rt, "no fault")
+            .as_slice(),
         [(0, 20_000_000), (40_000_000, 59_999_999)].as_slice()
     );
-    assert_eq!(rt; all_leaves(alloc, &problem, 3)?.len(), 3);
+    assert_eq!(rt;
+        all_leaves(alloc, &problem, 3).expect(&rt, "no fault").len(),
+        3
+    );
     assert_eq!(rt; all_leaves(alloc, &problem, 2), Err(RefineError::TooMany));
-    Ok(())
 }
 
 #[test]
-fn spans_that_meet_at_one_tick(rt: HostRuntime) -> Result<(), Fail> {
+fn spans_that_meet_at_one_tick(rt: HostRuntime) {
     let alloc = rt.alloc();
     let early = useable(
         alloc,
@@ -127,23 +146,31 @@ fn spans_that_meet_at_one_tick(rt: HostRuntime) -> Result<(), Fail> {
         30,
         node(0, AT_7000, REST),
         node(60, AT_7000, REST),
-    )?;
+    )
+    .expect(&rt, "no fault");
     let late = useable(
         alloc,
         30,
         60,
         node(0, AT_7005, REST),
         node(60, AT_7005, REST),
-    )?;
-    let problem = problem_of(alloc, track_of(alloc, early)?, track_of(alloc, late)?)?;
+    )
+    .expect(&rt, "no fault");
+    let problem = problem_of(
+        alloc,
+        track_of(alloc, early).expect(&rt, "no fault"),
+        track_of(alloc, late).expect(&rt, "no fault"),
+    )
+    .expect(&rt, "no fault");
     assert_eq!(rt;
-        runs_in(alloc, &problem, 0)?.as_slice(),
+        runs_in(alloc, &problem, 0)
+            .expect(&rt, "no fault")
+            .as_slice(),
         [(30_000_000, 30_000_000)].as_slice()
     );
-    let leaves = all_leaves(alloc, &problem, 1)?;
+    let leaves = all_leaves(alloc, &problem, 1).expect(&rt, "no fault");
     assert_eq!(rt; leaves.len(), 1);
     assert_eq!(rt; count(&leaves, Kind::Near), 1);
-    Ok(())
 }
 
 /// The kind of the only leaf of two objects at rest, 5.003 km apart, of these sizes.
@@ -164,24 +191,38 @@ fn kind_at_rest(alloc: Global, size_a: u64, size_b: u64) -> Result<Option<Kind>,
 }
 
 #[test]
-fn the_sizes_of_both_objects_count(rt: HostRuntime) -> Result<(), Fail> {
+fn the_sizes_of_both_objects_count(rt: HostRuntime) {
     let alloc = rt.alloc();
     let metre = 1_000_000_000;
-    assert_eq!(rt; kind_at_rest(alloc, 0, 0)?, Some(Kind::Far));
-    assert_eq!(rt; kind_at_rest(alloc, 3 * metre, 0)?, Some(Kind::Near));
-    assert_eq!(rt; kind_at_rest(alloc, 0, 3 * metre)?, Some(Kind::Near));
-    assert_eq!(rt; kind_at_rest(alloc, metre, 2 * metre)?, Some(Kind::Near));
-    assert_eq!(rt; kind_at_rest(alloc, metre, metre)?, Some(Kind::Far));
-    Ok(())
+    assert_eq!(rt;
+        kind_at_rest(alloc, 0, 0).expect(&rt, "no fault"),
+        Some(Kind::Far)
+    );
+    assert_eq!(rt;
+        kind_at_rest(alloc, 3 * metre, 0).expect(&rt, "no fault"),
+        Some(Kind::Near)
+    );
+    assert_eq!(rt;
+        kind_at_rest(alloc, 0, 3 * metre).expect(&rt, "no fault"),
+        Some(Kind::Near)
+    );
+    assert_eq!(rt;
+        kind_at_rest(alloc, metre, 2 * metre).expect(&rt, "no fault"),
+        Some(Kind::Near)
+    );
+    assert_eq!(rt;
+        kind_at_rest(alloc, metre, metre).expect(&rt, "no fault"),
+        Some(Kind::Far)
+    );
 }
 
 #[test]
-fn a_look_halves_at_the_middle(rt: HostRuntime) -> Result<(), Fail> {
+fn a_look_halves_at_the_middle(rt: HostRuntime) {
     let alloc = rt.alloc();
-    let problem = crossing(alloc)?;
-    let mut hints = Hints::new(alloc, 2)?;
+    let problem = crossing(alloc).expect(&rt, "no fault");
+    let mut hints = Hints::new(alloc, 2).expect(&rt, "no fault");
     let mut roots = Vec::new(alloc);
-    roots_of_slot(alloc, &problem, 0, &BOTH, 1, &mut hints, &mut roots)?;
+    roots_of_slot(alloc, &problem, 0, &BOTH, 1, &mut hints, &mut roots).expect(&rt, "no fault");
     assert_eq!(rt; roots.len(), 1);
     let root = roots[0];
     let left = Cell {
@@ -197,7 +238,6 @@ fn a_look_halves_at_the_middle(rt: HostRuntime) -> Result<(), Fail> {
         last: tick(59_999_999),
     };
     assert_eq!(rt; look(&problem, root), Look::Halves(left, right));
-    Ok(())
 }
 
 fn one_tick(pair: Pair, root: u32, micros: u32) -> Cell {
@@ -210,7 +250,7 @@ fn one_tick(pair: Pair, root: u32, micros: u32) -> Cell {
 }
 
 #[test]
-fn roots_come_in_order_of_pair_and_time(rt: HostRuntime) -> Result<(), Fail> {
+fn roots_come_in_order_of_pair_and_time(rt: HostRuntime) {
     let first = Pair { a: 0, b: 1 };
     let second = Pair { a: 0, b: 2 };
     let third = Pair { a: 1, b: 2 };
@@ -219,7 +259,8 @@ fn roots_come_in_order_of_pair_and_time(rt: HostRuntime) -> Result<(), Fail> {
         one_tick(second, 9, 7),
         one_tick(first, 9, 60),
         one_tick(second, 9, 5),
-    ]?;
+    ]
+    .expect(&rt, "no fault");
     order_roots(&mut roots);
     let expected = [
         one_tick(first, 0, 60),
@@ -228,5 +269,4 @@ fn roots_come_in_order_of_pair_and_time(rt: HostRuntime) -> Result<(), Fail> {
         one_tick(third, 3, 0),
     ];
     assert_eq!(rt; roots.as_slice(), expected.as_slice());
-    Ok(())
 }

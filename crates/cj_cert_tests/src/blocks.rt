@@ -8,7 +8,7 @@ use cj_cert::{Certificate, cert_text, in_version_2, listed_shells};
 use cj_hermite::{Pair, Problem};
 use cj_scenes::resting;
 use std::alloc::{AllocError, Global};
-use std::test::Fail;
+use std::panic::Expect;
 
 /// A certificate of these objects in version 2, by their only pair.
 fn rewritten(alloc: Global, problem: &Problem, cert: Certificate) -> Result<Certificate, AllocError>
@@ -22,20 +22,34 @@ fn rewritten(alloc: Global, problem: &Problem, cert: Certificate) -> Result<Cert
 }
 
 #[test]
-fn objects_at_rest_have_one_box_each_in_version_2(rt: HostRuntime) -> Result<(), Fail> {
+fn objects_at_rest_have_one_box_each_in_version_2(rt: HostRuntime) {
     let alloc = rt.alloc();
-    let problem = resting(alloc)?;
-    let new = rewritten(alloc, &problem, at_rest_1(alloc)?)?;
-    assert_eq!(rt; cert_text(&rt, alloc, &new, 2)?.as_slice(), AT_REST_2);
-    let same = rewritten(alloc, &problem, at_rest_2(alloc)?)?;
-    assert_eq!(rt; cert_text(&rt, alloc, &same, 2)?.as_slice(), AT_REST_2);
-    Ok(())
+    let problem = resting(alloc).expect(&rt, "no fault");
+    let new = rewritten(alloc, &problem, at_rest_1(alloc).expect(&rt, "no fault")).expect(
+        &rt, "no fault",
+    );
+    assert_eq!(rt;
+        cert_text(&rt, alloc, &new, 2)
+            .expect(&rt, "no fault")
+            .as_slice(),
+        AT_REST_2
+    );
+    let same = rewritten(alloc, &problem, at_rest_2(alloc).expect(&rt, "no fault")).expect(
+        &rt, "no fault",
+    );
+    assert_eq!(rt;
+        cert_text(&rt, alloc, &same, 2)
+            .expect(&rt, "no fault")
+            .as_slice(),
+        AT_REST_2
+    );
 }
 
 #[test]
-fn a_certificate_lists_shells(rt: HostRuntime) -> Result<(), Fail> {
+fn a_certificate_lists_shells(rt: HostRuntime) {
     let alloc = rt.alloc();
-    let shells = listed_shells(alloc, &at_rest_1(alloc)?)?;
+    let shells = listed_shells(alloc, &at_rest_1(alloc).expect(&rt, "no fault")).expect(
+        &rt, "no fault",
+    );
     assert_eq!(rt; shells.len(), 2);
-    Ok(())
 }

@@ -10,7 +10,7 @@ use cj_epoch::{Tick, Window};
 use cj_hermite::Pair;
 use cj_track::Vec3;
 use std::alloc::{AllocError, Global};
-use std::test::Fail;
+use std::panic::Expect;
 
 /// The certificate of an empty folder.
 const EMPTY: &[u8] = b"CONJ-CERT 1
@@ -182,27 +182,40 @@ pub fn at_rest_2(alloc: Global) -> Result<Certificate, AllocError>
 }
 
 #[test]
-fn certificates_have_their_texts(rt: HostRuntime) -> Result<(), Fail> {
+fn certificates_have_their_texts(rt: HostRuntime) {
     let alloc = rt.alloc();
-    assert_eq!(rt; cert_text(&rt, alloc, &empty(alloc), 1)?.as_slice(), EMPTY);
     assert_eq!(rt;
-        cert_text(&rt, alloc, &at_rest_1(alloc)?, 1)?.as_slice(),
+        cert_text(&rt, alloc, &empty(alloc), 1)
+            .expect(&rt, "no fault")
+            .as_slice(),
+        EMPTY
+    );
+    assert_eq!(rt;
+        cert_text(&rt, alloc, &at_rest_1(alloc).expect(&rt, "no fault"), 1)
+            .expect(&rt, "no fault")
+            .as_slice(),
         AT_REST
     );
     assert_eq!(rt;
-        cert_text(&rt, alloc, &at_rest_2(alloc)?, 1)?.as_slice(),
+        cert_text(&rt, alloc, &at_rest_2(alloc).expect(&rt, "no fault"), 1)
+            .expect(&rt, "no fault")
+            .as_slice(),
         AT_REST_2
     );
-    Ok(())
 }
 
 #[test]
-fn what_is_printed_is_read_again(rt: HostRuntime) -> Result<(), Fail> {
+fn what_is_printed_is_read_again(rt: HostRuntime) {
     let alloc = rt.alloc();
     assert_eq!(rt; read_cert(alloc, EMPTY), Ok(empty(alloc)));
-    assert_eq!(rt; read_cert(alloc, AT_REST), Ok(at_rest_1(alloc)?));
-    assert_eq!(rt; read_cert(alloc, AT_REST_2), Ok(at_rest_2(alloc)?));
-    Ok(())
+    assert_eq!(rt;
+        read_cert(alloc, AT_REST),
+        Ok(at_rest_1(alloc).expect(&rt, "no fault"))
+    );
+    assert_eq!(rt;
+        read_cert(alloc, AT_REST_2),
+        Ok(at_rest_2(alloc).expect(&rt, "no fault"))
+    );
 }
 
 /// A certificate of many cells, of one tick each.
@@ -230,15 +243,16 @@ fn of_many_cells(alloc: Global) -> Result<Certificate, AllocError> {
 }
 
 #[test]
-fn parts_by_several_workers_stand_in_order(rt: HostRuntime) -> Result<(), Fail> {
+fn parts_by_several_workers_stand_in_order(rt: HostRuntime) {
     let alloc = rt.alloc();
-    let cert = of_many_cells(alloc)?;
-    let text = cert_text(&rt, alloc, &cert, 4)?;
+    let cert = of_many_cells(alloc).expect(&rt, "no fault");
+    let text = cert_text(&rt, alloc, &cert, 4).expect(&rt, "no fault");
     assert_eq!(rt;
         text.as_slice(),
-        cert_text(&rt, alloc, &cert, 1)?.as_slice()
+        cert_text(&rt, alloc, &cert, 1)
+            .expect(&rt, "no fault")
+            .as_slice()
     );
     assert!(rt; text.len() < 1_000_000);
     assert_eq!(rt; read_cert(alloc, &text), Ok(cert));
-    Ok(())
 }

@@ -1,7 +1,7 @@
 //! Texts that are no certificates, each with its first fault.
 use cj_cert::{CertCause, CertFault, read_cert};
 use std::alloc::{AllocError, Global};
-use std::test::Fail;
+use std::panic::Expect;
 
 const FORM: CertCause = CertCause::Form;
 
@@ -123,11 +123,10 @@ const TEXTS: [(&[u8], Option<(u32, CertCause)>); 35] = [
 ];
 
 #[test]
-fn a_text_has_its_first_fault(rt: HostRuntime) -> Result<(), Fail> {
+fn a_text_has_its_first_fault(rt: HostRuntime) {
     for (text, wanted) in &TEXTS {
         assert_eq!(rt; fault(rt.alloc(), text), *wanted);
     }
-    Ok(())
 }
 
 /// Lines in front of the last, and why they may not stand there in version 1 and in version 2.
@@ -291,16 +290,15 @@ fn line_fault(
 }
 
 #[test]
-fn a_line_has_its_fault_in_each_version(rt: HostRuntime) -> Result<(), Fail> {
+fn a_line_has_its_fault_in_each_version(rt: HostRuntime) {
     for (line, first, second) in &LINES {
         assert_eq!(rt;
-            line_fault(rt.alloc(), b"1", line)?,
+            line_fault(rt.alloc(), b"1", line).expect(&rt, "no fault"),
             first.map(|cause| (5, cause))
         );
         assert_eq!(rt;
-            line_fault(rt.alloc(), b"2", line)?,
+            line_fault(rt.alloc(), b"2", line).expect(&rt, "no fault"),
             second.map(|cause| (5, cause))
         );
     }
-    Ok(())
 }

@@ -9,7 +9,7 @@ use cj_samples::{seconds, tick};
 use cj_scenes::resting;
 use cj_track::Vec3;
 use std::alloc::{AllocError, Global};
-use std::test::Fail;
+use std::panic::Expect;
 
 fn shell_of(object: u32, radius: u64) -> ShellLine {
     let shell = Some(Shell {
@@ -94,62 +94,80 @@ fn refused(line: u32, cause: CheckCause) -> Answer {
 
 /// The minute, and the tick behind it.
 #[test]
-fn cells_of_both_slots_are_accepted(rt: HostRuntime) -> Result<(), Fail> {
+fn cells_of_both_slots_are_accepted(rt: HostRuntime) {
     let alloc = rt.alloc();
     let a = cell(0, 59_999_999, Kind::Near);
     let b = cell(60_000_000, 60_000_000, Kind::Near);
-    assert_eq!(rt; answer(alloc, &[a, b])?, Answer::Accepted);
+    assert_eq!(rt;
+        answer(alloc, &[a, b]).expect(&rt, "no fault"),
+        Answer::Accepted
+    );
     // In two parts.
     let (c, d) = (cell(0, 5, Kind::Near), cell(6, 59_999_999, Kind::Near));
-    assert_eq!(rt; answer(alloc, &[c, d, b])?, Answer::Accepted);
-    Ok(())
+    assert_eq!(rt;
+        answer(alloc, &[c, d, b]).expect(&rt, "no fault"),
+        Answer::Accepted
+    );
 }
 
 #[test]
-fn a_cell_less_is_refused(rt: HostRuntime) -> Result<(), Fail> {
+fn a_cell_less_is_refused(rt: HostRuntime) {
     let alloc = rt.alloc();
     let a = cell(0, 59_999_999, Kind::Near);
     let b = cell(60_000_000, 60_000_000, Kind::Near);
-    assert_eq!(rt; answer(alloc, &[b])?, refused(11, CheckCause::Untiled));
-    assert_eq!(rt; answer(alloc, &[a])?, refused(12, CheckCause::Untiled));
-    assert_eq!(rt; answer(alloc, &[])?, refused(11, CheckCause::Untiled));
+    assert_eq!(rt;
+        answer(alloc, &[b]).expect(&rt, "no fault"),
+        refused(11, CheckCause::Untiled)
+    );
+    assert_eq!(rt;
+        answer(alloc, &[a]).expect(&rt, "no fault"),
+        refused(12, CheckCause::Untiled)
+    );
+    assert_eq!(rt;
+        answer(alloc, &[]).expect(&rt, "no fault"),
+        refused(11, CheckCause::Untiled)
+    );
     // Ticks between two parts, and behind the first.
     let (c, d) = (cell(0, 5, Kind::Near), cell(7, 59_999_999, Kind::Near));
     assert_eq!(rt;
-        answer(alloc, &[c, d, b])?,
+        answer(alloc, &[c, d, b]).expect(&rt, "no fault"),
         refused(12, CheckCause::Untiled)
     );
-    assert_eq!(rt; answer(alloc, &[c, b])?, refused(12, CheckCause::Untiled));
-    Ok(())
+    assert_eq!(rt;
+        answer(alloc, &[c, b]).expect(&rt, "no fault"),
+        refused(12, CheckCause::Untiled)
+    );
 }
 
 #[test]
-fn a_cell_more_is_refused(rt: HostRuntime) -> Result<(), Fail> {
+fn a_cell_more_is_refused(rt: HostRuntime) {
     let alloc = rt.alloc();
     let a = cell(0, 59_999_999, Kind::Near);
     let b = cell(60_000_000, 60_000_000, Kind::Near);
     assert_eq!(rt;
-        answer(alloc, &[a, a, b])?,
+        answer(alloc, &[a, a, b]).expect(&rt, "no fault"),
         refused(12, CheckCause::Stranger)
     );
     assert_eq!(rt;
-        answer(alloc, &[a, b, b])?,
+        answer(alloc, &[a, b, b]).expect(&rt, "no fault"),
         refused(13, CheckCause::Stranger)
     );
     // Over the end of its root, and over a part that is listed already.
     let long = cell(0, 60_000_000, Kind::Near);
-    assert_eq!(rt; answer(alloc, &[long])?, refused(11, CheckCause::Stranger));
+    assert_eq!(rt;
+        answer(alloc, &[long]).expect(&rt, "no fault"),
+        refused(11, CheckCause::Stranger)
+    );
     let part = cell(6, 59_999_999, Kind::Near);
     assert_eq!(rt;
-        answer(alloc, &[a, part, b])?,
+        answer(alloc, &[a, part, b]).expect(&rt, "no fault"),
         refused(12, CheckCause::Stranger)
     );
-    Ok(())
 }
 
 /// Exactly at the threshold near is supported, and so is the band; far is not.
 #[test]
-fn a_kind_that_is_not_supported_is_refused(rt: HostRuntime) -> Result<(), Fail> {
+fn a_kind_that_is_not_supported_is_refused(rt: HostRuntime) {
     let alloc = rt.alloc();
     let a = cell(0, 59_999_999, Kind::Near);
     let b = cell(60_000_000, 60_000_000, Kind::Near);
@@ -157,16 +175,24 @@ fn a_kind_that_is_not_supported_is_refused(rt: HostRuntime) -> Result<(), Fail> 
         cell(0, 59_999_999, Kind::Far),
         cell(0, 59_999_999, Kind::Undecided),
     );
-    assert_eq!(rt; answer(alloc, &[far, b])?, refused(11, CheckCause::NotFar));
-    assert_eq!(rt; answer(alloc, &[band, b])?, Answer::Accepted);
+    assert_eq!(rt;
+        answer(alloc, &[far, b]).expect(&rt, "no fault"),
+        refused(11, CheckCause::NotFar)
+    );
+    assert_eq!(rt;
+        answer(alloc, &[band, b]).expect(&rt, "no fault"),
+        Answer::Accepted
+    );
     let far = cell(60_000_000, 60_000_000, Kind::Far);
-    assert_eq!(rt; answer(alloc, &[a, far])?, refused(12, CheckCause::NotFar));
-    Ok(())
+    assert_eq!(rt;
+        answer(alloc, &[a, far]).expect(&rt, "no fault"),
+        refused(12, CheckCause::NotFar)
+    );
 }
 
 /// In version 2, by sizes and a box for both slots; another threshold, and a box a nanometre aside.
 #[test]
-fn a_certificate_of_version_2_is_checked(rt: HostRuntime) -> Result<(), Fail> {
+fn a_certificate_of_version_2_is_checked(rt: HostRuntime) {
     let alloc = rt.alloc();
     for (threshold, x, expected) in [
         (5_000_000_000_000, 7_000_000_000_000_000, Answer::Accepted),
@@ -190,11 +216,13 @@ fn a_certificate_of_version_2_is_checked(rt: HostRuntime) -> Result<(), Fail> {
             sizes: vec![in alloc;
                 SizeOfLine { object: 0, size: 0 },
                 SizeOfLine { object: 1, size: 0 },
-            ]?,
+            ]
+            .expect(&rt, "no fault"),
             shells: vec![in alloc;
                 shell_of(0, 7_000_000_000_000_000),
                 shell_of(1, 7_005_000_000_000_000),
-            ]?,
+            ]
+            .expect(&rt, "no fault"),
             boxes: vec![in alloc;
                 BoxLine {
                     object: 0,
@@ -208,13 +236,17 @@ fn a_certificate_of_version_2_is_checked(rt: HostRuntime) -> Result<(), Fail> {
                     last: 1,
                     area: b
                 },
-            ]?,
+            ]
+            .expect(&rt, "no fault"),
             cells: vec![in alloc;
                 cell(0, 59_999_999, Kind::Near),
                 cell(60_000_000, 60_000_000, Kind::Near),
-            ]?,
+            ]
+            .expect(&rt, "no fault"),
         };
-        assert_eq!(rt; check(alloc, &resting(alloc)?, &cert)?, expected);
+        assert_eq!(rt;
+            check(alloc, &resting(alloc).expect(&rt, "no fault"), &cert).expect(&rt, "no fault"),
+            expected
+        );
     }
-    Ok(())
 }

@@ -8,7 +8,7 @@ use cj_hermite::{Problem, Sizes, Tracks};
 use cj_samples::{AT_7000, AT_7005, rest, seconds, track_of, track_of_two};
 use cj_track::Vec3;
 use std::alloc::{AllocError, Global};
-use std::test::Fail;
+use std::panic::Expect;
 
 /// Three objects for three minutes and a tick, in four slots: one at rest that has states in the first and the third slot, one
 /// without a state in the window, and one at rest throughout.
@@ -157,7 +157,7 @@ fn at(line: u32, cause: CheckCause) -> Option<Failure> {
 }
 
 #[test]
-fn each_object_has_its_size(rt: HostRuntime) -> Result<(), Fail> {
+fn each_object_has_its_size(rt: HostRuntime) {
     let alloc = rt.alloc();
     let (a, b, c) = (size_of(0, 0), size_of(1, 3_000_000_000), size_of(2, 0));
     for (lines, expected) in [
@@ -166,21 +166,25 @@ fn each_object_has_its_size(rt: HostRuntime) -> Result<(), Fail> {
         ([a, size_of(1, 2_999_999_999), c], at(6, CheckCause::SizeOf)),
         ([a, c, b], at(6, CheckCause::SizeOf)),
     ] {
-        assert_eq!(rt; by_sizes(alloc, Vec::from_array(alloc, lines)?)?, expected);
+        assert_eq!(rt;
+            by_sizes(alloc, Vec::from_array(alloc, lines).expect(&rt, "no fault")).expect(
+                &rt, "no fault"
+            ),
+            expected
+        );
     }
     assert_eq!(rt;
-        by_sizes(alloc, vec![in alloc; a, b]?)?,
+        by_sizes(alloc, vec![in alloc; a, b].expect(&rt, "no fault")).expect(&rt, "no fault"),
         at(7, CheckCause::SizeOf)
     );
     assert_eq!(rt;
-        by_sizes(alloc, vec![in alloc; a, b, c, c]?)?,
+        by_sizes(alloc, vec![in alloc; a, b, c, c].expect(&rt, "no fault")).expect(&rt, "no fault"),
         at(8, CheckCause::SizeOf)
     );
-    Ok(())
 }
 
 #[test]
-fn each_object_has_a_shell_that_its_hulls_show(rt: HostRuntime) -> Result<(), Fail> {
+fn each_object_has_a_shell_that_its_hulls_show(rt: HostRuntime) {
     let alloc = rt.alloc();
     let (near, far) = (7_000_000_000_000_000, 7_005_000_000_000_000);
     let (a, b, c) = (shell_of(0, near, near), no_shell(1), shell_of(2, far, far));
@@ -196,22 +200,28 @@ fn each_object_has_a_shell_that_its_hulls_show(rt: HostRuntime) -> Result<(), Fa
         ([a, c, b], at(9, CheckCause::ShellOf)),
         ([a, b, shell_of(2, 0, far - 1)], at(10, CheckCause::ShellOf)),
     ] {
-        assert_eq!(rt; by_shells(alloc, Vec::from_array(alloc, lines)?)?, expected);
+        assert_eq!(rt;
+            by_shells(alloc, Vec::from_array(alloc, lines).expect(&rt, "no fault")).expect(
+                &rt, "no fault"
+            ),
+            expected
+        );
     }
     assert_eq!(rt;
-        by_shells(alloc, vec![in alloc; a, b]?)?,
+        by_shells(alloc, vec![in alloc; a, b].expect(&rt, "no fault")).expect(&rt, "no fault"),
         at(10, CheckCause::ShellOf)
     );
     assert_eq!(rt;
-        by_shells(alloc, vec![in alloc; a, b, c, c]?)?,
+        by_shells(alloc, vec![in alloc; a, b, c, c].expect(&rt, "no fault")).expect(
+            &rt, "no fault"
+        ),
         at(11, CheckCause::ShellOf)
     );
-    Ok(())
 }
 
 /// The slots in which the objects have states are 0 and 2 of the first, and all four of the third.
 #[test]
-fn lines_of_boxes_have_the_slots_with_states(rt: HostRuntime) -> Result<(), Fail> {
+fn lines_of_boxes_have_the_slots_with_states(rt: HostRuntime) {
     let alloc = rt.alloc();
     let (a, b) = (box_of(0, 0, 0, NEAR, NEAR), box_of(0, 2, 2, NEAR, NEAR));
     let c = box_of(2, 0, 3, FAR, FAR);
@@ -238,21 +248,25 @@ fn lines_of_boxes_have_the_slots_with_states(rt: HostRuntime) -> Result<(), Fail
         ),
         ([a, b, box_of(2, 3, 0, FAR, FAR)], at(13, CheckCause::BoxOf)),
     ] {
-        assert_eq!(rt; by_boxes(alloc, Vec::from_array(alloc, lines)?)?, expected);
+        assert_eq!(rt;
+            by_boxes(alloc, Vec::from_array(alloc, lines).expect(&rt, "no fault")).expect(
+                &rt, "no fault"
+            ),
+            expected
+        );
     }
     assert_eq!(rt;
-        by_boxes(alloc, vec![in alloc; a, b]?)?,
+        by_boxes(alloc, vec![in alloc; a, b].expect(&rt, "no fault")).expect(&rt, "no fault"),
         at(13, CheckCause::BoxOf)
     );
     assert_eq!(rt;
-        by_boxes(alloc, vec![in alloc; a, b, c, c]?)?,
+        by_boxes(alloc, vec![in alloc; a, b, c, c].expect(&rt, "no fault")).expect(&rt, "no fault"),
         at(14, CheckCause::BoxOf)
     );
-    Ok(())
 }
 
 #[test]
-fn a_box_holds_the_hulls_in_each_of_its_slots(rt: HostRuntime) -> Result<(), Fail> {
+fn a_box_holds_the_hulls_in_each_of_its_slots(rt: HostRuntime) {
     let alloc = rt.alloc();
     let (a, b) = (box_of(0, 0, 0, NEAR, NEAR), box_of(0, 2, 2, NEAR, NEAR));
     let c = box_of(2, 0, 3, FAR, FAR);
@@ -271,15 +285,19 @@ fn a_box_holds_the_hulls_in_each_of_its_slots(rt: HostRuntime) -> Result<(), Fai
             at(12, CheckCause::BoxOf),
         ),
     ] {
-        assert_eq!(rt; by_boxes(alloc, Vec::from_array(alloc, lines)?)?, expected);
+        assert_eq!(rt;
+            by_boxes(alloc, Vec::from_array(alloc, lines).expect(&rt, "no fault")).expect(
+                &rt, "no fault"
+            ),
+            expected
+        );
     }
-    Ok(())
 }
 
 #[test]
-fn the_header_is_that_of_the_problem(rt: HostRuntime) -> Result<(), Fail> {
+fn the_header_is_that_of_the_problem(rt: HostRuntime) {
     let alloc = rt.alloc();
-    let problem = problem(alloc)?;
+    let problem = problem(alloc).expect(&rt, "no fault");
     let mut cert = certificate(alloc, Vec::new(alloc), Vec::new(alloc), Vec::new(alloc));
     assert_eq!(rt; header_failure(&problem, &cert), None);
     cert.objects = 2;
@@ -288,5 +306,4 @@ fn the_header_is_that_of_the_problem(rt: HostRuntime) -> Result<(), Fail> {
     assert_eq!(rt; header_failure(&problem, &cert), at(3, CheckCause::Header));
     cert.window = seconds(0, 179);
     assert_eq!(rt; header_failure(&problem, &cert), at(2, CheckCause::Header));
-    Ok(())
 }

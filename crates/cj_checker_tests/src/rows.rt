@@ -9,7 +9,7 @@ use cj_hermite::{Pair, Problem, Sizes, Tracks};
 use cj_samples::{rest, seconds, tick, track_of};
 use cj_track::Vec3;
 use std::alloc::{AllocError, Global};
-use std::test::Fail;
+use std::panic::Expect;
 
 fn at(x: i64) -> Vec3
     ensures { result ≡ record { x = x; y = pos 0; z = pos 0 } }
@@ -143,63 +143,64 @@ fn refused(line: u32, cause: CheckCause) -> Answer {
 
 /// As they are, one left out, the last left out, one doubled, two exchanged.
 #[test]
-fn cells_stand_in_order_of_pair_and_slot(rt: HostRuntime) -> Result<(), Fail> {
+fn cells_stand_in_order_of_pair_and_slot(rt: HostRuntime) {
     let alloc = rt.alloc();
-    assert_eq!(rt; of_neighbours(alloc, neighbours(alloc)?)?, Answer::Accepted);
-    let mut cells = neighbours(alloc)?;
+    assert_eq!(rt;
+        of_neighbours(alloc, neighbours(alloc).expect(&rt, "no fault")).expect(&rt, "no fault"),
+        Answer::Accepted
+    );
+    let mut cells = neighbours(alloc).expect(&rt, "no fault");
     cells.remove(4);
     assert_eq!(rt;
-        of_neighbours(alloc, cells)?,
+        of_neighbours(alloc, cells).expect(&rt, "no fault"),
         refused(21, CheckCause::Untiled)
     );
-    let mut cells = neighbours(alloc)?;
+    let mut cells = neighbours(alloc).expect(&rt, "no fault");
     cells.remove(8);
     assert_eq!(rt;
-        of_neighbours(alloc, cells)?,
+        of_neighbours(alloc, cells).expect(&rt, "no fault"),
         refused(25, CheckCause::Untiled)
     );
-    let mut cells = neighbours(alloc)?;
-    cells.insert(4, near(1, 2, 0))?;
+    let mut cells = neighbours(alloc).expect(&rt, "no fault");
+    cells.insert(4, near(1, 2, 0)).expect(&rt, "no fault");
     assert_eq!(rt;
-        of_neighbours(alloc, cells)?,
+        of_neighbours(alloc, cells).expect(&rt, "no fault"),
         refused(21, CheckCause::Stranger)
     );
-    let mut cells = neighbours(alloc)?;
+    let mut cells = neighbours(alloc).expect(&rt, "no fault");
     cells.swap(2, 3);
     assert_eq!(rt;
-        of_neighbours(alloc, cells)?,
+        of_neighbours(alloc, cells).expect(&rt, "no fault"),
         refused(19, CheckCause::Untiled)
     );
-    Ok(())
 }
 
 /// Neighbours are neither far nor in the band.
 #[test]
-fn a_kind_that_neighbours_do_not_show_is_refused(rt: HostRuntime) -> Result<(), Fail> {
+fn a_kind_that_neighbours_do_not_show_is_refused(rt: HostRuntime) {
     let alloc = rt.alloc();
-    let mut cells = neighbours(alloc)?;
+    let mut cells = neighbours(alloc).expect(&rt, "no fault");
     cells[5].kind = Kind::Far;
     assert_eq!(rt;
-        of_neighbours(alloc, cells)?,
+        of_neighbours(alloc, cells).expect(&rt, "no fault"),
         refused(22, CheckCause::NotFar)
     );
-    let mut cells = neighbours(alloc)?;
+    let mut cells = neighbours(alloc).expect(&rt, "no fault");
     cells[5].kind = Kind::Undecided;
     assert_eq!(rt;
-        of_neighbours(alloc, cells)?,
+        of_neighbours(alloc, cells).expect(&rt, "no fault"),
         refused(22, CheckCause::NotBand)
     );
-    Ok(())
 }
 
 /// With a threshold of 6 km between objects of a size of 1 km those 8 km apart touch exactly.
 #[test]
-fn sizes_bring_the_pairs_that_just_touch(rt: HostRuntime) -> Result<(), Fail> {
+fn sizes_bring_the_pairs_that_just_touch(rt: HostRuntime) {
     let alloc = rt.alloc();
     let (threshold, size) = (6_000_000_000_000, 1_000_000_000_000);
-    let cells = neighbours(alloc)?;
+    let cells = neighbours(alloc).expect(&rt, "no fault");
     assert_eq!(rt;
-        answer(alloc, threshold, size, cells)?,
+        answer(alloc, threshold, size, cells).expect(&rt, "no fault"),
         refused(20, CheckCause::Untiled)
     );
     let cells = vec![in alloc;
@@ -218,7 +219,10 @@ fn sizes_bring_the_pairs_that_just_touch(rt: HostRuntime) -> Result<(), Fail> {
         near(2, 3, 0),
         near(2, 3, 1),
         near(2, 3, 2),
-    ]?;
-    assert_eq!(rt; answer(alloc, threshold, size, cells)?, Answer::Accepted);
-    Ok(())
+    ]
+    .expect(&rt, "no fault");
+    assert_eq!(rt;
+        answer(alloc, threshold, size, cells).expect(&rt, "no fault"),
+        Answer::Accepted
+    );
 }

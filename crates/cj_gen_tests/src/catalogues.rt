@@ -1,5 +1,5 @@
 use cj_gen::catalogue;
-use std::test::Fail;
+use std::panic::Expect;
 
 /// What the seed 0 gives for one object over one minute.
 const ONE: &[u8] = b"CCSDS_OEM_VERS = 2.0
@@ -31,13 +31,12 @@ COVARIANCE_STOP
 ";
 
 #[test]
-fn one_object_over_one_minute(rt: HostRuntime) -> Result<(), Fail> {
-    let files = catalogue(rt.alloc(), 0, 1, 1)?;
+fn one_object_over_one_minute(rt: HostRuntime) {
+    let files = catalogue(rt.alloc(), 0, 1, 1).expect(&rt, "no fault");
     assert_eq!(rt; files.len(), 1);
-    let file = files.first().ok_or("no file")?;
+    let file = files.first().ok_or("no file").expect(&rt, "no fault");
     assert_eq!(rt; file.name.as_slice(), b"GEN00001.oem".as_slice());
     assert_eq!(rt; file.bytes.as_slice(), ONE);
-    Ok(())
 }
 
 /// Whether a text has this line.
@@ -46,10 +45,10 @@ fn has_line(text: &[u8], line: &[u8]) -> bool {
 }
 
 #[test]
-fn fifty_objects_over_two_hours(rt: HostRuntime) -> Result<(), Fail> {
-    let files = catalogue(rt.alloc(), 0, 50, 120)?;
+fn fifty_objects_over_two_hours(rt: HostRuntime) {
+    let files = catalogue(rt.alloc(), 0, 50, 120).expect(&rt, "no fault");
     assert_eq!(rt; files.len(), 50);
-    let file = files.last().ok_or("no file")?;
+    let file = files.last().ok_or("no file").expect(&rt, "no fault");
     assert_eq!(rt; file.name.as_slice(), b"GEN00050.oem".as_slice());
     let text = file.bytes.as_slice();
     assert!(rt; text.starts_with(b"CCSDS_OEM_VERS = 2.0\n"));
@@ -60,5 +59,4 @@ fn fifty_objects_over_two_hours(rt: HostRuntime) -> Result<(), Fail> {
     assert!(rt; has_line(text, b"STOP_TIME = 2025-01-01T02:00:00"));
     assert!(rt; has_line(text, first));
     assert!(rt; has_line(text, last));
-    Ok(())
 }

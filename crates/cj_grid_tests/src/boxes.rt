@@ -10,9 +10,9 @@ use cj_track::{Track, Vec3};
 use cj_walk::TrackWalk;
 use std::alloc::{AllocError, Global};
 use std::marker::Brand;
+use std::panic::Expect;
 use std::process::Abort;
 use std::sync::ledger::{Blank, Ledger};
-use std::test::Fail;
 
 /// 5 km in nm.
 const THRESHOLD: u64 = 5_000_000_000_000;
@@ -88,8 +88,8 @@ fn box_in(track: &Track, window: Window, slot: u32) -> Option<AxisBox> {
 /// The whole of the first slot; the six ticks of the last, which ends with the window; the two of a slot that is counted from a
 /// later window.
 #[test]
-fn a_straight_track_has_its_ends_in_the_slot(rt: HostRuntime) -> Result<(), Fail> {
-    let track = straight(rt.alloc())?;
+fn a_straight_track_has_its_ends_in_the_slot(rt: HostRuntime) {
+    let track = straight(rt.alloc()).expect(&rt, "no fault");
     let place = |x, y| Vec3 { x, y, z: 17 };
     for (ticks, slot, least, most) in [
         (
@@ -115,12 +115,11 @@ fn a_straight_track_has_its_ends_in_the_slot(rt: HostRuntime) -> Result<(), Fail
         assert_eq!(rt; area.map(|area| area.least), Some(least));
         assert_eq!(rt; area.map(|area| area.most), Some(most));
     }
-    Ok(())
 }
 
 #[test]
-fn a_box_goes_round_the_segments_of_its_slot(rt: HostRuntime) -> Result<(), Fail> {
-    let track = stepping(rt.alloc())?;
+fn a_box_goes_round_the_segments_of_its_slot(rt: HostRuntime) {
+    let track = stepping(rt.alloc()).expect(&rt, "no fault");
     let high = Some(corners(HIGH, HIGH));
     let low = Some(corners(LOW, LOW));
     for (ticks, slot, expected) in [
@@ -139,7 +138,6 @@ fn a_box_goes_round_the_segments_of_its_slot(rt: HostRuntime) -> Result<(), Fail
     ] {
         assert_eq!(rt; box_in(&track, ticks, slot), expected);
     }
-    Ok(())
 }
 
 /// The boxes of a track in two slots of its first 90 seconds, by one walk.
@@ -152,8 +150,8 @@ fn boxes_by_one_walk(track: &Track, one: u32, other: u32) -> Option<[Option<Axis
 
 /// A walk that has come to a later slot gives the box of an earlier one too.
 #[test]
-fn one_walk_gives_the_boxes_of_all_slots(rt: HostRuntime) -> Result<(), Fail> {
-    let track = stepping(rt.alloc())?;
+fn one_walk_gives_the_boxes_of_all_slots(rt: HostRuntime) {
+    let track = stepping(rt.alloc()).expect(&rt, "no fault");
     let both = Some(corners(LEAST_OF_BOTH, MOST_OF_BOTH));
     let low = Some(corners(LOW, LOW));
     for (one, other, expected) in [
@@ -165,7 +163,6 @@ fn one_walk_gives_the_boxes_of_all_slots(rt: HostRuntime) -> Result<(), Fail> {
     ] {
         assert_eq!(rt; boxes_by_one_walk(&track, one, other), Some(expected));
     }
-    Ok(())
 }
 
 /// Looks at two boxes in both orders, by a threshold of 5 km. These are two steps.
@@ -216,7 +213,7 @@ const MOST: Vec3 = Vec3 {
 
 /// Exactly the threshold apart, one nanometre more, and at the ends of all numbers.
 #[test]
-fn boxes_touch_up_to_the_threshold(rt: HostRuntime) -> Result<(), Fail> {
+fn boxes_touch_up_to_the_threshold(rt: HostRuntime) {
     let beside = 5_000_000_000_010;
     let whole = corners(LEAST, MOST);
     for (a, b, expected) in [
@@ -233,26 +230,26 @@ fn boxes_touch_up_to_the_threshold(rt: HostRuntime) -> Result<(), Fail> {
         (whole, corners(MOST, MOST), true),
     ] {
         assert_eq!(rt; look::<Brand>(Blank::new(1), &a, &b), (expected, expected));
-        let found = find_touching(rt.alloc(), &[Some(a), Some(b)], &[0, 0], THRESHOLD)?;
+        let found = find_touching(rt.alloc(), &[Some(a), Some(b)], &[0, 0], THRESHOLD).expect(
+            &rt, "no fault",
+        );
         assert_eq!(rt; found.len(), usize::from(expected));
     }
-    Ok(())
 }
 
 #[test]
-fn touching_boxes_give_their_pairs_in_order(rt: HostRuntime) -> Result<(), Fail> {
+fn touching_boxes_give_their_pairs_in_order(rt: HostRuntime) {
     let third = point(5_000_000_000_010, 0, 0);
     let fourth = point(10_000_000_000_010, 0, 0);
     let boxes = [Some(OWN), None, Some(third), Some(fourth)];
-    let found = find_touching(rt.alloc(), &boxes, &[0; 4], THRESHOLD)?;
+    let found = find_touching(rt.alloc(), &boxes, &[0; 4], THRESHOLD).expect(&rt, "no fault");
     let expected = [Pair { a: 0, b: 2 }, Pair { a: 2, b: 3 }];
     assert_eq!(rt; found.as_slice(), expected.as_slice());
-    Ok(())
 }
 
 /// The radii of two objects bridge three metres, or a nanometre less than that.
 #[test]
-fn sizes_let_a_pair_touch_beyond_the_threshold(rt: HostRuntime) -> Result<(), Fail> {
+fn sizes_let_a_pair_touch_beyond_the_threshold(rt: HostRuntime) {
     let boxes = [
         Some(OWN),
         None,
@@ -265,20 +262,19 @@ fn sizes_let_a_pair_touch_beyond_the_threshold(rt: HostRuntime) -> Result<(), Fa
         2_000_000_000,
         1_999_999_999,
     ];
-    let found = find_touching(rt.alloc(), &boxes, &sizes, THRESHOLD)?;
+    let found = find_touching(rt.alloc(), &boxes, &sizes, THRESHOLD).expect(&rt, "no fault");
     let expected = [
         Pair { a: 0, b: 2 },
         Pair { a: 0, b: 3 },
         Pair { a: 2, b: 3 },
     ];
     assert_eq!(rt; found.as_slice(), expected.as_slice());
-    Ok(())
 }
 
 /// A place on the corner of a bucket or a nanometre below it, seen across the threshold: a bucket holds its least corner and not its
 /// greatest.
 #[test]
-fn objects_on_both_sides_of_a_corner_are_found(rt: HostRuntime) -> Result<(), Fail> {
+fn objects_on_both_sides_of_a_corner_are_found(rt: HostRuntime) {
     for corner in [-2_000_000_000_000_000, 0, 2_000_000_000_000_000] {
         let boxes = [
             Some(point(corner - 1, 0, 0)),
@@ -286,7 +282,7 @@ fn objects_on_both_sides_of_a_corner_are_found(rt: HostRuntime) -> Result<(), Fa
             Some(point(corner + 4_999_999_999_999, 0, 0)),
             Some(point(corner, 0, 0)),
         ];
-        let found = find_touching(rt.alloc(), &boxes, &[0; 4], THRESHOLD)?;
+        let found = find_touching(rt.alloc(), &boxes, &[0; 4], THRESHOLD).expect(&rt, "no fault");
         let expected = [
             Pair { a: 0, b: 2 },
             Pair { a: 0, b: 3 },
@@ -296,12 +292,11 @@ fn objects_on_both_sides_of_a_corner_are_found(rt: HostRuntime) -> Result<(), Fa
         ];
         assert_eq!(rt; found.as_slice(), expected.as_slice());
     }
-    Ok(())
 }
 
 /// A box of 10,000 km on each side is wide. It is looked at with all others, wide or not.
 #[test]
-fn wide_boxes_are_found(rt: HostRuntime) -> Result<(), Fail> {
+fn wide_boxes_are_found(rt: HostRuntime) {
     let far = 10_000_000_000_000_000;
     let wide = Some(corners(
         REST,
@@ -318,7 +313,7 @@ fn wide_boxes_are_found(rt: HostRuntime) -> Result<(), Fail> {
         wide,
         Some(OWN),
     ];
-    let found = find_touching(rt.alloc(), &boxes, &[0; 5], THRESHOLD)?;
+    let found = find_touching(rt.alloc(), &boxes, &[0; 5], THRESHOLD).expect(&rt, "no fault");
     let expected = [
         Pair { a: 0, b: 1 },
         Pair { a: 0, b: 3 },
@@ -327,7 +322,6 @@ fn wide_boxes_are_found(rt: HostRuntime) -> Result<(), Fail> {
         Pair { a: 3, b: 4 },
     ];
     assert_eq!(rt; found.as_slice(), expected.as_slice());
-    Ok(())
 }
 
 /// A place by coordinates that are counted from 6,000 km below 0 on each axis.
@@ -412,15 +406,16 @@ fn made_boxes(seed: u64) -> [Option<AxisBox>; 50] {
 
 /// By buckets the same pairs are found as by a look at each pair.
 #[test]
-fn buckets_give_the_pairs_that_touch(rt: HostRuntime) -> Result<(), Fail> {
+fn buckets_give_the_pairs_that_touch(rt: HostRuntime) {
     for seed in 0..20 {
         let boxes = made_boxes(seed);
-        let found = find_touching(rt.alloc(), &boxes, &[0; 50], THRESHOLD)?;
-        let expected = by_each_pair::<Brand>(Blank::new(1), rt.alloc(), &boxes)?;
+        let found = find_touching(rt.alloc(), &boxes, &[0; 50], THRESHOLD).expect(&rt, "no fault");
+        let expected = by_each_pair::<Brand>(Blank::new(1), rt.alloc(), &boxes).expect(
+            &rt, "no fault",
+        );
         assert!(rt; !expected.is_empty());
         assert_eq!(rt; found.as_slice(), expected.as_slice());
     }
-    Ok(())
 }
 
 /// How far along x the object at a place of a row stands.
@@ -487,9 +482,10 @@ fn counted_in_row<L: Ledger>(
 }
 
 #[test]
-fn fifty_boxes_in_a_row_touch_in_no_pair(rt: HostRuntime) -> Result<(), Fail> {
-    let boxes = points_in_row(rt.alloc(), 50)?;
-    let found = counted_in_row::<Brand>(Blank::new(1), rt.alloc(), &boxes, &[0; 50])?;
+fn fifty_boxes_in_a_row_touch_in_no_pair(rt: HostRuntime) {
+    let boxes = points_in_row(rt.alloc(), 50).expect(&rt, "no fault");
+    let found = counted_in_row::<Brand>(Blank::new(1), rt.alloc(), &boxes, &[0; 50]).expect(
+        &rt, "no fault",
+    );
     assert!(rt; found.is_empty());
-    Ok(())
 }

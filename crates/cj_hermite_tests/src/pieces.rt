@@ -5,7 +5,6 @@ use cj_epoch::{Tick, Window};
 use cj_hermite::{Piece, controls, point, rate, slot_count};
 use cj_interval::Span;
 use cj_track::Vec3;
-use std::test::Fail;
 
 fn exactly(value: i128) -> Span {
     Span {
@@ -67,7 +66,7 @@ fn smallest() -> Piece
 }
 
 #[test]
-fn a_straight_line_is_met_exactly(rt: HostRuntime) -> Result<(), Fail> {
+fn a_straight_line_is_met_exactly(rt: HostRuntime) {
     let piece = straight();
     let quarter = Tick {
         micros: 1_735_689_615_000_000,
@@ -79,11 +78,10 @@ fn a_straight_line_is_met_exactly(rt: HostRuntime) -> Result<(), Fail> {
     let speed = rate(&piece, quarter);
     assert_eq!(rt; speed.x, exactly(0));
     assert_eq!(rt; speed.y, exactly(7_500_000_000_000));
-    Ok(())
 }
 
 #[test]
-fn half_a_nanometre_lies_between_its_neighbours(rt: HostRuntime) -> Result<(), Fail> {
+fn half_a_nanometre_lies_between_its_neighbours(rt: HostRuntime) {
     let piece = smallest();
     let middle = Tick {
         micros: 1_735_689_600_000_001,
@@ -91,15 +89,13 @@ fn half_a_nanometre_lies_between_its_neighbours(rt: HostRuntime) -> Result<(), F
     assert_eq!(rt; controls(&piece).x, [0, 0, 3_000_000, 3_000_000]);
     assert_eq!(rt; point(&piece, middle).x, Span { lo: 0, hi: 1 });
     assert_eq!(rt; rate(&piece, middle).x, exactly(750_000));
-    Ok(())
 }
 
 #[test]
-fn the_nodes_are_met_exactly(rt: HostRuntime) -> Result<(), Fail> {
+fn the_nodes_are_met_exactly(rt: HostRuntime) {
     let piece = straight();
     assert_eq!(rt; point(&piece, piece.t0).y, exactly(-225_000_000_000_000));
     assert_eq!(rt; point(&piece, piece.t1).y, exactly(225_000_000_000_000));
-    Ok(())
 }
 
 /// So many microseconds after a full minute.
@@ -123,11 +119,10 @@ fn slots_between(first: u64, last: u64) -> u32
 }
 
 #[test]
-fn a_slot_is_a_minute_from_the_first_tick_on(rt: HostRuntime) -> Result<(), Fail> {
+fn a_slot_is_a_minute_from_the_first_tick_on(rt: HostRuntime) {
     assert_eq!(rt; slots_between(1, 0), 0);
     assert_eq!(rt; slots_between(7, 7), 1);
     assert_eq!(rt; slots_between(7, 60_000_006), 1);
     assert_eq!(rt; slots_between(7, 60_000_007), 2);
     assert_eq!(rt; slots_between(0, 120_000_000), 3);
-    Ok(())
 }

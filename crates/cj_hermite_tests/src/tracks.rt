@@ -8,8 +8,8 @@ use cj_hermite::{Hint, cut, piece, piece_at, run_from, segment_of};
 use cj_kvn::Text;
 use cj_track::{Frame, Matrices, Node, Nodes, Segment, Segments, Track, Vec3};
 use std::alloc::{AllocError, Global};
+use std::panic::Expect;
 use std::process::Abort;
-use std::test::Fail;
 
 /// The tick of this millisecond of 2025.
 fn at(millis: u64) -> Tick
@@ -117,8 +117,8 @@ fn track(rt: &impl Abort, alloc: Global) -> Result<Track, AllocError>
 }
 
 #[test]
-fn a_shared_tick_belongs_to_the_last_segment(rt: HostRuntime) -> Result<(), Fail> {
-    let track = track(&rt, rt.alloc())?;
+fn a_shared_tick_belongs_to_the_last_segment(rt: HostRuntime) {
+    let track = track(&rt, rt.alloc()).expect(&rt, "no fault");
     let pieces = [
         (0, Some(0)),
         (29_999, Some(0)),
@@ -131,12 +131,11 @@ fn a_shared_tick_belongs_to_the_last_segment(rt: HostRuntime) -> Result<(), Fail
     for (millis, index) in pieces {
         assert_eq!(rt; piece_at(&track, at(millis)), index, "at {millis}");
     }
-    Ok(())
 }
 
 #[test]
-fn there_is_no_state_in_a_gap(rt: HostRuntime) -> Result<(), Fail> {
-    let track = track(&rt, rt.alloc())?;
+fn there_is_no_state_in_a_gap(rt: HostRuntime) {
+    let track = track(&rt, rt.alloc()).expect(&rt, "no fault");
     let pieces = [
         (60_001, None),
         (89_999, None),
@@ -148,12 +147,11 @@ fn there_is_no_state_in_a_gap(rt: HostRuntime) -> Result<(), Fail> {
     for (millis, index) in pieces {
         assert_eq!(rt; piece_at(&track, at(millis)), index, "at {millis}");
     }
-    Ok(())
 }
 
 #[test]
-fn pieces_are_numbered_through_all_segments(rt: HostRuntime) -> Result<(), Fail> {
-    let track = track(&rt, rt.alloc())?;
+fn pieces_are_numbered_through_all_segments(rt: HostRuntime) {
+    let track = track(&rt, rt.alloc()).expect(&rt, "no fault");
     let nodes = [
         (0, 30_000, 0),
         (20_000, 40_000, 1),
@@ -167,12 +165,11 @@ fn pieces_are_numbered_through_all_segments(rt: HostRuntime) -> Result<(), Fail>
         assert_eq!(rt; (piece.t0, piece.t1), (at(*from), at(*to)));
         assert_eq!(rt; segment_of(&track, index as u32), *segment);
     }
-    Ok(())
 }
 
 #[test]
-fn a_cut_leaves_what_belongs_to_a_later_piece(rt: HostRuntime) -> Result<(), Fail> {
-    let track = track(&rt, rt.alloc())?;
+fn a_cut_leaves_what_belongs_to_a_later_piece(rt: HostRuntime) {
+    let track = track(&rt, rt.alloc()).expect(&rt, "no fault");
     let all = Window {
         first: at(0),
         last: at(200_000),
@@ -226,12 +223,11 @@ fn a_cut_leaves_what_belongs_to_a_later_piece(rt: HostRuntime) -> Result<(), Fai
         })
     );
     assert_eq!(rt; cut(&track, 2, late), None);
-    Ok(())
 }
 
 #[test]
-fn a_hint_changes_no_run(rt: HostRuntime) -> Result<(), Fail> {
-    let track = track(&rt, rt.alloc())?;
+fn a_hint_changes_no_run(rt: HostRuntime) {
+    let track = track(&rt, rt.alloc()).expect(&rt, "no fault");
     let before = |millis: u64| Tick::nearest(1_735_689_600_000_000 + millis * 1000 - 1);
     let runs = [
         (0, Some((at(0), before(30_000), 0))),
@@ -260,5 +256,4 @@ fn a_hint_changes_no_run(rt: HostRuntime) -> Result<(), Fail> {
             assert_eq!(rt; told, expected, "from {from} at {segment}, {node}");
         }
     }
-    Ok(())
 }

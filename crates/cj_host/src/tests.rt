@@ -6,24 +6,26 @@ use cj_io::{Folder, FolderError, PutError, Shelf, read_whole};
 use cj_stream::{MemSource, PartSource, StreamShelf};
 use std::alloc::{AllocError, Global};
 use std::fs;
-use std::test::Fail;
+use std::panic::Expect;
 use std::thread::Threads;
 
 #[test]
-fn files_of_a_directory_are_read(rt: HostRuntime) -> Result<(), Fail> {
+fn files_of_a_directory_are_read(rt: HostRuntime) {
     let alloc = rt.alloc();
-    fs::create_dir(&rt, "read_here")?;
-    fs::create_dir(&rt, "read_here/within")?;
-    fs::write(&rt, "read_here/a.oem", "abcd")?;
+    fs::create_dir(&rt, "read_here").expect(&rt, "no fault");
+    fs::create_dir(&rt, "read_here/within").expect(&rt, "no fault");
+    fs::write(&rt, "read_here/a.oem", "abcd").expect(&rt, "no fault");
     let mut folder = DirFolder::new(&rt, "read_here");
-    let names = folder.names(alloc)?;
+    let names = folder.names(alloc).expect(&rt, "no fault");
     assert_eq!(rt; names.len(), 1);
     assert_eq!(rt; names[0].as_slice(), b"a.oem".as_slice());
     assert_eq!(rt;
-        read_whole(alloc, &mut folder, 0, 4)?.as_slice(),
+        read_whole(alloc, &mut folder, 0, 4)
+            .expect(&rt, "no fault")
+            .as_slice(),
         b"abcd".as_slice()
     );
-    fs::remove_dir_all(&rt, "read_here")?;
+    fs::remove_dir_all(&rt, "read_here").expect(&rt, "no fault");
     assert_eq!(rt; folder.names(alloc).err(), Some(FolderError::Failed));
     assert!(rt;
         is_told(
@@ -32,25 +34,29 @@ fn files_of_a_directory_are_read(rt: HostRuntime) -> Result<(), Fail> {
             b"conj: read_here: No such file or directory (os error 2)\n"
         )
     );
-    Ok(())
 }
 
 #[test]
-fn pieces_are_written_to_a_directory(rt: HostRuntime) -> Result<(), Fail> {
+fn pieces_are_written_to_a_directory(rt: HostRuntime) {
     let alloc = rt.alloc();
-    fs::create_dir(&rt, "written_here")?;
+    fs::create_dir(&rt, "written_here").expect(&rt, "no fault");
     fs::write(
         &rt,
         "written_here/screen.report",
         "an older and longer text",
-    )?;
+    )
+    .expect(&rt, "no fault");
     let mut shelf = DirShelf::new(&rt, "written_here");
-    shelf.put(alloc, b"screen.report", b"text")?;
+    shelf
+        .put(alloc, b"screen.report", b"text")
+        .expect(&rt, "no fault");
     assert_eq!(rt;
-        fs::read_to_string(&rt, "written_here/screen.report")?.as_str(),
+        fs::read_to_string(&rt, "written_here/screen.report")
+            .expect(&rt, "no fault")
+            .as_str(),
         "text"
     );
-    fs::remove_dir_all(&rt, "written_here")?;
+    fs::remove_dir_all(&rt, "written_here").expect(&rt, "no fault");
     assert_eq!(rt;
         shelf.put(alloc, b"screen.report", b"text"),
         Err(PutError::Failed)
@@ -62,14 +68,13 @@ fn pieces_are_written_to_a_directory(rt: HostRuntime) -> Result<(), Fail> {
             b"conj: written_here/screen.report: No such file or directory (os error 2)\n"
         )
     );
-    Ok(())
 }
 
 #[test]
-fn a_piece_that_cannot_take_its_name_leaves_nothing(rt: HostRuntime) -> Result<(), Fail> {
+fn a_piece_that_cannot_take_its_name_leaves_nothing(rt: HostRuntime) {
     let alloc = rt.alloc();
-    fs::create_dir(&rt, "taken_here")?;
-    fs::create_dir(&rt, "taken_here/screen.report")?;
+    fs::create_dir(&rt, "taken_here").expect(&rt, "no fault");
+    fs::create_dir(&rt, "taken_here/screen.report").expect(&rt, "no fault");
     let mut shelf = DirShelf::new(&rt, "taken_here");
     assert_eq!(rt;
         shelf.put(alloc, b"screen.report", b"text"),
@@ -82,30 +87,46 @@ fn a_piece_that_cannot_take_its_name_leaves_nothing(rt: HostRuntime) -> Result<(
             b"conj: taken_here/screen.report: Is a directory (os error 21)\n"
         )
     );
-    assert_eq!(rt; fs::exists(&rt, "taken_here/.screen.report.part")?, false);
-    fs::remove_dir_all(&rt, "taken_here")?;
-    Ok(())
+    assert_eq!(rt;
+        fs::exists(&rt, "taken_here/.screen.report.part").expect(&rt, "no fault"),
+        false
+    );
+    fs::remove_dir_all(&rt, "taken_here").expect(&rt, "no fault");
 }
 
 #[test]
-fn a_piece_is_written_while_it_is_made(rt: HostRuntime) -> Result<(), Fail> {
+fn a_piece_is_written_while_it_is_made(rt: HostRuntime) {
     let alloc = rt.alloc();
-    fs::create_dir(&rt, "made_here")?;
+    fs::create_dir(&rt, "made_here").expect(&rt, "no fault");
     let mut shelf = DirShelf::new(&rt, "made_here");
-    shelf.put_made(
-        &rt,
-        alloc,
-        b"screen.cert",
-        &mut MemSource::new(b"abcdefghi", 2),
-    )?;
-    shelf.put_made(&rt, alloc, b"empty", &mut MemSource::new(b"", 2))?;
+    shelf
+        .put_made(
+            &rt,
+            alloc,
+            b"screen.cert",
+            &mut MemSource::new(b"abcdefghi", 2),
+        )
+        .expect(&rt, "no fault");
+    shelf
+        .put_made(&rt, alloc, b"empty", &mut MemSource::new(b"", 2))
+        .expect(&rt, "no fault");
     assert_eq!(rt;
-        fs::read_to_string(&rt, "made_here/screen.cert")?.as_str(),
+        fs::read_to_string(&rt, "made_here/screen.cert")
+            .expect(&rt, "no fault")
+            .as_str(),
         "abcdefghi"
     );
-    assert_eq!(rt; fs::read_to_string(&rt, "made_here/empty")?.as_str(), "");
-    assert_eq!(rt; fs::exists(&rt, "made_here/.screen.cert.part")?, false);
-    fs::remove_dir_all(&rt, "made_here")?;
+    assert_eq!(rt;
+        fs::read_to_string(&rt, "made_here/empty")
+            .expect(&rt, "no fault")
+            .as_str(),
+        ""
+    );
+    assert_eq!(rt;
+        fs::exists(&rt, "made_here/.screen.cert.part").expect(&rt, "no fault"),
+        false
+    );
+    fs::remove_dir_all(&rt, "made_here").expect(&rt, "no fault");
     assert_eq!(rt;
         shelf.put_made(&rt, alloc, b"screen.cert", &mut MemSource::new(b"abc", 2)),
         Err(PutError::Failed)
@@ -117,7 +138,6 @@ fn a_piece_is_written_while_it_is_made(rt: HostRuntime) -> Result<(), Fail> {
             b"conj: made_here/screen.cert: No such file or directory (os error 2)\n"
         )
     );
-    Ok(())
 }
 
 /// A source of one part, and behind it no memory.
@@ -151,10 +171,10 @@ impl PartSource for Starved {
 }
 
 #[test]
-fn a_piece_that_wants_memory_while_it_is_made_leaves_nothing(rt: HostRuntime) -> Result<(), Fail> {
+fn a_piece_that_wants_memory_while_it_is_made_leaves_nothing(rt: HostRuntime) {
     let alloc = rt.alloc();
-    fs::create_dir(&rt, "starved_here")?;
-    fs::write(&rt, "starved_here/screen.cert", "older")?;
+    fs::create_dir(&rt, "starved_here").expect(&rt, "no fault");
+    fs::write(&rt, "starved_here/screen.cert", "older").expect(&rt, "no fault");
     let mut shelf = DirShelf::new(&rt, "starved_here");
     assert_eq!(rt;
         shelf.put_made(&rt, alloc, b"screen.cert", &mut Starved { made: false }),
@@ -162,24 +182,27 @@ fn a_piece_that_wants_memory_while_it_is_made_leaves_nothing(rt: HostRuntime) ->
     );
     assert!(rt; shelf.last_fault().is_none());
     assert_eq!(rt;
-        fs::read_to_string(&rt, "starved_here/screen.cert")?.as_str(),
+        fs::read_to_string(&rt, "starved_here/screen.cert")
+            .expect(&rt, "no fault")
+            .as_str(),
         "older"
     );
-    assert_eq!(rt; fs::exists(&rt, "starved_here/.screen.cert.part")?, false);
-    fs::remove_dir_all(&rt, "starved_here")?;
-    Ok(())
+    assert_eq!(rt;
+        fs::exists(&rt, "starved_here/.screen.cert.part").expect(&rt, "no fault"),
+        false
+    );
+    fs::remove_dir_all(&rt, "starved_here").expect(&rt, "no fault");
 }
 
 #[test]
-fn a_fault_of_a_write_is_told_before_want_of_memory(rt: HostRuntime) -> Result<(), Fail> {
+fn a_fault_of_a_write_is_told_before_want_of_memory(rt: HostRuntime) {
     let alloc = rt.alloc();
     let mut source = Starved { made: false };
-    let first = source.next_parts(&rt, alloc)?;
+    let first = source.next_parts(&rt, alloc).expect(&rt, "no fault");
     let mut no_room = [0u8; 0];
     let mut to = no_room.as_mut_slice();
     let ended = write_while_made(&mut to, &rt, alloc, first, &mut source);
     assert!(rt; matches!(ended, Err(MakeError::Fault(_))));
-    Ok(())
 }
 
 fn is_told(alloc: Global, fault: Option<&SystemFault>, line: &[u8]) -> bool {

@@ -2,7 +2,6 @@
 ghost use Rattle.std.specs.Prelude.{◌≡◌, ◌≤ℤ◌};
 
 use cj_interval::{Divisor, Span, isqrt_down, isqrt_up};
-use std::test::Fail;
 
 fn span(lo: i128, hi: i128) -> Span
     requires { lo ≤ℤ hi }
@@ -13,7 +12,7 @@ fn span(lo: i128, hi: i128) -> Span
 }
 
 #[test]
-fn ends_of_sums_differences_and_products(rt: HostRuntime) -> Result<(), Fail> {
+fn ends_of_sums_differences_and_products(rt: HostRuntime) {
     let first = span(-2, 3);
     let second = span(-5, 4);
     assert_eq!(rt; first.add(second), span(-7, 7));
@@ -25,20 +24,18 @@ fn ends_of_sums_differences_and_products(rt: HostRuntime) -> Result<(), Fail> {
     assert_eq!(rt; span(-3, -2).mul(span(4, 5)), span(-15, -8));
     assert_eq!(rt; span(-3, -2).mul(span(-5, -4)), span(8, 15));
     assert_eq!(rt; first.scale(20), span(-40, 60));
-    Ok(())
 }
 
 #[test]
-fn levels_round_outward(rt: HostRuntime) -> Result<(), Fail> {
+fn levels_round_outward(rt: HostRuntime) {
     assert_eq!(rt; span(-1, 0).lerp(span(1, 2), 1, 3, 1), span(-1, 1));
     assert_eq!(rt; span(3, 3).lerp(span(6, 6), 1, 3, 1), span(4, 4));
     assert_eq!(rt; Span::between(7, 7, 0, 2, 3), span(2, 3));
     assert_eq!(rt; Span::between(-7, -7, 0, 2, 3), span(-3, -2));
-    Ok(())
 }
 
 #[test]
-fn fractions_round_down_and_up(rt: HostRuntime) -> Result<(), Fail> {
+fn fractions_round_down_and_up(rt: HostRuntime) {
     let end: i64 = 1 << 59;
     let hour = 3_600_000_000;
     for (of, at, a, b, down, up) in [
@@ -77,11 +74,10 @@ fn fractions_round_down_and_up(rt: HostRuntime) -> Result<(), Fail> {
         assert_eq!(rt; fraction.down(a, b), down, "down {at} of {of}");
         assert_eq!(rt; fraction.up(a, b), up, "up {at} of {of}");
     }
-    Ok(())
 }
 
 #[test]
-fn roots_of_squares_and_of_their_neighbours(rt: HostRuntime) -> Result<(), Fail> {
+fn roots_of_squares_and_of_their_neighbours(rt: HostRuntime) {
     let most = 1 << 63;
     for (square, down, up) in [
         (0, 0, 0),
@@ -103,5 +99,4 @@ fn roots_of_squares_and_of_their_neighbours(rt: HostRuntime) -> Result<(), Fail>
         assert_eq!(rt; isqrt_down(square), down, "down {square}");
         assert_eq!(rt; isqrt_up(square), up, "up {square}");
     }
-    Ok(())
 }

@@ -2,7 +2,7 @@ ghost use Rattle.std.specs.Prelude.{◌≡◌, ◌++◌};
 
 use cj_jobs::{Jobs, run_jobs};
 use std::alloc::{AllocError, Global};
-use std::test::Fail;
+use std::panic::Expect;
 
 /// Copies.
 struct Copies;
@@ -25,17 +25,16 @@ impl Jobs<u64> for Copies {
 }
 
 #[test]
-fn parts_come_in_order_whoever_takes_them(rt: HostRuntime) -> Result<(), Fail> {
+fn parts_come_in_order_whoever_takes_them(rt: HostRuntime) {
     let alloc = rt.alloc();
     let mut list = Vec::new(alloc);
     for element in 0..1000 {
-        list.push(element)?;
+        list.push(element).expect(&rt, "no fault");
     }
     for size in [0usize, 1, 7, 999, 1000, 2000] {
         for workers in [0usize, 1, 2, 4, 16] {
-            let copy = run_jobs(&rt, alloc, &Copies, &list, size, workers)?;
+            let copy = run_jobs(&rt, alloc, &Copies, &list, size, workers).expect(&rt, "no fault");
             assert!(rt; copy.as_slice() == list.as_slice());
         }
     }
-    Ok(())
 }

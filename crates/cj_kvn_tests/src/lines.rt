@@ -1,11 +1,11 @@
 use cj_kvn::{KvnFault, Line, LineKind, MarkKind, Range32, Text, field, read_lines, row_fields};
-use std::test::Fail;
+use std::panic::Expect;
 
 #[test]
-fn each_kind_of_line(rt: HostRuntime) -> Result<(), Fail> {
+fn each_kind_of_line(rt: HostRuntime) {
     let bytes =
         b"CCSDS_OEM_VERS = 2.0\r\n\r\n  COMMENT\tany \xff\nMETA_START\n  2025 7000\t1 \nA = B = \t";
-    let lines = read_lines(rt.alloc(), bytes)?;
+    let lines = read_lines(rt.alloc(), bytes).expect(&rt, "no fault");
     let first = LineKind::Pair {
         key: Range32 { first: 0, past: 14 },
         value: Range32 {
@@ -56,11 +56,10 @@ fn each_kind_of_line(rt: HostRuntime) -> Result<(), Fail> {
         },
     ];
     assert_eq!(rt; lines.as_slice(), expected.as_slice());
-    Ok(())
 }
 
 #[test]
-fn fields_of_a_row(rt: HostRuntime) -> Result<(), Fail> {
+fn fields_of_a_row(rt: HostRuntime) {
     let bytes = b"  2025 7000\t1 ";
     let row = Range32 { first: 1, past: 14 };
     assert_eq!(rt; field(bytes, row, 0), Some(Range32 { first: 2, past: 6 }));
@@ -74,11 +73,10 @@ fn fields_of_a_row(rt: HostRuntime) -> Result<(), Fail> {
     );
     assert_eq!(rt; field(bytes, row, 3), None);
     assert_eq!(rt; field(b" \t ", Range32 { first: 0, past: 3 }, 0), None);
-    Ok(())
 }
 
 #[test]
-fn fields_found_in_one_pass(rt: HostRuntime) -> Result<(), Fail> {
+fn fields_found_in_one_pass(rt: HostRuntime) {
     let row = row_fields(b"  2025 7000\t1 ", Range32 { first: 1, past: 14 });
     assert_eq!(rt; row.count, 3);
     assert_eq!(rt; row.found[1], Range32 { first: 7, past: 11 });
@@ -94,11 +92,10 @@ fn fields_found_in_one_pass(rt: HostRuntime) -> Result<(), Fail> {
     assert_eq!(rt; more.found[9], last);
     let none = row_fields(b" \t ", Range32 { first: 0, past: 3 });
     assert_eq!(rt; none.count, 0);
-    Ok(())
 }
 
 #[test]
-fn the_first_fault(rt: HostRuntime) -> Result<(), Fail> {
+fn the_first_fault(rt: HostRuntime) {
     let texts: [(&[u8], KvnFault); 11] = [
         (b"KEY = 1\nbad key = 2\n", KvnFault::NoLineForm { line: 2 }),
         (b"= 1", KvnFault::NoLineForm { line: 1 }),
@@ -115,11 +112,10 @@ fn the_first_fault(rt: HostRuntime) -> Result<(), Fail> {
     for (text, fault) in &texts {
         assert_eq!(rt; read_lines(rt.alloc(), text).err(), Some(*fault));
     }
-    Ok(())
 }
 
 #[test]
-fn ends_of_lines(rt: HostRuntime) -> Result<(), Fail> {
+fn ends_of_lines(rt: HostRuntime) {
     let counts: [(&[u8], usize); 6] = [
         (b"", 0),
         (b"\n", 1),
@@ -129,17 +125,18 @@ fn ends_of_lines(rt: HostRuntime) -> Result<(), Fail> {
         (b"A = 1\nB = 2", 2),
     ];
     for (text, count) in &counts {
-        assert_eq!(rt; read_lines(rt.alloc(), text)?.len(), *count);
+        assert_eq!(rt;
+            read_lines(rt.alloc(), text).expect(&rt, "no fault").len(),
+            *count
+        );
     }
-    Ok(())
 }
 
 #[test]
-fn a_tab_in_a_value_is_a_space(rt: HostRuntime) -> Result<(), Fail> {
-    let value = Text::of_value(rt.alloc(), b"SAT\tA")?;
-    let text = Text::copy_of(rt.alloc(), b"SAT A")?;
+fn a_tab_in_a_value_is_a_space(rt: HostRuntime) {
+    let value = Text::of_value(rt.alloc(), b"SAT\tA").expect(&rt, "no fault");
+    let text = Text::copy_of(rt.alloc(), b"SAT A").expect(&rt, "no fault");
     assert_eq!(rt; value, text);
-    let next = Text::copy_of(rt.alloc(), b"SAT B")?;
+    let next = Text::copy_of(rt.alloc(), b"SAT B").expect(&rt, "no fault");
     assert!(rt; text < next);
-    Ok(())
 }

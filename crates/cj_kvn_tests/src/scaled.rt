@@ -1,8 +1,8 @@
 use cj_kvn::{NumFault, read_scaled};
-use std::test::Fail;
+use std::panic::Expect;
 
 #[test]
-fn kilometres_are_rounded_to_nanometres(rt: HostRuntime) -> Result<(), Fail> {
+fn kilometres_are_rounded_to_nanometres(rt: HostRuntime) {
     assert_eq!(rt;
         read_scaled(b"7000.0000000000005", 12),
         Ok(7_000_000_000_000_001)
@@ -16,11 +16,10 @@ fn kilometres_are_rounded_to_nanometres(rt: HostRuntime) -> Result<(), Fail> {
     assert_eq!(rt; read_scaled(b"5e-13", 12), Ok(1));
     assert_eq!(rt; read_scaled(b"E5", 12), Err(NumFault::NotNumber));
     assert_eq!(rt; read_scaled(b"1e40", 12), Err(NumFault::TooLarge));
-    Ok(())
 }
 
 #[test]
-fn forms_of_a_number(rt: HostRuntime) -> Result<(), Fail> {
+fn forms_of_a_number(rt: HostRuntime) {
     let numbers: [(&[u8], i128); 10] = [
         (b"5.", 500),
         (b".5", 50),
@@ -36,11 +35,10 @@ fn forms_of_a_number(rt: HostRuntime) -> Result<(), Fail> {
     for (text, value) in &numbers {
         assert_eq!(rt; read_scaled(text, 2), Ok(*value));
     }
-    Ok(())
 }
 
 #[test]
-fn texts_that_are_no_numbers(rt: HostRuntime) -> Result<(), Fail> {
+fn texts_that_are_no_numbers(rt: HostRuntime) {
     let texts: [&[u8]; 20] = [
         b"", b"+", b"-", b".", b"-.", b"e5", b".e5", b"1e", b"1e+", b"1E-", b"1e12345", b"1e00001",
         b"1e5e5", b"1e5.0", b"1.2.3", b"--5", b"+-5", b" 1", b"1 ", b"0x10",
@@ -48,11 +46,10 @@ fn texts_that_are_no_numbers(rt: HostRuntime) -> Result<(), Fail> {
     for text in &texts {
         assert_eq!(rt; read_scaled(text, 12), Err(NumFault::NotNumber));
     }
-    Ok(())
 }
 
 #[test]
-fn the_greatest_size(rt: HostRuntime) -> Result<(), Fail> {
+fn the_greatest_size(rt: HostRuntime) {
     let greatest = 1_000_000_000_000_000_000_000_000_000_000_000_000;
     assert_eq!(rt; read_scaled(b"1e24", 12), Ok(greatest));
     assert_eq!(rt; read_scaled(b"-1e24", 12), Ok(-greatest));
@@ -61,18 +58,18 @@ fn the_greatest_size(rt: HostRuntime) -> Result<(), Fail> {
     let half = b"1000000000000000000000000.0000000000005";
     assert_eq!(rt; read_scaled(half, 12), Err(NumFault::TooLarge));
     assert_eq!(rt; read_scaled(b"1e9999", 0), Err(NumFault::TooLarge));
-    Ok(())
 }
 
 #[test]
-fn thousands_of_digits(rt: HostRuntime) -> Result<(), Fail> {
-    let mut small = vec![in rt.alloc(); b'0'; 3000]?;
-    small.extend_from_slice(b".")?;
-    small.extend_from_slice([b'0'; 3000].as_slice())?;
-    small.extend_from_slice(b"25e3001")?;
+fn thousands_of_digits(rt: HostRuntime) {
+    let mut small = vec![in rt.alloc(); b'0'; 3000].expect(&rt, "no fault");
+    small.extend_from_slice(b".").expect(&rt, "no fault");
+    small
+        .extend_from_slice([b'0'; 3000].as_slice())
+        .expect(&rt, "no fault");
+    small.extend_from_slice(b"25e3001").expect(&rt, "no fault");
     assert_eq!(rt; read_scaled(small.as_slice(), 0), Ok(3));
-    let mut large = vec![in rt.alloc(); b'9'; 3000]?;
-    large.extend_from_slice(b"e-2990")?;
+    let mut large = vec![in rt.alloc(); b'9'; 3000].expect(&rt, "no fault");
+    large.extend_from_slice(b"e-2990").expect(&rt, "no fault");
     assert_eq!(rt; read_scaled(large.as_slice(), 0), Ok(10_000_000_000));
-    Ok(())
 }

@@ -3,6 +3,7 @@ ghost use Rattle.cj_ledger.specs.Shares.{IsOf};
 
 use cj_ledger::{Ledger, Share, Totals, Why};
 use std::alloc::{AllocError, Global};
+use std::panic::Expect;
 use std::process::Abort;
 use std::test::*;
 use std::thread::{Threads, join};
@@ -154,7 +155,7 @@ fn counted(roots: u64, splits: u64, closes: u64) -> Totals {
 }
 
 #[test]
-fn shares_follow_scripts(rt: HostRuntime) -> Result<(), Fail> {
+fn shares_follow_scripts(rt: HostRuntime) {
     let scripts: [(u64, u32, &[Line], Totals); 8] = [
         (3, 1, &ALONE, counted(3, 1, 2)),
         (1, 2, &TWO_AND_ONE_ROOT, counted(1, 1, 2)),
@@ -167,9 +168,11 @@ fn shares_follow_scripts(rt: HostRuntime) -> Result<(), Fail> {
     ];
     for (roots, count, script, totals) in scripts {
         assert!(rt; count > 0);
-        assert_eq!(rt; followed(&rt, rt.alloc(), roots, count, script)?, totals);
+        assert_eq!(rt;
+            followed(&rt, rt.alloc(), roots, count, script).expect(&rt, "no fault"),
+            totals
+        );
     }
-    Ok(())
 }
 
 /// Splits and closes so many times, in two calls and in one.
@@ -213,11 +216,10 @@ fn totals_of_two_threads<R: Threads + Sync>(
 }
 
 #[test]
-fn two_threads_count_beside_each_other(rt: HostRuntime) -> Result<(), Fail> {
-    let (ledger, mut shares) = Ledger::start(rt.alloc(), 3, 2)?;
+fn two_threads_count_beside_each_other(rt: HostRuntime) {
+    let (ledger, mut shares) = Ledger::start(rt.alloc(), 3, 2).expect(&rt, "no fault");
     let second = shares.pop().unwrap();
     let first = shares.pop().unwrap();
-    let totals = totals_of_two_threads(&rt, ledger, shares, first, second)?;
+    let totals = totals_of_two_threads(&rt, ledger, shares, first, second).expect(&rt, "no fault");
     assert_eq!(rt; totals, counted(3, 300_000, 300_000));
-    Ok(())
 }

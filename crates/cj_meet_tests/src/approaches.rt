@@ -12,8 +12,8 @@ use cj_samples::{AT_7000, AT_7005, AT_7100, moving, rest, tick, track_of, track_
 use cj_scenes::{crossing, problem_of, resting};
 use cj_track::Vec3;
 use std::alloc::{AllocError, Global};
+use std::panic::Expect;
 use std::process::Abort;
-use std::test::Fail;
 use std::thread::Threads;
 
 const AB: Pair = Pair { a: 0, b: 1 };
@@ -94,78 +94,83 @@ fn approach(
 }
 
 #[test]
-fn two_tracks_cross_at_one_kilometre(rt: HostRuntime) -> Result<(), Fail> {
-    let problem = crossing(rt.alloc())?;
-    let found = approach(rt.alloc(), &problem, 29_538_120, 30 * SECOND, 30_461_880)?;
+fn two_tracks_cross_at_one_kilometre(rt: HostRuntime) {
+    let problem = crossing(rt.alloc()).expect(&rt, "no fault");
+    let found = approach(rt.alloc(), &problem, 29_538_120, 30 * SECOND, 30_461_880).expect(
+        &rt, "no fault",
+    );
     assert_eq!(rt; found, Some((30_000_000, 1_000_000_000_000)));
-    Ok(())
 }
 
 /// The minute has sixty million flat cells of one tick each: to look at all of them takes minutes.
 #[test]
-fn a_minute_of_crossing_tracks_ends_at_once(rt: HostRuntime) -> Result<(), Fail> {
-    let problem = crossing(rt.alloc())?;
-    let found = approach(rt.alloc(), &problem, 0, 30 * SECOND, 60 * SECOND)?;
+fn a_minute_of_crossing_tracks_ends_at_once(rt: HostRuntime) {
+    let problem = crossing(rt.alloc()).expect(&rt, "no fault");
+    let found = approach(rt.alloc(), &problem, 0, 30 * SECOND, 60 * SECOND).expect(&rt, "no fault");
     assert_eq!(rt; found, Some((30_000_000, 1_000_000_000_000)));
-    Ok(())
 }
 
 #[test]
-fn exactly_at_the_threshold_the_first_tick_is_taken(rt: HostRuntime) -> Result<(), Fail> {
+fn exactly_at_the_threshold_the_first_tick_is_taken(rt: HostRuntime) {
     let alloc = rt.alloc();
-    let problem = resting(alloc)?;
-    let found = approach(alloc, &problem, 0, 60 * SECOND, 60 * SECOND)?;
+    let problem = resting(alloc).expect(&rt, "no fault");
+    let found = approach(alloc, &problem, 0, 60 * SECOND, 60 * SECOND).expect(&rt, "no fault");
     assert_eq!(rt; found, Some((0, 5_000_000_000_000)));
-    Ok(())
 }
 
 #[test]
-fn at_one_place_the_bound_is_0(rt: HostRuntime) -> Result<(), Fail> {
+fn at_one_place_the_bound_is_0(rt: HostRuntime) {
     let alloc = rt.alloc();
-    let a = track_of(alloc, rest(alloc, 0, 60, AT_7000)?)?;
-    let b = track_of(alloc, rest(alloc, 0, 60, AT_7000)?)?;
-    let problem = problem_of(alloc, a, b)?;
-    let found = approach(alloc, &problem, 0, 60 * SECOND, 60 * SECOND)?;
+    let a = track_of(alloc, rest(alloc, 0, 60, AT_7000).expect(&rt, "no fault")).expect(
+        &rt, "no fault",
+    );
+    let b = track_of(alloc, rest(alloc, 0, 60, AT_7000).expect(&rt, "no fault")).expect(
+        &rt, "no fault",
+    );
+    let problem = problem_of(alloc, a, b).expect(&rt, "no fault");
+    let found = approach(alloc, &problem, 0, 60 * SECOND, 60 * SECOND).expect(&rt, "no fault");
     assert_eq!(rt; found, Some((0, 0)));
-    Ok(())
 }
 
 #[test]
-fn between_nodes_the_bound_is_rounded_up(rt: HostRuntime) -> Result<(), Fail> {
-    let problem = side_by_side(rt.alloc())?;
-    let whole = approach(rt.alloc(), &problem, 0, 60 * SECOND, 60 * SECOND)?;
+fn between_nodes_the_bound_is_rounded_up(rt: HostRuntime) {
+    let problem = side_by_side(rt.alloc()).expect(&rt, "no fault");
+    let whole = approach(rt.alloc(), &problem, 0, 60 * SECOND, 60 * SECOND).expect(&rt, "no fault");
     assert_eq!(rt; whole, Some((0, 5_000_000_000_000)));
-    let within = approach(rt.alloc(), &problem, 1, 20_500_000, 59_900_000)?;
+    let within = approach(rt.alloc(), &problem, 1, 20_500_000, 59_900_000).expect(&rt, "no fault");
     assert_eq!(rt; within, Some((1, 5_000_000_000_001)));
-    Ok(())
 }
 
 #[test]
-fn a_shared_tick_is_not_of_the_earlier_encounter(rt: HostRuntime) -> Result<(), Fail> {
+fn a_shared_tick_is_not_of_the_earlier_encounter(rt: HostRuntime) {
     let alloc = rt.alloc();
-    let near = rest(alloc, 0, 30, AT_7000)?;
-    let far = rest(alloc, 30, 60, AT_7100)?;
-    let a = track_of_two(alloc, near, far)?;
-    let b = track_of(alloc, rest(alloc, 0, 60, AT_7005)?)?;
-    let problem = problem_of(alloc, a, b)?;
-    let found = approach(alloc, &problem, 0, 20 * SECOND, 30 * SECOND)?;
+    let near = rest(alloc, 0, 30, AT_7000).expect(&rt, "no fault");
+    let far = rest(alloc, 30, 60, AT_7100).expect(&rt, "no fault");
+    let a = track_of_two(alloc, near, far).expect(&rt, "no fault");
+    let b = track_of(alloc, rest(alloc, 0, 60, AT_7005).expect(&rt, "no fault")).expect(
+        &rt, "no fault",
+    );
+    let problem = problem_of(alloc, a, b).expect(&rt, "no fault");
+    let found = approach(alloc, &problem, 0, 20 * SECOND, 30 * SECOND).expect(&rt, "no fault");
     assert_eq!(rt; found, Some((0, 5_000_000_000_000)));
-    Ok(())
 }
 
 #[test]
-fn each_encounter_of_separate_segments_has_its_own(rt: HostRuntime) -> Result<(), Fail> {
+fn each_encounter_of_separate_segments_has_its_own(rt: HostRuntime) {
     let alloc = rt.alloc();
-    let early = rest(alloc, 0, 20, AT_7000)?;
-    let late = rest(alloc, 40, 60, AT_7000)?;
-    let a = track_of_two(alloc, early, late)?;
-    let b = track_of(alloc, rest(alloc, 0, 60, AT_7005)?)?;
-    let problem = problem_of(alloc, a, b)?;
-    let first = approach(alloc, &problem, 0, 10 * SECOND, 20 * SECOND)?;
+    let early = rest(alloc, 0, 20, AT_7000).expect(&rt, "no fault");
+    let late = rest(alloc, 40, 60, AT_7000).expect(&rt, "no fault");
+    let a = track_of_two(alloc, early, late).expect(&rt, "no fault");
+    let b = track_of(alloc, rest(alloc, 0, 60, AT_7005).expect(&rt, "no fault")).expect(
+        &rt, "no fault",
+    );
+    let problem = problem_of(alloc, a, b).expect(&rt, "no fault");
+    let first = approach(alloc, &problem, 0, 10 * SECOND, 20 * SECOND).expect(&rt, "no fault");
     assert_eq!(rt; first, Some((0, 5_000_000_000_000)));
-    let second = approach(alloc, &problem, 30 * SECOND, 50 * SECOND, 60 * SECOND)?;
+    let second = approach(alloc, &problem, 30 * SECOND, 50 * SECOND, 60 * SECOND).expect(
+        &rt, "no fault",
+    );
     assert_eq!(rt; second, Some((40_000_000, 5_000_000_000_000)));
-    Ok(())
 }
 
 /// Each encounter so many times.
@@ -205,13 +210,15 @@ fn approaches<R: Threads + Sync>(
 }
 
 #[test]
-fn approaches_come_in_order_from_one_worker_and_from_many(rt: HostRuntime) -> Result<(), Fail> {
+fn approaches_come_in_order_from_one_worker_and_from_many(rt: HostRuntime) {
     let alloc = rt.alloc();
-    let apart = rest(alloc, 0, 20, AT_7000)?;
-    let together = rest(alloc, 40, 60, AT_7005)?;
-    let a = track_of_two(alloc, apart, together)?;
-    let b = track_of(alloc, rest(alloc, 0, 60, AT_7005)?)?;
-    let problem = problem_of(alloc, a, b)?;
+    let apart = rest(alloc, 0, 20, AT_7000).expect(&rt, "no fault");
+    let together = rest(alloc, 40, 60, AT_7005).expect(&rt, "no fault");
+    let a = track_of_two(alloc, apart, together).expect(&rt, "no fault");
+    let b = track_of(alloc, rest(alloc, 0, 60, AT_7005).expect(&rt, "no fault")).expect(
+        &rt, "no fault",
+    );
+    let problem = problem_of(alloc, a, b).expect(&rt, "no fault");
     let early = Closest {
         tick: tick(0),
         high: 5_000_000_000_000,
@@ -222,7 +229,7 @@ fn approaches_come_in_order_from_one_worker_and_from_many(rt: HostRuntime) -> Re
     };
     for times in [1usize, 100] {
         for workers in [1, 2, 16] {
-            let found = approaches(&rt, alloc, &problem, times, workers)?;
+            let found = approaches(&rt, alloc, &problem, times, workers).expect(&rt, "no fault");
             assert_eq!(rt; found.len(), times.saturating_mul(2));
             for (place, closest) in found.iter().enumerate() {
                 let expected = if place < times { early } else { late };
@@ -230,5 +237,4 @@ fn approaches_come_in_order_from_one_worker_and_from_many(rt: HostRuntime) -> Re
             }
         }
     }
-    Ok(())
 }

@@ -5,7 +5,7 @@ use cj_bezier::{Cell, Encounter, Kind, Leaf, Mark};
 use cj_epoch::Tick;
 use cj_hermite::Pair;
 use cj_meet::encounters;
-use std::test::Fail;
+use std::panic::Expect;
 
 const START: u64 = 1_735_689_600_000_000;
 
@@ -40,13 +40,13 @@ fn leaf(pair: Pair, first: u64, last: u64, kind: Kind) -> Leaf
 }
 
 #[test]
-fn consecutive_leaves_are_one_encounter(rt: HostRuntime) -> Result<(), Fail> {
+fn consecutive_leaves_are_one_encounter(rt: HostRuntime) {
     let leaves = [
         leaf(AB, 10, 19, Kind::Undecided),
         leaf(AB, 20, 20, Kind::Near),
         leaf(AB, 21, 30, Kind::Undecided),
     ];
-    let found = encounters(rt.alloc(), &leaves)?;
+    let found = encounters(rt.alloc(), &leaves).expect(&rt, "no fault");
     let one = Encounter {
         pair: AB,
         first: tick(10),
@@ -56,18 +56,17 @@ fn consecutive_leaves_are_one_encounter(rt: HostRuntime) -> Result<(), Fail> {
         past: 3,
     };
     assert_eq!(rt; found.as_slice(), [one].as_slice());
-    Ok(())
 }
 
 #[test]
-fn far_ticks_and_other_pairs_part_encounters(rt: HostRuntime) -> Result<(), Fail> {
+fn far_ticks_and_other_pairs_part_encounters(rt: HostRuntime) {
     let leaves = [
         leaf(AB, 10, 19, Kind::Near),
         leaf(AB, 20, 29, Kind::Far),
         leaf(AB, 30, 39, Kind::Undecided),
         leaf(AC, 40, 49, Kind::Near),
     ];
-    let found = encounters(rt.alloc(), &leaves)?;
+    let found = encounters(rt.alloc(), &leaves).expect(&rt, "no fault");
     let expected = [
         Encounter {
             pair: AB,
@@ -95,11 +94,12 @@ fn far_ticks_and_other_pairs_part_encounters(rt: HostRuntime) -> Result<(), Fail
         },
     ];
     assert_eq!(rt; found.as_slice(), expected.as_slice());
-    Ok(())
 }
 
 #[test]
-fn no_leaves_have_no_encounters(rt: HostRuntime) -> Result<(), Fail> {
-    assert_eq!(rt; encounters(rt.alloc(), &[])?.len(), 0);
-    Ok(())
+fn no_leaves_have_no_encounters(rt: HostRuntime) {
+    assert_eq!(rt;
+        encounters(rt.alloc(), &[]).expect(&rt, "no fault").len(),
+        0
+    );
 }

@@ -3,8 +3,8 @@ use cj_epoch::Tick;
 use cj_hermite::Pair;
 use cj_merge::merge_runs;
 use std::alloc::{AllocError, Global};
+use std::panic::Expect;
 use std::process::Abort;
-use std::test::Fail;
 use std::thread::Threads;
 
 /// The cell of one tick with this number.
@@ -45,15 +45,20 @@ fn take_turns<R: Threads + Sync + Abort>(
     count: u32,
     length: u32,
     workers: usize,
-) -> Result<(), Fail> {
-    let merged = merge_runs(rt, alloc, &runs(alloc, count, length)?, workers)?;
-    let expected = cells(alloc, 0, 1, count.wrapping_mul(length))?;
+) {
+    let merged = merge_runs(
+        rt,
+        alloc,
+        &runs(alloc, count, length).expect(rt, "no fault"),
+        workers,
+    )
+    .expect(rt, "no fault");
+    let expected = cells(alloc, 0, 1, count.wrapping_mul(length)).expect(rt, "no fault");
     assert!(rt; merged.as_slice() == expected.as_slice());
-    Ok(())
 }
 
 #[test]
-fn runs_become_one_list(rt: HostRuntime) -> Result<(), Fail> {
+fn runs_become_one_list(rt: HostRuntime) {
     let cases: [(u32, u32, usize); 8] = [
         (0, 5, 1),
         (1, 5, 2),
@@ -65,9 +70,8 @@ fn runs_become_one_list(rt: HostRuntime) -> Result<(), Fail> {
         (16, 2_000, 16),
     ];
     for (count, length, workers) in cases {
-        take_turns(&rt, rt.alloc(), count, length, workers)?;
+        take_turns(&rt, rt.alloc(), count, length, workers);
     }
-    Ok(())
 }
 
 /// Runs of so many cells each, one behind the other, become one list in order, by so many workers.
@@ -76,22 +80,22 @@ fn follow_each_other<R: Threads + Sync + Abort>(
     alloc: Global,
     lengths: &[u32],
     workers: usize,
-) -> Result<(), Fail> {
+) {
     let mut runs = Vec::new(alloc);
     let mut count = 0u32;
     for length in lengths {
-        runs.push(cells(alloc, count, 1, *length)?)?;
+        runs.push(cells(alloc, count, 1, *length).expect(rt, "no fault"))
+            .expect(rt, "no fault");
         count = count.wrapping_add(*length);
     }
-    let merged = merge_runs(rt, alloc, &runs, workers)?;
-    let expected = cells(alloc, 0, 1, count)?;
+    let merged = merge_runs(rt, alloc, &runs, workers).expect(rt, "no fault");
+    let expected = cells(alloc, 0, 1, count).expect(rt, "no fault");
     assert!(rt; merged.as_slice() == expected.as_slice());
-    Ok(())
 }
 
 /// One run lies within a gap of another, is empty, or is all that there is.
 #[test]
-fn runs_of_unlike_lengths(rt: HostRuntime) -> Result<(), Fail> {
+fn runs_of_unlike_lengths(rt: HostRuntime) {
     let lengths: [[u32; 3]; 5] = [
         [20_000, 3, 0],
         [3, 20_000, 0],
@@ -101,10 +105,9 @@ fn runs_of_unlike_lengths(rt: HostRuntime) -> Result<(), Fail> {
     ];
     for workers in [1usize, 4, 16] {
         for row in &lengths {
-            follow_each_other(&rt, rt.alloc(), row, workers)?;
+            follow_each_other(&rt, rt.alloc(), row, workers);
         }
     }
-    Ok(())
 }
 
 /// So many cells from a number down to 0.
@@ -117,50 +120,40 @@ fn falling(alloc: Global, count: u32) -> Result<Vec<Cell>, AllocError> {
 }
 
 /// A run that falls becomes one list in order with a run that rises, by so many workers.
-fn come_in_order<R: Threads + Sync + Abort>(
-    rt: &R,
-    alloc: Global,
-    count: u32,
-    workers: usize,
-) -> Result<(), Fail> {
+fn come_in_order<R: Threads + Sync + Abort>(rt: &R, alloc: Global, count: u32, workers: usize) {
     let mut runs = Vec::new(alloc);
-    runs.push(falling(alloc, count)?)?;
-    runs.push(cells(alloc, count, 1, count)?)?;
-    let merged = merge_runs(rt, alloc, &runs, workers)?;
-    let expected = cells(alloc, 0, 1, count.wrapping_mul(2))?;
+    runs.push(falling(alloc, count).expect(rt, "no fault"))
+        .expect(rt, "no fault");
+    runs.push(cells(alloc, count, 1, count).expect(rt, "no fault"))
+        .expect(rt, "no fault");
+    let merged = merge_runs(rt, alloc, &runs, workers).expect(rt, "no fault");
+    let expected = cells(alloc, 0, 1, count.wrapping_mul(2)).expect(rt, "no fault");
     assert!(rt; merged.as_slice() == expected.as_slice());
-    Ok(())
 }
 
 #[test]
-fn runs_that_are_not_in_order(rt: HostRuntime) -> Result<(), Fail> {
+fn runs_that_are_not_in_order(rt: HostRuntime) {
     for workers in [1usize, 4, 16] {
-        come_in_order(&rt, rt.alloc(), 10, workers)?;
-        come_in_order(&rt, rt.alloc(), 20_000, workers)?;
+        come_in_order(&rt, rt.alloc(), 10, workers);
+        come_in_order(&rt, rt.alloc(), 20_000, workers);
     }
-    Ok(())
 }
 
 /// Runs of cells that are all at one place come to as many such cells, by so many workers.
-fn stay_at_one_place<R: Threads + Sync + Abort>(
-    rt: &R,
-    alloc: Global,
-    workers: usize,
-) -> Result<(), Fail> {
+fn stay_at_one_place<R: Threads + Sync + Abort>(rt: &R, alloc: Global, workers: usize) {
     let mut runs = Vec::new(alloc);
     for _ in 0..3 {
-        runs.push(cells(alloc, 7, 0, 10_000)?)?;
+        runs.push(cells(alloc, 7, 0, 10_000).expect(rt, "no fault"))
+            .expect(rt, "no fault");
     }
-    let merged = merge_runs(rt, alloc, &runs, workers)?;
-    let expected = cells(alloc, 7, 0, 30_000)?;
+    let merged = merge_runs(rt, alloc, &runs, workers).expect(rt, "no fault");
+    let expected = cells(alloc, 7, 0, 30_000).expect(rt, "no fault");
     assert!(rt; merged.as_slice() == expected.as_slice());
-    Ok(())
 }
 
 #[test]
-fn cells_at_one_place(rt: HostRuntime) -> Result<(), Fail> {
+fn cells_at_one_place(rt: HostRuntime) {
     for workers in [1usize, 4, 16] {
-        stay_at_one_place(&rt, rt.alloc(), workers)?;
+        stay_at_one_place(&rt, rt.alloc(), workers);
     }
-    Ok(())
 }

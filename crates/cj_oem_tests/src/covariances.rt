@@ -9,7 +9,7 @@ use cj_kvn::KvnCause;
 use cj_oem::{OemCause, OemFault};
 use cj_samples::Change;
 use std::alloc::{AllocError, Global};
-use std::test::Fail;
+use std::panic::Expect;
 
 const EPOCH: &[u8] = b"EPOCH = 2025-01-01T00:00:00\n";
 
@@ -79,9 +79,11 @@ fn first_miscounted(alloc: Global, cases: &[(&[&[u8]], usize)]) -> Result<Option
 }
 
 #[test]
-fn a_matrix_is_kept_in_the_frame_rtn_alone(rt: HostRuntime) -> Result<(), Fail> {
-    assert_eq!(rt; first_miscounted(rt.alloc(), KEPT.as_slice())?, None);
-    Ok(())
+fn a_matrix_is_kept_in_the_frame_rtn_alone(rt: HostRuntime) {
+    assert_eq!(rt;
+        first_miscounted(rt.alloc(), KEPT.as_slice()).expect(&rt, "no fault"),
+        None
+    );
 }
 
 const SIX: [Valued; 7] = [
@@ -95,12 +97,11 @@ const SIX: [Valued; 7] = [
 ];
 
 #[test]
-fn the_values_of_a_matrix_are_read(rt: HostRuntime) -> Result<(), Fail> {
-    let text = with_covariances(rt.alloc(), &[EPOCH, RTN, SIX_ROWS, STOP])?;
-    let track = read(rt.alloc(), &text, false)?;
+fn the_values_of_a_matrix_are_read(rt: HostRuntime) {
+    let text = with_covariances(rt.alloc(), &[EPOCH, RTN, SIX_ROWS, STOP]).expect(&rt, "no fault");
+    let track = read(rt.alloc(), &text, false).expect(&rt, "no fault");
     assert_eq!(rt; matrix_tick(&track, 0, 0), Some(1_735_689_600_000_000));
     assert!(rt; has_values(&track, 0, SIX.as_slice()));
-    Ok(())
 }
 
 /// The value at an index of the matrix of odd numbers.
@@ -111,13 +112,14 @@ fn odd_at(index: usize) -> Valued
 }
 
 #[test]
-fn the_values_of_a_matrix_stand_row_by_row(rt: HostRuntime) -> Result<(), Fail> {
-    let text = with_covariances(rt.alloc(), &[EPOCH, RTN, ODD_NUMBERS, STOP])?;
-    let track = read(rt.alloc(), &text, false)?;
+fn the_values_of_a_matrix_stand_row_by_row(rt: HostRuntime) {
+    let text = with_covariances(rt.alloc(), &[EPOCH, RTN, ODD_NUMBERS, STOP]).expect(
+        &rt, "no fault",
+    );
+    let track = read(rt.alloc(), &text, false).expect(&rt, "no fault");
     for index in 0..21 {
         assert!(rt; has_values(&track, 0, &[odd_at(index)]));
     }
-    Ok(())
 }
 
 const FAULTS: [Parts<'static>; 27] = [
@@ -196,9 +198,11 @@ const FAULTS: [Parts<'static>; 27] = [
 ];
 
 #[test]
-fn a_matrix_has_its_first_fault(rt: HostRuntime) -> Result<(), Fail> {
-    assert_eq!(rt; first_wrong(rt.alloc(), FAULTS.as_slice())?, None);
-    Ok(())
+fn a_matrix_has_its_first_fault(rt: HostRuntime) {
+    assert_eq!(rt;
+        first_wrong(rt.alloc(), FAULTS.as_slice()).expect(&rt, "no fault"),
+        None
+    );
 }
 
 const BEHIND: [Parts<'static>; 7] = [
@@ -227,9 +231,11 @@ const BEHIND: [Parts<'static>; 7] = [
 ];
 
 #[test]
-fn only_a_further_segment_follows_covariances(rt: HostRuntime) -> Result<(), Fail> {
-    assert_eq!(rt; first_wrong(rt.alloc(), BEHIND.as_slice())?, None);
-    Ok(())
+fn only_a_further_segment_follows_covariances(rt: HostRuntime) {
+    assert_eq!(rt;
+        first_wrong(rt.alloc(), BEHIND.as_slice()).expect(&rt, "no fault"),
+        None
+    );
 }
 
 /// The last node of the first segment, and a covariance.
@@ -249,12 +255,11 @@ COVARIANCE_STOP",
 );
 
 #[test]
-fn covariances_belong_to_their_segment(rt: HostRuntime) -> Result<(), Fail> {
-    let text = two_with(rt.alloc(), &[ONE_MATRIX])?;
-    let track = read(rt.alloc(), &text, false)?;
+fn covariances_belong_to_their_segment(rt: HostRuntime) {
+    let text = two_with(rt.alloc(), &[ONE_MATRIX]).expect(&rt, "no fault");
+    let track = read(rt.alloc(), &text, false).expect(&rt, "no fault");
     assert_eq!(rt; counts_of(&track, 0), Some((2, 1)));
     assert_eq!(rt; counts_of(&track, 1), Some((2, 0)));
-    Ok(())
 }
 
 const CLOSING: [Changed<'static>; 2] = [
@@ -275,7 +280,9 @@ const CLOSING: [Changed<'static>; 2] = [
 ];
 
 #[test]
-fn covariances_close_the_nodes(rt: HostRuntime) -> Result<(), Fail> {
-    assert_eq!(rt; wrong_with(rt.alloc(), CLOSING.as_slice())?, None);
-    Ok(())
+fn covariances_close_the_nodes(rt: HostRuntime) {
+    assert_eq!(rt;
+        wrong_with(rt.alloc(), CLOSING.as_slice()).expect(&rt, "no fault"),
+        None
+    );
 }

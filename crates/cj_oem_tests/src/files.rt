@@ -6,7 +6,7 @@ use cj_kvn::KvnCause;
 use cj_oem::{Frame, OemCause, OemFault, read_oem};
 use cj_samples::Change;
 use std::alloc::Global;
-use std::test::Fail;
+use std::panic::Expect;
 
 const BASE_USEABLE: [Useable; 1] = [(1_735_689_600_000_000, 1_735_689_660_000_000)];
 
@@ -36,15 +36,14 @@ const BASE_NODES: [Stated; 2] = [
 ];
 
 #[test]
-fn the_base_file_is_read(rt: HostRuntime) -> Result<(), Fail> {
-    let text = base_with(rt.alloc(), &[])?;
-    let track = read(rt.alloc(), &text, false)?;
+fn the_base_file_is_read(rt: HostRuntime) {
+    let text = base_with(rt.alloc(), &[]).expect(&rt, "no fault");
+    let track = read(rt.alloc(), &text, false).expect(&rt, "no fault");
     assert_eq!(rt; track.file.as_slice(), b"a.oem".as_slice());
     assert!(rt; is_of(&track, b"SAT A", b"2025-001A", Frame::Eme2000));
     assert!(rt; has_useable(&track, BASE_USEABLE.as_slice()));
     assert_eq!(rt; counts_of(&track, 0), Some((2, 0)));
     assert!(rt; begins_with(&track, 0, BASE_NODES.as_slice()));
-    Ok(())
 }
 
 const OTHER_TEXTS: [Change; 3] = [
@@ -54,11 +53,10 @@ const OTHER_TEXTS: [Change; 3] = [
 ];
 
 #[test]
-fn texts_and_frames_are_as_the_file_gives_them(rt: HostRuntime) -> Result<(), Fail> {
-    let text = base_with(rt.alloc(), OTHER_TEXTS.as_slice())?;
-    let track = read(rt.alloc(), &text, false)?;
+fn texts_and_frames_are_as_the_file_gives_them(rt: HostRuntime) {
+    let text = base_with(rt.alloc(), OTHER_TEXTS.as_slice()).expect(&rt, "no fault");
+    let track = read(rt.alloc(), &text, false).expect(&rt, "no fault");
     assert!(rt; is_of(&track, b"A = B  C", b"x", Frame::Gcrf));
-    Ok(())
 }
 
 const USUAL: &[u8] = b"CCSDS_OEM_VERS = 2.0\r
@@ -128,8 +126,8 @@ const USUAL_NODES: [Stated; 3] = [
 ];
 
 #[test]
-fn a_file_of_a_usual_tool_is_read(rt: HostRuntime) -> Result<(), Fail> {
-    let track = read(rt.alloc(), USUAL, false)?;
+fn a_file_of_a_usual_tool_is_read(rt: HostRuntime) {
+    let track = read(rt.alloc(), USUAL, false).expect(&rt, "no fault");
     assert!(rt; is_of(&track, b"DEMO SAT", b"2025-007B", Frame::Eme2000));
     assert!(rt; has_useable(&track, USUAL_USEABLE.as_slice()));
     assert_eq!(rt; counts_of(&track, 0), Some((3, 1)));
@@ -142,20 +140,21 @@ fn a_file_of_a_usual_tool_is_read(rt: HostRuntime) -> Result<(), Fail> {
             &[(0, false, 1, -4), (1, false, 0, 0), (20, false, 1, -10)]
         )
     );
-    Ok(())
 }
 
 #[test]
-fn of_all_beginnings_of_a_file_only_its_whole_text_is_accepted(
-    rt: HostRuntime,
-) -> Result<(), Fail> {
-    let text = base_with(rt.alloc(), &[])?;
+fn of_all_beginnings_of_a_file_only_its_whole_text_is_accepted(rt: HostRuntime) {
+    let text = base_with(rt.alloc(), &[]).expect(&rt, "no fault");
     for len in 0..text.len() + 1 {
         // the last line feed may be left out
         let is_whole = len + 1 >= text.len();
-        assert_eq!(rt; fault_in(rt.alloc(), &text[..len])?.is_none(), is_whole);
+        assert_eq!(rt;
+            fault_in(rt.alloc(), &text[..len])
+                .expect(&rt, "no fault")
+                .is_none(),
+            is_whole
+        );
     }
-    Ok(())
 }
 
 /// How many bytes are left of the file with one segment, and its fault.
@@ -170,13 +169,15 @@ const CUTS: [(usize, Fault); 5] = [
 ];
 
 #[test]
-fn a_file_that_is_cut_has_its_fault_at_the_cut(rt: HostRuntime) -> Result<(), Fail> {
-    let text = base_with(rt.alloc(), &[])?;
+fn a_file_that_is_cut_has_its_fault_at_the_cut(rt: HostRuntime) {
+    let text = base_with(rt.alloc(), &[]).expect(&rt, "no fault");
     for (len, fault) in &CUTS {
         let front = text.get(..*len).unwrap_or(&text);
-        assert_eq!(rt; fault_in(rt.alloc(), front)?, Some(*fault));
+        assert_eq!(rt;
+            fault_in(rt.alloc(), front).expect(&rt, "no fault"),
+            Some(*fault)
+        );
     }
-    Ok(())
 }
 
 const FORMS: [Changed<'static>; 5] = [
@@ -208,9 +209,11 @@ const FORMS: [Changed<'static>; 5] = [
 ];
 
 #[test]
-fn lines_are_judged_in_two_passes(rt: HostRuntime) -> Result<(), Fail> {
-    assert_eq!(rt; wrong_with(rt.alloc(), FORMS.as_slice())?, None);
-    Ok(())
+fn lines_are_judged_in_two_passes(rt: HostRuntime) {
+    assert_eq!(rt;
+        wrong_with(rt.alloc(), FORMS.as_slice()).expect(&rt, "no fault"),
+        None
+    );
 }
 
 /// The fault of a short file of this name.
@@ -232,25 +235,35 @@ const NAMES: [(&[u8], Option<Fault>); 5] = [
 ];
 
 #[test]
-fn a_name_has_printable_bytes(rt: HostRuntime) -> Result<(), Fail> {
-    let text = base_with(rt.alloc(), &[])?;
+fn a_name_has_printable_bytes(rt: HostRuntime) {
+    let text = base_with(rt.alloc(), &[]).expect(&rt, "no fault");
     for (name, fault) in &NAMES {
-        assert_eq!(rt; fault_named(rt.alloc(), name, &text)?, *fault);
+        assert_eq!(rt;
+            fault_named(rt.alloc(), name, &text).expect(&rt, "no fault"),
+            *fault
+        );
     }
     // Whatever the file says.
-    assert_eq!(rt; fault_named(rt.alloc(), b"", b"a = b")?, BAD_NAME);
-    Ok(())
+    assert_eq!(rt;
+        fault_named(rt.alloc(), b"", b"a = b").expect(&rt, "no fault"),
+        BAD_NAME
+    );
 }
 
 #[test]
-fn a_name_has_two_hundred_bytes_at_most(rt: HostRuntime) -> Result<(), Fail> {
-    let text = base_with(rt.alloc(), &[])?;
+fn a_name_has_two_hundred_bytes_at_most(rt: HostRuntime) {
+    let text = base_with(rt.alloc(), &[]).expect(&rt, "no fault");
     let mut name = Vec::new(rt.alloc());
     for _ in 0..200 {
-        name.push(b'~')?;
+        name.push(b'~').expect(&rt, "no fault");
     }
-    assert_eq!(rt; fault_named(rt.alloc(), &name, &text)?, None);
-    name.push(b'~')?;
-    assert_eq!(rt; fault_named(rt.alloc(), &name, &text)?, BAD_NAME);
-    Ok(())
+    assert_eq!(rt;
+        fault_named(rt.alloc(), &name, &text).expect(&rt, "no fault"),
+        None
+    );
+    name.push(b'~').expect(&rt, "no fault");
+    assert_eq!(rt;
+        fault_named(rt.alloc(), &name, &text).expect(&rt, "no fault"),
+        BAD_NAME
+    );
 }

@@ -4,7 +4,7 @@ use cj_kvn::KvnCause;
 use cj_oem::{OemCause, OemFault};
 use cj_samples::Change;
 use std::alloc::Global;
-use std::test::Fail;
+use std::panic::Expect;
 
 const HEADERS: [Case<'static>; 22] = [
     (1, b"CCSDS_OEM_VERS = 1.0", None),
@@ -60,9 +60,11 @@ const HEADERS: [Case<'static>; 22] = [
 ];
 
 #[test]
-fn the_header_takes_its_keys_once(rt: HostRuntime) -> Result<(), Fail> {
-    assert_eq!(rt; wrong_in_base(rt.alloc(), HEADERS.as_slice())?, None);
-    Ok(())
+fn the_header_takes_its_keys_once(rt: HostRuntime) {
+    assert_eq!(rt;
+        wrong_in_base(rt.alloc(), HEADERS.as_slice()).expect(&rt, "no fault"),
+        None
+    );
 }
 
 const VALUES: [Case<'static>; 24] = [
@@ -121,9 +123,11 @@ const VALUES: [Case<'static>; 24] = [
 ];
 
 #[test]
-fn each_value_of_metadata_is_judged_at_its_line(rt: HostRuntime) -> Result<(), Fail> {
-    assert_eq!(rt; wrong_in_base(rt.alloc(), VALUES.as_slice())?, None);
-    Ok(())
+fn each_value_of_metadata_is_judged_at_its_line(rt: HostRuntime) {
+    assert_eq!(rt;
+        wrong_in_base(rt.alloc(), VALUES.as_slice()).expect(&rt, "no fault"),
+        None
+    );
 }
 
 const TWICE: [Case<'static>; 14] = [
@@ -201,9 +205,11 @@ const TWICE: [Case<'static>; 14] = [
 ];
 
 #[test]
-fn each_key_of_metadata_is_taken_once(rt: HostRuntime) -> Result<(), Fail> {
-    assert_eq!(rt; wrong_in_base(rt.alloc(), TWICE.as_slice())?, None);
-    Ok(())
+fn each_key_of_metadata_is_taken_once(rt: HostRuntime) {
+    assert_eq!(rt;
+        wrong_in_base(rt.alloc(), TWICE.as_slice()).expect(&rt, "no fault"),
+        None
+    );
 }
 
 const MISSING: [Changed<'static>; 8] = [
@@ -219,10 +225,15 @@ const MISSING: [Changed<'static>; 8] = [
 ];
 
 #[test]
-fn each_needed_key_is_missed_where_the_metadata_stop(rt: HostRuntime) -> Result<(), Fail> {
-    assert_eq!(rt; wrong_with(rt.alloc(), MISSING.as_slice())?, None);
-    assert_eq!(rt; wrong_as_hermite3(rt.alloc(), MISSING.as_slice())?, None);
-    Ok(())
+fn each_needed_key_is_missed_where_the_metadata_stop(rt: HostRuntime) {
+    assert_eq!(rt;
+        wrong_with(rt.alloc(), MISSING.as_slice()).expect(&rt, "no fault"),
+        None
+    );
+    assert_eq!(rt;
+        wrong_as_hermite3(rt.alloc(), MISSING.as_slice()).expect(&rt, "no fault"),
+        None
+    );
 }
 
 /// The first case in which the file does not have its fault where it is taken as if it declared the cubic.
@@ -250,12 +261,17 @@ const OTHERS: [&[Change]; 6] = [
 ];
 
 #[test]
-fn another_interpolation_is_taken_only_where_it_is_asked_for(rt: HostRuntime) -> Result<(), Fail> {
+fn another_interpolation_is_taken_only_where_it_is_asked_for(rt: HostRuntime) {
     let alloc = rt.alloc();
     for changes in &OTHERS {
         let refused = [(*changes, Some((14, OemCause::Interpolation)))];
-        assert_eq!(rt; wrong_with(alloc, refused.as_slice())?, None);
-        assert_eq!(rt; wrong_as_hermite3(alloc, &[(*changes, None)])?, None);
+        assert_eq!(rt;
+            wrong_with(alloc, refused.as_slice()).expect(&rt, "no fault"),
+            None
+        );
+        assert_eq!(rt;
+            wrong_as_hermite3(alloc, &[(*changes, None)]).expect(&rt, "no fault"),
+            None
+        );
     }
-    Ok(())
 }

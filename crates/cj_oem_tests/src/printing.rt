@@ -4,7 +4,7 @@ use crate::texts::{
 use cj_oem::{OemFault, Track, oem_text};
 use cj_samples::Change;
 use std::alloc::Global;
-use std::test::Fail;
+use std::panic::Expect;
 
 /// One segment.
 const ONE: &[u8] = b"CCSDS_OEM_VERS = 2.0
@@ -74,10 +74,9 @@ fn is_written_again(alloc: Global, text: &[u8]) -> Result<bool, OemFault> {
 }
 
 #[test]
-fn canonical_texts_are_read_and_written_again(rt: HostRuntime) -> Result<(), Fail> {
-    assert!(rt; is_written_again(rt.alloc(), ONE)?);
-    assert!(rt; is_written_again(rt.alloc(), TWO)?);
-    Ok(())
+fn canonical_texts_are_read_and_written_again(rt: HostRuntime) {
+    assert!(rt; is_written_again(rt.alloc(), ONE).expect(&rt, "no fault"));
+    assert!(rt; is_written_again(rt.alloc(), TWO).expect(&rt, "no fault"));
 }
 
 const FIRST_OF_TWO: [Stated; 2] = [
@@ -111,13 +110,12 @@ const USEABLE_OF_TWO: [Useable; 2] = [
 ];
 
 #[test]
-fn numbers_near_0_and_at_their_limits(rt: HostRuntime) -> Result<(), Fail> {
-    let track = read(rt.alloc(), TWO, false)?;
+fn numbers_near_0_and_at_their_limits(rt: HostRuntime) {
+    let track = read(rt.alloc(), TWO, false).expect(&rt, "no fault");
     assert!(rt; begins_with(&track, 0, FIRST_OF_TWO.as_slice()));
     assert!(rt; has_useable(&track, USEABLE_OF_TWO.as_slice()));
     assert_eq!(rt; matrix_tick(&track, 1, 0), Some(1_735_689_750_000_000));
     assert!(rt; has_values(&track, 1, &[(1, true, 25, -6)]));
-    Ok(())
 }
 
 /// A change of the file with one segment, and whether its track stays the same.
@@ -144,11 +142,13 @@ fn is_read_as(alloc: Global, changes: &[Change], track: &Track) -> Result<bool, 
 }
 
 #[test]
-fn tracks_are_the_same_where_all_they_say_is(rt: HostRuntime) -> Result<(), Fail> {
-    let base = base_with(rt.alloc(), &[])?;
-    let track = read(rt.alloc(), &base, false)?;
+fn tracks_are_the_same_where_all_they_say_is(rt: HostRuntime) {
+    let base = base_with(rt.alloc(), &[]).expect(&rt, "no fault");
+    let track = read(rt.alloc(), &base, false).expect(&rt, "no fault");
     for (change, same) in &CHANGES {
-        assert_eq!(rt; is_read_as(rt.alloc(), &[*change], &track)?, *same);
+        assert_eq!(rt;
+            is_read_as(rt.alloc(), &[*change], &track).expect(&rt, "no fault"),
+            *same
+        );
     }
-    Ok(())
 }

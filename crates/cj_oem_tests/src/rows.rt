@@ -4,7 +4,7 @@ use crate::texts::{
 use cj_epoch::EpochFault;
 use cj_oem::OemCause;
 use cj_samples::Change;
-use std::test::Fail;
+use std::panic::Expect;
 
 const ROWS: [Case<'static>; 29] = [
     (
@@ -131,9 +131,11 @@ const ROWS: [Case<'static>; 29] = [
 ];
 
 #[test]
-fn a_row_has_its_first_fault(rt: HostRuntime) -> Result<(), Fail> {
-    assert_eq!(rt; wrong_in_base(rt.alloc(), ROWS.as_slice())?, None);
-    Ok(())
+fn a_row_has_its_first_fault(rt: HostRuntime) {
+    assert_eq!(rt;
+        wrong_in_base(rt.alloc(), ROWS.as_slice()).expect(&rt, "no fault"),
+        None
+    );
 }
 
 const TIMES: [Case<'static>; 5] = [
@@ -165,9 +167,11 @@ const TIMES: [Case<'static>; 5] = [
 ];
 
 #[test]
-fn the_times_of_nodes_rise(rt: HostRuntime) -> Result<(), Fail> {
-    assert_eq!(rt; wrong_in_base(rt.alloc(), TIMES.as_slice())?, None);
-    Ok(())
+fn the_times_of_nodes_rise(rt: HostRuntime) {
+    assert_eq!(rt;
+        wrong_in_base(rt.alloc(), TIMES.as_slice()).expect(&rt, "no fault"),
+        None
+    );
 }
 
 const START: Change = (10, b"START_TIME = 2016-12-31T23:59:30");
@@ -233,11 +237,11 @@ const STEPS: [Changed<'static>; 7] = [
 ];
 
 #[test]
-fn nodes_stand_an_hour_apart_at_most_and_on_one_side_of_a_leap_second(
-    rt: HostRuntime,
-) -> Result<(), Fail> {
-    assert_eq!(rt; wrong_with(rt.alloc(), STEPS.as_slice())?, None);
-    Ok(())
+fn nodes_stand_an_hour_apart_at_most_and_on_one_side_of_a_leap_second(rt: HostRuntime) {
+    assert_eq!(rt;
+        wrong_with(rt.alloc(), STEPS.as_slice()).expect(&rt, "no fault"),
+        None
+    );
 }
 
 const FORMS: Change = (
@@ -258,9 +262,8 @@ const NUMBERS: [Stated; 1] = [(
 )];
 
 #[test]
-fn numbers_of_every_form_are_read(rt: HostRuntime) -> Result<(), Fail> {
-    let text = base_with(rt.alloc(), &[FORMS])?;
-    let track = read(rt.alloc(), &text, false)?;
+fn numbers_of_every_form_are_read(rt: HostRuntime) {
+    let text = base_with(rt.alloc(), &[FORMS]).expect(&rt, "no fault");
+    let track = read(rt.alloc(), &text, false).expect(&rt, "no fault");
     assert!(rt; begins_with(&track, 0, NUMBERS.as_slice()));
-    Ok(())
 }

@@ -4,7 +4,7 @@ use crate::texts::{
 };
 use cj_oem::OemCause;
 use cj_samples::Change;
-use std::test::Fail;
+use std::panic::Expect;
 
 const SPANS: [Case<'static>; 9] = [
     (
@@ -47,9 +47,11 @@ const SPANS: [Case<'static>; 9] = [
 ];
 
 #[test]
-fn the_useable_span_lies_from_the_first_node_to_the_last(rt: HostRuntime) -> Result<(), Fail> {
-    assert_eq!(rt; wrong_in_base(rt.alloc(), SPANS.as_slice())?, None);
-    Ok(())
+fn the_useable_span_lies_from_the_first_node_to_the_last(rt: HostRuntime) {
+    assert_eq!(rt;
+        wrong_in_base(rt.alloc(), SPANS.as_slice()).expect(&rt, "no fault"),
+        None
+    );
 }
 
 const FEW: [Changed<'static>; 4] = [
@@ -66,9 +68,11 @@ const FEW: [Changed<'static>; 4] = [
 ];
 
 #[test]
-fn a_segment_has_two_nodes(rt: HostRuntime) -> Result<(), Fail> {
-    assert_eq!(rt; wrong_with(rt.alloc(), FEW.as_slice())?, None);
-    Ok(())
+fn a_segment_has_two_nodes(rt: HostRuntime) {
+    assert_eq!(rt;
+        wrong_with(rt.alloc(), FEW.as_slice()).expect(&rt, "no fault"),
+        None
+    );
 }
 
 /// A node of the second segment before the end of the first.
@@ -96,9 +100,11 @@ const TWO: [Changed<'static>; 6] = [
 ];
 
 #[test]
-fn each_of_two_segments_is_closed_before_the_next(rt: HostRuntime) -> Result<(), Fail> {
-    assert_eq!(rt; wrong_in_two(rt.alloc(), TWO.as_slice())?, None);
-    Ok(())
+fn each_of_two_segments_is_closed_before_the_next(rt: HostRuntime) {
+    assert_eq!(rt;
+        wrong_in_two(rt.alloc(), TWO.as_slice()).expect(&rt, "no fault"),
+        None
+    );
 }
 
 const OBJECTS: [Changed<'static>; 9] = [
@@ -126,9 +132,11 @@ const OBJECTS: [Changed<'static>; 9] = [
 ];
 
 #[test]
-fn a_file_has_one_object(rt: HostRuntime) -> Result<(), Fail> {
-    assert_eq!(rt; wrong_in_two(rt.alloc(), OBJECTS.as_slice())?, None);
-    Ok(())
+fn a_file_has_one_object(rt: HostRuntime) {
+    assert_eq!(rt;
+        wrong_in_two(rt.alloc(), OBJECTS.as_slice()).expect(&rt, "no fault"),
+        None
+    );
 }
 
 const SECOND: [Stated; 2] = [
@@ -143,9 +151,9 @@ const SECOND: [Stated; 2] = [
 ];
 
 #[test]
-fn two_segments_are_two(rt: HostRuntime) -> Result<(), Fail> {
-    let text = two_with(rt.alloc(), &[])?;
-    let track = read(rt.alloc(), &text, false)?;
+fn two_segments_are_two(rt: HostRuntime) {
+    let text = two_with(rt.alloc(), &[]).expect(&rt, "no fault");
+    let track = read(rt.alloc(), &text, false).expect(&rt, "no fault");
     let middle = 1_735_689_660_000_000;
     assert!(rt;
         has_useable(
@@ -158,5 +166,4 @@ fn two_segments_are_two(rt: HostRuntime) -> Result<(), Fail> {
     );
     assert_eq!(rt; counts_of(&track, 0), Some((2, 0)));
     assert!(rt; begins_with(&track, 1, SECOND.as_slice()));
-    Ok(())
 }

@@ -17,10 +17,10 @@ use cj_pool::{FinishError, Hand, Refined, Refinery, Run, Turn, leaves_by_hands};
 use cj_scenes::crossing;
 use std::alloc::{AllocError, Global};
 use std::marker::Brand;
+use std::panic::Expect;
 use std::process::Abort;
 use std::sync::Wait;
 use std::sync::atomic::{AtomicBool, Ordering};
-use std::test::Fail;
 use std::thread;
 use std::thread::Threads;
 
@@ -213,38 +213,33 @@ fn of_one_thread(alloc: Global, problem: &Problem) -> Result<Vec<Leaf>, RefineEr
 }
 
 /// What the crossing comes to by a script is what one thread finds, with its totals.
-fn assert_script<R: Threads + Wait + Sync + Abort>(
-    rt: &R,
-    alloc: Global,
-    script: Script,
-) -> Result<(), Fail> {
-    let problem = crossing(alloc)?;
-    let roots = roots_of(alloc, &problem)?;
-    let refined = refined_by::<Brand, R>(rt, alloc, &problem, roots, script)?;
-    let expected = of_one_thread(alloc, &problem)?;
+fn assert_script<R: Threads + Wait + Sync + Abort>(rt: &R, alloc: Global, script: Script) {
+    let problem = crossing(alloc).expect(rt, "no fault");
+    let roots = roots_of(alloc, &problem).expect(rt, "no fault");
+    let refined = refined_by::<Brand, R>(rt, alloc, &problem, roots, script).expect(rt, "no fault");
+    let expected = of_one_thread(alloc, &problem).expect(rt, "no fault");
     assert!(rt; refined.leaves.as_slice() == expected.as_slice());
     assert_eq!(rt; refined.totals, TOTALS);
-    Ok(())
 }
 
 #[test]
-fn the_second_turn_steals(rt: HostRuntime) -> Result<(), Fail> {
-    assert_script(&rt, rt.alloc(), Script::ZeroAndOne)
+fn the_second_turn_steals(rt: HostRuntime) {
+    assert_script(&rt, rt.alloc(), Script::ZeroAndOne);
 }
 
 #[test]
-fn both_turns_steal(rt: HostRuntime) -> Result<(), Fail> {
-    assert_script(&rt, rt.alloc(), Script::OneAndZero)
+fn both_turns_steal(rt: HostRuntime) {
+    assert_script(&rt, rt.alloc(), Script::OneAndZero);
 }
 
 #[test]
-fn a_run_leaves_no_cell(rt: HostRuntime) -> Result<(), Fail> {
-    assert_script(&rt, rt.alloc(), Script::ZeroAlone)
+fn a_run_leaves_no_cell(rt: HostRuntime) {
+    assert_script(&rt, rt.alloc(), Script::ZeroAlone);
 }
 
 #[test]
-fn cells_that_are_left_are_refined(rt: HostRuntime) -> Result<(), Fail> {
-    assert_script(&rt, rt.alloc(), Script::Nothing)
+fn cells_that_are_left_are_refined(rt: HostRuntime) {
+    assert_script(&rt, rt.alloc(), Script::Nothing);
 }
 
 /// The first of so many turns of a hand that closes no cell and halves none.
@@ -282,13 +277,12 @@ fn one_beside_zero<K: Run + Send + Sync, R: Threads + Sync + Abort>(
 }
 
 #[test]
-fn a_hand_is_idle_while_another_keeps_a_cell(rt: HostRuntime) -> Result<(), Fail> {
+fn a_hand_is_idle_while_another_keeps_a_cell(rt: HostRuntime) {
     let alloc = rt.alloc();
-    let problem = crossing(alloc)?;
-    let roots = roots_of(alloc, &problem)?;
-    let turn = one_beside_zero::<Brand, _>(&rt, alloc, &problem, roots)?;
+    let problem = crossing(alloc).expect(&rt, "no fault");
+    let roots = roots_of(alloc, &problem).expect(&rt, "no fault");
+    let turn = one_beside_zero::<Brand, _>(&rt, alloc, &problem, roots).expect(&rt, "no fault");
     assert_eq!(rt; turn, Some(Turn::Idle { live: 1 }));
-    Ok(())
 }
 
 /// What a problem of one crossing comes to by so many hands on threads, within a limit.
@@ -318,26 +312,25 @@ fn same_each_time<R: Threads + Wait + Sync + Abort, G: Gate + Sync>(
     gate: &G,
     workers: u32,
     times: u32,
-) -> Result<(), Fail>
+)
     requires some { 1 ≤ workers }
     requires few { workers ≤ 16 }
 {
-    let problem = crossing(alloc)?;
-    let expected = of_one_thread(alloc, &problem)?;
+    let problem = crossing(alloc).expect(rt, "no fault");
+    let expected = of_one_thread(alloc, &problem).expect(rt, "no fault");
     for _ in 0..times {
-        let leaves = on_threads(rt, alloc, gate, &problem, workers, LIMIT)?;
+        let leaves = on_threads(rt, alloc, gate, &problem, workers, LIMIT).expect(rt, "no fault");
         assert!(rt; leaves.as_slice() == expected.as_slice());
     }
-    Ok(())
 }
 
 #[test]
-fn as_many_hands_as_one_likes(rt: HostRuntime) -> Result<(), Fail> {
+fn as_many_hands_as_one_likes(rt: HostRuntime) {
     let alloc = rt.alloc();
-    same_each_time(&rt, alloc, &OpenGate, 1, 20)?;
-    same_each_time(&rt, alloc, &OpenGate, 2, 100)?;
-    same_each_time(&rt, alloc, &OpenGate, 3, 20)?;
-    same_each_time(&rt, alloc, &OpenGate, 16, 20)
+    same_each_time(&rt, alloc, &OpenGate, 1, 20);
+    same_each_time(&rt, alloc, &OpenGate, 2, 100);
+    same_each_time(&rt, alloc, &OpenGate, 3, 20);
+    same_each_time(&rt, alloc, &OpenGate, 16, 20);
 }
 
 /// A gate at which one worker waits before each of its turns, for so many looks at a flag that nobody sets.
@@ -369,10 +362,10 @@ impl Gate for Slow {
 }
 
 #[test]
-fn one_of_two_hands_waits_at_each_turn(rt: HostRuntime) -> Result<(), Fail> {
+fn one_of_two_hands_waits_at_each_turn(rt: HostRuntime) {
     let alloc = rt.alloc();
-    same_each_time(&rt, alloc, &Slow::new(0, 1_000), 2, 100)?;
-    same_each_time(&rt, alloc, &Slow::new(1, 1_000), 2, 100)
+    same_each_time(&rt, alloc, &Slow::new(0, 1_000), 2, 100);
+    same_each_time(&rt, alloc, &Slow::new(1, 1_000), 2, 100);
 }
 
 /// A gate for two workers: before its first turn each says that it is there, and looks for the other.
@@ -425,13 +418,12 @@ impl Gate for Meeting {
 
 /// Neither worker leaves the gate before it has seen the other there: so they are there at the same time.
 #[test]
-fn two_workers_meet_at_the_gate(rt: HostRuntime) -> Result<(), Fail> {
+fn two_workers_meet_at_the_gate(rt: HostRuntime) {
     let alloc = rt.alloc();
     let gate = Meeting::new();
-    same_each_time(&rt, alloc, &gate, 2, 1)?;
+    same_each_time(&rt, alloc, &gate, 2, 1);
     assert!(rt; gate.zero_saw_one.load(Ordering::SeqCst));
     assert!(rt; gate.one_saw_zero.load(Ordering::SeqCst));
-    Ok(())
 }
 
 /// How many leaves the crossing comes to by so many hands, within a limit.
@@ -452,12 +444,11 @@ fn leaves_within<R: Threads + Wait + Sync>(
 }
 
 #[test]
-fn more_leaves_than_the_limit(rt: HostRuntime) -> Result<(), Fail> {
+fn more_leaves_than_the_limit(rt: HostRuntime) {
     let alloc = rt.alloc();
     assert_eq!(rt; leaves_within(&rt, alloc, 1, 49), Ok(49));
     assert_eq!(rt; leaves_within(&rt, alloc, 2, 49), Ok(49));
     assert_eq!(rt; leaves_within(&rt, alloc, 1, 48), Err(RefineError::TooMany));
     assert_eq!(rt; leaves_within(&rt, alloc, 2, 48), Err(RefineError::TooMany));
     assert_eq!(rt; leaves_within(&rt, alloc, 2, 30), Err(RefineError::TooMany));
-    Ok(())
 }

@@ -10,8 +10,8 @@ use cj_meet::encounters;
 use cj_report::report_text;
 use cj_track::{Frame, Matrices, Node, Nodes, Segment, Segments, Track, Vec3};
 use std::alloc::{AllocError, Global};
+use std::panic::Expect;
 use std::process::Abort;
-use std::test::Fail;
 
 /// 2025-01-01T00:00:00 in microseconds.
 const START: u64 = 1_735_689_600_000_000;
@@ -136,15 +136,15 @@ fn leaf(first: u64, last: u64, kind: Kind) -> Leaf
 }
 
 #[test]
-fn two_tracks_cross_at_one_kilometre(rt: HostRuntime) -> Result<(), Fail> {
-    let problem = problem(&rt, rt.alloc())?;
+fn two_tracks_cross_at_one_kilometre(rt: HostRuntime) {
+    let problem = problem(&rt, rt.alloc()).expect(&rt, "no fault");
     let leaves = [
         leaf(29_500_000, 29_538_119, Kind::Far),
         leaf(29_538_120, 29_999_999, Kind::Near),
         leaf(30_000_000, 30_461_880, Kind::Near),
         leaf(30_461_881, 30_499_999, Kind::Far),
     ];
-    let found = encounters(rt.alloc(), &leaves)?;
+    let found = encounters(rt.alloc(), &leaves).expect(&rt, "no fault");
     assert!(rt; found.len() == 1);
     let approaches = [Closest {
         tick: tick(30_000_000),
@@ -158,7 +158,8 @@ fn two_tracks_cross_at_one_kilometre(rt: HostRuntime) -> Result<(), Fail> {
         &found,
         &approaches,
         &[false],
-    )?;
+    )
+    .expect(&rt, "no fault");
     assert_eq!(rt; text.as_slice(), REPORT);
     let text = report_text(
         rt.alloc(),
@@ -168,7 +169,7 @@ fn two_tracks_cross_at_one_kilometre(rt: HostRuntime) -> Result<(), Fail> {
         &found,
         &approaches,
         &[true],
-    )?;
+    )
+    .expect(&rt, "no fault");
     assert_eq!(rt; text.as_slice(), SIZED_REPORT);
-    Ok(())
 }

@@ -1,17 +1,17 @@
 use super::*;
+use std::panic::Expect;
 use std::process::Abort;
-use std::test::Fail;
 
 #[test]
-fn a_track_at_rest_has_the_nodes_of_its_segments(rt: HostRuntime) -> Result<(), Fail> {
+fn a_track_at_rest_has_the_nodes_of_its_segments(rt: HostRuntime) {
     let alloc = rt.alloc();
-    let one = rest(alloc, 0, 30, AT_7000)?;
-    let other = rest(alloc, 30, 60, AT_7005)?;
-    let track = track_of_two(alloc, one, other)?;
+    let one = rest(alloc, 0, 30, AT_7000).expect(&rt, "no fault");
+    let other = rest(alloc, 30, 60, AT_7005).expect(&rt, "no fault");
+    let track = track_of_two(alloc, one, other).expect(&rt, "no fault");
     let mut places = Vec::new(alloc);
     for segment in track.segments.as_slice() {
         for node in segment.nodes.as_slice() {
-            places.push((node.at, node.p.x))?;
+            places.push((node.at, node.p.x)).expect(&rt, "no fault");
         }
     }
     let wanted = [
@@ -21,15 +21,13 @@ fn a_track_at_rest_has_the_nodes_of_its_segments(rt: HostRuntime) -> Result<(), 
         (second(60), AT_7005.x),
     ];
     assert_eq!(rt; places.as_slice(), wanted.as_slice());
-    Ok(())
 }
 
 #[test]
-fn a_line_is_changed_by_its_number(rt: HostRuntime) -> Result<(), Fail> {
+fn a_line_is_changed_by_its_number(rt: HostRuntime) {
     let alloc = rt.alloc();
     let mut text = Vec::new(alloc);
     let changes: [Change; 3] = [(2, b"X"), (3, b"Y"), (5, b"Z")];
-    append_lines(&mut text, 2, &[b"A", b"B", b"C"], changes.as_slice())?;
+    append_lines(&mut text, 2, &[b"A", b"B", b"C"], changes.as_slice()).expect(&rt, "no fault");
     assert_eq!(rt; text.as_slice(), b"Y\nB\nZ\n".as_slice());
-    Ok(())
 }

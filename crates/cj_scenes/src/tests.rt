@@ -1,16 +1,18 @@
 use super::*;
 use cj_samples::second;
+use std::panic::Expect;
 use std::process::Abort;
-use std::test::Fail;
 
 #[test]
-fn the_points_cross_one_kilometre_apart(rt: HostRuntime) -> Result<(), Fail> {
-    let problem = crossing(rt.alloc())?;
+fn the_points_cross_one_kilometre_apart(rt: HostRuntime) {
+    let problem = crossing(rt.alloc()).expect(&rt, "no fault");
     let mut places = Vec::new(rt.alloc());
     for track in problem.tracks.as_slice() {
         for segment in track.segments.as_slice() {
             for node in segment.nodes.as_slice() {
-                places.push((node.at, node.p.x, node.p.y, node.p.z))?;
+                places
+                    .push((node.at, node.p.x, node.p.y, node.p.z))
+                    .expect(&rt, "no fault");
             }
         }
     }
@@ -22,5 +24,4 @@ fn the_points_cross_one_kilometre_apart(rt: HostRuntime) -> Result<(), Fail> {
         (second(60), 7_001_000_000_000_000, 0, half),
     ];
     assert_eq!(rt; places.as_slice(), wanted.as_slice());
-    Ok(())
 }

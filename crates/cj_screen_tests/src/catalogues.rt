@@ -3,20 +3,19 @@ use crate::runs::{are_named, end_alone, file, piece_of, run_at};
 use cj_epoch::Tick;
 use cj_io::{CalmShelf, FileBytes, MemShelf};
 use std::alloc::{AllocError, Global};
+use std::panic::Expect;
 use std::sync::Wait;
-use std::test::Fail;
 use std::thread::Threads;
 
 #[test]
-fn a_catalogue_is_written_file_by_file_and_then_counted(rt: HostRuntime) -> Result<(), Fail> {
+fn a_catalogue_is_written_file_by_file_and_then_counted(rt: HostRuntime) {
     let mut shelf = CalmShelf::new(rt.alloc());
     let line = "generate . --seed 0 --objects 3 --minutes 1";
-    let end = end_alone(&rt, rt.alloc(), line, &mut shelf)?;
+    let end = end_alone(&rt, rt.alloc(), line, &mut shelf).expect(&rt, "no fault");
     assert_eq!(rt; end.number, 0);
     let names = ["GEN00001.oem", "GEN00002.oem", "GEN00003.oem", "-"];
     assert!(rt; are_named(shelf.written(), &names));
     assert!(rt; piece_of(shelf.written(), b"-") == b"GENERATED 3\n".as_slice());
-    Ok(())
 }
 
 /// How the writing of two files ends over a shelf that fails at this put, and how many pieces stand then.
@@ -32,12 +31,11 @@ fn written_where<R: Threads + Wait + Sync>(
 }
 
 #[test]
-fn a_front_of_the_catalogue_stands_where_a_put_fails(rt: HostRuntime) -> Result<(), Fail> {
+fn a_front_of_the_catalogue_stands_where_a_put_fails(rt: HostRuntime) {
     for whole in 0..3 {
-        let ended = written_where(&rt, rt.alloc(), whole as u64 + 1)?;
+        let ended = written_where(&rt, rt.alloc(), whole as u64 + 1).expect(&rt, "no fault");
         assert_eq!(rt; ended, (5, whole));
     }
-    Ok(())
 }
 
 /// A copy of the pieces but for the one for standard output.
@@ -64,12 +62,13 @@ pub fn made_by<R: Threads + Wait + Sync>(
 }
 
 #[test]
-fn a_catalogue_of_one_object_is_written_and_screened(rt: HostRuntime) -> Result<(), Fail> {
+fn a_catalogue_of_one_object_is_written_and_screened(rt: HostRuntime) {
     let alloc = rt.alloc();
-    let files = made_by(&rt, alloc, "generate . --seed 0 --objects 1 --minutes 1")?;
-    let (end, shelf) = run_at(&rt, alloc, "screen .", files, Tick::FIRST)?;
+    let files = made_by(&rt, alloc, "generate . --seed 0 --objects 1 --minutes 1").expect(
+        &rt, "no fault",
+    );
+    let (end, shelf) = run_at(&rt, alloc, "screen .", files, Tick::FIRST).expect(&rt, "no fault");
     assert_eq!(rt; end.number, 0);
     let summary = piece_of(shelf.written(), b"-");
     assert!(rt; summary.starts_with(b"OBJECTS 1\nPAIRS 0\n"));
-    Ok(())
 }

@@ -2,8 +2,8 @@
 use crate::runs::certificate_of;
 use crate::scenes::{Content, SHARING_ONE_TICK, Scene, files_of};
 use std::alloc::{AllocError, Global};
+use std::panic::Expect;
 use std::sync::Wait;
-use std::test::Fail;
 use std::thread::Threads;
 
 /// Two objects that rest at the threshold from each other.
@@ -86,10 +86,9 @@ fn first_other<R: Threads + Wait + Sync>(
 }
 
 #[test]
-fn whole_certificates(rt: HostRuntime) -> Result<(), Fail> {
+fn whole_certificates(rt: HostRuntime) {
     assert_eq!(rt;
-        first_other(&rt, rt.alloc(), CERTIFICATES.as_slice())?,
+        first_other(&rt, rt.alloc(), CERTIFICATES.as_slice()).expect(&rt, "no fault"),
         None
     );
-    Ok(())
 }

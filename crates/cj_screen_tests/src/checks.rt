@@ -4,8 +4,8 @@ use crate::runs::{end_failing, file, told};
 use crate::scenes::files_of;
 use cj_io::{CalmShelf, FileBytes};
 use std::alloc::{AllocError, Global};
+use std::panic::Expect;
 use std::sync::Wait;
-use std::test::Fail;
 use std::thread::Threads;
 
 /// The lines of their certificate.
@@ -196,21 +196,22 @@ fn first_other<R: Threads + Wait + Sync>(
 }
 
 #[test]
-fn a_certificate_is_accepted_or_its_first_failure_is_told(rt: HostRuntime) -> Result<(), Fail> {
-    assert_eq!(rt; first_other(&rt, rt.alloc(), CASES.as_slice())?, None);
-    Ok(())
+fn a_certificate_is_accepted_or_its_first_failure_is_told(rt: HostRuntime) {
+    assert_eq!(rt;
+        first_other(&rt, rt.alloc(), CASES.as_slice()).expect(&rt, "no fault"),
+        None
+    );
 }
 
 #[test]
-fn the_first_file_of_the_name_is_checked(rt: HostRuntime) -> Result<(), Fail> {
+fn the_first_file_of_the_name_is_checked(rt: HostRuntime) {
     let alloc = rt.alloc();
     let good = ("a.cert", Change::Nothing);
     let bad = ("a.cert", Change::Without(11));
     let line = "check . --cert=a.cert";
     let untiled = b"conj: not accepted: line 11: Untiled\n";
-    assert!(rt; is_told(&rt, alloc, line, &[good, bad], ACCEPTED)?);
-    assert!(rt; is_told(&rt, alloc, line, &[bad, good], untiled)?);
-    Ok(())
+    assert!(rt; is_told(&rt, alloc, line, &[good, bad], ACCEPTED).expect(&rt, "no fault"));
+    assert!(rt; is_told(&rt, alloc, line, &[bad, good], untiled).expect(&rt, "no fault"));
 }
 
 /// How a check ends whose folder fails at this call, and how many pieces it put.
@@ -230,11 +231,16 @@ fn check_where<R: Threads + Wait + Sync>(
 const CALLS: u64 = 7;
 
 #[test]
-fn nothing_is_put_where_the_folder_fails_at_any_call(rt: HostRuntime) -> Result<(), Fail> {
+fn nothing_is_put_where_the_folder_fails_at_any_call(rt: HostRuntime) {
     let alloc = rt.alloc();
     for call in 1..CALLS + 1 {
-        assert_eq!(rt; check_where(&rt, alloc, call)?, (4, 0));
+        assert_eq!(rt;
+            check_where(&rt, alloc, call).expect(&rt, "no fault"),
+            (4, 0)
+        );
     }
-    assert_eq!(rt; check_where(&rt, alloc, CALLS + 1)?, (0, 1));
-    Ok(())
+    assert_eq!(rt;
+        check_where(&rt, alloc, CALLS + 1).expect(&rt, "no fault"),
+        (0, 1)
+    );
 }

@@ -1,9 +1,9 @@
 //! Certificates that end early, or have a line too few or too many.
 use crate::checks::{Change, LINES, is_told};
 use std::alloc::{AllocError, Global};
+use std::panic::Expect;
 use std::string::String;
 use std::sync::Wait;
-use std::test::Fail;
 use std::thread::Threads;
 
 /// How many bytes of a line are enough, where a text ends in it.
@@ -96,29 +96,35 @@ fn first_other_cut_of<R: Threads + Wait + Sync>(
 }
 
 #[test]
-fn no_front_is_accepted_that_ends_in_the_head(rt: HostRuntime) -> Result<(), Fail> {
-    assert_eq!(rt; first_other_cut_of(&rt, rt.alloc(), 0, 4)?, None);
-    Ok(())
+fn no_front_is_accepted_that_ends_in_the_head(rt: HostRuntime) {
+    assert_eq!(rt;
+        first_other_cut_of(&rt, rt.alloc(), 0, 4).expect(&rt, "no fault"),
+        None
+    );
 }
 
 #[test]
-fn no_front_is_accepted_that_ends_in_the_shells(rt: HostRuntime) -> Result<(), Fail> {
-    assert_eq!(rt; first_other_cut_of(&rt, rt.alloc(), 4, 2)?, None);
-    Ok(())
+fn no_front_is_accepted_that_ends_in_the_shells(rt: HostRuntime) {
+    assert_eq!(rt;
+        first_other_cut_of(&rt, rt.alloc(), 4, 2).expect(&rt, "no fault"),
+        None
+    );
 }
 
 #[test]
-fn no_front_is_accepted_that_ends_in_the_boxes(rt: HostRuntime) -> Result<(), Fail> {
-    assert_eq!(rt; first_other_cut_of(&rt, rt.alloc(), 6, 4)?, None);
-    Ok(())
+fn no_front_is_accepted_that_ends_in_the_boxes(rt: HostRuntime) {
+    assert_eq!(rt;
+        first_other_cut_of(&rt, rt.alloc(), 6, 4).expect(&rt, "no fault"),
+        None
+    );
 }
 
 #[test]
-fn no_front_is_accepted_that_ends_in_the_cells_or_the_last_line(
-    rt: HostRuntime,
-) -> Result<(), Fail> {
-    assert_eq!(rt; first_other_cut_of(&rt, rt.alloc(), 10, 3)?, None);
-    Ok(())
+fn no_front_is_accepted_that_ends_in_the_cells_or_the_last_line(rt: HostRuntime) {
+    assert_eq!(rt;
+        first_other_cut_of(&rt, rt.alloc(), 10, 3).expect(&rt, "no fault"),
+        None
+    );
 }
 
 /// What is told where a line is left out, and where it stands twice: for each line of the certificate.
@@ -195,10 +201,9 @@ fn first_other_line<R: Threads + Wait + Sync>(
 }
 
 #[test]
-fn a_line_too_few_or_too_many_is_told(rt: HostRuntime) -> Result<(), Fail> {
+fn a_line_too_few_or_too_many_is_told(rt: HostRuntime) {
     assert_eq!(rt;
-        first_other_line(&rt, rt.alloc(), LEFT_OUT_AND_TWICE.as_slice())?,
+        first_other_line(&rt, rt.alloc(), LEFT_OUT_AND_TWICE.as_slice()).expect(&rt, "no fault"),
         None
     );
-    Ok(())
 }

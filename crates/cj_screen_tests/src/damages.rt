@@ -4,8 +4,8 @@ use crate::catalogues::{files_of, made_by};
 use crate::runs::{certificate_of, is_told, with_certificate};
 use cj_io::FileBytes;
 use std::alloc::{AllocError, Global};
+use std::panic::Expect;
 use std::sync::Wait;
-use std::test::Fail;
 use std::thread::Threads;
 
 /// Eight objects for half an hour and a tick: 31 slots, of which the last has one tick.
@@ -630,36 +630,31 @@ fn first_other<R: Threads + Wait + Sync>(
 }
 
 #[test]
-fn headers_of_other_cases_are_refused(rt: HostRuntime) -> Result<(), Fail> {
-    let other = first_other(&rt, rt.alloc(), HEADER.as_slice(), 15)?;
+fn headers_of_other_cases_are_refused(rt: HostRuntime) {
+    let other = first_other(&rt, rt.alloc(), HEADER.as_slice(), 15).expect(&rt, "no fault");
     assert_eq!(rt; other, None);
-    Ok(())
 }
 
 #[test]
-fn shells_are_those_of_the_hulls(rt: HostRuntime) -> Result<(), Fail> {
-    let other = first_other(&rt, rt.alloc(), SHELLS.as_slice(), 44)?;
+fn shells_are_those_of_the_hulls(rt: HostRuntime) {
+    let other = first_other(&rt, rt.alloc(), SHELLS.as_slice(), 44).expect(&rt, "no fault");
     assert_eq!(rt; other, None);
-    Ok(())
 }
 
 #[test]
-fn boxes_hold_the_hulls(rt: HostRuntime) -> Result<(), Fail> {
-    let other = first_other(&rt, rt.alloc(), BOXES.as_slice(), 80)?;
+fn boxes_hold_the_hulls(rt: HostRuntime) {
+    let other = first_other(&rt, rt.alloc(), BOXES.as_slice(), 80).expect(&rt, "no fault");
     assert_eq!(rt; other, None);
-    Ok(())
 }
 
 #[test]
-fn cells_tile_the_roots_and_show_their_kinds(rt: HostRuntime) -> Result<(), Fail> {
-    let other = first_other(&rt, rt.alloc(), CELLS.as_slice(), 76)?;
+fn cells_tile_the_roots_and_show_their_kinds(rt: HostRuntime) {
+    let other = first_other(&rt, rt.alloc(), CELLS.as_slice(), 76).expect(&rt, "no fault");
     assert_eq!(rt; other, None);
-    Ok(())
 }
 
 #[test]
-fn each_kind_of_line_is_whole(rt: HostRuntime) -> Result<(), Fail> {
-    let other = first_other(&rt, rt.alloc(), ENDS.as_slice(), 11)?;
+fn each_kind_of_line_is_whole(rt: HostRuntime) {
+    let other = first_other(&rt, rt.alloc(), ENDS.as_slice(), 11).expect(&rt, "no fault");
     assert_eq!(rt; other, None);
-    Ok(())
 }

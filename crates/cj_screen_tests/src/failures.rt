@@ -4,8 +4,8 @@ use crate::scenes::{COVERED, Content, Scene, base_text, copies, files_of};
 use cj_io::{CalmShelf, FileBytes, MemShelf};
 use cj_stream::StreamShelf;
 use std::alloc::{AllocError, Global};
+use std::panic::Expect;
 use std::sync::Wait;
-use std::test::Fail;
 use std::thread::Threads;
 
 /// How a run over the crossing ends where these calls of the folder fail.
@@ -41,16 +41,18 @@ fn put_where<R: Threads + Wait + Sync>(
 }
 
 #[test]
-fn nothing_is_put_where_the_folder_fails(rt: HostRuntime) -> Result<(), Fail> {
+fn nothing_is_put_where_the_folder_fails(rt: HostRuntime) {
     let alloc = rt.alloc();
     for call in 1..CALLS + 1 {
         assert_eq!(rt;
-            put_where(&rt, alloc, call, 4, b"conj: read fault\n")?,
+            put_where(&rt, alloc, call, 4, b"conj: read fault\n").expect(&rt, "no fault"),
             Some(0)
         );
     }
-    assert_eq!(rt; put_where(&rt, alloc, CALLS + 1, 0, b"")?, Some(4));
-    Ok(())
+    assert_eq!(rt;
+        put_where(&rt, alloc, CALLS + 1, 0, b"").expect(&rt, "no fault"),
+        Some(4)
+    );
 }
 
 /// A file that is read, and one that is refused.
@@ -80,13 +82,12 @@ fn told_by_two<R: Threads + Wait + Sync>(
 const NEXT_BATCH: u64 = 66;
 
 #[test]
-fn what_fails_while_files_are_parsed_is_told_behind_them(rt: HostRuntime) -> Result<(), Fail> {
+fn what_fails_while_files_are_parsed_is_told_behind_them(rt: HostRuntime) {
     let alloc = rt.alloc();
-    let read = told_by_two(&rt, alloc, GOOD, NEXT_BATCH)?;
+    let read = told_by_two(&rt, alloc, GOOD, NEXT_BATCH).expect(&rt, "no fault");
     assert!(rt; read.as_slice() == b"conj: read fault\n".as_slice());
-    let refused = told_by_two(&rt, alloc, BAD, NEXT_BATCH)?;
+    let refused = told_by_two(&rt, alloc, BAD, NEXT_BATCH).expect(&rt, "no fault");
     assert!(rt; refused.as_slice() == b"conj: a.oem: line 15: Number\n".as_slice());
-    Ok(())
 }
 
 /// Whether these are the first so many pieces, and then nothing or a front of the next one.
@@ -122,16 +123,17 @@ fn stand_whole<R: Threads + Wait + Sync>(
 }
 
 #[test]
-fn the_pieces_before_a_put_that_fails_stand_whole(rt: HostRuntime) -> Result<(), Fail> {
+fn the_pieces_before_a_put_that_fails_stand_whole(rt: HostRuntime) {
     let alloc = rt.alloc();
     let mut calm = CalmShelf::new(alloc);
-    let end = end_over(&rt, alloc, Vec::new(alloc), &mut calm)?;
+    let end = end_over(&rt, alloc, Vec::new(alloc), &mut calm).expect(&rt, "no fault");
     assert_eq!(rt; end.number, 0);
     let due = calm.written();
     assert_eq!(rt; due.len(), 4);
     for whole in 0..4 {
-        assert!(rt; stand_whole(&rt, alloc, due, whole, 5, b"conj: write fault\n")?);
+        assert!(rt;
+            stand_whole(&rt, alloc, due, whole, 5, b"conj: write fault\n").expect(&rt, "no fault")
+        );
     }
-    assert!(rt; stand_whole(&rt, alloc, due, 4, 0, b"")?);
-    Ok(())
+    assert!(rt; stand_whole(&rt, alloc, due, 4, 0, b"").expect(&rt, "no fault"));
 }

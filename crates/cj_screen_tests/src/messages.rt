@@ -4,8 +4,8 @@ use crate::scenes::{COVARIANCE, COVERED, CROSSING, Content, OF_ONE_ELEMENT, Scen
 use cj_epoch::Tick;
 use cj_io::{CalmShelf, FileBytes};
 use std::alloc::{AllocError, Global};
+use std::panic::Expect;
 use std::sync::Wait;
-use std::test::Fail;
 use std::thread::Threads;
 
 /// 2025-01-02T00:00:00.
@@ -207,23 +207,31 @@ fn first_other<R: Threads + Wait + Sync>(
 }
 
 #[test]
-fn encounters_with_both_covariances_have_a_message(rt: HostRuntime) -> Result<(), Fail> {
-    assert_eq!(rt; first_other(&rt, rt.alloc(), TOLD.as_slice())?, None);
-    Ok(())
+fn encounters_with_both_covariances_have_a_message(rt: HostRuntime) {
+    assert_eq!(rt;
+        first_other(&rt, rt.alloc(), TOLD.as_slice()).expect(&rt, "no fault"),
+        None
+    );
 }
 
 #[test]
-fn two_tracks_cross_at_one_kilometre(rt: HostRuntime) -> Result<(), Fail> {
-    let shelf = shelf_of(&rt, rt.alloc(), COVERED)?;
+fn two_tracks_cross_at_one_kilometre(rt: HostRuntime) {
+    let shelf = shelf_of(&rt, rt.alloc(), COVERED).expect(&rt, "no fault");
     assert!(rt; piece_of(shelf.written(), b"000001.cdm") == MESSAGE);
-    Ok(())
 }
 
 #[test]
-fn a_message_names_its_originator(rt: HostRuntime) -> Result<(), Fail> {
+fn a_message_names_its_originator(rt: HostRuntime) {
     let alloc = rt.alloc();
     let line = "screen . --originator Ops_7-b";
-    let (_, shelf) = run_at(&rt, alloc, line, files_of(alloc, COVERED)?, NOW)?;
+    let (_, shelf) = run_at(
+        &rt,
+        alloc,
+        line,
+        files_of(alloc, COVERED).expect(&rt, "no fault"),
+        NOW,
+    )
+    .expect(&rt, "no fault");
     let message = piece_of(shelf.written(), b"000001.cdm");
     let front = b"CCSDS_CDM_VERS = 1.0
 CREATION_DATE = 2025-01-02T00:00:00.000000
@@ -231,5 +239,4 @@ ORIGINATOR = Ops_7-b
 MESSAGE_ID = Ops_7-b_000001
 ";
     assert!(rt; message.starts_with(front));
-    Ok(())
 }

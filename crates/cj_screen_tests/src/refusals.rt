@@ -3,8 +3,8 @@ use crate::runs::{is_told, run};
 use crate::scenes::{CROSSING, Content, GCRF, OF_DEGREE_SEVEN, Scene, base_text, copies, files_of};
 use cj_io::FileBytes;
 use std::alloc::{AllocError, Global};
+use std::panic::Expect;
 use std::sync::Wait;
-use std::test::Fail;
 use std::thread::Threads;
 
 /// Two nodes thirty seconds before and after the leap second at the end of 2016.
@@ -161,12 +161,20 @@ fn first_wrong<R: Threads + Wait + Sync>(
 }
 
 #[test]
-fn what_is_refused_is_told(rt: HostRuntime) -> Result<(), Fail> {
+fn what_is_refused_is_told(rt: HostRuntime) {
     let alloc = rt.alloc();
-    assert_eq!(rt; first_wrong(&rt, alloc, WORDS.as_slice())?, None);
-    assert_eq!(rt; first_wrong(&rt, alloc, FILES.as_slice())?, None);
-    assert_eq!(rt; first_wrong(&rt, alloc, SIZES.as_slice())?, None);
-    Ok(())
+    assert_eq!(rt;
+        first_wrong(&rt, alloc, WORDS.as_slice()).expect(&rt, "no fault"),
+        None
+    );
+    assert_eq!(rt;
+        first_wrong(&rt, alloc, FILES.as_slice()).expect(&rt, "no fault"),
+        None
+    );
+    assert_eq!(rt;
+        first_wrong(&rt, alloc, SIZES.as_slice()).expect(&rt, "no fault"),
+        None
+    );
 }
 
 /// The number of the status in which a run over these files ends.
@@ -180,25 +188,62 @@ fn number_of<R: Threads + Wait + Sync>(
 }
 
 #[test]
-fn limits_on_files_are_told_and_may_be_reached(rt: HostRuntime) -> Result<(), Fail> {
+fn limits_on_files_are_told_and_may_be_reached(rt: HostRuntime) {
     let alloc = rt.alloc();
     let line = "screen .";
     let due = b"conj: limit: Objects 2001\n";
-    assert_eq!(rt; number_of(&rt, alloc, line, copies(alloc, 2001, b"")?)?, 6);
-    assert!(rt; is_told(&rt, alloc, line, copies(alloc, 2001, b"")?, due)?);
+    assert_eq!(rt;
+        number_of(
+            &rt,
+            alloc,
+            line,
+            copies(alloc, 2001, b"").expect(&rt, "no fault")
+        )
+        .expect(&rt, "no fault"),
+        6
+    );
+    assert!(rt;
+        is_told(
+            &rt,
+            alloc,
+            line,
+            copies(alloc, 2001, b"").expect(&rt, "no fault"),
+            due
+        )
+        .expect(&rt, "no fault")
+    );
     // So many files are read, and the first is refused.
-    assert_eq!(rt; number_of(&rt, alloc, line, copies(alloc, 2000, b"")?)?, 3);
-    Ok(())
+    assert_eq!(rt;
+        number_of(
+            &rt,
+            alloc,
+            line,
+            copies(alloc, 2000, b"").expect(&rt, "no fault")
+        )
+        .expect(&rt, "no fault"),
+        3
+    );
 }
 
 #[test]
-fn limits_on_the_window_are_told_and_may_be_reached(rt: HostRuntime) -> Result<(), Fail> {
+fn limits_on_the_window_are_told_and_may_be_reached(rt: HostRuntime) {
     let alloc = rt.alloc();
     let line = "screen . --from 2025-01-01T00:00:00 --to 2025-01-15T00:00:00";
-    assert_eq!(rt; number_of(&rt, alloc, line, Vec::new(alloc))?, 0);
+    assert_eq!(rt;
+        number_of(&rt, alloc, line, Vec::new(alloc)).expect(&rt, "no fault"),
+        0
+    );
     let line = "screen . --from 2025-01-01T00:00:00 --to 2025-01-14T21:20:00";
-    let text = base_text(alloc)?;
+    let text = base_text(alloc).expect(&rt, "no fault");
     let due = b"conj: limit: Slots 4000200\n";
-    assert!(rt; is_told(&rt, alloc, line, copies(alloc, 200, &text)?, due)?);
-    Ok(())
+    assert!(rt;
+        is_told(
+            &rt,
+            alloc,
+            line,
+            copies(alloc, 200, &text).expect(&rt, "no fault"),
+            due
+        )
+        .expect(&rt, "no fault")
+    );
 }

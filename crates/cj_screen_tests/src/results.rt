@@ -2,8 +2,8 @@
 use crate::runs::run;
 use crate::scenes::{CROSSING, Content, GCRF, OF_DEGREE_SEVEN, SHARING_ONE_TICK, Scene, files_of};
 use std::alloc::{AllocError, Global};
+use std::panic::Expect;
 use std::sync::Wait;
-use std::test::Fail;
 use std::thread::Threads;
 
 /// A run, what stands in its report behind the last object, and the numbers of its summary in order.
@@ -361,9 +361,11 @@ fn first_wrong<R: Threads + Wait + Sync>(
 }
 
 #[test]
-fn each_scene_has_its_spans_and_counts(rt: HostRuntime) -> Result<(), Fail> {
-    assert_eq!(rt; first_wrong(&rt, rt.alloc(), CASES.as_slice())?, None);
-    Ok(())
+fn each_scene_has_its_spans_and_counts(rt: HostRuntime) {
+    assert_eq!(rt;
+        first_wrong(&rt, rt.alloc(), CASES.as_slice()).expect(&rt, "no fault"),
+        None
+    );
 }
 
 /// A command line, the files of its folder, and the whole report.
@@ -492,15 +494,22 @@ fn first_other<R: Threads + Wait + Sync>(
 }
 
 #[test]
-fn whole_reports(rt: HostRuntime) -> Result<(), Fail> {
-    assert_eq!(rt; first_other(&rt, rt.alloc(), REPORTS.as_slice())?, None);
-    Ok(())
+fn whole_reports(rt: HostRuntime) {
+    assert_eq!(rt;
+        first_other(&rt, rt.alloc(), REPORTS.as_slice()).expect(&rt, "no fault"),
+        None
+    );
 }
 
 #[test]
-fn without_its_name_the_file_of_sizes_is_an_ephemeris(rt: HostRuntime) -> Result<(), Fail> {
+fn without_its_name_the_file_of_sizes_is_an_ephemeris(rt: HostRuntime) {
     let alloc = rt.alloc();
-    let ran = run(&rt, alloc, "screen . --suffix t", files_of(alloc, SIZED)?)?;
+    let ran = run(
+        &rt,
+        alloc,
+        "screen . --suffix t",
+        files_of(alloc, SIZED).expect(&rt, "no fault"),
+    )
+    .expect(&rt, "no fault");
     assert_eq!(rt; ran.number, 3);
-    Ok(())
 }

@@ -3,8 +3,8 @@ use crate::catalogues::made_by;
 use crate::runs::{end_alone, piece_of, told};
 use cj_io::{CalmShelf, MemShelf};
 use std::alloc::{AllocError, Global};
+use std::panic::Expect;
 use std::sync::Wait;
-use std::test::Fail;
 use std::thread::Threads;
 
 /// What is told of the files of a made-up catalogue.
@@ -35,34 +35,31 @@ fn told_in_memory<R: Threads + Wait + Sync>(
 }
 
 #[test]
-fn a_catalogue_in_memory_gives_the_summary_of_its_files(rt: HostRuntime) -> Result<(), Fail> {
+fn a_catalogue_in_memory_gives_the_summary_of_its_files(rt: HostRuntime) {
     let alloc = rt.alloc();
     let options = "--seed 7 --objects 5 --minutes 3";
-    let summary = summary_of_files(&rt, alloc, options)?;
-    let text = told_in_memory(&rt, alloc, options)?;
+    let summary = summary_of_files(&rt, alloc, options).expect(&rt, "no fault");
+    let text = told_in_memory(&rt, alloc, options).expect(&rt, "no fault");
     assert!(rt; text.starts_with(&summary));
     assert!(rt; text.starts_with(b"OBJECTS 5\nPAIRS 10\n"));
     assert!(rt; text.ends_with(b"\nCHECK ACCEPTED\n"));
-    Ok(())
 }
 
 #[test]
-fn a_limit_ends_it(rt: HostRuntime) -> Result<(), Fail> {
+fn a_limit_ends_it(rt: HostRuntime) {
     let mut shelf = CalmShelf::new(rt.alloc());
     let line = "selfrun --objects 10 --minutes 60 --threshold 1000000 --cells 1";
-    let end = end_alone(&rt, rt.alloc(), line, &mut shelf)?;
+    let end = end_alone(&rt, rt.alloc(), line, &mut shelf).expect(&rt, "no fault");
     assert!(rt; end.line.as_slice() == b"conj: limit: Cells 1\n".as_slice());
     assert_eq!(rt; shelf.written().len(), 0);
-    Ok(())
 }
 
 #[test]
-fn a_failed_put_ends_it(rt: HostRuntime) -> Result<(), Fail> {
-    let calls = Vec::from_array(rt.alloc(), [1])?;
+fn a_failed_put_ends_it(rt: HostRuntime) {
+    let calls = Vec::from_array(rt.alloc(), [1]).expect(&rt, "no fault");
     let mut shelf = MemShelf::new(rt.alloc(), calls);
     let line = "selfrun --objects 1 --minutes 1";
-    let end = end_alone(&rt, rt.alloc(), line, &mut shelf)?;
+    let end = end_alone(&rt, rt.alloc(), line, &mut shelf).expect(&rt, "no fault");
     assert_eq!(rt; end.number, 5);
     assert_eq!(rt; shelf.written().len(), 0);
-    Ok(())
 }

@@ -6,8 +6,8 @@ use crate::scenes::{CROSSING, files_of};
 use cj_epoch::Tick;
 use cj_io::FileBytes;
 use std::alloc::{AllocError, Global};
+use std::panic::Expect;
 use std::sync::Wait;
-use std::test::Fail;
 use std::thread::Threads;
 
 /// The certificate of the two objects at rest in version 2.
@@ -60,28 +60,37 @@ fn is_checked<R: Threads + Wait + Sync>(
 }
 
 #[test]
-fn objects_at_rest_have_one_box_each(rt: HostRuntime) -> Result<(), Fail> {
+fn objects_at_rest_have_one_box_each(rt: HostRuntime) {
     let alloc = rt.alloc();
     let first = "screen . --cert-version 1";
     let second = "screen . --cert-version 2";
-    assert!(rt; is_certified(&rt, alloc, second, RESTING, AT_REST_2)?);
-    assert!(rt; is_certified(&rt, alloc, first, RESTING, AT_REST)?);
-    assert!(rt; is_checked(&rt, alloc, AT_REST_2, ACCEPTED)?);
-    Ok(())
+    assert!(rt; is_certified(&rt, alloc, second, RESTING, AT_REST_2).expect(&rt, "no fault"));
+    assert!(rt; is_certified(&rt, alloc, first, RESTING, AT_REST).expect(&rt, "no fault"));
+    assert!(rt; is_checked(&rt, alloc, AT_REST_2, ACCEPTED).expect(&rt, "no fault"));
 }
 
 #[test]
-fn a_block_that_would_touch_newly_is_not_joined(rt: HostRuntime) -> Result<(), Fail> {
+fn a_block_that_would_touch_newly_is_not_joined(rt: HostRuntime) {
     let alloc = rt.alloc();
     let line = "screen . --cert-version 2";
-    let text = certificate_of(&rt, alloc, line, files_of(alloc, CROSSING)?)?;
+    let text = certificate_of(
+        &rt,
+        alloc,
+        line,
+        files_of(alloc, CROSSING).expect(&rt, "no fault"),
+    )
+    .expect(&rt, "no fault");
     let boxes = text
         .windows(CROSSING_BOXES.len())
         .any(|part| part == CROSSING_BOXES);
     assert!(rt; boxes);
-    let files = with_certificate(alloc, files_of(alloc, CROSSING)?, &text)?;
-    assert!(rt; is_told(&rt, alloc, "check .", files, ACCEPTED)?);
-    Ok(())
+    let files = with_certificate(
+        alloc,
+        files_of(alloc, CROSSING).expect(&rt, "no fault"),
+        &text,
+    )
+    .expect(&rt, "no fault");
+    assert!(rt; is_told(&rt, alloc, "check .", files, ACCEPTED).expect(&rt, "no fault"));
 }
 
 /// The number of a line of the certificate in version 2, another line in its place, and what is told then.
@@ -113,9 +122,11 @@ fn first_other<R: Threads + Wait + Sync>(
 }
 
 #[test]
-fn damages_of_version_2_are_told(rt: HostRuntime) -> Result<(), Fail> {
-    assert_eq!(rt; first_other(&rt, rt.alloc(), DAMAGES.as_slice())?, None);
-    Ok(())
+fn damages_of_version_2_are_told(rt: HostRuntime) {
+    assert_eq!(rt;
+        first_other(&rt, rt.alloc(), DAMAGES.as_slice()).expect(&rt, "no fault"),
+        None
+    );
 }
 
 /// Whether a command line that rewrites a certificate puts this one, and tells this.
@@ -147,13 +158,16 @@ fn is_rewritten_at_rest<R: Threads + Wait + Sync>(
 const REWRITTEN: &[u8] = b"REWRITTEN\n";
 
 #[test]
-fn a_certificate_is_rewritten(rt: HostRuntime) -> Result<(), Fail> {
+fn a_certificate_is_rewritten(rt: HostRuntime) {
     let alloc = rt.alloc();
-    assert!(rt; is_rewritten_at_rest(&rt, alloc, AT_REST, AT_REST_2, REWRITTEN)?);
-    assert!(rt; is_rewritten_at_rest(&rt, alloc, AT_REST_2, AT_REST_2, REWRITTEN)?);
-    let without_a_box = changed(alloc, AT_REST, 7, b"")?;
-    assert!(rt; is_rewritten_at_rest(&rt, alloc, &without_a_box, b"", b"")?);
-    Ok(())
+    assert!(rt;
+        is_rewritten_at_rest(&rt, alloc, AT_REST, AT_REST_2, REWRITTEN).expect(&rt, "no fault")
+    );
+    assert!(rt;
+        is_rewritten_at_rest(&rt, alloc, AT_REST_2, AT_REST_2, REWRITTEN).expect(&rt, "no fault")
+    );
+    let without_a_box = changed(alloc, AT_REST, 7, b"").expect(&rt, "no fault");
+    assert!(rt; is_rewritten_at_rest(&rt, alloc, &without_a_box, b"", b"").expect(&rt, "no fault"));
 }
 
 /// Whether a certificate of a catalogue is accepted, and comes to this one when it is rewritten.
@@ -188,17 +202,28 @@ fn are_both_accepted<R: Threads + Wait + Sync>(
 }
 
 #[test]
-fn each_version_of_a_catalogue_is_accepted(rt: HostRuntime) -> Result<(), Fail> {
+fn each_version_of_a_catalogue_is_accepted(rt: HostRuntime) {
     let alloc = rt.alloc();
     let line = "generate . --seed 7 --objects 6 --minutes 10";
-    let catalogue = made_by(&rt, alloc, line)?;
+    let catalogue = made_by(&rt, alloc, line).expect(&rt, "no fault");
     let line = "screen . --threshold 1000000";
-    let first = run(&rt, alloc, line, copies_of(alloc, &catalogue)?)?;
+    let first = run(
+        &rt,
+        alloc,
+        line,
+        copies_of(alloc, &catalogue).expect(&rt, "no fault"),
+    )
+    .expect(&rt, "no fault");
     let line = "screen . --threshold 1000000 --cert-version 2";
-    let second = run(&rt, alloc, line, copies_of(alloc, &catalogue)?)?;
+    let second = run(
+        &rt,
+        alloc,
+        line,
+        copies_of(alloc, &catalogue).expect(&rt, "no fault"),
+    )
+    .expect(&rt, "no fault");
     let (old, new) = (first.certificate.as_slice(), second.certificate.as_slice());
     assert!(rt; first.report.as_slice() == second.report.as_slice());
     assert!(rt; new.len() < old.len());
-    assert!(rt; are_both_accepted(&rt, alloc, &catalogue, old, new)?);
-    Ok(())
+    assert!(rt; are_both_accepted(&rt, alloc, &catalogue, old, new).expect(&rt, "no fault"));
 }

@@ -10,8 +10,8 @@ use cj_sieve::{kept_pairs, parted, shell};
 use cj_track::Track;
 use cj_walk::TrackWalk;
 use std::alloc::{AllocError, Global};
+use std::panic::Expect;
 use std::process::Abort;
-use std::test::Fail;
 
 /// 5 km in nm.
 const THRESHOLD: u64 = 5_000_000_000_000;
@@ -32,11 +32,11 @@ fn shell_in(track: &Track, window: Window) -> Option<Shell> {
 
 /// At rest at 7,100 km for 20 seconds, from then on at 7,000 km until second 40.
 #[test]
-fn a_shell_goes_round_the_segments_of_its_seconds(rt: HostRuntime) -> Result<(), Fail> {
+fn a_shell_goes_round_the_segments_of_its_seconds(rt: HostRuntime) {
     let alloc = rt.alloc();
-    let one = rest(alloc, 0, 20, AT_7100)?;
-    let other = rest(alloc, 20, 40, AT_7000)?;
-    let track = track_of_two(alloc, one, other)?;
+    let one = rest(alloc, 0, 20, AT_7100).expect(&rt, "no fault");
+    let other = rest(alloc, 20, 40, AT_7000).expect(&rt, "no fault");
+    let track = track_of_two(alloc, one, other).expect(&rt, "no fault");
     let low = Some(thin(7_000_000_000_000_000));
     let high = Some(thin(7_100_000_000_000_000));
     let both = Some(Shell {
@@ -54,29 +54,27 @@ fn a_shell_goes_round_the_segments_of_its_seconds(rt: HostRuntime) -> Result<(),
     ] {
         assert_eq!(rt; shell_in(&track, ticks), expected);
     }
-    Ok(())
 }
 
 #[test]
-fn a_gap_between_segments_is_passed_over(rt: HostRuntime) -> Result<(), Fail> {
+fn a_gap_between_segments_is_passed_over(rt: HostRuntime) {
     let alloc = rt.alloc();
-    let one = rest(alloc, 0, 20, AT_7100)?;
-    let other = rest(alloc, 40, 60, AT_7000)?;
-    let track = track_of_two(alloc, one, other)?;
+    let one = rest(alloc, 0, 20, AT_7100).expect(&rt, "no fault");
+    let other = rest(alloc, 40, 60, AT_7000).expect(&rt, "no fault");
+    let track = track_of_two(alloc, one, other).expect(&rt, "no fault");
     let both = Some(Shell {
         lo: 7_000_000_000_000_000,
         hi: 7_100_000_000_000_000,
     });
     assert_eq!(rt; shell_in(&track, seconds(0, 120)), both);
     assert_eq!(rt; shell_in(&track, seconds(21, 39)), None);
-    Ok(())
 }
 
 /// The coefficients against the origin have their least part, 48,989,875 km², in the middle, and their greatest, 49,050,625 km²,
 /// at both ends.
 #[test]
-fn the_shell_of_a_moving_track_holds_its_ends(rt: HostRuntime) -> Result<(), Fail> {
-    let track = along_y(rt.alloc())?;
+fn the_shell_of_a_moving_track_holds_its_ends(rt: HostRuntime) {
+    let track = along_y(rt.alloc()).expect(&rt, "no fault");
     assert_eq!(rt;
         shell_in(&track, seconds(0, 60)),
         Some(Shell {
@@ -84,12 +82,11 @@ fn the_shell_of_a_moving_track_holds_its_ends(rt: HostRuntime) -> Result<(), Fai
             hi: 7003615137912706
         })
     );
-    Ok(())
 }
 
 /// A low and a geostationary shell; shells at the threshold, one nanometre beyond it, and over one another; the greatest ends.
 #[test]
-fn shells_are_parted_beyond_the_threshold(rt: HostRuntime) -> Result<(), Fail> {
+fn shells_are_parted_beyond_the_threshold(rt: HostRuntime) {
     let low = thin(7_000_000_000_000_000);
     let wide = Shell {
         lo: 6_000_000_000_000_000,
@@ -106,11 +103,10 @@ fn shells_are_parted_beyond_the_threshold(rt: HostRuntime) -> Result<(), Fail> {
         assert_eq!(rt; parted(a, b, THRESHOLD), expected);
         assert_eq!(rt; parted(b, a, THRESHOLD), expected);
     }
-    Ok(())
 }
 
 #[test]
-fn kept_pairs_come_in_order(rt: HostRuntime) -> Result<(), Fail> {
+fn kept_pairs_come_in_order(rt: HostRuntime) {
     let low = Some(thin(7_000_000_000_000_000));
     let near = Some(thin(7_005_000_000_000_000));
     let high = Some(thin(42_164_000_000_000_000));
@@ -120,10 +116,13 @@ fn kept_pairs_come_in_order(rt: HostRuntime) -> Result<(), Fail> {
         Pair { a: 0, b: 4 },
         Pair { a: 2, b: 4 },
     ];
-    let kept = kept_pairs(rt.alloc(), &shells, &[0; 6], THRESHOLD)?;
+    let kept = kept_pairs(rt.alloc(), &shells, &[0; 6], THRESHOLD).expect(&rt, "no fault");
     assert_eq!(rt; kept.as_slice(), expected.as_slice());
-    assert!(rt; kept_pairs(rt.alloc(), &[], &[], THRESHOLD)?.is_empty());
-    Ok(())
+    assert!(rt;
+        kept_pairs(rt.alloc(), &[], &[], THRESHOLD)
+            .expect(&rt, "no fault")
+            .is_empty()
+    );
 }
 
 /// The pairs of three objects, the second of them three metres beyond the threshold from the others.
@@ -137,18 +136,21 @@ fn kept_with(alloc: Global, sizes: &[u64; 3]) -> Result<Vec<Pair>, AllocError>
 
 /// The radii of two objects bridge three metres, or a nanometre less than that.
 #[test]
-fn sizes_keep_a_pair_beyond_the_threshold(rt: HostRuntime) -> Result<(), Fail> {
+fn sizes_keep_a_pair_beyond_the_threshold(rt: HostRuntime) {
     let alloc = rt.alloc();
     let first = Pair { a: 0, b: 1 };
     let same = Pair { a: 0, b: 2 };
     let last = Pair { a: 1, b: 2 };
-    let without = kept_with(alloc, &[0, 0, 0])?;
+    let without = kept_with(alloc, &[0, 0, 0]).expect(&rt, "no fault");
     assert_eq!(rt; without.as_slice(), [same].as_slice());
-    let both = kept_with(alloc, &[1_500_000_000, 1_500_000_000, 0])?;
+    let both = kept_with(alloc, &[1_500_000_000, 1_500_000_000, 0]).expect(&rt, "no fault");
     assert_eq!(rt; both.as_slice(), [first, same].as_slice());
-    let less = kept_with(alloc, &[1_499_999_999, 1_500_000_000, 1_500_000_000])?;
+    let less = kept_with(alloc, &[1_499_999_999, 1_500_000_000, 1_500_000_000]).expect(
+        &rt, "no fault",
+    );
     assert_eq!(rt; less.as_slice(), [same, last].as_slice());
-    let greatest = kept_with(alloc, &[1_000_000_000_000, 0, 1_000_000_000_000])?;
+    let greatest = kept_with(alloc, &[1_000_000_000_000, 0, 1_000_000_000_000]).expect(
+        &rt, "no fault",
+    );
     assert_eq!(rt; greatest.as_slice(), [first, same, last].as_slice());
-    Ok(())
 }

@@ -1,9 +1,9 @@
 use cj_kvn::KvnCause;
 use cj_sizes::{SizesCause, SizesFault, radii_of, radius_of, read_sizes};
-use std::test::Fail;
+use std::panic::Expect;
 
 #[test]
-fn a_radius_is_in_metres_with_nine_places(rt: HostRuntime) -> Result<(), Fail> {
+fn a_radius_is_in_metres_with_nine_places(rt: HostRuntime) {
     let radii: [(&[u8], u64); 13] = [
         (b"A 1.5", 1_500_000_000),
         (b"A 0", 0),
@@ -20,15 +20,14 @@ fn a_radius_is_in_metres_with_nine_places(rt: HostRuntime) -> Result<(), Fail> {
         (b"A 1000.0000000004", 1_000_000_000_000),
     ];
     for (text, radius) in &radii {
-        let lines = read_sizes(rt.alloc(), text)?;
+        let lines = read_sizes(rt.alloc(), text).expect(&rt, "no fault");
         assert_eq!(rt; lines.len(), 1);
         assert_eq!(rt; radius_of(&lines, b"A"), *radius);
     }
-    Ok(())
 }
 
 #[test]
-fn blank_lines_and_comments_say_nothing(rt: HostRuntime) -> Result<(), Fail> {
+fn blank_lines_and_comments_say_nothing(rt: HostRuntime) {
     let counts: [(&[u8], usize); 7] = [
         (b"", 0),
         (b" \t\r\n\n", 0),
@@ -39,13 +38,15 @@ fn blank_lines_and_comments_say_nothing(rt: HostRuntime) -> Result<(), Fail> {
         (b"COMMENTS 1", 1),
     ];
     for (text, count) in &counts {
-        assert_eq!(rt; read_sizes(rt.alloc(), text)?.len(), *count);
+        assert_eq!(rt;
+            read_sizes(rt.alloc(), text).expect(&rt, "no fault").len(),
+            *count
+        );
     }
-    Ok(())
 }
 
 #[test]
-fn the_first_fault(rt: HostRuntime) -> Result<(), Fail> {
+fn the_first_fault(rt: HostRuntime) {
     let faults: [(&[u8], u32, SizesCause); 23] = [
         (b"2025-001A", 1, SizesCause::Form),
         (b"2025-001A x", 1, SizesCause::Number),
@@ -82,12 +83,13 @@ fn the_first_fault(rt: HostRuntime) -> Result<(), Fail> {
         };
         assert_eq!(rt; read_sizes(rt.alloc(), text).err(), Some(fault));
     }
-    Ok(())
 }
 
 #[test]
-fn an_object_has_the_radius_of_its_designator(rt: HostRuntime) -> Result<(), Fail> {
-    let lines = read_sizes(rt.alloc(), b"AB 1\nA 2\n2025-001A 3\nCOMMENT 4\nb 0\nB 5\n")?;
+fn an_object_has_the_radius_of_its_designator(rt: HostRuntime) {
+    let lines = read_sizes(rt.alloc(), b"AB 1\nA 2\n2025-001A 3\nCOMMENT 4\nb 0\nB 5\n").expect(
+        &rt, "no fault",
+    );
     let radii: [(&[u8], u64); 9] = [
         (b"A", 2_000_000_000),
         (b"AB", 1_000_000_000),
@@ -103,10 +105,9 @@ fn an_object_has_the_radius_of_its_designator(rt: HostRuntime) -> Result<(), Fai
     let mut expected = Vec::new(rt.alloc());
     for (id, radius) in &radii {
         assert_eq!(rt; radius_of(&lines, id), *radius);
-        ids.push(*id)?;
-        expected.push(*radius)?;
+        ids.push(*id).expect(&rt, "no fault");
+        expected.push(*radius).expect(&rt, "no fault");
     }
-    let found = radii_of(rt.alloc(), &lines, &ids)?;
+    let found = radii_of(rt.alloc(), &lines, &ids).expect(&rt, "no fault");
     assert_eq!(rt; found.as_slice(), expected.as_slice());
-    Ok(())
 }

@@ -4,10 +4,10 @@ use cj_epoch::EpochFault;
 use cj_io::Name;
 use cj_kvn::KvnCause;
 use cj_status::{CertificateCause, FileCause, LimitFault, Status, fault_text};
-use std::test::Fail;
+use std::panic::Expect;
 
 #[test]
-fn the_cause_of_a_refused_file_is_told_by_its_name(rt: HostRuntime) -> Result<(), Fail> {
+fn the_cause_of_a_refused_file_is_told_by_its_name(rt: HostRuntime) {
     let cases: [(&[u8], u32, FileCause, &[u8]); 7] = [
         (
             b"sizes.txt",
@@ -54,15 +54,16 @@ fn the_cause_of_a_refused_file_is_told_by_its_name(rt: HostRuntime) -> Result<()
         ),
     ];
     for (file, line, cause, told) in cases {
-        let file = Name::copy_of(rt.alloc(), file)?;
-        let text = fault_text(rt.alloc(), &Status::BadFile { file, line, cause })?;
+        let file = Name::copy_of(rt.alloc(), file).expect(&rt, "no fault");
+        let text = fault_text(rt.alloc(), &Status::BadFile { file, line, cause }).expect(
+            &rt, "no fault",
+        );
         assert_eq!(rt; text.as_slice(), told);
     }
-    Ok(())
 }
 
 #[test]
-fn the_cause_of_a_refused_certificate_is_told_by_its_name(rt: HostRuntime) -> Result<(), Fail> {
+fn the_cause_of_a_refused_certificate_is_told_by_its_name(rt: HostRuntime) {
     let cases: [(u32, CertificateCause, &[u8]); 5] = [
         (
             0,
@@ -93,15 +94,14 @@ fn the_cause_of_a_refused_certificate_is_told_by_its_name(rt: HostRuntime) -> Re
     for (line, cause, told) in cases {
         let status = Status::NotAccepted { line, cause };
         assert_eq!(rt; status.number(), 1);
-        let text = fault_text(rt.alloc(), &status)?;
+        let text = fault_text(rt.alloc(), &status).expect(&rt, "no fault");
         assert_eq!(rt; text.as_slice(), told);
     }
-    Ok(())
 }
 
 #[test]
-fn other_ends_are_told(rt: HostRuntime) -> Result<(), Fail> {
-    let file = Name::copy_of(rt.alloc(), b"a.oem")?;
+fn other_ends_are_told(rt: HostRuntime) {
+    let file = Name::copy_of(rt.alloc(), b"a.oem").expect(&rt, "no fault");
     let cases: [(Status, &[u8]); 5] = [
         (Status::Ok, b""),
         (
@@ -119,8 +119,7 @@ fn other_ends_are_told(rt: HostRuntime) -> Result<(), Fail> {
         (Status::OutOfMemory, b"conj: out of memory\n"),
     ];
     for (status, told) in cases {
-        let text = fault_text(rt.alloc(), &status)?;
+        let text = fault_text(rt.alloc(), &status).expect(&rt, "no fault");
         assert_eq!(rt; text.as_slice(), told);
     }
-    Ok(())
 }

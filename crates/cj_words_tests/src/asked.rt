@@ -5,7 +5,7 @@ use cj_words::{
     Checking, Command, Opt, Recipe, Screening, Settings, Trial, option_name, read_command,
 };
 use std::alloc::{AllocError, Global};
-use std::test::Fail;
+use std::panic::Expect;
 
 /// The tick that an epoch says.
 fn tick(text: &[u8]) -> Tick {
@@ -38,7 +38,7 @@ const USUAL_RECIPE: Recipe = Recipe {
 };
 
 #[test]
-fn what_is_left_out(rt: HostRuntime) -> Result<(), Fail> {
+fn what_is_left_out(rt: HostRuntime) {
     let cases = [
         (
             "screen .",
@@ -76,18 +76,17 @@ fn what_is_left_out(rt: HostRuntime) -> Result<(), Fail> {
         ),
     ];
     for (line, expected) in cases {
-        let words = words(rt.alloc(), line)?;
+        let words = words(rt.alloc(), line).expect(&rt, "no fault");
         assert_eq!(rt; read_command(&words), Ok(expected), "{line}");
     }
-    Ok(())
 }
 
 #[test]
-fn all_that_can_be_asked_of_a_screening(rt: HostRuntime) -> Result<(), Fail> {
+fn all_that_can_be_asked_of_a_screening(rt: HostRuntime) {
     let line =
         "screen . --cert-version 2 --cells 9 --sizes r.txt --originator=MY_site-1 --workers 16 --as-hermite3 \
         --to 2025-01-01T00:00:01 --from=2025-001T00:00:00Z --suffix .txt --threshold=7";
-    let words = words(rt.alloc(), line)?;
+    let words = words(rt.alloc(), line).expect(&rt, "no fault");
     let screening = Screening {
         settings: Settings {
             threshold: 7,
@@ -103,14 +102,13 @@ fn all_that_can_be_asked_of_a_screening(rt: HostRuntime) -> Result<(), Fail> {
         version: 2,
     };
     assert_eq!(rt; read_command(&words), Ok(Command::Screen(screening)));
-    Ok(())
 }
 
 #[test]
-fn all_that_can_be_asked_of_a_check(rt: HostRuntime) -> Result<(), Fail> {
+fn all_that_can_be_asked_of_a_check(rt: HostRuntime) {
     let line =
         "check . --sizes=r.txt --cert other.cert --suffix .txt --as-hermite3 --threshold 1000000";
-    let words = words(rt.alloc(), line)?;
+    let words = words(rt.alloc(), line).expect(&rt, "no fault");
     let checking = Checking {
         settings: Settings {
             threshold: 1_000_000,
@@ -123,7 +121,6 @@ fn all_that_can_be_asked_of_a_check(rt: HostRuntime) -> Result<(), Fail> {
         certificate: b"other.cert",
     };
     assert_eq!(rt; read_command(&words), Ok(Command::Check(checking)));
-    Ok(())
 }
 
 /// Command lines, and the suffix for which each asks.
@@ -146,15 +143,17 @@ const SUFFIXES: [(&str, &[u8]); 9] = [
 ];
 
 #[test]
-fn suffixes_that_are_taken(rt: HostRuntime) -> Result<(), Fail> {
+fn suffixes_that_are_taken(rt: HostRuntime) {
     for (line, suffix) in &SUFFIXES {
-        assert!(rt; asks_for(rt.alloc(), line, suffix)?, "{line}");
+        assert!(rt;
+            asks_for(rt.alloc(), line, suffix).expect(&rt, "no fault"),
+            "{line}"
+        );
     }
-    Ok(())
 }
 
 #[test]
-fn the_names_of_fault_lines(rt: HostRuntime) -> Result<(), Fail> {
+fn the_names_of_fault_lines(rt: HostRuntime) {
     assert_eq!(rt; option_name(Opt::Suffix), b"--suffix".as_slice());
     assert_eq!(rt; option_name(Opt::AsHermite3), b"--as-hermite3".as_slice());
     assert_eq!(rt; option_name(Opt::Sizes), b"--sizes".as_slice());
@@ -163,28 +162,27 @@ fn the_names_of_fault_lines(rt: HostRuntime) -> Result<(), Fail> {
     assert_eq!(rt; option_name(Opt::Seed), b"--seed".as_slice());
     assert_eq!(rt; option_name(Opt::Objects), b"--objects".as_slice());
     assert_eq!(rt; option_name(Opt::Minutes), b"--minutes".as_slice());
-    Ok(())
 }
 
 #[test]
-fn what_a_catalogue_is_made_of(rt: HostRuntime) -> Result<(), Fail> {
+fn what_a_catalogue_is_made_of(rt: HostRuntime) {
     let line = "generate . --minutes 1 --seed=18446744073709551615 --objects 02000";
-    let given = words(rt.alloc(), line)?;
+    let given = words(rt.alloc(), line).expect(&rt, "no fault");
     let asked = Recipe {
         seed: u64::MAX,
         objects: 2000,
         minutes: 1,
     };
     assert_eq!(rt; read_command(&given), Ok(Command::Generate(asked)));
-    Ok(())
 }
 
 #[test]
-fn how_a_catalogue_is_screened(rt: HostRuntime) -> Result<(), Fail> {
+fn how_a_catalogue_is_screened(rt: HostRuntime) {
     let words = words(
         rt.alloc(),
         "selfrun --cells 9 --minutes 1440 --threshold=7 --seed 0 --workers=4",
-    )?;
+    )
+    .expect(&rt, "no fault");
     let recipe = Recipe {
         seed: 0,
         objects: 50,
@@ -197,5 +195,4 @@ fn how_a_catalogue_is_screened(rt: HostRuntime) -> Result<(), Fail> {
         recipe,
     };
     assert_eq!(rt; read_command(&words), Ok(Command::Selfrun(trial)));
-    Ok(())
 }

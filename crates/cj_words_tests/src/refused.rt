@@ -2,7 +2,7 @@
 use crate::lines::{Case, fault_of, first_wrong};
 use cj_words::{Opt, UsageFault};
 use std::alloc::{AllocError, Global};
-use std::test::Fail;
+use std::panic::Expect;
 
 const WORDS: Option<UsageFault> = Some(UsageFault::Words);
 
@@ -61,18 +61,19 @@ const BAD_SUFFIXES: [Case; 11] = [
 ];
 
 #[test]
-fn suffixes_that_are_not_taken(rt: HostRuntime) -> Result<(), Fail> {
-    assert_eq!(rt; first_wrong(rt.alloc(), BAD_SUFFIXES.as_slice())?, None);
-    Ok(())
+fn suffixes_that_are_not_taken(rt: HostRuntime) {
+    assert_eq!(rt;
+        first_wrong(rt.alloc(), BAD_SUFFIXES.as_slice()).expect(&rt, "no fault"),
+        None
+    );
 }
 
 #[test]
-fn a_suffix_has_no_space(rt: HostRuntime) -> Result<(), Fail> {
+fn a_suffix_has_no_space(rt: HostRuntime) {
     assert_eq!(rt;
-        fault_of(rt.alloc(), "screen . --suffix", b"a b")?,
+        fault_of(rt.alloc(), "screen . --suffix", b"a b").expect(&rt, "no fault"),
         BAD_SUFFIX
     );
-    Ok(())
 }
 
 const TWICE: [Case; 5] = [
@@ -84,9 +85,11 @@ const TWICE: [Case; 5] = [
 ];
 
 #[test]
-fn an_option_stands_once(rt: HostRuntime) -> Result<(), Fail> {
-    assert_eq!(rt; first_wrong(rt.alloc(), TWICE.as_slice())?, None);
-    Ok(())
+fn an_option_stands_once(rt: HostRuntime) {
+    assert_eq!(rt;
+        first_wrong(rt.alloc(), TWICE.as_slice()).expect(&rt, "no fault"),
+        None
+    );
 }
 
 const FLAGS: [Case; 9] = [
@@ -102,9 +105,11 @@ const FLAGS: [Case; 9] = [
 ];
 
 #[test]
-fn a_flag_stands_alone(rt: HostRuntime) -> Result<(), Fail> {
-    assert_eq!(rt; first_wrong(rt.alloc(), FLAGS.as_slice())?, None);
-    Ok(())
+fn a_flag_stands_alone(rt: HostRuntime) {
+    assert_eq!(rt;
+        first_wrong(rt.alloc(), FLAGS.as_slice()).expect(&rt, "no fault"),
+        None
+    );
 }
 
 const NAMES: [Case; 5] = [
@@ -116,9 +121,11 @@ const NAMES: [Case; 5] = [
 ];
 
 #[test]
-fn a_name_is_matched_whole(rt: HostRuntime) -> Result<(), Fail> {
-    assert_eq!(rt; first_wrong(rt.alloc(), NAMES.as_slice())?, None);
-    Ok(())
+fn a_name_is_matched_whole(rt: HostRuntime) {
+    assert_eq!(rt;
+        first_wrong(rt.alloc(), NAMES.as_slice()).expect(&rt, "no fault"),
+        None
+    );
 }
 
 const ORDER: [Case; 11] = [
@@ -141,9 +148,11 @@ const ORDER: [Case; 11] = [
 ];
 
 #[test]
-fn words_come_first_and_then_the_first_option_of_the_table(rt: HostRuntime) -> Result<(), Fail> {
-    assert_eq!(rt; first_wrong(rt.alloc(), ORDER.as_slice())?, None);
-    Ok(())
+fn words_come_first_and_then_the_first_option_of_the_table(rt: HostRuntime) {
+    assert_eq!(rt;
+        first_wrong(rt.alloc(), ORDER.as_slice()).expect(&rt, "no fault"),
+        None
+    );
 }
 
 const SIZES: [Case; 5] = [
@@ -155,9 +164,11 @@ const SIZES: [Case; 5] = [
 ];
 
 #[test]
-fn files_of_sizes(rt: HostRuntime) -> Result<(), Fail> {
-    assert_eq!(rt; first_wrong(rt.alloc(), SIZES.as_slice())?, None);
-    Ok(())
+fn files_of_sizes(rt: HostRuntime) {
+    assert_eq!(rt;
+        first_wrong(rt.alloc(), SIZES.as_slice()).expect(&rt, "no fault"),
+        None
+    );
 }
 
 /// A name of this many letters.
@@ -170,13 +181,15 @@ fn name_of(alloc: Global, count: usize) -> Result<Vec<u8>, AllocError> {
 }
 
 #[test]
-fn a_file_of_sizes_is_named_by_two_hundred_bytes_at_most(rt: HostRuntime) -> Result<(), Fail> {
+fn a_file_of_sizes_is_named_by_two_hundred_bytes_at_most(rt: HostRuntime) {
     let alloc = rt.alloc();
     for (count, expected) in [(200, None), (201, BAD_SIZES)] {
-        let name = name_of(alloc, count)?;
-        assert_eq!(rt; fault_of(alloc, "screen . --sizes", &name)?, expected);
+        let name = name_of(alloc, count).expect(&rt, "no fault");
+        assert_eq!(rt;
+            fault_of(alloc, "screen . --sizes", &name).expect(&rt, "no fault"),
+            expected
+        );
     }
-    Ok(())
 }
 
 const TEXTS: [Case; 14] = [
@@ -203,20 +216,27 @@ const TEXTS: [Case; 14] = [
 ];
 
 #[test]
-fn certificates_and_originators(rt: HostRuntime) -> Result<(), Fail> {
-    assert_eq!(rt; first_wrong(rt.alloc(), TEXTS.as_slice())?, None);
-    Ok(())
+fn certificates_and_originators(rt: HostRuntime) {
+    assert_eq!(rt;
+        first_wrong(rt.alloc(), TEXTS.as_slice()).expect(&rt, "no fault"),
+        None
+    );
 }
 
 #[test]
-fn a_certificate_is_named_by_two_hundred_bytes_at_most(rt: HostRuntime) -> Result<(), Fail> {
+fn a_certificate_is_named_by_two_hundred_bytes_at_most(rt: HostRuntime) {
     let alloc = rt.alloc();
     for (count, expected) in [(200, None), (201, BAD_CERT)] {
-        let name = name_of(alloc, count)?;
-        assert_eq!(rt; fault_of(alloc, "check . --cert", &name)?, expected);
+        let name = name_of(alloc, count).expect(&rt, "no fault");
+        assert_eq!(rt;
+            fault_of(alloc, "check . --cert", &name).expect(&rt, "no fault"),
+            expected
+        );
     }
-    assert_eq!(rt; fault_of(alloc, "check . --cert", b"a b")?, BAD_CERT);
-    Ok(())
+    assert_eq!(rt;
+        fault_of(alloc, "check . --cert", b"a b").expect(&rt, "no fault"),
+        BAD_CERT
+    );
 }
 
 const COMMANDS: [Case; 39] = [
@@ -262,9 +282,11 @@ const COMMANDS: [Case; 39] = [
 ];
 
 #[test]
-fn each_command_has_its_own_options(rt: HostRuntime) -> Result<(), Fail> {
-    assert_eq!(rt; first_wrong(rt.alloc(), COMMANDS.as_slice())?, None);
-    Ok(())
+fn each_command_has_its_own_options(rt: HostRuntime) {
+    assert_eq!(rt;
+        first_wrong(rt.alloc(), COMMANDS.as_slice()).expect(&rt, "no fault"),
+        None
+    );
 }
 
 const RANGES: [Case; 32] = [
@@ -304,7 +326,9 @@ const RANGES: [Case; 32] = [
 ];
 
 #[test]
-fn the_ranges_of_values_and_their_order(rt: HostRuntime) -> Result<(), Fail> {
-    assert_eq!(rt; first_wrong(rt.alloc(), RANGES.as_slice())?, None);
-    Ok(())
+fn the_ranges_of_values_and_their_order(rt: HostRuntime) {
+    assert_eq!(rt;
+        first_wrong(rt.alloc(), RANGES.as_slice()).expect(&rt, "no fault"),
+        None
+    );
 }

@@ -2,8 +2,8 @@ use super::*;
 use cj_words::Word;
 use std::alloc::{AllocError, Global};
 use std::fs;
+use std::panic::Expect;
 use std::sync::Wait;
-use std::test::Fail;
 use std::thread::Threads;
 
 /// An object that goes from one place and rate to another in one minute.
@@ -54,21 +54,33 @@ fn exit_of<R: Threads + Wait + Sync>(
 }
 
 #[test]
-fn a_directory_is_screened_and_its_certificate_is_checked(rt: HostRuntime) -> Result<(), Fail> {
+fn a_directory_is_screened_and_its_certificate_is_checked(rt: HostRuntime) {
     let alloc = rt.alloc();
-    fs::create_dir(&rt, "screened_here")?;
-    let a = ephemeris(alloc, "A", "7000 -225 0 0 7.5 0", "7000 225 0 0 7.5 0")?;
-    let b = ephemeris(alloc, "B", "7001 0 -225 0 0 7.5", "7001 0 225 0 0 7.5")?;
-    fs::write(&rt, "screened_here/a.oem", a.as_bytes())?;
-    fs::write(&rt, "screened_here/b.oem", b.as_bytes())?;
-    assert_eq!(rt; exit_of(&rt, &rt, b"screen", "screened_here")?, 0);
-    let report = fs::read_to_string(&rt, "screened_here/screen.report")?;
+    fs::create_dir(&rt, "screened_here").expect(&rt, "no fault");
+    let a = ephemeris(alloc, "A", "7000 -225 0 0 7.5 0", "7000 225 0 0 7.5 0").expect(
+        &rt, "no fault",
+    );
+    let b = ephemeris(alloc, "B", "7001 0 -225 0 0 7.5", "7001 0 225 0 0 7.5").expect(
+        &rt, "no fault",
+    );
+    fs::write(&rt, "screened_here/a.oem", a.as_bytes()).expect(&rt, "no fault");
+    fs::write(&rt, "screened_here/b.oem", b.as_bytes()).expect(&rt, "no fault");
+    assert_eq!(rt;
+        exit_of(&rt, &rt, b"screen", "screened_here").expect(&rt, "no fault"),
+        0
+    );
+    let report = fs::read_to_string(&rt, "screened_here/screen.report").expect(&rt, "no fault");
     assert!(rt;
         report.ends_with("\nSPAN NEAR 2025-01-01T00:00:29.538120 2025-01-01T00:00:30.461880\nEND\n")
     );
-    assert_eq!(rt; exit_of(&rt, &rt, b"check", "screened_here")?, 0);
-    fs::write(&rt, "screened_here/screen.cert", "CONJ-CERT 1\n")?;
-    assert_eq!(rt; exit_of(&rt, &rt, b"check", "screened_here")?, 1);
-    fs::remove_dir_all(&rt, "screened_here")?;
-    Ok(())
+    assert_eq!(rt;
+        exit_of(&rt, &rt, b"check", "screened_here").expect(&rt, "no fault"),
+        0
+    );
+    fs::write(&rt, "screened_here/screen.cert", "CONJ-CERT 1\n").expect(&rt, "no fault");
+    assert_eq!(rt;
+        exit_of(&rt, &rt, b"check", "screened_here").expect(&rt, "no fault"),
+        1
+    );
+    fs::remove_dir_all(&rt, "screened_here").expect(&rt, "no fault");
 }
