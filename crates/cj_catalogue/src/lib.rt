@@ -4,6 +4,3 @@
 mod tracks;
 
 pub use tracks::catalogue_tracks;
-
-#[cfg(test)]
-mod tests;

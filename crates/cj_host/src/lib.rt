@@ -16,6 +16,3 @@ pub use notice::{Notice, print_notice};
 pub use request::{Request, read_request};
 pub use shelf::DirShelf;
 pub use system_fault::SystemFault;
-
-#[cfg(test)]
-mod tests;

@@ -11,6 +11,3 @@ pub use segments::{AT_7000, AT_7005, AT_7100, REST, moving, node, rest, useable}
 pub use texts::{Change, HEAD, append_lines};
 pub use ticks::{second, seconds, tick, window};
 pub use tracks::{track, track_of, track_of_two};
-
-#[cfg(test)]
-mod tests;

@@ -6,6 +6,3 @@ mod passing;
 
 pub use cases::{crossing, problem_of, resting, sized};
 pub use passing::{along_y, along_z};
-
-#[cfg(test)]
-mod tests;

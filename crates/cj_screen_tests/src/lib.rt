@@ -12,6 +12,8 @@ mod cuts;
 #[cfg(test)]
 mod damages;
 #[cfg(test)]
+mod directories;
+#[cfg(test)]
 mod failures;
 #[cfg(test)]
 mod messages;

@@ -89,7 +89,7 @@ fn end_of(alloc: Global, status: &Status) -> Result<End, AllocError> {
 }
 
 /// How a command line ends over this folder and shelf at this time.
-fn end_over<R: Threads + Wait + Sync, F: Folder, S: StreamShelf>(
+pub fn end_over<R: Threads + Wait + Sync, F: Folder, S: StreamShelf>(
     rt: &R,
     alloc: Global,
     line: &str,

@@ -11,6 +11,3 @@ pub use gathering::all_parts;
 pub use mem_source::MemSource;
 pub use part_source::PartSource;
 pub use stream_shelf::StreamShelf;
-
-#[cfg(test)]
-mod tests;

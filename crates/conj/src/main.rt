@@ -62,6 +62,3 @@ fn print_fault(rt: &HostRuntime, status: &Status) {
         Err(_) => rt.stderr().write_all(b"conj: out of memory\n"),
     };
 }
-
-#[cfg(test)]
-mod tests;

@@ -1,5 +1,5 @@
-use super::*;
 use cj_io::{CalmShelf, MemShelf, PutError, join_parts};
+use cj_stream::{MemSource, PartSource, StreamShelf, all_parts};
 use std::alloc::Global;
 use std::panic::Expect;
 use std::thread::Threads;

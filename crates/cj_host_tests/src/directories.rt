@@ -1,11 +1,11 @@
 ghost use Rattle.std.specs.Prelude.{[], ◌∷◌, if◌then◌else◌};
 
-use super::*;
-use crate::streaming::{MakeError, write_while_made};
+use cj_host::{DirFolder, DirShelf, SystemFault};
 use cj_io::{Folder, FolderError, PutError, Shelf, read_whole};
 use cj_stream::{MemSource, PartSource, StreamShelf};
 use std::alloc::{AllocError, Global};
 use std::fs;
+use std::os::unix::fs::symlink;
 use std::panic::Expect;
 use std::thread::Threads;
 
@@ -194,15 +194,25 @@ fn a_piece_that_wants_memory_while_it_is_made_leaves_nothing(rt: HostRuntime) {
     fs::remove_dir_all(&rt, "starved_here").expect(&rt, "no fault");
 }
 
+// What is written to `/dev/full` finds a full disk.
 #[test]
 fn a_fault_of_a_write_is_told_before_want_of_memory(rt: HostRuntime) {
     let alloc = rt.alloc();
-    let mut source = Starved { made: false };
-    let first = source.next_parts(&rt, alloc).expect(&rt, "no fault");
-    let mut no_room = [0u8; 0];
-    let mut to = no_room.as_mut_slice();
-    let ended = write_while_made(&mut to, &rt, alloc, first, &mut source);
-    assert!(rt; matches!(ended, Err(MakeError::Fault(_))));
+    fs::create_dir(&rt, "full_here").expect(&rt, "no fault");
+    symlink(&rt, "/dev/full", "full_here/.screen.cert.part").expect(&rt, "no fault");
+    let mut shelf = DirShelf::new(&rt, "full_here");
+    assert_eq!(rt;
+        shelf.put_made(&rt, alloc, b"screen.cert", &mut Starved { made: false }),
+        Err(PutError::Failed)
+    );
+    assert!(rt;
+        is_told(
+            alloc,
+            shelf.last_fault(),
+            b"conj: full_here/screen.cert: No space left on device (os error 28)\n"
+        )
+    );
+    fs::remove_dir_all(&rt, "full_here").expect(&rt, "no fault");
 }
 
 fn is_told(alloc: Global, fault: Option<&SystemFault>, line: &[u8]) -> bool {

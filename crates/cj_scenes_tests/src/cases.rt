@@ -1,5 +1,5 @@
-use super::*;
 use cj_samples::second;
+use cj_scenes::crossing;
 use std::panic::Expect;
 use std::process::Abort;
 

@@ -1,4 +1,4 @@
-use super::*;
+use cj_samples::{AT_7000, AT_7005, Change, append_lines, rest, second, track_of_two};
 use std::panic::Expect;
 use std::process::Abort;
 

@@ -1,4 +1,4 @@
-use super::catalogue_tracks;
+use cj_catalogue::catalogue_tracks;
 use std::panic::Expect;
 
 #[test]

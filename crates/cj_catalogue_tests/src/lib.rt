@@ -1,0 +1,5 @@
+//! Tests of `cj_catalogue`, over its public calls alone: in a crate of their own they do not have it proved a second time.
+#![tactic(auto)]
+
+#[cfg(test)]
+mod tracks;
