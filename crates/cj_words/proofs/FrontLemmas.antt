@@ -8,7 +8,7 @@ use Rattle.cj_words.specs.declared.command.Verb.{Verb}
 use Rattle.cj_words.specs.declared.front.Front.{Front}
 use Rattle.cj_words.specs.declared.option.Opt.{Opt}
 use Rattle.cj_kvn.specs.Lines.{is_equals}
-use Rattle.cj_words.specs.Options.{Given, flag, given_of, has_equals, if_empty, in_one_word, in_two_words, is_flag, is_one_word, is_value, may_have, none_next, in_front, is_named, are_accepted, are_known, are_listed, listed, count_of, value_of}
+use Rattle.cj_words.specs.Options.{Given, flag, given_of, has_equals, if_empty, in_one_word, in_two_words, is_flag, is_one_word, is_value, may_have, none_next, in_front, is_name, is_named, are_accepted, are_known, are_listed, listed, count_of, value_of}
 
 -- ---- what stands at the front
 
@@ -108,3 +108,8 @@ pub value_step : (option : Opt) (g : Given) (o : Option (List Given)) → IsTrue
     → value_of option (listed (in_front true g o)) ≡ value_of option (listed o)
 value_step option g None h named = absurd cc
 value_step option g (Some gs) h named = rw named refl
+
+-- where the option in front is none of the command, not all are
+pub unknown_first : (verb : Verb) (g : Given) (o : Option (List Given)) → is_name verb g.name ≡ false → are_known verb (in_front true g o) ≡ false
+unknown_first verb g None unknown = refl
+unknown_first verb g (Some others) unknown = rw unknown refl

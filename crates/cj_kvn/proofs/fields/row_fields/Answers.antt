@@ -1,7 +1,9 @@
-use Rattle.std.proofs.Common.{arith, ◌≡◌, sym, ◌∙◌, length, map, take}
+use Rattle.std.proofs.Common.{arith, ◌≡◌, ◌<◌, sym, ◌∙◌, length, map, take}
+use Rattle.std.proofs.Math.ListN.{length-set}
 use Rattle.std.proofs.lemmas.List.{length-map, length-take}
-use Rattle.cj_kvn.specs.Ranges.{text_at}
-use Rattle.cj_kvn.proofs.RowLemmas.{all_found, ten_found}
+use Rattle.std.proofs.lemmas.List.Elements.{All-set}
+use Rattle.cj_kvn.specs.Ranges.{IsWithin, text_at}
+use Rattle.cj_kvn.proofs.RowLemmas.{all_found, field_found, ten_found}
 use Rattle.cj_kvn.proofs.fields.row_fields.Goals as goal
 
 pub returns-in_default-clause-count : goal.returns-in_default-clause-count
@@ -21,3 +23,15 @@ returns-in-Some-first_field-clause-count c =
     let front = take c.loop-count.count c.loop-count.found in
     let long : length (map (text_at c.args.bytes.now) front) ≡ 10 = omega (arith, length-map front (text_at c.args.bytes.now), length-take c.loop-count.count c.loop-count.found) in
     (ten_found _ _ _ _ _ c.in-Some-first_field.ensures.fields c.loop-count.invariant.said long).0
+
+pub loop-count-preserved : goal.loop-count-preserved
+loop-count-preserved c =
+    let bytes = c.args.bytes.now in
+    let found = c.loop-count.found in
+    let inside : c.loop-count.count < length found = omega arith in
+    record {
+      said = field_found bytes found c.loop-count.count c.in-Some.field _ _ _ inside c.in-Some.ensures.fields c.loop-count.invariant.said;
+      rest = c.in-Some.ensures.within.1;
+      all = All-set (IsWithin bytes) found c.loop-count.count c.in-Some.field c.in-Some.ensures.within.0 c.loop-count.invariant.all;
+      ten = length-set found c.loop-count.count c.in-Some.field ∙ c.loop-count.invariant.ten;
+    }
