@@ -64,6 +64,10 @@ pub ends_covered : (m n : ℕ) (window : Window) (z : Option PlainPiece) → IsS
 ends_covered m n window None ticks first second = ticks
 ends_covered m n window (Some x) ticks first second = record { first = (ticks m).0 first; second = (ticks n).0 second }
 
+-- a tick from the later first one to the earlier last one lies in both windows
+pub holds_cut : (window range : Window) (first last m : ℕ) → first ≡ max window.first.micros range.first.micros → last ≡ min window.last.micros range.last.micros → first ≤ m → m ≤ last → Holds window m
+holds_cut window range first last m from to after before = record { after = omega arith; before = omega arith }
+
 -- where the last tick is the piece's own
 pub run_whole : (index : ℕ) (e : PlainTrack) (range covered run : Window) → AreCovered e index covered → IsCommonPart covered range run → run.first.micros ≤ run.last.micros
     → interval_index_at e run.last.micros ≡ Some index → IsRun e index range run

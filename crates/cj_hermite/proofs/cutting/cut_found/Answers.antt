@@ -2,7 +2,7 @@ use Rattle.std.proofs.Common.{◌≡◌, ◌≢◌, ◌-◌, Some, refl, arith}
 use Rattle.cj_epoch.specs.declared.tick.Window.{Window}
 use Rattle.cj_track.specs.Tracks.{plain_track}
 use Rattle.cj_hermite.specs.Pieces.{interval_index_at}
-use Rattle.cj_hermite.proofs.RunLemmas.{run_whole, run_less, run_none, run_other, ended_whole, ended_less, ends_covered}
+use Rattle.cj_hermite.proofs.RunLemmas.{run_whole, run_less, run_none, run_other, ended_whole, ended_less, ends_covered, holds_cut}
 use Rattle.cj_hermite.proofs.cutting.cut_found.Goals as goal
 
 pub returns-then-last-first-clause-none : goal.returns-then-last-first-clause-none
@@ -35,14 +35,14 @@ returns-clause-run c =
 pub returns-then-is_at-clause-covered : goal.returns-then-is_at-clause-covered
 returns-then-is_at-clause-covered c =
     ends_covered c.later-first.result.micros c.earlier-last.result.micros c.covered-covered.result _ c.covered-covered.ensures.ticks
-    (record { after = omega (arith, c.later-first.ensures); before = omega (arith, c.earlier-last.ensures) })
-    (record { after = omega (arith, c.later-first.ensures); before = omega (arith, c.earlier-last.ensures) })
+    (holds_cut c.covered-covered.result c.args.range _ _ _ c.later-first.ensures c.earlier-last.ensures (omega arith) c.if-last-first.false)
+    (holds_cut c.covered-covered.result c.args.range _ _ _ c.later-first.ensures c.earlier-last.ensures c.if-last-first.false (omega arith))
 
 pub returns-clause-covered : goal.returns-clause-covered
 returns-clause-covered c =
     ends_covered c.later-first.result.micros (c.earlier-last.result.micros - 1) c.covered-covered.result _ c.covered-covered.ensures.ticks
-    (record { after = omega (arith, c.later-first.ensures); before = omega (arith, c.earlier-last.ensures) })
-    (record { after = omega (arith, c.later-first.ensures); before = omega (arith, c.earlier-last.ensures) })
+    (holds_cut c.covered-covered.result c.args.range _ _ _ c.later-first.ensures c.earlier-last.ensures (omega arith) c.if-last-first.false)
+    (holds_cut c.covered-covered.result c.args.range _ _ _ c.later-first.ensures c.earlier-last.ensures (omega arith) (omega arith))
 
 pub returns-then-is_at-clause-ended : goal.returns-then-is_at-clause-ended
 returns-then-is_at-clause-ended c =
