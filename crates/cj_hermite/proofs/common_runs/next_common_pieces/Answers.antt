@@ -5,12 +5,14 @@ use Rattle.cj_hermite.proofs.common_runs.next_common_pieces.Goals as goal
 
 pub returns-in_err-x : goal.returns-in_err-x
 returns-in_err-x c =
-    let none = c.loop-x.invariant.same ∙ no_left (plain_track c.args.a.now) (plain_track c.args.b.now) c.loop-x.at.micros c.args.last.micros c.in_err-x.ensures.run in
+    let none = c.loop-x.invariant.same
+    ∙ no_left (plain_track c.args.a.now) (plain_track c.args.b.now) c.loop-x.at.micros c.args.last.micros c.in_err-x.ensures.run in
     rw c.from_residual.ensures (record { none = none; run = tt; first = tt; second = tt; from = tt; some = tt; to = tt })
 
 pub returns-in_err-y : goal.returns-in_err-y
 returns-in_err-y c =
-    let none = c.loop-x.invariant.same ∙ no_right (plain_track c.args.a.now) (plain_track c.args.b.now) c.loop-x.at.micros c.args.last.micros c.in_err-y.ensures.run in
+    let none = c.loop-x.invariant.same
+    ∙ no_right (plain_track c.args.a.now) (plain_track c.args.b.now) c.loop-x.at.micros c.args.last.micros c.in_err-y.ensures.run in
     rw c.from_residual-in_err-y.ensures (record { none = none; run = tt; first = tt; second = tt; from = tt; some = tt; to = tt })
 
 pub returns-then-first-end-clause-run : goal.returns-then-first-end-clause-run

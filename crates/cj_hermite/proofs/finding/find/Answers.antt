@@ -15,7 +15,8 @@ pub returns-in_err-number : goal.returns-in_err-number
 returns-in_err-number c =
     let m = c.args.at.micros in
     let misses = subst (λ (s : List Segment). Misses m (intervals_through s)) c.as_slice-segments.ensures.value (all_later m c.as_slice-segments.result.now c.in_err-number.ensures) in
-    rw c.from_residual.ensures (record { value = sym (none_at (plain_track c.args.track.now) m misses); place = tt; exists = tt; interval = tt; covered = tt; later = tt })
+    let none = sym (none_at (plain_track c.args.track.now) m misses) in
+    rw c.from_residual.ensures (record { value = none; place = tt; exists = tt; interval = tt; covered = tt; later = tt })
 
 pub returns-then-segment-at-clause-value : goal.returns-then-segment-at-clause-value
 returns-then-segment-at-clause-value c =
