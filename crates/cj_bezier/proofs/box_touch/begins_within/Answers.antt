@@ -1,4 +1,4 @@
-use Rattle.std.proofs.Common.{◌≡◌, ℕ, ◌<◌, ◌^◌, refl, ap, ◌∙◌, arith, FitsSigned, to_z-of_z}
+use Rattle.std.proofs.Common.{◌≡◌, ℕ, ◌<◌, ◌^◌, refl, ap, ◌∙◌, arith, FitsSigned, to_z, of_z, to_z-of_z}
 use Rattle.std.proofs.lemmas.Int.{ints}
 use Rattle.std.specs.Prelude.{ℤ, pos, negsuc, ◌+ℤ◌, int_le, unsigned_abs}
 use Rattle.std.specs.Int.{w64, w128}
@@ -16,4 +16,4 @@ returns c =
     let read : FitsSigned w128 c.from.result = record { sfits = c.from.type_inv } in
     let sum = read_as ◌+ℤ◌ c.from-2.result c.from-3.result (c.args.most +ℤ pos c.args.thr) (record { sfits = c.from-2.type_inv }) (record { sfits = c.from-3.type_inv })
     (rw (most, c.from-3.ensures) refl) (sum_fits c.args.most c.args.thr c.ranges.most c.ranges.thr.fits) in
-    ap (λ (z : ℤ). int_le z _) (to_z-of_z read ∙ least) ∙ ap (λ (z : ℤ). int_le c.args.least z) sum
+    ap (λ (z : ℤ). int_le (to_z w128 (of_z w128 c.from.result)) z) sum ∙ ap (λ (z : ℤ). int_le z (c.args.most +ℤ pos c.args.thr)) (to_z-of_z read ∙ least)

@@ -1,4 +1,4 @@
-use Rattle.std.proofs.Common.{◌≡◌, ℕ, ◌-◌, ◌<◌, ◌^◌, List, length, get_or, map, pos, refl, sym, ap, subst, ◌∙◌, arith, rules}
+use Rattle.std.proofs.Common.{◌≡◌, ℕ, ◌-◌, ◌<◌, ◌^◌, List, length, get_or, pos, refl, sym, arith, rules}
 use Rattle.std.proofs.lemmas.List.{get_or-map}
 use Rattle.std.proofs.lemmas.Int.{ints}
 use Rattle.std.specs.Prelude.{ℤ}
@@ -24,9 +24,12 @@ ends c =
     let a = sym (get_or-map (λ (s : Span). s.hi) terms c.args.first c.index-gap-first.result (pos 0) first) in
     let b = sym (get_or-map (λ (s : Span). s.hi) terms c.args.second c.index-gap-second.result (pos 0) second) in
     let within = c.args.gap.now.within in
-    greatest_step c.max.result _ _ _ _ (sized _ _ a (weaker _ (within c.args.first c.index-gap-first.result first).high)) (sized _ _ b (weaker _ (within c.args.second c.index-gap-second.result second).high)) c.max.ensures.value
+    let x = (get_or terms c.args.first c.index-gap-first.result).hi in
+    let y = (get_or terms c.args.second c.index-gap-second.result).hi in
+    greatest_step c.max.result x y _ _ (sized x _ a (weaker x (within c.args.first c.index-gap-first.result first).high))
+    (sized y _ b (weaker y (within c.args.second c.index-gap-second.result second).high)) c.max.ensures.value
 
 pub returns : goal.returns
 returns c =
-    let sized = ends (goal.at.returns c).After-max in
-    record { value = read_value (λ (z : ℤ). z) _ _ _ sized refl; within = read_sized _ _ sized }
+    let is = ends (goal.at.returns c).After-max in
+    record { value = read_value (λ (z : ℤ). z) _ _ _ is refl; within = read_sized _ _ is }

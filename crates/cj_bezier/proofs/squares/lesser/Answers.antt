@@ -1,4 +1,4 @@
-use Rattle.std.proofs.Common.{◌≡◌, ℕ, ◌-◌, ◌<◌, ◌^◌, List, length, get_or, map, pos, refl, sym, ap, subst, ◌∙◌, arith, rules}
+use Rattle.std.proofs.Common.{◌≡◌, ℕ, ◌-◌, ◌<◌, ◌^◌, List, length, get_or, pos, refl, sym, arith, rules}
 use Rattle.std.proofs.lemmas.List.{get_or-map}
 use Rattle.std.proofs.lemmas.Int.{ints}
 use Rattle.std.specs.Prelude.{ℤ}
@@ -24,9 +24,12 @@ ends c =
     let a = sym (get_or-map (λ (s : Span). s.lo) terms c.args.first c.index-gap-first.result (pos 0) first) in
     let b = sym (get_or-map (λ (s : Span). s.lo) terms c.args.second c.index-gap-second.result (pos 0) second) in
     let within = c.args.gap.now.within in
-    least_step c.min.result _ _ _ _ (sized _ _ a (weaker _ (within c.args.first c.index-gap-first.result first).low)) (sized _ _ b (weaker _ (within c.args.second c.index-gap-second.result second).low)) c.min.ensures.value
+    let x = (get_or terms c.args.first c.index-gap-first.result).lo in
+    let y = (get_or terms c.args.second c.index-gap-second.result).lo in
+    least_step c.min.result x y _ _ (sized x _ a (weaker x (within c.args.first c.index-gap-first.result first).low))
+    (sized y _ b (weaker y (within c.args.second c.index-gap-second.result second).low)) c.min.ensures.value
 
 pub returns : goal.returns
 returns c =
-    let sized = ends (goal.at.returns c).After-min in
-    record { value = read_value (λ (z : ℤ). z) _ _ _ sized refl; within = read_sized _ _ sized }
+    let is = ends (goal.at.returns c).After-min in
+    record { value = read_value (λ (z : ℤ). z) _ _ _ is refl; within = read_sized _ _ is }

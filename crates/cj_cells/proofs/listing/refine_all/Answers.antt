@@ -10,6 +10,7 @@ use Rattle.cj_cells.specs.Cells.{added_stretches}
 use Rattle.cj_bezier.specs.RootLeaves.{leaves_of_root, leaves_of_roots, Describe}
 use Rattle.cj_cells.proofs.SlotRootLemmas.{count_of}
 use Rattle.cj_cells.proofs.ListingLemmas.{error_is, stretches_more, leaves_of_cells, root_more, roots_apart, described_more}
+use Rattle.cj_cells.proofs.WalkLemmas.{no_refusal}
 use Rattle.cj_cells.proofs.listing.refine_all.Goals as goal
 
 pub loop-root-init : goal.loop-root-init
@@ -84,4 +85,4 @@ pub returns-clause-within : goal.returns-clause-within
 returns-clause-within c = c.loop-root.invariant.room
 
 pub returns-clause-too_many : goal.returns-clause-too_many
-returns-clause-too_many c is = absurd cc
+returns-clause-too_many c is = absurd (no_refusal _ _ is)

@@ -9,7 +9,7 @@ use Rattle.cj_bezier.specs.Leaves.{PlainLeaf, plain_leaf, plain_leaves}
 use Rattle.cj_bezier.specs.RootLeaves.{kind_between}
 use Rattle.cj_bezier.specs.Halving.{leaves_between, closed}
 use Rattle.cj_cells.specs.Cells.{added_stretches}
-use Rattle.cj_cells.proofs.WalkLemmas.{prefix_done}
+use Rattle.cj_cells.proofs.WalkLemmas.{no_refusal, not_too_many, prefix_done}
 use Rattle.cj_cells.proofs.RefineLemmas.{rest, part_bounds, closed_fit, halved_place, halved_fit, closed_rest, part_ticks, part_halved, more_behind, added_length, nothing_waits, added_more, kept_more, root_more, rest-all, fit_all}
 use Rattle.cj_cells.proofs.refining.refine_between.Goals as goal
 use Rattle.cj_cells.proofs.refining.refine_between.Goals.{After-index-lasts-top, In-Halves}
@@ -162,7 +162,7 @@ pub returns-clause-within : goal.returns-clause-within
 returns-clause-within c = c.loop-top.invariant.room
 
 pub returns-clause-too_many : goal.returns-clause-too_many
-returns-clause-too_many c is = absurd cc
+returns-clause-too_many c is = absurd (no_refusal _ _ is)
 
 pub returns-clause-kept : goal.returns-clause-kept
 returns-clause-kept c = ap (λ (k : ℕ). take k c.loop-top.leaves.items) c.args.leaves.now.ok.0 ∙ c.loop-top.invariant.kept
@@ -194,9 +194,7 @@ returns-in_err-push-in-Closed-clause-within c = IfOk-from_err c.from_residual.re
 pub returns-in_err-push-in-Closed-clause-too_many : goal.returns-in_err-push-in-Closed-clause-too_many
 returns-in_err-push-in-Closed-clause-too_many c is =
     let p = err_from_is_err_and c.from_residual.result c.from_residual.ensures.1 in
-    let memory = p.1 in
-    let gives = p.2 in
-    absurd cc
+    absurd (not_too_many _ _ p.1 p.2 is)
 
 pub returns-in_err-push-in-Closed-clause-err : goal.returns-in_err-push-in-Closed-clause-err
 returns-in_err-push-in-Closed-clause-err c =

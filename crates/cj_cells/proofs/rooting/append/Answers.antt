@@ -1,10 +1,10 @@
-use Rattle.std.proofs.Common.{◌≡◌, [], ◌∷◌, length, take, drop, vec_len, refl, sym, ap, ◌∙◌, arith}
-use Rattle.std.specs.Prelude.{All}
+use Rattle.std.proofs.Common.{◌≡◌, [], length, take, drop, vec_len, refl, sym, ap, ◌∙◌, arith}
 use Rattle.std.proofs.lemmas.Result.{IfOk-from_err, err_from_is_err_and}
 use Rattle.std.proofs.lemmas.List.{take_all, take_at, drop_all, drop_at}
 use Rattle.std.proofs.lemmas.List.Elements.{All-nil, All-cons, All-same}
 use Rattle.cj_bezier.specs.Cells.{plain_cells}
 use Rattle.cj_cells.specs.Cells.{added_roots}
+use Rattle.cj_cells.proofs.WalkLemmas.{no_refusal, not_too_many}
 use Rattle.cj_cells.proofs.rooting.append.Goals as goal
 
 -- ---- at the limit
@@ -31,9 +31,7 @@ returns-in_err-push-clause-within c = IfOk-from_err c.from_residual.result _ c.f
 pub returns-in_err-push-clause-too_many : goal.returns-in_err-push-clause-too_many
 returns-in_err-push-clause-too_many c is =
     let p = err_from_is_err_and c.from_residual.result c.from_residual.ensures.1 in
-    let memory = p.1 in
-    let gives = p.2 in
-    absurd cc
+    absurd (not_too_many _ _ p.1 p.2 is)
 
 pub returns-in_err-push-clause-err : goal.returns-in_err-push-clause-err
 returns-in_err-push-clause-err c =
@@ -60,7 +58,7 @@ pub returns-clause-within : goal.returns-clause-within
 returns-clause-within c = omega (arith, c.in_ok-push.ensures.len)
 
 pub returns-clause-too_many : goal.returns-clause-too_many
-returns-clause-too_many c is = absurd cc
+returns-clause-too_many c is = absurd (no_refusal _ _ is)
 
 pub returns-clause-kept : goal.returns-clause-kept
 returns-clause-kept c = ap (take (vec_len c.args.roots.now)) c.in_ok-push.ensures.items ∙ take_at c.args.roots.now.items _ _ (sym c.args.roots.now.ok.0)

@@ -11,7 +11,7 @@ use Rattle.cj_hermite.specs.Roots.{PlainCell, root_of_run, roots_in}
 use Rattle.cj_hermite.proofs.SlotRootLemmas.{walked, empty_slot, roots_of_pairs, pair_more, pairs_apart}
 use Rattle.cj_bezier.specs.Cells.{plain_cells}
 use Rattle.cj_cells.specs.Cells.{added_roots}
-use Rattle.cj_cells.proofs.WalkLemmas.{added_nothing, added_twice, added_count, kept_twice, root_twice}
+use Rattle.cj_cells.proofs.WalkLemmas.{no_refusal, added_nothing, added_twice, added_count, kept_twice, root_twice}
 use Rattle.cj_cells.proofs.SlotRootLemmas.{prefix_added, count_of, cells_keep, both_exist}
 use Rattle.cj_cells.proofs.rooting.roots_of_slot.Goals as goal
 use Rattle.cj_cells.proofs.rooting.roots_of_slot.Goals.{After-walk}
@@ -162,7 +162,7 @@ pub returns-in_default-clause-within : goal.returns-in_default-clause-within
 returns-in_default-clause-within c = c.requires.room
 
 pub returns-in_default-clause-too_many : goal.returns-in_default-clause-too_many
-returns-in_default-clause-too_many c is = absurd cc
+returns-in_default-clause-too_many c is = absurd (no_refusal _ _ is)
 
 pub returns-in_default-clause-kept : goal.returns-in_default-clause-kept
 returns-in_default-clause-kept c = take_all _ c.args.roots.now.items (omega (arith, c.args.roots.now.ok.0))
@@ -199,7 +199,7 @@ pub returns-clause-within : goal.returns-clause-within
 returns-clause-within c = c.loop-pair.invariant.room
 
 pub returns-clause-too_many : goal.returns-clause-too_many
-returns-clause-too_many c is = absurd cc
+returns-clause-too_many c is = absurd (no_refusal _ _ is)
 
 pub returns-clause-kept : goal.returns-clause-kept
 returns-clause-kept c = ap (λ (k : ℕ). take k c.loop-pair.roots.items) c.args.roots.now.ok.0 ∙ c.loop-pair.invariant.kept

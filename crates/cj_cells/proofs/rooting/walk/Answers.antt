@@ -7,7 +7,7 @@ use Rattle.cj_hermite.specs.CommonRuns.{runs_between, both_numbers}
 use Rattle.cj_hermite.specs.Roots.{root_of_run}
 use Rattle.cj_bezier.specs.declared.cell.Cell.{Cell}
 use Rattle.cj_cells.specs.Cells.{added_roots}
-use Rattle.cj_cells.proofs.WalkLemmas.{prefix_done, roots_left, no_more, walk_done, whole_step, count_step, kept_twice, root_twice, added_count, added_nothing}
+use Rattle.cj_cells.proofs.WalkLemmas.{no_refusal, prefix_done, roots_left, no_more, walk_done, whole_step, count_step, kept_twice, root_twice, added_count, added_nothing}
 use Rattle.cj_cells.proofs.rooting.walk.Goals as goal
 
 pub loop-ticks-init : goal.loop-ticks-init
@@ -93,7 +93,7 @@ pub returns-clause-within : goal.returns-clause-within
 returns-clause-within c = c.loop-ticks.invariant.room
 
 pub returns-clause-too_many : goal.returns-clause-too_many
-returns-clause-too_many c is = absurd cc
+returns-clause-too_many c is = absurd (no_refusal _ _ is)
 
 pub returns-clause-kept : goal.returns-clause-kept
 returns-clause-kept c = ap (λ (k : ℕ). take k c.loop-ticks.roots.items) c.args.roots.now.ok.0 ∙ c.loop-ticks.invariant.kept
@@ -107,7 +107,7 @@ pub returns-then-ticks-slot-clause-within : goal.returns-then-ticks-slot-clause-
 returns-then-ticks-slot-clause-within c = c.in_ok-append.ensures.within
 
 pub returns-then-ticks-slot-clause-too_many : goal.returns-then-ticks-slot-clause-too_many
-returns-then-ticks-slot-clause-too_many c is = absurd cc
+returns-then-ticks-slot-clause-too_many c is = absurd (no_refusal _ _ is)
 
 pub returns-then-ticks-slot-clause-kept : goal.returns-then-ticks-slot-clause-kept
 returns-then-ticks-slot-clause-kept c =

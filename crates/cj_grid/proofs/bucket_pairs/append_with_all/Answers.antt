@@ -78,7 +78,7 @@ pub returns-in_err-append_with-clause-no_fewer : goal.returns-in_err-append_with
 returns-in_err-append_with-clause-no_fewer g c = at_least _ _ _ c.loop-other.invariant.no_fewer c.append_with.ensures.no_fewer
 
 pub append_with-requires : goal.append_with-requires
-append_with-requires g c = record { one = c.requires.exists; other = c.loop-other-test.true }
+append_with-requires g c = record { one = c.requires.exists; other = omega (arith, c.loop-other-test.true, c.requires.exists) }
 
 pub returns-clause-steps : goal.returns-clause-steps
 returns-clause-steps g c =

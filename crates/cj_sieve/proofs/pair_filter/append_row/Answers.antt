@@ -26,7 +26,7 @@ loop-b-preserved c =
     ]
 
 pub keeps-requires : goal.keeps-requires
-keeps-requires c = c.loop-b-test.true
+keeps-requires c = omega arith
 
 pub loop-b-init : goal.loop-b-init
 loop-b-init c =
