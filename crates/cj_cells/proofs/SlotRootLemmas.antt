@@ -1,7 +1,8 @@
 -- The cells of a slot's roots, and prefixes of lists that are put together.
-use Rattle.std.proofs.Common.{◌≡◌, ℕ, ◌+◌, ◌≤◌, List, ◌++◌, map, length, take, drop, refl, sym, ap, subst, ◌∙◌, arith, append_assoc, length-append}
+use Rattle.std.proofs.Common.{◌≡◌, ℕ, ◌+◌, ◌<◌, ◌≤◌, List, ◌++◌, map, length, get_or, take, drop, refl, sym, ap, subst, ◌∙◌, arith, append_assoc, length-append}
 use Rattle.std.specs.Prelude.{All}
 use Rattle.std.proofs.lemmas.List.{take-append-drop, take_at}
+use Rattle.cj_track.specs.declared.track.Track.{Track}
 use Rattle.cj_hermite.specs.declared.pair.Pair.{Pair}
 use Rattle.cj_hermite.specs.PlainProblems.{PlainProblem}
 use Rattle.cj_hermite.specs.Pairs.{objects_of}
@@ -40,3 +41,13 @@ cells_keep case slot k pairs cells same =
     All-from_each (λ cell. KeepIntervals case cell.pair.a cell.pair.b cell.first.micros cell.last.micros) cells
     (each_from_map (Keeps case) plain_cell cells
     (subst (Each (Keeps case)) (sym same) (Each-take (Keeps case) k (roots_of_pairs case slot pairs) (each_keeps case slot (map objects_of pairs)))))
+
+-- ---- the objects of a pair
+
+-- both objects of a pair of a list are there where the second is
+pub both_exist : (pairs : List Pair) (tracks slice : List Track) (k : ℕ) (pair : Pair) → All (λ q. q.b < length tracks) pairs → k < length pairs
+    → pair ≡ get_or pairs k pair → slice ≡ tracks → (pair.a < length slice) × (pair.b < length slice)
+both_exist pairs tracks slice k pair exist lt is same =
+    let second : pair.b < length tracks = subst (λ (q : Pair). q.b < length tracks) (sym is) (exist k pair lt) in
+    let sized : length slice ≡ length tracks = ap length same in
+    (omega (arith, pair.ordered), omega arith)

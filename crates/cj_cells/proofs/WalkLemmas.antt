@@ -1,8 +1,8 @@
 -- The roots of two ephemerides, from one common run to the next.
-use Rattle.std.proofs.Common.{◌≡◌, ℕ, ◌+◌, ◌-◌, ◌≤◌, List, [], ◌∷◌, ◌++◌, map, length, take, drop, sym, ap, ◌∙◌, arith, append_assoc, append-nil, length-append, length-take, length-drop}
+use Rattle.std.proofs.Common.{◌≡◌, ℕ, ◌+◌, ◌-◌, ◌≤◌, Result, Ok, Err, List, [], ◌∷◌, ◌++◌, map, length, take, drop, refl, sym, ap, ◌∙◌, arith, append_assoc, append-nil, length-append, length-take, length-drop}
 use Rattle.std.specs.Prelude.{All}
 use Rattle.std.specs.List.{range_with_len}
-use Rattle.std.proofs.lemmas.List.{take-append-drop, drop-append-le, drop_all, take-append-le, map-append, length-map}
+use Rattle.std.proofs.lemmas.List.{take-append-drop, drop-append-le, drop_all, take-append-le, take_at, map-append, length-map}
 use Rattle.std.proofs.lemmas.List.Elements.{All-append, All-same}
 use Rattle.cj_epoch.specs.declared.tick.Window.{Window}
 use Rattle.cj_track.specs.PlainTracks.{PlainTrack}
@@ -11,6 +11,20 @@ use Rattle.cj_hermite.specs.Roots.{PlainCell, root_of_run}
 use Rattle.cj_bezier.specs.declared.cell.Cell.{Cell}
 use Rattle.cj_bezier.specs.Cells.{plain_cell, plain_cells}
 use Rattle.cj_cells.specs.Cells.{added_roots}
+use Rattle.cj_cells.specs.declared.refine_error.RefineError.{RefineError}
+use Rattle.cj_cells.specs.declared.refine_error.RefineError.TheVariants.{Memory, TooMany}
+
+-- what is done is a prefix of all
+pub prefix_done : {X : Type 0} (done left all : List X) → done ++ left ≡ all → done ≡ take (length done) all
+prefix_done done left all whole = sym (take_at done left (length done) refl) ∙ ap (take (length done)) whole
+
+-- ---- what a refusal says
+
+pub no_refusal : {T : Type 0} (x : T) (e : RefineError) → Ok x ≡ Err e → ⊥
+no_refusal x e is = cc
+
+pub not_too_many : {T : Type 0} (r : Result T RefineError) (e : RefineError) → r ≡ Err e → e ≡ Memory → r ≡ Err TooMany → ⊥
+not_too_many r e is memory many = cc
 
 -- ---- lists of cells that were added to
 

@@ -1,5 +1,5 @@
 -- The ticks at which a piece is the one to be used.
-use Rattle.std.proofs.Common.{◌≡◌, ◌≢◌, ℕ, suc, ◌-◌, ◌<◌, ◌≤◌, ◌⊎◌, max, min, inl, inr, eq-or-lt_of_le, List, length, get_or, Option, Some, None, refl, sym, ap, ◌∙◌, subst, arith}
+use Rattle.std.proofs.Common.{◌≡◌, ◌≢◌, ℕ, suc, ◌-◌, ◌<◌, ◌≤◌, ◌⊎◌, max, min, inl, inr, eq-or-lt_of_le, Bool, true, false, List, length, get_or, Option, Some, None, refl, sym, ap, ◌∙◌, subst, arith}
 use Rattle.std.specs.Prelude.{◌↔◌, option_map, IsSomeAnd, slice_get}
 use Rattle.std.proofs.lemmas.Bool.{cases_lt}
 use Rattle.std.proofs.lemmas.List.{get_or_default}
@@ -63,6 +63,15 @@ own_in m index e range covered run are part h less = record {
 pub ends_covered : (m n : ℕ) (window : Window) (z : Option PlainPiece) → IsSomeAnd z (λ x. (i : ℕ) → Holds window i ↔ Covers i x) → Holds window m → Holds window n → IsSomeAnd z (CoversBoth m n)
 ends_covered m n window None ticks first second = ticks
 ends_covered m n window (Some x) ticks first second = record { first = (ticks m).0 first; second = (ticks n).0 second }
+
+-- a tick from the later first one to the earlier last one lies in both windows
+pub holds_cut : (window range : Window) (first last m : ℕ) → first ≡ max window.first.micros range.first.micros
+    → last ≡ min window.last.micros range.last.micros → first ≤ m → m ≤ last → Holds window m
+holds_cut window range first last m from to after before = record { after = omega arith; before = omega arith }
+
+-- what a test that fails would tell
+pub not_at : (test : Bool) (P : Type 0) → (P → test ≡ true) → test ≡ false → ¬ P
+not_at test P tells fails p = let holds = tells p in absurd cc
 
 -- where the last tick is the piece's own
 pub run_whole : (index : ℕ) (e : PlainTrack) (range covered run : Window) → AreCovered e index covered → IsCommonPart covered range run → run.first.micros ≤ run.last.micros

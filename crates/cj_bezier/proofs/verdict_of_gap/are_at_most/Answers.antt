@@ -11,7 +11,9 @@ use Rattle.cj_bezier.proofs.verdict_of_gap.are_at_most.Goals as goal
 pub returns : goal.returns
 returns c =
     let test : ℕ → Span × ℕ → Bool = λ (square : ℕ) (p : Span × ℕ). int_le p.0.hi (pos (p.1 * square)) in
+    let chosen : c.zip.result.b.rest.now ≡ CHOOSE6 = c.zip.ensures.second.0 in
     let seven : length c.args.terms.now ≡ 7 = search rules in
-    all_from_yields_List (test c.squared-square.result) c.all.new.self _ c.all.result c.all.ensures.ran (YieldsList-from_zip (YieldsList-from_slice c.args.terms.now cc) (YieldsList-from_slice CHOOSE6 cc)) (λ x b q k. search (rules, tests))
+    all_from_yields_List (test c.squared-square.result) c.all.new.self _ c.all.result c.all.ensures.ran
+    (YieldsList-from_zip (YieldsList-from_slice c.args.terms.now cc) (YieldsList-from_slice CHOOSE6 chosen)) (λ x b q k. search (rules, tests))
     ∙ ap (λ (square : ℕ). list_all (test square) (zip c.args.terms.now CHOOSE6)) c.squared-square.ensures.value
     ∙ zipped_at_most c.args.terms.now c.args.e seven

@@ -1,14 +1,16 @@
 use Rattle.std.proofs.Common.{◌≡◌, ◌+◌, ◌<◌, ◌++◌, ℕ, List, length, take, drop, vec_len, All, sym, ap, subst, ◌∙◌, arith}
-use Rattle.std.proofs.lemmas.Result.{err_from_is_err_and}
+use Rattle.std.proofs.lemmas.Result.{IfOk-from_err, err_from_is_err_and}
 use Rattle.std.proofs.lemmas.List.{length-map, take_all}
 use Rattle.cj_bezier.specs.declared.cell.Cell.{Cell}
 use Rattle.cj_bezier.specs.Leaves.{PlainLeaf, plain_leaf, plain_leaves}
 use Rattle.cj_hermite.specs.Problems.{plain_problem}
+use Rattle.cj_hermite.specs.Roots.{KeepIntervals}
 use Rattle.cj_bezier.specs.Cells.{plain_cell, plain_cells}
 use Rattle.cj_cells.specs.Cells.{added_stretches}
 use Rattle.cj_bezier.specs.RootLeaves.{leaves_of_root, leaves_of_roots, Describe}
 use Rattle.cj_cells.proofs.SlotRootLemmas.{count_of}
 use Rattle.cj_cells.proofs.ListingLemmas.{error_is, stretches_more, leaves_of_cells, root_more, roots_apart, described_more}
+use Rattle.cj_cells.proofs.WalkLemmas.{no_refusal}
 use Rattle.cj_cells.proofs.listing.refine_all.Goals as goal
 
 pub loop-root-init : goal.loop-root-init
@@ -56,3 +58,31 @@ returns-clause-leaves c =
     let i = c.loop-root.invariant in
     let case = plain_problem c.args.problem.now in
     subst (λ (cells : List Cell). All (λ root. Describe case root (leaves_of_root case root)) (plain_cells cells)) (take_all c.loop-root.root-index c.args.roots.now (omega arith)) i.leaves
+
+pub refine-requires : goal.refine-requires
+refine-requires c =
+    let case = plain_problem c.args.problem.now in
+    let keep = c.requires c.loop-root.root-index c.root-item.result (omega arith) in
+    record {
+      intervals = subst (λ (r : Cell). KeepIntervals case r.pair.a r.pair.b r.first.micros r.last.micros) (sym c.root-item.is) keep;
+      room = c.loop-root.invariant.room;
+    }
+
+pub returns-in_err-refine-clause-value : goal.returns-in_err-refine-clause-value
+returns-in_err-refine-clause-value c = IfOk-from_err c.from_residual.result _ c.from_residual.ensures.0
+
+pub returns-in_err-refine-clause-within : goal.returns-in_err-refine-clause-within
+returns-in_err-refine-clause-within c = IfOk-from_err c.from_residual.result _ c.from_residual.ensures.0
+
+pub returns-in_err-refine-clause-leaves : goal.returns-in_err-refine-clause-leaves
+returns-in_err-refine-clause-leaves c = IfOk-from_err c.from_residual.result _ c.from_residual.ensures.0
+
+pub returns-clause-value : goal.returns-clause-value
+returns-clause-value c =
+    c.loop-root.invariant.found ∙ ap (leaves_of_cells (plain_problem c.args.problem.now)) (take_all c.loop-root.root-index c.args.roots.now (omega arith))
+
+pub returns-clause-within : goal.returns-clause-within
+returns-clause-within c = c.loop-root.invariant.room
+
+pub returns-clause-too_many : goal.returns-clause-too_many
+returns-clause-too_many c is = absurd (no_refusal _ _ is)

@@ -1,12 +1,15 @@
-use Rattle.std.proofs.Common.{◌≡◌, ◌+◌, ◌-◌, ◌<◌, ◌≤◌, length, ◌++◌, [], ◌∷◌, get_or, take, drop, refl, sym, ap, ◌∙◌, arith}
+use Rattle.std.proofs.Common.{◌≡◌, ◌+◌, ◌-◌, ◌<◌, ◌≤◌, ℕ, List, All, length, ◌++◌, [], ◌∷◌, get_or, take, drop, refl, sym, ap, subst, ◌∙◌, arith}
 use Rattle.cj_hermite.specs.Ready.{curve_ready}
+use Rattle.std.proofs.lemmas.Result.{IfOk-from_err, err_from_is_err_and}
 use Rattle.std.proofs.lemmas.List.{take_all, drop_all, length-set}
 use Rattle.std.proofs.lemmas.List.Elements.{All-nil, All-same}
 use Rattle.cj_bezier.specs.declared.cell.Cell.{Cell}
+use Rattle.cj_bezier.specs.declared.leaf.Leaf.{Leaf}
 use Rattle.cj_bezier.specs.Leaves.{PlainLeaf, plain_leaf, plain_leaves}
 use Rattle.cj_bezier.specs.RootLeaves.{kind_between}
 use Rattle.cj_bezier.specs.Halving.{leaves_between, closed}
 use Rattle.cj_cells.specs.Cells.{added_stretches}
+use Rattle.cj_cells.proofs.WalkLemmas.{no_refusal, not_too_many, prefix_done}
 use Rattle.cj_cells.proofs.RefineLemmas.{rest, part_bounds, closed_fit, halved_place, halved_fit, closed_rest, part_ticks, part_halved, more_behind, added_length, nothing_waits, added_more, kept_more, root_more, rest-all, fit_all}
 use Rattle.cj_cells.proofs.refining.refine_between.Goals as goal
 use Rattle.cj_cells.proofs.refining.refine_between.Goals.{After-index-lasts-top, In-Halves}
@@ -154,3 +157,56 @@ returns-clause-ok c =
     (added_stretches c.args.leaves.now.items c.loop-top.leaves.items)
     (leaves_between (kind_between (curve_ready c.args.a.now) (curve_ready c.args.b.now) c.args.thr) c.args.cell.pair.a c.args.cell.pair.b c.args.cell.first.micros c.args.cell.last.micros)
     (let i = c.loop-top.invariant in omega (arith, i.places)) c.loop-top.invariant.whole
+
+pub returns-clause-within : goal.returns-clause-within
+returns-clause-within c = c.loop-top.invariant.room
+
+pub returns-clause-too_many : goal.returns-clause-too_many
+returns-clause-too_many c is = absurd (no_refusal _ _ is)
+
+pub returns-clause-kept : goal.returns-clause-kept
+returns-clause-kept c = ap (λ (k : ℕ). take k c.loop-top.leaves.items) c.args.leaves.now.ok.0 ∙ c.loop-top.invariant.kept
+
+pub returns-clause-root : goal.returns-clause-root
+returns-clause-root c =
+    subst (λ (k : ℕ). All (λ leaf. leaf.cell.root ≡ c.args.cell.root) (drop k c.loop-top.leaves.items)) (sym c.args.leaves.now.ok.0) c.loop-top.invariant.root
+
+-- ---- at the limit
+
+pub returns-then-len-limit-clause-err : goal.returns-then-len-limit-clause-err
+returns-then-len-limit-clause-err c = prefix_done _ _ _ c.loop-top.invariant.whole
+
+pub returns-then-len-limit-clause-kept : goal.returns-then-len-limit-clause-kept
+returns-then-len-limit-clause-kept c = ap (λ (k : ℕ). take k c.loop-top.leaves.items) c.args.leaves.now.ok.0 ∙ c.loop-top.invariant.kept
+
+pub returns-then-len-limit-clause-root : goal.returns-then-len-limit-clause-root
+returns-then-len-limit-clause-root c =
+    subst (λ (k : ℕ). All (λ leaf. leaf.cell.root ≡ c.args.cell.root) (drop k c.loop-top.leaves.items)) (sym c.args.leaves.now.ok.0) c.loop-top.invariant.root
+
+-- ---- without memory
+
+pub returns-in_err-push-in-Closed-clause-ok : goal.returns-in_err-push-in-Closed-clause-ok
+returns-in_err-push-in-Closed-clause-ok c = IfOk-from_err c.from_residual.result _ c.from_residual.ensures.0
+
+pub returns-in_err-push-in-Closed-clause-within : goal.returns-in_err-push-in-Closed-clause-within
+returns-in_err-push-in-Closed-clause-within c = IfOk-from_err c.from_residual.result _ c.from_residual.ensures.0
+
+pub returns-in_err-push-in-Closed-clause-too_many : goal.returns-in_err-push-in-Closed-clause-too_many
+returns-in_err-push-in-Closed-clause-too_many c is =
+    let p = err_from_is_err_and c.from_residual.result c.from_residual.ensures.1 in
+    absurd (not_too_many _ _ p.1 p.2 is)
+
+pub returns-in_err-push-in-Closed-clause-err : goal.returns-in_err-push-in-Closed-clause-err
+returns-in_err-push-in-Closed-clause-err c =
+    let p = err_from_is_err_and c.from_residual.result c.from_residual.ensures.1 in
+    rw (p.1, c.in_err-push-in-Closed.ensures.items) (prefix_done _ _ _ c.loop-top.invariant.whole)
+
+pub returns-in_err-push-in-Closed-clause-kept : goal.returns-in_err-push-in-Closed-clause-kept
+returns-in_err-push-in-Closed-clause-kept c =
+    rw (c.in_err-push-in-Closed.ensures.items) (ap (λ (k : ℕ). take k c.loop-top.leaves.items) c.args.leaves.now.ok.0 ∙ c.loop-top.invariant.kept)
+
+pub returns-in_err-push-in-Closed-clause-root : goal.returns-in_err-push-in-Closed-clause-root
+returns-in_err-push-in-Closed-clause-root c =
+    let root = c.args.cell.root in
+    subst (λ (xs : List Leaf). All (λ leaf. leaf.cell.root ≡ root) (drop c.args.leaves.now.len xs)) (sym c.in_err-push-in-Closed.ensures.items)
+    (subst (λ (k : ℕ). All (λ leaf. leaf.cell.root ≡ root) (drop k c.loop-top.leaves.items)) (sym c.args.leaves.now.ok.0) c.loop-top.invariant.root)

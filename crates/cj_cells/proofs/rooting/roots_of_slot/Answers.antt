@@ -1,6 +1,7 @@
-use Rattle.std.proofs.Common.{◌≡◌, ◌+◌, ◌<◌, ◌++◌, ℕ, List, length, take, drop, vec_len, map, All, refl, sym, ap, subst, ◌∙◌, arith}
-use Rattle.std.proofs.lemmas.Result.{err_from_is_err_and}
-use Rattle.std.proofs.lemmas.List.{take_all}
+use Rattle.std.proofs.Common.{◌≡◌, ◌+◌, ◌<◌, ◌++◌, ℕ, List, [], length, take, drop, vec_len, map, All, refl, sym, ap, subst, ◌∙◌, arith}
+use Rattle.std.proofs.lemmas.Result.{IfOk-from_err, err_from_is_err_and}
+use Rattle.std.proofs.lemmas.List.{take_all, drop_all}
+use Rattle.std.proofs.lemmas.List.Elements.{All-nil, All-same}
 use Rattle.cj_track.specs.Tracks.{plain_track}
 use Rattle.cj_hermite.specs.declared.pair.Pair.{Pair}
 use Rattle.cj_hermite.specs.CommonRuns.{runs_between, both_numbers}
@@ -10,8 +11,8 @@ use Rattle.cj_hermite.specs.Roots.{PlainCell, root_of_run, roots_in}
 use Rattle.cj_hermite.proofs.SlotRootLemmas.{walked, empty_slot, roots_of_pairs, pair_more, pairs_apart}
 use Rattle.cj_bezier.specs.Cells.{plain_cells}
 use Rattle.cj_cells.specs.Cells.{added_roots}
-use Rattle.cj_cells.proofs.WalkLemmas.{added_nothing, added_twice, added_count, kept_twice, root_twice}
-use Rattle.cj_cells.proofs.SlotRootLemmas.{prefix_added, count_of, cells_keep}
+use Rattle.cj_cells.proofs.WalkLemmas.{no_refusal, added_nothing, added_twice, added_count, kept_twice, root_twice}
+use Rattle.cj_cells.proofs.SlotRootLemmas.{prefix_added, count_of, cells_keep, both_exist}
 use Rattle.cj_cells.proofs.rooting.roots_of_slot.Goals as goal
 use Rattle.cj_cells.proofs.rooting.roots_of_slot.Goals.{After-walk}
 
@@ -128,3 +129,80 @@ returns-clause-intervals c =
     let found = roots_of_pairs case c.args.slot c.args.pairs.now in
     cells_keep case c.args.slot (length found) c.args.pairs.now (drop (vec_len c.args.roots.now) c.loop-pair.roots.items)
     (ap (λ (k : ℕ). plain_cells (drop k c.loop-pair.roots.items)) m ∙ i.added ∙ ap (roots_of_pairs case c.args.slot) all ∙ sym (take_all (length found) found (omega arith)))
+
+pub bounds-tracks-pair : goal.bounds-tracks-pair
+bounds-tracks-pair c =
+    (both_exist c.args.pairs.now c.args.problem.now.tracks c.as_slice-tracks.result.now c.loop-pair.pair-index c.pair-item.result
+    c.requires.exist (omega arith) c.pair-item.is c.as_slice-tracks.ensures.value).0
+
+pub bounds-tracks-pair-in-loop-pair : goal.bounds-tracks-pair-in-loop-pair
+bounds-tracks-pair-in-loop-pair c =
+    (both_exist c.args.pairs.now c.args.problem.now.tracks c.as_slice-tracks.result.now c.loop-pair.pair-index c.pair-item.result
+    c.requires.exist (omega arith) c.pair-item.is c.as_slice-tracks.ensures.value).1
+
+pub walk-requires-clause-some : goal.walk-requires-clause-some
+walk-requires-clause-some c = c.in-Some.ensures.some
+
+pub walk-requires-clause-room : goal.walk-requires-clause-room
+walk-requires-clause-room c = c.loop-pair.invariant.room
+
+pub loop-pair-init : goal.loop-pair-init
+loop-pair-init c =
+    let old = c.args.roots.now.items in
+    record {
+      room = c.requires.room;
+      added = added_nothing old old refl;
+      kept = take_all (length old) old (omega arith);
+      root = All-same (λ cell. cell.root ≡ 0) _ [] (drop_all (length old) old (omega arith)) (All-nil (λ cell. cell.root ≡ 0));
+    }
+
+-- ---- a slot behind the window
+
+pub returns-in_default-clause-within : goal.returns-in_default-clause-within
+returns-in_default-clause-within c = c.requires.room
+
+pub returns-in_default-clause-too_many : goal.returns-in_default-clause-too_many
+returns-in_default-clause-too_many c is = absurd (no_refusal _ _ is)
+
+pub returns-in_default-clause-kept : goal.returns-in_default-clause-kept
+returns-in_default-clause-kept c = take_all _ c.args.roots.now.items (omega (arith, c.args.roots.now.ok.0))
+
+pub returns-in_default-clause-root : goal.returns-in_default-clause-root
+returns-in_default-clause-root c =
+    let none = drop_all (vec_len c.args.roots.now) c.args.roots.now.items (omega (arith, c.args.roots.now.ok.0)) in
+    All-same (λ cell. cell.root ≡ 0) _ [] none (All-nil (λ cell. cell.root ≡ 0))
+
+-- ---- after a refusal
+
+pub returns-in_err-walk-clause-ok : goal.returns-in_err-walk-clause-ok
+returns-in_err-walk-clause-ok c = IfOk-from_err c.from_residual.result _ c.from_residual.ensures.0
+
+pub returns-in_err-walk-clause-within : goal.returns-in_err-walk-clause-within
+returns-in_err-walk-clause-within c = IfOk-from_err c.from_residual.result _ c.from_residual.ensures.0
+
+pub returns-in_err-walk-clause-kept : goal.returns-in_err-walk-clause-kept
+returns-in_err-walk-clause-kept c =
+    let old = c.args.roots.now.items in
+    let mid = c.loop-pair.roots.items in
+    let new = c.walk.new.roots.items in
+    let kept = subst (λ (k : ℕ). take k new ≡ mid) c.loop-pair.roots.ok.0 c.in_err-walk.ensures.kept in
+    ap (λ (k : ℕ). take k new) c.args.roots.now.ok.0 ∙ kept_twice old mid new c.loop-pair.invariant.kept kept
+
+-- ---- after the last pair
+
+pub returns-clause-ok : goal.returns-clause-ok
+returns-clause-ok c =
+    let all = take_all c.loop-pair.pair-index c.args.pairs.now (omega arith) in
+    c.loop-pair.invariant.added ∙ ap (roots_of_pairs (plain_problem c.args.problem.now) c.args.slot) all
+
+pub returns-clause-within : goal.returns-clause-within
+returns-clause-within c = c.loop-pair.invariant.room
+
+pub returns-clause-too_many : goal.returns-clause-too_many
+returns-clause-too_many c is = absurd (no_refusal _ _ is)
+
+pub returns-clause-kept : goal.returns-clause-kept
+returns-clause-kept c = ap (λ (k : ℕ). take k c.loop-pair.roots.items) c.args.roots.now.ok.0 ∙ c.loop-pair.invariant.kept
+
+pub returns-clause-root : goal.returns-clause-root
+returns-clause-root c = subst (λ (k : ℕ). All (λ cell. cell.root ≡ 0) (drop k c.loop-pair.roots.items)) (sym c.args.roots.now.ok.0) c.loop-pair.invariant.root

@@ -1,12 +1,13 @@
-use Rattle.std.proofs.Common.{◌≡◌, ◌++◌, ℕ, [], length, take, drop, map, vec_len, All, refl, sym, ap, subst, arith}
-use Rattle.std.proofs.lemmas.Result.{err_from_is_err_and}
+use Rattle.std.proofs.Common.{◌≡◌, ◌++◌, ℕ, List, [], length, take, drop, map, vec_len, All, refl, sym, ap, subst, ◌∙◌, arith}
+use Rattle.std.proofs.lemmas.Result.{IfOk-from_err, err_from_is_err_and}
 use Rattle.std.proofs.lemmas.List.{take_all, drop_all}
 use Rattle.std.proofs.lemmas.List.Elements.{All-nil, All-same}
 use Rattle.cj_track.specs.Tracks.{plain_track}
 use Rattle.cj_hermite.specs.CommonRuns.{runs_between, both_numbers}
 use Rattle.cj_hermite.specs.Roots.{root_of_run}
+use Rattle.cj_bezier.specs.declared.cell.Cell.{Cell}
 use Rattle.cj_cells.specs.Cells.{added_roots}
-use Rattle.cj_cells.proofs.WalkLemmas.{roots_left, no_more, walk_done, whole_step, count_step, kept_twice, root_twice, added_count, added_nothing}
+use Rattle.cj_cells.proofs.WalkLemmas.{no_refusal, prefix_done, roots_left, no_more, walk_done, whole_step, count_step, kept_twice, root_twice, added_count, added_nothing}
 use Rattle.cj_cells.proofs.rooting.walk.Goals as goal
 
 pub loop-ticks-init : goal.loop-ticks-init
@@ -87,3 +88,51 @@ returns-clause-ok c =
     let last = c.args.slot.last.micros in
     no_more pair.a pair.b e f c.loop-ticks.from.micros last (added_roots c.args.roots.now.items c.loop-ticks.roots.items) (map (root_of_run pair.a pair.b) (runs_between (both_numbers e f) c.args.slot.first.micros last))
     c.in_default.ensures.none i.whole
+
+pub returns-clause-within : goal.returns-clause-within
+returns-clause-within c = c.loop-ticks.invariant.room
+
+pub returns-clause-too_many : goal.returns-clause-too_many
+returns-clause-too_many c is = absurd (no_refusal _ _ is)
+
+pub returns-clause-kept : goal.returns-clause-kept
+returns-clause-kept c = ap (λ (k : ℕ). take k c.loop-ticks.roots.items) c.args.roots.now.ok.0 ∙ c.loop-ticks.invariant.kept
+
+pub returns-clause-root : goal.returns-clause-root
+returns-clause-root c = subst (λ (k : ℕ). All (λ cell. cell.root ≡ 0) (drop k c.loop-ticks.roots.items)) (sym c.args.roots.now.ok.0) c.loop-ticks.invariant.root
+
+-- ---- at the last tick
+
+pub returns-then-ticks-slot-clause-within : goal.returns-then-ticks-slot-clause-within
+returns-then-ticks-slot-clause-within c = c.in_ok-append.ensures.within
+
+pub returns-then-ticks-slot-clause-too_many : goal.returns-then-ticks-slot-clause-too_many
+returns-then-ticks-slot-clause-too_many c is = absurd (no_refusal _ _ is)
+
+pub returns-then-ticks-slot-clause-kept : goal.returns-then-ticks-slot-clause-kept
+returns-then-ticks-slot-clause-kept c =
+    let new = c.append.new.roots.items in
+    let kept = subst (λ (k : ℕ). take k new ≡ c.loop-ticks.roots.items) c.loop-ticks.roots.ok.0 c.in_ok-append.ensures.kept in
+    ap (λ (k : ℕ). take k new) c.args.roots.now.ok.0 ∙ kept_twice c.args.roots.now.items c.loop-ticks.roots.items new c.loop-ticks.invariant.kept kept
+
+-- ---- after a refusal
+
+pub returns-in_err-append-clause-ok : goal.returns-in_err-append-clause-ok
+returns-in_err-append-clause-ok c = IfOk-from_err c.from_residual.result _ c.from_residual.ensures.0
+
+pub returns-in_err-append-clause-within : goal.returns-in_err-append-clause-within
+returns-in_err-append-clause-within c = IfOk-from_err c.from_residual.result _ c.from_residual.ensures.0
+
+pub returns-in_err-append-clause-err : goal.returns-in_err-append-clause-err
+returns-in_err-append-clause-err c =
+    let p = err_from_is_err_and c.from_residual.result c.from_residual.ensures.1 in
+    rw (p.1, c.in_err-append.ensures.err) (prefix_done _ _ _ c.loop-ticks.invariant.whole)
+
+pub returns-in_err-append-clause-kept : goal.returns-in_err-append-clause-kept
+returns-in_err-append-clause-kept c =
+    rw (c.in_err-append.ensures.err) (ap (λ (k : ℕ). take k c.loop-ticks.roots.items) c.args.roots.now.ok.0 ∙ c.loop-ticks.invariant.kept)
+
+pub returns-in_err-append-clause-root : goal.returns-in_err-append-clause-root
+returns-in_err-append-clause-root c =
+    subst (λ (xs : List Cell). All (λ cell. cell.root ≡ 0) (drop c.args.roots.now.len xs)) (sym c.in_err-append.ensures.err)
+    (subst (λ (k : ℕ). All (λ cell. cell.root ≡ 0) (drop k c.loop-ticks.roots.items)) (sym c.args.roots.now.ok.0) c.loop-ticks.invariant.root)

@@ -1,4 +1,6 @@
-use Rattle.std.proofs.Common.{ℕ, ◌<◌, arith, below_more}
+use Rattle.std.proofs.Common.{ℕ, ◌+◌, ◌<◌, ◌≤◌, List, subst, arith, below_more}
+use Rattle.std.specs.List.{sum_by}
+use Rattle.std.proofs.lemmas.List.{take_all}
 use Rattle.std.proofs.lemmas.List.Sums.{sum_by_more, sum_by_more_le}
 use Rattle.cj_grid.specs.declared.entries.Entry.{Entry}
 use Rattle.cj_grid.specs.Among.{AreFoundAt}
@@ -62,3 +64,15 @@ returns-in_err-append_row-clause-found g c = IfOk-from_err c.from_residual.resul
 
 pub returns-in_err-append_row-clause-no_fewer : goal.returns-in_err-append_row-clause-no_fewer
 returns-in_err-append_row-clause-no_fewer g c = at_least _ _ _ c.loop-at.invariant.no_fewer c.append_row.ensures.no_fewer
+
+pub append_row-requires : goal.append_row-requires
+append_row-requires g c = record { exists = c.loop-at-test.true; order = c.requires.order; objects = c.requires.objects }
+
+pub returns-clause-found : goal.returns-clause-found
+returns-clause-found g c j k above share = let behind = share.0 in c.loop-at.invariant.found j (omega arith) k above share
+
+pub returns-clause-steps : goal.returns-clause-steps
+returns-clause-steps g c =
+    let entries = c.args.entries.now in
+    subst (λ (es : List Entry). c.loop-at.steps ≤ c.args.steps.now + sum_by (λ (e : Entry). entered_in e.bucket entries) es)
+    (take_all c.loop-at.at entries (omega arith)) c.loop-at.invariant.steps

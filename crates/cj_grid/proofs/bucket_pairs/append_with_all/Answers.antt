@@ -1,5 +1,6 @@
-use Rattle.std.proofs.Common.{◌≡◌, inl, inr, ℕ, cond, ◌+◌, ◌≤◌, Option, None, get_or, take, refl, arith, below_more}
+use Rattle.std.proofs.Common.{◌≡◌, inl, inr, ℕ, cond, ◌+◌, ◌≤◌, List, Option, None, get_or, take, refl, subst, arith, below_more}
 use Rattle.std.specs.Prelude.{count_by, is_some}
+use Rattle.std.proofs.lemmas.List.{take_all}
 use Rattle.std.proofs.lemmas.List.Sums.{sum_by_more, sum_by_more_le}
 use Rattle.cj_bezier.specs.declared.axis_box.AxisBox.{AxisBox}
 use Rattle.cj_grid.specs.Among.{AreFound}
@@ -75,3 +76,12 @@ returns-in_err-append_with-clause-found g c = IfOk-from_err c.from_residual.resu
 
 pub returns-in_err-append_with-clause-no_fewer : goal.returns-in_err-append_with-clause-no_fewer
 returns-in_err-append_with-clause-no_fewer g c = at_least _ _ _ c.loop-other.invariant.no_fewer c.append_with.ensures.no_fewer
+
+pub append_with-requires : goal.append_with-requires
+append_with-requires g c = record { one = c.requires.exists; other = omega (arith, c.loop-other-test.true, c.requires.exists) }
+
+pub returns-clause-steps : goal.returns-clause-steps
+returns-clause-steps g c =
+    let boxes = c.args.objects.now.boxes.now in
+    subst (λ (bs : List (Option AxisBox)). c.loop-other.steps ≤ c.args.steps.now + count_by is_some bs)
+    (take_all c.loop-other.other boxes (omega arith)) c.loop-other.invariant.steps

@@ -3,15 +3,17 @@ use Rattle.cj_track.specs.Tracks.{plain_track}
 use Rattle.cj_hermite.proofs.WalkLemmas.{no_left, no_right, common_later, common_here}
 use Rattle.cj_hermite.proofs.common_runs.next_common_pieces.Goals as goal
 
-pub returns-in_err-x-clause-none : goal.returns-in_err-x-clause-none
-returns-in_err-x-clause-none c =
-    rw c.from_residual.ensures
-    (c.loop-x.invariant.same ∙ no_left (plain_track c.args.a.now) (plain_track c.args.b.now) c.loop-x.at.micros c.args.last.micros c.in_err-x.ensures.run)
+pub returns-in_err-x : goal.returns-in_err-x
+returns-in_err-x c =
+    let none = c.loop-x.invariant.same
+    ∙ no_left (plain_track c.args.a.now) (plain_track c.args.b.now) c.loop-x.at.micros c.args.last.micros c.in_err-x.ensures.run in
+    rw c.from_residual.ensures (record { none = none; run = tt; first = tt; second = tt; from = tt; some = tt; to = tt })
 
-pub returns-in_err-y-clause-none : goal.returns-in_err-y-clause-none
-returns-in_err-y-clause-none c =
-    rw c.from_residual-in_err-y.ensures
-    (c.loop-x.invariant.same ∙ no_right (plain_track c.args.a.now) (plain_track c.args.b.now) c.loop-x.at.micros c.args.last.micros c.in_err-y.ensures.run)
+pub returns-in_err-y : goal.returns-in_err-y
+returns-in_err-y c =
+    let none = c.loop-x.invariant.same
+    ∙ no_right (plain_track c.args.a.now) (plain_track c.args.b.now) c.loop-x.at.micros c.args.last.micros c.in_err-y.ensures.run in
+    rw c.from_residual-in_err-y.ensures (record { none = none; run = tt; first = tt; second = tt; from = tt; some = tt; to = tt })
 
 pub returns-then-first-end-clause-run : goal.returns-then-first-end-clause-run
 returns-then-first-end-clause-run c =
@@ -38,3 +40,12 @@ loop-x-preserved c =
           ∙ common_later (plain_track c.args.a.now) (plain_track c.args.b.now) c.loop-x.at.micros c.args.last.micros c.later-first.result.micros c.earlier-end.result.micros c.in_ok-x.x.ticks c.in_ok-y.y.ticks
           c.in_ok-x.ensures.run c.in_ok-y.ensures.run c.later-first.ensures from;
     }
+
+pub returns-then-first-end-clause-from : goal.returns-then-first-end-clause-from
+returns-then-first-end-clause-from c = omega (arith, c.loop-x.invariant.reached, c.in_ok-x.ensures.after, c.later-first.ensures)
+
+pub returns-then-first-end-clause-some : goal.returns-then-first-end-clause-some
+returns-then-first-end-clause-some c = c.if-first-end.true
+
+pub returns-then-first-end-clause-to : goal.returns-then-first-end-clause-to
+returns-then-first-end-clause-to c = omega (arith, c.in_ok-x.ensures.run.within, c.earlier-end.ensures)

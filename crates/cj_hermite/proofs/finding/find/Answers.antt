@@ -11,11 +11,12 @@ use Rattle.cj_hermite.proofs.LaterLemmas.{later_than_found}
 use Rattle.cj_hermite.proofs.PieceLemmas.{intervals_through, all_later, all_apart, none_at, IsLastFound, IsAt, is_at, found_in, length-starts, number_fits, segment_fits}
 use Rattle.cj_hermite.proofs.finding.find.Goals as goal
 
-pub returns-in_err-number-clause-value : goal.returns-in_err-number-clause-value
-returns-in_err-number-clause-value c =
+pub returns-in_err-number : goal.returns-in_err-number
+returns-in_err-number c =
     let m = c.args.at.micros in
     let misses = subst (λ (s : List Segment). Misses m (intervals_through s)) c.as_slice-segments.ensures.value (all_later m c.as_slice-segments.result.now c.in_err-number.ensures) in
-    rw c.from_residual.ensures (sym (none_at (plain_track c.args.track.now) m misses))
+    let none = sym (none_at (plain_track c.args.track.now) m misses) in
+    rw c.from_residual.ensures (record { value = none; place = tt; exists = tt; interval = tt; covered = tt; later = tt })
 
 pub returns-then-segment-at-clause-value : goal.returns-then-segment-at-clause-value
 returns-then-segment-at-clause-value c =

@@ -24,3 +24,12 @@ returns-clause-walks c =
           (subst (λ (t : PlainGap). (r : ℕ) → IsInner k r ↔ (IsInner g r × IsInner t r)) c.gap_origin.ensures c.join_gaps-self.ensures.inner)
           (subst (λ (t : PlainGap). (r : ℕ) → IsOuter k r ↔ (IsOuter g r × IsOuter t r)) c.gap_origin.ensures c.join_gaps-self.ensures.outer);
     }
+
+pub returns-then-self-clause-walks : goal.returns-then-self-clause-walks
+returns-then-self-clause-walks c = c.requires
+
+pub returns-in_default-clause-ended : goal.returns-in_default-clause-ended
+returns-in_default-clause-ended c _ = c.in_default.ensures.none
+
+pub returns-clause-further : goal.returns-clause-further
+returns-clause-further c _ = omega (arith, c.in-Some.ensures.later)

@@ -20,3 +20,6 @@ returns-clause-some c = (round c).some
 
 pub returns-clause-walks : goal.returns-clause-walks
 returns-clause-walks c = let is = c.in_ok-part.ensures in record { begun = omega arith; later = is.later; first = is.first; round = round c }
+
+pub returns-in_err-part-clause-none : goal.returns-in_err-part-clause-none
+returns-in_err-part-clause-none c = rw c.from_residual.ensures c.in_err-part.ensures.none

@@ -1,0 +1,35 @@
+use Rattle.std.proofs.Common.{◌≡◌, ℕ, ◌-◌, ◌<◌, ◌^◌, List, length, get_or, pos, refl, sym, arith, rules}
+use Rattle.std.proofs.lemmas.List.{get_or-map}
+use Rattle.std.proofs.lemmas.Int.{ints}
+use Rattle.std.specs.Prelude.{ℤ}
+use Rattle.std.specs.Int.{int_min}
+use Rattle.cj_interval.specs.declared.span.Span.{Span}
+use Rattle.cj_interval.specs.Sizes.{IsWithin}
+use Rattle.cj_bezier.specs.Hulls.{lows}
+use Rattle.cj_bezier.proofs.PartLemmas.{IsSized, sized, least_step, read_sized, read_value}
+use Rattle.cj_bezier.proofs.squares.lesser.Goals as goal
+use Rattle.cj_bezier.proofs.squares.lesser.Goals.{After-min}
+
+weaker : (z : ℤ) → IsWithin (2 ^ 126 - 1) z → IsWithin (2 ^ 126) z
+weaker z w = omega (arith, ints)
+
+inside : (spans : List Span) (k : ℕ) → k < 7 → length spans ≡ 7 → k < length spans
+inside spans k lt seven = rw seven lt
+
+ends : (c : After-min) → let terms = c.args.gap.now.terms in IsSized c.min.result (int_min (get_or (lows terms) c.args.first (pos 0)) (get_or (lows terms) c.args.second (pos 0)))
+ends c =
+    let terms = c.args.gap.now.terms in
+    let first = inside terms c.args.first c.requires.first_inside (search rules) in
+    let second = inside terms c.args.second c.requires.second_inside (search rules) in
+    let a = sym (get_or-map (λ (s : Span). s.lo) terms c.args.first c.index-gap-first.result (pos 0) first) in
+    let b = sym (get_or-map (λ (s : Span). s.lo) terms c.args.second c.index-gap-second.result (pos 0) second) in
+    let within = c.args.gap.now.within in
+    let x = (get_or terms c.args.first c.index-gap-first.result).lo in
+    let y = (get_or terms c.args.second c.index-gap-second.result).lo in
+    least_step c.min.result x y _ _ (sized x _ a (weaker x (within c.args.first c.index-gap-first.result first).low))
+    (sized y _ b (weaker y (within c.args.second c.index-gap-second.result second).low)) c.min.ensures.value
+
+pub returns : goal.returns
+returns c =
+    let is = ends (goal.at.returns c).After-min in
+    record { value = read_value (λ (z : ℤ). z) _ _ _ is refl; within = read_sized _ _ is }
