@@ -4,6 +4,7 @@ use Rattle.std.specs.Prelude.{All, IfSome, IfNone, option_map, option_and_then, 
 use Rattle.std.proofs.lemmas.List.{take_more, map-append, length-map}
 use Rattle.std.proofs.lemmas.List.Elements.{All-push, All-same, filter_agree}
 use Rattle.cj_interval.proofs.ListLemmas.{Each, Each-weaker, All-from_each, each_from_map}
+use Rattle.cj_epoch.specs.declared.tick.Window.{Window}
 use Rattle.cj_track.specs.declared.track.Track.{Track}
 use Rattle.cj_track.specs.PlainTracks.{PlainTrack}
 use Rattle.cj_track.specs.Tracks.{plain_track}
@@ -70,6 +71,10 @@ in_shell e from to (Some t) none holds = record {
 pub in_own_shell : (e : PlainTrack) (from to : ℕ) (found : Option Shell) → found ≡ shell_of e from to → IfNone found (HasNone e from to)
     → IfSome found (λ s. (m : ℕ) → from ≤ m → m ≤ to → IfSome (interval_at e m) (λ x. IsRadiusWithin (curve_of_interval x) m s.lo s.hi)) → IsInOwnShell from to e
 in_own_shell e from to found exact none holds = subst (λ (s : Option Shell). IsInShell from to e s) exact (in_shell e from to found none holds)
+
+-- what holds of a track in a window holds of the same track in the same window
+pub same_for : (P : Track → Window → Type 0) (t u : Track) (v w : Window) → t ≡ u → v ≡ w → P t v → P u w
+same_for P t u v w track window holds = subst (P u) window (subst (λ (x : Track). P x v) track holds)
 
 pub in_shells : (case : PlainProblem) → All (IsInOwnShell case.first case.last) case.ephemerides → AreInShells case (shells_of case)
 unfolding shells_of

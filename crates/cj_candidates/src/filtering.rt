@@ -25,6 +25,39 @@ use cj_sieve::{ShelledObjects, count_kept};
 use std::alloc::Global;
 use std::thread::Threads;
 
+/// How many pairs of all objects are kept.
+fn count_of_kept(ground: &Ground<'_>) -> u64
+    ensures { result ≡ length (pairs_kept (plain_problem ground.now.problem.now)) }
+{
+    let objects = ShelledObjects {
+        shells: ground.shells,
+        sizes: ground.problem.sizes.as_slice(),
+        thr: ground.problem.threshold,
+    };
+    count_kept(&objects)
+}
+
+/// What is found in all slots, with at most so many roots: the roots are in order and numbered.
+fn search_all<R: Threads + Sync>(
+    rt: &R,
+    alloc: Global,
+    ground: &Ground<'_>,
+    workers: u32,
+    limit: u64,
+) -> Result<SlotRun, RefineError>
+    requires { limit ≤ 4_000_000 }
+    ensures too_many { IsErrOf result RefineError.TooMany → limit < length (roots_of (is_looked (plain_problem ground.now.problem.now)) (plain_problem ground.now.problem.now)) }
+
+    ensures roots { IfOk result (λ run. plain_cells run.roots.items ≡ roots_of (is_looked (plain_problem ground.now.problem.now)) (plain_problem ground.now.problem.now)) }
+    ensures numbered { IfOk result (λ run. root_numbers run.roots.items ≡ range_with_len 0 (vec_len run.roots)) }
+    ensures few { IfOk result (λ run. vec_len run.roots ≤ limit) }
+    ensures touching { IfOk result (λ run. run.touching ≡ looked_count (plain_problem ground.now.problem.now)) }
+{
+    let mut found = search_slots(rt, alloc, ground, 0, ground.slots, workers, limit)?;
+    order_roots(&mut found.roots);
+    Ok(found)
+}
+
 /// The candidates of a problem, with at most so many roots.
 pub fn find_candidates<R: Threads + Sync>(
     rt: &R,
@@ -57,22 +90,14 @@ pub fn find_candidates<R: Threads + Sync>(
         slots,
         workers,
     )?;
-    let kept = count_kept(&ShelledObjects {
-        shells: &shells,
-        sizes: problem.sizes.as_slice(),
-        thr: problem.threshold,
-    });
     let ground = Ground {
         problem,
         shells: &shells,
         boxes: &boxes,
         slots,
     };
-    let SlotRun {
-        mut roots,
-        touching,
-    } = search_slots(rt, alloc, &ground, 0, slots, workers, limit)?;
-    order_roots(&mut roots);
+    let kept = count_of_kept(&ground);
+    let SlotRun { roots, touching } = search_all(rt, alloc, &ground, workers, limit)?;
     Ok(Candidates {
         shells,
         boxes,

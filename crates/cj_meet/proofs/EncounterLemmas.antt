@@ -316,6 +316,17 @@ in_order-take ss n order = λ i j d below short.
     let cut = length-take n ss in
     rw (get_or-take n ss i d (omega (arith, cut, below, short)), get_or-take n ss j d (omega (arith, cut, short))) (order i j d below (omega (arith, cut, short)))
 
+-- of a leaf of the same pair the tick alone decides
+pub same_pair : (a b next : Bool) → true ≡ (a && b) → next ≡ (a && (b && next))
+same_pair true true next same = refl
+same_pair true false next same = absurd cc
+same_pair false b next same = absurd cc
+
+-- the encounters of all leaves
+pub all_of : (leaves : List Leaf) (at : ℕ) (es : List Encounter) → length leaves ≤ at → AreEncounters (take at (plain_leaves leaves)) es → AreEncounters (plain_leaves leaves) es
+all_of leaves at es end found =
+    subst (λ (ss : List PlainLeaf). AreEncounters ss es) (take_all at (plain_leaves leaves) (omega (arith, end, length-map leaves plain_leaf))) found
+
 -- the encounters of one leaf more
 pub encounters_more : (leaves : List Leaf) (at : ℕ) (leaf : Leaf) (old new : List Encounter) → AreInOrder (plain_leaves leaves) → at < length leaves → leaf ≡ get_or leaves at leaf →
     ((ss : List PlainLeaf) → length ss ≡ at → HaveTicks ss → AreInOrder (ss ++ plain_leaf leaf ∷ []) → AreEncounters ss old → AreEncounters (ss ++ plain_leaf leaf ∷ []) new) →

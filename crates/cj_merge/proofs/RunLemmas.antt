@@ -1,13 +1,14 @@
 -- Runs and ranges: one more, one that is cut in two, and what comes of them.
-use Rattle.std.proofs.Common.{◌≡◌, ℕ, ◌+◌, ◌<◌, List, [], ◌∷◌, ◌++◌, length, map, take, drop, get_or, refl, sym, ap, subst, ◌∙◌}
+use Rattle.std.proofs.Common.{◌≡◌, ℕ, ◌+◌, ◌-◌, ◌<◌, ◌≤◌, inl, inr, None, List, [], ◌∷◌, ◌++◌, length, map, take, drop, get_or, refl, sym, ap, subst, ◌∙◌, arith}
 use Rattle.std.specs.Borrow.{Bor}
 use Rattle.std.specs.Global.{Vec}
-use Rattle.std.specs.List.{flat_map}
+use Rattle.std.specs.List.{flat_map, slice_get}
 use Rattle.std.specs.List.Sorted.{IsPermutation}
-use Rattle.std.proofs.lemmas.List.{append-nil, append_assoc, take-append-drop, take_more}
+use Rattle.std.proofs.lemmas.List.{append-nil, append_assoc, map-append, take-append-drop, take_all, take_more}
 use Rattle.std.proofs.lemmas.List.Concat.{flat_map-append}
 use Rattle.std.proofs.lemmas.List.Elements.{All-append}
-use Rattle.std.proofs.lemmas.List.Sorted.{IsPermutation-append, IsPermutation-append_comm, IsPermutation-append_left, IsPermutation-append_right, IsPermutation-trans}
+use Rattle.std.proofs.lemmas.Option.{slice_get_cases}
+use Rattle.std.proofs.lemmas.List.Sorted.{IsPermutation-append, IsPermutation-append_comm, IsPermutation-append_left, IsPermutation-append_right, IsPermutation-refl, IsPermutation-trans}
 use Rattle.cj_interval.proofs.ListLemmas.{All-from_each}
 use Rattle.cj_epoch.specs.declared.tick.Tick.{Tick}
 use Rattle.cj_hermite.specs.declared.pair.Pair.{Pair}
@@ -16,12 +17,32 @@ use Rattle.cj_merge.specs.Runs.{elements_of, elements_in, AreMerged}
 
 module _ {X : Type 0} where
   -- of some lists, and of one more
-  pushed : {Y : Type 0} (items : Y → List X) (ys : List Y) (y : Y) → flat_map items (ys ++ y ∷ []) ≡ flat_map items ys ++ items y
+  pub pushed : {Y : Type 0} (items : Y → List X) (ys : List Y) (y : Y) → flat_map items (ys ++ y ∷ []) ≡ flat_map items ys ++ items y
   pushed items ys y = flat_map-append items ys (y ∷ []) ∙ ap (λ (xs : List X). flat_map items ys ++ xs) (append-nil (items y))
 
   -- of the first lists, and of one more
   pub items_more : {Y : Type 0} (items : Y → List X) (ys : List Y) (i : ℕ) (y : Y) → i < length ys → y ≡ get_or ys i y → flat_map items (take (i + 1) ys) ≡ flat_map items (take i ys) ++ items y
   items_more {Y} items ys i y lt is = ap (flat_map items) (take_more ys i y lt ∙ ap (λ (z : Y). take i ys ++ z ∷ []) (sym is)) ∙ pushed items (take i ys) y
+
+  -- the first lists behind one another, and one more behind them
+  pub items_grown : {Y : Type 0} (items : Y → List X) (ys : List Y) (i : ℕ) (y : Y) (old new more : List X) → i < length ys → y ≡ get_or ys i y
+      → new ≡ old ++ more → more ≡ items y → old ≡ flat_map items (take i ys) → new ≡ flat_map items (take (i + 1) ys)
+  items_grown items ys i y old new more lt is grown same so_far =
+      grown ∙ ap (λ (xs : List X). old ++ xs) same ∙ ap (λ (xs : List X). xs ++ items y) so_far ∙ sym (items_more items ys i y lt is)
+
+  -- when all lists are behind one another, each element is there as often
+  pub items_all : {Y : Type 0} (items : Y → List X) (ys : List Y) (i : ℕ) (all : List X) → length ys ≤ i → all ≡ flat_map items (take i ys)
+      → IsPermutation (flat_map items ys) all
+  items_all items ys i all end so_far =
+      subst (IsPermutation (flat_map items ys)) (sym (so_far ∙ ap (flat_map items) (take_all i ys end))) (IsPermutation-refl (flat_map items ys))
+
+  -- the first lists as slices, and one more
+  pub slices_more : {Y : Type 0} (items : Y → List X) (ys : List Y) (i : ℕ) (y : Y) (old new : List (Bor (List X))) (slice : Bor (List X)) → i < length ys → y ≡ get_or ys i y
+      → new ≡ old ++ slice ∷ [] → slice.now ≡ items y → map (λ run. run.now) old ≡ map items (take i ys) → map (λ run. run.now) new ≡ map items (take (i + 1) ys)
+  slices_more {Y} items ys i y old new slice lt is grown same so_far =
+      ap (map (λ run. run.now)) grown ∙ map-append (λ run. run.now) old (slice ∷ []) ∙ ap (λ (xs : List (List X)). xs ++ slice.now ∷ []) so_far
+      ∙ ap (λ (xs : List X). map items (take i ys) ++ xs ∷ []) same ∙ sym (map-append items (take i ys) (y ∷ []))
+      ∙ ap (map items) (sym (take_more ys i y lt ∙ ap (λ (z : Y). take i ys ++ z ∷ []) (sym is)))
 
   -- both parts of a list that is split
   pub whole : (i : ℕ) (xs front back : List X) → front ≡ take i xs → back ≡ drop i xs → xs ≡ front ++ back
@@ -57,6 +78,18 @@ module _ {X : Type 0} where
       (IsPermutation-trans (old ++ (b ++ a)) ((l ++ h) ++ (b ++ a)) ((l ++ b) ++ (h ++ a))
       (IsPermutation-append_left (b ++ a) old (l ++ h) so_far)
       (exchanged l h b a))))
+
+  -- a list without a last element, and one without a first
+  pub ends_nowhere : (xs : List X) → None ≡ slice_get xs (length xs - 1) → xs ≡ []
+  ends_nowhere [] none = refl
+  ends_nowhere (x ∷ xs) none = elim (slice_get_cases (x ∷ xs) (length (x ∷ xs) - 1)).1 [
+    | inl w ↦ absurd cc
+    | inr w ↦ absurd (omega arith)
+  ]
+
+  pub begins_nowhere : (xs : List X) → None ≡ slice_get xs 0 → xs ≡ []
+  begins_nowhere [] none = refl
+  begins_nowhere (x ∷ xs) none = absurd cc
 
   -- lists and slices of the same elements
   pub same_elements : {Y : Type 0} (slices : List (Bor (List X))) (lists : List Y) (items : Y → List X) → map (λ run. run.now) slices ≡ map items lists

@@ -4,6 +4,7 @@ ghost use Rattle.std.specs.List.Sorted.{IsPermutation};
 ghost use Rattle.cj_hermite.specs.PairOrder.{AreInOrderBy};
 
 use crate::placed::Placed;
+use crate::sorting::put_in_order;
 use std::alloc::{AllocError, Global};
 
 /// An empty list with room for so many elements. It has been full once, since memory is made ready only when it is first written to.
@@ -48,12 +49,13 @@ pub fn put_together<T: Placed + Copy>(
 {
     let mut in_order = true;
     for list in lists {
-        in_order &= goes_on(&all, list);
-        all.extend_from_slice(list)?;
+        let more = list.as_slice();
+        in_order &= goes_on(&all, more);
+        all.extend_from_slice(more)?;
     }
     if in_order {
         return Ok(all);
     }
-    all.sort_by_key(|item: &T| item.place())?;
+    put_in_order(&mut all)?;
     Ok(all)
 }

@@ -5,6 +5,7 @@ mod joining;
 mod merging;
 mod placed;
 mod ranges;
+mod sorting;
 
 pub use joining::ready_list;
 pub use merging::merge_runs;

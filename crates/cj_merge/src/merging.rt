@@ -8,6 +8,7 @@ ghost use Rattle.cj_merge.specs.Runs.{elements_of, AreMerged};
 use crate::joining::{put_together, ready_list};
 use crate::placed::Placed;
 use crate::ranges::{count_of, cut_into_ranges};
+use crate::sorting::put_in_order;
 use cj_jobs::{Jobs, run_jobs};
 use std::alloc::{AllocError, Global};
 use std::thread::{Threads, join};
@@ -27,7 +28,7 @@ fn merge_in_turn<T: Placed + Copy>(alloc: Global, runs: &[&[T]]) -> Result<Vec<T
     for run in runs {
         all.extend_from_slice(run)?;
     }
-    all.sort_by_key(|item: &T| item.place())?;
+    put_in_order(&mut all)?;
     Ok(all)
 }
 
@@ -99,7 +100,8 @@ fn merge_by_threads<T: Placed + Copy + Send + Sync, R: Threads + Sync>(
     { ready_list(alloc, filler, count) };
     let (lists, all) = join(rt, merge, make);
     let lists = lists?;
-    put_together(&lists, all?)
+    let all = all?;
+    put_together(&lists, all)
 }
 
 /// Runs as slices.

@@ -36,7 +36,15 @@ fn places_to_cut<T: Placed>(
     Ok(places)
 }
 
-/// Of each run what belongs before a place, and of each the rest, as far as the run is in order.
+/// Of a run what belongs before a place, and the rest, as far as the run is in order.
+fn halves<'r, T: Placed>(run: &'r [T], place: (Pair, Tick)) -> (&'r [T], &'r [T])
+    ensures { run.entry.now ≡ result.0.now ++ result.1.now }
+{
+    let at = run.partition_point(|item: &T| item.place() < place);
+    run.split_at(at)
+}
+
+/// Of each run what belongs before a place, and of each the rest.
 fn cut<'r, T: Placed>(
     alloc: Global,
     runs: &[&'r [T]],
@@ -47,8 +55,7 @@ fn cut<'r, T: Placed>(
     let mut low = Vec::with_capacity(alloc, runs.len())?;
     let mut high = Vec::with_capacity(alloc, runs.len())?;
     for run in runs {
-        let at = run.partition_point(|item: &T| item.place() < place);
-        let (below, above) = run.split_at(at);
+        let (below, above) = halves(run, place);
         low.push(below)?;
         high.push(above)?;
     }

@@ -1,7 +1,7 @@
 -- The lines of the spans of leaves, written run by run.
-use Rattle.std.proofs.Common.{◌≡◌, ℕ, ◌+◌, ◌<◌, true, false, ◌&&◌, List, ◌∷◌, ◌++◌, length, drop, get_or, ap, sym, ◌∙◌, append_assoc, refl}
+use Rattle.std.proofs.Common.{◌≡◌, ℕ, ◌+◌, ◌<◌, ◌≤◌, true, false, ◌&&◌, List, ◌∷◌, ◌++◌, length, drop, get_or, ap, sym, ◌∙◌, append-nil, append_assoc, refl}
 use Rattle.std.proofs.lemmas.Bool.{and_parts}
-use Rattle.std.proofs.lemmas.List.{drop_more}
+use Rattle.std.proofs.lemmas.List.{drop_all, drop_more}
 use Rattle.std.specs.Prelude.{flat_map}
 use Rattle.cj_bezier.specs.declared.leaf.Leaf.{Leaf}
 use Rattle.cj_bezier.specs.Leaves.{PlainLeaf, plain_leaf, plain_leaves, same_kind}
@@ -44,3 +44,9 @@ step_parted was now whole run next leaves i leaf short is off alone written befo
     let same = lines_at run leaves i leaf short is ∙ ap (flat_map span_line) (spans_of-parted run (plain_leaf leaf) (plain_leaves (drop (i + 1) leaves)) off) in
     ap (λ r. now ++ lines_from r leaves (i + 1)) alone ∙ (ap (λ t. t ++ lines_from (plain_leaf leaf) leaves (i + 1)) written ∙
     (append_assoc was (span_line run) (lines_from (plain_leaf leaf) leaves (i + 1)) ∙ (ap (λ t. was ++ t) (sym same) ∙ before)))
+
+-- after the last leaf the run is the last span
+pub step_last : (was now whole : List ℕ) (run : PlainLeaf) (leaves : List Leaf) (i : ℕ) → length leaves ≤ i → now ≡ was ++ span_line run →
+    was ++ lines_from run leaves i ≡ whole → now ≡ whole
+step_last was now whole run leaves i end written before =
+    written ∙ (ap (λ t. was ++ t) (sym (ap (λ l. flat_map span_line (spans_of (run ∷ plain_leaves l))) (drop_all i leaves end) ∙ append-nil (span_line run))) ∙ before)

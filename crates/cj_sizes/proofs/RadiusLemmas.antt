@@ -1,5 +1,5 @@
 -- The radius of an object among the lines of a file.
-use Rattle.std.proofs.Common.{◌≡◌, ℕ, ◌+◌, ◌<◌, ◌≤◌, Bool, true, false, cond, List, [], ◌∷◌, All, length, take, get_or, Option, Some, None, refl, find, map, unwrap_or, option_map, bytes_eq, ap, sym, ◌∙◌, arith, Bor, is_some, BTreeMap}
+use Rattle.std.proofs.Common.{◌≡◌, ℕ, ◌+◌, ◌<◌, ◌≤◌, Bool, true, false, cond, List, [], ◌∷◌, ◌++◌, All, length, take, get_or, Option, Some, None, refl, find, map, unwrap_or, option_map, bytes_eq, ap, sym, ◌∙◌, arith, Bor, is_some, BTreeMap}
 use Rattle.std.specs.Cmp.Lexicographic.{same_text}
 use Rattle.std.specs.Option.{option_or}
 use Rattle.std.proofs.lemmas.Bool.{false≢true}
@@ -37,6 +37,15 @@ radius_of_within (line ∷ lines) id = at (bytes_eq line.id id) (radius_of_withi
 
 pub radii_within : (lines : List SizeLine) (ids : List (Bor (List ℕ))) → All (λ radius. radius ≤ MAX_RADIUS) (map (λ id. radius_of (sizes_of lines) id.now) ids)
 radii_within lines ids = All-map (λ radius. radius ≤ MAX_RADIUS) (λ (id : Bor (List ℕ)). radius_of (sizes_of lines) id.now) ids (λ k d h. radius_of_within lines (get_or ids k d).now)
+
+-- the radii of the first objects, and of one more
+pub radii_more : (lines : List SizeLine) (ids : List (Bor (List ℕ))) (i : ℕ) (d : Bor (List ℕ)) (old new : List ℕ) (radius : ℕ) → i < length ids → new ≡ old ++ radius ∷ []
+    → radius ≡ radius_of (sizes_of lines) (get_or ids i d).now → old ≡ map (λ id. radius_of (sizes_of lines) id.now) (take i ids)
+    → new ≡ map (λ id. radius_of (sizes_of lines) id.now) (take (i + 1) ids)
+radii_more lines ids i d old new radius lt grown here so_far =
+    let radius_at : Bor (List ℕ) → ℕ = λ id. radius_of (sizes_of lines) id.now in
+    grown ∙ ap (λ (rs : List ℕ). rs ++ radius ∷ []) so_far ∙ ap (λ (r : ℕ). map radius_at (take i ids) ++ r ∷ []) here
+    ∙ sym (map-append radius_at (take i ids) (get_or ids i d ∷ [])) ∙ ap (map radius_at) (sym (take_more ids i d lt))
 
 -- a further line gives the radius of its id where no line before does
 pub given_more : (lines : List SizeLine) (i : ℕ) (d : SizeLine) (id : List ℕ) → i < length lines

@@ -1,7 +1,7 @@
 //! The radii of objects.
-ghost use Rattle.std.specs.Prelude.{◌≡◌, ◌≤◌, IfOk, OnOk, All, length, map};
+ghost use Rattle.std.specs.Prelude.{◌≡◌, ◌≤◌, IfOk, OnOk, All, length, map, unwrap_or};
 ghost use Rattle.cj_sizes.specs.Limits.{MAX_RADIUS};
-ghost use Rattle.cj_sizes.specs.Radii.{Holds, Takes};
+ghost use Rattle.cj_sizes.specs.Radii.{Holds, Takes, radius_in};
 ghost use Rattle.cj_sizes.specs.Sizes as spec;
 ghost use Rattle.cj_sizes.specs.Sizes.{sizes_of};
 
@@ -28,9 +28,16 @@ pub fn radii_of(alloc: Global, lines: &[SizeLine], ids: &[&[u8]]) -> Result<Vec<
     let given = radii_given(alloc, lines)?;
     let mut radii = Vec::with_capacity(alloc, ids.len())?;
     for id in ids {
-        radii.push(given.get(*id).copied().unwrap_or(0))?;
+        radii.push(radius_among(&given, id))?;
     }
     Ok(radii)
+}
+
+/// The radius that is given for a designator, and 0 where none is.
+fn radius_among(given: &BTreeMap<&[u8], u64>, id: &[u8]) -> u64
+    ensures { result ≡ unwrap_or (radius_in given.now id.now) 0 }
+{
+    given.get(id).copied().unwrap_or(0)
 }
 
 /// The radii that are given, each under its designator.

@@ -55,8 +55,20 @@ fn radius_said(text: &[u8]) -> Result<u64, SizesCause>
     ensures within { IfOk result (λ radius. radius ≤ MAX_RADIUS) }
 {
     match read_scaled(text, 9) {
-        Ok(radius) if 0 <= radius && radius <= RADIUS_LIMIT => Ok(radius as u64),
-        Ok(_) | Err(NumFault::TooLarge) => Err(SizesCause::Range),
+        Ok(radius) => radius_within(radius),
+        Err(NumFault::TooLarge) => Err(SizesCause::Range),
         Err(NumFault::NotNumber) => Err(SizesCause::Number),
+    }
+}
+
+/// A number of nm that may be a radius.
+fn radius_within(radius: i128) -> Result<u64, SizesCause>
+    ensures value { result ≡ spec.radius_within radius }
+    ensures within { IfOk result (λ radius. radius ≤ MAX_RADIUS) }
+{
+    if 0 <= radius && radius <= RADIUS_LIMIT {
+        Ok(radius as u64)
+    } else {
+        Err(SizesCause::Range)
     }
 }

@@ -83,3 +83,18 @@ returns c =
         touching = i.counted ∙ ap (looked_over case from) all;
       };
     }
+
+pub returns-in_err-hints : goal.returns-in_err-hints
+returns-in_err-hints c =
+    let p = err_from_is_err_and c.from_residual.result c.from_residual.ensures.1 in
+    rw (p.1, p.2) (record { too_many = λ is. absurd cc; found = tt })
+
+pub returns-in_err-pairs : goal.returns-in_err-pairs
+returns-in_err-pairs c =
+    let p = err_from_is_err_and c.from_residual-in_err-pairs.result c.from_residual-in_err-pairs.ensures.1 in
+    rw (p.1, p.2) (record { too_many = λ is. absurd cc; found = tt })
+
+pub returns-in_err-sort_by_key : goal.returns-in_err-sort_by_key
+returns-in_err-sort_by_key c =
+    let p = err_from_is_err_and c.from_residual-in_err-sort_by_key.result c.from_residual-in_err-sort_by_key.ensures.1 in
+    rw (p.1, p.2) (record { too_many = λ is. absurd cc; found = tt })

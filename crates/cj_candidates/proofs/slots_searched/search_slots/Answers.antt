@@ -3,7 +3,7 @@ use Rattle.std.specs.Prelude.{IfOk}
 use Rattle.std.proofs.lemmas.List.{length-map}
 use Rattle.cj_track.specs.Tracks.{plain_track}
 use Rattle.cj_hermite.specs.Problems.{plain_problem}
-use Rattle.cj_candidates.specs.SlotRuns.{IsFoundAt, looked_at, roots_at}
+use Rattle.cj_candidates.specs.SlotRuns.{IsFoundAt, looked_at, looked_over, roots_at, roots_over}
 use Rattle.cj_candidates.proofs.SlotRunLemmas.{all_found}
 use Rattle.cj_candidates.proofs.slots_searched.search_slots.Goals as goal
 
@@ -13,8 +13,8 @@ returns g c =
     let few = problem.few in
     let stretches = c.deref.result.now in
     all_found (plain_problem problem) c.args.from c.args.count c.args.limit stretches c.in_ok-runs.runs c.merged.result
-    (ap roots_at c.deref.ensures.value ∙ c.in_ok-stretches.ensures.roots)
-    (ap looked_at c.deref.ensures.value ∙ c.in_ok-stretches.ensures.touching)
+    (◌∙◌ {c = roots_over (plain_problem problem) c.args.from c.args.count} (ap roots_at c.deref.ensures.value) c.in_ok-stretches.ensures.roots)
+    (◌∙◌ {c = looked_over (plain_problem problem) c.args.from c.args.count} (ap looked_at c.deref.ensures.value) c.in_ok-stretches.ensures.touching)
     (omega (arith, few, length-map problem.tracks plain_track)) (omega (arith, c.ranges.count.fits))
     (subst (λ r. IfOk r (IsFoundAt stretches)) c.in_ok-runs.was c.in_ok-run_jobs.ensures.found)
     c.merged.ensures.too_many c.merged.ensures.roots c.merged.ensures.few c.merged.ensures.touching

@@ -1,11 +1,18 @@
-use Rattle.cj_merge.proofs.RunLemmas.{cut_more, whole}
+use Rattle.std.proofs.Common.{◌++◌, List, subst}
+use Rattle.std.specs.Borrow.{Bor}
+use Rattle.std.specs.List.Sorted.{IsPermutation}
+use Rattle.std.proofs.lemmas.List.{take_all}
+use Rattle.cj_merge.specs.Runs.{elements_of}
+use Rattle.cj_merge.proofs.RunLemmas.{cut_more}
 use Rattle.cj_merge.proofs.ranges.cut.Goals as goal
 
 pub loop-run-preserved : goal.loop-run-preserved
 loop-run-preserved g c =
-    let run = c.run-item.result in
-    let below = c.split_at.result.0 in
-    let above = c.split_at.result.1 in
     rw (c.in_ok-push.ensures.items, c.in_ok-push-2.ensures.items)
-    (cut_more c.loop-run.run-index c.args.runs.now c.loop-run.low.items c.loop-run.high.items run below above c.loop-run-test.true c.run-item.is
-    (whole c.partition_point-at.result run.now below.now above.now c.split_at.ensures.front c.split_at.ensures.back) c.loop-run.invariant)
+    (cut_more c.loop-run.run-index c.args.runs.now c.loop-run.low.items c.loop-run.high.items c.run-item.result c.halves.result.0 c.halves.result.1 c.loop-run-test.true c.run-item.is
+    c.halves.ensures c.loop-run.invariant)
+
+pub returns : goal.returns
+returns g c =
+    subst (λ (runs : List (Bor (List g.row.T.Denot))). IsPermutation (elements_of runs) (elements_of c.loop-run.low.items ++ elements_of c.loop-run.high.items))
+    (take_all c.loop-run.run-index c.args.runs.now c.loop-run-test.false) c.loop-run.invariant

@@ -1,8 +1,8 @@
-use Rattle.std.proofs.Common.{◌++◌, List, subst}
+use Rattle.std.proofs.Common.{◌++◌, List, subst, sym}
 use Rattle.std.specs.Borrow.{Bor}
 use Rattle.std.specs.List.Sorted.{IsPermutation}
 use Rattle.cj_merge.specs.Runs.{elements_of}
-use Rattle.cj_merge.proofs.RunLemmas.{range_more}
+use Rattle.cj_merge.proofs.RunLemmas.{pushed, range_more}
 use Rattle.cj_merge.proofs.ranges.cut_at.Goals as goal
 
 pub loop-place-preserved : goal.loop-place-preserved
@@ -12,3 +12,8 @@ loop-place-preserved g c =
     rw c.in_ok-push.ensures.items
     (range_more (elements_of c.args.runs.items) c.loop-place.ranges.items below c.loop-place.rest.items above c.loop-place.invariant
     (subst (λ (left : List (Bor (List g.row.T.Denot))). IsPermutation (elements_of left) (elements_of below.items ++ elements_of above)) c.deref.ensures.value c.in_ok-below.ensures))
+
+pub returns : goal.returns
+returns g c =
+    rw c.in_ok-push-2.ensures.items
+    (subst (IsPermutation (elements_of c.args.runs.items)) (sym (pushed (λ range. elements_of range.items) c.loop-place.ranges.items c.loop-place.rest)) c.loop-place.invariant)

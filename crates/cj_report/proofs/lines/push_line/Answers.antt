@@ -1,5 +1,6 @@
 use Rattle.std.proofs.Common.{[], ◌∷◌, ◌++◌, ap, ◌∙◌, arith, take_all}
 use Rattle.std.specs.Prelude.{flat_map}
+use Rattle.std.proofs.lemmas.Result.{err_from_is_err_and}
 use Rattle.cj_report.proofs.LineLemmas.{spaced, line-spaced}
 use Rattle.cj_report.proofs.lines.push_line.Goals as goal
 
@@ -10,3 +11,15 @@ returns c =
     let more = c.args.more.now in
     let all = c.loop-next.invariant ∙ ap (λ ws. (text ++ word) ++ flat_map spaced ws) (take_all c.loop-next.next-index more (omega arith)) in
     c.in_ok-push-2.ensures.items ∙ (ap (λ t. t ++ 10 ∷ []) all ∙ line-spaced text word more)
+
+pub returns-in_err-extend_from_slice : goal.returns-in_err-extend_from_slice
+returns-in_err-extend_from_slice c = rw (err_from_is_err_and c.from_residual.result c.from_residual.ensures.1).1 tt
+
+pub returns-in_err-push : goal.returns-in_err-push
+returns-in_err-push c = rw (err_from_is_err_and c.from_residual-in_err-push.result c.from_residual-in_err-push.ensures.1).1 tt
+
+pub returns-in_err-extend_from_slice-2 : goal.returns-in_err-extend_from_slice-2
+returns-in_err-extend_from_slice-2 c = rw (err_from_is_err_and c.from_residual-in_err-extend_from_slice-2.result c.from_residual-in_err-extend_from_slice-2.ensures.1).1 tt
+
+pub returns-in_err-push-2 : goal.returns-in_err-push-2
+returns-in_err-push-2 c = rw (err_from_is_err_and c.from_residual-in_err-push-2.result c.from_residual-in_err-push-2.ensures.1).1 tt

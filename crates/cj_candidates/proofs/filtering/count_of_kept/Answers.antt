@@ -1,0 +1,24 @@
+use Rattle.std.proofs.Common.{◌≤◌, ℕ, List, All, length, sym, ap, subst, ◌∙◌, arith}
+use Rattle.std.proofs.lemmas.List.{length-map}
+use Rattle.cj_track.specs.Tracks.{plain_track}
+use Rattle.cj_hermite.specs.Limits.{MAX_SIZE}
+use Rattle.cj_hermite.specs.Problems.{plain_problem}
+use Rattle.cj_candidates.proofs.ObjectLemmas.{as_many_shells, kept_is}
+use Rattle.cj_candidates.proofs.filtering.count_of_kept.Goals as goal
+
+pub invariant_of-objects : goal.invariant_of-objects
+invariant_of-objects c =
+    let problem = c.args.ground.now.problem.now in
+    let count = as_many_shells (plain_problem problem) c.args.ground.now.shells.now c.args.ground.now.in_shells in
+    record {
+      few = omega (arith, count, problem.few, length-map problem.tracks plain_track);
+      sized = omega (arith, count, problem.sized, ap (λ (xs : List ℕ). length xs) c.as_slice.ensures.value, length-map problem.tracks plain_track);
+      small = subst (λ (ss : List ℕ). All (λ size. size ≤ MAX_SIZE) ss) (sym c.as_slice.ensures.value) c.as_slice.ensures.within;
+      least = problem.least;
+      most = problem.most;
+    }
+
+pub returns : goal.returns
+returns c =
+    let ground = c.args.ground.now in
+    c.count_kept.ensures.value ∙ ap length (kept_is (plain_problem ground.problem.now) ground.shells.now c.as_slice.result.now ground.in_shells c.as_slice.ensures.value)

@@ -1,0 +1,42 @@
+use Rattle.std.proofs.Common.{ℕ, List, length, ap, subst, ◌∙◌, arith}
+use Rattle.std.specs.List.Sorted.{IsPermutation}
+use Rattle.std.proofs.lemmas.List.{length-map}
+use Rattle.std.proofs.lemmas.List.Sorted.{length_permutation}
+use Rattle.std.proofs.lemmas.Result.{err_from_is_err_and}
+use Rattle.cj_hermite.specs.Problems.{plain_problem}
+use Rattle.cj_hermite.specs.Roots.{PlainCell}
+use Rattle.cj_bezier.specs.Cells.{plain_cell, plain_cells}
+use Rattle.cj_bezier.specs.Looked.{is_looked}
+use Rattle.cj_cells.proofs.ListingLemmas.{error_is, by_slot, same_count}
+use Rattle.cj_candidates.specs.SlotRuns.{looked_over, roots_over}
+use Rattle.cj_candidates.proofs.filtering.search_all.Goals as goal
+
+pub returns-in_err-found-clause-too_many : goal.returns-in_err-found-clause-too_many
+returns-in_err-found-clause-too_many g c =
+    let case = plain_problem c.args.ground.now.problem.now in
+    let p = err_from_is_err_and c.from_residual.result c.from_residual.ensures.1 in
+    let all = ap (λ (n : ℕ). length (roots_over case 0 n)) c.args.ground.now.counted in
+    let slots = ap length (by_slot case) in
+    rw (p.1, p.2) (λ is. let many = c.in_err-found.ensures.too_many (error_is _ _ is) in omega (arith, many, all, slots, same_count case))
+
+pub order_roots-requires : goal.order_roots-requires
+order_roots-requires g c = omega (arith, c.in_ok-found.ensures.found.few, c.requires)
+
+pub returns-clause-roots : goal.returns-clause-roots
+returns-clause-roots g c =
+    let case = plain_problem c.args.ground.now.problem.now in
+    c.order_roots.ensures.all (is_looked case) case
+    (subst (λ (rs : List PlainCell). IsPermutation rs (plain_cells c.in_ok-found.found.roots.items)) (ap (λ (n : ℕ). roots_over case 0 n) c.args.ground.now.counted ∙ by_slot case)
+    c.in_ok-found.ensures.found.roots)
+
+pub returns-clause-numbered : goal.returns-clause-numbered
+returns-clause-numbered g c = c.order_roots.ensures.numbered
+
+pub returns-clause-few : goal.returns-clause-few
+returns-clause-few g c =
+    let old = c.in_ok-found.found.roots in
+    let new = c.order_roots.new.roots in
+    omega (arith, c.in_ok-found.ensures.found.few, length_permutation _ _ c.order_roots.ensures.permutation, length-map old.items plain_cell, length-map new.items plain_cell, old.ok.0, new.ok.0)
+
+pub returns-clause-touching : goal.returns-clause-touching
+returns-clause-touching g c = c.in_ok-found.ensures.found.touching ∙ ap (looked_over (plain_problem c.args.ground.now.problem.now) 0) c.args.ground.now.counted
