@@ -3,7 +3,7 @@ use Rattle.std.proofs.Common.{◌≡◌, ℕ, suc, ◌+◌, ◌-◌, ◌<◌, �
 use Rattle.std.specs.List.{AllZip}
 use Rattle.std.specs.Prelude.{IfOk, IfSome, Option, Some, None, ⊤}
 use Rattle.std.specs.declared.alloc.AllocError.{AllocError}
-use Rattle.std.proofs.lemmas.List.{drop-drop, length-append, length-drop, length-map, map-append, map_more, take_all, take_more}
+use Rattle.std.proofs.lemmas.List.{drop-drop, length-append, length-drop, length-map, map-append, map_more, nil_from_length, take_all, take_more}
 use Rattle.std.proofs.lemmas.Slice.Zip.{all_zipped_more}
 use Rattle.cj_io.specs.declared.file.FileBytes.{FileBytes}
 use Rattle.cj_io.specs.Files.{bytes_of}
@@ -14,6 +14,7 @@ use Rattle.cj_oem.specs.Reading.{Fault, reading}
 use Rattle.cj_oem.proofs.GrammarLemmas.{reading_says}
 use Rattle.cj_status.specs.declared.status.Status.{Status}
 use Rattle.cj_status.specs.Steps.{◌>>=◌}
+use Rattle.cj_inputs.specs.declared.batch.Batch.{Batch}
 use Rattle.cj_inputs.specs.declared.batch.FileRead.{FileRead}
 use Rattle.cj_inputs.specs.declared.input_files.Entry.{Entry}
 use Rattle.cj_inputs.specs.declared.progress.Progress.{Progress}
@@ -220,6 +221,23 @@ read_more files entries i entry read file below is front was =
     subst (λ (es : List Entry). AllZip (WasRead files) es (read ++ file ∷ [])) (sym (take_more entries i entry below ∙ ap (λ (e : Entry). take i entries ++ e ∷ []) (sym is)))
     (all_zipped_more (WasRead files) (take i entries) read entry file front was)
 
+-- a batch that ends where the next file is not read
+pub batch_ends : {X : Type 0} (rose : Type 0) (view : X → List ℕ) (files : List FileBytes) (entries : List Entry) (i : ℕ) (entry : Entry) (name : List ℕ) (batch : Batch) (why : InputError)
+    → i < length entries → entry ≡ get_or entries i entry → name ≡ entry.name → length batch.files.items ≡ i → AllZip (WasRead files) (take i entries) batch.files.items
+    → batch.stop ≡ Some why → Reads rose view (Err why) (within_bytes name (bytes_of files entry.number)) → IsBatchOf files entries batch
+batch_ends rose view files entries i entry name batch why below is named many front stop read =
+    let cause : IsCause files entries (length batch.files.items) why = record {
+        entry = entry;
+        exists = omega (arith, below, many);
+        stands = ap (λ (n : ℕ). get_or entries n entry) many ∙ sym is;
+        read = subst (λ (n : List ℕ). Reads ⊤ (λ (bytes : List ℕ). bytes) (Err why) (within_bytes n (bytes_of files entry.number))) named
+            (reads_wider rose ⊤ view (λ (bytes : List ℕ). bytes) why (within_bytes name (bytes_of files entry.number)) (λ risen. tt) read);
+      } in
+    record {
+      front = subst (λ (n : ℕ). AllZip (WasRead files) (take n entries) batch.files.items) (sym many) front;
+      stop = subst (λ (o : Option InputError). IfSome o (IsCause files entries (length batch.files.items))) (sym stop) cause;
+    }
+
 -- ---- how a batch ends, as the reading of all
 
 abbrev seen : Progress → List PlainTrack
@@ -331,3 +349,37 @@ next_fits as_hermite3 entries rest progress (Ok next) fits taken left few some =
 pub of_part : {X Y E F : Type 0} (P : Y → Type 0) (part : X → Y) (had : Result Y F) (r : Result X E) → IfOk r (λ x. had ≡ Ok (part x)) → IfOk had P → IfOk r (λ x. P (part x))
 of_part P part had (Err why) is holds = tt
 of_part {Y = Y} {F = F} P part had (Ok x) is holds = subst (λ (h : Result Y F). IfOk h P) is holds
+
+-- ---- the reading of all, batch by batch
+
+-- where nothing is taken yet and the first batch is read
+pub begun : (as_hermite3 : Bool) (files : List FileBytes) (entries : List Entry) (progress : Progress) → progress.taken.tracks.items ≡ [] → IsBatchOf files entries progress.batch
+    → IsOnTheWay as_hermite3 files entries progress
+begun as_hermite3 files entries progress none batch = record {
+  leads = ap (λ (ts : List Track). readings_after as_hermite3 files (map plain_track ts) (drop (length ts) entries)) none;
+  batch = subst (λ (ts : List Track). IsBatchOf files (drop (length ts) entries) progress.batch) (sym none) batch;
+}
+
+pub begun_fits : (entries : List Entry) (progress : Progress) → progress.taken.tracks.items ≡ [] → length progress.batch.files.items ≤ length entries
+    → (progress.batch.stop ≡ None → 0 < length entries → 0 < length progress.batch.files.items) → Fits entries progress
+begun_fits entries progress none few some =
+    let nothing : length progress.taken.tracks.items ≡ 0 = ap (λ (ts : List Track). length ts) none in
+    record {
+      few = omega (arith, nothing, few);
+      some = λ stop more. some stop (omega (arith, more));
+    }
+
+-- where all are taken
+pub all_taken : (as_hermite3 : Bool) (files : List FileBytes) (entries : List Entry) (progress : Progress) → IsOnTheWay as_hermite3 files entries progress
+    → length entries ≤ length progress.taken.tracks.items → readings_of as_hermite3 files entries ≡ Ok (seen progress)
+all_taken as_hermite3 files entries progress way all =
+    let done = length progress.taken.tracks.items in
+    let none : drop done entries ≡ [] = nil_from_length (drop done entries) (omega (arith, all, length-drop done entries)) in
+    sym way.leads ∙ ap (readings_after as_hermite3 files (seen progress)) none
+
+-- a reading that was given up, where it is known when the folder failed
+pub reads_fault : {X Y A : Type 0} (rose : Type 0) (view : X → A) (seen : Y → A) (why : InputError) (read : Result A Status) → (why ≡ input.Failed → rose) → Reads ⊤ view (Err why) read → Reads rose seen (Err why) read
+reads_fault rose view seen input.Memory read risen here = tt
+reads_fault rose view seen input.Failed read risen here = risen refl
+reads_fault rose view seen (input.Refused file line cause) read risen here = here
+reads_fault rose view seen (input.Limit fault) read risen here = here

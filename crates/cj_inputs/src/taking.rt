@@ -53,6 +53,7 @@ pub fn read_tracks<R: Threads + Sync, F: Folder>(
     while progress.taken.tracks.len() < entries.len() {
         progress = go_on(rt, alloc, folder, progress, entries, as_hermite3, workers)?;
     }
+    drop(progress.batch);
     Ok(progress.taken.tracks)
 }
 
