@@ -223,16 +223,17 @@ read_more files entries i entry read file below is front was =
 
 -- a batch that ends where the next file is not read
 pub batch_ends : {X : Type 0} (rose : Type 0) (view : X → List ℕ) (files : List FileBytes) (entries : List Entry) (i : ℕ) (entry : Entry) (name : List ℕ) (batch : Batch) (why : InputError)
-    → i < length entries → entry ≡ get_or entries i entry → name ≡ entry.name → length batch.files.items ≡ i → AllZip (WasRead files) (take i entries) batch.files.items
+    → i < length entries → entry ≡ get_or entries i entry → name ≡ entry.name → length batch.files.items ≡ i
+    → AllZip (WasRead files) (take i entries) batch.files.items
     → batch.stop ≡ Some why → Reads rose view (Err why) (within_bytes name (bytes_of files entry.number)) → IsBatchOf files entries batch
 batch_ends rose view files entries i entry name batch why below is named many front stop read =
     let cause : IsCause files entries (length batch.files.items) why = record {
-        entry = entry;
-        exists = omega (arith, below, many);
-        stands = ap (λ (n : ℕ). get_or entries n entry) many ∙ sym is;
-        read = subst (λ (n : List ℕ). Reads ⊤ (λ (bytes : List ℕ). bytes) (Err why) (within_bytes n (bytes_of files entry.number))) named
-            (reads_wider rose ⊤ view (λ (bytes : List ℕ). bytes) why (within_bytes name (bytes_of files entry.number)) (λ risen. tt) read);
-      } in
+      entry = entry;
+      exists = omega (arith, below, many);
+      stands = ap (λ (n : ℕ). get_or entries n entry) many ∙ sym is;
+      read = subst (λ (n : List ℕ). Reads ⊤ (λ (bytes : List ℕ). bytes) (Err why) (within_bytes n (bytes_of files entry.number))) named
+          (reads_wider rose ⊤ view (λ (bytes : List ℕ). bytes) why (within_bytes name (bytes_of files entry.number)) (λ risen. tt) read);
+    } in
     record {
       front = subst (λ (n : ℕ). AllZip (WasRead files) (take n entries) batch.files.items) (sym many) front;
       stop = subst (λ (o : Option InputError). IfSome o (IsCause files entries (length batch.files.items))) (sym stop) cause;
@@ -244,7 +245,8 @@ abbrev seen : Progress → List PlainTrack
 seen progress = map plain_track progress.taken.tracks.items
 
 -- one of the files that were read is not taken
-batch_fails : (as_hermite3 : Bool) (files : List FileBytes) (entries : List Entry) (progress : Progress) (why : InputError) → IsOnTheWay as_hermite3 files entries progress
+batch_fails : (as_hermite3 : Bool) (files : List FileBytes) (entries : List Entry) (progress : Progress) (why : InputError)
+    → IsOnTheWay as_hermite3 files entries progress
     → Reads ⊥ seen (Err why) (tracks_after (seen progress) (map (said_by as_hermite3) progress.batch.files.items)) → GoesOn as_hermite3 files entries (Err why)
 batch_fails as_hermite3 files entries progress why way here =
     let read = progress.batch.files.items in
@@ -261,7 +263,8 @@ abbrev own : List PlainTrack → List PlainTrack
 own all = all
 
 -- the next was not read, for this cause or an earlier one
-pub batch_stops : (as_hermite3 : Bool) (files : List FileBytes) (entries : List Entry) (progress : Progress) (why cause : InputError) → IsOnTheWay as_hermite3 files entries progress → progress.batch.stop ≡ Some why
+pub batch_stops : (as_hermite3 : Bool) (files : List FileBytes) (entries : List Entry) (progress : Progress) (why cause : InputError)
+    → IsOnTheWay as_hermite3 files entries progress → progress.batch.stop ≡ Some why
     → IsFirstCause why (seen progress) (map (said_by as_hermite3) progress.batch.files.items) cause
     → GoesOn as_hermite3 files entries (Err cause)
 batch_stops as_hermite3 files entries progress why cause way stop told =
@@ -274,7 +277,8 @@ batch_stops as_hermite3 files entries progress why cause way stop told =
     (sym (front_read as_hermite3 files (seen progress) rest read way.batch.front) ∙ way.leads) (told behind next))
 
 -- those that are taken are those before and one for each
-tracks_many : (before : List PlainTrack) (said : List (Result PlainTrack Status)) (after : List PlainTrack) → tracks_after before said ≡ Ok after → length after ≡ length before + length said
+tracks_many : (before : List PlainTrack) (said : List (Result PlainTrack Status)) (after : List PlainTrack) → tracks_after before said ≡ Ok after
+    → length after ≡ length before + length said
 tracks_many before [] after is = let same : before ≡ after = cc in omega (arith, ap (λ (es : List PlainTrack). length es) same)
 tracks_many before (s ∷ said) after is = one (s >>= λ e. checked_after before e.file e) (λ e. tracks_many (before ++ e ∷ []) said after) is
   where
@@ -283,7 +287,8 @@ tracks_many before (s ∷ said) after is = one (s >>= λ e. checked_after before
     one (Ok e) more is = omega (arith, more e is, length-append before (e ∷ []))
     one (Err why) more is = absurd cc
 
-many_taken : (as_hermite3 : Bool) (progress next : Progress) → tracks_after (seen progress) (map (said_by as_hermite3) progress.batch.files.items) ≡ Ok (seen next)
+many_taken : (as_hermite3 : Bool) (progress next : Progress)
+    → tracks_after (seen progress) (map (said_by as_hermite3) progress.batch.files.items) ≡ Ok (seen next)
     → length next.taken.tracks.items ≡ length progress.taken.tracks.items + length progress.batch.files.items
 many_taken as_hermite3 progress next taken =
     let read = progress.batch.files.items in
@@ -296,7 +301,8 @@ many_taken as_hermite3 progress next taken =
     )
 
 -- all are taken, and the next batch is read
-batch_taken : (as_hermite3 : Bool) (files : List FileBytes) (entries rest : List Entry) (progress next : Progress) → IsOnTheWay as_hermite3 files entries progress
+batch_taken : (as_hermite3 : Bool) (files : List FileBytes) (entries rest : List Entry) (progress next : Progress)
+    → IsOnTheWay as_hermite3 files entries progress
     → tracks_after (seen progress) (map (said_by as_hermite3) progress.batch.files.items) ≡ Ok (seen next)
     → rest ≡ drop (length progress.taken.tracks.items + length progress.batch.files.items) entries → IsBatchOf files rest next.batch → IsOnTheWay as_hermite3 files entries next
 batch_taken as_hermite3 files entries rest progress next way taken left batch =
@@ -313,14 +319,17 @@ batch_taken as_hermite3 files entries rest progress next way taken left batch =
     }
 
 -- so it goes on, or one of its files is not taken
-pub batch_goes_on : (as_hermite3 : Bool) (files : List FileBytes) (entries rest : List Entry) (progress : Progress) (r : Result Progress InputError) → IsOnTheWay as_hermite3 files entries progress
+pub batch_goes_on : (as_hermite3 : Bool) (files : List FileBytes) (entries rest : List Entry) (progress : Progress) (r : Result Progress InputError)
+    → IsOnTheWay as_hermite3 files entries progress
     → Reads ⊥ seen r (tracks_after (seen progress) (map (said_by as_hermite3) progress.batch.files.items))
-    → rest ≡ drop (length progress.taken.tracks.items + length progress.batch.files.items) entries → IfOk r (λ next. IsBatchOf files rest next.batch) → GoesOn as_hermite3 files entries r
+    → rest ≡ drop (length progress.taken.tracks.items + length progress.batch.files.items) entries → IfOk r (λ next. IsBatchOf files rest next.batch)
+    → GoesOn as_hermite3 files entries r
 batch_goes_on as_hermite3 files entries rest progress (Err why) way taken left batch = batch_fails as_hermite3 files entries progress why way taken
 batch_goes_on as_hermite3 files entries rest progress (Ok next) way taken left batch = batch_taken as_hermite3 files entries rest progress next way taken left batch
 
 -- where the batch has files, more are taken
-pub more_taken : (as_hermite3 : Bool) (progress : Progress) (r : Result Progress InputError) → Reads ⊥ seen r (tracks_after (seen progress) (map (said_by as_hermite3) progress.batch.files.items))
+pub more_taken : (as_hermite3 : Bool) (progress : Progress) (r : Result Progress InputError)
+    → Reads ⊥ seen r (tracks_after (seen progress) (map (said_by as_hermite3) progress.batch.files.items))
     → 0 < length progress.batch.files.items → IfOk r (λ next. length progress.taken.tracks.items < length next.taken.tracks.items)
 more_taken as_hermite3 progress (Err why) taken some = tt
 more_taken as_hermite3 progress (Ok next) taken some = omega (arith, some, many_taken as_hermite3 progress next taken)
@@ -332,7 +341,8 @@ all_left entries k m same = take_all (length entries - k) (drop k entries) (omeg
 -- the next batch is one of the files behind those that are taken
 pub next_fits : (as_hermite3 : Bool) (entries rest : List Entry) (progress : Progress) (r : Result Progress InputError) → Fits entries progress
     → Reads ⊥ seen r (tracks_after (seen progress) (map (said_by as_hermite3) progress.batch.files.items))
-    → rest ≡ drop (length progress.taken.tracks.items + length progress.batch.files.items) entries → IfOk r (λ next. length next.batch.files.items ≤ length rest)
+    → rest ≡ drop (length progress.taken.tracks.items + length progress.batch.files.items) entries
+    → IfOk r (λ next. length next.batch.files.items ≤ length rest)
     → IfOk r (λ next. next.batch.stop ≡ None → 0 < length rest → 0 < length next.batch.files.items) → IfOk r (Fits entries)
 next_fits as_hermite3 entries rest progress (Err why) fits taken left few some = tt
 next_fits as_hermite3 entries rest progress (Ok next) fits taken left few some =
@@ -346,14 +356,16 @@ next_fits as_hermite3 entries rest progress (Ok next) fits taken left few some =
     }
 
 -- what holds of a part that was had holds of it in the whole
-pub of_part : {X Y E F : Type 0} (P : Y → Type 0) (part : X → Y) (had : Result Y F) (r : Result X E) → IfOk r (λ x. had ≡ Ok (part x)) → IfOk had P → IfOk r (λ x. P (part x))
+pub of_part : {X Y E F : Type 0} (P : Y → Type 0) (part : X → Y) (had : Result Y F) (r : Result X E) → IfOk r (λ x. had ≡ Ok (part x)) → IfOk had P
+    → IfOk r (λ x. P (part x))
 of_part P part had (Err why) is holds = tt
 of_part {Y = Y} {F = F} P part had (Ok x) is holds = subst (λ (h : Result Y F). IfOk h P) is holds
 
 -- ---- the reading of all, batch by batch
 
 -- where nothing is taken yet and the first batch is read
-pub begun : (as_hermite3 : Bool) (files : List FileBytes) (entries : List Entry) (progress : Progress) → progress.taken.tracks.items ≡ [] → IsBatchOf files entries progress.batch
+pub begun : (as_hermite3 : Bool) (files : List FileBytes) (entries : List Entry) (progress : Progress) → progress.taken.tracks.items ≡ []
+    → IsBatchOf files entries progress.batch
     → IsOnTheWay as_hermite3 files entries progress
 begun as_hermite3 files entries progress none batch = record {
   leads = ap (λ (ts : List Track). readings_after as_hermite3 files (map plain_track ts) (drop (length ts) entries)) none;
@@ -378,7 +390,8 @@ all_taken as_hermite3 files entries progress way all =
     sym way.leads ∙ ap (readings_after as_hermite3 files (seen progress)) none
 
 -- a reading that was given up, where it is known when the folder failed
-pub reads_fault : {X Y A : Type 0} (rose : Type 0) (view : X → A) (seen : Y → A) (why : InputError) (read : Result A Status) → (why ≡ input.Failed → rose) → Reads ⊤ view (Err why) read → Reads rose seen (Err why) read
+pub reads_fault : {X Y A : Type 0} (rose : Type 0) (view : X → A) (seen : Y → A) (why : InputError) (read : Result A Status) → (why ≡ input.Failed → rose)
+    → Reads ⊤ view (Err why) read → Reads rose seen (Err why) read
 reads_fault rose view seen input.Memory read risen here = tt
 reads_fault rose view seen input.Failed read risen here = risen refl
 reads_fault rose view seen (input.Refused file line cause) read risen here = here

@@ -53,28 +53,32 @@ input_stops {X} {A} {B} P Q view (input.Limit fault) read f rose here = ap (λ (
 
 -- a file is not read
 pub tracks_fail : {X : Type 0} (rose : Type 0) (view : X → List PlainTrack) (files : List FileBytes) (settings : Asked) (entries : List Entry) (why : InputError)
-    → entries ≡ inputs_of settings.suffix settings.sizes (names_of files) → length entries ≤ 2000 → Reads rose view (Err why) (readings_of settings.as_hermite3 files entries)
+    → entries ≡ inputs_of settings.suffix settings.sizes (names_of files) → length entries ≤ 2000
+    → Reads rose view (Err why) (readings_of settings.as_hermite3 files entries)
     → Stops rose (input_status why) (case_asked files settings)
 tracks_fail rose view files settings entries why same few read =
     let rest : List PlainTrack → Result PlainProblem Status = λ es. sizes_asked files settings.sizes >>= λ sizes. within_limits (case_of_run settings es sizes) in
     rw (asked_of_entries files settings entries same few) (input_stops rose rose view why (readings_of settings.as_hermite3 files entries) rest (λ risen. risen) read)
 
 -- the rest, once the tracks are read
-pub asked_of_tracks : (files : List FileBytes) (settings : Asked) (entries : List Entry) (es : List PlainTrack) → entries ≡ inputs_of settings.suffix settings.sizes (names_of files)
+pub asked_of_tracks : (files : List FileBytes) (settings : Asked) (entries : List Entry) (es : List PlainTrack)
+    → entries ≡ inputs_of settings.suffix settings.sizes (names_of files)
     → length entries ≤ 2000 → readings_of settings.as_hermite3 files entries ≡ Ok es
     → case_asked files settings ≡ (sizes_asked files settings.sizes >>= λ sizes. within_limits (case_of_run settings es sizes))
 asked_of_tracks files settings entries es same few read = asked_of_entries files settings entries same few ∙ rw read refl
 
 -- the file of sizes is not read
 pub sizes_fail : {X : Type 0} (later rose : Type 0) (view : X → List Size) (files : List FileBytes) (settings : Asked) (es : List PlainTrack) (why : InputError) → (later → rose)
-    → case_asked files settings ≡ (sizes_asked files settings.sizes >>= λ sizes. within_limits (case_of_run settings es sizes)) → Reads later view (Err why) (sizes_asked files settings.sizes)
+    → case_asked files settings ≡ (sizes_asked files settings.sizes >>= λ sizes. within_limits (case_of_run settings es sizes))
+    → Reads later view (Err why) (sizes_asked files settings.sizes)
     → Stops rose (input_status why) (case_asked files settings)
 sizes_fail later rose view files settings es why wider is read =
     rw is (input_stops later rose view why (sizes_asked files settings.sizes) (λ sizes. within_limits (case_of_run settings es sizes)) wider read)
 
 -- the case, once all is read
 pub case_made : (files : List FileBytes) (settings : Asked) (es : List PlainTrack) (sizes : List Size) (first last : ℕ) (radii : List ℕ)
-    → case_asked files settings ≡ (sizes_asked files settings.sizes >>= λ sizes. within_limits (case_of_run settings es sizes)) → sizes_asked files settings.sizes ≡ Ok sizes
+    → case_asked files settings ≡ (sizes_asked files settings.sizes >>= λ sizes. within_limits (case_of_run settings es sizes))
+    → sizes_asked files settings.sizes ≡ Ok sizes
     → first ≡ window_first settings es → last ≡ window_last settings es → radii ≡ object_sizes sizes es
     → case_asked files settings ≡ within_limits (case_with es first last (settings.threshold * 1_000_000_000) radii)
 case_made files settings es sizes first last radii is read starts ends sized =
@@ -102,7 +106,8 @@ gives_wider P Q view (Ok x) due wider gives = gives
 gives_wider P Q view (Err s) due wider gives = stops_wider P Q s due wider gives
 
 -- a reading that was given up, as the run's cause where nothing is to come
-pub input_ends : {X A : Type 0} (P : Type 0) (view : X → A) (why : InputError) (read : Result A Status) → Reads P view (Err why) read → Stops P (input_status why) read
+pub input_ends : {X A : Type 0} (P : Type 0) (view : X → A) (why : InputError) (read : Result A Status) → Reads P view (Err why) read
+    → Stops P (input_status why) read
 input_ends P view input.Memory read here = tt
 input_ends P view input.Failed read here = here
 input_ends P view (input.Refused file line cause) read here = here
@@ -111,13 +116,15 @@ input_ends P view (input.Limit fault) read here = here
 -- ---- the limits of a case
 
 -- a window that is too long
-pub too_long : (case : PlainProblem) (length : ℕ) → length ≡ case.last - case.first → 1_209_600_000_000 < length → within_limits case ≡ Err (status.Limit (Window length))
+pub too_long : (case : PlainProblem) (length : ℕ) → length ≡ case.last - case.first → 1_209_600_000_000 < length
+    → within_limits case ≡ Err (status.Limit (Window length))
 too_long case length is more =
     let large : nat_le length 1_209_600_000_000 ≡ false = grind (arith, nat_tests) in
     rw (← is, large) refl
 
 -- too many objects times slots
-pub too_many_slots : (case : PlainProblem) (length count : ℕ) → length ≡ case.last - case.first → length ≤ 1_209_600_000_000 → count ≡ object_slots case → 4_000_000 < count
+pub too_many_slots : (case : PlainProblem) (length count : ℕ) → length ≡ case.last - case.first → length ≤ 1_209_600_000_000 → count ≡ object_slots case
+    → 4_000_000 < count
     → within_limits case ≡ Err (status.Limit (Slots count))
 too_many_slots case length count is short same more =
     let small : nat_le length 1_209_600_000_000 ≡ true = grind (arith, nat_tests) in
@@ -125,7 +132,8 @@ too_many_slots case length count is short same more =
     rw (← is, small, ← same, large) refl
 
 -- neither
-pub no_limit : (case : PlainProblem) (length count : ℕ) → length ≡ case.last - case.first → length ≤ 1_209_600_000_000 → count ≡ object_slots case → count ≤ 4_000_000 → within_limits case ≡ Ok case
+pub no_limit : (case : PlainProblem) (length count : ℕ) → length ≡ case.last - case.first → length ≤ 1_209_600_000_000 → count ≡ object_slots case
+    → count ≤ 4_000_000 → within_limits case ≡ Ok case
 no_limit case length count is short same few =
     let small : nat_le length 1_209_600_000_000 ≡ true = grind (arith, nat_tests) in
     let fits : nat_le count 4_000_000 ≡ true = grind (arith, nat_tests) in
@@ -134,7 +142,8 @@ no_limit case length count is short same few =
 -- ---- the certificate
 
 -- it is that of the first file with the name, once the names are known
-pub certificate_found : (files : List FileBytes) (name : List ℕ) (names : List Name) (number : Option ℕ) → names ≡ names_of files → number ≡ first_named name names
+pub certificate_found : (files : List FileBytes) (name : List ℕ) (names : List Name) (number : Option ℕ) → names ≡ names_of files
+    → number ≡ first_named name names
     → certificate_named files name ≡ certificate_at files name number
 unfolding certificate_named
 certificate_found files name names number known is = ap (certificate_at files name) (sym (is ∙ ap (first_named name) known))

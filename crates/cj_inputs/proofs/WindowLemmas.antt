@@ -48,12 +48,13 @@ stops_at (s ∷ ss) last order is =
 -- ---- track by track
 
 -- one more track is folded in
-pub folded_more : (op : ℕ → ℕ → ℕ) (tick_of : PlainTrack → ℕ) (so_far own next end : ℕ) (tracks : List Track) (i : ℕ) (track : Track) → i < length tracks → track ≡ get_or tracks i track
+pub folded_more : (op : ℕ → ℕ → ℕ) (tick_of : PlainTrack → ℕ) (so_far own next end : ℕ) (tracks : List Track) (i : ℕ) (track : Track) → i < length tracks
+    → track ≡ get_or tracks i track
     → own ≡ tick_of (plain_track track) → next ≡ op so_far own → fold op so_far (map tick_of (map plain_track (drop i tracks))) ≡ end
     → fold op next (map tick_of (map plain_track (drop (i + 1) tracks))) ≡ end
 folded_more op tick_of so_far own next end tracks i track below is here taken before =
     let left : List Track → ℕ = λ ts. fold op so_far (map tick_of (map plain_track ts)) in
     let after : suc i ≡ i + 1 = omega arith in
     let split : drop i tracks ≡ track ∷ drop (i + 1) tracks =
-        drop-cons tracks i track below ∙ ap (λ (t : Track). t ∷ drop (suc i) tracks) (sym is) ∙ ap (λ (n : ℕ). track ∷ drop n tracks) after in
+    drop-cons tracks i track below ∙ ap (λ (t : Track). t ∷ drop (suc i) tracks) (sym is) ∙ ap (λ (n : ℕ). track ∷ drop n tracks) after in
     ap (λ (m : ℕ). fold op m (map tick_of (map plain_track (drop (i + 1) tracks)))) (taken ∙ ap (op so_far) here) ∙ sym (ap left split) ∙ before

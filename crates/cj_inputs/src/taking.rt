@@ -187,7 +187,11 @@ fn take_files<R: Threads + Sync>(
     ensures { Reads ⊥ (λ all. map plain_track all.tracks.items) result
         (tracks_after (map plain_track taken.tracks.items) (map (said_by as_hermite3) files.now)) }
 {
-    take_all(alloc, taken, parse_files(rt, alloc, files, as_hermite3, workers))
+    take_all(
+        alloc,
+        taken,
+        parse_files(rt, alloc, files, as_hermite3, workers),
+    )
 }
 
 /// These tracks and those that were read, up to the first that is refused or beyond a limit.

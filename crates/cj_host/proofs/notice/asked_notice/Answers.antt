@@ -5,7 +5,8 @@ use Rattle.cj_host.specs.declared.notice.Notice.TheVariants.{Help}
 use Rattle.cj_host.proofs.notice.asked_notice.Goals as goal
 
 -- the only word asks for help
-asks_help : (words : List (List ℕ)) (word : List ℕ) → 1 ≤ length words → length words < 2 → word ≡ get_or words 0 word → bytes_eq word (codes "--help") ≡ true → Some Help ≡ notice_of words
+asks_help : (words : List (List ℕ)) (word : List ℕ) → 1 ≤ length words → length words < 2 → word ≡ get_or words 0 word
+    → bytes_eq word (codes "--help") ≡ true → Some Help ≡ notice_of words
 asks_help [] word some one is help = absurd (omega arith)
 asks_help (only ∷ []) word some one is help = let same : bytes_eq only (codes "--help") ≡ true = ap (λ (w : List ℕ). bytes_eq w (codes "--help")) (sym is) ∙ help in rw same refl
 asks_help (only ∷ next ∷ words) word some one is help = absurd (omega arith)

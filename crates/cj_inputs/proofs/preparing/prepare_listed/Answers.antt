@@ -90,8 +90,8 @@ returns-clause-told g c = λ files told known.
     let read = subst (λ (some : List Entry). readings_of asked.as_hermite3 files some ≡ Ok es) c.deref.ensures.value (c.in_ok-tracks.ensures.told files told) in
     let due = asked_of_tracks files asked entries es (c.in_ok-entries.ensures.value ∙ ap (inputs_of asked.suffix asked.sizes) known) few read in
     let made = case_made files asked es (lines_of c.in_ok-lines.lines) window.result.first.micros window.result.last.micros c.in_ok-sizes.sizes due
-        (c.in_ok-lines.ensures.told files (c.read_tracks.ensures.files ∙ told) known)
-        (window.ensures.first ∙ ap (λ (ts : List Track). window_first asked (map plain_track ts)) c.deref-4.ensures.value)
-        (window.ensures.last ∙ ap (λ (ts : List Track). window_last asked (map plain_track ts)) c.deref-4.ensures.value)
-        (c.in_ok-sizes.ensures.value ∙ ap₂ (λ (ls : List SizeLine) (ts : List Track). object_sizes (sizes_of ls) (map plain_track ts)) c.deref-2.ensures.value c.deref-3.ensures.value) in
+    (c.in_ok-lines.ensures.told files (c.read_tracks.ensures.files ∙ told) known)
+    (window.ensures.first ∙ ap (λ (ts : List Track). window_first asked (map plain_track ts)) c.deref-4.ensures.value)
+    (window.ensures.last ∙ ap (λ (ts : List Track). window_last asked (map plain_track ts)) c.deref-4.ensures.value)
+    (c.in_ok-sizes.ensures.value ∙ ap₂ (λ (ls : List SizeLine) (ts : List Track). object_sizes (sizes_of ls) (map plain_track ts)) c.deref-2.ensures.value c.deref-3.ensures.value) in
     gives_wider ⊥ rose plain_problem c.make_problem.result (case_asked files asked) (λ none. absurd none) (rw made c.make_problem.ensures.told)

@@ -19,7 +19,7 @@ pub returns-in-Some-clause-told : goal.returns-in-Some-clause-told
 returns-in-Some-clause-told g c = λ files told way.
     let progress = c.args.progress in
     let first = subst (λ (read : List FileRead). IsFirstCause c.in-Some.why (map plain_track progress.taken.tracks.items) (map (said_by c.args.as_hermite3) read) c.first_cause.result)
-        c.deref.ensures.value c.first_cause.ensures.told in
+    c.deref.ensures.value c.first_cause.ensures.told in
     batch_stops c.args.as_hermite3 files c.args.entries.now progress c.in-Some.why c.first_cause.result way c.in-Some.is first
 
 pub take_and_read-requires-clause-numbers : goal.take_and_read-requires-clause-numbers

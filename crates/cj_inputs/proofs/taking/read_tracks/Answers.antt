@@ -52,9 +52,9 @@ returns-in_err-progress-clause-told g c = λ files told.
     let rose = Rose (g.F.Folder.faults c.args.folder.now) (g.F.Folder.faults c.go_on.new.folder) in
     let was : c.go_on.result ≡ Err why = c.in_err-progress.was in
     let risen : why ≡ Failed → rose = λ same.
-        let failed : c.go_on.result ≡ Err Failed = cc in
-        let here = before.fault (c.go_on.ensures.stopped failed) in
-        omega (arith, here, c.go_on.ensures.later) in
+    let failed : c.go_on.result ≡ Err Failed = cc in
+    let here = before.fault (c.go_on.ensures.stopped failed) in
+    omega (arith, here, c.go_on.ensures.later) in
     let p = err_from_is_err_and c.from_residual-in_err-progress.result c.from_residual-in_err-progress.ensures.1 in
     rw (p.1, p.2)
     (reads_fault rose (λ (progress : Progress). map plain_track progress.taken.tracks.items) (λ (tracks : Vec Track Global). map plain_track tracks.items) why
