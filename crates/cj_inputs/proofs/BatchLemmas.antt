@@ -3,8 +3,8 @@ use Rattle.std.proofs.Common.{◌≡◌, ℕ, suc, ◌+◌, ◌-◌, ◌<◌, �
 use Rattle.std.specs.List.{AllZip}
 use Rattle.std.specs.Prelude.{IfOk, IfSome, Option, Some, None, ⊤}
 use Rattle.std.specs.declared.alloc.AllocError.{AllocError}
-use Rattle.std.proofs.lemmas.List.{drop-drop, length-drop, length-map, map-append, map_more, take_all, take_more}
-use Rattle.std.proofs.lemmas.Slice.Zip.{AllZip-long, all_zipped_more}
+use Rattle.std.proofs.lemmas.List.{drop-drop, length-append, length-drop, length-map, map-append, map_more, nil_from_length, take_all, take_more}
+use Rattle.std.proofs.lemmas.Slice.Zip.{all_zipped_more}
 use Rattle.cj_io.specs.declared.file.FileBytes.{FileBytes}
 use Rattle.cj_io.specs.Files.{bytes_of}
 use Rattle.cj_track.specs.PlainTracks.{PlainTrack}
@@ -14,14 +14,14 @@ use Rattle.cj_oem.specs.Reading.{Fault, reading}
 use Rattle.cj_oem.proofs.GrammarLemmas.{reading_says}
 use Rattle.cj_status.specs.declared.status.Status.{Status}
 use Rattle.cj_status.specs.Steps.{◌>>=◌}
+use Rattle.cj_inputs.specs.declared.batch.Batch.{Batch}
 use Rattle.cj_inputs.specs.declared.batch.FileRead.{FileRead}
 use Rattle.cj_inputs.specs.declared.input_files.Entry.{Entry}
 use Rattle.cj_inputs.specs.declared.progress.Progress.{Progress}
 use Rattle.cj_inputs.specs.declared.reading.InputError.{InputError}
 use Rattle.cj_inputs.specs.declared.reading.InputError.TheVariants as input
-use Rattle.cj_inputs.specs.declared.taken.Taken.{Taken}
-use Rattle.cj_inputs.specs.Batches.{AreParsed, Fits, GoesOn, IsBatchOf, IsCause, IsOnTheWay, WasRead, said_by, tracks_after}
-use Rattle.cj_inputs.specs.Readings.{Reads, checked_after, reading_after, reading_of, readings_after, refused_of, within_bytes}
+use Rattle.cj_inputs.specs.Batches.{AreParsed, Fits, GoesOn, IsBatchOf, IsCause, IsFirstCause, IsOnTheWay, WasRead, said_by, tracks_after}
+use Rattle.cj_inputs.specs.Readings.{Reads, checked_after, reading_after, reading_of, readings_after, readings_of, refused_of, within_bytes}
 use Rattle.cj_inputs.proofs.ReadingLemmas.{from_on, reads_on}
 
 -- a reading that was given up, where more may have failed
@@ -221,45 +221,94 @@ read_more files entries i entry read file below is front was =
     subst (λ (es : List Entry). AllZip (WasRead files) es (read ++ file ∷ [])) (sym (take_more entries i entry below ∙ ap (λ (e : Entry). take i entries ++ e ∷ []) (sym is)))
     (all_zipped_more (WasRead files) (take i entries) read entry file front was)
 
+-- a batch that ends where the next file is not read
+pub batch_ends : {X : Type 0} (rose : Type 0) (view : X → List ℕ) (files : List FileBytes) (entries : List Entry) (i : ℕ) (entry : Entry) (name : List ℕ) (batch : Batch) (why : InputError)
+    → i < length entries → entry ≡ get_or entries i entry → name ≡ entry.name → length batch.files.items ≡ i
+    → AllZip (WasRead files) (take i entries) batch.files.items
+    → batch.stop ≡ Some why → Reads rose view (Err why) (within_bytes name (bytes_of files entry.number)) → IsBatchOf files entries batch
+batch_ends rose view files entries i entry name batch why below is named many front stop read =
+    let cause : IsCause files entries (length batch.files.items) why = record {
+      entry = entry;
+      exists = omega (arith, below, many);
+      stands = ap (λ (n : ℕ). get_or entries n entry) many ∙ sym is;
+      read = subst (λ (n : List ℕ). Reads ⊤ (λ (bytes : List ℕ). bytes) (Err why) (within_bytes n (bytes_of files entry.number))) named
+          (reads_wider rose ⊤ view (λ (bytes : List ℕ). bytes) why (within_bytes name (bytes_of files entry.number)) (λ risen. tt) read);
+    } in
+    record {
+      front = subst (λ (n : ℕ). AllZip (WasRead files) (take n entries) batch.files.items) (sym many) front;
+      stop = subst (λ (o : Option InputError). IfSome o (IsCause files entries (length batch.files.items))) (sym stop) cause;
+    }
+
 -- ---- how a batch ends, as the reading of all
 
-abbrev taken_seen : Taken → List PlainTrack
-taken_seen taken = map plain_track taken.tracks.items
-
 abbrev seen : Progress → List PlainTrack
-seen progress = taken_seen progress.taken
+seen progress = map plain_track progress.taken.tracks.items
 
 -- one of the files that were read is not taken
-pub batch_fails : (as_hermite3 : Bool) (files : List FileBytes) (entries : List Entry) (progress : Progress) (why : InputError) → IsOnTheWay as_hermite3 files entries progress
-    → Reads ⊥ taken_seen (Err why) (tracks_after (seen progress) (map (said_by as_hermite3) progress.batch.files.items)) → GoesOn as_hermite3 files entries (Err why)
+batch_fails : (as_hermite3 : Bool) (files : List FileBytes) (entries : List Entry) (progress : Progress) (why : InputError)
+    → IsOnTheWay as_hermite3 files entries progress
+    → Reads ⊥ seen (Err why) (tracks_after (seen progress) (map (said_by as_hermite3) progress.batch.files.items)) → GoesOn as_hermite3 files entries (Err why)
 batch_fails as_hermite3 files entries progress why way here =
     let read = progress.batch.files.items in
     let rest = drop (length progress.taken.tracks.items) entries in
     subst (λ (r : Result (List PlainTrack) Status). Reads ⊤ seen (Err why) r) way.leads
-    (front_fails ⊤ taken_seen seen why (readings_after as_hermite3 files (seen progress) rest) (tracks_after (seen progress) (map (said_by as_hermite3) read))
+    (front_fails ⊤ seen seen why (readings_after as_hermite3 files (seen progress) rest) (tracks_after (seen progress) (map (said_by as_hermite3) read))
     (λ es. readings_after as_hermite3 files es (drop (length read) rest)) (front_read as_hermite3 files (seen progress) rest read way.batch.front) here)
 
 cause_of : (P : InputError → Type 0) (o : Option InputError) (why : InputError) → o ≡ Some why → IfSome o P → P why
 cause_of P None why is here = absurd cc
 cause_of P (Some other) why is here = let same : other ≡ why = cc in subst P same here
 
--- all are taken, and the next was not read
-pub batch_stops : (as_hermite3 : Bool) (files : List FileBytes) (entries : List Entry) (progress : Progress) (after : List PlainTrack) (why : InputError) → IsOnTheWay as_hermite3 files entries progress
-    → tracks_after (seen progress) (map (said_by as_hermite3) progress.batch.files.items) ≡ Ok after → progress.batch.stop ≡ Some why → GoesOn as_hermite3 files entries (Err why)
-batch_stops as_hermite3 files entries progress after why way taken stop =
+abbrev own : List PlainTrack → List PlainTrack
+own all = all
+
+-- the next was not read, for this cause or an earlier one
+pub batch_stops : (as_hermite3 : Bool) (files : List FileBytes) (entries : List Entry) (progress : Progress) (why cause : InputError)
+    → IsOnTheWay as_hermite3 files entries progress → progress.batch.stop ≡ Some why
+    → IsFirstCause why (seen progress) (map (said_by as_hermite3) progress.batch.files.items) cause
+    → GoesOn as_hermite3 files entries (Err cause)
+batch_stops as_hermite3 files entries progress why cause way stop told =
     let read = progress.batch.files.items in
     let rest = drop (length progress.taken.tracks.items) entries in
-    subst (λ (r : Result (List PlainTrack) Status). Reads ⊤ seen (Err why) r) (sym (front_taken as_hermite3 files (seen progress) after rest read way.batch.front taken) ∙ way.leads)
-    (next_fails seen as_hermite3 files after rest (length read) why (cause_of (IsCause files rest (length read)) progress.batch.stop why stop way.batch.stop))
+    let behind : List PlainTrack → Result (List PlainTrack) Status = λ es. readings_after as_hermite3 files es (drop (length read) rest) in
+    let next = λ (es : List PlainTrack). next_fails own as_hermite3 files es rest (length read) why (cause_of (IsCause files rest (length read)) progress.batch.stop why stop way.batch.stop) in
+    reads_wider ⊤ ⊤ own seen cause (readings_of as_hermite3 files entries) (λ any. any)
+    (subst (λ (r : Result (List PlainTrack) Status). Reads ⊤ own (Err cause) r)
+    (sym (front_read as_hermite3 files (seen progress) rest read way.batch.front) ∙ way.leads) (told behind next))
 
--- all are taken, and the next batch is read
-pub batch_taken : (as_hermite3 : Bool) (files : List FileBytes) (entries rest : List Entry) (progress next : Progress) → IsOnTheWay as_hermite3 files entries progress
+-- those that are taken are those before and one for each
+tracks_many : (before : List PlainTrack) (said : List (Result PlainTrack Status)) (after : List PlainTrack) → tracks_after before said ≡ Ok after
+    → length after ≡ length before + length said
+tracks_many before [] after is = let same : before ≡ after = cc in omega (arith, ap (λ (es : List PlainTrack). length es) same)
+tracks_many before (s ∷ said) after is = one (s >>= λ e. checked_after before e.file e) (λ e. tracks_many (before ++ e ∷ []) said after) is
+  where
+    one : (r : Result PlainTrack Status) → ((e : PlainTrack) → tracks_after (before ++ e ∷ []) said ≡ Ok after → length after ≡ length (before ++ e ∷ []) + length said)
+        → (r >>= λ e. tracks_after (before ++ e ∷ []) said) ≡ Ok after → length after ≡ length before + suc (length said)
+    one (Ok e) more is = omega (arith, more e is, length-append before (e ∷ []))
+    one (Err why) more is = absurd cc
+
+many_taken : (as_hermite3 : Bool) (progress next : Progress)
     → tracks_after (seen progress) (map (said_by as_hermite3) progress.batch.files.items) ≡ Ok (seen next)
     → length next.taken.tracks.items ≡ length progress.taken.tracks.items + length progress.batch.files.items
+many_taken as_hermite3 progress next taken =
+    let read = progress.batch.files.items in
+    omega (
+      arith,
+      tracks_many (seen progress) (map (said_by as_hermite3) read) (seen next) taken,
+      length-map progress.taken.tracks.items plain_track,
+      length-map next.taken.tracks.items plain_track,
+      length-map read (said_by as_hermite3),
+    )
+
+-- all are taken, and the next batch is read
+batch_taken : (as_hermite3 : Bool) (files : List FileBytes) (entries rest : List Entry) (progress next : Progress)
+    → IsOnTheWay as_hermite3 files entries progress
+    → tracks_after (seen progress) (map (said_by as_hermite3) progress.batch.files.items) ≡ Ok (seen next)
     → rest ≡ drop (length progress.taken.tracks.items + length progress.batch.files.items) entries → IsBatchOf files rest next.batch → IsOnTheWay as_hermite3 files entries next
-batch_taken as_hermite3 files entries rest progress next way taken many left batch =
+batch_taken as_hermite3 files entries rest progress next way taken left batch =
     let read = progress.batch.files.items in
     let done = length progress.taken.tracks.items in
+    let many = many_taken as_hermite3 progress next taken in
     let behind : drop (length read) (drop done entries) ≡ drop (length next.taken.tracks.items) entries = drop-drop (length read) done entries ∙ ap (λ (n : ℕ). drop n entries) (omega (arith, many)) in
     let here : rest ≡ drop (length next.taken.tracks.items) entries = left ∙ ap (λ (n : ℕ). drop n entries) (sym many) in
     record {
@@ -269,15 +318,35 @@ batch_taken as_hermite3 files entries rest progress next way taken many left bat
       batch = subst (λ (es : List Entry). IsBatchOf files es next.batch) here batch;
     }
 
+-- so it goes on, or one of its files is not taken
+pub batch_goes_on : (as_hermite3 : Bool) (files : List FileBytes) (entries rest : List Entry) (progress : Progress) (r : Result Progress InputError)
+    → IsOnTheWay as_hermite3 files entries progress
+    → Reads ⊥ seen r (tracks_after (seen progress) (map (said_by as_hermite3) progress.batch.files.items))
+    → rest ≡ drop (length progress.taken.tracks.items + length progress.batch.files.items) entries → IfOk r (λ next. IsBatchOf files rest next.batch)
+    → GoesOn as_hermite3 files entries r
+batch_goes_on as_hermite3 files entries rest progress (Err why) way taken left batch = batch_fails as_hermite3 files entries progress why way taken
+batch_goes_on as_hermite3 files entries rest progress (Ok next) way taken left batch = batch_taken as_hermite3 files entries rest progress next way taken left batch
+
+-- where the batch has files, more are taken
+pub more_taken : (as_hermite3 : Bool) (progress : Progress) (r : Result Progress InputError)
+    → Reads ⊥ seen r (tracks_after (seen progress) (map (said_by as_hermite3) progress.batch.files.items))
+    → 0 < length progress.batch.files.items → IfOk r (λ next. length progress.taken.tracks.items < length next.taken.tracks.items)
+more_taken as_hermite3 progress (Err why) taken some = tt
+more_taken as_hermite3 progress (Ok next) taken some = omega (arith, some, many_taken as_hermite3 progress next taken)
+
 -- the entries from a place on
 pub all_left : (entries : List Entry) (k m : ℕ) → k ≡ m → take (length entries - k) (drop k entries) ≡ drop m entries
 all_left entries k m same = take_all (length entries - k) (drop k entries) (omega (arith, length-drop k entries)) ∙ ap (λ (n : ℕ). drop n entries) same
 
 -- the next batch is one of the files behind those that are taken
-pub next_fits : (entries rest : List Entry) (progress next : Progress) → Fits entries progress → length next.taken.tracks.items ≡ length progress.taken.tracks.items + length progress.batch.files.items
-    → rest ≡ drop (length progress.taken.tracks.items + length progress.batch.files.items) entries → length next.batch.files.items ≤ length rest
-    → (next.batch.stop ≡ None → 0 < length rest → 0 < length next.batch.files.items) → Fits entries next
-next_fits entries rest progress next fits many left few some =
+pub next_fits : (as_hermite3 : Bool) (entries rest : List Entry) (progress : Progress) (r : Result Progress InputError) → Fits entries progress
+    → Reads ⊥ seen r (tracks_after (seen progress) (map (said_by as_hermite3) progress.batch.files.items))
+    → rest ≡ drop (length progress.taken.tracks.items + length progress.batch.files.items) entries
+    → IfOk r (λ next. length next.batch.files.items ≤ length rest)
+    → IfOk r (λ next. next.batch.stop ≡ None → 0 < length rest → 0 < length next.batch.files.items) → IfOk r (Fits entries)
+next_fits as_hermite3 entries rest progress (Err why) fits taken left few some = tt
+next_fits as_hermite3 entries rest progress (Ok next) fits taken left few some =
+    let many = many_taken as_hermite3 progress next taken in
     let behind = length progress.taken.tracks.items + length progress.batch.files.items in
     let size : length rest ≡ length entries - behind = ap (λ (es : List Entry). length es) left ∙ length-drop behind entries in
     let before = fits.few in
@@ -286,6 +355,44 @@ next_fits entries rest progress next fits many left few some =
       some = λ none more. some none (omega (arith, more, many, size));
     }
 
--- as many readings as files
-pub many_parsed : (as_hermite3 : Bool) (files : List FileRead) (readings : List (Result Track InputError)) → AreParsed as_hermite3 files readings → length readings ≡ length files
-many_parsed as_hermite3 files readings parsed = sym (AllZip-long (Reads ⊥ plain_track) readings (map (said_by as_hermite3) files) parsed) ∙ length-map files (said_by as_hermite3)
+-- what holds of a part that was had holds of it in the whole
+pub of_part : {X Y E F : Type 0} (P : Y → Type 0) (part : X → Y) (had : Result Y F) (r : Result X E) → IfOk r (λ x. had ≡ Ok (part x)) → IfOk had P
+    → IfOk r (λ x. P (part x))
+of_part P part had (Err why) is holds = tt
+of_part {Y = Y} {F = F} P part had (Ok x) is holds = subst (λ (h : Result Y F). IfOk h P) is holds
+
+-- ---- the reading of all, batch by batch
+
+-- where nothing is taken yet and the first batch is read
+pub begun : (as_hermite3 : Bool) (files : List FileBytes) (entries : List Entry) (progress : Progress) → progress.taken.tracks.items ≡ []
+    → IsBatchOf files entries progress.batch
+    → IsOnTheWay as_hermite3 files entries progress
+begun as_hermite3 files entries progress none batch = record {
+  leads = ap (λ (ts : List Track). readings_after as_hermite3 files (map plain_track ts) (drop (length ts) entries)) none;
+  batch = subst (λ (ts : List Track). IsBatchOf files (drop (length ts) entries) progress.batch) (sym none) batch;
+}
+
+pub begun_fits : (entries : List Entry) (progress : Progress) → progress.taken.tracks.items ≡ [] → length progress.batch.files.items ≤ length entries
+    → (progress.batch.stop ≡ None → 0 < length entries → 0 < length progress.batch.files.items) → Fits entries progress
+begun_fits entries progress none few some =
+    let nothing : length progress.taken.tracks.items ≡ 0 = ap (λ (ts : List Track). length ts) none in
+    record {
+      few = omega (arith, nothing, few);
+      some = λ stop more. some stop (omega (arith, more));
+    }
+
+-- where all are taken
+pub all_taken : (as_hermite3 : Bool) (files : List FileBytes) (entries : List Entry) (progress : Progress) → IsOnTheWay as_hermite3 files entries progress
+    → length entries ≤ length progress.taken.tracks.items → readings_of as_hermite3 files entries ≡ Ok (seen progress)
+all_taken as_hermite3 files entries progress way all =
+    let done = length progress.taken.tracks.items in
+    let none : drop done entries ≡ [] = nil_from_length (drop done entries) (omega (arith, all, length-drop done entries)) in
+    sym way.leads ∙ ap (readings_after as_hermite3 files (seen progress)) none
+
+-- a reading that was given up, where it is known when the folder failed
+pub reads_fault : {X Y A : Type 0} (rose : Type 0) (view : X → A) (seen : Y → A) (why : InputError) (read : Result A Status) → (why ≡ input.Failed → rose)
+    → Reads ⊤ view (Err why) read → Reads rose seen (Err why) read
+reads_fault rose view seen input.Memory read risen here = tt
+reads_fault rose view seen input.Failed read risen here = risen refl
+reads_fault rose view seen (input.Refused file line cause) read risen here = here
+reads_fault rose view seen (input.Limit fault) read risen here = here

@@ -1,25 +1,31 @@
 -- How the parts of a run end.
-use Rattle.std.proofs.Common.{◌≡◌, ◌<◌, ◌≤◌, List, length, true, false, Result, Ok, Err, refl, ap, arith}
+use Rattle.std.proofs.Common.{◌≡◌, ℕ, ◌*◌, ◌-◌, ◌<◌, ◌≤◌, List, length, true, false, Option, Result, Ok, Err, refl, sym, ap, ◌∙◌, arith}
 use Rattle.std.specs.Prelude.{nat_le}
 use Rattle.std.proofs.lemmas.Bool.Decides.{nat_tests}
 use Rattle.cj_io.specs.declared.file.FileBytes.{FileBytes}
 use Rattle.cj_io.specs.declared.folder.FolderError.{FolderError}
 use Rattle.cj_io.specs.declared.folder.FolderError.TheVariants as folder
+use Rattle.cj_io.specs.declared.name.Name.{Name}
 use Rattle.cj_io.specs.Files.{names_of}
+use Rattle.cj_hermite.specs.PlainProblems.{PlainProblem}
+use Rattle.cj_track.specs.PlainTracks.{PlainTrack}
+use Rattle.cj_sizes.specs.Sizes.{Size}
 use Rattle.cj_words.specs.Settings.{Asked}
 use Rattle.cj_status.specs.declared.status.Status.{Status}
 use Rattle.cj_status.specs.declared.status.Status.TheVariants as status
-use Rattle.cj_status.specs.declared.status.LimitFault.TheVariants.{Objects}
+use Rattle.cj_status.specs.declared.status.LimitFault.TheVariants.{Objects, Window, Slots}
 use Rattle.cj_inputs.specs.declared.reading.InputError.{InputError}
 use Rattle.cj_inputs.specs.declared.reading.InputError.TheVariants as input
 use Rattle.cj_inputs.specs.declared.input_files.Entry.{Entry}
 use Rattle.cj_inputs.specs.InputFiles.{inputs_of}
-use Rattle.cj_inputs.specs.ObjectSizes.{sizes_asked}
+use Rattle.cj_inputs.specs.ObjectSizes.{first_named, object_sizes, sizes_asked}
+use Rattle.cj_inputs.specs.Windows.{window_first, window_last}
 use Rattle.cj_status.specs.Steps.{◌>>=◌, Stops, Gives}
 use Rattle.cj_inputs.specs.Readings.{readings_of, Reads}
 use Rattle.cj_status.specs.Errors.{folder_status}
 use Rattle.cj_inputs.specs.Errors.{input_status}
-use Rattle.cj_inputs.specs.Cases.{case_asked, case_of_run, within_limits}
+use Rattle.cj_inputs.specs.Cases.{case_asked, case_of_run, case_with, object_slots, within_limits}
+use Rattle.cj_inputs.specs.CheckInputs.{certificate_at, certificate_named}
 
 -- more files than may be
 pub too_many : (files : List FileBytes) (settings : Asked) (entries : List Entry) → entries ≡ inputs_of settings.suffix settings.sizes (names_of files) → 2000 < length entries
@@ -37,11 +43,6 @@ asked_of_entries files settings entries same few =
     let small : nat_le (length entries) 2000 ≡ true = grind (arith, nat_tests) in
     rw (← same, small) refl
 
--- what a folder's error means for what is due
-pub folder_stops : {A : Type 0} (P : Type 0) (e : FolderError) (due : Result A Status) → (e ≡ folder.Failed → P) → Stops P (folder_status e) due
-folder_stops P folder.Memory due rose = tt
-folder_stops P folder.Failed due rose = rose refl
-
 -- a reading that was given up, as the run's cause
 pub input_stops : {X A B : Type 0} (P Q : Type 0) (view : X → A) (why : InputError) (read : Result A Status) (f : A → Result B Status) → (P → Q)
     → Reads P view (Err why) read → Stops Q (input_status why) (read >>= f)
@@ -49,6 +50,46 @@ input_stops P Q view input.Memory read f rose here = tt
 input_stops P Q view input.Failed read f rose here = rose here
 input_stops {X} {A} {B} P Q view (input.Refused file line cause) read f rose here = ap (λ (r : Result A Status). r >>= f) here
 input_stops {X} {A} {B} P Q view (input.Limit fault) read f rose here = ap (λ (r : Result A Status). r >>= f) here
+
+-- a file is not read
+pub tracks_fail : {X : Type 0} (rose : Type 0) (view : X → List PlainTrack) (files : List FileBytes) (settings : Asked) (entries : List Entry) (why : InputError)
+    → entries ≡ inputs_of settings.suffix settings.sizes (names_of files) → length entries ≤ 2000
+    → Reads rose view (Err why) (readings_of settings.as_hermite3 files entries)
+    → Stops rose (input_status why) (case_asked files settings)
+tracks_fail rose view files settings entries why same few read =
+    let rest : List PlainTrack → Result PlainProblem Status = λ es. sizes_asked files settings.sizes >>= λ sizes. within_limits (case_of_run settings es sizes) in
+    rw (asked_of_entries files settings entries same few) (input_stops rose rose view why (readings_of settings.as_hermite3 files entries) rest (λ risen. risen) read)
+
+-- the rest, once the tracks are read
+pub asked_of_tracks : (files : List FileBytes) (settings : Asked) (entries : List Entry) (es : List PlainTrack)
+    → entries ≡ inputs_of settings.suffix settings.sizes (names_of files)
+    → length entries ≤ 2000 → readings_of settings.as_hermite3 files entries ≡ Ok es
+    → case_asked files settings ≡ (sizes_asked files settings.sizes >>= λ sizes. within_limits (case_of_run settings es sizes))
+asked_of_tracks files settings entries es same few read = asked_of_entries files settings entries same few ∙ rw read refl
+
+-- the file of sizes is not read
+pub sizes_fail : {X : Type 0} (later rose : Type 0) (view : X → List Size) (files : List FileBytes) (settings : Asked) (es : List PlainTrack) (why : InputError) → (later → rose)
+    → case_asked files settings ≡ (sizes_asked files settings.sizes >>= λ sizes. within_limits (case_of_run settings es sizes))
+    → Reads later view (Err why) (sizes_asked files settings.sizes)
+    → Stops rose (input_status why) (case_asked files settings)
+sizes_fail later rose view files settings es why wider is read =
+    rw is (input_stops later rose view why (sizes_asked files settings.sizes) (λ sizes. within_limits (case_of_run settings es sizes)) wider read)
+
+-- the case, once all is read
+pub case_made : (files : List FileBytes) (settings : Asked) (es : List PlainTrack) (sizes : List Size) (first last : ℕ) (radii : List ℕ)
+    → case_asked files settings ≡ (sizes_asked files settings.sizes >>= λ sizes. within_limits (case_of_run settings es sizes))
+    → sizes_asked files settings.sizes ≡ Ok sizes
+    → first ≡ window_first settings es → last ≡ window_last settings es → radii ≡ object_sizes sizes es
+    → case_asked files settings ≡ within_limits (case_with es first last (settings.threshold * 1_000_000_000) radii)
+case_made files settings es sizes first last radii is read starts ends sized =
+    let sized_so : (sizes_asked files settings.sizes >>= λ given. within_limits (case_of_run settings es given)) ≡ within_limits (case_of_run settings es sizes) = rw read refl in
+    let same : within_limits (case_of_run settings es sizes) ≡ within_limits (case_with es first last (settings.threshold * 1_000_000_000) radii) = rw (starts, ends, sized) refl in
+    is ∙ sized_so ∙ same
+
+-- what a folder's error means for what is due
+pub folder_stops : {A : Type 0} (P : Type 0) (e : FolderError) (due : Result A Status) → (e ≡ folder.Failed → P) → Stops P (folder_status e) due
+folder_stops P folder.Memory due rose = tt
+folder_stops P folder.Failed due rose = rose refl
 
 pub stops_wider : {A : Type 0} (P Q : Type 0) (s : Status) (due : Result A Status) → (P → Q) → Stops P s due → Stops Q s due
 stops_wider P Q status.Ok due wider ends = ends
@@ -63,3 +104,46 @@ stops_wider P Q status.OutOfMemory due wider ends = ends
 pub gives_wider : {X A : Type 0} (P Q : Type 0) (view : X → A) (r : Result X Status) (due : Result A Status) → (P → Q) → Gives P view r due → Gives Q view r due
 gives_wider P Q view (Ok x) due wider gives = gives
 gives_wider P Q view (Err s) due wider gives = stops_wider P Q s due wider gives
+
+-- a reading that was given up, as the run's cause where nothing is to come
+pub input_ends : {X A : Type 0} (P : Type 0) (view : X → A) (why : InputError) (read : Result A Status) → Reads P view (Err why) read
+    → Stops P (input_status why) read
+input_ends P view input.Memory read here = tt
+input_ends P view input.Failed read here = here
+input_ends P view (input.Refused file line cause) read here = here
+input_ends P view (input.Limit fault) read here = here
+
+-- ---- the limits of a case
+
+-- a window that is too long
+pub too_long : (case : PlainProblem) (length : ℕ) → length ≡ case.last - case.first → 1_209_600_000_000 < length
+    → within_limits case ≡ Err (status.Limit (Window length))
+too_long case length is more =
+    let large : nat_le length 1_209_600_000_000 ≡ false = grind (arith, nat_tests) in
+    rw (← is, large) refl
+
+-- too many objects times slots
+pub too_many_slots : (case : PlainProblem) (length count : ℕ) → length ≡ case.last - case.first → length ≤ 1_209_600_000_000 → count ≡ object_slots case
+    → 4_000_000 < count
+    → within_limits case ≡ Err (status.Limit (Slots count))
+too_many_slots case length count is short same more =
+    let small : nat_le length 1_209_600_000_000 ≡ true = grind (arith, nat_tests) in
+    let large : nat_le count 4_000_000 ≡ false = grind (arith, nat_tests) in
+    rw (← is, small, ← same, large) refl
+
+-- neither
+pub no_limit : (case : PlainProblem) (length count : ℕ) → length ≡ case.last - case.first → length ≤ 1_209_600_000_000 → count ≡ object_slots case
+    → count ≤ 4_000_000 → within_limits case ≡ Ok case
+no_limit case length count is short same few =
+    let small : nat_le length 1_209_600_000_000 ≡ true = grind (arith, nat_tests) in
+    let fits : nat_le count 4_000_000 ≡ true = grind (arith, nat_tests) in
+    rw (← is, small, ← same, fits) refl
+
+-- ---- the certificate
+
+-- it is that of the first file with the name, once the names are known
+pub certificate_found : (files : List FileBytes) (name : List ℕ) (names : List Name) (number : Option ℕ) → names ≡ names_of files
+    → number ≡ first_named name names
+    → certificate_named files name ≡ certificate_at files name number
+unfolding certificate_named
+certificate_found files name names number known is = ap (certificate_at files name) (sym (is ∙ ap (first_named name) known))

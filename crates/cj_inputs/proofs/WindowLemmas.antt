@@ -1,10 +1,12 @@
 -- The useable span of an ephemeris, of whose segments each begins where the one before ends, or later.
-use Rattle.std.proofs.Common.{◌≡◌, ℕ, ◌-◌, ◌≤◌, List, [], ◌∷◌, Some, length, map, fold, refl, sym, ap, ◌∙◌, arith}
+use Rattle.std.proofs.Common.{◌≡◌, ℕ, suc, ◌+◌, ◌-◌, ◌<◌, ◌≤◌, List, [], ◌∷◌, Some, length, map, fold, drop, drop-cons, get_or, refl, sym, ap, ◌∙◌, arith}
 use Rattle.std.specs.Prelude.{min, max, slice_get}
 use Rattle.std.proofs.lemmas.Int.{clamps}
 use Rattle.cj_track.specs.declared.segment.Segment.{Segment}
 use Rattle.cj_track.specs.Segments.{AreInOrder}
-use Rattle.cj_track.specs.Tracks.{plain_segment}
+use Rattle.cj_track.specs.PlainTracks.{PlainTrack}
+use Rattle.cj_track.specs.Tracks.{plain_segment, plain_track}
+use Rattle.cj_track.specs.declared.track.Track.{Track}
 use Rattle.cj_inputs.specs.Windows.{first_of, last_of, least, greatest}
 
 least_from : (m : ℕ) (s : Segment) (ss : List Segment) → m ≤ s.first.micros → AreInOrder (s ∷ ss) → fold min m (map first_of (map plain_segment (s ∷ ss))) ≡ m
@@ -42,3 +44,17 @@ stops_at [] last order is = absurd cc
 stops_at (s ∷ ss) last order is =
     let place : length (s ∷ ss) - 1 ≡ length ss = omega arith in
     sym (stops_last s ss last order (sym (is ∙ ap (λ (k : ℕ). slice_get (s ∷ ss) k) place)))
+
+-- ---- track by track
+
+-- one more track is folded in
+pub folded_more : (op : ℕ → ℕ → ℕ) (tick_of : PlainTrack → ℕ) (so_far own next end : ℕ) (tracks : List Track) (i : ℕ) (track : Track) → i < length tracks
+    → track ≡ get_or tracks i track
+    → own ≡ tick_of (plain_track track) → next ≡ op so_far own → fold op so_far (map tick_of (map plain_track (drop i tracks))) ≡ end
+    → fold op next (map tick_of (map plain_track (drop (i + 1) tracks))) ≡ end
+folded_more op tick_of so_far own next end tracks i track below is here taken before =
+    let left : List Track → ℕ = λ ts. fold op so_far (map tick_of (map plain_track ts)) in
+    let after : suc i ≡ i + 1 = omega arith in
+    let split : drop i tracks ≡ track ∷ drop (i + 1) tracks =
+    drop-cons tracks i track below ∙ ap (λ (t : Track). t ∷ drop (suc i) tracks) (sym is) ∙ ap (λ (n : ℕ). track ∷ drop n tracks) after in
+    ap (λ (m : ℕ). fold op m (map tick_of (map plain_track (drop (i + 1) tracks)))) (taken ∙ ap (op so_far) here) ∙ sym (ap left split) ∙ before

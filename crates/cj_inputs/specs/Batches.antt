@@ -46,6 +46,12 @@ abbrev pub tracks_after : List PlainTrack → List (Result PlainTrack Status) �
 tracks_after before [] = Ok before
 tracks_after before (said ∷ more) = (said >>= λ e. checked_after before e.file e) >>= λ e. tracks_after (before ++ e ∷ []) more
 
+-- it tells why these and what is behind them are not read, where `why` tells it of what is behind
+abbrev pub IsFirstCause : InputError → List PlainTrack → List (Result PlainTrack Status) → InputError → Type 0
+IsFirstCause why before said cause =
+    (behind : List PlainTrack → Result (List PlainTrack) Status) → ((es : List PlainTrack) → Reads ⊤ (λ (all : List PlainTrack). all) (Err why) (behind es))
+    → Reads ⊤ (λ (all : List PlainTrack). all) (Err cause) (tracks_after before said >>= behind)
+
 -- tracks and batch are of no more than these files; where nothing stops the batch and files are left, it has some
 pub record Fits (entries : List Entry) (progress : Progress) : Type 0 where
   pub few : length progress.taken.tracks.items + length progress.batch.files.items ≤ length entries

@@ -1,5 +1,5 @@
 //! The tracks of the files that are taken: batch by batch, each parsed side by side while the next is read.
-ghost use Rattle.std.specs.Prelude.{◌≡◌, ◌<◌, ◌≤◌, ◌+◌, List, Some, Err, Result, map, length, IfOk};
+ghost use Rattle.std.specs.Prelude.{◌≡◌, ◌<◌, ◌≤◌, List, Some, None, Ok, Err, Result, map, length, IfOk};
 ghost use Rattle.std.specs.List.{All, AllZip};
 ghost use Rattle.cj_io.specs.Faults.{Rose};
 ghost use Rattle.cj_io.specs.declared.file.FileBytes.{FileBytes};
@@ -8,10 +8,10 @@ ghost use Rattle.cj_hermite.specs.Frames.{HaveOneFrame};
 ghost use Rattle.cj_track.specs.PlainTracks.{PlainTrack};
 ghost use Rattle.cj_track.specs.Tracks.{plain_track};
 ghost use Rattle.cj_status.specs.declared.status.Status.{Status};
-ghost use Rattle.cj_inputs.specs.Batches.{Fits, GoesOn, IsOnTheWay, tracks_after};
+ghost use Rattle.cj_inputs.specs.Batches.{Fits, GoesOn, IsBatchOf, IsFirstCause, IsOnTheWay, said_by, tracks_after};
 ghost use Rattle.cj_inputs.specs.Readings.{Reads, readings_of};
 
-use crate::batch::Batch;
+use crate::batch::{Batch, FileRead};
 use crate::batching::read_batch;
 use crate::input_files::Entry;
 use crate::overlapping::parse_and_read;
@@ -21,7 +21,7 @@ use crate::reading::InputError;
 use crate::taken::Taken;
 use cj_io::Folder;
 use cj_track::Track;
-use std::alloc::Global;
+use std::alloc::{AllocError, Global};
 use std::thread::Threads;
 
 /// Reads the files in order, up to the first that is refused or beyond a limit. They are parsed by so many workers.
@@ -53,6 +53,7 @@ pub fn read_tracks<R: Threads + Sync, F: Folder>(
     while progress.taken.tracks.len() < entries.len() {
         progress = go_on(rt, alloc, folder, progress, entries, as_hermite3, workers)?;
     }
+    drop(progress.batch);
     Ok(progress.taken.tracks)
 }
 
@@ -87,33 +88,122 @@ fn go_on<'a, R: Threads + Sync, F: Folder>(
         taken,
         batch: Batch { files, stop },
     } = progress;
+    if let Some(why) = stop {
+        return Err(first_cause(rt, alloc, taken, &files, why, as_hermite3, workers));
+    }
     let rest = &entries[taken.tracks.len() + files.len()..];
-    if workers < 2 || stop.is_some() {
-        let readings = parse_files(rt, alloc, &files, as_hermite3, workers)?;
-        let taken = take_all(alloc, taken, readings)?;
-        if let Some(why) = stop {
-            return Err(why);
+    take_and_read(rt, alloc, folder, taken, &files, rest, as_hermite3, workers)
+}
+
+/// Why one of these files is not taken, or else why the next was not read.
+fn first_cause<R: Threads + Sync>(
+    rt: &R,
+    alloc: Global,
+    taken: Taken,
+    files: &[FileRead<'_>],
+    why: InputError,
+    as_hermite3: bool,
+    workers: u32,
+) -> InputError
+    ensures failed { result ≡ InputError.Failed → why ≡ InputError.Failed }
+    ensures told { IsFirstCause why (map plain_track taken.tracks.items) (map (said_by as_hermite3) files.now) result }
+{
+    match take_files(rt, alloc, taken, files, as_hermite3, workers) {
+        Ok(all) => {
+            drop(all);
+            why
         }
+        Err(earlier) => {
+            drop(why);
+            earlier
+        }
+    }
+}
+
+/// Takes files that were read and reads the first of the rest, as a next batch.
+fn take_and_read<'a, R: Threads + Sync, F: Folder>(
+    rt: &R,
+    alloc: Global,
+    folder: &mut F,
+    taken: Taken,
+    files: &[FileRead<'_>],
+    rest: &'a [Entry],
+    as_hermite3: bool,
+    workers: u32,
+) -> Result<Progress<'a>, InputError>
+    requires numbers { All (λ entry. entry.number < F.count folder.old) rest.now }
+
+    ensures taken { Reads ⊥ (λ next. map plain_track next.taken.tracks.items) result
+        (tracks_after (map plain_track taken.tracks.items) (map (said_by as_hermite3) files.now)) }
+
+    ensures fault { IfOk result (λ next. next.batch.stop ≡ Some InputError.Failed → Rose (F.faults folder.old) (F.faults folder.new)) }
+    ensures told { (told : List FileBytes) → F.files folder.old ≡ Some told → IfOk result (λ next. IsBatchOf told rest.now next.batch) }
+    ensures few { IfOk result (λ next. length next.batch.files.items ≤ length rest.now) }
+    ensures some { IfOk result (λ next. next.batch.stop ≡ None → 0 < length rest.now → 0 < length next.batch.files.items) }
+
+    ensures count { F.count folder.new ≡ F.count folder.old }
+    ensures files { F.files folder.new ≡ F.files folder.old }
+    ensures later { F.faults folder.old ≤ F.faults folder.new }
+{
+    if workers < 2 {
+        let taken = take_files(rt, alloc, taken, files, as_hermite3, workers)?;
         let batch = read_batch(alloc, folder, rest, workers, files.len())?;
         return Ok(Progress { taken, batch });
     }
-    let (readings, next) = parse_and_read(rt, alloc, folder, &files, rest, as_hermite3, workers);
-    let taken = take_all(alloc, taken, readings?)?;
-    let batch = next?;
-    Ok(Progress { taken, batch })
+    let (readings, batch) = parse_and_read(rt, alloc, folder, files, rest, as_hermite3, workers);
+    with_batch(take_all(alloc, taken, readings), batch)
+}
+
+/// Tracks that were taken, with the next batch.
+fn with_batch<'a>(
+    taken: Result<Taken, InputError>,
+    batch: Result<Batch<'a>, AllocError>,
+) -> Result<Progress<'a>, InputError>
+    ensures told { (expected : Result (List PlainTrack) Status) → Reads ⊥ (λ all. map plain_track all.tracks.items) taken expected
+        → Reads ⊥ (λ next. map plain_track next.taken.tracks.items) result expected }
+    ensures batch { IfOk result (λ next. batch.entry ≡ Ok next.batch) }
+{
+    match taken {
+        Ok(taken) => Ok(Progress {
+            taken,
+            batch: batch?,
+        }),
+        Err(why) => {
+            drop(batch);
+            Err(why)
+        }
+    }
+}
+
+/// These tracks and those that the files say, up to the first that is refused or beyond a limit. So many workers parse them.
+fn take_files<R: Threads + Sync>(
+    rt: &R,
+    alloc: Global,
+    taken: Taken,
+    files: &[FileRead<'_>],
+    as_hermite3: bool,
+    workers: u32,
+) -> Result<Taken, InputError>
+    ensures { Reads ⊥ (λ all. map plain_track all.tracks.items) result
+        (tracks_after (map plain_track taken.tracks.items) (map (said_by as_hermite3) files.now)) }
+{
+    take_all(
+        alloc,
+        taken,
+        parse_files(rt, alloc, files, as_hermite3, workers),
+    )
 }
 
 /// These tracks and those that were read, up to the first that is refused or beyond a limit.
 fn take_all(
     alloc: Global,
     mut taken: Taken,
-    readings: Vec<Result<Track, InputError>>,
+    readings: Result<Vec<Result<Track, InputError>>, AllocError>,
 ) -> Result<Taken, InputError>
-    ensures told { (said : List (Result PlainTrack Status)) → AllZip (Reads ⊥ plain_track) readings.items said
+    ensures { (said : List (Result PlainTrack Status)) → IfOk readings (λ all. AllZip (Reads ⊥ plain_track) all.items said)
         → Reads ⊥ (λ all. map plain_track all.tracks.items) result (tracks_after (map plain_track taken.tracks.items) said) }
-    ensures many { IfOk result (λ all. length all.tracks.items ≡ length taken.tracks.items + length readings.items) }
 {
-    for reading in readings {
+    for reading in readings? {
         taken = taken.with(alloc, reading?)?;
     }
     Ok(taken)

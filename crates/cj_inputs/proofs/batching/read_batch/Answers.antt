@@ -1,9 +1,10 @@
-use Rattle.std.proofs.Common.{◌≡◌, ◌∙◌, ◌+◌, ℕ, List, Ok, take, sym, subst, arith}
+use Rattle.std.proofs.Common.{◌≡◌, ◌∙◌, ◌+◌, ℕ, List, Ok, Some, Vec, Global, take, refl, sym, subst, arith}
 use Rattle.std.specs.List.{AllZip}
+use Rattle.cj_io.specs.Faults.{Rose}
 use Rattle.cj_io.specs.Files.{bytes_of}
 use Rattle.cj_inputs.specs.Batches.{WasRead}
 use Rattle.cj_inputs.specs.Readings.{within_bytes}
-use Rattle.cj_inputs.proofs.BatchLemmas.{read_more}
+use Rattle.cj_inputs.proofs.BatchLemmas.{batch_ends, read_more}
 use Rattle.cj_inputs.proofs.batching.read_batch.Goals as goal
 
 pub loop-entry-preserved : goal.loop-entry-preserved
@@ -25,3 +26,11 @@ loop-entry-preserved g c =
       count = c.read_file.ensures.count ∙ before.count;
       later = omega (arith, c.read_file.ensures.later, before.later);
     }
+
+pub returns-in-Err-clause-told : goal.returns-in-Err-clause-told
+returns-in-Err-clause-told g c = λ told is.
+    let before = c.loop-entry.invariant in
+    let entry = c.entry-item.result in
+    batch_ends (Rose (g.F.Folder.faults c.loop-entry.folder) (g.F.Folder.faults c.read_file.new.folder)) (λ (bytes : Vec ℕ Global). bytes.items) told c.args.entries.now c.loop-entry.entry-index entry
+    c.as_slice-name.result.now (record { files = c.loop-entry.files; stop = Some c.in-Err.why }) c.in-Err.why c.loop-entry-test.true c.entry-item.is c.as_slice-name.ensures before.many
+    (before.front told is) refl (c.in-Err.ensures.told told (before.files ∙ is))

@@ -12,3 +12,6 @@ pub returns-clause-within : goal.returns-clause-within
 returns-clause-within c =
     let here = position-Some (λ other. bytes_eq other c.args.name.now) c.args.names.now c.in_ok-number.number [] (sym c.in_ok-number.ensures) in
     omega (arith, here.0)
+
+pub returns-clause-value : goal.returns-clause-value
+returns-clause-value c = c.in_ok-number.ensures

@@ -9,3 +9,6 @@ returns-then-nodes-gt-MAX_NODES-clause-told c =
 pub returns-clause-told : goal.returns-clause-told
 returns-clause-told c =
     fits c.args.before.now c.args.track.now.file c.args.track.now c.args.nodes (sym c.has_frame_of.ensures ∙ c.if-not-has_frame_of.false) c.requires c.if-nodes-gt-MAX_NODES.false
+
+pub returns-clause-nodes : goal.returns-clause-nodes
+returns-clause-nodes c = c.if-nodes-gt-MAX_NODES.false

@@ -1,5 +1,6 @@
-use Rattle.std.proofs.Common.{◌≡◌, ◌+◌, List, Result, map, length}
+use Rattle.std.proofs.Common.{List, Result, map}
 use Rattle.std.specs.List.{AllZip}
+use Rattle.std.specs.Prelude.{IfOk}
 use Rattle.std.specs.Vec.Iter.{into_iter_items}
 use Rattle.cj_track.specs.PlainTracks.{PlainTrack}
 use Rattle.cj_track.specs.Tracks.{plain_track}
@@ -10,8 +11,5 @@ use Rattle.cj_inputs.proofs.BatchLemmas.{LeadsTo}
 use Rattle.cj_inputs.proofs.taking.take_all.Given as goal
 
 abbrev pub invariant-loop-reading : goal.invariant-loop-reading
-invariant-loop-reading l = record {
-  told : (said : List (Result PlainTrack Status)) → AllZip (Reads ⊥ plain_track) l.fn.readings.items said
-      → LeadsTo (into_iter_items l.reading-iterator) (map plain_track l.taken.tracks.items) (tracks_after (map plain_track l.fn.taken.tracks.items) said);
-  many : length l.taken.tracks.items ≡ length l.fn.taken.tracks.items + length l.yielded;
-}
+invariant-loop-reading l = (said : List (Result PlainTrack Status)) → IfOk l.fn.readings (λ all. AllZip (Reads ⊥ plain_track) all.items said)
+    → LeadsTo (into_iter_items l.reading-iterator) (map plain_track l.taken.tracks.items) (tracks_after (map plain_track l.fn.taken.tracks.items) said)

@@ -1,0 +1,10 @@
+use Rattle.cj_host.proofs.shelf.DirShelfShelf.put.Goals as goal
+
+pub returns-clause-failed : goal.returns-clause-failed
+returns-clause-failed c = c.end.ensures.failed
+
+pub returns-clause-memory : goal.returns-clause-memory
+returns-clause-memory c = c.end.ensures.memory
+
+pub returns-clause-later : goal.returns-clause-later
+returns-clause-later c = c.end.ensures.later
