@@ -2,4 +2,5 @@ pub mod CertificateLemmas
 pub mod CheckLemmas
 pub mod EndLemmas
 pub mod MessageLemmas
+pub mod PutLemmas
 pub mod ReportTextLemmas

@@ -1,10 +1,10 @@
-use Rattle.std.proofs.Common.{ap, ℕ, List, [], ◌∷◌, ◌++◌, Ok, ◌∙◌, codes, subst}
+use Rattle.std.proofs.Common.{ap, ℕ, List, [], ◌∷◌, ◌++◌, Ok, ◌∙◌, codes, subst, arith}
 use Rattle.std.proofs.lemmas.Result.{err_from_is_err_and}
 use Rattle.cj_io.specs.declared.file.FileBytes.{FileBytes}
 use Rattle.cj_io.specs.Parts.{joined}
 use Rattle.cj_outputs.specs.Findings.{ended}
 use Rattle.cj_outputs.specs.Outcome.{Leaves, piece}
-use Rattle.cj_outputs.proofs.EndLemmas.{first_leaves, first_stand, second_leaves}
+use Rattle.cj_outputs.proofs.EndLemmas.{first_leaves, first_stand, nothing_put, second_leaves}
 use Rattle.cj_outputs.proofs.rewriting.put_rewritten.Goals as goal
 
 abbrev renewed : List ℕ → FileBytes
@@ -28,3 +28,13 @@ returns-clause-leaves g c = λ old stood.
     let behind = first_stand first old (g.S.Shelf.pieces c.put_parts.new.shelf) (c.in_ok-put_parts.ensures.leaves old stood) in
     subst (λ (bytes : List ℕ). Leaves (ended c.put.result) (Ok (renewed bytes ∷ said ∷ [])) old now) (ap joined c.deref.ensures.value ∙ c.in_ok-parts.ensures)
     (second_leaves c.put.result first (said ∷ []) old now c.put.ensures.comes (c.put.ensures.leaves (old ++ first) behind))
+
+pub returns-in_err-parts : goal.returns-in_err-parts
+returns-in_err-parts g c =
+    let p = err_from_is_err_and c.from_residual.result c.from_residual.ensures.1 in
+    rw (p.1, p.2) (record {
+      comes = tt;
+      write = λ is. absurd cc;
+      leaves = λ old stood. nothing_put (Ok _) old (g.S.Shelf.pieces c.args.shelf.now) stood;
+      later = omega arith;
+    })

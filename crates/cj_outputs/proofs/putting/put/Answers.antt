@@ -1,0 +1,9 @@
+use Rattle.cj_outputs.proofs.PutLemmas.{put_leaves}
+use Rattle.cj_outputs.proofs.putting.put.Goals as goal
+
+pub returns-clause-write : goal.returns-clause-write
+returns-clause-write g c = λ fault. absurd cc
+
+pub returns-clause-leaves : goal.returns-clause-leaves
+returns-clause-leaves g c = λ old stood.
+    put_leaves c.args.name.now c.args.bytes.now old (g.S.Shelf.pieces c.args.shelf.now) (g.S.Shelf.pieces c.put.new.self) c.in_ok-put.ensures.pieces stood
