@@ -1,6 +1,6 @@
 -- What a look at the cell of a turn gives.
-use Rattle.std.proofs.Common.{◌≡◌, ℕ, zero, suc, ◌+◌, ◌<◌, ◌≤◌, List, [], ◌∷◌, ◌++◌, inl, inr, length, refl, sym, ap, ◌∙◌, subst, arith, length-append}
-use Rattle.std.specs.Prelude.{All, Some, None, Result, Ok, Err, MatchResult}
+use Rattle.std.proofs.Common.{◌≡◌, ◌⊎◌, Bool, true, false, ℕ, zero, suc, ◌+◌, ◌<◌, ◌≤◌, List, [], ◌∷◌, ◌++◌, inl, inr, length, refl, sym, ap, ◌∙◌, subst, arith, length-append}
+use Rattle.std.specs.Prelude.{All, Some, None, Result, Ok, Err, MatchBool, MatchResult}
 use Rattle.std.proofs.lemmas.List.Elements.{All-push}
 use Rattle.cj_hermite.specs.PlainProblems.{PlainProblem}
 use Rattle.cj_bezier.specs.declared.cell.Cell.{Cell}
@@ -9,10 +9,12 @@ use Rattle.cj_bezier.specs.declared.leaf.Leaf.{Leaf}
 use Rattle.cj_bezier.specs.Cells.{plain_cell, AreHalves}
 use Rattle.cj_bezier.specs.RootLeaves.{kind_of_cell}
 use Rattle.cj_ledger.specs.declared.count.Count.{Count}
+use Rattle.cj_ledger.specs.declared.why.Why.{Why}
 use Rattle.cj_ledger.specs.Shares.{IsOf}
+use Rattle.cj_ledger.specs.Words.{why_of}
 use Rattle.cj_pool.specs.declared.account.Account.{Account}
 use Rattle.cj_pool.specs.declared.turn.Turn.{Turn}
-use Rattle.cj_pool.specs.declared.turn.Turn.TheVariants.{Idle, Done}
+use Rattle.cj_pool.specs.declared.turn.Turn.TheVariants.{Idle, Done, Halted}
 use Rattle.cj_pool.specs.Accounts.{Settled}
 use Rattle.cj_pool.specs.Hands.{RefinerySeen, HandSeen, IsHandOf, SameHand}
 use Rattle.cj_pool.specs.Narrow.{Narrow}
@@ -20,7 +22,7 @@ use Rattle.cj_pool.specs.Parted.{ArePushed, AreKept, AreParted, pushed_one, held
 use Rattle.cj_pool.specs.Passes.{around}
 use Rattle.cj_pool.specs.RootLists.{IsKept, AreRoots}
 use Rattle.cj_pool.specs.Tree.{InTree, IsLeafOf, Halved}
-use Rattle.cj_pool.specs.Turns.{CellCame, SameCells, MadeLeaf, MadeHalves, KeptBoth, Wanted, FoundEnd, FoundNone, Heard, Made, SetsCells}
+use Rattle.cj_pool.specs.Turns.{CellCame, SameCells, MadeLeaf, MadeHalves, KeptBoth, Wanted, FoundEnd, FoundNone, Heard, WasHalted, Made, SetsCells, Ended}
 use Rattle.cj_pool.specs.Weights.{weigh}
 use Rattle.cj_pool.proofs.NarrowLemmas.{narrow_length}
 use Rattle.cj_pool.proofs.TreeLemmas.{tree_keeps, tree_halves}
@@ -152,3 +154,38 @@ made_of case r hand hand' now (Ok turn) old new before after first second same (
     subst (Made case r hand now) (sym is) (subst (λ (h : HandSeen). KeptBoth case h now) same (kept parted))
 made_of case r hand hand' now (Err e) old new before after first second same parted pushed kept =
     subst (λ (h : HandSeen). Wanted case h now) same (inr (kept parted))
+
+-- ---- the last turn
+
+-- halt bits that tell a cause are not zero
+some_bits : (bits : ℕ) (why : Why) → why_of bits ≡ Some why → 0 < bits
+some_bits zero why told = absurd cc
+some_bits (suc bits) why told = omega arith
+
+-- it was told of the end
+pub last_ended : (case : PlainProblem) (r : RefinerySeen) (old new : HandSeen) (turn : Turn) → (turn ≡ Done) ⊎ ((why : Why) × (turn ≡ Halted why)) →
+    Made case r old new turn → Ended new
+last_ended case r old new turn (inl done) made =
+    let end : FoundEnd old new = subst (λ (t : Turn). Made case r old new t) done made in
+    let times = end.heard.1 in
+    inl (end.heard.0, omega (arith, times))
+last_ended case r old new turn (inr (why, halted)) made =
+    let stop : WasHalted why old new = subst (λ (t : Turn). Made case r old new t) halted made in
+    let times = stop.heard in
+    inr (inl (some_bits new.share.count.halts.last why stop.told, omega (arith, times)))
+
+-- one that was told to stop did not count a leaf
+pub record WasStopped (old new : HandSeen) (turn : Turn) : Type 0 where
+  pub why : Why
+  pub is : turn ≡ Halted why
+  pub leaves : new.share.count.leaves ≡ old.share.count.leaves
+
+pub told_to_stop : (case : PlainProblem) (r : RefinerySeen) (old new : HandSeen) (turn : Turn) → (why : Why) × (turn ≡ Halted why) →
+    Made case r old new turn → WasStopped old new turn
+told_to_stop case r old new turn (why, halted) made =
+    let stop : WasHalted why old new = subst (λ (t : Turn). Made case r old new t) halted made in
+    record { why = why; is = halted; leaves = stop.leaves }
+
+pub last_or_not : (last : Bool) (P Q : Type 0) → (last ≡ true → P) → Q → MatchBool last P Q
+last_or_not true P Q ended goes = ended refl
+last_or_not false P Q ended goes = goes

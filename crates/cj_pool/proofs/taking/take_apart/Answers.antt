@@ -1,5 +1,6 @@
 use Rattle.std.proofs.Common.{◌≡◌, ◌+◌, ◌<◌, List, ◌∷◌, rules, vec_len, ap, ◌∙◌, sym, subst, arith}
 use Rattle.std.proofs.lemmas.List.{nil_from_length}
+use Rattle.std.proofs.lemmas.Result.{err_from_is_err_and}
 use Rattle.cj_hermite.specs.Problems.{plain_problem}
 use Rattle.cj_pool.specs.Hands.{HandSeen}
 use Rattle.cj_pool.specs.Refined.{in_runs}
@@ -57,3 +58,8 @@ returns-clause-taken g c w =
     let all = l.invariant.taken w in
     let zero : all_taken w l.hands.items ≡ 0 = ap (all_taken w) rest in
     sum_ends _ _ _ all zero
+
+pub returns-in_err-take_one : goal.returns-in_err-take_one
+returns-in_err-take_one g c =
+    let p = err_from_is_err_and c.from_residual.result c.from_residual.ensures.1 in
+    rw p.1 (record { stations = tt; len = tt; given = tt; taken = tt; shares = tt; leaves = tt; kept = tt; accounts = tt })
