@@ -93,7 +93,11 @@ module _ {K : Type 0} where
     number = then.number ∙ first.number;
     below = then.below ∙ first.below;
     above = then.above ∙ first.above;
-    same = (then.same.0 ∙ first.same.0, then.same.1 ∙ first.same.1, then.same.2 ∙ first.same.2, (let more = first.same.3 in let more' = then.same.3 in omega (arith, more, more')));
+    same = (
+        let more = first.same.3 in
+        let more' = then.same.3 in
+        (then.same.0 ∙ first.same.0, then.same.1 ∙ first.same.1, then.same.2 ∙ first.same.2, omega (arith, more, more'))
+        );
     parts = then.parts ∙ first.parts;
     all = then.all ∙ first.all;
     pushed = then.pushed ∙ first.pushed;

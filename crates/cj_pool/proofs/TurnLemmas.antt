@@ -115,6 +115,15 @@ pub still_of : (r : RefinerySeen) (old old' new : HandSeen) → old' ≡ old →
     → IsHandOf r new × SameHand old new
 still_of r old old' new same hand deques mine kept = ((deques ∙ ap (λ (h : HandSeen). h.deques) same ∙ hand.0, mine), subst (λ (h : HandSeen). SameHand h new) same kept)
 
+-- and what it was at the start
+pub still_after : (r : RefinerySeen) (start old old' new : HandSeen) → old' ≡ old → IsHandOf r old × SameHand start old → new.deques ≡ old'.deques →
+    IsOf r.ledger new.share → SameHand old' new → IsHandOf r new × SameHand start new
+still_after r start old old' new same hand deques mine kept =
+    let still = still_of r old old' new same hand.0 deques mine kept in
+    let before = hand.1 in
+    let after = still.1 in
+    (still.0, record { number = after.number ∙ before.number; problem = after.problem ∙ before.problem; opening = after.opening ∙ before.opening })
+
 -- a turn that wanted memory, of a hand with the same cells
 pub wanted_same : (case : PlainProblem) (old new new' : HandSeen) → SameCells new new' → Wanted case old new → Wanted case old new'
 wanted_same case old new new' same (inl cells) = inl (record {

@@ -1,4 +1,4 @@
-use Rattle.std.proofs.Common.{[], ◌∷◌, ap, arith, rules, vec_len, length, length-append, ◌≡◌}
+use Rattle.std.proofs.Common.{[], ◌∷◌, ap, arith, length, length-append, ◌≡◌}
 use Rattle.std.proofs.lemmas.List.{length-map}
 use Rattle.crossbeam_deque.specs.Handles.{view, worker_deque, worker_view}
 use Rattle.cj_pool.specs.Passes.{deques, takens}
@@ -39,7 +39,8 @@ pub absorb-requires-in-Some : goal.absorb-requires-in-Some
 absorb-requires-in-Some g c =
     let last = last_pass c.args.earlier.now.above.items c.pop.new.self.items c.in-Some.back c.in-Some.ensures.items c.requires.to_last.1 in
     let deque = worker_deque c.args.last.now.own in
-    (c.requires.parts.1, pass_of c.in-Some.back deque last.ready (last.deque (without_last (deques c.args.earlier.now.above.items)) deque c.requires.to_last.0).1)
+    let split = last.deque (without_last (deques c.args.earlier.now.above.items)) deque c.requires.to_last.0 in
+    (c.requires.parts.1, pass_of c.in-Some.back deque last.ready split.1)
 
 pub returns-in_default : goal.returns-in_default
 returns-in_default g c =

@@ -24,7 +24,8 @@ close-requires g c = subst (λ (h : HandSeen). IsOf c.args.ledger.now h.share) (
 pub returns-clause-shares : goal.returns-clause-shares
 returns-clause-shares g c =
     let e = c.close.ensures in
-    let counted : c.close.new.share ≡ settled_share c.args.hand = (λ i. record { ledger = e.ledger i; count = e.count i }) ∙ ap settled_share c.hand.view_is in
+    let counted : c.close.new.share ≡ settled_share c.args.hand = (λ i. record { ledger = e.ledger i; count = e.count i })
+    ∙ ap settled_share c.hand.view_is in
     subst (λ (s : ShareSeen). OnOk c.add.result (c.add.new.self.shares.items ≡ c.args.parts.now.shares.items ++ s ∷ [])) counted c.add.ensures.shares
 
 pub returns-clause-leaves : goal.returns-clause-leaves

@@ -3,7 +3,7 @@ use Rattle.cj_ledger.specs.declared.count.Count.{Count}
 use Rattle.cj_pool.proofs.turning.split.Goals as goal
 
 pub returns-then-uncounted-eq0 : goal.returns-then-uncounted-eq0
-returns-then-uncounted-eq0 c = 
+returns-then-uncounted-eq0 c =
     let e = c.split.ensures in
     record {
       ledger = (e.ledger ∙ c.requires.0, ap (λ (v : Count). v.opening) e.count ∙ c.requires.1);
@@ -16,7 +16,7 @@ returns-then-uncounted-eq0 c =
     }
 
 pub returns : goal.returns
-returns c = 
+returns c =
     let e = c.close_and_split.ensures in
     let closes = ap (λ (v : Count). v.closes) e.count in
     record {
@@ -28,4 +28,3 @@ returns c =
       halts = (ap (λ (v : Count). v.cells) e.count, ap (λ (v : Count). v.memory) e.count);
       told = ap (λ (v : Count). v.leaves) e.count;
     }
-

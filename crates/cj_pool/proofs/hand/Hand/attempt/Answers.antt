@@ -357,8 +357,9 @@ returns-in-Halves-clause-halts g c = λ some.
 
 pub returns-in-Some-clause-hand : goal.returns-in-Some-clause-hand
 returns-in-Some-clause-hand g c =
-    still_of c.args.refinery.now _ _ _ c.self.view_is c.requires refl
-    (c.halted.ensures.ledger ∙ ap (λ (h : HandSeen). h.share.ledger) c.self.view_is ∙ c.requires.1.0, ap (λ (v : Count). v.opening) c.halted.ensures.count ∙ ap (λ (h : HandSeen). h.share.count.opening) c.self.view_is ∙ c.requires.1.1)
+    let ledger = c.halted.ensures.ledger ∙ ap (λ (h : HandSeen). h.share.ledger) c.self.view_is ∙ c.requires.1.0 in
+    let opening = ap (λ (v : Count). v.opening) c.halted.ensures.count ∙ ap (λ (h : HandSeen). h.share.count.opening) c.self.view_is ∙ c.requires.1.1 in
+    still_of c.args.refinery.now _ _ _ c.self.view_is c.requires refl (ledger, opening)
     (record { number = refl; problem = refl; opening = refl })
 
 pub returns-in-Some-clause-wants : goal.returns-in-Some-clause-wants
