@@ -1,10 +1,11 @@
 -- Roots on deques.
-use Rattle.std.proofs.Common.{◌≡◌, ◌≢◌, ℕ, zero, suc, ◌+◌, ◌%◌, ◌<◌, ◌≤◌, Bool, true, false, cond, List, [], ◌∷◌, length, map, get_or, refl, sym, ap, ◌∙◌, subst, inl, inr, arith}
+use Rattle.std.proofs.Common.{◌≡◌, ◌≢◌, ℕ, zero, suc, ◌+◌, ◌%◌, ◌<◌, ◌≤◌, Bool, true, false, cond, List, [], ◌∷◌, ◌++◌, length, map, take, get_or, refl, sym, ap, ◌∙◌, subst, inl, inr, append-nil, arith}
 use Rattle.std.specs.Prelude.{All, IfOk, Ok, Result, Some, filter, nat_eq, slice_get}
 use Rattle.std.specs.List.{range_with_len}
 use Rattle.std.specs.declared.alloc.Global.{Global}
 use Rattle.std.proofs.lemmas.List.{get_or-map, length-map}
 use Rattle.std.proofs.lemmas.List.FromFn.{get_or-range_with_len}
+use Rattle.std.proofs.lemmas.List.Elements.{filter_more}
 use Rattle.std.proofs.Math.Nat.{mod-lt}
 use Rattle.std.proofs.lemmas.Bool.{cases_eq}
 use Rattle.std.proofs.lemmas.Bool.Decides.{nat_tests}
@@ -36,6 +37,27 @@ same_test a b e = grind (arith, nat_tests)
 other_test : (a b : ℕ) → a ≢ b → nat_eq a b ≡ false
 other_test a b ne = grind (arith, nat_tests)
 
+-- ---- the roots that a station has so far
+
+module _ (roots : List Cell) (n j i : ℕ) (c : Cell) (before : List Cell) where
+  -- this root is the station's, or another's
+  dealt_next : i < length roots → c ≡ get_or roots i c → before ≡ roots_dealt (take i roots) n j →
+      before ++ cond (nat_eq (c.root % n) j) (c ∷ []) [] ≡ roots_dealt (take (i + 1) roots) n j
+  dealt_next lt is was =
+      ap (λ (cells : List Cell). cells ++ cond (nat_eq (c.root % n) j) (c ∷ []) []) was
+      ∙ ap (λ (x : Cell). roots_dealt (take i roots) n j ++ cond (nat_eq (x.root % n) j) (x ∷ []) []) is
+      ∙ sym (filter_more (λ (x : Cell). nat_eq (x.root % n) j) roots i c lt)
+
+  pub dealt_more : (after : List Cell) → i < length roots → c ≡ get_or roots i c → c.root % n ≡ j → before ≡ roots_dealt (take i roots) n j →
+      after ≡ before ++ c ∷ [] → after ≡ roots_dealt (take (i + 1) roots) n j
+  dealt_more after lt is own was pushed =
+      pushed ∙ ap (λ (b : Bool). before ++ cond b (c ∷ []) []) (sym (same_test (c.root % n) j own)) ∙ dealt_next lt is was
+
+  pub dealt_same : i < length roots → c ≡ get_or roots i c → c.root % n ≢ j → before ≡ roots_dealt (take i roots) n j →
+      before ≡ roots_dealt (take (i + 1) roots) n j
+  dealt_same lt is other was =
+      sym (append-nil before) ∙ ap (λ (b : Bool). before ++ cond b (c ∷ []) []) (sym (other_test (c.root % n) j other)) ∙ dealt_next lt is was
+
 -- ---- a root is in its own tree
 
 pub root_tree : (case : PlainProblem) (roots : List Cell) (i : ℕ) (c : Cell) → root_numbers roots ≡ range_with_len 0 (length roots) →
@@ -63,6 +85,23 @@ module _ {K : Type 0} where
     above = ap (λ v. deques v.items) like.above ∙ is.above;
     ready_below = rw (like.below) is.ready_below;
     ready_above = rw (like.above) is.ready_above;
+  }
+
+  -- one opening after another
+  pub like_after : (old mid new : Station K) → IsLike old mid → IsLike mid new → IsLike old new
+  like_after old mid new first then = record {
+    number = then.number ∙ first.number;
+    below = then.below ∙ first.below;
+    above = then.above ∙ first.above;
+    same = (
+        let more = first.same.3 in
+        let more' = then.same.3 in
+        (then.same.0 ∙ first.same.0, then.same.1 ∙ first.same.1, then.same.2 ∙ first.same.2, omega (arith, more, more'))
+        );
+    parts = then.parts ∙ first.parts;
+    all = then.all ∙ first.all;
+    pushed = then.pushed ∙ first.pushed;
+    taken = then.taken ∙ first.taken;
   }
 
   like_unused : (old new : Station K) → IsUnused old → IsLike old new → IsUnused new

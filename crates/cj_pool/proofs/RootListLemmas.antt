@@ -1,6 +1,6 @@
 -- The roots of a case, as they are found slot by slot and put in order, are the roots of a run.
 use Rattle.std.proofs.Common.{◌≡◌, ℕ, ◌+◌, ◌<◌, Bool, cond, List, [], length, sym, subst, arith}
-use Rattle.std.specs.List.{AllPairs, flat_map, range_with_len}
+use Rattle.std.specs.List.{AllPairs, range_with_len}
 use Rattle.cj_interval.proofs.ListLemmas.{Each, Each-weaker, Each-always, Each-flat_map, Each-taken, each_from_map, All-from_each, AllPairs-from_ordered}
 use Rattle.cj_hermite.specs.PlainProblems.{PlainProblem}
 use Rattle.cj_hermite.specs.Pairs.{pairs_of}

@@ -1,6 +1,6 @@
 -- What a look at the cell of a turn gives.
-use Rattle.std.proofs.Common.{◌≡◌, ℕ, zero, suc, ◌+◌, ◌<◌, ◌≤◌, List, [], ◌∷◌, ◌++◌, inl, inr, length, refl, sym, ap, ◌∙◌, subst, arith, length-append}
-use Rattle.std.specs.Prelude.{All, Some, None, Result, Ok, Err, MatchResult}
+use Rattle.std.proofs.Common.{◌≡◌, ◌⊎◌, Bool, true, false, ℕ, zero, suc, ◌+◌, ◌<◌, ◌≤◌, List, [], ◌∷◌, ◌++◌, inl, inr, length, refl, sym, ap, ◌∙◌, subst, arith, length-append}
+use Rattle.std.specs.Prelude.{All, Some, None, Result, Ok, Err, MatchBool, MatchResult}
 use Rattle.std.proofs.lemmas.List.Elements.{All-push}
 use Rattle.cj_hermite.specs.PlainProblems.{PlainProblem}
 use Rattle.cj_bezier.specs.declared.cell.Cell.{Cell}
@@ -9,10 +9,12 @@ use Rattle.cj_bezier.specs.declared.leaf.Leaf.{Leaf}
 use Rattle.cj_bezier.specs.Cells.{plain_cell, AreHalves}
 use Rattle.cj_bezier.specs.RootLeaves.{kind_of_cell}
 use Rattle.cj_ledger.specs.declared.count.Count.{Count}
+use Rattle.cj_ledger.specs.declared.why.Why.{Why}
 use Rattle.cj_ledger.specs.Shares.{IsOf}
+use Rattle.cj_ledger.specs.Words.{why_of}
 use Rattle.cj_pool.specs.declared.account.Account.{Account}
 use Rattle.cj_pool.specs.declared.turn.Turn.{Turn}
-use Rattle.cj_pool.specs.declared.turn.Turn.TheVariants.{Idle, Done}
+use Rattle.cj_pool.specs.declared.turn.Turn.TheVariants.{Idle, Done, Halted}
 use Rattle.cj_pool.specs.Accounts.{Settled}
 use Rattle.cj_pool.specs.Hands.{RefinerySeen, HandSeen, IsHandOf, SameHand}
 use Rattle.cj_pool.specs.Narrow.{Narrow}
@@ -20,7 +22,7 @@ use Rattle.cj_pool.specs.Parted.{ArePushed, AreKept, AreParted, pushed_one, held
 use Rattle.cj_pool.specs.Passes.{around}
 use Rattle.cj_pool.specs.RootLists.{IsKept, AreRoots}
 use Rattle.cj_pool.specs.Tree.{InTree, IsLeafOf, Halved}
-use Rattle.cj_pool.specs.Turns.{CellCame, SameCells, MadeLeaf, MadeHalves, KeptBoth, Wanted, FoundEnd, FoundNone, Heard, Made, SetsCells}
+use Rattle.cj_pool.specs.Turns.{CellCame, SameCells, MadeLeaf, MadeHalves, KeptBoth, Wanted, FoundEnd, FoundNone, Heard, WasHalted, Made, SetsCells, Ended}
 use Rattle.cj_pool.specs.Weights.{weigh}
 use Rattle.cj_pool.proofs.NarrowLemmas.{narrow_length}
 use Rattle.cj_pool.proofs.TreeLemmas.{tree_keeps, tree_halves}
@@ -113,6 +115,15 @@ pub still_of : (r : RefinerySeen) (old old' new : HandSeen) → old' ≡ old →
     → IsHandOf r new × SameHand old new
 still_of r old old' new same hand deques mine kept = ((deques ∙ ap (λ (h : HandSeen). h.deques) same ∙ hand.0, mine), subst (λ (h : HandSeen). SameHand h new) same kept)
 
+-- and what it was at the start
+pub still_after : (r : RefinerySeen) (start old old' new : HandSeen) → old' ≡ old → IsHandOf r old × SameHand start old → new.deques ≡ old'.deques →
+    IsOf r.ledger new.share → SameHand old' new → IsHandOf r new × SameHand start new
+still_after r start old old' new same hand deques mine kept =
+    let still = still_of r old old' new same hand.0 deques mine kept in
+    let before = hand.1 in
+    let after = still.1 in
+    (still.0, record { number = after.number ∙ before.number; problem = after.problem ∙ before.problem; opening = after.opening ∙ before.opening })
+
 -- a turn that wanted memory, of a hand with the same cells
 pub wanted_same : (case : PlainProblem) (old new new' : HandSeen) → SameCells new new' → Wanted case old new → Wanted case old new'
 wanted_same case old new new' same (inl cells) = inl (record {
@@ -152,3 +163,38 @@ made_of case r hand hand' now (Ok turn) old new before after first second same (
     subst (Made case r hand now) (sym is) (subst (λ (h : HandSeen). KeptBoth case h now) same (kept parted))
 made_of case r hand hand' now (Err e) old new before after first second same parted pushed kept =
     subst (λ (h : HandSeen). Wanted case h now) same (inr (kept parted))
+
+-- ---- the last turn
+
+-- halt bits that tell a cause are not zero
+some_bits : (bits : ℕ) (why : Why) → why_of bits ≡ Some why → 0 < bits
+some_bits zero why told = absurd cc
+some_bits (suc bits) why told = omega arith
+
+-- it was told of the end
+pub last_ended : (case : PlainProblem) (r : RefinerySeen) (old new : HandSeen) (turn : Turn) → (turn ≡ Done) ⊎ ((why : Why) × (turn ≡ Halted why)) →
+    Made case r old new turn → Ended new
+last_ended case r old new turn (inl done) made =
+    let end : FoundEnd old new = subst (λ (t : Turn). Made case r old new t) done made in
+    let times = end.heard.1 in
+    inl (end.heard.0, omega (arith, times))
+last_ended case r old new turn (inr (why, halted)) made =
+    let stop : WasHalted why old new = subst (λ (t : Turn). Made case r old new t) halted made in
+    let times = stop.heard in
+    inr (inl (some_bits new.share.count.halts.last why stop.told, omega (arith, times)))
+
+-- one that was told to stop did not count a leaf
+pub record WasStopped (old new : HandSeen) (turn : Turn) : Type 0 where
+  pub why : Why
+  pub is : turn ≡ Halted why
+  pub leaves : new.share.count.leaves ≡ old.share.count.leaves
+
+pub told_to_stop : (case : PlainProblem) (r : RefinerySeen) (old new : HandSeen) (turn : Turn) → (why : Why) × (turn ≡ Halted why) →
+    Made case r old new turn → WasStopped old new turn
+told_to_stop case r old new turn (why, halted) made =
+    let stop : WasHalted why old new = subst (λ (t : Turn). Made case r old new t) halted made in
+    record { why = why; is = halted; leaves = stop.leaves }
+
+pub last_or_not : (last : Bool) (P Q : Type 0) → (last ≡ true → P) → Q → MatchBool last P Q
+last_or_not true P Q ended goes = ended refl
+last_or_not false P Q ended goes = goes

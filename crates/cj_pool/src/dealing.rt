@@ -13,6 +13,7 @@ use crate::steps::open;
 use crate::work::Work;
 use cj_bezier::Cell;
 use std::alloc::{AllocError, Global};
+use std::marker::PhantomData;
 use std::thread;
 use std::thread::Threads;
 
@@ -67,6 +68,56 @@ fn served<K: Run>(
     Ok(station)
 }
 
+/// Serves what stands at a place with what is its own.
+trait Serve {
+    type Place;
+
+    ghost accepts: { Self → Self.Place → Type 0 };
+
+    ghost gives: { Self → Self.Place → Self.Place → Type 0 };
+
+    fn serve(&self, place: Self::Place) -> Result<Self::Place, AllocError>
+        requires { accepts self.now place }
+        ensures { IfOk result (gives self.now place) };
+}
+
+/// The roots that are dealt, and among how many stations.
+#[derive(Drop)]
+struct Hoard<'r, K: Run> {
+    roots: &'r [Cell],
+    count: u32,
+    of: PhantomData<K>,
+}
+
+impl<'r, K: Run> Serve for Hoard<'r, K> {
+    type Place = Station<K>;
+
+    ghost accepts = { λ hoard station. (0 < hoard.count) × (hoard.roots.now ≡ K.roots) × AreRoots (plain_problem K.problem) hoard.roots.now
+        × HasPart station × IsUnopened station };
+
+    ghost gives = { λ hoard old new. IsLike old new × ((worker_view new.own).opening ≡ roots_dealt hoard.roots.now hoard.count old.number) };
+
+    fn serve(&self, place: Station<K>) -> Result<Station<K>, AllocError> {
+        served(place, self.roots, self.count)
+    }
+}
+
+/// Serves each place by a thread of its own, where there are so many.
+fn serve_all<S: Serve + Sync, R: Threads + Sync>(
+    rt: &R,
+    server: &S,
+    places: Vec<S::Place>,
+) -> Result<Vec<Result<S::Place, AllocError>>, AllocError>
+where
+    S::Place: Send + Drop,
+    requires { All (S.accepts server.now) places.items }
+    ensures len { IfOk result (λ done. vec_len done ≡ vec_len places) }
+    ensures each { IfOk result (λ done. (i : ℕ) (d e : _) → i < vec_len places
+        → IfOk (slice_index_or done.items i d) (S.gives server.now (slice_index_or places.items i e))) }
+{
+    thread::map_vec(rt, places, &|place| server.serve(place))
+}
+
 /// Each station with its own of these roots, by a thread of its own, where there are so many.
 fn serve_each<K: Run + Send + Sync, R: Threads + Sync>(
     rt: &R,
@@ -85,7 +136,12 @@ fn serve_each<K: Run + Send + Sync, R: Threads + Sync>(
         → IfOk (slice_index_or served.items i d) (λ station. (worker_view station.own).opening
         ≡ roots_dealt roots.now count (slice_index_or stations.items i e).number)) }
 {
-    thread::map_vec(rt, stations, &|station| served(station, roots, count))
+    let hoard = Hoard {
+        roots,
+        count,
+        of: PhantomData,
+    };
+    serve_all(rt, &hoard, stations)
 }
 
 /// All stations, where each was served.

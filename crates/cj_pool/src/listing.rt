@@ -12,6 +12,7 @@ ghost use Rattle.cj_bezier.specs.Order.{AreInOrder};
 ghost use Rattle.cj_bezier.specs.RootLeaves.{leaves_of_root, leaves_of_roots, Describe};
 ghost use Rattle.cj_cells.specs.Cells.{root_numbers};
 ghost use Rattle.cj_cells.specs.Lists.{list_looked, splits_of, IsSound};
+ghost use Rattle.cj_pool.specs.declared.refined.FinishError.TheVariants.{Memory, TooMany};
 ghost use Rattle.cj_pool.specs.RootLists.{AreRoots};
 
 use crate::crew::run_hands;
@@ -26,6 +27,17 @@ use std::alloc::Global;
 use std::marker::Brand;
 use std::sync::Wait;
 use std::thread::Threads;
+
+/// Why the list is refused, where the leaves of its refinery are.
+fn refused(error: FinishError) -> RefineError
+    ensures memory { error ≡ Memory → result ≡ RefineError.Memory }
+    ensures too_many { result ≡ RefineError.TooMany → (limit : ℕ) × (error ≡ TooMany limit) }
+{
+    match error {
+        FinishError::Memory => RefineError::Memory,
+        FinishError::TooMany { limit: _ } => RefineError::TooMany,
+    }
+}
 
 /// The leaves of roots in order, by so many hands on threads.
 pub fn leaves_by_hands<K: Run + Send + Sync, R: Threads + Wait + Sync, G: Gate + Sync>(
@@ -56,8 +68,7 @@ pub fn leaves_by_hands<K: Run + Send + Sync, R: Threads + Wait + Sync, G: Gate +
     let hands = run_hands(rt, alloc, &refinery, gate, hands)?;
     match refinery.finish(rt, alloc, hands) {
         Ok(refined) => Ok(refined.leaves),
-        Err(FinishError::Memory) => Err(RefineError::Memory),
-        Err(FinishError::TooMany { limit: _ }) => Err(RefineError::TooMany),
+        Err(error) => Err(refused(error)),
     }
 }
 

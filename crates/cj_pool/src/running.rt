@@ -1,5 +1,7 @@
 //! The run of a hand.
 ghost use Rattle.std.specs.Prelude.{◌≡◌, ◌⊎◌, ◌+◌, ◌<◌, true, MatchBool};
+ghost use Rattle.cj_ledger.specs.declared.why.Why.{Why};
+ghost use Rattle.cj_pool.specs.declared.turn.Turn.TheVariants.{Done, Halted};
 ghost use Rattle.cj_pool.specs.Hands.{IsHandOf, SameHand};
 ghost use Rattle.cj_pool.specs.Turns.{Ended, Rose, SetsCells};
 
@@ -13,6 +15,29 @@ use cj_ledger::Why;
 use std::alloc::Global;
 use std::sync::Wait;
 use std::thread;
+
+/// Lets other threads go on, where a turn found no cell.
+fn rest(turn: Turn) {
+    if let Turn::Idle { live: _ } = turn {
+        thread::yield_now();
+    }
+}
+
+/// Whether a hand takes no turn after one that came to this.
+fn is_last(turn: Turn) -> bool
+    ensures done { turn ≡ Done → result ≡ true }
+    ensures halted { (why : Why) → turn ≡ Halted why → result ≡ true }
+    ensures others { result ≡ true → (turn ≡ Done) ⊎ ((why : Why) × (turn ≡ Halted why)) }
+{
+    match turn {
+        Turn::Closed => false,
+        Turn::Split => false,
+        Turn::Kept => false,
+        Turn::Idle { live: _ } => false,
+        Turn::Done => true,
+        Turn::Halted { why: _ } => true,
+    }
+}
 
 impl<'p, K: Run> Hand<'p, K> {
     /// A turn, and whether it was the last one. Where it wants memory, it tells the others to stop.
@@ -29,15 +54,10 @@ impl<'p, K: Run> Hand<'p, K> {
             ≡ self.old.share.count.leaves) }
     {
         match self.turn(alloc, refinery) {
-            Ok(Turn::Closed) => false,
-            Ok(Turn::Split) => false,
-            Ok(Turn::Kept) => false,
-            Ok(Turn::Idle { live: _ }) => {
-                thread::yield_now();
-                false
+            Ok(turn) => {
+                rest(turn);
+                is_last(turn)
             }
-            Ok(Turn::Done) => true,
-            Ok(Turn::Halted { why: _ }) => true,
             Err(_) => {
                 refinery.ledger.halt(&mut self.share, Why::Memory);
                 true

@@ -1,10 +1,11 @@
 //! A refinery and its hands.
-ghost use Rattle.std.specs.Prelude.{◌≡◌, ◌≤◌, length, All, IfOk};
+ghost use Rattle.std.specs.Prelude.{◌≡◌, ◌<◌, ◌≤◌, length, All, IfOk};
 ghost use Rattle.std.specs.List.{range_with_len};
 ghost use Rattle.cj_hermite.specs.Problems.{plain_problem};
 ghost use Rattle.cj_pool.specs.Hands.{IsHandOf, IsFresh};
 ghost use Rattle.cj_pool.specs.Refined.{numbers_of};
 ghost use Rattle.cj_pool.specs.RootLists.{AreRoots};
+ghost use Rattle.cj_pool.specs.Stations.{AreDealt, AreStations, IsUnused};
 ghost use Rattle.cj_pool.specs.Weights.{weigh};
 
 use crate::dealing::deal;
@@ -13,6 +14,7 @@ use crate::hand::Hand;
 use crate::refinery::Refinery;
 use crate::run::Run;
 use crate::seating::seat;
+use crate::station::Station;
 use cj_bezier::Cell;
 use cj_hermite::Problem;
 use cj_ledger::Ledger;
@@ -25,6 +27,31 @@ const ROOM: usize = 64;
 
 /// For each root a hand has room for so many leaves at first.
 const LEAVES_A_ROOT: usize = 3;
+
+/// For so many leaves a hand has room at first.
+fn leaves_a_hand(roots: usize, workers: u32) -> usize
+    requires { 1 ≤ workers }
+{
+    (roots / workers as usize).saturating_mul(LEAVES_A_ROOT)
+}
+
+/// Stations for so many workers, with all roots on their deques.
+fn opened<K: Run + Send + Sync, R: Threads + Sync>(
+    rt: &R,
+    alloc: Global,
+    roots: &[Cell],
+    workers: u32,
+) -> Result<Vec<Station<K>>, AllocError>
+    requires workers { (workers ≡ K.workers) × (0 < workers) }
+    requires roots { (roots.now ≡ K.roots) × AreRoots (plain_problem K.problem) roots.now }
+    ensures len { IfOk result (λ stations. length stations.items ≡ workers) }
+    ensures stations { IfOk result (λ stations. AreStations K.workers stations.items) }
+    ensures unused { IfOk result (λ stations. All IsUnused stations.items) }
+    ensures dealt { IfOk result (λ stations. AreDealt roots.now stations.items) }
+{
+    let unopened = new_stations(alloc, workers, ROOM)?;
+    deal(rt, alloc, unopened, roots, workers)
+}
 
 impl<'p, K: Run + Send + Sync> Refinery<'p, K> {
     /// A refinery of these roots, for so many workers, which is to stop at more leaves than the limit, and its hands. The root at
@@ -53,9 +80,7 @@ impl<'p, K: Run + Send + Sync> Refinery<'p, K> {
         ensures shares { IfOk result (λ r. weigh (λ h. h.share.count.roots) r.1.items ≡ length roots.items) }
     {
         let (ledger, shares) = Ledger::start(alloc, roots.len() as u64, workers)?;
-        let room = (roots.len() / workers as usize).saturating_mul(LEAVES_A_ROOT);
-        let unopened = new_stations(alloc, workers, ROOM)?;
-        let stations = deal(rt, alloc, unopened, &roots, workers)?;
+        let stations = opened(rt, alloc, &roots, workers)?;
         let refinery = Refinery {
             problem,
             limit,
@@ -63,6 +88,7 @@ impl<'p, K: Run + Send + Sync> Refinery<'p, K> {
             ledger,
             of: PhantomData,
         };
+        let room = leaves_a_hand(roots.len(), workers);
         let hands = seat(alloc, problem, stations, shares, room)?;
         Ok((refinery, hands))
     }

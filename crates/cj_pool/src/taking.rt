@@ -29,6 +29,28 @@ pub(crate) struct Parts<K: Run> {
     pub kept: Vec<Cell>,
 }
 
+impl<K: Run> Parts<K> {
+    /// Adds what one hand is made of.
+    fn add(
+        &mut self,
+        station: Station<K>,
+        share: Share,
+        closed: Vec<Leaf>,
+        kept: &[Cell],
+    ) -> Result<(), AllocError>
+        ensures stations { OnOk result (self.new.stations.items ≡ self.old.stations.items ++ station ∷ []) }
+        ensures shares { OnOk result (self.new.shares.items ≡ self.old.shares.items ++ share ∷ []) }
+        ensures leaves { OnOk result (in_runs self.new.runs.items ≡ in_runs self.old.runs.items ++ closed.items) }
+        ensures kept { OnOk result (self.new.kept.items ≡ self.old.kept.items ++ kept.now) }
+    {
+        self.stations.push(station)?;
+        self.shares.push(share)?;
+        self.runs.push(closed)?;
+        self.kept.extend_from_slice(kept)?;
+        Ok(())
+    }
+}
+
 /// Adds the parts of one hand, whose share has then counted all of its leaves.
 fn take_one<'p, K: Run>(
     parts: &mut Parts<K>,
@@ -54,11 +76,7 @@ fn take_one<'p, K: Run>(
         of: _,
     } = hand;
     ledger.close(&mut share, uncounted);
-    parts.stations.push(station)?;
-    parts.shares.push(share)?;
-    parts.runs.push(leaves)?;
-    parts.kept.extend_from_slice(kept.as_slice())?;
-    Ok(())
+    parts.add(station, share, leaves, kept.as_slice())
 }
 
 /// Takes hands apart, in their order.

@@ -1,6 +1,7 @@
 use Rattle.std.proofs.Common.{◌≡◌, ◌++◌, ◌∷◌, [], length, sym, ap, ◌∙◌, subst, arith, length-append}
 use Rattle.std.specs.Prelude.{All}
 use Rattle.std.proofs.lemmas.List.{with_items_is}
+use Rattle.std.proofs.lemmas.Result.{err_from_is_err_and}
 use Rattle.cj_pool.specs.Stations.{AreStations, IsUnused, IsUnopened}
 use Rattle.cj_pool.proofs.growing.new_stations.Goals as goal
 
@@ -30,3 +31,18 @@ loop-number-preserved g c =
       unused = subst (All IsUnused) (sym items) (swap.unused (subst (All IsUnused) (sym start) i.unused));
       unopened = subst (All IsUnopened) (sym items) (swap.unopened (subst (All IsUnopened) (sym start) i.unopened));
     }
+
+pub returns-in_err-next : goal.returns-in_err-next
+returns-in_err-next g c =
+    let p = err_from_is_err_and c.from_residual.result c.from_residual.ensures.1 in
+    rw p.1 (record { len = tt; stations = tt; unused = tt; unopened = tt })
+
+pub returns-in_err-swap_with_each : goal.returns-in_err-swap_with_each
+returns-in_err-swap_with_each g c =
+    let p = err_from_is_err_and c.from_residual-in_err-swap_with_each.result c.from_residual-in_err-swap_with_each.ensures.1 in
+    rw p.1 (record { len = tt; stations = tt; unused = tt; unopened = tt })
+
+pub returns-in_err-push : goal.returns-in_err-push
+returns-in_err-push g c =
+    let p = err_from_is_err_and c.from_residual-in_err-push.result c.from_residual-in_err-push.ensures.1 in
+    rw p.1 (record { len = tt; stations = tt; unused = tt; unopened = tt })

@@ -1,5 +1,6 @@
 use Rattle.std.proofs.Common.{◌≡◌, List, length, All, sym, ap, subst, ◌∙◌, arith}
 use Rattle.std.specs.List.{range_with_len}
+use Rattle.std.proofs.lemmas.Result.{err_from_is_err_and}
 use Rattle.cj_hermite.specs.declared.problem.Problem.{Problem}
 use Rattle.cj_hermite.specs.Problems.{plain_problem}
 use Rattle.cj_bezier.specs.declared.cell.Cell.{Cell}
@@ -28,3 +29,13 @@ returns-in-Ok-clause-leaves g c =
     let seen = c.in_ok-refinery.ensures.seen in
     subst (λ (p : Problem). All (λ root. Describe (plain_problem p) root (leaves_of_root (plain_problem p) root)) (plain_cells c.args.roots.items)) seen.0
     (subst (λ (cells : List Cell). All (λ root. Describe (plain_problem c.in_ok-refinery.refinery.problem) root (leaves_of_root (plain_problem c.in_ok-refinery.refinery.problem) root)) (plain_cells cells)) seen.1 c.finish.ensures.describe)
+
+pub returns-in_err-refinery : goal.returns-in_err-refinery
+returns-in_err-refinery g c =
+    let p = err_from_is_err_and c.from_residual.result c.from_residual.ensures.1 in
+    rw (p.1, p.2) (record { value = tt; within = tt; too_many = λ is. absurd cc; leaves = tt })
+
+pub returns-in_err-hands : goal.returns-in_err-hands
+returns-in_err-hands g c =
+    let p = err_from_is_err_and c.from_residual-in_err-hands.result c.from_residual-in_err-hands.ensures.1 in
+    rw (p.1, p.2) (record { value = tt; within = tt; too_many = λ is. absurd cc; leaves = tt })

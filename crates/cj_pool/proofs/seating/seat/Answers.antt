@@ -2,6 +2,7 @@ use Rattle.std.proofs.Common.{◌≡◌, ℕ, ◌+◌, ◌-◌, [], ◌∷◌, m
 use Rattle.std.specs.Prelude.{All}
 use Rattle.std.specs.List.{range_with_len}
 use Rattle.std.proofs.lemmas.List.{length-map}
+use Rattle.std.proofs.lemmas.Result.{err_from_is_err_and}
 use Rattle.cj_hermite.specs.Problems.{plain_problem}
 use Rattle.cj_pool.specs.Hands.{HandSeen, IsUnstarted, roots_dealt}
 use Rattle.cj_pool.specs.Refined.{numbers_of}
@@ -73,3 +74,13 @@ loop-station-preserved g c =
           ∙ shares_before l.hands.items _ c.args.shares.items k (omega (arith, seat.below, r.len.1)) seat.share_is
           (i.seated ∙ ap (λ (m : ℕ). drop m c.args.shares.items) count);
     }
+
+pub returns-in_err-leaves : goal.returns-in_err-leaves
+returns-in_err-leaves g c =
+    let p = err_from_is_err_and c.from_residual.result c.from_residual.ensures.1 in
+    rw p.1 (record { numbers = tt; deques = tt; unstarted = tt; opening = tt; shares = tt })
+
+pub returns-in_err-push : goal.returns-in_err-push
+returns-in_err-push g c =
+    let p = err_from_is_err_and c.from_residual-in_err-push.result c.from_residual-in_err-push.ensures.1 in
+    rw p.1 (record { numbers = tt; deques = tt; unstarted = tt; opening = tt; shares = tt })

@@ -1,10 +1,9 @@
-use Rattle.std.proofs.Common.{◌≡◌, ◌+◌, ◌<◌, List, ◌∷◌, rules, vec_len, ap, ◌∙◌, sym, subst, arith}
+use Rattle.std.proofs.Common.{◌≡◌, ◌<◌, List, ◌∷◌, rules, vec_len, ap, ◌∙◌, sym, subst, arith, [], refl, append-nil}
 use Rattle.std.proofs.lemmas.List.{nil_from_length}
+use Rattle.std.proofs.lemmas.Result.{err_from_is_err_and}
 use Rattle.cj_hermite.specs.Problems.{plain_problem}
 use Rattle.cj_pool.specs.Hands.{HandSeen}
 use Rattle.cj_pool.specs.Refined.{in_runs}
-use Rattle.cj_pool.specs.Weights.{weigh}
-use Rattle.cj_pool.proofs.HandSumLemmas.{all_taken}
 use Rattle.cj_pool.proofs.TakeLemmas.{AreTaken, first_of, sum_ends, taken_begins, taken_step, taken_stations}
 use Rattle.cj_pool.proofs.taking.take_apart.Goals as goal
 
@@ -29,31 +28,34 @@ loop-refinery-init g c =
     c.new-2.result.items (in_runs c.new-3.result.items) c.new-4.result.items c.requires.hands c.requires.all
     c.new.ensures.items c.new-2.ensures.items (ap in_runs c.new-3.ensures.items) c.new-4.ensures.items
 
-pub returns-clause-stations : goal.returns-clause-stations
-returns-clause-stations g c =
-    let l = c.loop-refinery in
-    let none : vec_len l.hands ≡ 0 = search rules in
-    let rest = nil_from_length l.hands.items (omega (arith, none, l.hands.ok.0)) in
-    taken_stations (plain_problem g.K.Run.problem) g.K.Run.roots g.K.Run.workers c.args.refinery.now c.args.hands.items l.parts.stations.items
-    l.parts.shares.items (in_runs l.parts.runs.items) l.parts.kept.items
-    (subst (λ (hs : List HandSeen). AreTaken (plain_problem g.K.Run.problem) g.K.Run.roots g.K.Run.workers c.args.refinery.now c.args.hands.items hs
-    l.parts.stations.items l.parts.shares.items (in_runs l.parts.runs.items) l.parts.kept.items) rest l.invariant)
+pub returns-in_err-take_one : goal.returns-in_err-take_one
+returns-in_err-take_one g c =
+    let p = err_from_is_err_and c.from_residual.result c.from_residual.ensures.1 in
+    rw p.1 (record { stations = tt; len = tt; given = tt; taken = tt; shares = tt; leaves = tt; kept = tt; accounts = tt })
 
-pub returns-clause-given : goal.returns-clause-given
-returns-clause-given g c w =
+pub returns : goal.returns
+returns g c =
+    let case = plain_problem g.K.Run.problem in
+    let roots = g.K.Run.roots in
+    let n = g.K.Run.workers in
+    let refinery = c.args.refinery.now in
+    let all = c.args.hands.items in
     let l = c.loop-refinery in
+    let stations = l.parts.stations.items in
+    let shares = l.parts.shares.items in
+    let leaves = in_runs l.parts.runs.items in
+    let kept = l.parts.kept.items in
     let none : vec_len l.hands ≡ 0 = search rules in
     let rest = nil_from_length l.hands.items (omega (arith, none, l.hands.ok.0)) in
-    let all = l.invariant.given w in
-    let zero : weigh (λ (h : HandSeen). weigh w h.opening + weigh w h.pushed) l.hands.items ≡ 0 = ap
-    (weigh (λ (h : HandSeen). weigh w h.opening + weigh w h.pushed)) rest in
-    sum_ends _ _ _ all zero
-
-pub returns-clause-taken : goal.returns-clause-taken
-returns-clause-taken g c w =
-    let l = c.loop-refinery in
-    let none : vec_len l.hands ≡ 0 = search rules in
-    let rest = nil_from_length l.hands.items (omega (arith, none, l.hands.ok.0)) in
-    let all = l.invariant.taken w in
-    let zero : all_taken w l.hands.items ≡ 0 = ap (all_taken w) rest in
-    sum_ends _ _ _ all zero
+    let done : AreTaken case roots n refinery all [] stations shares leaves kept = subst
+    (λ (hs : List HandSeen). AreTaken case roots n refinery all hs stations shares leaves kept) rest l.invariant in
+    record {
+      stations = taken_stations case roots n refinery all stations shares leaves kept done;
+      len = omega (arith, done.count);
+      given = λ w. sum_ends _ _ _ (done.given w) refl;
+      taken = λ w. sum_ends _ _ _ (done.taken w) refl;
+      shares = sym (append-nil shares) ∙ done.shares_are;
+      leaves = sym (append-nil leaves) ∙ done.leaves_are;
+      kept = sym (append-nil kept) ∙ done.kept_are;
+      accounts = done.accounts (λ i d lt. absurd (omega arith));
+    }

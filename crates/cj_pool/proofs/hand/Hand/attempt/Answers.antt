@@ -8,7 +8,7 @@ use Rattle.cj_ledger.specs.Shares.{LedgerSeen, IsOf}
 use Rattle.cj_pool.specs.declared.account.Account.{Account}
 use Rattle.cj_pool.specs.Hands.{RefinerySeen, HandSeen}
 use Rattle.cj_pool.specs.Narrow.{Narrow}
-use Rattle.cj_pool.specs.Passes.{takens, around}
+use Rattle.cj_pool.specs.Passes.{takens, around, deques_of}
 use Rattle.cj_pool.specs.Tree.{InTree}
 use Rattle.cj_pool.specs.Turns.{SetsCells}
 use Rattle.cj_pool.proofs.AccountLemmas.{same_accounts, closed_accounts, split_accounts, kept_accounts}
@@ -354,3 +354,75 @@ returns-in-Halves-clause-memory g c = c.count_halving.ensures.memory ∙ ap (λ 
 pub returns-in-Halves-clause-halts : goal.returns-in-Halves-clause-halts
 returns-in-Halves-clause-halts g c = λ some.
     absurd (omega (arith, (c.in_default.ensures {u = tt}).none, c.halted.ensures.set (subst (λ (h : HandSeen). 0 < h.share.count.cells + h.share.count.memory) (sym c.self.view_is) some)))
+
+pub returns-in-Some-clause-hand : goal.returns-in-Some-clause-hand
+returns-in-Some-clause-hand g c =
+    let ledger = c.halted.ensures.ledger ∙ ap (λ (h : HandSeen). h.share.ledger) c.self.view_is ∙ c.requires.1.0 in
+    let opening = ap (λ (v : Count). v.opening) c.halted.ensures.count ∙ ap (λ (h : HandSeen). h.share.count.opening) c.self.view_is ∙ c.requires.1.1 in
+    still_of c.args.refinery.now _ _ _ c.self.view_is c.requires refl (ledger, opening)
+    (record { number = refl; problem = refl; opening = refl })
+
+pub returns-in-Some-clause-wants : goal.returns-in-Some-clause-wants
+returns-in-Some-clause-wants g c = ap (λ (h : HandSeen). h.wants) c.self.view_is
+
+pub returns-in-Some-clause-cells : goal.returns-in-Some-clause-cells
+returns-in-Some-clause-cells g c =
+    inl (
+      ap (λ (v : Count). v.cells) c.halted.ensures.count ∙ ap (λ (h : HandSeen). h.share.count.cells) c.self.view_is,
+      inl (ap (λ (v : Count). v.leaves) c.halted.ensures.count ∙ ap (λ (h : HandSeen). h.share.count.leaves) c.self.view_is),
+    )
+
+pub returns-in-Some-clause-memory : goal.returns-in-Some-clause-memory
+returns-in-Some-clause-memory g c = ap (λ (v : Count). v.memory) c.halted.ensures.count ∙ ap (λ (h : HandSeen). h.share.count.memory) c.self.view_is
+
+pub halted-requires : goal.halted-requires
+halted-requires g c =
+    let hand = c.self.view_is in
+    let refinery = c.refinery.view_is in
+    let is = c.requires.1 in (
+      ap (λ (h : HandSeen). h.share.ledger) hand ∙ is.0 ∙ sym (ap (λ (r : RefinerySeen). r.ledger.id) refinery),
+      ap (λ (h : HandSeen). h.share.count.opening) hand ∙ is.1 ∙ sym (ap (λ (r : RefinerySeen). r.ledger.opening) refinery),
+    )
+
+pub invariant_of-self : goal.invariant_of-self
+invariant_of-self g c =
+    let inv = c.self.invariant in (
+      inv.0,
+      inv.1,
+      inv.2,
+      inv.3,
+      inv.4,
+      same_accounts (plain_problem g.K.Run.problem) g.K.Run.roots g.K.Run.workers _ _ inv.5 (record { number = refl; problem = refl; opening = refl }) refl
+          (record { taken = refl; closed = refl; pushed = refl; kept = refl })
+          (omega (arith, ap (λ (v : Count). v.closes) c.halted.ensures.count))
+          (ap (λ (v : Count). v.firsts) c.halted.ensures.count),
+    )
+
+pub pick-picked-requires-clause-number : goal.pick-picked-requires-clause-number
+pick-picked-requires-clause-number g c = omega (arith, ap length c.as_slice.ensures.value, c.refinery.invariant.6, c.self.invariant.5.number)
+
+pub pick-picked-requires-clause-deques : goal.pick-picked-requires-clause-deques
+pick-picked-requires-clause-deques g c =
+    ap (λ (h : HandSeen). h.deques) c.self.view_is ∙ c.requires.0 ∙ sym (ap (λ (r : RefinerySeen). r.deques) c.refinery.view_is)
+    ∙ ap deques_of (sym c.as_slice.ensures.value)
+
+pub pick-picked-requires-clause-place : goal.pick-picked-requires-clause-place
+pick-picked-requires-clause-place g c = c.self.invariant.4
+
+pub pick-picked-requires-clause-below : goal.pick-picked-requires-clause-below
+pick-picked-requires-clause-below g c = c.self.invariant.1
+
+pub pick-picked-requires-clause-above : goal.pick-picked-requires-clause-above
+pick-picked-requires-clause-above g c = c.self.invariant.2
+
+pub pick-picked-requires-clause-seated : goal.pick-picked-requires-clause-seated
+pick-picked-requires-clause-seated g c = c.self.invariant.3
+
+pub pick-picked-requires-clause-roots : goal.pick-picked-requires-clause-roots
+pick-picked-requires-clause-roots g c = c.self.invariant.5.roots_are
+
+pub pick-picked-requires-clause-tree : goal.pick-picked-requires-clause-tree
+pick-picked-requires-clause-tree g c = c.self.invariant.5.tree
+
+pub pick-picked-requires-clause-narrow : goal.pick-picked-requires-clause-narrow
+pick-picked-requires-clause-narrow g c = c.self.invariant.5.narrow

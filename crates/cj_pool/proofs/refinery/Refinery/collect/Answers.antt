@@ -1,6 +1,7 @@
 use Rattle.std.proofs.Common.{◌≡◌, ℕ, length, take, vec_len, sym, ap, ◌∙◌, subst, arith}
 use Rattle.std.specs.Prelude.{All}
 use Rattle.std.specs.List.{range_with_len}
+use Rattle.std.proofs.lemmas.Result.{err_from_is_err_and}
 use Rattle.cj_hermite.specs.Problems.{plain_problem}
 use Rattle.cj_pool.specs.Stations.{weigh_given, weigh_all_taken}
 use Rattle.cj_pool.specs.Tree.{InTree}
@@ -32,3 +33,18 @@ returns-clause-all g c =
 
 pub returns-clause-ordered : goal.returns-clause-ordered
 returns-clause-ordered g c = leaves_in_order c.in_ok-leaves.leaves.items c.in_ok-leaves.ensures.ordered
+
+pub returns-in_err-parts : goal.returns-in_err-parts
+returns-in_err-parts g c =
+    let p = err_from_is_err_and c.from_residual.result c.from_residual.ensures.1 in
+    rw p.1 (record { all = tt; leaves = tt; ordered = tt; shares = tt })
+
+pub returns-in_err-gather : goal.returns-in_err-gather
+returns-in_err-gather g c =
+    let p = err_from_is_err_and c.from_residual-in_err-gather.result c.from_residual-in_err-gather.ensures.1 in
+    rw p.1 (record { all = tt; leaves = tt; ordered = tt; shares = tt })
+
+pub returns-in_err-leaves : goal.returns-in_err-leaves
+returns-in_err-leaves g c =
+    let p = err_from_is_err_and c.from_residual-in_err-leaves.result c.from_residual-in_err-leaves.ensures.1 in
+    rw p.1 (record { all = tt; leaves = tt; ordered = tt; shares = tt })

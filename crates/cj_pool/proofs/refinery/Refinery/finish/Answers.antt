@@ -24,8 +24,8 @@ refine_rest-requires-clause-kept g c =
     subst (All (IsKept (plain_problem r.problem))) (sym c.deref.ensures.value)
     (all_kept r c.args.hands.items c.in_ok-found.found.cells.items c.in_ok-found.ensures.all)
 
-pub returns-in_err-leaves-clause-refused : goal.returns-in_err-leaves-clause-refused
-returns-in_err-leaves-clause-refused g c =
+pub returns-in_err-leaves : goal.returns-in_err-leaves
+returns-in_err-leaves g c =
     let r = c.args.self in
     let hands = c.args.hands.items in
     let came = c.in_ok-found.ensures in
@@ -37,7 +37,34 @@ returns-in_err-leaves-clause-refused g c =
     let left = ap (λ (cs : List Cell). length (leaves_of_roots (plain_problem r.problem) (plain_cells cs))) c.deref.ensures.value in omega (arith, same, left)) in
     let stands = all_refused r hands cells came.all error (subst (λ (m : ℕ). IsTooMany r.limit m error) many c.in_err-leaves.ensures.too_many) in
     let q = err_from_is_err_and c.from_residual-in_err-leaves.result c.from_residual-in_err-leaves.ensures.1 in
-    rw (q.1, q.2) stands
+    let roots = c.have_roots.ensures in
+    rw (q.1, q.2) (record {
+      refused = stands;
+      within = tt;
+      value = tt;
+      judged = tt;
+      closed = tt;
+      totals = tt;
+      once = tt;
+      single = roots.single;
+      describe = roots.describe;
+    })
+
+pub returns-in_err-found : goal.returns-in_err-found
+returns-in_err-found g c =
+    let p = err_from_is_err_and c.from_residual.result c.from_residual.ensures.1 in
+    let roots = c.have_roots.ensures in
+    rw (p.1, p.2) (record {
+      refused = tt;
+      within = tt;
+      value = tt;
+      judged = tt;
+      closed = tt;
+      totals = tt;
+      once = tt;
+      single = roots.single;
+      describe = roots.describe;
+    })
 
 pub overflow_sub-added : goal.overflow_sub-added
 overflow_sub-added g c =

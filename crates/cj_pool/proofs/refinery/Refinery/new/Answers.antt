@@ -1,5 +1,6 @@
 use Rattle.std.proofs.Common.{◌≡◌, length, sym, ap, ◌∙◌, subst, arith}
 use Rattle.std.proofs.lemmas.List.{length-map}
+use Rattle.std.proofs.lemmas.Result.{err_from_is_err_and}
 use Rattle.cj_hermite.specs.Problems.{plain_problem}
 use Rattle.cj_hermite.specs.declared.problem.Problem.{Problem}
 use Rattle.cj_ledger.specs.Shares.{ShareSeen, IsOf, IsNew}
@@ -48,3 +49,23 @@ pub returns-clause-shares : goal.returns-clause-shares
 returns-clause-shares g c =
     share_sum (λ (h : HandSeen). h.share) (λ (s : ShareSeen). s.count.roots) c.in_ok-hands.hands.items c.in_ok-ledger.shares.items c.in_ok-hands.ensures.shares ∙
     c.in_ok-ledger.ensures.roots ∙ omega (arith, c.len.ensures, c.args.roots.ok.0)
+
+pub returns-in_err-ledger : goal.returns-in_err-ledger
+returns-in_err-ledger g c =
+    let p = err_from_is_err_and c.from_residual.result c.from_residual.ensures.1 in
+    rw p.1 (record { seen = tt; hands = tt; numbers = tt; fresh = tt; shares = tt })
+
+pub returns-in_err-stations : goal.returns-in_err-stations
+returns-in_err-stations g c =
+    let p = err_from_is_err_and c.from_residual-in_err-stations.result c.from_residual-in_err-stations.ensures.1 in
+    rw p.1 (record { seen = tt; hands = tt; numbers = tt; fresh = tt; shares = tt })
+
+pub returns-in_err-thieves_of : goal.returns-in_err-thieves_of
+returns-in_err-thieves_of g c =
+    let p = err_from_is_err_and c.from_residual-in_err-thieves_of.result c.from_residual-in_err-thieves_of.ensures.1 in
+    rw p.1 (record { seen = tt; hands = tt; numbers = tt; fresh = tt; shares = tt })
+
+pub returns-in_err-hands : goal.returns-in_err-hands
+returns-in_err-hands g c =
+    let p = err_from_is_err_and c.from_residual-in_err-hands.result c.from_residual-in_err-hands.ensures.1 in
+    rw p.1 (record { seen = tt; hands = tt; numbers = tt; fresh = tt; shares = tt })

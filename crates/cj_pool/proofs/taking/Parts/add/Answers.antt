@@ -1,0 +1,22 @@
+use Rattle.std.proofs.lemmas.Result.{err_from_is_err_and}
+use Rattle.cj_pool.proofs.taking.Parts.add.Goals as goal
+
+pub returns-in_err-push : goal.returns-in_err-push
+returns-in_err-push g c =
+    let p = err_from_is_err_and c.from_residual.result c.from_residual.ensures.1 in
+    rw p.1 (record { stations = tt; shares = tt; leaves = tt; kept = tt })
+
+pub returns-in_err-push-2 : goal.returns-in_err-push-2
+returns-in_err-push-2 g c =
+    let p = err_from_is_err_and c.from_residual-in_err-push-2.result c.from_residual-in_err-push-2.ensures.1 in
+    rw p.1 (record { stations = tt; shares = tt; leaves = tt; kept = tt })
+
+pub returns-in_err-push-3 : goal.returns-in_err-push-3
+returns-in_err-push-3 g c =
+    let p = err_from_is_err_and c.from_residual-in_err-push-3.result c.from_residual-in_err-push-3.ensures.1 in
+    rw p.1 (record { stations = tt; shares = tt; leaves = tt; kept = tt })
+
+pub returns-in_err-extend_from_slice : goal.returns-in_err-extend_from_slice
+returns-in_err-extend_from_slice g c =
+    let p = err_from_is_err_and c.from_residual-in_err-extend_from_slice.result c.from_residual-in_err-extend_from_slice.ensures.1 in
+    rw p.1 (record { stations = tt; shares = tt; leaves = tt; kept = tt })
