@@ -10,5 +10,6 @@ returns c =
     let originator = c.in-Some.ensures ∙ ap (originator_or (codes "CONJ")) c.value_of.ensures in
     let cells = c.in-Some-number_or.ensures.value ∙ ap (number_or 1 4_000_000 4_000_000) c.value_of-2.ensures in
     let version = c.in-Some-number_or-2.ensures.value ∙ ap (number_or 1 2 1) c.value_of-3.ensures in
-    let settings = (sym c.in_ok-unsized_settings.ensures, sym c.in_ok-settings.ensures) in
-    rw (sym c.in_ok-threshold.ensures.value, sym c.in_ok-workers.ensures.value, settings.0, sym originator, sym cells, settings.1, sym version) refl
+    let some = sym c.in_ok-unsized_settings.ensures in
+    let all = sym c.in_ok-settings.ensures in
+    rw (sym c.in_ok-threshold.ensures.value, sym c.in_ok-workers.ensures.value, some, sym originator, sym cells, all, sym version) refl
