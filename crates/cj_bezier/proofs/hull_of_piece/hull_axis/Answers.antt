@@ -1,7 +1,6 @@
 use Rattle.std.proofs.Common.{◌≡◌, ℕ, ◌≤◌, arith, refl, ap, ◌∙◌}
 use Rattle.std.specs.Prelude.{ℤ}
 use Rattle.cj_interval.specs.Rounding.{floor_div, ceil_div}
-use Rattle.cj_hermite.specs.Boxes.{first_lows, first_highs, second_lows, second_highs}
 use Rattle.cj_hermite.specs.Interpolant.{Four}
 use Rattle.cj_hermite.specs.Levels.{Three, Two, first_values, second_values, third_value, polar}
 use Rattle.cj_hermite.specs.Ready.{controls_ready}
