@@ -46,9 +46,11 @@ fn search_all<R: Threads + Sync>(
     limit: u64,
 ) -> Result<SlotRun, RefineError>
     requires { limit ≤ 4_000_000 }
-    ensures too_many { IsErrOf result RefineError.TooMany → limit < length (roots_of (is_looked (plain_problem ground.now.problem.now)) (plain_problem ground.now.problem.now)) }
+    ensures too_many { IsErrOf result RefineError.TooMany
+        → limit < length (roots_of (is_looked (plain_problem ground.now.problem.now)) (plain_problem ground.now.problem.now)) }
 
-    ensures roots { IfOk result (λ run. plain_cells run.roots.items ≡ roots_of (is_looked (plain_problem ground.now.problem.now)) (plain_problem ground.now.problem.now)) }
+    ensures roots { IfOk result (λ run. plain_cells run.roots.items
+        ≡ roots_of (is_looked (plain_problem ground.now.problem.now)) (plain_problem ground.now.problem.now)) }
     ensures numbered { IfOk result (λ run. root_numbers run.roots.items ≡ range_with_len 0 (vec_len run.roots)) }
     ensures few { IfOk result (λ run. vec_len run.roots ≤ limit) }
     ensures touching { IfOk result (λ run. run.touching ≡ looked_count (plain_problem ground.now.problem.now)) }

@@ -323,7 +323,8 @@ same_pair true false next same = absurd cc
 same_pair false b next same = absurd cc
 
 -- the encounters of all leaves
-pub all_of : (leaves : List Leaf) (at : ℕ) (es : List Encounter) → length leaves ≤ at → AreEncounters (take at (plain_leaves leaves)) es → AreEncounters (plain_leaves leaves) es
+pub all_of : (leaves : List Leaf) (at : ℕ) (es : List Encounter) → length leaves ≤ at → AreEncounters (take at (plain_leaves leaves)) es
+    → AreEncounters (plain_leaves leaves) es
 all_of leaves at es end found =
     subst (λ (ss : List PlainLeaf). AreEncounters ss es) (take_all at (plain_leaves leaves) (omega (arith, end, length-map leaves plain_leaf))) found
 

@@ -37,8 +37,10 @@ module _ {X : Type 0} where
       subst (IsPermutation (flat_map items ys)) (sym (so_far ∙ ap (flat_map items) (take_all i ys end))) (IsPermutation-refl (flat_map items ys))
 
   -- the first lists as slices, and one more
-  pub slices_more : {Y : Type 0} (items : Y → List X) (ys : List Y) (i : ℕ) (y : Y) (old new : List (Bor (List X))) (slice : Bor (List X)) → i < length ys → y ≡ get_or ys i y
-      → new ≡ old ++ slice ∷ [] → slice.now ≡ items y → map (λ run. run.now) old ≡ map items (take i ys) → map (λ run. run.now) new ≡ map items (take (i + 1) ys)
+  pub slices_more : {Y : Type 0} (items : Y → List X) (ys : List Y) (i : ℕ) (y : Y) (old new : List (Bor (List X))) (slice : Bor (List X)) → i < length ys
+      → y ≡ get_or ys i y
+      → new ≡ old ++ slice ∷ [] → slice.now ≡ items y → map (λ run. run.now) old ≡ map items (take i ys)
+      → map (λ run. run.now) new ≡ map items (take (i + 1) ys)
   slices_more {Y} items ys i y old new slice lt is grown same so_far =
       ap (map (λ run. run.now)) grown ∙ map-append (λ run. run.now) old (slice ∷ []) ∙ ap (λ (xs : List (List X)). xs ++ slice.now ∷ []) so_far
       ∙ ap (λ (xs : List X). map items (take i ys) ++ xs ∷ []) same ∙ sym (map-append items (take i ys) (y ∷ []))

@@ -49,4 +49,5 @@ step_parted was now whole run next leaves i leaf short is off alone written befo
 pub step_last : (was now whole : List ℕ) (run : PlainLeaf) (leaves : List Leaf) (i : ℕ) → length leaves ≤ i → now ≡ was ++ span_line run →
     was ++ lines_from run leaves i ≡ whole → now ≡ whole
 step_last was now whole run leaves i end written before =
-    written ∙ (ap (λ t. was ++ t) (sym (ap (λ l. flat_map span_line (spans_of (run ∷ plain_leaves l))) (drop_all i leaves end) ∙ append-nil (span_line run))) ∙ before)
+    written ∙ (ap (λ t. was ++ t) (sym (ap (λ l. flat_map span_line (spans_of (run ∷ plain_leaves l))) (drop_all i leaves end)
+    ∙ append-nil (span_line run))) ∙ before)

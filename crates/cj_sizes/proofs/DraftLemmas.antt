@@ -1,18 +1,20 @@
 -- The designators of the sizes so far.
-use Rattle.std.proofs.Common.{◌≡◌, ℕ, ◌<◌, length, get_or, length-append, arith, Bool, true, false, cond, ◌||◌, List, [], ◌∷◌, ◌++◌, bytes_eq, ap, sym, ◌∙◌, refl, subst, nat_cmp, Bor}
+use Rattle.std.proofs.Common.{◌≡◌, ℕ, ◌<◌, length, get_or, length-append, arith, Bool, true, false, cond, ◌||◌, not, Ok, List, [], ◌∷◌, ◌++◌, bytes_eq, ap, sym, ◌∙◌, refl, subst, nat_cmp, Bor}
 use Rattle.std.specs.BTreeSet as sorted
 use Rattle.std.specs.BTreeSet.{BTreeSet}
 use Rattle.std.specs.Cmp.Lexicographic.{slice_cmp, nat_list_eq_equiv}
 use Rattle.std.specs.List.{IsDistinct, list_any}
 use Rattle.std.proofs.Math.ListN.{get_or-append}
 use Rattle.std.proofs.Math.Seq.{get_or-append_seam}
+use Rattle.std.proofs.lemmas.Bool.{not-true}
 use Rattle.std.proofs.lemmas.List.{map-append}
 use Rattle.std.proofs.lemmas.Map.Keys.{IsDistinct-push, apart_from_distinct}
 use Rattle.std.proofs.lemmas.List.Folds.{list_any-append, list_any_none}
 use Rattle.std.proofs.lemmas.Map.Text.{is_eq-slice_cmp}
-use Rattle.cj_sizes.specs.Reading.{is_named}
+use Rattle.cj_sizes.specs.declared.size_line.SizeLine.{SizeLine}
+use Rattle.cj_sizes.specs.Reading.{is_named, with_size}
 use Rattle.cj_sizes.specs.Readers.{HasIds}
-use Rattle.cj_sizes.specs.Sizes.{Size, ids_of}
+use Rattle.cj_sizes.specs.Sizes.{Size, ids_of, size_of, sizes_of}
 
 -- an id is named by the sizes with a further one where this one names it or those before do
 pub named_more : (sizes : List Size) (size : Size) (id : List ℕ) → is_named (sizes ++ size ∷ []) id ≡ cond (bytes_eq size.id id) true (is_named sizes id)
@@ -37,6 +39,22 @@ ids_more ids new key sizes more size has updates e same = λ id.
     ∙ ap (λ (text : List ℕ). cond (bytes_eq text id) true (is_named sizes id)) (sym same)
     ∙ sym (named_more sizes size id)
     ∙ ap (λ (ss : List Size). is_named ss id) (sym e)
+
+-- the sizes of some lines, and of one more
+pub sizes_pushed : (old new : List SizeLine) (line : SizeLine) (id : List ℕ) → new ≡ old ++ line ∷ [] → line.id ≡ id
+    → sizes_of new ≡ sizes_of old ++ record { id = id; radius = line.radius } ∷ []
+sizes_pushed old new line id grown same =
+    ap sizes_of grown ∙ map-append size_of old (line ∷ []) ∙ ap (λ (text : List ℕ). sizes_of old ++ record { id = text; radius = line.radius } ∷ []) same
+
+-- a size whose id the set took is put behind those before it
+pub put_behind : (ids : BTreeSet (Bor (List ℕ))) (key : Bor (List ℕ)) (sizes more : List Size) (size : Size) (added : Bool) → HasIds ids sizes
+    → added ≡ not (sorted.contains_by (λ k. slice_cmp nat_cmp key.now k.now) ids) → added ≡ true → size.id ≡ key.now → more ≡ sizes ++ size ∷ []
+    → with_size sizes size ≡ Ok more
+put_behind ids key sizes more size added has is_added new same grown =
+    let named : is_named sizes size.id ≡ false =
+    sym (has size.id) ∙ ap (λ (id : List ℕ). sorted.contains_by (λ k. slice_cmp nat_cmp id k.now) ids) same
+    ∙ not-true (sorted.contains_by (λ k. slice_cmp nat_cmp key.now k.now) ids) (sym is_added ∙ new) in
+    rw named (ap (λ (ss : List Size). Ok ss) (sym grown))
 
 -- ids that differ differ with a further one that is not among them
 pub distinct_more : (sizes : List Size) (size : Size) → IsDistinct bytes_eq (ids_of sizes) → is_named sizes size.id ≡ false → IsDistinct bytes_eq (ids_of (sizes ++ size ∷ []))

@@ -39,7 +39,8 @@ pub radii_within : (lines : List SizeLine) (ids : List (Bor (List ℕ))) → All
 radii_within lines ids = All-map (λ radius. radius ≤ MAX_RADIUS) (λ (id : Bor (List ℕ)). radius_of (sizes_of lines) id.now) ids (λ k d h. radius_of_within lines (get_or ids k d).now)
 
 -- the radii of the first objects, and of one more
-pub radii_more : (lines : List SizeLine) (ids : List (Bor (List ℕ))) (i : ℕ) (d : Bor (List ℕ)) (old new : List ℕ) (radius : ℕ) → i < length ids → new ≡ old ++ radius ∷ []
+pub radii_more : (lines : List SizeLine) (ids : List (Bor (List ℕ))) (i : ℕ) (d : Bor (List ℕ)) (old new : List ℕ) (radius : ℕ) → i < length ids
+    → new ≡ old ++ radius ∷ []
     → radius ≡ radius_of (sizes_of lines) (get_or ids i d).now → old ≡ map (λ id. radius_of (sizes_of lines) id.now) (take i ids)
     → new ≡ map (λ id. radius_of (sizes_of lines) id.now) (take (i + 1) ids)
 radii_more lines ids i d old new radius lt grown here so_far =

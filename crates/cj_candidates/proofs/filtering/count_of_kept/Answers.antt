@@ -21,4 +21,5 @@ invariant_of-objects c =
 pub returns : goal.returns
 returns c =
     let ground = c.args.ground.now in
-    c.count_kept.ensures.value ∙ ap length (kept_is (plain_problem ground.problem.now) ground.shells.now c.as_slice.result.now ground.in_shells c.as_slice.ensures.value)
+    c.count_kept.ensures.value ∙ ap length (kept_is (plain_problem ground.problem.now) ground.shells.now c.as_slice.result.now ground.in_shells
+    c.as_slice.ensures.value)

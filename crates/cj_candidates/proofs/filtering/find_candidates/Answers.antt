@@ -18,7 +18,8 @@ invariant_of-ground g c =
     let all : map plain_track tracks ≡ case.ephemerides = ap (λ (ts : List Track). map plain_track ts) c.as_slice-tracks.ensures.value in
     record {
       in_shells = c.deref.ensures.value ∙ case_shells case tracks c.slot_count-slots.result run all c.in_ok-shells.ensures;
-      in_boxes = ap plain_boxes c.deref-2.ensures.value ∙ case_boxes case tracks c.slot_count-slots.result run all c.slot_count-slots.ensures c.in_ok-shells.ensures;
+      in_boxes = ap plain_boxes c.deref-2.ensures.value ∙ case_boxes case tracks c.slot_count-slots.result run all c.slot_count-slots.ensures
+          c.in_ok-shells.ensures;
       counted = c.slot_count-slots.ensures;
     }
 

@@ -26,7 +26,8 @@ pub returns-clause-roots : goal.returns-clause-roots
 returns-clause-roots g c =
     let case = plain_problem c.args.ground.now.problem.now in
     c.order_roots.ensures.all (is_looked case) case
-    (subst (λ (rs : List PlainCell). IsPermutation rs (plain_cells c.in_ok-found.found.roots.items)) (ap (λ (n : ℕ). roots_over case 0 n) c.args.ground.now.counted ∙ by_slot case)
+    (subst (λ (rs : List PlainCell). IsPermutation rs (plain_cells c.in_ok-found.found.roots.items))
+    (ap (λ (n : ℕ). roots_over case 0 n) c.args.ground.now.counted ∙ by_slot case)
     c.in_ok-found.ensures.found.roots)
 
 pub returns-clause-numbered : goal.returns-clause-numbered
@@ -36,7 +37,15 @@ pub returns-clause-few : goal.returns-clause-few
 returns-clause-few g c =
     let old = c.in_ok-found.found.roots in
     let new = c.order_roots.new.roots in
-    omega (arith, c.in_ok-found.ensures.found.few, length_permutation _ _ c.order_roots.ensures.permutation, length-map old.items plain_cell, length-map new.items plain_cell, old.ok.0, new.ok.0)
+    omega (
+      arith,
+      c.in_ok-found.ensures.found.few,
+      length_permutation _ _ c.order_roots.ensures.permutation,
+      length-map old.items plain_cell,
+      length-map new.items plain_cell,
+      old.ok.0,
+      new.ok.0,
+    )
 
 pub returns-clause-touching : goal.returns-clause-touching
 returns-clause-touching g c = c.in_ok-found.ensures.found.touching ∙ ap (looked_over (plain_problem c.args.ground.now.problem.now) 0) c.args.ground.now.counted

@@ -64,5 +64,6 @@ returns-clause-boxes c =
 
 pub returns-clause-in_boxes : goal.returns-clause-in_boxes
 returns-clause-in_boxes c =
-    same_for (λ t w. IsInOwnBoxes w.first.micros w.last.micros c.args.slots (plain_track t)) c.in-Some.walk.track.now c.args.track.now c.in-Some.walk.window c.args.window
+    same_for (λ t w. IsInOwnBoxes w.first.micros w.last.micros c.args.slots (plain_track t)) c.in-Some.walk.track.now c.args.track.now
+    c.in-Some.walk.window c.args.window
     c.in-Some.ensures.track c.in-Some.ensures.window c.in_ok-append_boxes.ensures.hold

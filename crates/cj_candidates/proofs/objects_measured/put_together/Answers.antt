@@ -39,8 +39,10 @@ returns-in_err-extend_from_slice-2 c =
 
 pub returns-clause-shells : goal.returns-clause-shells
 returns-clause-shells c =
-    c.loop-run.invariant.shells ∙ ap (λ (rs : List ObjectRun). flat_map (λ run. run.shells.items) rs) (take_all c.loop-run.run-index c.args.runs.now c.loop-run-test.false)
+    c.loop-run.invariant.shells ∙ ap (λ (rs : List ObjectRun). flat_map (λ run. run.shells.items) rs)
+    (take_all c.loop-run.run-index c.args.runs.now c.loop-run-test.false)
 
 pub returns-clause-boxes : goal.returns-clause-boxes
 returns-clause-boxes c =
-    c.loop-run.invariant.boxes ∙ ap (λ (rs : List ObjectRun). flat_map (λ run. run.boxes.items) rs) (take_all c.loop-run.run-index c.args.runs.now c.loop-run-test.false)
+    c.loop-run.invariant.boxes ∙ ap (λ (rs : List ObjectRun). flat_map (λ run. run.boxes.items) rs)
+    (take_all c.loop-run.run-index c.args.runs.now c.loop-run-test.false)

@@ -13,7 +13,8 @@ loop-list-preserved g c =
     let list = c.list-item.result in
     let more = c.as_slice-more.result.now in
     record {
-      elements = items_grown (λ l. l.items) c.args.lists.now i list c.loop-list.all.items c.extend_from_slice.new.self.items more c.loop-list-test.true c.list-item.is
+      elements = items_grown (λ l. l.items) c.args.lists.now i list c.loop-list.all.items c.extend_from_slice.new.self.items more c.loop-list-test.true
+          c.list-item.is
           c.in_ok-extend_from_slice.ensures.items c.as_slice-more.ensures.value c.loop-list.invariant.elements;
       ordered = λ t.
           let tests = and_parts c.loop-list.in_order c.goes_on-in_order.result t in
@@ -35,7 +36,8 @@ pub returns-clause-elements : goal.returns-clause-elements
 returns-clause-elements g c =
     let so_far = c.loop-list.all.items in
     IsPermutation-trans (flat_map (λ l. l.items) c.args.lists.now) so_far c.put_in_order.new.all.items
-    (items_all (λ l. l.items) c.args.lists.now c.loop-list.list-index so_far c.loop-list-test.false c.loop-list.invariant.elements) c.in_ok-put_in_order.ensures.elements
+    (items_all (λ l. l.items) c.args.lists.now c.loop-list.list-index so_far c.loop-list-test.false c.loop-list.invariant.elements)
+    c.in_ok-put_in_order.ensures.elements
 
 pub returns-clause-ordered : goal.returns-clause-ordered
 returns-clause-ordered g c = c.in_ok-put_in_order.ensures.ordered

@@ -6,7 +6,8 @@ use Rattle.cj_merge.proofs.merging.merge_in_turn.Goals as goal
 
 pub loop-run-preserved : goal.loop-run-preserved
 loop-run-preserved g c =
-    items_grown (λ run. run.now) c.args.runs.now c.loop-run.run-index c.run-item.result c.loop-run.all.items c.extend_from_slice.new.self.items c.run-item.result.now
+    items_grown (λ run. run.now) c.args.runs.now c.loop-run.run-index c.run-item.result c.loop-run.all.items c.extend_from_slice.new.self.items
+    c.run-item.result.now
     c.loop-run-test.true c.run-item.is c.in_ok-extend_from_slice.ensures.items refl c.loop-run.invariant
 
 pub returns-clause-elements : goal.returns-clause-elements

@@ -5,7 +5,8 @@ use Rattle.cj_merge.proofs.merging.slices.Goals as goal
 
 pub loop-run-preserved : goal.loop-run-preserved
 loop-run-preserved g c =
-    slices_more (λ run. run.items) c.args.runs.now c.loop-run.run-index c.run-item.result c.loop-run.all.items c.push.new.self.items c.as_slice.result c.loop-run-test.true c.run-item.is
+    slices_more (λ run. run.items) c.args.runs.now c.loop-run.run-index c.run-item.result c.loop-run.all.items c.push.new.self.items c.as_slice.result
+    c.loop-run-test.true c.run-item.is
     c.in_ok-push.ensures.items c.as_slice.ensures.value c.loop-run.invariant
 
 pub returns : goal.returns

@@ -9,7 +9,8 @@ use Rattle.cj_merge.proofs.ranges.cut.Goals as goal
 pub loop-run-preserved : goal.loop-run-preserved
 loop-run-preserved g c =
     rw (c.in_ok-push.ensures.items, c.in_ok-push-2.ensures.items)
-    (cut_more c.loop-run.run-index c.args.runs.now c.loop-run.low.items c.loop-run.high.items c.run-item.result c.halves.result.0 c.halves.result.1 c.loop-run-test.true c.run-item.is
+    (cut_more c.loop-run.run-index c.args.runs.now c.loop-run.low.items c.loop-run.high.items c.run-item.result c.halves.result.0 c.halves.result.1
+    c.loop-run-test.true c.run-item.is
     c.halves.ensures c.loop-run.invariant)
 
 pub returns : goal.returns

@@ -16,4 +16,5 @@ loop-place-preserved g c =
 pub returns : goal.returns
 returns g c =
     rw c.in_ok-push-2.ensures.items
-    (subst (IsPermutation (elements_of c.args.runs.items)) (sym (pushed (λ range. elements_of range.items) c.loop-place.ranges.items c.loop-place.rest)) c.loop-place.invariant)
+    (subst (IsPermutation (elements_of c.args.runs.items)) (sym (pushed (λ range. elements_of range.items) c.loop-place.ranges.items c.loop-place.rest))
+    c.loop-place.invariant)

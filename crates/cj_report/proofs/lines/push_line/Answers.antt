@@ -19,7 +19,8 @@ pub returns-in_err-push : goal.returns-in_err-push
 returns-in_err-push c = rw (err_from_is_err_and c.from_residual-in_err-push.result c.from_residual-in_err-push.ensures.1).1 tt
 
 pub returns-in_err-extend_from_slice-2 : goal.returns-in_err-extend_from_slice-2
-returns-in_err-extend_from_slice-2 c = rw (err_from_is_err_and c.from_residual-in_err-extend_from_slice-2.result c.from_residual-in_err-extend_from_slice-2.ensures.1).1 tt
+returns-in_err-extend_from_slice-2 c =
+    rw (err_from_is_err_and c.from_residual-in_err-extend_from_slice-2.result c.from_residual-in_err-extend_from_slice-2.ensures.1).1 tt
 
 pub returns-in_err-push-2 : goal.returns-in_err-push-2
 returns-in_err-push-2 c = rw (err_from_is_err_and c.from_residual-in_err-push-2.result c.from_residual-in_err-push-2.ensures.1).1 tt
