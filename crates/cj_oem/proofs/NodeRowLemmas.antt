@@ -1,7 +1,8 @@
 -- The rows of nodes: reading them one after another asks for just what the grammar says of them.
-use Rattle.std.proofs.Common.{◌≡◌, ℕ, ◌+◌, ◌≤◌, List, [], ◌∷◌, length, drop, true, false, All, IfSome, Option, Some, None, ◌⊎◌, inl, inr, Result, Ok, Err, ℤ, pos, negsuc, arith, ap, ◌∙◌, refl, subst}
-use Rattle.std.specs.Prelude.{◌||◌, ◌==◌, not, nat_le, nat_lt, unsigned_abs, IsOk}
+use Rattle.std.proofs.Common.{◌≡◌, ℕ, ◌+◌, ◌<◌, ◌≤◌, List, [], ◌∷◌, length, drop, true, false, All, IfSome, Option, Some, None, ◌⊎◌, inl, inr, Result, Ok, Err, ℤ, pos, negsuc, arith, ap, ◌∙◌, refl, subst}
+use Rattle.std.specs.Prelude.{Bool, if◌then◌else◌, ◌||◌, ◌==◌, not, nat_le, nat_lt, unsigned_abs, IsOk}
 use Rattle.std.specs.List.{list_all}
+use Rattle.std.specs.Ordering.{is_le, nat_cmp}
 use Rattle.std.proofs.lemmas.Bool.{and_parts, leb-true, leb-false, ltb-false}
 use Rattle.std.proofs.lemmas.Bool.Decides.{nat_tests}
 use Rattle.std.proofs.lemmas.Int.{ints}
@@ -233,3 +234,12 @@ states_are rows states e = let each = rows_are rows None states e in (each.0, st
 
 pub states_again : (rows : List (List ℕ)) (states : List PlainNode) → SayStates rows states → AreStateSteps states → states_from None rows ≡ Ok states
 states_again rows states said steps = rows_again rows None states said (steps_again states steps)
+
+-- a number that is not at most another lies above it
+pub above_if_not_le : (a b : ℕ) → is_le (nat_cmp a b) ≡ false → b < a
+above_if_not_le a b h = grind (arith, nat_tests)
+
+-- where one state comes after another, at most the longest step later, a leap second between them decides
+pub leap_decides : (before state : PlainNode) (leap : Bool) → before.at < state.at → state.at ≤ before.at + MAX_STEP →
+    leap_lies_between before.at state.at ≡ leap → following (Some before) state ≡ (if leap then Err causes.LeapSecond else Ok state)
+leap_decides before state leap later near is = grind (arith, nat_tests)

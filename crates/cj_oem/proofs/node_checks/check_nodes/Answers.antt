@@ -1,4 +1,4 @@
-use Rattle.std.proofs.Common.{arith, ap, length, refl, subst, List}
+use Rattle.std.proofs.Common.{ℕ, ◌≤◌, arith, ap, length, refl, subst, List}
 use Rattle.cj_track.specs.declared.node.Node.{Node}
 use Rattle.cj_track.specs.Useable.{LiesWithin}
 use Rattle.cj_oem.proofs.node_checks.check_nodes.Goals as goal
@@ -15,4 +15,4 @@ returns-clause-within c =
     subst (λ (nodes : List Node). LiesWithin metadata.first.micros metadata.last.micros nodes) c.as_slice-nodes.ensures (c.if-not-is_useable.ensures.within refl)
 
 pub returns-clause-later : goal.returns-clause-later
-returns-clause-later c = omega (arith, c.end.ensures)
+returns-clause-later c = subst (λ (end : ℕ). end ≤ c.args.open_segment.now.metadata.first.micros) c.end.ensures c.if-metadata-end.false
