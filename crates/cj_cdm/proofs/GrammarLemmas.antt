@@ -13,7 +13,7 @@ use Rattle.cj_cdm.specs.declared.vector.Vector.{Vector}
 use Rattle.cj_cdm.specs.Fits.{Fits, IsShort, IsSide, IsStamp}
 use Rattle.cj_cdm.specs.Messages.{PlainMessage, PlainSide, PlainStamp}
 use Rattle.cj_kvn.specs.Lines.{is_feed}
-use Rattle.cj_cdm.specs.Reading.{Fault, Heading, Object, Rest, and_then, elements_said, ended, entry_said, fault_at, give, heading_said, is_none_left, line_said, message_said, object_said, place_said, rate_said, reading, side_said, stamp_said, vector_said, ◌>>=◌}
+use Rattle.cj_cdm.specs.Reading.{Fault, Heading, Object, Rest, and_then, elements_said, ended, entry_said, fault_at, give, heading_said, is_none_left, line_said, message_said, object_said, place_said, rate_said, reading, side_said, stamp_said, vector_said, ◌>>=◌, source_said}
 use Rattle.cj_kvn.specs.Entries.{entry, line}
 use Rattle.cj_track.specs.Frames.{frame_text}
 use Rattle.cj_cdm.specs.Texts.{covariance_text, element_text, elements, elements_text, heading_text, kilometres, metres, number_text, object_text, quantity, side_text, state_text, text_of}
@@ -162,7 +162,7 @@ abbrev IsObject : List ℕ → List ℕ → List ℕ → List ℕ → Frame → 
 IsObject i n d f r o = (o.frame ≡ r) × ((o.file ≡ f) × ((o.designator ≡ d) × ((o.name ≡ n) × ((o.id ≡ i) × Anything o))))
 
 pub object_exact : (called : List ℕ) → list_any is_feed called ≡ false → IsExact (object_said called) (object_lines called) Anything ObjectFits
-unfolding object_said
+unfolding object_said source_said
 object_exact called free =
     behind _ _ (entry (codes "OBJECT") called) _ Anything _ (constant_exact (codes "OBJECT") called refl free) (λ v.
     in_order _ _ _ _ (λ o. o.id) _ Anything _ (label_exact (codes "OBJECT_DESIGNATOR") refl) (λ i if1.

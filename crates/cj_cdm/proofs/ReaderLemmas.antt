@@ -1,5 +1,6 @@
 -- How the readers of lines answer, in the words of the definitions.
-use Rattle.std.proofs.Common.{◌≡◌, ℕ, ◌+◌, ◌<◌, ◌≤◌, false, List, [], ◌∷◌, ◌++◌, drop, get_or, length, ap, sym, ◌∙◌, refl, arith, append_assoc, append-nil, Option, Some, None, option_map, Result, Ok, Err}
+use Rattle.std.proofs.Common.{◌≡◌, ℕ, ◌+◌, ◌<◌, ◌≤◌, true, false, List, [], ◌∷◌, ◌++◌, drop, get_or, length, ap, sym, ◌∙◌, refl, arith, append_assoc, append-nil, Option, Some, None, option_map, Result, Ok, Err}
+use Rattle.std.proofs.lemmas.Bool.{eqb-true}
 use Rattle.std.proofs.lemmas.List.{drop_more, length-drop, nil_from_length}
 use Rattle.std.specs.Prelude.{◌==◌}
 use Rattle.cj_kvn.specs.Numbers.{Number}
@@ -105,6 +106,10 @@ elements_read front i s whole all before =
 pub some_left : (text : List ℕ) → (length text == 0) ≡ false → is_none_left text ≡ false
 some_left [] some = absurd cc
 some_left (c ∷ text) some = refl
+
+pub none_left : (text : List ℕ) → (length text == 0) ≡ true → is_none_left text ≡ true
+none_left [] none = refl
+none_left (c ∷ text) none = let zero_long : length (c ∷ text) ≡ 0 = eqb-true (length (c ∷ text)) 0 none in absurd (omega (arith, zero_long))
 
 -- a text that is read, as it was told
 pub told_again : (text : List ℕ) (q : Result PlainMessage Fault) → q ≡ reading text → (m : PlainMessage) → Fits m → text ≡ text_of m → q ≡ Ok m

@@ -107,6 +107,16 @@ pub record Object : Type 0 where
   pub file : List ℕ
   pub frame : Frame
 
+-- where the ephemeris of an object with this number and name comes from, and what it says
+unfoldable pub source_said : List ℕ → List ℕ → Reading Object
+source_said id name = do
+  designator ← entry_said (codes "INTERNATIONAL_DESIGNATOR") designator_said
+  file ← entry_said (codes "EPHEMERIS_NAME") label_said
+  method ← entry_said (codes "COVARIANCE_METHOD") (constant_said (codes "CALCULATED"))
+  maneuverable ← entry_said (codes "MANEUVERABLE") (constant_said (codes "N/A"))
+  frame ← entry_said (codes "REF_FRAME") frame_said
+  give (record { id = id; name = name; designator = designator; file = file; frame = frame })
+
 -- an object that is called by this word
 unfoldable pub object_said : List ℕ → Reading Object
 object_said called = do
@@ -114,12 +124,7 @@ object_said called = do
   id ← entry_said (codes "OBJECT_DESIGNATOR") label_said
   catalog ← entry_said (codes "CATALOG_NAME") (constant_said (codes "OEM"))
   name ← entry_said (codes "OBJECT_NAME") label_said
-  designator ← entry_said (codes "INTERNATIONAL_DESIGNATOR") designator_said
-  file ← entry_said (codes "EPHEMERIS_NAME") label_said
-  method ← entry_said (codes "COVARIANCE_METHOD") (constant_said (codes "CALCULATED"))
-  maneuverable ← entry_said (codes "MANEUVERABLE") (constant_said (codes "N/A"))
-  frame ← entry_said (codes "REF_FRAME") frame_said
-  give (record { id = id; name = name; designator = designator; file = file; frame = frame })
+  source_said id name
 
 -- three coordinates in this unit, each with its key
 unfoldable pub vector_said : List ℕ → List ℕ → List ℕ → List ℕ → Reading Vector

@@ -24,6 +24,16 @@ slots_ordered first last low high =
       subst (λ z. int_le z last ≡ true) (sym f.value) (subst (λ z. int_le (pos (unsigned_abs first)) z ≡ true) (sym l.value) (le_of (unsigned_abs first) (unsigned_abs last) l.low)),
     )
 
+-- or not in their order
+slots_unordered : (first last : ℤ) → is_slot first ≡ true → is_from (unsigned_abs first) (2 ^ 32 - 1) last ≡ false → (is_slot last && int_le first last) ≡ false
+slots_unordered first last low none =
+    let f = from_range 0 (2 ^ 32 - 1) first low in
+    ap (λ (z : ℤ). is_slot last && int_le z last) f.value ∙ one_fails (int_le (pos 0) last) (int_le (pos (unsigned_abs first)) last) (int_le last (pos (2 ^ 32 - 1))) none
+  where
+    one_fails : (w x y : Bool) → (x && y) ≡ false → ((w && y) && x) ≡ false
+    one_fails w true y none = and_left _ _ (and_right _ _ none)
+    one_fails w false y none = and_right _ _ refl
+
 abbrev pub at : List ℤ → ℕ → ℤ
 at ns k = get_or ns k (pos 0)
 
@@ -39,6 +49,26 @@ six_ends i first last (a ∷ b ∷ c ∷ d ∷ []) least most = absurd (omega ar
 six_ends i first last (a ∷ b ∷ c ∷ d ∷ e ∷ []) least most = absurd (omega arith)
 six_ends i first last (a ∷ b ∷ c ∷ d ∷ e ∷ f ∷ []) least most = refl
 six_ends i first last (a ∷ b ∷ c ∷ d ∷ e ∷ f ∷ g ∷ ns) least most = absurd (omega arith)
+
+-- fewer or more
+pub too_few : (i first last : ℤ) (ns : List ℤ) → length ns < 6 → spec.box_of i first last ns ≡ Err causes.Form
+too_few i first last [] few = refl
+too_few i first last (a ∷ []) few = refl
+too_few i first last (a ∷ b ∷ []) few = refl
+too_few i first last (a ∷ b ∷ c ∷ []) few = refl
+too_few i first last (a ∷ b ∷ c ∷ d ∷ []) few = refl
+too_few i first last (a ∷ b ∷ c ∷ d ∷ e ∷ []) few = refl
+too_few i first last (a ∷ b ∷ c ∷ d ∷ e ∷ f ∷ ns) few = absurd (omega arith)
+
+pub too_many : (i first last : ℤ) (ns : List ℤ) → 7 ≤ length ns → spec.box_of i first last ns ≡ Err causes.Form
+too_many i first last [] many = absurd (omega arith)
+too_many i first last (a ∷ []) many = absurd (omega arith)
+too_many i first last (a ∷ b ∷ []) many = absurd (omega arith)
+too_many i first last (a ∷ b ∷ c ∷ []) many = absurd (omega arith)
+too_many i first last (a ∷ b ∷ c ∷ d ∷ []) many = absurd (omega arith)
+too_many i first last (a ∷ b ∷ c ∷ d ∷ e ∷ []) many = absurd (omega arith)
+too_many i first last (a ∷ b ∷ c ∷ d ∷ e ∷ f ∷ []) many = absurd (omega arith)
+too_many i first last (a ∷ b ∷ c ∷ d ∷ e ∷ f ∷ g ∷ ns) many = refl
 
 pub one_slot : (ns : List ℤ) → 2 ≤ length ns → spec.box_1 ns ≡ spec.box_of (at ns 0) (at ns 1) (at ns 1) (take (length ns - 2) (drop 2 ns))
 one_slot [] least = absurd (omega arith)
@@ -82,6 +112,27 @@ has_slots i first last from p q r object slot taken order = record {
   from = rw (to_z-of_z q) at slot;
   to = rw (taken, to_z-of_z q, to_z-of_z r) at order;
 }
+
+pub object_refused : (i first last : ℤ) (ns : List ℤ) → 6 ≤ length ns → length ns < 7 → is_object i ≡ false → spec.box_of i first last ns ≡ Err causes.Range
+object_refused i first last ns least most object =
+    let test : ends_at i first last ns ≡ false = rw object refl in
+    six_ends i first last ns least most ∙ ap (λ (b : Bool). in_range b (Box (the_box i first last (at ns 0) (at ns 1) (at ns 2) (at ns 3) (at ns 4) (at ns 5)))) test
+
+pub from_refused : (i first last : ℤ) (ns : List ℤ) → 6 ≤ length ns → length ns < 7 → is_object i ≡ true → is_slot first ≡ false → spec.box_of i first last ns ≡ Err causes.Range
+from_refused i first last ns least most object from =
+    let test : ends_at i first last ns ≡ false = rw (object, from) refl in
+    six_ends i first last ns least most ∙ ap (λ (b : Bool). in_range b (Box (the_box i first last (at ns 0) (at ns 1) (at ns 2) (at ns 3) (at ns 4) (at ns 5)))) test
+
+pub to_refused : (i first last : ℤ) (ns : List ℤ) → 6 ≤ length ns → length ns < 7 → is_object i ≡ true → is_slot first ≡ true → is_from (unsigned_abs first) (2 ^ 32 - 1) last ≡ false
+    → spec.box_of i first last ns ≡ Err causes.Range
+to_refused i first last ns least most object from to =
+    let none = slots_unordered first last from to in
+    let x = is_reach (at ns 0) (at ns 1) in
+    let y = is_reach (at ns 2) (at ns 3) in
+    let z = is_reach (at ns 4) (at ns 5) in
+    let test : ends_at i first last ns ≡ false =
+    (λ j. (((((object j && from j) && is_slot last) && int_le first last) && x) && y) && z) ∙ (λ j. ((none j && x) && y) && z) in
+    six_ends i first last ns least most ∙ ap (λ (b : Bool). in_range b (Box (the_box i first last (at ns 0) (at ns 1) (at ns 2) (at ns 3) (at ns 4) (at ns 5)))) test
 
 pub x_refused : (i first last : ℤ) (ns : List ℤ) → 6 ≤ length ns → length ns < 7 → HasSlots i first last → is_reach (at ns 0) (at ns 1) ≡ false → spec.box_of i first last ns ≡ Err causes.Range
 x_refused i first last ns least most slots x =
@@ -141,6 +192,15 @@ the_cell a b first last kind = Cell (record { a = object_of a; b = object_of b; 
 
 refused_by : (a b first last : ℤ) (kind : Kind) → cell_test a b first last ≡ false → spec.cell_of a b first last (Some kind) ≡ Err causes.Range
 refused_by a b first last kind test = ap (λ (t : Bool). in_range t (the_cell a b first last kind)) test
+
+pub one_refused : (a b first last : ℤ) (kind : Kind) → is_object a ≡ false → spec.cell_of a b first last (Some kind) ≡ Err causes.Range
+one_refused a b first last kind none = refused_by a b first last kind (and_left _ _ (and_left _ _ (and_left _ _ (and_left _ _ (and_left _ _ none)))))
+
+pub other_refused : (a b first last : ℤ) (kind : Kind) → is_object b ≡ false → spec.cell_of a b first last (Some kind) ≡ Err causes.Range
+other_refused a b first last kind none = refused_by a b first last kind (and_left _ _ (and_left _ _ (and_left _ _ (and_left _ _ (and_right _ _ none)))))
+
+pub first_refused : (a b first last : ℤ) (kind : Kind) → is_tick first ≡ false → spec.cell_of a b first last (Some kind) ≡ Err causes.Range
+first_refused a b first last kind none = refused_by a b first last kind (and_left _ _ (and_left _ _ (and_right _ _ none)))
 
 pub last_refused : (a b first last : ℤ) (kind : Kind) → is_tick last ≡ false → spec.cell_of a b first last (Some kind) ≡ Err causes.Range
 last_refused a b first last kind none = refused_by a b first last kind (and_left _ _ (and_right _ _ none))

@@ -1,8 +1,9 @@
 -- Certificates of version 2 from their parts.
-use Rattle.std.proofs.Common.{◌≡◌, ℕ, ◌<◌, Bool, cond, List, length, map, filter, Option, sym, ap, ◌∙◌, subst}
+use Rattle.std.proofs.Common.{◌≡◌, ℕ, ◌+◌, ◌<◌, Bool, cond, List, [], ◌∷◌, ◌++◌, length, get_or, map, filter, take, Option, sym, ap, ◌∙◌, subst}
 use Rattle.std.specs.Prelude.{All}
 use Rattle.std.specs.List.{enumerate_from, flat_map, range_with_len}
 use Rattle.std.proofs.lemmas.Bool.{eq-eqb}
+use Rattle.std.proofs.lemmas.List.{map_push, take_more}
 use Rattle.cj_interval.proofs.ListLemmas.{Each, Each-weaker, All-from_each, each_from_map, Each-filter}
 use Rattle.cj_hermite.specs.declared.pair.Pair.{Pair}
 use Rattle.cj_hermite.specs.Pairs.{objects_of, pairs_of}
@@ -70,3 +71,9 @@ unfolding with_blocks written
 written_is case objects sizes shells lines cells boxes kept many same rounds are by_place by_pair leaves =
     (λ i. of_lines_in 2 case (many i) (same i) (rounds i) (are i) (leaves i))
     ∙ (λ i. of_lines_in 2 case (length case.ephemerides) (size_lines case.sizes) (map (shell_line case) (enumerate_from 0 case.ephemerides)) (lines_over case (by_place i) (by_pair i)) (leaves_in_order case))
+
+-- what comes of one element more
+pub mapped_more : {A B : Type 0} (f : A → B) (xs : List A) (i : ℕ) (d : A) (old new : List B) → i < length xs → old ≡ map f (take i xs) → new ≡ old ++ f (get_or xs i d) ∷ []
+    → new ≡ map f (take (i + 1) xs)
+mapped_more f xs i d old new lt before now =
+    now ∙ (λ j. before j ++ f (get_or xs i d) ∷ []) ∙ sym (map_push f (take i xs) (get_or xs i d)) ∙ ap (map f) (sym (take_more xs i d lt))

@@ -1,7 +1,8 @@
 -- The text of a written certificate, from its shells, its boxes object by object, and its leaves.
-use Rattle.std.proofs.Common.{◌≡◌, ℕ, ◌+◌, ◌*◌, List, [], ◌∷◌, ◌++◌, Option, Some, None, length, map, sym, ap, ◌∙◌, arith, append_assoc, append-nil}
+use Rattle.std.proofs.Common.{◌≡◌, ℕ, suc, ◌+◌, ◌*◌, ◌<◌, ◌≤◌, List, [], ◌∷◌, ◌++◌, Option, Some, None, length, map, sym, ap, ◌∙◌, arith, append_assoc, append-nil}
 use Rattle.std.specs.Prelude.{codes, flat_map}
 use Rattle.std.specs.List.{enumerate_from, range_with_len}
+use Rattle.std.proofs.Math.Nat.{mul-le-mul_right}
 use Rattle.std.proofs.lemmas.Grind.{flat_map-append}
 use Rattle.std.proofs.lemmas.List.Folds.{flat_map-map}
 use Rattle.cj_interval.proofs.RangeLemmas.{flat_map-range_more}
@@ -81,3 +82,7 @@ all_left case objects shells each leaves front back count of_shells of_boxes of_
     ∙ append_assoc ((head ++ []) ++ s) b (l ++ e)
     ∙ append_assoc (head ++ []) s (b ++ (l ++ e))
     ∙ ap (λ (t : List ℕ). t ++ (s ++ (b ++ (l ++ e)))) (append-nil head))
+
+-- the places of one block of so many lie within those of all
+pub block_within : (k n slots : ℕ) → k < n → k * slots + slots ≤ n * slots
+block_within k n slots lt = let most : suc k * slots ≤ n * slots = mul-le-mul_right slots lt in omega (arith, most)

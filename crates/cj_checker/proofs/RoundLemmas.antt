@@ -1,6 +1,6 @@
 -- Keys that are collected slot by slot, and put in order.
-use Rattle.std.proofs.Common.{◌≡◌, ℕ, zero, suc, ◌+◌, ◌<◌, ◌≤◌, Bool, true, List, [], ◌∷◌, ◌++◌, map, length, get_or, Option, sym, ap, ◌∙◌, subst, inl, inr, arith, nat_cmp}
-use Rattle.std.specs.Prelude.{option_map, nat_eq, ◌&&◌}
+use Rattle.std.proofs.Common.{◌≡◌, ℕ, zero, suc, ◌+◌, ◌<◌, ◌≤◌, Bool, true, false, List, [], ◌∷◌, ◌++◌, map, length, get_or, Option, Some, sym, ap, ◌∙◌, subst, inl, inr, arith, nat_cmp}
+use Rattle.std.specs.Prelude.{option_and_then, option_map, nat_eq, ◌&&◌}
 use Rattle.std.specs.Ordering.{ordering_then, eq_by_cmp, is_eq}
 use Rattle.std.specs.declared.cmp.Ordering.{Ordering}
 use Rattle.std.specs.declared.cmp.Ordering.TheVariants.{Less}
@@ -13,14 +13,17 @@ use Rattle.std.proofs.lemmas.List.Kept.{Contains-dedup, Contains-from_dedup, IsS
 use Rattle.std.proofs.lemmas.List.Sorted.{Contains-permutation, IsPermutation-sym}
 use Rattle.std.proofs.lemmas.List.{length-map, map_push}
 use Rattle.std.proofs.lemmas.List.FromFn.{length-range_with_len}
+use Rattle.std.proofs.lemmas.Option.{slice_get-get_or, slice_get-map}
 use Rattle.std.proofs.lemmas.List.Elements.{Contains-append_left}
 use Rattle.cj_interval.proofs.ListLemmas.{Each, Exists, Ordered, AllPairs-from_ordered, Contains-from_exists, exists_from_Contains}
 use Rattle.cj_interval.proofs.RangeLemmas.{range_more}
 use Rattle.cj_hermite.specs.declared.pair.Pair.{Pair}
 use Rattle.cj_hermite.specs.Pairs.{objects_of}
 use Rattle.cj_bezier.specs.declared.axis_box.AxisBox.{AxisBox}
-use Rattle.cj_bezier.specs.SlotBoxes.{PlainBox, plain_box, plain_boxes}
-use Rattle.cj_hermite.specs.PlainProblems.{PlainProblem}
+use Rattle.cj_bezier.specs.declared.shells.Shell.{Shell}
+use Rattle.cj_bezier.specs.Shells.{are_kept, shell_in}
+use Rattle.cj_bezier.specs.SlotBoxes.{PlainBox, both_touch, plain_box, plain_boxes, reaches_in, touch_between}
+use Rattle.cj_hermite.specs.PlainProblems.{PlainProblem, threshold_of}
 use Rattle.cj_cert.specs.declared.cert_lines.ShellLine.{ShellLine}
 use Rattle.cj_cert.specs.Certificates.{PlainCertificate}
 use Rattle.cj_cert.specs.Listed.{boxes_listed, is_looked_listed}
@@ -147,3 +150,28 @@ pub looked_listed : (case : PlainProblem) (c : PlainCertificate) (shells : List 
     → (a b : ℕ) → looked_with case (map (λ line. line.shell) shells) areas (a, b) ≡ is_looked_listed case c a b slot
 unfolding is_looked_listed
 looked_listed case c shells areas slot same are a b = λ i. looked_with case (map (λ line. line.shell) (same i)) (are i) (a, b)
+
+-- the shell of a line in its place, and a box
+pub shell_on : (shells : List ShellLine) (k : ℕ) (d : ShellLine) → k < length shells → shell_in (map (λ line. line.shell) shells) k ≡ (get_or shells k d).shell
+shell_on shells k d lt =
+    ap (option_and_then (λ (shell : Option Shell). shell)) (slice_get-map (λ (line : ShellLine). line.shell) shells k ∙ ap (option_map (λ (line : ShellLine). line.shell)) (slice_get-get_or shells k d lt))
+
+pub box_in : (boxes : List (Option AxisBox)) (k : ℕ) (box : Option AxisBox) → k < length boxes → box ≡ get_or boxes k box → reaches_in (plain_boxes boxes) k ≡ option_map plain_box box
+box_in boxes k box lt is =
+    ap (option_and_then (λ (x : Option PlainBox). x))
+    (slice_get-map (option_map plain_box) boxes k ∙ ap (option_map (option_map plain_box)) (slice_get-get_or boxes k box lt ∙ ap (λ (x : Option AxisBox). Some x) (sym is)))
+
+-- whether a pair is looked at, by its two shells and its two boxes
+pub looked_by : (case : PlainProblem) (shells : List ShellLine) (boxes : List (Option AxisBox)) (a b thr : ℕ) (s t : Option Shell) (x y : Option AxisBox)
+    → thr ≡ threshold_of case a b
+    → shell_in (map (λ line. line.shell) shells) a ≡ s → shell_in (map (λ line. line.shell) shells) b ≡ t
+    → reaches_in (plain_boxes boxes) a ≡ option_map plain_box x → reaches_in (plain_boxes boxes) b ≡ option_map plain_box y
+    → looked_with case (map (λ line. line.shell) shells) (plain_boxes boxes) (a, b) ≡ (are_kept thr s t && both_touch thr (option_map plain_box x) (option_map plain_box y))
+looked_by case shells boxes a b thr s t x y is sa sb ba bb = λ i. are_kept (sym is i) (sa i) (sb i) && both_touch (sym is i) (ba i) (bb i)
+
+pub not_kept : (case : PlainProblem) (shells : List ShellLine) (boxes : List (Option AxisBox)) (a b thr : ℕ) (s t : Option Shell) → thr ≡ threshold_of case a b
+    → shell_in (map (λ line. line.shell) shells) a ≡ s → shell_in (map (λ line. line.shell) shells) b ≡ t → are_kept thr s t ≡ false
+    → looked_with case (map (λ line. line.shell) shells) (plain_boxes boxes) (a, b) ≡ false
+not_kept case shells boxes a b thr s t is sa sb none =
+    let touch = touch_between case.threshold case.sizes (plain_boxes boxes) (a, b) in
+    (λ i. are_kept (sym is i) (sa i) (sb i) && touch) ∙ (λ i. none i && touch)

@@ -1,9 +1,11 @@
 -- Whether the hulls of an ephemeris pass a test, part by part.
-use Rattle.std.proofs.Common.{◌≡◌, ℕ, ◌+◌, Bool, true, false, ◌&&◌, ◌∷◌, sym, ap, ◌∙◌}
+use Rattle.std.proofs.Common.{◌≡◌, ℕ, ◌+◌, ◌≤◌, Bool, true, false, ◌&&◌, ◌∷◌, Option, Some, None, IfSome, sym, ap, arith, ◌∙◌}
 use Rattle.std.specs.List.{list_all}
 use Rattle.cj_track.specs.PlainTracks.{PlainTrack}
 use Rattle.cj_hermite.specs.Walks.{HasNone}
-use Rattle.cj_bezier.specs.Hulls.{PlainHull}
+use Rattle.cj_bezier.specs.declared.part.Part.{Part}
+use Rattle.cj_bezier.specs.FirstParts.{IsFirstPart}
+use Rattle.cj_bezier.specs.Hulls.{PlainHull, axes_of}
 use Rattle.cj_bezier.specs.Parts.{hulls_of}
 use Rattle.cj_bezier.proofs.HullListLemmas.{no_hulls}
 
@@ -22,3 +24,9 @@ next_passes all false c p e from at last h so_far are is = so_far ∙ (λ j. sym
 pub last_passes : (all b : Bool) (p : PlainHull → Bool) (e : PlainTrack) (at last : ℕ) → all ≡ (b && list_all p (hulls_of e at last)) → HasNone e at last → b ≡ all
 last_passes all true p e at last so_far none = sym (so_far ∙ ap (list_all p) (no_hulls e at last none))
 last_passes all false p e at last so_far none = sym so_far
+
+-- a first part that ends in time
+pub hulls_found : (e : PlainTrack) (from last : ℕ) (part : Option Part) → IfSome part (IsFirstPart e from last) → IfSome part (λ p. p.last.micros ≤ last)
+    → IfSome part (λ p. hulls_of e from last ≡ axes_of p.hull.points ∷ hulls_of e (p.last.micros + 1) last)
+hulls_found e from last None first within = tt
+hulls_found e from last (Some p) first within = first last within (omega arith)

@@ -9,6 +9,7 @@ ghost use Rattle.cj_cert.specs.Certificates.{plain_box_line, plain_certificate};
 ghost use Rattle.cj_checker.specs.BoxesRead.{IsReadOn, fails_behind};
 ghost use Rattle.cj_checker.specs.First.{box_failure, first_box_line, fits_at, shell_failure};
 ghost use Rattle.cj_checker.specs.Tests.{has_state_between, is_shell_over, is_shell_line};
+ghost use Rattle.cj_checker.specs.Walks.{IsWalk};
 
 use crate::boxes::read_boxes;
 use crate::boxes_read::BoxesRead;
@@ -116,16 +117,33 @@ fn read_course(
     ensures on { IfSome result (IsReadOn (plain_problem course.now.problem.now) object (map plain_box_line boxes.now) read) }
 {
     let mut walk = Walk::new(course)?;
-    let more = if read.failed {
-        read
-    } else {
-        read_boxes(course, object, boxes, read.passed, &mut walk)
-    };
+    let more = read_on(course, object, boxes, read, &mut walk);
     if walk.shows_all(course) {
         Some(more)
     } else {
         None
     }
+}
+
+/// What is read of boxes with those of an object, which are left where a line before them failed.
+fn read_on(
+    course: &Course,
+    object: u32,
+    boxes: &[BoxLine],
+    read: BoxesRead,
+    walk: &mut Walk,
+) -> BoxesRead
+    requires object { slice_get (map plain_track course.now.problem.now.tracks) object ≡ Some (plain_track course.now.track.now) }
+    requires place { read.passed ≤ length boxes.now }
+    requires walks { IsWalk course.now walk.old }
+    ensures place { result.passed ≤ length boxes.now }
+    ensures on { IsReadOn (plain_problem course.now.problem.now) object (map plain_box_line boxes.now) read result }
+    ensures walks { IsWalk course.now walk.new }
+{
+    if read.failed {
+        return read;
+    }
+    read_boxes(course, object, boxes, read.passed, walk)
 }
 
 /// Whether a track has a state in a window.

@@ -2,7 +2,7 @@
 ghost use Rattle.std.specs.Prelude.{◌≡◌, map};
 ghost use Rattle.cj_kvn.specs.Decimals.{number_of};
 ghost use Rattle.cj_cdm.specs.Read.{plain, plain_object, plain_rest, side_of_said, with_rest};
-ghost use Rattle.cj_cdm.specs.Reading.{elements_said, object_said, place_said, rate_said, side_said, vector_said};
+ghost use Rattle.cj_cdm.specs.Reading.{elements_said, object_said, place_said, rate_said, side_said, source_said, vector_said};
 ghost use Rattle.cj_cdm.specs.Texts.{elements};
 
 use crate::elements::element_at;
@@ -43,6 +43,18 @@ fn read_object<'a>(called: &[u8], rest: Rest<'a>) -> Result<(ObjectSaid<'a>, Res
     let (id, rest) = rest.label(b"OBJECT_DESIGNATOR")?;
     let ((), rest) = rest.constant(b"CATALOG_NAME", b"OEM")?;
     let (name, rest) = rest.label(b"OBJECT_NAME")?;
+    read_source(id, name, rest)
+}
+
+/// Where the ephemeris of an object with this number and name comes from, and what it says.
+#[tactic(auto, unfolding(crate::specs::Reading::source_said))]
+fn read_source<'a>(
+    id: &'a [u8],
+    name: &'a [u8],
+    rest: Rest<'a>,
+) -> Result<(ObjectSaid<'a>, Rest<'a>), LineFault>
+    ensures { plain (with_rest plain_object) result ≡ source_said id.now name.now (plain_rest rest.entry) }
+{
     let (designator, rest) = rest.designator(b"INTERNATIONAL_DESIGNATOR")?;
     let (file, rest) = rest.label(b"EPHEMERIS_NAME")?;
     let ((), rest) = rest.constant(b"COVARIANCE_METHOD", b"CALCULATED")?;

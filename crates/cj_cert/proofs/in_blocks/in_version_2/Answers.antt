@@ -1,5 +1,6 @@
-use Rattle.std.proofs.Common.{◌≡◌, ◌∙◌, List, length, map, ap, sym, subst}
+use Rattle.std.proofs.Common.{◌≡◌, ◌∙◌, List, length, map, ap, refl, sym, subst}
 use Rattle.std.specs.List.{flat_map, range_with_len}
+use Rattle.std.proofs.lemmas.Bool.{ne_eqb}
 use Rattle.std.proofs.lemmas.List.{length-map}
 use Rattle.cj_track.specs.Tracks.{plain_track}
 use Rattle.cj_hermite.specs.Pairs.{objects_of}
@@ -39,3 +40,9 @@ returns-clause-value c =
 pub returns-clause-accepted : goal.returns-clause-accepted
 returns-clause-accepted c accepted =
     subst (λ (x : PlainCertificate). Accepted (plain_problem c.args.problem.now) x) (sym (returns-clause-value c)) (c.acceptance.ensures.rewritten (plain_certificate c.args.cert) accepted)
+
+pub returns-then-cert-ne1-clause-value : goal.returns-then-cert-ne1-clause-value
+returns-then-cert-ne1-clause-value c = rw (ne_eqb c.args.cert.version 1 c.if-cert-ne1.true) refl
+
+pub returns-then-cert-ne1-clause-accepted : goal.returns-then-cert-ne1-clause-accepted
+returns-then-cert-ne1-clause-accepted c = λ accepted. accepted

@@ -3,7 +3,7 @@ use Rattle.std.proofs.lemmas.Result.{err_from_is_err_and}
 use Rattle.std.specs.Int.{w64}
 use Rattle.cj_cert.specs.Certificates.{PlainBoxLine}
 use Rattle.cj_cert.specs.Lines.{Box}
-use Rattle.cj_cert.proofs.BoxLemmas.{IsRefused, IsTaken, as_cause, at, box_taken, has_slots, passed, same_box, x_refused, y_refused, z_refused}
+use Rattle.cj_cert.proofs.BoxLemmas.{IsRefused, IsTaken, as_cause, at, box_taken, from_refused, has_slots, object_refused, passed, same_box, to_refused, too_few, too_many, x_refused, y_refused, z_refused}
 use Rattle.cj_cert.proofs.line_text.area_of.Goals as goal
 
 abbrev stored : ℤ → ℤ
@@ -88,3 +88,33 @@ returns c =
     (sym (z_least ∙ (ap (λ (q : ℤ × ℤ). q.0) z.1 ∙ e4)))
     (sym (z_most ∙ (ap (λ (q : ℤ × ℤ). q.1) z.1 ∙ e5)))
     )
+
+pub returns-in_default : goal.returns-in_default
+returns-in_default c = too_few c.args.number c.args.first c.args.last c.args.ends.now c.in_default.len_below
+
+pub returns-in_default-2 : goal.returns-in_default-2
+returns-in_default-2 c = too_many c.args.number c.args.first c.args.last c.args.ends.now c.in_default.len_at_least
+
+pub returns-in_err-object : goal.returns-in_err-object
+returns-in_err-object c =
+    let ns = c.args.ends.now in
+    let object = rw (to_z-of_z c.ranges.number) at c.in_err-object.ensures.0 in
+    let p = err_from_is_err_and c.from_residual.result c.from_residual.ensures.1 in
+    rw (p.1, p.2) (as_cause _ c.in_err-object.field-0.0 (object_refused c.args.number c.args.first c.args.last ns c.in-len6.len_at_least c.in-len6.len_below object) c.in_err-object.ensures.1)
+
+pub returns-in_err-first : goal.returns-in_err-first
+returns-in_err-first c =
+    let ns = c.args.ends.now in
+    let object = rw (to_z-of_z c.ranges.number) at c.in_ok-object.ensures.0 in
+    let from = rw (to_z-of_z c.ranges.first) at c.in_err-first.ensures.0 in
+    let p = err_from_is_err_and c.from_residual-in_err-first.result c.from_residual-in_err-first.ensures.1 in
+    rw (p.1, p.2) (as_cause _ c.in_err-first.field-0.0 (from_refused c.args.number c.args.first c.args.last ns c.in-len6.len_at_least c.in-len6.len_below object from) c.in_err-first.ensures.1)
+
+pub returns-in_err-last : goal.returns-in_err-last
+returns-in_err-last c =
+    let ns = c.args.ends.now in
+    let object = rw (to_z-of_z c.ranges.number) at c.in_ok-object.ensures.0 in
+    let from = rw (to_z-of_z c.ranges.first) at c.in_ok-first.ensures.0 in
+    let to = rw (c.from.ensures, c.from-2.ensures, c.in_ok-first.ensures.1, to_z-of_z c.ranges.first, to_z-of_z c.ranges.last) at c.in_err-last.ensures.0 in
+    let p = err_from_is_err_and c.from_residual-in_err-last.result c.from_residual-in_err-last.ensures.1 in
+    rw (p.1, p.2) (as_cause _ c.in_err-last.field-0.0 (to_refused c.args.number c.args.first c.args.last ns c.in-len6.len_at_least c.in-len6.len_below object from to) c.in_err-last.ensures.1)

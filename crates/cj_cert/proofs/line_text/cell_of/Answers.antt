@@ -2,7 +2,7 @@ use Rattle.std.proofs.Common.{Ok, ap, arith, sym, to_z-of_z, ◌≡◌, ◌∙�
 use Rattle.std.specs.Prelude.{unsigned_abs}
 use Rattle.std.proofs.lemmas.Result.{err_from_is_err_and}
 use Rattle.cj_cert.specs.Lines.{PlainLine, object_of}
-use Rattle.cj_cert.proofs.BoxLemmas.{as_cause, cell_taken, has_cell, last_refused, objects_refused, same_cell, ticks_refused}
+use Rattle.cj_cert.proofs.BoxLemmas.{as_cause, cell_taken, first_refused, has_cell, last_refused, objects_refused, one_refused, other_refused, same_cell, ticks_refused}
 use Rattle.cj_cert.proofs.line_text.cell_of.Goals as goal
 
 pub returns-in_err-last : goal.returns-in_err-last
@@ -40,3 +40,21 @@ returns c =
     let last : c.in_ok-last.last.micros ≡ unsigned_abs c.args.last = rw (to_z-of_z c.ranges.last) at c.in_ok-last.ensures.1 in
     cell_taken c.args.a c.args.b c.args.first c.args.last c.args.kind has (omega (arith, a, b, c.if-b-a.false)) (omega (arith, first, last, c.if-last-first.false))
     ∙ ap (λ (l : PlainLine). Ok l) (same_cell _ _ _ _ _ _ _ _ c.args.kind (sym a) (sym b) (sym first) (sym last))
+
+pub returns-in_err-a : goal.returns-in_err-a
+returns-in_err-a c =
+    let none = rw (to_z-of_z c.ranges.a) at c.in_err-a.ensures.0 in
+    let p = err_from_is_err_and c.from_residual.result c.from_residual.ensures.1 in
+    rw (p.1, p.2) (as_cause _ c.in_err-a.field-0.0 (one_refused c.args.a c.args.b c.args.first c.args.last c.args.kind none) c.in_err-a.ensures.1)
+
+pub returns-in_err-b : goal.returns-in_err-b
+returns-in_err-b c =
+    let none = rw (to_z-of_z c.ranges.b) at c.in_err-b.ensures.0 in
+    let p = err_from_is_err_and c.from_residual-in_err-b.result c.from_residual-in_err-b.ensures.1 in
+    rw (p.1, p.2) (as_cause _ c.in_err-b.field-0.0 (other_refused c.args.a c.args.b c.args.first c.args.last c.args.kind none) c.in_err-b.ensures.1)
+
+pub returns-in_err-first : goal.returns-in_err-first
+returns-in_err-first c =
+    let none = rw (to_z-of_z c.ranges.first) at c.in_err-first.ensures.0 in
+    let p = err_from_is_err_and c.from_residual-in_err-first.result c.from_residual-in_err-first.ensures.1 in
+    rw (p.1, p.2) (as_cause _ c.in_err-first.field-0.0 (first_refused c.args.a c.args.b c.args.first c.args.last c.args.kind none) c.in_err-first.ensures.1)

@@ -1,4 +1,5 @@
 use Rattle.std.proofs.Common.{◌≡◌, ℕ, ◌<◌, ◌≤◌, true, map, length, get_or, subst, sym, arith, below_more}
+use Rattle.std.proofs.lemmas.List.{length-map}
 use Rattle.cj_hermite.specs.declared.pair.Pair.{Pair}
 use Rattle.cj_hermite.specs.Pairs.{objects_of}
 use Rattle.cj_checker.specs.Keys.{HasKey}
@@ -29,3 +30,21 @@ loop-pair-preserved c =
           (subst (λ (y : ℕ). HasKey c.append_key.new.keys.items pair.a y slot) same.1
           (told.found (subst (λ (x : ℕ). c.args.first ≤ x) (sym same.0) low) (subst (λ (x : ℕ). x < c.args.end) (sym same.0) high))));
     }
+
+pub loop-pair-init : goal.loop-pair-init
+loop-pair-init c = record {
+  keys = λ looked objects slots below exist all old. old;
+  kept = λ a b slot has. has;
+  found = λ k lt. absurd (omega arith);
+}
+
+pub append_key-requires : goal.append_key-requires
+append_key-requires c =
+    record { few = subst (λ (p : Pair). p.b ≤ 2000) (sym c.pair-item.is) (c.requires.few c.loop-pair.pair-index c.pair-item.result c.loop-pair-test.true) }
+
+pub returns-clause-keys : goal.returns-clause-keys
+returns-clause-keys c = c.loop-pair.invariant.keys
+
+pub returns-clause-found : goal.returns-clause-found
+returns-clause-found c a b has =
+    c.loop-pair.invariant.found has.0 (let lt = has.1 in omega (arith, lt, length-map c.args.pairs.now objects_of, c.loop-pair-test.false)) a b has.2

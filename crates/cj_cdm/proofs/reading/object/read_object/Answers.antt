@@ -27,36 +27,6 @@ returns-in_err-name c =
     let p = err_from_is_err_and c.from_residual-in_err-name.result c.from_residual-in_err-name.ensures.1 in
     rw (p.1, p.2) (rw (sym c.in_ok-rest.ensures, sym c.in_ok-id.ensures, sym c.in_ok-rest-2.ensures, sym c.in_err-name.ensures) refl)
 
-pub returns-in_err-designator : goal.returns-in_err-designator
-unfolding object_said
-returns-in_err-designator c =
-    let p = err_from_is_err_and c.from_residual-in_err-designator.result c.from_residual-in_err-designator.ensures.1 in
-    rw (p.1, p.2) (rw (sym c.in_ok-rest.ensures, sym c.in_ok-id.ensures, sym c.in_ok-rest-2.ensures, sym c.in_ok-name.ensures, sym c.in_err-designator.ensures) refl)
-
-pub returns-in_err-file : goal.returns-in_err-file
-unfolding object_said
-returns-in_err-file c =
-    let p = err_from_is_err_and c.from_residual-in_err-file.result c.from_residual-in_err-file.ensures.1 in
-    rw (p.1, p.2) (rw (sym c.in_ok-rest.ensures, sym c.in_ok-id.ensures, sym c.in_ok-rest-2.ensures, sym c.in_ok-name.ensures, sym c.in_ok-designator.ensures, sym c.in_err-file.ensures) refl)
-
-pub returns-in_err-rest-3 : goal.returns-in_err-rest-3
-unfolding object_said
-returns-in_err-rest-3 c =
-    let p = err_from_is_err_and c.from_residual-in_err-rest-3.result c.from_residual-in_err-rest-3.ensures.1 in
-    rw (p.1, p.2) (rw (sym c.in_ok-rest.ensures, sym c.in_ok-id.ensures, sym c.in_ok-rest-2.ensures, sym c.in_ok-name.ensures, sym c.in_ok-designator.ensures, sym c.in_ok-file.ensures, sym c.in_err-rest-3.ensures) refl)
-
-pub returns-in_err-rest-4 : goal.returns-in_err-rest-4
-unfolding object_said
-returns-in_err-rest-4 c =
-    let p = err_from_is_err_and c.from_residual-in_err-rest-4.result c.from_residual-in_err-rest-4.ensures.1 in
-    rw (p.1, p.2) (rw (sym c.in_ok-rest.ensures, sym c.in_ok-id.ensures, sym c.in_ok-rest-2.ensures, sym c.in_ok-name.ensures, sym c.in_ok-designator.ensures, sym c.in_ok-file.ensures, sym c.in_ok-rest-3.ensures, sym c.in_err-rest-4.ensures) refl)
-
-pub returns-in_err-frame : goal.returns-in_err-frame
-unfolding object_said
-returns-in_err-frame c =
-    let p = err_from_is_err_and c.from_residual-in_err-frame.result c.from_residual-in_err-frame.ensures.1 in
-    rw (p.1, p.2) (rw (sym c.in_ok-rest.ensures, sym c.in_ok-id.ensures, sym c.in_ok-rest-2.ensures, sym c.in_ok-name.ensures, sym c.in_ok-designator.ensures, sym c.in_ok-file.ensures, sym c.in_ok-rest-3.ensures, sym c.in_ok-rest-4.ensures, sym c.in_err-frame.ensures) refl)
-
 pub returns : goal.returns
 unfolding object_said
-returns c = rw (sym c.in_ok-rest.ensures, sym c.in_ok-id.ensures, sym c.in_ok-rest-2.ensures, sym c.in_ok-name.ensures, sym c.in_ok-designator.ensures, sym c.in_ok-file.ensures, sym c.in_ok-rest-3.ensures, sym c.in_ok-rest-4.ensures, sym c.in_ok-frame.ensures) refl
+returns c = rw (sym c.in_ok-rest.ensures, sym c.in_ok-id.ensures, sym c.in_ok-rest-2.ensures, sym c.in_ok-name.ensures) c.read_source.ensures

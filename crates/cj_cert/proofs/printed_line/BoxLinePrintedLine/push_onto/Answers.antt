@@ -4,3 +4,6 @@ use Rattle.cj_cert.proofs.printed_line.BoxLinePrintedLine.push_onto.Goals as goa
 
 pub returns-else-version-eq1 : goal.returns-else-version-eq1
 returns-else-version-eq1 c = rw (ne_eqb c.args.version 1 c.if-version-eq1.false) (search rules)
+
+pub returns-then-version-eq1 : goal.returns-then-version-eq1
+returns-then-version-eq1 c = rw c.if-version-eq1.true (search rules)
