@@ -16,8 +16,7 @@ use Rattle.cj_meet.specs.Encounters.{encounters_of, groups_in}
 use Rattle.cj_report.specs.Report.{told}
 use Rattle.cj_outputs.specs.declared.findings.Findings.{Findings}
 use Rattle.cj_status.specs.declared.status.Status.{Status}
-use Rattle.cj_status.specs.declared.status.Status.TheVariants as status
-use Rattle.cj_status.specs.Steps.{ComesBetween, Stops}
+use Rattle.cj_status.specs.Steps.{Stops}
 use Rattle.cj_screen.specs.Errors.{refined_status}
 use Rattle.cj_outputs.specs.Messages.{PlainOrigin}
 use Rattle.cj_inputs.specs.Cases.{case_asked}
@@ -40,20 +39,6 @@ stops_refined limit with_sizes version origin case refine.TooMany many =
     let more = many refl in
     let large : nat_le (length (list_looked case)) limit ≡ false = grind (arith, nat_tests) in
     rw large refl
-
-pub stops_as_refined : (limit : ℕ) (with_sizes : Bool) (version : ℕ) (origin : PlainOrigin) (case : PlainProblem) (e : RefineError) (s : Status) → s ≡ refined_status limit e
-    → (e ≡ refine.TooMany → limit < length (list_looked case)) → Stops ⊥ s (pieces_within limit with_sizes version origin case)
-stops_as_refined limit with_sizes version origin case e s is many =
-    subst (λ (s : Status). Stops ⊥ s (pieces_within limit with_sizes version origin case)) (sym is) (stops_refined limit with_sizes version origin case e many)
-
--- and no fault of the words, of a read or of a write
-pub refined_between : (limit : ℕ) (e : RefineError) → ComesBetween (refined_status limit e)
-refined_between limit refine.Memory = tt
-refined_between limit refine.TooMany = tt
-
-pub refined_never_read : (limit : ℕ) (e : RefineError) → ¬ (refined_status limit e ≡ status.ReadFault)
-refined_never_read limit refine.Memory = λ is. absurd cc
-refined_never_read limit refine.TooMany = λ is. absurd cc
 
 -- the report of findings is that of the case that was asked
 pub reports : (files : List FileBytes) (settings : Asked) (version : ℕ) (case : PlainProblem) → case_asked files settings ≡ Ok case

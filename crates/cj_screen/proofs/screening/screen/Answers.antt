@@ -1,6 +1,5 @@
 use Rattle.std.proofs.Common.{◌≡◌, ◌≤◌, ◌∙◌, All, List, Ok, Err, length, map, ap, refl, sym, subst, arith}
 use Rattle.std.proofs.lemmas.List.{length-map}
-use Rattle.std.proofs.lemmas.Result.{err_from_is_err_and}
 use Rattle.cj_hermite.specs.Problems.{plain_problem}
 use Rattle.cj_bezier.specs.Cells.{plain_cell}
 use Rattle.cj_bezier.specs.Leaves.{PlainLeaf, plain_leaf, plain_leaves}
@@ -14,88 +13,21 @@ use Rattle.cj_cert.specs.Rewritten.{written_in}
 use Rattle.cj_meet.specs.Closest.{closest_of}
 use Rattle.cj_meet.specs.Encounters.{Describes, encounters_of, groups_in}
 use Rattle.cj_meet.specs.Spans.{HaveExactSpans}
-use Rattle.cj_outputs.specs.Outcome.{pieces_with}
+use Rattle.cj_outputs.specs.Outcome.{pieces_with, pieces_within}
 use Rattle.cj_outputs.specs.Summaries.{tally_with}
-use Rattle.cj_status.specs.declared.status.Status.TheVariants as status
-use Rattle.cj_status.specs.Steps.{ComesBetween}
+use Rattle.cj_status.specs.Steps.{Stops}
 use Rattle.cj_outputs.specs.Messages.{has_message}
 use Rattle.cj_outputs.proofs.MessageLemmas.{as_many_closest, noted_in}
-use Rattle.cj_screen.proofs.ReportLemmas.{due_of, nearest_in, refined_between, refined_never_read, stops_as_refined}
+use Rattle.cj_screen.proofs.ReportLemmas.{due_of, nearest_in, stops_refined}
 use Rattle.cj_screen.proofs.SplitLemmas.{splits}
 use Rattle.cj_screen.proofs.screening.screen.Goals as goal
 
 pub returns-in-Err-clause-told : goal.returns-in-Err-clause-told
 returns-in-Err-clause-told g c = λ origin.
     let case = plain_problem c.args.problem in
-    stops_as_refined c.args.cells c.args.with_sizes c.args.version origin case c.in-Err.error c.refused.result c.refused.ensures
-    (λ is. let many = c.in-Err.ensures.too_many (ap (λ e. Err e) is) in omega (arith, many, list_split case))
-
-pub returns-in-Err-clause-between : goal.returns-in-Err-clause-between
-returns-in-Err-clause-between g c = subst ComesBetween (sym c.refused.ensures) (refined_between c.args.cells c.in-Err.error)
-
-pub returns-in-Err-clause-read : goal.returns-in-Err-clause-read
-returns-in-Err-clause-read g c = λ is.
-    let read : c.refused.result ≡ status.ReadFault = cc in refined_never_read c.args.cells c.in-Err.error (sym c.refused.ensures ∙ read)
-
-pub returns-in-Err-leaves_by_workers-clause-told : goal.returns-in-Err-leaves_by_workers-clause-told
-returns-in-Err-leaves_by_workers-clause-told g c = λ origin.
-    stops_as_refined c.args.cells c.args.with_sizes c.args.version origin (plain_problem c.args.problem) c.in-Err-leaves_by_workers.error c.refused-in-Err-leaves_by_workers.result c.refused-in-Err-leaves_by_workers.ensures
-    (λ is. let many = c.in-Err-leaves_by_workers.ensures.too_many (ap (λ e. Err e) is) in omega (arith, many))
-
-pub returns-in-Err-leaves_by_workers-clause-between : goal.returns-in-Err-leaves_by_workers-clause-between
-returns-in-Err-leaves_by_workers-clause-between g c = subst ComesBetween (sym c.refused-in-Err-leaves_by_workers.ensures) (refined_between c.args.cells c.in-Err-leaves_by_workers.error)
-
-pub returns-in-Err-leaves_by_workers-clause-read : goal.returns-in-Err-leaves_by_workers-clause-read
-returns-in-Err-leaves_by_workers-clause-read g c = λ is.
-    let read : c.refused-in-Err-leaves_by_workers.result ≡ status.ReadFault = cc in refined_never_read c.args.cells c.in-Err-leaves_by_workers.error (sym c.refused-in-Err-leaves_by_workers.ensures ∙ read)
-
-pub returns-in_err-encounters : goal.returns-in_err-encounters
-returns-in_err-encounters g c =
-    let p = err_from_is_err_and c.from_residual.result c.from_residual.ensures.1 in
-    rw (p.1, p.2) (record {
-      between = tt;
-      read = λ is. absurd cc;
-      told = λ origin. tt;
-      same = tt;
-      tells = tt;
-      version = tt;
-      found = tt;
-      split = tt;
-      certified = tt;
-      nearest = tt;
-    })
-
-pub returns-in_err-closest : goal.returns-in_err-closest
-returns-in_err-closest g c =
-    let p = err_from_is_err_and c.from_residual-in_err-closest.result c.from_residual-in_err-closest.ensures.1 in
-    rw (p.1, p.2) (record {
-      between = tt;
-      read = λ is. absurd cc;
-      told = λ origin. tt;
-      same = tt;
-      tells = tt;
-      version = tt;
-      found = tt;
-      split = tt;
-      certified = tt;
-      nearest = tt;
-    })
-
-pub returns-in_err-messages : goal.returns-in_err-messages
-returns-in_err-messages g c =
-    let p = err_from_is_err_and c.from_residual-in_err-messages.result c.from_residual-in_err-messages.ensures.1 in
-    rw (p.1, p.2) (record {
-      between = tt;
-      read = λ is. absurd cc;
-      told = λ origin. tt;
-      same = tt;
-      tells = tt;
-      version = tt;
-      found = tt;
-      split = tt;
-      certified = tt;
-      nearest = tt;
-    })
+    let stops = stops_refined c.args.cells c.args.with_sizes c.args.version origin case c.in-Err.error
+    (λ is. let many = c.in-Err.ensures.too_many (ap (λ e. Err e) is) in omega (arith, many, list_split case)) in
+    subst (λ s. Stops ⊥ s (pieces_within c.args.cells c.args.with_sizes c.args.version origin case)) (sym c.refused.ensures) stops
 
 pub count-counts-requires-clause-roots : goal.count-counts-requires-clause-roots
 count-counts-requires-clause-roots g c =
