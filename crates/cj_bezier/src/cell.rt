@@ -1,7 +1,7 @@
 ghost use Rattle.std.specs.Prelude.{◌≤◌};
 
-use cj_epoch::Tick;
 use cj_hermite::Pair;
+use cj_ticks::Tick;
 
 /// A stretch of ticks of a pair in one of its roots.
 #[derive(Clone, Copy, Debug, PartialEq, Eq)]

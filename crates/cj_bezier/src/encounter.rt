@@ -1,7 +1,7 @@
 ghost use Rattle.std.specs.Prelude.{◌≤◌, ◌<◌};
 
-use cj_epoch::Tick;
 use cj_hermite::Pair;
+use cj_ticks::Tick;
 
 /// What an encounter is known to be.
 #[derive(Clone, Copy, Debug, PartialEq, Eq)]

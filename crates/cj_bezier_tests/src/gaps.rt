@@ -5,9 +5,9 @@ use cj_bezier::{
     Gap, Hull, Kind, Shell, Verdict, gap, greatest_square, hull_ready, join, least_square, radius,
     supports, verdict,
 };
-use cj_epoch::Tick;
 use cj_hermite::{Piece, ready};
 use cj_interval::{Divisor, Span};
+use cj_ticks::Tick;
 use cj_track::Vec3;
 
 /// Five kilometres.

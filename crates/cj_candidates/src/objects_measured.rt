@@ -10,11 +10,11 @@ ghost use Rattle.cj_candidates.specs.ObjectRuns.{AreMeasured, AreMeasuredIn, IsI
 
 use crate::object_run::ObjectRun;
 use cj_bezier::{AxisBox, Shell};
-use cj_epoch::Window;
 use cj_grid::slot_box;
 use cj_jobs::{Jobs, run_jobs};
 use cj_merge::ready_list;
 use cj_sieve::shell;
+use cj_ticks::Window;
 use cj_track::Track;
 use cj_walk::TrackWalk;
 use std::alloc::{AllocError, Global};

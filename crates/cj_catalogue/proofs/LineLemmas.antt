@@ -3,7 +3,8 @@ use Rattle.std.proofs.Common.{◌≡◌, ℕ, ◌+◌, ◌/◌, ◌%◌, ◌≤�
 use Rattle.std.specs.Prelude.{◌==◌, codes}
 use Rattle.std.specs.List.{list_all}
 use Rattle.std.proofs.lemmas.Bool.Decides.{nat_tests}
-use Rattle.cj_kvn.specs.Decimals.{digit_count, is_huge, is_tiny, rounded, trailing_zeros, without_trailing_zeros}
+use Rattle.cj_values.specs.Decimals.{is_huge, is_tiny}
+use Rattle.cj_kvn.specs.Decimals.{digit_count, rounded, trailing_zeros, without_trailing_zeros}
 use Rattle.cj_kvn.specs.Fields.{fields}
 use Rattle.cj_kvn.specs.Lines.{Form, Mark, Pair, Row, form_of, is_blank, is_comment, is_key, line_form, pair_or_row}
 use Rattle.cj_kvn.specs.Numbers.{is_number, number, parts_of}

@@ -6,10 +6,10 @@ use Rattle.std.proofs.lemmas.Bool.{and_parts}
 use Rattle.std.proofs.lemmas.List.Folds.{list_all-append}
 use Rattle.jiff_core.specs.Calendar.{days_of_months}
 use Rattle.cj_epoch.specs.declared.fault.EpochFault.{EpochFault}
-use Rattle.cj_epoch.specs.Calendar.{day_at_date, days_of_years}
+use Rattle.cj_ticks.specs.Calendar.{day_at_date, days_of_years}
 use Rattle.cj_epoch.specs.Picture.{begins_like, number_at}
 use Rattle.cj_epoch.specs.Reading.{CALENDAR, calendar_reading, clock_at, moment_of, reading_of}
-use Rattle.cj_epoch.specs.Ticks.{IsTick, SECOND}
+use Rattle.cj_ticks.specs.Ticks.{IsTick, SECOND}
 use Rattle.cj_epoch.specs.Written.{epoch_of, six}
 use Rattle.cj_epoch.proofs.WrittenLemmas.{epoch_of-read, begins, read_by_calendar}
 use Rattle.cj_oem.proofs.PrintedNumberLemmas.{epoch_field, field_is}

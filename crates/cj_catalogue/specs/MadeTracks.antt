@@ -2,8 +2,8 @@
 use Rattle.std.specs.Prelude.{ℕ, ◌+◌, ◌-◌, ◌*◌, List, [], ◌∷◌, ◌++◌, map, false, codes, pos, negsuc, ◌*ℤ◌}
 use Rattle.std.specs.List.{range_with_len}
 use Rattle.cj_kvn.specs.Decimals.{zero_number}
-use Rattle.cj_kvn.specs.Numbers.{Number}
-use Rattle.cj_epoch.specs.Ticks.{MINUTE}
+use Rattle.cj_values.specs.Numbers.{Number}
+use Rattle.cj_ticks.specs.Ticks.{MINUTE}
 use Rattle.cj_track.specs.declared.frame.Frame.TheVariants as frames
 use Rattle.cj_track.specs.declared.vec3.Vec3.{Vec3}
 use Rattle.cj_track.specs.PlainTracks.{PlainNode, PlainMatrix, PlainTrack}

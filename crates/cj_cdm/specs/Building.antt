@@ -1,7 +1,7 @@
 -- The message of an encounter.
 use Rattle.std.specs.Prelude.{ℕ, Bool, ◌&&◌, is_some, map, Option, option_map, option_and_then, slice_get, pos}
-use Rattle.cj_kvn.specs.Numbers.{Number}
-use Rattle.cj_kvn.specs.Decimals.{shifted}
+use Rattle.cj_values.specs.Numbers.{Number}
+use Rattle.cj_values.specs.Decimals.{shifted}
 use Rattle.cj_track.specs.PlainTracks.{PlainMatrix, PlainTrack}
 use Rattle.cj_hermite.specs.Interpolant.{Curve}
 use Rattle.cj_hermite.specs.Pieces.{interval_at, curve_of_interval}

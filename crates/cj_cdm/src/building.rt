@@ -9,8 +9,8 @@ use crate::covariances::covariance_at;
 use crate::fields::{MessageFields, SideFields};
 use crate::stamp::Stamp;
 use crate::states::{place_at, rate_at};
-use cj_epoch::Tick;
 use cj_hermite::{Pair, Problem, piece, piece_at};
+use cj_ticks::Tick;
 use cj_track::Track;
 
 /// The fields of the message of a pair whose closest approach this is, or none where an object has no covariance.

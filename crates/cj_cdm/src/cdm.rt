@@ -1,7 +1,7 @@
 use crate::vector::Vector;
-use cj_epoch::Tick;
-use cj_kvn::{Decimal, Text};
+use cj_ticks::Tick;
 use cj_track::Frame;
+use cj_values::{Decimal, Text};
 
 /// A conjunction data message, as it is read.
 #[derive(Debug, Drop, PartialEq, Eq)]

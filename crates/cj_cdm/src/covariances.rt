@@ -5,8 +5,8 @@ ghost use Rattle.cj_hermite.specs.Pieces.{intervals_of};
 ghost use Rattle.cj_cdm.specs.Covariances as spec;
 ghost use Rattle.cj_cdm.specs.Covariances.{not_after, segment_with};
 
-use cj_epoch::Tick;
 use cj_hermite::{piece_at, segment_of};
+use cj_ticks::Tick;
 use cj_track::{Matrix, Track};
 
 /// The covariance of a track for a tick, or none where it has no state there or its segment has no covariance.

@@ -17,7 +17,7 @@ mod values;
 
 use crate::cdm::{Cdm, Side};
 use crate::fault::{CdmCause, CdmFault, LineFault};
-use cj_kvn::Text;
+use cj_values::Text;
 use heading::read_heading;
 use object::read_side;
 use rest::Rest;

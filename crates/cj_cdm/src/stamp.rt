@@ -1,4 +1,4 @@
-use cj_epoch::Tick;
+use cj_ticks::Tick;
 
 /// When a message is made, by whom, and its number.
 #[derive(Clone, Copy, Debug)]

@@ -13,8 +13,8 @@ use crate::covariances::covariance_at;
 use crate::fields::MessageFields;
 use crate::printing::push_message;
 use crate::stamp::Stamp;
-use cj_epoch::Tick;
 use cj_hermite::{Pair, Problem};
+use cj_ticks::Tick;
 use std::alloc::{AllocError, Global};
 
 /// The message of a pair of objects: its closest approach is at the tick `tca`, and `miss` nm is the upper bound of the distance

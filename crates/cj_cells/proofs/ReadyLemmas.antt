@@ -1,6 +1,6 @@
 -- What pieces made ready are for a cell that lies within their ticks.
 use Rattle.std.proofs.Common.{◌≡◌, ℕ, ◌≤◌, Some, sym, ap, ◌∙◌, arith}
-use Rattle.cj_epoch.specs.declared.tick.Tick.{Tick}
+use Rattle.cj_ticks.specs.declared.tick.Tick.{Tick}
 use Rattle.cj_hermite.specs.Interpolant.{IsOver}
 use Rattle.cj_hermite.specs.PlainProblems.{PlainProblem, curve_at}
 use Rattle.cj_hermite.specs.Ready.{curve_ready}

@@ -4,7 +4,7 @@ use Rattle.std.specs.Prelude.{All}
 use Rattle.std.specs.List.{range_with_len}
 use Rattle.std.proofs.lemmas.List.{take-append-drop, drop-append-le, drop_all, take-append-le, take_at, map-append, length-map}
 use Rattle.std.proofs.lemmas.List.Elements.{All-append, All-same}
-use Rattle.cj_epoch.specs.declared.tick.Window.{Window}
+use Rattle.cj_ticks.specs.declared.tick.Window.{Window}
 use Rattle.cj_track.specs.PlainTracks.{PlainTrack}
 use Rattle.cj_hermite.specs.CommonRuns.{runs_over, runs_between, both_numbers, run_of, IsNextCommon}
 use Rattle.cj_hermite.specs.Roots.{PlainCell, root_of_run}

@@ -9,8 +9,8 @@ ghost use Rattle.cj_bezier.specs.Cells.{AreHalves};
 
 use crate::outcome::Look;
 use cj_bezier::{Cell, Kind, Leaf, Verdict, gap, hull_ready, verdict};
-use cj_epoch::Tick;
 use cj_hermite::Ready;
+use cj_ticks::Tick;
 
 #[tactic(auto, unfolding(cj_bezier::specs::Verdicts::cell_verdict))]
 /// The verdict on two pieces over the ticks from `first` to `last`, against a threshold in nm.

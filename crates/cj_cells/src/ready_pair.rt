@@ -2,8 +2,8 @@
 ghost use Rattle.std.specs.Prelude.{◌≡◌, ◌≤◌, IsTrue};
 
 use cj_bezier::Cell;
-use cj_epoch::Tick;
 use cj_hermite::{Pair, Ready};
+use cj_ticks::Tick;
 
 /// The pieces of a pair's objects over the ticks from `first` to `last`, made ready.
 #[derive(Clone, Copy)]

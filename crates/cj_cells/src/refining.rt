@@ -15,9 +15,9 @@ use crate::preparing::prepare;
 use crate::ready_look::look_at;
 use crate::refine_error::RefineError;
 use cj_bezier::{Cell, Leaf};
-use cj_epoch::Tick;
 use cj_hermite::{Problem, Ready};
 use cj_interval::Divisor;
+use cj_ticks::Tick;
 use std::alloc::Global;
 
 /// How many parts of a cell wait at most: one more than the halvings of 2^32 ticks, and a piece is shorter than that.

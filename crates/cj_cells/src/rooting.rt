@@ -9,8 +9,8 @@ ghost use Rattle.cj_cells.specs.Cells.{added_roots};
 
 use crate::refine_error::RefineError;
 use cj_bezier::Cell;
-use cj_epoch::Window;
 use cj_hermite::{Hints, Pair, PairHint, Problem, next_common, slot_window};
+use cj_ticks::Window;
 use cj_track::Track;
 use std::alloc::Global;
 

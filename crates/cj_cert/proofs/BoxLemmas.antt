@@ -6,7 +6,7 @@ use Rattle.std.specs.Prelude.{◌&&◌, int_le, int_lt, unsigned_abs}
 use Rattle.std.proofs.lemmas.Bool.{and_from, and_left, and_right}
 use Rattle.std.proofs.lemmas.Int.{ints}
 use Rattle.std.proofs.lemmas.List.{take_all}
-use Rattle.cj_epoch.specs.Ticks.{FIRST_TICK, LAST_TICK}
+use Rattle.cj_ticks.specs.Ticks.{FIRST_TICK, LAST_TICK}
 use Rattle.cj_bezier.specs.declared.kind.Kind.{Kind}
 use Rattle.cj_causes.specs.declared.cert_cause.CertCause.{CertCause}
 use Rattle.cj_causes.specs.declared.cert_cause.CertCause.TheVariants as causes

@@ -7,7 +7,7 @@ use Rattle.std.proofs.lemmas.Bool.{and_parts}
 use Rattle.std.proofs.lemmas.Bool.Decides.{leb_tells}
 use Rattle.std.proofs.lemmas.Int.{ints, clamps}
 use Rattle.std.proofs.lemmas.List.{length-map, take_all}
-use Rattle.cj_epoch.specs.Ticks.{FIRST_TICK, LAST_TICK}
+use Rattle.cj_ticks.specs.Ticks.{FIRST_TICK, LAST_TICK}
 use Rattle.cj_bezier.specs.declared.kind.Kind.{Kind}
 use Rattle.cj_bezier.specs.Shells.{MAX_RADIUS}
 use Rattle.cj_causes.specs.declared.cert_cause.CertCause.{CertCause}

@@ -8,7 +8,7 @@ use Rattle.std.proofs.lemmas.Bool.Decides.{nat_tests}
 use Rattle.std.proofs.lemmas.Grind.{flat_map-append}
 use Rattle.std.proofs.lemmas.List.Elements.{All-nil, All-push}
 use Rattle.std.proofs.lemmas.List.Splits.{join_with_byte-slice_split}
-use Rattle.cj_epoch.specs.Ticks.{IsTick}
+use Rattle.cj_ticks.specs.Ticks.{IsTick}
 use Rattle.cj_bezier.specs.declared.shells.Shell.{Shell as Radii}
 use Rattle.cj_bezier.specs.Leaves.{PlainLeaf}
 use Rattle.cj_cert.specs.declared.cert_lines.ShellLine.{ShellLine}

@@ -1,6 +1,6 @@
 -- Certificates whose numbers are in the ranges of the text.
 use Rattle.std.specs.Prelude.{◌≡◌, ℕ, ◌+◌, ◌^◌, ◌<◌, ◌≤◌, ◌⊎◌, true, All, [], IfSome, length}
-use Rattle.cj_epoch.specs.Ticks.{IsTick}
+use Rattle.cj_ticks.specs.Ticks.{IsTick}
 use Rattle.cj_bezier.specs.Leaves.{PlainLeaf}
 use Rattle.cj_bezier.specs.Shells.{MAX_RADIUS}
 use Rattle.cj_cert.specs.declared.cert_lines.ShellLine.{ShellLine}

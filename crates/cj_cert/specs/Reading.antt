@@ -1,7 +1,7 @@
 -- What a text says as a certificate, or its first fault.
 use Rattle.std.specs.Prelude.{ℕ, ◌+◌, ◌==◌, if◌then◌else◌, List, [], ◌∷◌, ◌++◌, codes, Option, Some, None, Result, Ok, Err}
 use Rattle.std.specs.List.{slice_split, starts_with}
-use Rattle.cj_epoch.specs.Ticks.{FIRST_TICK}
+use Rattle.cj_ticks.specs.Ticks.{FIRST_TICK}
 use Rattle.cj_causes.specs.declared.cert_cause.CertCause.{CertCause}
 use Rattle.cj_causes.specs.declared.cert_cause.CertCause.TheVariants as causes
 use Rattle.cj_cert.specs.declared.rank.Rank.{Rank}

@@ -1,6 +1,6 @@
 use crate::cert_lines::{BoxLine, CellLine, ShellLine, SizeOfLine};
 use crate::rank::Rank;
-use cj_epoch::Window;
+use cj_ticks::Window;
 
 /// What a line says.
 #[derive(Clone, Copy)]

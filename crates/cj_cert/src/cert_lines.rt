@@ -2,8 +2,8 @@
 ghost use Rattle.std.specs.Prelude.{◌≤◌};
 
 use cj_bezier::{AxisBox, Kind, Shell};
-use cj_epoch::Tick;
 use cj_hermite::Pair;
+use cj_ticks::Tick;
 
 /// The size of an object in nm.
 #[derive(Clone, Copy, Debug, PartialEq, Eq)]

@@ -2,7 +2,7 @@ ghost use Rattle.std.specs.Prelude.{◌≡◌, ◌≤◌, true};
 ghost use Rattle.cj_cert.specs.Versions.{is_of_version};
 
 use crate::cert_lines::{BoxLine, CellLine, ShellLine, SizeOfLine};
-use cj_epoch::Window;
+use cj_ticks::Window;
 
 /// A certificate: what a run was asked, and for each object and pair what stands behind its report.
 #[derive(Debug, Drop, PartialEq, Eq)]

@@ -3,7 +3,7 @@ ghost use Rattle.std.specs.Prelude.{◌≡◌, ◌≤◌};
 use crate::cert_line::CertLine;
 use crate::cert_lines::{BoxLine, CellLine, ShellLine, SizeOfLine};
 use crate::certificate::Certificate;
-use cj_epoch::{Tick, Window};
+use cj_ticks::{Tick, Window};
 use std::alloc::{AllocError, Global};
 
 /// What the lines so far say. What is not told yet is as in the certificate of an empty folder.

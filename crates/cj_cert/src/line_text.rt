@@ -12,8 +12,8 @@ use crate::words::Words;
 use arrayvec::ArrayVec;
 use cj_bezier::{AxisBox, Kind, Shell};
 use cj_causes::CertCause;
-use cj_epoch::Window;
 use cj_hermite::Pair;
+use cj_ticks::Window;
 use cj_track::Vec3;
 
 /// The greatest threshold in nm.

@@ -9,7 +9,7 @@ ghost use Rattle.cj_cert.specs.Numbers as spec;
 ghost use Rattle.cj_cert.specs.Readers.{Takes, capped};
 
 use cj_causes::CertCause;
-use cj_epoch::Tick;
+use cj_ticks::Tick;
 
 /// The number that a text says. The greatest u64 stands for all that is greater too, and its negative for all that is less.
 #[tactic(auto, unfolding(crate::specs::Numbers::number_of))]

@@ -7,8 +7,8 @@ ghost use Rattle.cj_cert.specs.Texts.{box_text, cell_text, kind_word as the_word
 use crate::cert_lines::{BoxLine, CellLine, ShellLine, SizeOfLine};
 use crate::rows::{push_row, push_row_ended};
 use cj_bezier::{Kind, Leaf};
-use cj_epoch::Tick;
 use cj_hermite::Pair;
+use cj_ticks::Tick;
 use std::alloc::AllocError;
 
 /// How long the line of a box can be, and that of a cell.

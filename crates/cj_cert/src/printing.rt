@@ -7,8 +7,8 @@ ghost use Rattle.cj_cert.specs.Texts.{first_lines, row, text_of};
 use crate::certificate::Certificate;
 use crate::printed_parts::push_lines;
 use crate::rows::push_row;
-use cj_epoch::Window;
 use cj_io::join_parts;
+use cj_ticks::Window;
 use std::alloc::{AllocError, Global};
 use std::thread::Threads;
 

@@ -6,8 +6,8 @@ ghost use Rattle.cj_cert.specs.Versions.{is_of_version};
 
 use cj_bezier::{AxisBox, Kind, Shell};
 use cj_cert::{BoxLine, CellLine, Certificate, ShellLine, SizeOfLine, cert_text, read_cert};
-use cj_epoch::{Tick, Window};
 use cj_hermite::Pair;
+use cj_ticks::{Tick, Window};
 use cj_track::Vec3;
 use std::alloc::{AllocError, Global};
 use std::panic::Expect;

@@ -6,7 +6,7 @@ use Rattle.std.specs.Option.{option_map_or}
 use Rattle.std.proofs.lemmas.Bool.{and_from, and_left, and_parts, cases_eq, cases_lt, eq-eqb, eqb-true, false_from_ne_true}
 use Rattle.cj_interval.proofs.ListLemmas.{Each, Each-always, Each-append, Each-flat_map, Each-map, Each-weaker}
 use Rattle.cj_interval.proofs.RangeLemmas.{none_in_range_passes}
-use Rattle.cj_epoch.specs.declared.tick.Window.{Window}
+use Rattle.cj_ticks.specs.declared.tick.Window.{Window}
 use Rattle.cj_track.specs.PlainTracks.{PlainTrack}
 use Rattle.cj_hermite.specs.Pieces.{interval_index_at}
 use Rattle.cj_hermite.specs.PlainProblems.{PlainProblem}

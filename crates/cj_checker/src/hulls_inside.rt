@@ -12,7 +12,7 @@ use crate::bound::is_hull_in;
 use crate::course::Course;
 use crate::walk::Walk;
 use cj_bezier::AxisBox;
-use cj_epoch::{Tick, Window};
+use cj_ticks::{Tick, Window};
 
 /// Whether the hulls of all parts of a track at some ticks of the window lie in a box. None where the track has no state there.
 pub(crate) fn are_hulls_in(

@@ -9,9 +9,9 @@ ghost use Rattle.cj_bezier.specs.Verdicts.{supported};
 
 use cj_bezier::{gap, hull_ready, supports};
 use cj_cert::CellLine;
-use cj_epoch::Window;
 use cj_hermite::{CommonRun, Pair, Problem, Ready, ready};
 use cj_interval::Divisor;
+use cj_ticks::Window;
 
 /// A root: ticks of a pair at which both are at one piece each, made ready.
 #[derive(Clone, Copy)]

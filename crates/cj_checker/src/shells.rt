@@ -18,8 +18,8 @@ use crate::failure::{FIRST_LINE, Failure, failed};
 use crate::walk::Walk;
 use cj_causes::CheckCause;
 use cj_cert::{BoxLine, Certificate, ShellLine};
-use cj_epoch::Window;
 use cj_hermite::{Problem, next_run};
+use cj_ticks::Window;
 use cj_track::Track;
 
 /// The first line of shells that is not the shell of the object in its place, or else the first line of boxes that does not have the

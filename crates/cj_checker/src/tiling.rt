@@ -14,8 +14,8 @@ use crate::root::Root;
 use cj_bezier::Kind;
 use cj_causes::CheckCause;
 use cj_cert::CellLine;
-use cj_epoch::{Tick, Window};
 use cj_hermite::{Pair, PairHint, Problem, next_common_pieces, slot_window};
+use cj_ticks::{Tick, Window};
 
 /// What is wrong with a cell of a kind that is not supported.
 fn unsupported(kind: Kind) -> CheckCause

@@ -1,4 +1,4 @@
-//! Ticks, windows and epochs.
+//! Epochs: how they are read and written.
 #![tactic(auto)]
 
 mod days;
@@ -8,10 +8,8 @@ mod leap;
 mod picture;
 mod reading;
 mod text;
-mod tick;
 
 pub use fault::EpochFault;
 pub use leap::leap_between;
 pub use reading::read_epoch;
 pub use text::epoch_text;
-pub use tick::{Tick, Window};

@@ -14,8 +14,8 @@ ghost use Rattle.cj_grid.specs.JoinedBoxes.{reaches_of_spans};
 
 use crate::joined_boxes::{box_of_hull, join_boxes};
 use cj_bezier::AxisBox;
-use cj_epoch::{Tick, Window};
 use cj_hermite::{Box3, slot_window};
+use cj_ticks::{Tick, Window};
 use cj_track::Vec3;
 use cj_walk::TrackWalk;
 

@@ -2,10 +2,10 @@ ghost use Rattle.std.specs.Prelude.{◌≡◌, ◌+◌, ◌<◌, ◌≤◌, ◌�
 ghost use Rattle.cj_bezier.specs.SlotBoxes.{plain_box, plain_boxes};
 ghost use Rattle.cj_grid_tests.specs.Rows.{box_in_row, boxes_in_row};
 
-use cj_epoch::Window;
 use cj_grid::{AxisBox, Steps, find_touching, slot_box, touches, touching};
 use cj_hermite::Pair;
 use cj_samples::{REST, moving, rest, track_of, track_of_two, window};
+use cj_ticks::Window;
 use cj_track::{Track, Vec3};
 use cj_walk::TrackWalk;
 use std::alloc::{AllocError, Global};

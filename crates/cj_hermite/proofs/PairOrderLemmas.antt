@@ -5,7 +5,7 @@ use Rattle.std.specs.List.{All}
 use Rattle.std.proofs.lemmas.Bool.{cases_lt}
 use Rattle.std.proofs.lemmas.Bool.Decides.{nat_tests}
 use Rattle.std.proofs.lemmas.Option.{get_or_from_slice_get}
-use Rattle.cj_epoch.specs.declared.tick.Tick.{Tick}
+use Rattle.cj_ticks.specs.declared.tick.Tick.{Tick}
 use Rattle.cj_hermite.specs.declared.pair.Pair.{Pair}
 use Rattle.cj_interval.proofs.ListLemmas.{Each, Ordered, Each-weaker, Ordered-append, AllPairs-from_ordered, ordered_from_AllPairs, each_from_All}
 use Rattle.cj_hermite.specs.PairOrder.{IsUpTo, AreInOrderBy}

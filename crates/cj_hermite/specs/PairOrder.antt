@@ -1,6 +1,6 @@
 -- Where elements of a list belong: by pair, and within a pair by tick.
 use Rattle.std.specs.Prelude.{◌≡◌, ◌≤◌, List, AllPairs}
-use Rattle.cj_epoch.specs.declared.tick.Tick.{Tick}
+use Rattle.cj_ticks.specs.declared.tick.Tick.{Tick}
 use Rattle.cj_hermite.specs.declared.pair.Pair.{Pair}
 
 -- p is of an earlier pair than q, or of the same pair and no later

@@ -1,5 +1,5 @@
 use crate::pieces::Piece;
-use cj_epoch::Window;
+use cj_ticks::Window;
 
 /// A run of ticks at which each of two tracks is at one piece, with the two pieces.
 #[derive(Clone, Copy, Debug, PartialEq, Eq)]

@@ -8,7 +8,7 @@ ghost use Rattle.cj_hermite.specs.Pieces.{interval_at, curve_of_interval};
 use crate::common_run::CommonRun;
 use crate::hints::PairHint;
 use crate::walking::run_from;
-use cj_epoch::{Tick, Window};
+use cj_ticks::{Tick, Window};
 use cj_track::Track;
 
 /// The first run of ticks at which each of two tracks is at one piece, of those from `from` to `last`.

@@ -10,7 +10,7 @@ use crate::finding::{find, found_piece};
 use crate::hints::Hint;
 use crate::pieces::Piece;
 use crate::problem::Problem;
-use cj_epoch::Tick;
+use cj_ticks::Tick;
 use cj_track::Track;
 
 /// The piece of a track at a tick at which it has a state.

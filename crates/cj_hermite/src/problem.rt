@@ -5,7 +5,7 @@ use crate::pair::Pair;
 use crate::sizes::Sizes;
 use crate::thresholds::threshold_between;
 use crate::tracks::Tracks;
-use cj_epoch::Window;
+use cj_ticks::Window;
 
 /// What a run is asked: its tracks, which have one frame and few nodes, its window, its threshold in nm, and the sizes of its
 /// objects.

@@ -2,7 +2,7 @@
 ghost use Rattle.std.specs.Prelude.{◌≡◌, ◌<◌, ◌≤◌, IfNone, IfSome};
 ghost use Rattle.cj_hermite.specs.Slots.{slot_first, slot_last, slot_count};
 
-use cj_epoch::{Tick, Window};
+use cj_ticks::{Tick, Window};
 
 /// The ticks of a slot: a minute.
 pub const SLOT: u64 = 60_000_000;

@@ -4,7 +4,6 @@ pub mod DecimalLemmas
 pub mod FieldLemmas
 pub mod LineLemmas
 pub mod ListLemmas
-pub mod LogicLemmas
 pub mod NumberTextLemmas
 pub mod PartsLemmas
 pub mod PowerLemmas
@@ -17,6 +16,5 @@ pub mod RunLemmas
 pub mod ScalingLemmas
 pub mod ScanLemmas
 pub mod ScanningLemmas
-pub mod ShiftLemmas
 pub mod ZeroLemmas
 pub mod PrintLemmas

@@ -3,15 +3,13 @@ use Rattle.std.specs.Prelude.{◌≡◌, ℕ, ◌-◌, ◌*◌, ◌/◌, ◌^◌
 use Rattle.std.specs.Prelude.{List, [], ◌∷◌, ◌++◌, length, take, drop, Result, Ok, Err, decimal}
 use Rattle.std.specs.Int.Digits.{digits_of}
 use Rattle.std.specs.List.{suffix_len}
-use Rattle.cj_kvn.specs.Numbers.{Number, numerator, denominator, is_number, nearest, number, parts_of, ten_above, ten_below}
-use Rattle.cj_kvn.specs.declared.decimals.Decimal.{Decimal}
+use Rattle.cj_values.specs.Decimals.{number_of, is_tiny, is_huge}
+use Rattle.cj_values.specs.Numbers.{Number, numerator, denominator, ten_above, ten_below}
+use Rattle.cj_kvn.specs.Numbers.{is_number, nearest, number, parts_of}
+use Rattle.cj_values.specs.declared.decimals.Decimal.{Decimal}
 use Rattle.cj_kvn.specs.declared.rounded.Rounded.{Rounded}
 use Rattle.cj_kvn.specs.declared.numbers.NumFault.{NumFault}
 use Rattle.cj_kvn.specs.declared.numbers.NumFault.TheVariants.{NotNumber, TooLarge}
-
--- the number that a decimal is
-abbrev pub number_of : Decimal → Number
-number_of d = record { negative = d.negative; digits = d.digits; power = d.exponent }
 
 -- the number that was read, or the fault
 abbrev pub number_read : Result Decimal NumFault → Result Number NumFault
@@ -45,14 +43,6 @@ rounded n =
     let dropped = digit_count n.digits - 18 in
     record { negative = n.negative; digits = nearest n.digits (10 ^ dropped); power = n.power +ℤ pos dropped }
 
--- the size is below 10 ^ -99
-unfoldable pub is_tiny : Number → Bool
-is_tiny n = nat_lt (numerator n * 10 ^ 99) (denominator n)
-
--- the size is 10 ^ 100 or more
-unfoldable pub is_huge : Number → Bool
-is_huge n = nat_le (denominator n * 10 ^ 100) (numerator n)
-
 -- a number as a decimal, where it is not too large
 abbrev pub decimal_form : Number → Result Number NumFault
 decimal_form n =
@@ -63,19 +53,6 @@ decimal_form n =
 -- the decimal of a text, or why there is none
 abbrev pub decimal_of : List ℕ → Result Number NumFault
 decimal_of text = if is_number (parts_of text) then decimal_form (number (parts_of text)) else Err NotNumber
-
--- zero, or a size from 10 ^ -99 on and below 10 ^ 100
-abbrev pub IsReadable : Number → Type 0
-IsReadable n = (is_tiny n ≡ (n.digits == 0)) × (is_huge n ≡ false)
-
--- the number times 10 ^ by
-abbrev pub shifted : Number → ℤ → Number
-shifted n by = if n.digits == 0 then n else record n { power = n.power +ℤ by }
-
--- m is the number n times 10 ^ by
-pub record IsTenfold (n : Number) (by : ℤ) (m : Number) : Type 0 where
-  pub negative : m.negative ≡ n.negative
-  pub size : numerator m * (denominator n * ten_below by) ≡ numerator n * ten_above by * denominator m
 
 -- the power of ten of the first digit
 unfoldable pub leading_power : Number → ℤ

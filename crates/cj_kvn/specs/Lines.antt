@@ -21,16 +21,8 @@ is_blank b = (b == 32) || (b == 9)
 abbrev pub is_printable : ℕ → Bool
 is_printable b = (b == 9) || (nat_le 32 b && nat_le b 126)
 
--- a line feed
-abbrev pub is_feed : ℕ → Bool
-is_feed b = b == 10
-
 abbrev pub is_equals : ℕ → Bool
 is_equals b = b == 61
-
--- a byte of a value, where a tab is read as a space
-abbrev pub spaced : ℕ → ℕ
-spaced b = if b == 9 then 32 else b
 
 -- the text without the blanks before it
 abbrev pub without_leading_blanks : List ℕ → List ℕ

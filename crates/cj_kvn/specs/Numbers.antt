@@ -3,6 +3,7 @@ use Rattle.std.specs.Prelude.{ℕ, suc, true, ◌+◌, ◌*◌, ◌/◌, ◌^◌
 use Rattle.std.specs.Char.{is_ascii_digit}
 use Rattle.std.specs.List.{before_first, after_first, list_all, list_any}
 use Rattle.std.specs.Str.Parse.{digits_value, signed_digits_value, starts_with_minus, without_leading_sign}
+use Rattle.cj_values.specs.Numbers.{Number, numerator, denominator}
 use Rattle.cj_kvn.specs.declared.numbers.NumFault.{NumFault}
 use Rattle.cj_kvn.specs.declared.numbers.NumFault.TheVariants.{NotNumber, TooLarge}
 
@@ -53,12 +54,6 @@ exponent_value (Some text) = signed_digits_value 10 text
 unfoldable pub is_number : Parts → Bool
 is_number p = nat_le 1 (length (digits p)) && are_digits (digits p) && is_exponent p.exponent
 
--- a decimal number: its sign, and its digits as a whole number times a power of ten
-pub record Number : Type 0 where
-  pub negative : Bool
-  pub digits : ℕ
-  pub power : ℤ
-
 -- the number that the parts say
 unfoldable pub number : Parts → Number
 number p = record {
@@ -66,22 +61,6 @@ number p = record {
   digits = digits_value 10 (digits p);
   power = exponent_value p.exponent -ℤ pos (length p.fraction);
 }
-
--- ten to a whole power, as a fraction
-abbrev pub ten_above : ℤ → ℕ
-ten_above (pos k) = 10 ^ k
-ten_above (negsuc k) = 1
-
-abbrev pub ten_below : ℤ → ℕ
-ten_below (pos k) = 1
-ten_below (negsuc k) = 10 ^ suc k
-
--- the size of a number, as a fraction
-abbrev pub numerator : Number → ℕ
-numerator n = n.digits * ten_above n.power
-
-abbrev pub denominator : Number → ℕ
-denominator n = ten_below n.power
 
 -- the whole number nearest to a fraction, halves upward
 abbrev pub nearest : ℕ → ℕ → ℕ

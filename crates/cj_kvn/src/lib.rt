@@ -2,7 +2,6 @@
 #![tactic(auto)]
 
 mod blanks;
-mod decimals;
 mod digits;
 mod entries;
 mod fields;
@@ -20,10 +19,8 @@ mod rounded;
 mod rounding;
 mod scaling;
 mod scanning;
-mod text;
 mod words;
 
-pub use decimals::Decimal;
 pub use digits::{has_digits_alone, number_from_digits};
 pub use entries::{push_entry, push_line};
 pub use fields::{RowFields, field, row_fields};
@@ -34,4 +31,3 @@ pub use printing::decimal_text;
 pub use range::Range32;
 pub use reading::read_lines;
 pub use rounding::read_decimal;
-pub use text::Text;

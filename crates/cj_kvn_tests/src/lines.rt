@@ -1,4 +1,5 @@
-use cj_kvn::{KvnFault, Line, LineKind, MarkKind, Range32, Text, field, read_lines, row_fields};
+use cj_kvn::{KvnFault, Line, LineKind, MarkKind, Range32, field, read_lines, row_fields};
+use cj_values::Text;
 use std::panic::Expect;
 
 #[test]

@@ -1,7 +1,7 @@
 ghost use Rattle.std.specs.Prelude.{◌≡◌, ◌⊎◌, ◌<◌, ◌≤◌};
 
 use cj_bezier::Leaf;
-use cj_epoch::Tick;
+use cj_ticks::Tick;
 
 /// A run of one tick or more.
 #[derive(Clone, Copy, Debug, PartialEq, Eq)]

@@ -1,7 +1,7 @@
 -- A common run of two tracks keeps the intervals of both.
 use Rattle.std.proofs.Common.{◌≡◌, ℕ, ◌+◌, List, ◌∷◌, map, length, get_or, sym, ap, subst, ◌∙◌, arith}
 use Rattle.cj_interval.proofs.ListLemmas.{Each}
-use Rattle.cj_epoch.specs.declared.tick.Window.{Window}
+use Rattle.cj_ticks.specs.declared.tick.Window.{Window}
 use Rattle.cj_track.specs.declared.track.Track.{Track}
 use Rattle.cj_track.specs.Tracks.{plain_track}
 use Rattle.cj_hermite.specs.declared.problem.Problem.{Problem}

@@ -3,7 +3,7 @@ use Rattle.std.specs.Prelude.{List, flat_map, All}
 use Rattle.std.specs.Borrow.{Bor}
 use Rattle.std.specs.Global.{Vec}
 use Rattle.std.specs.List.Sorted.{IsPermutation}
-use Rattle.cj_epoch.specs.declared.tick.Tick.{Tick}
+use Rattle.cj_ticks.specs.declared.tick.Tick.{Tick}
 use Rattle.cj_hermite.specs.declared.pair.Pair.{Pair}
 use Rattle.cj_hermite.specs.PairOrder.{AreInOrderBy}
 

@@ -1,10 +1,10 @@
 ghost use Rattle.std.specs.Prelude.{◌≡◌};
-ghost use Rattle.cj_epoch.specs.declared.tick.Tick.{Tick};
+ghost use Rattle.cj_ticks.specs.declared.tick.Tick.{Tick};
 ghost use Rattle.cj_hermite.specs.declared.pair.Pair.{Pair};
 
 use cj_bezier::{Cell, Leaf};
-use cj_epoch::Tick;
 use cj_hermite::Pair;
+use cj_ticks::Tick;
 
 /// What lists keep in order of pair and first tick.
 pub trait Placed {

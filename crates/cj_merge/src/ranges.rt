@@ -4,8 +4,8 @@ ghost use Rattle.std.specs.List.Sorted.{IsPermutation};
 ghost use Rattle.cj_merge.specs.Runs.{elements_of, elements_in};
 
 use crate::placed::Placed;
-use cj_epoch::Tick;
 use cj_hermite::Pair;
+use cj_ticks::Tick;
 use std::alloc::{AllocError, Global};
 
 /// How many elements some runs have together, or the greatest number that there is.

@@ -1,7 +1,7 @@
 use cj_bezier::Cell;
-use cj_epoch::Tick;
 use cj_hermite::Pair;
 use cj_merge::merge_runs;
+use cj_ticks::Tick;
 use std::alloc::{AllocError, Global};
 use std::panic::Expect;
 use std::process::Abort;

@@ -5,9 +5,10 @@ use Rattle.std.proofs.Math.Nat.{mul-le-mul_left}
 use Rattle.std.proofs.lemmas.Slice.{take-put_mid}
 use Rattle.std.proofs.lemmas.List.{append-nil, drop_all, drop_more, map-append}
 use Rattle.std.proofs.lemmas.List.Elements.{All-append, All-drop, All-take}
-use Rattle.cj_kvn.specs.Numbers.{Number}
-use Rattle.cj_kvn.specs.Decimals.{IsReadable, decimal_of, number_of}
-use Rattle.cj_kvn.specs.declared.decimals.Decimal.{Decimal}
+use Rattle.cj_values.specs.Numbers.{Number}
+use Rattle.cj_values.specs.Decimals.{IsReadable, number_of}
+use Rattle.cj_kvn.specs.Decimals.{decimal_of}
+use Rattle.cj_values.specs.declared.decimals.Decimal.{Decimal}
 pub use Rattle.cj_kvn.proofs.DecimalLemmas.{written_more}
 use Rattle.cj_causes.specs.declared.oem_cause.OemCause.{OemCause}
 use Rattle.std.specs.Prelude.{◌==◌, ◌||◌, not, false, Some}

@@ -7,7 +7,7 @@ use Rattle.std.proofs.lemmas.List.{append_assoc, append-nil, map-append}
 use Rattle.cj_kvn.specs.Lines.{Form, Blank, Comment, Mark, Pair, Row}
 use Rattle.cj_kvn.specs.Decimals.{decimal_of}
 use Rattle.cj_kvn.specs.Fields.{fields}
-use Rattle.cj_kvn.specs.Numbers.{Number}
+use Rattle.cj_values.specs.Numbers.{Number}
 use Rattle.cj_kvn.specs.declared.numbers.NumFault.{NumFault}
 use Rattle.cj_epoch.specs.Reading.{reading_of}
 use Rattle.cj_causes.specs.declared.oem_cause.OemCause.{OemCause}

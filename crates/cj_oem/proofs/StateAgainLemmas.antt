@@ -8,7 +8,7 @@ use Rattle.std.proofs.lemmas.List.Elements.{All-head, All-tail}
 use Rattle.cj_kvn.specs.Fields.{fields}
 use Rattle.cj_kvn.specs.Lines.{Form, Pair, Row, is_comment, is_key}
 use Rattle.cj_kvn.proofs.ListLemmas.{last_push}
-use Rattle.cj_epoch.specs.Ticks.{IsTick}
+use Rattle.cj_ticks.specs.Ticks.{IsTick}
 use Rattle.cj_epoch.specs.Written.{epoch_of}
 use Rattle.cj_epoch.proofs.WrittenLemmas.{epoch_of-read}
 use Rattle.cj_kvn.specs.Entries.{line}

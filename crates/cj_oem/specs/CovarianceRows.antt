@@ -1,7 +1,7 @@
 -- The lines of covariances.
 use Rattle.std.specs.Prelude.{ℕ, ◌+◌, Bool, true, false, ◌||◌, not, ◌==◌, nat_lt, if◌then◌else◌, List, [], ◌∷◌, ◌++◌, length, Option, Some, None, Result, Ok, Err, codes}
 use Rattle.cj_kvn.specs.Fields.{fields}
-use Rattle.cj_kvn.specs.Numbers.{Number}
+use Rattle.cj_values.specs.Numbers.{Number}
 use Rattle.cj_kvn.specs.Decimals.{decimal_of}
 use Rattle.cj_kvn.specs.declared.numbers.NumFault.{NumFault}
 use Rattle.cj_causes.specs.declared.oem_cause.OemCause.{OemCause}

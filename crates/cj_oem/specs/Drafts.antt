@@ -1,6 +1,6 @@
 -- How the program keeps the covariances that are being read.
 use Rattle.std.specs.Prelude.{ℕ, ◌+◌, ◌*◌, ◌/◌, false, [], map, take, option_map, Some, Result, Ok}
-use Rattle.cj_kvn.specs.Decimals.{number_of}
+use Rattle.cj_values.specs.Decimals.{number_of}
 use Rattle.cj_causes.specs.declared.oem_cause.OemCause.{OemCause}
 use Rattle.cj_oem.specs.declared.draft.Draft as kept_draft
 use Rattle.cj_oem.specs.declared.covariances.Covariances as kept_covariances

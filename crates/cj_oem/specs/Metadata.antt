@@ -1,6 +1,6 @@
 -- The metadata of a segment, key by key.
 use Rattle.std.specs.Prelude.{ℕ, Bool, true, false, ◌&&◌, ◌||◌, not, ◌==◌, if◌then◌else◌, List, length, map, Option, Some, None, is_some, unwrap_or, Result, Ok, Err, codes}
-use Rattle.cj_kvn.specs.Lines.{spaced}
+use Rattle.cj_values.specs.Bytes.{spaced}
 use Rattle.cj_epoch.specs.Reading.{reading_of}
 use Rattle.cj_epoch.specs.declared.fault.EpochFault.{EpochFault}
 use Rattle.cj_track.specs.declared.frame.Frame.{Frame}

@@ -10,9 +10,9 @@ use crate::segment_metadata::Metadata;
 use crate::values::{frame_of, id_of, name_of, parse_frame, parse_label};
 use crate::word::{is_word, parse_epoch};
 use cj_causes::OemCause;
-use cj_epoch::Tick;
-use cj_kvn::Text;
+use cj_ticks::Tick;
 use cj_track::Frame;
+use cj_values::Text;
 use std::alloc::Global;
 
 /// What the keys of a block have said so far.

@@ -16,8 +16,9 @@ use crate::body::Body;
 use crate::fault::OemFault;
 use crate::stage::Stage;
 use cj_causes::OemCause;
-use cj_kvn::{Line, Text, read_lines};
+use cj_kvn::{Line, read_lines};
 use cj_track::Track;
+use cj_values::Text;
 use std::alloc::Global;
 
 /// The ephemeris that the bytes of the file with this name say.

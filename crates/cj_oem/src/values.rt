@@ -10,8 +10,8 @@ use crate::object::Object;
 use crate::refused::Refused;
 use crate::word::is_word;
 use cj_causes::OemCause;
-use cj_kvn::Text;
 use cj_track::Frame;
+use cj_values::Text;
 use std::alloc::Global;
 
 /// What a name or a designator says: the first segment's, if there is one.

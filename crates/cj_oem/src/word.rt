@@ -5,7 +5,8 @@ ghost use Rattle.cj_oem.specs.Words as words;
 ghost use Rattle.cj_oem.specs.Metadata as spec;
 
 use cj_causes::OemCause;
-use cj_epoch::{Tick, read_epoch};
+use cj_epoch::read_epoch;
+use cj_ticks::Tick;
 
 /// Whether a text is this word, without regard to the case of letters.
 #[tactic(auto, unfolding(crate::specs::Words::is_word))]

@@ -1,8 +1,8 @@
 -- What names a run, and values of a run that nobody has.
 use Rattle.std.specs.Prelude.{◌≡◌, ℕ, ◌≤◌, List, [], length}
 use Rattle.std.proofs.Common.{arith, refl}
-use Rattle.cj_epoch.specs.declared.tick.Tick.{Tick}
-use Rattle.cj_epoch.specs.declared.tick.Window.{Window}
+use Rattle.cj_ticks.specs.declared.tick.Tick.{Tick}
+use Rattle.cj_ticks.specs.declared.tick.Window.{Window}
 use Rattle.cj_hermite.specs.declared.problem.Problem.{Problem}
 use Rattle.cj_hermite.specs.Problems.{plain_problem}
 use Rattle.cj_bezier.specs.declared.cell.Cell.{Cell}

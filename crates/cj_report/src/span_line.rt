@@ -3,8 +3,8 @@ ghost use Rattle.cj_bezier.specs.Leaves.{plain_leaf, same_kind};
 ghost use Rattle.cj_meet.specs.Encounters.{follows};
 
 use cj_bezier::{Kind, Leaf};
-use cj_epoch::Tick;
 use cj_hermite::Pair;
+use cj_ticks::Tick;
 
 /// What a line SPAN tells: leaves of one pair and one kind, of consecutive ticks.
 #[derive(Clone, Copy, Debug)]

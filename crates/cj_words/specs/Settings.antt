@@ -5,7 +5,7 @@ use Rattle.std.specs.Option.{option_map, option_copied}
 use Rattle.std.specs.Char.{is_ascii_digit}
 use Rattle.std.specs.Str.Parse.{digits_value}
 use Rattle.cj_kvn.specs.Originators.{is_originator}
-use Rattle.cj_epoch.specs.declared.tick.Tick.{Tick}
+use Rattle.cj_ticks.specs.declared.tick.Tick.{Tick}
 use Rattle.cj_epoch.specs.Reading.{reading_of}
 use Rattle.cj_epoch.specs.declared.fault.EpochFault.{EpochFault}
 use Rattle.cj_words.specs.declared.option.Opt.{Opt}

@@ -1,8 +1,8 @@
 ghost use Rattle.std.specs.Prelude.{◌≤◌, ◌≡◌, Option, Some};
-ghost use Rattle.cj_epoch.specs.declared.tick.Tick.{Tick};
+ghost use Rattle.cj_ticks.specs.declared.tick.Tick.{Tick};
 
-use cj_epoch::Tick;
-use cj_kvn::Text;
+use cj_ticks::Tick;
+use cj_values::Text;
 
 /// A word of the command line.
 pub type Word = Text;

@@ -1,6 +1,7 @@
 //! What command lines ask for.
 use crate::lines::words;
-use cj_epoch::{Tick, read_epoch};
+use cj_epoch::read_epoch;
+use cj_ticks::Tick;
 use cj_words::{
     Checking, Command, Opt, Recipe, Screening, Settings, Trial, option_name, read_command,
 };

@@ -1,6 +1,6 @@
 //! The lines of one object.
 ghost use Rattle.std.specs.Prelude.{◌≡◌, map};
-ghost use Rattle.cj_kvn.specs.Decimals.{number_of};
+ghost use Rattle.cj_values.specs.Decimals.{number_of};
 ghost use Rattle.cj_cdm.specs.Read.{plain, plain_object, plain_rest, side_of_said, with_rest};
 ghost use Rattle.cj_cdm.specs.Reading.{elements_said, object_said, place_said, rate_said, side_said, source_said, vector_said};
 ghost use Rattle.cj_cdm.specs.Texts.{elements};
@@ -10,7 +10,7 @@ use crate::fault::LineFault;
 use crate::reading::rest::Rest;
 use crate::reading::said::{ObjectSaid, SideSaid};
 use crate::vector::Vector;
-use cj_kvn::Decimal;
+use cj_values::Decimal;
 
 /// The lines of an object that is called by this word.
 #[tactic(auto, unfolding(crate::specs::Reading::side_said))]

@@ -1,9 +1,9 @@
 //! What the parts of a message say, lent by its text.
 use crate::stamp::Stamp;
 use crate::vector::Vector;
-use cj_epoch::Tick;
-use cj_kvn::Decimal;
+use cj_ticks::Tick;
 use cj_track::Frame;
+use cj_values::Decimal;
 
 /// What the lines before the objects say.
 #[derive(Clone, Copy)]

@@ -1,7 +1,7 @@
 use Rattle.std.proofs.Common.{◌≡◌, ◌<◌, map, length, ap, sym, ◌∙◌, arith}
 use Rattle.std.proofs.Math.ListN.{get_or-map}
 use Rattle.std.proofs.lemmas.List.{length-map}
-use Rattle.cj_kvn.specs.Decimals.{number_of}
+use Rattle.cj_values.specs.Decimals.{number_of}
 use Rattle.cj_cdm.specs.Building.{in_square_metres}
 use Rattle.cj_cdm.specs.Elements.{element_of}
 use Rattle.cj_cdm.proofs.ElementLemmas.{written_more}

@@ -1,7 +1,8 @@
 use Rattle.std.proofs.Common.{◌≡◌, ◌∙◌, ap, arith, of_z, sym, to_z}
 use Rattle.std.proofs.lemmas.Int.{ints}
 use mir.Syntax.{w32}
-use Rattle.cj_kvn.specs.Decimals.{number_of, number_read, shifted}
+use Rattle.cj_values.specs.Decimals.{number_of, shifted}
+use Rattle.cj_kvn.specs.Decimals.{number_read}
 use Rattle.cj_cdm.proofs.FigureLemmas.{scientific_told}
 use Rattle.cj_cdm.proofs.ValueLemmas.{result_is}
 use Rattle.cj_cdm.proofs.reading.figures.scientific.Goals as goal

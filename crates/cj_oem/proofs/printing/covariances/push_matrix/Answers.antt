@@ -1,7 +1,7 @@
 use Rattle.std.proofs.Common.{ℕ, All, ◌++◌, ap, ◌∙◌, drop, take}
 use Rattle.std.specs.Prelude.{codes}
 use Rattle.std.proofs.lemmas.List.Elements.{All-drop, All-take}
-use Rattle.cj_kvn.specs.Decimals.{IsReadable, number_of}
+use Rattle.cj_values.specs.Decimals.{IsReadable, number_of}
 use Rattle.cj_track.specs.declared.matrix.Matrix.{Matrix}
 use Rattle.cj_kvn.specs.Entries.{entry}
 use Rattle.cj_oem.specs.Canonical.{covariance_text}

@@ -1,5 +1,6 @@
 use Rattle.std.proofs.Common.{◌∷◌, arith, rules}
-use Rattle.cj_kvn.specs.Decimals.{decimal_text_of, number_of}
+use Rattle.cj_values.specs.Decimals.{number_of}
+use Rattle.cj_kvn.specs.Decimals.{decimal_text_of}
 use Rattle.cj_oem.proofs.TextLemmas.{joined, part_more}
 use Rattle.cj_oem.proofs.printing.covariances.push_others.Goals as goal
 

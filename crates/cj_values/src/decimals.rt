@@ -12,7 +12,7 @@ pub struct Decimal {
 }
 
 impl Decimal {
-    ghost use Rattle.cj_kvn.specs.Decimals.{IsTenfold, number_of, shifted};
+    ghost use Rattle.cj_values.specs.Decimals.{IsTenfold, number_of, shifted};
 
     pub const ZERO: Decimal = Decimal {
         negative: false,

@@ -1,8 +1,8 @@
 -- Leap seconds.
 use Rattle.std.specs.Prelude.{ℕ, ◌+◌, ◌*◌, Bool, ◌&&◌, nat_lt, nat_le, List, [], ◌∷◌, map}
 use Rattle.std.specs.List.{list_any}
-use Rattle.cj_epoch.specs.Calendar.{Civil, day_of_date}
-use Rattle.cj_epoch.specs.Ticks.{DAY}
+use Rattle.cj_ticks.specs.Calendar.{Civil, day_of_date}
+use Rattle.cj_ticks.specs.Ticks.{DAY}
 
 abbrev pub june : ℕ → Civil
 june year = record { year = year; month = 6; day = 30 }

@@ -1,5 +1,5 @@
 ghost use Rattle.std.specs.Prelude.{◌≡◌, ◌+◌, ◌-◌, ◌<◌, ◌≤◌, ◌↔◌, max, min, IsTrue, IfSome, IfNone};
-ghost use Rattle.cj_epoch.specs.Ticks.{IsTick, FIRST_TICK, LAST_TICK};
+ghost use Rattle.cj_ticks.specs.Ticks.{IsTick, FIRST_TICK, LAST_TICK};
 
 /// The microseconds of a second.
 pub const SECOND: u64 = 1_000_000;

@@ -2,7 +2,7 @@ ghost use Rattle.std.specs.Prelude.{◌≡◌, ℕ, List, IfOk, map, nat_eq, ref
 ghost use Rattle.std.specs.Cmp.{partial_equiv_from_equiv};
 ghost use Rattle.std.specs.Cmp.Lexicographic.{pointwise, slice_cmp, nat_list_eq_equiv, nat_list_cmp_total, texts_po, texts_ties};
 ghost use Rattle.std.specs.Ordering.{nat_cmp, as_partial_cmp};
-ghost use Rattle.cj_kvn.specs.Lines.{spaced as the_spaced};
+ghost use Rattle.cj_values.specs.Bytes.{spaced as the_spaced};
 
 use std::alloc::{AllocError, Global};
 use std::cmp::Ordering;

@@ -1,7 +1,7 @@
 use Rattle.std.proofs.Common.{arith, ◌≡◌, ℕ, ◌≤◌, true, sym, ◌∙◌, is_le, nat_cmp}
 use Rattle.std.proofs.lemmas.Bool.Decides.{nat_tests}
 use Rattle.std.proofs.lemmas.Map.Keys.{le_from_is_le}
-use Rattle.cj_epoch.proofs.tick.Window.contains.Goals as goal
+use Rattle.cj_ticks.proofs.tick.Window.contains.Goals as goal
 
 is_le_from_le : (a b : ℕ) → a ≤ b → is_le (nat_cmp a b) ≡ true
 is_le_from_le a b h = grind (arith, nat_tests)

@@ -3,8 +3,8 @@ use Rattle.std.proofs.Common.{◌≡◌, ℕ, suc, ◌+◌, ◌*◌, ◌^◌, ar
 use Rattle.std.proofs.Math.Nat.{mul_assoc}
 use Rattle.std.proofs.lemmas.Int.{ints}
 use Rattle.std.proofs.lemmas.Nat.{pow-add}
-use Rattle.cj_kvn.specs.Decimals.{IsTenfold}
-use Rattle.cj_kvn.specs.Numbers.{Number, ten_above, ten_below}
+use Rattle.cj_values.specs.Decimals.{IsTenfold}
+use Rattle.cj_values.specs.Numbers.{Number, ten_above, ten_below}
 
 -- a power of ten is the product of two
 product : (a b c : ℕ) → c ≡ a + b → 10 ^ c ≡ 10 ^ a * 10 ^ b
