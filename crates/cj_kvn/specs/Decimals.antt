@@ -1,10 +1,10 @@
 -- Decimal numbers of 18 significant digits, and their one text.
-use Rattle.std.specs.Prelude.{◌≡◌, ℕ, ◌-◌, ◌*◌, ◌/◌, ◌^◌, Bool, false, ◌==◌, nat_eq, nat_lt, nat_le, if◌then◌else◌, ℤ, pos, ◌+ℤ◌, unsigned_abs, int_lt}
+use Rattle.std.specs.Prelude.{ℕ, ◌-◌, ◌/◌, ◌^◌, Bool, false, ◌==◌, nat_eq, if◌then◌else◌, ℤ, pos, ◌+ℤ◌, unsigned_abs, int_lt}
 use Rattle.std.specs.Prelude.{List, [], ◌∷◌, ◌++◌, length, take, drop, Result, Ok, Err, decimal}
 use Rattle.std.specs.Int.Digits.{digits_of}
 use Rattle.std.specs.List.{suffix_len}
 use Rattle.cj_values.specs.Decimals.{number_of, is_tiny, is_huge}
-use Rattle.cj_values.specs.Numbers.{Number, numerator, denominator, ten_above, ten_below}
+use Rattle.cj_values.specs.Numbers.{Number}
 use Rattle.cj_kvn.specs.Numbers.{is_number, nearest, number, parts_of}
 use Rattle.cj_values.specs.declared.decimals.Decimal.{Decimal}
 use Rattle.cj_kvn.specs.declared.rounded.Rounded.{Rounded}

@@ -1,5 +1,5 @@
 -- Decimal numbers of 18 significant digits.
-use Rattle.std.specs.Prelude.{◌≡◌, ℕ, ◌*◌, ◌^◌, Bool, false, ◌==◌, nat_lt, nat_le, if◌then◌else◌, ℤ, ◌+ℤ◌}
+use Rattle.std.specs.Prelude.{◌≡◌, ◌*◌, ◌^◌, Bool, false, ◌==◌, nat_lt, nat_le, if◌then◌else◌, ℤ, ◌+ℤ◌}
 use Rattle.cj_values.specs.Numbers.{Number, numerator, denominator, ten_above, ten_below}
 use Rattle.cj_values.specs.declared.decimals.Decimal.{Decimal}
 
