@@ -1,27 +1,9 @@
 mod AcceptedLemmas
-mod AgainLemmas
-mod BoundLemmas
-mod BoxLemmas
-mod CapLemmas
-mod ChainLemmas
-mod CountLemmas
-mod EnterLemmas
-mod InBlocksLemmas
-mod LineLemmas
-pub mod ListedLemmas
-mod NumberLemmas
-mod PartLemmas
-mod ReadLemmas
-mod ReaderLemmas
-mod RewrittenLemmas
-mod RowLemmas
-mod SaidLemmas
-mod SplitLemmas
-mod TextLemmas
 mod TiledLemmas
+mod WrittenLemmas
+mod BoundLemmas
+pub mod ListedLemmas
+pub mod RewrittenLemmas
 mod TimesLemmas
 mod TrackLemmas
-mod WordLemmas
-mod WrittenLemmas
-mod WrittenLineLemmas
-mod WrittenTextLemmas
+pub mod WrittenLineLemmas

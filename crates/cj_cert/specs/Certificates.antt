@@ -1,5 +1,5 @@
 -- Certificates as plain facts. Objects are numbered from 0.
-use Rattle.std.specs.Prelude.{ℕ, List, map}
+use Rattle.std.specs.Prelude.{ℕ, ◌+◌, List, length, map}
 use Rattle.cj_bezier.specs.Leaves.{PlainLeaf}
 use Rattle.cj_bezier.specs.SlotBoxes.{PlainBox, plain_box}
 use Rattle.cj_cert.specs.declared.cert_lines.BoxLine.{BoxLine}
@@ -46,3 +46,7 @@ plain_certificate c = record {
   boxes = map plain_box_line c.boxes.items;
   cells = map plain_cell_line c.cells.items;
 }
+
+-- how many lines tell of objects and pairs
+abbrev pub line_count : PlainCertificate → ℕ
+line_count c = length c.sizes + length c.shells + length c.boxes + length c.cells

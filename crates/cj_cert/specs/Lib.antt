@@ -1,17 +1,7 @@
 pub mod Versions
 pub mod Certificates
-pub mod Texts
-pub mod Parts
-pub mod Numbers
-pub mod Ranks
-pub mod Lines
-pub mod TextLeft
-pub mod Reading
-pub mod Readers
-pub mod Fits
 pub mod Listed
 pub mod Accepted
 pub mod Splits
 pub mod Written
-pub mod ObjectTexts
 pub mod Rewritten

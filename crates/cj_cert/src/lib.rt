@@ -1,39 +1,10 @@
-//! The certificate of a run: a reason for every span that the report leaves out; its text, and how it is read; which certificates are
-//! accepted, and what this says.
+//! The certificate of a run: a reason for every span that the report leaves out; which certificates are accepted, and what this says.
 #![tactic(auto)]
 
 mod accepting;
-mod block_lines;
-mod cert_line;
 mod cert_lines;
 mod certificate;
-mod certificate_text;
-mod draft;
-mod fault;
-mod in_blocks;
-mod line_said;
-mod line_text;
-mod listed_boxes;
-mod number;
-mod object_boxes;
-mod printed_boxes;
-mod printed_line;
-mod printed_parts;
-mod printing;
-mod rank;
-mod reading;
-mod rows;
-mod words;
-mod written;
-mod written_text;
 
 pub use accepting::acceptance;
 pub use cert_lines::{BoxLine, CellLine, ShellLine, SizeOfLine};
 pub use certificate::Certificate;
-pub use certificate_text::CertificateText;
-pub use cj_causes::CertCause;
-pub use fault::CertFault;
-pub use in_blocks::{certificate_in_blocks, in_version_2, listed_shells};
-pub use printing::{cert_parts, cert_text};
-pub use reading::read_cert;
-pub use written::written_certificate;

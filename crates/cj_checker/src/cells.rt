@@ -1,8 +1,7 @@
 //! The lines of cells.
 ghost use Rattle.std.specs.Prelude.{◌≡◌, ◌+◌, ◌-◌, ◌^◌, ◌<◌, ◌≤◌, None, length, vec_len, IfOk};
 ghost use Rattle.cj_hermite.specs.Problems.{plain_problem};
-ghost use Rattle.cj_cert.specs.Certificates.{plain_certificate};
-ghost use Rattle.cj_cert.specs.Fits.{line_count};
+ghost use Rattle.cj_cert.specs.Certificates.{line_count, plain_certificate};
 ghost use Rattle.cj_cert.specs.Listed.{box_listed};
 ghost use Rattle.cj_checker.specs.ListedBoxes.{table_of};
 ghost use Rattle.cj_checker.specs.First.{box_failure, cell_failure as the_failure, failed, first_cell_line};

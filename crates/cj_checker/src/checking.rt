@@ -3,8 +3,7 @@ ghost use Rattle.std.specs.Prelude.{◌≡◌, ◌↔◌, ◌+◌, ◌-◌, ◌^
 ghost use Rattle.std.specs.Option.{option_or};
 ghost use Rattle.cj_hermite.specs.Problems.{plain_problem};
 ghost use Rattle.cj_cert.specs.Accepted.{Accepted};
-ghost use Rattle.cj_cert.specs.Certificates.{plain_certificate};
-ghost use Rattle.cj_cert.specs.Fits.{line_count};
+ghost use Rattle.cj_cert.specs.Certificates.{line_count, plain_certificate};
 ghost use Rattle.cj_cert.specs.Splits.{AcceptedSplits};
 ghost use Rattle.cj_checker.specs.Answers.{failure_of};
 ghost use Rattle.cj_checker.specs.First as first;

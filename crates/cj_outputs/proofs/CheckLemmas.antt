@@ -12,8 +12,7 @@ use Rattle.cj_hermite.specs.Slots.{slot_count}
 use Rattle.cj_words.specs.Commands.{Checking}
 use Rattle.cj_bezier.specs.Leaves.{PlainLeaf, plain_leaf}
 use Rattle.cj_cells.specs.Lists.{list_looked}
-use Rattle.cj_cert.specs.Certificates.{PlainCertificate}
-use Rattle.cj_cert.specs.Fits.{line_count}
+use Rattle.cj_cert.specs.Certificates.{PlainCertificate, line_count}
 use Rattle.cj_cert.specs.Written.{box_lines, line_in_slot, shell_line, written}
 use Rattle.cj_status.specs.declared.status.Status.{Status}
 use Rattle.cj_status.specs.Steps.{◌>>=◌}

@@ -17,8 +17,8 @@ use Rattle.cj_cells.specs.Lists.{list_looked}
 use Rattle.cj_report.specs.Report.{report_of, told}
 use Rattle.cj_report.specs.Summary.{summary_of}
 use Rattle.cj_cert.specs.Certificates.{PlainCertificate}
-use Rattle.cj_cert.specs.Reading.{Fault, reading}
-use Rattle.cj_cert.specs.Texts.{text_of}
+use Rattle.cj_cert_text.specs.Reading.{Fault, reading}
+use Rattle.cj_cert_text.specs.Texts.{text_of}
 use Rattle.cj_cert.specs.Rewritten.{in_version_2, written_in}
 use Rattle.cj_checker.specs.declared.failure.Failure.{Failure}
 use Rattle.cj_checker.specs.First.{first_failure}

@@ -5,9 +5,9 @@ use Rattle.cj_words.specs.Commands.{Checking}
 use Rattle.cj_hermite.specs.PlainProblems.{PlainProblem}
 use Rattle.cj_cert.specs.Accepted.{Accepted}
 use Rattle.cj_cert.specs.Certificates.{PlainCertificate}
-use Rattle.cj_cert.specs.Fits.{Fits}
+use Rattle.cj_cert_text.specs.Fits.{Fits}
 use Rattle.cj_cert.specs.Rewritten.{in_version_2}
-use Rattle.cj_cert.specs.Texts.{text_of}
+use Rattle.cj_cert_text.specs.Texts.{text_of}
 use Rattle.cj_inputs.specs.Cases.{case_asked}
 use Rattle.cj_inputs.specs.CheckInputs.{certificate_named}
 use Rattle.cj_outputs.specs.Outcome.{pieces_renewed}

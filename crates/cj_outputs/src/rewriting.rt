@@ -15,7 +15,8 @@ ghost use Rattle.cj_status.specs.Steps.{Gives, ComesBetween};
 
 use crate::checking::{WORKERS, accept};
 use crate::putting::{put, put_parts};
-use cj_cert::{Certificate, cert_parts, in_version_2, listed_shells};
+use cj_cert::Certificate;
+use cj_cert_text::{cert_parts, in_version_2, listed_shells};
 use cj_hermite::Problem;
 use cj_inputs::{CheckInputs, prepare_check};
 use cj_io::{Folder, Shelf};

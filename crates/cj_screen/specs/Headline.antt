@@ -11,7 +11,7 @@ use Rattle.cj_report.specs.Report.{report_of, told}
 use Rattle.cj_cert.specs.Accepted.{Accepted}
 use Rattle.cj_cert.specs.Certificates.{PlainCertificate}
 use Rattle.cj_cert.specs.Splits.{AcceptedSplits}
-use Rattle.cj_cert.specs.Texts.{text_of}
+use Rattle.cj_cert_text.specs.Texts.{text_of}
 use Rattle.cj_words.specs.Settings.{Asked}
 use Rattle.cj_inputs.specs.Cases.{case_asked}
 use Rattle.cj_outputs.specs.Messages.{has_message}

@@ -11,7 +11,7 @@ ghost use Rattle.cj_outputs.specs.Outcome.{ComesOfPuts, ComesOfTrial, Leaves};
 ghost use Rattle.cj_status.specs.Steps.{Gives};
 
 use crate::screening::screen;
-use cj_cert::written_certificate;
+use cj_cert_text::written_certificate;
 use cj_checker::{Answer, check};
 use cj_gen::catalogue;
 use cj_hermite::Problem;

@@ -1,5 +1,5 @@
 use Rattle.std.proofs.Common.{◌∙◌, ap, sym}
-use Rattle.cj_cert.specs.Reading.{reading}
+use Rattle.cj_cert_text.specs.Reading.{reading}
 use Rattle.cj_outputs.specs.Outcome.{said_or}
 use Rattle.cj_outputs.proofs.checking.read.Goals as goal
 

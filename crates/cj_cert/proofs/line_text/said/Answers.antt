@@ -1,9 +1,0 @@
-use Rattle.std.proofs.Common.{◌∙◌}
-use Rattle.cj_cert.specs.Readers.{words_in}
-use Rattle.cj_cert.proofs.SaidLemmas.{tells_kept}
-use Rattle.cj_cert.proofs.line_text.said.Goals as goal
-
-pub returns : goal.returns
-returns c =
-    tells_kept c.args.version c.args.rank (words_in c.args.words.rest) (words_in c.numbers_in-numbers.result.1.rest) c.as_slice.result.now c.said_by.result c.requires.most
-    (c.as_slice.ensures.value ∙ c.numbers_in-numbers.ensures.numbers) c.numbers_in-numbers.ensures.others c.said_by.ensures

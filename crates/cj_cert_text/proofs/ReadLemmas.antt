@@ -1,0 +1,469 @@
+-- A text that is read is the text of what is read, which fits.
+use Rattle.std.proofs.Common.{◌≡◌, ℕ, ◌+◌, ◌^◌, ◌<◌, ◌≤◌, ◌⊎◌, inl, inr, List, [], ◌∷◌, ◌++◌, All, arith, ap, ap₂, sym, ◌∙◌, refl, subst, true, false, Bool, cond, ℤ, pos, Option}
+use Rattle.std.proofs.Common.{Some, None, Result, Ok, Err, append_assoc, append-nil}
+use Rattle.std.specs.Prelude.{◌==◌, ◌&&◌, if◌then◌else◌, nat_le, nat_lt, flat_map, codes}
+use Rattle.std.specs.List.{join_with_byte, slice_split}
+use Rattle.std.proofs.lemmas.Bool.{and_parts, eqb-true, leb-true}
+use Rattle.std.proofs.lemmas.Bool.Decides.{nat_tests}
+use Rattle.std.proofs.lemmas.Grind.{flat_map-append}
+use Rattle.std.proofs.lemmas.List.Elements.{All-nil, All-push}
+use Rattle.std.proofs.lemmas.List.Splits.{join_with_byte-slice_split}
+use Rattle.cj_ticks.specs.Ticks.{IsTick}
+use Rattle.cj_bezier.specs.declared.shells.Shell.{Shell as Radii}
+use Rattle.cj_bezier.specs.Leaves.{PlainLeaf}
+use Rattle.cj_cert.specs.declared.cert_lines.ShellLine.{ShellLine}
+use Rattle.cj_cert.specs.declared.cert_lines.SizeOfLine.{SizeOfLine}
+use Rattle.cj_causes.specs.declared.cert_cause.CertCause.{CertCause}
+use Rattle.cj_causes.specs.declared.cert_cause.CertCause.TheVariants as causes
+use Rattle.cj_cert_text.specs.declared.rank.Rank.{Rank}
+use Rattle.cj_cert_text.specs.declared.rank.Rank.TheVariants as rank
+use Rattle.cj_cert.specs.Certificates.{PlainBoxLine, PlainCertificate}
+use Rattle.cj_cert_text.specs.Fits.{Fits, FitsSize, FitsShell, FitsBox, FitsCell}
+use Rattle.cj_cert_text.specs.Lines.{PlainLine, Heading, Window, Threshold, Objects, Size, Shell, Box, Cell, End, rank_of, said, said_in, line_said, where_it_may_stand, MAX_OBJECTS, MAX_THRESHOLD}
+use Rattle.cj_cert_text.specs.Numbers.{numbers_in, others_in}
+use Rattle.cj_cert_text.specs.Ranks.{has_ended, may_follow, place, rank_of_word}
+use Rattle.cj_cert_text.specs.Reading.{and_then, at_line, behind_lines, ends_at, nothing_said, reading, reads_on, version_of, with_line}
+use Rattle.cj_cert_text.specs.Texts.{line, row, row_ended, number, size_text, shell_text, shell_row, box_text, cell_text, head_text, kind_word, text_of}
+use Rattle.cj_cert_text.proofs.AgainLemmas.{numbers_small}
+use Rattle.cj_cert_text.proofs.LineLemmas.{FitsLine, IsSaid, numbers_of, rank_word, tested, what_is_said, word_of, words_of}
+use Rattle.cj_cert_text.proofs.WordLemmas.{AreSmall, texts, words_written}
+
+-- ---- one line
+
+-- a line as the text of what it says
+pub record IsLine (v : ℕ) (before : Option Rank) (text : List ℕ) (l : PlainLine) : Type 0 where
+  pub open_end : has_ended before ≡ false
+  pub follows : may_follow (rank_of l) before ≡ true
+  pub fits : FitsLine v l
+  pub joined : text ≡ join_with_byte 32 (word_of (rank_of l) ∷ words_of v l)
+
+words_are : (v : ℕ) (l : PlainLine) (words : List (List ℕ)) → v < 2 ^ 64 → IsSaid v (rank_of l) (numbers_in words) (others_in words) l → words ≡ words_of v l
+words_are v l words small is =
+    words_written words (subst AreSmall (sym is.its_numbers) (numbers_small v l small is.fits))
+    ∙ ap₂ (λ (zs : List ℤ) (ws : List (List ℕ)). texts zs ++ ws) is.its_numbers is.its_others
+
+ranked : (v : ℕ) (before : Option Rank) (word text : List ℕ) (words : List (List ℕ)) (r : Option Rank) (l : PlainLine) → v < 2 ^ 64 → has_ended before ≡ false → rank_of_word word ≡ r
+    → text ≡ join_with_byte 32 (word ∷ words) → where_it_may_stand v before r words ≡ Ok l → IsLine v before text l
+unfolding said
+ranked v before word text words None l small open_end is joined h = absurd cc
+ranked v before word text words (Some r) l small open_end is joined h =
+    let c = tested (may_follow r before) (said v r words) _ l h in
+    let s = what_is_said v r (numbers_in words) (others_in words) l c.1 in
+    let own : IsSaid v (rank_of l) (numbers_in words) (others_in words) l = subst (λ k. IsSaid v k (numbers_in words) (others_in words) l) (sym s.rank) s in
+    record {
+      open_end = open_end;
+      follows = subst (λ k. may_follow k before ≡ true) (sym s.rank) c.0;
+      fits = s.fits;
+      joined = joined ∙ ap₂ (λ (w : List ℕ) (ws : List (List ℕ)). join_with_byte 32 (w ∷ ws)) (rank_word word r is ∙ ap word_of (sym s.rank)) (words_are v l words small own);
+    }
+
+split_line : (v : ℕ) (before : Option Rank) (text : List ℕ) (words : List (List ℕ)) (l : PlainLine) → v < 2 ^ 64 → has_ended before ≡ false → text ≡ join_with_byte 32 words
+    → said_in v before words ≡ Ok l → IsLine v before text l
+split_line v before text [] l small open_end joined h = absurd cc
+split_line v before text (word ∷ words) l small open_end joined h = ranked v before word text words (rank_of_word word) l small open_end refl joined h
+
+ended_or : (v : ℕ) (before : Option Rank) (text : List ℕ) (l : PlainLine) (ended : Bool) → v < 2 ^ 64 → has_ended before ≡ ended
+    → cond ended (Err causes.End) (said_in v before (slice_split (λ b. b == 32) text)) ≡ Ok l → IsLine v before text l
+ended_or v before text l true small e h = absurd cc
+ended_or v before text l false small e h = split_line v before text (slice_split (λ b. b == 32) text) l small e (sym (join_with_byte-slice_split 32 text)) h
+
+pub line_read : (v : ℕ) (before : Option Rank) (text : List ℕ) (l : PlainLine) → v < 2 ^ 64 → line_said v before text ≡ Ok l → IsLine v before text l
+unfolding line_said
+line_read v before text l small h = ended_or v before text l (has_ended before) small refl h
+
+-- the text of a line, by its kind
+abbrev pub line_text : ℕ → PlainLine → List ℕ
+line_text v l = line (word_of (rank_of l) ∷ words_of v l)
+
+abbrev pub told : ℕ → PlainLine → List ℕ
+told v Heading = row (codes "CONJ-CERT") (pos v ∷ [])
+told v (Window first last) = row (codes "WINDOW") (pos first ∷ pos last ∷ [])
+told v (Threshold threshold) = row (codes "THRESHOLD") (pos threshold ∷ [])
+told v (Objects count) = row (codes "OBJECTS") (pos count ∷ [])
+told v (Size s) = size_text s
+told v (Shell s) = shell_text s
+told v (Box b) = box_text v b
+told v (Cell s) = cell_text s
+told v End = row (codes "END") []
+
+row_is : (word : List ℕ) (numbers : List ℤ) → line (word ∷ (texts numbers ++ [])) ≡ row word numbers
+unfolding row
+row_is word numbers = ap (λ (ws : List (List ℕ)). line (word ∷ ws)) (append-nil (texts numbers))
+
+ended_is : (word : List ℕ) (numbers : List ℤ) (last : List ℕ) → line (word ∷ (texts numbers ++ last ∷ [])) ≡ row_ended word numbers last
+unfolding row_ended
+ended_is word numbers last = refl
+
+shell_is : (o : ℕ) (shell : Option Radii) → line_text 1 (Shell (record { object = o; shell = shell })) ≡ shell_row o shell
+shell_is o None = ended_is (codes "SHELL") (number o ∷ []) (codes "NONE")
+shell_is o (Some s) = row_is (codes "SHELL") (number o ∷ pos s.lo ∷ pos s.hi ∷ [])
+
+pub text_is_told : (v : ℕ) (l : PlainLine) → line_text v l ≡ told v l
+text_is_told v Heading = row_is (codes "CONJ-CERT") (numbers_of v Heading)
+text_is_told v (Window first last) = row_is (codes "WINDOW") (numbers_of v (Window first last))
+text_is_told v (Threshold threshold) = row_is (codes "THRESHOLD") (numbers_of v (Threshold threshold))
+text_is_told v (Objects count) = row_is (codes "OBJECTS") (numbers_of v (Objects count))
+text_is_told v (Size s) = row_is (codes "SIZE") (numbers_of v (Size s))
+text_is_told v (Shell s) = shell_is s.object s.shell
+text_is_told v (Box b) = row_is (codes "BOX") (numbers_of v (Box b))
+text_is_told v (Cell s) = ended_is (codes "CELL") (numbers_of v (Cell s)) (kind_word s.kind)
+text_is_told v End = row_is (codes "END") []
+
+-- ---- the text so far
+
+abbrev whole : List ℕ → ℕ → List SizeOfLine → List ShellLine → List PlainBoxLine → List PlainLeaf → List ℕ
+whole head v sizes shells boxes cells = head ++ flat_map size_text sizes ++ flat_map shell_text shells ++ flat_map (box_text v) boxes ++ flat_map cell_text cells
+
+abbrev body : PlainCertificate → List ℕ
+body c = whole (head_text c) c.version c.sizes c.shells c.boxes c.cells
+
+-- the text up to a line of this kind
+abbrev text_to : Option Rank → PlainCertificate → List ℕ
+text_to None c = []
+text_to (Some rank.Heading) c = told c.version Heading
+text_to (Some rank.Window) c = told c.version Heading ++ told c.version (Window c.first c.last)
+text_to (Some rank.Threshold) c = told c.version Heading ++ told c.version (Window c.first c.last) ++ told c.version (Threshold c.threshold)
+text_to (Some rank.Objects) c = body c
+text_to (Some rank.Size) c = body c
+text_to (Some rank.Shell) c = body c
+text_to (Some rank.Box) c = body c
+text_to (Some rank.Cell) c = body c
+text_to (Some rank.End) c = text_of c
+
+-- the place of the line before in their order, 0 where there is none
+abbrev last_place : Option Rank → ℕ
+last_place None = 0
+last_place (Some r) = place r
+
+-- up to this place no line of a later kind is told
+record NoneBehind (last : ℕ) (sizes : List SizeOfLine) (shells : List ShellLine) (boxes : List PlainBoxLine) (cells : List PlainLeaf) : Type 0 where
+  no_sizes : last < 5 → sizes ≡ []
+  no_shells : last < 6 → shells ≡ []
+  no_boxes : last < 7 → boxes ≡ []
+  no_cells : last < 8 → cells ≡ []
+
+abbrev NoLater : Option Rank → PlainCertificate → Type 0
+NoLater before c = NoneBehind (last_place before) c.sizes c.shells c.boxes c.cells
+
+further : (m n : ℕ) (ss : List SizeOfLine) (hs : List ShellLine) (bs : List PlainBoxLine) (cs : List PlainLeaf) → m ≤ n
+    → NoneBehind m ss hs bs cs → NoneBehind n ss hs bs cs
+further m n ss hs bs cs le none = record {
+  no_sizes = λ lt. none.no_sizes (omega arith);
+  no_shells = λ lt. none.no_shells (omega arith);
+  no_boxes = λ lt. none.no_boxes (omega arith);
+  no_cells = λ lt. none.no_cells (omega arith);
+}
+
+-- where a line may stand, by the places of its kind and of the line before
+record IsInOrder (r : Rank) (before : Option Rank) : Type 0 where
+  reached : 4 ≤ place r → 3 ≤ last_place before
+  in_lists : 4 < place r → 4 ≤ last_place before
+  no_later : 4 < place r → last_place before ≤ place r
+
+in_order : (r : Rank) (before : Option Rank) → may_follow r before ≡ true → IsInOrder r before
+in_order r None f =
+    let first = eqb-true (place r) 1 f in
+    record { reached = λ low. absurd (omega arith); in_lists = λ low. absurd (omega arith); no_later = λ low. absurd (omega arith) }
+in_order r (Some b) f = go (nat_lt (place b) 4) refl f
+  where
+    go : (early : Bool) → nat_lt (place b) 4 ≡ early
+        → (if early then place r == place b + 1 else (nat_lt 4 (place r) && nat_le (place b) (place r))) ≡ true → IsInOrder r (Some b)
+    go true is f =
+        let next = eqb-true (place r) (place b + 1) f in
+        let below : place b < 4 = grind (arith, nat_tests) in
+        record { reached = λ low. omega arith; in_lists = λ low. absurd (omega arith); no_later = λ low. absurd (omega arith) }
+    go false is f =
+        let parts = and_parts (nat_lt 4 (place r)) (nat_le (place b) (place r)) f in
+        let lists : 4 ≤ place b = grind (arith, nat_tests) in
+        let order = leb-true (place b) (place r) parts.1 in
+        record { reached = λ low. omega arith; in_lists = λ low. lists; no_later = λ low. order }
+
+flat_more : {A : Type 0} (f : A → List ℕ) (xs : List A) (x : A) → flat_map f (xs ++ x ∷ []) ≡ flat_map f xs ++ f x
+flat_more f xs x = flat_map-append f xs (x ∷ []) ∙ ap (λ (t : List ℕ). flat_map f xs ++ t) (append-nil (f x))
+
+regroup1 : (h a t : List ℕ) → (h ++ a ++ [] ++ [] ++ []) ++ t ≡ h ++ (a ++ t) ++ [] ++ [] ++ []
+regroup1 h a t = simp (append_assoc, append-nil)
+
+regroup2 : (h a b t : List ℕ) → (h ++ a ++ b ++ [] ++ []) ++ t ≡ h ++ a ++ (b ++ t) ++ [] ++ []
+regroup2 h a b t = simp (append_assoc, append-nil)
+
+regroup3 : (h a b d t : List ℕ) → (h ++ a ++ b ++ d ++ []) ++ t ≡ h ++ a ++ b ++ (d ++ t) ++ []
+regroup3 h a b d t = simp (append_assoc, append-nil)
+
+regroup4 : (h a b d e t : List ℕ) → (h ++ a ++ b ++ d ++ e) ++ t ≡ h ++ a ++ b ++ d ++ (e ++ t)
+regroup4 h a b d e t = simp append_assoc
+
+size_more : (h : List ℕ) (v : ℕ) (ss : List SizeOfLine) (s : SizeOfLine) (hs : List ShellLine) (bs : List PlainBoxLine) (cs : List PlainLeaf) → hs ≡ [] → bs ≡ [] → cs ≡ []
+    → whole h v ss hs bs cs ++ size_text s ≡ whole h v (ss ++ s ∷ []) hs bs cs
+size_more h v ss s [] [] [] eh eb ec = regroup1 h (flat_map size_text ss) (size_text s) ∙ ap (λ (t : List ℕ). h ++ t ++ [] ++ [] ++ []) (sym (flat_more size_text ss s))
+size_more h v ss s [] [] (c ∷ cs) eh eb ec = absurd cc
+size_more h v ss s [] (b ∷ bs) cs eh eb ec = absurd cc
+size_more h v ss s (x ∷ hs) bs cs eh eb ec = absurd cc
+
+shell_more : (h : List ℕ) (v : ℕ) (ss : List SizeOfLine) (hs : List ShellLine) (s : ShellLine) (bs : List PlainBoxLine) (cs : List PlainLeaf) → bs ≡ [] → cs ≡ []
+    → whole h v ss hs bs cs ++ shell_text s ≡ whole h v ss (hs ++ s ∷ []) bs cs
+shell_more h v ss hs s [] [] eb ec =
+    regroup2 h (flat_map size_text ss) (flat_map shell_text hs) (shell_text s) ∙ ap (λ (t : List ℕ). h ++ flat_map size_text ss ++ t ++ [] ++ []) (sym (flat_more shell_text hs s))
+shell_more h v ss hs s [] (c ∷ cs) eb ec = absurd cc
+shell_more h v ss hs s (b ∷ bs) cs eb ec = absurd cc
+
+box_more : (h : List ℕ) (v : ℕ) (ss : List SizeOfLine) (hs : List ShellLine) (bs : List PlainBoxLine) (b : PlainBoxLine) (cs : List PlainLeaf) → cs ≡ []
+    → whole h v ss hs bs cs ++ box_text v b ≡ whole h v ss hs (bs ++ b ∷ []) cs
+box_more h v ss hs bs b [] ec =
+    regroup3 h (flat_map size_text ss) (flat_map shell_text hs) (flat_map (box_text v) bs) (box_text v b)
+    ∙ ap (λ (t : List ℕ). h ++ flat_map size_text ss ++ flat_map shell_text hs ++ t ++ []) (sym (flat_more (box_text v) bs b))
+box_more h v ss hs bs b (c ∷ cs) ec = absurd cc
+
+cell_more : (h : List ℕ) (v : ℕ) (ss : List SizeOfLine) (hs : List ShellLine) (bs : List PlainBoxLine) (cs : List PlainLeaf) (c : PlainLeaf)
+    → whole h v ss hs bs cs ++ cell_text c ≡ whole h v ss hs bs (cs ++ c ∷ [])
+cell_more h v ss hs bs cs c =
+    regroup4 h (flat_map size_text ss) (flat_map shell_text hs) (flat_map (box_text v) bs) (flat_map cell_text cs) (cell_text c)
+    ∙ ap (λ (t : List ℕ). h ++ flat_map size_text ss ++ flat_map shell_text hs ++ flat_map (box_text v) bs ++ t) (sym (flat_more cell_text cs c))
+
+objects_more : (a b d e : List ℕ) (v : ℕ) (ss : List SizeOfLine) (hs : List ShellLine) (bs : List PlainBoxLine) (cs : List PlainLeaf) → ss ≡ [] → hs ≡ [] → bs ≡ [] → cs ≡ []
+    → a ++ b ++ d ++ e ≡ whole (a ++ b ++ d ++ e) v ss hs bs cs
+objects_more a b d e v [] [] [] [] es eh eb ec = simp (append_assoc, append-nil)
+objects_more a b d e v [] [] [] (c ∷ cs) es eh eb ec = absurd cc
+objects_more a b d e v [] [] (x ∷ bs) cs es eh eb ec = absurd cc
+objects_more a b d e v [] (x ∷ hs) bs cs es eh eb ec = absurd cc
+objects_more a b d e v (s ∷ ss) hs bs cs es eh eb ec = absurd cc
+
+end_more : (c : PlainCertificate) → body c ++ told c.version End ≡ text_of c
+unfolding text_of
+end_more c = refl
+
+-- one more line
+record Goes (before : Option Rank) (c : PlainCertificate) (l : PlainLine) : Type 0 where
+  text : text_to before c ++ told c.version l ≡ text_to (Some (rank_of l)) (with_line c l)
+  later : NoLater (Some (rank_of l)) (with_line c l)
+
+-- among the lists the text so far is that of the head and the lists
+body_to : (before : Option Rank) (c : PlainCertificate) → 4 ≤ last_place before → has_ended before ≡ false → text_to before c ≡ body c
+body_to None c low open_end = absurd (omega arith)
+body_to (Some rank.Heading) c low open_end = absurd (omega arith)
+body_to (Some rank.Window) c low open_end = absurd (omega arith)
+body_to (Some rank.Threshold) c low open_end = absurd (omega arith)
+body_to (Some rank.End) c low open_end = absurd cc
+body_to (Some r) c low open_end = refl
+
+goes : (before : Option Rank) (c : PlainCertificate) (l : PlainLine) → NoLater before c → has_ended before ≡ false → may_follow (rank_of l) before ≡ true → Goes before c l
+goes None c Heading none e f = record { text = refl; later = further 0 1 _ _ _ _ (omega arith) none }
+goes (Some rank.Heading) c (Window first last) none e f = record { text = refl; later = further 1 2 _ _ _ _ (omega arith) none }
+goes (Some rank.Window) c (Threshold threshold) none e f = record { text = refl; later = further 2 3 _ _ _ _ (omega arith) none }
+goes (Some rank.Threshold) c (Objects count) none e f = record {
+  text = objects_more (told c.version Heading) (told c.version (Window c.first c.last)) (told c.version (Threshold c.threshold)) (told c.version (Objects count))
+      c.version c.sizes c.shells c.boxes c.cells
+      (none.no_sizes (omega arith)) (none.no_shells (omega arith)) (none.no_boxes (omega arith)) (none.no_cells (omega arith));
+  later = further 3 4 _ _ _ _ (omega arith) none;
+}
+goes before c (Size s) none e f =
+    let order = in_order rank.Size before f in
+    let on : NoneBehind 5 c.sizes c.shells c.boxes c.cells = further _ _ _ _ _ _ (order.no_later (omega arith)) none in
+    record {
+      text = ap (λ (t : List ℕ). t ++ size_text s) (body_to before c (order.in_lists (omega arith)) e)
+          ∙ size_more (head_text c) c.version c.sizes s c.shells c.boxes c.cells
+          (on.no_shells (omega arith)) (on.no_boxes (omega arith)) (on.no_cells (omega arith));
+      later = record { no_sizes = λ lt. absurd (omega arith); no_shells = on.no_shells; no_boxes = on.no_boxes; no_cells = on.no_cells };
+    }
+goes before c (Shell s) none e f =
+    let order = in_order rank.Shell before f in
+    let on : NoneBehind 6 c.sizes c.shells c.boxes c.cells = further _ _ _ _ _ _ (order.no_later (omega arith)) none in
+    record {
+      text = ap (λ (t : List ℕ). t ++ shell_text s) (body_to before c (order.in_lists (omega arith)) e)
+          ∙ shell_more (head_text c) c.version c.sizes c.shells s c.boxes c.cells (on.no_boxes (omega arith)) (on.no_cells (omega arith));
+      later = record { no_sizes = on.no_sizes; no_shells = λ lt. absurd (omega arith); no_boxes = on.no_boxes; no_cells = on.no_cells };
+    }
+goes before c (Box b) none e f =
+    let order = in_order rank.Box before f in
+    let on : NoneBehind 7 c.sizes c.shells c.boxes c.cells = further _ _ _ _ _ _ (order.no_later (omega arith)) none in
+    record {
+      text = ap (λ (t : List ℕ). t ++ box_text c.version b) (body_to before c (order.in_lists (omega arith)) e)
+          ∙ box_more (head_text c) c.version c.sizes c.shells c.boxes b c.cells (on.no_cells (omega arith));
+      later = record { no_sizes = on.no_sizes; no_shells = on.no_shells; no_boxes = λ lt. absurd (omega arith); no_cells = on.no_cells };
+    }
+goes before c (Cell s) none e f =
+    let order = in_order rank.Cell before f in
+    let on : NoneBehind 8 c.sizes c.shells c.boxes c.cells = further _ _ _ _ _ _ (order.no_later (omega arith)) none in
+    record {
+      text = ap (λ (t : List ℕ). t ++ cell_text s) (body_to before c (order.in_lists (omega arith)) e)
+          ∙ cell_more (head_text c) c.version c.sizes c.shells c.boxes c.cells s;
+      later = record { no_sizes = on.no_sizes; no_shells = on.no_shells; no_boxes = on.no_boxes; no_cells = λ lt. absurd (omega arith) };
+    }
+goes before c End none e f =
+    let order = in_order rank.End before f in
+    record {
+      text = ap (λ (t : List ℕ). t ++ told c.version End) (body_to before c (order.in_lists (omega arith)) e) ∙ end_more c;
+      later = further _ _ _ _ _ _ (order.no_later (omega arith)) none;
+    }
+goes before c l none e f = absurd cc
+
+-- ---- ranges
+
+-- the ranges of the head
+record HeadFits (v f l thr n : ℕ) : Type 0 where
+  version : (v ≡ 1) ⊎ (v ≡ 2)
+  first : IsTick f
+  last : IsTick l
+  threshold : thr ≤ MAX_THRESHOLD
+  objects : n ≤ MAX_OBJECTS
+
+-- the ranges of the lists
+record ListsFit (v : ℕ) (ss : List SizeOfLine) (hs : List ShellLine) (bs : List PlainBoxLine) (cs : List PlainLeaf) : Type 0 where
+  no_sizes : v ≡ 1 → ss ≡ []
+  one_slot : v ≡ 1 → All (λ b. b.first ≡ b.last) bs
+  sizes : All FitsSize ss
+  shells : All FitsShell hs
+  boxes : All FitsBox bs
+  cells : All FitsCell cs
+
+-- the ranges of what is told so far
+record FitsSoFar (c : PlainCertificate) : Type 0 where
+  head : HeadFits c.version c.first c.last c.threshold c.objects
+  lists : ListsFit c.version c.sizes c.shells c.boxes c.cells
+
+fits_more : (c : PlainCertificate) (l : PlainLine) → FitsSoFar c → FitsLine c.version l → FitsSoFar (with_line c l)
+fits_more c Heading so is = so
+fits_more c (Window first last) so is =
+    let h = so.head in
+    record { head = record { version = h.version; first = is.0; last = is.1; threshold = h.threshold; objects = h.objects }; lists = so.lists }
+fits_more c (Threshold threshold) so is =
+    let h = so.head in
+    record { head = record { version = h.version; first = h.first; last = h.last; threshold = is.1; objects = h.objects }; lists = so.lists }
+fits_more c (Objects count) so is =
+    let h = so.head in
+    record { head = record { version = h.version; first = h.first; last = h.last; threshold = h.threshold; objects = is }; lists = so.lists }
+fits_more c (Size s) so is =
+    let ls = so.lists in
+    let sizes = All-push FitsSize c.sizes s ls.sizes is.1 in
+    let none : c.version ≡ 1 → c.sizes ++ s ∷ [] ≡ [] = λ one. absurd (let two = is.0 in omega arith) in
+    record { head = so.head; lists = record { no_sizes = none; one_slot = ls.one_slot; sizes = sizes; shells = ls.shells; boxes = ls.boxes; cells = ls.cells } }
+fits_more c (Shell s) so is =
+    let ls = so.lists in
+    let shells = All-push FitsShell c.shells s ls.shells is in
+    record { head = so.head; lists = record { no_sizes = ls.no_sizes; one_slot = ls.one_slot; sizes = ls.sizes; shells = shells; boxes = ls.boxes; cells = ls.cells } }
+fits_more c (Box b) so is =
+    let ls = so.lists in
+    let boxes = All-push FitsBox c.boxes b ls.boxes is.0 in
+    let one_slot = λ (one : c.version ≡ 1). All-push (λ (x : PlainBoxLine). x.first ≡ x.last) c.boxes b (ls.one_slot one) (is.1 one) in
+    record { head = so.head; lists = record { no_sizes = ls.no_sizes; one_slot = one_slot; sizes = ls.sizes; shells = ls.shells; boxes = boxes; cells = ls.cells } }
+fits_more c (Cell s) so is =
+    let ls = so.lists in
+    let cells = All-push FitsCell c.cells s ls.cells is in
+    record { head = so.head; lists = record { no_sizes = ls.no_sizes; one_slot = ls.one_slot; sizes = ls.sizes; shells = ls.shells; boxes = ls.boxes; cells = cells } }
+fits_more c End so is = so
+
+-- behind its line the threshold is told
+abbrev HasThreshold : Option Rank → PlainCertificate → Type 0
+HasThreshold before c = 3 ≤ last_place before → 1 ≤ c.threshold
+
+threshold_more : (before : Option Rank) (c : PlainCertificate) (l : PlainLine) → HasThreshold before c → may_follow (rank_of l) before ≡ true
+    → FitsLine c.version l → HasThreshold (Some (rank_of l)) (with_line c l)
+threshold_more before c Heading has f is low = absurd (omega arith)
+threshold_more before c (Window first last) has f is low = absurd (omega arith)
+threshold_more before c (Threshold threshold) has f is low = is.0
+threshold_more before c l has f is low = has ((in_order (rank_of l) before f).reached (omega arith))
+
+fits_whole : (c : PlainCertificate) → FitsSoFar c → 1 ≤ c.threshold → Fits c
+fits_whole c so some = record {
+  version = of_version so.head.version;
+  first = so.head.first;
+  last = so.head.last;
+  some = some;
+  threshold = so.head.threshold;
+  objects = so.head.objects;
+  sizes = so.lists.sizes;
+  shells = so.lists.shells;
+  boxes = so.lists.boxes;
+  cells = so.lists.cells;
+}
+  where
+    of_version : (c.version ≡ 1) ⊎ (c.version ≡ 2) → ((c.version ≡ 1) × (c.sizes ≡ []) × All (λ b. b.first ≡ b.last) c.boxes) ⊎ (c.version ≡ 2)
+    of_version (inl one) = inl (one, so.lists.no_sizes one, so.lists.one_slot one)
+    of_version (inr two) = inr two
+
+pub small_version : (v : ℕ) → (v ≡ 1) ⊎ (v ≡ 2) → v < 2 ^ 64
+small_version v (inl one) = omega arith
+small_version v (inr two) = omega arith
+
+-- ---- the whole text
+
+-- a text that was read, from the part that was left
+pub record IsWhole (before : Option Rank) (c d : PlainCertificate) (left : List ℕ) : Type 0 where
+  pub text : text_to before c ++ left ≡ text_of d
+  pub fits : Fits d
+
+behind : (before : Option Rank) (c d : PlainCertificate) → has_ended before ≡ true → c ≡ d → FitsSoFar c → HasThreshold before c → IsWhole before c d []
+behind (Some rank.End) c d e same so some =
+    subst (λ x. IsWhole (Some rank.End) c x []) same (record { text = append-nil (text_of c); fits = fits_whole c so (some (omega arith)) })
+behind before c d e same so some = absurd cc
+
+at_end : (b : Bool) (number : ℕ) (c d : PlainCertificate) → cond b (Ok c) (ends_at number) ≡ Ok d → (b ≡ true) × (c ≡ d)
+at_end true number c d h = (refl, cc)
+at_end false number c d h = absurd cc
+
+no_more : (number : ℕ) (x : Result PlainLine CertCause) (d : PlainCertificate) → and_then (at_line number x) (λ l. ends_at (number + 1)) ≡ Ok d → ⊥
+no_more number (Ok l) d h = cc
+no_more number (Err cause) d h = cc
+
+last_part : (number : ℕ) (before : Option Rank) (c d : PlainCertificate) (text : List ℕ) → FitsSoFar c → HasThreshold before c → behind_lines number before c text ≡ Ok d → IsWhole before c d text
+last_part number before c d [] so some h = let e = at_end (has_ended before) number c d h in behind before c d e.0 e.1 so some
+last_part number before c d (b ∷ bs) so some h = absurd (no_more number (line_said c.version before (b ∷ bs)) d h)
+
+-- what the other parts say, given what a line says
+one_part : (number : ℕ) (before : Option Rank) (c d : PlainCertificate) (text : List ℕ) (rest : List ℕ) (parts : List (List ℕ)) (x : Result PlainLine CertCause)
+    → NoLater before c → FitsSoFar c → HasThreshold before c → line_said c.version before text ≡ x
+    → and_then (at_line number x) (λ l. reads_on (number + 1) (Some (rank_of l)) (with_line c l) parts) ≡ Ok d
+    → ((l : PlainLine) → NoLater (Some (rank_of l)) (with_line c l) → FitsSoFar (with_line c l) → HasThreshold (Some (rank_of l)) (with_line c l)
+    → reads_on (number + 1) (Some (rank_of l)) (with_line c l) parts ≡ Ok d → IsWhole (Some (rank_of l)) (with_line c l) d rest)
+    → IsWhole before c d (text ++ 10 ∷ rest)
+one_part number before c d text rest parts (Err cause) later so some is h next = absurd cc
+one_part number before c d text rest parts (Ok l) later so some is h next =
+    let read = line_read c.version before text l (small_version c.version so.head.version) is in
+    let on = goes before c l later read.open_end read.follows in
+    let w = next l on.later (fits_more c l so read.fits) (threshold_more before c l some read.follows read.fits) h in
+    let here : text ++ 10 ∷ [] ≡ told c.version l = ap (λ (t : List ℕ). t ++ 10 ∷ []) read.joined ∙ text_is_told c.version l in
+    record {
+      text = ap (λ (t : List ℕ). text_to before c ++ t) (sym (append_assoc text (10 ∷ []) rest) ∙ ap (λ (t : List ℕ). t ++ rest) here)
+          ∙ sym (append_assoc (text_to before c) (told c.version l) rest) ∙ ap (λ (t : List ℕ). t ++ rest) on.text ∙ w.text;
+      fits = w.fits;
+    }
+
+all_read : (number : ℕ) (before : Option Rank) (c d : PlainCertificate) (parts : List (List ℕ)) → NoLater before c → FitsSoFar c → HasThreshold before c
+    → reads_on number before c parts ≡ Ok d → IsWhole before c d (join_with_byte 10 parts)
+unfolding reads_on
+all_read number before c d [] later so some h = absurd cc
+all_read number before c d (text ∷ []) later so some h = last_part number before c d text so some h
+all_read number before c d (text ∷ next ∷ parts) later so some h =
+    one_part number before c d text (join_with_byte 10 (next ∷ parts)) (next ∷ parts) (line_said c.version before text) later so some refl h
+    (λ l later' so' some' h'. all_read (number + 1) (Some (rank_of l)) (with_line c l) d (next ∷ parts) later' so' some' h')
+
+abbrev version_by : Bool → ℕ
+version_by b = if b then 2 else 1
+
+version_is : (b : Bool) → (version_by b ≡ 1) ⊎ (version_by b ≡ 2)
+version_is true = inr refl
+version_is false = inl refl
+
+nothing_fits : (v : ℕ) → (v ≡ 1) ⊎ (v ≡ 2) → FitsSoFar (nothing_said v)
+nothing_fits v is = record {
+  head = record { version = is; first = omega arith; last = omega arith; threshold = omega arith; objects = omega arith };
+  lists = record {
+    no_sizes = λ one. refl;
+    one_slot = λ one. All-nil (λ (b : PlainBoxLine). b.first ≡ b.last);
+    sizes = All-nil FitsSize;
+    shells = All-nil FitsShell;
+    boxes = All-nil FitsBox;
+    cells = All-nil FitsCell;
+  };
+}
+
+-- what is read is the text of the certificate, which fits
+pub reading_only : (bytes : List ℕ) (c : PlainCertificate) → reading bytes ≡ Ok c → (bytes ≡ text_of c) × Fits c
+unfolding reading
+reading_only bytes c h =
+    let v = version_of bytes in
+    let none : NoLater None (nothing_said v) =
+    record { no_sizes = λ lt. refl; no_shells = λ lt. refl; no_boxes = λ lt. refl; no_cells = λ lt. refl } in
+    let w = all_read 1 None (nothing_said v) c (slice_split (λ b. b == 10) bytes) none (nothing_fits v (version_is _))
+    (λ low. absurd (omega arith)) h in
+    (sym (join_with_byte-slice_split 10 bytes) ∙ w.text, w.fits)

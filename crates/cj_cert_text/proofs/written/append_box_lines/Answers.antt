@@ -1,0 +1,36 @@
+use Rattle.std.proofs.Common.{◌+◌, ◌*◌, ◌++◌, ◌<◌, List, [], ◌∷◌, Some, None, length, map, refl, ap, ◌∙◌, arith}
+use Rattle.std.proofs.lemmas.List.{map-append}
+use Rattle.cj_bezier.specs.SlotBoxes.{plain_box, plain_boxes}
+use Rattle.cj_cert.specs.declared.cert_lines.BoxLine.{BoxLine}
+use Rattle.cj_cert.specs.Certificates.{PlainBoxLine, plain_box_line}
+use Rattle.cj_cert.specs.Written.{line_of_box}
+use Rattle.cj_cert.proofs.WrittenLineLemmas.{box_at, box_more, box_missing, single_more}
+use Rattle.cj_cert_text.proofs.written.append_box_lines.Goals as goal
+use Rattle.cj_cert_text.proofs.written.append_box_lines.Goals.{in-Some+in_ok-push, in_default}
+
+pub loop-slot-preserved : goal.loop-slot-preserved
+loop-slot-preserved c =
+    let i = c.loop-slot.invariant in
+    let boxes = c.args.boxes.now in
+    let object = c.args.object in
+    let slots = c.args.slots in
+    let slot = c.loop-slot.slot in
+    let old = map plain_box_line c.args.lines.now.items in
+    let below : object * slots + slot < length boxes = omega arith in
+    elim c.match-boxes-place.branch [
+      | in-Some+in_ok-push w ↦
+          let area = w.in-Some.area in
+          let line : BoxLine = record { object = object; first = slot; last = slot; area = area } in
+          let here = box_at boxes (object * slots + slot) _ (Some area) below w.in-Some.is in
+          rw w.lines-is
+          (record {
+            lines = ap (map plain_box_line) w.in_ok-push.ensures.items ∙ map-append plain_box_line c.loop-slot.lines.items (line ∷ [])
+                ∙ ap (λ (ls : List PlainBoxLine). ls ++ line_of_box object slot (plain_box area) ∷ []) i.lines
+                ∙ box_more (plain_boxes boxes) slots object slot (plain_box area) old here;
+            single = λ was. single_more c.loop-slot.lines.items w.push.new.self.items line w.in_ok-push.ensures.items refl (i.single was);
+          })
+      | in_default w ↦
+          let here = box_at boxes (object * slots + slot) _ None below w.in_default.is in
+          rw w.lines-is
+          (record { lines = i.lines ∙ ap (λ (ls : List PlainBoxLine). old ++ ls) (box_missing (plain_boxes boxes) slots object slot here); single = i.single })
+    ]

@@ -1,0 +1,10 @@
+pub mod Texts
+pub mod Parts
+pub mod Numbers
+pub mod Ranks
+pub mod Lines
+pub mod TextLeft
+pub mod Reading
+pub mod Readers
+pub mod Fits
+pub mod ObjectTexts

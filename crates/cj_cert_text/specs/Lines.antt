@@ -1,0 +1,207 @@
+-- What a line of a certificate says, by its own text and by the kind of the line before.
+use Rattle.std.specs.Prelude.{ℕ, ◌-◌, ◌^◌, ◌==◌, Bool, true, false, ◌&&◌, if◌then◌else◌, ℤ, pos, neg_ℤ, int_le, int_lt, unsigned_abs, List, [], ◌∷◌, codes, Option, Some, None, Result, Ok, Err}
+use Rattle.std.specs.List.{slice_split}
+use Rattle.std.specs.Str.{bytes_eq}
+use Rattle.cj_ticks.specs.Ticks.{FIRST_TICK, LAST_TICK}
+use Rattle.cj_hermite.specs.Limits.{MAX_SIZE}
+use Rattle.cj_bezier.specs.declared.kind.Kind.{Kind}
+use Rattle.cj_bezier.specs.declared.kind.Kind.TheVariants as kinds
+use Rattle.cj_bezier.specs.Leaves.{PlainLeaf}
+use Rattle.cj_bezier.specs.Shells.{MAX_RADIUS}
+use Rattle.cj_cert.specs.declared.cert_lines.ShellLine.{ShellLine}
+use Rattle.cj_cert.specs.declared.cert_lines.SizeOfLine.{SizeOfLine}
+use Rattle.cj_causes.specs.declared.cert_cause.CertCause.{CertCause}
+use Rattle.cj_causes.specs.declared.cert_cause.CertCause.TheVariants as causes
+use Rattle.cj_cert_text.specs.declared.rank.Rank.{Rank}
+use Rattle.cj_cert_text.specs.declared.rank.Rank.TheVariants as rank
+use Rattle.cj_cert.specs.Certificates.{PlainBoxLine}
+use Rattle.cj_cert_text.specs.Numbers.{numbers_in, others_in}
+use Rattle.cj_cert_text.specs.Ranks.{rank_of_word, may_follow, has_ended}
+
+-- what a line says
+pub data PlainLine : Type 0 where
+  Heading : PlainLine
+  Window : ℕ → ℕ → PlainLine
+  Threshold : ℕ → PlainLine
+  Objects : ℕ → PlainLine
+  Size : SizeOfLine → PlainLine
+  Shell : ShellLine → PlainLine
+  Box : PlainBoxLine → PlainLine
+  Cell : PlainLeaf → PlainLine
+  End : PlainLine
+
+abbrev pub rank_of : PlainLine → Rank
+rank_of Heading = rank.Heading
+rank_of (Window first last) = rank.Window
+rank_of (Threshold threshold) = rank.Threshold
+rank_of (Objects count) = rank.Objects
+rank_of (Size size) = rank.Size
+rank_of (Shell shell) = rank.Shell
+rank_of (Box box) = rank.Box
+rank_of (Cell cell) = rank.Cell
+rank_of End = rank.End
+
+-- ---- the ranges of numbers
+
+abbrev pub is_from : ℕ → ℕ → ℤ → Bool
+is_from least most z = int_le (pos least) z && int_le z (pos most)
+
+abbrev pub MAX_OBJECTS : ℕ
+MAX_OBJECTS = 2000
+
+-- in nm
+abbrev pub MAX_THRESHOLD : ℕ
+MAX_THRESHOLD = 10 ^ 16
+
+abbrev pub is_object : ℤ → Bool
+is_object z = is_from 1 MAX_OBJECTS z
+
+abbrev pub is_tick : ℤ → Bool
+is_tick z = is_from FIRST_TICK LAST_TICK z
+
+abbrev pub is_slot : ℤ → Bool
+is_slot z = is_from 0 (2 ^ 32 - 1) z
+
+abbrev pub is_radius : ℤ → Bool
+is_radius z = is_from 0 MAX_RADIUS z
+
+abbrev pub is_coordinate : ℤ → Bool
+is_coordinate z = int_le (neg_ℤ (pos (2 ^ 63))) z && int_lt z (pos (2 ^ 63))
+
+-- how far a box may reach on an axis
+abbrev pub is_reach : ℤ → ℤ → Bool
+is_reach least most = is_coordinate least && is_coordinate most && int_le least most
+
+-- the object of a number
+abbrev pub object_of : ℤ → ℕ
+object_of z = unsigned_abs z - 1
+
+-- ---- the lines of each kind, by the numbers behind the first word and by the words behind these
+
+-- what is said, where the numbers are in their ranges
+abbrev pub in_range : Bool → PlainLine → Result PlainLine CertCause
+in_range true line = Ok line
+in_range false line = Err causes.Range
+
+abbrev pub heading : ℕ → List ℤ → Result PlainLine CertCause
+heading version (z ∷ []) = if int_le z (pos version) && int_le (pos version) z then Ok Heading else Err causes.Form
+heading version numbers = Err causes.Form
+
+abbrev pub window : List ℤ → Result PlainLine CertCause
+window (first ∷ last ∷ []) = in_range (is_tick first && is_tick last) (Window (unsigned_abs first) (unsigned_abs last))
+window numbers = Err causes.Form
+
+abbrev pub threshold : List ℤ → Result PlainLine CertCause
+threshold (z ∷ []) = in_range (is_from 1 MAX_THRESHOLD z) (Threshold (unsigned_abs z))
+threshold numbers = Err causes.Form
+
+abbrev pub objects : List ℤ → Result PlainLine CertCause
+objects (z ∷ []) = in_range (is_from 0 MAX_OBJECTS z) (Objects (unsigned_abs z))
+objects numbers = Err causes.Form
+
+-- a size is told in version 2
+abbrev pub size : ℕ → List ℤ → Result PlainLine CertCause
+size version (i ∷ z ∷ []) =
+    if version == 2 then in_range (is_object i && is_from 0 MAX_SIZE z) (Size (record { object = object_of i; size = unsigned_abs z }))
+    else Err causes.Form
+size version numbers = Err causes.Form
+
+abbrev pub shell : List ℤ → Result PlainLine CertCause
+shell (i ∷ lo ∷ hi ∷ []) = in_range (is_object i && is_radius lo && is_radius hi && int_le lo hi)
+    (Shell (record { object = object_of i; shell = Some (record { lo = unsigned_abs lo; hi = unsigned_abs hi }) }))
+shell numbers = Err causes.Form
+
+abbrev pub no_shell : List ℤ → List (List ℕ) → Result PlainLine CertCause
+no_shell (i ∷ []) (word ∷ []) =
+    if bytes_eq word (codes "NONE") then in_range (is_object i) (Shell (record { object = object_of i; shell = None })) else Err causes.Form
+no_shell numbers words = Err causes.Form
+
+-- the box of an object from one slot to another
+abbrev pub box_of : ℤ → ℤ → ℤ → List ℤ → Result PlainLine CertCause
+box_of i first last (xl ∷ xm ∷ yl ∷ ym ∷ zl ∷ zm ∷ []) =
+    in_range (is_object i && is_slot first && is_slot last && int_le first last && is_reach xl xm && is_reach yl ym && is_reach zl zm)
+    (Box (record {
+      object = object_of i;
+      first = unsigned_abs first;
+      last = unsigned_abs last;
+      area = record { x = record { least = xl; most = xm }; y = record { least = yl; most = ym }; z = record { least = zl; most = zm } };
+    }))
+box_of i first last numbers = Err causes.Form
+
+-- in version 1 a box is of one slot
+abbrev pub box_1 : List ℤ → Result PlainLine CertCause
+box_1 (i ∷ slot ∷ ends) = box_of i slot slot ends
+box_1 numbers = Err causes.Form
+
+abbrev pub box_2 : List ℤ → Result PlainLine CertCause
+box_2 (i ∷ first ∷ last ∷ ends) = box_of i first last ends
+box_2 numbers = Err causes.Form
+
+abbrev pub box : ℕ → List ℤ → Result PlainLine CertCause
+box version numbers = if version == 1 then box_1 numbers else box_2 numbers
+
+abbrev pub kind_of_word : List ℕ → Option Kind
+kind_of_word word =
+    if bytes_eq word (codes "F") then Some kinds.Far
+    else if bytes_eq word (codes "N") then Some kinds.Near
+    else if bytes_eq word (codes "U") then Some kinds.Undecided
+    else None
+
+-- the kind that the only word names
+abbrev pub kind_of : List (List ℕ) → Option Kind
+kind_of [] = None
+kind_of (word ∷ []) = kind_of_word word
+kind_of (word ∷ next ∷ words) = None
+
+abbrev pub cell_of : ℤ → ℤ → ℤ → ℤ → Option Kind → Result PlainLine CertCause
+cell_of a b first last None = Err causes.Form
+cell_of a b first last (Some kind) =
+    in_range (is_object a && is_object b && int_lt a b && is_tick first && is_tick last && int_le first last)
+    (Cell (record { a = object_of a; b = object_of b; first = unsigned_abs first; last = unsigned_abs last; kind = kind }))
+
+abbrev pub cell : List ℤ → Option Kind → Result PlainLine CertCause
+cell (a ∷ b ∷ first ∷ last ∷ []) kind = cell_of a b first last kind
+cell numbers kind = Err causes.Form
+
+abbrev pub end : List ℤ → Result PlainLine CertCause
+end [] = Ok End
+end (z ∷ numbers) = Err causes.Form
+
+-- ---- any line
+
+-- a line of numbers alone
+abbrev pub alone : List (List ℕ) → Result PlainLine CertCause → Result PlainLine CertCause
+alone [] line = line
+alone (word ∷ words) line = Err causes.Form
+
+-- a shell, or none
+abbrev pub shell_or_none : List ℤ → List (List ℕ) → Result PlainLine CertCause
+shell_or_none numbers [] = shell numbers
+shell_or_none numbers (word ∷ words) = no_shell numbers (word ∷ words)
+
+abbrev pub said_by : ℕ → Rank → List ℤ → List (List ℕ) → Result PlainLine CertCause
+said_by version rank.Heading numbers words = alone words (heading version numbers)
+said_by version rank.Window numbers words = alone words (window numbers)
+said_by version rank.Threshold numbers words = alone words (threshold numbers)
+said_by version rank.Objects numbers words = alone words (objects numbers)
+said_by version rank.Size numbers words = alone words (size version numbers)
+said_by version rank.Shell numbers words = shell_or_none numbers words
+said_by version rank.Box numbers words = alone words (box version numbers)
+said_by version rank.Cell numbers words = cell numbers (kind_of words)
+said_by version rank.End numbers words = alone words (end numbers)
+
+-- what a line of this kind says, by the words behind its first
+unfoldable pub said : ℕ → Rank → List (List ℕ) → Result PlainLine CertCause
+said version rank words = said_by version rank (numbers_in words) (others_in words)
+
+abbrev pub where_it_may_stand : ℕ → Option Rank → Option Rank → List (List ℕ) → Result PlainLine CertCause
+where_it_may_stand version before None words = Err causes.Form
+where_it_may_stand version before (Some rank) words = if may_follow rank before then said version rank words else Err causes.Form
+
+abbrev pub said_in : ℕ → Option Rank → List (List ℕ) → Result PlainLine CertCause
+said_in version before [] = Err causes.Form
+said_in version before (word ∷ words) = where_it_may_stand version before (rank_of_word word) words
+
+-- what a line says behind one of this kind: behind the last line nothing may stand
+unfoldable pub line_said : ℕ → Option Rank → List ℕ → Result PlainLine CertCause
+line_said version before text = if has_ended before then Err causes.End else said_in version before (slice_split (λ b. b == 32) text)

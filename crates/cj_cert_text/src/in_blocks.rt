@@ -1,0 +1,101 @@
+//! Certificates of version 2, which have one box for a block of slots where the object then touches nothing more.
+ghost use Rattle.std.specs.Prelude.{◌≡◌, map, IfOk};
+ghost use Rattle.cj_hermite.specs.Pairs.{objects_of};
+ghost use Rattle.cj_hermite.specs.Problems.{plain_problem};
+ghost use Rattle.cj_bezier.specs.Leaves.{plain_leaves};
+ghost use Rattle.cj_bezier.specs.Looked.{pairs_kept, shells_of};
+ghost use Rattle.cj_bezier.specs.SlotBoxes.{plain_boxes};
+ghost use Rattle.cj_cert.specs.Accepted.{Accepted};
+ghost use Rattle.cj_cert.specs.Certificates.{plain_certificate};
+ghost use Rattle.cj_cert.specs.Listed.{shells_listed};
+ghost use Rattle.cj_cert.specs.Rewritten as spec;
+ghost use Rattle.cj_cert.specs.Rewritten.{pairs_by_shells, written_in};
+ghost use Rattle.cj_bezier.specs.AllBoxes.{boxes_of};
+ghost use Rattle.cj_cert.specs.Written.{leaves_in_order};
+
+use crate::block_lines::{block_lines, size_lines};
+use crate::listed_boxes::listed_boxes;
+use crate::written::{cell_lines, shell_lines};
+use cj_bezier::{AxisBox, Leaf, Shell};
+use cj_cert::{Certificate, acceptance};
+use cj_hermite::{Pair, Problem, slot_count};
+use std::alloc::{AllocError, Global};
+
+/// The certificate of a problem in version 2, from the shells of its objects in the window, their boxes in each slot, in order of
+/// object and slot, the pairs that these shells keep, and the leaves of all pairs that are looked at, in order of pair and time.
+/// It is accepted for the problem.
+pub fn certificate_in_blocks(
+    alloc: Global,
+    problem: &Problem,
+    shells: &[Option<Shell>],
+    boxes: &[Option<AxisBox>],
+    kept: &[Pair],
+    leaves: &[Leaf],
+) -> Result<Certificate, AllocError>
+    requires shells { shells.now ≡ shells_of (plain_problem problem.now) }
+    requires boxes { plain_boxes boxes.now ≡ boxes_of (plain_problem problem.now) }
+    requires kept { map objects_of kept.now ≡ pairs_kept (plain_problem problem.now) }
+    requires leaves { plain_leaves leaves.now ≡ leaves_in_order (plain_problem problem.now) }
+    ensures value { IfOk result (λ cert. plain_certificate cert ≡ written_in 2 (plain_problem problem.now)) }
+    ensures accepted { IfOk result (λ cert. Accepted (plain_problem problem.now) (plain_certificate cert)) }
+{
+    acceptance(problem);
+    let objects = problem.tracks.as_slice().len() as u32;
+    let sizes = size_lines(alloc, problem.sizes.as_slice())?;
+    let shells = shell_lines(alloc, shells)?;
+    let boxes = block_lines(alloc, problem, boxes, kept)?;
+    let cells = cell_lines(alloc, leaves)?;
+    Ok(Certificate {
+        version: 2,
+        window: problem.window,
+        threshold: problem.threshold,
+        objects,
+        sizes,
+        shells,
+        boxes,
+        cells,
+    })
+}
+
+/// The shells that a certificate lists, line by line.
+pub fn listed_shells(alloc: Global, cert: &Certificate) -> Result<Vec<Option<Shell>>, AllocError>
+    ensures { IfOk result (λ shells. shells.items ≡ shells_listed (plain_certificate cert.now)) }
+{
+    let mut shells = Vec::with_capacity(alloc, cert.shells.len())?;
+    for line in &cert.shells {
+        shells.push(line.shell)?;
+    }
+    Ok(shells)
+}
+
+/// A certificate in version 2: one of version 1 with the problem's sizes, the same shells and cells, and blocks over its listed boxes
+/// and the pairs that its listed shells keep. It is accepted for the problem where the given one is.
+pub fn in_version_2(
+    alloc: Global,
+    problem: &Problem,
+    cert: Certificate,
+    kept: &[Pair],
+) -> Result<Certificate, AllocError>
+    requires kept { map objects_of kept.now ≡ pairs_by_shells (plain_problem problem.now) (plain_certificate cert) }
+    ensures value { IfOk result (λ new. plain_certificate new ≡ spec.in_version_2 (plain_problem problem.now) (plain_certificate cert)) }
+    ensures accepted { IfOk result (λ new. Accepted (plain_problem problem.now) (plain_certificate cert) → Accepted (plain_problem problem.now) (plain_certificate new)) }
+{
+    acceptance(problem);
+    if cert.version != 1 {
+        return Ok(cert);
+    }
+    let objects = problem.tracks.as_slice().len() as u32;
+    let sizes = size_lines(alloc, problem.sizes.as_slice())?;
+    let given = listed_boxes(alloc, &cert.boxes, objects, slot_count(problem.window))?;
+    let boxes = block_lines(alloc, problem, &given, kept)?;
+    Ok(Certificate {
+        version: 2,
+        window: cert.window,
+        threshold: cert.threshold,
+        objects: cert.objects,
+        sizes,
+        shells: cert.shells,
+        boxes,
+        cells: cert.cells,
+    })
+}

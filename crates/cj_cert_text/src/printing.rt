@@ -1,0 +1,77 @@
+//! The text of a certificate.
+ghost use Rattle.std.specs.Prelude.{◌≡◌, [], IfOk, codes};
+ghost use Rattle.cj_io.specs.Parts.{joined};
+ghost use Rattle.cj_cert.specs.Certificates.{plain_certificate};
+ghost use Rattle.cj_cert_text.specs.Texts.{first_lines, row, text_of};
+
+use crate::printed_parts::push_lines;
+use crate::rows::push_row;
+use cj_cert::Certificate;
+use cj_io::join_parts;
+use cj_ticks::Window;
+use std::alloc::{AllocError, Global};
+use std::thread::Threads;
+
+/// The text of a certificate, by its version.
+pub fn cert_text<R: Threads + Sync>(
+    rt: &R,
+    alloc: Global,
+    cert: &Certificate,
+    workers: u32,
+) -> Result<Vec<u8>, AllocError>
+    ensures { IfOk result (λ text. text.items ≡ text_of (plain_certificate cert.now)) }
+{
+    let parts = cert_parts(rt, alloc, cert, workers)?;
+    join_parts(alloc, &parts)
+}
+
+/// The same text in parts, which as many threads as there are workers make together.
+pub fn cert_parts<R: Threads + Sync>(
+    rt: &R,
+    alloc: Global,
+    cert: &Certificate,
+    workers: u32,
+) -> Result<Vec<Vec<u8>>, AllocError>
+    ensures { IfOk result (λ parts. joined parts.items ≡ text_of (plain_certificate cert.now)) }
+{
+    let version = cert.version;
+    let mut parts = Vec::new(alloc);
+    let front = head(alloc, version, cert.window, cert.threshold, cert.objects)?;
+    parts.push(front)?;
+    push_lines(rt, alloc, &mut parts, version, &cert.sizes, workers)?;
+    push_lines(rt, alloc, &mut parts, version, &cert.shells, workers)?;
+    push_lines(rt, alloc, &mut parts, version, &cert.boxes, workers)?;
+    push_lines(rt, alloc, &mut parts, version, &cert.cells, workers)?;
+    let back = end(alloc)?;
+    parts.push(back)?;
+    Ok(parts)
+}
+
+/// The first four lines.
+pub(crate) fn head(
+    alloc: Global,
+    version: u32,
+    window: Window,
+    threshold: u64,
+    objects: u32,
+) -> Result<Vec<u8>, AllocError>
+    ensures { IfOk result (λ text. text.items ≡ first_lines version window.first.micros window.last.micros threshold objects) }
+{
+    let first = i128::from(window.first.micros);
+    let last = i128::from(window.last.micros);
+    let mut text = Vec::new(alloc);
+    push_row(&mut text, b"CONJ-CERT", &[i128::from(version)])?;
+    push_row(&mut text, b"WINDOW", &[first, last])?;
+    push_row(&mut text, b"THRESHOLD", &[i128::from(threshold)])?;
+    push_row(&mut text, b"OBJECTS", &[i128::from(objects)])?;
+    Ok(text)
+}
+
+/// The last line.
+pub(crate) fn end(alloc: Global) -> Result<Vec<u8>, AllocError>
+    ensures { IfOk result (λ text. text.items ≡ row (codes "END") []) }
+{
+    let mut text = Vec::new(alloc);
+    push_row(&mut text, b"END", &[])?;
+    Ok(text)
+}

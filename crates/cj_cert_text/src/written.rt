@@ -1,0 +1,124 @@
+//! The certificate that a run writes.
+ghost use Rattle.std.specs.Prelude.{◌≡◌, ◌+◌, ◌*◌, ◌++◌, ◌<◌, ◌≤◌, ◌^◌, true, [], map, length, IfOk, OnOk};
+ghost use Rattle.std.specs.List.{flat_map, range_with_len};
+ghost use Rattle.cj_hermite.specs.Problems.{plain_problem};
+ghost use Rattle.cj_bezier.specs.Leaves.{plain_leaves};
+ghost use Rattle.cj_bezier.specs.Looked.{shells_of};
+ghost use Rattle.cj_bezier.specs.SlotBoxes.{plain_boxes};
+ghost use Rattle.cj_cert.specs.Accepted.{Accepted};
+ghost use Rattle.cj_cert.specs.Certificates.{plain_box_line, plain_cell_line, plain_certificate};
+ghost use Rattle.cj_cert.specs.Versions.{is_of_version};
+ghost use Rattle.cj_bezier.specs.AllBoxes.{boxes_of};
+ghost use Rattle.cj_cert.specs.Written.{leaves_in_order, line_by_shells, lines_by_boxes, written};
+
+use cj_bezier::{AxisBox, Leaf, Shell};
+use cj_cert::{BoxLine, CellLine, Certificate, ShellLine, acceptance};
+use cj_hermite::{Problem, slot_count};
+use std::alloc::{AllocError, Global};
+
+/// The certificate of a problem in version 1, from the shells of its objects in the window, their boxes in each slot, in order of
+/// object and slot, and the leaves of all pairs that are looked at, in order of pair and time. It is accepted for the problem.
+pub fn written_certificate(
+    alloc: Global,
+    problem: &Problem,
+    shells: &[Option<Shell>],
+    boxes: &[Option<AxisBox>],
+    leaves: &[Leaf],
+) -> Result<Certificate, AllocError>
+    requires shells { shells.now ≡ shells_of (plain_problem problem.now) }
+    requires boxes { plain_boxes boxes.now ≡ boxes_of (plain_problem problem.now) }
+    requires leaves { plain_leaves leaves.now ≡ leaves_in_order (plain_problem problem.now) }
+    ensures value { IfOk result (λ cert. plain_certificate cert ≡ written (plain_problem problem.now)) }
+    ensures accepted { IfOk result (λ cert. Accepted (plain_problem problem.now) (plain_certificate cert)) }
+{
+    acceptance(problem);
+    let objects = problem.tracks.as_slice().len() as u32;
+    let shells = shell_lines(alloc, shells)?;
+    let boxes = box_lines(alloc, boxes, objects, slot_count(problem.window))?;
+    let cells = cell_lines(alloc, leaves)?;
+    Ok(Certificate {
+        version: 1,
+        window: problem.window,
+        threshold: problem.threshold,
+        objects,
+        sizes: Vec::new(alloc),
+        shells,
+        boxes,
+        cells,
+    })
+}
+
+/// A line for each object with its shell.
+pub fn shell_lines(alloc: Global, shells: &[Option<Shell>]) -> Result<Vec<ShellLine>, AllocError>
+    requires { length shells.now < 2 ^ 32 }
+    ensures { IfOk result (λ lines. lines.items ≡ map (line_by_shells shells.now) (range_with_len 0 (length shells.now))) }
+{
+    let mut lines = Vec::with_capacity(alloc, shells.len())?;
+    for shell in shells {
+        let object = lines.len() as u32;
+        lines.push(ShellLine {
+            object,
+            shell: *shell,
+        })?;
+    }
+    Ok(lines)
+}
+
+/// A line for each object and each of its slots in which it has a box.
+fn box_lines(
+    alloc: Global,
+    boxes: &[Option<AxisBox>],
+    objects: u32,
+    slots: u32,
+) -> Result<Vec<BoxLine>, AllocError>
+    requires all { length boxes.now ≡ objects * slots }
+    ensures value { IfOk result (λ lines. map plain_box_line lines.items ≡ flat_map (lines_by_boxes (plain_boxes boxes.now) slots slots) (range_with_len 0 objects)) }
+    ensures single { IfOk result (λ lines. is_of_version 1 [] lines.items ≡ true) }
+{
+    let mut lines = Vec::with_capacity(alloc, boxes.len())?;
+    for object in 0..objects {
+        append_box_lines(boxes, object, slots, &mut lines)?;
+    }
+    Ok(lines)
+}
+
+/// Appends a line for each slot in which an object has a box.
+fn append_box_lines(
+    boxes: &[Option<AxisBox>],
+    object: u32,
+    slots: u32,
+    lines: &mut Vec<BoxLine>,
+) -> Result<(), AllocError>
+    requires { object * slots + slots ≤ length boxes.now }
+    ensures value { OnOk result (map plain_box_line lines.new.items ≡ map plain_box_line lines.old.items ++ lines_by_boxes (plain_boxes boxes.now) slots slots object) }
+    ensures single { OnOk result (is_of_version 1 [] lines.old.items ≡ true → is_of_version 1 [] lines.new.items ≡ true) }
+{
+    for slot in 0..slots {
+        let place = object as usize * slots as usize + slot as usize;
+        if let Some(area) = boxes[place] {
+            lines.push(BoxLine {
+                object,
+                first: slot,
+                last: slot,
+                area,
+            })?;
+        }
+    }
+    Ok(())
+}
+
+/// A line for each leaf.
+pub fn cell_lines(alloc: Global, leaves: &[Leaf]) -> Result<Vec<CellLine>, AllocError>
+    ensures { IfOk result (λ lines. map plain_cell_line lines.items ≡ plain_leaves leaves.now) }
+{
+    let mut lines = Vec::with_capacity(alloc, leaves.len())?;
+    for leaf in leaves {
+        lines.push(CellLine {
+            pair: leaf.cell.pair,
+            first: leaf.cell.first,
+            last: leaf.cell.last,
+            kind: leaf.kind,
+        })?;
+    }
+    Ok(lines)
+}
