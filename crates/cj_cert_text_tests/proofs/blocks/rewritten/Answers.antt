@@ -6,7 +6,7 @@ use Rattle.cj_bezier.specs.declared.shells.Shell.{Shell}
 use Rattle.cj_bezier.specs.Shells.{keeps_between}
 use Rattle.cj_cert.specs.Certificates.{plain_certificate}
 use Rattle.cj_cert.specs.Listed.{shells_listed}
-use Rattle.cj_cert_tests.proofs.blocks.rewritten.Goals as goal
+use Rattle.cj_cert_text_tests.proofs.blocks.rewritten.Goals as goal
 
 -- the shells of the only pair are not parted
 abbrev resting : List (Option Shell)
