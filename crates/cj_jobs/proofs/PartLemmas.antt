@@ -2,6 +2,7 @@
 use Rattle.std.proofs.Common.{◌≡◌, ℕ, zero, suc, ◌+◌, ◌<◌, List, [], ◌∷◌, ◌++◌, length, take, get_or, refl, sym, ap, subst, ◌∙◌, arith}
 use Rattle.std.specs.Borrow.{Bor}
 use Rattle.std.proofs.lemmas.List.{append-nil, append_assoc}
+use Rattle.std.proofs.lemmas.List.Concat.{flat_map-append, flat_map-cons}
 use Rattle.cj_jobs.specs.Parts.{elements_of, part_at}
 
 module _ {T : Type 0} where
@@ -23,3 +24,9 @@ module _ {T : Type 0} where
       one_more (p ∷ ps) (suc n) lt =
           ap (λ (more : List T). p.now ++ more) (one_more ps n (omega (arith, lt)))
           ∙ sym (append_assoc p.now (elements_of (take n ps)) (part_at ps n))
+
+  -- with one part more behind them they are those of the parts, and its own behind them
+  pub elements_push : (parts : List (Bor (List T))) (part : Bor (List T)) → elements_of (parts ++ part ∷ []) ≡ elements_of parts ++ part.now
+  elements_push parts part =
+      flat_map-append (λ (p : Bor (List T)). p.now) parts (part ∷ [])
+      ∙ ap (λ (own : List T). elements_of parts ++ own) (flat_map-cons (λ (p : Bor (List T)). p.now) part [] ∙ append-nil part.now)

@@ -13,3 +13,6 @@ joined-requires-clause-some g c = λ _ _. subst (λ ps. 0 < length ps) (sym c.de
 pub returns : goal.returns
 returns g c =
     subst (λ xs. IfOk c.joined.result (g.J.Jobs.comes_of c.args.jobs.now xs)) (ap elements_of c.deref-2.ensures.value ∙ c.in_ok-parts.ensures.whole) c.joined.ensures
+
+pub returns-then-workers-lt2 : goal.returns-then-workers-lt2
+returns-then-workers-lt2 g c = c.run.ensures
