@@ -9,7 +9,7 @@ use Rattle.cj_cdm.specs.Fits.{Fits}
 use Rattle.cj_cdm.specs.Messages.{PlainMessage}
 use Rattle.cj_cdm.specs.declared.fault.LineFault.{LineFault}
 use Rattle.cj_cdm.specs.declared.reading.rest.Rest.{Rest as Left}
-use Rattle.cj_cdm.specs.Read.{plain, with_rest}
+use Rattle.cj_cdm.specs.Read.{told}
 use Rattle.cj_cdm.specs.Reading.{Fault, Reading, Rest, and_then, behind_line, elements_said, entry_said, give, is_none_left, line_said, reading, taken, value_in, ◌>>=◌}
 use Rattle.cj_cdm.specs.Texts.{elements, text_of}
 use Rattle.cj_cdm.specs.Values.{element_said}
@@ -28,25 +28,25 @@ taken_mapped {X} {A} view rest (Some x) = by_end (behind_line rest)
     by_end (Ok r) = refl
     by_end (Err e) = refl
 
-plain_mapped : {X A : Type 0} (view : X → A) (r : Result (X × Left) LineFault) → plain (with_rest view) r ≡ mapped view (plain (with_rest (λ x. x)) r)
-plain_mapped view (Ok x) = refl
-plain_mapped view (Err e) = refl
+told_mapped : {X A : Type 0} (view : X → A) (r : Result X LineFault) (left : Left) → told view r left ≡ mapped view (told (λ x. x) r left)
+told_mapped view (Ok x) left = refl
+told_mapped view (Err e) left = refl
 
 -- a line whose value is found, or not
-pub line_told : {X A : Type 0} (view : X → A) (front : List ℕ) (said : List ℕ → Option A) (rest : Rest) (value : List ℕ) (o : Option X) (r : Result (X × Left) LineFault)
-    → Ok value ≡ value_in front rest → option_map view o ≡ said value → plain (with_rest (λ x. x)) r ≡ taken rest o → plain (with_rest view) r ≡ line_said front said rest
+pub line_told : {X A : Type 0} (view : X → A) (front : List ℕ) (said : List ℕ → Option A) (rest : Rest) (value : List ℕ) (o : Option X) (r : Result X LineFault) (left : Left)
+    → Ok value ≡ value_in front rest → option_map view o ≡ said value → told (λ x. x) r left ≡ taken rest o → told view r left ≡ line_said front said rest
 unfolding line_said
-line_told view front said rest value o r there found end =
-    plain_mapped view r ∙ ap (mapped view) end ∙ sym (taken_mapped view rest o) ∙ ap (taken rest) found ∙ ap (λ q. and_then q (λ v. taken rest (said v))) there
+line_told view front said rest value o r left there found end =
+    told_mapped view r left ∙ ap (mapped view) end ∙ sym (taken_mapped view rest o) ∙ ap (taken rest) found ∙ ap (λ q. and_then q (λ v. taken rest (said v))) there
 
 option_mapped : {X : Type 0} (o : Option X) → option_map (λ x. x) o ≡ o
 option_mapped None = refl
 option_mapped (Some x) = refl
 
 -- the same where it is told as it is found
-pub line_same : {X : Type 0} (front : List ℕ) (said : List ℕ → Option X) (rest : Rest) (value : List ℕ) (o : Option X) (r : Result (X × Left) LineFault)
-    → Ok value ≡ value_in front rest → o ≡ said value → plain (with_rest (λ x. x)) r ≡ taken rest o → plain (with_rest (λ x. x)) r ≡ line_said front said rest
-line_same front said rest value o r there found end = line_told (λ x. x) front said rest value o r there (option_mapped o ∙ found) end
+pub line_same : {X : Type 0} (front : List ℕ) (said : List ℕ → Option X) (rest : Rest) (value : List ℕ) (o : Option X) (r : Result X LineFault) (left : Left)
+    → Ok value ≡ value_in front rest → o ≡ said value → told (λ x. x) r left ≡ taken rest o → told (λ x. x) r left ≡ line_said front said rest
+line_same front said rest value o r left there found end = line_told (λ x. x) front said rest value o r left there (option_mapped o ∙ found) end
 
 -- a line with another front, or none
 pub line_failed : {A : Type 0} (front : List ℕ) (said : List ℕ → Option A) (rest : Rest) (e : Fault) → Err e ≡ value_in front rest → Err e ≡ line_said front said rest

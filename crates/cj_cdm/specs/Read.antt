@@ -91,6 +91,7 @@ abbrev pub plain : {X Y : Type 0} → (X → Y) → Result X LineFault → Resul
 plain view (Ok x) = Ok (view x)
 plain view (Err fault) = Err (plain_fault fault)
 
--- the same with what is left
-abbrev pub with_rest : {X Y : Type 0} → (X → Y) → X × Left → Y × Rest
-with_rest view x = (view x.0, plain_rest x.1)
+-- the same with what is left behind it
+abbrev pub told : {X Y : Type 0} → (X → Y) → Result X LineFault → Left → Result (Y × Rest) Fault
+told view (Ok x) left = Ok (view x, plain_rest left)
+told view (Err fault) left = Err (plain_fault fault)

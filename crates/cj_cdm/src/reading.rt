@@ -47,13 +47,13 @@ fn said_by(bytes: &[u8]) -> Result<MessageSaid<'_>, LineFault>
     requires { length bytes.now < 2 ^ 32 }
     ensures { plain message_of_said result ≡ spec.reading bytes.now }
 {
-    let rest = Rest {
+    let mut rest = Rest {
         text: bytes,
         line: 1,
     };
-    let (heading, rest) = read_heading(rest)?;
-    let (first, rest) = read_side(b"OBJECT1", rest)?;
-    let (second, rest) = read_side(b"OBJECT2", rest)?;
+    let heading = read_heading(&mut rest)?;
+    let first = read_side(b"OBJECT1", &mut rest)?;
+    let second = read_side(b"OBJECT2", &mut rest)?;
     if !rest.text.is_empty() {
         return Err(rest.fault(CdmCause::End));
     }

@@ -1,8 +1,8 @@
 -- Texts that are made part by part, and lists that are printed batch by batch.
-use Rattle.std.proofs.Common.{◌≡◌, ℕ, ◌+◌, ◌-◌, ◌≤◌, List, [], ◌∷◌, ◌++◌, take, drop, sym, ap, ◌∙◌, arith, append_assoc, append-nil}
+use Rattle.std.proofs.Common.{◌≡◌, ℕ, ◌+◌, ◌-◌, ◌<◌, ◌≤◌, List, [], ◌∷◌, ◌++◌, take, drop, get_or, length, sym, ap, ◌∙◌, arith, append_assoc, append-nil}
 use Rattle.std.specs.Prelude.{flat_map, Result, Ok, Err, IfOk}
 use Rattle.std.specs.Global.{Vec}
-use Rattle.std.proofs.lemmas.List.{take-append-drop, drop-drop}
+use Rattle.std.proofs.lemmas.List.{take-append-drop, take_more, drop-drop, flat_map_more, length-drop, nil_from_length}
 use Rattle.std.proofs.lemmas.Grind.{flat_map-append}
 use Rattle.cj_io.specs.Parts.{joined}
 
@@ -11,6 +11,15 @@ use Rattle.cj_io.specs.Parts.{joined}
 pub joined_more : (parts new : List (Vec ℕ)) (made : Vec ℕ) → new ≡ parts ++ made ∷ [] → joined new ≡ joined parts ++ made.items
 joined_more parts new made is =
     ap joined is ∙ flat_map-append (λ part. part.items) parts (made ∷ []) ∙ ap (λ (t : List ℕ). joined parts ++ t) (append-nil made.items)
+
+-- ---- a list is printed line by line
+
+-- the texts of the lines before place i, and then of the one there
+pub line_more : {L : Type 0} (text : L → List ℕ) (lines : List L) (i : ℕ) (d : L) (old was now : List ℕ) → i < length lines
+    → was ≡ old ++ flat_map text (take i lines) → now ≡ was ++ text (get_or lines i d) → now ≡ old ++ flat_map text (take (i + 1) lines)
+line_more text lines i d old was now short before step =
+    step ∙ ap (λ t. t ++ text (get_or lines i d)) before ∙ flat_map_more text old (take i lines) (get_or lines i d)
+    ∙ ap (λ ls. old ++ flat_map text ls) (sym (take_more lines i d short))
 
 -- ---- a list is printed batch by batch
 
@@ -27,12 +36,25 @@ batch_printed f lines first end none made le is_none is =
     ∙ sym (flat_map-append f (take n rest) (drop n rest))
     ∙ ap (flat_map f) (take-append-drop n rest))
 
--- what is printed of a text behind one of which nothing is left is printed of the whole
-pub printed_behind : {E : Type 0} (r : Result (Vec (Vec ℕ)) E) (none old new rest : List ℕ) → none ≡ []
-    → IfOk r (λ parts. old ≡ joined parts.items ++ new) → IfOk r (λ parts. none ++ (old ++ rest) ≡ joined parts.items ++ (none ++ (new ++ rest)))
-printed_behind (Err e) none old new rest is taken = tt
-printed_behind (Ok parts) none old new rest is taken =
-    ap (λ (t : List ℕ). t ++ (old ++ rest)) is
-    ∙ ap (λ (t : List ℕ). t ++ rest) taken
-    ∙ append_assoc (joined parts.items) new rest
-    ∙ ap (λ (t : List ℕ). joined parts.items ++ (t ++ (new ++ rest))) (sym is)
+-- what is printed of a text is printed of it with the rest behind it
+pub with_behind : {E : Type 0} (r : Result (Vec (Vec ℕ)) E) (old new rest : List ℕ)
+    → IfOk r (λ parts. old ≡ joined parts.items ++ new) → IfOk r (λ parts. old ++ rest ≡ joined parts.items ++ (new ++ rest))
+with_behind (Err e) old new rest taken = tt
+with_behind (Ok parts) old new rest taken = ap (λ (t : List ℕ). t ++ rest) taken ∙ append_assoc (joined parts.items) new rest
+
+-- and of it behind one of which nothing is left
+pub behind_none : {E : Type 0} (r : Result (Vec (Vec ℕ)) E) (none old new : List ℕ) → none ≡ []
+    → IfOk r (λ parts. old ≡ joined parts.items ++ new) → IfOk r (λ parts. none ++ old ≡ joined parts.items ++ (none ++ new))
+behind_none (Err e) none old new is taken = tt
+behind_none (Ok parts) none old new is taken =
+    ap (λ (t : List ℕ). t ++ old) is ∙ taken ∙ ap (λ (t : List ℕ). joined parts.items ++ (t ++ new)) (sym is)
+
+-- nothing is left of a text that is printed whole
+pub printed_whole : {E : Type 0} (r : Result (Vec (Vec ℕ)) E) (old new : List ℕ)
+    → IfOk r (λ parts. joined parts.items ≡ old) → new ≡ [] → IfOk r (λ parts. old ≡ joined parts.items ++ new)
+printed_whole (Err e) old new made none = tt
+printed_whole (Ok parts) old new made none = sym made ∙ sym (append-nil (joined parts.items)) ∙ ap (λ (t : List ℕ). joined parts.items ++ t) (sym none)
+
+-- nothing is printed of lines that are made
+pub all_made : {L : Type 0} (f : L → List ℕ) (lines : List L) (made : ℕ) → length lines ≤ made → flat_map f (drop made lines) ≡ []
+all_made f lines made all = ap (flat_map f) (nil_from_length (drop made lines) (omega (arith, length-drop made lines)))

@@ -1,7 +1,7 @@
 //! The lines of a message, by what their values are.
 ghost use Rattle.std.specs.Prelude.{◌≡◌, ◌≤◌, ◌<◌, ◌^◌, ◌++◌, codes, length, IfOk};
 ghost use Rattle.cj_values.specs.Decimals.{number_of};
-ghost use Rattle.cj_cdm.specs.Read.{bytes_of, plain, plain_rest, with_rest};
+ghost use Rattle.cj_cdm.specs.Read.{bytes_of, plain, plain_rest, told};
 ghost use Rattle.cj_cdm.specs.Reading.{entry_said, line_said, value_in};
 ghost use Rattle.cj_cdm.specs.Values.{constant_said, designator_said, element_said, epoch_said, frame_said, id_said, kilometres_said, label_said, miss_said, originator_said};
 
@@ -27,82 +27,82 @@ impl<'a> Rest<'a> {
     }
 
     /// A key with this value.
-    pub(crate) fn constant(self, key: &[u8], expected: &[u8]) -> Result<((), Rest<'a>), LineFault>
-        ensures { plain (with_rest (λ x. x)) result ≡ entry_said key.now (constant_said expected.now) (plain_rest self.entry) }
+    pub(crate) fn constant(&mut self, key: &[u8], expected: &[u8]) -> Result<(), LineFault>
+        ensures { told (λ x. x) result self.new ≡ entry_said key.now (constant_said expected.now) (plain_rest self.old) }
     {
         let value = self.value(key)?;
         self.taken(constant(expected, value))
     }
 
-    pub(crate) fn epoch(self, key: &[u8]) -> Result<(Tick, Rest<'a>), LineFault>
-        ensures { plain (with_rest (λ t. t.micros)) result ≡ entry_said key.now epoch_said (plain_rest self.entry) }
+    pub(crate) fn epoch(&mut self, key: &[u8]) -> Result<Tick, LineFault>
+        ensures { told (λ t. t.micros) result self.new ≡ entry_said key.now epoch_said (plain_rest self.old) }
     {
         let value = self.value(key)?;
         self.taken(epoch(value))
     }
 
     /// An epoch behind this front.
-    pub(crate) fn epoch_behind(self, front: &[u8]) -> Result<(Tick, Rest<'a>), LineFault>
+    pub(crate) fn epoch_behind(&mut self, front: &[u8]) -> Result<Tick, LineFault>
         requires { 2 ≤ length front.now }
-        ensures { plain (with_rest (λ t. t.micros)) result ≡ line_said front.now epoch_said (plain_rest self.entry) }
+        ensures { told (λ t. t.micros) result self.new ≡ line_said front.now epoch_said (plain_rest self.old) }
     {
         let value = self.behind(front)?;
         self.taken(epoch(value))
     }
 
-    pub(crate) fn originator(self, key: &[u8]) -> Result<(&'a [u8], Rest<'a>), LineFault>
-        ensures { plain (with_rest bytes_of) result ≡ entry_said key.now originator_said (plain_rest self.entry) }
+    pub(crate) fn originator(&mut self, key: &[u8]) -> Result<&'a [u8], LineFault>
+        ensures { told bytes_of result self.new ≡ entry_said key.now originator_said (plain_rest self.old) }
     {
         let value = self.value(key)?;
         self.taken(originator(value))
     }
 
     /// The id of a message of this originator.
-    pub(crate) fn id(self, key: &[u8], originator: &[u8]) -> Result<(u32, Rest<'a>), LineFault>
-        ensures { plain (with_rest (λ x. x)) result ≡ entry_said key.now (id_said originator.now) (plain_rest self.entry) }
+    pub(crate) fn id(&mut self, key: &[u8], originator: &[u8]) -> Result<u32, LineFault>
+        ensures { told (λ x. x) result self.new ≡ entry_said key.now (id_said originator.now) (plain_rest self.old) }
     {
         let value = self.value(key)?;
         self.taken(id(originator, value))
     }
 
-    pub(crate) fn miss(self, key: &[u8]) -> Result<(u64, Rest<'a>), LineFault>
-        ensures { plain (with_rest (λ x. x)) result ≡ entry_said key.now miss_said (plain_rest self.entry) }
+    pub(crate) fn miss(&mut self, key: &[u8]) -> Result<u64, LineFault>
+        ensures { told (λ x. x) result self.new ≡ entry_said key.now miss_said (plain_rest self.old) }
     {
         let value = self.value(key)?;
         self.taken(miss(value))
     }
 
-    pub(crate) fn label(self, key: &[u8]) -> Result<(&'a [u8], Rest<'a>), LineFault>
-        ensures { plain (with_rest bytes_of) result ≡ entry_said key.now label_said (plain_rest self.entry) }
+    pub(crate) fn label(&mut self, key: &[u8]) -> Result<&'a [u8], LineFault>
+        ensures { told bytes_of result self.new ≡ entry_said key.now label_said (plain_rest self.old) }
     {
         let value = self.value(key)?;
         self.taken(label(value))
     }
 
-    pub(crate) fn designator(self, key: &[u8]) -> Result<(&'a [u8], Rest<'a>), LineFault>
-        ensures { plain (with_rest bytes_of) result ≡ entry_said key.now designator_said (plain_rest self.entry) }
+    pub(crate) fn designator(&mut self, key: &[u8]) -> Result<&'a [u8], LineFault>
+        ensures { told bytes_of result self.new ≡ entry_said key.now designator_said (plain_rest self.old) }
     {
         let value = self.value(key)?;
         self.taken(designator(value))
     }
 
-    pub(crate) fn frame(self, key: &[u8]) -> Result<(Frame, Rest<'a>), LineFault>
-        ensures { plain (with_rest (λ x. x)) result ≡ entry_said key.now frame_said (plain_rest self.entry) }
+    pub(crate) fn frame(&mut self, key: &[u8]) -> Result<Frame, LineFault>
+        ensures { told (λ x. x) result self.new ≡ entry_said key.now frame_said (plain_rest self.old) }
     {
         let value = self.value(key)?;
         self.taken(frame(value))
     }
 
-    pub(crate) fn kilometres(self, key: &[u8], unit: &[u8]) -> Result<(i128, Rest<'a>), LineFault>
-        ensures { plain (with_rest (λ x. x)) result ≡ entry_said key.now (kilometres_said unit.now) (plain_rest self.entry) }
+    pub(crate) fn kilometres(&mut self, key: &[u8], unit: &[u8]) -> Result<i128, LineFault>
+        ensures { told (λ x. x) result self.new ≡ entry_said key.now (kilometres_said unit.now) (plain_rest self.old) }
     {
         let value = self.value(key)?;
         self.taken(kilometres(unit, value))
     }
 
     /// An element of a covariance.
-    pub(crate) fn element(self, key: &[u8], unit: &[u8]) -> Result<(Decimal, Rest<'a>), LineFault>
-        ensures { plain (with_rest number_of) result ≡ entry_said key.now (element_said unit.now) (plain_rest self.entry) }
+    pub(crate) fn element(&mut self, key: &[u8], unit: &[u8]) -> Result<Decimal, LineFault>
+        ensures { told number_of result self.new ≡ entry_said key.now (element_said unit.now) (plain_rest self.old) }
     {
         let value = self.value(key)?;
         self.taken(element(unit, value))

@@ -1,7 +1,7 @@
 //! The lines before the objects.
 ghost use Rattle.std.specs.Prelude.{◌≡◌};
 ghost use Rattle.cj_cdm.specs.Fields.{stamp_of};
-ghost use Rattle.cj_cdm.specs.Read.{plain, plain_heading, plain_rest, with_rest};
+ghost use Rattle.cj_cdm.specs.Read.{plain_heading, plain_rest, told};
 ghost use Rattle.cj_cdm.specs.Reading.{heading_said, stamp_said};
 
 use crate::fault::LineFault;
@@ -10,36 +10,34 @@ use crate::reading::said::HeadingSaid;
 use crate::stamp::Stamp;
 
 #[tactic(auto, unfolding(crate::specs::Reading::heading_said))]
-pub(crate) fn read_heading(rest: Rest<'_>) -> Result<(HeadingSaid<'_>, Rest<'_>), LineFault>
-    ensures { plain (with_rest plain_heading) result ≡ heading_said (plain_rest rest.entry) }
+pub(crate) fn read_heading<'a>(rest: &mut Rest<'a>) -> Result<HeadingSaid<'a>, LineFault>
+    ensures { told plain_heading result rest.new ≡ heading_said (plain_rest rest.old) }
 {
-    let (stamp, rest) = read_stamp(rest)?;
-    let (tca, rest) = rest.epoch(b"TCA")?;
-    let (miss, rest) = rest.miss(b"MISS_DISTANCE")?;
-    let (start, rest) = rest.epoch(b"START_SCREEN_PERIOD")?;
-    let (stop, rest) = rest.epoch(b"STOP_SCREEN_PERIOD")?;
-    let heading = HeadingSaid {
+    let stamp = read_stamp(rest)?;
+    let tca = rest.epoch(b"TCA")?;
+    let miss = rest.miss(b"MISS_DISTANCE")?;
+    let start = rest.epoch(b"START_SCREEN_PERIOD")?;
+    let stop = rest.epoch(b"STOP_SCREEN_PERIOD")?;
+    Ok(HeadingSaid {
         stamp,
         tca,
         miss,
         start,
         stop,
-    };
-    Ok((heading, rest))
+    })
 }
 
 #[tactic(auto, unfolding(crate::specs::Reading::stamp_said))]
-fn read_stamp(rest: Rest<'_>) -> Result<(Stamp<'_>, Rest<'_>), LineFault>
-    ensures { plain (with_rest stamp_of) result ≡ stamp_said (plain_rest rest.entry) }
+fn read_stamp<'a>(rest: &mut Rest<'a>) -> Result<Stamp<'a>, LineFault>
+    ensures { told stamp_of result rest.new ≡ stamp_said (plain_rest rest.old) }
 {
-    let ((), rest) = rest.constant(b"CCSDS_CDM_VERS", b"1.0")?;
-    let (created, rest) = rest.epoch(b"CREATION_DATE")?;
-    let (originator, rest) = rest.originator(b"ORIGINATOR")?;
-    let (number, rest) = rest.id(b"MESSAGE_ID", originator)?;
-    let stamp = Stamp {
+    rest.constant(b"CCSDS_CDM_VERS", b"1.0")?;
+    let created = rest.epoch(b"CREATION_DATE")?;
+    let originator = rest.originator(b"ORIGINATOR")?;
+    let number = rest.id(b"MESSAGE_ID", originator)?;
+    Ok(Stamp {
         created,
         originator,
         number,
-    };
-    Ok((stamp, rest))
+    })
 }

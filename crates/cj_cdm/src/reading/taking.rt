@@ -1,7 +1,7 @@
 //! Taking the lines of a message off its front.
 ghost use Rattle.std.specs.Prelude.{◌≡◌, ◌+◌, ◌<◌, ◌≤◌, ◌^◌, length, option_map, IfOk, IfSome};
 ghost use Rattle.std.specs.List.{before_first};
-ghost use Rattle.cj_cdm.specs.Read.{bytes_of, plain, plain_rest, with_rest};
+ghost use Rattle.cj_cdm.specs.Read.{bytes_of, plain, plain_rest, told};
 ghost use Rattle.cj_cdm.specs.Reading as spec;
 ghost use Rattle.cj_values.specs.Bytes.{is_feed};
 ghost use Rattle.cj_cdm.specs.Reading.{behind_feed};
@@ -27,11 +27,11 @@ impl<'a> Rest<'a> {
         }
     }
 
-    /// What was read of the next line, where that is something, and what follows the line.
+    /// What was read of the next line, where that is something. The line is taken then.
     #[tactic(auto, unfolding(crate::specs::Reading::taken, crate::specs::Reading::behind_line))]
-    pub(crate) fn taken<T: Drop>(self, said: Option<T>) -> Result<(T, Rest<'a>), LineFault>
-        requires { 2 ≤ length self.text.now }
-        ensures { plain (with_rest (λ x. x)) result ≡ spec.taken (plain_rest self.entry) said }
+    pub(crate) fn taken<T: Drop>(&mut self, said: Option<T>) -> Result<T, LineFault>
+        requires { 2 ≤ length self.old.text.now }
+        ensures { told (λ x. x) result self.new ≡ spec.taken (plain_rest self.old) said }
     {
         let Some(found) = said else {
             return Err(self.fault(CdmCause::Value));
@@ -39,7 +39,8 @@ impl<'a> Rest<'a> {
         match behind_line(self.text) {
             Some(text) => {
                 let line = self.line + 1;
-                Ok((found, Rest { text, line }))
+                *self = Rest { text, line };
+                Ok(found)
             }
             None => Err(LineFault {
                 line: self.line + 1,

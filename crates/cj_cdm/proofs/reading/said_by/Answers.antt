@@ -9,9 +9,9 @@ use Rattle.cj_cdm.proofs.reading.said_by.Goals as goal
 pub returns-then-not-is_empty : goal.returns-then-not-is_empty
 unfolding reading message_said
 returns-then-not-is_empty c =
-    let left : is_none_left c.in_ok-second.rest.text.now ≡ false = some_left c.in_ok-second.rest.text.now (sym c.if-not-is_empty.ensures) in
+    let left : is_none_left c.read_side-2.new.rest.text.now ≡ false = some_left c.read_side-2.new.rest.text.now (sym c.if-not-is_empty.ensures) in
     rw (sym c.in_ok-heading.ensures, sym c.in_ok-first.ensures, sym c.in_ok-second.ensures, left)
-    (ap (λ (n : ℕ). fault_at {A = PlainMessage} n c.fault.result.cause) c.fault.ensures.line ∙ ap (λ (k : CdmCause). fault_at c.in_ok-second.rest.line k) c.fault.ensures.cause)
+    (ap (λ (n : ℕ). fault_at {A = PlainMessage} n c.fault.result.cause) c.fault.ensures.line ∙ ap (λ (k : CdmCause). fault_at c.read_side-2.new.rest.line k) c.fault.ensures.cause)
 
 pub returns-in_err-heading : goal.returns-in_err-heading
 unfolding reading message_said
@@ -34,5 +34,5 @@ returns-in_err-second c =
 pub returns : goal.returns
 unfolding reading message_said
 returns c =
-    let none : is_none_left c.in_ok-second.rest.text.now ≡ true = none_left c.in_ok-second.rest.text.now (sym c.if-not-is_empty.ensures) in
+    let none : is_none_left c.read_side-2.new.rest.text.now ≡ true = none_left c.read_side-2.new.rest.text.now (sym c.if-not-is_empty.ensures) in
     rw (sym c.in_ok-heading.ensures, sym c.in_ok-first.ensures, sym c.in_ok-second.ensures, none) refl

@@ -10,4 +10,4 @@ use Rattle.cj_cdm.proofs.reading.object.read_elements.Given as goal
 abbrev pub invariant-loop-index : goal.invariant-loop-index
 invariant-loop-index l =
     (length l.values ≡ 21)
-    × (elements_said elements (plain_rest l.fn.rest) ≡ prepended (map number_of (take l.index l.values)) (elements_said (drop l.index elements) (plain_rest l.left)))
+    × (elements_said elements (plain_rest l.fn.rest) ≡ prepended (map number_of (take l.index l.values)) (elements_said (drop l.index elements) (plain_rest l.rest)))

@@ -15,24 +15,24 @@ returns-in_err-file c =
     let p = err_from_is_err_and c.from_residual-in_err-file.result c.from_residual-in_err-file.ensures.1 in
     rw (p.1, p.2) (rw (sym c.in_ok-designator.ensures, sym c.in_err-file.ensures) refl)
 
-pub returns-in_err-rest : goal.returns-in_err-rest
+pub returns-in_err-constant : goal.returns-in_err-constant
 unfolding source_said
-returns-in_err-rest c =
-    let p = err_from_is_err_and c.from_residual-in_err-rest.result c.from_residual-in_err-rest.ensures.1 in
-    rw (p.1, p.2) (rw (sym c.in_ok-designator.ensures, sym c.in_ok-file.ensures, sym c.in_err-rest.ensures) refl)
+returns-in_err-constant c =
+    let p = err_from_is_err_and c.from_residual-in_err-constant.result c.from_residual-in_err-constant.ensures.1 in
+    rw (p.1, p.2) (rw (sym c.in_ok-designator.ensures, sym c.in_ok-file.ensures, sym c.in_err-constant.ensures) refl)
 
-pub returns-in_err-rest-2 : goal.returns-in_err-rest-2
+pub returns-in_err-constant-2 : goal.returns-in_err-constant-2
 unfolding source_said
-returns-in_err-rest-2 c =
-    let p = err_from_is_err_and c.from_residual-in_err-rest-2.result c.from_residual-in_err-rest-2.ensures.1 in
-    rw (p.1, p.2) (rw (sym c.in_ok-designator.ensures, sym c.in_ok-file.ensures, sym c.in_ok-rest.ensures, sym c.in_err-rest-2.ensures) refl)
+returns-in_err-constant-2 c =
+    let p = err_from_is_err_and c.from_residual-in_err-constant-2.result c.from_residual-in_err-constant-2.ensures.1 in
+    rw (p.1, p.2) (rw (sym c.in_ok-designator.ensures, sym c.in_ok-file.ensures, sym c.in_ok-constant.ensures, sym c.in_err-constant-2.ensures) refl)
 
 pub returns-in_err-frame : goal.returns-in_err-frame
 unfolding source_said
 returns-in_err-frame c =
     let p = err_from_is_err_and c.from_residual-in_err-frame.result c.from_residual-in_err-frame.ensures.1 in
-    rw (p.1, p.2) (rw (sym c.in_ok-designator.ensures, sym c.in_ok-file.ensures, sym c.in_ok-rest.ensures, sym c.in_ok-rest-2.ensures, sym c.in_err-frame.ensures) refl)
+    rw (p.1, p.2) (rw (sym c.in_ok-designator.ensures, sym c.in_ok-file.ensures, sym c.in_ok-constant.ensures, sym c.in_ok-constant-2.ensures, sym c.in_err-frame.ensures) refl)
 
 pub returns : goal.returns
 unfolding source_said
-returns c = rw (sym c.in_ok-designator.ensures, sym c.in_ok-file.ensures, sym c.in_ok-rest.ensures, sym c.in_ok-rest-2.ensures, sym c.in_ok-frame.ensures) refl
+returns c = rw (sym c.in_ok-designator.ensures, sym c.in_ok-file.ensures, sym c.in_ok-constant.ensures, sym c.in_ok-constant-2.ensures, sym c.in_ok-frame.ensures) refl

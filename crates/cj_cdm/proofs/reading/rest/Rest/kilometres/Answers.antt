@@ -9,9 +9,9 @@ use Rattle.cj_cdm.proofs.reading.rest.Rest.kilometres.Goals as goal
 pub returns-in_err-value : goal.returns-in_err-value
 returns-in_err-value c =
     let p = err_from_is_err_and c.from_residual.result c.from_residual.ensures.1 in
-    rw (p.1, p.2) (line_failed (c.args.key.now ++ codes " = ") (kilometres_said c.args.unit.now) (plain_rest c.args.self) (plain_fault c.in_err-value.field-0.0) c.in_err-value.ensures.value)
+    rw (p.1, p.2) (line_failed (c.args.key.now ++ codes " = ") (kilometres_said c.args.unit.now) (plain_rest c.args.self.now) (plain_fault c.in_err-value.field-0.0) c.in_err-value.ensures.value)
 
 pub returns : goal.returns
 returns c =
-    line_same (c.args.key.now ++ codes " = ") (kilometres_said c.args.unit.now) (plain_rest c.args.self) c.in_ok-value.value.now c.kilometres.result c.taken.result
+    line_same (c.args.key.now ++ codes " = ") (kilometres_said c.args.unit.now) (plain_rest c.args.self.now) c.in_ok-value.value.now c.kilometres.result c.taken.result c.taken.new.self
     c.in_ok-value.ensures.value c.kilometres.ensures c.taken.ensures
