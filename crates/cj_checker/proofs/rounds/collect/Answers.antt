@@ -6,7 +6,7 @@ use Rattle.cj_hermite.specs.Slots.{slot_count}
 use Rattle.cj_cert.specs.Certificates.{plain_certificate}
 use Rattle.cj_cert.specs.Listed.{is_looked_listed}
 use Rattle.cj_hermite.specs.Pairs.{HasPair}
-use Rattle.cj_checker.specs.Keys.{HasKey, IsKeyIn}
+use Rattle.cj_checker.specs.Keys.{AreKeysIn, HasKey, IsKeyIn}
 use Rattle.cj_checker.proofs.rounds.collect.Goals as goal
 
 pub append_keys-requires : goal.append_keys-requires
@@ -35,3 +35,23 @@ loop-slot-preserved c =
           (λ k lt a b is. told.kept a b k (i.found k lt a b is))
           (λ a b is. told.found a b (subst (λ (ps : List Pair). HasPair ps a b) (sym c.deref.ensures.value) (found.found a b is.ordered is.looked_at)) is.from is.to);
     }
+
+pub loop-slot-init : goal.loop-slot-init
+loop-slot-init c =
+    let case = plain_problem c.args.problem.now in
+    let looked = is_looked_listed case (plain_certificate c.args.cert.now) in
+    let are_keys = AreKeysIn looked c.args.first c.args.end (length c.args.problem.now.tracks) (slot_count case.first case.last) in
+    record {
+      keys = subst are_keys (sym c.clear.ensures.items) (λ k d short. absurd (omega (arith, short)));
+      found = λ k lt a b is. absurd (omega (arith, lt));
+    }
+
+pub find_pairs-requires : goal.find_pairs-requires
+find_pairs-requires c = record { objects = c.requires.objects; shells = c.requires.shells; boxes = c.requires.boxes }
+
+pub returns-clause-keys : goal.returns-clause-keys
+returns-clause-keys c = λ e. c.loop-slot.invariant.keys
+
+pub returns-clause-found : goal.returns-clause-found
+returns-clause-found c = λ e a b slot is.
+    c.loop-slot.invariant.found slot (omega (arith, is.slot, c.slot_count-slot-end.ensures, c.loop-slot-test.false)) a b is
