@@ -1,5 +1,8 @@
-use Rattle.std.proofs.Common.{◌+◌, ◌*◌, ◌<◌, Some, None, length, arith}
+use Rattle.std.proofs.Common.{◌≡◌, ◌∙◌, ◌++◌, ℕ, ap, append-nil, sym, ◌+◌, ◌*◌, ◌<◌, Some, None, length, arith}
+use Rattle.std.specs.Prelude.{flat_map}
 use Rattle.cj_bezier.specs.SlotBoxes.{plain_box, plain_boxes}
+use Rattle.cj_cert.specs.Written.{lines_by_boxes}
+use Rattle.cj_cert_text.specs.Texts.{box_text}
 use Rattle.cj_cert.proofs.WrittenLineLemmas.{box_at}
 use Rattle.cj_cert_text.proofs.WrittenTextLemmas.{box_added, no_box}
 use Rattle.cj_cert_text.proofs.printed_boxes.ObjectBoxesPrintedLine.push_onto.Goals as goal
@@ -21,3 +24,13 @@ loop-slot-preserved c =
           let here = box_at boxes (own.object * own.slots + slot) _ None below w.in_default.is in
           rw w.text-is (no_box c.args.version (plain_boxes boxes) own.slots own.object slot _ _ here c.loop-slot.invariant)
     ]
+
+pub loop-slot-init : goal.loop-slot-init
+loop-slot-init c = sym (append-nil c.args.text.now.items)
+
+pub returns : goal.returns
+returns c =
+    let own = c.args.self.now in
+    let all : c.loop-slot.slot ≡ own.slots = omega (arith, c.loop-slot.auto.slot-end, c.loop-slot-test.false) in
+    c.loop-slot.invariant
+    ∙ ap (λ (k : ℕ). c.args.text.now.items ++ flat_map (box_text c.args.version) (lines_by_boxes (plain_boxes own.boxes.now) own.slots k own.object)) all
