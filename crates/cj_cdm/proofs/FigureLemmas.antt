@@ -1,5 +1,5 @@
 -- Numbers are read from what is written of them, and from nothing else.
-use Rattle.std.proofs.Common.{◌≡◌, ℕ, suc, ◌-◌, ◌/◌, ◌%◌, ◌^◌, ◌<◌, ◌≤◌, Bool, true, false, List, [], ◌∷◌, ◌++◌, length, ap, sym, ◌∙◌, refl, subst, inl, inr, arith, append_assoc, append-nil, Some, Result, Ok, ℤ, pos, negsuc, ◌+ℤ◌, ◌-ℤ◌, decimal}
+use Rattle.std.proofs.Common.{◌≡◌, ℕ, suc, ◌-◌, ◌/◌, ◌%◌, ◌^◌, ◌<◌, ◌≤◌, Bool, true, false, List, [], ◌∷◌, ◌++◌, length, ap, sym, ◌∙◌, refl, subst, inl, inr, arith, append_assoc, append-nil, None, Some, Result, Err, Ok, ℤ, pos, negsuc, ◌+ℤ◌, ◌-ℤ◌, decimal}
 use Rattle.std.specs.Prelude.{◌&&◌, ◌||◌, ◌==◌, not, nat_le, nat_lt, int_lt, if◌then◌else◌, codes, option_and_then, unsigned_abs}
 use Rattle.std.specs.Char.{is_ascii_digit}
 use Rattle.std.specs.List.{after_first, before_first, list_any}
@@ -14,7 +14,8 @@ use Rattle.cj_values.specs.Numbers.{Number}
 use Rattle.cj_kvn.specs.Numbers.{are_digits, scaled_of}
 use Rattle.cj_kvn.specs.Scanning.{exponent_said}
 use Rattle.cj_values.specs.Decimals.{IsReadable, shifted}
-use Rattle.cj_kvn.specs.Decimals.{decimal_form, decimal_of, decimal_text_of, digit_count, exponent_text, leading_power, minus_if, significand_text, zero_number}
+use Rattle.cj_values.specs.declared.decimals.Decimal.{Decimal}
+use Rattle.cj_kvn.specs.Decimals.{decimal_form, decimal_of, decimal_text_of, digit_count, exponent_text, leading_power, minus_if, number_read, significand_text, zero_number}
 use Rattle.cj_kvn.proofs.AgainLemmas as kvn
 use Rattle.cj_kvn.proofs.AgainLemmas.{IsNormal, behind_sign, digits_of_number, first_digit, other_digits, padded_if}
 use Rattle.cj_kvn.proofs.CountLemmas.{count_most, count_pos, huge_no, tiny_no}
@@ -337,6 +338,21 @@ pub scientific_told : (text front behind : List ℕ) (m n : Number) (x : ℤ) �
     → Some x ≡ kept is_power (result_ok (scaled_of 0 behind)) → n ≡ shifted m x → Some n ≡ scientific text
 scientific_told text front behind m n x before after significand power is =
     sym (rw (sym before, sym after, significand, sym power) (ap (λ (k : Number). Some k) (sym is)))
+
+-- a text without a power is none
+pub scientific_unraised : (text front behind : List ℕ) (m : Number) → front ≡ before_first is_mark text → behind ≡ after_first is_mark text → decimal_of front ≡ Ok m
+    → None ≡ kept is_power (result_ok (scaled_of 0 behind)) → None ≡ scientific text
+scientific_unraised text front behind m before after significand power = sym (rw (sym before, sym after, significand, sym power) refl)
+
+unread : (r : Result Decimal NumFault) → None ≡ result_ok r → None ≡ result_ok (number_read r)
+unread (Ok d) none = absurd cc
+unread (Err e) none = refl
+
+-- nor is one without a number before it
+pub scientific_unread : (text front : List ℕ) (r : Result Decimal NumFault) → front ≡ before_first is_mark text → number_read r ≡ decimal_of front → None ≡ result_ok r → None ≡ scientific text
+scientific_unread text front r before exact none =
+    let no : None ≡ result_ok (decimal_of front) = unread r none ∙ ap result_ok exact in
+    sym (rw (sym before, sym no) refl)
 
 scientific_read : (n : Number) → IsElement n → scientific (decimal_text_of n) ≡ Some n
 unfolding decimal_text_of
