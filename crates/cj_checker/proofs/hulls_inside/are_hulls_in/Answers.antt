@@ -1,6 +1,8 @@
-use Rattle.std.proofs.Common.{◌≡◌, true, rules}
+use Rattle.std.proofs.Common.{◌+◌, ◌&&◌, ◌∙◌, Bool, ap, sym, arith}
+use Rattle.std.specs.List.{list_all}
 use Rattle.cj_track.specs.Tracks.{plain_track}
 use Rattle.cj_bezier.specs.Hulls.{axes_of}
+use Rattle.cj_bezier.specs.Parts.{hulls_of}
 use Rattle.cj_bezier.specs.SlotBoxes.{plain_box}
 use Rattle.cj_checker.specs.Tests.{is_hull_in}
 use Rattle.cj_checker.proofs.HullLemmas.{first_met, next_met, all_met, last_met}
@@ -20,7 +22,7 @@ loop-part-preserved c =
     let part = c.in-Some.next in
     let is = c.in-Some.ensures in
     let fits = is_hull_in (plain_box c.args.area.now) in
-    let passes : fits (axes_of c.loop-part.part.hull.points) ≡ true = search rules in
+    let passes = sym c.if-not-inside.ensures in
     record {
       walks = is.walks;
       met = next_met fits (plain_track c.args.course.now.track.now) c.args.ticks.first.micros c.loop-part.part.last.micros part.last.micros c.args.ticks.last.micros
@@ -30,7 +32,7 @@ loop-part-preserved c =
 pub returns-in_default-clause-value : goal.returns-in_default-clause-value
 returns-in_default-clause-value c =
     let fits = is_hull_in (plain_box c.args.area.now) in
-    let passes : fits (axes_of c.loop-part.part.hull.points) ≡ true = search rules in
+    let passes = sym c.if-not-inside.ensures in
     all_met fits (plain_track c.args.course.now.track.now) c.args.ticks.first.micros c.loop-part.part.last.micros c.args.ticks.last.micros
     (axes_of c.loop-part.part.hull.points) c.loop-part.invariant.met passes c.in_default.ensures.none
 
@@ -38,3 +40,15 @@ pub returns-clause-value : goal.returns-clause-value
 returns-clause-value c =
     last_met (is_hull_in (plain_box c.args.area.now)) (plain_track c.args.course.now.track.now) c.args.ticks.first.micros c.loop-part.part.last.micros c.args.ticks.last.micros
     (axes_of c.loop-part.part.hull.points) c.is_hull_in-last_inside.result c.loop-part.invariant.met c.is_hull_in-last_inside.ensures c.loop-part-test.false
+
+pub returns-then-not-inside-clause-value : goal.returns-then-not-inside-clause-value
+returns-then-not-inside-clause-value c =
+    let fits = is_hull_in (plain_box c.args.area.now) in
+    let behind = hulls_of (plain_track c.args.course.now.track.now) (c.loop-part.part.last.micros + 1) c.args.ticks.last.micros in
+    ap (λ (b : Bool). b && list_all fits behind) c.if-not-inside.ensures ∙ sym c.loop-part.invariant.met.rest
+
+pub part_in-requires-in-loop-part : goal.part_in-requires-in-loop-part
+part_in-requires-in-loop-part c = record { walks = c.loop-part.invariant.walks; inside = c.requires.inside }
+
+pub loop-part-smaller : goal.loop-part-smaller
+loop-part-smaller c = omega (arith, c.in-Some.ensures.later, c.in-Some.ensures.within)

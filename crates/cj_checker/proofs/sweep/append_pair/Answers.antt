@@ -24,8 +24,8 @@ pub returns-in-Some-clause-found : goal.returns-in-Some-clause-found
 returns-in-Some-clause-found c =
     let looked = looks c.args.problem.now c.args.shells.now c.args.boxes.now in
     on_ok_weaker c.append_looked.result (λ found a b up both is.
-      let same = same_Some (objects_of c.in-Some.pair) (a, b) (c.in-Some.ensures.value a b up both) in
-      subst (λ (p : ℕ × ℕ). looked p ≡ true → HasPair c.append_looked.new.pairs.items p.0 p.1) same found is) c.append_looked.ensures.found
+    let same = same_Some (objects_of c.in-Some.pair) (a, b) (c.in-Some.ensures.value a b up both) in
+    subst (λ (p : ℕ × ℕ). looked p ≡ true → HasPair c.append_looked.new.pairs.items p.0 p.1) same found is) c.append_looked.ensures.found
 
 pub append_looked-requires-clause-exists : goal.append_looked-requires-clause-exists
 append_looked-requires-clause-exists c = omega (arith, c.in-Some.ensures.among)
