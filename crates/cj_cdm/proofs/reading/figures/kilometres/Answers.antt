@@ -1,0 +1,10 @@
+use Rattle.std.proofs.Common.{List, Option, ap, ◌∙◌, ℕ}
+use Rattle.std.specs.Prelude.{option_and_then}
+use Rattle.cj_cdm.specs.Values.{fixed_said}
+use Rattle.cj_cdm.proofs.reading.figures.kilometres.Goals as goal
+
+pub returns-in_err-before_unit : goal.returns-in_err-before_unit
+returns-in_err-before_unit c = rw c.from_residual.ensures (ap (λ (text : Option (List ℕ)). option_and_then (λ t. fixed_said 12 t) text) c.in_err-before_unit.ensures)
+
+pub returns : goal.returns
+returns c = c.fixed.ensures ∙ ap (λ (text : Option (List ℕ)). option_and_then (λ t. fixed_said 12 t) text) c.in_ok-before_unit.ensures
