@@ -6,6 +6,7 @@ use Rattle.cj_cert.specs.declared.cert_lines.BoxLine.{BoxLine}
 use Rattle.cj_cert.specs.Certificates.{PlainBoxLine, plain_box_line}
 use Rattle.cj_cert.specs.Versions.{is_of_version}
 use Rattle.cj_cert.specs.Written.{lines_by_boxes}
+use Rattle.cj_cert_text.proofs.WrittenTextLemmas.{block_within}
 use Rattle.cj_cert_text.proofs.written.box_lines.Goals as goal
 
 pub loop-object-preserved : goal.loop-object-preserved
@@ -31,3 +32,8 @@ returns-clause-value c =
 
 pub returns-clause-single : goal.returns-clause-single
 returns-clause-single c = c.loop-object.invariant.single
+
+pub append_box_lines-requires : goal.append_box_lines-requires
+append_box_lines-requires c =
+    let within = block_within c.loop-object.object c.args.objects c.args.slots c.loop-object-test.true in
+    rw c.requires.all within
