@@ -58,3 +58,8 @@ printed_whole (Ok parts) old new made none = sym made ∙ sym (append-nil (joine
 -- nothing is printed of lines that are made
 pub all_made : {L : Type 0} (f : L → List ℕ) (lines : List L) (made : ℕ) → length lines ≤ made → flat_map f (drop made lines) ≡ []
 all_made f lines made all = ap (flat_map f) (nil_from_length (drop made lines) (omega (arith, length-drop made lines)))
+
+-- where some part is printed, it is not so that none is
+pub never_none : {E : Type 0} (r : Result (Vec (Vec ℕ)) E) (P : Type 0) → IfOk r (λ parts. 0 < length parts.items) → IfOk r (λ parts. parts.items ≡ [] → P)
+never_none (Err e) P some = tt
+never_none (Ok parts) P some = λ none. absurd (omega (arith, some, ap length none))

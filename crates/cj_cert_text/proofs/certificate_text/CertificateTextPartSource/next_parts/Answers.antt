@@ -12,7 +12,7 @@ use Rattle.cj_cert_text.specs.declared.object_boxes.ObjectBoxes.{ObjectBoxes}
 use Rattle.cj_cert_text.specs.ObjectTexts.{object_text}
 use Rattle.cj_cert_text.specs.TextLeft.{text_left}
 use Rattle.cj_cert_text.specs.Texts.{cell_text, shell_text}
-use Rattle.cj_cert_text.proofs.PartLemmas.{all_made, behind_none, printed_whole, with_behind}
+use Rattle.cj_cert_text.proofs.PartLemmas.{all_made, behind_none, never_none, printed_whole, with_behind}
 use Rattle.cj_cert_text.proofs.certificate_text.CertificateTextPartSource.next_parts.Goals as goal
 
 abbrev shells_left : CertificateText → List ℕ
@@ -95,3 +95,18 @@ returns-then-not-is_empty-2-clause-parts g c =
 
 pub returns-clause-parts : goal.returns-clause-parts
 returns-clause-parts g c = sym (ap (λ (ps : List (Vec ℕ)). joined ps ++ text_left c.args.self.now) c.new.ensures.items)
+
+pub returns-then-not-is_empty-clause-end : goal.returns-then-not-is_empty-clause-end
+returns-then-not-is_empty-clause-end g c = never_none c.one_part.result _ c.one_part.ensures.some
+
+pub returns-then-self-len-clause-end : goal.returns-then-self-len-clause-end
+returns-then-self-len-clause-end g c = never_none c.next_texts.result _ c.next_texts.ensures.some
+
+pub returns-then-self-len-2-clause-end : goal.returns-then-self-len-2-clause-end
+returns-then-self-len-2-clause-end g c = never_none c.next_texts-then-self-len-2.result _ c.next_texts-then-self-len-2.ensures.some
+
+pub returns-then-self-clause-end : goal.returns-then-self-clause-end
+returns-then-self-clause-end g c = never_none c.next_texts-then-self.result _ c.next_texts-then-self.ensures.some
+
+pub returns-then-not-is_empty-2-clause-end : goal.returns-then-not-is_empty-2-clause-end
+returns-then-not-is_empty-2-clause-end g c = never_none c.one_part-then-not-is_empty-2.result _ c.one_part-then-not-is_empty-2.ensures.some
