@@ -1,9 +1,9 @@
-use Rattle.std.proofs.Common.{◌+◌, ◌*◌, ◌++◌, ◌<◌, List, [], ◌∷◌, Some, None, length, map, refl, ap, ◌∙◌, arith}
+use Rattle.std.proofs.Common.{◌≡◌, ◌+◌, ◌*◌, ◌++◌, ◌<◌, List, ℕ, append-nil, sym, [], ◌∷◌, Some, None, length, map, refl, ap, ◌∙◌, arith}
 use Rattle.std.proofs.lemmas.List.{map-append}
 use Rattle.cj_bezier.specs.SlotBoxes.{plain_box, plain_boxes}
 use Rattle.cj_cert.specs.declared.cert_lines.BoxLine.{BoxLine}
 use Rattle.cj_cert.specs.Certificates.{PlainBoxLine, plain_box_line}
-use Rattle.cj_cert.specs.Written.{line_of_box}
+use Rattle.cj_cert.specs.Written.{line_of_box, lines_by_boxes}
 use Rattle.cj_cert.proofs.WrittenLineLemmas.{box_at, box_more, box_missing, single_more}
 use Rattle.cj_cert_text.proofs.written.append_box_lines.Goals as goal
 use Rattle.cj_cert_text.proofs.written.append_box_lines.Goals.{in-Some+in_ok-push, in_default}
@@ -34,3 +34,15 @@ loop-slot-preserved c =
           rw w.lines-is
           (record { lines = i.lines ∙ ap (λ (ls : List PlainBoxLine). old ++ ls) (box_missing (plain_boxes boxes) slots object slot here); single = i.single })
     ]
+
+pub loop-slot-init : goal.loop-slot-init
+loop-slot-init c = record { lines = sym (append-nil (map plain_box_line c.args.lines.now.items)); single = λ was. was }
+
+pub returns-clause-value : goal.returns-clause-value
+returns-clause-value c =
+    let all : c.loop-slot.slot ≡ c.args.slots = omega (arith, c.loop-slot.auto.slot-end, c.loop-slot-test.false) in
+    c.loop-slot.invariant.lines
+    ∙ ap (λ (k : ℕ). map plain_box_line c.args.lines.now.items ++ lines_by_boxes (plain_boxes c.args.boxes.now) c.args.slots k c.args.object) all
+
+pub returns-clause-single : goal.returns-clause-single
+returns-clause-single c = c.loop-slot.invariant.single
