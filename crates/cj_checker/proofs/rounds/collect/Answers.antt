@@ -1,5 +1,6 @@
 use Rattle.std.proofs.Common.{◌≡◌, ℕ, ◌<◌, ◌≤◌, List, true, length, sym, subst, arith, below_more}
 use Rattle.std.specs.Prelude.{All}
+use Rattle.std.proofs.lemmas.Result.{IfOk-from_err}
 use Rattle.cj_hermite.specs.declared.pair.Pair.{Pair}
 use Rattle.cj_hermite.specs.Problems.{plain_problem}
 use Rattle.cj_hermite.specs.Slots.{slot_count}
@@ -54,4 +55,22 @@ returns-clause-keys c = λ e. c.loop-slot.invariant.keys
 
 pub returns-clause-found : goal.returns-clause-found
 returns-clause-found c = λ e a b slot is.
-    c.loop-slot.invariant.found slot (omega (arith, is.slot, c.slot_count-slot-end.ensures, c.loop-slot-test.false)) a b is
+    c.loop-slot.invariant.found slot (omega (arith, is.slot)) a b is
+
+pub returns-in_err-find_pairs-clause-keys : goal.returns-in_err-find_pairs-clause-keys
+returns-in_err-find_pairs-clause-keys c = IfOk-from_err c.from_residual.result _ c.from_residual.ensures.0
+
+pub returns-in_err-find_pairs-clause-found : goal.returns-in_err-find_pairs-clause-found
+returns-in_err-find_pairs-clause-found c = IfOk-from_err c.from_residual.result _ c.from_residual.ensures.0
+
+pub returns-in_err-find_pairs-clause-rows : goal.returns-in_err-find_pairs-clause-rows
+returns-in_err-find_pairs-clause-rows c = IfOk-from_err c.from_residual.result _ c.from_residual.ensures.0
+
+pub returns-in_err-append_keys-clause-keys : goal.returns-in_err-append_keys-clause-keys
+returns-in_err-append_keys-clause-keys c = IfOk-from_err c.from_residual-in_err-append_keys.result _ c.from_residual-in_err-append_keys.ensures.0
+
+pub returns-in_err-append_keys-clause-found : goal.returns-in_err-append_keys-clause-found
+returns-in_err-append_keys-clause-found c = IfOk-from_err c.from_residual-in_err-append_keys.result _ c.from_residual-in_err-append_keys.ensures.0
+
+pub returns-in_err-append_keys-clause-rows : goal.returns-in_err-append_keys-clause-rows
+returns-in_err-append_keys-clause-rows c = IfOk-from_err c.from_residual-in_err-append_keys.result _ c.from_residual-in_err-append_keys.ensures.0
