@@ -1,5 +1,6 @@
 -- The order of a folder's entries.
-use Rattle.std.proofs.Common.{◌≡◌, ◌∙◌, ap, sym, ℕ, zero, suc, ◌+◌, ◌<◌, ◌≤◌, List, [], ◌∷◌, length, Bool, true, false, cond, Option, Some, get_or, arith, refl}
+use Rattle.std.proofs.Common.{◌≡◌, ◌∙◌, ap, sym, ℕ, zero, suc, ◌+◌, ◌<◌, ◌≤◌, List, [], ◌∷◌, ◌++◌}
+use Rattle.std.proofs.Common.{length, drop, add-one, drop-cons, append_assoc, Bool, true, false, cond, Option, Some, get_or, arith, refl}
 use Rattle.std.specs.Prelude.{All, slice_get}
 use Rattle.std.specs.List.{AllByRecursion}
 use Rattle.std.proofs.lemmas.List.Elements.{All-from_recursion}
@@ -94,3 +95,23 @@ numbers_of_inputs suffix sizes names i d below =
     below_of [] n name h = absurd cc
     below_of (x ∷ xs) zero name h = omega arith
     below_of (x ∷ xs) (suc n) name h = omega (arith, below_of xs n name h)
+
+-- ---- the names one after another
+
+-- the name at a place stands before those behind it
+pub next_name : (names : List (List ℕ)) (i : ℕ) (name : List ℕ) → i < length names → name ≡ get_or names i name → drop i names ≡ name ∷ drop (i + 1) names
+next_name names i name below is = rw (add-one i) (drop-cons names i name below ∙ ap (λ (n : List ℕ). n ∷ drop (suc i) names) (sym is))
+
+-- a name that is taken
+pub entry_taken : (suffix : List ℕ) (sizes : Option (List ℕ)) (number : ℕ) (name : List ℕ) (rest : List (List ℕ)) (before : List Entry)
+    → is_taken suffix sizes name ≡ true
+    → (before ++ record { name = name; number = number } ∷ []) ++ entries_from suffix sizes (number + 1) rest
+    ≡ before ++ entries_from suffix sizes number (name ∷ rest)
+entry_taken suffix sizes number name rest before taken =
+    append_assoc before (record { name = name; number = number } ∷ []) (entries_from suffix sizes (number + 1) rest) ∙ rw taken refl
+
+-- one that is not
+pub entry_left : (suffix : List ℕ) (sizes : Option (List ℕ)) (number : ℕ) (name : List ℕ) (rest : List (List ℕ)) (before : List Entry)
+    → is_taken suffix sizes name ≡ false
+    → before ++ entries_from suffix sizes (number + 1) rest ≡ before ++ entries_from suffix sizes number (name ∷ rest)
+entry_left suffix sizes number name rest before left = rw left refl

@@ -1,4 +1,5 @@
 pub mod BatchLemmas
+pub mod EndLemmas
 pub mod InputFileLemmas
 pub mod ReadingLemmas
 pub mod SortLemmas

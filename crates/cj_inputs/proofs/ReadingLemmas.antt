@@ -23,7 +23,7 @@ use Rattle.cj_inputs.specs.declared.reading.InputError.{InputError}
 use Rattle.cj_inputs.specs.declared.reading.InputError.TheVariants as input
 use Rattle.cj_inputs.specs.declared.input_files.Entry.{Entry}
 use Rattle.cj_status.specs.Steps.{◌>>=◌}
-use Rattle.cj_inputs.specs.Readings.{reading_after, readings_after, checked_after, has_frame_of, nodes_of, nodes_in, Reads}
+use Rattle.cj_inputs.specs.Readings.{reading_after, readings_after, checked_after, has_frame_of, nodes_of, nodes_in, within, Reads}
 
 -- a reading that was given up, as one that goes on from it
 pub reads_on : {X Y A B : Type 0} (P : Type 0) (view : X → A) (seen : Y → B) (why : InputError) (read : Result A Status) (f : A → Result B Status)
@@ -32,6 +32,18 @@ reads_on P view seen input.Memory read f here = tt
 reads_on P view seen input.Failed read f here = here
 reads_on {X} {Y} {A} {B} P view seen (input.Refused file line cause) read f here = ap (λ (r : Result A Status). r >>= f) here
 reads_on {X} {Y} {A} {B} P view seen (input.Limit fault) read f here = ap (λ (r : Result A Status). r >>= f) here
+
+-- a file of no more bytes than may be
+pub within_most : (most : ℕ) (name bytes kept : List ℕ) → kept ≡ bytes → length kept ≤ most → within most name bytes ≡ Ok kept
+within_most most name bytes kept same few =
+    let small : nat_le (length kept) most ≡ true = grind (arith, nat_tests) in
+    rw (← same, small) refl
+
+-- a file of more
+pub not_within : (most : ℕ) (name bytes : List ℕ) → most < length bytes → within most name bytes ≡ Err (Limit (limit.FileBytes name))
+not_within most name bytes more =
+    let large : nat_le (length bytes) most ≡ false = grind (arith, nat_tests) in
+    rw large refl
 
 -- the nodes of tracks are those of their ephemerides
 pub same_nodes : (tracks : List Track) → nodes_in (map plain_track tracks) ≡ node_total tracks

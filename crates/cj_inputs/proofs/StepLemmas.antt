@@ -1,5 +1,5 @@
 -- How the parts of a run end.
-use Rattle.std.proofs.Common.{◌≡◌, ℕ, ◌*◌, ◌-◌, ◌<◌, ◌≤◌, List, length, true, false, Option, Result, Ok, Err, refl, sym, ap, ◌∙◌, arith}
+use Rattle.std.proofs.Common.{◌≡◌, ℕ, ◌*◌, ◌-◌, ◌<◌, ◌≤◌, List, length, true, false, Option, Result, Ok, Err, refl, sym, ap, subst, ◌∙◌, arith}
 use Rattle.std.specs.Prelude.{nat_le}
 use Rattle.std.proofs.lemmas.Bool.Decides.{nat_tests}
 use Rattle.cj_io.specs.declared.file.FileBytes.{FileBytes}
@@ -20,28 +20,78 @@ use Rattle.cj_inputs.specs.declared.input_files.Entry.{Entry}
 use Rattle.cj_inputs.specs.InputFiles.{inputs_of}
 use Rattle.cj_inputs.specs.ObjectSizes.{first_named, object_sizes, sizes_asked}
 use Rattle.cj_inputs.specs.Windows.{window_first, window_last}
-use Rattle.cj_status.specs.Steps.{◌>>=◌, Stops, Gives}
+use Rattle.cj_status.specs.Steps.{◌>>=◌, ComesBetween, Stops, Gives}
 use Rattle.cj_inputs.specs.Readings.{readings_of, Reads}
 use Rattle.cj_status.specs.Errors.{folder_status}
 use Rattle.cj_inputs.specs.Errors.{input_status}
-use Rattle.cj_inputs.specs.Cases.{case_asked, case_of_run, case_with, object_slots, within_limits}
-use Rattle.cj_inputs.specs.CheckInputs.{certificate_at, certificate_named}
+use Rattle.cj_inputs.specs.Cases.{case_asked, case_of_run, case_with, object_slots, within_limits, within_objects}
+use Rattle.cj_inputs.specs.CheckInputs.{PlainInputs, certificate_at, certificate_named, inputs_asked}
+use Rattle.cj_words.specs.Commands.{Checking}
+
+-- what ended a step ends those behind it
+pub stops_behind : {A B : Type 0} (P Q : Type 0) (s : Status) (due : Result A Status) (f : A → Result B Status)
+    → (P → Q) → Stops P s due → Stops Q s (due >>= f)
+stops_behind P Q status.Ok due f wider ends = ends
+stops_behind P Q (status.NotAccepted line cause) due f wider ends = rw ends refl
+stops_behind P Q (status.Usage fault) due f wider ends = rw ends refl
+stops_behind P Q (status.BadFile file line cause) due f wider ends = rw ends refl
+stops_behind P Q status.ReadFault due f wider ends = wider ends
+stops_behind P Q status.WriteFault due f wider ends = ends
+stops_behind P Q (status.Limit fault) due f wider ends = rw ends refl
+stops_behind P Q status.OutOfMemory due f wider ends = tt
+
+-- where nothing is read, no fault of the folder ends it
+pub stops_unread : {X A : Type 0} (s : Status) (due : Result A Status) → Stops ⊥ s due → ◌≡◌ {A = Result X Status} (Err s) (Err status.ReadFault) → ⊥
+stops_unread s due stops is =
+    let same : s ≡ status.ReadFault = cc in
+    subst (λ ended. Stops ⊥ ended due) same stops
+
+pub gives_unread : {X A : Type 0} (view : X → A) (r : Result X Status) (due : Result A Status) → Gives ⊥ view r due → r ≡ Err status.ReadFault → ⊥
+gives_unread view r due gives is = subst (λ ended. Gives ⊥ view ended due) is gives
+
+-- a reading that was given up ends the run between its words and its writes
+pub comes_between : (why : InputError) → ComesBetween (input_status why)
+comes_between input.Memory = tt
+comes_between input.Failed = tt
+comes_between (input.Refused file line cause) = tt
+comes_between (input.Limit fault) = tt
+
+-- where it ends for a fault of the folder, the folder failed
+pub folder_failed : {X A P : Type 0} (why : InputError) → (◌≡◌ {A = Result X InputError} (Err why) (Err input.Failed) → P)
+    → ◌≡◌ {A = Result A Status} (Err (input_status why)) (Err status.ReadFault) → P
+folder_failed input.Memory failed is = absurd cc
+folder_failed input.Failed failed is = failed refl
+folder_failed (input.Refused file line cause) failed is = absurd cc
+folder_failed (input.Limit fault) failed is = absurd cc
 
 -- more files than may be
-pub too_many : (files : List FileBytes) (settings : Asked) (entries : List Entry) → entries ≡ inputs_of settings.suffix settings.sizes (names_of files) → 2000 < length entries
-    → case_asked files settings ≡ Err (status.Limit (Objects (length entries)))
-unfolding case_asked
-too_many files settings entries same more =
+pub too_many : (entries asked : List Entry) → entries ≡ asked → 2000 < length entries → within_objects asked ≡ Err (status.Limit (Objects (length entries)))
+too_many entries asked same more =
     let large : nat_le (length entries) 2000 ≡ false = grind (arith, nat_tests) in
     rw (← same, large) refl
 
--- the rest, once the files are known
-pub asked_of_entries : (files : List FileBytes) (settings : Asked) (entries : List Entry) → entries ≡ inputs_of settings.suffix settings.sizes (names_of files) → length entries ≤ 2000
-    → case_asked files settings ≡ (readings_of settings.as_hermite3 files entries >>= λ es. sizes_asked files settings.sizes >>= λ sizes. within_limits (case_of_run settings es sizes))
-unfolding case_asked
-asked_of_entries files settings entries same few =
+-- no more than may be
+pub few_enough : (entries asked : List Entry) → entries ≡ asked → length entries ≤ 2000 → within_objects asked ≡ Ok entries
+few_enough entries asked same few =
     let small : nat_le (length entries) 2000 ≡ true = grind (arith, nat_tests) in
     rw (← same, small) refl
+
+-- the rest, once the files are known
+pub asked_of_entries : (files : List FileBytes) (settings : Asked) (entries : List Entry)
+    → within_objects (inputs_of settings.suffix settings.sizes (names_of files)) ≡ Ok entries
+    → case_asked files settings ≡ (readings_of settings.as_hermite3 files entries >>= λ es. sizes_asked files settings.sizes >>= λ sizes. within_limits (case_of_run settings es sizes))
+unfolding case_asked
+asked_of_entries files settings entries taken = rw taken refl
+
+-- the files that are taken are not listed
+pub entries_fail : (rose : Type 0) (files : List FileBytes) (settings : Asked) (names : List Name) (s : Status) → names ≡ names_of files
+    → Stops ⊥ s (within_objects (inputs_of settings.suffix settings.sizes names)) → Stops rose s (case_asked files settings)
+unfolding case_asked
+entries_fail rose files settings names s known stops =
+    stops_behind ⊥ rose s (within_objects (inputs_of settings.suffix settings.sizes (names_of files)))
+    (λ entries. readings_of settings.as_hermite3 files entries >>= λ es. sizes_asked files settings.sizes
+    >>= λ sizes. within_limits (case_of_run settings es sizes))
+    (λ none. absurd none) (subst (λ (ns : List Name). Stops ⊥ s (within_objects (inputs_of settings.suffix settings.sizes ns))) known stops)
 
 -- a reading that was given up, as the run's cause
 pub input_stops : {X A B : Type 0} (P Q : Type 0) (view : X → A) (why : InputError) (read : Result A Status) (f : A → Result B Status) → (P → Q)
@@ -53,19 +103,20 @@ input_stops {X} {A} {B} P Q view (input.Limit fault) read f rose here = ap (λ (
 
 -- a file is not read
 pub tracks_fail : {X : Type 0} (rose : Type 0) (view : X → List PlainTrack) (files : List FileBytes) (settings : Asked) (entries : List Entry) (why : InputError)
-    → entries ≡ inputs_of settings.suffix settings.sizes (names_of files) → length entries ≤ 2000
+    → within_objects (inputs_of settings.suffix settings.sizes (names_of files)) ≡ Ok entries
     → Reads rose view (Err why) (readings_of settings.as_hermite3 files entries)
     → Stops rose (input_status why) (case_asked files settings)
-tracks_fail rose view files settings entries why same few read =
+tracks_fail rose view files settings entries why taken read =
     let rest : List PlainTrack → Result PlainProblem Status = λ es. sizes_asked files settings.sizes >>= λ sizes. within_limits (case_of_run settings es sizes) in
-    rw (asked_of_entries files settings entries same few) (input_stops rose rose view why (readings_of settings.as_hermite3 files entries) rest (λ risen. risen) read)
+    rw (asked_of_entries files settings entries taken)
+    (input_stops rose rose view why (readings_of settings.as_hermite3 files entries) rest (λ risen. risen) read)
 
 -- the rest, once the tracks are read
 pub asked_of_tracks : (files : List FileBytes) (settings : Asked) (entries : List Entry) (es : List PlainTrack)
-    → entries ≡ inputs_of settings.suffix settings.sizes (names_of files)
-    → length entries ≤ 2000 → readings_of settings.as_hermite3 files entries ≡ Ok es
+    → within_objects (inputs_of settings.suffix settings.sizes (names_of files)) ≡ Ok entries
+    → readings_of settings.as_hermite3 files entries ≡ Ok es
     → case_asked files settings ≡ (sizes_asked files settings.sizes >>= λ sizes. within_limits (case_of_run settings es sizes))
-asked_of_tracks files settings entries es same few read = asked_of_entries files settings entries same few ∙ rw read refl
+asked_of_tracks files settings entries es taken read = asked_of_entries files settings entries taken ∙ rw read refl
 
 -- the file of sizes is not read
 pub sizes_fail : {X : Type 0} (later rose : Type 0) (view : X → List Size) (files : List FileBytes) (settings : Asked) (es : List PlainTrack) (why : InputError) → (later → rose)
@@ -75,16 +126,18 @@ pub sizes_fail : {X : Type 0} (later rose : Type 0) (view : X → List Size) (fi
 sizes_fail later rose view files settings es why wider is read =
     rw is (input_stops later rose view why (sizes_asked files settings.sizes) (λ sizes. within_limits (case_of_run settings es sizes)) wider read)
 
--- the case, once all is read
-pub case_made : (files : List FileBytes) (settings : Asked) (es : List PlainTrack) (sizes : List Size) (first last : ℕ) (radii : List ℕ)
-    → case_asked files settings ≡ (sizes_asked files settings.sizes >>= λ sizes. within_limits (case_of_run settings es sizes))
+-- the rest, once all is read
+pub asked_of_sizes : (files : List FileBytes) (settings : Asked) (es : List PlainTrack) (sizes : List Size)
+    → case_asked files settings ≡ (sizes_asked files settings.sizes >>= λ given. within_limits (case_of_run settings es given))
     → sizes_asked files settings.sizes ≡ Ok sizes
+    → case_asked files settings ≡ within_limits (case_of_run settings es sizes)
+asked_of_sizes files settings es sizes is read = is ∙ rw read refl
+
+-- the case that is asked has this window and these radii
+pub case_made : (settings : Asked) (es : List PlainTrack) (sizes : List Size) (first last : ℕ) (radii : List ℕ)
     → first ≡ window_first settings es → last ≡ window_last settings es → radii ≡ object_sizes sizes es
-    → case_asked files settings ≡ within_limits (case_with es first last (settings.threshold * 1_000_000_000) radii)
-case_made files settings es sizes first last radii is read starts ends sized =
-    let sized_so : (sizes_asked files settings.sizes >>= λ given. within_limits (case_of_run settings es given)) ≡ within_limits (case_of_run settings es sizes) = rw read refl in
-    let same : within_limits (case_of_run settings es sizes) ≡ within_limits (case_with es first last (settings.threshold * 1_000_000_000) radii) = rw (starts, ends, sized) refl in
-    is ∙ sized_so ∙ same
+    → within_limits (case_of_run settings es sizes) ≡ within_limits (case_with es first last (settings.threshold * 1_000_000_000) radii)
+case_made settings es sizes first last radii starts ends sized = rw (starts, ends, sized) refl
 
 -- what a folder's error means for what is due
 pub folder_stops : {A : Type 0} (P : Type 0) (e : FolderError) (due : Result A Status) → (e ≡ folder.Failed → P) → Stops P (folder_status e) due
@@ -112,6 +165,16 @@ input_ends P view input.Memory read here = tt
 input_ends P view input.Failed read here = here
 input_ends P view (input.Refused file line cause) read here = here
 input_ends P view (input.Limit fault) read here = here
+
+-- a folder's error ends the run between its words and its writes
+pub folder_between : (e : FolderError) → ComesBetween (folder_status e)
+folder_between folder.Memory = tt
+folder_between folder.Failed = tt
+
+-- where it ends for a fault of the folder, the folder failed
+pub listing_failed : {X P : Type 0} (e : FolderError) → (e ≡ folder.Failed → P) → ◌≡◌ {A = Result X Status} (Err (folder_status e)) (Err status.ReadFault) → P
+listing_failed folder.Memory failed is = absurd cc
+listing_failed folder.Failed failed is = failed refl
 
 -- ---- the limits of a case
 
@@ -147,3 +210,28 @@ pub certificate_found : (files : List FileBytes) (name : List ℕ) (names : List
     → certificate_named files name ≡ certificate_at files name number
 unfolding certificate_named
 certificate_found files name names number known is = ap (certificate_at files name) (sym (is ∙ ap (first_named name) known))
+
+abbrev both : PlainProblem → List ℕ → PlainInputs
+both case bytes = record { case = case; bytes = bytes }
+
+-- the case is not made
+pub case_fails : (later rose : Type 0) (files : List FileBytes) (checking : Checking) (s : Status) → (later → rose)
+    → Stops later s (case_asked files checking.settings) → Stops rose s (inputs_asked files checking)
+unfolding inputs_asked
+case_fails later rose files checking s wider stops =
+    stops_behind later rose s (case_asked files checking.settings)
+    (λ case. certificate_named files checking.certificate >>= λ bytes. Ok (both case bytes)) wider stops
+
+-- the certificate is not read
+pub certificate_fails : (later rose : Type 0) (files : List FileBytes) (checking : Checking) (case : PlainProblem) (s : Status) → (later → rose)
+    → case_asked files checking.settings ≡ Ok case → Stops later s (certificate_named files checking.certificate) → Stops rose s (inputs_asked files checking)
+unfolding inputs_asked
+certificate_fails later rose files checking case s wider made stops =
+    rw made (stops_behind later rose s (certificate_named files checking.certificate) (λ bytes. Ok (both case bytes)) wider stops)
+
+-- both are there
+pub inputs_made : (files : List FileBytes) (checking : Checking) (case : PlainProblem) (bytes : List ℕ)
+    → case_asked files checking.settings ≡ Ok case → certificate_named files checking.certificate ≡ Ok bytes
+    → inputs_asked files checking ≡ Ok (both case bytes)
+unfolding inputs_asked
+inputs_made files checking case bytes made read = rw (made, read) refl

@@ -1,14 +1,17 @@
 //! From the settings and a folder to the problem that is to be screened.
-ghost use Rattle.std.specs.Prelude.{◌≡◌, ◌<◌, ◌≤◌, ◌^◌, List, Some, Err, IfErr, map, length};
+ghost use Rattle.std.specs.Prelude.{◌≡◌, ◌<◌, ◌≤◌, ◌^◌, List, Some, Err, IfErr, IfOk, All, map, length};
+ghost use Rattle.std.specs.Option.{option_copied};
 ghost use Rattle.cj_io.specs.Faults.{Rose};
 ghost use Rattle.cj_io.specs.Files.{names_of};
 ghost use Rattle.cj_io.specs.declared.file.FileBytes.{FileBytes};
 ghost use Rattle.cj_hermite.specs.CaseLimits.{AreFewNodes};
 ghost use Rattle.cj_hermite.specs.Frames.{HaveOneFrame};
 ghost use Rattle.cj_hermite.specs.Problems.{plain_problem};
+ghost use Rattle.cj_sizes.specs.Sizes.{sizes_of};
 ghost use Rattle.cj_track.specs.Tracks.{plain_track};
 ghost use Rattle.cj_words.specs.Settings.{asked_of};
 ghost use Rattle.cj_inputs.specs.Cases as spec;
+ghost use Rattle.cj_inputs.specs.InputFiles.{inputs_of};
 ghost use Rattle.cj_status.specs.Steps.{Gives, ComesBetween, IsLimit};
 
 use crate::input_files::{Entry, list_inputs};
@@ -17,6 +20,7 @@ use crate::taking::read_tracks;
 use crate::window::window_of;
 use cj_hermite::{Problem, Sizes, Tracks, slot_count};
 use cj_io::{Folder, Name};
+use cj_sizes::SizeLine;
 use cj_status::{LimitFault, Status};
 use cj_ticks::Window;
 use cj_track::Track;
@@ -76,21 +80,55 @@ pub fn prepare_listed<R: Threads + Sync, F: Folder>(
     ensures files { F.files folder.new ≡ F.files folder.old }
     ensures later { F.faults folder.old ≤ F.faults folder.new }
 {
-    let entries = list_inputs(alloc, names, settings.suffix, settings.sizes)?;
+    let entries = list_few_inputs(alloc, names, settings.suffix, settings.sizes)?;
+    let tracks = read_tracks(rt, alloc, folder, &entries, settings.as_hermite3, workers)?;
+    let lines = read_size_lines(alloc, folder, names, settings.sizes)?;
+    problem_of(alloc, settings, tracks, &lines)
+}
+
+/// The files that are taken of those with these names, where there are not too many.
+fn list_few_inputs(
+    alloc: Global,
+    names: &[Name],
+    suffix: &[u8],
+    sizes: Option<&[u8]>,
+) -> Result<Vec<Entry>, Status>
+    requires { length names.now < 2 ^ 32 }
+    ensures between { IfErr result ComesBetween }
+    ensures told { Gives ⊥ (λ entries. entries.items) result (spec.within_objects (inputs_of suffix.now (option_copied sizes.entry) names.now)) }
+    ensures few { IfOk result (λ entries. length entries.items ≤ 2000) }
+    ensures numbers { IfOk result (λ entries. All (λ entry. entry.number < length names.now) entries.items) }
+{
+    let entries = list_inputs(alloc, names, suffix, sizes)?;
     if entries.len() > MAX_OBJECTS {
         return Err(too_many_objects(entries.len() as u32));
     }
-    let tracks = read_tracks(rt, alloc, folder, &entries, settings.as_hermite3, workers)?;
-    let lines = read_size_lines(alloc, folder, names, settings.sizes)?;
-    let sizes = sizes_of_tracks(alloc, &lines, &tracks)?;
-    let window = window_of(settings, &tracks);
-    make_problem(tracks, sizes, window, settings.threshold * 1_000_000_000)
+    Ok(entries)
 }
 
 fn too_many_objects(count: u32) -> Status
     ensures { result ≡ Status.Limit (LimitFault.Objects count) }
 {
     Status::Limit(LimitFault::Objects { count })
+}
+
+/// The problem that is asked of these tracks, where a file says this of the sizes of objects.
+fn problem_of(
+    alloc: Global,
+    settings: &Settings,
+    tracks: Vec<Track>,
+    lines: &[SizeLine],
+) -> Result<Problem, Status>
+    requires few { length tracks.items ≤ 2000 }
+    requires frame { HaveOneFrame tracks.items }
+    requires nodes { AreFewNodes tracks.items }
+    ensures between { IfErr result ComesBetween }
+    ensures told { Gives ⊥ plain_problem result
+        (spec.within_limits (spec.case_of_run (asked_of settings.now) (map plain_track tracks.items) (sizes_of lines.now))) }
+{
+    let sizes = sizes_of_tracks(alloc, lines, &tracks)?;
+    let window = window_of(settings, &tracks);
+    make_problem(tracks, sizes, window, settings.threshold * 1_000_000_000)
 }
 
 /// The problem of these tracks, whose objects have these sizes, where its window is within the limits.

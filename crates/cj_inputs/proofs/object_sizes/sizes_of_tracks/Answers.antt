@@ -1,5 +1,6 @@
-use Rattle.std.proofs.Common.{◌∙◌, ◌++◌, [], ◌∷◌, ℕ, List, Bor, map, take, ap, sym, arith}
-use Rattle.std.proofs.lemmas.List.{map_more, map_push, take_all}
+use Rattle.std.proofs.Common.{◌∙◌, ◌++◌, [], ◌∷◌, ℕ, List, Bor, length, map, take, ap, sym, arith}
+use Rattle.std.proofs.lemmas.List.{length-map, map_more, map_push, take_all}
+use Rattle.std.proofs.lemmas.Result.{IfOk-from_err}
 use Rattle.std.proofs.lemmas.Simd.{map-map}
 use Rattle.cj_sizes.specs.Sizes.{radius_of, sizes_of}
 use Rattle.cj_track.specs.PlainTracks.{PlainTrack}
@@ -34,3 +35,26 @@ returns-clause-value c =
     ∙ ap (map radius) (c.loop-track.invariant ∙ ap (map id_of) (take_all c.loop-track.track-index tracks (omega arith)))
     ∙ map-map radius id_of tracks
     ∙ sym (map-map radius_of_track plain_track tracks)
+
+pub returns-clause-many : goal.returns-clause-many
+returns-clause-many c =
+    let tracks = c.args.tracks.now in
+    ap length (returns-clause-value c) ∙ length-map (map plain_track tracks) (λ e. radius_of (sizes_of c.args.lines.now) e.id) ∙ length-map tracks plain_track
+
+pub loop-track-init : goal.loop-track-init
+loop-track-init c = ap (map lent) c.in_ok-ids.ensures.items
+
+pub returns-in_err-ids : goal.returns-in_err-ids
+returns-in_err-ids c =
+    let failed = c.from_residual.ensures.0 in
+    record { value = IfOk-from_err c.from_residual.result _ failed; many = IfOk-from_err c.from_residual.result _ failed }
+
+pub returns-in_err-push : goal.returns-in_err-push
+returns-in_err-push c =
+    let failed = c.from_residual-in_err-push.ensures.0 in
+    record { value = IfOk-from_err c.from_residual-in_err-push.result _ failed; many = IfOk-from_err c.from_residual-in_err-push.result _ failed }
+
+pub returns-in_err-radii : goal.returns-in_err-radii
+returns-in_err-radii c =
+    let failed = c.from_residual-in_err-radii.ensures.0 in
+    record { value = IfOk-from_err c.from_residual-in_err-radii.result _ failed; many = IfOk-from_err c.from_residual-in_err-radii.result _ failed }

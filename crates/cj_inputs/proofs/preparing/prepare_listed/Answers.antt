@@ -1,6 +1,7 @@
-use Rattle.std.proofs.Common.{arith, ◌≡◌, ◌<◌, ◌≤◌, ◌∙◌, subst, ap, ap₂, List, Vec, Global, Ok, Err, length, map, get_or}
+use Rattle.std.proofs.Common.{arith, ◌≡◌, ◌<◌, ◌∙◌, refl, subst, ap, List, Vec, Global, Ok, Err, length, map, get_or}
 use Rattle.std.proofs.lemmas.Result.{err_from_is_err_and}
 use Rattle.cj_io.specs.Faults.{Rose}
+use Rattle.cj_io.specs.declared.name.Name.{Name}
 use Rattle.cj_io.proofs.FileLemmas.{rose_since}
 use Rattle.cj_sizes.specs.Sizes.{Size, sizes_of}
 use Rattle.cj_sizes.specs.declared.size_line.SizeLine.{SizeLine}
@@ -9,12 +10,12 @@ use Rattle.cj_track.specs.Tracks.{plain_track}
 use Rattle.cj_track.specs.declared.track.Track.{Track}
 use Rattle.cj_words.specs.Settings.{asked_of}
 use Rattle.cj_hermite.specs.Problems.{plain_problem}
-use Rattle.cj_inputs.specs.Cases.{case_asked}
+use Rattle.cj_status.specs.Steps.{Gives}
+use Rattle.cj_inputs.specs.Cases.{case_asked, case_of_run, within_limits, within_objects}
 use Rattle.cj_inputs.specs.InputFiles.{inputs_of}
-use Rattle.cj_inputs.specs.ObjectSizes.{object_sizes}
-use Rattle.cj_inputs.specs.Windows.{window_first, window_last}
 use Rattle.cj_inputs.specs.Readings.{Reads, readings_of}
-use Rattle.cj_inputs.proofs.StepLemmas.{asked_of_tracks, case_made, gives_wider, sizes_fail, too_many, tracks_fail}
+use Rattle.cj_inputs.proofs.StepLemmas.{asked_of_sizes, asked_of_tracks, comes_between, entries_fail, folder_failed}
+use Rattle.cj_inputs.proofs.StepLemmas.{gives_unread, gives_wider, sizes_fail, stops_unread, tracks_fail}
 use Rattle.cj_inputs.specs.declared.input_files.Entry.{Entry}
 use Rattle.cj_inputs.proofs.preparing.prepare_listed.Goals as goal
 
@@ -24,9 +25,6 @@ tracks_of tracks = map plain_track tracks.items
 abbrev lines_of : Vec SizeLine Global → List Size
 lines_of lines = sizes_of lines.items
 
-pub overflow_cast-len : goal.overflow_cast-len
-overflow_cast-len g c = omega (arith, c.len-then-len-gt-MAX_OBJECTS.ensures, c.in_ok-entries.ensures.few, c.requires.many)
-
 pub read_tracks-requires-clause-numbers : goal.read_tracks-requires-clause-numbers
 read_tracks-requires-clause-numbers g c = λ lifetimes outlive k d below.
     let listed : k < length c.in_ok-entries.entries.items = subst (λ (es : List Entry). k < length es) c.deref.ensures.value below in
@@ -34,64 +32,99 @@ read_tracks-requires-clause-numbers g c = λ lifetimes outlive k d below.
     let same = ap (λ (es : List Entry). (get_or es k d).number) c.deref.ensures.value in
     omega (arith, here, same, c.requires.count)
 
-pub make_problem-requires-clause-few : goal.make_problem-requires-clause-few
-make_problem-requires-clause-few g c = omega (arith, c.in_ok-tracks.ensures.many, c.deref.ensures.len, c.len.ensures, c.if-len-gt-MAX_OBJECTS.false)
-
 pub read_size_lines-requires-clause-many : goal.read_size_lines-requires-clause-many
 read_size_lines-requires-clause-many g c = c.requires.many
 
 pub read_size_lines-requires-clause-count : goal.read_size_lines-requires-clause-count
 read_size_lines-requires-clause-count g c = c.read_tracks.ensures.count ∙ c.requires.count
 
-pub returns-then-len-gt-MAX_OBJECTS-clause-told : goal.returns-then-len-gt-MAX_OBJECTS-clause-told
-returns-then-len-gt-MAX_OBJECTS-clause-told g c = λ files told known.
-    let asked = asked_of c.args.settings.now in
-    let entries = c.in_ok-entries.entries.items in
-    let many : c.len-then-len-gt-MAX_OBJECTS.result ≡ length entries = omega (arith, c.len-then-len-gt-MAX_OBJECTS.ensures, c.in_ok-entries.entries.ok.0) in
-    rw (c.too_many_objects.ensures, many) (too_many files asked entries (c.in_ok-entries.ensures.value ∙ ap (inputs_of asked.suffix asked.sizes) known)
-    (omega (arith, many, c.len.ensures, c.in_ok-entries.entries.ok.0, c.if-len-gt-MAX_OBJECTS.true)))
+pub problem_of-requires-clause-few : goal.problem_of-requires-clause-few
+problem_of-requires-clause-few g c = omega (arith, c.in_ok-tracks.ensures.many, c.deref.ensures.len, c.in_ok-entries.ensures.few)
 
-pub returns-in_err-tracks-clause-told : goal.returns-in_err-tracks-clause-told
-returns-in_err-tracks-clause-told g c = λ files told known.
+pub returns-in_err-entries : goal.returns-in_err-entries
+returns-in_err-entries g c =
+    let asked = asked_of c.args.settings.now in
+    let names = c.args.names.now in
+    let s = c.in_err-entries.field-0.0 in
+    let due = within_objects (inputs_of asked.suffix asked.sizes names) in
+    let p = err_from_is_err_and c.from_residual.result c.from_residual.ensures.1 in
+    rw (p.1, p.2)
+    (record {
+      between = c.in_err-entries.ensures.between;
+      read = λ is. absurd (stops_unread s due c.in_err-entries.ensures.told is);
+      told = λ files told known. entries_fail _ files asked names s known c.in_err-entries.ensures.told;
+      count = refl;
+      files = refl;
+      later = omega arith;
+    })
+
+pub returns-in_err-tracks : goal.returns-in_err-tracks
+returns-in_err-tracks g c =
     let asked = asked_of c.args.settings.now in
     let entries = c.in_ok-entries.entries.items in
     let rose = Rose (g.F.Folder.faults c.args.folder.now) (g.F.Folder.faults c.read_tracks.new.folder) in
-    let few : length entries ≤ 2000 = omega (arith, c.len.ensures, c.if-len-gt-MAX_OBJECTS.false, c.in_ok-entries.entries.ok.0) in
+    let why = c.in_err-tracks.field-0.0 in
     let p = err_from_is_err_and c.from_residual-in_err-tracks.result c.from_residual-in_err-tracks.ensures.1 in
     rw (p.1, p.2)
-    (tracks_fail rose tracks_of files asked entries c.in_err-tracks.field-0.0 (c.in_ok-entries.ensures.value ∙ ap (inputs_of asked.suffix asked.sizes) known) few
-    (subst (λ (es : List Entry). Reads rose tracks_of (Err c.in_err-tracks.field-0.0) (readings_of asked.as_hermite3 files es)) c.deref.ensures.value (c.in_err-tracks.ensures.told files told)))
+    (record {
+      between = comes_between why;
+      read = folder_failed why c.in_err-tracks.ensures.fault;
+      told = λ files told known.
+          tracks_fail rose tracks_of files asked entries why
+          (subst (λ (ns : List Name). within_objects (inputs_of asked.suffix asked.sizes ns) ≡ Ok entries) known c.in_ok-entries.ensures.told)
+          (subst (λ (es : List Entry). Reads rose tracks_of (Err why) (readings_of asked.as_hermite3 files es))
+          c.deref.ensures.value (c.in_err-tracks.ensures.told files told));
+      count = c.read_tracks.ensures.count;
+      files = c.read_tracks.ensures.files;
+      later = c.read_tracks.ensures.later;
+    })
 
-pub returns-in_err-lines-clause-told : goal.returns-in_err-lines-clause-told
-returns-in_err-lines-clause-told g c = λ files told known.
+pub returns-in_err-lines : goal.returns-in_err-lines
+returns-in_err-lines g c =
     let asked = asked_of c.args.settings.now in
     let entries = c.in_ok-entries.entries.items in
     let es = tracks_of c.in_ok-tracks.tracks in
     let first = g.F.Folder.faults c.args.folder.now in
     let before = g.F.Folder.faults c.read_tracks.new.folder in
     let now = g.F.Folder.faults c.read_size_lines.new.folder in
-    let few : length entries ≤ 2000 = omega (arith, c.len.ensures, c.if-len-gt-MAX_OBJECTS.false, c.in_ok-entries.entries.ok.0) in
-    let read = subst (λ (some : List Entry). readings_of asked.as_hermite3 files some ≡ Ok es) c.deref.ensures.value (c.in_ok-tracks.ensures.told files told) in
-    let due = asked_of_tracks files asked entries es (c.in_ok-entries.ensures.value ∙ ap (inputs_of asked.suffix asked.sizes) known) few read in
+    let why = c.in_err-lines.field-0.0 in
     let p = err_from_is_err_and c.from_residual-in_err-lines.result c.from_residual-in_err-lines.ensures.1 in
     rw (p.1, p.2)
-    (sizes_fail (Rose before now) (Rose first now) lines_of files asked es c.in_err-lines.field-0.0 (rose_since first before now c.read_tracks.ensures.later) due
-    (c.in_err-lines.ensures.told files (c.read_tracks.ensures.files ∙ told) known))
+    (record {
+      between = comes_between why;
+      read = λ is. rose_since first before now c.read_tracks.ensures.later (folder_failed why c.in_err-lines.ensures.fault is);
+      told = λ files told known.
+          let taken = subst (λ (ns : List Name). within_objects (inputs_of asked.suffix asked.sizes ns) ≡ Ok entries) known c.in_ok-entries.ensures.told in
+          let read = subst (λ (some : List Entry). readings_of asked.as_hermite3 files some ≡ Ok es)
+          c.deref.ensures.value (c.in_ok-tracks.ensures.told files told) in
+          sizes_fail (Rose before now) (Rose first now) lines_of files asked es why (rose_since first before now c.read_tracks.ensures.later)
+          (asked_of_tracks files asked entries es taken read) (c.in_err-lines.ensures.told files (c.read_tracks.ensures.files ∙ told) known);
+      count = c.read_size_lines.ensures.count ∙ c.read_tracks.ensures.count;
+      files = c.read_size_lines.ensures.files ∙ c.read_tracks.ensures.files;
+      later = omega (arith, c.read_size_lines.ensures.later, c.read_tracks.ensures.later);
+    })
 
-pub returns-clause-told : goal.returns-clause-told
-returns-clause-told g c = λ files told known.
+pub returns : goal.returns
+returns g c =
     let asked = asked_of c.args.settings.now in
     let entries = c.in_ok-entries.entries.items in
-    let tracks = c.in_ok-tracks.tracks in
-    let es = tracks_of tracks in
-    let window = c.window_of-window in
-    let rose = Rose (g.F.Folder.faults c.args.folder.now) (g.F.Folder.faults c.read_size_lines.new.folder) in
-    let few : length entries ≤ 2000 = omega (arith, c.len.ensures, c.if-len-gt-MAX_OBJECTS.false, c.in_ok-entries.entries.ok.0) in
-    let read = subst (λ (some : List Entry). readings_of asked.as_hermite3 files some ≡ Ok es) c.deref.ensures.value (c.in_ok-tracks.ensures.told files told) in
-    let due = asked_of_tracks files asked entries es (c.in_ok-entries.ensures.value ∙ ap (inputs_of asked.suffix asked.sizes) known) few read in
-    let made = case_made files asked es (lines_of c.in_ok-lines.lines) window.result.first.micros window.result.last.micros c.in_ok-sizes.sizes due
-    (c.in_ok-lines.ensures.told files (c.read_tracks.ensures.files ∙ told) known)
-    (window.ensures.first ∙ ap (λ (ts : List Track). window_first asked (map plain_track ts)) c.deref-4.ensures.value)
-    (window.ensures.last ∙ ap (λ (ts : List Track). window_last asked (map plain_track ts)) c.deref-4.ensures.value)
-    (c.in_ok-sizes.ensures.value ∙ ap₂ (λ (ls : List SizeLine) (ts : List Track). object_sizes (sizes_of ls) (map plain_track ts)) c.deref-2.ensures.value c.deref-3.ensures.value) in
-    gives_wider ⊥ rose plain_problem c.make_problem.result (case_asked files asked) (λ none. absurd none) (rw made c.make_problem.ensures.told)
+    let es = tracks_of c.in_ok-tracks.tracks in
+    let sizes = lines_of c.in_ok-lines.lines in
+    let made = c.problem_of.result in
+    let due = within_limits (case_of_run asked es sizes) in
+    let gives = subst (λ (lines : List SizeLine). Gives ⊥ plain_problem made (within_limits (case_of_run asked es (sizes_of lines))))
+    c.deref-2.ensures.value c.problem_of.ensures.told in
+    record {
+      between = c.problem_of.ensures.between;
+      read = λ is. absurd (gives_unread plain_problem made due gives is);
+      told = λ files told known.
+          let taken = subst (λ (ns : List Name). within_objects (inputs_of asked.suffix asked.sizes ns) ≡ Ok entries) known c.in_ok-entries.ensures.told in
+          let read = subst (λ (some : List Entry). readings_of asked.as_hermite3 files some ≡ Ok es)
+          c.deref.ensures.value (c.in_ok-tracks.ensures.told files told) in
+          let is = asked_of_sizes files asked es sizes (asked_of_tracks files asked entries es taken read)
+          (c.in_ok-lines.ensures.told files (c.read_tracks.ensures.files ∙ told) known) in
+          gives_wider ⊥ _ plain_problem made (case_asked files asked) (λ none. absurd none) (rw is gives);
+      count = c.read_size_lines.ensures.count ∙ c.read_tracks.ensures.count;
+      files = c.read_size_lines.ensures.files ∙ c.read_tracks.ensures.files;
+      later = omega (arith, c.read_size_lines.ensures.later, c.read_tracks.ensures.later);
+    }

@@ -1,4 +1,4 @@
-use Rattle.std.proofs.Common.{Bool, ◌+◌, ◌-◌, ◌<◌, List, Result, map, take, drop, length, subst, arith}
+use Rattle.std.proofs.Common.{Bool, ◌∙◌, ◌+◌, ◌-◌, ◌<◌, List, Result, Some, ap, refl, map, take, drop, length, subst, arith}
 use Rattle.std.proofs.lemmas.List.Elements.{All-drop, All-take}
 use Rattle.cj_track.specs.Tracks.{plain_track}
 use Rattle.cj_inputs.specs.declared.batch.FileRead.{FileRead}
@@ -7,6 +7,7 @@ use Rattle.cj_inputs.specs.declared.progress.Progress.{Progress}
 use Rattle.cj_inputs.specs.declared.reading.InputError.{InputError}
 use Rattle.cj_inputs.specs.Batches.{IsFirstCause, said_by, tracks_after}
 use Rattle.cj_inputs.specs.Readings.{Reads}
+use Rattle.cj_inputs.proofs.EndLemmas.{same_cause}
 use Rattle.cj_inputs.proofs.BatchLemmas.{all_left, batch_goes_on, batch_stops, more_taken, next_fits}
 use Rattle.cj_inputs.proofs.taking.go_on.Goals as goal
 
@@ -15,12 +16,38 @@ abbrev Takes : Bool → Progress → Result Progress InputError → List FileRea
 Takes as_hermite3 progress r read =
     Reads ⊥ (λ (next : Progress). map plain_track next.taken.tracks.items) r (tracks_after (map plain_track progress.taken.tracks.items) (map (said_by as_hermite3) read))
 
-pub returns-in-Some-clause-told : goal.returns-in-Some-clause-told
-returns-in-Some-clause-told g c = λ files told way.
-    let progress = c.args.progress in
-    let first = subst (λ (read : List FileRead). IsFirstCause c.in-Some.why (map plain_track progress.taken.tracks.items) (map (said_by c.args.as_hermite3) read) c.first_cause.result)
-    c.deref.ensures.value c.first_cause.ensures.told in
-    batch_stops c.args.as_hermite3 files c.args.entries.now progress c.in-Some.why c.first_cause.result way c.in-Some.is first
+pub returns-in-Some : goal.returns-in-Some
+returns-in-Some g c = record {
+  stopped = λ is. c.in-Some.is ∙ ap Some (c.first_cause.ensures.failed (same_cause is));
+  fault = tt;
+  told = λ files told way.
+      let progress = c.args.progress in
+      let first = subst (λ (read : List FileRead). IsFirstCause c.in-Some.why (map plain_track progress.taken.tracks.items) (map (said_by c.args.as_hermite3) read)
+      c.first_cause.result)
+      c.deref.ensures.value c.first_cause.ensures.told in
+      batch_stops c.args.as_hermite3 files c.args.entries.now progress c.in-Some.why c.first_cause.result way c.in-Some.is first;
+  more = tt;
+  fits = tt;
+  count = refl;
+  files = refl;
+  later = omega arith;
+}
+
+pub returns-clause-stopped : goal.returns-clause-stopped
+returns-clause-stopped g c = λ is.
+    absurd (subst (λ (r : Result Progress InputError). Takes c.args.as_hermite3 c.args.progress r c.deref-2.result.now) is c.take_and_read.ensures.taken)
+
+pub returns-clause-fault : goal.returns-clause-fault
+returns-clause-fault g c = c.take_and_read.ensures.fault
+
+pub returns-clause-count : goal.returns-clause-count
+returns-clause-count g c = c.take_and_read.ensures.count
+
+pub returns-clause-files : goal.returns-clause-files
+returns-clause-files g c = c.take_and_read.ensures.files
+
+pub returns-clause-later : goal.returns-clause-later
+returns-clause-later g c = c.take_and_read.ensures.later
 
 pub take_and_read-requires-clause-numbers : goal.take_and_read-requires-clause-numbers
 take_and_read-requires-clause-numbers g c = λ lifetimes outlive.
