@@ -32,25 +32,38 @@ fn push_fault(alloc: Global, text: &mut Vec<u8>, status: &Status) -> Result<(), 
 {
     match status {
         Status::Ok => Ok(()),
-        Status::NotAccepted { line, cause } => {
-            text.extend_from_slice(b"not accepted: line ")?;
-            push_number(alloc, text, u64::from(*line))?;
-            text.extend_from_slice(b": ")?;
-            text.extend_from_slice(certificate_cause_name(*cause))
-        }
+        Status::NotAccepted { line, cause } => push_place(
+            alloc,
+            text,
+            b"not accepted: line ",
+            *line,
+            certificate_cause_name(*cause),
+        ),
         Status::Usage(fault) => push_usage(text, fault),
         Status::BadFile { file, line, cause } => {
             push_name(text, file.as_slice())?;
-            text.extend_from_slice(b": line ")?;
-            push_number(alloc, text, u64::from(*line))?;
-            text.extend_from_slice(b": ")?;
-            text.extend_from_slice(cause_name(*cause))
+            push_place(alloc, text, b": line ", *line, cause_name(*cause))
         }
         Status::ReadFault => text.extend_from_slice(b"read fault"),
         Status::WriteFault => text.extend_from_slice(b"write fault"),
         Status::Limit(fault) => push_limit(alloc, text, fault),
         Status::OutOfMemory => text.extend_from_slice(b"out of memory"),
     }
+}
+
+/// A line of a file, behind these words, and what is wrong with it.
+fn push_place(
+    alloc: Global,
+    text: &mut Vec<u8>,
+    words: &[u8],
+    line: u32,
+    cause: &[u8],
+) -> Result<(), AllocError>
+    ensures { OnOk result (text.new.items ≡ text.old.items ++ (words.now ++ decimal line ++ codes ": " ++ cause.now)) }
+{
+    push_count(alloc, text, words, u64::from(line))?;
+    text.extend_from_slice(b": ")?;
+    text.extend_from_slice(cause)
 }
 
 fn certificate_cause_name(cause: CertificateCause) -> &'static [u8]
@@ -179,11 +192,10 @@ fn epoch_name(fault: EpochFault) -> &'static [u8]
 fn push_usage(text: &mut Vec<u8>, fault: &UsageFault) -> Result<(), AllocError>
     ensures { OnOk result (text.new.items ≡ text.old.items ++ (codes "usage: " ++ usage_text fault.now)) }
 {
-    text.extend_from_slice(b"usage: ")?;
     match fault {
-        UsageFault::Words => text.extend_from_slice(b"Words"),
+        UsageFault::Words => text.extend_from_slice(b"usage: Words"),
         UsageFault::Value { option } => {
-            text.extend_from_slice(b"Value ")?;
+            text.extend_from_slice(b"usage: Value ")?;
             text.extend_from_slice(option_name(*option))
         }
     }
@@ -192,17 +204,18 @@ fn push_usage(text: &mut Vec<u8>, fault: &UsageFault) -> Result<(), AllocError>
 fn push_limit(alloc: Global, text: &mut Vec<u8>, fault: &LimitFault) -> Result<(), AllocError>
     ensures { OnOk result (text.new.items ≡ text.old.items ++ (codes "limit: " ++ limit_text fault.now)) }
 {
-    text.extend_from_slice(b"limit: ")?;
     match fault {
-        LimitFault::Objects { count } => push_count(alloc, text, b"Objects ", u64::from(*count)),
+        LimitFault::Objects { count } => {
+            push_count(alloc, text, b"limit: Objects ", u64::from(*count))
+        }
         LimitFault::FileBytes { file } => {
-            text.extend_from_slice(b"FileBytes ")?;
+            text.extend_from_slice(b"limit: FileBytes ")?;
             push_name(text, file.as_slice())
         }
-        LimitFault::Nodes { count } => push_count(alloc, text, b"Nodes ", *count),
-        LimitFault::Window { length } => push_count(alloc, text, b"Window ", *length),
-        LimitFault::Slots { count } => push_count(alloc, text, b"Slots ", *count),
-        LimitFault::Cells { limit } => push_count(alloc, text, b"Cells ", *limit),
+        LimitFault::Nodes { count } => push_count(alloc, text, b"limit: Nodes ", *count),
+        LimitFault::Window { length } => push_count(alloc, text, b"limit: Window ", *length),
+        LimitFault::Slots { count } => push_count(alloc, text, b"limit: Slots ", *count),
+        LimitFault::Cells { limit } => push_count(alloc, text, b"limit: Cells ", *limit),
     }
 }
 

@@ -1,12 +1,6 @@
-use Rattle.std.proofs.Common.{◌≡◌, ◌∙◌, ap, List, ℕ, ◌++◌, Result, Ok, Err}
-use Rattle.std.specs.Prelude.{OnOk, if◌then◌else◌, is_ok}
+use Rattle.std.proofs.Common.{◌∙◌}
+use Rattle.cj_status.proofs.AppendLemmas.{appended}
 use Rattle.cj_status.proofs.fault_line.push_number.Goals as goal
-
--- where there is memory for them, the bytes stand behind the others
-appended : {T E : Type 0} (r : Result T E) (old bytes said now : List ℕ)
-    → now ≡ (if is_ok r then old ++ bytes else old) → bytes ≡ said → OnOk r (now ≡ old ++ said)
-appended (Ok x) old bytes said now grown same = grown ∙ ap (λ (b : List ℕ). old ++ b) same
-appended (Err e) old bytes said now grown same = tt
 
 pub returns : goal.returns
 returns c = appended c.extend_from_slice.result _ _ _ _ c.extend_from_slice.ensures.items (c.as_bytes.ensures.value ∙ c.in_ok-digits.ensures.ok)
