@@ -8,10 +8,8 @@ use Rattle.cj_values.specs.Numbers.{Number}
 use Rattle.cj_values.specs.declared.decimals.Decimal.{Decimal}
 use Rattle.cj_kvn.proofs.ListLemmas.{tail_of, tail_of-cons}
 use Rattle.cj_track.specs.declared.matrix.Matrix.{Matrix}
-use Rattle.cj_kvn.specs.Entries.{entry, line}
-use Rattle.cj_epoch.specs.Written.{epoch_of}
-use Rattle.cj_track.specs.PlainTracks.{PlainMatrix}
-use Rattle.cj_oem.specs.Canonical.{covariance_text, covariances_text, matrix_row, numbers_text, rows_text}
+use Rattle.cj_kvn.specs.Entries.{line}
+use Rattle.cj_oem.specs.Canonical.{covariance_text, covariances_text, matrix_row, numbers_text}
 use Rattle.cj_track.specs.Tracks.{plain_matrix}
 
 -- the numbers behind the first one have a space before each
@@ -28,14 +26,6 @@ row_more was now start count ds e =
     let long : start + count - start ≡ count = omega arith in
     let same = ap (λ (n : ℕ). map number_of (take n (drop start ds))) long ∙ sym (take-map number_of count (drop start ds)) ∙ ap (take count) (sym (drop-map number_of start ds)) in
     e ∙ ap (λ (ns : List Number). was ++ line (numbers_text ns)) same
-
-regrouped : (head a b c d e f : List ℕ) → head ++ (a ++ b ++ c ++ d ++ e ++ f) ≡ head ++ a ++ b ++ c ++ d ++ e ++ f
-regrouped head a b c d e f = simp append_assoc
-
--- a covariance is its epoch and its frame with its rows
-pub heading_with_rows : (m : PlainMatrix) → entry (codes "EPOCH") (epoch_of m.at) ++ entry (codes "COV_REF_FRAME") (codes "RTN") ++ rows_text m.values ≡ covariance_text m
-unfolding covariance_text
-heading_with_rows m = regrouped (entry (codes "EPOCH") (epoch_of m.at) ++ entry (codes "COV_REF_FRAME") (codes "RTN")) _ _ _ _ _ _
 
 -- covariances stand between their marks where there are any
 pub covariances_some : (ms : List Matrix) → 0 < length ms

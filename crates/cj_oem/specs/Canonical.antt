@@ -36,11 +36,6 @@ numbers_text (n ∷ m ∷ ns) = decimal_text_of n ++ 32 ∷ [] ++ numbers_text (
 abbrev pub matrix_row : ℕ → ℕ → List Number → List ℕ
 matrix_row start count values = line (numbers_text (take count (drop start values)))
 
--- the six rows of a matrix
-abbrev pub rows_text : List Number → List ℕ
-rows_text values =
-    matrix_row 0 1 values ++ matrix_row 1 2 values ++ matrix_row 3 3 values ++ matrix_row 6 4 values ++ matrix_row 10 5 values ++ matrix_row 15 6 values
-
 -- a covariance: its epoch, its frame, its six rows
 unfoldable pub covariance_text : PlainMatrix → List ℕ
 covariance_text c =

@@ -1,15 +1,12 @@
 //! The covariances of a segment.
-ghost use Rattle.std.specs.Prelude.{◌≡◌, ◌+◌, ◌≤◌, ◌∷◌, ◌++◌, codes, length, map, flat_map, All, OnOk};
+ghost use Rattle.std.specs.Prelude.{◌≡◌, ◌+◌, ◌≤◌, ◌∷◌, ◌++◌, length, map, flat_map, All, OnOk};
 ghost use Rattle.cj_values.specs.Decimals.{IsReadable, number_of};
 ghost use Rattle.cj_kvn.specs.Decimals.{decimal_text_of};
-ghost use Rattle.cj_epoch.specs.Written.{epoch_of};
-ghost use Rattle.cj_kvn.specs.Entries.{entry};
-ghost use Rattle.cj_oem.specs.Canonical.{covariance_text, covariances_text, matrix_row, numbers_text, rows_text};
+ghost use Rattle.cj_oem.specs.Canonical.{covariance_text, covariances_text, matrix_row, numbers_text};
 ghost use Rattle.cj_track.specs.Tracks.{plain_matrix};
 
 use cj_epoch::epoch_text;
 use cj_kvn::{decimal_text, push_entry, push_line};
-use cj_ticks::Tick;
 use cj_track::Matrix;
 use cj_values::Decimal;
 use std::alloc::AllocError;
@@ -42,23 +39,8 @@ fn push_matrix(text: &mut Vec<u8>, matrix: &Matrix) -> Result<(), AllocError>
     ensures text { OnOk result (text.new.items ≡ text.old.items ++ covariance_text (plain_matrix matrix.now)) }
     ensures kept { length matrix.now.values ≡ 21 }
 {
-    push_heading(text, matrix.at)?;
-    push_rows(text, matrix)
-}
-
-/// Adds the epoch of a covariance and its frame.
-fn push_heading(text: &mut Vec<u8>, at: Tick) -> Result<(), AllocError>
-    ensures { OnOk result (text.new.items ≡ text.old.items
-        ++ (entry (codes "EPOCH") (epoch_of at.micros) ++ entry (codes "COV_REF_FRAME") (codes "RTN"))) }
-{
-    push_entry(text, b"EPOCH", &epoch_text(at))?;
-    push_entry(text, b"COV_REF_FRAME", b"RTN")
-}
-
-/// Adds the six rows of a matrix.
-fn push_rows(text: &mut Vec<u8>, matrix: &Matrix) -> Result<(), AllocError>
-    ensures { OnOk result (text.new.items ≡ text.old.items ++ rows_text (plain_matrix matrix.now).values) }
-{
+    push_entry(text, b"EPOCH", &epoch_text(matrix.at))?;
+    push_entry(text, b"COV_REF_FRAME", b"RTN")?;
     push_row(text, matrix, 0, 1)?;
     push_row(text, matrix, 1, 2)?;
     push_row(text, matrix, 3, 3)?;
