@@ -1,9 +1,10 @@
 -- The least and the greatest of numbers of 128 bits that were read again.
-use Rattle.std.proofs.Common.{◌≡◌, ℕ, ◌^◌, ◌<◌, arith, ap, subst, sym, ◌∙◌, to_z, of_z}
+use Rattle.std.proofs.Common.{◌≡◌, ℕ, ◌-◌, ◌^◌, ◌<◌, List, length, arith, ap, subst, sym, ◌∙◌, to_z, of_z}
 use Rattle.std.proofs.lemmas.Int.{ints, clamps, by_lt_z}
 use Rattle.std.specs.Prelude.{ℤ, pos, ◌+ℤ◌, ◌*ℤ◌, ◌≤ℤ◌, ◌<ℤ◌, unsigned_abs}
 use Rattle.std.specs.Int.{int_min, int_max}
 use mir.Syntax.{w128}
+use Rattle.cj_interval.specs.declared.span.Span.{Span}
 use Rattle.cj_interval.specs.Rounding.{floor_div, ceil_div}
 use Rattle.cj_interval.specs.Spans.{IsWithin}
 use Rattle.cj_interval.proofs.FractionLemmas.{floor_div-unique}
@@ -15,6 +16,14 @@ use Rattle.cj_interval.proofs.RoundingLemmas.{floor_div-le, floor_div-gt, ceil_d
 pub record IsSized (r a : ℤ) : Type 0 where
   pub value : r ≡ a
   pub within : IsWithin (2 ^ 126) a
+
+-- what is within a bound is within the next one
+pub weaker : (z : ℤ) → IsWithin (2 ^ 126 - 1) z → IsWithin (2 ^ 126) z
+weaker z w = omega (arith, ints)
+
+-- each place below seven is one of a list of seven
+pub inside : (spans : List Span) (k : ℕ) → k < 7 → length spans ≡ 7 → k < length spans
+inside spans k lt seven = rw seven lt
 
 read_again : (r a : ℤ) → IsSized r a → to_z w128 (of_z w128 r) ≡ a
 read_again r a s =

@@ -32,3 +32,19 @@ returns-clause-encloses c m p q =
     let r = c.args.ready.now in
     let over : IsOver (curve_ready r) c.args.first.micros c.args.last.micros = record { some = r.divisor.some; from = c.requires.after; to = c.requires.before } in
     subst (λ (h : PlainHull). Encloses h (curve_ready r) m) (sym (returns-clause-value c)) (encloses (curve_ready r) c.args.first.micros m c.args.last.micros over p q)
+
+pub points-requires : goal.points-requires
+points-requires c = record {
+  x_within = c.hull_axis.ensures.within;
+  y_within = c.hull_axis-2.ensures.within;
+  z_within = c.hull_axis-3.ensures.within;
+  x_narrow = c.hull_axis.ensures.narrow;
+  y_narrow = c.hull_axis-2.ensures.narrow;
+  z_narrow = c.hull_axis-3.ensures.narrow;
+}
+
+pub returns-clause-within : goal.returns-clause-within
+returns-clause-within c = c.points.ensures.within
+
+pub returns-clause-narrow : goal.returns-clause-narrow
+returns-clause-narrow c = c.points.ensures.narrow

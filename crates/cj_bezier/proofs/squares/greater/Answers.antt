@@ -6,15 +6,9 @@ use Rattle.std.specs.Int.{int_max}
 use Rattle.cj_interval.specs.declared.span.Span.{Span}
 use Rattle.cj_interval.specs.Sizes.{IsWithin}
 use Rattle.cj_bezier.specs.Hulls.{highs}
-use Rattle.cj_bezier.proofs.PartLemmas.{IsSized, sized, greatest_step, read_sized, read_value}
+use Rattle.cj_bezier.proofs.PartLemmas.{IsSized, inside, sized, weaker, greatest_step, read_sized, read_value}
 use Rattle.cj_bezier.proofs.squares.greater.Goals as goal
 use Rattle.cj_bezier.proofs.squares.greater.Goals.{After-max}
-
-weaker : (z : ℤ) → IsWithin (2 ^ 126 - 1) z → IsWithin (2 ^ 126) z
-weaker z w = omega (arith, ints)
-
-inside : (spans : List Span) (k : ℕ) → k < 7 → length spans ≡ 7 → k < length spans
-inside spans k lt seven = rw seven lt
 
 ends : (c : After-max) → let terms = c.args.gap.now.terms in IsSized c.max.result (int_max (get_or (highs terms) c.args.first (pos 0)) (get_or (highs terms) c.args.second (pos 0)))
 ends c =

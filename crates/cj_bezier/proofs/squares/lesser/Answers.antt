@@ -6,15 +6,9 @@ use Rattle.std.specs.Int.{int_min}
 use Rattle.cj_interval.specs.declared.span.Span.{Span}
 use Rattle.cj_interval.specs.Sizes.{IsWithin}
 use Rattle.cj_bezier.specs.Hulls.{lows}
-use Rattle.cj_bezier.proofs.PartLemmas.{IsSized, sized, least_step, read_sized, read_value}
+use Rattle.cj_bezier.proofs.PartLemmas.{IsSized, inside, sized, weaker, least_step, read_sized, read_value}
 use Rattle.cj_bezier.proofs.squares.lesser.Goals as goal
 use Rattle.cj_bezier.proofs.squares.lesser.Goals.{After-min}
-
-weaker : (z : ℤ) → IsWithin (2 ^ 126 - 1) z → IsWithin (2 ^ 126) z
-weaker z w = omega (arith, ints)
-
-inside : (spans : List Span) (k : ℕ) → k < 7 → length spans ≡ 7 → k < length spans
-inside spans k lt seven = rw seven lt
 
 ends : (c : After-min) → let terms = c.args.gap.now.terms in IsSized c.min.result (int_min (get_or (lows terms) c.args.first (pos 0)) (get_or (lows terms) c.args.second (pos 0)))
 ends c =

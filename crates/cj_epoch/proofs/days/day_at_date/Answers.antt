@@ -13,3 +13,6 @@ returns-in-Ok-clause-value c =
     (omega (arith, ints, c.in-Ok.ensures.value.1))
     (omega (arith, ints, c.in-Ok.ensures.value.2))
     c.days_before.ensures.value
+
+pub returns-in-Ok-clause-range : goal.returns-in-Ok-clause-range
+returns-in-Ok-clause-range c = c.days_before.ensures.range

@@ -12,3 +12,6 @@ returns-in-Ok-clause-value c =
     ordinal_read c.args.year c.args.day c.days_before.result c.in-Ok.date low high year
     (omega (arith, ints, c.in-Ok.ensures.value.1))
     c.days_before.ensures.value
+
+pub returns-in-Ok-clause-range : goal.returns-in-Ok-clause-range
+returns-in-Ok-clause-range c = c.days_before.ensures.range

@@ -1,5 +1,6 @@
-use Rattle.std.proofs.Common.{◌+◌, ◌++◌, List, Some, Vec, Global, None, map, drop, sym, ap, ◌∙◌}
+use Rattle.std.proofs.Common.{◌+◌, ◌++◌, List, Some, Vec, Global, None, map, drop, sym, ap, append-nil, ◌∙◌}
 use Rattle.std.specs.Prelude.{option_map}
+use Rattle.std.proofs.lemmas.List.{drop_all}
 use Rattle.cj_hermite.specs.declared.pair.Pair.{Pair}
 use Rattle.cj_hermite.specs.Pairs.{objects_of}
 use Rattle.cj_grid.specs.Found.{unrepeated}
@@ -24,3 +25,12 @@ loop-pair-preserved c =
           ap (λ (ps : Vec Pair Global). map objects_of ps.items ++ rest) w.pairs-is
           ∙ turn_again sorted i pair (map objects_of c.loop-pair.pairs.items) whole last c.loop-pair-test.true c.pair-item.is (sym c.is_last.ensures ∙ w.if-not-is_last.false) c.loop-pair.invariant
     ]
+
+pub loop-pair-init : goal.loop-pair-init
+loop-pair-init c = ap (λ (ps : List Pair). map objects_of ps ++ unrepeated None (map objects_of c.args.sorted.now)) c.in_ok-pairs.ensures.items
+
+pub returns : goal.returns
+returns c =
+    let kept = map objects_of c.loop-pair.pairs.items in
+    let all = drop_all c.loop-pair.pair-index c.args.sorted.now c.loop-pair-test.false in
+    sym (append-nil kept) ∙ ap (λ (ps : List Pair). kept ++ unrepeated (option_map objects_of c.loop-pair.last) (map objects_of ps)) (sym all) ∙ c.loop-pair.invariant

@@ -45,3 +45,20 @@ returns c =
       y = record { least = y0 i; most = y1 i };
       z = record { least = z0 i; most = z1 i };
     }
+
+pub invariant_of-result : goal.invariant_of-result
+invariant_of-result c =
+    let area = c.args.area in
+    let xl : FitsSigned w128 area.x.lo = search rules in
+    let yl : FitsSigned w128 area.y.lo = search rules in
+    let zl : FitsSigned w128 area.z.lo = search rules in
+    let xh : FitsSigned w128 area.x.hi = search rules in
+    let yh : FitsSigned w128 area.y.hi = search rules in
+    let zh : FitsSigned w128 area.z.hi = search rules in
+    let x0 = read c.coordinate.result area.x.lo (record { sfits = c.coordinate.type_inv }) xl c.coordinate.ensures in
+    let y0 = read c.coordinate-2.result area.y.lo (record { sfits = c.coordinate-2.type_inv }) yl c.coordinate-2.ensures in
+    let z0 = read c.coordinate-3.result area.z.lo (record { sfits = c.coordinate-3.type_inv }) zl c.coordinate-3.ensures in
+    let x1 = read c.coordinate-4.result area.x.hi (record { sfits = c.coordinate-4.type_inv }) xh c.coordinate-4.ensures in
+    let y1 = read c.coordinate-5.result area.y.hi (record { sfits = c.coordinate-5.type_inv }) yh c.coordinate-5.ensures in
+    let z1 = read c.coordinate-6.result area.z.hi (record { sfits = c.coordinate-6.type_inv }) zh c.coordinate-6.ensures in
+    record { x_ordered = rw (x0, x1) area.x.ordered; y_ordered = rw (y0, y1) area.y.ordered; z_ordered = rw (z0, z1) area.z.ordered }

@@ -1,4 +1,4 @@
-use Rattle.std.proofs.Common.{◌≡◌, ℕ, Some, None, ap, sym, ◌∙◌, arith}
+use Rattle.std.proofs.Common.{◌≡◌, ℕ, Some, None, ap, refl, sym, ◌∙◌, arith}
 use Rattle.std.specs.Prelude.{option_map}
 use Rattle.cj_track.specs.Tracks.{plain_track}
 use Rattle.cj_hermite.specs.Walks.{HasNone}
@@ -56,3 +56,53 @@ returns-clause-some c = some_with (plain_track c.args.walk.now.track.now) _ _ (p
 
 pub returns-clause-holds : goal.returns-clause-holds
 returns-clause-holds c m = box_holds (plain_track c.args.walk.now.track.now) _ _ m (plain_box c.by_corners.result) (returns-clause-time c) (sym (returns-clause-exact c))
+
+pub returns-in_err-ticks-clause-value : goal.returns-in_err-ticks-clause-value
+returns-in_err-ticks-clause-value c = rw c.from_residual.ensures tt
+
+pub returns-in_err-area-clause-value : goal.returns-in_err-area-clause-value
+returns-in_err-area-clause-value c = rw c.from_residual-in_err-area.ensures tt
+
+pub returns-in_err-ticks-clause-some : goal.returns-in_err-ticks-clause-some
+returns-in_err-ticks-clause-some c = rw c.from_residual.ensures tt
+
+pub returns-in_err-area-clause-some : goal.returns-in_err-area-clause-some
+returns-in_err-area-clause-some c = rw c.from_residual-in_err-area.ensures tt
+
+pub returns-in_err-ticks-clause-holds : goal.returns-in_err-ticks-clause-holds
+returns-in_err-ticks-clause-holds c = rw c.from_residual.ensures tt
+
+pub returns-in_err-area-clause-holds : goal.returns-in_err-area-clause-holds
+returns-in_err-area-clause-holds c = rw c.from_residual-in_err-area.ensures tt
+
+pub returns-in_err-ticks-clause-none : goal.returns-in_err-ticks-clause-none
+returns-in_err-ticks-clause-none c =
+    let before = c.in_err-ticks.ensures.none in
+    rw c.from_residual.ensures (λ m after upto. absurd (omega arith))
+
+pub returns-in_err-ticks-clause-track : goal.returns-in_err-ticks-clause-track
+returns-in_err-ticks-clause-track c = refl
+
+pub returns-in_err-area-clause-track : goal.returns-in_err-area-clause-track
+returns-in_err-area-clause-track c = c.in_err-area.ensures.track
+
+pub returns-clause-track : goal.returns-clause-track
+returns-clause-track c = c.in_ok-area.ensures.track
+
+pub returns-in_err-ticks-clause-window : goal.returns-in_err-ticks-clause-window
+returns-in_err-ticks-clause-window c = refl
+
+pub returns-in_err-area-clause-window : goal.returns-in_err-area-clause-window
+returns-in_err-area-clause-window c = c.in_err-area.ensures.window
+
+pub returns-clause-window : goal.returns-clause-window
+returns-clause-window c = c.in_ok-area.ensures.window
+
+pub returns-in_err-ticks-clause-walks : goal.returns-in_err-ticks-clause-walks
+returns-in_err-ticks-clause-walks c = c.requires
+
+pub returns-in_err-area-clause-walks : goal.returns-in_err-area-clause-walks
+returns-in_err-area-clause-walks c = c.in_err-area.ensures.walks
+
+pub returns-clause-walks : goal.returns-clause-walks
+returns-clause-walks c = c.in_ok-area.ensures.walks
