@@ -1,4 +1,5 @@
 use Rattle.std.proofs.Common.{◌++◌, ap, ◌∙◌}
+use Rattle.std.proofs.lemmas.Result.{IfOk-from_err}
 use Rattle.std.specs.Prelude.{codes}
 use Rattle.cj_kvn.specs.Entries.{entry}
 use Rattle.cj_oem.specs.Canonical.{metadata_text}
@@ -19,3 +20,33 @@ returns c =
     let times = joined old _ _ _ _ (joined old _ _ _ _ frames start) stop in
     let cubic = joined old _ _ _ _ (joined old _ _ _ _ times c.in_ok-push_entry-8.ensures.appended) c.in_ok-push_entry-9.ensures.appended in
     joined_ok c.push_line-2.result old _ _ _ _ cubic c.push_line-2.ensures.appended
+
+pub returns-in_err-push_line : goal.returns-in_err-push_line
+returns-in_err-push_line c = IfOk-from_err c.from_residual.result _ c.from_residual.ensures.0
+
+pub returns-in_err-push_entry : goal.returns-in_err-push_entry
+returns-in_err-push_entry c = IfOk-from_err c.from_residual-in_err-push_entry.result _ c.from_residual-in_err-push_entry.ensures.0
+
+pub returns-in_err-push_entry-2 : goal.returns-in_err-push_entry-2
+returns-in_err-push_entry-2 c = IfOk-from_err c.from_residual-in_err-push_entry-2.result _ c.from_residual-in_err-push_entry-2.ensures.0
+
+pub returns-in_err-push_entry-3 : goal.returns-in_err-push_entry-3
+returns-in_err-push_entry-3 c = IfOk-from_err c.from_residual-in_err-push_entry-3.result _ c.from_residual-in_err-push_entry-3.ensures.0
+
+pub returns-in_err-push_entry-4 : goal.returns-in_err-push_entry-4
+returns-in_err-push_entry-4 c = IfOk-from_err c.from_residual-in_err-push_entry-4.result _ c.from_residual-in_err-push_entry-4.ensures.0
+
+pub returns-in_err-push_entry-5 : goal.returns-in_err-push_entry-5
+returns-in_err-push_entry-5 c = IfOk-from_err c.from_residual-in_err-push_entry-5.result _ c.from_residual-in_err-push_entry-5.ensures.0
+
+pub returns-in_err-push_entry-6 : goal.returns-in_err-push_entry-6
+returns-in_err-push_entry-6 c = IfOk-from_err c.from_residual-in_err-push_entry-6.result _ c.from_residual-in_err-push_entry-6.ensures.0
+
+pub returns-in_err-push_entry-7 : goal.returns-in_err-push_entry-7
+returns-in_err-push_entry-7 c = IfOk-from_err c.from_residual-in_err-push_entry-7.result _ c.from_residual-in_err-push_entry-7.ensures.0
+
+pub returns-in_err-push_entry-8 : goal.returns-in_err-push_entry-8
+returns-in_err-push_entry-8 c = IfOk-from_err c.from_residual-in_err-push_entry-8.result _ c.from_residual-in_err-push_entry-8.ensures.0
+
+pub returns-in_err-push_entry-9 : goal.returns-in_err-push_entry-9
+returns-in_err-push_entry-9 c = IfOk-from_err c.from_residual-in_err-push_entry-9.result _ c.from_residual-in_err-push_entry-9.ensures.0
