@@ -16,6 +16,15 @@ all_four P a b c d pa pb pc pd (suc (suc zero)) e h = pc
 all_four P a b c d pa pb pc pd (suc (suc (suc zero))) e h = pd
 all_four P a b c d pa pb pc pd (suc (suc (suc (suc n)))) e h = absurd (omega arith)
 
+-- a list of four by its places
+pub listed_four : {A : Type 0} (xs : List A) (a b c d : A) → length xs ≡ 4 → slice_index_or xs 0 a ∷ slice_index_or xs 1 b ∷ slice_index_or xs 2 c ∷ slice_index_or xs 3 d ∷ [] ≡ xs
+listed_four [] a b c d four = absurd (omega arith)
+listed_four (x0 ∷ []) a b c d four = absurd (omega arith)
+listed_four (x0 ∷ x1 ∷ []) a b c d four = absurd (omega arith)
+listed_four (x0 ∷ x1 ∷ x2 ∷ []) a b c d four = absurd (omega arith)
+listed_four (x0 ∷ x1 ∷ x2 ∷ x3 ∷ []) a b c d four = refl
+listed_four (x0 ∷ x1 ∷ x2 ∷ x3 ∷ x4 ∷ xs) a b c d four = absurd (omega arith)
+
 pub read_end : (axis : Box3 → Span) (end : Span → ℤ) (bs : List Box3) (n : ℕ) (b : Box3) → n < length bs → slice_index_or (map end (map axis bs)) n (pos 0) ≡ end (axis (slice_index_or bs n b))
 read_end axis end bs n b h =
     let l : n < length (map axis bs) = rw (length-map bs axis) h in

@@ -74,3 +74,39 @@ returns-in_default-clause-time c =
     let i = c.loop-part.invariant in
     let none = subst (λ (t : Track). HasNone (plain_track t) (c.loop-part.part.last.micros + 1) c.args.window.last.micros) i.track c.in_default.ensures.none in
     (of_same _ _ _ _ _ c.in_ok-part.ensures.track (no_part_more _ _ _ _ _ i.area none)).time
+
+pub returns-after-loop-part-clause-track : goal.returns-after-loop-part-clause-track
+returns-after-loop-part-clause-track c = c.loop-part.invariant.track ∙ c.in_ok-part.ensures.track
+
+pub returns-in_default-clause-track : goal.returns-in_default-clause-track
+returns-in_default-clause-track c = c.in_default.ensures.track ∙ c.loop-part.invariant.track ∙ c.in_ok-part.ensures.track
+
+pub returns-in_err-part-clause-track : goal.returns-in_err-part-clause-track
+returns-in_err-part-clause-track c = c.in_err-part.ensures.track
+
+pub returns-after-loop-part-clause-window : goal.returns-after-loop-part-clause-window
+returns-after-loop-part-clause-window c = c.loop-part.invariant.window ∙ c.in_ok-part.ensures.window
+
+pub returns-in_default-clause-window : goal.returns-in_default-clause-window
+returns-in_default-clause-window c = c.in_default.ensures.window ∙ c.loop-part.invariant.window ∙ c.in_ok-part.ensures.window
+
+pub returns-in_err-part-clause-window : goal.returns-in_err-part-clause-window
+returns-in_err-part-clause-window c = c.in_err-part.ensures.window
+
+pub returns-after-loop-part-clause-walks : goal.returns-after-loop-part-clause-walks
+returns-after-loop-part-clause-walks c = c.loop-part.invariant.walks
+
+pub returns-in_default-clause-walks : goal.returns-in_default-clause-walks
+returns-in_default-clause-walks c = c.in_default.ensures.walks
+
+pub returns-in_err-part-clause-walks : goal.returns-in_err-part-clause-walks
+returns-in_err-part-clause-walks c = c.in_err-part.ensures.walks
+
+pub returns-in_err-part-clause-within : goal.returns-in_err-part-clause-within
+returns-in_err-part-clause-within c = rw c.from_residual.ensures tt
+
+pub returns-after-loop-part-clause-within : goal.returns-after-loop-part-clause-within
+returns-after-loop-part-clause-within c = c.loop-part.invariant.area.size
+
+pub returns-in_default-clause-within : goal.returns-in_default-clause-within
+returns-in_default-clause-within c = c.loop-part.invariant.area.size

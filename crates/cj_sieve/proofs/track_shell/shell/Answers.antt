@@ -37,3 +37,12 @@ returns-clause-exact c =
     let shell = c.radii.ensures in
     let hi : c.radii.result.hi ≤ 10 ^ 18 = shell.least (10 ^ 18) gap.bounded in
     sym (shell_is e from to c.radii.result (λ empty. gap.some (no_state e from to empty)) (round c) hi (omega (arith, hi, shell.ordered)))
+
+pub returns-clause-ordered : goal.returns-clause-ordered
+returns-clause-ordered c = c.radii.ensures.ordered
+
+pub returns-clause-time : goal.returns-clause-time
+returns-clause-time c = c.gap_of_all.ensures.time
+
+pub returns-clause-bounded : goal.returns-clause-bounded
+returns-clause-bounded c = c.radii.ensures.least (10 ^ 18) c.gap_of_all.ensures.bounded

@@ -3,8 +3,11 @@ use Rattle.std.proofs.lemmas.Int.{ints, clamps}
 use Rattle.std.specs.Prelude.{ℤ}
 use Rattle.std.specs.Int.{int_min, int_max}
 use Rattle.cj_interval.specs.Sizes.{IsWithin}
-use Rattle.cj_bezier.proofs.PartLemmas.{least_step, greatest_step, sized, read_value, weaker}
+use Rattle.cj_bezier.proofs.PartLemmas.{least_step, greatest_step, sized, read_value}
 use Rattle.cj_walk.proofs.joined_gaps.both.Goals as goal
+
+weaker : (z : ℤ) → IsWithin (2 ^ 126 - 1) z → IsWithin (2 ^ 126) z
+weaker z w = omega (arith, ints)
 
 least_within : (a b : ℤ) → IsWithin (2 ^ 126 - 1) a → IsWithin (2 ^ 126 - 1) b → IsWithin (2 ^ 126 - 1) (int_min a b)
 least_within a b v w = omega (arith, ints, clamps)

@@ -4,12 +4,15 @@ use Rattle.std.specs.Prelude.{ℤ}
 use Rattle.std.specs.Int.{int_min, int_max}
 use Rattle.cj_interval.specs.declared.span.Span.{Span}
 use Rattle.cj_bezier.specs.Hulls.{lows, highs}
-use Rattle.cj_bezier.proofs.PartLemmas.{inside}
 use Rattle.cj_walk.proofs.joined_gaps.both_at.Goals as goal
 
 -- an end of a span at a place is the one in the list of these ends
 end_at : (end : Span → ℤ) (spans : List Span) (k : ℕ) (d : Span) → k < length spans → end (get_or spans k d) ≡ get_or (map end spans) k (pos 0)
 end_at end spans k d lt = sym (get_or-map end spans k d (pos 0) lt)
+
+-- there are seven
+inside : (spans : List Span) (k : ℕ) → k < 7 → length spans ≡ 7 → k < length spans
+inside spans k lt seven = rw seven lt
 
 pub returns-clause-lower : goal.returns-clause-lower
 returns-clause-lower c =

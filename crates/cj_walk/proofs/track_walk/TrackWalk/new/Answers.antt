@@ -1,4 +1,4 @@
-use Rattle.std.proofs.Common.{◌≡◌, length, rules, arith}
+use Rattle.std.proofs.Common.{◌≡◌, length, refl, rules, arith}
 use Rattle.cj_track.specs.Tracks.{plain_track}
 use Rattle.cj_bezier.specs.Gaps.{terms_of}
 use Rattle.cj_bezier.specs.Hulls.{axes_of}
@@ -23,3 +23,24 @@ returns-clause-walks c = let is = c.in_ok-part.ensures in record { begun = omega
 
 pub returns-in_err-part-clause-none : goal.returns-in_err-part-clause-none
 returns-in_err-part-clause-none c = rw c.from_residual.ensures c.in_err-part.ensures.none
+
+pub returns-in_err-part-clause-some : goal.returns-in_err-part-clause-some
+returns-in_err-part-clause-some c = rw c.from_residual.ensures tt
+
+pub returns-in_err-part-clause-track : goal.returns-in_err-part-clause-track
+returns-in_err-part-clause-track c = rw c.from_residual.ensures tt
+
+pub returns-in_err-part-clause-walks : goal.returns-in_err-part-clause-walks
+returns-in_err-part-clause-walks c = rw c.from_residual.ensures tt
+
+pub returns-in_err-part-clause-window : goal.returns-in_err-part-clause-window
+returns-in_err-part-clause-window c = rw c.from_residual.ensures tt
+
+pub returns-clause-track : goal.returns-clause-track
+returns-clause-track c = refl
+
+pub returns-clause-window : goal.returns-clause-window
+returns-clause-window c = refl
+
+pub returns-clause-none : goal.returns-clause-none
+returns-clause-none c = tt
