@@ -16,3 +16,15 @@ returns-clause-raw c =
       equals = λ h. c.placed.ensures
           ∙ line_equals c.args.bytes.now c.args.at c.printable_front-len.result.0 line c.printable_front-len.result.1 refl refl c.printable_front-len.ensures.equals;
     }
+
+pub returns-in_default-clause-lines : goal.returns-in_default-clause-lines
+returns-in_default-clause-lines c = c.other_line.ensures.lines
+
+pub returns-in_default-clause-raw : goal.returns-in_default-clause-raw
+returns-in_default-clause-raw c = c.other_line.ensures.raw
+
+pub returns-in_default-clause-later : goal.returns-in_default-clause-later
+returns-in_default-clause-later c = c.other_line.ensures.later
+
+pub returns-in_default-clause-inside : goal.returns-in_default-clause-inside
+returns-in_default-clause-inside c = c.other_line.ensures.inside

@@ -1,4 +1,5 @@
 use Rattle.std.proofs.Common.{◌≡◌, ◌≤◌, All, map, take, length, subst, sym, ap, ◌∙◌, List, ℕ, Option, Bor, unwrap_or, arith}
+use Rattle.std.proofs.lemmas.Result.{IfOk-from_err}
 use Rattle.std.proofs.Math.Seq.{take-length}
 use Rattle.cj_sizes.specs.Limits.{MAX_RADIUS}
 use Rattle.cj_sizes.specs.Sizes.{radius_of, sizes_of}
@@ -17,3 +18,21 @@ loop-id-preserved c =
     let radius = c.radius_among.ensures ∙ ap (λ (o : Option ℕ). unwrap_or o 0) (c.in_ok-given.ensures _) in
     radii_more c.args.lines.now c.args.ids.now c.loop-id.id-index _ c.loop-id.radii.items c.push.new.self.items c.radius_among.result c.loop-id-test.true
     c.in_ok-push.ensures.items radius c.loop-id.invariant
+
+pub returns-in_err-given-clause-value : goal.returns-in_err-given-clause-value
+returns-in_err-given-clause-value c = IfOk-from_err c.from_residual.result _ c.from_residual.ensures.0
+
+pub returns-in_err-given-clause-within : goal.returns-in_err-given-clause-within
+returns-in_err-given-clause-within c = IfOk-from_err c.from_residual.result _ c.from_residual.ensures.0
+
+pub returns-in_err-radii-clause-value : goal.returns-in_err-radii-clause-value
+returns-in_err-radii-clause-value c = IfOk-from_err c.from_residual-in_err-radii.result _ c.from_residual-in_err-radii.ensures.0
+
+pub returns-in_err-radii-clause-within : goal.returns-in_err-radii-clause-within
+returns-in_err-radii-clause-within c = IfOk-from_err c.from_residual-in_err-radii.result _ c.from_residual-in_err-radii.ensures.0
+
+pub returns-in_err-push-clause-value : goal.returns-in_err-push-clause-value
+returns-in_err-push-clause-value c = IfOk-from_err c.from_residual-in_err-push.result _ c.from_residual-in_err-push.ensures.0
+
+pub returns-in_err-push-clause-within : goal.returns-in_err-push-clause-within
+returns-in_err-push-clause-within c = IfOk-from_err c.from_residual-in_err-push.result _ c.from_residual-in_err-push.ensures.0
