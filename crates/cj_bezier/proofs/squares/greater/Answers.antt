@@ -1,10 +1,8 @@
-use Rattle.std.proofs.Common.{◌≡◌, ℕ, ◌-◌, ◌<◌, ◌^◌, List, length, get_or, pos, refl, sym, arith, rules}
+use Rattle.std.proofs.Common.{get_or, pos, refl, sym, rules}
 use Rattle.std.proofs.lemmas.List.{get_or-map}
-use Rattle.std.proofs.lemmas.Int.{ints}
 use Rattle.std.specs.Prelude.{ℤ}
 use Rattle.std.specs.Int.{int_max}
 use Rattle.cj_interval.specs.declared.span.Span.{Span}
-use Rattle.cj_interval.specs.Sizes.{IsWithin}
 use Rattle.cj_bezier.specs.Hulls.{highs}
 use Rattle.cj_bezier.proofs.PartLemmas.{IsSized, inside, sized, weaker, greatest_step, read_sized, read_value}
 use Rattle.cj_bezier.proofs.squares.greater.Goals as goal

@@ -1,4 +1,3 @@
-use Rattle.std.proofs.Common.{All, arith}
 use Rattle.std.proofs.lemmas.List.Elements.{All-drop, All-take}
 use Rattle.cj_values.specs.Decimals.{IsReadable, number_of}
 use Rattle.cj_oem.proofs.CovarianceTextLemmas.{row_more}
