@@ -1,6 +1,6 @@
 -- Buckets: cubes whose corners are multiples of their side, and the boxes that are entered in them. A bucket holds its least corner on each
 -- axis, and not its greatest.
-use Rattle.std.specs.Prelude.{ℕ, ◌+◌, ◌-◌, ◌*◌, ◌/◌, Bool, false, ◌||◌, if◌then◌else◌, ℤ, pos, ◌+ℤ◌, ◌-ℤ◌, nat_eq, nat_lt, List, [], map, filter, length, Option, None, Some, option_map, is_some, count_by, slice_index, slice_index_or}
+use Rattle.std.specs.Prelude.{ℕ, ◌+◌, ◌-◌, ◌*◌, ◌/◌, Bool, false, ◌||◌, if◌then◌else◌, ℤ, pos, negsuc, ◌+ℤ◌, ◌-ℤ◌, nat_eq, nat_lt, List, [], map, filter, length, Option, None, Some, option_map, is_some, count_by, slice_index, slice_index_or}
 use Rattle.std.specs.List.{flat_map, range_with_len, sum_by}
 use Rattle.cj_bezier.specs.declared.axis_box.AxisBox.{AxisBox}
 use Rattle.cj_bezier.specs.Squares.{from_zero}
