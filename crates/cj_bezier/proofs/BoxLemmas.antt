@@ -17,7 +17,8 @@ all_four P a b c d pa pb pc pd (suc (suc (suc zero))) e h = pd
 all_four P a b c d pa pb pc pd (suc (suc (suc (suc n)))) e h = absurd (omega arith)
 
 -- a list of four by its places
-pub listed_four : {A : Type 0} (xs : List A) (a b c d : A) → length xs ≡ 4 → slice_index_or xs 0 a ∷ slice_index_or xs 1 b ∷ slice_index_or xs 2 c ∷ slice_index_or xs 3 d ∷ [] ≡ xs
+pub listed_four : {A : Type 0} (xs : List A) (a b c d : A) → length xs ≡ 4 → slice_index_or xs 0 a ∷ slice_index_or xs 1 b ∷ slice_index_or xs 2 c
+    ∷ slice_index_or xs 3 d ∷ [] ≡ xs
 listed_four [] a b c d four = absurd (omega arith)
 listed_four (x0 ∷ []) a b c d four = absurd (omega arith)
 listed_four (x0 ∷ x1 ∷ []) a b c d four = absurd (omega arith)

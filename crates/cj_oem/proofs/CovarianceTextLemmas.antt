@@ -20,11 +20,13 @@ numbers_spaced n (m ∷ ns) =
     ∙ append_assoc (decimal_text_of n) (32 ∷ []) (decimal_text_of m ++ flat_map (λ k. 32 ∷ decimal_text_of k) ns)
 
 -- a row has a part of the numbers
-pub row_more : (was now : List ℕ) (start count : ℕ) (ds : List Decimal) → now ≡ was ++ line (numbers_text (map number_of (take (start + count - start) (drop start ds))))
+pub row_more : (was now : List ℕ) (start count : ℕ) (ds : List Decimal) → now ≡ was ++ line
+    (numbers_text (map number_of (take (start + count - start) (drop start ds))))
     → now ≡ was ++ matrix_row start count (map number_of ds)
 row_more was now start count ds e =
     let long : start + count - start ≡ count = omega arith in
-    let same = ap (λ (n : ℕ). map number_of (take n (drop start ds))) long ∙ sym (take-map number_of count (drop start ds)) ∙ ap (take count) (sym (drop-map number_of start ds)) in
+    let same = ap (λ (n : ℕ). map number_of (take n (drop start ds))) long ∙ sym (take-map number_of count (drop start ds)) ∙ ap (take count)
+    (sym (drop-map number_of start ds)) in
     e ∙ ap (λ (ns : List Number). was ++ line (numbers_text ns)) same
 
 -- covariances stand between their marks where there are any

@@ -16,7 +16,9 @@ pub product-requires-3 : goal.product-requires-3
 product-requires-3 c = record { first = c.requires.first.z; second = c.requires.second.z }
 
 pub returns-clause-lower : goal.returns-clause-lower
-returns-clause-lower c = c.add-2.ensures.lower ∙ (λ i. (c.add.ensures.lower ∙ (λ j. c.product.ensures.lower j +ℤ c.product-2.ensures.lower j)) i +ℤ c.product-3.ensures.lower i)
+returns-clause-lower c =
+    c.add-2.ensures.lower ∙ (λ i. (c.add.ensures.lower ∙ (λ j. c.product.ensures.lower j +ℤ c.product-2.ensures.lower j)) i +ℤ c.product-3.ensures.lower i)
 
 pub returns-clause-upper : goal.returns-clause-upper
-returns-clause-upper c = c.add-2.ensures.upper ∙ (λ i. (c.add.ensures.upper ∙ (λ j. c.product.ensures.upper j +ℤ c.product-2.ensures.upper j)) i +ℤ c.product-3.ensures.upper i)
+returns-clause-upper c =
+    c.add-2.ensures.upper ∙ (λ i. (c.add.ensures.upper ∙ (λ j. c.product.ensures.upper j +ℤ c.product-2.ensures.upper j)) i +ℤ c.product-3.ensures.upper i)

@@ -8,7 +8,8 @@ use Rattle.cj_grid.proofs.buckets.last_bucket.Goals as goal
 pub returns-clause-value : goal.returns-clause-value
 returns-clause-value c =
     let same = to_z-of_z c.ranges.most in
-    let read : to_z w128 (of_z w128 (to_z w128 (of_z w128 c.from.result) +ℤ to_z w128 (of_z w128 c.from-2.result))) ≡ c.args.most +ℤ pos c.args.on = omega (arith, ints) in
+    let read : to_z w128 (of_z w128 (to_z w128 (of_z w128 c.from.result) +ℤ to_z w128 (of_z w128 c.from-2.result))) ≡ c.args.most +ℤ pos c.args.on = omega
+    (arith, ints) in
     c.bucket_at.ensures.value ∙ ap bucket_on read
 
 pub returns-clause-few : goal.returns-clause-few

@@ -33,4 +33,5 @@ pub returns : goal.returns
 returns c =
     let kept = map objects_of c.loop-pair.pairs.items in
     let all = drop_all c.loop-pair.pair-index c.args.sorted.now c.loop-pair-test.false in
-    sym (append-nil kept) ∙ ap (λ (ps : List Pair). kept ++ unrepeated (option_map objects_of c.loop-pair.last) (map objects_of ps)) (sym all) ∙ c.loop-pair.invariant
+    sym (append-nil kept) ∙ ap (λ (ps : List Pair). kept ++ unrepeated (option_map objects_of c.loop-pair.last) (map objects_of ps)) (sym all)
+    ∙ c.loop-pair.invariant

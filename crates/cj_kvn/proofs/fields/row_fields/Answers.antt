@@ -22,7 +22,8 @@ returns-in_default-clause-texts c =
 pub returns-in-Some-first_field-clause-count : goal.returns-in-Some-first_field-clause-count
 returns-in-Some-first_field-clause-count c =
     let front = take c.loop-count.count c.loop-count.found in
-    let long : length (map (text_at c.args.bytes.now) front) ≡ 10 = omega (arith, length-map front (text_at c.args.bytes.now), length-take c.loop-count.count c.loop-count.found) in
+    let long : length (map (text_at c.args.bytes.now) front) ≡ 10 = omega
+    (arith, length-map front (text_at c.args.bytes.now), length-take c.loop-count.count c.loop-count.found) in
     (ten_found _ _ _ _ _ c.in-Some-first_field.ensures.fields c.loop-count.invariant.said long).0
 
 pub loop-count-preserved : goal.loop-count-preserved
@@ -49,22 +50,27 @@ returns-in-Some-first_field-clause-within c = c.loop-count.invariant.all
 pub returns-in-None-clause-count : goal.returns-in-None-clause-count
 returns-in-None-clause-count c =
     let front = take c.loop-count.count c.loop-count.found in
-    let long : length (map (text_at c.args.bytes.now) front) ≡ 10 = omega (arith, length-map front (text_at c.args.bytes.now), length-take c.loop-count.count c.loop-count.found) in
+    let long : length (map (text_at c.args.bytes.now) front) ≡ 10 = omega
+    (arith, length-map front (text_at c.args.bytes.now), length-take c.loop-count.count c.loop-count.found) in
     sym long ∙ (all_found _ _ _ c.in-None.ensures.fields c.loop-count.invariant.said (omega arith)).0
 
 pub returns-in-None-clause-texts : goal.returns-in-None-clause-texts
 returns-in-None-clause-texts c =
     let front = take c.loop-count.count c.loop-count.found in
-    let long : length (map (text_at c.args.bytes.now) front) ≡ 10 = omega (arith, length-map front (text_at c.args.bytes.now), length-take c.loop-count.count c.loop-count.found) in
+    let long : length (map (text_at c.args.bytes.now) front) ≡ 10 = omega
+    (arith, length-map front (text_at c.args.bytes.now), length-take c.loop-count.count c.loop-count.found) in
     let all : c.loop-count.count ≡ 10 = omega arith in
-    ap (λ (n : ℕ). map (text_at c.args.bytes.now) (take n c.loop-count.found)) (sym all) ∙ (all_found _ _ _ c.in-None.ensures.fields c.loop-count.invariant.said (omega arith)).1
+    ap (λ (n : ℕ). map (text_at c.args.bytes.now) (take n c.loop-count.found)) (sym all)
+    ∙ (all_found _ _ _ c.in-None.ensures.fields c.loop-count.invariant.said (omega arith)).1
 
 pub returns-in-Some-first_field-clause-texts : goal.returns-in-Some-first_field-clause-texts
 returns-in-Some-first_field-clause-texts c =
     let front = take c.loop-count.count c.loop-count.found in
-    let long : length (map (text_at c.args.bytes.now) front) ≡ 10 = omega (arith, length-map front (text_at c.args.bytes.now), length-take c.loop-count.count c.loop-count.found) in
+    let long : length (map (text_at c.args.bytes.now) front) ≡ 10 = omega
+    (arith, length-map front (text_at c.args.bytes.now), length-take c.loop-count.count c.loop-count.found) in
     let more : take 11 c.loop-count.found ≡ take c.loop-count.count c.loop-count.found =
-    take_all 11 c.loop-count.found (omega (arith, c.loop-count.invariant.ten)) ∙ sym (take_all c.loop-count.count c.loop-count.found (omega (arith, c.loop-count.invariant.ten))) in
+    take_all 11 c.loop-count.found (omega (arith, c.loop-count.invariant.ten)) ∙ sym
+    (take_all c.loop-count.count c.loop-count.found (omega (arith, c.loop-count.invariant.ten))) in
     ap (map (text_at c.args.bytes.now)) more ∙ (ten_found _ _ _ _ _ c.in-Some-first_field.ensures.fields c.loop-count.invariant.said long).1
 
 pub loop-count-init : goal.loop-count-init

@@ -13,13 +13,16 @@ returns-clause-text c =
     let old = c.args.text.now.items in
     let nodes = c.in_ok-push_states.ensures ∙ ap (λ ns. c.push_metadata.new.text.items ++ flat_map row_text (map plain_node ns)) c.as_slice.ensures.value in
     joined_ok c.push_covariances.result old _ _ _ _ (joined old _ _ _ _ c.in_ok-push_metadata.ensures nodes)
-    (on_ok_weaker c.push_covariances.result (λ e. e ∙ ap (λ ms. c.push_states.new.text.items ++ covariances_text (map plain_matrix ms)) c.as_slice-2.ensures) c.push_covariances.ensures.text)
+    (on_ok_weaker c.push_covariances.result (λ e. e ∙ ap (λ ms. c.push_states.new.text.items ++ covariances_text (map plain_matrix ms))
+    c.as_slice-2.ensures) c.push_covariances.ensures.text)
 
 pub returns-clause-nodes : goal.returns-clause-nodes
-returns-clause-nodes c = on_ok_weaker c.push_covariances.result (λ _. subst AreNodes c.as_slice.ensures.value c.as_slice.ensures.kept) c.push_covariances.ensures.kept
+returns-clause-nodes c =
+    on_ok_weaker c.push_covariances.result (λ _. subst AreNodes c.as_slice.ensures.value c.as_slice.ensures.kept) c.push_covariances.ensures.kept
 
 pub returns-clause-matrices : goal.returns-clause-matrices
-returns-clause-matrices c = on_ok_weaker c.push_covariances.result (subst (All (λ m. length m.values ≡ 21)) c.as_slice-2.ensures) c.push_covariances.ensures.kept
+returns-clause-matrices c =
+    on_ok_weaker c.push_covariances.result (subst (All (λ m. length m.values ≡ 21)) c.as_slice-2.ensures) c.push_covariances.ensures.kept
 
 pub returns-in_err-push_metadata-clause-text : goal.returns-in_err-push_metadata-clause-text
 returns-in_err-push_metadata-clause-text c = IfOk-from_err c.from_residual.result _ c.from_residual.ensures.0

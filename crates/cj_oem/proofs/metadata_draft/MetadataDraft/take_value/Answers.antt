@@ -26,7 +26,8 @@ returns-in_ok-parse_epoch-in-StopTime c = rw c.in-StopTime.is (rw c.in_ok-parse_
 pub returns-in_err-parse_epoch-in-UseableStartTime : goal.returns-in_err-parse_epoch-in-UseableStartTime
 unfolding with_value
 returns-in_err-parse_epoch-in-UseableStartTime c =
-    let p = err_from_is_err_and c.from_residual-in_err-parse_epoch-in-UseableStartTime.result c.from_residual-in_err-parse_epoch-in-UseableStartTime.ensures.1 in
+    let p = err_from_is_err_and c.from_residual-in_err-parse_epoch-in-UseableStartTime.result
+    c.from_residual-in_err-parse_epoch-in-UseableStartTime.ensures.1 in
     rw (p.1, p.2, c.in-UseableStartTime.is) (rw c.in_err-parse_epoch-in-UseableStartTime.ensures refl)
 
 pub returns-in_ok-parse_epoch-in-UseableStartTime : goal.returns-in_ok-parse_epoch-in-UseableStartTime

@@ -13,7 +13,8 @@ loop-other-preserved c =
     (joined c.loop-other.text.items _ _ _ _ c.in_ok-push.ensures.items c.in_ok-push_decimal.ensures)
 
 pub push_decimal-requires : goal.push_decimal-requires
-push_decimal-requires c = subst (λ d. IsReadable (number_of d)) (sym c.other-item.is) (c.requires c.loop-other.other-index c.other-item.result c.loop-other-test.true)
+push_decimal-requires c =
+    subst (λ d. IsReadable (number_of d)) (sym c.other-item.is) (c.requires c.loop-other.other-index c.other-item.result c.loop-other-test.true)
 
 pub returns : goal.returns
 returns c =
