@@ -5,40 +5,62 @@ use Rattle.std.proofs.lemmas.Bool.Decides.{nat_tests}
 use Rattle.cj_io.specs.declared.file.FileBytes.{FileBytes}
 use Rattle.cj_words.specs.Settings.{Asked}
 use Rattle.cj_hermite.specs.PlainProblems.{PlainProblem}
-use Rattle.cj_bezier.specs.declared.encounter.Encounter.{Encounter}
-use Rattle.cj_bezier.specs.declared.leaf.Leaf.{Leaf}
-use Rattle.cj_bezier.specs.Leaves.{plain_leaves}
+use Rattle.cj_bezier.specs.Leaves.{PlainLeaf}
 use Rattle.cj_cells.specs.Lists.{list_looked}
 use Rattle.cj_cells.specs.declared.refine_error.RefineError.{RefineError}
 use Rattle.cj_cells.specs.declared.refine_error.RefineError.TheVariants as refine
 use Rattle.cj_meet.specs.Closest.{HasNearest}
-use Rattle.cj_meet.specs.Encounters.{encounters_of, groups_in}
 use Rattle.cj_report.specs.Report.{told}
 use Rattle.cj_outputs.specs.declared.findings.Findings.{Findings}
 use Rattle.cj_status.specs.declared.status.Status.{Status}
-use Rattle.cj_status.specs.Steps.{Stops}
+use Rattle.cj_status.specs.declared.status.Status.TheVariants as status
+use Rattle.cj_status.specs.Steps.{◌>>=◌, Stops}
 use Rattle.cj_screen.specs.Errors.{refined_status}
 use Rattle.cj_outputs.specs.Messages.{PlainOrigin}
 use Rattle.cj_inputs.specs.Cases.{case_asked}
-use Rattle.cj_outputs.specs.Outcome.{cert_bytes, encounters_in, pieces_with, pieces_within, report_bytes, tells_sizes}
+use Rattle.cj_outputs.specs.Outcome.{cert_bytes, encounters_in, pieces_with, pieces_within, report_bytes, tells_sizes, within_cells}
 use Rattle.cj_outputs.specs.Findings.{AreFound, case_in, cert_in, report_in}
 use Rattle.cj_screen.specs.Headline.{Certifies, Reports, SplitsTicks}
 
--- the pieces of a case with few leaves
-pub due_of : (limit : ℕ) (with_sizes : Bool) (version : ℕ) (origin : PlainOrigin) (case : PlainProblem) → length (list_looked case) ≤ limit →
-    pieces_within limit with_sizes version origin case ≡ Ok (pieces_with with_sizes version origin case (list_looked case))
-unfolding pieces_within
-due_of limit with_sizes version origin case few = let small : nat_le (length (list_looked case)) limit ≡ true = grind (arith, nat_tests) in rw small refl
+-- what ends a step ends those behind it
+stops_then : {A B : Type 0} (s : Status) (r : Result A Status) (f : A → Result B Status) → Stops ⊥ s r → Stops ⊥ s (r >>= f)
+stops_then {A = A} status.Ok r f stops = stops
+stops_then {A = A} (status.NotAccepted line cause) r f stops = ap (λ (x : Result A Status). x >>= f) stops
+stops_then {A = A} (status.Usage fault) r f stops = ap (λ (x : Result A Status). x >>= f) stops
+stops_then {A = A} (status.BadFile file line cause) r f stops = ap (λ (x : Result A Status). x >>= f) stops
+stops_then {A = A} status.ReadFault r f stops = stops
+stops_then {A = A} status.WriteFault r f stops = stops
+stops_then {A = A} (status.Limit fault) r f stops = ap (λ (x : Result A Status). x >>= f) stops
+stops_then {A = A} status.OutOfMemory r f stops = stops
+
+-- what ends the search for leaves is no read
+pub never_read : {A B : Type 0} (s : Status) (r : Result A Status) → Stops ⊥ s r → ¬ ◌≡◌ {A = Result B Status} (Err s) (Err status.ReadFault)
+never_read {A = A} s r stops = λ is. let same : s ≡ status.ReadFault = cc in subst (λ (t : Status). Stops ⊥ t r) same stops
+
+-- a list of leaves that is whole
+pub few_leaves : (limit : ℕ) (leaves : List PlainLeaf) → length leaves ≤ limit → within_cells limit leaves ≡ Ok leaves
+few_leaves limit leaves few = let small : nat_le (length leaves) limit ≡ true = grind (arith, nat_tests) in rw small refl
 
 -- a list of leaves that is not whole
-pub stops_refined : (limit : ℕ) (with_sizes : Bool) (version : ℕ) (origin : PlainOrigin) (case : PlainProblem) (e : RefineError) → (e ≡ refine.TooMany → limit < length (list_looked case)) →
-    Stops ⊥ (refined_status limit e) (pieces_within limit with_sizes version origin case)
-unfolding pieces_within
-stops_refined limit with_sizes version origin case refine.Memory many = tt
-stops_refined limit with_sizes version origin case refine.TooMany many =
+pub stops_refined : (limit : ℕ) (leaves : List PlainLeaf) (e : RefineError) → (e ≡ refine.TooMany → limit < length leaves) → Stops ⊥ (refined_status limit e) (within_cells limit leaves)
+stops_refined limit leaves refine.Memory many = tt
+stops_refined limit leaves refine.TooMany many =
     let more = many refl in
-    let large : nat_le (length (list_looked case)) limit ≡ false = grind (arith, nat_tests) in
+    let large : nat_le (length leaves) limit ≡ false = grind (arith, nat_tests) in
     rw large refl
+
+-- the pieces of a case, of its leaves
+pub pieces_of_leaves : (limit : ℕ) (with_sizes : Bool) (version : ℕ) (origin : PlainOrigin) (case : PlainProblem) (leaves : List PlainLeaf) → within_cells limit (list_looked case) ≡ Ok leaves
+    → pieces_within limit with_sizes version origin case ≡ Ok (pieces_with with_sizes version origin case leaves)
+unfolding pieces_within
+pieces_of_leaves limit with_sizes version origin case leaves same =
+    ap (λ (r : Result (List PlainLeaf) Status). r >>= λ ss. Ok (pieces_with with_sizes version origin case ss)) same
+
+-- what ends the search for the leaves ends that for the pieces
+pub pieces_stop : (limit : ℕ) (with_sizes : Bool) (version : ℕ) (origin : PlainOrigin) (case : PlainProblem) (s : Status) → Stops ⊥ s (within_cells limit (list_looked case))
+    → Stops ⊥ s (pieces_within limit with_sizes version origin case)
+unfolding pieces_within
+pieces_stop limit with_sizes version origin case s = stops_then s (within_cells limit (list_looked case)) (λ ss. Ok (pieces_with with_sizes version origin case ss))
 
 -- the report of findings is that of the case that was asked
 pub reports : (files : List FileBytes) (settings : Asked) (version : ℕ) (case : PlainProblem) → case_asked files settings ≡ Ok case
@@ -55,8 +77,3 @@ reports files settings version case read (Ok found) same tells told are split ce
   nearest = nearest;
 }
 reports files settings version case read (Err s) same tells told are split certified nearest = tt
-
--- the closest approaches of the encounters of the one-thread list say what they say of the distance
-pub nearest_in : (case : PlainProblem) (leaves : List Leaf) (es : List Encounter) → plain_leaves leaves ≡ list_looked case → groups_in (plain_leaves leaves) es ≡ encounters_of (plain_leaves leaves)
-    → All (HasNearest case) (groups_in (plain_leaves leaves) es) → All (HasNearest case) (encounters_in case)
-nearest_in case leaves es same groups all = subst (All (HasNearest case)) (groups ∙ ap encounters_of same) all

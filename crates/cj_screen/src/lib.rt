@@ -2,6 +2,8 @@
 #![tactic(auto)]
 
 mod finding;
+mod meetings;
+mod refining;
 mod results;
 mod screening;
 mod top;

@@ -2,7 +2,6 @@
 ghost use Rattle.std.specs.Prelude.{◌≡◌, ◌≢◌, ◌≤◌, Err, All, IfOk, IfErr, OnOk};
 ghost use Rattle.cj_hermite.specs.Problems.{plain_problem};
 ghost use Rattle.cj_meet.specs.Closest.{HasNearest};
-ghost use Rattle.cj_screen.specs.Errors.{refined_status};
 ghost use Rattle.cj_outputs.specs.Findings.{AreFound, pieces_in};
 ghost use Rattle.cj_screen.specs.Headline.{Certifies, SplitsTicks};
 ghost use Rattle.cj_outputs.specs.Messages.{PlainOrigin};
@@ -10,15 +9,13 @@ ghost use Rattle.cj_outputs.specs.Outcome as spec;
 ghost use Rattle.cj_outputs.specs.Outcome.{cert_bytes, encounters_in};
 ghost use Rattle.cj_status.specs.Steps.{Gives, ComesBetween};
 
-use cj_candidates::{Candidates, find_candidates};
-use cj_cells::RefineError;
+use crate::meetings::find_meetings;
+use crate::refining::refine;
 use cj_cert::acceptance;
 use cj_hermite::Problem;
 use cj_io::Gate;
-use cj_meet::{closest_approaches, encounters};
-use cj_outputs::{CandidateCounts, Findings, count, note_messages};
-use cj_pool::leaves_by_workers;
-use cj_status::{LimitFault, Status};
+use cj_outputs::{Findings, count};
+use cj_status::Status;
 use std::alloc::Global;
 use std::sync::Wait;
 use std::thread::Threads;
@@ -27,7 +24,6 @@ use std::thread::Threads;
 /// and the certificate is to be of this version.
 ///
 /// No clause names the workers: what is found is the same, however many there are.
-#[tactic(auto, unfolding(cj_outputs::specs::Outcome::pieces_within))]
 pub fn screen<R: Threads + Wait + Sync, G: Gate + Sync>(
     rt: &R,
     alloc: Global,
@@ -54,51 +50,21 @@ pub fn screen<R: Threads + Wait + Sync, G: Gate + Sync>(
     ensures nearest { OnOk result (All (HasNearest (plain_problem problem)) (encounters_in (plain_problem problem))) }
 {
     acceptance(&problem);
-    let candidates = match find_candidates(rt, alloc, &problem, workers, cells) {
-        Ok(candidates) => candidates,
-        Err(error) => return Err(refused(error, cells)),
-    };
-    let Candidates {
-        shells,
-        boxes,
-        kept,
-        roots,
-        touching,
-    } = candidates;
-    let counted = CandidateCounts {
-        kept,
-        touching,
-        roots: roots.len() as u64,
-    };
-    let leaves = match leaves_by_workers(rt, alloc, gate, &problem, roots, workers, cells) {
-        Ok(leaves) => leaves,
-        Err(error) => return Err(refused(error, cells)),
-    };
-    let encounters = encounters(alloc, &leaves)?;
-    let closest = closest_approaches(rt, alloc, &problem, &leaves, &encounters, workers)?;
-    let messages = note_messages(alloc, &problem, &encounters, &closest)?;
-    let counts = count(&problem, &leaves, &messages, counted);
+    let refined = refine(rt, alloc, gate, &problem, workers, cells)?;
+    let leaves = refined.leaves.as_slice();
+    let met = find_meetings(rt, alloc, &problem, leaves, workers)?;
+    let counts = count(&problem, leaves, &met.messages, refined.counted);
     Ok(Findings {
         problem,
         with_sizes,
         workers,
         version,
-        shells,
-        boxes,
-        leaves,
-        encounters,
-        closest,
-        messages,
+        shells: refined.shells,
+        boxes: refined.boxes,
+        leaves: refined.leaves,
+        encounters: met.encounters,
+        closest: met.closest,
+        messages: met.messages,
         counts,
     })
-}
-
-/// How a run ends whose list of roots or leaves is not whole.
-fn refused(error: RefineError, cells: u64) -> Status
-    ensures { result ≡ refined_status cells error }
-{
-    match error {
-        RefineError::Memory => Status::OutOfMemory,
-        RefineError::TooMany => Status::Limit(LimitFault::Cells { limit: cells }),
-    }
 }
