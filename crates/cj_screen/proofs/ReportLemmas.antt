@@ -14,7 +14,7 @@ use Rattle.cj_report.specs.Report.{told}
 use Rattle.cj_outputs.specs.declared.findings.Findings.{Findings}
 use Rattle.cj_status.specs.declared.status.Status.{Status}
 use Rattle.cj_status.specs.declared.status.Status.TheVariants as status
-use Rattle.cj_status.specs.Steps.{◌>>=◌, Stops}
+use Rattle.cj_status.specs.Steps.{◌>>=◌, ComesBetween, Stops}
 use Rattle.cj_screen.specs.Errors.{refined_status}
 use Rattle.cj_outputs.specs.Messages.{PlainOrigin}
 use Rattle.cj_inputs.specs.Cases.{case_asked}
@@ -48,6 +48,11 @@ stops_refined limit leaves refine.TooMany many =
     let more = many refl in
     let large : nat_le (length leaves) limit ≡ false = grind (arith, nat_tests) in
     rw large refl
+
+-- want of memory and a limit may end a run there
+pub between_refined : (limit : ℕ) (e : RefineError) → ComesBetween (refined_status limit e)
+between_refined limit refine.Memory = tt
+between_refined limit refine.TooMany = tt
 
 -- the pieces of a case, of its leaves
 pub pieces_of_leaves : (limit : ℕ) (with_sizes : Bool) (version : ℕ) (origin : PlainOrigin) (case : PlainProblem) (leaves : List PlainLeaf) → within_cells limit (list_looked case) ≡ Ok leaves
