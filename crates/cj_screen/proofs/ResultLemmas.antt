@@ -1,5 +1,5 @@
 -- What is due of a command.
-use Rattle.std.proofs.Common.{◌≡◌, List, ◌∷◌, [], ◌++◌, Option, Some, Result, Ok, Err, subst}
+use Rattle.std.proofs.Common.{◌≡◌, List, ◌∷◌, [], ◌++◌, Option, Some, Result, Ok, Err, ap, subst}
 use Rattle.std.specs.Prelude.{IfErr}
 use Rattle.cj_io.specs.declared.file.FileBytes.{FileBytes}
 use Rattle.cj_words.specs.declared.option.UsageFault.{UsageFault}
@@ -56,6 +56,21 @@ renewed checking files old new (Rewritten certificate) renews put = record { ren
 pub never_of_words : (r : Result Results Status) (fault : UsageFault) → IfErr r ComesBetween → ¬ (r ≡ Err (status.Usage fault))
 never_of_words (Ok results) fault comes = λ e. absurd cc
 never_of_words (Err s) fault comes = λ e. let is : s ≡ status.Usage fault = cc in subst ComesBetween is comes
+
+-- the same error of another answer
+pub same_error : {A B : Type 0} {s t : Status} → ◌≡◌ {A = Result A Status} (Err s) (Err t) → ◌≡◌ {A = Result B Status} (Err s) (Err t)
+same_error {s = s} {t = t} is = let same : s ≡ t = cc in ap (λ (x : Status). Err x) same
+
+-- what ends a made-up catalogue's screening may end a run between its words and its writes
+pub trial_between : (s : Status) → ComesOfTrial s → ComesBetween s
+trial_between status.Ok comes = comes
+trial_between (status.NotAccepted line cause) comes = tt
+trial_between (status.Usage fault) comes = comes
+trial_between (status.BadFile file line cause) comes = tt
+trial_between status.ReadFault comes = tt
+trial_between status.WriteFault comes = comes
+trial_between (status.Limit fault) comes = tt
+trial_between status.OutOfMemory comes = tt
 
 -- a made-up catalogue's screening that ends before its put, or by it
 pub ends_before : (s : Status) → ComesOfTrial s → EndsTrial s

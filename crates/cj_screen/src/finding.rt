@@ -3,14 +3,12 @@ ghost use Rattle.std.specs.Prelude.{◌≡◌, ℕ, ◌↔◌, ◌≤◌, List, 
 ghost use Rattle.cj_io.specs.Faults.{Rose};
 ghost use Rattle.cj_io.specs.declared.file.FileBytes.{FileBytes};
 ghost use Rattle.cj_words.specs.declared.option.UsageFault.{UsageFault};
-ghost use Rattle.cj_words.specs.Commands as asks;
-ghost use Rattle.cj_words.specs.Commands.{Checks, Rewrites, Screens, Tries, command_of, plain_command, plain_screening};
+ghost use Rattle.cj_words.specs.Commands.{Asking, command_of, plain_command, plain_screening};
 ghost use Rattle.cj_words.specs.Settings.{asked_of};
 ghost use Rattle.cj_outputs.specs.Findings.{AreFound, cert_in, pieces_in, report_in};
 ghost use Rattle.cj_screen.specs.Headline.{Reports};
 ghost use Rattle.cj_outputs.specs.Outcome as spec;
-ghost use Rattle.cj_outputs.specs.Outcome.{ComesOfTrial};
-ghost use Rattle.cj_screen.specs.Results.{AreDue, RenewsDue, ReportsDue, VouchesDue, pieces_due};
+ghost use Rattle.cj_screen.specs.Results.{AreDue, ComesOfAsking, ShowsDue, pieces_due};
 ghost use Rattle.cj_status.specs.Steps.{Gives, ComesBefore, ComesBetween};
 
 use crate::results::Results;
@@ -44,13 +42,9 @@ pub fn find<'w, R: Threads + Wait + Sync, F: Folder, G: Gate + Sync>(
     ensures told { (files : List FileBytes) → F.files folder.old ≡ Some files
         → Gives (Rose (F.faults folder.old) (F.faults folder.new)) pieces_due result (spec.pieces_of words.now files now.micros) }
     ensures due { IfOk result AreDue }
-    ensures reports { (files : List FileBytes) (screening : asks.Screening) → F.files folder.old ≡ Some files → command_of words.now ≡ Ok (Screens screening)
-        → IfOk result (ReportsDue screening.settings files) }
-    ensures vouches { (files : List FileBytes) (checking : asks.Checking) → F.files folder.old ≡ Some files → command_of words.now ≡ Ok (Checks checking)
-        → IfOk result (VouchesDue checking files) }
-    ensures renews { (files : List FileBytes) (checking : asks.Checking) → F.files folder.old ≡ Some files → command_of words.now ≡ Ok (Rewrites checking)
-        → IfOk result (RenewsDue checking files) }
-    ensures ends { (trial : asks.Trial) → command_of words.now ≡ Ok (Tries trial) → IfErr result ComesOfTrial }
+    ensures shows { (files : List FileBytes) (asking : Asking) → F.files folder.old ≡ Some files → command_of words.now ≡ Ok asking
+        → IfOk result (ShowsDue asking files) }
+    ensures ends { (asking : Asking) → command_of words.now ≡ Ok asking → IfErr result (ComesOfAsking asking) }
 
     ensures files { F.files folder.new ≡ F.files folder.old }
     ensures later { F.faults folder.old ≤ F.faults folder.new }
@@ -74,13 +68,8 @@ fn find_asked<'w, R: Threads + Wait + Sync, F: Folder, G: Gate + Sync>(
     ensures told { (files : List FileBytes) → F.files folder.old ≡ Some files
         → Gives (Rose (F.faults folder.old) (F.faults folder.new)) pieces_due result (spec.pieces_asked files now.micros (plain_command command.now)) }
     ensures due { IfOk result AreDue }
-    ensures reports { (files : List FileBytes) (screening : asks.Screening) → F.files folder.old ≡ Some files → plain_command command.now ≡ Screens screening
-        → IfOk result (ReportsDue screening.settings files) }
-    ensures vouches { (files : List FileBytes) (checking : asks.Checking) → F.files folder.old ≡ Some files → plain_command command.now ≡ Checks checking
-        → IfOk result (VouchesDue checking files) }
-    ensures renews { (files : List FileBytes) (checking : asks.Checking) → F.files folder.old ≡ Some files → plain_command command.now ≡ Rewrites checking
-        → IfOk result (RenewsDue checking files) }
-    ensures ends { (trial : asks.Trial) → plain_command command.now ≡ Tries trial → IfErr result ComesOfTrial }
+    ensures shows { (files : List FileBytes) → F.files folder.old ≡ Some files → IfOk result (ShowsDue (plain_command command.now) files) }
+    ensures ends { IfErr result (ComesOfAsking (plain_command command.now)) }
 
     ensures files { F.files folder.new ≡ F.files folder.old }
     ensures later { F.faults folder.old ≤ F.faults folder.new }

@@ -1,6 +1,7 @@
 use Rattle.std.proofs.Common.{◌≡◌, ◌⊎◌, inr, Ok, List, Result, sym, subst, ◌∙◌}
 use Rattle.cj_io.specs.Faults.{Rose}
 use Rattle.cj_io.specs.declared.file.FileBytes.{FileBytes}
+use Rattle.cj_words.specs.Commands.{Checks, Rewrites, Screens, Tries}
 use Rattle.cj_status.specs.declared.status.Status.{Status}
 use Rattle.cj_status.specs.declared.status.Status.TheVariants as status
 use Rattle.cj_outputs.specs.Outcome as spec
@@ -36,7 +37,7 @@ returns-in-Ok-clause-headline g c = λ files pieces screening told stood asked o
     let results = c.in-Ok.results in
     let due : Result (List FileBytes) Status = Ok (pieces_due results) in
     let leaves = subst (λ (s : Status). Leaves s due pieces now) (sym c.end.ensures ∙ ok) (c.put_results.ensures.leaves pieces stood) in
-    screened screening.settings files pieces now results (c.in-Ok.ensures.reports files screening told asked) (first_stand (pieces_due results) pieces now leaves)
+    screened screening.settings files pieces now results (c.in-Ok.ensures.shows files (Screens screening) told asked) (first_stand (pieces_due results) pieces now leaves)
 
 pub returns-in-Ok-clause-checked : goal.returns-in-Ok-clause-checked
 returns-in-Ok-clause-checked g c = λ files pieces checking told stood asked ok.
@@ -44,7 +45,7 @@ returns-in-Ok-clause-checked g c = λ files pieces checking told stood asked ok.
     let results = c.in-Ok.results in
     let due : Result (List FileBytes) Status = Ok (pieces_due results) in
     let leaves = subst (λ (s : Status). Leaves s due pieces now) (sym c.end.ensures ∙ ok) (c.put_results.ensures.leaves pieces stood) in
-    checked checking files pieces now results (c.in-Ok.ensures.vouches files checking told asked) (first_stand (pieces_due results) pieces now leaves)
+    checked checking files pieces now results (c.in-Ok.ensures.shows files (Checks checking) told asked) (first_stand (pieces_due results) pieces now leaves)
 
 pub returns-in-Ok-clause-rewritten : goal.returns-in-Ok-clause-rewritten
 returns-in-Ok-clause-rewritten g c = λ files pieces checking told stood asked ok.
@@ -52,7 +53,7 @@ returns-in-Ok-clause-rewritten g c = λ files pieces checking told stood asked o
     let results = c.in-Ok.results in
     let due : Result (List FileBytes) Status = Ok (pieces_due results) in
     let leaves = subst (λ (s : Status). Leaves s due pieces now) (sym c.end.ensures ∙ ok) (c.put_results.ensures.leaves pieces stood) in
-    renewed checking files pieces now results (c.in-Ok.ensures.renews files checking told asked) (first_stand (pieces_due results) pieces now leaves)
+    renewed checking files pieces now results (c.in-Ok.ensures.shows files (Rewrites checking) told asked) (first_stand (pieces_due results) pieces now leaves)
 
 pub returns-in-Ok-clause-refused : goal.returns-in-Ok-clause-refused
 returns-in-Ok-clause-refused g c = λ files cause told is calm. let due = c.in-Ok.ensures.told files told in absurd cc
@@ -91,7 +92,7 @@ returns-in-Err-clause-refused g c = λ files cause told is calm.
     refused_as read c.in-Err.status cause due is calm (answers_stop read c.in-Err.status due (c.in-Err.ensures.told files told))
 
 pub returns-in-Err-clause-tried : goal.returns-in-Err-clause-tried
-returns-in-Err-clause-tried g c = λ trial asked. ends_before c.in-Err.status (c.in-Err.ensures.ends trial asked)
+returns-in-Err-clause-tried g c = λ trial asked. ends_before c.in-Err.status (c.in-Err.ensures.ends (Tries trial) asked)
 
 pub returns-in-Err-clause-kept : goal.returns-in-Err-clause-kept
 returns-in-Err-clause-kept g c = λ pieces stood. nothing_more pieces (g.S.Shelf.pieces c.args.shelf.now) stood
