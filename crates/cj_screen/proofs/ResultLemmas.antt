@@ -1,5 +1,5 @@
 -- What is due of a command.
-use Rattle.std.proofs.Common.{◌≡◌, List, ◌∷◌, [], ◌++◌, Option, Some, Result, Ok, Err, ap, subst}
+use Rattle.std.proofs.Common.{◌≡◌, ℕ, ◌≤◌, List, ◌∷◌, [], ◌++◌, Option, Some, Result, Ok, Err, ap, subst, arith}
 use Rattle.std.specs.Prelude.{IfErr}
 use Rattle.cj_io.specs.declared.file.FileBytes.{FileBytes}
 use Rattle.cj_words.specs.declared.option.UsageFault.{UsageFault}
@@ -57,6 +57,14 @@ pub never_of_words : (r : Result Results Status) (fault : UsageFault) → IfErr 
 never_of_words (Ok results) fault comes = λ e. absurd cc
 never_of_words (Err s) fault comes = λ e. let is : s ≡ status.Usage fault = cc in subst ComesBetween is comes
 
+-- what is answered is no error
+pub no_error : {A P : Type 0} {x : A} {s : Status} → ◌≡◌ {A = Result A Status} (Ok x) (Err s) → P
+no_error is = absurd cc
+
+-- a count that stays has not fallen
+pub count_stays : (n : ℕ) → n ≤ n
+count_stays n = omega arith
+
 -- the same error of another answer
 pub same_error : {A B : Type 0} {s t : Status} → ◌≡◌ {A = Result A Status} (Err s) (Err t) → ◌≡◌ {A = Result B Status} (Err s) (Err t)
 same_error {s = s} {t = t} is = let same : s ≡ t = cc in ap (λ (x : Status). Err x) same
@@ -93,3 +101,8 @@ ends_put (Err status.ReadFault) comes = comes
 ends_put (Err status.WriteFault) comes = tt
 ends_put (Err (status.Limit fault)) comes = tt
 ends_put (Err status.OutOfMemory) comes = tt
+
+-- a run that ends by a failed write failed in it
+pub ended_failed : (r : Result (Unit {0}) Status) → ended r ≡ status.WriteFault → r ≡ Err status.WriteFault
+ended_failed (Ok done) is = absurd cc
+ended_failed (Err s) is = ap (λ (t : Status). Err t) is

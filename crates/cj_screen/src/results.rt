@@ -3,7 +3,7 @@ use cj_io::FileBytes;
 use cj_outputs::{Findings, Origin};
 
 /// What a run is to put. From here on it can fail only for want of memory or in a write.
-#[derive(Debug, Drop)]
+#[derive(Drop)]
 pub enum Results<'w> {
     /// What is found in the files that are screened, with the origin of its messages.
     Screened(Findings, Origin<'w>),

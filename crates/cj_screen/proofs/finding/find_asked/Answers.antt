@@ -1,4 +1,4 @@
-use Rattle.std.proofs.Common.{Ok, refl, ap, sym, ◌∙◌, arith}
+use Rattle.std.proofs.Common.{Ok, refl, ap, sym, ◌∙◌}
 use Rattle.std.proofs.lemmas.Result.{err_from_is_err_and}
 use Rattle.cj_io.specs.declared.file.FileBytes.{FileBytes}
 use Rattle.cj_inputs.proofs.StepLemmas.{stops_wider}
@@ -6,7 +6,7 @@ use Rattle.cj_outputs.specs.Findings.{pieces_in}
 use Rattle.cj_outputs.specs.Messages.{PlainOrigin}
 use Rattle.cj_outputs.specs.Outcome.{pieces_made}
 use Rattle.cj_screen.proofs.ReportLemmas.{never_read}
-use Rattle.cj_screen.proofs.ResultLemmas.{same_error, trial_between}
+use Rattle.cj_screen.proofs.ResultLemmas.{count_stays, no_error, same_error, trial_between}
 use Rattle.cj_screen.proofs.finding.find_asked.Goals as goal
 
 pub returns-in_ok-found-in-Screen : goal.returns-in_ok-found-in-Screen
@@ -14,7 +14,7 @@ returns-in_ok-found-in-Screen g c =
     let found = c.in_ok-found-in-Screen.ensures in
     rw c.in-Screen.is (record {
       between = tt;
-      read = λ is. absurd cc;
+      read = no_error;
       told = λ files told. found.told files c.args.now.micros told ∙ ap (λ (o : PlainOrigin). Ok (pieces_in o c.in_ok-found-in-Screen.found)) (sym c.of.ensures);
       due = found.found;
       shows = found.reports;
@@ -43,7 +43,7 @@ returns-in_ok-check_certificate-in-Check g c =
     let checked = c.in_ok-check_certificate-in-Check.ensures in
     rw c.in-Check.is (record {
       between = tt;
-      read = λ is. absurd cc;
+      read = no_error;
       told = checked.told;
       due = tt;
       shows = checked.vouches;
@@ -71,13 +71,13 @@ pub returns-in_ok-catalogue-in-Generate : goal.returns-in_ok-catalogue-in-Genera
 returns-in_ok-catalogue-in-Generate g c =
     rw c.in-Generate.is (record {
       between = tt;
-      read = λ is. absurd cc;
+      read = no_error;
       told = λ files told. ap (λ made. Ok (pieces_made made)) (sym c.in_ok-catalogue-in-Generate.ensures);
       due = tt;
       shows = λ files told. tt;
       ends = tt;
       files = refl;
-      later = omega arith;
+      later = count_stays _;
     })
 
 pub returns-in_err-catalogue-in-Generate : goal.returns-in_err-catalogue-in-Generate
@@ -91,7 +91,7 @@ returns-in_err-catalogue-in-Generate g c =
       shows = λ files told. tt;
       ends = tt;
       files = refl;
-      later = omega arith;
+      later = count_stays _;
     })
 
 pub returns-in_ok-try_catalogue-in-Selfrun : goal.returns-in_ok-try_catalogue-in-Selfrun
@@ -99,13 +99,13 @@ returns-in_ok-try_catalogue-in-Selfrun g c =
     let tried = c.in_ok-try_catalogue-in-Selfrun.ensures in
     rw c.in-Selfrun.is (record {
       between = tt;
-      read = λ is. absurd cc;
+      read = no_error;
       told = λ files told. tried.told;
       due = tried.found;
       shows = λ files told. tt;
       ends = tt;
       files = refl;
-      later = omega arith;
+      later = count_stays _;
     })
 
 pub returns-in_err-try_catalogue-in-Selfrun : goal.returns-in_err-try_catalogue-in-Selfrun
@@ -121,7 +121,7 @@ returns-in_err-try_catalogue-in-Selfrun g c =
       shows = λ files told. tt;
       ends = tried.ends;
       files = refl;
-      later = omega arith;
+      later = count_stays _;
     })
 
 pub returns-in_ok-certificate-in-Rewrite : goal.returns-in_ok-certificate-in-Rewrite
@@ -129,7 +129,7 @@ returns-in_ok-certificate-in-Rewrite g c =
     let rewritten = c.in_ok-certificate-in-Rewrite.ensures in
     rw c.in-Rewrite.is (record {
       between = tt;
-      read = λ is. absurd cc;
+      read = no_error;
       told = rewritten.told;
       due = tt;
       shows = rewritten.renews;

@@ -1,13 +1,26 @@
-use Rattle.std.proofs.Common.{◌≡◌, Ok, sym, subst}
-use Rattle.cj_screen.specs.declared.results.Results.{Results}
-use Rattle.cj_screen.specs.declared.results.Results.TheVariants.{Tried}
-use Rattle.cj_outputs.specs.Findings.{ended}
-use Rattle.cj_outputs.specs.Outcome.{Leaves}
-use Rattle.cj_screen.specs.Results.{pieces_due}
 use Rattle.cj_screen.proofs.top.put_results.Goals as goal
 
-pub returns-in-Tried-clause-leaves : goal.returns-in-Tried-clause-leaves
-returns-in-Tried-clause-leaves g c = λ old stood.
-    let is = c.in-Tried.is in
-    let same : c.args.results.now ≡ Tried c.in-Tried.found = cc in
-    subst (λ (r : Results). Leaves (ended c.put_trial.result) (Ok (pieces_due r)) old (g.S.Shelf.pieces c.put_trial.new.shelf)) (sym same) (c.put_trial.ensures.leaves old stood)
+pub returns-in-Screened : goal.returns-in-Screened
+returns-in-Screened g c =
+    let done = c.put_pieces.ensures in
+    rw c.in-Screened.is (record { comes = done.comes; write = done.write; leaves = done.leaves; later = done.later })
+
+pub returns-in-Checked : goal.returns-in-Checked
+returns-in-Checked g c =
+    let done = c.put.ensures in
+    rw c.in-Checked.is (record { comes = done.comes; write = done.write; leaves = done.leaves; later = done.later })
+
+pub returns-in-Made : goal.returns-in-Made
+returns-in-Made g c =
+    let done = c.put_catalogue.ensures in
+    rw (c.in-Made.is, ← c.deref.ensures.value) (record { comes = done.comes; write = done.write; leaves = done.leaves; later = done.later })
+
+pub returns-in-Tried : goal.returns-in-Tried
+returns-in-Tried g c =
+    let done = c.put_trial.ensures in
+    rw c.in-Tried.is (record { comes = done.comes; write = done.write; leaves = done.leaves; later = done.later })
+
+pub returns-in-Rewritten : goal.returns-in-Rewritten
+returns-in-Rewritten g c =
+    let done = c.put_rewritten.ensures in
+    rw c.in-Rewritten.is (record { comes = done.comes; write = done.write; leaves = done.leaves; later = done.later })
