@@ -1,5 +1,5 @@
 -- What comes of the refining of a problem.
-use Rattle.std.specs.Prelude.{◌≡◌, ℕ, ◌+◌, ◌≤◌, true, List, length, All, Any}
+use Rattle.std.specs.Prelude.{◌≡◌, ℕ, ◌+◌, ◌≤◌, true, length, All, Any}
 use Rattle.cj_hermite.specs.PlainProblems.{PlainProblem, IsCommonOf}
 use Rattle.cj_hermite.specs.Roots.{roots_of}
 use Rattle.cj_hermite.specs.Slots.{slot_of}

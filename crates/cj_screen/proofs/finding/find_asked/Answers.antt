@@ -1,6 +1,5 @@
 use Rattle.std.proofs.Common.{Ok, refl, ap, sym, ◌∙◌}
 use Rattle.std.proofs.lemmas.Result.{err_from_is_err_and}
-use Rattle.cj_io.specs.declared.file.FileBytes.{FileBytes}
 use Rattle.cj_inputs.proofs.StepLemmas.{stops_wider}
 use Rattle.cj_outputs.specs.Findings.{pieces_in}
 use Rattle.cj_outputs.specs.Messages.{PlainOrigin}

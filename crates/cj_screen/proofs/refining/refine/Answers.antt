@@ -2,7 +2,7 @@ use Rattle.std.proofs.Common.{◌≤◌, ◌∙◌, Ok, Err, length, ap, sym, ar
 use Rattle.std.proofs.lemmas.List.{length-map}
 use Rattle.cj_hermite.specs.Problems.{plain_problem}
 use Rattle.cj_bezier.specs.Cells.{plain_cell}
-use Rattle.cj_bezier.specs.Leaves.{PlainLeaf, plain_leaf}
+use Rattle.cj_bezier.specs.Leaves.{plain_leaf}
 use Rattle.cj_cells.specs.Lists.{list_looked}
 use Rattle.cj_cells.proofs.LeafLemmas.{list_split}
 use Rattle.cj_screen.proofs.ReportLemmas.{between_refined, few_leaves, stops_refined}
@@ -14,7 +14,7 @@ returns-in-Err g c =
     rw c.refused.ensures (record {
       between = between_refined c.args.cells c.in-Err.error;
       told = stops_refined c.args.cells (list_looked case) c.in-Err.error
-      (λ is. let many = c.in-Err.ensures.too_many (ap (λ e. Err e) is) in omega (arith, many, list_split case));
+          (λ is. let many = c.in-Err.ensures.too_many (ap (λ e. Err e) is) in omega (arith, many, list_split case));
       refined = tt;
       ticks = tt;
     })
