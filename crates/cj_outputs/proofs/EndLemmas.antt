@@ -1,6 +1,8 @@
 -- How a run ends, of how its parts do.
-use Rattle.std.proofs.Common.{◌≡◌, List, [], ◌∷◌, ◌++◌, Option, Some, Result, Ok, Err, refl, sym, ap, ◌∙◌, inl, inr, ◌⊎◌, append-nil, append_assoc}
-use Rattle.std.specs.Prelude.{IfErr}
+use Rattle.std.proofs.Common.{◌≡◌, ℕ, ◌≤◌, arith, List, [], ◌∷◌, ◌++◌, Option, Some, Result, Ok, Err, refl, sym, ap, ◌∙◌, inl, inr, ◌⊎◌, append-nil, append_assoc}
+use Rattle.std.specs.Prelude.{IfErr, IsErrAnd}
+use Rattle.std.proofs.lemmas.Result.{err_from_is_err_and}
+use Rattle.cj_io.specs.Faults.{Rose}
 use Rattle.cj_io.specs.declared.file.FileBytes.{FileBytes}
 use Rattle.cj_words.specs.declared.option.UsageFault.{UsageFault}
 use Rattle.cj_status.specs.declared.status.Status.{Status}
@@ -13,6 +15,22 @@ use Rattle.cj_outputs.specs.Findings.{ended}
 pub nothing_put : (due : Result (List FileBytes) Status) (old : List FileBytes) (now : Option (List FileBytes)) → now ≡ Some old → PartlyPut due old now
 nothing_put (Ok pieces) old now same = ([], tt, same ∙ ap (λ (ps : List FileBytes). Some ps) (sym (append-nil old)))
 nothing_put (Err s) old now same = ([], refl, same ∙ ap (λ (ps : List FileBytes). Some ps) (sym (append-nil old)))
+
+-- a part of a run that put nothing, since memory ran out
+pub nothing_made : (pieces : List FileBytes) (shelf : Option (List FileBytes)) (faults : ℕ) (r : Result (Unit {0}) Status) → IsErrAnd r (λ s. s ≡ status.OutOfMemory) → record {
+      comes : IfErr r ComesOfPuts;
+      write : r ≡ Err status.WriteFault → Rose faults faults;
+      leaves : (old : List FileBytes) → shelf ≡ Some old → Leaves (ended r) (Ok pieces) old shelf;
+      later : faults ≤ faults;
+    }
+nothing_made pieces shelf faults r failed =
+    let p = err_from_is_err_and r failed in
+    rw (p.1, p.2) (record {
+      comes = tt;
+      write = λ is. absurd cc;
+      leaves = λ old stood. nothing_put (Ok pieces) old shelf stood;
+      later = omega arith;
+    })
 
 pub nothing_more : (old : List FileBytes) (now : Option (List FileBytes)) → now ≡ Some old → Extends old now
 nothing_more old now same = ([], same ∙ ap (λ (ps : List FileBytes). Some ps) (sym (append-nil old)))

@@ -1,3 +1,4 @@
+pub mod AcceptingLemmas
 pub mod CertificateLemmas
 pub mod CheckLemmas
 pub mod EndLemmas

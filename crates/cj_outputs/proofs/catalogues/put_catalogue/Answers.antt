@@ -2,7 +2,7 @@ use Rattle.std.proofs.Common.{ℕ, List, length, ◌++◌, ◌∷◌, [], Ok, su
 use Rattle.std.proofs.lemmas.Result.{err_from_is_err_and}
 use Rattle.cj_outputs.specs.Findings.{ended}
 use Rattle.cj_outputs.specs.Outcome.{Leaves, count_bytes, summary_piece}
-use Rattle.cj_outputs.proofs.EndLemmas.{first_leaves, first_stand, second_leaves}
+use Rattle.cj_outputs.proofs.EndLemmas.{first_leaves, first_stand, nothing_made, second_leaves}
 use Rattle.cj_outputs.proofs.catalogues.put_catalogue.Goals as goal
 
 pub returns-in_err-put_files-clause-leaves : goal.returns-in_err-put_files-clause-leaves
@@ -21,3 +21,6 @@ returns-clause-leaves g c = λ old stood.
     subst (λ (bytes : List ℕ). Leaves (ended c.put.result) (Ok (files ++ summary_piece bytes ∷ [])) old now)
     (c.deref.ensures.value ∙ c.in_ok-text.ensures)
     (second_leaves c.put.result files (summary_piece c.deref.result.now ∷ []) old now c.put.ensures.comes (c.put.ensures.leaves (old ++ files) behind))
+
+pub returns-in_err-text : goal.returns-in_err-text
+returns-in_err-text g c = nothing_made _ _ _ _ c.from_residual.ensures.1

@@ -1,24 +1,33 @@
-use Rattle.std.proofs.Common.{Ok, arith}
-use Rattle.std.proofs.lemmas.Result.{err_from_is_err_and}
-use Rattle.cj_outputs.proofs.EndLemmas.{nothing_put}
+use Rattle.std.proofs.Common.{ℕ, List, [], ◌∷◌, Ok, ap, sym, subst, ◌∙◌}
+use Rattle.cj_outputs.specs.Findings.{case_in, ended}
+use Rattle.cj_outputs.specs.Outcome.{Leaves, cert_bytes, cert_piece}
+use Rattle.cj_outputs.proofs.EndLemmas.{nothing_made}
 use Rattle.cj_outputs.proofs.reporting.put_certificate.Goals as goal
 
 pub returns-in_err-text : goal.returns-in_err-text
-returns-in_err-text g c =
-    let p = err_from_is_err_and c.from_residual.result c.from_residual.ensures.1 in
-    rw (p.1, p.2) (record {
-      comes = tt;
-      write = λ is. absurd cc;
-      leaves = λ old stood. nothing_put (Ok _) old (g.S.Shelf.pieces c.args.shelf.now) stood;
-      later = omega arith;
-    })
+returns-in_err-text g c = nothing_made _ _ _ _ c.from_residual.ensures.1
 
 pub returns-in_err-parts : goal.returns-in_err-parts
-returns-in_err-parts g c =
-    let p = err_from_is_err_and c.from_residual-in_err-parts.result c.from_residual-in_err-parts.ensures.1 in
-    rw (p.1, p.2) (record {
-      comes = tt;
-      write = λ is. absurd cc;
-      leaves = λ old stood. nothing_put (Ok _) old (g.S.Shelf.pieces c.args.shelf.now) stood;
-      later = omega arith;
-    })
+returns-in_err-parts g c = nothing_made _ _ _ _ c.from_residual-in_err-parts.ensures.1
+
+pub returns-in_ok-text : goal.returns-in_ok-text
+returns-in_ok-text g c =
+    let case = case_in c.args.found.now in
+    let done = c.put_made.ensures in
+    record {
+      comes = done.comes;
+      write = done.write;
+      leaves = λ old stood.
+          subst (λ (bytes : List ℕ). Leaves (ended c.put_made.result) (Ok (cert_piece bytes ∷ [])) old (g.S.Shelf.pieces c.put_made.new.shelf))
+          (c.in_ok-text.ensures ∙ ap (λ (version : ℕ). cert_bytes version case) (sym c.if-found-eq1.true)) (done.leaves old stood);
+      later = done.later;
+    }
+
+pub returns-in_ok-parts-clause-comes : goal.returns-in_ok-parts-clause-comes
+returns-in_ok-parts-clause-comes g c = c.put_parts.ensures.comes
+
+pub returns-in_ok-parts-clause-write : goal.returns-in_ok-parts-clause-write
+returns-in_ok-parts-clause-write g c = c.put_parts.ensures.write
+
+pub returns-in_ok-parts-clause-later : goal.returns-in_ok-parts-clause-later
+returns-in_ok-parts-clause-later g c = c.put_parts.ensures.later

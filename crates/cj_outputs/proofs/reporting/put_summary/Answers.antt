@@ -1,9 +1,8 @@
-use Rattle.std.proofs.Common.{ℕ, ◌∙◌, List, [], ◌∷◌, Ok, ap, subst, arith}
-use Rattle.std.proofs.lemmas.Result.{err_from_is_err_and}
+use Rattle.std.proofs.Common.{ℕ, ◌∙◌, List, [], ◌∷◌, Ok, ap, subst}
 use Rattle.cj_report.specs.Summary.{summary_of}
 use Rattle.cj_outputs.specs.Findings.{ended}
 use Rattle.cj_outputs.specs.Outcome.{Leaves, summary_piece}
-use Rattle.cj_outputs.proofs.EndLemmas.{nothing_put}
+use Rattle.cj_outputs.proofs.EndLemmas.{nothing_made}
 use Rattle.cj_outputs.proofs.reporting.put_summary.Goals as goal
 
 pub returns-clause-leaves : goal.returns-clause-leaves
@@ -12,11 +11,13 @@ returns-clause-leaves g c = λ old stood.
     (c.deref.ensures.value ∙ c.in_ok-summary.ensures ∙ ap summary_of c.requires.counts) (c.put.ensures.leaves old stood)
 
 pub returns-in_err-summary : goal.returns-in_err-summary
-returns-in_err-summary g c =
-    let p = err_from_is_err_and c.from_residual.result c.from_residual.ensures.1 in
-    rw (p.1, p.2) (record {
-      comes = tt;
-      write = λ is. absurd cc;
-      leaves = λ old stood. nothing_put (Ok _) old (g.S.Shelf.pieces c.args.shelf.now) stood;
-      later = omega arith;
-    })
+returns-in_err-summary g c = nothing_made _ _ _ _ c.from_residual.ensures.1
+
+pub returns-clause-comes : goal.returns-clause-comes
+returns-clause-comes g c = c.put.ensures.comes
+
+pub returns-clause-write : goal.returns-clause-write
+returns-clause-write g c = c.put.ensures.write
+
+pub returns-clause-later : goal.returns-clause-later
+returns-clause-later g c = c.put.ensures.later

@@ -1,6 +1,12 @@
+use Rattle.std.proofs.Common.{Ok, sym, ap, ◌∙◌}
+use Rattle.std.proofs.lemmas.Result.{err_from_is_err_and}
+use Rattle.cj_cert.specs.Certificates.{PlainCertificate}
 use Rattle.cj_words.specs.Commands.{plain_checking}
 use Rattle.cj_cert.specs.Certificates.{plain_certificate}
-use Rattle.cj_inputs.specs.CheckInputs.{plain_inputs}
+use Rattle.cj_cert.specs.Rewritten.{in_version_2}
+use Rattle.cj_inputs.specs.CheckInputs.{PlainInputs, inputs_asked, plain_inputs}
+use Rattle.cj_outputs.specs.Outcome.{pieces_renewed, pieces_rewritten}
+use Rattle.cj_outputs.proofs.AcceptingLemmas.{pieces_made_from, same_error, unaccepted, unprepared}
 use Rattle.cj_outputs.proofs.CheckLemmas.{renews}
 use Rattle.cj_outputs.proofs.rewriting.rewrite_certificate.Goals as goal
 
@@ -14,4 +20,52 @@ returns-clause-renews g c = λ files told.
       accepted = c.in_ok-accepted.ensures.holds;
       same = c.in_ok-renewed.ensures.value;
       still = c.in_ok-renewed.ensures.accepted;
+    })
+
+pub returns-clause-told : goal.returns-clause-told
+unfolding pieces_rewritten
+returns-clause-told g c = λ files told.
+    pieces_made_from (λ inputs certificate. pieces_renewed (in_version_2 inputs.case certificate)) (inputs_asked files (plain_checking c.args.checking.now)) (plain_inputs c.in_ok-problem.field-0) (plain_certificate c.in_ok-accepted.accepted) (c.in_ok-problem.ensures.told files told) c.in_ok-accepted.ensures.told
+    ∙ ap (λ (x : PlainCertificate). Ok (pieces_renewed x)) (sym c.in_ok-renewed.ensures.value)
+
+pub returns-in_err-problem : goal.returns-in_err-problem
+unfolding pieces_rewritten
+returns-in_err-problem g c =
+    let prepared = c.in_err-problem.ensures in
+    let p = err_from_is_err_and c.from_residual.result c.from_residual.ensures.1 in
+    rw (p.1, p.2) (record {
+      between = prepared.between;
+      read = λ is. prepared.read (same_error is);
+      told = λ files told. unprepared (λ inputs certificate. pieces_renewed (in_version_2 inputs.case certificate)) _ c.in_err-problem.field-0.0 (inputs_asked files (plain_checking c.args.checking.now)) (prepared.told files told);
+      renews = λ files told. tt;
+      files = prepared.files;
+      later = prepared.later;
+    })
+
+pub returns-in_err-accepted : goal.returns-in_err-accepted
+unfolding pieces_rewritten
+returns-in_err-accepted g c =
+    let accepted = c.in_err-accepted.ensures in
+    let p = err_from_is_err_and c.from_residual-in_err-accepted.result c.from_residual-in_err-accepted.ensures.1 in
+    rw (p.1, p.2) (record {
+      between = accepted.between;
+      read = λ is. absurd (accepted.read (same_error is));
+      told = λ files told.
+          unaccepted (λ inputs certificate. pieces_renewed (in_version_2 inputs.case certificate)) _ c.in_err-accepted.field-0.0 (inputs_asked files (plain_checking c.args.checking.now)) (plain_inputs c.in_ok-problem.field-0)
+          (c.in_ok-problem.ensures.told files told) accepted.told;
+      renews = λ files told. tt;
+      files = c.in_ok-problem.ensures.files;
+      later = c.in_ok-problem.ensures.later;
+    })
+
+pub returns-in_err-renewed : goal.returns-in_err-renewed
+returns-in_err-renewed g c =
+    let p = err_from_is_err_and c.from_residual-in_err-renewed.result c.from_residual-in_err-renewed.ensures.1 in
+    rw (p.1, p.2) (record {
+      between = tt;
+      read = λ is. absurd cc;
+      told = λ files told. tt;
+      renews = λ files told. tt;
+      files = c.in_ok-problem.ensures.files;
+      later = c.in_ok-problem.ensures.later;
     })

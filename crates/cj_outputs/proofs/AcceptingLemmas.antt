@@ -1,0 +1,69 @@
+-- A run that asks for an accepted certificate: how it ends, of how its parts do.
+use Rattle.std.proofs.Common.{◌≡◌, ℕ, List, Option, Some, None, Result, Ok, Err, refl, ap, sym, subst, ◌∙◌}
+use Rattle.cj_io.specs.declared.file.FileBytes.{FileBytes}
+use Rattle.cj_hermite.specs.PlainProblems.{PlainProblem}
+use Rattle.cj_cert.specs.Certificates.{PlainCertificate}
+use Rattle.cj_cert_text.specs.Reading.{reading}
+use Rattle.cj_checker.specs.declared.failure.Failure.{Failure}
+use Rattle.cj_checker.specs.First.{first_failure}
+use Rattle.cj_inputs.specs.CheckInputs.{PlainInputs}
+use Rattle.cj_inputs.proofs.StepLemmas.{stops_wider}
+use Rattle.cj_status.specs.declared.status.Status.{Status}
+use Rattle.cj_status.specs.declared.status.Status.TheVariants as status
+use Rattle.cj_status.specs.declared.status.CertificateCause.TheVariants.{Refused}
+use Rattle.cj_status.specs.Steps.{◌>>=◌, Stops}
+use Rattle.cj_outputs.specs.Outcome.{accepting, none_of, said_or}
+
+-- the same error of another answer
+pub same_error : {A B : Type 0} {s t : Status} → ◌≡◌ {A = Result A Status} (Err s) (Err t) → ◌≡◌ {A = Result B Status} (Err s) (Err t)
+same_error {s = s} {t = t} is = let same : s ≡ t = cc in ap (λ (x : Status). Err x) same
+
+-- what ends a step ends those behind it
+pub stops_then : {A B : Type 0} (read : Type 0) (s : Status) (r : Result A Status) (f : A → Result B Status) → Stops read s r → Stops read s (r >>= f)
+stops_then read status.Ok r f stops = stops
+stops_then {A = A} read (status.NotAccepted line cause) r f stops = ap (λ (x : Result A Status). x >>= f) stops
+stops_then {A = A} read (status.Usage fault) r f stops = ap (λ (x : Result A Status). x >>= f) stops
+stops_then {A = A} read (status.BadFile file line cause) r f stops = ap (λ (x : Result A Status). x >>= f) stops
+stops_then read status.ReadFault r f stops = stops
+stops_then read status.WriteFault r f stops = stops
+stops_then {A = A} read (status.Limit fault) r f stops = ap (λ (x : Result A Status). x >>= f) stops
+stops_then read status.OutOfMemory r f stops = stops
+
+-- ---- a text that is read and checked
+
+pub unreadable : (case : PlainProblem) (bytes : List ℕ) (s : Status) → Stops ⊥ s (said_or (reading bytes)) → Stops ⊥ s (accepting case bytes)
+unfolding accepting
+unreadable case bytes s stops = stops_then ⊥ s (said_or (reading bytes)) (λ certificate. none_of (first_failure case certificate) >>= λ done. Ok certificate) stops
+
+pub accepted_so : (case : PlainProblem) (bytes : List ℕ) (certificate : PlainCertificate) → said_or (reading bytes) ≡ Ok certificate → first_failure case certificate ≡ None
+    → accepting case bytes ≡ Ok certificate
+unfolding accepting
+accepted_so case bytes certificate said none = rw (said, none) refl
+
+pub refused_so : (case : PlainProblem) (bytes : List ℕ) (certificate : PlainCertificate) (failure : Failure) → said_or (reading bytes) ≡ Ok certificate
+    → first_failure case certificate ≡ Some failure → accepting case bytes ≡ Err (status.NotAccepted failure.line (Refused failure.cause))
+unfolding accepting
+refused_so case bytes certificate failure said some = rw (said, some) refl
+
+-- ---- pieces of a certificate that is accepted for its inputs
+
+abbrev pieces_from : (PlainInputs → PlainCertificate → List FileBytes) → Result PlainInputs Status → Result (List FileBytes) Status
+pieces_from pieces inputs = inputs >>= λ i. accepting i.case i.bytes >>= λ certificate. Ok (pieces i certificate)
+
+-- the inputs are not there
+pub unprepared : (pieces : PlainInputs → PlainCertificate → List FileBytes) (read : Type 0) (s : Status) (inputs : Result PlainInputs Status) → Stops read s inputs
+    → Stops read s (pieces_from pieces inputs)
+unprepared pieces read s inputs stops = stops_then read s inputs (λ i. accepting i.case i.bytes >>= λ certificate. Ok (pieces i certificate)) stops
+
+-- the certificate is not accepted
+pub unaccepted : (pieces : PlainInputs → PlainCertificate → List FileBytes) (read : Type 0) (s : Status) (inputs : Result PlainInputs Status) (i : PlainInputs) → inputs ≡ Ok i
+    → Stops ⊥ s (accepting i.case i.bytes) → Stops read s (pieces_from pieces inputs)
+unaccepted pieces read s inputs i there stops =
+    subst (λ (r : Result PlainInputs Status). Stops read s (pieces_from pieces r)) (sym there)
+    (stops_then read s (accepting i.case i.bytes) (λ certificate. Ok (pieces i certificate)) (stops_wider ⊥ read s (accepting i.case i.bytes) (λ none. absurd none) stops))
+
+-- it is
+pub pieces_made_from : (pieces : PlainInputs → PlainCertificate → List FileBytes) (inputs : Result PlainInputs Status) (i : PlainInputs) (certificate : PlainCertificate) → inputs ≡ Ok i
+    → accepting i.case i.bytes ≡ Ok certificate → pieces_from pieces inputs ≡ Ok (pieces i certificate)
+pieces_made_from pieces inputs i certificate there accepted =
+    ap (pieces_from pieces) there ∙ ap (λ (r : Result PlainCertificate Status). r >>= λ c. Ok (pieces i c)) accepted

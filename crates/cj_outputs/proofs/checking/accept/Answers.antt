@@ -1,0 +1,64 @@
+use Rattle.std.proofs.Common.{◌∙◌, ap, sym}
+use Rattle.std.proofs.lemmas.Result.{err_from_is_err_and}
+use Rattle.cj_hermite.specs.Problems.{plain_problem}
+use Rattle.cj_cert.specs.Certificates.{plain_certificate}
+use Rattle.cj_checker.specs.Answers.{failure_of}
+use Rattle.cj_outputs.proofs.AcceptingLemmas.{accepted_so, refused_so, unreadable}
+use Rattle.cj_outputs.proofs.checking.accept.Goals as goal
+
+pub returns-in-Accepted : goal.returns-in-Accepted
+returns-in-Accepted c =
+    let certificate = plain_certificate c.in_ok-certificate.certificate in
+    let read = c.in_ok-certificate.ensures in
+    let checked = c.in_ok-check.ensures in
+    let holds = checked.exact.0 c.in-Accepted.is in
+    record {
+      between = tt;
+      read = λ is. absurd cc;
+      told = accepted_so (plain_problem c.args.problem.now) c.args.bytes.items certificate read.told (sym checked.value ∙ ap failure_of c.in-Accepted.is);
+      accepted = record {
+        certificate = certificate;
+        text = read.only.0;
+        fits = read.only.1;
+        accepted = holds;
+        split = checked.law certificate holds;
+      };
+      only = read.only;
+      holds = holds;
+    }
+
+pub returns-in-Refused : goal.returns-in-Refused
+returns-in-Refused c = record {
+  between = tt;
+  read = λ is. absurd cc;
+  told = refused_so (plain_problem c.args.problem.now) c.args.bytes.items (plain_certificate c.in_ok-certificate.certificate) _ c.in_ok-certificate.ensures.told
+      (sym c.in_ok-check.ensures.value ∙ ap failure_of c.in-Refused.is);
+  accepted = tt;
+  only = tt;
+  holds = tt;
+}
+
+pub returns-in_err-certificate : goal.returns-in_err-certificate
+returns-in_err-certificate c =
+    let read = c.in_err-certificate.ensures in
+    let p = err_from_is_err_and c.from_residual.result c.from_residual.ensures.1 in
+    rw (p.1, p.2) (record {
+      between = read.between;
+      read = read.read;
+      told = unreadable (plain_problem c.args.problem.now) c.args.bytes.items c.in_err-certificate.field-0.0 read.told;
+      accepted = tt;
+      only = tt;
+      holds = tt;
+    })
+
+pub returns-in_err-check : goal.returns-in_err-check
+returns-in_err-check c =
+    let p = err_from_is_err_and c.from_residual-in_err-check.result c.from_residual-in_err-check.ensures.1 in
+    rw (p.1, p.2) (record {
+      between = tt;
+      read = λ is. absurd cc;
+      told = tt;
+      accepted = tt;
+      only = tt;
+      holds = tt;
+    })
