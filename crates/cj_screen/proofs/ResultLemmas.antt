@@ -1,20 +1,20 @@
 -- What is due of a command.
-use Rattle.std.proofs.Common.{◌≡◌, ℕ, ◌≤◌, List, ◌∷◌, [], ◌++◌, Option, Some, Result, Ok, Err, ap, subst, arith}
-use Rattle.std.specs.Prelude.{IfErr}
+use Rattle.std.proofs.Common.{◌≡◌, ℕ, ◌≤◌, List, ◌∷◌, [], ◌++◌, Option, Some, Result, Ok, Err, ap, sym, subst, arith}
+use Rattle.std.specs.Prelude.{◌↔◌, IfErr}
 use Rattle.cj_io.specs.declared.file.FileBytes.{FileBytes}
 use Rattle.cj_words.specs.declared.option.UsageFault.{UsageFault}
-use Rattle.cj_words.specs.Commands.{Checking}
+use Rattle.cj_words.specs.Commands.{Asking, Checking, command_of}
 use Rattle.cj_words.specs.Settings.{Asked}
 use Rattle.cj_outputs.specs.Checks.{IsChecked}
 use Rattle.cj_screen.specs.declared.results.Results.{Results}
 use Rattle.cj_screen.specs.declared.results.Results.TheVariants.{Screened, Checked, Made, Tried, Rewritten}
 use Rattle.cj_status.specs.declared.status.Status.{Status}
 use Rattle.cj_status.specs.declared.status.Status.TheVariants as status
-use Rattle.cj_status.specs.Steps.{ComesBetween}
+use Rattle.cj_status.specs.Steps.{◌>>=◌, ComesBefore, ComesBetween}
 use Rattle.cj_outputs.specs.Findings.{cert_in, ended, messages_in, report_in, summary_in}
 use Rattle.cj_screen.specs.Headline.{IsScreened}
 use Rattle.cj_outputs.specs.Origins.{plain_origin}
-use Rattle.cj_outputs.specs.Outcome.{ComesOfPuts, ComesOfTrial, EndsTrial}
+use Rattle.cj_outputs.specs.Outcome.{ComesOfPuts, ComesOfTrial, EndsTrial, asked, pieces_asked, pieces_of}
 use Rattle.cj_screen.specs.Results.{RenewsDue, ReportsDue, VouchesDue, pieces_due}
 use Rattle.cj_outputs.specs.Rewrites.{IsRewritten}
 use Rattle.cj_cert.specs.Certificates.{plain_certificate}
@@ -56,6 +56,31 @@ renewed checking files old new (Rewritten certificate) renews put = record { ren
 pub never_of_words : (r : Result Results Status) (fault : UsageFault) → IfErr r ComesBetween → ¬ (r ≡ Err (status.Usage fault))
 never_of_words (Ok results) fault comes = λ e. absurd cc
 never_of_words (Err s) fault comes = λ e. let is : s ≡ status.Usage fault = cc in subst ComesBetween is comes
+
+-- what the words ask for is due, and their fault where they ask for nothing
+pub pieces_of_asking : (words : List (List ℕ)) (files : List FileBytes) (now : ℕ) (asking : Asking) → Ok asking ≡ command_of words → pieces_of words files now ≡ pieces_asked files now asking
+unfolding pieces_of
+pieces_of_asking words files now asking is = ap (λ (r : Result Asking UsageFault). asked r >>= pieces_asked files now) (sym is)
+
+pub pieces_of_fault : (words : List (List ℕ)) (files : List FileBytes) (now : ℕ) (fault : UsageFault) → Err fault ≡ command_of words → pieces_of words files now ≡ Err (status.Usage fault)
+unfolding pieces_of
+pieces_of_fault words files now fault is = ap (λ (r : Result Asking UsageFault). asked r >>= pieces_asked files now) (sym is)
+
+pub usage_fault : (words : List (List ℕ)) (fault : UsageFault) → Err fault ≡ command_of words
+    → (other : UsageFault) → ◌≡◌ {A = Result Results Status} (Err (status.Usage fault)) (Err (status.Usage other)) ↔ (command_of words ≡ Err other)
+usage_fault words fault is other = (λ e. let same : fault ≡ other = cc in cc, λ e. let same : fault ≡ other = cc in ap (λ (f : UsageFault). Err (status.Usage f)) same)
+
+-- what comes between the words and the writes comes before the writes
+pub comes_before : (r : Result Results Status) → IfErr r ComesBetween → IfErr r ComesBefore
+comes_before (Ok results) comes = tt
+comes_before (Err status.Ok) comes = comes
+comes_before (Err (status.NotAccepted line cause)) comes = tt
+comes_before (Err (status.Usage fault)) comes = tt
+comes_before (Err (status.BadFile file line cause)) comes = tt
+comes_before (Err status.ReadFault) comes = tt
+comes_before (Err status.WriteFault) comes = comes
+comes_before (Err (status.Limit fault)) comes = tt
+comes_before (Err status.OutOfMemory) comes = tt
 
 -- what is answered is no error
 pub no_error : {A P : Type 0} {x : A} {s : Status} → ◌≡◌ {A = Result A Status} (Ok x) (Err s) → P
