@@ -32,6 +32,28 @@ nothing_made pieces shelf faults r failed =
       later = omega arith;
     })
 
+-- a count that had not fallen, and then rose
+pub rose_later : (first second last : ℕ) → first ≤ second → Rose second last → Rose first last
+rose_later first second last before rose = omega arith
+
+-- a part of a run whose put failed so, behind others that did not
+pub put_failed : (pieces : List FileBytes) (shelf now : Option (List FileBytes)) (first second last : ℕ) (s : Status) (r : Result (Unit {0}) Status) → IsErrAnd r (λ t. t ≡ s) → first ≤ second
+    → ComesOfPuts s → (◌≡◌ {A = Result (Unit {0}) Status} (Err s) (Err status.WriteFault) → Rose second last) → second ≤ last
+    → ((old : List FileBytes) → shelf ≡ Some old → Leaves s (Ok pieces) old now) → record {
+      comes : IfErr r ComesOfPuts;
+      write : r ≡ Err status.WriteFault → Rose first last;
+      leaves : (old : List FileBytes) → shelf ≡ Some old → Leaves (ended r) (Ok pieces) old now;
+      later : first ≤ last;
+    }
+put_failed pieces shelf now first second last s r failed before comes write later leaves =
+    let p = err_from_is_err_and r failed in
+    rw (p.1, p.2) (record {
+      comes = comes;
+      write = λ is. rose_later first second last before (write is);
+      leaves = leaves;
+      later = omega arith;
+    })
+
 pub nothing_more : (old : List FileBytes) (now : Option (List FileBytes)) → now ≡ Some old → Extends old now
 nothing_more old now same = ([], same ∙ ap (λ (ps : List FileBytes). Some ps) (sym (append-nil old)))
 

@@ -1,17 +1,18 @@
-use Rattle.std.proofs.Common.{ℕ, List, length, ◌++◌, ◌∷◌, [], Ok, subst, ◌∙◌}
-use Rattle.std.proofs.lemmas.Result.{err_from_is_err_and}
+use Rattle.std.proofs.Common.{ℕ, List, length, ◌++◌, ◌∷◌, [], Ok, subst, ◌∙◌, arith}
 use Rattle.cj_outputs.specs.Findings.{ended}
 use Rattle.cj_outputs.specs.Outcome.{Leaves, count_bytes, summary_piece}
-use Rattle.cj_outputs.proofs.EndLemmas.{first_leaves, first_stand, nothing_made, second_leaves}
+use Rattle.cj_outputs.proofs.EndLemmas.{first_leaves, first_stand, nothing_made, put_failed, second_leaves}
 use Rattle.cj_outputs.proofs.catalogues.put_catalogue.Goals as goal
 
-pub returns-in_err-put_files-clause-leaves : goal.returns-in_err-put_files-clause-leaves
-returns-in_err-put_files-clause-leaves g c = λ old stood.
+pub returns-in_err-put_files : goal.returns-in_err-put_files
+returns-in_err-put_files g c =
     let files = c.args.files.now in
     let last = summary_piece (count_bytes (length files)) in
-    let p = err_from_is_err_and c.from_residual-in_err-put_files.result c.from_residual-in_err-put_files.ensures.1 in
-    rw (p.1, p.2) (first_leaves c.in_err-put_files.field-0.0 files (last ∷ []) old (g.S.Shelf.pieces c.put_files.new.shelf) c.in_err-put_files.ensures.comes
-    (c.in_err-put_files.ensures.leaves old stood))
+    let s = c.in_err-put_files.field-0.0 in
+    let failed = c.in_err-put_files.ensures in
+    put_failed _ _ _ _ _ _ s _ c.from_residual-in_err-put_files.ensures.1 (omega arith) failed.comes failed.write failed.later
+    (λ old stood.
+    first_leaves s files (last ∷ []) old (g.S.Shelf.pieces c.put_files.new.shelf) failed.comes (failed.leaves old stood))
 
 pub returns-clause-leaves : goal.returns-clause-leaves
 returns-clause-leaves g c = λ old stood.

@@ -1,11 +1,10 @@
 use Rattle.std.proofs.Common.{◌≡◌, ◌∙◌, ◌+◌, ◌++◌, ◌∷◌, [], suc, List, Some, Err, Ok, arith, ap, ap₂, sym, subst, take, drop, append_assoc}
 use Rattle.std.proofs.lemmas.List.{take_more}
-use Rattle.std.proofs.lemmas.Result.{err_from_is_err_and}
 use Rattle.std.proofs.Math.Seq.{split_at}
 use Rattle.cj_io.specs.declared.file.FileBytes.{FileBytes}
 use Rattle.cj_status.specs.declared.status.Status.TheVariants as status
 use Rattle.cj_outputs.specs.Outcome.{Leaves, piece}
-use Rattle.cj_outputs.proofs.EndLemmas.{first_leaves, first_stand, second_leaves}
+use Rattle.cj_outputs.proofs.EndLemmas.{first_leaves, first_stand, put_failed, second_leaves}
 use Rattle.cj_outputs.proofs.catalogues.put_files.Goals as goal
 
 pub loop-file-preserved : goal.loop-file-preserved
@@ -23,18 +22,18 @@ loop-file-preserved g c = record {
   later = omega (arith, c.put.ensures.later, c.loop-file.invariant.later);
 }
 
-pub returns-in_err-put-clause-leaves : goal.returns-in_err-put-clause-leaves
-returns-in_err-put-clause-leaves g c = λ old stood.
+pub returns-in_err-put : goal.returns-in_err-put
+returns-in_err-put g c =
     let files = c.args.files.now in
     let i = c.loop-file.file-index in
     let x = c.file-item.result in
-    let s = c.in_err-put.field-0.0 in
     let now = g.S.Shelf.pieces c.put.new.shelf in
     let whole : take i files ++ x ∷ drop (suc i) files ≡ files = ap (λ (y : FileBytes). take i files ++ y ∷ drop (suc i) files) c.file-item.is ∙ sym (split_at files i x c.loop-file-test.true) in
-    let comes = c.in_err-put.ensures.comes in
     let same : piece c.as_slice.result.now c.as_slice-in-loop-file.result.now ≡ x = ap₂ piece c.as_slice.ensures c.as_slice-in-loop-file.ensures in
-    let put = subst (λ (p : FileBytes). Leaves s (Ok (p ∷ [])) (old ++ take i files) now) same (c.in_err-put.ensures.leaves (old ++ take i files) (c.loop-file.invariant.put old stood)) in
-    let here = first_leaves s (x ∷ []) (drop (suc i) files) (old ++ take i files) now comes put in
-    let leaves = second_leaves (Err s) (take i files) (x ∷ drop (suc i) files) old now comes here in
-    let p = err_from_is_err_and c.from_residual.result c.from_residual.ensures.1 in
-    rw (p.1, p.2) (subst (λ (ps : List FileBytes). Leaves s (Ok ps) old now) whole leaves)
+    let s = c.in_err-put.field-0.0 in
+    let failed = c.in_err-put.ensures in
+    put_failed _ _ _ _ _ _ s _ c.from_residual.ensures.1 c.loop-file.invariant.later failed.comes failed.write failed.later
+    (λ old stood.
+    let put = subst (λ (p : FileBytes). Leaves s (Ok (p ∷ [])) (old ++ take i files) now) same (failed.leaves (old ++ take i files) (c.loop-file.invariant.put old stood)) in
+    let here = first_leaves s (x ∷ []) (drop (suc i) files) (old ++ take i files) now failed.comes put in
+    subst (λ (ps : List FileBytes). Leaves s (Ok ps) old now) whole (second_leaves (Err s) (take i files) (x ∷ drop (suc i) files) old now failed.comes here))

@@ -1,11 +1,11 @@
-use Rattle.std.proofs.lemmas.Result.{err_from_is_err_and}
 use Rattle.std.proofs.Common.{◌≡◌, ◌<◌, List, Ok, length, get_or, ap, subst, arith, rules}
 use Rattle.cj_bezier.specs.Leaves.{PlainLeaf, plain_leaves}
+use Rattle.cj_meet.specs.Encounters.{encounters_of}
 use Rattle.cj_outputs.specs.Findings.{case_in}
 use Rattle.cj_outputs.specs.Messages.{message_pieces}
 use Rattle.cj_outputs.specs.Origins.{plain_origin}
 use Rattle.cj_outputs.specs.Outcome.{Leaves}
-use Rattle.cj_outputs.proofs.EndLemmas.{first_stand}
+use Rattle.cj_outputs.proofs.EndLemmas.{first_stand, put_failed}
 use Rattle.cj_outputs.proofs.MessageLemmas.{encounters_within, made_of_found, messages_cut, messages_more, messages_tallied}
 use Rattle.cj_outputs.proofs.messages.put_messages.Goals as goal
 
@@ -19,8 +19,8 @@ overflow_add-place g c =
     let found = c.args.found.now in
     omega (arith, encounters_within found.leaves.items found.encounters.items c.requires.encounters c.requires.few)
 
-pub returns-in_err-put_message-clause-leaves : goal.returns-in_err-put_message-clause-leaves
-returns-in_err-put_message-clause-leaves g c = λ old stood.
+pub returns-in_err-put_message : goal.returns-in_err-put_message
+returns-in_err-put_message g c =
     let found = c.args.found.now in
     let case = case_in found in
     let origin = plain_origin c.args.origin in
@@ -32,12 +32,20 @@ returns-in_err-put_message-clause-leaves g c = λ old stood.
     let e_is : e ≡ get_or es i e = search rules in
     let lt : i < length es = omega arith in
     let made = made_of_found found origin i c.stamp-stamp.result.number _ e c.index.result.now c.requires lt e_is c.index.ensures c.stamp-stamp.ensures (ap (λ s. s.number) c.stamp-stamp.ensures) in
-    let before = c.loop-place.invariant.put old stood in
     let s = c.in_err-put_message.field-0.0 in
-    let p = err_from_is_err_and c.from_residual.result c.from_residual.ensures.1 in
-    rw (p.1, p.2)
-    (subst (λ (gs : List (List PlainLeaf)). Leaves s (Ok (message_pieces case origin gs)) old now) c.requires.encounters.groups
-    (messages_cut case origin ss es i e _ old now s lt e_is made c.in_err-put_message.ensures.comes (c.in_err-put_message.ensures.leaves _ before)))
+    let failed = c.in_err-put_message.ensures in
+    let ends = put_failed (message_pieces case origin (encounters_of ss)) (g.S.Shelf.pieces c.args.shelf.now) now _ _ _ s _ c.from_residual.ensures.1 c.loop-place.invariant.later failed.comes failed.write
+    failed.later
+    (λ old stood.
+    subst (λ (gs : List (List PlainLeaf)). Leaves s (Ok (message_pieces case origin gs)) old now) c.requires.encounters.groups
+    (messages_cut case origin ss es i e _ old now s lt e_is made failed.comes (failed.leaves _ (c.loop-place.invariant.put old stood)))) in
+    record {
+      comes = ends.comes;
+      write = ends.write;
+      leaves = ends.leaves;
+      later = ends.later;
+      counted = messages_tallied found origin c.requires;
+    }
 
 pub loop-place-preserved : goal.loop-place-preserved
 loop-place-preserved g c =
@@ -59,6 +67,3 @@ loop-place-preserved g c =
 
 pub returns-clause-counted : goal.returns-clause-counted
 returns-clause-counted g c = messages_tallied c.args.found.now (plain_origin c.args.origin) c.requires
-
-pub returns-in_err-put_message-clause-counted : goal.returns-in_err-put_message-clause-counted
-returns-in_err-put_message-clause-counted g c = messages_tallied c.args.found.now (plain_origin c.args.origin) c.requires
