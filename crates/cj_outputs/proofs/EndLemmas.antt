@@ -18,11 +18,11 @@ nothing_put (Err s) old now same = ([], refl, same ∙ ap (λ (ps : List FileByt
 
 -- a part of a run that put nothing, since memory ran out
 pub nothing_made : (pieces : List FileBytes) (shelf : Option (List FileBytes)) (faults : ℕ) (r : Result (Unit {0}) Status) → IsErrAnd r (λ s. s ≡ status.OutOfMemory) → record {
-      comes : IfErr r ComesOfPuts;
-      write : r ≡ Err status.WriteFault → Rose faults faults;
-      leaves : (old : List FileBytes) → shelf ≡ Some old → Leaves (ended r) (Ok pieces) old shelf;
-      later : faults ≤ faults;
-    }
+  comes : IfErr r ComesOfPuts;
+  write : r ≡ Err status.WriteFault → Rose faults faults;
+  leaves : (old : List FileBytes) → shelf ≡ Some old → Leaves (ended r) (Ok pieces) old shelf;
+  later : faults ≤ faults;
+}
 nothing_made pieces shelf faults r failed =
     let p = err_from_is_err_and r failed in
     rw (p.1, p.2) (record {

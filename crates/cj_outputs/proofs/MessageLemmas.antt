@@ -45,6 +45,11 @@ as_many_closest case ss es xs at =
     let same : length (map some_closest xs) ≡ length (map (closest_of case) (groups_in ss es)) = ap length at in
     sym (length-map xs some_closest) ∙ same ∙ length-map (groups_in ss es) (closest_of case) ∙ length-map es (stretches_in ss)
 
+-- and a note
+pub as_many_notes : (case : PlainProblem) (ss : List PlainLeaf) (es : List Encounter) (bs : List Bool) → bs ≡ map (has_message case) (groups_in ss es) → length bs ≡ length es
+as_many_notes case ss es bs noted =
+    ap (λ (xs : List Bool). length xs) noted ∙ length-map (groups_in ss es) (has_message case) ∙ length-map es (stretches_in ss)
+
 -- the notes of the encounters before place i and of that one
 pub noted_more : (case : PlainProblem) (ss : List PlainLeaf) (es : List Encounter) (i : ℕ) (e : Encounter) (bs : List Bool) (b : Bool) → i < length es → e ≡ get_or es i e →
     bs ≡ map (has_message case) (groups_in ss (take i es)) → b ≡ has_message case (stretches_in ss e) → bs ++ b ∷ [] ≡ map (has_message case) (groups_in ss (take (i + 1) es))

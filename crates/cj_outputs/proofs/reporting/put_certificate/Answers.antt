@@ -1,6 +1,8 @@
 use Rattle.std.proofs.Common.{ℕ, List, [], ◌∷◌, Ok, ap, sym, subst, ◌∙◌}
+use Rattle.cj_io.specs.Parts.{joined}
 use Rattle.cj_outputs.specs.Findings.{case_in, ended}
 use Rattle.cj_outputs.specs.Outcome.{Leaves, cert_bytes, cert_piece}
+use Rattle.cj_outputs.proofs.CertificateLemmas.{in_blocks}
 use Rattle.cj_outputs.proofs.EndLemmas.{nothing_made}
 use Rattle.cj_outputs.proofs.reporting.put_certificate.Goals as goal
 
@@ -23,11 +25,15 @@ returns-in_ok-text g c =
       later = done.later;
     }
 
-pub returns-in_ok-parts-clause-comes : goal.returns-in_ok-parts-clause-comes
-returns-in_ok-parts-clause-comes g c = c.put_parts.ensures.comes
-
-pub returns-in_ok-parts-clause-write : goal.returns-in_ok-parts-clause-write
-returns-in_ok-parts-clause-write g c = c.put_parts.ensures.write
-
-pub returns-in_ok-parts-clause-later : goal.returns-in_ok-parts-clause-later
-returns-in_ok-parts-clause-later g c = c.put_parts.ensures.later
+pub returns-in_ok-parts : goal.returns-in_ok-parts
+returns-in_ok-parts g c =
+    let found = c.args.found.now in
+    let done = c.put_parts.ensures in
+    record {
+      comes = done.comes;
+      write = done.write;
+      leaves = λ old stood.
+          subst (λ (bytes : List ℕ). Leaves (ended c.put_parts.result) (Ok (cert_piece bytes ∷ [])) old (g.S.Shelf.pieces c.put_parts.new.shelf))
+          (ap joined c.deref.ensures.value ∙ c.in_ok-parts.ensures ∙ in_blocks found.version (case_in found) c.if-found-eq1.false) (done.leaves old stood);
+      later = done.later;
+    }

@@ -1,9 +1,29 @@
-use Rattle.std.proofs.Common.{ℕ, ◌∙◌, List, [], ◌∷◌, Ok, subst}
-use Rattle.cj_outputs.specs.Findings.{ended}
+use Rattle.std.proofs.Common.{ℕ, ◌∙◌, All, Bool, List, [], ◌∷◌, length, Ok, ap, sym, subst}
+use Rattle.cj_bezier.specs.Leaves.{plain_leaves}
+use Rattle.cj_bezier.specs.declared.encounter.Closest.{Closest}
+use Rattle.cj_bezier.specs.declared.encounter.Encounter.{Encounter}
+use Rattle.cj_bezier.specs.declared.leaf.Leaf.{Leaf}
+use Rattle.cj_meet.specs.Encounters.{Describes}
+use Rattle.cj_outputs.specs.Findings.{case_in, ended}
 use Rattle.cj_outputs.specs.Outcome.{Leaves, report_piece}
+use Rattle.cj_outputs.proofs.MessageLemmas.{as_many_closest, as_many_notes}
 use Rattle.cj_outputs.proofs.ReportTextLemmas.{report_is}
 use Rattle.cj_outputs.proofs.EndLemmas.{nothing_made}
 use Rattle.cj_outputs.proofs.reporting.put_report.Goals as goal
+
+pub report_text-requires : goal.report_text-requires
+report_text-requires g c =
+    let found = c.args.found.now in
+    let case = case_in found in
+    let ss = plain_leaves found.leaves.items in
+    let es = found.encounters.items in
+    let many = sym (ap (λ (es : List Encounter). length es) c.deref-2.ensures.value) in
+    record {
+      described = subst (λ (es : List Encounter). All (Describes (plain_leaves c.deref.result.now)) es) (sym c.deref-2.ensures.value)
+          (subst (λ (ls : List Leaf). All (Describes (plain_leaves ls)) es) (sym c.deref.ensures.value) c.requires.encounters.described);
+      one_each = ap (λ (xs : List Closest). length xs) c.deref-3.ensures.value ∙ as_many_closest case ss es found.closest.items c.requires.closest ∙ many;
+      each_noted = ap (λ (bs : List Bool). length bs) c.deref-4.ensures.value ∙ as_many_notes case ss es found.messages.items c.requires.messages ∙ many;
+    }
 
 pub returns-clause-leaves : goal.returns-clause-leaves
 returns-clause-leaves g c = λ old stood.

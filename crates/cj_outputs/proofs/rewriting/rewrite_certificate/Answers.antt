@@ -4,7 +4,7 @@ use Rattle.cj_cert.specs.Certificates.{PlainCertificate}
 use Rattle.cj_words.specs.Commands.{plain_checking}
 use Rattle.cj_cert.specs.Certificates.{plain_certificate}
 use Rattle.cj_cert.specs.Rewritten.{in_version_2}
-use Rattle.cj_inputs.specs.CheckInputs.{PlainInputs, inputs_asked, plain_inputs}
+use Rattle.cj_inputs.specs.CheckInputs.{inputs_asked, plain_inputs}
 use Rattle.cj_outputs.specs.Outcome.{pieces_renewed, pieces_rewritten}
 use Rattle.cj_outputs.proofs.AcceptingLemmas.{pieces_made_from, same_error, unaccepted, unprepared}
 use Rattle.cj_outputs.proofs.CheckLemmas.{renews}
