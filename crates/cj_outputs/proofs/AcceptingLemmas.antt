@@ -33,10 +33,11 @@ stops_then read status.OutOfMemory r f stops = stops
 
 pub unreadable : (case : PlainProblem) (bytes : List ℕ) (s : Status) → Stops ⊥ s (said_or (reading bytes)) → Stops ⊥ s (accepting case bytes)
 unfolding accepting
-unreadable case bytes s stops = stops_then ⊥ s (said_or (reading bytes)) (λ certificate. none_of (first_failure case certificate) >>= λ done. Ok certificate) stops
+unreadable case bytes s stops =
+    stops_then ⊥ s (said_or (reading bytes)) (λ certificate. none_of (first_failure case certificate) >>= λ done. Ok certificate) stops
 
-pub accepted_so : (case : PlainProblem) (bytes : List ℕ) (certificate : PlainCertificate) → said_or (reading bytes) ≡ Ok certificate → first_failure case certificate ≡ None
-    → accepting case bytes ≡ Ok certificate
+pub accepted_so : (case : PlainProblem) (bytes : List ℕ) (certificate : PlainCertificate) → said_or (reading bytes) ≡ Ok certificate
+    → first_failure case certificate ≡ None → accepting case bytes ≡ Ok certificate
 unfolding accepting
 accepted_so case bytes certificate said none = rw (said, none) refl
 
@@ -51,19 +52,20 @@ abbrev pieces_from : (PlainInputs → PlainCertificate → List FileBytes) → R
 pieces_from pieces inputs = inputs >>= λ i. accepting i.case i.bytes >>= λ certificate. Ok (pieces i certificate)
 
 -- the inputs are not there
-pub unprepared : (pieces : PlainInputs → PlainCertificate → List FileBytes) (read : Type 0) (s : Status) (inputs : Result PlainInputs Status) → Stops read s inputs
-    → Stops read s (pieces_from pieces inputs)
+pub unprepared : (pieces : PlainInputs → PlainCertificate → List FileBytes) (read : Type 0) (s : Status) (inputs : Result PlainInputs Status)
+    → Stops read s inputs → Stops read s (pieces_from pieces inputs)
 unprepared pieces read s inputs stops = stops_then read s inputs (λ i. accepting i.case i.bytes >>= λ certificate. Ok (pieces i certificate)) stops
 
 -- the certificate is not accepted
-pub unaccepted : (pieces : PlainInputs → PlainCertificate → List FileBytes) (read : Type 0) (s : Status) (inputs : Result PlainInputs Status) (i : PlainInputs) → inputs ≡ Ok i
-    → Stops ⊥ s (accepting i.case i.bytes) → Stops read s (pieces_from pieces inputs)
+pub unaccepted : (pieces : PlainInputs → PlainCertificate → List FileBytes) (read : Type 0) (s : Status) (inputs : Result PlainInputs Status)
+    (i : PlainInputs) → inputs ≡ Ok i → Stops ⊥ s (accepting i.case i.bytes) → Stops read s (pieces_from pieces inputs)
 unaccepted pieces read s inputs i there stops =
     subst (λ (r : Result PlainInputs Status). Stops read s (pieces_from pieces r)) (sym there)
-    (stops_then read s (accepting i.case i.bytes) (λ certificate. Ok (pieces i certificate)) (stops_wider ⊥ read s (accepting i.case i.bytes) (λ none. absurd none) stops))
+    (stops_then read s (accepting i.case i.bytes) (λ certificate. Ok (pieces i certificate))
+    (stops_wider ⊥ read s (accepting i.case i.bytes) (λ none. absurd none) stops))
 
 -- it is
-pub pieces_made_from : (pieces : PlainInputs → PlainCertificate → List FileBytes) (inputs : Result PlainInputs Status) (i : PlainInputs) (certificate : PlainCertificate) → inputs ≡ Ok i
-    → accepting i.case i.bytes ≡ Ok certificate → pieces_from pieces inputs ≡ Ok (pieces i certificate)
+pub pieces_made_from : (pieces : PlainInputs → PlainCertificate → List FileBytes) (inputs : Result PlainInputs Status) (i : PlainInputs)
+    (certificate : PlainCertificate) → inputs ≡ Ok i → accepting i.case i.bytes ≡ Ok certificate → pieces_from pieces inputs ≡ Ok (pieces i certificate)
 pieces_made_from pieces inputs i certificate there accepted =
     ap (pieces_from pieces) there ∙ ap (λ (r : Result PlainCertificate Status). r >>= λ c. Ok (pieces i c)) accepted

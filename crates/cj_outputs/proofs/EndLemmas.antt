@@ -1,5 +1,6 @@
 -- How a run ends, of how its parts do.
-use Rattle.std.proofs.Common.{◌≡◌, ℕ, ◌≤◌, arith, List, [], ◌∷◌, ◌++◌, Option, Some, Result, Ok, Err, refl, sym, ap, ◌∙◌, inl, inr, ◌⊎◌, append-nil, append_assoc}
+use Rattle.std.proofs.Common.{◌≡◌, ℕ, ◌≤◌, List, [], ◌∷◌, ◌++◌, Option, Some, Result, Ok, Err, refl, sym, ap, ◌∙◌, inl, inr, ◌⊎◌}
+use Rattle.std.proofs.Common.{append-nil, append_assoc, arith}
 use Rattle.std.specs.Prelude.{IfErr, IsErrAnd}
 use Rattle.std.proofs.lemmas.Result.{err_from_is_err_and}
 use Rattle.cj_io.specs.Faults.{Rose}
@@ -17,12 +18,13 @@ nothing_put (Ok pieces) old now same = ([], tt, same ∙ ap (λ (ps : List FileB
 nothing_put (Err s) old now same = ([], refl, same ∙ ap (λ (ps : List FileBytes). Some ps) (sym (append-nil old)))
 
 -- a part of a run that put nothing, since memory ran out
-pub nothing_made : (pieces : List FileBytes) (shelf : Option (List FileBytes)) (faults : ℕ) (r : Result (Unit {0}) Status) → IsErrAnd r (λ s. s ≡ status.OutOfMemory) → record {
-  comes : IfErr r ComesOfPuts;
-  write : r ≡ Err status.WriteFault → Rose faults faults;
-  leaves : (old : List FileBytes) → shelf ≡ Some old → Leaves (ended r) (Ok pieces) old shelf;
-  later : faults ≤ faults;
-}
+pub nothing_made : (pieces : List FileBytes) (shelf : Option (List FileBytes)) (faults : ℕ) (r : Result (Unit {0}) Status)
+    → IsErrAnd r (λ s. s ≡ status.OutOfMemory) → record {
+      comes : IfErr r ComesOfPuts;
+      write : r ≡ Err status.WriteFault → Rose faults faults;
+      leaves : (old : List FileBytes) → shelf ≡ Some old → Leaves (ended r) (Ok pieces) old shelf;
+      later : faults ≤ faults;
+    }
 nothing_made pieces shelf faults r failed =
     let p = err_from_is_err_and r failed in
     rw (p.1, p.2) (record {
@@ -37,8 +39,9 @@ pub rose_later : (first second last : ℕ) → first ≤ second → Rose second 
 rose_later first second last before rose = omega arith
 
 -- a part of a run whose put failed so, behind others that did not
-pub put_failed : (pieces : List FileBytes) (shelf now : Option (List FileBytes)) (first second last : ℕ) (s : Status) (r : Result (Unit {0}) Status) → IsErrAnd r (λ t. t ≡ s) → first ≤ second
-    → ComesOfPuts s → (◌≡◌ {A = Result (Unit {0}) Status} (Err s) (Err status.WriteFault) → Rose second last) → second ≤ last
+pub put_failed : (pieces : List FileBytes) (shelf now : Option (List FileBytes)) (first second last : ℕ) (s : Status) (r : Result (Unit {0}) Status)
+    → IsErrAnd r (λ t. t ≡ s) → first ≤ second → ComesOfPuts s → (◌≡◌ {A = Result (Unit {0}) Status} (Err s) (Err status.WriteFault) → Rose second last)
+    → second ≤ last
     → ((old : List FileBytes) → shelf ≡ Some old → Leaves s (Ok pieces) old now) → record {
       comes : IfErr r ComesOfPuts;
       write : r ≡ Err status.WriteFault → Rose first last;

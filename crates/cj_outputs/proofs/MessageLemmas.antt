@@ -46,7 +46,8 @@ as_many_closest case ss es xs at =
     sym (length-map xs some_closest) ∙ same ∙ length-map (groups_in ss es) (closest_of case) ∙ length-map es (stretches_in ss)
 
 -- and a note
-pub as_many_notes : (case : PlainProblem) (ss : List PlainLeaf) (es : List Encounter) (bs : List Bool) → bs ≡ map (has_message case) (groups_in ss es) → length bs ≡ length es
+pub as_many_notes : (case : PlainProblem) (ss : List PlainLeaf) (es : List Encounter) (bs : List Bool) → bs ≡ map (has_message case) (groups_in ss es)
+    → length bs ≡ length es
 as_many_notes case ss es bs noted =
     ap (λ (xs : List Bool). length xs) noted ∙ length-map (groups_in ss es) (has_message case) ∙ length-map es (stretches_in ss)
 

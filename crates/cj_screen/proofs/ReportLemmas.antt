@@ -42,7 +42,8 @@ pub few_leaves : (limit : ℕ) (leaves : List PlainLeaf) → length leaves ≤ l
 few_leaves limit leaves few = let small : nat_le (length leaves) limit ≡ true = grind (arith, nat_tests) in rw small refl
 
 -- a list of leaves that is not whole
-pub stops_refined : (limit : ℕ) (leaves : List PlainLeaf) (e : RefineError) → (e ≡ refine.TooMany → limit < length leaves) → Stops ⊥ (refined_status limit e) (within_cells limit leaves)
+pub stops_refined : (limit : ℕ) (leaves : List PlainLeaf) (e : RefineError) → (e ≡ refine.TooMany → limit < length leaves)
+    → Stops ⊥ (refined_status limit e) (within_cells limit leaves)
 stops_refined limit leaves refine.Memory many = tt
 stops_refined limit leaves refine.TooMany many =
     let more = many refl in
@@ -55,17 +56,20 @@ between_refined limit refine.Memory = tt
 between_refined limit refine.TooMany = tt
 
 -- the pieces of a case, of its leaves
-pub pieces_of_leaves : (limit : ℕ) (with_sizes : Bool) (version : ℕ) (origin : PlainOrigin) (case : PlainProblem) (leaves : List PlainLeaf) → within_cells limit (list_looked case) ≡ Ok leaves
+pub pieces_of_leaves : (limit : ℕ) (with_sizes : Bool) (version : ℕ) (origin : PlainOrigin) (case : PlainProblem) (leaves : List PlainLeaf)
+    → within_cells limit (list_looked case) ≡ Ok leaves
     → pieces_within limit with_sizes version origin case ≡ Ok (pieces_with with_sizes version origin case leaves)
 unfolding pieces_within
 pieces_of_leaves limit with_sizes version origin case leaves same =
     ap (λ (r : Result (List PlainLeaf) Status). r >>= λ ss. Ok (pieces_with with_sizes version origin case ss)) same
 
 -- what ends the search for the leaves ends that for the pieces
-pub pieces_stop : (limit : ℕ) (with_sizes : Bool) (version : ℕ) (origin : PlainOrigin) (case : PlainProblem) (s : Status) → Stops ⊥ s (within_cells limit (list_looked case))
+pub pieces_stop : (limit : ℕ) (with_sizes : Bool) (version : ℕ) (origin : PlainOrigin) (case : PlainProblem) (s : Status)
+    → Stops ⊥ s (within_cells limit (list_looked case))
     → Stops ⊥ s (pieces_within limit with_sizes version origin case)
 unfolding pieces_within
-pieces_stop limit with_sizes version origin case s = stops_then s (within_cells limit (list_looked case)) (λ ss. Ok (pieces_with with_sizes version origin case ss))
+pieces_stop limit with_sizes version origin case s =
+    stops_then s (within_cells limit (list_looked case)) (λ ss. Ok (pieces_with with_sizes version origin case ss))
 
 -- the report of findings is that of the case that was asked
 pub reports : (files : List FileBytes) (settings : Asked) (version : ℕ) (case : PlainProblem) → case_asked files settings ≡ Ok case

@@ -58,17 +58,22 @@ never_of_words (Ok results) fault comes = λ e. absurd cc
 never_of_words (Err s) fault comes = λ e. let is : s ≡ status.Usage fault = cc in subst ComesBetween is comes
 
 -- what the words ask for is due, and their fault where they ask for nothing
-pub pieces_of_asking : (words : List (List ℕ)) (files : List FileBytes) (now : ℕ) (asking : Asking) → Ok asking ≡ command_of words → pieces_of words files now ≡ pieces_asked files now asking
+pub pieces_of_asking : (words : List (List ℕ)) (files : List FileBytes) (now : ℕ) (asking : Asking) → Ok asking ≡ command_of words
+    → pieces_of words files now ≡ pieces_asked files now asking
 unfolding pieces_of
 pieces_of_asking words files now asking is = ap (λ (r : Result Asking UsageFault). asked r >>= pieces_asked files now) (sym is)
 
-pub pieces_of_fault : (words : List (List ℕ)) (files : List FileBytes) (now : ℕ) (fault : UsageFault) → Err fault ≡ command_of words → pieces_of words files now ≡ Err (status.Usage fault)
+pub pieces_of_fault : (words : List (List ℕ)) (files : List FileBytes) (now : ℕ) (fault : UsageFault) → Err fault ≡ command_of words
+    → pieces_of words files now ≡ Err (status.Usage fault)
 unfolding pieces_of
 pieces_of_fault words files now fault is = ap (λ (r : Result Asking UsageFault). asked r >>= pieces_asked files now) (sym is)
 
 pub usage_fault : (words : List (List ℕ)) (fault : UsageFault) → Err fault ≡ command_of words
     → (other : UsageFault) → ◌≡◌ {A = Result Results Status} (Err (status.Usage fault)) (Err (status.Usage other)) ↔ (command_of words ≡ Err other)
-usage_fault words fault is other = (λ e. let same : fault ≡ other = cc in cc, λ e. let same : fault ≡ other = cc in ap (λ (f : UsageFault). Err (status.Usage f)) same)
+usage_fault words fault is other = (
+  λ e. let same : fault ≡ other = cc in cc,
+  λ e. let same : fault ≡ other = cc in ap (λ (f : UsageFault). Err (status.Usage f)) same,
+)
 
 -- what comes between the words and the writes comes before the writes
 pub comes_before : (r : Result Results Status) → IfErr r ComesBetween → IfErr r ComesBefore

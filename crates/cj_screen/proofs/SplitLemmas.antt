@@ -21,7 +21,8 @@ all_true case ss sound =
     (each_from_All (IsSound case) ss sound))
 
 -- these leaves are those of the case
-pub splits : (case : PlainProblem) (ss : List PlainLeaf) → ss ≡ list_looked case → HoldsAllTicks case → HaveExactSpans ss → SplitsTicks case (encounters_in case)
+pub splits : (case : PlainProblem) (ss : List PlainLeaf) → ss ≡ list_looked case → HoldsAllTicks case → HaveExactSpans ss
+    → SplitsTicks case (encounters_in case)
 splits case ss same ticks spans =
     let all = list_looked case in
     let true_all = all_true case all ticks.sound in

@@ -34,6 +34,7 @@ returns-in_err-put g c =
     let failed = c.in_err-put.ensures in
     put_failed _ _ _ _ _ _ s _ c.from_residual.ensures.1 c.loop-file.invariant.later failed.comes failed.write failed.later
     (λ old stood.
-    let put = subst (λ (p : FileBytes). Leaves s (Ok (p ∷ [])) (old ++ take i files) now) same (failed.leaves (old ++ take i files) (c.loop-file.invariant.put old stood)) in
+    let put = subst (λ (p : FileBytes). Leaves s (Ok (p ∷ [])) (old ++ take i files) now) same
+    (failed.leaves (old ++ take i files) (c.loop-file.invariant.put old stood)) in
     let here = first_leaves s (x ∷ []) (drop (suc i) files) (old ++ take i files) now failed.comes put in
     subst (λ (ps : List FileBytes). Leaves s (Ok ps) old now) whole (second_leaves (Err s) (take i files) (x ∷ drop (suc i) files) old now failed.comes here))

@@ -34,8 +34,9 @@ returns-in_err-put_message g c =
     let made = made_of_found found origin i c.stamp-stamp.result.number _ e c.index.result.now c.requires lt e_is c.index.ensures c.stamp-stamp.ensures (ap (λ s. s.number) c.stamp-stamp.ensures) in
     let s = c.in_err-put_message.field-0.0 in
     let failed = c.in_err-put_message.ensures in
-    let ends = put_failed (message_pieces case origin (encounters_of ss)) (g.S.Shelf.pieces c.args.shelf.now) now _ _ _ s _ c.from_residual.ensures.1 c.loop-place.invariant.later failed.comes failed.write
-    failed.later
+    let ends =
+    put_failed (message_pieces case origin (encounters_of ss)) (g.S.Shelf.pieces c.args.shelf.now) now _ _ _ s _ c.from_residual.ensures.1
+    c.loop-place.invariant.later failed.comes failed.write failed.later
     (λ old stood.
     subst (λ (gs : List (List PlainLeaf)). Leaves s (Ok (message_pieces case origin gs)) old now) c.requires.encounters.groups
     (messages_cut case origin ss es i e _ old now s lt e_is made failed.comes (failed.leaves _ (c.loop-place.invariant.put old stood)))) in

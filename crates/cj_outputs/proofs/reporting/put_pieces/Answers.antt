@@ -56,7 +56,8 @@ returns-in_err-put_messages g c =
     let now = g.S.Shelf.pieces c.put_messages.new.shelf in
     let s = c.in_err-put_messages.field-0.0 in
     let failed = c.in_err-put_messages.ensures in
-    put_failed _ _ _ _ _ _ s _ c.from_residual-in_err-put_messages.ensures.1 (omega (arith, c.in_ok-put_report.ensures.later, c.in_ok-put_certificate.ensures.later)) failed.comes failed.write failed.later
+    put_failed _ _ _ _ _ _ s _ c.from_residual-in_err-put_messages.ensures.1
+    (omega (arith, c.in_ok-put_report.ensures.later, c.in_ok-put_certificate.ensures.later)) failed.comes failed.write failed.later
     (λ old stood.
     let one = first_stand report old (g.S.Shelf.pieces c.put_report.new.shelf) (c.in_ok-put_report.ensures.leaves old stood) in
     let two = first_stand certificate (old ++ report) (g.S.Shelf.pieces c.put_certificate.new.shelf) (c.in_ok-put_certificate.ensures.leaves (old ++ report) one) in

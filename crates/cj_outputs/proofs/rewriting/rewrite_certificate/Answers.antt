@@ -1,14 +1,18 @@
-use Rattle.std.proofs.Common.{Ok, sym, ap, ◌∙◌}
+use Rattle.std.proofs.Common.{List, Ok, sym, ap, ◌∙◌}
 use Rattle.std.proofs.lemmas.Result.{err_from_is_err_and}
-use Rattle.cj_cert.specs.Certificates.{PlainCertificate}
+use Rattle.cj_io.specs.declared.file.FileBytes.{FileBytes}
 use Rattle.cj_words.specs.Commands.{plain_checking}
-use Rattle.cj_cert.specs.Certificates.{plain_certificate}
+use Rattle.cj_cert.specs.Certificates.{PlainCertificate, plain_certificate}
 use Rattle.cj_cert.specs.Rewritten.{in_version_2}
-use Rattle.cj_inputs.specs.CheckInputs.{inputs_asked, plain_inputs}
+use Rattle.cj_inputs.specs.CheckInputs.{PlainInputs, inputs_asked, plain_inputs}
 use Rattle.cj_outputs.specs.Outcome.{pieces_renewed, pieces_rewritten}
 use Rattle.cj_outputs.proofs.AcceptingLemmas.{pieces_made_from, same_error, unaccepted, unprepared}
 use Rattle.cj_outputs.proofs.CheckLemmas.{renews}
 use Rattle.cj_outputs.proofs.rewriting.rewrite_certificate.Goals as goal
+
+-- what is put of a certificate that is accepted
+abbrev due : PlainInputs → PlainCertificate → List FileBytes
+due inputs certificate = pieces_renewed (in_version_2 inputs.case certificate)
 
 pub returns-clause-renews : goal.returns-clause-renews
 returns-clause-renews g c = λ files told.
@@ -25,7 +29,8 @@ returns-clause-renews g c = λ files told.
 pub returns-clause-told : goal.returns-clause-told
 unfolding pieces_rewritten
 returns-clause-told g c = λ files told.
-    pieces_made_from (λ inputs certificate. pieces_renewed (in_version_2 inputs.case certificate)) (inputs_asked files (plain_checking c.args.checking.now)) (plain_inputs c.in_ok-problem.field-0) (plain_certificate c.in_ok-accepted.accepted) (c.in_ok-problem.ensures.told files told) c.in_ok-accepted.ensures.told
+    pieces_made_from due (inputs_asked files (plain_checking c.args.checking.now)) (plain_inputs c.in_ok-problem.field-0)
+    (plain_certificate c.in_ok-accepted.accepted) (c.in_ok-problem.ensures.told files told) c.in_ok-accepted.ensures.told
     ∙ ap (λ (x : PlainCertificate). Ok (pieces_renewed x)) (sym c.in_ok-renewed.ensures.value)
 
 pub returns-in_err-problem : goal.returns-in_err-problem
@@ -36,7 +41,8 @@ returns-in_err-problem g c =
     rw (p.1, p.2) (record {
       between = prepared.between;
       read = λ is. prepared.read (same_error is);
-      told = λ files told. unprepared (λ inputs certificate. pieces_renewed (in_version_2 inputs.case certificate)) _ c.in_err-problem.field-0.0 (inputs_asked files (plain_checking c.args.checking.now)) (prepared.told files told);
+      told = λ files told.
+          unprepared due _ c.in_err-problem.field-0.0 (inputs_asked files (plain_checking c.args.checking.now)) (prepared.told files told);
       renews = λ files told. tt;
       files = prepared.files;
       later = prepared.later;
@@ -51,7 +57,7 @@ returns-in_err-accepted g c =
       between = accepted.between;
       read = λ is. absurd (accepted.read (same_error is));
       told = λ files told.
-          unaccepted (λ inputs certificate. pieces_renewed (in_version_2 inputs.case certificate)) _ c.in_err-accepted.field-0.0 (inputs_asked files (plain_checking c.args.checking.now)) (plain_inputs c.in_ok-problem.field-0)
+          unaccepted due _ c.in_err-accepted.field-0.0 (inputs_asked files (plain_checking c.args.checking.now)) (plain_inputs c.in_ok-problem.field-0)
           (c.in_ok-problem.ensures.told files told) accepted.told;
       renews = λ files told. tt;
       files = c.in_ok-problem.ensures.files;

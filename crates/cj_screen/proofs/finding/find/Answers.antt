@@ -33,7 +33,8 @@ returns-clause-read g c = c.find_asked.ensures.read
 
 pub returns-clause-told : goal.returns-clause-told
 returns-clause-told g c = λ files told.
-    rw (pieces_of_asking c.args.words.now files c.args.now.micros (plain_command c.in_ok-command.command) c.in_ok-command.ensures) (c.find_asked.ensures.told files told)
+    rw (pieces_of_asking c.args.words.now files c.args.now.micros (plain_command c.in_ok-command.command) c.in_ok-command.ensures)
+    (c.find_asked.ensures.told files told)
 
 pub returns-clause-due : goal.returns-clause-due
 returns-clause-due g c = c.find_asked.ensures.due

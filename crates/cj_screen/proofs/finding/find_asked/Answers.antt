@@ -14,7 +14,8 @@ returns-in_ok-found-in-Screen g c =
     rw c.in-Screen.is (record {
       between = tt;
       read = no_error;
-      told = λ files told. found.told files c.args.now.micros told ∙ ap (λ (o : PlainOrigin). Ok (pieces_in o c.in_ok-found-in-Screen.found)) (sym c.of.ensures);
+      told = λ files told.
+          found.told files c.args.now.micros told ∙ ap (λ (o : PlainOrigin). Ok (pieces_in o c.in_ok-found-in-Screen.found)) (sym c.of.ensures);
       due = found.found;
       shows = found.reports;
       ends = tt;

@@ -16,7 +16,8 @@ closest_approaches-requires-clause-described g c = λ lifetimes outlive.
 pub note_messages-requires : goal.note_messages-requires
 note_messages-requires g c = record {
   one_each = ap (λ (xs : List Closest). length xs) c.deref-3.ensures.value
-      ∙ as_many_closest (plain_problem c.args.problem.now) (plain_leaves c.args.leaves.now) c.deref.result.now c.in_ok-closest.closest.items c.in_ok-closest.ensures.exact
+      ∙ as_many_closest (plain_problem c.args.problem.now) (plain_leaves c.args.leaves.now) c.deref.result.now c.in_ok-closest.closest.items
+      c.in_ok-closest.ensures.exact
       ∙ ap (λ (es : List Encounter). length es) (c.deref.ensures.value ∙ sym c.deref-2.ensures.value);
 }
 
@@ -32,7 +33,8 @@ returns g c =
       meetings = record {
         encounters = record { groups = found.groups; described = found.described };
         closest = closest;
-        messages = noted_in case leaves es _ c.in_ok-closest.closest.items _ _ c.deref-2.ensures.value c.deref-3.ensures.value found.described closest c.in_ok-messages.ensures;
+        messages = noted_in case leaves es _ c.in_ok-closest.closest.items _ _ c.deref-2.ensures.value c.deref-3.ensures.value found.described closest
+            c.in_ok-messages.ensures;
       };
       spans = found.exact_spans;
       nearest = subst (All (HasNearest case)) (ap (groups_in leaves) c.deref.ensures.value ∙ found.groups) c.in_ok-closest.ensures.law;

@@ -29,7 +29,8 @@ find_meetings-requires-clause-intervals g c = λ lifetimes outlive.
 pub count-counts-requires : goal.count-counts-requires
 count-counts-requires g c =
     let refined = c.in_ok-refined.ensures.refined in
-    let many : length c.as_slice-leaves.result.now ≡ length c.in_ok-refined.refined.leaves.items = ap (λ (ls : List Leaf). length ls) c.as_slice-leaves.ensures.value in
+    let many : length c.as_slice-leaves.result.now ≡ length c.in_ok-refined.refined.leaves.items =
+    ap (λ (ls : List Leaf). length ls) c.as_slice-leaves.ensures.value in
     let met = c.in_ok-met.ensures.meetings in
     record {
       few = omega (arith, many, refined.few);
@@ -44,7 +45,8 @@ pub returns : goal.returns
 returns g c =
     let case = plain_problem c.args.problem in
     let refined = c.in_ok-refined.ensures.refined in
-    let lent : plain_leaves c.as_slice-leaves.result.now ≡ plain_leaves c.in_ok-refined.refined.leaves.items = ap plain_leaves c.as_slice-leaves.ensures.value in
+    let lent : plain_leaves c.as_slice-leaves.result.now ≡ plain_leaves c.in_ok-refined.refined.leaves.items =
+    ap plain_leaves c.as_slice-leaves.ensures.value in
     let same = lent ∙ refined.leaves in
     let met = subst (λ (ss : List PlainLeaf). AreMeetings case ss c.in_ok-met.met) lent c.in_ok-met.ensures.meetings in
     record {

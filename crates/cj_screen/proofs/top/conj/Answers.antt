@@ -38,7 +38,8 @@ returns-in-Ok-clause-headline g c = λ files pieces screening told stood asked o
     let results = c.in-Ok.results in
     let due : Result (List FileBytes) Status = Ok (pieces_due results) in
     let leaves = subst (λ (s : Status). Leaves s due pieces now) (sym c.end.ensures ∙ ok) (c.put_results.ensures.leaves pieces stood) in
-    screened screening.settings files pieces now results (c.in-Ok.ensures.shows files (Screens screening) told asked) (first_stand (pieces_due results) pieces now leaves)
+    screened screening.settings files pieces now results (c.in-Ok.ensures.shows files (Screens screening) told asked)
+    (first_stand (pieces_due results) pieces now leaves)
 
 pub returns-in-Ok-clause-checked : goal.returns-in-Ok-clause-checked
 returns-in-Ok-clause-checked g c = λ files pieces checking told stood asked ok.
