@@ -20,18 +20,8 @@ use Rattle.cj_outputs.specs.Messages.{PlainOrigin}
 use Rattle.cj_inputs.specs.Cases.{case_asked}
 use Rattle.cj_outputs.specs.Outcome.{cert_bytes, encounters_in, pieces_with, pieces_within, report_bytes, tells_sizes, within_cells}
 use Rattle.cj_outputs.specs.Findings.{AreFound, case_in, cert_in, report_in}
+use Rattle.cj_outputs.proofs.AcceptingLemmas.{stops_then}
 use Rattle.cj_screen.specs.Headline.{Certifies, Reports, SplitsTicks}
-
--- what ends a step ends those behind it
-stops_then : {A B : Type 0} (s : Status) (r : Result A Status) (f : A → Result B Status) → Stops ⊥ s r → Stops ⊥ s (r >>= f)
-stops_then {A = A} status.Ok r f stops = stops
-stops_then {A = A} (status.NotAccepted line cause) r f stops = ap (λ (x : Result A Status). x >>= f) stops
-stops_then {A = A} (status.Usage fault) r f stops = ap (λ (x : Result A Status). x >>= f) stops
-stops_then {A = A} (status.BadFile file line cause) r f stops = ap (λ (x : Result A Status). x >>= f) stops
-stops_then {A = A} status.ReadFault r f stops = stops
-stops_then {A = A} status.WriteFault r f stops = stops
-stops_then {A = A} (status.Limit fault) r f stops = ap (λ (x : Result A Status). x >>= f) stops
-stops_then {A = A} status.OutOfMemory r f stops = stops
 
 -- what ends the search for leaves is no read
 pub never_read : {A B : Type 0} (s : Status) (r : Result A Status) → Stops ⊥ s r → ¬ ◌≡◌ {A = Result B Status} (Err s) (Err status.ReadFault)
@@ -69,7 +59,7 @@ pub pieces_stop : (limit : ℕ) (with_sizes : Bool) (version : ℕ) (origin : Pl
     → Stops ⊥ s (pieces_within limit with_sizes version origin case)
 unfolding pieces_within
 pieces_stop limit with_sizes version origin case s =
-    stops_then s (within_cells limit (list_looked case)) (λ ss. Ok (pieces_with with_sizes version origin case ss))
+    stops_then ⊥ s (within_cells limit (list_looked case)) (λ ss. Ok (pieces_with with_sizes version origin case ss))
 
 -- the report of findings is that of the case that was asked
 pub reports : (files : List FileBytes) (settings : Asked) (version : ℕ) (case : PlainProblem) → case_asked files settings ≡ Ok case

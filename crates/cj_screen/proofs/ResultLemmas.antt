@@ -95,10 +95,6 @@ no_error is = absurd cc
 pub count_stays : (n : ℕ) → n ≤ n
 count_stays n = omega arith
 
--- the same error of another answer
-pub same_error : {A B : Type 0} {s t : Status} → ◌≡◌ {A = Result A Status} (Err s) (Err t) → ◌≡◌ {A = Result B Status} (Err s) (Err t)
-same_error {s = s} {t = t} is = let same : s ≡ t = cc in ap (λ (x : Status). Err x) same
-
 -- what ends a made-up catalogue's screening may end a run between its words and its writes
 pub trial_between : (s : Status) → ComesOfTrial s → ComesBetween s
 trial_between status.Ok comes = comes

@@ -4,8 +4,9 @@ use Rattle.cj_inputs.proofs.StepLemmas.{stops_wider}
 use Rattle.cj_outputs.specs.Findings.{pieces_in}
 use Rattle.cj_outputs.specs.Messages.{PlainOrigin}
 use Rattle.cj_outputs.specs.Outcome.{pieces_made}
+use Rattle.cj_outputs.proofs.AcceptingLemmas.{same_error}
 use Rattle.cj_screen.proofs.ReportLemmas.{never_read}
-use Rattle.cj_screen.proofs.ResultLemmas.{count_stays, no_error, same_error, trial_between}
+use Rattle.cj_screen.proofs.ResultLemmas.{count_stays, no_error, trial_between}
 use Rattle.cj_screen.proofs.finding.find_asked.Goals as goal
 
 pub returns-in_ok-found-in-Screen : goal.returns-in_ok-found-in-Screen
