@@ -11,11 +11,8 @@ use std::alloc::AllocError;
 pub(crate) fn push_place(text: &mut Vec<u8>, place: Vector) -> Result<(), AllocError>
     ensures { OnOk result (text.new.items ≡ text.old.items ++ place_text place) }
 {
-    text.push(b' ')?;
     push_kilometres(text, place.x)?;
-    text.push(b' ')?;
     push_kilometres(text, place.y)?;
-    text.push(b' ')?;
     push_kilometres(text, place.z)
 }
 
@@ -23,34 +20,51 @@ pub(crate) fn push_place(text: &mut Vec<u8>, place: Vector) -> Result<(), AllocE
 pub(crate) fn push_rate(text: &mut Vec<u8>, rate: Vector) -> Result<(), AllocError>
     ensures { OnOk result (text.new.items ≡ text.old.items ++ rate_text rate) }
 {
-    text.push(b' ')?;
     push_kilometres_a_second(text, rate.x)?;
-    text.push(b' ')?;
     push_kilometres_a_second(text, rate.y)?;
-    text.push(b' ')?;
     push_kilometres_a_second(text, rate.z)
 }
 
-#[tactic(auto, unfolding(crate::specs::Texts::kilometres))]
+/// Adds a space and a number of metres as km.
 fn push_kilometres(text: &mut Vec<u8>, metres: i64) -> Result<(), AllocError>
-    ensures { OnOk result (text.new.items ≡ text.old.items ++ kilometres metres) }
+    ensures { OnOk result (text.new.items ≡ text.old.items ++ codes " " ++ kilometres metres) }
 {
     let size = metres.unsigned_abs();
-    text.extend_from_slice(sign(metres))?;
-    text.extend_from_slice(Buffer::new().format(size / 1_000).as_bytes())?;
-    text.push(b'.')?;
-    text.extend_from_slice(&three((size % 1_000) as u32))
+    push_decimal(
+        text,
+        sign(metres),
+        size / 1_000,
+        &three((size % 1_000) as u32),
+    )
 }
 
-#[tactic(auto, unfolding(crate::specs::Texts::kilometres_a_second))]
+/// Adds a space and a number of mm/s as km/s.
 fn push_kilometres_a_second(text: &mut Vec<u8>, millimetres_a_second: i64) -> Result<(), AllocError>
-    ensures { OnOk result (text.new.items ≡ text.old.items ++ kilometres_a_second millimetres_a_second) }
+    ensures { OnOk result (text.new.items ≡ text.old.items ++ codes " " ++ kilometres_a_second millimetres_a_second) }
 {
     let size = millimetres_a_second.unsigned_abs();
-    text.extend_from_slice(sign(millimetres_a_second))?;
-    text.extend_from_slice(Buffer::new().format(size / 1_000_000).as_bytes())?;
+    push_decimal(
+        text,
+        sign(millimetres_a_second),
+        size / 1_000_000,
+        &six((size % 1_000_000) as u32),
+    )
+}
+
+/// Adds a space, a sign, a whole number, and the digits behind its point.
+fn push_decimal(
+    text: &mut Vec<u8>,
+    sign: &[u8],
+    whole: u64,
+    digits: &[u8],
+) -> Result<(), AllocError>
+    ensures { OnOk result (text.new.items ≡ text.old.items ++ codes " " ++ (sign.now ++ decimal whole ++ codes "." ++ digits.now)) }
+{
+    text.push(b' ')?;
+    text.extend_from_slice(sign)?;
+    text.extend_from_slice(Buffer::new().format(whole).as_bytes())?;
     text.push(b'.')?;
-    text.extend_from_slice(&six((size % 1_000_000) as u32))
+    text.extend_from_slice(digits)
 }
 
 fn sign(number: i64) -> &'static [u8]
