@@ -1,4 +1,5 @@
-ghost use Rattle.std.specs.Prelude.{◌≡◌, length};
+ghost use Rattle.std.specs.Prelude.{◌≡◌, ◌<◌, ◌++◌, length, IfOk};
+ghost use Rattle.cj_io.specs.Parts.{joined};
 
 use crate::part_source::PartSource;
 use std::alloc::{AllocError, Global};
@@ -30,15 +31,13 @@ impl PartSource for MemSource<'_> {
         _rt: &R,
         alloc: Global,
     ) -> Result<Vec<Vec<u8>>, AllocError> {
-        let mut parts = Vec::new(alloc);
         if self.left.is_empty() {
-            return Ok(parts);
+            return Ok(Vec::new(alloc));
         }
         let part = self.part.clamp(1, self.left.len());
         let (front, behind) = self.left.split_at(part);
         let (back, rest) = behind.split_at(part.min(behind.len()));
-        parts.push(Vec::from_slice(alloc, front)?)?;
-        parts.push(Vec::from_slice(alloc, back)?)?;
+        let parts = copies_of(alloc, front, back)?;
         self.left = rest;
         Ok(parts)
     }
@@ -46,4 +45,15 @@ impl PartSource for MemSource<'_> {
     fn is_shared(&self) -> bool {
         true
     }
+}
+
+/// Two parts, copied.
+fn copies_of(alloc: Global, front: &[u8], back: &[u8]) -> Result<Vec<Vec<u8>>, AllocError>
+    ensures joined { IfOk result (λ parts. joined parts.items ≡ front.now ++ back.now) }
+    ensures some { IfOk result (λ parts. 0 < length parts.items) }
+{
+    let mut parts = Vec::new(alloc);
+    parts.push(Vec::from_slice(alloc, front)?)?;
+    parts.push(Vec::from_slice(alloc, back)?)?;
+    Ok(parts)
 }
