@@ -1,4 +1,6 @@
-ghost use Rattle.std.specs.Prelude.{◌≡◌, ◌≤◌, ◌<◌, length, None, IfOk};
+ghost use Rattle.std.specs.Prelude.{◌≡◌, ◌≤◌, ◌<◌, ◌^◌, length, None, IfOk, IsErrOf};
+ghost use Rattle.cj_io.specs.Faults.{Rose};
+ghost use Rattle.cj_io.specs.declared.folder.FolderError.{FolderError};
 
 use crate::system_fault::SystemFault;
 use cj_io::{Failed, Folder, FolderError, Name};
@@ -30,6 +32,34 @@ impl<'a> DirFolder<'a> {
         }
     }
 
+    /// Keeps the files, and answers their names. Files that have no number of 32 bits are a failure.
+    fn keep(&mut self, alloc: Global, files: Vec<DirEntry>) -> Result<Vec<Name>, FolderError>
+        ensures failed { IsErrOf result FolderError.Failed → Rose self.old.faults self.new.faults }
+        ensures count { IfOk result (λ names. length self.new.files.items ≡ length names.items) }
+        ensures numbered { IfOk result (λ names. length names.items < 2 ^ 32) }
+        ensures later { self.old.faults ≤ self.new.faults }
+    {
+        if files.len() > u32::MAX as usize {
+            self.faults = self.faults.saturating_add(1);
+            return Err(FolderError::Failed);
+        }
+        self.files = files;
+        names_of(alloc, &self.files).map_err(FolderError::from)
+    }
+
+    /// Why the directory could not be listed.
+    fn unlisted(&mut self, error: io::Error) -> FolderError
+        ensures failed { result ≡ FolderError.Failed → Rose self.old.faults self.new.faults }
+        ensures later { self.old.faults ≤ self.new.faults }
+    {
+        if error.kind() == ErrorKind::OutOfMemory {
+            return FolderError::Memory;
+        }
+        self.faults = self.faults.saturating_add(1);
+        self.last_fault = SystemFault::of(self.rt.alloc(), self.directory, error);
+        FolderError::Failed
+    }
+
     /// The last file that could not be read, or the directory that could not be listed.
     pub fn last_fault(&self) -> Option<&SystemFault> {
         self.last_fault.as_ref()
@@ -45,20 +75,8 @@ impl Folder for DirFolder<'_> {
 
     fn names(&mut self, alloc: Global) -> Result<Vec<Name>, FolderError> {
         match list_files(self.rt, self.directory) {
-            Ok(files) if files.len() <= u32::MAX as usize => {
-                self.files = files;
-                Ok(names_of(alloc, &self.files)?)
-            }
-            Ok(_) => {
-                self.faults = self.faults.saturating_add(1);
-                Err(FolderError::Failed)
-            }
-            Err(error) if error.kind() == ErrorKind::OutOfMemory => Err(FolderError::Memory),
-            Err(error) => {
-                self.faults = self.faults.saturating_add(1);
-                self.last_fault = SystemFault::of(self.rt.alloc(), self.directory, error);
-                Err(FolderError::Failed)
-            }
+            Ok(files) => self.keep(alloc, files),
+            Err(error) => Err(self.unlisted(error)),
         }
     }
 
@@ -76,16 +94,21 @@ impl Folder for DirFolder<'_> {
     }
 }
 
-// All but the subdirectories, so that a broken link is a file that cannot be read and no object is missing silently.
 fn list_files(rt: &HostRuntime, directory: &str) -> io::Result<Vec<DirEntry>> {
     let mut files = Vec::new(rt.alloc());
     for entry in fs::read_dir(rt, directory)? {
-        let entry = entry?;
-        if !entry.file_type()?.is_dir() {
-            files.push(entry)?;
-        }
+        add_file(&mut files, entry)?;
     }
     Ok(files)
+}
+
+// All but the subdirectories, so that a broken link is a file that cannot be read and no object is missing silently.
+fn add_file(files: &mut Vec<DirEntry>, entry: io::Result<DirEntry>) -> io::Result<()> {
+    let entry = entry?;
+    if !entry.file_type()?.is_dir() {
+        files.push(entry)?;
+    }
+    Ok(())
 }
 
 fn names_of(alloc: Global, files: &[DirEntry]) -> Result<Vec<Name>, AllocError>

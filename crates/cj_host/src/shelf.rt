@@ -34,6 +34,17 @@ impl<'a> DirShelf<'a> {
         }
     }
 
+    /// Makes the file of a piece whose bytes come in slices, one behind another.
+    fn put_slices(&mut self, alloc: Global, name: &[u8], slices: &[&[u8]]) -> Result<(), PutError>
+        ensures failed { IsErrOf result PutError.Failed → Rose self.old.faults self.new.faults }
+        ensures memory { IsErrOf result PutError.Memory → self.new.faults ≡ self.old.faults }
+        ensures later { self.old.faults ≤ self.new.faults }
+    {
+        let place = place_of(alloc, self.directory, name)?;
+        let written = write_whole(self.rt, &place, slices);
+        self.end(alloc, &place, written)
+    }
+
     /// How a put ends that was written so.
     fn end(&mut self, alloc: Global, place: &Place, written: io::Result<()>) -> Result<(), PutError>
         ensures failed { IsErrOf result PutError.Failed → Rose self.old.faults self.new.faults }
@@ -50,6 +61,24 @@ impl<'a> DirShelf<'a> {
         }
     }
 
+    /// How a put ends whose bytes were made and written so.
+    fn end_made(
+        &mut self,
+        alloc: Global,
+        place: &Place,
+        made: Result<(), MakeError>,
+    ) -> Result<(), PutError>
+        ensures failed { IsErrOf result PutError.Failed → Rose self.old.faults self.new.faults }
+        ensures memory { IsErrOf result PutError.Memory → self.new.faults ≡ self.old.faults }
+        ensures later { self.old.faults ≤ self.new.faults }
+    {
+        match made {
+            Ok(()) => Ok(()),
+            Err(MakeError::Memory) => Err(PutError::Memory),
+            Err(MakeError::Fault(reason)) => self.end(alloc, place, Err(reason)),
+        }
+    }
+
     /// The last file that could not be written.
     pub fn last_fault(&self) -> Option<&SystemFault> {
         self.last_fault.as_ref()
@@ -62,19 +91,12 @@ impl Shelf for DirShelf<'_> {
     ghost faults = { λ s. s.faults };
 
     fn put(&mut self, alloc: Global, name: &[u8], bytes: &[u8]) -> Result<(), PutError> {
-        let place = place_of(alloc, self.directory, name)?;
-        let written = write_whole(self.rt, &place, &[bytes]);
-        self.end(alloc, &place, written)
+        self.put_slices(alloc, name, &[bytes])
     }
 
     fn put_parts(&mut self, alloc: Global, name: &[u8], parts: &[Vec<u8>]) -> Result<(), PutError> {
-        let place = place_of(alloc, self.directory, name)?;
-        let mut slices = Vec::with_capacity(alloc, parts.len())?;
-        for part in parts {
-            slices.push(part.as_slice())?;
-        }
-        let written = write_whole(self.rt, &place, &slices);
-        self.end(alloc, &place, written)
+        let slices = slices_of(alloc, parts)?;
+        self.put_slices(alloc, name, &slices)
     }
 }
 
@@ -89,12 +111,17 @@ impl StreamShelf for DirShelf<'_> {
         let place = place_of(alloc, self.directory, name)?;
         // Where already the first parts want memory, no file is begun.
         let first = source.next_parts(rt, alloc)?;
-        match make_whole(self.rt, rt, alloc, &place, first, source) {
-            Ok(()) => Ok(()),
-            Err(MakeError::Memory) => Err(PutError::Memory),
-            Err(MakeError::Fault(reason)) => self.end(alloc, &place, Err(reason)),
-        }
+        let made = make_whole(self.rt, rt, alloc, &place, first, source);
+        self.end_made(alloc, &place, made)
     }
+}
+
+fn slices_of<'a>(alloc: Global, parts: &'a [Vec<u8>]) -> Result<Vec<&'a [u8]>, AllocError> {
+    let mut slices = Vec::with_capacity(alloc, parts.len())?;
+    for part in parts {
+        slices.push(part.as_slice())?;
+    }
+    Ok(slices)
 }
 
 /// Where a piece goes.
@@ -155,7 +182,7 @@ fn make_whole<R: Threads + Sync, M: PartSource>(
     source: &mut M,
 ) -> Result<(), MakeError> {
     match place {
-        Place::Output => write_all_made(&mut files.stdout(), rt, alloc, first, source),
+        Place::Output => write_all_made(&mut files.stdout(), rt, alloc, &first, source),
         Place::File { file, part } => {
             let made = make_file(files, rt, alloc, part, file, first, source);
             if made.is_err() {
@@ -180,7 +207,7 @@ fn make_file<R: Threads + Sync, M: PartSource>(
     let mut to = File::create(files, part.as_path())?;
     write_while_made(&mut to, rt, alloc, first, source)?;
     drop(to);
-    Ok(fs::rename(files, part.as_path(), file.as_path())?)
+    fs::rename(files, part.as_path(), file.as_path()).map_err(MakeError::Fault)
 }
 
 /// Writes a file under the name of its part and then renames it. Where either fails, the part is taken away again.

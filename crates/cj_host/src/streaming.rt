@@ -66,7 +66,7 @@ fn write_and_make<W: Write + Send, R: Threads + Sync, M: PartSource>(
 {
     if !source.is_shared() {
         write_parts(to, ready)?;
-        return Ok(source.next_parts(rt, alloc)?);
+        return source.next_parts(rt, alloc).map_err(MakeError::from);
     }
     let mut make = || -> Result<Vec<Vec<u8>>, AllocError>
         requires { IsSync R.row }
@@ -75,7 +75,7 @@ fn write_and_make<W: Write + Send, R: Threads + Sync, M: PartSource>(
     let mut write = || write_parts(to, ready);
     let (written, made) = join_mut(rt, &mut write, &mut make);
     written?;
-    Ok(made?)
+    made.map_err(MakeError::from)
 }
 
 /// Makes all that the source still has to make, and writes it behind the first parts.
@@ -83,12 +83,12 @@ pub fn write_all_made<W: Write, R: Threads + Sync, M: PartSource>(
     to: &mut W,
     rt: &R,
     alloc: Global,
-    first: Vec<Vec<u8>>,
+    first: &[Vec<u8>],
     source: &mut M,
 ) -> Result<(), MakeError> {
     let rest = all_parts(rt, alloc, source)?;
-    write_parts(to, &first)?;
-    Ok(write_parts(to, &rest)?)
+    write_parts(to, first)?;
+    write_parts(to, &rest).map_err(MakeError::Fault)
 }
 
 fn write_parts<W: Write>(to: &mut W, parts: &[Vec<u8>]) -> io::Result<()> {

@@ -19,9 +19,11 @@ impl SystemFault {
     /// The line for standard error that names both, with its end. A byte that cannot be printed is a `?`.
     pub fn line(&self, alloc: Global) -> Result<Vec<u8>, AllocError> {
         let text = format!(in alloc; "conj: {}: {}", self.file, self.reason)?;
-        let mut line = Vec::with_capacity(alloc, text.len())?;
-        for byte in text.as_bytes() {
-            line.push(if byte.is_ascii_control() { b'?' } else { *byte })?;
+        let mut line = text.into_bytes();
+        for byte in line.iter_mut() {
+            if byte.is_ascii_control() {
+                *byte = b'?';
+            }
         }
         line.push(b'\n')?;
         Ok(line)

@@ -1,4 +1,4 @@
-use Rattle.cj_host.proofs.shelf.DirShelfShelf.put.Goals as goal
+use Rattle.cj_host.proofs.shelf.DirShelf.put_slices.Goals as goal
 
 pub returns-clause-failed : goal.returns-clause-failed
 returns-clause-failed c = c.end.ensures.failed
