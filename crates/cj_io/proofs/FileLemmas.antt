@@ -1,11 +1,11 @@
 -- The bytes of a file by its place in the list, and parts of a file that come one after another.
 use Rattle.std.proofs.Common.{◌≡◌, ℕ, zero, suc, ◌+◌, List, [], ◌∷◌, ◌++◌, ◌<◌, ◌≤◌, length, take, drop, sym, ap, ◌∙◌, arith, append_assoc, append-nil, length-append, slice_index_or, get_or}
-use Rattle.std.proofs.lemmas.List.{length-take, take-take, take-append-le}
+use Rattle.std.proofs.lemmas.List.{length-take, take-take, take-append-le, take_all}
 use Rattle.std.proofs.Math.Seq.{take-add, take-append-add}
 use Rattle.cj_io.specs.declared.file.FileBytes.{FileBytes}
 use Rattle.std.specs.Global.{Vec}
 use Rattle.cj_io.specs.Faults.{Rose}
-use Rattle.cj_io.specs.Files.{bytes_of, ReadsFrom}
+use Rattle.cj_io.specs.Files.{bytes_of, names_of, ReadsFrom}
 use Rattle.cj_io.specs.Parts.{joined}
 
 pub bytes_of-at : (files : List FileBytes) (n : ℕ) (file : FileBytes) → n < length files → file ≡ slice_index_or files n file → file.bytes ≡ bytes_of files n
@@ -46,3 +46,25 @@ joined_more (p ∷ parts) zero part below is = append-nil p.items ∙ ap (λ (q 
 joined_more (p ∷ parts) (suc i) part below is =
     let next : suc i + 1 ≡ suc (i + 1) = omega arith in
     rw next (ap (λ (xs : List ℕ). p.items ++ xs) (joined_more parts i part (omega arith) is) ∙ simp append_assoc)
+
+-- the names of the first files with one more
+named_more : (files : List FileBytes) (i : ℕ) (file : FileBytes) → i < length files → file ≡ get_or files i file
+    → names_of (take (i + 1) files) ≡ names_of (take i files) ++ file.name ∷ []
+named_more [] i file below is = absurd (omega arith)
+named_more (f ∷ files) zero file below is = ap (λ (g : FileBytes). g.name ∷ []) (sym is)
+named_more (f ∷ files) (suc i) file below is =
+    let next : suc i + 1 ≡ suc (i + 1) = omega arith in
+    rw next (ap (λ (names : List (List ℕ)). f.name ∷ names) (named_more files i file (omega arith) is))
+
+-- and what names were copied, with a copy of the next one
+pub names_grow : (files : List FileBytes) (i : ℕ) (file : FileBytes) (was now : List (List ℕ)) (name shown : List ℕ) → i < length files → file ≡ get_or files i file
+    → was ≡ names_of (take i files) → now ≡ was ++ name ∷ [] → name ≡ shown → shown ≡ file.name → now ≡ names_of (take (i + 1) files)
+names_grow files i file was now name shown below is so_far added copied same =
+    added
+    ∙ ap (λ (copy : List ℕ). was ++ copy ∷ []) (copied ∙ same)
+    ∙ ap (λ (names : List (List ℕ)). names ++ file.name ∷ []) so_far
+    ∙ sym (named_more files i file below is)
+
+-- until all are copied
+pub all_named : (files : List FileBytes) (i : ℕ) (names : List (List ℕ)) → names ≡ names_of (take i files) → length files ≤ i → names ≡ names_of files
+all_named files i names so_far past = so_far ∙ ap names_of (take_all i files past)

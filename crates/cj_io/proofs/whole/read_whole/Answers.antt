@@ -1,9 +1,13 @@
 use Rattle.std.proofs.Common.{◌≡◌, ◌≤◌, ◌+◌, ◌∙◌, ap, List, ℕ, take, length, length-drop, arith}
-use Rattle.std.proofs.lemmas.List.{length-take-le}
+use Rattle.std.proofs.Math.Nat.{le_trans}
+use Rattle.std.proofs.lemmas.List.{length-take, length-take-le}
 use Rattle.std.proofs.lemmas.Result.{err_from_is_err_and}
 use Rattle.cj_io.specs.Files.{bytes_of}
 use Rattle.cj_io.proofs.FileLemmas.{part_stands, part_fits, next_part, rose_since}
 use Rattle.cj_io.proofs.whole.read_whole.Goals as goal
+
+cut_within : (bytes front : List ℕ) (count limit : ℕ) → front ≡ take count bytes → count ≤ limit → length front ≤ limit
+cut_within bytes front count limit e h = rw (e, length-take) (omega arith)
 
 pub loop-bytes-preserved : goal.loop-bytes-preserved
 loop-bytes-preserved g c =
@@ -28,6 +32,15 @@ loop-bytes-preserved g c =
       count = c.read.ensures.count ∙ before.count;
       later = omega (arith, c.read.ensures.later, before.later);
     }
+
+pub make_room-requires-clause-within : goal.make_room-requires-clause-within
+make_room-requires-clause-within g c = c.loop-bytes.invariant.within
+
+pub overflow_add-read : goal.overflow_add-read
+overflow_add-read g c = record { fits = omega (arith, c.from.ensures, c.if-limit-read.false, c.loop-bytes.invariant.within, c.ranges.limit) }
+
+pub loop-bytes-smaller : goal.loop-bytes-smaller
+loop-bytes-smaller g c = omega (arith, c.from.ensures)
 
 -- ---- no room
 
@@ -57,7 +70,21 @@ returns-in_err-count-clause-too_large g c = λ files told is.
     let failed = p.2 in
     absurd cc
 
+pub returns-in_err-count-clause-later : goal.returns-in_err-count-clause-later
+returns-in_err-count-clause-later g c = le_trans c.loop-bytes.invariant.later c.read.ensures.later
+
+-- ---- all bytes
+
+pub returns-then-count-eq0-clause-within : goal.returns-then-count-eq0-clause-within
+returns-then-count-eq0-clause-within g c = cut_within _ c.truncate.new.self.items c.loop-bytes.read c.args.limit c.truncate.ensures.items c.loop-bytes.invariant.within
+
+pub returns-then-count-eq0-clause-later : goal.returns-then-count-eq0-clause-later
+returns-then-count-eq0-clause-later g c = le_trans c.loop-bytes.invariant.later c.read.ensures.later
+
 -- ---- too many bytes
+
+pub returns-then-limit-read-clause-later : goal.returns-then-limit-read-clause-later
+returns-then-limit-read-clause-later g c = le_trans c.loop-bytes.invariant.later c.read.ensures.later
 
 pub returns-then-limit-read-clause-too_large : goal.returns-then-limit-read-clause-too_large
 returns-then-limit-read-clause-too_large g c = λ files told is.
