@@ -1,8 +1,8 @@
-ghost use Rattle.std.specs.Prelude.{◌≡◌, ◌+◌, ◌<◌, ◌≤◌, ◌==◌, ◌&&◌, List, [], ◌∷◌, ◌++◌, length, if◌then◌else◌, IfOk, OnOk, All};
+ghost use Rattle.std.specs.Prelude.{◌≡◌, ◌+◌, ◌<◌, ◌≤◌, ◌==◌, ◌&&◌, false, List, [], ◌∷◌, ◌++◌, length, if◌then◌else◌, IfOk, OnOk, All};
 ghost use Rattle.cj_bezier.specs.Leaves.{PlainLeaf, plain_leaf, plain_leaves};
 ghost use Rattle.cj_bezier.specs.declared.encounter.Mark.TheVariants as Mark;
 ghost use Rattle.cj_bezier.specs.Order.{AreInOrder, HaveTicks};
-ghost use Rattle.cj_meet.specs.Encounters.{AreEncounters, encounters_of, groups_in, Describes, is_near_mark};
+ghost use Rattle.cj_meet.specs.Encounters.{AreEncounters, encounters_of, groups_in, Describes, is_far, is_near_mark, mark_of};
 ghost use Rattle.cj_meet.specs.Spans.{HaveExactSpans};
 
 use cj_bezier::{Encounter, Kind, Leaf, Mark};
@@ -27,7 +27,7 @@ pub fn encounters(alloc: Global, leaves: &[Leaf]) -> Result<Vec<Encounter>, Allo
     Ok(found)
 }
 
-// Adds the leaf that comes after so many others: to the last encounter where it goes on, else as a new one.
+// Adds the leaf that comes after so many others, if it is not far.
 fn add(found: &mut Vec<Encounter>, leaf: &Leaf, at: u32) -> Result<(), AllocError>
     requires room { at < 4_000_000 }
     requires within { All (λ e. e.past ≤ at) found.old.items }
@@ -37,20 +37,41 @@ fn add(found: &mut Vec<Encounter>, leaf: &Leaf, at: u32) -> Result<(), AllocErro
         length ss ≡ at → HaveTicks ss → AreInOrder (ss ++ plain_leaf leaf.now ∷ []) →
         AreEncounters ss found.old.items → AreEncounters (ss ++ plain_leaf leaf.now ∷ []) found.new.items) }
 {
-    let mark = match leaf.kind {
-        Kind::Far => return Ok(()),
-        Kind::Near => Mark::Near,
-        Kind::Undecided => Mark::Undecided,
-    };
+    match leaf.kind {
+        Kind::Far => Ok(()),
+        Kind::Near => add_marked(found, leaf, Mark::Near, at),
+        Kind::Undecided => add_marked(found, leaf, Mark::Undecided, at),
+    }
+}
+
+// Adds a leaf that is not far, whose mark this is: to the last encounter where it goes on, else as a new one.
+fn add_marked(
+    found: &mut Vec<Encounter>,
+    leaf: &Leaf,
+    mark: Mark,
+    at: u32,
+) -> Result<(), AllocError>
+    requires room { at < 4_000_000 }
+    requires within { All (λ e. e.past ≤ at) found.old.items }
+    requires not_far { is_far (plain_leaf leaf.now) ≡ false }
+    requires marked { mark ≡ mark_of (plain_leaf leaf.now ∷ []) }
+    ensures within { OnOk result (All (λ e. e.past ≤ at + 1) found.new.items) }
+    ensures found { OnOk result ((ss : List PlainLeaf) →
+        length ss ≡ at → HaveTicks ss → AreInOrder (ss ++ plain_leaf leaf.now ∷ []) →
+        AreEncounters ss found.old.items → AreEncounters (ss ++ plain_leaf leaf.now ∷ []) found.new.items) }
+{
     match found.last() {
         Some(last) if goes_on(last, leaf) => {
             let longer = extended(last, leaf, mark, at + 1);
             let place = found.len() - 1;
             found[place] = longer;
+            Ok(())
         }
-        _ => found.push(begun(leaf, mark, at))?,
+        _ => {
+            found.push(begun(leaf, mark, at))?;
+            Ok(())
+        }
     }
-    Ok(())
 }
 
 // Whether the leaf is of the same pair and begins at the next tick.

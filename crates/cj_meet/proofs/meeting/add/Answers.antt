@@ -1,60 +1,8 @@
-use Rattle.std.proofs.Common.{arith, ◌≡◌, ◌-◌, length, slice_get, refl, sym, ◌∙◌, subst, ap, [], ◌∷◌, ◌++◌, cond}
-use Rattle.cj_bezier.specs.declared.encounter.Mark.TheVariants as Mark
 use Rattle.cj_bezier.specs.Leaves.{plain_leaf}
-use Rattle.cj_meet.specs.Encounters.{AreEncounters, is_near_mark}
-use Rattle.cj_meet.proofs.EncounterLemmas.{HasMark, Begins, encounters_past_far, encounters_extended, encounters_first, encounters_added, told_there, told_none}
-use Rattle.std.proofs.lemmas.List.{nil_from_length}
+use Rattle.cj_meet.proofs.EncounterLemmas.{encounters_past_far}
+use Rattle.std.proofs.Common.{refl}
 use Rattle.cj_meet.proofs.meeting.add.Goals as goal
-use Rattle.cj_meet.proofs.meeting.add.Goals.{in-Near, in-Undecided, in_default-via-in-Some+else-goes_on, in_default-via-in_default}
 
 pub returns-in-Far-clause-found : goal.returns-in-Far-clause-found
 returns-in-Far-clause-found c = λ ss len ticks order before.
     encounters_past_far ss (plain_leaf c.args.leaf.now) c.args.found.now.items (rw c.in-Far.is refl) before
-
-pub returns-in-Some-clause-found : goal.returns-in-Some-clause-found
-returns-in-Some-clause-found c = λ ss len ticks order before.
-    let x = plain_leaf c.args.leaf.now in
-    let es = c.args.found.now.items in
-    let marked : HasMark x c.match-leaf.mark = elim c.match-leaf.branch [
-      | in-Near w ↦ record { not_far = rw w.in-Near.is refl; mark = w.mark-is ∙ rw w.in-Near.is refl }
-      | in-Undecided w ↦ record { not_far = rw w.in-Undecided.is refl; mark = w.mark-is ∙ rw w.in-Undecided.is refl }
-    ] in
-    let there = told_there es (length es - 1) c.in-Some.last.now (c.in-Some.ensures.value ∙ ap (λ l. slice_get l (length l - 1)) c.deref.ensures.value) in
-    let count : c.len-place.result ≡ length es = c.len-place.ensures ∙ c.args.found.now.ok.0 in
-    let kept = c.extended-longer.ensures.kept in
-    encounters_extended ss x es c.len-place.result c.in-Some.last.now c.extended-longer.result count (omega (arith, there.0)) (rw count there.1) marked.not_far ticks order (sym c.goes_on.ensures ∙ c.if-goes_on.true)
-    (record {
-      pair = kept.0;
-      first = kept.1;
-      leaf = kept.2;
-      past = omega arith;
-      last = ap (λ t. t.micros) c.extended-longer.ensures.end.0;
-      mark = c.extended-longer.ensures.mark ∙ ap (λ m. cond (is_near_mark c.in-Some.last.now.mark) Mark.Near m) marked.mark;
-    }) before
-
-pub returns-in_ok-push-in_default-clause-found : goal.returns-in_ok-push-in_default-clause-found
-returns-in_ok-push-in_default-clause-found c = λ ss len ticks order before.
-    let x = plain_leaf c.args.leaf.now in
-    let es = c.args.found.now.items in
-    let marked : HasMark x c.match-leaf.mark = elim c.match-leaf.branch [
-      | in-Near w ↦ record { not_far = rw w.in-Near.is refl; mark = w.mark-is ∙ rw w.in-Near.is refl }
-      | in-Undecided w ↦ record { not_far = rw w.in-Undecided.is refl; mark = w.mark-is ∙ rw w.in-Undecided.is refl }
-    ] in
-    let begins : Begins ss x c.begun.result = record {
-      leaf = c.begun.ensures.place.0 ∙ sym len;
-      past = omega arith;
-      a = ap (λ p. p.a) c.begun.ensures.cell.0;
-      b = ap (λ p. p.b) c.begun.ensures.cell.0;
-      first = ap (λ t. t.micros) c.begun.ensures.cell.1;
-      last = ap (λ t. t.micros) c.begun.ensures.cell.2;
-      mark = c.begun.ensures.mark ∙ marked.mark;
-    } in
-    let pushed = c.in_ok-push-in_default.ensures.items in
-    elim c.in_default.branch [
-      | in_default-via-in-Some+else-goes_on w ↦
-          let there = told_there es (length es - 1) w.in-Some.last.now (w.in-Some.ensures.value ∙ ap (λ l. slice_get l (length l - 1)) c.deref.ensures.value) in
-          subst (AreEncounters (ss ++ x ∷ [])) (sym pushed) (encounters_added ss x es (length es) w.in-Some.last.now c.begun.result refl (omega (arith, there.0)) there.1 marked.not_far (sym w.goes_on.ensures ∙ w.if-goes_on.false) begins before)
-      | in_default-via-in_default w ↦
-          let none : es ≡ [] = nil_from_length es (omega (arith, told_none es (length es - 1) (w.in_default.ensures.value ∙ ap (λ l. slice_get l (length l - 1)) c.deref.ensures.value))) in
-          subst (AreEncounters (ss ++ x ∷ [])) (sym (pushed ∙ ap (λ l. l ++ c.begun.result ∷ []) none)) (encounters_first ss x c.begun.result marked.not_far begins (subst (AreEncounters ss) none before))
-    ]
