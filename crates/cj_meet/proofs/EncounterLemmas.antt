@@ -10,7 +10,6 @@ use Rattle.std.proofs.lemmas.Slice.{between_is}
 use Rattle.std.specs.Prelude.{All, slice_range}
 use Rattle.std.specs.List.{list_any}
 use Rattle.cj_bezier.specs.declared.encounter.Encounter.{Encounter}
-use Rattle.cj_bezier.specs.declared.encounter.Mark.{Mark}
 use Rattle.cj_bezier.specs.declared.encounter.Mark.TheVariants as mark
 use Rattle.cj_bezier.specs.Leaves.{PlainLeaf, plain_leaf, plain_leaves}
 use Rattle.cj_bezier.specs.declared.leaf.Leaf.{Leaf}
@@ -280,11 +279,6 @@ encounters_begun ss x os o e far on begins before =
       described = All-push (Describes (ss ++ x ∷ [])) (os ++ o ∷ []) e (All-weaker (Describes ss) (Describes (ss ++ x ∷ [])) (Describes-more ss (x ∷ [])) (os ++ o ∷ []) before.described) (Describes-begun ss x e begins);
     }
 
--- what the kind of a stretch says of an encounter of its own
-pub record HasMark (x : PlainLeaf) (m : Mark) : Type 0 where
-  pub not_far : is_far x ≡ false
-  pub mark : m ≡ mark_of (x ∷ [])
-
 -- what a look at a place of a list tells of it
 pub told_there : (es : List Encounter) (k : ℕ) (o : Encounter) → Some o ≡ slice_get es k → (k < length es) × (o ≡ get_or es k o)
 told_there es k o is = (slice_get_within es k o (sym is), sym (get_or_from_slice_get es k o o (sym is)))
@@ -293,6 +287,26 @@ pub told_none : (es : List Encounter) (k : ℕ) → None ≡ slice_get es k → 
 told_none [] k is = omega arith
 told_none (e ∷ es) zero is = cc
 told_none (e ∷ es) (suc k) is = omega (arith, told_none es k is)
+
+-- where the last is found there is one
+pub told_some : (es : List Encounter) (o : Encounter) → Some o ≡ slice_get es (length es - 1) → 0 < length es
+told_some es o is = omega (arith, (told_there es (length es - 1) o is).0)
+
+-- what ends before a place ends before the next one
+pub past_later : (es : List Encounter) (at : ℕ) → All (λ e. e.past ≤ at) es → All (λ e. e.past ≤ at + 1) es
+past_later es at before = All-weaker (λ e. e.past ≤ at) (λ e. e.past ≤ at + 1) (λ e h. omega arith) es before
+
+-- the encounter at a place ends before what all end before
+pub told_past : (es : List Encounter) (k : ℕ) (o : Encounter) (at : ℕ) → Some o ≡ slice_get es k → All (λ e. e.past ≤ at) es → o.past ≤ at
+told_past es k o at is before =
+    let there = told_there es k o is in
+    subst (λ e. e.past ≤ at) (sym there.1) (before k o there.0)
+
+-- a stretch that goes on begins behind the last tick
+pub goes_on_later : (o : Encounter) (x : PlainLeaf) → goes_on o x ≡ true → o.last.micros ≤ x.first
+goes_on_later o x on =
+    let times = (and_parts (o.pair.b == x.b) (o.last.micros + 1 == x.first) (and_parts (o.pair.a == x.a) (o.pair.b == x.b && o.last.micros + 1 == x.first) on).1).1 in
+    omega (arith, eqb-true (o.last.micros + 1) x.first times)
 
 -- the last of n encounters is replaced by one that goes on
 pub encounters_extended : (ss : List PlainLeaf) (x : PlainLeaf) (es : List Encounter) (n : ℕ) (o e : Encounter) → n ≡ length es → 0 < n → o ≡ get_or es (n - 1) o →
