@@ -1,6 +1,7 @@
 -- Lines of words that are lent.
-use Rattle.std.proofs.Common.{◌≡◌, ℕ, List, [], ◌∷◌, ◌++◌, map, ap, append-nil, append_assoc, sym, ◌∙◌, Bor}
+use Rattle.std.proofs.Common.{◌≡◌, ℕ, List, [], ◌∷◌, ◌++◌, map, ◌+◌, ◌<◌, get_or, length, take, ap, append-nil, append_assoc, sym, ◌∙◌, Bor}
 use Rattle.std.specs.Prelude.{flat_map}
+use Rattle.std.proofs.lemmas.List.{flat_map_more, take_more}
 use Rattle.std.specs.List.{join_with_byte}
 use Rattle.cj_report.specs.Report.{line}
 
@@ -17,3 +18,10 @@ pub line-spaced : (text word : List ℕ) (more : List (Bor (List ℕ))) → ((te
 line-spaced text word more =
     ap (λ t. t ++ 10 ∷ []) (append_assoc text word (flat_map spaced more)) ∙
     (append_assoc text (word ++ flat_map spaced more) (10 ∷ []) ∙ ap (λ t. text ++ (t ++ 10 ∷ [])) (sym (join-spaced word more)))
+
+-- one more word with the space before it
+pub spaced_more : (text : List ℕ) (more : List (Bor (List ℕ))) (k : ℕ) (d : Bor (List ℕ)) → k < length more →
+    ((text ++ flat_map spaced (take k more)) ++ 32 ∷ []) ++ (get_or more k d).now ≡ text ++ flat_map spaced (take (k + 1) more)
+spaced_more text more k d lt =
+    append_assoc (text ++ flat_map spaced (take k more)) (32 ∷ []) (get_or more k d).now
+    ∙ (flat_map_more spaced text (take k more) (get_or more k d) ∙ ap (λ ws. text ++ flat_map spaced ws) (sym (take_more more k d lt)))
