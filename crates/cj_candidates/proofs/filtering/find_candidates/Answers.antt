@@ -65,3 +65,11 @@ returns-clause-far g c =
     unlooked_far case (shells_of case) (boxes_in case)
     (case_in_shells case tracks c.slot_count-slots.result run all c.in_ok-shells.ensures)
     (case_in_boxes case tracks c.slot_count-slots.result run all c.slot_count-slots.ensures c.in_ok-shells.ensures)
+
+pub returns-clause-too_many : goal.returns-clause-too_many
+returns-clause-too_many g c = λ is. absurd cc
+
+pub returns-in_err-shells-clause-too_many : goal.returns-in_err-shells-clause-too_many
+returns-in_err-shells-clause-too_many g c =
+    let p = err_from_is_err_and c.from_residual.result c.from_residual.ensures.1 in
+    rw (p.1, p.2) (λ is. absurd cc)

@@ -1,5 +1,6 @@
 use Rattle.std.proofs.Common.{subst}
 use Rattle.std.specs.Prelude.{IfOk}
+use Rattle.std.proofs.lemmas.Result.{err_from_is_err_and}
 use Rattle.cj_candidates.specs.declared.slot_run.SlotRuns.{SlotRuns}
 use Rattle.cj_candidates.specs.SlotRuns.{IsFoundAt}
 use Rattle.cj_candidates.proofs.SlotRunLemmas.{both_found}
@@ -18,3 +19,8 @@ returns c = λ some others limit one two.
           c.in_ok-append.ensures.items
           c.saturating_add.ensures;
     }
+
+pub returns-in_err-append : goal.returns-in_err-append
+returns-in_err-append c = λ some others limit one two.
+    let p = err_from_is_err_and c.from_residual-in_err-append.result c.from_residual-in_err-append.ensures.1 in
+    rw (p.1, p.2) (record { too_many = λ is. absurd cc; found = tt })
