@@ -1,4 +1,7 @@
 use Rattle.std.proofs.lemmas.Result.{err_from_is_err_and}
+use Rattle.std.proofs.Common.{◌≡◌, [], ◌++◌, Ok, map, append-nil, sym, ap, ◌∙◌}
+use Rattle.std.specs.Vec.Iter.{into_iter_items}
+use Rattle.std.proofs.lemmas.List.{nil_from_length}
 use Rattle.cj_pool.proofs.dealing.all_served.Goals as goal
 
 pub returns-in_err-station : goal.returns-in_err-station
@@ -6,3 +9,11 @@ returns-in_err-station g c = let p = err_from_is_err_and c.from_residual.result 
 
 pub returns-in_err-push : goal.returns-in_err-push
 returns-in_err-push g c = let p = err_from_is_err_and c.from_residual-in_err-push.result c.from_residual-in_err-push.ensures.1 in rw p.1 tt
+
+pub returns : goal.returns
+returns g c =
+    let whole = c.loop-station.invariant in
+    let rest = into_iter_items c.loop-station.station-iterator in
+    let none : rest ≡ [] = nil_from_length rest (sym whole.left ∙ c.in-None.ensures.steps.0) in
+    let done = map Ok c.loop-station.stations.items in
+    sym (append-nil done) ∙ (ap (λ left. done ++ left) (sym none) ∙ whole.whole)

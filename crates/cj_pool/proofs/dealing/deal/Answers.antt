@@ -3,6 +3,7 @@ use Rattle.std.specs.Prelude.{IfOk}
 use Rattle.std.proofs.lemmas.Result.{IfOk-weaker}
 use Rattle.cj_pool.proofs.DealLemmas.{AreServed, all_served, served_deques, served_stations, served_unused, served_dealt}
 use Rattle.cj_pool.proofs.dealing.deal.Given as run
+use Rattle.std.proofs.lemmas.Result.{err_from_is_err_and}
 use Rattle.cj_pool.proofs.dealing.deal.Goals as goal
 
 are_served : (g : run.Over) (c : goal.After-all_served g) → IfOk c.all_served.result (λ new. AreServed c.args.roots.now c.args.workers c.args.stations.items new.items)
@@ -31,3 +32,18 @@ pub returns-clause-dealt : goal.returns-clause-dealt
 returns-clause-dealt g c =
     IfOk-weaker c.all_served.result _ _ (λ new served.
     served_dealt c.args.roots.now c.args.workers c.args.stations.items new.items served g.K.Run.workers c.requires.stations c.requires.len) (are_served g c)
+
+pub serve_each-requires-clause-some : goal.serve_each-requires-clause-some
+serve_each-requires-clause-some g c _ _ = c.requires.workers.1
+
+pub serve_each-requires-clause-roots : goal.serve_each-requires-clause-roots
+serve_each-requires-clause-roots g c _ _ = c.requires.roots
+
+pub serve_each-requires-clause-unopened : goal.serve_each-requires-clause-unopened
+serve_each-requires-clause-unopened g c _ _ = c.requires.unopened
+
+pub returns-in_err-served-clause-unused : goal.returns-in_err-served-clause-unused
+returns-in_err-served-clause-unused g c = λ unused. rw (err_from_is_err_and c.from_residual.result c.from_residual.ensures.1).1 tt
+
+pub returns-in_err-served-clause-dealt : goal.returns-in_err-served-clause-dealt
+returns-in_err-served-clause-dealt g c = rw (err_from_is_err_and c.from_residual.result c.from_residual.ensures.1).1 tt

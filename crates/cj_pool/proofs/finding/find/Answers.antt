@@ -6,6 +6,7 @@ use Rattle.cj_pool.specs.declared.account.Account.{Account}
 use Rattle.cj_pool.specs.Passes.{deques, takens, deques_of, around, TookOne}
 use Rattle.cj_pool.proofs.PassLemmas.{below_of, above_of, took_own}
 use Rattle.cj_pool.proofs.PickLemmas.{found_around}
+use Rattle.std.proofs.Common.{refl}
 use Rattle.cj_pool.proofs.finding.find.Goals as goal
 
 pub steal_next-requires-clause-below : goal.steal_next-requires-clause-below
@@ -35,3 +36,24 @@ returns-clause-taken g c =
     let own = (c.in_default.ensures {u = tt}).rule.0 in
     found_around c.steal_next.result (takens s.below.items) (takens c.steal_next.new.below.items) (worker_view s.own).taken (worker_view c.pop.new.own).taken (takens s.above.items) (takens c.steal_next.new.above.items)
     (ap (λ (v : Account). v.taken) own) c.steal_next.ensures.taken
+
+pub returns-clause-tree : goal.returns-clause-tree
+returns-clause-tree g c = c.steal_next.ensures.tree
+
+pub returns-in-Some-clause-above : goal.returns-in-Some-clause-above
+returns-in-Some-clause-above g c = (refl, c.requires.above)
+
+pub returns-in-Some-clause-below : goal.returns-in-Some-clause-below
+returns-in-Some-clause-below g c = (refl, c.requires.below)
+
+pub returns-in-Some-clause-none : goal.returns-in-Some-clause-none
+returns-in-Some-clause-none g c = tt
+
+pub returns-in-Some-clause-number : goal.returns-in-Some-clause-number
+returns-in-Some-clause-number g c = refl
+
+pub returns-in-Some-clause-place : goal.returns-in-Some-clause-place
+returns-in-Some-clause-place g c = c.requires.place
+
+pub returns-in-Some-clause-tree : goal.returns-in-Some-clause-tree
+returns-in-Some-clause-tree g c = c.into_cell.ensures.tree

@@ -29,3 +29,18 @@ loop-cell-preserved c =
     c.requires.lengths c.args.problem.now.least (omega (arith, e.within, new.ok.0))
     (subst (λ (k : ℕ). take k new.items ≡ l.leaves.items) n e.kept) e.ok
     (subst (λ (k : ℕ). All (λ leaf. leaf.cell.root ≡ c.cell-item.result.root) (drop k new.items)) n e.root)
+
+pub returns-clause-too_many : goal.returns-clause-too_many
+returns-clause-too_many c = tt
+
+pub returns-in-Err-clause-judged : goal.returns-in-Err-clause-judged
+returns-in-Err-clause-judged c = tt
+
+pub returns-in-Err-clause-within : goal.returns-in-Err-clause-within
+returns-in-Err-clause-within c = tt
+
+pub returns-then-len-limit-clause-judged : goal.returns-then-len-limit-clause-judged
+returns-then-len-limit-clause-judged c = tt
+
+pub returns-then-len-limit-clause-within : goal.returns-then-len-limit-clause-within
+returns-then-len-limit-clause-within c = tt

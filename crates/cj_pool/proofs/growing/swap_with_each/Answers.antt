@@ -1,6 +1,7 @@
 use Rattle.std.proofs.Common.{get_or, arith}
 use Rattle.std.proofs.lemmas.List.{get_or_default}
 use Rattle.cj_pool.proofs.StationLemmas.{grown_begins, grown_step, grown_stations, grown_unused, grown_unopened, next_begins}
+use Rattle.std.proofs.lemmas.Result.{err_from_is_err_and}
 use Rattle.cj_pool.proofs.growing.swap_with_each.Goals as goal
 
 pub loop-earlier-init : goal.loop-earlier-init
@@ -42,3 +43,12 @@ returns-clause-unused g c = grown_unused g.K.Run.workers c.loop-earlier.earlier-
 pub returns-clause-unopened : goal.returns-clause-unopened
 returns-clause-unopened g c = grown_unopened g.K.Run.workers c.loop-earlier.earlier-index c.args.stations.now c.loop-earlier.stations
     c.loop-earlier.next c.loop-earlier.invariant
+
+pub returns-in_err-swap_passes-clause-stations : goal.returns-in_err-swap_passes-clause-stations
+returns-in_err-swap_passes-clause-stations g c = rw (err_from_is_err_and c.from_residual.result c.from_residual.ensures.1).1 tt
+
+pub returns-in_err-swap_passes-clause-unopened : goal.returns-in_err-swap_passes-clause-unopened
+returns-in_err-swap_passes-clause-unopened g c = rw (err_from_is_err_and c.from_residual.result c.from_residual.ensures.1).1 tt
+
+pub returns-in_err-swap_passes-clause-unused : goal.returns-in_err-swap_passes-clause-unused
+returns-in_err-swap_passes-clause-unused g c = rw (err_from_is_err_and c.from_residual.result c.from_residual.ensures.1).1 tt

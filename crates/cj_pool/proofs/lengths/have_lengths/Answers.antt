@@ -1,6 +1,6 @@
-use Rattle.std.proofs.Common.{All, ◌∙◌, subst, arith}
-use Rattle.std.proofs.lemmas.List.{take_all}
-use Rattle.std.proofs.lemmas.List.Elements.{All-map}
+use Rattle.std.proofs.Common.{All, get_or, take, ◌∙◌, sym, subst, arith}
+use Rattle.std.proofs.lemmas.List.{take_all, take_more}
+use Rattle.std.proofs.lemmas.List.Elements.{All-map, All-push}
 use Rattle.cj_track.specs.declared.track.Track.{Track}
 use Rattle.cj_track.specs.Tracks.{plain_track}
 use Rattle.cj_hermite.specs.Problems.{plain_problem}
@@ -14,3 +14,14 @@ returns c =
     let all = subst (All (λ (t : Track). IsRising (plain_track t)))
     (take_all c.loop-track.track-index tracks (omega arith) ∙ c.as_slice-track-items.ensures.value) c.loop-track.invariant in
     curves_long (plain_problem c.args.problem.now) (All-map IsRising plain_track c.args.problem.now.tracks all)
+
+pub loop-track-init : goal.loop-track-init
+loop-track-init c = λ k d lt. absurd (omega arith)
+
+pub loop-track-preserved : goal.loop-track-preserved
+loop-track-preserved c =
+    let tracks = c.as_slice-track-items.result.now in
+    let at = c.loop-track.track-index in
+    let rises = λ (t : Track). IsRising (plain_track t) in
+    subst (All rises) (sym (take_more tracks at c.track-item.result c.loop-track-test.true))
+    (All-push rises (take at tracks) (get_or tracks at c.track-item.result) c.loop-track.invariant (subst rises c.track-item.is c.rising.ensures))

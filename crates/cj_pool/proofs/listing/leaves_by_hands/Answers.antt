@@ -7,6 +7,7 @@ use Rattle.cj_bezier.specs.declared.cell.Cell.{Cell}
 use Rattle.cj_bezier.specs.Cells.{plain_cells}
 use Rattle.cj_bezier.specs.RootLeaves.{leaves_of_root, Describe}
 use Rattle.cj_pool.proofs.ListingLemmas.{back_all, back_numbers}
+use Rattle.cj_bezier.specs.RootLeaves.{leaves_of_roots}
 use Rattle.cj_pool.proofs.listing.leaves_by_hands.Goals as goal
 
 pub finish-requires-clause-hands : goal.finish-requires-clause-hands
@@ -39,3 +40,44 @@ pub returns-in_err-hands : goal.returns-in_err-hands
 returns-in_err-hands g c =
     let p = err_from_is_err_and c.from_residual-in_err-hands.result c.from_residual-in_err-hands.ensures.1 in
     rw (p.1, p.2) (record { value = tt; within = tt; too_many = λ is. absurd cc; leaves = tt })
+
+pub new-requires-clause-problem : goal.new-requires-clause-problem
+new-requires-clause-problem g c _ _ = c.requires.problem
+
+pub new-requires-clause-roots : goal.new-requires-clause-roots
+new-requires-clause-roots g c _ _ = c.requires.roots
+
+pub new-requires-clause-workers : goal.new-requires-clause-workers
+new-requires-clause-workers g c _ _ = c.requires.workers
+
+pub new-requires-clause-are_roots : goal.new-requires-clause-are_roots
+new-requires-clause-are_roots g c _ _ = c.requires.are_roots
+
+pub new-requires-clause-some : goal.new-requires-clause-some
+new-requires-clause-some g c _ _ = c.requires.some
+
+pub new-requires-clause-few_workers : goal.new-requires-clause-few_workers
+new-requires-clause-few_workers g c _ _ = c.requires.few_workers
+
+pub new-requires-clause-few_roots : goal.new-requires-clause-few_roots
+new-requires-clause-few_roots g c _ _ = c.requires.few_roots
+
+pub new-requires-clause-few_leaves : goal.new-requires-clause-few_leaves
+new-requires-clause-few_leaves g c _ _ = c.requires.few_leaves
+
+pub returns-in-Err-clause-value : goal.returns-in-Err-clause-value
+returns-in-Err-clause-value g c = tt
+
+pub returns-in-Err-clause-within : goal.returns-in-Err-clause-within
+returns-in-Err-clause-within g c = tt
+
+pub returns-in-Err-clause-leaves : goal.returns-in-Err-clause-leaves
+returns-in-Err-clause-leaves g c = tt
+
+pub returns-in-Ok-clause-too_many : goal.returns-in-Ok-clause-too_many
+returns-in-Ok-clause-too_many g c = λ is. absurd cc
+
+pub returns-in-Ok-clause-value : goal.returns-in-Ok-clause-value
+returns-in-Ok-clause-value g c =
+    let seen = c.in_ok-refinery.ensures.seen in
+    c.in-Ok.ensures.value ∙ (λ i. leaves_of_roots (plain_problem (seen.0 i)) (plain_cells (seen.1 i)))

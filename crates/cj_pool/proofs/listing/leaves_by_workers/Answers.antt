@@ -1,4 +1,4 @@
-use Rattle.std.proofs.Common.{◌≡◌, ◌+◌, length, Result, Ok, Err, Vec, Global, vec_len, sym, ap, ◌∙◌, arith}
+use Rattle.std.proofs.Common.{◌≡◌, ◌+◌, length, Result, Ok, Err, Vec, Global, vec_len, refl, sym, ap, ◌∙◌, arith}
 use Rattle.std.specs.Prelude.{IfOk}
 use Rattle.std.specs.List.{range_with_len}
 use Rattle.std.proofs.lemmas.List.{length-map}
@@ -73,3 +73,48 @@ returns-clause-splits g c = go c.leaves_by_hands.result (returns-clause-value g 
         let split = list_split case in
         let roots = ap length c.requires.found in
         omega (arith, length-map leaves.items plain_leaf, length-map c.args.roots.items plain_cell, leaves.ok.0, c.args.roots.ok.0)
+
+pub leaves_by_hands-requires-clause-problem : goal.leaves_by_hands-requires-clause-problem
+leaves_by_hands-requires-clause-problem g c _ _ = refl
+
+pub leaves_by_hands-requires-clause-roots : goal.leaves_by_hands-requires-clause-roots
+leaves_by_hands-requires-clause-roots g c _ _ = refl
+
+pub leaves_by_hands-requires-clause-workers : goal.leaves_by_hands-requires-clause-workers
+leaves_by_hands-requires-clause-workers g c _ _ = refl
+
+pub leaves_by_hands-requires-clause-some : goal.leaves_by_hands-requires-clause-some
+leaves_by_hands-requires-clause-some g c _ _ = c.requires.some
+
+pub leaves_by_hands-requires-clause-few_workers : goal.leaves_by_hands-requires-clause-few_workers
+leaves_by_hands-requires-clause-few_workers g c _ _ = c.requires.few_workers
+
+pub leaves_by_hands-requires-clause-few_leaves : goal.leaves_by_hands-requires-clause-few_leaves
+leaves_by_hands-requires-clause-few_leaves g c _ _ = c.requires.limit
+
+pub leaves_by_hands-requires-clause-few_roots : goal.leaves_by_hands-requires-clause-few_roots
+leaves_by_hands-requires-clause-few_roots g c _ _ = omega (arith, c.requires.few, c.args.roots.ok.0)
+
+pub returns-clause-within : goal.returns-clause-within
+returns-clause-within g c = c.leaves_by_hands.ensures.within
+
+pub returns-then-workers-eq1-clause-value : goal.returns-then-workers-eq1-clause-value
+returns-then-workers-eq1-clause-value g c = c.leaves_of.ensures.value
+
+pub returns-then-workers-eq1-clause-within : goal.returns-then-workers-eq1-clause-within
+returns-then-workers-eq1-clause-within g c = c.leaves_of.ensures.within
+
+pub returns-then-workers-eq1-clause-too_many : goal.returns-then-workers-eq1-clause-too_many
+returns-then-workers-eq1-clause-too_many g c = c.leaves_of.ensures.too_many
+
+pub returns-then-workers-eq1-clause-sound : goal.returns-then-workers-eq1-clause-sound
+returns-then-workers-eq1-clause-sound g c = c.leaves_of.ensures.sound
+
+pub returns-then-workers-eq1-clause-complete : goal.returns-then-workers-eq1-clause-complete
+returns-then-workers-eq1-clause-complete g c = c.leaves_of.ensures.complete
+
+pub returns-then-workers-eq1-clause-ordered : goal.returns-then-workers-eq1-clause-ordered
+returns-then-workers-eq1-clause-ordered g c = c.leaves_of.ensures.ordered
+
+pub returns-then-workers-eq1-clause-intervals : goal.returns-then-workers-eq1-clause-intervals
+returns-then-workers-eq1-clause-intervals g c = c.leaves_of.ensures.intervals

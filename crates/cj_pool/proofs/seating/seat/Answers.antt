@@ -8,6 +8,7 @@ use Rattle.cj_pool.specs.Hands.{HandSeen, IsUnstarted, roots_dealt}
 use Rattle.cj_pool.specs.Refined.{numbers_of}
 use Rattle.cj_pool.specs.Stations.{own_deque, own_deques}
 use Rattle.cj_pool.proofs.SeatLemmas.{seat_of, seated, below_length, all_deques, seated_accounts, seated_unstarted, numbers_before, shares_before, all_before}
+use Rattle.std.proofs.lemmas.List.{drop_all, take_all}
 use Rattle.cj_pool.proofs.seating.seat.Goals as goal
 
 pub invariant_of-push : goal.invariant_of-push
@@ -84,3 +85,33 @@ pub returns-in_err-push : goal.returns-in_err-push
 returns-in_err-push g c =
     let p = err_from_is_err_and c.from_residual-in_err-push.result c.from_residual-in_err-push.ensures.1 in
     rw p.1 (record { numbers = tt; deques = tt; unstarted = tt; opening = tt; shares = tt })
+
+pub loop-station-init : goal.loop-station-init
+loop-station-init g c =
+    let r = c.requires in
+    let stations = c.args.stations.items in
+    let shares = c.args.shares.items in
+    let ds = own_deques stations in
+    let none = sym c.new-hands.ensures.items in
+    let no_more : g.K.Run.workers - length stations ≡ 0 = omega (arith, r.len.0) in
+    record {
+      few = omega (arith, r.len.0);
+      same = r.len.1 ∙ sym r.len.0;
+      stations = sym (take_all (length stations) stations (omega arith));
+      shares = sym (take_all (length shares) shares (omega arith));
+      numbers = ap (λ hs. numbers_of (reverse hs)) (sym none) ∙ sym (ap (range_with_len (length stations)) no_more);
+      deques = subst (λ hs. All (λ (h : HandSeen). h.deques ≡ ds) (reverse hs)) none (λ k d lt. absurd (omega arith));
+      unstarted = subst (λ hs. All IsUnstarted (reverse hs)) none (λ k d lt. absurd (omega arith));
+      opening = subst (λ hs. All (λ (h : HandSeen). h.opening ≡ roots_dealt g.K.Run.roots g.K.Run.workers h.number) (reverse hs)) none (λ k d lt. absurd (omega arith));
+      seated = ap (λ hs. map (λ (h : HandSeen). h.share) (reverse hs)) (sym none) ∙ sym (drop_all (length stations) shares (omega (arith, r.len.0, r.len.1)));
+    }
+
+pub returns-clause-deques : goal.returns-clause-deques
+returns-clause-deques g c = subst (All (λ (h : HandSeen). h.deques ≡ own_deques c.args.stations.items)) (sym c.reverse.ensures.items) c.loop-station.invariant.deques
+
+pub returns-clause-unstarted : goal.returns-clause-unstarted
+returns-clause-unstarted g c = subst (All IsUnstarted) (sym c.reverse.ensures.items) c.loop-station.invariant.unstarted
+
+pub returns-clause-opening : goal.returns-clause-opening
+returns-clause-opening g c =
+    subst (All (λ (h : HandSeen). h.opening ≡ roots_dealt g.K.Run.roots g.K.Run.workers h.number)) (sym c.reverse.ensures.items) c.loop-station.invariant.opening

@@ -180,3 +180,15 @@ pub returns-clause-once : goal.returns-clause-once
 returns-clause-once g c =
     let cells = c.in_ok-found.found.cells.items in
     (left_of c.args.hands.items cells, all_left c.args.self c.args.hands.items cells c.in_ok-found.ensures.all)
+
+pub collect-requires-clause-all : goal.collect-requires-clause-all
+collect-requires-clause-all g c _ _ = c.requires.all
+
+pub collect-requires-clause-hands : goal.collect-requires-clause-hands
+collect-requires-clause-hands g c _ _ = c.requires.hands
+
+pub returns-clause-refused : goal.returns-clause-refused
+returns-clause-refused g c = tt
+
+pub returns-clause-within : goal.returns-clause-within
+returns-clause-within g c = c.in_ok-leaves.ensures.within

@@ -8,6 +8,11 @@ use Rattle.cj_pool.specs.Hands.{HandSeen}
 use Rattle.cj_pool.specs.RootLists.{AreRoots}
 use Rattle.cj_pool.specs.Stations.{own_deque, own_deques}
 use Rattle.cj_pool.proofs.SeatLemmas.{all_of_map, share_sum}
+use Rattle.std.proofs.Common.{List, get_or, refl}
+use Rattle.std.specs.List.{range_with_len}
+use Rattle.cj_bezier.specs.declared.cell.Cell.{Cell}
+use Rattle.cj_ledger.specs.Counts.{fresh}
+use Rattle.cj_pool.specs.Stations.{AreDealt}
 use Rattle.cj_pool.proofs.refinery.Refinery.new.Goals as goal
 
 pub invariant_of-refinery : goal.invariant_of-refinery
@@ -69,3 +74,46 @@ pub returns-in_err-hands : goal.returns-in_err-hands
 returns-in_err-hands g c =
     let p = err_from_is_err_and c.from_residual-in_err-hands.result c.from_residual-in_err-hands.ensures.1 in
     rw p.1 (record { seen = tt; hands = tt; numbers = tt; fresh = tt; shares = tt })
+
+pub opened-requires-clause-roots : goal.opened-requires-clause-roots
+opened-requires-clause-roots g c = λ κs outlive.
+    let r = c.requires in (
+      c.deref.ensures.value ∙ r.roots,
+      subst (λ (p : Problem). AreRoots (plain_problem p) c.deref.result.now) r.problem (subst (AreRoots (plain_problem c.args.problem.now)) (sym c.deref.ensures.value) r.are_roots),
+    )
+
+pub opened-requires-clause-workers : goal.opened-requires-clause-workers
+opened-requires-clause-workers g c = λ κs outlive. (c.requires.workers, c.requires.some)
+
+pub returns-clause-numbers : goal.returns-clause-numbers
+returns-clause-numbers g c = c.in_ok-hands.ensures.numbers ∙ ap (range_with_len 0) (sym c.requires.workers)
+
+pub returns-clause-seen : goal.returns-clause-seen
+returns-clause-seen g c = (refl, sym c.requires.roots, refl, sym c.requires.workers)
+
+pub seat-requires-clause-problem : goal.seat-requires-clause-problem
+seat-requires-clause-problem g c = c.requires.problem
+
+pub seat-requires-clause-roots : goal.seat-requires-clause-roots
+seat-requires-clause-roots g c =
+    let r = c.requires in
+    subst (λ (p : Problem). AreRoots (plain_problem p) g.K.Run.roots) r.problem (subst (AreRoots (plain_problem c.args.problem.now)) r.roots r.are_roots)
+
+pub seat-requires-clause-stations : goal.seat-requires-clause-stations
+seat-requires-clause-stations g c = c.in_ok-stations.ensures.stations
+
+pub seat-requires-clause-unused : goal.seat-requires-clause-unused
+seat-requires-clause-unused g c = c.in_ok-stations.ensures.unused
+
+pub seat-requires-clause-dealt : goal.seat-requires-clause-dealt
+seat-requires-clause-dealt g c =
+    subst (λ (rs : List Cell). AreDealt rs c.in_ok-stations.stations.items) (c.deref.ensures.value ∙ c.requires.roots) c.in_ok-stations.ensures.dealt
+
+pub seat-requires-clause-len : goal.seat-requires-clause-len
+seat-requires-clause-len g c = (c.in_ok-stations.ensures.len ∙ c.requires.workers, omega (arith, c.in_ok-ledger.ensures.len, c.in_ok-ledger.shares.ok.0, c.requires.workers))
+
+pub seat-requires-clause-shares : goal.seat-requires-clause-shares
+seat-requires-clause-shares g c = λ k d lt.
+    let new = (c.in_ok-ledger.ensures.new k d lt).1 in
+    let count = (get_or c.in_ok-ledger.shares.items k d).count in
+    new ∙ ap (λ opening. fresh opening count.roots) (sym (ap (λ a. a.opening) new))

@@ -10,10 +10,12 @@ use Rattle.cj_bezier.specs.declared.leaf.Leaf.{Leaf}
 use Rattle.cj_bezier.specs.Cells.{plain_cells}
 use Rattle.cj_bezier.specs.Leaves.{PlainLeaf, plain_leaf, plain_leaves}
 use Rattle.cj_bezier.specs.RootLeaves.{leaves_of_roots}
+use Rattle.cj_hermite.specs.Lengths.{HaveLengths}
 use Rattle.cj_pool.specs.Hands.{RefinerySeen, cells_of}
-use Rattle.cj_pool.specs.RootLists.{AreRoots}
+use Rattle.cj_pool.specs.RootLists.{AreRoots, IsKept}
 use Rattle.cj_pool.specs.Tree.{InTree, IsLeafOf}
 use Rattle.cj_pool.proofs.FinishLemmas.{first_found}
+use Rattle.std.proofs.lemmas.Result.{err_from_is_err_and}
 use Rattle.cj_pool.proofs.refinery.Refinery.refine_rest.Goals as goal
 
 pub merge_from-requires : goal.merge_from-requires
@@ -56,3 +58,25 @@ returns-clause-within g c =
     let v = c.refine_open.new.leaves in
     let limit = ap (λ (r : RefinerySeen). r.limit) c.self.view_is in
     omega (arith, length_permutation v.items c.merge_from.new.leaves.items c.merge_from.ensures.permutation, c.in_ok-refine_open.ensures.within, v.ok.0, limit)
+
+pub refine_open-requires-clause-kept : goal.refine_open-requires-clause-kept
+refine_open-requires-clause-kept g c =
+    subst (λ (p : Problem). All (IsKept (plain_problem p)) c.args.cells.now) (ap (λ (r : RefinerySeen). r.problem) (sym c.self.view_is)) c.requires.kept
+
+pub refine_open-requires-clause-lengths : goal.refine_open-requires-clause-lengths
+refine_open-requires-clause-lengths g c =
+    subst (λ (p : Problem). HaveLengths (plain_problem p)) (ap (λ (r : RefinerySeen). r.problem) (sym c.self.view_is)) c.requires.lengths
+
+pub returns-clause-too_many : goal.returns-clause-too_many
+returns-clause-too_many g c = tt
+
+pub returns-in_err-merge_from-clause-moved : goal.returns-in_err-merge_from-clause-moved
+returns-in_err-merge_from-clause-moved g c = rw (err_from_is_err_and c.from_residual-in_err-merge_from.result c.from_residual-in_err-merge_from.ensures.1).1 tt
+
+pub returns-in_err-merge_from-clause-too_many : goal.returns-in_err-merge_from-clause-too_many
+returns-in_err-merge_from-clause-too_many g c =
+    let p = err_from_is_err_and c.from_residual-in_err-merge_from.result c.from_residual-in_err-merge_from.ensures.1 in
+    rw (p.1, p.2) tt
+
+pub returns-in_err-refine_open-clause-moved : goal.returns-in_err-refine_open-clause-moved
+returns-in_err-refine_open-clause-moved g c = rw (err_from_is_err_and c.from_residual.result c.from_residual.ensures.1).1 tt
