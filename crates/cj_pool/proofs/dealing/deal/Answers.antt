@@ -1,6 +1,8 @@
 use Rattle.std.proofs.Common.{◌≡◌, length, arith}
 use Rattle.std.specs.Prelude.{IfOk}
+use Rattle.std.proofs.lemmas.List.{length-map}
 use Rattle.std.proofs.lemmas.Result.{IfOk-weaker}
+use Rattle.cj_pool.specs.Stations.{own_deque}
 use Rattle.cj_pool.proofs.DealLemmas.{AreServed, all_served, served_deques, served_stations, served_unused, served_dealt}
 use Rattle.cj_pool.proofs.dealing.deal.Given as run
 use Rattle.std.proofs.lemmas.Result.{err_from_is_err_and}
@@ -47,3 +49,8 @@ returns-in_err-served-clause-unused g c = λ unused. rw (err_from_is_err_and c.f
 
 pub returns-in_err-served-clause-dealt : goal.returns-in_err-served-clause-dealt
 returns-in_err-served-clause-dealt g c = rw (err_from_is_err_and c.from_residual.result c.from_residual.ensures.1).1 tt
+
+pub serve_each-requires-clause-parts : goal.serve_each-requires-clause-parts
+serve_each-requires-clause-parts g c _ _ = λ k d lt.
+    let parts = (c.requires.stations k d lt).parts in
+    omega (arith, parts, length-map c.args.stations.items own_deque, c.requires.len, c.requires.workers.0)

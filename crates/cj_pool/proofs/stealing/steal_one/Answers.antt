@@ -36,12 +36,3 @@ returns-in-Success-clause-taken g c =
     let rule = ap (λ (v : Account). v.taken) ((c.in-Success.ensures {u = tt}).rule) in
     let before = map_get (λ p. (view {V = Account} p).taken) c.args.passes.now.items c.args.at c.index_mut.result.now [] c.requires.at c.index_mut.ensures.value in
     map_set_other (λ p. (view {V = Account} p).taken) c.args.passes.now.items c.args.at c.steal.new.pass _ (rule ∙ (λ i. sym before i ++ (sym c.into_cell.ensures.cell) i ∷ []))
-
-pub returns-in-Empty-clause-tree : goal.returns-in-Empty-clause-tree
-returns-in-Empty-clause-tree g c = tt
-
-pub returns-in-Retry-clause-tree : goal.returns-in-Retry-clause-tree
-returns-in-Retry-clause-tree g c = tt
-
-pub returns-in-Success-clause-tree : goal.returns-in-Success-clause-tree
-returns-in-Success-clause-tree g c = c.into_cell.ensures.tree
