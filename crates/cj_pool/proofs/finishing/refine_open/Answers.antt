@@ -1,5 +1,6 @@
-use Rattle.std.proofs.Common.{◌≡◌, ℕ, Err, length, take, drop, vec_len, All, ap, subst, arith}
+use Rattle.std.proofs.Common.{◌≡◌, ◌<◌, ℕ, Err, length, take, take_all, drop, vec_len, All, sym, ap, subst, arith}
 use Rattle.cj_hermite.specs.Problems.{plain_problem}
+use Rattle.cj_pool.specs.RootLists.{IsKept}
 use Rattle.cj_pool.proofs.RefineLemmas.{refined_begins, refined_step, refined_many, refused_as}
 use Rattle.cj_pool.proofs.finishing.refine_open.Goals as goal
 
@@ -44,3 +45,25 @@ returns-then-len-limit-clause-judged c = tt
 
 pub returns-then-len-limit-clause-within : goal.returns-then-len-limit-clause-within
 returns-then-len-limit-clause-within c = tt
+
+pub returns-clause-judged : goal.returns-clause-judged
+returns-clause-judged c = c.loop-cell.invariant.judged
+
+pub returns-clause-within : goal.returns-clause-within
+returns-clause-within c = omega (arith, c.loop-cell.invariant.room, c.loop-cell.leaves.ok.0)
+
+pub returns-clause-kept : goal.returns-clause-kept
+returns-clause-kept c =
+    let n : length c.args.leaves.now.items ≡ vec_len c.args.leaves.now = omega (arith, c.args.leaves.now.ok.0) in
+    subst (λ (k : ℕ). take k c.loop-cell.leaves.items ≡ c.args.leaves.now.items) n c.loop-cell.invariant.kept
+
+pub returns-then-len-limit-clause-kept : goal.returns-then-len-limit-clause-kept
+returns-then-len-limit-clause-kept c = take_all (vec_len c.args.leaves.now) c.args.leaves.now.items (omega (arith, c.args.leaves.now.ok.0))
+
+pub refine-requires-clause-room : goal.refine-requires-clause-room
+refine-requires-clause-room c = omega (arith, c.loop-cell.invariant.room, c.loop-cell.leaves.ok.0)
+
+pub refine-requires-clause-intervals : goal.refine-requires-clause-intervals
+refine-requires-clause-intervals c =
+    let lt : c.loop-cell.cell-index < length c.args.cells.now = omega arith in
+    subst (IsKept (plain_problem c.args.problem.now)) (sym c.cell-item.is) (c.requires.kept c.loop-cell.cell-index c.cell-item.result lt)
