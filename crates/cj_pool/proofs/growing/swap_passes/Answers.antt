@@ -26,3 +26,15 @@ pub returns-in_err-push-2 : goal.returns-in_err-push-2
 returns-in_err-push-2 g c =
     let p = err_from_is_err_and c.from_residual-in_err-push-2.result c.from_residual-in_err-push-2.ensures.1 in
     rw p.1 (record { numbers = (refl, refl); below = refl; above = refl; parts = tt; to_later = tt; to_earlier = tt; taken = tt })
+
+pub returns-clause-above : goal.returns-clause-above
+returns-clause-above g c = refl
+
+pub returns-clause-below : goal.returns-clause-below
+returns-clause-below g c = refl
+
+pub returns-clause-numbers : goal.returns-clause-numbers
+returns-clause-numbers g c = (refl, refl)
+
+pub returns-clause-parts : goal.returns-clause-parts
+returns-clause-parts g c = ((c.another-2.ensures.same, c.another-2.ensures.left), (c.another.ensures.same, c.another.ensures.left))

@@ -1,4 +1,4 @@
-use Rattle.std.proofs.Common.{◌≡◌, ◌+◌, List, [], ◌∷◌, ◌++◌, length, rules, sym, ap, ◌∙◌, subst, arith, length-append}
+use Rattle.std.proofs.Common.{◌≡◌, ◌+◌, ℕ, take, vec_len, List, [], ◌∷◌, ◌++◌, length, rules, sym, ap, ◌∙◌, subst, arith, length-append}
 use Rattle.std.proofs.lemmas.List.Elements.{All-push, All-same}
 use Rattle.crossbeam_deque.specs.Handles.{worker_view}
 use Rattle.cj_bezier.specs.declared.cell.Cell.{Cell}
@@ -7,6 +7,7 @@ use Rattle.cj_pool.specs.declared.account.Account.{Account}
 use Rattle.cj_pool.specs.Accounts.{with_taken}
 use Rattle.cj_pool.specs.Tree.{InTree}
 use Rattle.cj_pool.proofs.PartLemmas.{Drains, drained_more, drained_late, kept_push}
+use Rattle.std.proofs.lemmas.Result.{err_from_is_err_and}
 use Rattle.cj_pool.proofs.joining.drain.Goals as goal
 
 pub returns-in_err-push-clause-tree : goal.returns-in_err-push-clause-tree
@@ -45,3 +46,22 @@ returns-clause-left g c =
     drained_late (worker_view c.args.own.now) (worker_view c.loop.own) cells c.loop.cells.items items c.queue_len.ensures.rule.0
     (subst (λ (v : Account). Drains v (worker_view c.loop.own) cells c.loop.cells.items) view i.drains) c.requires.parts.1
     c.queue_len-end.ensures.rule.2 c.queue_len.ensures.rule.2 many
+
+pub returns-clause-kept : goal.returns-clause-kept
+returns-clause-kept g c =
+    let n : length c.args.cells.now.items ≡ vec_len c.args.cells.now = omega (arith, c.args.cells.now.ok.0) in
+    subst (λ (k : ℕ). take k c.loop.cells.items ≡ c.args.cells.now.items) n c.loop.invariant.kept
+
+pub returns-in_default-clause-kept : goal.returns-in_default-clause-kept
+returns-in_default-clause-kept g c =
+    let n : length c.args.cells.now.items ≡ vec_len c.args.cells.now = omega (arith, c.args.cells.now.ok.0) in
+    subst (λ (k : ℕ). take k c.loop.cells.items ≡ c.args.cells.now.items) n c.loop.invariant.kept
+
+pub returns-clause-tree : goal.returns-clause-tree
+returns-clause-tree g c = c.loop.invariant.tree
+
+pub returns-in_default-clause-tree : goal.returns-in_default-clause-tree
+returns-in_default-clause-tree g c = c.loop.invariant.tree
+
+pub returns-in_err-push-clause-left : goal.returns-in_err-push-clause-left
+returns-in_err-push-clause-left g c = rw (err_from_is_err_and c.from_residual.result c.from_residual.ensures.1).1 tt
