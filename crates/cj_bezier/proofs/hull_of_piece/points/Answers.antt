@@ -77,14 +77,14 @@ invariant_of-result c =
     let nz : length zs ≡ 4 = search rules in
     record {
       within = all_four (IsBoxWithin HULL_REACH) _ _ _ _
-      (wider_box _ (box_within xs ys zs 0 c.index-x-0.result c.index-y-0.result c.index-z-0.result nx ny nz (omega arith) c.requires.x_within
-      c.requires.y_within c.requires.z_within))
-      (wider_box _ (box_within xs ys zs 1 c.index-x-1.result c.index-y-1.result c.index-z-1.result nx ny nz (omega arith) c.requires.x_within
-      c.requires.y_within c.requires.z_within))
-      (wider_box _ (box_within xs ys zs 2 c.index-x-2.result c.index-y-2.result c.index-z-2.result nx ny nz (omega arith) c.requires.x_within
-      c.requires.y_within c.requires.z_within))
-      (wider_box _ (box_within xs ys zs 3 c.index-x-3.result c.index-y-3.result c.index-z-3.result nx ny nz (omega arith) c.requires.x_within
-      c.requires.y_within c.requires.z_within))
+          (wider_box _ (box_within xs ys zs 0 c.index-x-0.result c.index-y-0.result c.index-z-0.result nx ny nz (omega arith) c.requires.x_within
+          c.requires.y_within c.requires.z_within))
+          (wider_box _ (box_within xs ys zs 1 c.index-x-1.result c.index-y-1.result c.index-z-1.result nx ny nz (omega arith) c.requires.x_within
+          c.requires.y_within c.requires.z_within))
+          (wider_box _ (box_within xs ys zs 2 c.index-x-2.result c.index-y-2.result c.index-z-2.result nx ny nz (omega arith) c.requires.x_within
+          c.requires.y_within c.requires.z_within))
+          (wider_box _ (box_within xs ys zs 3 c.index-x-3.result c.index-y-3.result c.index-z-3.result nx ny nz (omega arith) c.requires.x_within
+          c.requires.y_within c.requires.z_within));
     }
 
 pub returns-clause-value : goal.returns-clause-value

@@ -21,13 +21,19 @@ small z w = omega (arith, ints)
 
 pub returns-clause-within : goal.returns-clause-within
 returns-clause-within c =
-    let w = c.dot.ensures.within in record { low = rw c.scale.ensures.lower (times c.dot.result.lo w.low); high = rw c.scale.ensures.upper
-    (times c.dot.result.hi w.high) }
+    let w = c.dot.ensures.within in record {
+      low = rw c.scale.ensures.lower (times c.dot.result.lo w.low);
+      high = rw c.scale.ensures.upper
+          (times c.dot.result.hi w.high);
+    }
 
 pub dot-requires : goal.dot-requires
 dot-requires c = record { first = c.requires.first; second = c.requires.second }
 
 pub scale-requires : goal.scale-requires
 scale-requires c =
-    let w = c.dot.ensures.within in record { low = small (c.dot.result.lo *ℤ pos 6) (times c.dot.result.lo w.low); high = small (c.dot.result.hi *ℤ pos 6)
-    (times c.dot.result.hi w.high) }
+    let w = c.dot.ensures.within in record {
+      low = small (c.dot.result.lo *ℤ pos 6) (times c.dot.result.lo w.low);
+      high = small (c.dot.result.hi *ℤ pos 6)
+          (times c.dot.result.hi w.high);
+    }

@@ -23,6 +23,10 @@ pub returns : goal.returns
 returns c =
     let row = c.args.row.now in
     let texts = texts_of c.args.bytes.now row in
-    let long : length texts ≤ c.loop-index.index = omega (arith, length-map (take row.count row.found) (text_at c.args.bytes.now), length-take row.count
-    row.found) in
+    let long : length texts ≤ c.loop-index.index = omega (
+      arith,
+      length-map (take row.count row.found) (text_at c.args.bytes.now),
+      length-take row.count
+          row.found,
+    ) in
     rw (c.loop-index.invariant ∙ ap (list_all is_decimal) (drop_all c.loop-index.index texts long)) refl
