@@ -30,13 +30,20 @@ impl Calls {
         }
     }
 
+    /// Whether the next call fails.
+    pub fn fails_next(&self) -> bool
+        ensures { result ≡ fails_next self.now }
+    {
+        self.failing.contains(&self.made.saturating_add(1))
+    }
+
     /// Counts one more call, and tells whether it fails.
     pub fn next_fails(&mut self) -> bool
         ensures fails { result ≡ fails_next self.old }
         ensures counted { self.new ≡ after_call self.old }
     {
+        let fails = self.fails_next();
         self.made = self.made.saturating_add(1);
-        let fails = self.failing.contains(&self.made);
         if fails {
             self.faults = self.faults.saturating_add(1);
         }

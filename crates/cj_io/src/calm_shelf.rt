@@ -43,6 +43,8 @@ impl Shelf for CalmShelf {
 
     ghost faults = { λ pieces. 0 };
 
+    ghost refusals = { λ pieces. 0 };
+
     fn put(&mut self, alloc: Global, name: &[u8], bytes: &[u8]) -> Result<(), PutError>
         ensures only { IsOkUnless result PutError.Memory }
         ensures pieces { Puts name.now bytes.now result self.old self.new }

@@ -1,6 +1,7 @@
 ghost use Rattle.std.specs.Prelude.{◌≡◌, ◌↔◌, [], Some, IsErrOf, IsTrue, OnErr};
 ghost use Rattle.cj_io.specs.Calls.{fails_next, after_call};
 ghost use Rattle.cj_io.specs.Files.{Puts};
+ghost use Rattle.cj_io.specs.Parts.{joined};
 
 use crate::calls::Calls;
 use crate::{CalmShelf, FileBytes, PutError, Shelf};
@@ -33,6 +34,13 @@ impl MemShelf {
         }
     }
 
+    /// Whether the next put fails.
+    pub fn fails_next(&self) -> bool
+        ensures { result ≡ fails_next self.now.calls }
+    {
+        self.calls.fails_next()
+    }
+
     /// The pieces that stand.
     pub fn written(&self) -> &[FileBytes]
         ensures { result.now ≡ self.now.pieces }
@@ -46,6 +54,8 @@ impl Shelf for MemShelf {
 
     ghost faults = { λ s. s.calls.faults };
 
+    ghost refusals = { λ s. 0 };
+
     fn put(&mut self, alloc: Global, name: &[u8], bytes: &[u8]) -> Result<(), PutError>
         ensures fails { IsErrOf result PutError.Failed ↔ IsTrue (fails_next self.old.calls) }
         ensures pieces { Puts name.now bytes.now result self.old.pieces self.new.pieces }
@@ -56,5 +66,18 @@ impl Shelf for MemShelf {
             return Err(PutError::Failed);
         }
         self.shelf.put(alloc, name, bytes)
+    }
+
+    fn put_parts(&mut self, alloc: Global, name: &[u8], parts: &[Vec<u8>]) -> Result<(), PutError>
+        ensures fails { IsErrOf result PutError.Failed ↔ IsTrue (fails_next self.old.calls) }
+        ensures pieces { Puts name.now (joined parts.now) result self.old.pieces self.new.pieces }
+        ensures nothing { OnErr result (self.new.pieces ≡ self.old.pieces) }
+        ensures counted { self.new.calls ≡ after_call self.old.calls }
+    {
+        if self.calls.next_fails() {
+            Err(PutError::Failed)
+        } else {
+            self.shelf.put_parts(alloc, name, parts)
+        }
     }
 }

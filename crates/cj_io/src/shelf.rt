@@ -41,6 +41,21 @@ pub trait Shelf {
     /// How often the shelf has failed. The count stops at the greatest value of a `u64`.
     ghost faults: { Self → ℕ };
 
+    /// How often a run was refused before its first piece. The count stops at the greatest value of a `u64`.
+    ghost refusals: { Self → ℕ };
+
+    /// Called once before the first piece, by a run whose inputs are all accepted. A shelf on which one run at a time may put its pieces
+    /// fails where another does; one that says nothing of it has nothing to do here.
+    fn begin(&mut self, _alloc: Global) -> Result<(), PutError>
+        ensures failed { IsErrOf result PutError.Failed → Rose (faults self.old) (faults self.new) }
+        ensures refused { IsErrOf result PutError.Failed → Rose (refusals self.old) (refusals self.new) }
+        ensures memory { IsErrOf result PutError.Memory → faults self.new ≡ faults self.old }
+        ensures pieces { pieces self.new ≡ pieces self.old }
+        ensures later { faults self.old ≤ faults self.new }
+    {
+        Ok(())
+    }
+
     /// Puts one piece behind those that stand. Want of memory leaves all as it was; after a fault a last piece of this name
     /// may stand cut short.
     fn put(&mut self, alloc: Global, name: &[u8], bytes: &[u8]) -> Result<(), PutError>

@@ -34,10 +34,11 @@ impl From<Failed> for ReadError {
     }
 }
 
-/// The room, in bytes, that is made first.
-const FIRST_ROOM: u64 = 64 * 1024;
+/// The room, in bytes, that is made first, and the least that is added.
+const LEAST_ROOM: u64 = 64 * 1024;
 
-/// Reads a file to its end, into room that is doubled as often as it is full. A refusal hands out nothing.
+/// Reads a file to its end, into room that grows by a quarter as often as it is full and is cut to the file at the end. A refusal hands
+/// out nothing.
 pub fn read_whole<F: Folder>(
     alloc: Global,
     folder: &mut F,
@@ -63,6 +64,7 @@ pub fn read_whole<F: Folder>(
         let count = folder.read(file, read as u64, &mut bytes[read..])?;
         if count == 0 {
             bytes.truncate(read);
+            bytes.shrink_to_fit();
             return Ok(bytes);
         }
         if limit - (read as u64) < u64::from(count) {
@@ -72,7 +74,7 @@ pub fn read_whole<F: Folder>(
     }
 }
 
-/// Doubles the room where it is full, up to one byte more than the limit.
+/// Adds a quarter to the room where it is full, up to one byte more than the limit.
 fn make_room(bytes: &mut Vec<u8>, read: usize, limit: u64) -> Result<(), AllocError>
     requires room { read ≤ length bytes.old.items }
     requires within { read ≤ limit }
@@ -83,8 +85,7 @@ fn make_room(bytes: &mut Vec<u8>, read: usize, limit: u64) -> Result<(), AllocEr
     if read < room {
         return Ok(());
     }
-    let more = (2 * room as u64)
-        .max(FIRST_ROOM)
-        .min(limit.saturating_add(1));
-    bytes.resize(more as usize, 0)
+    let more = (room as u64 / 4).max(LEAST_ROOM);
+    let wanted = (room as u64 + more).min(limit.saturating_add(1));
+    bytes.resize(wanted as usize, 0)
 }

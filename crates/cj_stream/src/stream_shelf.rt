@@ -1,6 +1,7 @@
-ghost use Rattle.std.specs.Prelude.{◌≡◌, ◌≤◌, IsErrOf};
+ghost use Rattle.std.specs.Prelude.{◌≡◌, ◌↔◌, ◌⊎◌, ◌≤◌, IsErrOf, IsTrue, OnErr};
 ghost use Rattle.std.specs.Thread.{IsSync};
 ghost use Rattle.cj_io.specs.Faults.{Rose};
+ghost use Rattle.cj_io.specs.Calls.{fails_next, after_call};
 ghost use Rattle.cj_io.specs.Files.{Puts, Told};
 ghost use Rattle.cj_io.specs.declared.shelf.PutError.{PutError};
 
@@ -36,4 +37,30 @@ pub trait StreamShelf: Shelf {
 
 impl StreamShelf for CalmShelf {}
 
-impl StreamShelf for MemShelf {}
+impl StreamShelf for MemShelf {
+    fn put_made<R: Threads + Sync, M: PartSource>(
+        &mut self,
+        rt: &R,
+        alloc: Global,
+        name: &[u8],
+        source: &mut M,
+    ) -> Result<(), PutError>
+        requires shared { IsSync R.row }
+
+        ensures fails { IsErrOf result PutError.Failed ↔ IsTrue (fails_next self.old.calls) }
+        ensures pieces { Puts name.now (M.rest source.old) result self.old.pieces self.new.pieces }
+        ensures nothing { OnErr result (self.new.pieces ≡ self.old.pieces) }
+        // Want of memory of the source is no call.
+        ensures counted { IsErrOf result PutError.Memory ⊎ (self.new.calls ≡ after_call self.old.calls) }
+
+        ensures failed { IsErrOf result PutError.Failed → Rose self.old.calls.faults self.new.calls.faults }
+        ensures memory { IsErrOf result PutError.Memory → self.new.calls.faults ≡ self.old.calls.faults }
+        ensures later { self.old.calls.faults ≤ self.new.calls.faults }
+    {
+        if self.fails_next() {
+            return self.put(alloc, name, b"");
+        }
+        let made = all_parts(rt, alloc, source)?;
+        self.put_parts(alloc, name, &made)
+    }
+}

@@ -76,7 +76,7 @@ returns-in_err-count-clause-later g c = le_trans c.loop-bytes.invariant.later c.
 -- ---- all bytes
 
 pub returns-then-count-eq0-clause-within : goal.returns-then-count-eq0-clause-within
-returns-then-count-eq0-clause-within g c = cut_within _ c.truncate.new.self.items c.loop-bytes.read c.args.limit c.truncate.ensures.items c.loop-bytes.invariant.within
+returns-then-count-eq0-clause-within g c = cut_within _ c.shrink_to_fit.new.self.items c.loop-bytes.read c.args.limit (c.shrink_to_fit.ensures.items ∙ c.truncate.ensures.items) c.loop-bytes.invariant.within
 
 pub returns-then-count-eq0-clause-later : goal.returns-then-count-eq0-clause-later
 returns-then-count-eq0-clause-later g c = le_trans c.loop-bytes.invariant.later c.read.ensures.later
