@@ -1,5 +1,6 @@
 pub mod AgainLemmas
 pub mod CountLemmas
+pub mod CursorLemmas
 pub mod DecimalLemmas
 pub mod FieldLemmas
 pub mod LineLemmas

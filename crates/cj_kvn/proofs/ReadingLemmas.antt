@@ -15,14 +15,10 @@ with_front front said = said >>= λ others. Ok (front ++ others)
 abbrev pub numbered : ℕ → Form → Numbered
 numbered n form = record { number = n; form = form }
 
-front_step : (front : List Numbered) (line : Numbered) (said : Said) → with_front (front ++ line ∷ []) said ≡ with_front front (said >>= λ others. Ok (line ∷ others))
+-- one more line
+pub front_step : (front : List Numbered) (line : Numbered) (said : Said) → with_front (front ++ line ∷ []) said ≡ with_front front (said >>= λ others. Ok (line ∷ others))
 front_step front line (Ok others) = ap (λ (xs : List Numbered). Ok xs) (append_assoc front (line ∷ []) others)
 front_step front line (Err e) = refl
-
--- one more line
-pub line_read : (front : List Numbered) (n : ℕ) (line : List ℕ) (rest : List (List ℕ)) (form : Form) → line_form n line ≡ Ok form
-    → with_front (front ++ numbered n form ∷ []) (lines_said (n + 1) rest) ≡ with_front front (lines_said n (line ∷ rest))
-line_read front n line rest form h = front_step front (numbered n form) (lines_said (n + 1) rest) ∙ rw h refl
 
 -- a line with a fault
 pub line_fails : (front : List Numbered) (n : ℕ) (line : List ℕ) (rest : List (List ℕ)) (e : KvnFault) → line_form n line ≡ Err e

@@ -1,5 +1,6 @@
 pub mod Ranges
 pub mod Lines
+pub mod Cursors
 pub mod Entries
 pub mod RawLines
 pub mod Fields

@@ -2,6 +2,7 @@
 #![tactic(auto)]
 
 mod blanks;
+mod cursor;
 mod digits;
 mod entries;
 mod fields;
@@ -21,6 +22,7 @@ mod scaling;
 mod scanning;
 mod words;
 
+pub use cursor::LineCursor;
 pub use digits::{has_digits_alone, number_from_digits};
 pub use entries::{push_entry, push_line};
 pub use fields::{RowFields, field, row_fields};

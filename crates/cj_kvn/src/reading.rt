@@ -5,9 +5,10 @@ ghost use Rattle.cj_kvn.specs.RawLines.{IsRaw, equals_at};
 ghost use Rattle.cj_kvn.specs.Ranges.{IsWithin, text_at};
 
 use crate::blanks::trimmed;
+use crate::cursor::LineCursor;
 use crate::lines::{KvnFault, Line, LineKind};
 use crate::range::Range32;
-use crate::raw_line::{RawLine, first_line};
+use crate::raw_line::RawLine;
 use crate::words::{is_comment, is_key, mark_of};
 use std::alloc::Global;
 
@@ -18,20 +19,15 @@ pub fn read_lines(alloc: Global, bytes: &[u8]) -> Result<Vec<Line>, KvnFault>
     ensures within { IfOk result (λ v. All (LineIsWithin bytes.now) v.items) }
 {
     let mut lines = Vec::new(alloc);
-    let mut at = 0;
-    let mut number = 0;
-    while at < bytes.len() as u32 {
-        let (line, behind) = first_line(bytes, at);
-        number += 1;
-        let kind = kind_of(bytes, line, number)?;
-        lines.push(Line { number, kind })?;
-        at = behind;
+    let mut left = LineCursor::new(bytes);
+    while let Some(line) = left.next_line()? {
+        lines.push(line)?;
     }
     Ok(lines)
 }
 
 /// What a line of this number is.
-fn kind_of(bytes: &[u8], line: RawLine, number: u32) -> Result<LineKind, KvnFault>
+pub fn kind_of(bytes: &[u8], line: RawLine, number: u32) -> Result<LineKind, KvnFault>
     requires { IsRaw bytes.now line }
     ensures exact { Tells (form_at bytes.now) result (line_form number (text_at bytes.now line.text)) }
     ensures within { IfOk result (KindIsWithin bytes.now) }

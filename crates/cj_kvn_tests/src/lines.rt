@@ -1,4 +1,6 @@
-use cj_kvn::{KvnFault, Line, LineKind, MarkKind, Range32, field, read_lines, row_fields};
+use cj_kvn::{
+    KvnFault, Line, LineCursor, LineKind, MarkKind, Range32, field, read_lines, row_fields,
+};
 use cj_values::Text;
 use std::panic::Expect;
 
@@ -113,6 +115,54 @@ fn the_first_fault(rt: HostRuntime) {
     for (text, fault) in &texts {
         assert_eq!(rt; read_lines(rt.alloc(), text).err(), Some(*fault));
     }
+}
+
+#[test]
+fn lines_one_after_another(rt: HostRuntime) {
+    let bytes = b"META_STOP\r\n\n 7\ta";
+    let expected = [
+        Line {
+            number: 1,
+            kind: LineKind::Mark(MarkKind::MetaStop),
+        },
+        Line {
+            number: 2,
+            kind: LineKind::Blank,
+        },
+        Line {
+            number: 3,
+            kind: LineKind::Row {
+                text: Range32 {
+                    first: 13,
+                    past: 16,
+                },
+            },
+        },
+    ];
+    let mut left = LineCursor::new(bytes);
+    for line in &expected {
+        assert_eq!(rt; left.next_line(), Ok(Some(*line)));
+    }
+    assert_eq!(rt; left.next_line(), Ok(None));
+    assert_eq!(rt; left.next_line(), Ok(None));
+    assert_eq!(rt; left.check_rest(), Ok(()));
+}
+
+#[test]
+fn a_fault_behind_lines_with_forms(rt: HostRuntime) {
+    let bytes = b"A = 1\n\nb = 2\nC = \x01\n";
+    let fault = KvnFault::NoLineForm { line: 3 };
+    let mut left = LineCursor::new(bytes);
+    assert!(rt; left.next_line().is_ok());
+    assert!(rt; left.next_line().is_ok());
+    assert_eq!(rt; left.next_line(), Err(fault));
+    assert_eq!(rt; LineCursor::new(bytes).check_rest(), Err(fault));
+    let mut behind = LineCursor::new(b"A = 1\nC = \x01");
+    assert!(rt; behind.next_line().is_ok());
+    assert_eq!(rt;
+        behind.check_rest(),
+        Err(KvnFault::NotPrintable { line: 2 })
+    );
 }
 
 #[test]

@@ -161,11 +161,11 @@ file_again as_hermite3 forms e f =
 
 -- ---- the bytes
 
-bind_ok : {A B : Type 0} (r : Result A Fault) (f : A → Result B Fault) (y : B) → reader.◌>>=◌ r f ≡ Ok y → (x : A) × (r ≡ Ok x) × (f x ≡ Ok y)
+pub bind_ok : {A B : Type 0} (r : Result A Fault) (f : A → Result B Fault) (y : B) → reader.◌>>=◌ r f ≡ Ok y → (x : A) × (r ≡ Ok x) × (f x ≡ Ok y)
 bind_ok (Ok x) f y e = (x, refl, e)
 bind_ok (Err fault) f y e = absurd cc
 
-lines_ok : (r : Result (List Numbered) KvnFault) (lines : List Numbered) → lines_or r ≡ Ok lines → r ≡ Ok lines
+pub lines_ok : (r : Result (List Numbered) KvnFault) (lines : List Numbered) → lines_or r ≡ Ok lines → r ≡ Ok lines
 lines_ok (Ok ls) lines e = let same : ls ≡ lines = cc in ap (λ (all : List Numbered). Ok all) same
 lines_ok (Err (faults.NotPrintable line)) lines e = absurd cc
 lines_ok (Err (faults.NoLineForm line)) lines e = absurd cc

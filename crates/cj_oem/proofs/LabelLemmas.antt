@@ -140,33 +140,9 @@ line_labelled number line =
     (printable_labelled (list_all is_printable line) (form_of number (trimmed line)) _
     (λ all. form_labelled number (trimmed line) (trimmed_printable line (AllPass-from_list_all is_printable line all))))
 
-abbrev AreLabelled : List Numbered → Type 0
-AreLabelled ls = All (λ line. HasLabel line.form) ls
-
-with_others : (number : ℕ) (form : Form) (others : Result (List Numbered) KvnFault) → HasLabel form → Where AreLabelled others
-    → Where AreLabelled (others >>= λ ls. Ok (record { number = number; form = form } ∷ ls))
-with_others number form (Ok ls) h all = All-cons (λ line. HasLabel line.form) (record { number = number; form = form }) ls h all
-with_others number form (Err e) h all = tt
-
-with_line : (number : ℕ) (form : Result Form KvnFault) (others : Result (List Numbered) KvnFault) → Where HasLabel form → Where AreLabelled others
-    → Where AreLabelled (form >>= λ f. others >>= λ ls. Ok (record { number = number; form = f } ∷ ls))
-with_line number (Ok form) others h all = with_others number form others h all
-with_line number (Err e) others h all = tt
-
-lines_labelled : (number : ℕ) (texts : List (List ℕ)) → Where AreLabelled (lines_said number texts)
-lines_labelled number [] = All-nil (λ line. HasLabel line.form)
-lines_labelled number (line ∷ texts) =
-    with_line number (line_form number line) (lines_said (number + 1) texts) (line_labelled number line) (lines_labelled (number + 1) texts)
-
 where_ok : {A : Type 0} (P : A → Type 0) (said : Result A KvnFault) (x : A) → said ≡ Ok x → Where P said → P x
 where_ok P said x e h = subst (Where P) e h
 
--- each value that is read from a file
-pub values_labelled : (bytes : List ℕ) (ls : List Numbered) → reading bytes ≡ Ok ls → All (λ line. HasLabel line.form) ls
-values_labelled bytes ls e = where_ok AreLabelled (reading bytes) ls e (lines_labelled 1 (lines bytes))
-
--- the same of the lines of a program
-pub value_labelled : (bytes : List ℕ) (ls : List Line) → reading bytes ≡ Ok (lines_at bytes ls) → All (λ line. HasLabel (form_at bytes line.kind)) ls
-value_labelled bytes ls e k d within =
-    let all = values_labelled bytes (lines_at bytes ls) e k (line_at bytes d) (omega (arith, length-map ls (line_at bytes))) in
-    subst (λ line. HasLabel line.form) (get_or-map (line_at bytes) ls k d (line_at bytes d) within) all
+-- a line that has a form
+pub first_labelled : (number : ℕ) (line : List ℕ) (form : Form) → line_form number line ≡ Ok form → HasLabel form
+first_labelled number line form e = where_ok HasLabel (line_form number line) form e (line_labelled number line)

@@ -17,7 +17,6 @@ pub mod MatrixLemmas
 pub mod MetadataAgainLemmas
 pub mod MetadataLemmas
 pub mod NodeRowLemmas
-pub mod NumberLemmas
 pub mod PrintedLineLemmas
 pub mod PrintedNumberLemmas
 pub mod PrintedPairLemmas

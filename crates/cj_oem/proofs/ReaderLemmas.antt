@@ -1,41 +1,80 @@
 -- The lines of a file, one after another.
-use Rattle.std.proofs.Common.{◌≡◌, ℕ, ◌+◌, ◌<◌, List, ◌∷◌, length, drop, get_or, Bool, Result, Ok, Err, ap, sym, subst, ◌∙◌, add-one, drop-cons}
-use Rattle.cj_kvn.specs.Lines.{form_at, lines_at}
+use Rattle.std.proofs.Common.{◌≡◌, ℕ, ◌+◌, List, [], ◌∷◌, Bool, Result, Ok, Err, IsOk, ap, sym, subst, ◌∙◌, refl}
+use Rattle.cj_kvn.specs.Cursors.{IsFirst, LinesLeft, said_by}
+use Rattle.cj_kvn.specs.Lines.{Form, Numbered, form_at, line_at}
+use Rattle.cj_kvn.specs.Lines as kvn
+use Rattle.cj_kvn.specs.declared.lines.KvnFault.{KvnFault}
+use Rattle.cj_kvn.specs.declared.lines.KvnFault.TheVariants as lines
 use Rattle.cj_kvn.specs.declared.lines.Line.{Line}
+use Rattle.cj_kvn.proofs.CursorLemmas.{first_said}
 use Rattle.cj_oem.specs.Answers as answers
-use Rattle.cj_oem.specs.Readers.{Gives, body_of, refused_at, stage_of}
-use Rattle.cj_oem.specs.Reading.{Fault, at_line, read_on, ◌>>=◌}
+use Rattle.cj_oem.specs.Readers.{Gives, body_of, fault_of, refused_at, stage_of}
+use Rattle.cj_oem.specs.Reading.{Fault, at_line, lines_or, read_on, ◌>>=◌}
 use Rattle.cj_oem.specs.Stages.{Body, Stage, follows}
 use Rattle.cj_causes.specs.declared.oem_cause.OemCause.{OemCause}
+use Rattle.cj_oem.specs.declared.body.Body as program
 use Rattle.cj_oem.specs.declared.fault.OemFault.{OemFault}
 use Rattle.cj_oem.specs.declared.refused.Refused.{Refused}
 use Rattle.cj_oem.specs.declared.refused.Refused.TheVariants.{Memory, Because}
 
--- the lines from a place on begin with the one there
-opened : (as_hermite3 : Bool) (bytes : List ℕ) (stage : Stage) (number i : ℕ) (ls : List Line) (d : Line) → i < length ls
-    → read_on as_hermite3 stage number (lines_at bytes (drop i ls)) ≡ read_on as_hermite3 stage number (lines_at bytes (get_or ls i d ∷ drop (i + 1) ls))
-opened as_hermite3 bytes stage number i ls d within =
-    ap (λ (rest : List Line). read_on as_hermite3 stage number (lines_at bytes rest)) (drop-cons ls i d within ∙ ap (λ (k : ℕ). get_or ls i d ∷ drop k ls) (sym (add-one i)))
+abbrev pub Said : Type 0
+Said = Result (List Numbered) KvnFault
+
+-- where lines lead to from a stage, if each has a form
+abbrev pub led_from : Bool → Stage → ℕ → Said → Result Body Fault
+led_from as_hermite3 stage number said = lines_or said >>= read_on as_hermite3 stage number
+
+abbrev behind_line : Numbered → Said → Said
+behind_line line said = kvn.◌>>=◌ said (λ others. Ok (line ∷ others))
+
+stage_led : (as_hermite3 : Bool) (stage next : Stage) (number : ℕ) (line : Numbered) (others : Said) → follows as_hermite3 stage line.form ≡ Ok next
+    → led_from as_hermite3 stage number (behind_line line others) ≡ led_from as_hermite3 next (line.number + 1) others
+stage_led as_hermite3 stage next number line (Ok ls) h = ap (λ (r : Result Stage OemCause). at_line line.number r >>= λ s. read_on as_hermite3 s (line.number + 1) ls) h
+stage_led as_hermite3 stage next number line (Err lines.Memory) h = refl
+stage_led as_hermite3 stage next number line (Err (lines.NotPrintable k)) h = refl
+stage_led as_hermite3 stage next number line (Err (lines.NoLineForm k)) h = refl
 
 -- the next line leads from a stage to the next
-pub line_followed : (as_hermite3 : Bool) (bytes : List ℕ) (stage next : Stage) (number i : ℕ) (ls : List Line) (d : Line) → i < length ls
-    → follows as_hermite3 stage (form_at bytes (get_or ls i d).kind) ≡ Ok next
-    → read_on as_hermite3 stage number (lines_at bytes (drop i ls)) ≡ read_on as_hermite3 next ((get_or ls i d).number + 1) (lines_at bytes (drop (i + 1) ls))
-line_followed as_hermite3 bytes stage next number i ls d within h =
-    opened as_hermite3 bytes stage number i ls d within
-    ∙ ap (λ (r : Result Stage OemCause). at_line (get_or ls i d).number r >>= λ s. read_on as_hermite3 s ((get_or ls i d).number + 1) (lines_at bytes (drop (i + 1) ls))) h
+pub line_followed : (as_hermite3 : Bool) (stage next : Stage) (number : ℕ) (left behind : LinesLeft) (line : Line) (bytes : List ℕ) → IsFirst left line behind → left.bytes ≡ bytes
+    → follows as_hermite3 stage (form_at bytes line.kind) ≡ Ok next
+    → led_from as_hermite3 stage number (said_by left) ≡ led_from as_hermite3 next (line.number + 1) (said_by behind)
+line_followed as_hermite3 stage next number left behind line bytes is same h =
+    let here = ap (λ (b : List ℕ). follows as_hermite3 stage (form_at b line.kind)) same ∙ h in
+    ap (led_from as_hermite3 stage number) (first_said left behind line is)
+    ∙ stage_led as_hermite3 stage next number (line_at left.bytes line) (said_by behind) here
 
--- it is the first with a fault
-line_faulty : (as_hermite3 : Bool) (bytes : List ℕ) (stage : Stage) (number i : ℕ) (ls : List Line) (d : Line) (cause : OemCause) → i < length ls
-    → follows as_hermite3 stage (form_at bytes (get_or ls i d).kind) ≡ Err cause
-    → read_on as_hermite3 stage number (lines_at bytes (drop i ls)) ≡ Err (record { line = (get_or ls i d).number; cause = cause })
-line_faulty as_hermite3 bytes stage number i ls d cause within h =
-    opened as_hermite3 bytes stage number i ls d within
-    ∙ ap (λ (r : Result Stage OemCause). at_line (get_or ls i d).number r >>= λ s. read_on as_hermite3 s ((get_or ls i d).number + 1) (lines_at bytes (drop (i + 1) ls))) h
+stage_ends : (as_hermite3 : Bool) (stage : Stage) (number : ℕ) (line : Numbered) (others : Said) (cause : OemCause) → IsOk others → follows as_hermite3 stage line.form ≡ Err cause
+    → led_from as_hermite3 stage number (behind_line line others) ≡ Err (record { line = line.number; cause = cause })
+stage_ends as_hermite3 stage number line (Ok ls) cause is h = ap (λ (r : Result Stage OemCause). at_line line.number r >>= λ s. read_on as_hermite3 s (line.number + 1) ls) h
+stage_ends as_hermite3 stage number line (Err e) cause is h = absurd cc
 
-pub line_refused : (as_hermite3 : Bool) (bytes : List ℕ) (stage : Stage) (number i : ℕ) (ls : List Line) (d : Line) (refused : Refused) (fault : OemFault) (said : Result Body Fault)
-    → i < length ls → answers.Gives stage_of (Err refused) (follows as_hermite3 stage (form_at bytes (get_or ls i d).kind)) → fault ≡ refused_at (get_or ls i d).number refused
-    → read_on as_hermite3 stage number (lines_at bytes (drop i ls)) ≡ said → Gives body_of (Err fault) said
-line_refused as_hermite3 bytes stage number i ls d Memory fault said within h e same = subst (λ (f : OemFault). Gives body_of (Err f) said) (sym e) tt
-line_refused as_hermite3 bytes stage number i ls d (Because cause) fault said within h e same =
-    subst (λ (f : OemFault). Gives body_of (Err f) said) (sym e) (sym same ∙ line_faulty as_hermite3 bytes stage number i ls d cause within h)
+-- it is the first with a fault, where each line behind it has a form
+pub line_refused : (as_hermite3 : Bool) (stage : Stage) (number : ℕ) (left behind : LinesLeft) (line : Line) (bytes : List ℕ) (refused : Refused) (fault : OemFault) (said : Result Body Fault)
+    → IsFirst left line behind → left.bytes ≡ bytes → IsOk (said_by behind)
+    → answers.Gives stage_of (Err refused) (follows as_hermite3 stage (form_at bytes line.kind)) → fault ≡ refused_at line.number refused
+    → led_from as_hermite3 stage number (said_by left) ≡ said → Gives body_of (Err fault) said
+line_refused as_hermite3 stage number left behind line bytes Memory fault said is same forms h e whole = subst (λ (f : OemFault). Gives body_of (Err f) said) (sym e) tt
+line_refused as_hermite3 stage number left behind line bytes (Because cause) fault said is same forms h e whole =
+    let here = ap (λ (b : List ℕ). follows as_hermite3 stage (form_at b line.kind)) same ∙ h in
+    subst (λ (f : OemFault). Gives body_of (Err f) said) (sym e)
+    (sym whole ∙ ap (led_from as_hermite3 stage number) (first_said left behind line is)
+    ∙ stage_ends as_hermite3 stage number (line_at left.bytes line) (said_by behind) cause forms here)
+
+-- a line without a form
+pub form_refused : (as_hermite3 : Bool) (stage : Stage) (number : ℕ) (others : Said) (e : KvnFault) (fault : OemFault) (said : Result Body Fault)
+    → others ≡ Err e → fault ≡ fault_of e → led_from as_hermite3 stage number others ≡ said → Gives body_of (Err fault) said
+form_refused as_hermite3 stage number others lines.Memory fault said h same whole = subst (λ (f : OemFault). Gives body_of (Err f) said) (sym same) tt
+form_refused as_hermite3 stage number others (lines.NotPrintable k) fault said h same whole =
+    subst (λ (f : OemFault). Gives body_of (Err f) said) (sym same) (sym whole ∙ ap (led_from as_hermite3 stage number) h)
+form_refused as_hermite3 stage number others (lines.NoLineForm k) fault said h same whole =
+    subst (λ (f : OemFault). Gives body_of (Err f) said) (sym same) (sym whole ∙ ap (led_from as_hermite3 stage number) h)
+
+-- one behind the next line
+pub fault_behind : (left behind : LinesLeft) (line : Line) (e : KvnFault) → IsFirst left line behind → said_by behind ≡ Err e → said_by left ≡ Err e
+fault_behind left behind line e is h = first_said left behind line is ∙ ap (behind_line (line_at left.bytes line)) h
+
+-- no line is left
+pub lines_end : (as_hermite3 : Bool) (stage : Stage) (number : ℕ) (left : LinesLeft) (said : Result Body Fault) → left.rest ≡ []
+    → led_from as_hermite3 stage number (said_by left) ≡ said → read_on as_hermite3 stage number [] ≡ said
+lines_end as_hermite3 stage number left said none whole =
+    sym (ap (λ (rest : List (List ℕ)). led_from as_hermite3 stage number (kvn.lines_said (left.number + 1) rest)) none) ∙ whole

@@ -50,6 +50,10 @@ lines_or (Err (faults.NotPrintable line)) = Err (record { line = line; cause = c
 lines_or (Err (faults.NoLineForm line)) = Err (record { line = line; cause = causes.Kvn NoLineForm })
 lines_or (Err faults.Memory) = Err (record { line = 0; cause = causes.Missing })
 
+-- the object and its segments, by the lines of a file; a line without a form comes before what is wrong with an earlier one
+abbrev pub body_said : Bool → Result (List Numbered) KvnFault → Result Body Fault
+body_said as_hermite3 said = lines_or said >>= read_on as_hermite3 Start 1
+
 -- what the bytes of the file with this name say; the cubic may be taken where the file declares another interpolation or none
 unfoldable pub reading : List ℕ → List ℕ → Bool → Result PlainTrack Fault
 reading file bytes as_hermite3 =

@@ -59,13 +59,17 @@ impl Covariances {
         Ok(())
     }
 
-    /// The covariances in the frame RTN, where the last one is whole.
+    /// The covariances in the frame RTN, where the last one is whole, without room for others.
     pub(crate) fn close(self) -> Result<Vec<Matrix>, Refused>
         ensures { Gives (λ v. map plain_matrix v.items) result (spec.closed (covariances_of self)) }
     {
         let mut covariances = self;
         covariances.finish()?;
-        let Covariances { whole, draft: _ } = covariances;
+        let Covariances {
+            mut whole,
+            draft: _,
+        } = covariances;
+        whole.shrink_to_fit();
         Ok(whole)
     }
 

@@ -57,11 +57,13 @@ impl NodeList {
         Ok(())
     }
 
-    /// All of them, of which there are two or more.
+    /// All of them, of which there are two or more, without room for others.
     pub(crate) fn into_nodes(self) -> Nodes
         requires { 2 ≤ length self }
         ensures { result ≡ self }
     {
-        Nodes::new(self.items)
+        let mut items = self.items;
+        items.shrink_to_fit();
+        Nodes::new(items)
     }
 }

@@ -1,22 +1,20 @@
 //! Reading a file.
-ghost use Rattle.std.specs.Prelude.{◌≡◌, ◌+◌, ◌≤◌, ◌^◌, ◌<◌, true, All, IfOk, IfErr, length};
+ghost use Rattle.std.specs.Prelude.{◌≡◌, ◌+◌, ◌≤◌, ◌^◌, ◌<◌, true, IfOk, IfErr, length};
 ghost use Rattle.std.specs.List.{list_all};
-ghost use Rattle.cj_kvn.specs.Lines.{LineIsWithin, form_at, lines_at};
+ghost use Rattle.cj_kvn.specs.Lines.{reading};
 ghost use Rattle.cj_track.specs.PlainTracks.{PlainTrack};
 ghost use Rattle.cj_oem.specs.Grammar.{Says};
 ghost use Rattle.cj_track.specs.Labels as labels;
 ghost use Rattle.cj_oem.specs.Reading as spec;
 ghost use Rattle.cj_oem.specs.Readers.{Gives, body_of};
 ghost use Rattle.cj_track.specs.Segments.{node_count};
-ghost use Rattle.cj_oem.specs.MetadataDrafts.{HasLabel};
-ghost use Rattle.cj_oem.specs.Stages.{Start};
 ghost use Rattle.cj_track.specs.Tracks.{plain_track};
 
 use crate::body::Body;
 use crate::fault::OemFault;
 use crate::stage::Stage;
 use cj_causes::OemCause;
-use cj_kvn::{Line, read_lines};
+use cj_kvn::LineCursor;
 use cj_track::Track;
 use cj_values::Text;
 use std::alloc::Global;
@@ -46,8 +44,7 @@ pub fn read_oem(
             cause: OemCause::Name,
         });
     }
-    let lines = read_lines(alloc, bytes)?;
-    let body = read_body(alloc, bytes, &lines, as_hermite3)?;
+    let body = read_body(alloc, bytes, as_hermite3)?;
     track_of(alloc, name, body)
 }
 
@@ -65,29 +62,21 @@ fn are_visible(text: &[u8]) -> bool
     text.iter().all(|b| 32 <= *b && *b <= 126)
 }
 
-/// What the lines of a file say.
-fn read_body(
-    alloc: Global,
-    bytes: &[u8],
-    lines: &[Line],
-    as_hermite3: bool,
-) -> Result<Body, OemFault>
-    requires short { length bytes.now < 2 ^ 32 }
-    requires within { All (LineIsWithin bytes.now) lines.now }
-    requires labels { All (λ line. HasLabel (form_at bytes.now line.kind)) lines.now }
-    requires numbers { All (λ line. line.number + 1 < 2 ^ 32) lines.now }
-    ensures { Gives body_of result (spec.read_on as_hermite3 Start 1 (lines_at bytes.now lines.now)) }
+/// What the lines of a file say. A line without a form comes before what is wrong with an earlier one.
+fn read_body(alloc: Global, bytes: &[u8], as_hermite3: bool) -> Result<Body, OemFault>
+    requires { length bytes.now + 1 < 2 ^ 32 }
+    ensures { Gives body_of result (spec.body_said as_hermite3 (reading bytes.now)) }
 {
+    let mut lines = LineCursor::new(bytes);
     let mut stage = Stage::Start;
     let mut number = 1;
-    for line in lines {
-        match stage.follow(alloc, bytes, line.kind, as_hermite3) {
-            Ok(()) => number = line.number + 1,
-            Err(refused) => {
-                drop(stage);
-                return Err(refused.at(line.number));
-            }
+    while let Some(line) = lines.next_line()? {
+        if let Err(refused) = stage.follow(alloc, bytes, line.kind, as_hermite3) {
+            drop(stage);
+            lines.check_rest()?;
+            return Err(refused.at(line.number));
         }
+        number = line.number + 1;
     }
     match stage.finish(alloc) {
         Ok(body) => Ok(body),

@@ -1,12 +1,9 @@
 -- What a reader answers for a file as a whole.
-use Rattle.std.proofs.Common.{◌≡◌, ℕ, List, [], Result, Ok, Err, Vec, Global, IfOk, MatchResult, refl, ap}
+use Rattle.std.proofs.Common.{◌≡◌, ℕ, List, [], Result, Ok, Err, Vec, Global, IfOk, MatchResult, refl}
 use Rattle.cj_kvn.specs.Lines as kvn
-use Rattle.cj_kvn.specs.Lines.{Numbered}
-use Rattle.cj_kvn.specs.declared.lines.KvnFault.{KvnFault}
-use Rattle.cj_kvn.specs.declared.lines.KvnFault.TheVariants as faults
 use Rattle.cj_sizes.specs.Grammar.{Says}
-use Rattle.cj_sizes.specs.Reading.{and_then, lines_or, reading, with_lines}
-use Rattle.cj_sizes.specs.Readers.{Gives, fault_of}
+use Rattle.cj_sizes.specs.Reading.{reading, sizes_said}
+use Rattle.cj_sizes.specs.Readers.{Gives}
 use Rattle.cj_sizes.specs.Sizes.{Size, sizes_of}
 use Rattle.cj_sizes.specs.declared.fault.SizesFault.{SizesFault}
 use Rattle.cj_sizes.specs.declared.fault.SizesFault.TheVariants.{Memory, At}
@@ -16,12 +13,10 @@ use Rattle.cj_sizes.proofs.GrammarLemmas.{reading_says, says_reading}
 abbrev pub sizes_in : Vec SizeLine Global → List Size
 sizes_in lines = sizes_of lines.items
 
--- lines that are not read
-pub lines_refused : {X : Type 0} (bytes : List ℕ) (view : X → List Numbered) (fault : KvnFault) → kvn.Gives view (Err fault) (kvn.reading bytes) → Gives sizes_in (Err (fault_of fault)) (reading bytes)
+-- a file is read by its lines
+pub by_said : (bytes : List ℕ) → reading bytes ≡ sizes_said [] (kvn.reading bytes)
 unfolding reading
-lines_refused bytes view faults.Memory e = tt
-lines_refused bytes view (faults.NotPrintable line) e = ap (λ (r : Result (List Numbered) KvnFault). and_then (lines_or r) (with_lines [])) e
-lines_refused bytes view (faults.NoLineForm line) e = ap (λ (r : Result (List Numbered) KvnFault). and_then (lines_or r) (with_lines [])) e
+by_said bytes = refl
 
 -- a file that is read says what the grammar says
 pub gives_says : (bytes : List ℕ) (result : Result (Vec SizeLine Global) SizesFault) → Gives sizes_in result (reading bytes) → IfOk result (λ lines. Says bytes (sizes_in lines))

@@ -1,34 +1,66 @@
 -- The lines of a file, one after another.
-use Rattle.std.proofs.Common.{◌≡◌, ℕ, ◌+◌, ◌<◌, List, length, drop, get_or, Result, Ok, Err, ap, sym, subst, ◌∙◌}
-use Rattle.std.proofs.lemmas.List.{drop_more}
-use Rattle.cj_kvn.specs.Lines.{form_at, lines_at}
+use Rattle.std.proofs.Common.{◌≡◌, ℕ, ◌+◌, List, [], ◌∷◌, Result, Ok, Err, IsOk, ap, sym, subst, ◌∙◌, refl}
+use Rattle.cj_kvn.specs.Cursors.{IsFirst, LinesLeft, said_by}
+use Rattle.cj_kvn.specs.Lines.{Numbered, form_at, line_at}
+use Rattle.cj_kvn.specs.Lines as kvn
+use Rattle.cj_kvn.specs.declared.lines.KvnFault.{KvnFault}
+use Rattle.cj_kvn.specs.declared.lines.KvnFault.TheVariants as lines
 use Rattle.cj_kvn.specs.declared.lines.Line.{Line}
-use Rattle.cj_sizes.specs.Reading.{Fault, at_line, and_then, with_line, with_lines}
-use Rattle.cj_sizes.specs.Readers.{Follows, Gives, refused_at}
+use Rattle.cj_kvn.proofs.CursorLemmas.{first_said}
+use Rattle.cj_sizes.specs.Reading.{Fault, at_line, and_then, sizes_said, with_line, with_lines}
+use Rattle.cj_sizes.specs.Readers.{Follows, Gives, fault_of, refused_at}
 use Rattle.cj_sizes.specs.Sizes.{Size}
 use Rattle.cj_causes.specs.declared.sizes_cause.SizesCause.{SizesCause}
 use Rattle.cj_sizes.specs.declared.fault.SizesFault.{SizesFault}
 use Rattle.cj_sizes.specs.declared.refused.Refused.{Refused}
 use Rattle.cj_sizes.specs.declared.refused.Refused.TheVariants.{Memory, Because}
 
--- the lines from a place on begin with the one there
-opened : (bytes : List ℕ) (before : List Size) (i : ℕ) (ls : List Line) (d : Line) → i < length ls
-    → with_lines before (lines_at bytes (drop i ls)) ≡ and_then (at_line (get_or ls i d).number (with_line before (form_at bytes (get_or ls i d).kind))) (λ sizes. with_lines sizes (lines_at bytes (drop (i + 1) ls)))
-opened bytes before i ls d within = ap (λ (rest : List Line). with_lines before (lines_at bytes rest)) (drop_more ls i d within)
+abbrev pub Said : Type 0
+Said = Result (List Numbered) KvnFault
+
+abbrev behind_line : Numbered → Said → Said
+behind_line line said = kvn.◌>>=◌ said (λ others. Ok (line ∷ others))
+
+sizes_followed : (before next : List Size) (line : Numbered) (others : Said) → with_line before line.form ≡ Ok next → sizes_said before (behind_line line others) ≡ sizes_said next others
+sizes_followed before next line (Ok ls) h = ap (λ (r : Result (List Size) SizesCause). and_then (at_line line.number r) (λ s. with_lines s ls)) h
+sizes_followed before next line (Err lines.Memory) h = refl
+sizes_followed before next line (Err (lines.NotPrintable k)) h = refl
+sizes_followed before next line (Err (lines.NoLineForm k)) h = refl
 
 -- the next line leads from the sizes so far to the next
-pub line_followed : (bytes : List ℕ) (before next : List Size) (i : ℕ) (ls : List Line) (d : Line) → i < length ls
-    → with_line before (form_at bytes (get_or ls i d).kind) ≡ Ok next
-    → with_lines before (lines_at bytes (drop i ls)) ≡ with_lines next (lines_at bytes (drop (i + 1) ls))
-line_followed bytes before next i ls d within h =
-    opened bytes before i ls d within
-    ∙ ap (λ (r : Result (List Size) SizesCause). and_then (at_line (get_or ls i d).number r) (λ s. with_lines s (lines_at bytes (drop (i + 1) ls)))) h
+pub line_followed : (before next : List Size) (left behind : LinesLeft) (line : Line) (bytes : List ℕ) → IsFirst left line behind → left.bytes ≡ bytes
+    → with_line before (form_at bytes line.kind) ≡ Ok next → sizes_said before (said_by left) ≡ sizes_said next (said_by behind)
+line_followed before next left behind line bytes is same h =
+    let here = ap (λ (b : List ℕ). with_line before (form_at b line.kind)) same ∙ h in
+    ap (sizes_said before) (first_said left behind line is) ∙ sizes_followed before next (line_at left.bytes line) (said_by behind) here
 
--- it is the first with a fault
-pub line_refused : {X : Type 0} (view : X → List Size) (bytes : List ℕ) (before : List Size) (i : ℕ) (ls : List Line) (d : Line) (refused : Refused) (fault : SizesFault) (said : Result (List Size) Fault)
-    → i < length ls → Follows (λ (sizes : List Size). sizes) (Err refused) (with_line before (form_at bytes (get_or ls i d).kind)) → fault ≡ refused_at (get_or ls i d).number refused
-    → with_lines before (lines_at bytes (drop i ls)) ≡ said → Gives view (Err fault) said
-line_refused view bytes before i ls d Memory fault said within h e same = subst (λ (f : SizesFault). Gives view (Err f) said) (sym e) tt
-line_refused view bytes before i ls d (Because cause) fault said within h e same =
+sizes_end : (before : List Size) (line : Numbered) (others : Said) (cause : SizesCause) → IsOk others → with_line before line.form ≡ Err cause
+    → sizes_said before (behind_line line others) ≡ Err (record { line = line.number; cause = cause })
+sizes_end before line (Ok ls) cause is h = ap (λ (r : Result (List Size) SizesCause). and_then (at_line line.number r) (λ s. with_lines s ls)) h
+sizes_end before line (Err e) cause is h = absurd cc
+
+-- it is the first with a fault, where each line behind it has a form
+pub line_refused : {X : Type 0} (view : X → List Size) (before : List Size) (left behind : LinesLeft) (line : Line) (bytes : List ℕ) (refused : Refused) (fault : SizesFault) (said : Result (List Size) Fault)
+    → IsFirst left line behind → left.bytes ≡ bytes → IsOk (said_by behind)
+    → Follows (λ (sizes : List Size). sizes) (Err refused) (with_line before (form_at bytes line.kind)) → fault ≡ refused_at line.number refused
+    → sizes_said before (said_by left) ≡ said → Gives view (Err fault) said
+line_refused view before left behind line bytes Memory fault said is same forms h e whole = subst (λ (f : SizesFault). Gives view (Err f) said) (sym e) tt
+line_refused view before left behind line bytes (Because cause) fault said is same forms h e whole =
+    let here = ap (λ (b : List ℕ). with_line before (form_at b line.kind)) same ∙ h in
     subst (λ (f : SizesFault). Gives view (Err f) said) (sym e)
-    (sym same ∙ opened bytes before i ls d within ∙ ap (λ (r : Result (List Size) SizesCause). and_then (at_line (get_or ls i d).number r) (λ s. with_lines s (lines_at bytes (drop (i + 1) ls)))) h)
+    (sym whole ∙ ap (sizes_said before) (first_said left behind line is) ∙ sizes_end before (line_at left.bytes line) (said_by behind) cause forms here)
+
+-- a line without a form
+pub form_refused : {X : Type 0} (view : X → List Size) (before : List Size) (others : Said) (e : KvnFault) (fault : SizesFault) (said : Result (List Size) Fault)
+    → others ≡ Err e → fault ≡ fault_of e → sizes_said before others ≡ said → Gives view (Err fault) said
+form_refused view before others lines.Memory fault said h same whole = subst (λ (f : SizesFault). Gives view (Err f) said) (sym same) tt
+form_refused view before others (lines.NotPrintable k) fault said h same whole = subst (λ (f : SizesFault). Gives view (Err f) said) (sym same) (sym whole ∙ ap (sizes_said before) h)
+form_refused view before others (lines.NoLineForm k) fault said h same whole = subst (λ (f : SizesFault). Gives view (Err f) said) (sym same) (sym whole ∙ ap (sizes_said before) h)
+
+-- one behind the next line
+pub fault_behind : (left behind : LinesLeft) (line : Line) (e : KvnFault) → IsFirst left line behind → said_by behind ≡ Err e → said_by left ≡ Err e
+fault_behind left behind line e is h = first_said left behind line is ∙ ap (behind_line (line_at left.bytes line)) h
+
+-- no line is left
+pub lines_end : (before : List Size) (left : LinesLeft) (said : Result (List Size) Fault) → left.rest ≡ [] → sizes_said before (said_by left) ≡ said → said ≡ Ok before
+lines_end before left said none whole = sym whole ∙ ap (λ (rest : List (List ℕ)). sizes_said before (kvn.lines_said (left.number + 1) rest)) none

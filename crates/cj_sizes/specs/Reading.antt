@@ -53,6 +53,10 @@ lines_or (Err (faults.NotPrintable line)) = Err (record { line = line; cause = c
 lines_or (Err (faults.NoLineForm line)) = Err (record { line = line; cause = causes.Kvn NoLineForm })
 lines_or (Err faults.Memory) = Err (record { line = 0; cause = causes.Form })
 
+-- the sizes with what further lines say; a line without a form comes before what is wrong with an earlier one
+abbrev pub sizes_said : List Size → Result (List Numbered) KvnFault → Result (List Size) Fault
+sizes_said before said = and_then (lines_or said) (with_lines before)
+
 -- what the bytes of a file of sizes say
 unfoldable pub reading : List ℕ → Result (List Size) Fault
-reading bytes = and_then (lines_or (kvn.reading bytes)) (with_lines [])
+reading bytes = sizes_said [] (kvn.reading bytes)

@@ -1,6 +1,6 @@
 //! Reading a file of sizes.
-ghost use Rattle.std.specs.Prelude.{◌≡◌, ◌^◌, ◌<◌, [], All, IfOk, IfErr, List, MatchResult, length};
-ghost use Rattle.cj_kvn.specs.Lines.{LineIsWithin, lines_at};
+ghost use Rattle.std.specs.Prelude.{◌≡◌, ◌^◌, ◌<◌, [], IfOk, IfErr, List, MatchResult, length};
+ghost use Rattle.cj_kvn.specs.Lines.{reading};
 ghost use Rattle.cj_sizes.specs.Grammar.{Says};
 ghost use Rattle.cj_sizes.specs.Reading as spec;
 ghost use Rattle.cj_sizes.specs.Readers.{Gives};
@@ -9,7 +9,7 @@ ghost use Rattle.cj_sizes.specs.Sizes.{Size, sizes_of};
 use crate::draft::Draft;
 use crate::fault::SizesFault;
 use crate::size_line::SizeLine;
-use cj_kvn::{Line, read_lines};
+use cj_kvn::LineCursor;
 use std::alloc::Global;
 
 /// The sizes that the bytes of a file say, in the order of its lines.
@@ -23,21 +23,23 @@ pub fn read_sizes(alloc: Global, bytes: &[u8]) -> Result<Vec<SizeLine>, SizesFau
     ensures says { IfOk result (λ v. Says bytes.now (sizes_of v.items)) }
     ensures accepts { (sizes : List Size) → Says bytes.now sizes → MatchResult result (λ v. sizes_of v.items ≡ sizes) (λ fault. fault ≡ SizesFault.Memory) }
 {
-    let lines = read_lines(alloc, bytes)?;
-    sizes_said(alloc, bytes, &lines)
+    sizes_said(alloc, bytes)
 }
 
-/// What the lines of a file say.
-fn sizes_said(alloc: Global, bytes: &[u8], lines: &[Line]) -> Result<Vec<SizeLine>, SizesFault>
-    requires short { length bytes.now < 2 ^ 32 }
-    requires within { All (LineIsWithin bytes.now) lines.now }
-    ensures { Gives (λ v. sizes_of v.items) result (spec.with_lines [] (lines_at bytes.now lines.now)) }
+/// What the lines of a file say. A line without a form comes before what is wrong with an earlier one.
+fn sizes_said(alloc: Global, bytes: &[u8]) -> Result<Vec<SizeLine>, SizesFault>
+    requires { length bytes.now < 2 ^ 32 }
+    ensures { Gives (λ v. sizes_of v.items) result (spec.sizes_said [] (reading bytes.now)) }
 {
     let mut draft = Draft::new(alloc);
-    for line in lines {
+    let mut lines = LineCursor::new(bytes);
+    while let Some(line) = lines.next_line()? {
         draft = match draft.with_line(alloc, bytes, line.kind) {
             Ok(next) => next,
-            Err(refused) => return Err(refused.at(line.number)),
+            Err(refused) => {
+                lines.check_rest()?;
+                return Err(refused.at(line.number));
+            }
         };
     }
     Ok(draft.into_sizes())

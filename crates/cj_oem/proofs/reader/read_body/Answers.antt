@@ -1,14 +1,15 @@
-use Rattle.std.proofs.Common.{◌∙◌, sym}
-use Rattle.cj_oem.specs.Readers.{stage_of}
-use Rattle.cj_oem.proofs.ReaderLemmas.{line_followed, line_refused}
+use Rattle.std.proofs.Common.{◌≡◌, List, ℕ, Option, Ok, subst}
+use Rattle.cj_kvn.specs.Cursors.{Follows}
+use Rattle.cj_kvn.specs.Lines.{form_at}
+use Rattle.cj_kvn.specs.declared.lines.Line.{Line}
+use Rattle.cj_oem.specs.MetadataDrafts.{HasLabel}
+use Rattle.cj_oem.proofs.LabelLemmas.{first_labelled}
 use Rattle.cj_oem.proofs.reader.read_body.Goals as goal
 
-pub returns-in-Err : goal.returns-in-Err
-returns-in-Err c =
-    line_refused c.args.as_hermite3 c.args.bytes.now (stage_of c.loop-line.stage) c.loop-line.number c.loop-line.line-index c.args.lines.now _ c.in-Err.refused c.at.result _
-    c.loop-line-test.true c.in-Err.ensures c.at.ensures c.loop-line.invariant
-
-pub loop-line-preserved : goal.loop-line-preserved
-loop-line-preserved c =
-    sym (line_followed c.args.as_hermite3 c.args.bytes.now (stage_of c.loop-line.stage) (stage_of c.follow.new.self) c.loop-line.number c.loop-line.line-index c.args.lines.now _ c.loop-line-test.true c.in-Ok.ensures)
-    ∙ c.loop-line.invariant
+-- each line that has a form
+pub follow-requires-clause-label : goal.follow-requires-clause-label
+follow-requires-clause-label c =
+    let line = c.in-Some.line in
+    let first = subst (λ (some : Option Line). Follows c.loop-stage.lines (Ok some) c.next_line.new.self) c.in-Some.is c.in_ok-line.ensures in
+    subst (λ (bytes : List ℕ). HasLabel (form_at bytes line.kind)) c.loop-stage.invariant.same
+    (first_labelled line.number first.text (form_at c.loop-stage.lines.bytes line.kind) first.form)
