@@ -92,7 +92,7 @@ fn go_on<'a, R: Threads + Sync, F: Folder>(
         return Err(first_cause(rt, alloc, taken, &files, why, as_hermite3, workers));
     }
     let rest = &entries[taken.tracks.len() + files.len()..];
-    take_and_read(rt, alloc, folder, taken, &files, rest, as_hermite3, workers)
+    take_and_read(rt, alloc, folder, taken, files, rest, as_hermite3, workers)
 }
 
 /// Why one of these files is not taken, or else why the next was not read.
@@ -120,13 +120,13 @@ fn first_cause<R: Threads + Sync>(
     }
 }
 
-/// Takes files that were read and reads the first of the rest, as a next batch.
+/// Takes files that were read and reads the first of the rest, as a next batch. One worker lets a file go before it reads the next.
 fn take_and_read<'a, R: Threads + Sync, F: Folder>(
     rt: &R,
     alloc: Global,
     folder: &mut F,
     taken: Taken,
-    files: &[FileRead<'_>],
+    files: Vec<FileRead<'_>>,
     rest: &'a [Entry],
     as_hermite3: bool,
     workers: u32,
@@ -134,7 +134,7 @@ fn take_and_read<'a, R: Threads + Sync, F: Folder>(
     requires numbers { All (λ entry. entry.number < F.count folder.old) rest.now }
 
     ensures taken { Reads ⊥ (λ next. map plain_track next.taken.tracks.items) result
-        (tracks_after (map plain_track taken.tracks.items) (map (said_by as_hermite3) files.now)) }
+        (tracks_after (map plain_track taken.tracks.items) (map (said_by as_hermite3) files.entry.items)) }
 
     ensures fault { IfOk result (λ next. next.batch.stop ≡ Some InputError.Failed → Rose (F.faults folder.old) (F.faults folder.new)) }
     ensures told { (told : List FileBytes) → F.files folder.old ≡ Some told → IfOk result (λ next. IsBatchOf told rest.now next.batch) }
@@ -146,11 +146,13 @@ fn take_and_read<'a, R: Threads + Sync, F: Folder>(
     ensures later { F.faults folder.old ≤ F.faults folder.new }
 {
     if workers < 2 {
-        let taken = take_files(rt, alloc, taken, files, as_hermite3, workers)?;
-        let batch = read_batch(alloc, folder, rest, workers, files.len())?;
+        let before = files.len();
+        let taken = take_and_drop(rt, alloc, taken, files, as_hermite3, workers)?;
+        let batch = read_batch(alloc, folder, rest, workers, before)?;
         return Ok(Progress { taken, batch });
     }
-    let (readings, batch) = parse_and_read(rt, alloc, folder, files, rest, as_hermite3, workers);
+    let (readings, batch) = parse_and_read(rt, alloc, folder, &files, rest, as_hermite3, workers);
+    drop(files);
     with_batch(take_all(alloc, taken, readings), batch)
 }
 
@@ -173,6 +175,23 @@ fn with_batch<'a>(
             Err(why)
         }
     }
+}
+
+/// These tracks and those that the files say, up to the first that is refused or beyond a limit. The files are let go.
+fn take_and_drop<R: Threads + Sync>(
+    rt: &R,
+    alloc: Global,
+    taken: Taken,
+    files: Vec<FileRead<'_>>,
+    as_hermite3: bool,
+    workers: u32,
+) -> Result<Taken, InputError>
+    ensures { Reads ⊥ (λ all. map plain_track all.tracks.items) result
+        (tracks_after (map plain_track taken.tracks.items) (map (said_by as_hermite3) files.entry.items)) }
+{
+    let all = take_files(rt, alloc, taken, &files, as_hermite3, workers);
+    drop(files);
+    all
 }
 
 /// These tracks and those that the files say, up to the first that is refused or beyond a limit. So many workers parse them.

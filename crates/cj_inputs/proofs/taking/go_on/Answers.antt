@@ -35,7 +35,7 @@ returns-in-Some g c = record {
 
 pub returns-clause-stopped : goal.returns-clause-stopped
 returns-clause-stopped g c = λ is.
-    absurd (subst (λ (r : Result Progress InputError). Takes c.args.as_hermite3 c.args.progress r c.deref-2.result.now) is c.take_and_read.ensures.taken)
+    absurd (subst (λ (r : Result Progress InputError). Takes c.args.as_hermite3 c.args.progress r c.args.progress.batch.files.items) is c.take_and_read.ensures.taken)
 
 pub returns-clause-fault : goal.returns-clause-fault
 returns-clause-fault g c = c.take_and_read.ensures.fault
@@ -61,7 +61,7 @@ returns-clause-told g c = λ files told way.
     let entries = c.args.entries.now in
     let k = c.len.result + c.len-2.result in
     let progress = c.args.progress in
-    let taken = subst (Takes c.args.as_hermite3 progress c.take_and_read.result) c.deref-2.ensures.value c.take_and_read.ensures.taken in
+    let taken = c.take_and_read.ensures.taken in
     batch_goes_on c.args.as_hermite3 files entries (take (length entries - k) (drop k entries)) progress c.take_and_read.result way taken
     (all_left entries k (length progress.taken.tracks.items + length progress.batch.files.items) (omega (arith, c.len.ensures, c.len-2.ensures))) (c.take_and_read.ensures.told files told)
 
@@ -70,7 +70,7 @@ returns-clause-fits g c =
     let entries = c.args.entries.now in
     let k = c.len.result + c.len-2.result in
     let progress = c.args.progress in
-    let taken = subst (Takes c.args.as_hermite3 progress c.take_and_read.result) c.deref-2.ensures.value c.take_and_read.ensures.taken in
+    let taken = c.take_and_read.ensures.taken in
     next_fits c.args.as_hermite3 entries (take (length entries - k) (drop k entries)) progress c.take_and_read.result c.requires.fits taken
     (all_left entries k (length progress.taken.tracks.items + length progress.batch.files.items) (omega (arith, c.len.ensures, c.len-2.ensures)))
     c.take_and_read.ensures.few c.take_and_read.ensures.some
@@ -78,5 +78,5 @@ returns-clause-fits g c =
 pub returns-clause-more : goal.returns-clause-more
 returns-clause-more g c =
     let progress = c.args.progress in
-    let taken = subst (Takes c.args.as_hermite3 progress c.take_and_read.result) c.deref-2.ensures.value c.take_and_read.ensures.taken in
+    let taken = c.take_and_read.ensures.taken in
     more_taken c.args.as_hermite3 progress c.take_and_read.result taken (c.requires.fits.some c.in_default.is c.requires.left)

@@ -1,4 +1,4 @@
-use Rattle.std.proofs.Common.{◌≡◌, ◌<◌, ◌≤◌, None, Some, List, map, length, refl, arith}
+use Rattle.std.proofs.Common.{◌≡◌, ◌<◌, ◌≤◌, None, Some, List, map, length, refl, arith, subst, IfOk}
 use Rattle.std.proofs.lemmas.Result.{err_from_is_err_and}
 use Rattle.cj_io.specs.Faults.{Rose}
 use Rattle.cj_track.specs.PlainTracks.{PlainTrack}
@@ -7,7 +7,8 @@ use Rattle.cj_inputs.specs.declared.batch.Batch.{Batch}
 use Rattle.cj_inputs.specs.declared.progress.Progress.{Progress}
 use Rattle.cj_inputs.specs.declared.reading.InputError.TheVariants.{Failed}
 use Rattle.cj_inputs.specs.declared.taken.Taken.{Taken}
-use Rattle.cj_inputs.specs.Batches.{IsBatchOf, said_by, tracks_after}
+use Rattle.cj_inputs.specs.Batches.{AreParsed, IsBatchOf, said_by, tracks_after}
+use Rattle.cj_inputs.specs.declared.batch.FileRead.{FileRead}
 use Rattle.cj_inputs.proofs.BatchLemmas.{of_part, reads_wider}
 use Rattle.cj_inputs.proofs.taking.take_and_read.Goals as goal
 
@@ -22,8 +23,8 @@ next_of next = map plain_track next.taken.tracks.items
 
 pub returns-clause-taken : goal.returns-clause-taken
 returns-clause-taken g c =
-    let said = map (said_by c.args.as_hermite3) c.args.files.now in
-    c.with_batch.ensures.told (tracks_after (map plain_track c.args.taken.tracks.items) said) (c.take_all.ensures said c.parse_and_read-readings.ensures.parsed)
+    let said = map (said_by c.args.as_hermite3) c.args.files.items in
+    c.with_batch.ensures.told (tracks_after (map plain_track c.args.taken.tracks.items) said) (c.take_all.ensures said (subst (λ (read : List FileRead). IfOk c.parse_and_read-readings.result.0 (λ readings. AreParsed c.args.as_hermite3 read readings.items)) c.deref.ensures.value c.parse_and_read-readings.ensures.parsed))
 
 pub returns-clause-fault : goal.returns-clause-fault
 returns-clause-fault g c =
@@ -55,7 +56,7 @@ returns-clause-later g c = c.parse_and_read-readings.ensures.later
 
 pub returns-in_err-taken : goal.returns-in_err-taken
 returns-in_err-taken g c =
-    let expected = tracks_after (map plain_track c.args.taken.tracks.items) (map (said_by c.args.as_hermite3) c.args.files.now) in
+    let expected = tracks_after (map plain_track c.args.taken.tracks.items) (map (said_by c.args.as_hermite3) c.args.files.items) in
     let p = err_from_is_err_and c.from_residual.result c.from_residual.ensures.1 in
     rw (p.1, p.2)
     (record {
