@@ -1,9 +1,11 @@
+pub mod DatedLemmas
 pub mod DigitLemmas
 pub mod ElementLemmas
 pub mod ExactLemmas
 pub mod FigureLemmas
 pub mod FitsLemmas
 pub mod GrammarLemmas
+pub mod LatestLemmas
 pub mod LineLemmas
 pub mod MessageLemmas
 pub mod NumberLemmas

@@ -1,5 +1,5 @@
 -- When there is a message.
-use Rattle.std.proofs.Common.{◌≡◌, ℕ, ap, ◌∙◌, refl, Option, Some, None, option_map, is_some}
+use Rattle.std.proofs.Common.{◌≡◌, ℕ, ap, sym, ◌∙◌, refl, false, Option, Some, None, option_map, is_some}
 use Rattle.std.specs.Prelude.{◌&&◌, option_and_then, slice_get}
 use Rattle.cj_track.specs.PlainTracks.{PlainSegment, PlainTrack}
 use Rattle.cj_hermite.specs.Pieces.{PlainPiece, curve_of_interval, interval_at, interval_index_at, intervals_of, last_covering}
@@ -46,3 +46,12 @@ message_some case a b m miss stamp =
     }) (object_side case a m) (object_side case b m)
     ∙ ap (λ t. t && is_some (object_side case b m)) (some_object m (slice_get case.ephemerides a))
     ∙ ap (λ t. is_some (object_covariance case a m) && t) (some_object m (slice_get case.ephemerides b))
+
+no_some : {A : Type 0} (o : Option A) → is_some o ≡ false → o ≡ None
+no_some None none = refl
+no_some (Some x) none = absurd (cc)
+
+-- without a covariance nothing is said of an object
+pub object_bare : (case : PlainProblem) (object m : ℕ) → None ≡ object_covariance case object m → None ≡ object_side case object m
+object_bare case object m none =
+    sym (no_some (object_side case object m) (some_object m (slice_get case.ephemerides object) ∙ sym (ap is_some none)))

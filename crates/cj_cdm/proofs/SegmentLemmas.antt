@@ -1,12 +1,16 @@
 -- The segment to which an interval belongs.
-use Rattle.std.proofs.Common.{◌≡◌, ℕ, zero, suc, ◌+◌, ◌-◌, ◌<◌, ◌≤◌, true, false, List, [], ◌∷◌, ◌++◌, length, take, get_or, ap, append-nil, arith, refl, Some}
+use Rattle.std.proofs.Common.{◌≡◌, ◌∙◌, ℕ, zero, suc, ◌+◌, ◌-◌, ◌<◌, ◌≤◌, true, false, List, [], ◌∷◌, ◌++◌, length, take, get_or, map, ap, sym, append-nil, arith, refl, Some}
 use Rattle.std.specs.Prelude.{nat_lt, flat_map}
 use Rattle.std.proofs.lemmas.Bool.Decides.{nat_tests}
-use Rattle.std.proofs.lemmas.List.{length-append}
+use Rattle.std.proofs.lemmas.List.{length-append, length-map}
 use Rattle.cj_track.specs.PlainTracks.{PlainSegment, PlainTrack}
-use Rattle.cj_hermite.specs.Pieces.{intervals_of_arc}
+use Rattle.cj_track.specs.declared.matrix.Matrix.{Matrix}
+use Rattle.cj_track.specs.declared.segment.Segment.{Segment}
+use Rattle.cj_track.specs.declared.track.Track.{Track}
+use Rattle.cj_track.specs.Tracks.{plain_matrix, plain_segment, plain_track}
+use Rattle.cj_hermite.specs.Pieces.{intervals_of_arc, interval_index_at}
 use Rattle.cj_hermite.specs.PiecesOfTracks.{IsInSegment}
-use Rattle.cj_cdm.specs.Covariances.{segment_with}
+use Rattle.cj_cdm.specs.Covariances.{covariance_at, covariance_for, segment_with}
 
 -- the segment with number n, where the intervals before it are not more than the interval's number, and those up to its end are more
 segment_with_is : (arcs : List PlainSegment) (index n : ℕ) (d : PlainSegment) → n < length arcs
@@ -27,3 +31,28 @@ segment_with_is (arc ∷ arcs) index (suc n) d short from to =
 pub segment_found : (e : PlainTrack) (index n : ℕ) (d : PlainSegment) → IsInSegment e index n → segment_with index e.arcs ≡ Some (get_or e.arcs n d)
 segment_found e index n d h =
     segment_with_is e.arcs index n d h.exists h.from (let e1 : n + 1 ≡ suc n = omega arith in omega (arith, h.to, ap (λ k. length (flat_map intervals_of_arc (take k e.arcs))) e1))
+
+-- the covariance of a segment for a tick is that of the track, where the interval at the tick lies in the segment
+covariance_in : (e : PlainTrack) (m index n : ℕ) (d : PlainSegment) → Some index ≡ interval_index_at e m → IsInSegment e index n → covariance_for m (get_or e.arcs n d).covariances ≡ covariance_at e m
+unfolding covariance_at
+covariance_in e m index n d at h = rw (← at) (rw (segment_found e index n d h) refl)
+
+covariances_of : (segments : List Segment) (n : ℕ) (d : PlainSegment) (matrices : List Matrix) → n < length segments → matrices ≡ get_or (map (λ (s : Segment). s.matrices) segments) n matrices
+    → map plain_matrix matrices ≡ (get_or (map plain_segment segments) n d).covariances
+covariances_of [] n d matrices below is = absurd (omega arith)
+covariances_of (s ∷ segments) zero d matrices below is = ap (map plain_matrix) is
+covariances_of (s ∷ segments) (suc n) d matrices below is = covariances_of segments n d matrices (omega arith) is
+
+pub covariance_of_segment : (track : Track) (m index n : ℕ) (listed : List (List Matrix)) (matrices : List Matrix) → Some index ≡ interval_index_at (plain_track track) m
+    → IsInSegment (plain_track track) index n → listed ≡ map (λ (s : Segment). s.matrices) track.segments → matrices ≡ get_or listed n matrices
+    → covariance_for m (map plain_matrix matrices) ≡ covariance_at (plain_track track) m
+covariance_of_segment track m index n listed matrices at in_segment same is =
+    let d : PlainSegment = record { first = 0; last = 0; states = []; covariances = [] } in
+    let short : n < length track.segments = omega (arith, in_segment.exists, length-map track.segments plain_segment) in
+    ap (covariance_for m) (covariances_of track.segments n d matrices short (is ∙ ap (λ (ms : List (List Matrix)). get_or ms n matrices) same))
+    ∙ covariance_in (plain_track track) m index n d at in_segment
+
+-- each segment has its covariances
+pub segment_listed : (track : Track) (index n : ℕ) (listed : List (List Matrix)) → IsInSegment (plain_track track) index n → listed ≡ map (λ (s : Segment). s.matrices) track.segments → n < length listed
+segment_listed track index n listed in_segment same =
+    omega (arith, in_segment.exists, length-map track.segments plain_segment, length-map track.segments (λ (s : Segment). s.matrices), ap (λ (ms : List (List Matrix)). length ms) same)

@@ -1,6 +1,6 @@
 -- What a message says of an object at a tick.
-use Rattle.std.proofs.Common.{◌≡◌, ◌∙◌, ℕ, ◌<◌, ◌≤◌, List, map, length, get_or, ap, sym, refl, Option, Some, None, option_map}
-use Rattle.std.specs.Prelude.{IsSomeAnd, slice_get}
+use Rattle.std.proofs.Common.{◌≡◌, ◌∙◌, ◌⊎◌, inl, inr, ℕ, zero, suc, ◌<◌, ◌≤◌, List, [], ◌∷◌, ◌++◌, map, length, get_or, ap, sym, subst, refl, Option, Some, None, option_map}
+use Rattle.std.specs.Prelude.{IfSome, IsSomeAnd, option_and_then, slice_get}
 use Rattle.std.proofs.lemmas.Option.{slice_get-map, slice_get_past, slice_get_read}
 use Rattle.cj_track.specs.declared.track.Track.{Track}
 use Rattle.cj_track.specs.Tracks.{plain_track}
@@ -9,6 +9,7 @@ use Rattle.cj_hermite.specs.Interpolant.{Curve}
 use Rattle.cj_hermite.specs.Pieces.{PlainPiece, curve_of_interval, interval_at, interval_index_at, intervals_of, last_covering}
 use Rattle.cj_cdm.specs.Building.{side_of, side_with}
 use Rattle.cj_cdm.specs.Covariances.{covariance_at}
+use Rattle.cj_cdm.specs.Indexed.{AreOfTracks}
 
 no_interval : (l : Option (ℕ × PlainPiece)) → option_map (λ (x : ℕ × PlainPiece). x.0) l ≡ None → option_map (λ (x : ℕ × PlainPiece). x.1) l ≡ None
 no_interval None none = refl
@@ -39,3 +40,28 @@ track_missing given tracks i same past =
     slice_get-map plain_track given i
     ∙ ap (λ (ts : List Track). option_map plain_track (slice_get ts i)) (sym same)
     ∙ ap (option_map plain_track) (slice_get_past tracks i past)
+
+-- what a push of a track that may be left out adds
+pushed : {X : Type 0} (xs : List X) (x y : X) (j : ℕ) → slice_get (xs ++ x ∷ []) j ≡ Some y → (slice_get xs j ≡ Some y) ⊎ ((j ≡ length xs) × (x ≡ y))
+pushed [] x y zero found = let same : x ≡ y = cc in inr (refl, same)
+pushed [] x y (suc j) found = absurd (cc)
+pushed (z ∷ xs) x y zero found = inl found
+pushed (z ∷ xs) x y (suc j) found = elim (pushed xs x y j found) [
+  | inl before ↦ inl before
+  | inr here ↦ inr (ap suc here.0, here.1)
+]
+
+pub of_tracks_more : (tracks : List Track) (indexed : List (Option Track)) (x : Option Track) (track : Track) (i : ℕ) → AreOfTracks tracks indexed → length indexed ≡ i → i < length tracks
+    → track ≡ get_or tracks i track → IfSome x (λ t. t ≡ track) → AreOfTracks tracks (indexed ++ x ∷ [])
+of_tracks_more tracks indexed x track i before many below is here object t found = elim (pushed indexed x (Some t) object found) [
+  | inl old ↦ before object t old
+  | inr last ↦
+      let number : object ≡ i = last.0 ∙ many in
+      let same : t ≡ track = subst (λ (o : Option Track). IfSome o (λ u. u ≡ track)) last.1 here in
+      ap (slice_get tracks) number ∙ slice_get_read tracks (length tracks) i track refl below is ∙ ap (λ (u : Track). Some u) (sym same)
+]
+
+-- the object of an index that is there
+pub covariance_there : (tracks : List Track) (object m : ℕ) (t : Track) → slice_get tracks object ≡ Some t
+    → covariance_at (plain_track t) m ≡ option_and_then (λ e. covariance_at e m) (slice_get (map plain_track tracks) object)
+covariance_there tracks object m t found = sym (ap (option_and_then (λ e. covariance_at e m)) (slice_get-map plain_track tracks object ∙ ap (option_map plain_track) found))

@@ -2,6 +2,8 @@ pub mod Messages
 pub mod Designators
 pub mod Texts
 pub mod Covariances
+pub mod Dated
+pub mod Indexed
 pub mod States
 pub mod Building
 pub mod Fields

@@ -1,17 +1,27 @@
-//! Which covariance is told at a tick.
+//! Which covariance is told at a tick, by a look at all of the segment.
 ghost use Rattle.std.specs.Prelude.{◌≡◌, ◌<◌, length, map, option_map};
 ghost use Rattle.cj_track.specs.Tracks.{plain_matrix, plain_track};
 ghost use Rattle.cj_hermite.specs.Pieces.{intervals_of};
+ghost use Rattle.cj_hermite.specs.Problems.{plain_problem};
+ghost use Rattle.cj_cdm.specs.Building as building;
 ghost use Rattle.cj_cdm.specs.Covariances as spec;
 ghost use Rattle.cj_cdm.specs.Covariances.{not_after, segment_with};
 
-use cj_hermite::{piece_at, segment_of};
+use cj_hermite::{Problem, piece_at, segment_of};
 use cj_ticks::Tick;
 use cj_track::{Matrix, Track};
 
-/// The covariance of a track for a tick, or none where it has no state there or its segment has no covariance.
+/// The covariance of an object for a tick, or none where it has no state there or its segment has no covariance.
+pub(crate) fn object_covariance(problem: &Problem, object: u32, at: Tick) -> Option<&Matrix>
+    ensures { option_map (λ m. plain_matrix m.now) result ≡ building.object_covariance (plain_problem problem.now) object at.micros }
+{
+    let track = problem.tracks.as_slice().get(object as usize)?;
+    covariance_at(track, at)
+}
+
+/// The covariance of a track for a tick.
 #[tactic(auto, unfolding(crate::specs::Covariances::covariance_at))]
-pub(crate) fn covariance_at(track: &Track, at: Tick) -> Option<&Matrix>
+fn covariance_at(track: &Track, at: Tick) -> Option<&Matrix>
     ensures { option_map (λ m. plain_matrix m.now) result ≡ spec.covariance_at (plain_track track.now) at.micros }
 {
     let index = piece_at(track, at)?;

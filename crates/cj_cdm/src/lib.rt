@@ -3,23 +3,29 @@
 
 mod building;
 mod cdm;
+mod covariance_index;
 mod covariances;
+mod dated;
+mod dating;
 mod designators;
 mod elements;
 mod fault;
 mod fields;
+mod indexing;
 mod naming;
 mod printing;
 mod reading;
+mod segment_covariances;
 mod stamp;
 mod states;
+mod track_covariances;
 mod vector;
 mod writing;
 
 pub use cdm::{Cdm, Side};
+pub use covariance_index::CovarianceIndex;
 pub use fault::{CdmCause, CdmFault};
 pub use naming::message_name;
 pub use reading::read_cdm;
 pub use stamp::Stamp;
 pub use vector::Vector;
-pub use writing::{has_message, message};

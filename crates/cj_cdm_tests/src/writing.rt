@@ -5,7 +5,7 @@ ghost use Rattle.cj_track.specs.Labels.{is_file_name, is_label};
 ghost use Rattle.cj_track.specs.Segments.{node_count};
 
 use crate::expected::crossing;
-use cj_cdm::{Stamp, has_message, message};
+use cj_cdm::{CovarianceIndex, Stamp};
 use cj_epoch::leap_between;
 use cj_hermite::{Pair, Problem, Sizes, Tracks};
 use cj_kvn::read_decimal;
@@ -28,7 +28,7 @@ pub fn tick(after: u64) -> Tick
     }
 }
 
-fn node(after: u64, p: Vec3, v: Vec3) -> Node
+pub fn node(after: u64, p: Vec3, v: Vec3) -> Node
     requires early { after < 100_000_000_000 }
     requires place { IsWithin MAX_COORDINATE p.x × IsWithin MAX_COORDINATE p.y × IsWithin MAX_COORDINATE p.z }
     requires rate { IsWithin MAX_RATE v.x × IsWithin MAX_RATE v.y × IsWithin MAX_RATE v.z }
@@ -42,7 +42,7 @@ fn node(after: u64, p: Vec3, v: Vec3) -> Node
 }
 
 /// A covariance at the start of 2025 whose first three elements these are, and whose others are zero.
-fn matrix(first: Decimal, second: Decimal, third: Decimal) -> Matrix
+pub fn matrix(first: Decimal, second: Decimal, third: Decimal) -> Matrix
     requires first { IsReadable (number_of first) }
     requires second { IsReadable (number_of second) }
     requires third { IsReadable (number_of third) }
@@ -154,7 +154,7 @@ fn problem(
     })
 }
 
-fn stamp() -> Stamp<'static> {
+pub fn stamp() -> Stamp<'static> {
     Stamp {
         created: tick(86_400_000_000),
         originator: b"CONJ",
@@ -184,12 +184,13 @@ fn two_tracks_cross_at_one_kilometre(rt: HostRuntime) {
     .expect(&rt, "no fault");
     let pair = Pair { a: 0, b: 1 };
     let tca = tick(30_000_000);
-    let text = message(alloc, &problem, pair, tca, 1_000_000_000_000, stamp()).expect(
-        &rt, "no fault",
-    );
+    let index = CovarianceIndex::new(alloc, &problem, &[true, true]).expect(&rt, "no fault");
+    let text = index
+        .message(alloc, pair, tca, 1_000_000_000_000, stamp())
+        .expect(&rt, "no fault");
     let expected = crossing(alloc).expect(&rt, "no fault");
     assert_eq!(rt; text.as_deref(), Some(expected.as_slice()));
-    assert!(rt; has_message(&problem, pair, tca));
+    assert!(rt; index.has_message(pair, tca));
 }
 
 #[test]
@@ -205,9 +206,10 @@ fn no_message_without_both_covariances(rt: HostRuntime) {
     .expect(&rt, "no fault");
     let pair = Pair { a: 0, b: 1 };
     let tca = tick(30_000_000);
-    let text = message(alloc, &problem, pair, tca, 1_000_000_000_000, stamp()).expect(
-        &rt, "no fault",
-    );
+    let index = CovarianceIndex::new(alloc, &problem, &[true, true]).expect(&rt, "no fault");
+    let text = index
+        .message(alloc, pair, tca, 1_000_000_000_000, stamp())
+        .expect(&rt, "no fault");
     assert!(rt; text.is_none());
-    assert!(rt; !has_message(&problem, pair, tca));
+    assert!(rt; !index.has_message(pair, tca));
 }

@@ -7,15 +7,15 @@ use Rattle.cj_cdm.specs.Reading.{reading}
 use Rattle.cj_cdm.specs.Texts.{text_of}
 use Rattle.cj_cdm.proofs.FitsLemmas.{message_fits, some_same}
 use Rattle.cj_cdm.proofs.GrammarLemmas.{reading_again}
-use Rattle.cj_cdm.proofs.writing.message.Goals as goal
+use Rattle.cj_cdm.proofs.covariance_index.CovarianceIndex.message.Goals as goal
 
 pub returns-in_default-clause-some : goal.returns-in_default-clause-some
 returns-in_default-clause-some c =
-    ap is_some c.in_default.ensures.value ∙ message_some (plain_problem c.args.problem.now) c.args.pair.a c.args.pair.b c.args.tca.micros c.args.miss (stamp_of c.args.stamp)
+    ap is_some c.in_default.ensures.value ∙ message_some (plain_problem c.args.self.now) c.args.pair.a c.args.pair.b c.args.tca.micros c.args.miss (stamp_of c.args.stamp)
 
 pub returns-clause-some : goal.returns-clause-some
 returns-clause-some c =
-    ap is_some c.in-Some.ensures.value ∙ message_some (plain_problem c.args.problem.now) c.args.pair.a c.args.pair.b c.args.tca.micros c.args.miss (stamp_of c.args.stamp)
+    ap is_some c.in-Some.ensures.value ∙ message_some (plain_problem c.args.self.now) c.args.pair.a c.args.pair.b c.args.tca.micros c.args.miss (stamp_of c.args.stamp)
 
 pub returns-clause-again : goal.returns-clause-again
 returns-clause-again c = λ m told names.
