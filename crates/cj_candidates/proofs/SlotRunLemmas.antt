@@ -1,25 +1,27 @@
 -- Runs of slots: one slot more, one run more, and runs with those behind them.
-use Rattle.std.proofs.Common.{◌≡◌, ℕ, ◌+◌, ◌-◌, ◌*◌, ◌<◌, ◌≤◌, ◌++◌, List, [], ◌∷◌, Vec, Global, length, min, take, drop, get_or, vec_len, sym, ap, subst, ◌∙◌, arith, append-nil, length-append}
-use Rattle.std.specs.Prelude.{Result, Ok, Err, IfOk, IsErrOf}
+use Rattle.std.proofs.Common.{◌≡◌, ℕ, ◌+◌, ◌-◌, ◌*◌, ◌<◌, ◌≤◌, ◌++◌, List, [], ◌∷◌, Vec, Global, length, map, min, take, drop, Bool, true, false, get_or, vec_len, sym, ap, subst, ◌∙◌, arith, append-nil, append_assoc, length-append}
+use Rattle.std.specs.Prelude.{Result, Ok, Err, IfOk, OnOk}
 use Rattle.std.specs.List.{flat_map, range_with_len, sum_by}
 use Rattle.std.specs.List.Sorted.{IsPermutation}
-use Rattle.std.proofs.lemmas.List.{length-map, map-append, take-append-drop, take_more}
+use Rattle.std.proofs.lemmas.List.{length-map, length-take, map-append, take-append-drop, take_more}
 use Rattle.std.proofs.lemmas.List.Concat.{flat_map-append}
 use Rattle.std.proofs.lemmas.List.FromFn.{length-range_with_len}
 use Rattle.std.proofs.lemmas.List.Sorted.{IsPermutation-append, IsPermutation-map, IsPermutation-trans, length_permutation}
 use Rattle.std.proofs.lemmas.List.Sums.{sum_by-append, sum_by-cons, sum_by-le, sum_by_more, sum_by_push}
 use Rattle.cj_interval.proofs.RangeLemmas.{range_cut}
 use Rattle.cj_hermite.specs.PlainProblems.{PlainProblem}
-use Rattle.cj_hermite.specs.Roots.{PlainCell, roots_in_slot}
+use Rattle.cj_hermite.specs.declared.pair.Pair.{Pair}
+use Rattle.cj_hermite.specs.Pairs.{objects_of}
+use Rattle.cj_hermite.specs.Roots.{PlainCell, roots_in, roots_in_slot}
 use Rattle.cj_bezier.specs.declared.cell.Cell.{Cell}
 use Rattle.cj_bezier.specs.Cells.{plain_cell, plain_cells}
 use Rattle.cj_bezier.specs.Looked.{pairs_looked}
-use Rattle.cj_cells.specs.declared.refine_error.RefineError.{RefineError}
-use Rattle.cj_cells.specs.declared.refine_error.RefineError.TheVariants.{TooMany}
+use Rattle.cj_cells.specs.Cells.{added_roots}
+use Rattle.cj_cells.proofs.WalkLemmas.{added_count, added_twice}
 use Rattle.cj_candidates.specs.declared.slot_run.SlotRun.{SlotRun}
 use Rattle.cj_candidates.specs.declared.slot_run.SlotRuns.{SlotRuns}
 use Rattle.cj_candidates.specs.declared.stretch.Stretch.{Stretch}
-use Rattle.cj_candidates.specs.SlotRuns.{roots_over, looked_over, roots_of_stretch, looked_of_stretch, roots_at, looked_at, IsFound, AreSought, IsFoundAt}
+use Rattle.cj_candidates.specs.SlotRuns.{roots_over, looked_over, roots_of_stretch, looked_of_stretch, roots_at, roots_listed, looked_at, IsFound, IsFoundAt}
 use Rattle.cj_candidates.proofs.CountLemmas.{looked_few}
 
 pub roots_both : (case : PlainProblem) (from a b : ℕ) → roots_over case from (a + b) ≡ roots_over case from a ++ roots_over case (from + a) b
@@ -126,17 +128,102 @@ found_more stretches i stretch lists list lt is before here =
     (subst (λ (rs : List PlainCell). IsPermutation (roots_at (take i stretches) ++ roots_of_stretch stretch) rs) (sym new)
     (IsPermutation-append (roots_at (take i stretches)) (cells_at lists) (roots_of_stretch stretch) (plain_cells list.items) before here))
 
+-- or some of its roots
+pub few_more : (stretches : List Stretch) (i : ℕ) (stretch : Stretch) (lists : List (Vec Cell Global)) (list : Vec Cell Global) → i < length stretches
+    → stretch ≡ get_or stretches i stretch → length (flat_map (λ l. l.items) lists) ≤ length (roots_at (take i stretches))
+    → length list.items ≤ length (roots_of_stretch stretch) → length (flat_map (λ l. l.items) (lists ++ list ∷ [])) ≤ length (roots_at (take (i + 1) stretches))
+few_more stretches i stretch lists list lt is before here =
+    let items = λ (l : Vec Cell Global). l.items in
+    let new : flat_map items (lists ++ list ∷ []) ≡ flat_map items lists ++ list.items =
+    flat_map-append items lists (list ∷ []) ∙ ap (λ (cs : List Cell). flat_map items lists ++ cs) (append-nil list.items) in
+    omega (
+      arith,
+      before,
+      here,
+      ap length new,
+      length-append (flat_map items lists) list.items,
+      ap length (roots_more stretches i stretch lt is),
+      length-append (roots_at (take i stretches)) (roots_of_stretch stretch),
+    )
+
 -- ---- runs with those behind them
 
--- all of them are found
+-- what is found in both, one behind the other
 pub both_found : (some others : List Stretch) (front back all : SlotRuns) → IsFoundAt some front → IsFoundAt others back → all.roots.items ≡ front.roots.items ++ back.roots.items
-    → all.touching ≡ min (front.touching + back.touching) 18_446_744_073_709_551_615 → IsFoundAt (some ++ others) all
-both_found some others front back all one two roots touching = record {
-  roots = subst (λ (rs : List PlainCell). IsPermutation rs (cells_at all.roots.items)) (sym (flat_map-append roots_of_stretch some others))
-      (subst (λ (rs : List PlainCell). IsPermutation (roots_at some ++ roots_at others) rs) (sym (ap cells_at roots ∙ cells_both front.roots.items back.roots.items))
-      (IsPermutation-append (roots_at some) (cells_at front.roots.items) (roots_at others) (cells_at back.roots.items) one.roots two.roots));
-  touching = omega (arith, touching, one.touching, two.touching, sum_by-append looked_of_stretch some others);
-}
+    → all.touching ≡ min (front.touching + back.touching) 18_446_744_073_709_551_615 → (all.whole ≡ true → (front.whole ≡ true) × (back.whole ≡ true))
+    → IsFoundAt (some ++ others) all
+both_found some others front back all one two roots touching whole =
+    let lists = λ (l : Vec Cell Global). l.items in
+    let both = flat_map-append roots_of_stretch some others in
+    let listed = ap (flat_map lists) roots ∙ flat_map-append lists front.roots.items back.roots.items in
+    record {
+      few = omega (
+        arith,
+        one.few,
+        two.few,
+        ap length both,
+        length-append (roots_at some) (roots_at others),
+        ap length listed,
+        length-append (flat_map lists front.roots.items) (flat_map lists back.roots.items),
+      );
+      roots = λ is.
+          subst (λ (rs : List PlainCell). IsPermutation rs (cells_at all.roots.items)) (sym both)
+          (subst (λ (rs : List PlainCell). IsPermutation (roots_at some ++ roots_at others) rs) (sym (ap cells_at roots ∙ cells_both front.roots.items back.roots.items))
+          (IsPermutation-append (roots_at some) (cells_at front.roots.items) (roots_at others) (cells_at back.roots.items) (one.roots (whole is).0) (two.roots (whole is).1)));
+      touching = λ is.
+          let first = one.touching (whole is).0 in
+          let second = two.touching (whole is).1 in
+          omega (arith, touching, first, second, sum_by-append looked_of_stretch some others);
+    }
+
+-- ---- some pairs of a slot, and those behind them
+
+abbrev pub roots_with : PlainProblem → ℕ → List Pair → List PlainCell
+roots_with case slot pairs = roots_in_slot case slot (map objects_of pairs)
+
+pub pairs_apart : (case : PlainProblem) (slot n : ℕ) (pairs : List Pair) → roots_with case slot pairs ≡ roots_with case slot (take n pairs) ++ roots_with case slot (drop n pairs)
+pairs_apart case slot n pairs =
+    ap (roots_with case slot) (sym (take-append-drop n pairs))
+    ∙ ap (roots_in_slot case slot) (map-append objects_of (take n pairs) (drop n pairs))
+    ∙ flat_map-append (λ (pair : ℕ × ℕ). roots_in case slot pair.0 pair.1) (map objects_of (take n pairs)) (map objects_of (drop n pairs))
+
+-- a list of cells to which some of these roots were added
+pub grown : (old new : List Cell) (roots : List PlainCell) → take (length old) new ≡ old → added_roots old new ≡ take (length (added_roots old new)) roots
+    → length new ≤ length old + length roots
+grown old new roots kept some = omega (arith, added_count old new kept, ap length some, length-take (length (added_roots old new)) roots)
+
+pub grown_by : (old new : List Cell) (roots : List PlainCell) → take (length old) new ≡ old → added_roots old new ≡ roots → length new ≡ length old + length roots
+grown_by old new roots kept all = sym (added_count old new kept) ∙ ap (λ (rs : List PlainCell). length old + length rs) all
+
+-- what holds anyway holds where a call succeeded
+pub on_ok : {A E : Type 0} (r : Result A E) (P : Type 0) → P → OnOk r P
+on_ok (Ok x) P p = p
+on_ok (Err e) P p = tt
+
+-- what was stopped is not whole
+pub not_whole : {E : Type 0} (r : Result Bool E) (P : Type 0) → IfOk r (λ whole. whole ≡ false) → IfOk r (λ whole. whole ≡ true → P)
+not_whole (Ok whole) P is = λ yes. let e : true ≡ false = sym yes ∙ is in absurd cc
+not_whole (Err e) P is = tt
+
+-- they were added before and are added now
+pub added_before : (old mid new : List Cell) (now rest whole : List PlainCell) → take (length old) mid ≡ old → take (length mid) new ≡ mid
+    → added_roots mid new ≡ now → added_roots old mid ++ (now ++ rest) ≡ whole → added_roots old new ++ rest ≡ whole
+added_before old mid new now rest whole kept kept' added before =
+    ap (λ (rs : List PlainCell). rs ++ rest) (added_twice old mid new kept kept' ∙ ap (λ (rs : List PlainCell). added_roots old mid ++ rs) added)
+    ∙ append_assoc (added_roots old mid) now rest ∙ before
+
+-- so far there are no more than in all
+pub few_so_far : (old mid new : List Cell) (now rest whole : List PlainCell) → take (length old) mid ≡ old → added_roots old mid ++ (now ++ rest) ≡ whole
+    → length new ≤ length mid + length now → length new ≤ length old + length whole
+few_so_far old mid new now rest whole kept before few =
+    omega (
+      arith,
+      few,
+      added_count old mid kept,
+      ap length before,
+      length-append (added_roots old mid) (now ++ rest),
+      length-append now rest,
+    )
 
 -- ---- runs of all slots
 
@@ -147,27 +234,16 @@ looked_over_few case from count few =
     (sum_by-le (λ slot. length (pairs_looked case slot)) 4_000_000 (range_with_len from count) (λ k d lt. looked_few case (get_or (range_with_len from count) k d) few))
 
 -- what is found in runs that are all slots, merged
-pub all_found : (case : PlainProblem) (from count limit : ℕ) (stretches : List Stretch) (runs : SlotRuns) (r : Result SlotRun RefineError) → roots_at stretches ≡ roots_over case from count
-    → looked_at stretches ≡ looked_over case from count → length case.ephemerides ≤ 2000 → count < 4_294_967_296 → IsFoundAt stretches runs
-    → (IsErrOf r TooMany → limit < length (flat_map (λ list. list.items) runs.roots.items))
-    → IfOk r (λ run. IsPermutation (flat_map (λ list. list.items) runs.roots.items) run.roots.items)
-    → IfOk r (λ run. vec_len run.roots ≤ limit) → IfOk r (λ run. run.touching ≡ runs.touching) → AreSought case from count limit r
-all_found case from count limit stretches runs r same looked objects slots found many roots few touching =
-    let lists = flat_map (λ (list : Vec Cell Global). list.items) runs.roots.items in
+pub all_found : (case : PlainProblem) (from count limit : ℕ) (stretches : List Stretch) (runs : SlotRuns) (run : SlotRun) → roots_at stretches ≡ roots_over case from count
+    → looked_at stretches ≡ looked_over case from count → length case.ephemerides ≤ 2000 → count < 4_294_967_296 → IsFoundAt stretches runs → runs.whole ≡ true
+    → length (roots_listed runs) ≤ limit → IsPermutation (roots_listed runs) run.roots.items → vec_len run.roots ≡ length run.roots.items → run.touching ≡ runs.touching
+    → IsFound case from count limit run
+all_found case from count limit stretches runs run same looked objects slots found whole few merged len touching =
+    let all = found.touching whole in
     record {
-      too_many = λ is.
-          let over = many is in
-          omega (arith, over, length_permutation _ _ found.roots, length-map lists plain_cell, ap length same);
-      found = go r roots few touching;
-    }
-  where
-    go : (r : Result SlotRun RefineError) → IfOk r (λ run. IsPermutation (flat_map (λ list. list.items) runs.roots.items) run.roots.items)
-        → IfOk r (λ run. vec_len run.roots ≤ limit) → IfOk r (λ run. run.touching ≡ runs.touching) → IfOk r (IsFound case from count limit)
-    go (Err e) roots few touching = tt
-    go (Ok run) roots few touching = record {
       roots = subst (λ (rs : List PlainCell). IsPermutation rs (plain_cells run.roots.items)) same
-          (IsPermutation-trans (roots_at stretches) (cells_at runs.roots.items) (plain_cells run.roots.items) found.roots
-          (IsPermutation-map plain_cell (flat_map (λ list. list.items) runs.roots.items) run.roots.items roots));
-      few = few;
-      touching = omega (arith, touching, found.touching, looked, looked_over_few case from count objects, slots);
+          (IsPermutation-trans (roots_at stretches) (cells_at runs.roots.items) (plain_cells run.roots.items) (found.roots whole)
+          (IsPermutation-map plain_cell (roots_listed runs) run.roots.items merged));
+      few = omega (arith, few, len, length_permutation _ _ merged);
+      touching = omega (arith, touching, all, looked, looked_over_few case from count objects, slots);
     }

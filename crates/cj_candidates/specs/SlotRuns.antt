@@ -1,16 +1,18 @@
 -- What is found in a run of slots.
-use Rattle.std.specs.Prelude.{◌≡◌, ℕ, ◌<◌, ◌≤◌, List, length, min, vec_len, Result, IfOk, IsErrOf}
+use Rattle.std.specs.Prelude.{◌≡◌, ℕ, ◌<◌, ◌≤◌, List, length, min, true, vec_len, Result, IfOk, IsErrOf}
 use Rattle.std.specs.List.{flat_map, range_with_len, sum_by}
 use Rattle.std.specs.List.Sorted.{IsPermutation}
 use Rattle.cj_hermite.specs.PlainProblems.{PlainProblem}
 use Rattle.cj_hermite.specs.Problems.{plain_problem}
 use Rattle.cj_hermite.specs.Roots.{PlainCell, roots_in_slot}
+use Rattle.cj_bezier.specs.declared.cell.Cell.{Cell}
 use Rattle.cj_bezier.specs.Cells.{plain_cells}
 use Rattle.cj_bezier.specs.Looked.{pairs_looked}
 use Rattle.cj_cells.specs.declared.refine_error.RefineError.{RefineError}
 use Rattle.cj_cells.specs.declared.refine_error.RefineError.TheVariants.{TooMany}
 use Rattle.cj_candidates.specs.declared.slot_run.SlotRun.{SlotRun}
 use Rattle.cj_candidates.specs.declared.slot_run.SlotRuns.{SlotRuns}
+use Rattle.cj_candidates.specs.declared.slot_run.ThreadRun.{ThreadRun}
 use Rattle.cj_candidates.specs.declared.stretch.Stretch.{Stretch}
 
 -- the roots of the pairs that are looked at in so many slots from one on, slot by slot
@@ -46,12 +48,18 @@ pub record AreSought (case : PlainProblem) (from count limit : ℕ) (result : Re
   pub too_many : IsErrOf result TooMany → limit < length (roots_over case from count)
   pub found : IfOk result (IsFound case from count limit)
 
--- of several runs these are found, in whatever order
-pub record IsFoundAt (stretches : List Stretch) (runs : SlotRuns) : Type 0 where
-  pub roots : IsPermutation (roots_at stretches) (plain_cells (flat_map (λ list. list.items) runs.roots.items))
-  pub touching : runs.touching ≡ min (looked_at stretches) 18_446_744_073_709_551_615
+-- a thread has found these in a run: all of them, in whatever order, or no more than there are
+pub record IsFoundIn (stretch : Stretch) (run : ThreadRun) : Type 0 where
+  pub few : length run.roots.items ≤ length (roots_of_stretch stretch)
+  pub roots : run.whole ≡ true → IsPermutation (roots_of_stretch stretch) (plain_cells run.roots.items)
+  pub touching : run.whole ≡ true → run.touching ≡ min (looked_of_stretch stretch) 18_446_744_073_709_551_615
 
--- they are found, or there are more in all, or memory ran out
-pub record AreSoughtAt (stretches : List Stretch) (limit : ℕ) (result : Result SlotRuns RefineError) : Type 0 where
-  pub too_many : IsErrOf result TooMany → limit < length (roots_at stretches)
-  pub found : IfOk result (IsFoundAt stretches)
+-- the roots of several runs, one run behind another
+abbrev pub roots_listed : SlotRuns → List Cell
+roots_listed runs = flat_map (λ list. list.items) runs.roots.items
+
+-- threads have found these in several runs
+pub record IsFoundAt (stretches : List Stretch) (runs : SlotRuns) : Type 0 where
+  pub few : length (roots_listed runs) ≤ length (roots_at stretches)
+  pub roots : runs.whole ≡ true → IsPermutation (roots_at stretches) (plain_cells (roots_listed runs))
+  pub touching : runs.whole ≡ true → runs.touching ≡ min (looked_at stretches) 18_446_744_073_709_551_615

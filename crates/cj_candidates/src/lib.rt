@@ -3,6 +3,7 @@
 #![tactic(auto)]
 
 mod candidates;
+mod crowding;
 mod filtering;
 mod ground;
 mod keeping;
@@ -11,7 +12,9 @@ mod objects_measured;
 mod slot_boxes;
 mod slot_run;
 mod slots_searched;
+mod slots_shared;
 mod stretch;
+mod together;
 
 pub use candidates::Candidates;
 pub use filtering::find_candidates;

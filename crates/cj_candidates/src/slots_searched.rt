@@ -1,42 +1,55 @@
-//! The roots of a run of slots: slot by slot, or by several threads that take the next few slots each.
-ghost use Rattle.std.specs.Prelude.{◌≡◌, ℕ, ◌+◌, ◌<◌, ◌≤◌, ◌++◌, List, length, map, min, vec_len, flat_map, IfOk, IsErrOf};
+//! The roots of a run of slots: slot by slot, or by several threads.
+ghost use Rattle.std.specs.Prelude.{◌≡◌, ◌+◌, ◌<◌, ◌≤◌, length, map, min, flat_map, IfOk};
 ghost use Rattle.std.specs.List.Sorted.{IsPermutation};
 ghost use Rattle.cj_hermite.specs.Pairs.{objects_of};
 ghost use Rattle.cj_hermite.specs.Problems.{plain_problem};
-ghost use Rattle.cj_bezier.specs.Looked.{pairs_looked};
-ghost use Rattle.cj_candidates.specs.declared.stretch.Stretch.{Stretch};
-ghost use Rattle.cj_candidates.specs.SlotRuns.{AreSought, AreSoughtAt, looked_at, looked_over, roots_at, roots_over};
+ghost use Rattle.cj_bezier.specs.Looked.{boxes_in, pairs_looked};
+ghost use Rattle.cj_bezier.specs.SlotBoxes.{plain_boxes};
+ghost use Rattle.cj_candidates.specs.SlotRuns.{AreSought, looked_at, looked_over, roots_at, roots_over};
 
 use crate::ground::Ground;
 use crate::keeping::kept_of;
 use crate::slot_boxes::boxes_in_slot;
 use crate::slot_run::{SlotRun, SlotRuns};
+use crate::slots_shared::search_together;
 use crate::stretch::Stretch;
-use cj_bezier::Cell;
+use cj_bezier::{AxisBox, Cell};
 use cj_cells::{RefineError, roots_of_slot};
 use cj_grid::find_touching;
 use cj_hermite::{Hints, Pair};
-use cj_jobs::{Jobs, run_jobs};
 use cj_merge::{Placed, merge_runs};
 use cj_sieve::ShelledObjects;
 use std::alloc::{AllocError, Global};
 use std::thread::Threads;
 
-/// The pairs that are looked at in a slot: of those whose boxes touch the ones that are kept.
-fn looked_pairs(alloc: Global, ground: &Ground<'_>, slot: u32) -> Result<Vec<Pair>, AllocError>
-    requires exists { slot < ground.now.slots }
+/// The pairs that are looked at in a slot, whose boxes are given: of those whose boxes touch the ones that are kept.
+pub fn looked_among(
+    alloc: Global,
+    ground: &Ground<'_>,
+    slot: u32,
+    boxes: &[Option<AxisBox>],
+) -> Result<Vec<Pair>, AllocError>
+    requires { plain_boxes boxes.now ≡ boxes_in (plain_problem ground.now.problem.now) slot }
     ensures { IfOk result (λ pairs. map objects_of pairs.items ≡ pairs_looked (plain_problem ground.now.problem.now) slot) }
 {
     let problem = ground.problem;
-    let here = boxes_in_slot(alloc, problem, ground.boxes, ground.slots, slot)?;
     let sizes = problem.sizes.as_slice();
-    let touching = find_touching(alloc, &here, sizes, problem.threshold)?;
+    let touching = find_touching(alloc, boxes, sizes, problem.threshold)?;
     let objects = ShelledObjects {
         shells: ground.shells,
         sizes,
         thr: problem.threshold,
     };
     kept_of(alloc, &touching, &objects)
+}
+
+/// The pairs that are looked at in a slot.
+fn looked_pairs(alloc: Global, ground: &Ground<'_>, slot: u32) -> Result<Vec<Pair>, AllocError>
+    requires exists { slot < ground.now.slots }
+    ensures { IfOk result (λ pairs. map objects_of pairs.items ≡ pairs_looked (plain_problem ground.now.problem.now) slot) }
+{
+    let here = boxes_in_slot(alloc, ground.problem, ground.boxes, ground.slots, slot)?;
+    looked_among(alloc, ground, slot, &here)
 }
 
 /// So many slots from one on, one after another, with at most so many roots. They are sorted, so that merging them takes one pass;
@@ -63,86 +76,6 @@ fn search_in_turn(
     }
     roots.sort_by_key(|root: &Cell| root.place())?;
     Ok(SlotRun { roots, touching })
-}
-
-/// Some runs of slots, one after another, each with at most so many roots.
-fn search_each(
-    alloc: Global,
-    stretches: &[Stretch<'_>],
-    limit: u64,
-) -> Result<SlotRuns, RefineError>
-    requires { limit ≤ 4_000_000 }
-    ensures { AreSoughtAt stretches.now limit result }
-{
-    let mut all = Vec::with_capacity(alloc, stretches.len())?;
-    let mut sum = 0u64;
-    for stretch in stretches {
-        let SlotRun { roots, touching } = search_in_turn(
-            alloc,
-            &stretch.ground,
-            stretch.from,
-            stretch.count,
-            limit,
-        )?;
-        all.push(roots)?;
-        sum = sum.saturating_add(touching);
-    }
-    Ok(SlotRuns {
-        roots: all,
-        touching: sum,
-    })
-}
-
-/// What is found in some runs of slots and in others behind them.
-fn joined(
-    front: Result<SlotRuns, RefineError>,
-    back: Result<SlotRuns, RefineError>,
-) -> Result<SlotRuns, RefineError>
-    ensures { (some others : List Stretch) → (limit : ℕ) → AreSoughtAt some limit front → AreSoughtAt others limit back
-        → AreSoughtAt (some ++ others) limit result }
-{
-    let SlotRuns {
-        mut roots,
-        touching,
-    } = front?;
-    let mut back = back?;
-    roots.append(&mut back.roots)?;
-    Ok(SlotRuns {
-        roots,
-        touching: touching.saturating_add(back.touching),
-    })
-}
-
-/// What is done with runs of slots: each is searched, with at most so many roots. That there are more is an output too.
-#[derive(Clone, Copy)]
-struct Searching {
-    limit: u64,
-    ghost few: { limit ≤ 4_000_000 },
-}
-
-impl<'g> Jobs<Stretch<'g>> for Searching {
-    type Output = Result<SlotRuns, RefineError>;
-
-    ghost comes_of = { λ searching stretches found. AreSoughtAt stretches searching.limit found };
-
-    fn run(
-        &self,
-        alloc: Global,
-        part: &[Stretch<'g>],
-    ) -> Result<Result<SlotRuns, RefineError>, AllocError> {
-        Ok(search_each(alloc, part, self.limit))
-    }
-
-    fn join(
-        &self,
-        front: Result<SlotRuns, RefineError>,
-        back: Result<SlotRuns, RefineError>,
-    ) -> Result<Result<SlotRuns, RefineError>, AllocError>
-        ensures { (some others : List Stretch) → AreSoughtAt some self.now.limit front → AreSoughtAt others self.now.limit back
-            → IfOk result (AreSoughtAt (some ++ others) self.now.limit) }
-    {
-        Ok(joined(front, back))
-    }
 }
 
 /// So many slots from one on, in runs of so many, the last of which may have fewer.
@@ -183,23 +116,16 @@ fn count_of(lists: &[Vec<Cell>]) -> usize
     count
 }
 
-/// The roots of some runs of slots merged by as many threads as there are workers, if there are at most so many.
+/// The roots of some runs of slots merged by as many threads as there are workers.
 fn merged<R: Threads + Sync>(
     rt: &R,
     alloc: Global,
     runs: &SlotRuns,
     workers: u32,
-    limit: u64,
-) -> Result<SlotRun, RefineError>
-    requires { limit ≤ 4_000_000 }
-    ensures too_many { IsErrOf result RefineError.TooMany → limit < length (flat_map (λ list. list.items) runs.now.roots.items) }
+) -> Result<SlotRun, AllocError>
     ensures roots { IfOk result (λ run. IsPermutation (flat_map (λ list. list.items) runs.now.roots.items) run.roots.items) }
-    ensures few { IfOk result (λ run. vec_len run.roots ≤ limit) }
     ensures touching { IfOk result (λ run. run.touching ≡ runs.now.touching) }
 {
-    if count_of(&runs.roots) as u64 > limit {
-        return Err(RefineError::TooMany);
-    }
     let roots = merge_runs(rt, alloc, &runs.roots, workers as usize)?;
     Ok(SlotRun {
         roots,
@@ -210,7 +136,8 @@ fn merged<R: Threads + Sync>(
 /// Slots are cut into so many runs for each worker, or fewer.
 const RUNS_A_WORKER: u32 = 8;
 
-/// So many slots from one on, by as many threads as there are workers, with at most so many roots.
+/// So many slots from one on, by as many threads as there are workers, with at most so many roots. The threads stop where they have found
+/// too many together, which no clause says, or where slots are crowded: then one thread searches all.
 pub fn search_slots<R: Threads + Sync>(
     rt: &R,
     alloc: Global,
@@ -229,7 +156,12 @@ pub fn search_slots<R: Threads + Sync>(
     }
     let size = count.div_ceil(workers.saturating_mul(RUNS_A_WORKER));
     let stretches = cut(alloc, ground, from, count, size.max(1))?;
-    let searching = Searching { limit };
-    let runs = run_jobs(rt, alloc, &searching, &stretches, 1, workers as usize)??;
-    merged(rt, alloc, &runs, workers, limit)
+    let runs = search_together(rt, alloc, &stretches, workers, limit)?;
+    if count_of(&runs.roots) as u64 > limit {
+        return Err(RefineError::TooMany);
+    }
+    if !runs.whole {
+        return search_in_turn(alloc, ground, from, count, limit);
+    }
+    Ok(merged(rt, alloc, &runs, workers)?)
 }

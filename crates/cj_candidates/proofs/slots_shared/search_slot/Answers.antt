@@ -1,0 +1,42 @@
+use Rattle.std.proofs.Common.{◌≡◌, ◌<◌, ℕ, List, length, map, sym, ap, subst, ◌∙◌, arith}
+use Rattle.std.specs.Prelude.{All}
+use Rattle.std.proofs.lemmas.List.{length-map, take_all}
+use Rattle.cj_track.specs.Tracks.{plain_track}
+use Rattle.cj_hermite.specs.declared.pair.Pair.{Pair}
+use Rattle.cj_hermite.specs.Pairs.{objects_of}
+use Rattle.cj_hermite.specs.Problems.{plain_problem}
+use Rattle.cj_hermite.specs.Roots.{roots_in_slot}
+use Rattle.cj_bezier.specs.Looked.{is_looked}
+use Rattle.cj_bezier.specs.SlotBoxes.{plain_boxes}
+use Rattle.cj_candidates.proofs.ObjectLemmas.{pairs_within}
+use Rattle.cj_candidates.proofs.slots_shared.search_slot.Goals as goal
+
+pub looked_among-requires : goal.looked_among-requires
+looked_among-requires c = ap plain_boxes c.deref-2.ensures.value ∙ c.in_ok-here.ensures
+
+pub append_until_stopped-requires-clause-exist : goal.append_until_stopped-requires-clause-exist
+append_until_stopped-requires-clause-exist c =
+    let problem = c.args.ground.now.problem.now in
+    let case = plain_problem problem in
+    let within = pairs_within (λ pair. is_looked case pair.0 pair.1 c.args.slot) (length case.ephemerides) c.in_ok-pairs.pairs.items c.in_ok-pairs.ensures in
+    subst (λ (ps : List Pair). All (λ pair. pair.b < length problem.tracks) ps) (sym c.deref-3.ensures.value)
+    (subst (λ (n : ℕ). All (λ pair. pair.b < n) c.in_ok-pairs.pairs.items) (length-map problem.tracks plain_track) within)
+
+pub returns-clause-added : goal.returns-clause-added
+returns-clause-added c = λ whole.
+    c.in_ok-whole.ensures.added whole
+    ∙ ap (roots_in_slot (plain_problem c.args.ground.now.problem.now) c.args.slot) (ap (map objects_of) c.deref-3.ensures.value ∙ c.in_ok-pairs.ensures)
+
+pub returns-clause-looked : goal.returns-clause-looked
+returns-clause-looked c = λ _.
+    let pairs = c.in_ok-pairs.pairs in
+    omega (arith, c.saturating_add-run.ensures, c.len.ensures, pairs.ok.0, length-map pairs.items objects_of, ap length c.in_ok-pairs.ensures)
+
+pub returns-clause-few : goal.returns-clause-few
+returns-clause-few c =
+    let few = c.in_ok-whole.ensures.few in
+    let here = ap length (ap (roots_in_slot (plain_problem c.args.ground.now.problem.now) c.args.slot) (ap (map objects_of) c.deref-3.ensures.value ∙ c.in_ok-pairs.ensures)) in
+    omega (arith, few, here)
+
+pub returns-then-not-begin-clause-kept : goal.returns-then-not-begin-clause-kept
+returns-then-not-begin-clause-kept c = take_all _ c.args.run.now.roots.items (omega (arith, c.args.run.now.roots.ok.0))

@@ -1,0 +1,66 @@
+use Rattle.std.proofs.Common.{◌≡◌, ◌-◌, ◌++◌, ℕ, List, min, length, take, true, false, sym, ap, subst, ◌∙◌, arith}
+use Rattle.std.specs.List.Sorted.{IsPermutation}
+use Rattle.std.proofs.lemmas.List.{length-map}
+use Rattle.std.proofs.lemmas.List.Sorted.{IsPermutation-map, length_permutation}
+use Rattle.cj_hermite.specs.Problems.{plain_problem}
+use Rattle.cj_hermite.specs.Roots.{PlainCell}
+use Rattle.cj_bezier.specs.Cells.{plain_cell, plain_cells}
+use Rattle.cj_cells.specs.Cells.{added_roots}
+use Rattle.cj_cells.proofs.ListingLemmas.{cells_more}
+use Rattle.cj_candidates.specs.SlotRuns.{roots_over, looked_over}
+use Rattle.cj_candidates.proofs.SlotRunLemmas.{slots_more, counts_more, roots_upto}
+use Rattle.cj_candidates.proofs.slots_shared.search_stretch.Goals as goal
+
+pub returns-then-not-branch : goal.returns-then-not-branch
+returns-then-not-branch c =
+    let l = c.loop-slot in
+    let s = c.args.stretch.now in
+    let case = plain_problem s.ground.problem.now in
+    let new = c.search_slot.new.run in
+    let upto = roots_upto case s.from l.slot s.count (omega arith) (omega arith) in
+    let found = ap length l.invariant.found in
+    let few = c.in_ok-search_slot.ensures.few in
+    let stopped = c.search_slot.ensures.stays ∙ l.invariant.stopped in
+    record {
+      few = omega (arith, upto, found, few, length-map l.run.roots.items plain_cell, l.run.roots.ok.0, new.roots.ok.0);
+      roots = λ whole. let e : true ≡ false = sym whole ∙ stopped in absurd cc;
+      touching = λ whole. let e : true ≡ false = sym whole ∙ stopped in absurd cc;
+    }
+
+pub loop-slot-preserved : goal.loop-slot-preserved
+loop-slot-preserved c =
+    let l = c.loop-slot in
+    let i = l.invariant in
+    let s = c.args.stretch.now in
+    let case = plain_problem s.ground.problem.now in
+    let from = s.from in
+    let old = l.run.roots in
+    let new = c.search_slot.new.run.roots.items in
+    let whole = c.if-not-branch.false in
+    let kept = subst (λ (k : ℕ). take k new ≡ old.items) old.ok.0 c.in_ok-search_slot.ensures.kept in
+    let looked = c.in_ok-search_slot.ensures.looked whole in
+    record {
+      room = c.in_ok-search_slot.ensures.room whole;
+      found = cells_more old.items new kept ∙ ap (λ (rs : List PlainCell). rs ++ added_roots old.items new) i.found
+          ∙ ap (λ (rs : List PlainCell). roots_over case from (l.slot - from) ++ rs) (c.in_ok-search_slot.ensures.added whole)
+          ∙ sym (slots_more case from l.slot (omega arith));
+      counted = omega (arith, looked, i.counted, counts_more case from l.slot (omega arith));
+      stopped = c.search_slot.ensures.stays ∙ i.stopped;
+    }
+
+pub returns : goal.returns
+returns c =
+    let l = c.loop-slot in
+    let i = l.invariant in
+    let s = c.args.stretch.now in
+    let case = plain_problem s.ground.problem.now in
+    let new = c.sort_by_key.new.self in
+    let all : l.slot - s.from ≡ s.count = omega arith in
+    let sorted = c.in_ok-sort_by_key.ensures.permutation in
+    let found = i.found ∙ ap (roots_over case s.from) all in
+    let long = ap length found in
+    record {
+      few = omega (arith, long, length_permutation l.run.roots.items new.items sorted, length-map l.run.roots.items plain_cell);
+      roots = λ _. subst (λ (rs : List PlainCell). IsPermutation rs (plain_cells new.items)) found (IsPermutation-map plain_cell l.run.roots.items new.items sorted);
+      touching = λ _. i.counted ∙ ap (λ (n : ℕ). min (looked_over case s.from n) 18_446_744_073_709_551_615) all;
+    }

@@ -1,0 +1,268 @@
+//! Runs of slots that several threads search, until all of them together have found too many roots.
+ghost use Rattle.std.specs.Prelude.{◌≡◌, ◌+◌, ◌<◌, ◌≤◌, ◌++◌, List, length, map, min, take, vec_len, true, false, All, IfOk, OnOk};
+ghost use Rattle.cj_hermite.specs.Pairs.{objects_of};
+ghost use Rattle.cj_hermite.specs.Problems.{plain_problem};
+ghost use Rattle.cj_hermite.specs.Roots.{roots_in_slot};
+ghost use Rattle.cj_bezier.specs.Looked.{pairs_looked};
+ghost use Rattle.cj_cells.specs.Cells.{added_roots};
+ghost use Rattle.cj_candidates.specs.declared.stretch.Stretch.{Stretch};
+ghost use Rattle.cj_candidates.specs.SlotRuns.{IsFoundAt, IsFoundIn};
+
+use crate::crowding::is_crowd;
+use crate::ground::Ground;
+use crate::slot_boxes::boxes_in_slot;
+use crate::slot_run::{SlotRuns, ThreadRun};
+use crate::slots_searched::looked_among;
+use crate::stretch::Stretch;
+use crate::together::Together;
+use cj_bezier::Cell;
+use cj_cells::{RefineError, roots_of_slot};
+use cj_hermite::{Hints, Pair, Problem};
+use cj_jobs::{Jobs, run_jobs};
+use cj_merge::Placed;
+use std::alloc::{AllocError, Global};
+use std::thread::Threads;
+
+/// Appends the roots of some pairs of existing objects in a slot, and counts them. Whether it has appended all, and the threads are to go on.
+fn append_some(
+    alloc: Global,
+    problem: &Problem,
+    slot: u32,
+    pairs: &[Pair],
+    limit: u64,
+    together: &Together,
+    hints: &mut Hints,
+    roots: &mut Vec<Cell>,
+) -> Result<bool, AllocError>
+    requires exist { All (λ pair. pair.b < length problem.now.tracks) pairs.now }
+    requires limit { limit ≤ 4_000_000 }
+    requires room { vec_len roots.old ≤ limit + 1 }
+    ensures added { IfOk result (λ whole. whole ≡ true
+        → added_roots roots.old.items roots.new.items ≡ roots_in_slot (plain_problem problem.now) slot (map objects_of pairs.now)) }
+    ensures room { IfOk result (λ whole. whole ≡ true → vec_len roots.new ≤ limit + 1) }
+    ensures few { OnOk result (vec_len roots.new ≤ vec_len roots.old + length (roots_in_slot (plain_problem problem.now) slot (map objects_of pairs.now))) }
+    ensures kept { take (vec_len roots.old) roots.new.items ≡ roots.old.items }
+{
+    let before = roots.len();
+    let appended = roots_of_slot(alloc, problem, slot, pairs, limit + 1, hints, roots);
+    together.add(roots.len().saturating_sub(before));
+    match appended {
+        Ok(()) => Ok(!together.is_over(limit)),
+        Err(error) => stopped_by(error),
+    }
+}
+
+/// That a list of roots has no room for more is no want of memory.
+fn stopped_by(error: RefineError) -> Result<bool, AllocError>
+    ensures { IfOk result (λ whole. whole ≡ false) }
+{
+    match error {
+        RefineError::Memory => Err(AllocError),
+        RefineError::TooMany => Ok(false),
+    }
+}
+
+/// So many pairs have their roots appended at once.
+const PAIRS_AT_ONCE: usize = 64;
+
+/// Appends the roots of pairs of existing objects in a slot, some pairs at a time, until the threads are to stop. Whether it has appended all.
+fn append_until_stopped(
+    alloc: Global,
+    problem: &Problem,
+    slot: u32,
+    pairs: &[Pair],
+    limit: u64,
+    together: &Together,
+    hints: &mut Hints,
+    roots: &mut Vec<Cell>,
+) -> Result<bool, AllocError>
+    requires exist { All (λ pair. pair.b < length problem.now.tracks) pairs.now }
+    requires limit { limit ≤ 4_000_000 }
+    requires room { vec_len roots.old ≤ limit + 1 }
+    ensures added { IfOk result (λ whole. whole ≡ true
+        → added_roots roots.old.items roots.new.items ≡ roots_in_slot (plain_problem problem.now) slot (map objects_of pairs.now)) }
+    ensures room { IfOk result (λ whole. whole ≡ true → vec_len roots.new ≤ limit + 1) }
+    ensures few { OnOk result (vec_len roots.new ≤ vec_len roots.old + length (roots_in_slot (plain_problem problem.now) slot (map objects_of pairs.now))) }
+    ensures kept { OnOk result (take (vec_len roots.old) roots.new.items ≡ roots.old.items) }
+{
+    let mut rest = pairs;
+    while !rest.is_empty() {
+        let (some, others) = rest.split_at(rest.len().min(PAIRS_AT_ONCE));
+        if !append_some(alloc, problem, slot, some, limit, together, hints, roots)? {
+            return Ok(false);
+        }
+        rest = others;
+    }
+    Ok(true)
+}
+
+/// Appends what is found in a slot, until the threads are to stop. Whether it has found all.
+fn search_slot(
+    alloc: Global,
+    ground: &Ground<'_>,
+    slot: u32,
+    limit: u64,
+    together: &Together,
+    hints: &mut Hints,
+    run: &mut ThreadRun,
+) -> Result<bool, AllocError>
+    requires exists { slot < ground.now.slots }
+    requires limit { limit ≤ 4_000_000 }
+    requires room { vec_len run.old.roots ≤ limit + 1 }
+    ensures added { IfOk result (λ whole. whole ≡ true → added_roots run.old.roots.items run.new.roots.items
+        ≡ roots_in_slot (plain_problem ground.now.problem.now) slot (pairs_looked (plain_problem ground.now.problem.now) slot)) }
+    ensures looked { IfOk result (λ whole. whole ≡ true → run.new.touching
+        ≡ min (run.old.touching + length (pairs_looked (plain_problem ground.now.problem.now) slot)) 18_446_744_073_709_551_615) }
+    ensures room { IfOk result (λ whole. whole ≡ true → vec_len run.new.roots ≤ limit + 1) }
+    ensures few { OnOk result (vec_len run.new.roots ≤ vec_len run.old.roots
+        + length (roots_in_slot (plain_problem ground.now.problem.now) slot (pairs_looked (plain_problem ground.now.problem.now) slot))) }
+    ensures kept { OnOk result (take (vec_len run.old.roots) run.new.roots.items ≡ run.old.roots.items) }
+    ensures stays { run.new.whole ≡ run.old.whole }
+{
+    let here = boxes_in_slot(alloc, ground.problem, ground.boxes, ground.slots, slot)?;
+    let is_crowded = is_crowd(&here);
+    if !together.begin(limit, is_crowded) {
+        return Ok(false);
+    }
+    let pairs = looked_among(alloc, ground, slot, &here)?;
+    drop(here);
+    run.touching = run.touching.saturating_add(pairs.len() as u64);
+    let whole = append_until_stopped(
+        alloc,
+        ground.problem,
+        slot,
+        &pairs,
+        limit,
+        together,
+        hints,
+        &mut run.roots,
+    )?;
+    together.end(is_crowded);
+    Ok(whole)
+}
+
+/// A run of slots, one after another, until the threads are to stop. The roots are sorted, so that merging them takes one pass; no clause
+/// hangs on their order.
+fn search_stretch(
+    alloc: Global,
+    stretch: &Stretch<'_>,
+    limit: u64,
+    together: &Together,
+) -> Result<ThreadRun, AllocError>
+    requires limit { limit ≤ 4_000_000 }
+    ensures { IfOk result (IsFoundIn stretch.now) }
+{
+    let mut hints = Hints::new(alloc, stretch.ground.problem.tracks.as_slice().len())?;
+    let mut run = ThreadRun {
+        roots: Vec::new(alloc),
+        touching: 0,
+        whole: false,
+    };
+    for slot in stretch.from..stretch.from + stretch.count {
+        if !search_slot(
+            alloc,
+            &stretch.ground,
+            slot,
+            limit,
+            together,
+            &mut hints,
+            &mut run,
+        )? {
+            return Ok(run);
+        }
+    }
+    run.roots.sort_by_key(|root: &Cell| root.place())?;
+    run.whole = true;
+    Ok(run)
+}
+
+/// Whether two things hold.
+fn are_both(one: bool, other: bool) -> bool
+    ensures { result ≡ true → (one ≡ true) × (other ≡ true) }
+{
+    one && other
+}
+
+/// Some runs of slots, one after another, until the threads are to stop.
+fn search_each(
+    alloc: Global,
+    stretches: &[Stretch<'_>],
+    limit: u64,
+    together: &Together,
+) -> Result<SlotRuns, AllocError>
+    requires { limit ≤ 4_000_000 }
+    ensures { IfOk result (IsFoundAt stretches.now) }
+{
+    let mut all = Vec::with_capacity(alloc, stretches.len())?;
+    let mut sum = 0u64;
+    let mut every = true;
+    for stretch in stretches {
+        let ThreadRun {
+            roots,
+            touching,
+            whole,
+        } = search_stretch(alloc, stretch, limit, together)?;
+        all.push(roots)?;
+        sum = sum.saturating_add(touching);
+        every = are_both(every, whole);
+    }
+    Ok(SlotRuns {
+        roots: all,
+        touching: sum,
+        whole: every,
+    })
+}
+
+/// What is found in some runs of slots and in others behind them.
+fn joined(mut front: SlotRuns, mut back: SlotRuns) -> Result<SlotRuns, AllocError>
+    ensures { (some others : List Stretch) → IsFoundAt some front → IsFoundAt others back → IfOk result (IsFoundAt (some ++ others)) }
+{
+    front.roots.append(&mut back.roots)?;
+    front.touching = front.touching.saturating_add(back.touching);
+    front.whole = are_both(front.whole, back.whole);
+    Ok(front)
+}
+
+/// What is done with runs of slots: each is searched, until the threads are to stop.
+#[derive(Clone, Copy)]
+struct Searching<'c> {
+    limit: u64,
+    together: &'c Together,
+    ghost few: { limit ≤ 4_000_000 },
+}
+
+impl<'c, 'g> Jobs<Stretch<'g>> for Searching<'c> {
+    type Output = SlotRuns;
+
+    ghost comes_of = { λ searching stretches found. IsFoundAt stretches found };
+
+    fn run(&self, alloc: Global, part: &[Stretch<'g>]) -> Result<SlotRuns, AllocError> {
+        search_each(alloc, part, self.limit, self.together)
+    }
+
+    fn join(&self, front: SlotRuns, back: SlotRuns) -> Result<SlotRuns, AllocError>
+        ensures { (some others : List Stretch) → IsFoundAt some front → IsFoundAt others back → IfOk result (IsFoundAt (some ++ others)) }
+    {
+        joined(front, back)
+    }
+}
+
+/// What as many threads as there are workers find in some runs of slots, until they have found more roots than the limit, or slots
+/// are so crowded that several of them at once take too much.
+pub fn search_together<R: Threads + Sync>(
+    rt: &R,
+    alloc: Global,
+    stretches: &[Stretch<'_>],
+    workers: u32,
+    limit: u64,
+) -> Result<SlotRuns, AllocError>
+    requires { limit ≤ 4_000_000 }
+    ensures { IfOk result (IsFoundAt stretches.now) }
+{
+    let together = Together::new();
+    let searching = Searching {
+        limit,
+        together: &together,
+    };
+    run_jobs(rt, alloc, &searching, stretches, 1, workers as usize)
+}
