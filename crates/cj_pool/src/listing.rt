@@ -73,7 +73,8 @@ pub fn leaves_by_hands<K: Run + Send + Sync, R: Threads + Wait + Sync, G: Gate +
 }
 
 /// The one-thread list, by so many workers, of the roots of the pairs that are looked at in each slot, each with its place as its
-/// number. Each worker calls the gate before each of its turns.
+/// number. Each of several workers calls the gate before each of its turns. One worker takes no turns: it halves the roots one after
+/// another, and enters no gate.
 pub fn leaves_by_workers<R: Threads + Wait + Sync, G: Gate + Sync>(
     rt: &R,
     alloc: Global,
