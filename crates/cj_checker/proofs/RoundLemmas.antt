@@ -1,6 +1,6 @@
 -- Keys that are collected slot by slot, and put in order.
-use Rattle.std.proofs.Common.{◌≡◌, ℕ, zero, suc, ◌+◌, ◌<◌, ◌≤◌, Bool, true, false, List, [], ◌∷◌, ◌++◌, map, length, get_or, Option, Some, sym, ap, ◌∙◌, subst, inl, inr, arith, nat_cmp}
-use Rattle.std.specs.Prelude.{option_and_then, option_map, nat_eq, ◌&&◌}
+use Rattle.std.proofs.Common.{◌≡◌, ℕ, zero, suc, ◌+◌, ◌<◌, ◌≤◌, Bool, true, false, List, [], ◌∷◌, ◌++◌, cond, filter, map, length, get_or, Option, Some, refl, sym, ap, ◌∙◌, subst, inl, inr, arith, nat_cmp}
+use Rattle.std.specs.Prelude.{option_and_then, option_map, nat_eq, nat_lt, ◌&&◌}
 use Rattle.std.specs.Ordering.{ordering_then, eq_by_cmp, is_eq}
 use Rattle.std.specs.declared.cmp.Ordering.{Ordering}
 use Rattle.std.specs.declared.cmp.Ordering.TheVariants.{Less}
@@ -15,7 +15,7 @@ use Rattle.std.proofs.lemmas.List.{length-map, map_push}
 use Rattle.std.proofs.lemmas.List.FromFn.{length-range_with_len}
 use Rattle.std.proofs.lemmas.Option.{slice_get-get_or, slice_get-map}
 use Rattle.std.proofs.lemmas.List.Elements.{Contains-append_left}
-use Rattle.cj_interval.proofs.ListLemmas.{Each, Exists, Ordered, AllPairs-from_ordered, Contains-from_exists, exists_from_Contains}
+use Rattle.cj_interval.proofs.ListLemmas.{Each, Exists, Ordered, All-from_each, AllPairs-from_ordered, Contains-from_exists, each_from_All, exists_from_Contains, member_passes}
 use Rattle.cj_interval.proofs.RangeLemmas.{range_more}
 use Rattle.cj_hermite.specs.declared.pair.Pair.{Pair}
 use Rattle.cj_hermite.specs.Pairs.{objects_of}
@@ -28,7 +28,7 @@ use Rattle.cj_cert.specs.declared.cert_lines.ShellLine.{ShellLine}
 use Rattle.cj_cert.specs.Certificates.{PlainCertificate}
 use Rattle.cj_cert.specs.Listed.{boxes_listed, is_looked_listed}
 use Rattle.cj_checker.specs.declared.keys.Key.{Key}
-use Rattle.cj_checker.specs.Keys.{PlainKey, plain_key, HasKey, AreKeysKept, IsKeyBefore, AreInOrder, looked_with}
+use Rattle.cj_checker.specs.Keys.{PlainKey, plain_key, HasKey, AreKeysIn, AreKeysKept, IsKeyBefore, IsKeyIn, AreInOrder, looked_with}
 
 -- ---- one more
 
@@ -139,6 +139,43 @@ pub ordered_from : (old sorted new : List Key) → IsPermutation old sorted → 
 ordered_from old sorted new moved is a b slot has =
     from_key old a b slot (Contains-permutation sorted old (record { a = a; b = b; slot = slot }) (IsPermutation-sym old sorted moved)
     (Contains-from_dedup key_eq sorted (record { a = a; b = b; slot = slot }) (subst (λ (ks : List Key). Contains ks (record { a = a; b = b; slot = slot })) is (to_key new a b slot has))))
+
+-- ---- the keys of the rows before one
+
+abbrev before_row : ℕ → Key → Bool
+before_row row key = nat_lt key.a row
+
+pub keys_before : (looked : ℕ → ℕ → ℕ → Bool) (first end row objects slots : ℕ) (keys : List Key) → AreKeysIn looked first end objects slots keys
+    → AreKeysIn looked first row objects slots (filter (before_row row) keys)
+keys_before looked first end row objects slots keys are =
+    All-from_each (λ k. IsKeyIn looked first row objects slots (plain_key k)) (filter (before_row row) keys)
+    (go keys (each_from_All (λ k. IsKeyIn looked first end objects slots (plain_key k)) keys are))
+  where
+    one : (k : Key) (ks : List Key) (t : Bool) → nat_lt k.a row ≡ t → IsKeyIn looked first end objects slots (plain_key k) → Each (λ x. IsKeyIn looked first row objects slots (plain_key x)) ks
+        → Each (λ x. IsKeyIn looked first row objects slots (plain_key x)) (cond t (k ∷ ks) ks)
+    one k ks true e is rest =
+        (record { ordered = is.ordered; exists = is.exists; from = is.from; to = grind (arith, nat_tests); slot = is.slot; looked_at = is.looked_at }, rest)
+    one k ks false e is rest = rest
+
+    go : (ks : List Key) → Each (λ k. IsKeyIn looked first end objects slots (plain_key k)) ks → Each (λ k. IsKeyIn looked first row objects slots (plain_key k)) (filter (before_row row) ks)
+    go [] are = tt
+    go (k ∷ ks) are = one k (filter (before_row row) ks) (nat_lt k.a row) refl are.0 (go ks are.1)
+
+pub key_before : (keys : List Key) (row a b slot : ℕ) → a < row → HasKey keys a b slot → HasKey (filter (before_row row) keys) a b slot
+key_before keys row a b slot lt has =
+    let own : Key = record { a = a; b = b; slot = slot } in
+    from_key (filter (before_row row) keys) a b slot
+    (Contains-from_exists (filter (before_row row) keys) own (member_passes (before_row row) own (lt_test a row lt) keys (exists_from_Contains keys own (to_key keys a b slot has))))
+  where
+    lt_test : (a row : ℕ) → a < row → nat_lt a row ≡ true
+    lt_test a row lt = grind (arith, nat_tests)
+
+-- a key of some rows is one of more rows
+pub wider_rows : (looked : ℕ → ℕ → ℕ → Bool) (first end more objects slots : ℕ) → end ≤ more → (slot a b : ℕ)
+    → IsKeyIn looked first end objects slots (record { a = a; b = b; slot = slot }) → IsKeyIn looked first more objects slots (record { a = a; b = b; slot = slot })
+wider_rows looked first end more objects slots le slot a b is =
+    let to = is.to in
+    record { ordered = is.ordered; exists = is.exists; from = is.from; to = omega arith; slot = is.slot; looked_at = is.looked_at }
 
 -- ---- what a pair is looked at by
 

@@ -1,31 +1,32 @@
 -- A sweep: pairs that are appended where they are looked at, and boxes that stay active as long as they may be reached.
-use Rattle.std.proofs.Common.{◌≡◌, ◌⊎◌, ℕ, zero, suc, ◌+◌, ◌<◌, ◌≤◌, Bool, true, false, List, [], ◌∷◌, ◌++◌, filter, length, get_or, Option, Some, None, refl, sym, ap, ◌∙◌, subst, inl, inr, arith, is_lt, nat_cmp}
-use Rattle.std.specs.Prelude.{ℤ, pos, ◌≤ℤ◌, ◌<ℤ◌, ◌+ℤ◌, ◌-ℤ◌, int_le, option_map, option_and_then, slice_index}
+use Rattle.std.proofs.Common.{◌≡◌, ◌⊎◌, ℕ, zero, suc, ◌+◌, ◌-◌, ◌<◌, ◌≤◌, Bool, true, false, List, [], ◌∷◌, ◌++◌, drop, take, length, get_or, Option, Some, None, refl, sym, ap, ◌∙◌, subst, inl, inr, arith, is_lt, nat_cmp}
+use Rattle.std.specs.Prelude.{ℤ, pos, ◌≤ℤ◌, ◌<ℤ◌, ◌+ℤ◌, ◌-ℤ◌, int_le, int_lt, option_map, option_and_then, slice_index}
 use Rattle.std.specs.declared.cmp.Ordering.{Ordering}
 use Rattle.std.specs.declared.cmp.Ordering.TheVariants.{Less, Equal, Greater}
 use Rattle.std.specs.Ordering.{MatchOrdering, ordering_then, int_cmp}
-use Rattle.std.specs.List.{Contains}
-use Rattle.std.specs.List.Sorted.{IsSorted}
+use Rattle.std.specs.List.{AllWithin, Contains}
+use Rattle.std.specs.List.Sorted.{IsPartitionedBy, IsSorted}
 use Rattle.std.proofs.lemmas.Bool.{and_parts, cases_lt}
-use Rattle.std.proofs.lemmas.Int.{ints}
+use Rattle.std.proofs.lemmas.Bool.Decides.{nat_tests}
+use Rattle.std.proofs.lemmas.Int.{ints, by_lt_z}
 use Rattle.std.proofs.lemmas.Option.{slice_get_past}
 use Rattle.std.specs.Cmp.{IsTotalOrder}
 use Rattle.std.proofs.lemmas.Cmp.{then_total, on_total, nat_cmp_total, int_cmp_total, int_ranked}
 use Rattle.std.proofs.lemmas.List.Sorted.{sorted_far, ranks_by}
-use Rattle.std.proofs.lemmas.List.{get_or_default}
-use Rattle.std.proofs.lemmas.List.Elements.{All-push, Contains-append_left, Contains-push}
-use Rattle.cj_interval.proofs.IntegerLemmas.{le_test}
+use Rattle.std.proofs.lemmas.List.{get_or-drop, get_or-take, length-drop, length-take, take_all}
+use Rattle.std.proofs.lemmas.List.Elements.{All-push}
 use Rattle.cj_hermite.specs.declared.pair.Pair.{Pair}
-use Rattle.cj_hermite.specs.Pairs.{AreBoth, HasPair, objects_of}
+use Rattle.cj_hermite.specs.Pairs.{AreBoth, ArePairsKept, HasPair, objects_of}
 use Rattle.cj_hermite.specs.PlainProblems.{PlainProblem, threshold_between}
 use Rattle.cj_bezier.specs.declared.axis_box.AxisBox.{AxisBox}
 use Rattle.cj_bezier.specs.declared.shells.Shell.{Shell}
-use Rattle.cj_bezier.specs.Shells.{keeps_between}
+use Rattle.cj_bezier.specs.Shells.{are_kept, keeps_between, shell_in}
 use Rattle.cj_bezier.specs.SlotBoxes.{PlainBox, plain_box, plain_boxes, reaches_in, reaches_touch, both_touch, touch_between}
+use Rattle.cj_checker.specs.declared.axis.Axis.{Axis}
+use Rattle.cj_checker.specs.declared.axis.Axis.TheVariants as axes
 use Rattle.cj_checker.specs.declared.reach.Reach.{Reach}
 use Rattle.cj_checker.specs.Keys.{looked_with}
-use Rattle.cj_checker.specs.Sweeps.{AreLooked, AreSwept, HasReach, IsInOrder, reach_of}
-use Rattle.cj_interval.proofs.ListLemmas.{Contains-from_exists, exists_from_Contains, member_passes}
+use Rattle.cj_checker.specs.Sweeps.{AreLooked, AreMet, HasReach, IsInOrder, Meet, reach_of, side}
 
 -- ---- one pair more
 
@@ -35,28 +36,53 @@ looked_more case shells areas old p is all = All-push (λ pair. looked_with case
 
 -- ---- pairs that are looked at
 
--- both objects of a pair that is looked at have a box, and these touch
-pub record AreBoxed (case : PlainProblem) (areas : List (Option PlainBox)) (a b : ℕ) : Type 0 where
+-- both objects of a pair that is looked at have a shell and a box, and along each axis each begins at most the threshold behind the other
+pub record AreBoxed (case : PlainProblem) (shells : List (Option Shell)) (areas : List (Option PlainBox)) (a b : ℕ) : Type 0 where
+  pub own : Shell
+  pub other : Shell
   pub first : PlainBox
   pub second : PlainBox
+  pub own_is : shell_in shells a ≡ Some own
+  pub other_is : shell_in shells b ≡ Some other
   pub first_is : reaches_in areas a ≡ Some first
   pub second_is : reaches_in areas b ≡ Some second
-  pub there : first.x.least ≤ℤ (second.x.most +ℤ pos (threshold_between case.threshold case.sizes a b))
-  pub back : second.x.least ≤ℤ (first.x.most +ℤ pos (threshold_between case.threshold case.sizes a b))
+  pub there : (axis : Axis) → (side axis own first).least ≤ℤ ((side axis other second).most +ℤ pos (threshold_between case.threshold case.sizes a b))
+  pub back : (axis : Axis) → (side axis other second).least ≤ℤ ((side axis own first).most +ℤ pos (threshold_between case.threshold case.sizes a b))
+
+shells_along : (thr : ℕ) (s t : Shell) → are_kept thr (Some s) (Some t) ≡ true → (s.lo ≤ t.hi + thr) × (t.lo ≤ s.hi + thr)
+shells_along thr s t h = (grind (arith, nat_tests), grind (arith, nat_tests))
 
 along_x : (thr : ℕ) (p q : PlainBox) → reaches_touch thr p q ≡ true → (p.x.least ≤ℤ (q.x.most +ℤ pos thr)) × (q.x.least ≤ℤ (p.x.most +ℤ pos thr))
 along_x thr p q h = (grind (arith, ints), grind (arith, ints))
 
-pub boxed : (case : PlainProblem) (shells : List (Option Shell)) (areas : List (Option PlainBox)) (a b : ℕ) → looked_with case shells areas (a, b) ≡ true → AreBoxed case areas a b
+along_y : (thr : ℕ) (p q : PlainBox) → reaches_touch thr p q ≡ true → (p.y.least ≤ℤ (q.y.most +ℤ pos thr)) × (q.y.least ≤ℤ (p.y.most +ℤ pos thr))
+along_y thr p q h = (grind (arith, ints), grind (arith, ints))
+
+along_z : (thr : ℕ) (p q : PlainBox) → reaches_touch thr p q ≡ true → (p.z.least ≤ℤ (q.z.most +ℤ pos thr)) × (q.z.least ≤ℤ (p.z.most +ℤ pos thr))
+along_z thr p q h = (grind (arith, ints), grind (arith, ints))
+
+along : (thr : ℕ) (s t : Shell) (x y : PlainBox) → are_kept thr (Some s) (Some t) ≡ true → reaches_touch thr x y ≡ true → (axis : Axis)
+    → ((side axis s x).least ≤ℤ ((side axis t y).most +ℤ pos thr)) × ((side axis t y).least ≤ℤ ((side axis s x).most +ℤ pos thr))
+along thr s t x y kept touch axes.X = along_x thr x y touch
+along thr s t x y kept touch axes.Y = along_y thr x y touch
+along thr s t x y kept touch axes.Z = along_z thr x y touch
+along thr s t x y kept touch axes.Radius = let both = shells_along thr s t kept in let there = both.0 in let back = both.1 in (omega (arith, ints, there), omega (arith, ints, back))
+
+pub boxed : (case : PlainProblem) (shells : List (Option Shell)) (areas : List (Option PlainBox)) (a b : ℕ) → looked_with case shells areas (a, b) ≡ true → AreBoxed case shells areas a b
 boxed case shells areas a b is =
-    go (reaches_in areas a) refl (reaches_in areas b) refl (and_parts (keeps_between case.threshold case.sizes shells (a, b)) (touch_between case.threshold case.sizes areas (a, b)) is).1
+    let both = and_parts (keeps_between case.threshold case.sizes shells (a, b)) (touch_between case.threshold case.sizes areas (a, b)) is in
+    go (shell_in shells a) refl (shell_in shells b) refl (reaches_in areas a) refl (reaches_in areas b) refl both.0 both.1
   where
-    go : (o : Option PlainBox) → reaches_in areas a ≡ o → (p : Option PlainBox) → reaches_in areas b ≡ p → both_touch (threshold_between case.threshold case.sizes a b) o p ≡ true → AreBoxed case areas a b
-    go None h p k touch = absurd cc
-    go (Some x) h None k touch = absurd cc
-    go (Some x) h (Some y) k touch =
-        let both = along_x (threshold_between case.threshold case.sizes a b) x y touch in
-        record { first = x; second = y; first_is = h; second_is = k; there = both.0; back = both.1 }
+    go : (s : Option Shell) → shell_in shells a ≡ s → (t : Option Shell) → shell_in shells b ≡ t
+        → (o : Option PlainBox) → reaches_in areas a ≡ o → (p : Option PlainBox) → reaches_in areas b ≡ p
+        → are_kept (threshold_between case.threshold case.sizes a b) s t ≡ true → both_touch (threshold_between case.threshold case.sizes a b) o p ≡ true → AreBoxed case shells areas a b
+    go None h t i o j p k kept touch = absurd cc
+    go (Some s) h None i o j p k kept touch = absurd cc
+    go (Some s) h (Some t) i None j p k kept touch = absurd cc
+    go (Some s) h (Some t) i (Some x) j None k kept touch = absurd cc
+    go (Some s) h (Some t) i (Some x) j (Some y) k kept touch =
+        let each = along (threshold_between case.threshold case.sizes a b) s t x y kept touch in
+        record { own = s; other = t; first = x; second = y; own_is = h; other_is = i; first_is = j; second_is = k; there = λ axis. (each axis).0; back = λ axis. (each axis).1 }
 
 -- an object with a box is one of those with places in the list
 pub boxed_exists : (areas : List (Option PlainBox)) (object : ℕ) (area : PlainBox) → reaches_in areas object ≡ Some area → object < length areas
@@ -75,48 +101,38 @@ area_read (y ∷ areas) zero x lt is = joined y ∙ ap (option_map plain_box) (s
     joined y = refl
 area_read (y ∷ areas) (suc object) x lt is = area_read areas object x (omega arith) is
 
--- the entries of both reach each other
-pub record AreReached (case : PlainProblem) (reaches : List Reach) (a b : ℕ) : Type 0 where
-  pub first : Reach
-  pub second : Reach
-  pub first_there : Contains reaches first
-  pub second_there : Contains reaches second
-  pub first_is : first.object ≡ a
-  pub second_is : second.object ≡ b
-  pub there : first.low ≤ℤ second.high
-  pub back : second.low ≤ℤ first.high
-
-pub reached : (case : PlainProblem) (shells : List (Option Shell)) (areas : List (Option PlainBox)) (reaches : List Reach) (a b : ℕ) → ((object : ℕ) → HasReach case areas reaches object)
-    → looked_with case shells areas (a, b) ≡ true → AreReached case reaches a b
-reached case shells areas reaches a b each is =
+-- the entries along an axis of a pair that is looked at meet
+pub met : (case : PlainProblem) (shells : List (Option Shell)) (areas : List (Option PlainBox)) (axis : Axis) (rows others : List Reach) (first end objects a b : ℕ) → length areas ≡ objects
+    → ((object : ℕ) → first ≤ object → object < end → HasReach case shells areas axis rows object)
+    → ((object : ℕ) → end ≤ object → object < objects → HasReach case shells areas axis others object)
+    → first ≤ a → a < end → a < b → looked_with case shells areas (a, b) ≡ true → Meet rows others a b
+met case shells areas axis rows others first end objects a b count in_rows in_others low high up is =
     let r = boxed case shells areas a b is in
-    let there = r.there in
-    let back = r.back in
+    let there = r.there axis in
+    let back = r.back axis in
+    let x = side axis r.own r.first in
+    let y = side axis r.other r.second in
+    let exists = boxed_exists areas b r.second r.second_is in
     record {
-      first = reach_of case a r.first.x;
-      second = reach_of case b r.second.x;
-      first_there = each a r.first r.first_is;
-      second_there = each b r.second r.second_is;
+      first = reach_of case a x;
+      second = reach_of case b y;
+      first_there = in_rows a low high r.own r.first r.own_is r.first_is;
+      second_there = go (cases_lt b end) exists r.other r.second r.other_is r.second_is;
       first_is = refl;
       second_is = refl;
-      there = reach_apart r.first.x.least r.second.x.most case.threshold (slice_index case.sizes a) (slice_index case.sizes b) there;
-      back = reach_apart r.second.x.least r.first.x.most case.threshold (slice_index case.sizes b) (slice_index case.sizes a) (omega (arith, ints));
+      there = apart x.least y.most case.threshold (slice_index case.sizes a) (slice_index case.sizes b) there;
+      back = apart y.least x.most case.threshold (slice_index case.sizes b) (slice_index case.sizes a) (omega (arith, ints));
     }
   where
-    reach_apart : (least most : ℤ) (thr s t : ℕ) → least ≤ℤ (most +ℤ pos (thr + s + t)) → (least -ℤ pos s) ≤ℤ (most +ℤ pos (t + thr))
-    reach_apart least most thr s t h = omega (arith, ints)
+    apart : (least most : ℤ) (thr s t : ℕ) → least ≤ℤ (most +ℤ pos (thr + s + t)) → (least -ℤ pos s) ≤ℤ (most +ℤ pos (t + thr))
+    apart least most thr s t h = omega (arith, ints)
 
--- all pairs that are looked at are found
-pub all_found : (case : PlainProblem) (shells : List (Option Shell)) (areas : List (Option PlainBox)) (reaches : List Reach) (pairs : List Pair) → ((object : ℕ) → HasReach case areas reaches object)
-    → AreSwept case shells areas reaches pairs → (a b : ℕ) → a < b → looked_with case shells areas (a, b) ≡ true → HasPair pairs a b
-all_found case shells areas reaches pairs each swept a b up is =
-    let r = reached case shells areas reaches a b each is in
-    swept r.first r.second r.first_there r.second_there r.there r.back a b up (inl (r.first_is, r.second_is)) is
+    go : (b < end) ⊎ (end ≤ b) → b < length areas → (own : Shell) (box : PlainBox) → shell_in shells b ≡ Some own → reaches_in areas b ≡ Some box
+        → Contains rows (reach_of case b (side axis own box)) ⊎ Contains others (reach_of case b (side axis own box))
+    go (inl within) lt own box h k = inl (in_rows b (omega arith) within own box h k)
+    go (inr behind) lt own box h k = inr (in_others b behind (omega arith) own box h k)
 
 -- ---- entries in order
-
-pub Contains-filter : {X : Type 0} (p : X → Bool) (xs : List X) (x : X) → p x ≡ true → Contains xs x → Contains (filter p xs) x
-Contains-filter p xs x is has = Contains-from_exists (filter p xs) x (member_passes p x is xs (exists_from_Contains xs x has))
 
 -- entries that are sorted are in order of where they begin
 abbrev pub reach_cmp : Reach → Reach → Ordering
@@ -145,83 +161,109 @@ sorted_in_order reaches up i j d lt below =
     let far : is_lt (reach_cmp s r) ≡ false = sorted_far (λ a b. is_lt (reach_cmp a b)) (ranks_by reaches_total (λ x. x)) reaches up i j d (omega arith) below in
     not_below r.low s.low (first_not (int_cmp s.low r.low) (ordering_then (int_cmp s.high r.high) (nat_cmp s.object r.object)) far)
 
--- an entry by its place
-abbrev pub reach_at : List Reach → ℕ → Reach
-reach_at reaches k = get_or reaches k (record { low = pos 0; high = pos 0; object = 0 })
+-- ---- entries from a place on, and up to a place
 
--- of the first n entries, those that are reached by each of them are active
-abbrev pub AreActive : List Reach → ℕ → List Reach → Type 0
-AreActive reaches n active = (i : ℕ) → i < n → ((k : ℕ) → k < n → (reach_at reaches k).low ≤ℤ (reach_at reaches i).high) → Contains active (reach_at reaches i)
+lt_test : (x y : ℤ) → x <ℤ y → int_lt x y ≡ true
+lt_test x y h = grind (arith, ints)
 
-pub active_more : (reaches active : List Reach) (n : ℕ) (r : Reach) → r ≡ reach_at reaches n → AreActive reaches n active → AreActive reaches (n + 1) (filter (λ o. int_le r.low o.high) active ++ r ∷ [])
-active_more reaches active n r is are i lt all = go (cases_lt i n)
+-- in order, those below a place stand in front
+pub below_parted : (place : ℤ) (reaches : List Reach) → IsInOrder reaches → IsPartitionedBy (λ r. int_lt r.low place) reaches
+below_parted place reaches order i j d le lt below = go (cases_lt i j)
   where
-    kept : List Reach
-    kept = filter (λ o. int_le r.low o.high) active
-
-    go : (i < n) ⊎ (n ≤ i) → Contains (kept ++ r ∷ []) (reach_at reaches i)
+    go : (i < j) ⊎ (j ≤ i) → int_lt (get_or reaches i d).low place ≡ true
     go (inl before) =
-        let reached_now : r.low ≤ℤ (reach_at reaches i).high = subst (λ (q : Reach). q.low ≤ℤ (reach_at reaches i).high) (sym is) (all n (omega arith)) in
-        Contains-append_left kept (r ∷ []) (reach_at reaches i)
-        (Contains-filter (λ o. int_le r.low o.high) active (reach_at reaches i) (le_test r.low (reach_at reaches i).high reached_now) (are i before (λ k below. all k (omega arith))))
-    go (inr now) =
-        let at : n ≡ i = omega arith in
-        let same : r ≡ reach_at reaches i = is ∙ ap (reach_at reaches) at in
-        subst (Contains (kept ++ r ∷ [])) same (Contains-push kept r)
+        let x = (get_or reaches i d).low in
+        let y = (get_or reaches j d).low in
+        let up : x ≤ℤ y = order i j d before lt in
+        trans x y up below
+      where
+        trans : (x y : ℤ) → x ≤ℤ y → int_lt y place ≡ true → int_lt x place ≡ true
+        trans x y h k = grind (arith, ints)
+    go (inr behind) = let same : j ≡ i = omega arith in subst (λ (k : ℕ). int_lt (get_or reaches k d).low place ≡ true) same below
 
--- in order, an entry that reaches the next one is still active when it comes
-pub still_active : (reaches active : List Reach) (n i : ℕ) (r : Reach) → IsInOrder reaches → n < length reaches → r ≡ reach_at reaches n → AreActive reaches n active → i < n → r.low ≤ℤ (reach_at reaches i).high
-    → Contains (filter (λ o. int_le r.low o.high) active) (reach_at reaches i)
-still_active reaches active n i r order lt is are before reach =
-    Contains-filter (λ o. int_le r.low o.high) active (reach_at reaches i) (le_test r.low (reach_at reaches i).high reach)
-    (are i before (λ k below.
-    let up : (reach_at reaches k).low ≤ℤ (reach_at reaches n).low = order k n (record { low = pos 0; high = pos 0; object = 0 }) below lt in
-    let own : (reach_at reaches n).low ≤ℤ (reach_at reaches i).high = subst (λ (q : Reach). q.low ≤ℤ (reach_at reaches i).high) is reach in
-    int_trans (reach_at reaches k).low (reach_at reaches n).low (reach_at reaches i).high up own))
+-- those that are at most at a place do
+pub within_parted : (place : ℤ) (reaches : List Reach) → IsInOrder reaches → IsPartitionedBy (λ r. int_le r.low place) reaches
+within_parted place reaches order i j d le lt below = go (cases_lt i j)
   where
-    int_trans : (x y z : ℤ) → x ≤ℤ y → y ≤ℤ z → x ≤ℤ z
-    int_trans x y z h k = omega (arith, ints)
+    go : (i < j) ⊎ (j ≤ i) → int_le (get_or reaches i d).low place ≡ true
+    go (inl before) =
+        let x = (get_or reaches i d).low in
+        let y = (get_or reaches j d).low in
+        let up : x ≤ℤ y = order i j d before lt in
+        trans x y up below
+      where
+        trans : (x y : ℤ) → x ≤ℤ y → int_le y place ≡ true → int_le x place ≡ true
+        trans x y h k = grind (arith, ints)
+    go (inr behind) = let same : j ≡ i = omega arith in subst (λ (k : ℕ). int_le (get_or reaches k d).low place ≡ true) same below
 
--- the pairs of the first n entries are found
-abbrev pub AreFoundTo : PlainProblem → List (Option Shell) → List (Option PlainBox) → List Reach → ℕ → List Pair → Type 0
-AreFoundTo case shells areas reaches n pairs =
-    (j : ℕ) → j < n → (i : ℕ) → i < j → (reach_at reaches j).low ≤ℤ (reach_at reaches i).high
-    → (a b : ℕ) → a < b → AreBoth (reach_at reaches j).object (reach_at reaches i).object a b → looked_with case shells areas (a, b) ≡ true → HasPair pairs a b
+-- the entries from a place on are the rest of the list
+pub rest_is : (n : ℕ) (reaches : List Reach) → take (length reaches - n) (drop n reaches) ≡ drop n reaches
+rest_is n reaches = take_all (length reaches - n) (drop n reaches) (omega (arith, length-drop n reaches))
+
+pub drop_in_order : (n : ℕ) (reaches : List Reach) → IsInOrder reaches → IsInOrder (drop n reaches)
+drop_in_order n reaches order i j d before lt =
+    subst (λ (r : Reach). r.low ≤ℤ (get_or (drop n reaches) j d).low) (sym (get_or-drop n reaches i d))
+    (subst (λ (s : Reach). (get_or reaches (n + i) d).low ≤ℤ s.low) (sym (get_or-drop n reaches j d)) (order (n + i) (n + j) d (omega arith) (omega (arith, lt, length-drop n reaches))))
+
+-- one that does not begin before the place stands behind those that do
+pub kept_behind : (place : ℤ) (n : ℕ) (reaches : List Reach) (r : Reach) → AllWithin (λ s. int_lt s.low place ≡ true) reaches 0 n → Contains reaches r → place ≤ℤ r.low → Contains (drop n reaches) r
+kept_behind place n reaches r before has le = go (cases_lt has.0 n)
+  where
+    go : (has.0 < n) ⊎ (n ≤ has.0) → Contains (drop n reaches) r
+    go (inl early) = absurd (not_both r.low le (subst (λ (x : Reach). int_lt x.low place ≡ true) has.2 (before has.0 r (omega arith) early)))
+      where
+        not_both : (x : ℤ) → place ≤ℤ x → int_lt x place ≡ true → ⊥
+        not_both x h k = grind (arith, ints)
+    go (inr late) =
+        let lt = has.1 in
+        let at : n + (has.0 - n) ≡ has.0 = omega arith in
+        (has.0 - n, omega (arith, lt, length-drop n reaches), get_or-drop n reaches (has.0 - n) r ∙ ap (λ (k : ℕ). get_or reaches k r) at ∙ has.2)
+
+-- one that begins at most at the place stands before those that do not
+pub kept_before : (place : ℤ) (n : ℕ) (reaches : List Reach) (r : Reach) → AllWithin (λ s. int_le s.low place ≡ false) reaches n (length reaches) → Contains reaches r → r.low ≤ℤ place → Contains (take n reaches) r
+kept_before place n reaches r behind has le = go (cases_lt has.0 n)
+  where
+    go : (has.0 < n) ⊎ (n ≤ has.0) → Contains (take n reaches) r
+    go (inl early) = let lt = has.1 in (has.0, omega (arith, lt, early, length-take n reaches), get_or-take n reaches has.0 r early ∙ has.2)
+    go (inr late) = absurd (not_both r.low le (subst (λ (x : Reach). int_le x.low place ≡ false) has.2 (behind has.0 r late has.1)))
+      where
+        not_both : (x : ℤ) → x ≤ℤ place → int_le x place ≡ false → ⊥
+        not_both x h k = grind (arith, ints)
+
+-- ---- pairs of entries that meet
 
 other_way : (one other a b : ℕ) → AreBoth one other a b → AreBoth other one a b
 other_way one other a b (inl both) = inr (both.1, both.0)
 other_way one other a b (inr both) = inl (both.1, both.0)
 
-not_one : (one other a b : ℕ) → one ≡ other → a < b → AreBoth one other a b → ⊥
-not_one one other a b same up (inl both) = let p = both.0 in let q = both.1 in omega arith
-not_one one other a b same up (inr both) = let p = both.0 in let q = both.1 in omega arith
-
-pub swept : (case : PlainProblem) (shells : List (Option Shell)) (areas : List (Option PlainBox)) (reaches : List Reach) (n : ℕ) (pairs : List Pair) → n ≡ length reaches
-    → AreFoundTo case shells areas reaches n pairs → AreSwept case shells areas reaches pairs
-swept case shells areas reaches n pairs all found r s has has' there back a b up both is = go (cases_lt has.0 has'.0) (cases_lt has'.0 has.0)
+-- two entries that meet are found, whichever of them begins first
+pub found_there : (case : PlainProblem) (shells : List (Option Shell)) (areas : List (Option PlainBox)) (some others : List Reach) (pairs : List Pair) (r s : Reach) (a b : ℕ)
+    → AreMet case shells areas some others pairs → AreMet case shells areas others some pairs
+    → Contains some r → Contains others s → r.object ≡ a → s.object ≡ b → r.low ≤ℤ s.high → s.low ≤ℤ r.high → a < b → looked_with case shells areas (a, b) ≡ true → HasPair pairs a b
+found_there case shells areas some others pairs r s a b there back has has' own other before after up is =
+    by_lt_z r.low s.low
+    (λ lt. there r s has has' (weaker r.low s.low lt) after a b up (inl (own, other)) is)
+    (λ le. back s r has' has le before a b up (inr (other, own)) is)
   where
-    first : reach_at reaches has.0 ≡ r
-    first = get_or_default reaches has.0 (record { low = pos 0; high = pos 0; object = 0 }) r has.1 ∙ has.2
+    weaker : (x y : ℤ) → x <ℤ y → x ≤ℤ y
+    weaker x y h = omega (arith, ints)
 
-    second : reach_at reaches has'.0 ≡ s
-    second = get_or_default reaches has'.0 (record { low = pos 0; high = pos 0; object = 0 }) s has'.1 ∙ has'.2
+-- what was met stays met in a later list
+met_still : (case : PlainProblem) (shells : List (Option Shell)) (areas : List (Option PlainBox)) (some others : List Reach) (old new : List Pair) → ArePairsKept old new
+    → AreMet case shells areas some others old → AreMet case shells areas some others new
+met_still case shells areas some others old new kept are r s has has' up within a b lt both is = kept a b (are r s has has' up within a b lt both is)
 
-    go : (has.0 < has'.0) ⊎ (has'.0 ≤ has.0) → (has'.0 < has.0) ⊎ (has.0 ≤ has'.0) → HasPair pairs a b
-    go (inl before) q =
-        let lt = has'.1 in
-        found has'.0 (omega arith) has.0 before
-        (subst (λ (x : Reach). x.low ≤ℤ (reach_at reaches has.0).high) (sym second) (subst (λ (x : Reach). s.low ≤ℤ x.high) (sym first) back))
-        a b up
-        (subst (λ (x : Reach). AreBoth x.object (reach_at reaches has.0).object a b) (sym second) (subst (λ (x : Reach). AreBoth s.object x.object a b) (sym first) (other_way r.object s.object a b both)))
-        is
-    go (inr p) (inl before) =
-        let lt = has.1 in
-        found has.0 (omega arith) has'.0 before
-        (subst (λ (x : Reach). x.low ≤ℤ (reach_at reaches has'.0).high) (sym first) (subst (λ (x : Reach). r.low ≤ℤ x.high) (sym second) there))
-        a b up
-        (subst (λ (x : Reach). AreBoth x.object (reach_at reaches has'.0).object a b) (sym first) (subst (λ (x : Reach). AreBoth r.object x.object a b) (sym second) both))
-        is
-    go (inr p) (inr q) =
-        let at : has.0 ≡ has'.0 = omega arith in
-        let same : r ≡ s = sym first ∙ ap (reach_at reaches) at ∙ second in
-        absurd (not_one r.object s.object a b (ap (λ (x : Reach). x.object) same) up both)
+-- all pairs of the rows that are looked at are found: those of two objects of the rows first, then those with an object behind
+pub all_found : (case : PlainProblem) (shells : List (Option Shell)) (areas : List (Option PlainBox)) (rows others : List Reach) (old more all : List Pair) (a b : ℕ)
+    → AreMet case shells areas rows rows old → AreMet case shells areas rows others more → AreMet case shells areas others rows all → ArePairsKept old more → ArePairsKept more all
+    → Meet rows others a b → a < b → looked_with case shells areas (a, b) ≡ true → HasPair all a b
+all_found case shells areas rows others old more all a b within there back kept still meet up is = go meet.second_there
+  where
+    among : AreMet case shells areas rows rows all
+    among = met_still case shells areas rows rows more all still (met_still case shells areas rows rows old more kept within)
+
+    go : Contains rows meet.second ⊎ Contains others meet.second → HasPair all a b
+    go (inl has) = found_there case shells areas rows rows all meet.first meet.second a b among among meet.first_there has meet.first_is meet.second_is meet.there meet.back up is
+    go (inr has) =
+        found_there case shells areas rows others all meet.first meet.second a b (met_still case shells areas rows others more all still there) back
+        meet.first_there has meet.first_is meet.second_is meet.there meet.back up is

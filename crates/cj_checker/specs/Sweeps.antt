@@ -1,5 +1,5 @@
--- A sweep along the x axis over the boxes of a slot.
-use Rattle.std.specs.Prelude.{◌≡◌, ℕ, ◌+◌, ◌<◌, true, pos, ◌+ℤ◌, ◌-ℤ◌, ◌≤ℤ◌, List, All, map, length, Option, Some, slice_index}
+-- A sweep along an axis over the boxes of a slot.
+use Rattle.std.specs.Prelude.{◌≡◌, ◌⊎◌, ℕ, ◌+◌, ◌<◌, ◌≤◌, true, pos, ◌+ℤ◌, ◌-ℤ◌, ◌≤ℤ◌, List, All, map, length, Option, Some, slice_index}
 use Rattle.std.specs.List.{AllPairs, Contains}
 use Rattle.cj_hermite.specs.declared.pair.Pair.{Pair}
 use Rattle.cj_hermite.specs.declared.problem.Problem.{Problem}
@@ -8,11 +8,15 @@ use Rattle.cj_hermite.specs.PlainProblems.{PlainProblem}
 use Rattle.cj_hermite.specs.Problems.{plain_problem}
 use Rattle.cj_bezier.specs.declared.axis_box.AxisBox.{AxisBox}
 use Rattle.cj_bezier.specs.declared.shells.Shell.{Shell}
+use Rattle.cj_bezier.specs.Shells.{shell_in}
 use Rattle.cj_bezier.specs.SlotBoxes.{PlainBox, plain_boxes, reaches_in}
 use Rattle.cj_bezier.specs.SlotBoxes as boxes
 use Rattle.cj_cert.specs.declared.cert_lines.ShellLine.{ShellLine}
+use Rattle.cj_checker.specs.declared.axis.Axis.{Axis}
+use Rattle.cj_checker.specs.declared.axis.Axis.TheVariants as axes
 use Rattle.cj_checker.specs.declared.reach.Reach.{Reach}
-use Rattle.cj_checker.specs.Keys.{looked_with}
+use Rattle.cj_checker.specs.declared.reaches.Reaches.{Reaches}
+use Rattle.cj_checker.specs.Keys.{looked_with, looks}
 
 -- each pair of a list is looked at
 abbrev pub AreLooked : PlainProblem → List (Option Shell) → List (Option PlainBox) → List Pair → Type 0
@@ -26,7 +30,14 @@ AreLookedBy problem shells boxes pairs = AreLooked (plain_problem problem) (map 
 abbrev pub StayLooked : Problem → List ShellLine → List (Option AxisBox) → List Pair → List Pair → Type 0
 StayLooked problem shells boxes old new = AreLookedBy problem shells boxes old → AreLookedBy problem shells boxes new
 
--- from where to where an object is entered whose box reaches so far along x
+-- from where to where an object reaches along an axis, by its shell and its box
+abbrev pub side : Axis → Shell → PlainBox → boxes.Reach
+side axes.X shell area = area.x
+side axes.Y shell area = area.y
+side axes.Z shell area = area.z
+side axes.Radius shell area = record { least = pos shell.lo; most = pos shell.hi }
+
+-- from where to where an object is entered that reaches so far
 abbrev pub reach_of : PlainProblem → ℕ → boxes.Reach → Reach
 reach_of case object x = record {
   low = x.least -ℤ pos (slice_index case.sizes object);
@@ -34,23 +45,47 @@ reach_of case object x = record {
   object = object;
 }
 
--- an object with a box is entered
-abbrev pub HasReach : PlainProblem → List (Option PlainBox) → List Reach → ℕ → Type 0
-HasReach case boxes reaches object = (area : PlainBox) → reaches_in boxes object ≡ Some area → Contains reaches (reach_of case object area.x)
+-- an object with a shell and a box is entered along an axis
+abbrev pub HasReach : PlainProblem → List (Option Shell) → List (Option PlainBox) → Axis → List Reach → ℕ → Type 0
+HasReach case shells areas axis reaches object =
+    (shell : Shell) (area : PlainBox) → shell_in shells object ≡ Some shell → reaches_in areas object ≡ Some area → Contains reaches (reach_of case object (side axis shell area))
+
+-- the same, as a program keeps them
+abbrev pub HasReachBy : Problem → List ShellLine → List (Option AxisBox) → Axis → List Reach → ℕ → Type 0
+HasReachBy problem shells boxes axis reaches object = HasReach (plain_problem problem) (map (λ line. line.shell) shells) (plain_boxes boxes) axis reaches object
 
 -- none begins before one that stands earlier
 abbrev pub IsInOrder : List Reach → Type 0
 IsInOrder reaches = AllPairs (λ r s. r.low ≤ℤ s.low) reaches
 
--- the objects of each two entries of which each begins before the other ends are found, where they are looked at
-abbrev pub AreSwept : PlainProblem → List (Option Shell) → List (Option PlainBox) → List Reach → List Pair → Type 0
-AreSwept case shells boxes reaches pairs = (r s : Reach) → Contains reaches r → Contains reaches s → r.low ≤ℤ s.high → s.low ≤ℤ r.high
-    → (a b : ℕ) → a < b → AreBoth r.object s.object a b → looked_with case shells boxes (a, b) ≡ true → HasPair pairs a b
+-- the objects of each two entries of which the second begins where the first is are found, where they are looked at
+abbrev pub AreMet : PlainProblem → List (Option Shell) → List (Option PlainBox) → List Reach → List Reach → List Pair → Type 0
+AreMet case shells areas some others pairs = (r s : Reach) → Contains some r → Contains others s → r.low ≤ℤ s.low → s.low ≤ℤ r.high
+    → (a b : ℕ) → a < b → AreBoth r.object s.object a b → looked_with case shells areas (a, b) ≡ true → HasPair pairs a b
 
 -- the same, as a program keeps them
-abbrev pub AreSweptBy : Problem → List ShellLine → List (Option AxisBox) → List Reach → List Pair → Type 0
-AreSweptBy problem shells boxes reaches pairs = AreSwept (plain_problem problem) (map (λ line. line.shell) shells) (plain_boxes boxes) reaches pairs
+abbrev pub AreMetBy : Problem → List ShellLine → List (Option AxisBox) → List Reach → List Reach → List Pair → Type 0
+AreMetBy problem shells boxes some others pairs = AreMet (plain_problem problem) (map (λ line. line.shell) shells) (plain_boxes boxes) some others pairs
 
 -- each object exists
 abbrev pub Exist : Problem → List Reach → Type 0
 Exist problem reaches = All (λ reach. reach.object < length problem.tracks) reaches
+
+-- two objects are entered, the first among those of some rows, and each begins at most where the other ends
+pub record Meet (rows others : List Reach) (a b : ℕ) : Type 0 where
+  pub first : Reach
+  pub second : Reach
+  pub first_there : Contains rows first
+  pub second_there : Contains rows second ⊎ Contains others second
+  pub first_is : first.object ≡ a
+  pub second_is : second.object ≡ b
+  pub there : first.low ≤ℤ second.high
+  pub back : second.low ≤ℤ first.high
+
+-- the entries of the objects of some rows, and of those behind, are in order, and those of each pair of the rows that is looked at meet
+pub record AreLaidOut (problem : Problem) (shells : List ShellLine) (boxes : List (Option AxisBox)) (first end : ℕ) (reaches : Reaches) : Type 0 where
+  pub rows_exist : Exist problem reaches.rows.items
+  pub others_exist : Exist problem reaches.others.items
+  pub rows_order : IsInOrder reaches.rows.items
+  pub others_order : IsInOrder reaches.others.items
+  pub meet : (a b : ℕ) → first ≤ a → a < end → a < b → looks problem shells boxes (a, b) ≡ true → Meet reaches.rows.items reaches.others.items a b

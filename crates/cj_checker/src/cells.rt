@@ -46,7 +46,8 @@ fn first_fault(
     let mut first = 0;
     let mut at = 0;
     while first < objects {
-        let round = round_from(alloc, problem, cert, listed, first)?;
+        let lines = cert.cells.len() - at;
+        let round = round_from(alloc, problem, cert, listed, first, lines)?;
         match tile_keys(problem, &round.keys, &cert.cells, at) {
             Ok(next) => at = next,
             Err(fault) => return Ok(failure_at(cert, fault)),

@@ -2,6 +2,7 @@
 #![tactic(auto)]
 
 mod answer;
+mod axis;
 mod bound;
 mod boxes;
 mod boxes_read;
@@ -9,6 +10,7 @@ mod cell_fault;
 mod cells;
 mod checking;
 mod course;
+mod enough;
 mod failure;
 mod header;
 mod hulls_inside;
@@ -18,6 +20,7 @@ mod listed;
 mod looked;
 mod places;
 mod reach;
+mod reaches;
 mod root;
 mod rounds;
 mod shells;

@@ -50,6 +50,11 @@ impl<'c> Listed<'c> {
         })
     }
 
+    /// How many places it has: one for each object and slot.
+    pub(crate) fn places(&self) -> usize {
+        self.numbers.len()
+    }
+
     /// The box of an object in a slot, where one is listed.
     pub(crate) fn of(&self, slot: u32, object: u32) -> Option<AxisBox>
         ensures { option_map plain_box result ≡ table_of self.now slot object }

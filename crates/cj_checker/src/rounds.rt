@@ -1,6 +1,6 @@
 //! The pairs that are looked at, with their slots, in order: row by row of their first objects, so many rows at a time as memory is
 //! to be had for.
-ghost use Rattle.std.specs.Prelude.{◌≡◌, ℕ, ◌+◌, ◌<◌, ◌≤◌, Bool, All, true, false, map, length, IfOk, OnOk};
+ghost use Rattle.std.specs.Prelude.{◌≡◌, ℕ, ◌+◌, ◌<◌, ◌≤◌, Bool, All, true, map, length, IfOk, OnOk};
 ghost use Rattle.std.specs.List.{range_with_len};
 ghost use Rattle.cj_bezier.specs.SlotBoxes.{plain_boxes};
 ghost use Rattle.cj_cert.specs.Certificates.{plain_certificate};
@@ -9,6 +9,7 @@ ghost use Rattle.cj_checker.specs.ListedBoxes.{table_of};
 ghost use Rattle.cj_hermite.specs.Pairs.{HasPair};
 ghost use Rattle.cj_checker.specs.Keys.{AreInOrder, AreKeysIn, AreKeysKept, HasKey, IsKeyOf, is_listed, keys_listed, plain_key};
 
+use crate::enough::{enough_keys, leave_enough};
 use crate::keys::Key;
 use crate::listed::Listed;
 use crate::sweep::Sweep;
@@ -16,9 +17,6 @@ use cj_bezier::AxisBox;
 use cj_cert::Certificate;
 use cj_hermite::{Pair, Problem, slot_count};
 use std::alloc::{AllocError, Global};
-
-/// How many keys are held at a time, unless one row has more.
-const MOST_KEYS: usize = 16_777_216;
 
 /// The keys of some rows.
 #[derive(Drop)]
@@ -103,58 +101,68 @@ impl Work {
         }
     }
 
-    /// Finds the pairs that are looked at in a slot, in any order.
+    /// Finds the pairs of some rows that are looked at in a slot, in any order.
     fn find_pairs(
         &mut self,
         problem: &Problem,
         cert: &Certificate,
         listed: &Listed,
+        first: u32,
+        end: u32,
         slot: u32,
     ) -> Result<(), AllocError>
         requires objects { cert.now.objects ≡ length problem.now.tracks }
         requires shells { length cert.now.shells.items ≡ length problem.now.tracks }
         requires boxes { table_of listed.now ≡ box_listed (plain_certificate cert.now).boxes }
+        requires within { end ≤ length problem.now.tracks }
         ensures exist { OnOk result (All (λ pair. pair.b < length problem.now.tracks) self.new.pairs.items) }
         ensures looked { OnOk result (All (λ pair. is_listed problem.now cert.now pair.a pair.b slot ≡ true) self.new.pairs.items) }
-        ensures found { OnOk result ((a b : ℕ) → a < b → is_listed problem.now cert.now a b slot ≡ true → HasPair self.new.pairs.items a b) }
+        ensures found { OnOk result ((a b : ℕ) → first ≤ a → a < end → a < b → is_listed problem.now cert.now a b slot ≡ true
+            → HasPair self.new.pairs.items a b) }
     {
         let objects = problem.tracks.as_slice().len() as u32;
         fill(listed, objects, slot, &mut self.boxes)?;
-        self.sweep
-            .find(problem, &cert.shells, &self.boxes, &mut self.pairs)?;
+        self.sweep.find(
+            problem,
+            &cert.shells,
+            &self.boxes,
+            first,
+            end,
+            &mut self.pairs,
+        )?;
         Ok(())
     }
 }
 
-/// Collects the keys of some rows, slot by slot. False where they become too many and the rows are more than one.
+/// Collects the keys of the rows from one on, slot by slot: of all of them, or of the first rows that have enough where they become far
+/// more. The end of the rows.
 fn collect(
     problem: &Problem,
     cert: &Certificate,
     listed: &Listed,
     first: u32,
-    end: u32,
+    enough: usize,
     work: &mut Work,
     keys: &mut Vec<Key>,
-) -> Result<bool, AllocError>
+) -> Result<u32, AllocError>
     requires objects { cert.now.objects ≡ length problem.now.tracks }
     requires shells { length cert.now.shells.items ≡ length problem.now.tracks }
     requires boxes { table_of listed.now ≡ box_listed (plain_certificate cert.now).boxes }
-    requires rows { first < end }
-    requires within { end ≤ length problem.now.tracks }
-    ensures keys { IfOk result (λ whole. whole ≡ true → All (λ key. IsKeyOf problem.now cert.now first end (plain_key key)) keys.new.items) }
-    ensures found { IfOk result (λ whole. whole ≡ true → (a b slot : ℕ)
+    requires rows { first < length problem.now.tracks }
+    ensures some { IfOk result (λ end. first < end) }
+    ensures within { IfOk result (λ end. end ≤ length problem.now.tracks) }
+    ensures keys { IfOk result (λ end. All (λ key. IsKeyOf problem.now cert.now first end (plain_key key)) keys.new.items) }
+    ensures found { IfOk result (λ end. (a b slot : ℕ)
         → IsKeyOf problem.now cert.now first end (record { a = a; b = b; slot = slot }) → HasKey keys.new.items a b slot) }
-    ensures rows { IfOk result (λ whole. whole ≡ false → first + 1 < end) }
 {
     keys.clear();
+    let mut end = problem.tracks.as_slice().len() as u32;
     for slot in 0..slot_count(problem.window) {
-        work.find_pairs(problem, cert, listed, slot)?;
+        work.find_pairs(problem, cert, listed, first, end, slot)?;
         append_keys(&work.pairs, slot, first, end, keys)?;
-        if MOST_KEYS < keys.len() && first + 1 < end {
-            return Ok(false);
-        }
+        end = leave_enough(first, end, enough, keys);
     }
-    Ok(true)
+    Ok(end)
 }
 
 /// Puts keys in order of pair and slot, each once.
@@ -167,13 +175,14 @@ fn put_in_order(keys: &mut Vec<Key>)
     keys.dedup();
 }
 
-/// The keys of the rows from one on, in order: of as many rows as memory is to be had for.
+/// The keys of the rows from one on, in order: of as many rows as memory is to be had for, and as so many lines of cells can tile.
 pub(crate) fn round_from(
     alloc: Global,
     problem: &Problem,
     cert: &Certificate,
     listed: &Listed,
     first: u32,
+    lines: usize,
 ) -> Result<Round, AllocError>
     requires objects { cert.now.objects ≡ length problem.now.tracks }
     requires shells { length cert.now.shells.items ≡ length problem.now.tracks }
@@ -183,12 +192,10 @@ pub(crate) fn round_from(
     ensures within { IfOk result (λ round. round.end ≤ length problem.now.tracks) }
     ensures keys { IfOk result (λ round. map plain_key round.keys.items ≡ keys_listed problem.now cert.now first round.end) }
 {
-    let mut end = problem.tracks.as_slice().len() as u32;
+    let enough = enough_keys(lines, listed.places());
     let mut work = Work::new(alloc);
     let mut keys = Vec::new(alloc);
-    while !collect(problem, cert, listed, first, end, &mut work, &mut keys)? {
-        end = first + (end - first) / 2;
-    }
+    let end = collect(problem, cert, listed, first, enough, &mut work, &mut keys)?;
     put_in_order(&mut keys);
     Ok(Round { end, keys })
 }

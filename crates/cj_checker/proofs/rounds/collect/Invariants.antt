@@ -1,4 +1,4 @@
-use Rattle.std.proofs.Common.{ℕ, ◌<◌, length}
+use Rattle.std.proofs.Common.{ℕ, ◌<◌, ◌≤◌, length}
 use Rattle.cj_hermite.specs.Problems.{plain_problem}
 use Rattle.cj_hermite.specs.Slots.{slot_count}
 use Rattle.cj_cert.specs.Certificates.{plain_certificate}
@@ -12,6 +12,8 @@ invariant-loop-slot l =
     let looked = is_looked_listed case (plain_certificate l.cert) in
     let slots = slot_count case.first case.last in
     record {
+      some : l.first < l.end;
+      within : l.end ≤ length l.problem.tracks;
       keys : AreKeysIn looked l.first l.end (length l.problem.tracks) slots l.keys.items;
       found : (k : ℕ) → k < l.slot → (a b : ℕ) → IsKeyIn looked l.first l.end (length l.problem.tracks) slots (record { a = a; b = b; slot = k }) → HasKey l.keys.items a b k;
     }

@@ -15,12 +15,11 @@ returns-clause-keys c =
     let looked = is_looked_listed case (plain_certificate c.args.cert.now) in
     let slots = slot_count case.first case.last in
     let first = c.args.first in
-    let end = c.loop-keys.end in
+    let end = c.in_ok-end.end in
     let count = length-map c.args.problem.now.tracks plain_track in
-    let i = c.loop-keys.invariant in
-    let told = c.in_ok-collect.ensures in
+    let told = c.in_ok-end.ensures in
     let order = c.put_in_order.ensures in
-    found_keys looked case first end c.collect.new.keys.items c.put_in_order.new.keys.items (let some = i.some in omega arith) (let within = i.within in omega arith)
-    (subst (λ (n : ℕ). AreKeysIn looked first end n slots c.collect.new.keys.items) (sym count) (told.keys c.if-not-branch.false))
-    (λ a b slot is. told.found c.if-not-branch.false a b slot (subst (λ (n : ℕ). IsKeyIn looked first end n slots (record { a = a; b = b; slot = slot })) count is))
+    found_keys looked case first end c.collect.new.keys.items c.put_in_order.new.keys.items (let some = told.some in omega arith) (let within = told.within in omega arith)
+    (subst (λ (n : ℕ). AreKeysIn looked first end n slots c.collect.new.keys.items) (sym count) told.keys)
+    (λ a b slot is. told.found a b slot (subst (λ (n : ℕ). IsKeyIn looked first end n slots (record { a = a; b = b; slot = slot })) count is))
     order.order order.from order.kept

@@ -26,11 +26,11 @@ loop-other-preserved c =
     record {
       looked = λ all. told.looked (i.looked all);
       kept = λ a b has. told.kept a b (i.kept a b has);
-      found = below_more (λ k. (reach : Reach) → get_or c.args.active.now k reach ≡ reach → (a b : ℕ) → a < b → AreBoth c.args.one reach.object a b
+      found = below_more (λ k. (reach : Reach) → get_or c.args.others.now k reach ≡ reach → (a b : ℕ) → a < b → AreBoth c.args.one reach.object a b
           → looked_with case shells areas (a, b) ≡ true → HasPair c.append_pair.new.pairs.items a b) at
           (λ k lt reach is a b up both looked. told.kept a b (i.found k lt reach is a b up both looked))
           (λ reach is a b up both looked.
-          told.found a b up (subst (λ (r : Reach). AreBoth c.args.one r.object a b) (sym (get_or_default c.args.active.now at _ reach (omega arith) ∙ is)) both) looked);
+          told.found a b up (subst (λ (r : Reach). AreBoth c.args.one r.object a b) (sym (get_or_default c.args.others.now at _ reach (omega arith) ∙ is)) both) looked);
     }
 
 pub returns-clause-found : goal.returns-clause-found

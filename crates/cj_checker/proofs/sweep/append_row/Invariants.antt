@@ -16,6 +16,6 @@ invariant-loop-other l =
     record {
       looked : AreLooked case shells areas l.initial.pairs.items → AreLooked case shells areas l.pairs.items;
       kept : ArePairsKept l.initial.pairs.items l.pairs.items;
-      found : (k : ℕ) → k < l.other-index → (reach : Reach) → get_or l.active k reach ≡ reach → (a b : ℕ) → a < b → AreBoth l.one reach.object a b
+      found : (k : ℕ) → k < l.other-index → (reach : Reach) → get_or l.others k reach ≡ reach → (a b : ℕ) → a < b → AreBoth l.one reach.object a b
           → looked_with case shells areas (a, b) ≡ true → HasPair l.pairs.items a b;
     }

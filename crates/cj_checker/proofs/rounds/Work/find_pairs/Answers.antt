@@ -48,4 +48,4 @@ returns-clause-looked c =
 pub returns-clause-found : goal.returns-clause-found
 returns-clause-found c =
     let find = (goal.at.returns-clause-found c).After-find in
-    λ a b up is. c.in_ok-find.ensures.found a b up (same find a b ∙ is)
+    λ a b low high up is. c.in_ok-find.ensures.found a b low high up (same find a b ∙ is)
