@@ -1,3 +1,4 @@
 mod DigitLemmas
 mod FrontLemmas
+mod LineLemmas
 mod PlaceLemmas

@@ -1,6 +1,5 @@
 -- The commands of the program, and what the words of a command line ask for.
-use Rattle.std.specs.Prelude.{ℕ, ◌-◌, ◌^◌, if◌then◌else◌, List, [], ◌∷◌, Option, Some, None, Result, Ok, Err, codes}
-use Rattle.std.specs.Str.{bytes_eq}
+use Rattle.std.specs.Prelude.{ℕ, ◌-◌, ◌^◌, if◌then◌else◌, List, Option, Some, None, Result, Ok, Err, codes}
 use Rattle.cj_words.specs.declared.command.Checking as kept_checking
 use Rattle.cj_words.specs.declared.command.Command.{Command}
 use Rattle.cj_words.specs.declared.command.Command.TheVariants as commands
@@ -9,11 +8,13 @@ use Rattle.cj_words.specs.declared.command.Screening as kept_screening
 use Rattle.cj_words.specs.declared.command.Trial as kept_trial
 use Rattle.cj_words.specs.declared.command.Verb.{Verb}
 use Rattle.cj_words.specs.declared.command.Verb.TheVariants.{Screen, Check, Generate, Selfrun, Rewrite}
-use Rattle.cj_words.specs.declared.option.Opt.TheVariants.{Workers, Cert, Originator, Cells, Seed, Objects, Minutes, CertVersion}
+use Rattle.cj_words.specs.declared.option.Opt.{Opt}
+use Rattle.cj_words.specs.declared.option.Opt.TheVariants.{Workers, Cert, Originator, Cells, Seed, Objects, Minutes, CertVersion, Out, CertDir}
 use Rattle.cj_words.specs.declared.option.UsageFault.{UsageFault}
-use Rattle.cj_words.specs.declared.option.UsageFault.TheVariants.{Words}
-use Rattle.cj_words.specs.Options.{Given, given_of, is_value, are_accepted, listed, value_of}
-use Rattle.cj_words.specs.Settings.{◌>>=◌, Asked, asked_of, file_text_or, in_range, number_or, originator_or, sized_of, threshold_of, unsized_of}
+use Rattle.cj_words.specs.declared.option.UsageFault.TheVariants.{Words, Value}
+use Rattle.cj_words.specs.Lines.{Line, line_of}
+use Rattle.cj_words.specs.Options.{Given, given_of, are_accepted, listed, value_of}
+use Rattle.cj_words.specs.Settings.{◌>>=◌, Asked, asked_of, file_text_or, in_range, is_path_or_none, number_or, originator_or, sized_of, threshold_of, unsized_of}
 
 -- how files are screened: how many workers share the work, who makes the messages, the greatest number of leaves, the version of the
 -- certificate
@@ -124,40 +125,24 @@ asking_of Generate givens = recipe_of givens >>= λ recipe. Ok (Generates recipe
 asking_of Selfrun givens = trial_of givens >>= λ trial. Ok (Tries trial)
 asking_of Rewrite givens = checking_of givens >>= λ checking. Ok (Rewrites checking)
 
--- the command that a word names
-abbrev pub verb_of : List ℕ → Option Verb
-verb_of word =
-    if bytes_eq word (codes "screen") then Some Screen
-    else if bytes_eq word (codes "check") then Some Check
-    else if bytes_eq word (codes "generate") then Some Generate
-    else if bytes_eq word (codes "selfrun") then Some Selfrun
-    else if bytes_eq word (codes "rewrite") then Some Rewrite
-    else None
+-- an option that names a directory has a path as its value, where it stands. What is asked of files does not depend on it
+abbrev pub place_judged : Opt → List Given → Result (Unit {0}) UsageFault
+place_judged option givens = if is_path_or_none (value_of option givens) then Ok tt else Err (Value option)
 
--- the words behind a directory, none where no word is one
-abbrev pub behind_directory : List (List ℕ) → Option (List (List ℕ))
-behind_directory [] = None
-behind_directory (directory ∷ words) = if is_value directory then Some words else None
+-- what the options of a command ask for, the directories that they name judged behind all other values
+abbrev pub placed_asking_of : Verb → List Given → Result Asking UsageFault
+placed_asking_of verb givens = do
+  asking ← asking_of verb givens
+  _ ← place_judged Out givens
+  _ ← place_judged CertDir givens
+  Ok asking
 
--- the words behind the directory, where the command has one
-abbrev pub options_behind : Verb → List (List ℕ) → Option (List (List ℕ))
-options_behind Screen words = behind_directory words
-options_behind Check words = behind_directory words
-options_behind Generate words = behind_directory words
-options_behind Selfrun words = Some words
-options_behind Rewrite words = behind_directory words
-
--- what words ask for that are to be the options of a command
-abbrev pub asked_with : Verb → Option (List (List ℕ)) → Result Asking UsageFault
-asked_with verb None = Err Words
-asked_with verb (Some words) = if are_accepted verb (given_of words) then asking_of verb (listed (given_of words)) else Err Words
-
--- what the words behind a command ask for
-abbrev pub asked_behind : Option Verb → List (List ℕ) → Result Asking UsageFault
-asked_behind None words = Err Words
-asked_behind (Some verb) words = asked_with verb (options_behind verb words)
+-- what a line asks for
+abbrev pub asked_in : Option Line → Result Asking UsageFault
+asked_in None = Err Words
+asked_in (Some line) =
+    if are_accepted line.verb (given_of line.options) then placed_asking_of line.verb (listed (given_of line.options)) else Err Words
 
 -- what a command line asks for: a command, a directory where the command has one, and options; or the fault that is found first
 unfoldable pub command_of : List (List ℕ) → Result Asking UsageFault
-command_of [] = Err Words
-command_of (word ∷ words) = asked_behind (verb_of word) words
+command_of words = asked_in (line_of words)

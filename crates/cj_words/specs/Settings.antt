@@ -91,6 +91,19 @@ abbrev pub file_text_or : ℕ → List ℕ → Option (List ℕ) → Option (Lis
 file_text_or longest left_out None = Some left_out
 file_text_or longest left_out (Some text) = if is_file_text longest text then Some text else None
 
+-- a byte that may stand in a path: no control character. Letters beyond ASCII have bytes above 127
+abbrev pub is_path_byte : ℕ → Bool
+is_path_byte b = nat_le 32 b && not (b == 127)
+
+-- one to a thousand of them
+abbrev pub is_path_text : List ℕ → Bool
+is_path_text text = nat_le 1 (length text) && (nat_le (length text) 1000 && list_all is_path_byte text)
+
+-- an option that names a directory is left out or names it by a path
+abbrev pub is_path_or_none : Option (List ℕ) → Bool
+is_path_or_none None = true
+is_path_or_none (Some text) = is_path_text text
+
 -- who makes messages, which may be left out
 abbrev pub originator_or : List ℕ → Option (List ℕ) → Option (List ℕ)
 originator_or left_out None = Some left_out

@@ -1,20 +1,20 @@
 //! From the words of a command line to its command.
-ghost use Rattle.std.specs.Prelude.{◌≡◌, ◌≤◌, IfOk, IsTrue};
-ghost use Rattle.std.specs.Option.{option_copied};
+ghost use Rattle.std.specs.Prelude.{◌≡◌, ◌≤◌, IfOk, IsTrue, Some};
 ghost use Rattle.cj_words.specs.Commands as spec;
 ghost use Rattle.cj_words.specs.Commands.{plain_checking, plain_command, plain_recipe, plain_screening, plain_trial};
+ghost use Rattle.cj_words.specs.Lines.{plain_line};
 ghost use Rattle.cj_words.specs.Options as options;
 ghost use Rattle.cj_words.specs.Options.{given_of, listed};
 ghost use Rattle.cj_words.specs.Settings.{said};
 
 use crate::command::{Checking, Command, Recipe, Screening, Trial, Verb};
-use crate::front::is_value;
 use crate::given::{are_options, value_of};
+use crate::line::{Line, line_of};
 use crate::numbers::{number_or, out_of_range};
 use crate::option::{Opt, UsageFault};
 use crate::reading::{sized_of, threshold_of, unsized_of};
 use crate::settings::Word;
-use crate::texts::{file_text_or, originator_or};
+use crate::texts::{file_text_or, is_path_or_none, originator_or};
 
 /// Reads the words of a command line, without the program's name.
 ///
@@ -26,61 +26,45 @@ use crate::texts::{file_text_or, originator_or};
 pub fn read_command(words: &[Word]) -> Result<Command<'_>, UsageFault>
     ensures { said plain_command result ≡ spec.command_of words.now }
 {
-    let [word, rest @ ..] = words else {
-        return Err(UsageFault::Words);
-    };
-    match verb_of(word.as_slice()) {
-        Some(verb) => command_behind(rest, verb),
+    match line_of(words) {
+        Some(line) => command_in(line),
         None => Err(UsageFault::Words),
     }
 }
 
-/// The command that a word names.
-fn verb_of(word: &[u8]) -> Option<Verb>
-    ensures { result ≡ spec.verb_of word.now }
-{
-    if word == b"screen".as_slice() {
-        Some(Verb::Screen)
-    } else if word == b"check".as_slice() {
-        Some(Verb::Check)
-    } else if word == b"generate".as_slice() {
-        Some(Verb::Generate)
-    } else if word == b"selfrun".as_slice() {
-        Some(Verb::Selfrun)
-    } else if word == b"rewrite".as_slice() {
-        Some(Verb::Rewrite)
-    } else {
-        None
-    }
-}
-
-/// What the words behind a command ask for.
+/// What a command line asks for.
 #[tactic(auto, using(crate::proofs::FrontLemmas::accepted_listed))]
-fn command_behind(words: &[Word], verb: Verb) -> Result<Command<'_>, UsageFault>
-    ensures { said plain_command result ≡ spec.asked_with verb (spec.options_behind verb words.now) }
+pub fn command_in(line: Line<'_>) -> Result<Command<'_>, UsageFault>
+    ensures asked { said plain_command result ≡ spec.asked_in (Some (plain_line line.entry)) }
+    ensures listed { IfOk result (λ command. IsTrue (options.are_listed (given_of line.entry.options.now))) }
 {
-    match options_behind(words, verb) {
-        Some(options) if are_options(options, verb) => command_of(options, verb),
-        _ => Err(UsageFault::Words),
+    if are_options(line.options, line.verb) {
+        placed_command_of(line.options, line.verb)
+    } else {
+        Err(UsageFault::Words)
     }
 }
 
-/// The words behind the directory, where the command has one.
-fn options_behind(words: &[Word], verb: Verb) -> Option<&[Word]>
-    ensures { option_copied result ≡ spec.options_behind verb words.now }
+/// What the options of a command ask for, the directories that they name judged behind all other values.
+fn placed_command_of(words: &[Word], verb: Verb) -> Result<Command<'_>, UsageFault>
+    requires { IsTrue (options.are_listed (given_of words.now)) }
+    ensures { said plain_command result ≡ spec.placed_asking_of verb (listed (given_of words.now)) }
 {
-    match verb {
-        Verb::Screen | Verb::Check | Verb::Generate | Verb::Rewrite => behind_directory(words),
-        Verb::Selfrun => Some(words),
-    }
+    let command = command_of(words, verb)?;
+    judge_place(words, Opt::Out)?;
+    judge_place(words, Opt::CertDir)?;
+    Ok(command)
 }
 
-fn behind_directory(words: &[Word]) -> Option<&[Word]>
-    ensures { option_copied result ≡ spec.behind_directory words.now }
+/// Refuses an option that names a directory by anything but a path.
+fn judge_place(words: &[Word], option: Opt) -> Result<(), UsageFault>
+    requires { IsTrue (options.are_listed (given_of words.now)) }
+    ensures { result ≡ spec.place_judged option (listed (given_of words.now)) }
 {
-    match words {
-        [directory, options @ ..] if is_value(directory.as_slice()) => Some(options),
-        _ => None,
+    if is_path_or_none(value_of(words, option)) {
+        Ok(())
+    } else {
+        Err(out_of_range(option))
     }
 }
 

@@ -51,6 +51,8 @@ fn are_others_single(words: &[Word]) -> bool
         && is_single(words, Opt::Objects)
         && is_single(words, Opt::Minutes)
         && is_single(words, Opt::CertVersion)
+        && is_single(words, Opt::Out)
+        && is_single(words, Opt::CertDir)
 }
 
 fn is_single(words: &[Word], option: Opt) -> bool
@@ -83,14 +85,23 @@ fn is_known(name: &[u8], verb: Verb) -> bool
                 || is_named(name, Opt::Originator)
                 || is_named(name, Opt::Cells)
                 || is_named(name, Opt::CertVersion)
+                || is_named(name, Opt::Out)
         }
-        Verb::Check | Verb::Rewrite => is_of_directory(name) || is_named(name, Opt::Cert),
-        Verb::Generate => is_of_catalogue(name),
+        Verb::Check => {
+            is_of_directory(name) || is_named(name, Opt::Cert) || is_named(name, Opt::CertDir)
+        }
+        Verb::Generate => is_of_catalogue(name) || is_named(name, Opt::Out),
         Verb::Selfrun => {
             is_named(name, Opt::Threshold)
                 || is_named(name, Opt::Workers)
                 || is_named(name, Opt::Cells)
                 || is_of_catalogue(name)
+        }
+        Verb::Rewrite => {
+            is_of_directory(name)
+                || is_named(name, Opt::Cert)
+                || is_named(name, Opt::Out)
+                || is_named(name, Opt::CertDir)
         }
     }
 }

@@ -32,6 +32,10 @@ pub enum Opt {
     Sizes,
     /// In which version the certificate is written.
     CertVersion,
+    /// The directory that is made for the results.
+    Out,
+    /// The directory in which the certificate lies.
+    CertDir,
 }
 
 /// What is wrong with a command line.
@@ -62,5 +66,7 @@ pub fn option_name(option: Opt) -> &'static [u8]
         Opt::AsHermite3 => b"--as-hermite3",
         Opt::Sizes => b"--sizes",
         Opt::CertVersion => b"--cert-version",
+        Opt::Out => b"--out",
+        Opt::CertDir => b"--cert-dir",
     }
 }

@@ -1,4 +1,4 @@
-//! Texts as values of options: parts of the names of files, and who makes messages.
+//! Texts as values of options: parts of the names of files, paths, and who makes messages.
 ghost use Rattle.std.specs.Prelude.{◌≡◌, option_map};
 ghost use Rattle.std.specs.List.{list_all};
 ghost use Rattle.std.specs.Option.{option_copied};
@@ -43,6 +43,28 @@ fn are_file_bytes(text: &[u8]) -> bool
     ensures { result ≡ list_all spec.is_file_byte text.now }
 {
     text.iter().all(|b| 33 <= *b && *b <= 126 && *b != b'/')
+}
+
+/// Whether a value is a path or is left out.
+pub fn is_path_or_none(value: Option<&[u8]>) -> bool
+    ensures { result ≡ spec.is_path_or_none (option_copied value.entry) }
+{
+    match value {
+        None => true,
+        Some(text) => is_path_text(text),
+    }
+}
+
+fn is_path_text(text: &[u8]) -> bool
+    ensures { result ≡ spec.is_path_text text.now }
+{
+    1 <= text.len() && text.len() <= 1000 && are_path_bytes(text)
+}
+
+fn are_path_bytes(text: &[u8]) -> bool
+    ensures { result ≡ list_all spec.is_path_byte text.now }
+{
+    text.iter().all(|b| 32 <= *b && *b != 127)
 }
 
 /// The originator that a value says, or the one that stands for a value that is left out.

@@ -163,6 +163,8 @@ fn the_names_of_fault_lines(rt: HostRuntime) {
     assert_eq!(rt; option_name(Opt::Seed), b"--seed".as_slice());
     assert_eq!(rt; option_name(Opt::Objects), b"--objects".as_slice());
     assert_eq!(rt; option_name(Opt::Minutes), b"--minutes".as_slice());
+    assert_eq!(rt; option_name(Opt::Out), b"--out".as_slice());
+    assert_eq!(rt; option_name(Opt::CertDir), b"--cert-dir".as_slice());
 }
 
 #[test]

@@ -4,6 +4,10 @@
 #[cfg(test)]
 mod asked;
 #[cfg(test)]
+mod directories;
+#[cfg(test)]
+mod faults;
+#[cfg(test)]
 mod lines;
 #[cfg(test)]
 mod refused;

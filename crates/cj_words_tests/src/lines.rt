@@ -18,7 +18,7 @@ fn fault(alloc: Global, line: &str) -> Result<Option<UsageFault>, AllocError> {
     Ok(read_command(&words).err())
 }
 
-/// The fault of the words `screen .`, an option, and a value that may hold spaces.
+/// The fault of the words of a line that ends with an option, and a value that may hold spaces.
 pub fn fault_of(
     alloc: Global,
     option: &str,
@@ -27,6 +27,15 @@ pub fn fault_of(
     let mut words = words(alloc, option)?;
     words.push(Text::copy_of(alloc, value)?)?;
     Ok(read_command(&words).err())
+}
+
+/// A name of this many letters.
+pub fn name_of(alloc: Global, count: usize) -> Result<Vec<u8>, AllocError> {
+    let mut name = Vec::new(alloc);
+    for _ in 0..count {
+        name.push(b'x')?;
+    }
+    Ok(name)
 }
 
 /// A command line, and what is wrong with it.

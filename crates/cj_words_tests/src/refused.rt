@@ -1,50 +1,10 @@
 //! Command lines that are refused, and why, beside those that are just taken.
-use crate::lines::{Case, fault_of, first_wrong};
-use cj_words::{Opt, UsageFault};
-use std::alloc::{AllocError, Global};
+use crate::faults::{
+    BAD_CELLS, BAD_CERT, BAD_FROM, BAD_MINUTES, BAD_OBJECTS, BAD_ORIGINATOR, BAD_SEED, BAD_SIZES,
+    BAD_SUFFIX, BAD_THRESHOLD, BAD_TO, BAD_VERSION, BAD_WORKERS, WORDS,
+};
+use crate::lines::{Case, fault_of, first_wrong, name_of};
 use std::panic::Expect;
-
-const WORDS: Option<UsageFault> = Some(UsageFault::Words);
-
-const BAD_THRESHOLD: Option<UsageFault> = Some(UsageFault::Value {
-    option: Opt::Threshold,
-});
-
-const BAD_FROM: Option<UsageFault> = Some(UsageFault::Value { option: Opt::From });
-
-const BAD_TO: Option<UsageFault> = Some(UsageFault::Value { option: Opt::To });
-
-const BAD_SUFFIX: Option<UsageFault> = Some(UsageFault::Value {
-    option: Opt::Suffix,
-});
-
-const BAD_CELLS: Option<UsageFault> = Some(UsageFault::Value { option: Opt::Cells });
-
-const BAD_SIZES: Option<UsageFault> = Some(UsageFault::Value { option: Opt::Sizes });
-
-const BAD_WORKERS: Option<UsageFault> = Some(UsageFault::Value {
-    option: Opt::Workers,
-});
-
-const BAD_CERT: Option<UsageFault> = Some(UsageFault::Value { option: Opt::Cert });
-
-const BAD_ORIGINATOR: Option<UsageFault> = Some(UsageFault::Value {
-    option: Opt::Originator,
-});
-
-const BAD_VERSION: Option<UsageFault> = Some(UsageFault::Value {
-    option: Opt::CertVersion,
-});
-
-const BAD_SEED: Option<UsageFault> = Some(UsageFault::Value { option: Opt::Seed });
-
-const BAD_OBJECTS: Option<UsageFault> = Some(UsageFault::Value {
-    option: Opt::Objects,
-});
-
-const BAD_MINUTES: Option<UsageFault> = Some(UsageFault::Value {
-    option: Opt::Minutes,
-});
 
 const BAD_SUFFIXES: [Case; 11] = [
     ("screen . --suffix -x", WORDS),
@@ -169,15 +129,6 @@ fn files_of_sizes(rt: HostRuntime) {
         first_wrong(rt.alloc(), SIZES.as_slice()).expect(&rt, "no fault"),
         None
     );
-}
-
-/// A name of this many letters.
-fn name_of(alloc: Global, count: usize) -> Result<Vec<u8>, AllocError> {
-    let mut name = Vec::new(alloc);
-    for _ in 0..count {
-        name.push(b'x')?;
-    }
-    Ok(name)
 }
 
 #[test]
