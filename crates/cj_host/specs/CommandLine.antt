@@ -9,9 +9,3 @@ notice_of [] = None
 notice_of (word ∷ []) =
     (if bytes_eq word (codes "--help") then Some Help else (if bytes_eq word (codes "--version") then Some Version else None))
 notice_of (word ∷ next ∷ words) = None
-
--- the second word, or the current directory where there is none
-abbrev pub directory_of : List (List ℕ) → List ℕ
-directory_of [] = codes "."
-directory_of (command ∷ []) = codes "."
-directory_of (command ∷ directory ∷ words) = directory

@@ -2,10 +2,11 @@ ghost use Rattle.std.specs.Prelude.{◌≡◌, ◌≤◌, ◌<◌, ◌^◌, leng
 ghost use Rattle.cj_io.specs.Faults.{Rose};
 ghost use Rattle.cj_io.specs.declared.folder.FolderError.{FolderError};
 
+use crate::failure::Failure;
+use crate::listing::{Elsewhere, ListedFile, list_files};
 use crate::system_fault::SystemFault;
 use cj_io::{Failed, Folder, FolderError, Name};
 use std::alloc::{AllocError, Global};
-use std::fs::DirEntry;
 use std::io::ErrorKind;
 use std::os::unix::fs::FileExt;
 use std::{fs, io};
@@ -15,7 +16,8 @@ use std::{fs, io};
 pub struct DirFolder<'a> {
     rt: &'a HostRuntime,
     directory: &'a str,
-    files: Vec<DirEntry>,
+    elsewhere: Option<Elsewhere<'a>>,
+    files: Vec<ListedFile>,
     faults: u64,
     last_fault: Option<SystemFault>,
 }
@@ -23,9 +25,28 @@ pub struct DirFolder<'a> {
 impl<'a> DirFolder<'a> {
     /// The files of the directory with this path. Nothing is opened yet.
     pub fn new(rt: &'a HostRuntime, directory: &'a str) -> Self {
+        DirFolder::of(rt, directory, None)
+    }
+
+    /// The same, but that the file of this name is that of another directory, if it has one.
+    pub fn with_file_of(
+        rt: &'a HostRuntime,
+        directory: &'a str,
+        other: &'a str,
+        name: &'a str,
+    ) -> Self {
+        let elsewhere = Elsewhere {
+            directory: other,
+            name,
+        };
+        DirFolder::of(rt, directory, Some(elsewhere))
+    }
+
+    fn of(rt: &'a HostRuntime, directory: &'a str, elsewhere: Option<Elsewhere<'a>>) -> Self {
         DirFolder {
             rt,
             directory,
+            elsewhere,
             files: Vec::new(rt.alloc()),
             faults: 0,
             last_fault: None,
@@ -33,7 +54,7 @@ impl<'a> DirFolder<'a> {
     }
 
     /// Keeps the files, and answers their names. Files that have no number of 32 bits are a failure.
-    fn keep(&mut self, alloc: Global, files: Vec<DirEntry>) -> Result<Vec<Name>, FolderError>
+    fn keep(&mut self, alloc: Global, files: Vec<ListedFile>) -> Result<Vec<Name>, FolderError>
         ensures failed { IsErrOf result FolderError.Failed → Rose self.old.faults self.new.faults }
         ensures count { IfOk result (λ names. length self.new.files.items ≡ length names.items) }
         ensures numbered { IfOk result (λ names. length names.items < 2 ^ 32) }
@@ -48,15 +69,15 @@ impl<'a> DirFolder<'a> {
     }
 
     /// Why the directory could not be listed.
-    fn unlisted(&mut self, error: io::Error) -> FolderError
+    fn unlisted(&mut self, failure: Failure) -> FolderError
         ensures failed { result ≡ FolderError.Failed → Rose self.old.faults self.new.faults }
         ensures later { self.old.faults ≤ self.new.faults }
     {
-        if error.kind() == ErrorKind::OutOfMemory {
+        let Failure::Fault(fault) = failure else {
             return FolderError::Memory;
-        }
+        };
         self.faults = self.faults.saturating_add(1);
-        self.last_fault = SystemFault::of(self.rt.alloc(), self.directory, error);
+        self.last_fault = fault;
         FolderError::Failed
     }
 
@@ -74,9 +95,9 @@ impl Folder for DirFolder<'_> {
     ghost faults = { λ f. f.faults };
 
     fn names(&mut self, alloc: Global) -> Result<Vec<Name>, FolderError> {
-        match list_files(self.rt, self.directory) {
+        match list_files(self.rt, alloc, self.directory, self.elsewhere) {
             Ok(files) => self.keep(alloc, files),
-            Err(error) => Err(self.unlisted(error)),
+            Err(failure) => Err(self.unlisted(failure)),
         }
     }
 
@@ -87,42 +108,25 @@ impl Folder for DirFolder<'_> {
             Ok(count) => Ok(count as u32),
             Err(error) => {
                 self.faults = self.faults.saturating_add(1);
-                self.last_fault = SystemFault::of(self.rt.alloc(), file.path().as_str(), error);
+                self.last_fault = SystemFault::of(self.rt.alloc(), file.path(), error);
                 Err(Failed)
             }
         }
     }
 }
 
-fn list_files(rt: &HostRuntime, directory: &str) -> io::Result<Vec<DirEntry>> {
-    let mut files = Vec::new(rt.alloc());
-    for entry in fs::read_dir(rt, directory)? {
-        add_file(&mut files, entry)?;
-    }
-    Ok(files)
-}
-
-// All but the subdirectories, so that a broken link is a file that cannot be read and no object is missing silently.
-fn add_file(files: &mut Vec<DirEntry>, entry: io::Result<DirEntry>) -> io::Result<()> {
-    let entry = entry?;
-    if !entry.file_type()?.is_dir() {
-        files.push(entry)?;
-    }
-    Ok(())
-}
-
-fn names_of(alloc: Global, files: &[DirEntry]) -> Result<Vec<Name>, AllocError>
+fn names_of(alloc: Global, files: &[ListedFile]) -> Result<Vec<Name>, AllocError>
     ensures { IfOk result (λ names. length names.items ≡ length files.now) }
 {
     let mut names = Vec::with_capacity(alloc, files.len())?;
     for file in files {
-        names.push(Name::copy_of(alloc, file.file_name().as_bytes())?)?;
+        names.push(Name::copy_of(alloc, file.name().as_bytes())?)?;
     }
     Ok(names)
 }
 
 // Only a regular file is read: to open a pipe would wait for its writer.
-fn read_at(rt: &HostRuntime, file: &DirEntry, at: u64, buf: &mut [u8]) -> io::Result<usize>
+fn read_at(rt: &HostRuntime, file: &ListedFile, at: u64, buf: &mut [u8]) -> io::Result<usize>
     ensures { IfOk result (λ count. count ≤ length buf.new) }
 {
     if !fs::metadata(rt, file.path())?.is_file() {

@@ -3,16 +3,28 @@
 #![tactic(auto)]
 
 mod clock;
+mod failure;
 mod folder;
+mod holding;
+mod inputs;
+mod listing;
+mod new_directory;
+mod new_file;
+mod new_path;
 mod notice;
+mod paths;
 mod request;
 mod shelf;
+mod standing;
 mod streaming;
 mod system_fault;
+mod target;
 
 pub use clock::now;
 pub use folder::DirFolder;
+pub use inputs::Inputs;
 pub use notice::{Notice, print_notice};
+pub use paths::Paths;
 pub use request::{Request, read_request};
 pub use shelf::DirShelf;
 pub use system_fault::SystemFault;

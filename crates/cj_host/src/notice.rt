@@ -60,11 +60,12 @@ of the interpolated tracks is missed, where DIR gives the bytes that it holds
 and keeps those that it is given.
 
 check reads the same ephemerides and the certificate, and decides anew whether
-it is accepted for them. generate writes a made-up catalogue into DIR, one
-ephemeris for each object. selfrun screens such a catalogue in memory, has the
-certificate checked, and prints the summary. rewrite does what check does, and
-writes an accepted certificate in version 2, which has fewer lines, as
-DIR/screen.cert2.
+it is accepted for them. generate writes a made-up catalogue into DIR, which
+has to be there, one ephemeris for each object. selfrun screens such a
+catalogue in memory, has the certificate checked, and prints the summary.
+rewrite does what check does, and writes an accepted certificate in version 2,
+which has fewer lines, as DIR/screen.cert2. With --out NEW all that a run
+writes is in NEW and not in DIR, and is there together or not at all.
 
 Options of screen, check and rewrite, in any order after DIR, each at most once:
   --threshold METRES  miss distance to report, 1 to 1000000 (default 5000)
@@ -88,7 +89,13 @@ Options of screen, check and rewrite, in any order after DIR, each at most once:
                       and - (default CONJ)
   --cert-version N    of screen: the version of the certificate, 1 or 2
                       (default 1)
-Options of generate and selfrun; selfrun has --threshold, --workers, --cells too:
+  --out NEW           of screen and rewrite: the directory that is made for the
+                      results; nothing may have its name yet (default: they are
+                      put into DIR, in place of those of an earlier run)
+  --cert-dir DIR      of check and rewrite: the directory in which the
+                      certificate is (default: that of the ephemerides)
+Options of generate and selfrun; selfrun has --threshold, --workers, --cells
+too, and generate has --out:
   --seed N            what the objects are drawn from (default 1)
   --objects N         how many, 1 to 2000 (default 50)
   --minutes N         the time that they cover, 1 to 1440 (default 120)

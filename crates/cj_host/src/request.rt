@@ -1,9 +1,7 @@
-ghost use Rattle.std.specs.Prelude.{◌≡◌};
-ghost use Rattle.cj_host.specs.CommandLine as spec;
-
 use crate::notice::{Notice, asked_notice};
+use crate::paths::Paths;
 use cj_status::Status;
-use cj_words::{UsageFault, Word};
+use cj_words::{UsageFault, Word, places_of};
 use std::alloc::{AllocError, Global};
 use std::env;
 use std::io::ErrorKind;
@@ -13,8 +11,8 @@ use std::io::ErrorKind;
 pub enum Request {
     /// To show a notice and end.
     Show(Notice),
-    /// To run these words over the files of this directory.
-    Run { words: Vec<Word>, directory: String },
+    /// To run these words over the directories that they name.
+    Run { words: Vec<Word>, paths: Paths },
 }
 
 /// Reads the command line. Words that are not UTF-8 are of no command.
@@ -23,23 +21,8 @@ pub fn read_request(rt: &HostRuntime) -> Result<Request, Status> {
     if let Some(notice) = asked_notice(&words) {
         return Ok(Request::Show(notice));
     }
-    let Ok(directory) = str::from_utf8(directory_of(&words)) else {
-        return Err(Status::Usage(UsageFault::Words));
-    };
-    match String::from_str(rt.alloc(), directory) {
-        Ok(directory) => Ok(Request::Run { words, directory }),
-        Err(_) => Err(Status::OutOfMemory),
-    }
-}
-
-/// The directory that the words name.
-fn directory_of(words: &[Word]) -> &[u8]
-    ensures { result.now ≡ spec.directory_of words.now }
-{
-    match words {
-        [_, directory, ..] => directory.as_slice(),
-        _ => b".",
-    }
+    let paths = Paths::of(rt.alloc(), places_of(&words))?;
+    Ok(Request::Run { words, paths })
 }
 
 /// The words of the command line, the program's name left out.

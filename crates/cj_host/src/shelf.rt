@@ -1,35 +1,57 @@
 ghost use Rattle.std.specs.Prelude.{◌≡◌, ◌≤◌, None, IsErrOf};
 ghost use Rattle.cj_io.specs.Faults.{Rose};
 
-use crate::streaming::{MakeError, write_all_made, write_while_made};
+use crate::failure::Failure;
+use crate::inputs::Inputs;
+use crate::new_directory::NewDirectory;
+use crate::standing::StandingDirectory;
 use crate::system_fault::SystemFault;
+use crate::target::{Host, Target};
 use cj_io::{PutError, Shelf};
 use cj_stream::{PartSource, StreamShelf};
 use std::alloc::{AllocError, Global};
-use std::fs::File;
-use std::io::{ErrorKind, Write};
-use std::path::{Path, PathBuf};
 use std::thread::Threads;
-use std::{fs, io};
 
-/// Files that are made anew in a directory. The name `-` goes to standard output.
+/// Files that a run makes in a directory. The name `-` goes to standard output, and comes last.
 ///
-/// A file is written under another name beside its own, and takes its own name when it is whole.
+/// A file is made under another name beside its own, never into one that was there, and takes its own name when it is whole and on the disk.
 #[derive(Drop)]
-pub struct DirShelf<'a> {
-    rt: &'a HostRuntime,
-    directory: &'a str,
+pub struct DirShelf<'a, R> {
+    host: Host<'a, R>,
+    target: Target<'a>,
     faults: u64,
+    refusals: u64,
     last_fault: Option<SystemFault>,
 }
 
-impl<'a> DirShelf<'a> {
+impl<'a, R: Threads> DirShelf<'a, R> {
     /// A shelf whose pieces become files of the directory with this path. Nothing is written yet.
-    pub fn new(rt: &'a HostRuntime, directory: &'a str) -> Self {
+    pub fn new(files: &'a HostRuntime, threads: &'a R, directory: &'a str) -> Self {
+        DirShelf::beside(files, threads, directory, Inputs::none())
+    }
+
+    /// The same where the run reads files of the directory: no piece takes the place of one of them.
+    pub fn beside(
+        files: &'a HostRuntime,
+        threads: &'a R,
+        directory: &'a str,
+        inputs: Inputs<'a>,
+    ) -> Self {
+        let target = Target::Standing(StandingDirectory::new(directory, inputs));
+        DirShelf::onto(files, threads, target)
+    }
+
+    /// A shelf whose pieces become the files of a directory that is made for them, under this path.
+    pub fn in_new(files: &'a HostRuntime, threads: &'a R, path: &'a str) -> Self {
+        DirShelf::onto(files, threads, Target::Made(NewDirectory::new(path)))
+    }
+
+    fn onto(files: &'a HostRuntime, threads: &'a R, target: Target<'a>) -> Self {
         DirShelf {
-            rt,
-            directory,
+            host: Host { files, threads },
+            target,
             faults: 0,
+            refusals: 0,
             last_fault: None,
         }
     }
@@ -40,43 +62,31 @@ impl<'a> DirShelf<'a> {
         ensures memory { IsErrOf result PutError.Memory → self.new.faults ≡ self.old.faults }
         ensures later { self.old.faults ≤ self.new.faults }
     {
-        let place = place_of(alloc, self.directory, name)?;
-        let written = write_whole(self.rt, &place, slices);
-        self.end(alloc, &place, written)
+        let put = self.target.put(&self.host, alloc, name, slices);
+        self.end(put)
     }
 
-    /// How a put ends that was written so.
-    fn end(&mut self, alloc: Global, place: &Place, written: io::Result<()>) -> Result<(), PutError>
+    /// How a call ends that came to this.
+    fn end(&mut self, done: Result<(), Failure>) -> Result<(), PutError>
         ensures failed { IsErrOf result PutError.Failed → Rose self.old.faults self.new.faults }
         ensures memory { IsErrOf result PutError.Memory → self.new.faults ≡ self.old.faults }
         ensures later { self.old.faults ≤ self.new.faults }
+        ensures refusals { self.new.refusals ≡ self.old.refusals }
     {
-        match written {
+        match done {
             Ok(()) => Ok(()),
-            Err(reason) => {
+            Err(Failure::Memory) => Err(PutError::Memory),
+            Err(Failure::Fault(fault)) => {
                 self.faults = self.faults.saturating_add(1);
-                self.last_fault = SystemFault::of(alloc, place_name(place), reason);
+                self.last_fault = fault;
                 Err(PutError::Failed)
             }
         }
     }
 
-    /// How a put ends whose bytes were made and written so.
-    fn end_made(
-        &mut self,
-        alloc: Global,
-        place: &Place,
-        made: Result<(), MakeError>,
-    ) -> Result<(), PutError>
-        ensures failed { IsErrOf result PutError.Failed → Rose self.old.faults self.new.faults }
-        ensures memory { IsErrOf result PutError.Memory → self.new.faults ≡ self.old.faults }
-        ensures later { self.old.faults ≤ self.new.faults }
-    {
-        match made {
-            Ok(()) => Ok(()),
-            Err(MakeError::Memory) => Err(PutError::Memory),
-            Err(MakeError::Fault(reason)) => self.end(alloc, place, Err(reason)),
-        }
+    /// Takes away what a run that failed has made of a new directory. Call it when the run has ended.
+    pub fn close(&mut self) {
+        self.target.abandon(self.host.files);
     }
 
     /// The last file that could not be written.
@@ -85,10 +95,21 @@ impl<'a> DirShelf<'a> {
     }
 }
 
-impl Shelf for DirShelf<'_> {
+impl<R: Threads> Shelf for DirShelf<'_, R> {
     ghost pieces = { λ s. None };
 
     ghost faults = { λ s. s.faults };
+
+    ghost refusals = { λ s. s.refusals };
+
+    fn begin(&mut self, alloc: Global) -> Result<(), PutError> {
+        let begun = self.target.begin(self.host.files, alloc);
+        let ended = self.end(begun);
+        if ended == Err(PutError::Failed) {
+            self.refusals = self.refusals.saturating_add(1);
+        }
+        ended
+    }
 
     fn put(&mut self, alloc: Global, name: &[u8], bytes: &[u8]) -> Result<(), PutError> {
         self.put_slices(alloc, name, &[bytes])
@@ -100,19 +121,20 @@ impl Shelf for DirShelf<'_> {
     }
 }
 
-impl StreamShelf for DirShelf<'_> {
-    fn put_made<R: Threads + Sync, M: PartSource>(
+impl<R: Threads> StreamShelf for DirShelf<'_, R> {
+    fn put_made<W: Threads + Sync, M: PartSource>(
         &mut self,
-        rt: &R,
+        rt: &W,
         alloc: Global,
         name: &[u8],
         source: &mut M,
     ) -> Result<(), PutError> {
-        let place = place_of(alloc, self.directory, name)?;
         // Where already the first parts want memory, no file is begun.
         let first = source.next_parts(rt, alloc)?;
-        let made = make_whole(self.rt, rt, alloc, &place, first, source);
-        self.end_made(alloc, &place, made)
+        let put = self
+            .target
+            .put_made(&self.host, rt, alloc, name, first, source);
+        self.end(put)
     }
 }
 
@@ -122,108 +144,4 @@ fn slices_of<'a>(alloc: Global, parts: &'a [Vec<u8>]) -> Result<Vec<&'a [u8]>, A
         slices.push(part.as_slice())?;
     }
     Ok(slices)
-}
-
-/// Where a piece goes.
-#[derive(Drop)]
-enum Place {
-    Output,
-    /// A file, and its name while it is written.
-    File { file: PathBuf, part: PathBuf },
-    /// The piece's name is no name of a file.
-    Nowhere,
-}
-
-fn place_of(alloc: Global, directory: &str, name: &[u8]) -> Result<Place, AllocError> {
-    match str::from_utf8(name) {
-        Ok("-") => Ok(Place::Output),
-        Ok(name) => {
-            let part = format!(in alloc; ".{name}.part")?;
-            Ok(Place::File {
-                file: Path::new(directory).join(alloc, name)?,
-                part: Path::new(directory).join(alloc, part.as_str())?,
-            })
-        }
-        Err(_) => Ok(Place::Nowhere),
-    }
-}
-
-fn place_name(place: &Place) -> &str {
-    match place {
-        Place::Output => "standard output",
-        Place::File { file, .. } => file.as_str(),
-        Place::Nowhere => "a piece",
-    }
-}
-
-/// Writes parts, one behind another.
-fn write_whole(rt: &HostRuntime, place: &Place, parts: &[&[u8]]) -> io::Result<()> {
-    match place {
-        Place::Output => write_parts(&mut rt.stdout(), parts),
-        Place::File { file, part } => replace(rt, part, file, parts),
-        Place::Nowhere => Err(io::Error::from(ErrorKind::InvalidFilename)),
-    }
-}
-
-fn write_parts<W: Write>(to: &mut W, parts: &[&[u8]]) -> io::Result<()> {
-    for part in parts {
-        to.write_all(part)?;
-    }
-    Ok(())
-}
-
-/// Writes parts and what the source makes behind them. Where a file is not written whole, its part is taken away again.
-fn make_whole<R: Threads + Sync, M: PartSource>(
-    files: &HostRuntime,
-    rt: &R,
-    alloc: Global,
-    place: &Place,
-    first: Vec<Vec<u8>>,
-    source: &mut M,
-) -> Result<(), MakeError> {
-    match place {
-        Place::Output => write_all_made(&mut files.stdout(), rt, alloc, &first, source),
-        Place::File { file, part } => {
-            let made = make_file(files, rt, alloc, part, file, first, source);
-            if made.is_err() {
-                let _ = fs::remove_file(files, part.as_path());
-            }
-            made
-        }
-        Place::Nowhere => Err(MakeError::Fault(io::Error::from(ErrorKind::InvalidFilename))),
-    }
-}
-
-/// Writes a file under the name of its part while it is made, and then renames it.
-fn make_file<R: Threads + Sync, M: PartSource>(
-    files: &HostRuntime,
-    rt: &R,
-    alloc: Global,
-    part: &PathBuf,
-    file: &PathBuf,
-    first: Vec<Vec<u8>>,
-    source: &mut M,
-) -> Result<(), MakeError> {
-    let mut to = File::create(files, part.as_path())?;
-    write_while_made(&mut to, rt, alloc, first, source)?;
-    drop(to);
-    fs::rename(files, part.as_path(), file.as_path()).map_err(MakeError::Fault)
-}
-
-/// Writes a file under the name of its part and then renames it. Where either fails, the part is taken away again.
-fn replace(rt: &HostRuntime, part: &PathBuf, file: &PathBuf, parts: &[&[u8]]) -> io::Result<()> {
-    let written = write_file(rt, part, parts).and_then(|()| fs::rename(
-        rt,
-        part.as_path(),
-        file.as_path(),
-    ));
-    if written.is_err() {
-        let _ = fs::remove_file(rt, part.as_path());
-    }
-    written
-}
-
-fn write_file(rt: &HostRuntime, path: &PathBuf, parts: &[&[u8]]) -> io::Result<()> {
-    let mut file = File::create(rt, path.as_path())?;
-    write_parts(&mut file, parts)
 }

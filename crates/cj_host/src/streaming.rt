@@ -2,6 +2,7 @@
 ghost use Rattle.std.specs.Prelude.{◌<◌, length, IfOk};
 ghost use Rattle.std.specs.Thread.{IsSync};
 
+use crate::failure::Failure;
 use cj_stream::{PartSource, all_parts};
 use std::alloc::{AllocError, AllocFailed, Global};
 use std::io;
@@ -15,6 +16,16 @@ pub enum MakeError {
     Memory,
     /// A write failed.
     Fault(io::Error),
+}
+
+impl MakeError {
+    /// The same, of the file with this path.
+    pub fn at(self, alloc: Global, path: &str) -> Failure {
+        match self {
+            MakeError::Memory => Failure::Memory,
+            MakeError::Fault(reason) => Failure::at(alloc, path, reason),
+        }
+    }
 }
 
 impl From<AllocError> for MakeError {

@@ -1,11 +1,11 @@
 ghost use Rattle.std.specs.Prelude.{[], ◌∷◌, if◌then◌else◌};
 
-use cj_host::{DirFolder, DirShelf, SystemFault};
+use crate::telling::is_told;
+use cj_host::{DirFolder, DirShelf};
 use cj_io::{Folder, FolderError, PutError, Shelf, read_whole};
 use cj_stream::{MemSource, PartSource, StreamShelf};
 use std::alloc::{AllocError, Global};
 use std::fs;
-use std::os::unix::fs::symlink;
 use std::panic::Expect;
 use std::thread::Threads;
 
@@ -46,7 +46,7 @@ fn pieces_are_written_to_a_directory(rt: HostRuntime) {
         "an older and longer text",
     )
     .expect(&rt, "no fault");
-    let mut shelf = DirShelf::new(&rt, "written_here");
+    let mut shelf = DirShelf::new(&rt, &rt, "written_here");
     shelf
         .put(alloc, b"screen.report", b"text")
         .expect(&rt, "no fault");
@@ -65,7 +65,7 @@ fn pieces_are_written_to_a_directory(rt: HostRuntime) {
         is_told(
             alloc,
             shelf.last_fault(),
-            b"conj: written_here/screen.report: No such file or directory (os error 2)\n"
+            b"conj: written_here/.screen.report.part: No such file or directory (os error 2)\n"
         )
     );
 }
@@ -75,7 +75,7 @@ fn a_piece_that_cannot_take_its_name_leaves_nothing(rt: HostRuntime) {
     let alloc = rt.alloc();
     fs::create_dir(&rt, "taken_here").expect(&rt, "no fault");
     fs::create_dir(&rt, "taken_here/screen.report").expect(&rt, "no fault");
-    let mut shelf = DirShelf::new(&rt, "taken_here");
+    let mut shelf = DirShelf::new(&rt, &rt, "taken_here");
     assert_eq!(rt;
         shelf.put(alloc, b"screen.report", b"text"),
         Err(PutError::Failed)
@@ -98,7 +98,7 @@ fn a_piece_that_cannot_take_its_name_leaves_nothing(rt: HostRuntime) {
 fn a_piece_is_written_while_it_is_made(rt: HostRuntime) {
     let alloc = rt.alloc();
     fs::create_dir(&rt, "made_here").expect(&rt, "no fault");
-    let mut shelf = DirShelf::new(&rt, "made_here");
+    let mut shelf = DirShelf::new(&rt, &rt, "made_here");
     shelf
         .put_made(
             &rt,
@@ -135,7 +135,7 @@ fn a_piece_is_written_while_it_is_made(rt: HostRuntime) {
         is_told(
             alloc,
             shelf.last_fault(),
-            b"conj: made_here/screen.cert: No such file or directory (os error 2)\n"
+            b"conj: made_here/.screen.cert.part: No such file or directory (os error 2)\n"
         )
     );
 }
@@ -175,7 +175,7 @@ fn a_piece_that_wants_memory_while_it_is_made_leaves_nothing(rt: HostRuntime) {
     let alloc = rt.alloc();
     fs::create_dir(&rt, "starved_here").expect(&rt, "no fault");
     fs::write(&rt, "starved_here/screen.cert", "older").expect(&rt, "no fault");
-    let mut shelf = DirShelf::new(&rt, "starved_here");
+    let mut shelf = DirShelf::new(&rt, &rt, "starved_here");
     assert_eq!(rt;
         shelf.put_made(&rt, alloc, b"screen.cert", &mut Starved { made: false }),
         Err(PutError::Memory)
@@ -194,13 +194,10 @@ fn a_piece_that_wants_memory_while_it_is_made_leaves_nothing(rt: HostRuntime) {
     fs::remove_dir_all(&rt, "starved_here").expect(&rt, "no fault");
 }
 
-// What is written to `/dev/full` finds a full disk.
 #[test]
-fn a_fault_of_a_write_is_told_before_want_of_memory(rt: HostRuntime) {
+fn a_fault_is_told_before_a_later_want_of_memory(rt: HostRuntime) {
     let alloc = rt.alloc();
-    fs::create_dir(&rt, "full_here").expect(&rt, "no fault");
-    symlink(&rt, "/dev/full", "full_here/.screen.cert.part").expect(&rt, "no fault");
-    let mut shelf = DirShelf::new(&rt, "full_here");
+    let mut shelf = DirShelf::new(&rt, &rt, "nowhere_here");
     assert_eq!(rt;
         shelf.put_made(&rt, alloc, b"screen.cert", &mut Starved { made: false }),
         Err(PutError::Failed)
@@ -209,15 +206,7 @@ fn a_fault_of_a_write_is_told_before_want_of_memory(rt: HostRuntime) {
         is_told(
             alloc,
             shelf.last_fault(),
-            b"conj: full_here/screen.cert: No space left on device (os error 28)\n"
+            b"conj: nowhere_here/.screen.cert.part: No such file or directory (os error 2)\n"
         )
     );
-    fs::remove_dir_all(&rt, "full_here").expect(&rt, "no fault");
-}
-
-fn is_told(alloc: Global, fault: Option<&SystemFault>, line: &[u8]) -> bool {
-    match fault.map(|fault| fault.line(alloc)) {
-        Some(Ok(told)) => told.as_slice() == line,
-        _ => false,
-    }
 }

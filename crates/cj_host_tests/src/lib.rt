@@ -3,3 +3,13 @@
 
 #[cfg(test)]
 mod directories;
+#[cfg(test)]
+mod inputs;
+#[cfg(test)]
+mod new_directories;
+#[cfg(test)]
+mod other_runs;
+#[cfg(test)]
+mod parts;
+#[cfg(test)]
+mod telling;

@@ -1,0 +1,46 @@
+-- The files of its directory that a run reads.
+use Rattle.std.specs.Prelude.{ℕ, Bool, false, ◌||◌, List, Option, Some, None, Result, Ok, Err, nat_eq}
+use Rattle.std.specs.List.{ends_with}
+use Rattle.std.specs.Option.{option_copied}
+use Rattle.std.specs.Str.{bytes_eq}
+use Rattle.cj_host.specs.declared.inputs.Inputs as kept
+use Rattle.cj_words.specs.Commands.{Asking, Screens, Checks, Generates, Tries, Rewrites}
+use Rattle.cj_words.specs.Settings.{Asked}
+use Rattle.cj_words.specs.declared.option.UsageFault.{UsageFault}
+
+-- which files are read: those whose names end with the suffix, and the one of sizes
+pub record Reads : Type 0 where
+  pub suffix : Option (List ℕ)
+  pub sizes : Option (List ℕ)
+
+abbrev pub plain_inputs : kept.Inputs → Reads
+plain_inputs inputs = record { suffix = option_copied inputs.suffix; sizes = option_copied inputs.sizes }
+
+-- no file
+abbrev pub nothing : Reads
+nothing = record { suffix = None; sizes = None }
+
+abbrev pub reads_asked : Asked → Reads
+reads_asked asked = record { suffix = Some asked.suffix; sizes = asked.sizes }
+
+-- What a command reads. The certificate of a rewriting is left out: the one piece that takes the place of a file may take that of the
+-- certificate from which it is made.
+abbrev pub reads_of : Result Asking UsageFault → Reads
+reads_of (Ok (Screens screening)) = reads_asked screening.settings
+reads_of (Ok (Checks checking)) = reads_asked checking.settings
+reads_of (Ok (Rewrites checking)) = reads_asked checking.settings
+reads_of (Ok (Generates recipe)) = nothing
+reads_of (Ok (Tries trial)) = nothing
+reads_of (Err fault) = nothing
+
+abbrev pub has_suffix : Option (List ℕ) → List ℕ → Bool
+has_suffix None name = false
+has_suffix (Some suffix) name = ends_with nat_eq name suffix
+
+abbrev pub has_name : Option (List ℕ) → List ℕ → Bool
+has_name None name = false
+has_name (Some other) name = bytes_eq name other
+
+-- a file of this name is read
+abbrev pub is_read : Reads → List ℕ → Bool
+is_read reads name = has_suffix reads.suffix name || has_name reads.sizes name

@@ -1,0 +1,73 @@
+ghost use Rattle.std.specs.Prelude.{◌≡◌};
+ghost use Rattle.std.specs.Option.{option_copied};
+ghost use Rattle.cj_host.specs.Inputs as spec;
+ghost use Rattle.cj_host.specs.Inputs.{plain_inputs};
+ghost use Rattle.cj_words.specs.Commands.{command_of};
+ghost use Rattle.cj_words.specs.Settings.{asked_of};
+
+use cj_words::{Command, Settings, Word, read_command};
+
+/// The files of a directory that a run reads: those whose names end with the suffix, and the one of sizes.
+#[derive(Clone, Copy, Debug, PartialEq, Eq)]
+pub struct Inputs<'w> {
+    suffix: Option<&'w [u8]>,
+    sizes: Option<&'w [u8]>,
+}
+
+impl<'w> Inputs<'w> {
+    /// A run that reads no file of the directory.
+    pub fn none() -> Inputs<'w>
+        ensures { plain_inputs result ≡ spec.nothing }
+    {
+        Inputs {
+            suffix: None,
+            sizes: None,
+        }
+    }
+
+    /// What the run of these words reads. A certificate is no part of it: what `rewrite` makes of one may take its place.
+    pub fn of(words: &'w [Word]) -> Inputs<'w>
+        ensures { plain_inputs result ≡ spec.reads_of (command_of words.now) }
+    {
+        match read_command(words) {
+            Ok(Command::Screen(screening)) => Inputs::of_settings(screening.settings),
+            Ok(Command::Check(checking)) => Inputs::of_settings(checking.settings),
+            Ok(Command::Rewrite(checking)) => Inputs::of_settings(checking.settings),
+            _ => Inputs::none(),
+        }
+    }
+
+    fn of_settings(settings: Settings<'w>) -> Inputs<'w>
+        ensures { plain_inputs result ≡ spec.reads_asked (asked_of settings.entry) }
+    {
+        Inputs {
+            suffix: Some(settings.suffix),
+            sizes: settings.sizes,
+        }
+    }
+
+    /// Whether a file of this name is read.
+    pub fn have(&self, name: &[u8]) -> bool
+        ensures { result ≡ spec.is_read (plain_inputs self.now) name.now }
+    {
+        has_suffix(self.suffix, name) || has_name(self.sizes, name)
+    }
+}
+
+fn has_suffix(suffix: Option<&[u8]>, name: &[u8]) -> bool
+    ensures { result ≡ spec.has_suffix (option_copied suffix.entry) name.now }
+{
+    match suffix {
+        Some(suffix) => name.ends_with(suffix),
+        None => false,
+    }
+}
+
+fn has_name(other: Option<&[u8]>, name: &[u8]) -> bool
+    ensures { result ≡ spec.has_name (option_copied other.entry) name.now }
+{
+    match other {
+        Some(other) => name == other,
+        None => false,
+    }
+}

@@ -1,0 +1,206 @@
+use crate::failure::{Failure, done_at};
+use crate::new_directory::NewDirectory;
+use crate::new_file::{NewFile, write_slices};
+use crate::standing::{Part, StandingDirectory};
+use crate::streaming::write_all_made;
+use cj_stream::PartSource;
+use std::alloc::Global;
+use std::io;
+use std::io::ErrorKind;
+use std::thread::Threads;
+
+/// The system: files by its runtime, and threads.
+#[derive(Drop)]
+pub struct Host<'a, R> {
+    pub files: &'a HostRuntime,
+    pub threads: &'a R,
+}
+
+/// Where pieces go.
+#[derive(Drop)]
+pub enum Target<'a> {
+    /// Among the files of a directory.
+    Standing(StandingDirectory<'a>),
+    /// Into a directory that is made for them.
+    Made(NewDirectory<'a>),
+}
+
+/// A piece that is begun.
+#[derive(Drop)]
+enum Begun {
+    /// It goes to standard output.
+    Output,
+    /// It takes the place of a file.
+    Part(Part),
+    /// It is a file of a new directory.
+    File(NewFile),
+}
+
+// What standard output is called.
+const OUTPUT: &str = "standard output";
+
+impl Target<'_> {
+    /// Makes ready for pieces, where no other run puts its own there.
+    pub fn begin(&mut self, rt: &HostRuntime, alloc: Global) -> Result<(), Failure> {
+        match self {
+            Target::Standing(directory) => directory.begin(rt, alloc),
+            Target::Made(directory) => directory.begin(rt, alloc),
+        }
+    }
+
+    /// Puts a piece whose bytes come in slices, one behind another.
+    pub fn put<R: Threads>(
+        &mut self,
+        host: &Host<'_, R>,
+        alloc: Global,
+        name: &[u8],
+        slices: &[&[u8]],
+    ) -> Result<(), Failure> {
+        let name = name_of(alloc, name)?;
+        let mut piece = self.start(host, alloc, name)?;
+        let written = piece.write(host, alloc, slices);
+        self.end(host, alloc, name, piece, written)
+    }
+
+    /// Puts a piece of these first parts and of what the source makes behind them.
+    pub fn put_made<R: Threads, W: Threads + Sync, M: PartSource>(
+        &mut self,
+        host: &Host<'_, R>,
+        rt: &W,
+        alloc: Global,
+        name: &[u8],
+        first: Vec<Vec<u8>>,
+        source: &mut M,
+    ) -> Result<(), Failure> {
+        let name = name_of(alloc, name)?;
+        let mut piece = self.start(host, alloc, name)?;
+        let written = piece.write_made(host, rt, alloc, first, source);
+        self.end(host, alloc, name, piece, written)
+    }
+
+    /// Takes away what has not got its name.
+    pub fn abandon(&mut self, rt: &HostRuntime) {
+        match self {
+            Target::Standing(_) => {}
+            Target::Made(directory) => directory.abandon(rt),
+        }
+    }
+
+    /// Begins a piece. Standard output comes last: all pieces before it are then whole, and are brought to the disk.
+    fn start<R: Threads>(
+        &mut self,
+        host: &Host<'_, R>,
+        alloc: Global,
+        name: &str,
+    ) -> Result<Begun, Failure> {
+        if name == "-" {
+            self.finish(host, alloc)?;
+            return Ok(Begun::Output);
+        }
+        match self {
+            Target::Standing(directory) => directory
+                .start(host.files, alloc, name)
+                .map(Begun::Part),
+            Target::Made(directory) => directory.start(host.files, alloc, name).map(Begun::File),
+        }
+    }
+
+    /// Ends a piece that was written so. What is not whole is taken away again.
+    fn end<R: Threads>(
+        &mut self,
+        host: &Host<'_, R>,
+        alloc: Global,
+        name: &str,
+        piece: Begun,
+        written: Result<(), Failure>,
+    ) -> Result<(), Failure> {
+        if written.is_err() {
+            piece.remove(host.files);
+            drop(piece);
+            return written;
+        }
+        self.keep(host, alloc, name, piece)
+    }
+
+    /// Keeps a piece that is written.
+    fn keep<R: Threads>(
+        &mut self,
+        host: &Host<'_, R>,
+        alloc: Global,
+        name: &str,
+        piece: Begun,
+    ) -> Result<(), Failure> {
+        match (self, piece) {
+            (Target::Standing(directory), Begun::Part(part)) => {
+                let kept = directory.keep(host.files, alloc, name, &part);
+                if kept.is_err() {
+                    part.part.remove(host.files);
+                }
+                kept
+            }
+            (Target::Made(directory), Begun::File(file)) => {
+                directory.keep(host.threads, alloc, file)
+            }
+            _ => Ok(()),
+        }
+    }
+
+    fn finish<R: Threads>(&mut self, host: &Host<'_, R>, alloc: Global) -> Result<(), Failure> {
+        match self {
+            Target::Standing(directory) => directory.finish(alloc),
+            Target::Made(directory) => directory.finish(host.files, host.threads, alloc),
+        }
+    }
+}
+
+impl Begun {
+    fn write<R>(
+        &mut self,
+        host: &Host<'_, R>,
+        alloc: Global,
+        slices: &[&[u8]],
+    ) -> Result<(), Failure> {
+        match self {
+            Begun::Output => {
+                let written = write_slices(&mut host.files.stdout(), slices);
+                done_at(alloc, OUTPUT, written)
+            }
+            Begun::Part(piece) => piece.part.write(alloc, slices),
+            Begun::File(file) => file.write(alloc, slices),
+        }
+    }
+
+    fn write_made<R, W: Threads + Sync, M: PartSource>(
+        &mut self,
+        host: &Host<'_, R>,
+        rt: &W,
+        alloc: Global,
+        first: Vec<Vec<u8>>,
+        source: &mut M,
+    ) -> Result<(), Failure> {
+        match self {
+            Begun::Output => {
+                let made = write_all_made(&mut host.files.stdout(), rt, alloc, &first, source);
+                made.map_err(|error| error.at(alloc, OUTPUT))
+            }
+            Begun::Part(piece) => piece.part.write_made(rt, alloc, first, source),
+            Begun::File(file) => file.write_made(rt, alloc, first, source),
+        }
+    }
+
+    /// Takes away the file of a piece that is not whole.
+    fn remove(&self, rt: &HostRuntime) {
+        match self {
+            Begun::Output => {}
+            Begun::Part(piece) => piece.part.remove(rt),
+            Begun::File(file) => file.remove(rt),
+        }
+    }
+}
+
+fn name_of(alloc: Global, name: &[u8]) -> Result<&str, Failure> {
+    str::from_utf8(name).map_err(|_| {
+        let reason = io::Error::from(ErrorKind::InvalidFilename);
+        Failure::at(alloc, "a piece", reason)
+    })
+}
