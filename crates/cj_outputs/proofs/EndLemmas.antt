@@ -5,11 +5,10 @@ use Rattle.std.specs.Prelude.{IfErr, IsErrAnd}
 use Rattle.std.proofs.lemmas.Result.{err_from_is_err_and}
 use Rattle.cj_io.specs.Faults.{Rose}
 use Rattle.cj_io.specs.declared.file.FileBytes.{FileBytes}
-use Rattle.cj_words.specs.declared.option.UsageFault.{UsageFault}
 use Rattle.cj_status.specs.declared.status.Status.{Status}
 use Rattle.cj_status.specs.declared.status.Status.TheVariants as status
 use Rattle.cj_status.specs.Steps.{Stops}
-use Rattle.cj_outputs.specs.Outcome.{Answers, IsFront, PartlyPut, Leaves, Extends, ComesOfPuts, PutsNothing}
+use Rattle.cj_outputs.specs.Outcome.{Answers, ArePieces, AreTooManyCells, IsFront, PartlyPut, Leaves, Extends, ComesOfPuts, PutsNothing}
 use Rattle.cj_outputs.specs.Findings.{ended}
 
 -- nothing was put
@@ -62,15 +61,15 @@ nothing_more old now same = ([], same ∙ ap (λ (ps : List FileBytes). Some ps)
 
 -- ---- a run that stopped before its puts
 
-pub answers_stop : (read : Type 0) (s : Status) (due : Result (List FileBytes) Status) → Stops read s due → Answers read s due
-answers_stop read status.Ok due stops = absurd stops
-answers_stop read (status.NotAccepted line cause) due stops = stops
-answers_stop read (status.Usage fault) due stops = stops
-answers_stop read (status.BadFile file line cause) due stops = stops
-answers_stop read status.ReadFault due stops = stops
-answers_stop read status.WriteFault due stops = absurd stops
-answers_stop read (status.Limit fault) due stops = stops
-answers_stop read status.OutOfMemory due stops = tt
+pub answers_stop : (read refused : Type 0) (s : Status) (due : Result (List FileBytes) Status) → Stops read s due → Answers read refused s due
+answers_stop read refused status.Ok due stops = absurd stops
+answers_stop read refused (status.NotAccepted line cause) due stops = stops
+answers_stop read refused (status.Usage fault) due stops = stops
+answers_stop read refused (status.BadFile file line cause) due stops = stops
+answers_stop read refused status.ReadFault due stops = stops
+answers_stop read refused status.WriteFault due stops = absurd stops
+answers_stop read refused (status.Limit fault) due stops = stops
+answers_stop read refused status.OutOfMemory due stops = tt
 
 pub leaves_stop : (read : Type 0) (s : Status) (due : Result (List FileBytes) Status) (old : List FileBytes) (now : Option (List FileBytes))
     → now ≡ Some old → Stops read s due → Leaves s due old now
@@ -83,18 +82,30 @@ leaves_stop read status.WriteFault due old now same stops = absurd stops
 leaves_stop read (status.Limit fault) due old now same stops = same
 leaves_stop read status.OutOfMemory due old now same stops = nothing_put due old now same
 
+-- what answers where nothing is read answers where something is
+pub answers_wider : (read refused : Type 0) (s : Status) (due : Result (List FileBytes) Status) → Answers ⊥ refused s due → Answers read refused s due
+answers_wider read refused status.Ok due answers = answers
+answers_wider read refused (status.NotAccepted line cause) due answers = answers
+answers_wider read refused (status.Usage fault) due answers = answers
+answers_wider read refused (status.BadFile file line cause) due answers = answers
+answers_wider read refused status.ReadFault due answers = absurd answers
+answers_wider read refused status.WriteFault due answers = answers
+answers_wider read refused (status.Limit fault) due answers = answers
+answers_wider read refused status.OutOfMemory due answers = tt
+
 -- ---- a run that came to its puts
 
-pub answers_put : (read : Type 0) (r : Result (Unit {0}) Status) (due : Result (List FileBytes) Status) (pieces : List FileBytes) → due ≡ Ok pieces → IfErr r ComesOfPuts → Answers read (ended r) due
-answers_put read (Ok done) due pieces is comes = (pieces, is)
-answers_put read (Err status.Ok) due pieces is comes = absurd comes
-answers_put read (Err (status.NotAccepted line cause)) due pieces is comes = absurd comes
-answers_put read (Err (status.Usage fault)) due pieces is comes = absurd comes
-answers_put read (Err (status.BadFile file line cause)) due pieces is comes = absurd comes
-answers_put read (Err status.ReadFault) due pieces is comes = absurd comes
-answers_put read (Err status.WriteFault) due pieces is comes = (pieces, is)
-answers_put read (Err (status.Limit fault)) due pieces is comes = absurd comes
-answers_put read (Err status.OutOfMemory) due pieces is comes = tt
+pub answers_put : (read refused : Type 0) (r : Result (Unit {0}) Status) (due : Result (List FileBytes) Status) (pieces : List FileBytes) → due ≡ Ok pieces
+    → IfErr r ComesOfPuts → Answers read refused (ended r) due
+answers_put read refused (Ok done) due pieces is comes = (pieces, is)
+answers_put read refused (Err status.Ok) due pieces is comes = absurd comes
+answers_put read refused (Err (status.NotAccepted line cause)) due pieces is comes = absurd comes
+answers_put read refused (Err (status.Usage fault)) due pieces is comes = absurd comes
+answers_put read refused (Err (status.BadFile file line cause)) due pieces is comes = absurd comes
+answers_put read refused (Err status.ReadFault) due pieces is comes = absurd comes
+answers_put read refused (Err status.WriteFault) due pieces is comes = inl (pieces, is)
+answers_put read refused (Err (status.Limit fault)) due pieces is comes = absurd comes
+answers_put read refused (Err status.OutOfMemory) due pieces is comes = tt
 
 -- puts that did not fail were made, or memory ran out
 pub put_or_memory : (write : Type 0) (r : Result (Unit {0}) Status) → ¬ write → IfErr r ComesOfPuts → (r ≡ Err status.WriteFault → write) → (ended r ≡ status.Ok) ⊎ (ended r ≡ status.OutOfMemory)
@@ -191,38 +202,55 @@ leaves_extends status.OutOfMemory due old now leaves = (leaves.0, leaves.2)
 
 -- ---- completeness
 
--- a run that stopped although pieces are due met a read fault or want of memory
-pub stopped_for : (read : Type 0) (s : Status) (due : Result (List FileBytes) Status) (pieces : List FileBytes) → due ≡ Ok pieces → ¬ read → Stops read s due
-    → s ≡ status.OutOfMemory
+-- a run that stopped although pieces are due, and not for a read, met want of memory
+pub stopped_for : (read : Type 0) (s : Status) (due : Result (List FileBytes) Status) (pieces : List FileBytes) → due ≡ Ok pieces
+    → (s ≡ status.ReadFault → ¬ read) → Stops read s due → s ≡ status.OutOfMemory
 stopped_for read status.Ok due pieces is calm stops = absurd stops
 stopped_for read (status.NotAccepted line cause) due pieces is calm stops = absurd cc
 stopped_for read (status.Usage fault) due pieces is calm stops = absurd cc
 stopped_for read (status.BadFile file line cause) due pieces is calm stops = absurd cc
-stopped_for read status.ReadFault due pieces is calm stops = absurd (calm stops)
+stopped_for read status.ReadFault due pieces is calm stops = absurd (calm refl stops)
 stopped_for read status.WriteFault due pieces is calm stops = absurd stops
 stopped_for read (status.Limit fault) due pieces is calm stops = absurd cc
 stopped_for read status.OutOfMemory due pieces is calm stops = refl
 
--- a run that came to its puts has words of the grammar
-pub never_usage : (r : Result (Unit {0}) Status) (fault : UsageFault) → IfErr r ComesOfPuts → ¬ (ended r ≡ status.Usage fault)
-never_usage (Ok done) fault comes = λ e. absurd cc
-never_usage (Err status.Ok) fault comes = absurd comes
-never_usage (Err (status.NotAccepted line cause)) fault comes = λ e. absurd cc
-never_usage (Err (status.Usage other)) fault comes = λ e. absurd comes
-never_usage (Err (status.BadFile file line cause)) fault comes = λ e. absurd cc
-never_usage (Err status.ReadFault) fault comes = λ e. absurd cc
-never_usage (Err status.WriteFault) fault comes = λ e. absurd cc
-never_usage (Err (status.Limit limit)) fault comes = λ e. absurd cc
-never_usage (Err status.OutOfMemory) fault comes = λ e. absurd cc
+-- where a cause is due and neither a read failed nor the shelf refused the run, it comes, or memory ran out
+pub refused_as : (read refused : Type 0) (s cause : Status) (due : Result (List FileBytes) Status) → due ≡ Err cause
+    → (s ≡ status.ReadFault → ¬ read) → ¬ refused
+    → Answers read refused s due → (s ≡ cause) ⊎ (s ≡ status.OutOfMemory)
+refused_as read refused status.Ok cause due is calm free answers = absurd cc
+refused_as read refused (status.NotAccepted line why) cause due is calm free answers = inl cc
+refused_as read refused (status.Usage fault) cause due is calm free answers = inl cc
+refused_as read refused (status.BadFile file line why) cause due is calm free answers = inl cc
+refused_as read refused status.ReadFault cause due is calm free answers = absurd (calm refl answers)
+refused_as read refused status.WriteFault cause due is calm free (inl pieces) = let there = pieces.1 in absurd cc
+refused_as read refused status.WriteFault cause due is calm free (inr taken) = absurd (free taken.0)
+refused_as read refused (status.Limit fault) cause due is calm free answers = inl cc
+refused_as read refused status.OutOfMemory cause due is calm free answers = inr refl
 
--- where a cause is due and no read failed, it comes, or memory ran out
-pub refused_as : (read : Type 0) (s cause : Status) (due : Result (List FileBytes) Status) → due ≡ Err cause → ¬ read → Answers read s due
-    → (s ≡ cause) ⊎ (s ≡ status.OutOfMemory)
-refused_as read status.Ok cause due is calm answers = absurd cc
-refused_as read (status.NotAccepted line why) cause due is calm answers = inl cc
-refused_as read (status.Usage fault) cause due is calm answers = inl cc
-refused_as read (status.BadFile file line why) cause due is calm answers = inl cc
-refused_as read status.ReadFault cause due is calm answers = absurd (calm answers)
-refused_as read status.WriteFault cause due is calm answers = absurd cc
-refused_as read (status.Limit fault) cause due is calm answers = inl cc
-refused_as read status.OutOfMemory cause due is calm answers = inr refl
+-- ---- a shelf that refused the run
+
+-- nothing of what is due was put
+pub leaves_refused : (s : Status) (due : Result (List FileBytes) Status) (old : List FileBytes) (now : Option (List FileBytes)) → ComesOfPuts s
+    → now ≡ Some old → Leaves s due old now
+leaves_refused status.Ok due old now comes same = absurd comes
+leaves_refused (status.NotAccepted line cause) due old now comes same = absurd comes
+leaves_refused (status.Usage fault) due old now comes same = absurd comes
+leaves_refused (status.BadFile file line cause) due old now comes same = absurd comes
+leaves_refused status.ReadFault due old now comes same = absurd comes
+leaves_refused status.WriteFault due old now comes same = nothing_put due old now same
+leaves_refused (status.Limit fault) due old now comes same = absurd comes
+leaves_refused status.OutOfMemory due old now comes same = nothing_put due old now same
+
+-- pieces were due, or too many leaves
+pub answers_refused : (read refused : Type 0) (s : Status) (due : Result (List FileBytes) Status) → ComesOfPuts s
+    → (◌≡◌ {A = Result (Unit {0}) Status} (Err s) (Err status.WriteFault) → refused) → ArePieces due ⊎ AreTooManyCells due → Answers read refused s due
+answers_refused read refused status.Ok due comes rose either = absurd comes
+answers_refused read refused (status.NotAccepted line cause) due comes rose either = absurd comes
+answers_refused read refused (status.Usage fault) due comes rose either = absurd comes
+answers_refused read refused (status.BadFile file line cause) due comes rose either = absurd comes
+answers_refused read refused status.ReadFault due comes rose either = absurd comes
+answers_refused read refused status.WriteFault due comes rose (inl pieces) = inl pieces
+answers_refused read refused status.WriteFault due comes rose (inr many) = inr (rose refl, many)
+answers_refused read refused (status.Limit fault) due comes rose either = absurd comes
+answers_refused read refused status.OutOfMemory due comes rose either = tt

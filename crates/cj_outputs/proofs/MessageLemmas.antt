@@ -6,7 +6,9 @@ use Rattle.std.specs.Option.{option_map_or}
 use Rattle.std.proofs.lemmas.List.{length-append, length-map, map_more, map_push}
 use Rattle.std.proofs.lemmas.List.Sums.{sum_by-cons}
 use Rattle.cj_io.specs.declared.file.FileBytes.{FileBytes}
+use Rattle.cj_hermite.specs.declared.problem.Problem.{Problem}
 use Rattle.cj_hermite.specs.PlainProblems.{PlainProblem}
+use Rattle.cj_hermite.specs.Problems.{plain_problem}
 use Rattle.cj_bezier.specs.declared.encounter.Closest.{Closest}
 use Rattle.cj_bezier.specs.declared.encounter.Encounter.{Encounter}
 use Rattle.cj_bezier.specs.declared.leaf.Leaf.{Leaf}
@@ -154,7 +156,7 @@ encounters_within leaves es are few =
     omega (arith, ap (λ (gs : List (List PlainLeaf)). length gs) are.groups, encounters_few ss, length-map leaves plain_leaf, length-map es (stretches_in ss), few)
 
 -- what is made of the encounter at place i of findings is the piece of its message
-pub made_of_found : (found : Findings) (origin : PlainOrigin) (i k : ℕ) (stamp : PlainStamp) (e : Encounter) (x : Closest) → AreFound found →
+made_of_found : (found : Findings) (origin : PlainOrigin) (i k : ℕ) (stamp : PlainStamp) (e : Encounter) (x : Closest) → AreFound found →
     i < length found.encounters.items → e ≡ get_or found.encounters.items i e → x ≡ get_or found.closest.items i x → stamp ≡ stamp_from origin (i + 1) → k ≡ i + 1 →
     option_to_list (option_map (message_piece k) (message_of (case_in found) e.pair.a e.pair.b x.tick.micros x.high stamp))
     ≡ pieces_at (case_in found) origin (i + 1) (stretches_in (plain_leaves found.leaves.items) e)
@@ -167,6 +169,15 @@ made_of_found found origin i k stamp e x are lt e_is x_is stamped number =
     let many : length xs ≡ length es =
     omega (arith, ap (λ (os : List (Option PlainClosest)). length os) are.closest, length-map xs some_closest, length-map (groups_in ss es) (closest_of case), length-map es (stretches_in ss)) in
     piece_made case origin (i + 1) k stamp ss e x d (approach_at (closest_of case) ss es xs i e x lt many e_is x_is are.closest) stamped number
+
+-- the same of a problem that is that of the findings
+pub made_of_index : (found : Findings) (problem : Problem) (origin : PlainOrigin) (i k : ℕ) (stamp : PlainStamp) (e : Encounter) (x : Closest) → problem ≡ found.problem → AreFound found →
+    i < length found.encounters.items → e ≡ get_or found.encounters.items i e → x ≡ get_or found.closest.items i x → stamp ≡ stamp_from origin (i + 1) → k ≡ i + 1 →
+    option_to_list (option_map (message_piece k) (message_of (plain_problem problem) e.pair.a e.pair.b x.tick.micros x.high stamp))
+    ≡ pieces_at (case_in found) origin (i + 1) (stretches_in (plain_leaves found.leaves.items) e)
+made_of_index found problem origin i k stamp e x same are lt e_is x_is stamped number =
+    ap (λ (p : Problem). option_to_list (option_map (message_piece k) (message_of (plain_problem p) e.pair.a e.pair.b x.tick.micros x.high stamp))) same
+    ∙ made_of_found found origin i k stamp e x are lt e_is x_is stamped number
 
 -- the summary counts the messages
 pub messages_tallied : (found : Findings) (origin : PlainOrigin) → AreFound found → length (messages_in origin found) ≡ found.counts.messages

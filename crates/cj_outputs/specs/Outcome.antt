@@ -1,5 +1,5 @@
 -- How a run over told files ends, and what it puts.
-use Rattle.std.specs.Prelude.{◌≡◌, ℕ, Bool, false, nat_le, if◌then◌else◌, List, [], ◌∷◌, ◌++◌, length, Option, Some, None, is_some, Result, Ok, Err, codes}
+use Rattle.std.specs.Prelude.{◌≡◌, ◌⊎◌, ℕ, Bool, false, nat_le, if◌then◌else◌, List, [], ◌∷◌, ◌++◌, length, Option, Some, None, is_some, Result, Ok, Err, codes}
 use Rattle.std.specs.Fmt.{decimal}
 use Rattle.cj_io.specs.declared.file.FileBytes.{FileBytes}
 use Rattle.cj_io.specs.Files.{IsPrefix}
@@ -198,17 +198,21 @@ PartlyPut due old new = (front : List FileBytes) × IsPartOf front due × (new �
 abbrev pub ArePieces : Result (List FileBytes) Status → Type 0
 ArePieces due = (pieces : List FileBytes) × (due ≡ Ok pieces)
 
--- Which status comes of a run over told files. Status 0 or a write fault: pieces were due. A cause: it is the first. A read fault: the
--- folder's count rose. Want of memory: whatever is due.
-abbrev pub Answers : Type 0 → Status → Result (List FileBytes) Status → Type 0
-Answers read status.Ok due = ArePieces due
-Answers read (status.NotAccepted line cause) due = due ≡ Err (status.NotAccepted line cause)
-Answers read (status.Usage fault) due = due ≡ Err (status.Usage fault)
-Answers read (status.BadFile file line cause) due = due ≡ Err (status.BadFile file line cause)
-Answers read status.ReadFault due = read
-Answers read status.WriteFault due = ArePieces due
-Answers read (status.Limit fault) due = due ≡ Err (status.Limit fault)
-Answers read status.OutOfMemory due = Unit {0}
+-- the cause to put none is that there are too many leaves, which alone is found behind a shelf's refusal
+abbrev pub AreTooManyCells : Result (List FileBytes) Status → Type 0
+AreTooManyCells due = (limit : ℕ) × (due ≡ Err (status.Limit (Cells limit)))
+
+-- Which status comes of a run over told files. Status 0 or a write fault: pieces were due, but a shelf that refused the run did so before
+-- its leaves were counted. A cause: it is the first. A read fault: the folder's count rose. Want of memory: whatever is due.
+abbrev pub Answers : Type 0 → Type 0 → Status → Result (List FileBytes) Status → Type 0
+Answers read refused status.Ok due = ArePieces due
+Answers read refused (status.NotAccepted line cause) due = due ≡ Err (status.NotAccepted line cause)
+Answers read refused (status.Usage fault) due = due ≡ Err (status.Usage fault)
+Answers read refused (status.BadFile file line cause) due = due ≡ Err (status.BadFile file line cause)
+Answers read refused status.ReadFault due = read
+Answers read refused status.WriteFault due = ArePieces due ⊎ (refused × AreTooManyCells due)
+Answers read refused (status.Limit fault) due = due ≡ Err (status.Limit fault)
+Answers read refused status.OutOfMemory due = Unit {0}
 
 -- a run that ends so has not touched its shelf
 abbrev pub PutsNothing : Status → Type 0
@@ -269,3 +273,14 @@ EndsTrial status.ReadFault = ⊥
 EndsTrial status.WriteFault = Unit {0}
 EndsTrial (status.Limit fault) = Unit {0}
 EndsTrial status.OutOfMemory = Unit {0}
+
+-- how a catalogue that is made up may end: it is written, a write failed, or memory ran out
+abbrev pub EndsMaking : Status → Type 0
+EndsMaking status.Ok = Unit {0}
+EndsMaking (status.NotAccepted line cause) = ⊥
+EndsMaking (status.Usage fault) = ⊥
+EndsMaking (status.BadFile file line cause) = ⊥
+EndsMaking status.ReadFault = ⊥
+EndsMaking status.WriteFault = Unit {0}
+EndsMaking (status.Limit fault) = ⊥
+EndsMaking status.OutOfMemory = Unit {0}

@@ -17,6 +17,6 @@ pub use counting::{CandidateCounts, count};
 pub use findings::Findings;
 pub use messages::note_messages;
 pub use origin::Origin;
-pub use putting::put;
+pub use putting::{begin, put};
 pub use reporting::put_pieces;
 pub use rewriting::{put_rewritten, rewrite_certificate};

@@ -1,5 +1,5 @@
 //! The messages of a run: which encounters have one, and putting them.
-ghost use Rattle.std.specs.Prelude.{◌≡◌, ◌≤◌, List, length, map, option_map, option_to_list, All, Some, Ok, Err, IfErr, IfOk};
+ghost use Rattle.std.specs.Prelude.{◌≡◌, ℕ, ◌<◌, ◌≤◌, List, length, map, option_map, option_to_list, All, Some, Ok, Err, IfErr, IfOk, false, true, slice_index_or};
 ghost use Rattle.cj_io.specs.Faults.{Rose};
 ghost use Rattle.cj_io.specs.declared.file.FileBytes.{FileBytes};
 ghost use Rattle.cj_hermite.specs.Problems.{plain_problem};
@@ -18,7 +18,7 @@ use crate::findings::Findings;
 use crate::origin::Origin;
 use crate::putting::put;
 use cj_bezier::{Closest, Encounter};
-use cj_cdm::{Stamp, has_message, message, message_name};
+use cj_cdm::{CovarianceIndex, Stamp, message_name};
 use cj_hermite::Problem;
 use cj_io::Shelf;
 use cj_status::Status;
@@ -37,9 +37,10 @@ pub fn note_messages(
         → map some_closest closest.now ≡ map (closest_of (plain_problem problem.now)) (groups_in ss encounters.now)
         → noted.items ≡ map (spec.has_message (plain_problem problem.now)) (groups_in ss encounters.now)) }
 {
+    let covariances = covariances_of(alloc, problem, encounters)?;
     let mut noted = Vec::with_capacity(alloc, encounters.len())?;
     for (place, encounter) in encounters.iter().enumerate() {
-        noted.push(has_message(problem, encounter.pair, closest[place].tick))?;
+        noted.push(covariances.has_message(encounter.pair, closest[place].tick))?;
     }
     Ok(noted)
 }
@@ -60,12 +61,13 @@ pub fn put_messages<S: Shelf>(
     // The summary counts them.
     ensures counted { length (messages_in (plain_origin origin.entry) found.now) ≡ found.now.counts.messages }
 {
+    let covariances = covariances_of(alloc, &found.problem, &found.encounters)?;
     for (place, encounter) in found.encounters.iter().enumerate() {
         let stamp = origin.stamp(place as u32 + 1);
         put_message(
             alloc,
             shelf,
-            &found.problem,
+            &covariances,
             encounter,
             &found.closest[place],
             stamp,
@@ -78,7 +80,7 @@ pub fn put_messages<S: Shelf>(
 fn put_message<S: Shelf>(
     alloc: Global,
     shelf: &mut S,
-    problem: &Problem,
+    covariances: &CovarianceIndex<'_>,
     encounter: &Encounter,
     closest: &Closest,
     stamp: Stamp,
@@ -87,21 +89,54 @@ fn put_message<S: Shelf>(
     ensures write { result ≡ Err Status.WriteFault → Rose (S.faults shelf.old) (S.faults shelf.new) }
     ensures leaves { (old : List FileBytes) → S.pieces shelf.old ≡ Some old → Leaves (ended result)
         (Ok (option_to_list (option_map (message_piece stamp.entry.number)
-        (message_of (plain_problem problem.now) encounter.now.pair.a encounter.now.pair.b closest.now.tick.micros closest.now.high (stamp_of stamp.entry)))))
+        (message_of (plain_problem covariances.now) encounter.now.pair.a encounter.now.pair.b closest.now.tick.micros closest.now.high (stamp_of stamp.entry)))))
         old (S.pieces shelf.new) }
     ensures later { S.faults shelf.old ≤ S.faults shelf.new }
 {
-    let made = message(
-        alloc,
-        problem,
-        encounter.pair,
-        closest.tick,
-        closest.high,
-        stamp,
-    )?;
+    let made = covariances.message(alloc, encounter.pair, closest.tick, closest.high, stamp)?;
     let Some(text) = made else {
         return Ok(());
     };
     let name = message_name(alloc, stamp.number)?;
     put(alloc, shelf, &name, &text)
+}
+
+/// The covariances of a problem, in order for the objects that have an encounter.
+fn covariances_of<'p>(
+    alloc: Global,
+    problem: &'p Problem,
+    encounters: &[Encounter],
+) -> Result<CovarianceIndex<'p>, AllocError>
+    ensures { IfOk result (λ covariances. covariances ≡ problem.now) }
+{
+    let met = objects_met(alloc, problem.tracks.as_slice().len(), encounters)?;
+    CovarianceIndex::new(alloc, problem, &met)
+}
+
+/// Of each of so many objects, whether it has an encounter.
+fn objects_met(
+    alloc: Global,
+    objects: usize,
+    encounters: &[Encounter],
+) -> Result<Vec<bool>, AllocError>
+    ensures { IfOk result (λ met. length met.items ≡ objects) }
+{
+    let mut met = vec![in alloc; false; objects]?;
+    for encounter in encounters {
+        mark(&mut met, encounter.pair.a);
+        mark(&mut met, encounter.pair.b);
+    }
+    Ok(met)
+}
+
+/// Marks an object, where there is one with this number.
+fn mark(met: &mut [bool], object: u32)
+    ensures length { length met.new ≡ length met.old }
+    ensures marked { object < length met.old → slice_index_or met.new object false ≡ true }
+    ensures kept { (other : ℕ) → slice_index_or met.old other false ≡ true → slice_index_or met.new other false ≡ true }
+{
+    let object = object as usize;
+    if object < met.len() {
+        met[object] = true;
+    }
 }

@@ -1,4 +1,4 @@
-//! Putting one piece onto a shelf: whole, in parts, or while it is made.
+//! Beginning to put pieces onto a shelf, and putting one: whole, in parts, or while it is made.
 ghost use Rattle.std.specs.Prelude.{◌≡◌, ◌≤◌, List, [], ◌∷◌, Some, Ok, Err, IfErr};
 ghost use Rattle.cj_io.specs.Faults.{Rose};
 ghost use Rattle.cj_io.specs.Parts.{joined};
@@ -11,6 +11,17 @@ use cj_status::Status;
 use cj_stream::{PartSource, StreamShelf};
 use std::alloc::Global;
 use std::thread::Threads;
+
+/// Begins to put the pieces of a run.
+pub fn begin<S: Shelf>(alloc: Global, shelf: &mut S) -> Result<(), Status>
+    ensures comes { IfErr result ComesOfPuts }
+    ensures write { result ≡ Err Status.WriteFault → Rose (S.faults shelf.old) (S.faults shelf.new) }
+    ensures refused { result ≡ Err Status.WriteFault → Rose (S.refusals shelf.old) (S.refusals shelf.new) }
+    ensures pieces { S.pieces shelf.new ≡ S.pieces shelf.old }
+    ensures later { S.faults shelf.old ≤ S.faults shelf.new }
+{
+    Ok(shelf.begin(alloc)?)
+}
 
 /// Puts one piece.
 pub fn put<S: Shelf>(alloc: Global, shelf: &mut S, name: &[u8], bytes: &[u8]) -> Result<(), Status>

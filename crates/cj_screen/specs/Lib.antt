@@ -3,3 +3,4 @@ pub mod Headline
 pub mod Meetings
 pub mod Refining
 pub mod Results
+pub mod Tasks

@@ -4,14 +4,13 @@ use Rattle.cj_io.specs.declared.file.FileBytes.{FileBytes}
 use Rattle.cj_cert.specs.Certificates.{plain_certificate}
 use Rattle.cj_words.specs.Commands.{Asking, Screens, Checks, Generates, Tries, Rewrites, Checking}
 use Rattle.cj_words.specs.Settings.{Asked}
-use Rattle.cj_status.specs.declared.status.Status.{Status}
 use Rattle.cj_screen.specs.declared.results.Results.{Results}
 use Rattle.cj_screen.specs.declared.results.Results.TheVariants.{Screened, Checked, Made, Tried, Rewritten}
 use Rattle.cj_outputs.specs.Findings.{AreFound, cert_in, pieces_in, report_in, tried_in}
 use Rattle.cj_outputs.specs.Checks.{Vouches}
 use Rattle.cj_screen.specs.Headline.{Reports}
 use Rattle.cj_outputs.specs.Origins.{plain_origin}
-use Rattle.cj_outputs.specs.Outcome.{ComesOfTrial, accepted_piece, pieces_made, pieces_renewed}
+use Rattle.cj_outputs.specs.Outcome.{accepted_piece, pieces_made, pieces_renewed}
 use Rattle.cj_outputs.specs.Rewrites.{Renews}
 
 -- the pieces of it, in the order in which they are put
@@ -61,11 +60,3 @@ ShowsDue (Checks checking) files results = VouchesDue checking files results
 ShowsDue (Generates recipe) files results = Unit {0}
 ShowsDue (Tries trial) files results = Unit {0}
 ShowsDue (Rewrites checking) files results = RenewsDue checking files results
-
--- what may end a command between its words and its writes, where the command leaves less than `ComesBetween`
-abbrev pub ComesOfAsking : Asking → Status → Type 0
-ComesOfAsking (Screens screening) s = Unit {0}
-ComesOfAsking (Checks checking) s = Unit {0}
-ComesOfAsking (Generates recipe) s = Unit {0}
-ComesOfAsking (Tries trial) s = ComesOfTrial s
-ComesOfAsking (Rewrites checking) s = Unit {0}

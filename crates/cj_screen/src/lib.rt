@@ -3,9 +3,11 @@
 
 mod finding;
 mod meetings;
+mod reading;
 mod refining;
 mod results;
 mod screening;
+mod task;
 mod top;
 mod trying;
 

@@ -1,24 +1,27 @@
 //! The one call that does all that the program does.
-ghost use Rattle.std.specs.Prelude.{◌≡◌, ◌↔◌, ◌⊎◌, ◌≤◌, List, Some, Ok, Err, IfErr};
+ghost use Rattle.std.specs.Prelude.{◌≡◌, ◌↔◌, ◌⊎◌, ◌≤◌, List, Some, Ok, Err, IfErr, IsTrue};
 ghost use Rattle.cj_io.specs.Faults.{Rose};
 ghost use Rattle.cj_io.specs.declared.file.FileBytes.{FileBytes};
 ghost use Rattle.cj_words.specs.declared.option.UsageFault.{UsageFault};
 ghost use Rattle.cj_words.specs.Commands as asks;
-ghost use Rattle.cj_words.specs.Commands.{Checks, Rewrites, Screens, Tries, command_of};
+ghost use Rattle.cj_words.specs.Commands.{Checks, Generates, Rewrites, Screens, Tries, command_of};
 ghost use Rattle.cj_status.specs.declared.status.Status.{Status as Ends};
 ghost use Rattle.cj_outputs.specs.Checks.{IsChecked};
 ghost use Rattle.cj_outputs.specs.Findings.{ended};
 ghost use Rattle.cj_screen.specs.Headline.{IsScreened};
 ghost use Rattle.cj_outputs.specs.Outcome as spec;
-ghost use Rattle.cj_outputs.specs.Outcome.{Answers, ComesOfPuts, Extends, Leaves, EndsTrial, PutsNothing};
+ghost use Rattle.cj_outputs.specs.Outcome.{Answers, ComesOfPuts, Extends, Leaves, EndsMaking, EndsTrial, PutsNothing};
 ghost use Rattle.cj_screen.specs.Results.{AreDue, pieces_due};
+ghost use Rattle.cj_screen.specs.Tasks.{AreRead, EndsTask, IsCalm, IsDone, Readies, pieces_of_task, puts_files};
 ghost use Rattle.cj_outputs.specs.Rewrites.{IsRewritten};
 
 use crate::finding::find;
+use crate::reading::read_task;
 use crate::results::Results;
+use crate::task::Task;
 use crate::trying::put_trial;
 use cj_io::{Folder, Gate};
-use cj_outputs::{put, put_catalogue, put_pieces, put_rewritten};
+use cj_outputs::{begin, put, put_catalogue, put_pieces, put_rewritten};
 use cj_status::Status;
 use cj_stream::StreamShelf;
 use cj_ticks::Tick;
@@ -44,11 +47,13 @@ pub fn conj<R: Threads + Wait + Sync, F: Folder, S: StreamShelf, G: Gate + Sync>
     ensures read { result ≡ Status.ReadFault → Rose (F.faults folder.old) (F.faults folder.new) }
     ensures write { result ≡ Status.WriteFault → Rose (S.faults shelf.old) (S.faults shelf.new) }
 
-    // Over a folder that tells what it holds: which status comes. Where pieces are due and nothing fails, they are put, or memory ran out.
-    ensures told { (files : List FileBytes) → F.files folder.old ≡ Some files
-        → Answers (Rose (F.faults folder.old) (F.faults folder.new)) result (spec.pieces_of words.now files now.micros) }
-    ensures complete { (files due : List FileBytes) → F.files folder.old ≡ Some files → spec.pieces_of words.now files now.micros ≡ Ok due
-        → ¬ Rose (F.faults folder.old) (F.faults folder.new) → ¬ Rose (S.faults shelf.old) (S.faults shelf.new)
+    // Over a folder that tells what it holds, or for a command that reads none of it: which status comes. Where pieces are due and nothing
+    // fails, they are put, or memory ran out.
+    ensures told { (files : List FileBytes) → AreRead words.now (F.files folder.old) files
+        → Answers (Rose (F.faults folder.old) (F.faults folder.new)) (Rose (S.refusals shelf.old) (S.refusals shelf.new)) result
+        (spec.pieces_of words.now files now.micros) }
+    ensures complete { (files due : List FileBytes) → AreRead words.now (F.files folder.old) files → spec.pieces_of words.now files now.micros ≡ Ok due
+        → IsCalm words.now (Rose (F.faults folder.old) (F.faults folder.new)) → ¬ Rose (S.faults shelf.old) (S.faults shelf.new)
         → (result ≡ Status.Ok) ⊎ (result ≡ Status.OutOfMemory) }
 
     // With status 0 of a screening the report's spans split the common ticks of every pair by the exact distance. The certificate is accepted,
@@ -60,20 +65,22 @@ pub fn conj<R: Threads + Wait + Sync, F: Folder, S: StreamShelf, G: Gate + Sync>
     // due, status 1 for a certificate among them, and no count rose, that cause comes, or memory ran out.
     ensures checked { (files pieces : List FileBytes) (checking : asks.Checking) → F.files folder.old ≡ Some files → S.pieces shelf.old ≡ Some pieces
         → command_of words.now ≡ Ok (Checks checking) → result ≡ Status.Ok → IsChecked checking files pieces (S.pieces shelf.new) }
-    ensures refused { (files : List FileBytes) (cause : Ends) → F.files folder.old ≡ Some files → spec.pieces_of words.now files now.micros ≡ Err cause
-        → ¬ Rose (F.faults folder.old) (F.faults folder.new) → (result ≡ cause) ⊎ (result ≡ Status.OutOfMemory) }
+    ensures refused { (files : List FileBytes) (cause : Ends) → AreRead words.now (F.files folder.old) files → spec.pieces_of words.now files now.micros ≡ Err cause
+        → IsCalm words.now (Rose (F.faults folder.old) (F.faults folder.new)) → ¬ Rose (S.refusals shelf.old) (S.refusals shelf.new)
+        → (result ≡ cause) ⊎ (result ≡ Status.OutOfMemory) }
 
     // Status 0 of a rewriting says that the named file is an accepted certificate, and that its text in version 2 is put, which is one too.
     ensures rewritten { (files pieces : List FileBytes) (checking : asks.Checking) → F.files folder.old ≡ Some files → S.pieces shelf.old ≡ Some pieces
         → command_of words.now ≡ Ok (Rewrites checking) → result ≡ Status.Ok → IsRewritten checking files pieces (S.pieces shelf.new) }
 
-    // A made-up catalogue that is screened ends so whatever the folder does.
+    // A catalogue that is made up ends so whatever the folder does, and so does one that is screened.
+    ensures made { (recipe : asks.Recipe) → command_of words.now ≡ Ok (Generates recipe) → EndsMaking result }
     ensures tried { (trial : asks.Trial) → command_of words.now ≡ Ok (Tries trial) → EndsTrial result }
 
     // What is put: whatever the folder tells, nothing where the status says so, and no piece that stood is lost; and what is due.
     ensures untouched { PutsNothing result → S.pieces shelf.new ≡ S.pieces shelf.old }
     ensures kept { (pieces : List FileBytes) → S.pieces shelf.old ≡ Some pieces → Extends pieces (S.pieces shelf.new) }
-    ensures put { (files pieces : List FileBytes) → F.files folder.old ≡ Some files → S.pieces shelf.old ≡ Some pieces
+    ensures put { (files pieces : List FileBytes) → AreRead words.now (F.files folder.old) files → S.pieces shelf.old ≡ Some pieces
         → Leaves result (spec.pieces_of words.now files now.micros) pieces (S.pieces shelf.new) }
 
     // The folder's files stay, and no count of faults falls.
@@ -81,9 +88,53 @@ pub fn conj<R: Threads + Wait + Sync, F: Folder, S: StreamShelf, G: Gate + Sync>
     ensures folder_later { F.faults folder.old ≤ F.faults folder.new }
     ensures shelf_later { S.faults shelf.old ≤ S.faults shelf.new }
 {
-    match find(rt, alloc, gate, words, folder, now) {
-        Ok(results) => end(put_results(rt, alloc, shelf, &results)),
+    match read_task(rt, alloc, words, folder) {
+        Ok(task) => end(run(rt, alloc, gate, shelf, task, now)),
         Err(status) => status,
+    }
+}
+
+/// Does what a task asks for.
+fn run<R: Threads + Wait + Sync, S: StreamShelf, G: Gate + Sync>(
+    rt: &R,
+    alloc: Global,
+    gate: &G,
+    shelf: &mut S,
+    task: Task,
+    now: Tick,
+) -> Result<(), Status>
+    ensures ends { EndsTask task.entry (ended result) }
+    ensures write { result ≡ Err Status.WriteFault → Rose (S.faults shelf.old) (S.faults shelf.new) }
+
+    ensures answers { Answers ⊥ (Rose (S.refusals shelf.old) (S.refusals shelf.new)) (ended result) (pieces_of_task now.micros task.entry) }
+    ensures complete { (due : List FileBytes) → pieces_of_task now.micros task.entry ≡ Ok due → ¬ Rose (S.faults shelf.old) (S.faults shelf.new)
+        → (ended result ≡ Status.Ok) ⊎ (ended result ≡ Status.OutOfMemory) }
+    ensures done { (files pieces : List FileBytes) (asking : asks.Asking) → Readies asking files task.entry → S.pieces shelf.old ≡ Some pieces
+        → ended result ≡ Status.Ok → IsDone asking files pieces (S.pieces shelf.new) }
+
+    ensures untouched { PutsNothing (ended result) → S.pieces shelf.new ≡ S.pieces shelf.old }
+    ensures leaves { (pieces : List FileBytes) → S.pieces shelf.old ≡ Some pieces
+        → Leaves (ended result) (pieces_of_task now.micros task.entry) pieces (S.pieces shelf.new) }
+    ensures later { S.faults shelf.old ≤ S.faults shelf.new }
+{
+    begin_puts(alloc, shelf, &task)?;
+    let results = find(rt, alloc, gate, task, now)?;
+    put_results(rt, alloc, shelf, &results)
+}
+
+/// Begins the puts of a task that puts files. A shelf that refuses it does so before anything is searched.
+fn begin_puts<S: StreamShelf>(alloc: Global, shelf: &mut S, task: &Task) -> Result<(), Status>
+    ensures comes { IfErr result ComesOfPuts }
+    ensures write { result ≡ Err Status.WriteFault → Rose (S.faults shelf.old) (S.faults shelf.new) }
+    ensures refused { result ≡ Err Status.WriteFault → Rose (S.refusals shelf.old) (S.refusals shelf.new) }
+    ensures files { IfErr result (λ status. IsTrue (puts_files task.now)) }
+    ensures pieces { S.pieces shelf.new ≡ S.pieces shelf.old }
+    ensures later { S.faults shelf.old ≤ S.faults shelf.new }
+{
+    if task.puts_files() {
+        begin(alloc, shelf)
+    } else {
+        Ok(())
     }
 }
 

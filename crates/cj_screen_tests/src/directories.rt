@@ -16,7 +16,7 @@ fn exit_of<R: Threads + Wait + Sync>(
     directory: &str,
 ) -> Result<u8, AllocError> {
     let mut folder = DirFolder::new(rt, directory);
-    let mut shelf = DirShelf::new(rt, directory);
+    let mut shelf = DirShelf::new(rt, threads, directory);
     let end = end_over(threads, rt.alloc(), line, &mut folder, &mut shelf, now(rt))?;
     Ok(end.number)
 }

@@ -20,6 +20,8 @@ mod messages;
 #[cfg(test)]
 mod refusals;
 #[cfg(test)]
+mod refusing;
+#[cfg(test)]
 mod results;
 #[cfg(test)]
 mod runs;

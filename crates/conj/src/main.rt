@@ -7,12 +7,13 @@ use cj_screen::conj;
 use cj_status::{Status, fault_text};
 use std::io::Write;
 use std::process::ExitCode;
+use std::thread::Threads;
 
 fn main(rt: HostRuntime) -> ExitCode {
     let status = match read_request(&rt) {
-        Ok(Request::Run { words, directory }) => {
-            let mut folder = DirFolder::new(&rt, directory.as_str());
-            let mut shelf = DirShelf::new(&rt, directory.as_str());
+        Ok(Request::Run { words, paths }) => {
+            let mut folder = paths.folder(&rt, &words);
+            let mut shelf = paths.shelf(&rt, &rt, &words);
             let status = conj(
                 &rt,
                 rt.alloc(),
@@ -22,6 +23,7 @@ fn main(rt: HostRuntime) -> ExitCode {
                 now(&rt),
                 &OpenGate,
             );
+            shelf.close();
             let fault = known_fault(&status, &folder, &shelf);
             end(&rt, status, fault)
         }
@@ -32,10 +34,10 @@ fn main(rt: HostRuntime) -> ExitCode {
 }
 
 // Of a read or write fault the file and the system's reason.
-fn known_fault<'f>(
+fn known_fault<'f, R: Threads>(
     status: &Status,
     folder: &'f DirFolder<'_>,
-    shelf: &'f DirShelf<'_>,
+    shelf: &'f DirShelf<'_, R>,
 ) -> Option<&'f SystemFault> {
     match status {
         Status::ReadFault => folder.last_fault(),

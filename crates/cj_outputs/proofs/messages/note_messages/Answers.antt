@@ -1,4 +1,5 @@
 use Rattle.std.proofs.Common.{◌≡◌, ◌<◌, length, get_or, sym, ap, subst, ◌∙◌, arith, rules}
+use Rattle.cj_hermite.specs.declared.problem.Problem.{Problem}
 use Rattle.cj_hermite.specs.Problems.{plain_problem}
 use Rattle.cj_bezier.specs.declared.encounter.Closest.{Closest}
 use Rattle.cj_cdm.specs.Building.{have_covariances}
@@ -22,4 +23,5 @@ loop-place-preserved c = λ ss described each.
     let at = approach_at (closest_of case) ss es c.args.closest.now i e x lt c.requires.one_each e_is x_is each in
     c.in_ok-push.ensures.items
     ∙ noted_more case ss es i e c.loop-place.noted.items c.has_message.result lt e_is (c.loop-place.invariant ss described each)
-    (c.has_message.ensures ∙ ap (λ (y : Closest). have_covariances case e.pair.a e.pair.b y.tick.micros) (sym x_is) ∙ message_noted case ss e x d at)
+    (c.has_message.ensures ∙ ap (λ (p : Problem). have_covariances (plain_problem p) e.pair.a e.pair.b (get_or c.args.closest.now i x).tick.micros) c.in_ok-covariances.ensures
+    ∙ ap (λ (y : Closest). have_covariances case e.pair.a e.pair.b y.tick.micros) (sym x_is) ∙ message_noted case ss e x d at)

@@ -1,12 +1,14 @@
-use Rattle.std.proofs.Common.{◌≡◌, ◌<◌, List, Ok, length, get_or, ap, subst, arith, rules}
+use Rattle.std.proofs.Common.{◌≡◌, ◌<◌, ◌++◌, List, Ok, Some, length, get_or, refl, take, ap, subst, ◌∙◌, arith, rules}
+use Rattle.std.proofs.lemmas.List.{take_all}
+use Rattle.cj_io.specs.declared.file.FileBytes.{FileBytes}
 use Rattle.cj_bezier.specs.Leaves.{PlainLeaf, plain_leaves}
-use Rattle.cj_meet.specs.Encounters.{encounters_of}
+use Rattle.cj_meet.specs.Encounters.{encounters_of, groups_in}
 use Rattle.cj_outputs.specs.Findings.{case_in}
 use Rattle.cj_outputs.specs.Messages.{message_pieces}
 use Rattle.cj_outputs.specs.Origins.{plain_origin}
 use Rattle.cj_outputs.specs.Outcome.{Leaves}
-use Rattle.cj_outputs.proofs.EndLemmas.{first_stand, put_failed}
-use Rattle.cj_outputs.proofs.MessageLemmas.{encounters_within, made_of_found, messages_cut, messages_more, messages_tallied}
+use Rattle.cj_outputs.proofs.EndLemmas.{first_stand, nothing_made, put_failed}
+use Rattle.cj_outputs.proofs.MessageLemmas.{encounters_within, made_of_index, messages_cut, messages_more, messages_tallied}
 use Rattle.cj_outputs.proofs.messages.put_messages.Goals as goal
 
 pub overflow_cast-place : goal.overflow_cast-place
@@ -18,6 +20,17 @@ pub overflow_add-place : goal.overflow_add-place
 overflow_add-place g c =
     let found = c.args.found.now in
     omega (arith, encounters_within found.leaves.items found.encounters.items c.requires.encounters c.requires.few)
+
+pub returns-in_err-covariances : goal.returns-in_err-covariances
+returns-in_err-covariances g c =
+    let ends = nothing_made _ _ _ _ c.from_residual.ensures.1 in
+    record {
+      comes = ends.comes;
+      write = ends.write;
+      leaves = ends.leaves;
+      later = ends.later;
+      counted = messages_tallied c.args.found.now (plain_origin c.args.origin) c.requires;
+    }
 
 pub returns-in_err-put_message : goal.returns-in_err-put_message
 returns-in_err-put_message g c =
@@ -31,11 +44,11 @@ returns-in_err-put_message g c =
     let now = g.S.Shelf.pieces c.put_message.new.shelf in
     let e_is : e ≡ get_or es i e = search rules in
     let lt : i < length es = omega arith in
-    let made = made_of_found found origin i c.stamp-stamp.result.number _ e c.index.result.now c.requires lt e_is c.index.ensures c.stamp-stamp.ensures (ap (λ s. s.number) c.stamp-stamp.ensures) in
+    let made = made_of_index found c.in_ok-covariances.covariances origin i c.stamp-stamp.result.number _ e c.index.result.now c.in_ok-covariances.ensures c.requires lt e_is c.index.ensures c.stamp-stamp.ensures (ap (λ s. s.number) c.stamp-stamp.ensures) in
     let s = c.in_err-put_message.field-0.0 in
     let failed = c.in_err-put_message.ensures in
     let ends =
-    put_failed (message_pieces case origin (encounters_of ss)) (g.S.Shelf.pieces c.args.shelf.now) now _ _ _ s _ c.from_residual.ensures.1
+    put_failed (message_pieces case origin (encounters_of ss)) (g.S.Shelf.pieces c.args.shelf.now) now _ _ _ s _ c.from_residual-in_err-put_message.ensures.1
     c.loop-place.invariant.later failed.comes failed.write failed.later
     (λ old stood.
     subst (λ (gs : List (List PlainLeaf)). Leaves s (Ok (message_pieces case origin gs)) old now) c.requires.encounters.groups
@@ -60,7 +73,7 @@ loop-place-preserved g c =
     let now = g.S.Shelf.pieces c.put_message.new.shelf in
     let e_is : e ≡ get_or es i e = search rules in
     let lt : i < length es = omega arith in
-    let made = made_of_found found origin i c.stamp-stamp.result.number _ e c.index.result.now c.requires lt e_is c.index.ensures c.stamp-stamp.ensures (ap (λ s. s.number) c.stamp-stamp.ensures) in
+    let made = made_of_index found c.in_ok-covariances.covariances origin i c.stamp-stamp.result.number _ e c.index.result.now c.in_ok-covariances.ensures c.requires lt e_is c.index.ensures c.stamp-stamp.ensures (ap (λ s. s.number) c.stamp-stamp.ensures) in
     record {
       put = λ old stood. messages_more case origin ss es i e _ old now lt e_is made (first_stand _ _ now (c.in_ok-put_message.ensures.leaves _ (c.loop-place.invariant.put old stood)));
       later = omega (arith, c.loop-place.invariant.later, c.in_ok-put_message.ensures.later);
@@ -68,3 +81,13 @@ loop-place-preserved g c =
 
 pub returns-clause-counted : goal.returns-clause-counted
 returns-clause-counted g c = messages_tallied c.args.found.now (plain_origin c.args.origin) c.requires
+
+pub returns-clause-leaves : goal.returns-clause-leaves
+returns-clause-leaves g c = λ old stood.
+    let found = c.args.found.now in
+    let ss = plain_leaves found.leaves.items in
+    let es = found.encounters.items in
+    let pieces : List (List PlainLeaf) → List FileBytes = message_pieces (case_in found) (plain_origin c.args.origin) in
+    let all : take c.loop-place.place es ≡ es = take_all c.loop-place.place es (omega arith) in
+    let groups : groups_in ss (take c.loop-place.place es) ≡ encounters_of ss = ap (groups_in ss) all ∙ c.requires.encounters.groups in
+    (pieces (encounters_of ss), refl, c.loop-place.invariant.put old stood ∙ ap (λ (gs : List (List PlainLeaf)). Some (old ++ pieces gs)) groups)

@@ -1,0 +1,33 @@
+ghost use Rattle.std.specs.Prelude.{◌≡◌};
+ghost use Rattle.cj_screen.specs.Tasks.{puts_files};
+
+use cj_cert::Certificate;
+use cj_hermite::Problem;
+use cj_words::{Recipe, Screening, Trial};
+
+/// What a command line asks for, once all that it reads is accepted.
+#[derive(Drop)]
+pub enum Task<'w> {
+    /// A problem is screened.
+    Screen(Problem, Screening<'w>),
+    /// It is told that the certificate is accepted.
+    Accept,
+    /// A catalogue is made up.
+    Make(Recipe),
+    /// A made-up catalogue is screened.
+    Try(Trial),
+    /// A certificate that is accepted is put, as it is rewritten.
+    Renew(Certificate),
+}
+
+impl Task<'_> {
+    /// Whether files are put, and not only what goes to standard output.
+    pub fn puts_files(&self) -> bool
+        ensures { result ≡ puts_files self.now }
+    {
+        match self {
+            Task::Screen(..) | Task::Make(_) | Task::Renew(_) => true,
+            Task::Accept | Task::Try(_) => false,
+        }
+    }
+}
