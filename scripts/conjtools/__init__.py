@@ -1,0 +1,1 @@
+"""What the scripts round `conj` share: reading reports, ephemerides and messages, and what is made of them."""

@@ -1,0 +1,4 @@
+// All is there: the page is shown.
+takeState();
+update();
+updateObjects();

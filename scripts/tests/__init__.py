@@ -1,0 +1,1 @@
+"""Tests of the scripts: /usr/bin/python3 -m unittest discover -s scripts/tests -t scripts"""
