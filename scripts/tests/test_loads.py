@@ -269,7 +269,7 @@ class Holding(LoadCase):
         self.assertIn("status 3 in place of 0, with b'x\\n' on standard error", told[1])
 
     def test_more_workers_that_take_more_than_twice_as_long(self) -> None:
-        body = "import time\nwhile time.process_time() < (0.6 if sys.argv[-1] == '4' else 0.1): pass"
+        body = "import time\nwhile time.process_time() < (2.0 if sys.argv[-1] == '4' else 0.1): pass"
         held, told = self.hold(body, small_load(Bound(20, 4, lambda size: 0, ""), workers=(1, 4)))
         self.assertFalse(held)
         self.assertEqual(len(told), 2)
@@ -294,6 +294,16 @@ class Holding(LoadCase):
     def test_a_run_is_measured_with_its_threads_and_children(self) -> None:
         busy = "import time\nwhile time.process_time() < 0.3: pass"
         self.assertGreaterEqual(spent([sys.executable, "-c", busy]).seconds, 0.3)
+
+    def test_what_the_measuring_process_stands_in_is_not_counted(self) -> None:
+        stands = b"x" * (8 * IDLE)
+        self.assertLess(spent([sys.executable, "-I", "-S", "-c", "pass"]).memory, IDLE)
+        self.assertEqual(len(stands), 8 * IDLE)
+
+    def test_a_program_that_is_not_there(self) -> None:
+        ended = spent([str(self.folder / "no program")])
+        self.assertEqual((ended.status, ended.output), (127, b""))
+        self.assertIn(b"no program: ", ended.error)
 
     def test_a_load_that_cannot_be_made(self) -> None:
         def fails(folder: Path, seed: int, size: int) -> None:

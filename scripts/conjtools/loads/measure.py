@@ -6,10 +6,9 @@ import os
 import random
 import resource
 import shutil
-import signal
 import subprocess
+import sys
 import tempfile
-import threading
 import traceback
 from collections.abc import Callable
 from dataclasses import dataclass
@@ -27,6 +26,7 @@ PATIENCE = 2
 ADDRESSES = 12 << 30
 # Seconds on the clock after which a run that waits for something is ended.
 LONGEST_WAIT = 600
+RUN_ALONE = Path(__file__).with_name("run_alone.py")
 
 
 @dataclass(frozen=True)
@@ -42,30 +42,23 @@ class Spent:
 
 def spent(words: list[str], most_seconds: float | None = None) -> Spent:
     """Runs a command; one that takes far more processor time than it may is ended by a signal."""
-
-    def limit() -> None:
-        resource.setrlimit(resource.RLIMIT_AS, (ADDRESSES, ADDRESSES))
-        resource.setrlimit(resource.RLIMIT_CORE, (0, 0))
-        if most_seconds is not None:
-            whole = int(most_seconds) + 1
-            resource.setrlimit(resource.RLIMIT_CPU, (whole, whole))
-
-    with tempfile.TemporaryFile() as output, tempfile.TemporaryFile() as error:
-        child = subprocess.Popen(words, stdin=subprocess.DEVNULL, stdout=output, stderr=error, preexec_fn=limit)
-        timer = threading.Timer(LONGEST_WAIT, os.kill, (child.pid, signal.SIGKILL))
-        timer.start()
+    most = 0 if most_seconds is None else int(most_seconds) + 1
+    told, telling = os.pipe()
+    with open(told, "rb") as told_file, tempfile.TemporaryFile() as output, tempfile.TemporaryFile() as error:
+        limits = [str(number) for number in (telling, ADDRESSES, LONGEST_WAIT, most)]
+        runner = [sys.executable, "-I", "-S", str(RUN_ALONE), *limits, *words]
         try:
-            _, state, usage = os.wait4(child.pid, 0)
+            subprocess.run(runner, stdin=subprocess.DEVNULL, stdout=output, stderr=error, pass_fds=(telling,), check=True)
         finally:
-            timer.cancel()
-        child.returncode = os.waitstatus_to_exitcode(state)
+            os.close(telling)
+        status, seconds, memory = told_file.read().split()
         output.seek(0)
         error.seek(0)
-        return Spent(child.returncode, output.read(1 << 16), error.read(1 << 16), usage.ru_utime + usage.ru_stime, usage.ru_maxrss * 1024)
+        return Spent(int(status), output.read(1 << 16), error.read(1 << 16), float(seconds), int(memory))
 
 
 def made_apart(make: Maker, folder: Path, seed: int, size: int) -> None:
-    """Makes a load in a process of its own: a child that is started later is counted with what its parent stood in."""
+    """Makes a load in a process of its own, which gives its memory back when it ends."""
     child = os.fork()
     if child == 0:
         status = 1
