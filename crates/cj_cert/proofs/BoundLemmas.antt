@@ -1,6 +1,6 @@
 -- The hulls of a track lie within a million kilometres of the origin.
 use Rattle.std.proofs.Common.{ℕ, ◌-◌, ◌*◌, ◌^◌, ◌<◌, ◌≤◌, List, [], ◌∷◌, refl, arith}
-use Rattle.std.specs.Prelude.{ℤ, pos, ◌≤ℤ◌}
+use Rattle.std.specs.Prelude.{ℤ, pos, neg_ℤ, ◌≤ℤ◌}
 use Rattle.std.proofs.lemmas.Int.{ints}
 use Rattle.cj_interval.specs.declared.span.Span.{Span}
 use Rattle.cj_interval.specs.Rounding.{floor_div, ceil_div}
@@ -25,12 +25,13 @@ use Rattle.cj_hermite.specs.Pieces.{PlainPiece, intervals_of_arc, intervals_of, 
 use Rattle.cj_hermite.proofs.LevelLemmas.{level-low_within, level-high_within, polar-low, polar-high}
 use Rattle.cj_hermite.proofs.PieceLemmas.{interval_between, intervals_in, intervals_through}
 use Rattle.cj_bezier.specs.Gaps.{gap_terms}
-use Rattle.cj_bezier.specs.Hulls.{hull_axes, axes_of}
+use Rattle.cj_bezier.specs.Hulls.{PlainHull, hull_axes, hull_ends, axes_of}
 use Rattle.cj_bezier.specs.Parts.{IsPart, AreInTime, hulls_of}
-use Rattle.cj_bezier.specs.Shells.{IsOuter}
+use Rattle.cj_bezier.specs.Shells.{IsOuter, MAX_RADIUS}
 use Rattle.cj_bezier.specs.Sizes.{HULL_REACH}
 use Rattle.cj_bezier.proofs.HullListLemmas.{each_hull, have_parts, of_number}
 use Rattle.cj_bezier.proofs.ShellLemmas.{outer_of_hull}
+use Rattle.cj_cert.specs.Reaches.{IsAxisNear, IsHullNear}
 
 -- ---- the interpolants
 
@@ -138,17 +139,69 @@ hull_outer c first last le over x y z =
       ),
     ))
 
+-- the four control points of an axis between two ticks
+axis_near : (k : Four) (t a b : ℕ) → 0 < t → a ≤ t → b ≤ t → AreBounded k → IsAxisNear (hull_ends k t a b)
+axis_near k t a b some from to bounded =
+    let aaa : AreWithin t a a a = record { some = some; first = from; second = from; third = from } in
+    let aab : AreWithin t a a b = record { some = some; first = from; second = from; third = to } in
+    let abb : AreWithin t a b b = record { some = some; first = from; second = to; third = to } in
+    let bbb : AreWithin t b b b = record { some = some; first = to; second = to; third = to } in
+    record {
+      low = record {
+        k0 = near_low _ (polar_low k t a a a aaa bounded);
+        k1 = near_low _ (polar_low k t a a b aab bounded);
+        k2 = near_low _ (polar_low k t a b b abb bounded);
+        k3 = near_low _ (polar_low k t b b b bbb bounded);
+      };
+      ordered = polar_ordered k t a a a some;
+      high = record {
+        k0 = near_high _ (polar_high k t a a a aaa bounded);
+        k1 = near_high _ (polar_high k t a a b aab bounded);
+        k2 = near_high _ (polar_high k t a b b abb bounded);
+        k3 = near_high _ (polar_high k t b b b bbb bounded);
+      };
+    }
+  where
+    near_low : (z : ℤ) → IsWithin REACH z → neg_ℤ (pos MAX_RADIUS) ≤ℤ z
+    near_low z within = omega (arith, ints)
+
+    near_high : (z : ℤ) → IsWithin REACH z → z ≤ℤ pos MAX_RADIUS
+    near_high z within = omega (arith, ints)
+
+hull_near : (c : Curve) (first last : ℕ) → first ≤ last → IsOver c first last → AreBounded c.x → AreBounded c.y → AreBounded c.z → IsHullNear (hull_axes c first last)
+unfolding hull_axes
+hull_near c first last le over x y z =
+    let some = over.some in
+    let from : first - c.start ≤ c.span = omega (arith, over.from, over.to) in
+    let to : last - c.start ≤ c.span = omega (arith, over.from, over.to) in
+    record {
+      x = axis_near c.x c.span (first - c.start) (last - c.start) some from to x;
+      y = axis_near c.y c.span (first - c.start) (last - c.start) some from to y;
+      z = axis_near c.z c.span (first - c.start) (last - c.start) some from to z;
+    }
+
 -- ---- of a track
 
-pub hulls_outer : (e : PlainTrack) (from to : ℕ) → AreInTime e from to → Each Rises (intervals_of e) → Each IsBounded (intervals_of e)
-    → Each (λ h. IsOuter (gap_terms h) (10 ^ 18)) (hulls_of e from to)
-hulls_outer e from to time rise bounded = each_hull e from to (λ h. IsOuter (gap_terms h) (10 ^ 18)) (have_parts e from to time) of_part
+-- what holds of the hull of each interpolant with bounded control values, over ticks of its own
+abbrev OfBounded : (PlainHull → Type 0) → Type 0
+OfBounded P = (c : Curve) (first last : ℕ) → first ≤ last → IsOver c first last → AreBounded c.x → AreBounded c.y → AreBounded c.z → P (hull_axes c first last)
+
+each_bounded : (P : PlainHull → Type 0) → OfBounded P → (e : PlainTrack) (from to : ℕ) → AreInTime e from to → Each Rises (intervals_of e) → Each IsBounded (intervals_of e)
+    → Each P (hulls_of e from to)
+each_bounded P holds e from to time rise bounded = each_hull e from to P (have_parts e from to time) of_part
   where
-    of_part : (index first last : ℕ) (x : PlainPiece) → IsPart e from to index x first last → IsOuter (gap_terms (hull_axes (curve_of_interval x) first last)) (10 ^ 18)
+    of_part : (index first last : ℕ) (x : PlainPiece) → IsPart e from to index x first last → P (hull_axes (curve_of_interval x) first last)
     of_part index first last x part =
         let some = part.some in
         let rises : x.from.at < x.to.at = each_at Rises (intervals_of e) index x rise part.interval in
         let own = each_at IsBounded (intervals_of e) index x bounded part.interval in
         let a = (of_number e first index x part.interval ((part.ticks first).0 (omega arith, some)).here).covers in
         let b = (of_number e last index x part.interval ((part.ticks last).0 (some, omega arith)).here).covers in
-        hull_outer (curve_of_interval x) first last some (record { some = omega arith; from = a.from; to = omega (arith, a.from, b.to) }) own.x own.y own.z
+        holds (curve_of_interval x) first last some (record { some = omega arith; from = a.from; to = omega (arith, a.from, b.to) }) own.x own.y own.z
+
+pub hulls_outer : (e : PlainTrack) (from to : ℕ) → AreInTime e from to → Each Rises (intervals_of e) → Each IsBounded (intervals_of e)
+    → Each (λ h. IsOuter (gap_terms h) (10 ^ 18)) (hulls_of e from to)
+hulls_outer e from to time rise bounded = each_bounded (λ h. IsOuter (gap_terms h) (10 ^ 18)) hull_outer e from to time rise bounded
+
+pub hulls_near : (e : PlainTrack) (from to : ℕ) → AreInTime e from to → Each Rises (intervals_of e) → Each IsBounded (intervals_of e) → Each IsHullNear (hulls_of e from to)
+hulls_near e from to time rise bounded = each_bounded IsHullNear hull_near e from to time rise bounded

@@ -1,5 +1,5 @@
 mod AcceptedLemmas
-mod TiledLemmas
+pub mod TiledLemmas
 mod WrittenLemmas
 mod BoundLemmas
 pub mod ListedLemmas

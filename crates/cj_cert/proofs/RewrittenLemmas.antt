@@ -368,7 +368,7 @@ rows_same case lines same = each_row 0 case.ephemerides (λ i e is slot lt. let 
         λ i. here i ++ rest i
 
 -- blocks over the exact boxes are those of the certificate that has each of these in a line
-blocks_same : (case : PlainProblem) → AreAllInTime case → rewritten case (written case) ≡ written_in_blocks case
+pub blocks_same : (case : PlainProblem) → AreAllInTime case → rewritten case (written case) ≡ written_in_blocks case
 unfolding written
 blocks_same case time =
     let boxes = rows_same case (lines_of case) (λ i e is slot lt. box_is case e i slot time is lt) in

@@ -5,3 +5,4 @@ pub mod Accepted
 pub mod Splits
 pub mod Written
 pub mod Rewritten
+pub mod Reaches

@@ -8,6 +8,7 @@ ghost use Rattle.cj_bezier.specs.Parts.{AreInTime, hulls_of};
 ghost use Rattle.cj_bezier.specs.Shells.{IsOuter};
 ghost use Rattle.cj_cert.specs.Accepted.{Accepted};
 ghost use Rattle.cj_cert.specs.Certificates.{PlainCertificate};
+ghost use Rattle.cj_cert.specs.Reaches.{AllStayNear, IsHullNear};
 ghost use Rattle.cj_cert.specs.Rewritten.{in_version_2, written_in};
 ghost use Rattle.cj_cert.specs.Splits.{AcceptedSplits};
 ghost use Rattle.cj_cert.specs.Written.{written};
@@ -28,6 +29,9 @@ pub fn acceptance(problem: &Problem)
 
     // An accepted certificate is accepted in version 2.
     ensures rewritten { (c : PlainCertificate) → Accepted (plain_problem problem.now) c → Accepted (plain_problem problem.now) (in_version_2 (plain_problem problem.now) c) }
+
+    // The hulls of each object lie within a million kilometres of the origin.
+    ensures near { AllStayNear (plain_problem problem.now) }
 {
     let tracks = problem.tracks.as_slice();
     for track in tracks {
@@ -39,6 +43,7 @@ pub fn acceptance(problem: &Problem)
 fn rules_of(track: &Track)
     ensures time { (from to : ℕ) → AreInTime (plain_track track.now) from to }
     ensures within { (from to : ℕ) → All (λ h. IsOuter (gap_terms h) (10 ^ 18)) (hulls_of (plain_track track.now) from to) }
+    ensures near { (from to : ℕ) → All IsHullNear (hulls_of (plain_track track.now) from to) }
 {
     let segments = track.segments.as_slice();
     for segment in segments {

@@ -1,10 +1,11 @@
 mod AgainLemmas
 mod BoxLemmas
 mod CapLemmas
-mod ChainLemmas
+pub mod ChainLemmas
 mod CountLemmas
 mod EnterLemmas
 mod InBlocksLemmas
+pub mod LengthLemmas
 mod LineLemmas
 mod NumberLemmas
 mod PartLemmas
@@ -16,3 +17,4 @@ mod SplitLemmas
 mod TextLemmas
 mod WordLemmas
 mod WrittenTextLemmas
+pub mod WrittenFitsLemmas

@@ -5,11 +5,11 @@ use Rattle.std.specs.Fmt.{signed_decimal}
 use Rattle.std.specs.List.{join_with_byte}
 use Rattle.cj_cert_text.specs.Texts.{row, row_ended, spaced_numbers}
 
-join-spaced : (word : List ℕ) (numbers : List ℤ) → join_with_byte 32 (word ∷ map signed_decimal numbers) ≡ word ++ spaced_numbers numbers
+pub join-spaced : (word : List ℕ) (numbers : List ℤ) → join_with_byte 32 (word ∷ map signed_decimal numbers) ≡ word ++ spaced_numbers numbers
 join-spaced word [] = sym (append-nil word)
 join-spaced word (z ∷ zs) = ap (λ t. word ++ (32 ∷ t)) (join-spaced (signed_decimal z) zs)
 
-join-ended : (word : List ℕ) (numbers : List ℤ) (last : List ℕ) →
+pub join-ended : (word : List ℕ) (numbers : List ℤ) (last : List ℕ) →
     join_with_byte 32 (word ∷ (map signed_decimal numbers ++ last ∷ [])) ≡ word ++ (spaced_numbers numbers ++ 32 ∷ last)
 join-ended word [] last = refl
 join-ended word (z ∷ zs) last =

@@ -6,7 +6,7 @@ use Rattle.cj_hermite.specs.Problems.{plain_problem}
 use Rattle.cj_cert.proofs.AcceptedLemmas.{splits}
 use Rattle.cj_cert.proofs.RewrittenLemmas.{in_version_2_accepted, written_in_accepted}
 use Rattle.cj_cert.proofs.TimesLemmas.{one_more}
-use Rattle.cj_cert.proofs.TrackLemmas.{IsRuled, all_in_time, all_within}
+use Rattle.cj_cert.proofs.TrackLemmas.{IsRuled, all_in_time, all_near, all_within}
 use Rattle.cj_cert.proofs.WrittenLemmas.{written_accepted}
 use Rattle.cj_cert.proofs.accepting.acceptance.Goals as goal
 
@@ -16,7 +16,7 @@ loop-track-init c k d lt = absurd (omega arith)
 pub loop-track-preserved : goal.loop-track-preserved
 loop-track-preserved c =
     one_more IsRuled c.loop-track.track-index c.as_slice-tracks.result.now c.track-item.result (omega arith) c.track-item.is c.loop-track.invariant
-    (record { time = c.rules_of.ensures.time; within = c.rules_of.ensures.within })
+    (record { time = c.rules_of.ensures.time; within = c.rules_of.ensures.within; near = c.rules_of.ensures.near })
 
 -- each track
 all_tracks : (c : goal.After-loop-track) → Each IsRuled c.args.problem.now.tracks
@@ -46,3 +46,6 @@ pub returns-clause-rewritten : goal.returns-clause-rewritten
 returns-clause-rewritten c certificate accepted =
     let problem = c.args.problem.now in
     in_version_2_accepted (plain_problem problem) certificate (all_in_time problem.tracks (all_tracks c)) accepted
+
+pub returns-clause-near : goal.returns-clause-near
+returns-clause-near c = all_near c.args.problem.now.tracks (all_tracks c)

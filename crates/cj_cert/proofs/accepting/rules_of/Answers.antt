@@ -10,7 +10,8 @@ use Rattle.cj_hermite.proofs.LengthLemmas.{rise_through}
 use Rattle.cj_bezier.specs.Gaps.{gap_terms}
 use Rattle.cj_bezier.specs.Parts.{hulls_of}
 use Rattle.cj_bezier.specs.Shells.{IsOuter}
-use Rattle.cj_cert.proofs.BoundLemmas.{bounded, hulls_outer}
+use Rattle.cj_cert.specs.Reaches.{IsHullNear}
+use Rattle.cj_cert.proofs.BoundLemmas.{bounded, hulls_near, hulls_outer}
 use Rattle.cj_cert.proofs.TimesLemmas.{in_order, in_time, one_more}
 use Rattle.cj_cert.proofs.accepting.rules_of.Goals as goal
 
@@ -41,3 +42,9 @@ returns-clause-within c from to =
     let e = plain_track c.args.track.now in
     All-from_each (λ h. IsOuter (gap_terms h) (10 ^ 18)) (hulls_of e from to)
     (hulls_outer e from to (returns-clause-time c from to) (rise_through c.args.track.now.segments (all_nodes c)) (bounded c.args.track.now.segments (all_nodes c)))
+
+pub returns-clause-near : goal.returns-clause-near
+returns-clause-near c from to =
+    let e = plain_track c.args.track.now in
+    All-from_each IsHullNear (hulls_of e from to)
+    (hulls_near e from to (returns-clause-time c from to) (rise_through c.args.track.now.segments (all_nodes c)) (bounded c.args.track.now.segments (all_nodes c)))
