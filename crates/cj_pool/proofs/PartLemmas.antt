@@ -10,7 +10,7 @@ use Rattle.cj_bezier.specs.declared.cell.Cell.{Cell}
 use Rattle.cj_pool.specs.declared.account.Account.{Account}
 use Rattle.cj_pool.specs.declared.station.Station.{Station}
 use Rattle.cj_pool.specs.declared.work.Work.{Work}
-use Rattle.cj_pool.specs.Accounts.{both, with_taken, Settled}
+use Rattle.cj_pool.specs.Accounts.{both, with_taken, Settled, Owns}
 use Rattle.cj_pool.specs.Passes.{deques, takens, around, AreReady, IsReady}
 use Rattle.cj_pool.specs.Stations.{IsPartUp, without_last, own_deque, own_deques, station_taken, IsStation, AreStations, weigh_given, weigh_all_taken}
 use Rattle.cj_pool.specs.Weights.{weigh}
@@ -179,13 +179,13 @@ module _ {K : Type 0} where
     lens : length (own_deques start) ≡ length ss
     lens = sym (ap length are.deques_same) ∙ own_length ss
 
-    -- both have a part
-    pub part_parts : length start < n → (0 < (worker_view old.own).parts) × (0 < (worker_view last.own).parts)
+    -- both own their deques
+    pub part_parts : length start < n → Owns (worker_view old.own) × Owns (worker_view last.own)
     part_parts less =
         let here = at_station in
         let starts = own_length start in (
-          omega (arith, here.parts, starts, less, length-append (own_deques start) (own_deque end ∷ [])),
-          omega (arith, are.parts, count, are.few, lens, starts, less),
+          (omega (arith, here.parts, starts, less, length-append (own_deques start) (own_deque end ∷ [])), omega (arith, here.all, less)),
+          (omega (arith, are.parts, count, are.few, lens, starts, less), omega (arith, are.all, less)),
         )
 
     at_start : slice_get (own_deques start) i ≡ Some (own_deque old)

@@ -1,5 +1,5 @@
 -- What a look at the cell of a turn gives.
-use Rattle.std.proofs.Common.{◌≡◌, ◌⊎◌, Bool, true, false, ℕ, zero, suc, ◌+◌, ◌<◌, ◌≤◌, List, [], ◌∷◌, ◌++◌, inl, inr, length, refl, sym, ap, ◌∙◌, subst, arith, length-append}
+use Rattle.std.proofs.Common.{◌≡◌, ◌⊎◌, Bool, true, false, ℕ, zero, suc, ◌+◌, ◌<◌, ◌≤◌, List, [], ◌∷◌, ◌++◌, inl, inr, get_or, length, refl, sym, ap, ◌∙◌, subst, arith, length-append}
 use Rattle.std.specs.Prelude.{All, Some, None, Result, Ok, Err, MatchBool, MatchResult}
 use Rattle.std.proofs.lemmas.List.Elements.{All-push}
 use Rattle.cj_hermite.specs.PlainProblems.{PlainProblem}
@@ -14,17 +14,18 @@ use Rattle.cj_ledger.specs.Shares.{IsOf}
 use Rattle.cj_ledger.specs.Words.{why_of}
 use Rattle.cj_pool.specs.declared.account.Account.{Account}
 use Rattle.cj_pool.specs.declared.turn.Turn.{Turn}
-use Rattle.cj_pool.specs.declared.turn.Turn.TheVariants.{Idle, Done, Halted}
-use Rattle.cj_pool.specs.Accounts.{Settled}
+use Rattle.cj_pool.specs.declared.turn.Turn.TheVariants.{Idle, Done, Halted, Kept}
+use Rattle.cj_pool.specs.Accounts.{AreLeft, Settled}
 use Rattle.cj_pool.specs.Hands.{RefinerySeen, HandSeen, IsHandOf, SameHand}
 use Rattle.cj_pool.specs.Narrow.{Narrow}
-use Rattle.cj_pool.specs.Parted.{ArePushed, AreKept, AreParted, pushed_one, held_both}
+use Rattle.cj_pool.specs.Parted.{ArePushed, AreKept, AreParted, IsEnough, pushed_one, held_both}
 use Rattle.cj_pool.specs.Passes.{around}
 use Rattle.cj_pool.specs.RootLists.{IsKept, AreRoots}
 use Rattle.cj_pool.specs.Tree.{InTree, IsLeafOf, Halved}
 use Rattle.cj_pool.specs.Turns.{CellCame, SameCells, MadeLeaf, MadeHalves, KeptBoth, Wanted, FoundEnd, FoundNone, Heard, WasHalted, Made, SetsCells, Ended}
 use Rattle.cj_pool.specs.Weights.{weigh}
 use Rattle.cj_pool.proofs.NarrowLemmas.{narrow_length}
+use Rattle.cj_pool.proofs.WeightLemmas.{weigh_one}
 use Rattle.cj_pool.proofs.TreeLemmas.{tree_keeps, tree_halves}
 
 -- what holds of the run's problem holds of the hand's
@@ -150,7 +151,7 @@ pub where_parted : {A E : Type 0} (r : Result Turn E) (old new : Account) (befor
     → MatchResult r (AreParted old new before after first second) (λ _. AreKept old new before after first second)
     → (ArePushed old new before after first second → A) → (AreKept old new before after first second → A) → A
 where_parted (Ok turn) old new before after first second (pushed_one is parted) pushed kept = pushed parted
-where_parted (Ok turn) old new before after first second (held_both is parted) pushed kept = kept parted
+where_parted (Ok turn) old new before after first second (held_both is enough parted) pushed kept = kept parted
 where_parted (Err e) old new before after first second parted pushed kept = kept parted
 
 pub made_of : {E : Type 0} (case : PlainProblem) (r : RefinerySeen) (hand hand' now : HandSeen) (result : Result Turn E) (old new : Account) (before after : List Cell) (first second : Cell)
@@ -159,10 +160,37 @@ pub made_of : {E : Type 0} (case : PlainProblem) (r : RefinerySeen) (hand hand' 
     → MatchResult result (Made case r hand now) (λ _. Wanted case hand now)
 made_of case r hand hand' now (Ok turn) old new before after first second same (pushed_one is parted) pushed kept =
     subst (Made case r hand now) (sym is) (subst (λ (h : HandSeen). MadeHalves case h now) same (pushed parted))
-made_of case r hand hand' now (Ok turn) old new before after first second same (held_both is parted) pushed kept =
+made_of case r hand hand' now (Ok turn) old new before after first second same (held_both is enough parted) pushed kept =
     subst (Made case r hand now) (sym is) (subst (λ (h : HandSeen). KeptBoth case h now) same (kept parted))
 made_of case r hand hand' now (Err e) old new before after first second same parted pushed kept =
     subst (λ (h : HandSeen). Wanted case h now) same (inr (kept parted))
+
+-- ---- what is left for others
+
+-- what the owner counted in its deque, it has not taken
+pub enough_left : (v : Account) (items : List Cell) (count : ℕ) → length items ≡ count → 4 ≤ count → AreLeft v items → IsEnough v
+enough_left v items count many some left =
+    let all = left (λ _. 1) in
+    omega (arith, all, weigh_one v.taken, weigh_one items, weigh_one v.opening, weigh_one v.pushed)
+
+-- both halves are kept where enough is left
+pub enough_of : {E : Type 0} (r : Result Turn E) (old new : Account) (before after : List Cell) (first second : Cell)
+    → MatchResult r (AreParted old new before after first second) (λ _. AreKept old new before after first second) → r ≡ Ok Kept → IsEnough new
+enough_of (Ok turn) old new before after first second (pushed_one is parted) kept = absurd cc
+enough_of (Ok turn) old new before after first second (held_both is enough parted) kept = subst IsEnough (sym parted.own) enough
+enough_of (Err e) old new before after first second parted kept = absurd cc
+
+-- the own one stands at its number
+pub around_own : {X : Type 0} (below : List X) (own : X) (above : List X) (n : ℕ) (d : X) → length below ≡ n → get_or (around below own above) n d ≡ own
+around_own [] own above zero d len = refl
+around_own [] own above (suc n) d len = absurd (omega arith)
+around_own (x ∷ xs) own above zero d len = absurd (omega arith)
+around_own (x ∷ xs) own above (suc n) d len = around_own xs own above n d (omega arith)
+
+-- so it is left among all that the hand has taken
+pub leaves_enough : (v : Account) (below above : List (List Cell)) (n : ℕ) → IsEnough v → length below ≡ n
+    → length (get_or (around below v.taken above) n []) + 4 ≤ length v.opening + length v.pushed
+leaves_enough v below above n left number = omega (arith, left, ap length (around_own below v.taken above n [] number))
 
 -- ---- the last turn
 

@@ -1,5 +1,5 @@
 -- The balance of one deque.
-use Rattle.std.specs.Prelude.{◌≡◌, ℕ, ◌+◌, ◌-◌, ◌<◌, List, [], ◌++◌}
+use Rattle.std.specs.Prelude.{◌≡◌, ℕ, ◌+◌, ◌-◌, ◌<◌, ◌≤◌, List, [], ◌++◌}
 use mathlib.Core.Option.{some}
 use lib.ListN.{get_elem?}
 use Rattle.cj_bezier.specs.declared.cell.Cell.{Cell}
@@ -17,13 +17,21 @@ nobody = account 0 0 [] [] []
 abbrev pub whole : ℕ → Account
 whole n = account n n [] [] []
 
--- a pass without parts has done nothing, and each other knows how many parts there are
-abbrev pub Fits : ℕ → Account → Type 0
-Fits n v = (v.parts ≡ 0 → v ≡ nobody) × (0 < v.parts → v.all ≡ n)
+-- whose account this is owns the deque: it has a part, and knows how many there are
+abbrev pub Owns : Account → Type 0
+Owns v = (0 < v.parts) × (0 < v.all)
 
--- However cells are weighed, the opening roots and the later pushes weigh what the taken cells and those in the queue weigh.
+-- who has no part has done nothing; the owner knows how many parts there are; and who does not own the deque has pushed nothing
+pub record Fits (n : ℕ) (v : Account) : Type 0 where
+  pub spent : v.parts ≡ 0 → v ≡ nobody
+  pub owner : 0 < v.all → v.all ≡ n
+  pub guest : v.all ≡ 0 → (v.opening ≡ []) × (v.pushed ≡ [])
+
+-- However cells are weighed, the opening roots and the later pushes weigh what the taken cells and those in the queue weigh. The deque has
+-- one owner.
 pub record Balanced (n : ℕ) (items : List Cell) (views : List Account) : Type 0 where
   pub parts : weigh (λ v. v.parts) views ≡ n
+  pub owner : weigh (λ v. v.all) views ≡ n
   pub weights : (w : Cell → ℕ) → weigh (λ v. weigh w v.opening) views + weigh (λ v. weigh w v.pushed) views ≡ weigh (λ v. weigh w v.taken) views + weigh w items
   pub idle : (i : ℕ) (v : Account) → get_elem? views i ≡ some v → Fits n v
 
@@ -40,9 +48,9 @@ with_taken v cells = record v { taken = v.taken ++ cells }
 abbrev pub less_a_part : Account → Account
 less_a_part v = record v { parts = v.parts - 1 }
 
--- the account of a new pass
+-- the account of a new pass, which does not own the deque
 abbrev pub new_pass : Account → Account
-new_pass v = account 1 v.all [] [] []
+new_pass v = account 1 0 [] [] []
 
 -- two accounts together
 abbrev pub both : Account → Account → Account
@@ -51,3 +59,7 @@ both v w = account (v.parts + w.parts) v.all (v.opening ++ w.opening) (v.pushed 
 -- what the one pass with all parts knows of the cells in the queue
 abbrev pub Settled : Account → List Cell → Type 0
 Settled v items = v.parts ≡ v.all → (w : Cell → ℕ) → weigh w v.opening + weigh w v.pushed ≡ weigh w v.taken + weigh w items
+
+-- what the owner knows of them: it opened or pushed them, and has not taken them
+abbrev pub AreLeft : Account → List Cell → Type 0
+AreLeft v items = (w : Cell → ℕ) → weigh w v.taken + weigh w items ≤ weigh w v.opening + weigh w v.pushed

@@ -7,7 +7,7 @@ use Rattle.crossbeam_deque.specs.declared.handles.Worker.{Worker}
 use Rattle.cj_bezier.specs.declared.cell.Cell.{Cell}
 use Rattle.cj_pool.specs.declared.account.Account.{Account}
 use Rattle.cj_pool.specs.declared.station.Station.{Station}
-use Rattle.cj_pool.specs.Accounts.{less_a_part}
+use Rattle.cj_pool.specs.Accounts.{Owns, less_a_part}
 use Rattle.cj_pool.specs.Hands.{HandSeen, roots_dealt}
 use Rattle.cj_pool.specs.Passes.{deques, takens, around, AreReady}
 use Rattle.cj_pool.specs.Weights.{weigh}
@@ -67,9 +67,9 @@ module _ {K : Type 0} where
     pub pushed : (worker_view new.own).pushed ≡ (worker_view old.own).pushed
     pub taken : (worker_view new.own).taken ≡ (worker_view old.own).taken
 
-  -- its worker has a part of its deque
-  abbrev pub HasPart : Station K → Type 0
-  HasPart s = 0 < (worker_view s.own).parts
+  -- its worker owns its deque
+  abbrev pub OwnsDeque : Station K → Type 0
+  OwnsDeque s = Owns (worker_view s.own)
 
   -- nothing was pushed, and nothing was taken
   pub record IsUnused (s : Station K) : Type 0 where

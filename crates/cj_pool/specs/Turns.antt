@@ -1,5 +1,5 @@
 -- What a turn does to its hand.
-use Rattle.std.specs.Prelude.{◌≡◌, ◌⊎◌, ℕ, ◌+◌, ◌-◌, ◌^◌, ◌<◌, ◌≤◌, List, [], ◌∷◌, ◌++◌, Some, length, min}
+use Rattle.std.specs.Prelude.{◌≡◌, ◌⊎◌, ℕ, ◌+◌, ◌-◌, ◌^◌, ◌<◌, ◌≤◌, List, [], ◌∷◌, ◌++◌, Some, length, min, slice_index_or}
 use Rattle.cj_hermite.specs.PlainProblems.{PlainProblem}
 use Rattle.cj_bezier.specs.declared.cell.Cell.{Cell}
 use Rattle.cj_bezier.specs.declared.leaf.Leaf.{Leaf}
@@ -11,6 +11,7 @@ use Rattle.cj_ledger.specs.Words.{why_of}
 use Rattle.cj_pool.specs.declared.turn.Turn.{Turn}
 use Rattle.cj_pool.specs.declared.turn.Turn.TheVariants.{Closed, Split, Kept, Idle, Done, Halted}
 use Rattle.cj_pool.specs.Hands.{RefinerySeen, HandSeen}
+use Rattle.cj_pool.specs.Parted.{enough}
 use Rattle.cj_pool.specs.Passes.{taken_at}
 use Rattle.cj_pool.specs.Tree.{Halved}
 use Rattle.cj_pool.specs.Weights.{weigh}
@@ -66,6 +67,11 @@ pub record KeptBoth (case : PlainProblem) (old new : HandSeen) : Type 0 where
   pub kept : new.kept ≡ (rest ++ right ∷ []) ++ left ∷ []
   pub pushed : new.pushed ≡ old.pushed
   pub closed : new.closed ≡ old.closed
+
+-- of the roots and halves that were put into its deque, the hand has not taken so many as are enough for others; where it is alone, they are
+-- in the deque
+abbrev pub LeavesEnough : HandSeen → Type 0
+LeavesEnough h = length (slice_index_or h.taken h.number []) + enough ≤ length h.opening + length h.pushed
 
 -- no cell was found, all leaves of the hand are counted, and some cells are live, or are leaves of others that are not counted yet; a hand
 -- that is alone then has taken all that its deque ever had

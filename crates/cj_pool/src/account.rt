@@ -5,7 +5,7 @@ use std::collections::LinkedList;
 pub struct Account {
     /// Who has all parts of a deque knows what is left in it.
     pub parts: u64,
-    /// How many parts the deque has.
+    /// How many parts the deque has, if this is its owner's. A pass that another hand has does not know it.
     pub all: u64,
     /// The roots that were pushed before the first turn.
     pub opening: LinkedList<Cell>,

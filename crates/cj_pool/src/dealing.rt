@@ -4,7 +4,7 @@ ghost use Rattle.crossbeam_deque.specs.Handles.{worker_view};
 ghost use Rattle.cj_hermite.specs.Problems.{plain_problem};
 ghost use Rattle.cj_pool.specs.Hands.{roots_dealt};
 ghost use Rattle.cj_pool.specs.RootLists.{AreRoots};
-ghost use Rattle.cj_pool.specs.Stations.{AreDealt, AreStations, HasPart, IsLike, IsUnopened, IsUnused, own_deques};
+ghost use Rattle.cj_pool.specs.Stations.{AreDealt, AreStations, IsLike, IsUnopened, IsUnused, OwnsDeque, own_deques};
 ghost use Rattle.cj_pool.specs.Tree.{InTree};
 
 use crate::run::Run;
@@ -20,7 +20,7 @@ use std::thread::Threads;
 /// Pushes a root to the deque of a station.
 fn receive<K: Run>(station: &mut Station<K>, root: Cell) -> Result<(), AllocError>
     requires tree { InTree (plain_problem K.problem) K.roots root }
-    requires part { 0 < (worker_view station.old.own).parts }
+    requires part { OwnsDeque station.old }
     ensures like { IsLike station.old station.new }
     ensures opening { OnOk result ((worker_view station.new.own).opening ≡ (worker_view station.old.own).opening ++ root ∷ []) }
 {
@@ -38,7 +38,7 @@ fn receive_own<K: Run>(
 ) -> Result<(), AllocError>
     requires some { 0 < count }
     requires roots { (roots.now ≡ K.roots) × AreRoots (plain_problem K.problem) roots.now }
-    requires part { HasPart station.old }
+    requires part { OwnsDeque station.old }
     requires unopened { IsUnopened station.old }
     ensures like { IsLike station.old station.new }
     ensures dealt { OnOk result ((worker_view station.new.own).opening ≡ roots_dealt roots.now count station.old.number) }
@@ -59,7 +59,7 @@ fn served<K: Run>(
 ) -> Result<Station<K>, AllocError>
     requires some { 0 < count }
     requires roots { (roots.now ≡ K.roots) × AreRoots (plain_problem K.problem) roots.now }
-    requires part { HasPart station }
+    requires part { OwnsDeque station }
     requires unopened { IsUnopened station }
     ensures like { IfOk result (λ with_roots. IsLike station with_roots) }
     ensures dealt { IfOk result (λ with_roots. (worker_view with_roots.own).opening ≡ roots_dealt roots.now count station.number) }
@@ -93,7 +93,7 @@ impl<'r, K: Run> Serve for Hoard<'r, K> {
     type Place = Station<K>;
 
     ghost accepts = { λ hoard station. (0 < hoard.count) × (hoard.roots.now ≡ K.roots) × AreRoots (plain_problem K.problem) hoard.roots.now
-        × HasPart station × IsUnopened station };
+        × OwnsDeque station × IsUnopened station };
 
     ghost gives = { λ hoard old new. IsLike old new × ((worker_view new.own).opening ≡ roots_dealt hoard.roots.now hoard.count old.number) };
 
@@ -127,7 +127,7 @@ fn serve_each<K: Run + Send + Sync, R: Threads + Sync>(
 ) -> Result<Vec<Result<Station<K>, AllocError>>, AllocError>
     requires some { 0 < count }
     requires roots { (roots.now ≡ K.roots) × AreRoots (plain_problem K.problem) roots.now }
-    requires parts { All HasPart stations.items }
+    requires parts { All OwnsDeque stations.items }
     requires unopened { All IsUnopened stations.items }
     ensures len { IfOk result (λ served. vec_len served ≡ vec_len stations) }
     ensures like { IfOk result (λ served. (i : ℕ) (d e : _) → i < vec_len stations

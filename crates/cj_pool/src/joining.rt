@@ -3,6 +3,7 @@ ghost use Rattle.std.specs.Prelude.{◌≡◌, ℕ, ◌+◌, ◌<◌, ◌≤◌,
 ghost use Rattle.crossbeam_deque.specs.Handles.{view, worker_deque, worker_flavor, worker_view, IsPassOf};
 ghost use Rattle.cj_bezier.specs.declared.cell.Cell.{Cell};
 ghost use Rattle.cj_hermite.specs.Problems.{plain_problem};
+ghost use Rattle.cj_pool.specs.Accounts.{Owns};
 ghost use Rattle.cj_pool.specs.Passes.{deques, AreReady, IsReady};
 ghost use Rattle.cj_pool.specs.Stations.{AreStations, IsPartUp, without_last, station_taken, weigh_all_taken, weigh_given};
 ghost use Rattle.cj_pool.specs.Tree.{InTree};
@@ -37,7 +38,7 @@ fn drain<K: Run>(own: &mut Owner<K>, cells: &mut Vec<Cell>) -> Result<(), AllocE
 
 /// Takes back a station's pass that the last one has, and the one that the station has to the last deque.
 fn trade<K: Run>(earlier: &mut Station<K>, last: &mut Station<K>, pass: DequePass<K>)
-    requires parts { (0 < (worker_view earlier.old.own).parts) × (0 < (worker_view last.old.own).parts) }
+    requires owners { Owns (worker_view earlier.old.own) × Owns (worker_view last.old.own) }
     requires to_earlier { IsPassOf (worker_deque earlier.old.own) pass × IsReady pass }
     requires to_last { (deques earlier.old.above.items ≡ without_last (deques earlier.old.above.items) ++ worker_deque last.old.own ∷ [])
         × AreReady earlier.old.above.items }

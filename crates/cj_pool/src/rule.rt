@@ -7,7 +7,7 @@ use crossbeam_deque::{Pass, Stealer, Worker};
 use std::alloc::Global;
 use std::marker::PhantomData;
 
-/// The cells that were opened and pushed are those that were taken and those in the queue.
+/// The cells that were opened and pushed are those that were taken and those in the queue, and the owner alone opens and pushes.
 pub struct Fair<K: Run> {
     of: PhantomData<K>,
 }
@@ -83,13 +83,13 @@ impl Join<Account> for CutsOff {
     ghost spent = { nobody };
 }
 
-/// What a count of the queue tells.
+/// What a count of the queue tells its owner.
 pub struct Counts;
 
 impl<K: Run> Lesson<Work<K>, Account> for Counts {
-    ghost use Rattle.cj_pool.specs.Accounts.{Settled};
+    ghost use Rattle.cj_pool.specs.Accounts.{AreLeft, Settled};
 
-    ghost fact = { Settled };
+    ghost fact = { λ v items. Settled v items × AreLeft v items };
 }
 
 /// The end of a deque at which its hand pushes and pops.

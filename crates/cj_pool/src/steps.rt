@@ -3,7 +3,7 @@ ghost use Rattle.std.specs.Prelude.{◌≡◌, ◌<◌, List, [], ◌∷◌, len
 ghost use Rattle.crossbeam_deque.specs.Handles.{view, IsPassOf, SamePass, SameWorker, worker_deque, worker_flavor, worker_view, stealer_deque};
 ghost use Rattle.crossbeam_deque.specs.Steals.{MatchSteal};
 ghost use Rattle.cj_bezier.specs.declared.cell.Cell.{Cell};
-ghost use Rattle.cj_pool.specs.Accounts.{whole, with_opening, with_pushed, with_taken, less_a_part, new_pass, both, Settled};
+ghost use Rattle.cj_pool.specs.Accounts.{whole, with_opening, with_pushed, with_taken, less_a_part, new_pass, both, AreLeft, Owns, Settled};
 
 use crate::rule::{Counts, CutsOff, DequePass, Opens, Owner, Puts, Steals, Takes, Thief};
 use crate::run::Run;
@@ -22,7 +22,7 @@ pub fn new_deque<K: Run>(alloc: Global, room: usize) -> Result<Owner<K>, AllocEr
 
 /// Pushes a root before the first turn.
 pub fn open<K: Run>(own: &mut Owner<K>, work: Work<K>) -> Result<(), Work<K>>
-    requires { 0 < (worker_view own.old).parts }
+    requires { Owns (worker_view own.old) }
     ensures same { SameWorker own.old own.new }
     ensures rule { MatchResult result (λ _. worker_view own.new ≡ with_opening (worker_view own.old) (work ∷ [])) (λ back. (back ≡ work)
         × (worker_view own.new ≡ worker_view own.old)) }
@@ -32,7 +32,7 @@ pub fn open<K: Run>(own: &mut Owner<K>, work: Work<K>) -> Result<(), Work<K>>
 
 /// Pushes a half whose split the share has counted.
 pub fn put<K: Run>(own: &mut Owner<K>, _share: &Share, work: Work<K>) -> Result<(), Work<K>>
-    requires part { 0 < (worker_view own.old).parts }
+    requires owner { Owns (worker_view own.old) }
     requires counted { length (worker_view own.old).pushed < _share.now.count.firsts }
     ensures same { SameWorker own.old own.new }
     ensures rule { MatchResult result (λ _. worker_view own.new ≡ with_pushed (worker_view own.old) (work ∷ [])) (λ back. (back ≡ work)
@@ -74,7 +74,7 @@ pub fn another<K: Run>(own: &mut Owner<K>) -> DequePass<K>
 
 /// Takes a pass back, with what it did.
 pub fn absorb<K: Run>(own: &mut Owner<K>, pass: DequePass<K>)
-    requires { (0 < (worker_view own.old).parts) × IsPassOf (worker_deque own.old) pass }
+    requires { Owns (worker_view own.old) × IsPassOf (worker_deque own.old) pass }
     ensures same { SameWorker own.old own.new }
     ensures rule { worker_view own.new ≡ both (worker_view own.old) (view pass) }
 {
@@ -83,10 +83,10 @@ pub fn absorb<K: Run>(own: &mut Owner<K>, pass: DequePass<K>)
 
 /// The number of cells in the queue at one moment.
 pub fn queue_len<K: Run>(own: &mut Owner<K>) -> usize
-    requires { 0 < (worker_view own.old).parts }
+    requires { Owns (worker_view own.old) }
     ensures same { SameWorker own.old own.new }
     ensures view { worker_view own.new ≡ worker_view own.old }
-    ensures rule { (items : List Cell) × (length items ≡ result) × Settled (worker_view own.old) items }
+    ensures rule { (items : List Cell) × (length items ≡ result) × Settled (worker_view own.old) items × AreLeft (worker_view own.old) items }
 {
     own.len_as::<Counts>()
 }

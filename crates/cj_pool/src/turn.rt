@@ -7,7 +7,7 @@ pub enum Turn {
     Closed,
     /// A cell was halved: one half is kept, and the other was pushed.
     Split,
-    /// A cell was halved, and both halves are kept: in the hand's deque are cells enough for others.
+    /// A cell was halved, and both halves are kept: cells enough are left to others in the hand's deque.
     Kept,
     /// No cell was found, and so many are live or are leaves that other hands have not counted yet.
     Idle { live: u64 },

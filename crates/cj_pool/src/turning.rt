@@ -5,11 +5,12 @@ ghost use Rattle.cj_hermite.specs.Problems.{plain_problem};
 ghost use Rattle.cj_ledger.specs.declared.why.Why.{Why};
 ghost use Rattle.cj_ledger.specs.Counts.{after_closes, told, told_live};
 ghost use Rattle.cj_ledger.specs.Shares.{IsOf};
-ghost use Rattle.cj_pool.specs.declared.turn.Turn.TheVariants.{Done, Halted, Idle};
+ghost use Rattle.cj_pool.specs.declared.turn.Turn.TheVariants.{Done, Halted, Idle, Kept};
+ghost use Rattle.cj_pool.specs.Accounts.{Owns};
 ghost use Rattle.cj_pool.specs.Hands.{IsHandOf, SameHand};
 ghost use Rattle.cj_pool.specs.Parted.{AreKept, AreParted};
 ghost use Rattle.cj_pool.specs.Tree.{InTree};
-ghost use Rattle.cj_pool.specs.Turns.{Made, Wanted, SetsCells, one_want_more};
+ghost use Rattle.cj_pool.specs.Turns.{LeavesEnough, Made, Wanted, SetsCells, one_want_more};
 
 use crate::hand::Hand;
 use crate::picking::pick;
@@ -103,7 +104,7 @@ fn part_halves<K: Run>(
 ) -> Result<Turn, AllocError>
     requires room { length kept.old.items ≤ 26 }
     requires tree { InTree (plain_problem K.problem) K.roots second }
-    requires part { 0 < (worker_view own.old).parts }
+    requires owner { Owns (worker_view own.old) }
     requires counted { length (worker_view own.old).pushed < share.now.count.firsts }
     ensures same { SameWorker own.old own.new }
     ensures parted { MatchResult result (AreParted (worker_view own.old) (worker_view own.new) kept.old.items kept.new.items first second)
@@ -134,6 +135,7 @@ impl<'p, K: Run> Hand<'p, K> {
         ensures hand { IsHandOf refinery.now self.new × SameHand self.old self.new }
         ensures made { MatchResult result (Made (plain_problem K.problem) refinery.now self.old self.new)
             (λ _. Wanted (plain_problem K.problem) self.old self.new) }
+        ensures enough { result ≡ Ok Kept → LeavesEnough self.new }
         ensures wants { self.new.wants ≡ self.old.wants }
         ensures cells { SetsCells refinery.now.limit self.old.share.count self.new.share.count }
         ensures memory { self.new.share.count.memory ≡ self.old.share.count.memory }
@@ -186,6 +188,9 @@ impl<'p, K: Run> Hand<'p, K> {
         // What the answer says was done.
         ensures made { MatchResult result (Made (plain_problem K.problem) refinery.now self.old self.new)
             (λ _. Wanted (plain_problem K.problem) self.old self.new) }
+
+        // It keeps both halves only while it leaves enough in its deque for others, or where a push wants memory.
+        ensures enough { result ≡ Ok Kept → LeavesEnough self.new }
         ensures wants { MatchResult result (λ _. self.new.wants ≡ self.old.wants) (λ _. self.new.wants ≡ one_want_more self.old.wants) }
 
         // It stops the others only for too many cells, and it stops where its hand has told the others to.

@@ -285,6 +285,86 @@ fn a_hand_is_idle_while_another_keeps_a_cell(rt: HostRuntime) {
     assert_eq!(rt; turn, Some(Turn::Idle { live: 1 }));
 }
 
+/// What stands in the deque of a hand from which nobody steals, and what it keeps, as its turns tell; and how often it kept both halves.
+#[derive(Clone, Copy)]
+struct Told {
+    deque: u32,
+    kept: u32,
+    both: u32,
+}
+
+/// The same after a turn. A half is pushed where the deque has fewer than four cells, and only where it has four or more both are kept.
+fn told_by<R: Abort>(rt: &R, turn: Turn, before: Told) -> Told {
+    let mut told = before;
+    if told.kept > 0 {
+        told.kept -= 1;
+    } else {
+        told.deque = told.deque.saturating_sub(1);
+    }
+    match turn {
+        Turn::Closed => told,
+        Turn::Split => {
+            assert!(rt; told.deque < 4);
+            told.deque = told.deque.saturating_add(1);
+            told.kept = told.kept.saturating_add(1);
+            told
+        }
+        Turn::Kept => {
+            assert!(rt; told.deque >= 4);
+            told.kept = told.kept.saturating_add(2);
+            told.both = told.both.saturating_add(1);
+            told
+        }
+        _ => before,
+    }
+}
+
+/// How often a hand whose deque has one root keeps both halves, in so many turns.
+fn times_both_kept<'p, K: Run, R: Abort>(
+    rt: &R,
+    alloc: Global,
+    refinery: &Refinery<'p, K>,
+    hand: &mut Hand<'p, K>,
+    turns: u32,
+) -> Result<u32, AllocError>
+    requires { IsHandOf refinery.now hand.old }
+{
+    let mut told = Told {
+        deque: 1,
+        kept: 0,
+        both: 0,
+    };
+    for _ in 0..turns {
+        let turn = hand.turn(alloc, refinery)?;
+        told = told_by(rt, turn, told);
+    }
+    Ok(told.both)
+}
+
+/// How often hand zero keeps both halves while hand one takes no turn.
+fn times_zero_keeps_both<K: Run + Send + Sync, R: Threads + Sync + Abort>(
+    rt: &R,
+    alloc: Global,
+    problem: &Problem,
+    roots: Vec<Cell>,
+) -> Result<u32, AllocError>
+    requires { IsRunOf problem.now roots.items 2 1000 K.problem K.roots K.workers }
+{
+    let (refinery, mut zero, _one) = for_two::<K, R>(rt, alloc, problem, roots)?;
+    times_both_kept(rt, alloc, &refinery, &mut zero, 1000)
+}
+
+#[test]
+fn both_halves_are_kept_only_while_the_deque_has_four(rt: HostRuntime) {
+    let alloc = rt.alloc();
+    let problem = crossing(alloc).expect(&rt, "no fault");
+    let roots = roots_of(alloc, &problem).expect(&rt, "no fault");
+    let times = times_zero_keeps_both::<Brand, _>(&rt, alloc, &problem, roots).expect(
+        &rt, "no fault",
+    );
+    assert!(rt; times > 0);
+}
+
 /// What a problem of one crossing comes to by so many hands on threads, within a limit.
 fn on_threads<R: Threads + Wait + Sync, G: Gate + Sync>(
     rt: &R,

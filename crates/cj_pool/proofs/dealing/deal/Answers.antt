@@ -52,5 +52,7 @@ returns-in_err-served-clause-dealt g c = rw (err_from_is_err_and c.from_residual
 
 pub serve_each-requires-clause-parts : goal.serve_each-requires-clause-parts
 serve_each-requires-clause-parts g c _ _ = λ k d lt.
-    let parts = (c.requires.stations k d lt).parts in
-    omega (arith, parts, length-map c.args.stations.items own_deque, c.requires.len, c.requires.workers.0)
+    let station = c.requires.stations k d lt in (
+      omega (arith, station.parts, length-map c.args.stations.items own_deque, c.requires.len, c.requires.workers.0),
+      omega (arith, station.all, c.requires.workers.0, c.requires.workers.1),
+    )

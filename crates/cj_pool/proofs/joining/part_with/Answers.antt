@@ -7,8 +7,8 @@ use Rattle.cj_pool.proofs.joining.part_with.Goals as goal
 pub loop-pass-init : goal.loop-pass-init
 loop-pass-init g c = part_begins g.K.Run.workers c.args.stations.now c.args.last.now c.requires.stations
 
-pub trade-requires-clause-parts : goal.trade-requires-clause-parts
-trade-requires-clause-parts g c =
+pub trade-requires-clause-owners : goal.trade-requires-clause-owners
+trade-requires-clause-owners g c =
     let l = c.loop-pass in
     let i = c.len.result in
     let at : i ≡ length c.pop.new.self.items = omega (arith, c.len.ensures, c.pop.new.self.ok.0) in

@@ -33,14 +33,14 @@ returns-in-Some-clause-taken g c w =
     c.absorb-in-Some.ensures.rule (last.taken w)
 
 pub absorb-requires : goal.absorb-requires
-absorb-requires g c = (c.requires.parts.0, c.requires.to_earlier.0)
+absorb-requires g c = (c.requires.owners.0, c.requires.to_earlier.0)
 
 pub absorb-requires-in-Some : goal.absorb-requires-in-Some
 absorb-requires-in-Some g c =
     let last = last_pass c.args.earlier.now.above.items c.pop.new.self.items c.in-Some.back c.in-Some.ensures.items c.requires.to_last.1 in
     let deque = worker_deque c.args.last.now.own in
     let split = last.deque (without_last (deques c.args.earlier.now.above.items)) deque c.requires.to_last.0 in
-    (c.requires.parts.1, pass_of c.in-Some.back deque last.ready split.1)
+    (c.requires.owners.1, pass_of c.in-Some.back deque last.ready split.1)
 
 pub returns-in_default : goal.returns-in_default
 returns-in_default g c =

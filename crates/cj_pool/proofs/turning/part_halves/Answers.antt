@@ -1,8 +1,10 @@
 use Rattle.std.proofs.Common.{◌<◌, [], ◌∷◌, ◌++◌, length, refl, sym, ap, ◌∙◌, subst, List}
+use Rattle.crossbeam_deque.specs.Handles.{worker_view}
 use Rattle.cj_bezier.specs.declared.cell.Cell.{Cell}
 use Rattle.cj_pool.specs.declared.account.Account.{Account}
 use Rattle.cj_pool.specs.Accounts.{with_pushed}
 use Rattle.cj_pool.specs.Parted.{pushed_one, held_both}
+use Rattle.cj_pool.proofs.TurnLemmas.{enough_left}
 use Rattle.cj_pool.proofs.turning.part_halves.Goals as goal
 
 pub put-requires-clause-counted : goal.put-requires-clause-counted
@@ -11,7 +13,8 @@ put-requires-clause-counted g c =
 
 pub returns-then-queue_len-ge-ENOUGH-clause-parted : goal.returns-then-queue_len-ge-ENOUGH-clause-parted
 returns-then-queue_len-ge-ENOUGH-clause-parted g c =
-    held_both refl (record {
+    let left = c.queue_len.ensures.rule in
+    held_both refl (enough_left (worker_view c.args.own.now) left.0 c.queue_len.result left.1 c.if-queue_len-ge-ENOUGH.true left.3) (record {
       own = c.queue_len.ensures.view;
       kept = c.push-then-queue_len-ge-ENOUGH.ensures.items ∙ ap (λ (cells : List Cell). cells ++ c.args.first ∷ []) c.push.ensures.items;
     })

@@ -1,5 +1,6 @@
 use Rattle.std.proofs.Common.{◌≡◌, ℕ, ◌+◌, ◌<◌, List, [], ◌∷◌, ◌++◌, inl, length, refl, sym, ap, ◌∙◌, subst, arith}
 use Rattle.std.specs.Prelude.{All}
+use Rattle.std.proofs.lemmas.List.{length-map}
 use Rattle.crossbeam_deque.specs.Handles.{worker_view}
 use Rattle.cj_hermite.specs.Problems.{plain_problem}
 use Rattle.cj_bezier.specs.declared.cell.Cell.{Cell}
@@ -15,7 +16,7 @@ use Rattle.cj_pool.proofs.AccountLemmas.{same_accounts, closed_accounts, split_a
 use Rattle.cj_pool.proofs.NarrowLemmas.{narrow_front, narrow_half, narrow_both}
 use Rattle.cj_pool.proofs.PickLemmas.{still_seated}
 use Rattle.cj_pool.proofs.TreeLemmas.{tree_keeps, tree_halves}
-use Rattle.cj_pool.proofs.TurnLemmas.{keeps_here, halved_here, closed_here, leaf_here, came_as, came_to, keeps_first, keeps_both, room, alone_settled, leaf_of, made_of, where_parted, without_of, still_of, sets_after}
+use Rattle.cj_pool.proofs.TurnLemmas.{keeps_here, halved_here, closed_here, leaf_here, came_as, came_to, keeps_first, keeps_both, room, alone_settled, leaf_of, made_of, where_parted, without_of, still_of, sets_after, enough_of, leaves_enough}
 use Rattle.cj_pool.proofs.hand.Hand.attempt.Goals as goal
 
 pub look-requires : goal.look-requires
@@ -426,3 +427,18 @@ pick-picked-requires-clause-tree g c = c.self.invariant.5.tree
 
 pub pick-picked-requires-clause-narrow : goal.pick-picked-requires-clause-narrow
 pick-picked-requires-clause-narrow g c = c.self.invariant.5.narrow
+
+pub part_halves-requires-clause-owner : goal.part_halves-requires-clause-owner
+part_halves-requires-clause-owner g c =
+    let seated = c.pick-picked.ensures.seated.0 in
+    (omega (arith, seated.parts), omega (arith, seated.all, c.self.invariant.5.number))
+
+pub returns-in-Halves-clause-enough : goal.returns-in-Halves-clause-enough
+returns-in-Halves-clause-enough g c = λ kept.
+    let e = c.pick-picked.ensures in
+    let ps = c.pick-picked.new.station in
+    let own = worker_view c.part_halves.new.own in
+    leaves_enough own (takens ps.below.items) (takens ps.above.items) _
+    (enough_of c.part_halves.result (worker_view ps.own) own c.pick-picked.new.kept.items c.part_halves.new.kept.items c.in-Halves.first c.in-Halves.second
+    c.part_halves.ensures.parted kept)
+    (length-map ps.below.items _ ∙ e.place)
