@@ -26,7 +26,7 @@ use Rattle.cj_bezier.specs.declared.leaf.Leaf.{Leaf}
 use Rattle.cj_bezier.specs.Gaps.{gap_terms, hull_gap}
 use Rattle.cj_bezier.specs.Leaves.{PlainLeaf, IsTickOf, plain_leaf, plain_leaves}
 use Rattle.cj_bezier.specs.Squares.{least_square, greatest_square}
-use Rattle.cj_meet.specs.Closest.{PlainApproach, PlainClosest, upper, approach_at, candidates_between, candidates_of, candidates_in, closest_by, closest_of, plain_closest, nearer, nearest, KeepTheirIntervals, IsClosest, IsNearest}
+use Rattle.cj_meet.specs.Closest.{PlainApproach, PlainClosest, upper, approach_at, candidates_between, candidates_of, candidates_in, closest_by, closest_of, plain_closest, nearer, nearest, KeepTheirIntervals, IsClosest, IsFlatAt, IsNearest}
 use Rattle.cj_meet.specs.Encounters.{stretches_in}
 use Rattle.cj_meet.specs.Flat.{floor_root, is_flat}
 use Rattle.cj_meet.specs.Searches.{NoWorse, HasInterpolants}
@@ -35,7 +35,7 @@ use Rattle.cj_meet.proofs.EncounterLemmas.{stretches_in_leaves}
 use Rattle.cj_meet.proofs.NearerLemmas.{IsNearer, NoWorse-trans, nearer-is, nearest_is}
 use Rattle.cj_meet.proofs.RootLemmas.{floor_root-below, ceil_root-is}
 use Rattle.cj_meet.proofs.SquareBoundLemmas.{scale, scale-some, least_holds, first-le_greatest}
-use Rattle.cj_meet.proofs.TickLemmas.{upper_holds, first_upper}
+use Rattle.cj_meet.proofs.TickLemmas.{upper_holds, first_upper, one_tick_flat}
 
 -- ---- the candidates of a stretch by its two interpolants
 
@@ -375,6 +375,22 @@ module _ (case : PlainProblem) (a b : ℕ) (ss : List PlainLeaf) (p : PlainAppro
           omega arith
       go (s ∷ ss) (inr later) = go ss later
 
+  -- each such tick by itself is flat
+  flat_there : (m : ℕ) → Exists (HasIt m) ss → OfObjectsAt case a b m (λ c d. IsFlatAt c d m)
+  flat_there m some = go ss some
+    where
+      go : (ss : List PlainLeaf) → Exists (HasIt m) ss → OfObjectsAt case a b m (λ c d. IsFlatAt c d m)
+      go [] some = absurd some
+      go (s ∷ ss) (inl h) =
+          let of = h.of in
+          let has = of.has in
+          let have = has.have in
+          let tick = h.tick in
+          of_pair s m (λ c d. IsFlatAt c d m) of
+          (of_objects case s.a s.b m has.c has.d (λ c d. IsFlatAt c d m) (have.first_curve m tick.from tick.to) (have.second_curve m tick.from tick.to)
+          (one_tick_flat has.c has.d m (over_part has.c s.first s.last m m has.c_over tick.from tick.to) (over_part has.d s.first s.last m m has.d_over tick.from tick.to)))
+      go (s ∷ ss) (inr later) = go ss later
+
   pub nearest_law : IsNearest case a b ss p.tick high
   nearest_law = record {
     within = within_k high is.above;
@@ -383,6 +399,7 @@ module _ (case : PlainProblem) (a b : ℕ) (ss : List PlainLeaf) (p : PlainAppro
         let up = squares_up high (e + BAND) (near_at m e (has_it m any) near) in
         let above = is.above in
         within_k (e + BAND) (omega arith);
+    flat = λ m any. flat_there m (has_it m any);
   }
 
 -- each stretch of an encounter is of its pair, and has two interpolants

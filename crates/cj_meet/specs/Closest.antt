@@ -1,16 +1,16 @@
 -- The closest approach of an encounter: the earliest of the ticks with the least bound on the squared distance, among the ends of flat cells.
-use Rattle.std.specs.Prelude.{◌≡◌, ℕ, ◌+◌, ◌-◌, ◌*◌, ◌≤◌, ◌==◌, ◌&&◌, ◌||◌, nat_lt, if◌then◌else◌, List, [], ◌∷◌, All, Any, Option, Some, None, option_map, ◌≤ℤ◌}
+use Rattle.std.specs.Prelude.{◌≡◌, ℕ, ◌+◌, ◌-◌, ◌*◌, ◌≤◌, ◌==◌, ◌&&◌, ◌||◌, true, nat_lt, if◌then◌else◌, List, [], ◌∷◌, All, Any, Option, Some, None, option_map, ◌≤ℤ◌}
 use Rattle.std.specs.List.{flat_map, fold}
 use Rattle.cj_hermite.specs.Interpolant.{Curve}
 use Rattle.cj_hermite.specs.Distance.{BAND, IsWithinAt, square_bound, square_distance}
 use Rattle.cj_hermite.specs.PlainProblems.{PlainProblem, curve_at, OfObjectsAt}
 use Rattle.cj_hermite.specs.Roots.{KeepIntervals}
 use Rattle.cj_bezier.specs.declared.encounter.Closest.{Closest}
-use Rattle.cj_bezier.specs.Gaps.{gap_high, hull_gap}
+use Rattle.cj_bezier.specs.Gaps.{gap_high, gap_terms, hull_gap}
 use Rattle.cj_bezier.specs.Leaves.{PlainLeaf, IsTickOf}
 use Rattle.cj_bezier.specs.Squares.{from_zero}
 use Rattle.cj_meet.specs.Encounters.{first_object, second_object}
-use Rattle.cj_meet.specs.Flat.{ceil_root, flats_between}
+use Rattle.cj_meet.specs.Flat.{ceil_root, flats_between, is_flat}
 
 -- a tick, and a bound on the squared distance there, in nm²
 pub record PlainApproach : Type 0 where
@@ -89,13 +89,18 @@ closest_of case ss = option_map closest_by (nearest (candidates_in case ss))
 abbrev pub KeepTheirIntervals : PlainProblem → List PlainLeaf → Type 0
 KeepTheirIntervals case ss = All (λ s. KeepIntervals case s.a s.b s.first s.last) ss
 
+-- the cell of this one tick is flat
+abbrev pub IsFlatAt : Curve → Curve → ℕ → Type 0
+IsFlatAt c d m = is_flat (gap_terms (hull_gap c d m m)) ≡ true
+
 -- The objects a and b are within `high` at the tick, and at no tick of these stretches more than one millimetre nearer. So where they are
--- within e at one of these ticks they are within e and one millimetre there.
+-- within e at one of these ticks they are within e and one millimetre there. Each of these ticks by itself is flat, so that halving ends.
 pub record IsNearest (case : PlainProblem) (a b : ℕ) (ss : List PlainLeaf) (tick high : ℕ) : Type 0 where
   pub within : OfObjectsAt case a b tick (λ c d. IsWithinAt c d high tick)
   pub beyond : (m : ℕ) → Any (IsTickOf a b m) ss → OfObjectsAt case a b m (λ c d. square_bound c d (high - BAND) ≤ℤ square_distance c d m)
   pub nearly : (m e : ℕ) → Any (IsTickOf a b m) ss → OfObjectsAt case a b m (λ c d. IsWithinAt c d e m)
       → OfObjectsAt case a b tick (λ c d. IsWithinAt c d (e + BAND) tick)
+  pub flat : (m : ℕ) → Any (IsTickOf a b m) ss → OfObjectsAt case a b m (λ c d. IsFlatAt c d m)
 
 -- an encounter has a closest approach, which says this of the distance of its objects
 pub record HasNearest (case : PlainProblem) (encounter : List PlainLeaf) : Type 0 where

@@ -110,6 +110,16 @@ fn a_minute_of_crossing_tracks_ends_at_once(rt: HostRuntime) {
     assert_eq!(rt; found, Some((30_000_000, 1_000_000_000_000)));
 }
 
+/// Each tick is a flat cell, so the search ends at once where the tracks cross.
+#[test]
+fn leaves_of_one_tick_are_flat(rt: HostRuntime) {
+    let problem = crossing(rt.alloc()).expect(&rt, "no fault");
+    let found = approach(rt.alloc(), &problem, 29_999_999, 30 * SECOND, 30 * SECOND).expect(
+        &rt, "no fault",
+    );
+    assert_eq!(rt; found, Some((30_000_000, 1_000_000_000_000)));
+}
+
 #[test]
 fn exactly_at_the_threshold_the_first_tick_is_taken(rt: HostRuntime) {
     let alloc = rt.alloc();
