@@ -5,7 +5,7 @@ use Rattle.std.proofs.lemmas.Bool.{cases_Bool}
 use Rattle.std.proofs.lemmas.List.{get_or_default}
 use Rattle.std.proofs.lemmas.Nat.{le-div}
 use Rattle.std.proofs.Math.Nat.{div-mul-le_self}
-use Rattle.std.specs.Prelude.{ℤ, pos, negsuc, ◌+ℤ◌, ◌-ℤ◌, ◌≤ℤ◌, is_some, option_map, option_and_then, slice_get, slice_index}
+use Rattle.std.specs.Prelude.{ℤ, pos, ◌+ℤ◌, ◌-ℤ◌, ◌≤ℤ◌, option_map, option_and_then, slice_get, slice_index}
 use Rattle.std.specs.List.{range_with_len}
 use Rattle.std.proofs.lemmas.Option.{slice_get-map}
 use Rattle.cj_values.proofs.LogicLemmas.{all_three}
@@ -16,7 +16,6 @@ use Rattle.cj_bezier.specs.Squares.{from_zero}
 use Rattle.cj_bezier.proofs.ShellLemmas.{from_zero-mono}
 use Rattle.cj_bezier.specs.SlotBoxes.{Reach, plain_box, plain_boxes, reaches_in, reach_touches, reaches_touch, both_touch, touch_between}
 use Rattle.cj_grid.specs.declared.entries.Entry.{Entry}
-use Rattle.cj_hermite.specs.Pairs.{AreBoth}
 use Rattle.cj_grid.specs.Buckets.{BUCKET_SIDE, FIRST_CORNER, bucket_on, Numbers, numbers_of, PlainBlock, block_of, is_wide, each_number, bucket_number, in_column, in_layer, in_block, block_in, entered_by, is_wide_one, entries_of, wide_of}
 
 -- ---- on an axis
@@ -233,21 +232,6 @@ pub wide_listed : (thr : ℕ) (sizes : List ℕ) (boxes : List (Option AxisBox))
 unfolding wide_of
 wide_listed thr sizes boxes object lt wide =
     member_passes (λ k. is_wide_one (block_in thr sizes boxes k)) object wide (range_with_len 0 (length boxes)) (Exists-range 0 (length boxes) object (omega arith) (omega arith))
-
--- objects that touch have boxes
-boxes_there : (thr : ℕ) (sizes : List ℕ) (boxes : List (Option AxisBox)) (a b : ℕ) → touch_between thr sizes (plain_boxes boxes) (a, b) ≡ true → (is_some (get_or boxes a None) ≡ true) × (is_some (get_or boxes b None) ≡ true)
-boxes_there thr sizes boxes a b h = go (box_in boxes a) (box_in boxes b) (touch_is thr sizes a b boxes ∙ h)
-  where
-    go : (x y : Option AxisBox) → both_touch (threshold_between thr sizes a b) (option_map plain_box x) (option_map plain_box y) ≡ true → (is_some x ≡ true) × (is_some y ≡ true)
-    go None y touch = absurd cc
-    go (Some p) None touch = absurd cc
-    go (Some p) (Some q) touch = (refl, refl)
-
--- so has the second of two that are one pair
-pub other_there : (thr : ℕ) (sizes : List ℕ) (boxes : List (Option AxisBox)) (one other a b : ℕ) → AreBoth one other a b → touch_between thr sizes (plain_boxes boxes) (a, b) ≡ true
-    → is_some (get_or boxes other None) ≡ true
-other_there thr sizes boxes one other a b (inl is) touch = subst (λ (k : ℕ). is_some (get_or boxes k None) ≡ true) (sym is.1) (boxes_there thr sizes boxes a b touch).1
-other_there thr sizes boxes one other a b (inr is) touch = subst (λ (k : ℕ). is_some (get_or boxes k None) ≡ true) (sym is.1) (boxes_there thr sizes boxes a b touch).0
 
 -- whether two objects touch, by the boxes that were read of them
 pub touch_by_boxes : (thr : ℕ) (sizes : List ℕ) (boxes : List (Option AxisBox)) (a b : ℕ) (x y d e : Option AxisBox) → a < length boxes → b < length boxes → get_or boxes a d ≡ x → get_or boxes b e ≡ y

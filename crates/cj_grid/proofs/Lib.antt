@@ -3,4 +3,5 @@ pub mod EntryLemmas
 pub mod FoundLemmas
 pub mod JoinedBoxLemmas
 pub mod PairingLemmas
+pub mod SweepLemmas
 pub mod TrackBoxLemmas

@@ -1,6 +1,5 @@
-//! The pairs of objects that share a bucket, or of which one has a wide box.
-ghost use Rattle.std.specs.Prelude.{◌≡◌, ◌⊎◌, ℕ, ◌+◌, ◌*◌, ◌<◌, ◌≤◌, true, ◌&&◌, nat_eq, nat_lt, is_some, if◌then◌else◌, option_map, slice_index_or, length, count_by, All, Some, None, IfSome, OnOk};
-ghost use Rattle.std.specs.List.{Contains};
+//! The pairs of objects that share a bucket.
+ghost use Rattle.std.specs.Prelude.{◌≡◌, ℕ, ◌+◌, ◌<◌, ◌≤◌, true, ◌&&◌, nat_eq, nat_lt, option_map, length, All, Some, IfSome, OnOk};
 ghost use Rattle.cj_hermite.specs.Pairs.{AreBoth, ArePairsKept, HasPair, objects_of};
 ghost use Rattle.cj_grid.specs.Buckets.{entered_in, bucket_squares};
 ghost use Rattle.cj_grid.specs.Among.{touch_among, StillTouchAmong, AreFound, AreFoundAt};
@@ -67,7 +66,7 @@ fn append_touching<L: Ledger>(
 }
 
 /// Appends the pair of two objects where their boxes touch. It is at most one step.
-fn append_pair<L: Ledger>(
+pub fn append_pair<L: Ledger>(
     one: u32,
     other: u32,
     objects: &SlotObjects<'_>,
@@ -155,76 +154,6 @@ pub fn append_shared<L: Ledger>(
 {
     for at in 0..entries.len() {
         append_row(at, entries, objects, steps, pairs)?;
-    }
-    Ok(())
-}
-
-/// Whether an object has a box.
-fn has_box(objects: &SlotObjects<'_>, object: u32) -> bool
-    requires { object < length objects.now.boxes.now }
-    ensures { result ≡ is_some (slice_index_or objects.now.boxes.now object None) }
-{
-    objects.boxes[object as usize].is_some()
-}
-
-/// Appends the pair of two objects where the second has a box and their boxes touch. It is a step at most where it has one.
-fn append_with<L: Ledger>(
-    one: u32,
-    other: u32,
-    objects: &SlotObjects<'_>,
-    steps: &mut Steps<L>,
-    pairs: &mut Vec<Pair>,
-) -> Result<(), AllocError>
-    requires one { one < length objects.now.boxes.now }
-    requires other { other < length objects.now.boxes.now }
-    ensures touching { OnOk result (StillTouchAmong objects.now pairs.old.items pairs.new.items) }
-    ensures kept { OnOk result (ArePairsKept pairs.old.items pairs.new.items) }
-    ensures found { OnOk result (AreFound objects.now (AreBoth one other) pairs.new.items) }
-    ensures no_fewer { steps.old ≤ steps.new }
-    ensures steps { steps.new ≤ steps.old + (if is_some (slice_index_or objects.now.boxes.now other None) then 1 else 0) }
-{
-    if !has_box(objects, other) {
-        return Ok(());
-    }
-    append_pair(one, other, objects, steps, pairs)
-}
-
-/// Appends the touching pairs of an object with all others.
-fn append_with_all<L: Ledger>(
-    one: u32,
-    objects: &SlotObjects<'_>,
-    steps: &mut Steps<L>,
-    pairs: &mut Vec<Pair>,
-) -> Result<(), AllocError>
-    requires exists { one < length objects.now.boxes.now }
-    ensures touching { OnOk result (StillTouchAmong objects.now pairs.old.items pairs.new.items) }
-    ensures kept { OnOk result (ArePairsKept pairs.old.items pairs.new.items) }
-    ensures found { OnOk result (AreFound objects.now (λ a b. (one ≡ a) ⊎ (one ≡ b)) pairs.new.items) }
-    ensures no_fewer { steps.old ≤ steps.new }
-    ensures steps { steps.new ≤ steps.old + count_by is_some objects.now.boxes.now }
-{
-    for other in 0..objects.boxes.len() as u32 {
-        append_with(one, other, objects, steps, pairs)?;
-    }
-    Ok(())
-}
-
-/// Appends the touching pairs of some objects with all others.
-pub fn append_wide<L: Ledger>(
-    wide: &[u32],
-    objects: &SlotObjects<'_>,
-    steps: &mut Steps<L>,
-    pairs: &mut Vec<Pair>,
-) -> Result<(), AllocError>
-    requires exist { All (λ object. object < length objects.now.boxes.now) wide.now }
-    ensures touching { OnOk result (StillTouchAmong objects.now pairs.old.items pairs.new.items) }
-    ensures kept { OnOk result (ArePairsKept pairs.old.items pairs.new.items) }
-    ensures found { OnOk result (AreFound objects.now (λ a b. Contains wide.now a ⊎ Contains wide.now b) pairs.new.items) }
-    ensures no_fewer { steps.old ≤ steps.new }
-    ensures steps { steps.new ≤ steps.old + length wide.now * count_by is_some objects.now.boxes.now }
-{
-    for one in wide {
-        append_with_all(*one, objects, steps, pairs)?;
     }
     Ok(())
 }

@@ -1,6 +1,7 @@
 //! Objects in the buckets that their boxes meet.
 ghost use Rattle.std.specs.Prelude.{◌≡◌, ◌<◌, ◌++◌, option_map, IfOk, OnOk};
 ghost use Rattle.cj_grid.specs.Among.{entries_among, wide_among};
+ghost use Rattle.cj_grid.specs.Sweeps.{is_narrow_one, narrow_among};
 ghost use Rattle.cj_grid.specs.Buckets.{bucket_number, numbers_in, plain_block, in_column, in_layer, in_block, entered_by, is_wide_one};
 
 use crate::bucket_ranges::{Block, BucketRange};
@@ -126,4 +127,27 @@ pub fn wide_objects(alloc: Global, objects: &SlotObjects<'_>) -> Result<Vec<u32>
         }
     }
     Ok(wide)
+}
+
+/// Whether an object with a box that meets these buckets has one that is not wide.
+fn has_narrow_box(block: Option<Block>) -> bool
+    ensures { result ≡ is_narrow_one (option_map plain_block block) }
+{
+    match block {
+        Some(block) => !is_wide_block(&block),
+        None => false,
+    }
+}
+
+/// The objects with boxes that are not wide.
+pub fn narrow_objects(alloc: Global, objects: &SlotObjects<'_>) -> Result<Vec<u32>, AllocError>
+    ensures { IfOk result (λ narrow. narrow.items ≡ narrow_among objects.now) }
+{
+    let mut narrow = Vec::new(alloc);
+    for object in 0..objects.boxes.len() as u32 {
+        if has_narrow_box(block_of_object(objects, object)) {
+            narrow.push(object)?;
+        }
+    }
+    Ok(narrow)
 }

@@ -2,14 +2,18 @@
 //! the boxes meet.
 #![tactic(auto)]
 
+mod axis;
 mod box_touch;
 mod bucket_pairs;
 mod bucket_ranges;
 mod buckets;
 mod entries;
 mod joined_boxes;
+mod reach;
+mod reaches;
 mod slot_objects;
 mod steps;
+mod sweep;
 mod touching_pairs;
 mod track_box;
 

@@ -8,10 +8,11 @@ ghost use Rattle.cj_grid.specs.Among.{touch_among, entries_among, bound_among, T
 ghost use Rattle.cj_grid.specs.Buckets.{step_bound};
 ghost use Rattle.cj_grid.specs.Found.{AreInOrder, is_again, unrepeated};
 
-use crate::bucket_pairs::{append_shared, append_wide};
+use crate::bucket_pairs::append_shared;
 use crate::entries::{Entry, enter_objects, wide_objects};
 use crate::slot_objects::SlotObjects;
 use crate::steps::Steps;
+use crate::sweep::append_wide;
 use cj_bezier::AxisBox;
 use cj_hermite::Pair;
 use std::alloc::{AllocError, Global};
@@ -43,7 +44,7 @@ fn pairs_found<L: Ledger>(
     let wide = wide_objects(alloc, objects)?;
     let mut pairs = Vec::new(alloc);
     append_shared(&entries, objects, steps, &mut pairs)?;
-    append_wide(&wide, objects, steps, &mut pairs)?;
+    append_wide(alloc, &wide, objects, steps, &mut pairs)?;
     Ok(pairs)
 }
 

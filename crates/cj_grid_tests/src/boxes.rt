@@ -324,6 +324,40 @@ fn wide_boxes_are_found(rt: HostRuntime) {
     assert_eq!(rt; found.as_slice(), expected.as_slice());
 }
 
+/// A box of 10,000 km along x at a place along y.
+fn stick(y: i64) -> AxisBox {
+    let end = 10_000_000_000_000_000;
+    corners(Vec3 { x: 0, y, z: 0 }, Vec3 { x: end, y, z: 0 })
+}
+
+/// Two long boxes that lie beside each other within the threshold, a third a nanometre beyond it, and one that is not wide and begins
+/// before all of them: it ends the threshold before the first.
+#[test]
+fn long_boxes_touch_those_beside_them(rt: HostRuntime) {
+    let beside = corners(
+        Vec3 {
+            x: 0,
+            y: -3_000_000_000_000_000,
+            z: 0,
+        },
+        Vec3 {
+            x: 10,
+            y: -5_000_000_000_000,
+            z: 0,
+        },
+    );
+    let boxes = [
+        Some(stick(5_000_000_000_000)),
+        Some(beside),
+        None,
+        Some(stick(0)),
+        Some(stick(10_000_000_000_001)),
+    ];
+    let found = find_touching(rt.alloc(), &boxes, &[0; 5], THRESHOLD).expect(&rt, "no fault");
+    let expected = [Pair { a: 0, b: 3 }, Pair { a: 1, b: 3 }];
+    assert_eq!(rt; found.as_slice(), expected.as_slice());
+}
+
 /// A place by coordinates that are counted from 6,000 km below 0 on each axis.
 fn place(x: u64, y: u64, z: u64) -> Vec3
     requires x { x ≤ 10 ^ 17 }

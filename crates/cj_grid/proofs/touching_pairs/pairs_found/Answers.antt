@@ -11,7 +11,7 @@ use Rattle.cj_grid.specs.declared.slot_objects.SlotObjects.{SlotObjects}
 use Rattle.cj_grid.specs.Among.{entries_among, wide_among, bound_among, TouchAmong}
 use Rattle.cj_grid.specs.Buckets.{entries_of, wide_of, bucket_squares}
 use Rattle.cj_grid.specs.Found.{AreInOrder}
-use Rattle.cj_grid.proofs.BucketLemmas.{entries_exist, wide_exist, wide_listed, touching_near}
+use Rattle.cj_grid.proofs.BucketLemmas.{entries_exist, wide_listed, touching_near}
 use Rattle.cj_grid.proofs.EntryLemmas.{bound_is}
 use Rattle.cj_grid.proofs.PairingLemmas.{places}
 use Rattle.cj_grid.proofs.touching_pairs.pairs_found.Goals as goal
@@ -34,14 +34,7 @@ append_shared-requires-clause-objects g c =
     (All-from_each (λ (entry : Entry). entry.object < length boxes) (entries_of thr sizes boxes) each))
 
 pub append_wide-requires : goal.append_wide-requires
-append_wide-requires g c =
-    let thr = c.args.objects.now.thr in
-    let sizes = c.args.objects.now.sizes.now in
-    let boxes = c.args.objects.now.boxes.now in
-    record {
-      exist = subst (λ (ws : List ℕ). All (λ object. object < length boxes) ws) (sym (c.deref-2.ensures.value ∙ c.in_ok-wide.ensures))
-          (All-from_each (λ object. object < length boxes) (wide_of thr sizes boxes) (wide_exist thr sizes boxes));
-    }
+append_wide-requires g c = c.deref-2.ensures.value ∙ c.in_ok-wide.ensures
 
 pub returns-clause-touching : goal.returns-clause-touching
 returns-clause-touching g c =

@@ -1,0 +1,7 @@
+/// An axis of space, along which a sweep goes.
+#[derive(Clone, Copy)]
+pub enum Axis {
+    X,
+    Y,
+    Z,
+}
