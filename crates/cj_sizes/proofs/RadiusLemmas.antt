@@ -1,13 +1,16 @@
 -- The radius of an object among the lines of a file.
-use Rattle.std.proofs.Common.{◌≡◌, ℕ, ◌+◌, ◌<◌, ◌≤◌, Bool, true, false, cond, List, [], ◌∷◌, ◌++◌, All, length, take, get_or, Option, Some, None, refl, find, map, unwrap_or, option_map, bytes_eq, ap, sym, ◌∙◌, arith, Bor, is_some, BTreeMap}
-use Rattle.std.specs.Cmp.Lexicographic.{same_text}
+use Rattle.std.proofs.Common.{◌≡◌, ℕ, ◌+◌, ◌<◌, ◌≤◌, Bool, true, false, cond, List, [], ◌∷◌, ◌++◌, All, length, take, get_or, Option, Some, None, refl, find, map, unwrap_or, option_map, bytes_eq, ap, sym, ◌∙◌, arith, Bor, is_some, BTreeMap, nat_cmp}
+use Rattle.std.specs.BTreeSet as sorted
+use Rattle.std.specs.BTreeSet.{BTreeSet}
+use Rattle.std.specs.Cmp.Lexicographic.{nat_list_eq_equiv, same_text, slice_cmp}
 use Rattle.std.specs.Option.{option_or}
 use Rattle.std.proofs.lemmas.Bool.{false≢true}
 use Rattle.std.proofs.lemmas.List.{take_more, map-append}
 use Rattle.std.proofs.lemmas.List.Elements.{All-map}
 use Rattle.std.proofs.lemmas.List.Folds.{find-append}
+use Rattle.std.proofs.lemmas.Map.Text.{is_eq-slice_cmp}
 use Rattle.cj_sizes.specs.Limits.{MAX_RADIUS}
-use Rattle.cj_sizes.specs.Radii.{radius_in}
+use Rattle.cj_sizes.specs.Radii.{has_id, radius_in}
 use Rattle.cj_sizes.specs.Sizes.{Size, radius_given, radius_of, size_of, sizes_of}
 use Rattle.cj_sizes.specs.declared.size_line.SizeLine.{SizeLine}
 
@@ -62,6 +65,40 @@ given_more lines i d id within =
     at (Some s) size b = refl
     at None size true = refl
     at None size false = refl
+
+-- ---- ids that are asked for
+
+-- a set with a further id
+abbrev pub IsWith : BTreeSet (Bor (List ℕ)) → BTreeSet (Bor (List ℕ)) → List ℕ → Type 0
+IsWith old new text = sorted.Updates (λ x y. slice_cmp nat_cmp x.now y.now) old new (record { ref_ptr = (0, 0); now = text }) true
+
+asked_more : (old new : BTreeSet (Bor (List ℕ))) (text id : List ℕ) → IsWith old new text → has_id new id ≡ cond (bytes_eq text id) true (has_id old id)
+asked_more old new text id updates =
+    updates.0 (record { ref_ptr = (0, 0); now = id }) ∙ ap (λ b. cond b true (has_id old id)) (is_eq-slice_cmp text id)
+
+pub still_asked : (old new : BTreeSet (Bor (List ℕ))) (text id : List ℕ) → IsWith old new text → has_id old id ≡ true → has_id new id ≡ true
+still_asked old new text id updates had = asked_more old new text id updates ∙ ap (cond (bytes_eq text id) true) had ∙ either (bytes_eq text id)
+  where
+    either : (b : Bool) → cond b true true ≡ true
+    either true = refl
+    either false = refl
+
+pub own_asked : (old new : BTreeSet (Bor (List ℕ))) (text : List ℕ) → IsWith old new text → has_id new text ≡ true
+own_asked old new text updates = asked_more old new text text updates ∙ ap (λ b. cond b true (has_id old text)) (nat_list_eq_equiv.refl text)
+
+-- a radius of an id that is not asked for gives none of one that is
+pub not_asked : (asked : BTreeSet (Bor (List ℕ))) (named id : List ℕ) (old : Option ℕ) (radius : ℕ) → has_id asked named ≡ false → has_id asked id ≡ true → old ≡ option_or old (cond (bytes_eq named id) (Some radius) None)
+not_asked asked named id old radius out is = go (bytes_eq named id) refl
+  where
+    whole : (o : Option ℕ) → o ≡ option_or o None
+    whole None = refl
+    whole (Some r) = refl
+
+    go : (b : Bool) → bytes_eq named id ≡ b → old ≡ option_or old (cond b (Some radius) None)
+    go true same = absurd (false≢true (sym out ∙ ap (has_id asked) (same_text named id (sym same)) ∙ is))
+    go false other = whole old
+
+-- ---- one radius more
 
 -- what is had stays
 pub kept : (old at_key : Option ℕ) (b : Bool) (radius : ℕ) → is_some at_key ≡ true → (b ≡ true → at_key ≡ old) → old ≡ option_or old (cond b (Some radius) None)

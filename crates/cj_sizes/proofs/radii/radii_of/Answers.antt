@@ -15,15 +15,15 @@ returns-clause-within c =
 
 pub loop-id-preserved : goal.loop-id-preserved
 loop-id-preserved c =
-    let radius = c.radius_among.ensures ∙ ap (λ (o : Option ℕ). unwrap_or o 0) (c.in_ok-given.ensures _) in
+    let radius = c.radius_among.ensures ∙ ap (λ (o : Option ℕ). unwrap_or o 0) (c.in_ok-given.ensures _ (c.in_ok-asked.ensures c.loop-id.id-index _ c.loop-id-test.true)) in
     radii_more c.args.lines.now c.args.ids.now c.loop-id.id-index _ c.loop-id.radii.items c.push.new.self.items c.radius_among.result c.loop-id-test.true
     c.in_ok-push.ensures.items radius c.loop-id.invariant
 
 pub returns-in_err-given-clause-value : goal.returns-in_err-given-clause-value
-returns-in_err-given-clause-value c = IfOk-from_err c.from_residual.result _ c.from_residual.ensures.0
+returns-in_err-given-clause-value c = IfOk-from_err c.from_residual-in_err-given.result _ c.from_residual-in_err-given.ensures.0
 
 pub returns-in_err-given-clause-within : goal.returns-in_err-given-clause-within
-returns-in_err-given-clause-within c = IfOk-from_err c.from_residual.result _ c.from_residual.ensures.0
+returns-in_err-given-clause-within c = IfOk-from_err c.from_residual-in_err-given.result _ c.from_residual-in_err-given.ensures.0
 
 pub returns-in_err-radii-clause-value : goal.returns-in_err-radii-clause-value
 returns-in_err-radii-clause-value c = IfOk-from_err c.from_residual-in_err-radii.result _ c.from_residual-in_err-radii.ensures.0
@@ -36,3 +36,9 @@ returns-in_err-push-clause-value c = IfOk-from_err c.from_residual-in_err-push.r
 
 pub returns-in_err-push-clause-within : goal.returns-in_err-push-clause-within
 returns-in_err-push-clause-within c = IfOk-from_err c.from_residual-in_err-push.result _ c.from_residual-in_err-push.ensures.0
+
+pub returns-in_err-asked-clause-value : goal.returns-in_err-asked-clause-value
+returns-in_err-asked-clause-value c = IfOk-from_err c.from_residual.result _ c.from_residual.ensures.0
+
+pub returns-in_err-asked-clause-within : goal.returns-in_err-asked-clause-within
+returns-in_err-asked-clause-within c = IfOk-from_err c.from_residual.result _ c.from_residual.ensures.0
