@@ -8,27 +8,28 @@ use Rattle.cj_words.specs.Commands.{Asking, Screens, Checks, Generates, Tries, R
 use Rattle.cj_words.specs.Settings.{Asked}
 use Rattle.cj_words.specs.declared.option.UsageFault.{UsageFault}
 
--- which files are read: those whose names end with the suffix, and the one of sizes
+-- which files are read: those whose names end with the suffix, the one of sizes, and the report that is checked
 pub record Reads : Type 0 where
   pub suffix : Option (List ℕ)
   pub sizes : Option (List ℕ)
+  pub report : Option (List ℕ)
 
 abbrev pub plain_inputs : kept.Inputs → Reads
-plain_inputs inputs = record { suffix = option_copied inputs.suffix; sizes = option_copied inputs.sizes }
+plain_inputs inputs = record { suffix = option_copied inputs.suffix; sizes = option_copied inputs.sizes; report = option_copied inputs.report }
 
 -- no file
 abbrev pub nothing : Reads
-nothing = record { suffix = None; sizes = None }
+nothing = record { suffix = None; sizes = None; report = None }
 
-abbrev pub reads_asked : Asked → Reads
-reads_asked asked = record { suffix = Some asked.suffix; sizes = asked.sizes }
+abbrev pub reads_asked : Asked → Option (List ℕ) → Reads
+reads_asked asked report = record { suffix = Some asked.suffix; sizes = asked.sizes; report = report }
 
 -- What a command reads. The certificate of a rewriting is left out: the one piece that takes the place of a file may take that of the
 -- certificate from which it is made.
 abbrev pub reads_of : Result Asking UsageFault → Reads
-reads_of (Ok (Screens screening)) = reads_asked screening.settings
-reads_of (Ok (Checks checking)) = reads_asked checking.settings
-reads_of (Ok (Rewrites checking)) = reads_asked checking.settings
+reads_of (Ok (Screens screening)) = reads_asked screening.settings None
+reads_of (Ok (Checks checking)) = reads_asked checking.settings checking.report
+reads_of (Ok (Rewrites checking)) = reads_asked checking.settings None
 reads_of (Ok (Generates recipe)) = nothing
 reads_of (Ok (Tries trial)) = nothing
 reads_of (Err fault) = nothing
@@ -43,4 +44,4 @@ has_name (Some other) name = bytes_eq name other
 
 -- a file of this name is read
 abbrev pub is_read : Reads → List ℕ → Bool
-is_read reads name = has_suffix reads.suffix name || has_name reads.sizes name
+is_read reads name = has_suffix reads.suffix name || (has_name reads.sizes name || has_name reads.report name)

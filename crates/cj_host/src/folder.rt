@@ -28,16 +28,18 @@ impl<'a> DirFolder<'a> {
         DirFolder::of(rt, directory, None)
     }
 
-    /// The same, but that the file of this name is that of another directory, if it has one.
-    pub fn with_file_of(
+    /// The same, but that the file of this name is that of another directory, if it has one, and so is that of a second name, where one is given.
+    pub fn with_files_of(
         rt: &'a HostRuntime,
         directory: &'a str,
-        other: &'a str,
+        elsewhere: &'a str,
         name: &'a str,
+        other: Option<&'a str>,
     ) -> Self {
         let elsewhere = Elsewhere {
-            directory: other,
+            directory: elsewhere,
             name,
+            other,
         };
         DirFolder::of(rt, directory, Some(elsewhere))
     }

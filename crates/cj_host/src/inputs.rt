@@ -7,11 +7,12 @@ ghost use Rattle.cj_words.specs.Settings.{asked_of};
 
 use cj_words::{Command, Settings, Word, read_command};
 
-/// The files of a directory that a run reads: those whose names end with the suffix, and the one of sizes.
+/// The files of a directory that a run reads: those whose names end with the suffix, the one of sizes, and the report that is checked.
 #[derive(Clone, Copy, Debug, PartialEq, Eq)]
 pub struct Inputs<'w> {
     suffix: Option<&'w [u8]>,
     sizes: Option<&'w [u8]>,
+    report: Option<&'w [u8]>,
 }
 
 impl<'w> Inputs<'w> {
@@ -22,6 +23,7 @@ impl<'w> Inputs<'w> {
         Inputs {
             suffix: None,
             sizes: None,
+            report: None,
         }
     }
 
@@ -30,19 +32,20 @@ impl<'w> Inputs<'w> {
         ensures { plain_inputs result ≡ spec.reads_of (command_of words.now) }
     {
         match read_command(words) {
-            Ok(Command::Screen(screening)) => Inputs::of_settings(screening.settings),
-            Ok(Command::Check(checking)) => Inputs::of_settings(checking.settings),
-            Ok(Command::Rewrite(checking)) => Inputs::of_settings(checking.settings),
+            Ok(Command::Screen(screening)) => Inputs::of_settings(screening.settings, None),
+            Ok(Command::Check(checking)) => Inputs::of_settings(checking.settings, checking.report),
+            Ok(Command::Rewrite(checking)) => Inputs::of_settings(checking.settings, None),
             _ => Inputs::none(),
         }
     }
 
-    fn of_settings(settings: Settings<'w>) -> Inputs<'w>
-        ensures { plain_inputs result ≡ spec.reads_asked (asked_of settings.entry) }
+    fn of_settings(settings: Settings<'w>, report: Option<&'w [u8]>) -> Inputs<'w>
+        ensures { plain_inputs result ≡ spec.reads_asked (asked_of settings.entry) (option_copied report.entry) }
     {
         Inputs {
             suffix: Some(settings.suffix),
             sizes: settings.sizes,
+            report,
         }
     }
 
@@ -50,7 +53,7 @@ impl<'w> Inputs<'w> {
     pub fn have(&self, name: &[u8]) -> bool
         ensures { result ≡ spec.is_read (plain_inputs self.now) name.now }
     {
-        has_suffix(self.suffix, name) || has_name(self.sizes, name)
+        has_suffix(self.suffix, name) || has_name(self.sizes, name) || has_name(self.report, name)
     }
 }
 

@@ -6,11 +6,18 @@ use std::io::ErrorKind;
 use std::path::{Path, PathBuf};
 use std::{fs, io};
 
-/// A file of another directory, which stands for the one of its name.
+/// One or two files of another directory, each of which stands for the one of its name.
 #[derive(Clone, Copy)]
 pub struct Elsewhere<'a> {
     pub directory: &'a str,
     pub name: &'a str,
+    pub other: Option<&'a str>,
+}
+
+impl Elsewhere<'_> {
+    fn have(&self, name: &str) -> bool {
+        name == self.name || Some(name) == self.other
+    }
 }
 
 /// A file that was listed, or that stands for one.
@@ -33,23 +40,23 @@ impl ListedFile {
     }
 }
 
-/// The files of a directory, in its order, but for the one that stands elsewhere, which comes last.
+/// The files of a directory, in its order, but for those that stand elsewhere, which come last.
 pub fn list_files(
     rt: &HostRuntime,
     alloc: Global,
     directory: &str,
     elsewhere: Option<Elsewhere<'_>>,
 ) -> Result<Vec<ListedFile>, Failure> {
-    let but = elsewhere.map(|file| file.name);
     let mut files = Vec::new(alloc);
     for entry in listed(alloc, directory, fs::read_dir(rt, directory))? {
         let entry = listed(alloc, directory, entry)?;
-        if Some(entry.file_name()) != but {
-            add_file(alloc, &mut files, &entry)?;
+        match elsewhere {
+            Some(others) if others.have(entry.file_name()) => (),
+            _ => add_file(alloc, &mut files, &entry)?,
         }
     }
-    if let Some(file) = elsewhere {
-        add_elsewhere(rt, alloc, &mut files, file)?;
+    if let Some(others) = elsewhere {
+        add_elsewhere(rt, alloc, &mut files, others)?;
     }
     Ok(files)
 }
@@ -72,15 +79,31 @@ fn is_directory(alloc: Global, entry: &DirEntry) -> Result<bool, Failure> {
     }
 }
 
-// The other directory has to be there, and the file in it has not.
+// The other directory has to be there, and the files in it have not.
 fn add_elsewhere(
     rt: &HostRuntime,
     alloc: Global,
     files: &mut Vec<ListedFile>,
-    file: Elsewhere<'_>,
+    others: Elsewhere<'_>,
 ) -> Result<(), Failure> {
-    done_at(alloc, file.directory, fs::metadata(rt, file.directory))?;
-    let path = Path::new(file.directory).join(alloc, file.name)?;
+    let directory = others.directory;
+    done_at(alloc, directory, fs::metadata(rt, directory))?;
+    add_named(rt, alloc, files, directory, others.name)?;
+    match others.other {
+        Some(other) if other != others.name => add_named(rt, alloc, files, directory, other),
+        _ => Ok(()),
+    }
+}
+
+// The file of this name of the directory, where it has one.
+fn add_named(
+    rt: &HostRuntime,
+    alloc: Global,
+    files: &mut Vec<ListedFile>,
+    directory: &str,
+    name: &str,
+) -> Result<(), Failure> {
+    let path = Path::new(directory).join(alloc, name)?;
     match fs::symlink_metadata(rt, path.as_path()) {
         Ok(found) if found.is_dir() => Ok(()),
         Err(reason) if reason.kind() == ErrorKind::NotFound => Ok(()),

@@ -79,11 +79,12 @@ impl<'a> NewPath<'a> {
     /// Takes away what an earlier run left under the name of the part.
     fn clear(&self, rt: &HostRuntime, alloc: Global) -> Result<(), Failure> {
         let left = fs::symlink_metadata(rt, self.part());
-        if self.at_part(alloc, left)?.is_dir() {
+        if self.at_part_there(rt, alloc, left)?.is_dir() {
             let directory = self.open(rt, alloc)?;
             self.clear_directory(rt, alloc, &directory)
         } else {
-            self.at_part(alloc, fs::remove_file(rt, self.part()))
+            let removed = fs::remove_file(rt, self.part());
+            self.at_part_there(rt, alloc, removed)
         }
     }
 
@@ -111,7 +112,8 @@ impl<'a> NewPath<'a> {
 
     fn open(&self, rt: &HostRuntime, alloc: Global) -> Result<File, Failure> {
         let path = inside(alloc, self.part.as_str())?;
-        self.at_part(alloc, fs::open(rt, path.as_path()))
+        let opened = fs::open(rt, path.as_path());
+        self.at_part_there(rt, alloc, opened)
     }
 
     /// Whether this open directory is the one that is filled.
@@ -133,6 +135,22 @@ impl<'a> NewPath<'a> {
         match fs::open(rt, path.as_path()) {
             Ok(directory) => sync_directory(alloc, path.as_str(), &directory),
             Err(_) => Ok(()),
+        }
+    }
+
+    // What was there a moment before and is not there any more, another run has given its name, or taken away.
+    fn at_part_there<T>(
+        &self,
+        rt: &HostRuntime,
+        alloc: Global,
+        done: io::Result<T>,
+    ) -> Result<T, Failure> {
+        match done {
+            Err(reason) if reason.kind() == ErrorKind::NotFound => {
+                self.need_free(rt, alloc)?;
+                Err(Failure::other_run(alloc, self.shown))
+            }
+            done => self.at_part(alloc, done),
         }
     }
 

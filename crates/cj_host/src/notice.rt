@@ -60,7 +60,8 @@ of the interpolated tracks is missed, where DIR gives the bytes that it holds
 and keeps those that it is given.
 
 check reads the same ephemerides and the certificate, and decides anew whether
-it is accepted for them. generate writes a made-up catalogue into DIR, which
+it is accepted for them, and with --report NAME whether the report is that of
+the certificate and the ephemerides. generate writes a made-up catalogue into DIR, which
 has to be there, one ephemeris for each object. selfrun screens such a
 catalogue in memory, has the certificate checked, and prints the summary.
 rewrite does what check does, and writes an accepted certificate in version 2,
@@ -89,11 +90,14 @@ Options of screen, check and rewrite, in any order after DIR, each at most once:
                       and - (default CONJ)
   --cert-version N    of screen: the version of the certificate, 1 or 2
                       (default 1)
+  --report NAME       of check: the report's file, in the directory of the
+                      certificate (default: no report is checked)
   --out NEW           of screen and rewrite: the directory that is made for the
                       results; nothing may have its name yet (default: they are
                       put into DIR, in place of those of an earlier run)
   --cert-dir DIR      of check and rewrite: the directory in which the
-                      certificate is (default: that of the ephemerides)
+                      certificate is, and the report (default: that of the
+                      ephemerides)
 Options of generate and selfrun; selfrun has --threshold, --workers, --cells
 too, and generate has --out:
   --seed N            what the objects are drawn from (default 1)
@@ -104,7 +108,7 @@ with a value may also be one word, as --threshold=1000.
 
 Exit status:
   0  done
-  1  the certificate is not accepted
+  1  the certificate is not accepted, or the report
   2  usage: the words are not as above, or a value is out of its range
   3  an ephemeris or the file of sizes was refused
   4  a file of DIR could not be read

@@ -16,7 +16,7 @@ use std::thread::Threads;
 pub struct Paths {
     /// Of the files that are read.
     directory: String,
-    /// Of the certificate that is read, where it is another one.
+    /// Of the certificate that is read, and of the report, where it is another one.
     certificates: Option<String>,
     /// That is made for what is written, where it is not the first one.
     results: Option<String>,
@@ -36,12 +36,13 @@ impl Paths {
 
     /// The files that a run of these words reads.
     pub fn folder<'a>(&'a self, rt: &'a HostRuntime, words: &'a [Word]) -> DirFolder<'a> {
-        match (&self.certificates, certificate_of(words)) {
-            (Some(other), Some(name)) => DirFolder::with_file_of(
+        match (&self.certificates, pieces_of(words)) {
+            (Some(other), Some(pieces)) => DirFolder::with_files_of(
                 rt,
                 self.directory.as_str(),
                 other.as_str(),
-                name,
+                pieces.certificate,
+                pieces.report,
             ),
             _ => DirFolder::new(rt, self.directory.as_str()),
         }
@@ -61,14 +62,26 @@ impl Paths {
     }
 }
 
-/// The name of the certificate that is read.
-fn certificate_of(words: &[Word]) -> Option<&str> {
+/// The names of pieces that are read.
+#[derive(Clone, Copy)]
+struct Pieces<'w> {
+    certificate: &'w str,
+    report: Option<&'w str>,
+}
+
+/// The certificate that is read, and the report, where one is named.
+fn pieces_of(words: &[Word]) -> Option<Pieces<'_>> {
     match read_command(words) {
-        Ok(Command::Check(checking)) | Ok(Command::Rewrite(checking)) => {
-            str::from_utf8(checking.certificate).ok()
-        }
+        Ok(Command::Check(checking)) | Ok(Command::Rewrite(checking)) => Some(Pieces {
+            certificate: str::from_utf8(checking.certificate).ok()?,
+            report: text_if(checking.report),
+        }),
         _ => None,
     }
+}
+
+fn text_if(name: Option<&[u8]>) -> Option<&str> {
+    str::from_utf8(name?).ok()
 }
 
 fn path_if(alloc: Global, name: Option<&[u8]>) -> Result<Option<String>, Status>

@@ -110,7 +110,13 @@ fn a_file_of_another_directory_stands_for_the_one_of_its_name(rt: HostRuntime) {
     fs::write(&rt, "read_there/a.oem", "of an object").expect(&rt, "no fault");
     fs::write(&rt, "read_there/screen.cert", "not this one").expect(&rt, "no fault");
     fs::write(&rt, "read_there/other/b.oem", "not this one").expect(&rt, "no fault");
-    let mut folder = DirFolder::with_file_of(&rt, "read_there", "read_there/other", "screen.cert");
+    let mut folder = DirFolder::with_files_of(
+        &rt,
+        "read_there",
+        "read_there/other",
+        "screen.cert",
+        None,
+    );
     let names = folder.names(alloc).expect(&rt, "no fault");
     assert_eq!(rt; names.len(), 1);
     assert_eq!(rt; names[0].as_slice(), b"a.oem".as_slice());
@@ -134,4 +140,40 @@ fn a_file_of_another_directory_stands_for_the_one_of_its_name(rt: HostRuntime) {
         )
     );
     fs::remove_dir_all(&rt, "read_there").expect(&rt, "no fault");
+}
+
+#[test]
+fn a_report_of_another_directory_stands_for_the_one_of_its_name(rt: HostRuntime) {
+    let alloc = rt.alloc();
+    fs::create_dir(&rt, "told_there").expect(&rt, "no fault");
+    fs::create_dir(&rt, "told_there/other").expect(&rt, "no fault");
+    fs::write(&rt, "told_there/r.report", "not this one").expect(&rt, "no fault");
+    fs::write(&rt, "told_there/other/c.cert", "certificate").expect(&rt, "no fault");
+    fs::write(&rt, "told_there/other/r.report", "report").expect(&rt, "no fault");
+    // The second may have the name of the first.
+    let cases = [
+        (Some("r.report"), "c.cert", "r.report", "report"),
+        (Some("c.cert"), "r.report", "c.cert", "certificate"),
+        (None, "r.report", "c.cert", "certificate"),
+    ];
+    for (other, first, second, held) in cases {
+        let mut folder = DirFolder::with_files_of(
+            &rt,
+            "told_there",
+            "told_there/other",
+            "c.cert",
+            other,
+        );
+        let names = folder.names(alloc).expect(&rt, "no fault");
+        assert_eq!(rt; names.len(), 2);
+        assert_eq!(rt; names[0].as_slice(), first.as_bytes());
+        assert_eq!(rt; names[1].as_slice(), second.as_bytes());
+        assert_eq!(rt;
+            read_whole(alloc, &mut folder, 1, 100)
+                .expect(&rt, "no fault")
+                .as_slice(),
+            held.as_bytes()
+        );
+    }
+    fs::remove_dir_all(&rt, "told_there").expect(&rt, "no fault");
 }

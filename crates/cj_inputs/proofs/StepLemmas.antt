@@ -1,5 +1,5 @@
 -- How the parts of a run end.
-use Rattle.std.proofs.Common.{◌≡◌, ℕ, ◌*◌, ◌-◌, ◌<◌, ◌≤◌, List, length, true, false, Option, Result, Ok, Err, refl, sym, ap, subst, ◌∙◌, arith}
+use Rattle.std.proofs.Common.{◌≡◌, ℕ, ◌*◌, ◌-◌, ◌<◌, ◌≤◌, List, length, true, false, Option, Some, Result, Ok, Err, refl, sym, ap, subst, ◌∙◌, arith}
 use Rattle.std.specs.Prelude.{nat_le}
 use Rattle.std.proofs.lemmas.Bool.Decides.{nat_tests}
 use Rattle.cj_io.specs.declared.file.FileBytes.{FileBytes}
@@ -25,7 +25,9 @@ use Rattle.cj_inputs.specs.Readings.{readings_of, Reads}
 use Rattle.cj_status.specs.Errors.{folder_status}
 use Rattle.cj_inputs.specs.Errors.{input_status}
 use Rattle.cj_inputs.specs.Cases.{case_asked, case_of_run, case_with, object_slots, within_limits, within_objects}
-use Rattle.cj_inputs.specs.CheckInputs.{PlainInputs, certificate_at, certificate_named, inputs_asked}
+use Rattle.cj_inputs.specs.CheckInputs.{PlainInputs, certificate_named, inputs_asked, piece_at, piece_named, report_if_named, report_named}
+use Rattle.cj_status.specs.declared.status.CertificateCause.{CertificateCause}
+use Rattle.cj_status.specs.declared.status.CertificateCause.TheVariants.{NoFile, NoReport}
 use Rattle.cj_words.specs.Commands.{Checking}
 
 -- what ended a step ends those behind it
@@ -202,17 +204,16 @@ no_limit case length count is short same few =
     let fits : nat_le count 4_000_000 ≡ true = grind (arith, nat_tests) in
     rw (← is, small, ← same, fits) refl
 
--- ---- the certificate
+-- ---- the certificate and the report
 
--- it is that of the first file with the name, once the names are known
-pub certificate_found : (files : List FileBytes) (name : List ℕ) (names : List Name) (number : Option ℕ) → names ≡ names_of files
+-- a piece is that of the first file with the name, once the names are known
+pub piece_found : (missing : CertificateCause) (files : List FileBytes) (name : List ℕ) (names : List Name) (number : Option ℕ) → names ≡ names_of files
     → number ≡ first_named name names
-    → certificate_named files name ≡ certificate_at files name number
-unfolding certificate_named
-certificate_found files name names number known is = ap (certificate_at files name) (sym (is ∙ ap (first_named name) known))
+    → piece_named missing files name ≡ piece_at missing files name number
+piece_found missing files name names number known is = ap (piece_at missing files name) (sym (is ∙ ap (first_named name) known))
 
-abbrev both : PlainProblem → List ℕ → PlainInputs
-both case bytes = record { case = case; bytes = bytes }
+abbrev all : PlainProblem → List ℕ → Option (List ℕ) → PlainInputs
+all case bytes report = record { case = case; bytes = bytes; report = report }
 
 -- the case is not made
 pub case_fails : (later rose : Type 0) (files : List FileBytes) (checking : Checking) (s : Status) → (later → rose)
@@ -220,18 +221,38 @@ pub case_fails : (later rose : Type 0) (files : List FileBytes) (checking : Chec
 unfolding inputs_asked
 case_fails later rose files checking s wider stops =
     stops_behind later rose s (case_asked files checking.settings)
-    (λ case. certificate_named files checking.certificate >>= λ bytes. Ok (both case bytes)) wider stops
+    (λ case. certificate_named files checking.certificate >>= λ bytes. report_if_named files checking.report >>= λ report. Ok (all case bytes report)) wider stops
 
 -- the certificate is not read
 pub certificate_fails : (later rose : Type 0) (files : List FileBytes) (checking : Checking) (case : PlainProblem) (s : Status) → (later → rose)
-    → case_asked files checking.settings ≡ Ok case → Stops later s (certificate_named files checking.certificate) → Stops rose s (inputs_asked files checking)
-unfolding inputs_asked
+    → case_asked files checking.settings ≡ Ok case → Stops later s (piece_named NoFile files checking.certificate) → Stops rose s (inputs_asked files checking)
+unfolding inputs_asked certificate_named
 certificate_fails later rose files checking case s wider made stops =
-    rw made (stops_behind later rose s (certificate_named files checking.certificate) (λ bytes. Ok (both case bytes)) wider stops)
+    rw made (stops_behind later rose s (piece_named NoFile files checking.certificate)
+    (λ bytes. report_if_named files checking.report >>= λ report. Ok (all case bytes report)) wider stops)
 
--- both are there
-pub inputs_made : (files : List FileBytes) (checking : Checking) (case : PlainProblem) (bytes : List ℕ)
-    → case_asked files checking.settings ≡ Ok case → certificate_named files checking.certificate ≡ Ok bytes
-    → inputs_asked files checking ≡ Ok (both case bytes)
-unfolding inputs_asked
-inputs_made files checking case bytes made read = rw (made, read) refl
+-- the report is not read
+pub report_fails : (later rose : Type 0) (files : List FileBytes) (checking : Checking) (case : PlainProblem) (bytes : List ℕ) (s : Status) → (later → rose)
+    → case_asked files checking.settings ≡ Ok case → piece_named NoFile files checking.certificate ≡ Ok bytes
+    → Stops later s (report_if_named files checking.report) → Stops rose s (inputs_asked files checking)
+unfolding inputs_asked certificate_named
+report_fails later rose files checking case bytes s wider made read stops =
+    rw (made, read) (stops_behind later rose s (report_if_named files checking.report) (λ report. Ok (all case bytes report)) wider stops)
+
+-- all are there
+pub inputs_made : (files : List FileBytes) (checking : Checking) (case : PlainProblem) (bytes : List ℕ) (report : Option (List ℕ))
+    → case_asked files checking.settings ≡ Ok case → piece_named NoFile files checking.certificate ≡ Ok bytes
+    → report_if_named files checking.report ≡ Ok report → inputs_asked files checking ≡ Ok (all case bytes report)
+unfolding inputs_asked certificate_named
+inputs_made files checking case bytes report made read beside = rw (made, read, beside) refl
+
+-- a report that is named and not read
+pub named_fails : (rose : Type 0) (files : List FileBytes) (name : List ℕ) (s : Status) → Stops rose s (piece_named NoReport files name)
+    → Stops rose s (report_if_named files (Some name))
+unfolding report_named
+named_fails rose files name s stops = stops_behind rose rose s (piece_named NoReport files name) (λ bytes. Ok (Some bytes)) (λ risen. risen) stops
+
+-- one that is
+pub named_read : (files : List FileBytes) (name bytes : List ℕ) → piece_named NoReport files name ≡ Ok bytes → report_if_named files (Some name) ≡ Ok (Some bytes)
+unfolding report_named
+named_read files name bytes read = rw read refl

@@ -1,5 +1,6 @@
-//! From the files of a folder to a certificate and the problem for which it is to be checked.
-ghost use Rattle.std.specs.Prelude.{◌≡◌, ◌<◌, ◌≤◌, ◌^◌, List, Some, Err, IfErr, IfOk, length};
+//! From the files of a folder to a certificate, the problem for which it is to be checked, and the report beside it.
+ghost use Rattle.std.specs.Prelude.{◌≡◌, ◌<◌, ◌≤◌, ◌^◌, List, Some, Err, IfErr, IfOk, IfSome, length, option_map};
+ghost use Rattle.std.specs.Option.{option_copied};
 ghost use Rattle.cj_io.specs.Faults.{Rose};
 ghost use Rattle.cj_io.specs.Files.{names_of};
 ghost use Rattle.cj_io.specs.declared.file.FileBytes.{FileBytes};
@@ -17,11 +18,11 @@ use cj_words::Checking;
 use std::alloc::Global;
 use std::thread::Threads;
 
-/// The greatest number of bytes of a certificate.
+/// The greatest number of bytes of a certificate, and of a report.
 const MAX_BYTES: u64 = 1_073_741_824;
 
-/// Prepares the problem that the settings ask for, and then reads the first file with the certificate's name. The ephemerides are parsed by
-/// so many workers.
+/// Prepares the problem that the settings ask for, then reads the first file with the certificate's name, and then the first with the
+/// report's, where one is named. The ephemerides are parsed by so many workers.
 #[tactic(auto, unfolding(crate::specs::CheckInputs::inputs_asked))]
 pub fn prepare_check<R: Threads + Sync, F: Folder>(
     rt: &R,
@@ -35,26 +36,62 @@ pub fn prepare_check<R: Threads + Sync, F: Folder>(
     ensures told { (files : List FileBytes) → F.files folder.old ≡ Some files
         → Gives (Rose (F.faults folder.old) (F.faults folder.new)) spec.plain_inputs result (spec.inputs_asked files (plain_checking checking.now)) }
     ensures small { IfOk result (λ inputs. length inputs.certificate.items ≤ 1_073_741_824) }
+    ensures small_report { IfOk result (λ inputs. IfSome inputs.report (λ report. length report.items ≤ 1_073_741_824)) }
 
     ensures files { F.files folder.new ≡ F.files folder.old }
     ensures later { F.faults folder.old ≤ F.faults folder.new }
 {
     let names = folder.names(alloc)?;
     let problem = prepare_listed(rt, alloc, folder, &names, &checking.settings, workers)?;
-    let certificate = read_certificate(alloc, folder, &names, checking.certificate)?;
+    let certificate = read_named(
+        alloc,
+        folder,
+        &names,
+        checking.certificate,
+        CertificateCause::NoFile,
+    )?;
+    let report = read_report(alloc, folder, &names, checking.report)?;
     Ok(CheckInputs {
         problem,
         certificate,
+        report,
     })
 }
 
-/// The bytes of the first file with the certificate's name. These are the names of the folder.
-#[tactic(auto, unfolding(crate::specs::CheckInputs::certificate_named))]
-fn read_certificate<F: Folder>(
+/// The bytes of the first file with the report's name, where one is named. These are the names of the folder.
+fn read_report<F: Folder>(
     alloc: Global,
     folder: &mut F,
     names: &[Name],
-    certificate: &[u8],
+    report: Option<&[u8]>,
+) -> Result<Option<Vec<u8>>, Status>
+    requires many { length names.now < 2 ^ 32 }
+    requires count { F.count folder.old ≡ length names.now }
+
+    ensures between { IfErr result ComesBetween }
+    ensures read { result ≡ Err Status.ReadFault → Rose (F.faults folder.old) (F.faults folder.new) }
+    ensures told { (files : List FileBytes) → F.files folder.old ≡ Some files → names.now ≡ names_of files
+        → Gives (Rose (F.faults folder.old) (F.faults folder.new)) (λ report. option_map (λ bytes. bytes.items) report) result
+        (spec.report_if_named files (option_copied report.entry)) }
+    ensures small { IfOk result (λ report. IfSome report (λ bytes. length bytes.items ≤ 1_073_741_824)) }
+
+    ensures files { F.files folder.new ≡ F.files folder.old }
+    ensures later { F.faults folder.old ≤ F.faults folder.new }
+{
+    let Some(name) = report else {
+        return Ok(None);
+    };
+    let bytes = read_named(alloc, folder, names, name, CertificateCause::NoReport)?;
+    Ok(Some(bytes))
+}
+
+/// The bytes of the first file with a name; where there is none, this is the cause. These are the names of the folder.
+fn read_named<F: Folder>(
+    alloc: Global,
+    folder: &mut F,
+    names: &[Name],
+    name: &[u8],
+    missing: CertificateCause,
 ) -> Result<Vec<u8>, Status>
     requires many { length names.now < 2 ^ 32 }
     requires count { F.count folder.old ≡ length names.now }
@@ -62,17 +99,18 @@ fn read_certificate<F: Folder>(
     ensures between { IfErr result ComesBetween }
     ensures read { result ≡ Err Status.ReadFault → Rose (F.faults folder.old) (F.faults folder.new) }
     ensures told { (files : List FileBytes) → F.files folder.old ≡ Some files → names.now ≡ names_of files
-        → Gives (Rose (F.faults folder.old) (F.faults folder.new)) (λ bytes. bytes.items) result (spec.certificate_named files certificate.now) }
+        → Gives (Rose (F.faults folder.old) (F.faults folder.new)) (λ bytes. bytes.items) result (spec.piece_named missing files name.now) }
     ensures small { IfOk result (λ bytes. length bytes.items ≤ 1_073_741_824) }
 
+    ensures count { F.count folder.new ≡ F.count folder.old }
     ensures files { F.files folder.new ≡ F.files folder.old }
     ensures later { F.faults folder.old ≤ F.faults folder.new }
 {
-    match first_named(names, certificate) {
-        Some(number) => Ok(read_within(alloc, folder, number, certificate, MAX_BYTES)?),
+    match first_named(names, name) {
+        Some(number) => Ok(read_within(alloc, folder, number, name, MAX_BYTES)?),
         None => Err(Status::NotAccepted {
             line: 0,
-            cause: CertificateCause::NoFile,
+            cause: missing,
         }),
     }
 }

@@ -19,7 +19,7 @@ use Rattle.cj_words.specs.Options.{name_of}
 use Rattle.cj_status.specs.declared.status.Status.{Status}
 use Rattle.cj_status.specs.declared.status.Status.TheVariants as status
 use Rattle.cj_status.specs.declared.status.CertificateCause.{CertificateCause}
-use Rattle.cj_status.specs.declared.status.CertificateCause.TheVariants.{NoFile, Text, Refused}
+use Rattle.cj_status.specs.declared.status.CertificateCause.TheVariants.{NoFile, Text, Refused, NoReport, Report}
 use Rattle.cj_status.specs.declared.status.FileCause.{FileCause}
 use Rattle.cj_status.specs.declared.status.FileCause.TheVariants.{Oem, MixedFrames, Sizes, NoSizes}
 use Rattle.cj_status.specs.declared.status.LimitFault.{LimitFault}
@@ -102,6 +102,8 @@ abbrev pub certificate_text : CertificateCause → List ℕ
 certificate_text NoFile = codes "NoFile"
 certificate_text (Text cause) = codes "Text " ++ cert_text cause
 certificate_text (Refused cause) = check_text cause
+certificate_text NoReport = codes "NoReport"
+certificate_text Report = codes "Report"
 
 -- a name of a file as it is shown: each byte that is not printable as ?, so that no name breaks the line
 abbrev pub shown_byte : ℕ → ℕ

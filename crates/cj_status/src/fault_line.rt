@@ -73,6 +73,8 @@ fn certificate_cause_name(cause: CertificateCause) -> &'static [u8]
         CertificateCause::NoFile => b"NoFile",
         CertificateCause::Text(cause) => cert_name(cause),
         CertificateCause::Refused(cause) => check_name(cause),
+        CertificateCause::NoReport => b"NoReport",
+        CertificateCause::Report => b"Report",
     }
 }
 

@@ -18,7 +18,7 @@ pub enum FileCause {
     NoSizes,
 }
 
-/// Why a certificate was not accepted.
+/// Why a certificate, or the report beside it, was not accepted.
 #[derive(Clone, Copy, Debug, PartialEq, Eq)]
 pub enum CertificateCause {
     /// No file has its name.
@@ -27,6 +27,10 @@ pub enum CertificateCause {
     Text(CertCause),
     /// It is not accepted for the files.
     Refused(CheckCause),
+    /// No file has the name that was given for the report.
+    NoReport,
+    /// It is accepted, and the report is not that of its cells.
+    Report,
 }
 
 /// What is beyond its limit.
@@ -34,7 +38,7 @@ pub enum CertificateCause {
 pub enum LimitFault {
     /// There are so many objects, more than 2,000.
     Objects { count: u32 },
-    /// This file has more than 67,108,864 bytes, or it is the certificate and has more than 1,073,741,824.
+    /// This file has more than 67,108,864 bytes, or it is the certificate or the report and has more than 1,073,741,824.
     FileBytes { file: Name },
     /// The files up to one of them have so many nodes, more than 2,000,000.
     Nodes { count: u64 },
@@ -50,7 +54,7 @@ pub enum LimitFault {
 #[derive(Debug, Drop)]
 pub enum Status {
     Ok,
-    /// The certificate that was to be checked is not accepted; lines are counted from 1, and 0 stands for the whole.
+    /// The certificate that was to be checked, or the report, is not accepted; lines are counted from 1, and 0 stands for the whole.
     NotAccepted {
         line: u32,
         cause: CertificateCause,

@@ -64,7 +64,7 @@ fn the_cause_of_a_refused_file_is_told_by_its_name(rt: HostRuntime) {
 
 #[test]
 fn the_cause_of_a_refused_certificate_is_told_by_its_name(rt: HostRuntime) {
-    let cases: [(u32, CertificateCause, &[u8]); 5] = [
+    let cases: [(u32, CertificateCause, &[u8]); 7] = [
         (
             0,
             CertificateCause::NoFile,
@@ -89,6 +89,16 @@ fn the_cause_of_a_refused_certificate_is_told_by_its_name(rt: HostRuntime) {
             7,
             CertificateCause::Refused(CheckCause::BoxOf),
             b"conj: not accepted: line 7: BoxOf\n",
+        ),
+        (
+            0,
+            CertificateCause::NoReport,
+            b"conj: not accepted: line 0: NoReport\n",
+        ),
+        (
+            8,
+            CertificateCause::Report,
+            b"conj: not accepted: line 8: Report\n",
         ),
     ];
     for (line, cause, told) in cases {

@@ -1,5 +1,6 @@
 -- The commands of the program, and what the words of a command line ask for.
 use Rattle.std.specs.Prelude.{ℕ, ◌-◌, ◌^◌, if◌then◌else◌, List, Option, Some, None, Result, Ok, Err, codes}
+use Rattle.std.specs.Option.{option_copied}
 use Rattle.cj_words.specs.declared.command.Checking as kept_checking
 use Rattle.cj_words.specs.declared.command.Command.{Command}
 use Rattle.cj_words.specs.declared.command.Command.TheVariants as commands
@@ -9,12 +10,12 @@ use Rattle.cj_words.specs.declared.command.Trial as kept_trial
 use Rattle.cj_words.specs.declared.command.Verb.{Verb}
 use Rattle.cj_words.specs.declared.command.Verb.TheVariants.{Screen, Check, Generate, Selfrun, Rewrite}
 use Rattle.cj_words.specs.declared.option.Opt.{Opt}
-use Rattle.cj_words.specs.declared.option.Opt.TheVariants.{Workers, Cert, Originator, Cells, Seed, Objects, Minutes, CertVersion, Out, CertDir}
+use Rattle.cj_words.specs.declared.option.Opt.TheVariants.{Workers, Cert, Originator, Cells, Seed, Objects, Minutes, CertVersion, Report, Out, CertDir}
 use Rattle.cj_words.specs.declared.option.UsageFault.{UsageFault}
 use Rattle.cj_words.specs.declared.option.UsageFault.TheVariants.{Words, Value}
 use Rattle.cj_words.specs.Lines.{Line, line_of}
 use Rattle.cj_words.specs.Options.{Given, given_of, are_accepted, listed, value_of}
-use Rattle.cj_words.specs.Settings.{◌>>=◌, Asked, asked_of, file_text_or, in_range, is_path_or_none, number_or, originator_or, sized_of, threshold_of, unsized_of}
+use Rattle.cj_words.specs.Settings.{◌>>=◌, Asked, asked_of, file_text_or, in_range, is_path_or_none, name_or, number_or, originator_or, sized_of, threshold_of, unsized_of}
 
 -- how files are screened: how many workers share the work, who makes the messages, the greatest number of leaves, the version of the
 -- certificate
@@ -25,10 +26,12 @@ pub record Screening : Type 0 where
   pub cells : ℕ
   pub version : ℕ
 
--- what is checked against files, or rewritten: the certificate in the file with this name
+-- what is checked against files, or rewritten: the certificate in the file with this name, and beside it the report in the file with that
+-- name, where one is named
 pub record Checking : Type 0 where
   pub settings : Asked
   pub certificate : List ℕ
+  pub report : Option (List ℕ)
 
 -- how a catalogue is made up: what it is drawn from, how many objects it has, how many minutes it covers
 pub record Recipe : Type 0 where
@@ -58,7 +61,7 @@ abbrev pub plain_screening : kept_screening.Screening → Screening
 plain_screening s = record { settings = asked_of s.settings; workers = s.workers; originator = s.originator.now; cells = s.cells; version = s.version }
 
 abbrev pub plain_checking : kept_checking.Checking → Checking
-plain_checking c = record { settings = asked_of c.settings; certificate = c.certificate.now }
+plain_checking c = record { settings = asked_of c.settings; certificate = c.certificate.now; report = option_copied c.report }
 
 abbrev pub plain_recipe : kept_recipe.Recipe → Recipe
 plain_recipe r = record { seed = r.seed; objects = r.objects; minutes = r.minutes }
@@ -91,14 +94,15 @@ screening_of givens = do
   version ← in_range CertVersion (number_or 1 2 1 (value_of CertVersion givens))
   Ok (record { settings = settings; workers = workers; originator = originator; cells = cells; version = version })
 
--- the same of a check, and of a certificate that is rewritten
+-- the same of a check, and of a certificate that is rewritten, which has no option for a report
 unfoldable pub checking_of : List Given → Result Checking UsageFault
 checking_of givens = do
   threshold ← threshold_of givens
   unsized ← unsized_of threshold givens
   certificate ← in_range Cert (file_text_or 200 (codes "screen.cert") (value_of Cert givens))
   settings ← sized_of unsized givens
-  Ok (record { settings = settings; certificate = certificate })
+  report ← in_range Report (name_or (value_of Report givens))
+  Ok (record { settings = settings; certificate = certificate; report = report })
 
 -- the same of a catalogue
 unfoldable pub recipe_of : List Given → Result Recipe UsageFault

@@ -4,7 +4,7 @@ use Rattle.std.specs.List.{list_all, before_first, after_first}
 use Rattle.std.specs.Str.{bytes_eq}
 use Rattle.cj_kvn.specs.Lines.{is_equals}
 use Rattle.cj_words.specs.declared.option.Opt.{Opt}
-use Rattle.cj_words.specs.declared.option.Opt.TheVariants.{Threshold, Workers, From, To, Suffix, Cert, Originator, Cells, Seed, Objects, Minutes, AsHermite3, Sizes, CertVersion, Out, CertDir}
+use Rattle.cj_words.specs.declared.option.Opt.TheVariants.{Threshold, Workers, From, To, Suffix, Cert, Originator, Cells, Seed, Objects, Minutes, AsHermite3, Sizes, CertVersion, Report, Out, CertDir}
 use Rattle.cj_words.specs.declared.command.Verb.{Verb}
 use Rattle.cj_words.specs.declared.command.Verb.TheVariants.{Screen, Check, Generate, Selfrun, Rewrite}
 
@@ -23,6 +23,7 @@ name_of Minutes = codes "--minutes"
 name_of AsHermite3 = codes "--as-hermite3"
 name_of Sizes = codes "--sizes"
 name_of CertVersion = codes "--cert-version"
+name_of Report = codes "--report"
 name_of Out = codes "--out"
 name_of CertDir = codes "--cert-dir"
 
@@ -52,7 +53,7 @@ is_name Screen name =
     || (bytes_eq name (name_of Workers)
     || (bytes_eq name (name_of Originator)
     || (bytes_eq name (name_of Cells) || (bytes_eq name (name_of CertVersion) || bytes_eq name (name_of Out)))))
-is_name Check name = is_directory_name name || (bytes_eq name (name_of Cert) || bytes_eq name (name_of CertDir))
+is_name Check name = is_directory_name name || (bytes_eq name (name_of Cert) || (bytes_eq name (name_of Report) || bytes_eq name (name_of CertDir)))
 is_name Generate name = is_catalogue_name name || bytes_eq name (name_of Out)
 is_name Selfrun name = bytes_eq name (name_of Threshold) || (bytes_eq name (name_of Workers) || (bytes_eq name (name_of Cells) || is_catalogue_name name))
 is_name Rewrite name = is_directory_name name || (bytes_eq name (name_of Cert) || (bytes_eq name (name_of Out) || bytes_eq name (name_of CertDir)))
@@ -156,8 +157,9 @@ are_others_single givens =
     && (is_single Objects givens
     && (is_single Minutes givens
     && (is_single CertVersion givens
+    && (is_single Report givens
     && (is_single Out givens
-    && is_single CertDir givens))))))))
+    && is_single CertDir givens)))))))))
 
 -- so does each
 abbrev pub are_single : List Given → Bool

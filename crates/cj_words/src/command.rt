@@ -47,12 +47,14 @@ pub struct Screening<'w> {
     pub ghost most_version: { version ≤ 2 },
 }
 
-/// Which certificate is checked against the files of a directory, or rewritten. Its name is lent by the words.
+/// Which certificate is checked against the files of a directory, or rewritten, and which report beside it. Their names are lent by the words.
 #[derive(Clone, Copy, Debug, PartialEq, Eq)]
 pub struct Checking<'w> {
     pub settings: Settings<'w>,
     /// The name of the certificate's file: 1 to 200 bytes from 33 to 126, none of them `/`.
     pub certificate: &'w [u8],
+    /// The name of the report's file, where one is to be checked beside the certificate: 1 to 200 such bytes. Of a rewriting there is none.
+    pub report: Option<&'w [u8]>,
 }
 
 /// How a catalogue is made up.

@@ -14,7 +14,7 @@ use crate::numbers::{number_or, out_of_range};
 use crate::option::{Opt, UsageFault};
 use crate::reading::{sized_of, threshold_of, unsized_of};
 use crate::settings::Word;
-use crate::texts::{file_text_or, is_path_or_none, originator_or};
+use crate::texts::{file_text_or, is_path_or_none, name_or, originator_or};
 
 /// Reads the words of a command line, without the program's name.
 ///
@@ -132,9 +132,13 @@ fn checking_of(words: &[Word]) -> Result<Checking<'_>, UsageFault>
         return Err(out_of_range(Opt::Cert));
     };
     let settings = sized_of(unsized_settings, words)?;
+    let Some(report) = name_or(value_of(words, Opt::Report)) else {
+        return Err(out_of_range(Opt::Report));
+    };
     Ok(Checking {
         settings,
         certificate,
+        report,
     })
 }
 

@@ -51,6 +51,7 @@ fn are_others_single(words: &[Word]) -> bool
         && is_single(words, Opt::Objects)
         && is_single(words, Opt::Minutes)
         && is_single(words, Opt::CertVersion)
+        && is_single(words, Opt::Report)
         && is_single(words, Opt::Out)
         && is_single(words, Opt::CertDir)
 }
@@ -88,7 +89,10 @@ fn is_known(name: &[u8], verb: Verb) -> bool
                 || is_named(name, Opt::Out)
         }
         Verb::Check => {
-            is_of_directory(name) || is_named(name, Opt::Cert) || is_named(name, Opt::CertDir)
+            is_of_directory(name)
+                || is_named(name, Opt::Cert)
+                || is_named(name, Opt::Report)
+                || is_named(name, Opt::CertDir)
         }
         Verb::Generate => is_of_catalogue(name) || is_named(name, Opt::Out),
         Verb::Selfrun => {

@@ -32,6 +32,8 @@ pub enum Opt {
     Sizes,
     /// In which version the certificate is written.
     CertVersion,
+    /// The file of the report that is checked beside the certificate.
+    Report,
     /// The directory that is made for the results.
     Out,
     /// The directory in which the certificate lies.
@@ -66,6 +68,7 @@ pub fn option_name(option: Opt) -> &'static [u8]
         Opt::AsHermite3 => b"--as-hermite3",
         Opt::Sizes => b"--sizes",
         Opt::CertVersion => b"--cert-version",
+        Opt::Report => b"--report",
         Opt::Out => b"--out",
         Opt::CertDir => b"--cert-dir",
     }

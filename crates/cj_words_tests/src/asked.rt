@@ -56,6 +56,7 @@ fn what_is_left_out(rt: HostRuntime) {
             Command::Check(Checking {
                 settings: USUAL,
                 certificate: b"screen.cert",
+                report: None,
             }),
         ),
         (
@@ -63,6 +64,7 @@ fn what_is_left_out(rt: HostRuntime) {
             Command::Rewrite(Checking {
                 settings: USUAL,
                 certificate: b"screen.cert",
+                report: None,
             }),
         ),
         ("generate .", Command::Generate(USUAL_RECIPE)),
@@ -108,7 +110,7 @@ fn all_that_can_be_asked_of_a_screening(rt: HostRuntime) {
 #[test]
 fn all_that_can_be_asked_of_a_check(rt: HostRuntime) {
     let line =
-        "check . --sizes=r.txt --cert other.cert --suffix .txt --as-hermite3 --threshold 1000000";
+        "check . --report=other.report --sizes=r.txt --cert other.cert --suffix .txt --as-hermite3 --threshold 1000000";
     let words = words(rt.alloc(), line).expect(&rt, "no fault");
     let checking = Checking {
         settings: Settings {
@@ -120,6 +122,7 @@ fn all_that_can_be_asked_of_a_check(rt: HostRuntime) {
             sizes: Some(b"r.txt"),
         },
         certificate: b"other.cert",
+        report: Some(b"other.report"),
     };
     assert_eq!(rt; read_command(&words), Ok(Command::Check(checking)));
 }
@@ -163,6 +166,7 @@ fn the_names_of_fault_lines(rt: HostRuntime) {
     assert_eq!(rt; option_name(Opt::Seed), b"--seed".as_slice());
     assert_eq!(rt; option_name(Opt::Objects), b"--objects".as_slice());
     assert_eq!(rt; option_name(Opt::Minutes), b"--minutes".as_slice());
+    assert_eq!(rt; option_name(Opt::Report), b"--report".as_slice());
     assert_eq!(rt; option_name(Opt::Out), b"--out".as_slice());
     assert_eq!(rt; option_name(Opt::CertDir), b"--cert-dir".as_slice());
 }

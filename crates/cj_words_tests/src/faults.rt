@@ -33,6 +33,10 @@ pub const BAD_VERSION: Option<UsageFault> = Some(UsageFault::Value {
     option: Opt::CertVersion,
 });
 
+pub const BAD_REPORT: Option<UsageFault> = Some(UsageFault::Value {
+    option: Opt::Report,
+});
+
 pub const BAD_SEED: Option<UsageFault> = Some(UsageFault::Value { option: Opt::Seed });
 
 pub const BAD_OBJECTS: Option<UsageFault> = Some(UsageFault::Value {

@@ -1,7 +1,7 @@
 //! Command lines that are refused, and why, beside those that are just taken.
 use crate::faults::{
-    BAD_CELLS, BAD_CERT, BAD_FROM, BAD_MINUTES, BAD_OBJECTS, BAD_ORIGINATOR, BAD_SEED, BAD_SIZES,
-    BAD_SUFFIX, BAD_THRESHOLD, BAD_TO, BAD_VERSION, BAD_WORKERS, WORDS,
+    BAD_CELLS, BAD_CERT, BAD_FROM, BAD_MINUTES, BAD_OBJECTS, BAD_ORIGINATOR, BAD_REPORT, BAD_SEED,
+    BAD_SIZES, BAD_SUFFIX, BAD_THRESHOLD, BAD_TO, BAD_VERSION, BAD_WORKERS, WORDS,
 };
 use crate::lines::{Case, fault_of, first_wrong, name_of};
 use std::panic::Expect;
@@ -188,6 +188,42 @@ fn a_certificate_is_named_by_two_hundred_bytes_at_most(rt: HostRuntime) {
         fault_of(alloc, "check . --cert", b"a b").expect(&rt, "no fault"),
         BAD_CERT
     );
+}
+
+const REPORTS: [Case; 15] = [
+    ("check . --report ~", None),
+    ("check . --report=screen.report --cert-dir c", None),
+    ("check . --report a/b", BAD_REPORT),
+    ("check . --report a\x7f", BAD_REPORT),
+    ("check . --report=", WORDS),
+    ("check . --report", WORDS),
+    ("check . --report x --report x", WORDS),
+    // Of a check alone.
+    ("screen . --report x", WORDS),
+    ("rewrite . --report x", WORDS),
+    ("generate . --report x", WORDS),
+    ("selfrun --report x", WORDS),
+    // Behind the file of sizes, and before a directory.
+    ("check . --report / --cert /", BAD_CERT),
+    ("check . --report / --sizes /", BAD_SIZES),
+    ("check . --report / --cert-dir \x7f", BAD_REPORT),
+    ("check . --reports x", WORDS),
+];
+
+#[test]
+fn reports(rt: HostRuntime) {
+    let alloc = rt.alloc();
+    assert_eq!(rt;
+        first_wrong(alloc, REPORTS.as_slice()).expect(&rt, "no fault"),
+        None
+    );
+    for (count, expected) in [(200, None), (201, BAD_REPORT)] {
+        let name = name_of(alloc, count).expect(&rt, "no fault");
+        assert_eq!(rt;
+            fault_of(alloc, "check . --report", &name).expect(&rt, "no fault"),
+            expected
+        );
+    }
 }
 
 const COMMANDS: [Case; 39] = [

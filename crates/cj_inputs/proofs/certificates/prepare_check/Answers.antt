@@ -6,7 +6,7 @@ use Rattle.cj_io.specs.declared.folder.FolderError.TheVariants.{Failed}
 use Rattle.cj_io.proofs.FileLemmas.{rose_since}
 use Rattle.cj_words.specs.Commands.{plain_checking}
 use Rattle.cj_inputs.proofs.EndLemmas.{ok_not_err, same_cause}
-use Rattle.cj_inputs.proofs.StepLemmas.{case_fails, certificate_fails, folder_between, folder_stops, inputs_made, listing_failed}
+use Rattle.cj_inputs.proofs.StepLemmas.{case_fails, certificate_fails, folder_between, folder_stops, inputs_made, listing_failed, report_fails}
 use Rattle.cj_inputs.proofs.certificates.prepare_check.Goals as goal
 
 pub returns-in_err-names : goal.returns-in_err-names
@@ -21,6 +21,7 @@ returns-in_err-names g c =
       read = listing_failed e failed;
       told = λ files told. folder_stops rose e _ failed;
       small = tt;
+      small_report = tt;
       files = c.names.ensures.files;
       later = c.names.ensures.later;
     })
@@ -42,6 +43,7 @@ returns-in_err-problem g c =
           case_fails (Rose before now) (Rose first now) files (plain_checking c.args.checking.now) s since
           (c.in_err-problem.ensures.told files (c.names.ensures.files ∙ told) known);
       small = tt;
+      small_report = tt;
       files = c.prepare_listed.ensures.files ∙ c.names.ensures.files;
       later = omega (arith, c.prepare_listed.ensures.later, c.names.ensures.later);
     })
@@ -51,7 +53,7 @@ returns-in_err-certificate g c =
     let s = c.in_err-certificate.field-0.0 in
     let first = g.F.Folder.faults c.args.folder.now in
     let before = g.F.Folder.faults c.prepare_listed.new.folder in
-    let now = g.F.Folder.faults c.read_certificate.new.folder in
+    let now = g.F.Folder.faults c.read_named.new.folder in
     let since = rose_since first before now (omega (arith, c.prepare_listed.ensures.later, c.names.ensures.later)) in
     let kept = c.prepare_listed.ensures.files ∙ c.names.ensures.files in
     let p = err_from_is_err_and c.from_residual-in_err-certificate.result c.from_residual-in_err-certificate.ensures.1 in
@@ -65,22 +67,52 @@ returns-in_err-certificate g c =
           certificate_fails (Rose before now) (Rose first now) files (plain_checking c.args.checking.now) (plain_problem c.in_ok-problem.problem) s since made
           (c.in_err-certificate.ensures.told files (kept ∙ told) (c.deref-2.ensures.value ∙ listed));
       small = tt;
-      files = c.read_certificate.ensures.files ∙ kept;
-      later = omega (arith, c.read_certificate.ensures.later, c.prepare_listed.ensures.later, c.names.ensures.later);
+      small_report = tt;
+      files = c.read_named.ensures.files ∙ kept;
+      later = omega (arith, c.read_named.ensures.later, c.prepare_listed.ensures.later, c.names.ensures.later);
+    })
+
+pub returns-in_err-report : goal.returns-in_err-report
+returns-in_err-report g c =
+    let s = c.in_err-report.field-0.0 in
+    let first = g.F.Folder.faults c.args.folder.now in
+    let before = g.F.Folder.faults c.read_named.new.folder in
+    let now = g.F.Folder.faults c.read_report.new.folder in
+    let since = rose_since first before now (omega (arith, c.read_named.ensures.later, c.prepare_listed.ensures.later, c.names.ensures.later)) in
+    let listed = c.prepare_listed.ensures.files ∙ c.names.ensures.files in
+    let kept = c.read_named.ensures.files ∙ listed in
+    let p = err_from_is_err_and c.from_residual-in_err-report.result c.from_residual-in_err-report.ensures.1 in
+    rw (p.1, p.2)
+    (record {
+      between = c.in_err-report.ensures.between;
+      read = λ is. since (c.in_err-report.ensures.read (ap Err (same_cause is)));
+      told = λ files told.
+          let names = c.in_ok-names.ensures.told files told in
+          let made = c.in_ok-problem.ensures.told files (c.names.ensures.files ∙ told) (c.deref.ensures.value ∙ names) in
+          let read = c.in_ok-certificate.ensures.told files (listed ∙ told) (c.deref-2.ensures.value ∙ names) in
+          report_fails (Rose before now) (Rose first now) files (plain_checking c.args.checking.now) (plain_problem c.in_ok-problem.problem)
+          c.in_ok-certificate.certificate.items s since made read (c.in_err-report.ensures.told files (kept ∙ told) (c.deref-3.ensures.value ∙ names));
+      small = tt;
+      small_report = tt;
+      files = c.read_report.ensures.files ∙ kept;
+      later = omega (arith, c.read_report.ensures.later, c.read_named.ensures.later, c.prepare_listed.ensures.later, c.names.ensures.later);
     })
 
 pub returns : goal.returns
 returns g c =
-    let kept = c.prepare_listed.ensures.files ∙ c.names.ensures.files in
+    let listed = c.prepare_listed.ensures.files ∙ c.names.ensures.files in
+    let kept = c.read_named.ensures.files ∙ listed in
     record {
       between = tt;
       read = ok_not_err;
       told = λ files told.
-          let listed = c.in_ok-names.ensures.told files told in
-          let made = c.in_ok-problem.ensures.told files (c.names.ensures.files ∙ told) (c.deref.ensures.value ∙ listed) in
-          inputs_made files (plain_checking c.args.checking.now) (plain_problem c.in_ok-problem.problem) c.in_ok-certificate.certificate.items made
-          (c.in_ok-certificate.ensures.told files (kept ∙ told) (c.deref-2.ensures.value ∙ listed));
+          let names = c.in_ok-names.ensures.told files told in
+          let made = c.in_ok-problem.ensures.told files (c.names.ensures.files ∙ told) (c.deref.ensures.value ∙ names) in
+          let read = c.in_ok-certificate.ensures.told files (listed ∙ told) (c.deref-2.ensures.value ∙ names) in
+          inputs_made files (plain_checking c.args.checking.now) (plain_problem c.in_ok-problem.problem) c.in_ok-certificate.certificate.items _ made read
+          (c.in_ok-report.ensures.told files (kept ∙ told) (c.deref-3.ensures.value ∙ names));
       small = c.in_ok-certificate.ensures.small;
-      files = c.read_certificate.ensures.files ∙ kept;
-      later = omega (arith, c.read_certificate.ensures.later, c.prepare_listed.ensures.later, c.names.ensures.later);
+      small_report = c.in_ok-report.ensures.small;
+      files = c.read_report.ensures.files ∙ kept;
+      later = omega (arith, c.read_report.ensures.later, c.read_named.ensures.later, c.prepare_listed.ensures.later, c.names.ensures.later);
     }

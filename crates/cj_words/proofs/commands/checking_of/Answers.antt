@@ -1,11 +1,12 @@
 use Rattle.std.proofs.Common.{refl, sym, ap, ◌∙◌}
 use Rattle.std.specs.Prelude.{codes}
 use Rattle.cj_words.specs.Commands.{checking_of}
-use Rattle.cj_words.specs.Settings.{file_text_or}
+use Rattle.cj_words.specs.Settings.{file_text_or, name_or}
 use Rattle.cj_words.proofs.commands.checking_of.Goals as goal
 
 pub returns : goal.returns
 unfolding checking_of
 returns c =
     let certificate = c.in-Some.ensures ∙ ap (file_text_or 200 (codes "screen.cert")) c.value_of.ensures in
-    rw (sym c.in_ok-threshold.ensures.value, sym c.in_ok-unsized_settings.ensures, sym certificate, sym c.in_ok-settings.ensures) refl
+    let report = c.in-Some-name_or.ensures ∙ ap name_or c.value_of-2.ensures in
+    rw (sym c.in_ok-threshold.ensures.value, sym c.in_ok-unsized_settings.ensures, sym certificate, sym c.in_ok-settings.ensures, sym report) refl

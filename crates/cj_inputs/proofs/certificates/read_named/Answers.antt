@@ -4,18 +4,18 @@ use Rattle.cj_status.specs.declared.status.Status.{Status}
 use Rattle.cj_status.specs.declared.status.Status.TheVariants as status
 use Rattle.std.proofs.lemmas.Result.{err_from_is_err_and}
 use Rattle.cj_io.specs.Faults.{Rose}
-use Rattle.cj_inputs.specs.CheckInputs.{certificate_at}
+use Rattle.cj_inputs.specs.CheckInputs.{piece_at}
 use Rattle.cj_inputs.proofs.EndLemmas.{ok_not_err}
-use Rattle.cj_inputs.proofs.StepLemmas.{certificate_found, comes_between, folder_failed, input_ends}
-use Rattle.cj_inputs.proofs.certificates.read_certificate.Goals as goal
+use Rattle.cj_inputs.proofs.StepLemmas.{piece_found, comes_between, folder_failed, input_ends}
+use Rattle.cj_inputs.proofs.certificates.read_named.Goals as goal
 
--- a certificate that is not there is no fault of the folder
+-- a piece that is not there is no fault of the folder
 no_file : {X P : Type 0} {line : ℕ} {cause : CertificateCause} → ◌≡◌ {A = Result X Status} (Err (status.NotAccepted line cause)) (Err status.ReadFault) → P
 no_file is = absurd cc
 
 pub returns-in_err-read_within-in-Some : goal.returns-in_err-read_within-in-Some
 returns-in_err-read_within-in-Some g c =
-    let name = c.args.certificate.now in
+    let name = c.args.name.now in
     let why = c.in_err-read_within-in-Some.field-0.0 in
     let rose = Rose (g.F.Folder.faults c.args.folder.now) (g.F.Folder.faults c.read_within.new.folder) in
     let p = err_from_is_err_and c.from_residual.result c.from_residual.ensures.1 in
@@ -24,10 +24,11 @@ returns-in_err-read_within-in-Some g c =
       between = comes_between why;
       read = folder_failed why c.in_err-read_within-in-Some.ensures.fault;
       told = λ files told known.
-          rw (certificate_found files name c.args.names.now (Some c.in-Some.number) known (sym c.in-Some.is ∙ c.first_named.ensures.value))
-          (input_ends rose (λ (bytes : Vec ℕ Global). bytes.items) why (certificate_at files name (Some c.in-Some.number))
+          rw (piece_found c.args.missing files name c.args.names.now (Some c.in-Some.number) known (sym c.in-Some.is ∙ c.first_named.ensures.value))
+          (input_ends rose (λ (bytes : Vec ℕ Global). bytes.items) why (piece_at c.args.missing files name (Some c.in-Some.number))
           (c.in_err-read_within-in-Some.ensures.told files told));
       small = tt;
+      count = c.read_within.ensures.count;
       files = c.read_within.ensures.files;
       later = c.read_within.ensures.later;
     })
@@ -37,9 +38,10 @@ returns-in_ok-read_within-in-Some g c = record {
   between = tt;
   read = ok_not_err;
   told = λ files told known.
-      certificate_found files c.args.certificate.now c.args.names.now (Some c.in-Some.number) known (sym c.in-Some.is ∙ c.first_named.ensures.value)
+      piece_found c.args.missing files c.args.name.now c.args.names.now (Some c.in-Some.number) known (sym c.in-Some.is ∙ c.first_named.ensures.value)
       ∙ c.in_ok-read_within-in-Some.ensures.told files told;
   small = c.in_ok-read_within-in-Some.ensures.small;
+  count = c.read_within.ensures.count;
   files = c.read_within.ensures.files;
   later = c.read_within.ensures.later;
 }
@@ -48,8 +50,9 @@ pub returns-in-None : goal.returns-in-None
 returns-in-None g c = record {
   between = tt;
   read = no_file;
-  told = λ files told known. certificate_found files c.args.certificate.now c.args.names.now None known (sym c.in-None.is ∙ c.first_named.ensures.value);
+  told = λ files told known. piece_found c.args.missing files c.args.name.now c.args.names.now None known (sym c.in-None.is ∙ c.first_named.ensures.value);
   small = tt;
+  count = refl;
   files = refl;
   later = omega arith;
 }
