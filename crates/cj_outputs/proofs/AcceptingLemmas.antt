@@ -46,26 +46,26 @@ pub refused_so : (case : PlainProblem) (bytes : List ℕ) (certificate : PlainCe
 unfolding accepting
 refused_so case bytes certificate failure said some = rw (said, some) refl
 
--- ---- pieces of a certificate that is accepted for its inputs
+-- ---- what comes of a certificate that is accepted for its inputs
 
-abbrev pieces_from : (PlainInputs → PlainCertificate → List FileBytes) → Result PlainInputs Status → Result (List FileBytes) Status
-pieces_from pieces inputs = inputs >>= λ i. accepting i.case i.bytes >>= λ certificate. Ok (pieces i certificate)
+abbrev pieces_from : (PlainInputs → PlainCertificate → Result (List FileBytes) Status) → Result PlainInputs Status → Result (List FileBytes) Status
+pieces_from pieces inputs = inputs >>= λ i. accepting i.case i.bytes >>= λ certificate. pieces i certificate
 
 -- the inputs are not there
-pub unprepared : (pieces : PlainInputs → PlainCertificate → List FileBytes) (read : Type 0) (s : Status) (inputs : Result PlainInputs Status)
+pub unprepared : (pieces : PlainInputs → PlainCertificate → Result (List FileBytes) Status) (read : Type 0) (s : Status) (inputs : Result PlainInputs Status)
     → Stops read s inputs → Stops read s (pieces_from pieces inputs)
-unprepared pieces read s inputs stops = stops_then read s inputs (λ i. accepting i.case i.bytes >>= λ certificate. Ok (pieces i certificate)) stops
+unprepared pieces read s inputs stops = stops_then read s inputs (λ i. accepting i.case i.bytes >>= λ certificate. pieces i certificate) stops
 
 -- the certificate is not accepted
-pub unaccepted : (pieces : PlainInputs → PlainCertificate → List FileBytes) (read : Type 0) (s : Status) (inputs : Result PlainInputs Status)
+pub unaccepted : (pieces : PlainInputs → PlainCertificate → Result (List FileBytes) Status) (read : Type 0) (s : Status) (inputs : Result PlainInputs Status)
     (i : PlainInputs) → inputs ≡ Ok i → Stops ⊥ s (accepting i.case i.bytes) → Stops read s (pieces_from pieces inputs)
 unaccepted pieces read s inputs i there stops =
     subst (λ (r : Result PlainInputs Status). Stops read s (pieces_from pieces r)) (sym there)
-    (stops_then read s (accepting i.case i.bytes) (λ certificate. Ok (pieces i certificate))
+    (stops_then read s (accepting i.case i.bytes) (λ certificate. pieces i certificate)
     (stops_wider ⊥ read s (accepting i.case i.bytes) (λ none. absurd none) stops))
 
 -- it is
-pub pieces_made_from : (pieces : PlainInputs → PlainCertificate → List FileBytes) (inputs : Result PlainInputs Status) (i : PlainInputs)
-    (certificate : PlainCertificate) → inputs ≡ Ok i → accepting i.case i.bytes ≡ Ok certificate → pieces_from pieces inputs ≡ Ok (pieces i certificate)
+pub pieces_made_from : (pieces : PlainInputs → PlainCertificate → Result (List FileBytes) Status) (inputs : Result PlainInputs Status) (i : PlainInputs)
+    (certificate : PlainCertificate) → inputs ≡ Ok i → accepting i.case i.bytes ≡ Ok certificate → pieces_from pieces inputs ≡ pieces i certificate
 pieces_made_from pieces inputs i certificate there accepted =
-    ap (pieces_from pieces) there ∙ ap (λ (r : Result PlainCertificate Status). r >>= λ c. Ok (pieces i c)) accepted
+    ap (pieces_from pieces) there ∙ ap (λ (r : Result PlainCertificate Status). r >>= λ c. pieces i c) accepted

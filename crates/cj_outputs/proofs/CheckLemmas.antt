@@ -1,5 +1,6 @@
 -- What a check needs: certificates with few lines, and what its inputs say.
 use Rattle.std.proofs.Common.{◌≡◌, ℕ, ◌+◌, ◌*◌, ◌-◌, ◌^◌, ◌<◌, ◌≤◌, List, [], ◌∷◌, length, Option, Some, None, Result, Ok, Err, refl, ap, ◌∙◌, sym, subst, arith}
+use Rattle.std.specs.Prelude.{IfSome}
 use Rattle.std.specs.List.{enumerate_from, cons_option, filter_map, flat_map}
 use Rattle.std.proofs.lemmas.List.{length-append, length-map}
 use Rattle.std.proofs.lemmas.List.FromFn.{length-enumerate_from, length-range_with_len}
@@ -13,14 +14,17 @@ use Rattle.cj_words.specs.Commands.{Checking}
 use Rattle.cj_bezier.specs.Leaves.{PlainLeaf, plain_leaf}
 use Rattle.cj_cells.specs.Lists.{list_looked}
 use Rattle.cj_cert.specs.Certificates.{PlainCertificate, line_count}
+use Rattle.cj_cert_text.specs.Texts.{text_of}
 use Rattle.cj_cert.specs.Written.{box_lines, line_in_slot, shell_line, written}
 use Rattle.cj_status.specs.declared.status.Status.{Status}
 use Rattle.cj_status.specs.Steps.{◌>>=◌}
 use Rattle.cj_inputs.specs.Cases.{case_asked}
-use Rattle.cj_inputs.specs.CheckInputs.{PlainInputs, certificate_named, inputs_asked}
+use Rattle.cj_inputs.specs.CheckInputs.{PlainInputs, certificate_named, inputs_asked, report_if_named, report_named}
 use Rattle.cj_outputs.specs.declared.findings.Findings.{Findings}
-use Rattle.cj_outputs.specs.Checks.{AcceptedText, Vouches}
+use Rattle.cj_outputs.specs.Again.{IsAcceptedLater}
+use Rattle.cj_outputs.specs.Checks.{AcceptedReport, AcceptedText, Vouches, VouchesReport}
 use Rattle.cj_outputs.specs.Findings.{AreFound, case_in}
+use Rattle.cj_outputs.specs.Outcome.{tells_sizes}
 use Rattle.cj_outputs.specs.Rewrites.{RenewedText, Renews}
 use Rattle.cj_outputs.proofs.CertificateLemmas.{leaves_alike}
 
@@ -72,35 +76,61 @@ found_few found are =
 
 -- ---- the inputs of a check
 
-both_there : {A B C : Type 0} (f : A → B → C) (r : Result A Status) (q : Result B Status) (z : C) → (r >>= λ x. q >>= λ y. Ok (f x y)) ≡ Ok z
-    → (x : A) × (y : B) × (r ≡ Ok x) × (q ≡ Ok y) × (f x y ≡ z)
-both_there f (Ok x) (Ok y) z is = (x, y, refl, refl, cc)
-both_there f (Ok x) (Err s) z is = absurd cc
-both_there f (Err s) q z is = absurd cc
+-- three steps that come to a value each come to one
+all_there : {A B C D : Type 0} (f : A → B → C → D) (r : Result A Status) (q : Result B Status) (p : Result C Status) (z : D)
+    → (r >>= λ x. q >>= λ y. p >>= λ w. Ok (f x y w)) ≡ Ok z → (x : A) × (y : B) × (w : C) × (r ≡ Ok x) × (q ≡ Ok y) × (p ≡ Ok w) × (f x y w ≡ z)
+all_there f (Ok x) (Ok y) (Ok w) z is = (x, y, w, refl, refl, refl, cc)
+all_there f (Ok x) (Ok y) (Err s) z is = absurd cc
+all_there f (Ok x) (Err s) p z is = absurd cc
+all_there f (Err s) q p z is = absurd cc
 
--- where the inputs of a check are there and the certificate is accepted, this is so of the file that was named
-pub vouched : (files : List FileBytes) (checking : Checking) (inputs : PlainInputs) → inputs_asked files checking ≡ Ok inputs → AcceptedText inputs.case inputs.bytes → Vouches checking files
+-- what the inputs of a check are that are there
+record AreInputs (files : List FileBytes) (checking : Checking) (inputs : PlainInputs) : Type 0 where
+  case : case_asked files checking.settings ≡ Ok inputs.case
+  bytes : certificate_named files checking.certificate ≡ Ok inputs.bytes
+  report : report_if_named files checking.report ≡ Ok inputs.report
+
+inputs_there : (files : List FileBytes) (checking : Checking) (inputs : PlainInputs) → inputs_asked files checking ≡ Ok inputs → AreInputs files checking inputs
 unfolding inputs_asked
-vouched files checking inputs there holds =
-    let both = both_there (λ case bytes. record { case = case; bytes = bytes }) (case_asked files checking.settings) (certificate_named files checking.certificate) inputs there in
+inputs_there files checking inputs there =
+    let all = all_there (λ case bytes report. record { case = case; bytes = bytes; report = report }) (case_asked files checking.settings)
+    (certificate_named files checking.certificate) (report_if_named files checking.report) inputs there in
+    record {
+      case = all.3 ∙ ap (λ (x : PlainInputs). Ok x.case) all.6;
+      bytes = all.4 ∙ ap (λ (x : PlainInputs). Ok x.bytes) all.6;
+      report = all.5 ∙ ap (λ (x : PlainInputs). Ok x.report) all.6;
+    }
+
+-- the report of the inputs is that of the file that was named, where one was
+reported : (checking : Checking) (files : List FileBytes) (case : PlainProblem) (cells : List PlainLeaf) (report named : Option (List ℕ)) → report_if_named files named ≡ Ok report
+    → IfSome report (AcceptedReport (tells_sizes checking.settings) case cells) → IfSome named (VouchesReport checking files case cells)
+reported checking files case cells report None is holds = tt
+reported checking files case cells report (Some name) is holds = go (report_named files name) refl is
+  where
+    go : (r : Result (List ℕ) Status) → report_named files name ≡ r → (r >>= λ bytes. Ok (Some bytes)) ≡ Ok report → VouchesReport checking files case cells name
+    go (Ok bytes) read same =
+        let some : Some bytes ≡ report = cc in
+        record { bytes = bytes; named = read; holds = subst (λ (o : Option (List ℕ)). IfSome o (AcceptedReport (tells_sizes checking.settings) case cells)) (sym some) holds }
+    go (Err s) read same = absurd cc
+
+-- where the inputs of a check are there, the certificate is accepted, and the report too where there is one, this is so of the files that were named
+pub vouched : (files : List FileBytes) (checking : Checking) (inputs : PlainInputs) → inputs_asked files checking ≡ Ok inputs
+    → (holds : AcceptedText inputs.case inputs.bytes) → IfSome inputs.report (AcceptedReport (tells_sizes checking.settings) inputs.case holds.certificate.cells)
+    → Vouches checking files
+vouched files checking inputs there holds beside =
+    let are = inputs_there files checking inputs there in
     record {
       case = inputs.case;
-      read = both.2 ∙ ap (λ (x : PlainInputs). Ok x.case) both.4;
+      read = are.case;
       bytes = inputs.bytes;
-      named = both.3 ∙ ap (λ (x : PlainInputs). Ok x.bytes) both.4;
+      named = are.bytes;
       holds = holds;
+      reported = reported checking files inputs.case holds.certificate.cells inputs.report checking.report are.report beside;
     }
 
 -- the same of a certificate that is rewritten
 pub renews : (files : List FileBytes) (checking : Checking) (inputs : PlainInputs) (renewed : PlainCertificate) → inputs_asked files checking ≡ Ok inputs → RenewedText inputs.case inputs.bytes renewed
-    → Renews checking files renewed
-unfolding inputs_asked
-renews files checking inputs renewed there holds =
-    let both = both_there (λ case bytes. record { case = case; bytes = bytes }) (case_asked files checking.settings) (certificate_named files checking.certificate) inputs there in
-    record {
-      case = inputs.case;
-      read = both.2 ∙ ap (λ (x : PlainInputs). Ok x.case) both.4;
-      bytes = inputs.bytes;
-      named = both.3 ∙ ap (λ (x : PlainInputs). Ok x.bytes) both.4;
-      holds = holds;
-    }
+    → (case_asked files checking.settings ≡ Ok inputs.case → length (text_of renewed) ≤ 1_073_741_824 → IsAcceptedLater checking.settings files (text_of renewed)) → Renews checking files renewed
+renews files checking inputs renewed there holds later =
+    let are = inputs_there files checking inputs there in
+    record { case = inputs.case; read = are.case; bytes = inputs.bytes; named = are.bytes; holds = holds; later = later are.case }

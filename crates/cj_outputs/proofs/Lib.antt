@@ -1,7 +1,11 @@
+pub mod AgainLemmas
 pub mod AcceptingLemmas
+pub mod CellLemmas
 pub mod CertificateLemmas
 pub mod CheckLemmas
 pub mod EndLemmas
+pub mod LaterLemmas
 pub mod MessageLemmas
 pub mod PutLemmas
 pub mod ReportTextLemmas
+pub mod VouchLemmas

@@ -1,7 +1,11 @@
+pub mod Again
 pub mod Checks
+pub mod Differences
 pub mod Findings
+pub mod Meetings
 pub mod Messages
 pub mod Origins
 pub mod Outcome
 pub mod Rewrites
+pub mod SpanSplits
 pub mod Summaries

@@ -1,6 +1,7 @@
 -- How a run over told files ends, and what it puts.
 use Rattle.std.specs.Prelude.{◌≡◌, ◌⊎◌, ℕ, Bool, false, nat_le, if◌then◌else◌, List, [], ◌∷◌, ◌++◌, length, Option, Some, None, is_some, Result, Ok, Err, codes}
 use Rattle.std.specs.Fmt.{decimal}
+use Rattle.std.specs.Str.{bytes_eq}
 use Rattle.cj_io.specs.declared.file.FileBytes.{FileBytes}
 use Rattle.cj_io.specs.Files.{IsPrefix}
 use Rattle.cj_words.specs.declared.option.UsageFault.{UsageFault}
@@ -24,9 +25,10 @@ use Rattle.cj_checker.specs.declared.failure.Failure.{Failure}
 use Rattle.cj_checker.specs.First.{first_failure}
 use Rattle.cj_status.specs.declared.status.Status.{Status}
 use Rattle.cj_status.specs.declared.status.Status.TheVariants as status
-use Rattle.cj_status.specs.declared.status.CertificateCause.TheVariants.{Text, Refused}
+use Rattle.cj_status.specs.declared.status.CertificateCause.TheVariants.{Text, Refused, Report}
 use Rattle.cj_status.specs.declared.status.LimitFault.TheVariants.{Cells}
 use Rattle.cj_status.specs.Steps.{◌>>=◌}
+use Rattle.cj_outputs.specs.Differences.{differing_line}
 use Rattle.cj_outputs.specs.Messages.{PlainOrigin, has_message, message_pieces}
 use Rattle.cj_outputs.specs.Summaries.{tally_with}
 
@@ -124,11 +126,25 @@ accepting case bytes = do
   done ← none_of (first_failure case certificate)
   Ok certificate
 
+-- the bytes are a text, or the line in which they first differ from it
+abbrev pub as_due : List ℕ → List ℕ → Result (Unit {0}) Status
+as_due bytes due = if bytes_eq bytes due then Ok tt else Err (status.NotAccepted (differing_line bytes due) Report)
+
+-- the bytes are the report of a case with the encounters of these cells, of which there are at most 4,000,000
+unfoldable pub report_accepting : Bool → PlainProblem → List PlainLeaf → List ℕ → Result (Unit {0}) Status
+report_accepting with_sizes case cells bytes = within_cells 4_000_000 cells >>= λ few. as_due bytes (report_bytes with_sizes case few)
+
+-- the same of a report that may be named
+abbrev pub report_if_accepting : Bool → PlainProblem → List PlainLeaf → Option (List ℕ) → Result (Unit {0}) Status
+report_if_accepting with_sizes case cells None = Ok tt
+report_if_accepting with_sizes case cells (Some bytes) = report_accepting with_sizes case cells bytes
+
 -- the piece of a check, or the first cause for which there is none
 unfoldable pub pieces_checked : List FileBytes → Checking → Result (List FileBytes) Status
 pieces_checked files checking = do
   inputs ← inputs_asked files checking
   certificate ← accepting inputs.case inputs.bytes
+  done ← report_if_accepting (tells_sizes checking.settings) inputs.case certificate.cells inputs.report
   Ok (accepted_piece ∷ [])
 
 -- the pieces of a certificate that is rewritten: its text, and for standard output that it is

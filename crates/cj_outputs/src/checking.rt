@@ -1,10 +1,11 @@
-//! From the files of a folder to whether the certificate that is named is accepted.
+//! From the files of a folder to whether the certificate that is named is accepted, and the report beside it.
 ghost use Rattle.std.specs.Prelude.{◌≡◌, ◌≢◌, [], ◌∷◌, ◌-◌, ◌<◌, ◌≤◌, ◌^◌, List, Some, Ok, Err, IfOk, IfErr, OnOk, length};
 ghost use Rattle.cj_io.specs.Faults.{Rose};
 ghost use Rattle.cj_io.specs.declared.file.FileBytes.{FileBytes};
 ghost use Rattle.cj_hermite.specs.Problems.{plain_problem};
 ghost use Rattle.cj_cert.specs.Accepted.{Accepted};
 ghost use Rattle.cj_cert.specs.Certificates.{line_count, plain_certificate};
+ghost use Rattle.cj_cert.specs.Splits.{CellsSplit};
 ghost use Rattle.cj_cert_text.specs.Fits.{Fits};
 ghost use Rattle.cj_cert_text.specs.Reading.{reading};
 ghost use Rattle.cj_cert_text.specs.Texts.{text_of};
@@ -13,6 +14,8 @@ ghost use Rattle.cj_outputs.specs.Checks.{AcceptedText, Vouches};
 ghost use Rattle.cj_outputs.specs.Outcome as spec;
 ghost use Rattle.cj_status.specs.Steps.{Gives, ComesBetween};
 
+use crate::reporting::tells_sizes;
+use crate::vouching::accept_report;
 use cj_cert::Certificate;
 use cj_cert_text::{CertFault, read_cert};
 use cj_checker::{Answer, check};
@@ -27,7 +30,8 @@ use std::thread::Threads;
 /// How many workers parse files, or make texts, for a command that asks for none.
 pub const WORKERS: u32 = 1;
 
-/// Checks the certificate that is named. It answers an error where the certificate is not accepted for the files.
+/// Checks the certificate that is named, and the report, where one is named. It answers an error where the certificate is not accepted for the
+/// files, and where the report is not that of its cells.
 #[tactic(auto, unfolding(crate::specs::Outcome::pieces_checked))]
 pub fn check_certificate<R: Threads + Sync, F: Folder>(
     rt: &R,
@@ -48,9 +52,17 @@ pub fn check_certificate<R: Threads + Sync, F: Folder>(
     let CheckInputs {
         problem,
         certificate,
+        report,
     } = prepare_check(rt, alloc, folder, checking, WORKERS)?;
-    accept(alloc, &problem, certificate)?;
-    Ok(())
+    let accepted = accept(alloc, &problem, certificate)?;
+    accept_report(
+        rt,
+        alloc,
+        &problem,
+        tells_sizes(&checking.settings),
+        &accepted.cells,
+        report,
+    )
 }
 
 /// Reads a certificate that is accepted for a problem.
@@ -63,6 +75,7 @@ pub fn accept(alloc: Global, problem: &Problem, bytes: Vec<u8>) -> Result<Certif
     ensures accepted { OnOk result (AcceptedText (plain_problem problem.now) bytes.items) }
     ensures only { IfOk result (λ c. (bytes.items ≡ text_of (plain_certificate c)) × Fits (plain_certificate c)) }
     ensures holds { IfOk result (λ c. Accepted (plain_problem problem.now) (plain_certificate c)) }
+    ensures split { IfOk result (λ c. CellsSplit (plain_problem problem.now) (plain_certificate c).cells) }
 {
     let certificate = read(alloc, bytes)?;
     match check(alloc, problem, &certificate)? {

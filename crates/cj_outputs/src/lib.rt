@@ -1,22 +1,28 @@
-//! What a run has found, and its pieces: how they are made and put, and how a certificate that is read is judged and written anew.
+//! What a run has found, and its pieces: how they are made and put, and how a certificate that is read, and the report
+//! beside it, are judged, and how one is written anew.
 #![tactic(auto)]
 
 mod catalogues;
 mod checking;
 mod counting;
 mod findings;
+mod later;
+mod meetings;
 mod messages;
 mod origin;
 mod putting;
 mod reporting;
 mod rewriting;
+mod vouching;
 
 pub use catalogues::put_catalogue;
 pub use checking::check_certificate;
 pub use counting::{CandidateCounts, count};
 pub use findings::Findings;
+pub use later::accepted_later;
+pub use meetings::{Meetings, find_meetings};
 pub use messages::note_messages;
 pub use origin::Origin;
 pub use putting::{begin, put};
-pub use reporting::put_pieces;
+pub use reporting::{put_pieces, tells_sizes};
 pub use rewriting::{put_rewritten, rewrite_certificate};

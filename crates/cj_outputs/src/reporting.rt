@@ -8,7 +8,9 @@ ghost use Rattle.cj_cert.specs.Rewritten.{written_in};
 ghost use Rattle.cj_cert_text.specs.TextLeft.{text_left};
 ghost use Rattle.cj_outputs.specs.Findings.{AreFound, case_in, cert_in, ended, pieces_in, report_in, summary_in};
 ghost use Rattle.cj_outputs.specs.Origins.{plain_origin};
+ghost use Rattle.cj_outputs.specs.Outcome as spec;
 ghost use Rattle.cj_outputs.specs.Outcome.{ComesOfPuts, Leaves, cert_bytes};
+ghost use Rattle.cj_words.specs.Settings.{asked_of};
 
 use crate::findings::Findings;
 use crate::messages::put_messages;
@@ -21,6 +23,7 @@ use cj_report::{report_text, summary_text};
 use cj_sieve::kept_pairs;
 use cj_status::Status;
 use cj_stream::StreamShelf;
+use cj_words::Settings;
 use std::alloc::{AllocError, Global};
 use std::thread::Threads;
 
@@ -142,4 +145,11 @@ fn put_summary<S: Shelf>(alloc: Global, shelf: &mut S, found: &Findings) -> Resu
 {
     let summary = summary_text(alloc, &found.counts)?;
     put(alloc, shelf, b"-", &summary)
+}
+
+/// Whether the report tells the sizes: the command line names a file of them.
+pub fn tells_sizes(settings: &Settings) -> bool
+    ensures { result ≡ spec.tells_sizes (asked_of settings.now) }
+{
+    settings.sizes.is_some()
 }

@@ -14,6 +14,7 @@ ghost use Rattle.cj_outputs.specs.Rewrites.{Renews};
 ghost use Rattle.cj_status.specs.Steps.{Gives, ComesBetween};
 
 use crate::checking::{WORKERS, accept};
+use crate::later::accepted_later;
 use crate::putting::{put, put_parts};
 use cj_cert::Certificate;
 use cj_cert_text::{cert_parts, in_version_2, listed_shells};
@@ -48,8 +49,10 @@ pub fn rewrite_certificate<R: Threads + Sync, F: Folder>(
     let CheckInputs {
         problem,
         certificate,
+        ..
     } = prepare_check(rt, alloc, folder, checking, WORKERS)?;
     let accepted = accept(alloc, &problem, certificate)?;
+    accepted_later(&problem);
     Ok(renewed(alloc, &problem, accepted)?)
 }
 

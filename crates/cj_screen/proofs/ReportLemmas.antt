@@ -16,12 +16,14 @@ use Rattle.cj_status.specs.declared.status.Status.{Status}
 use Rattle.cj_status.specs.declared.status.Status.TheVariants as status
 use Rattle.cj_status.specs.Steps.{◌>>=◌, ComesBetween, Stops}
 use Rattle.cj_screen.specs.Errors.{refined_status}
+use Rattle.cj_outputs.specs.Again.{IsAcceptedLater}
 use Rattle.cj_outputs.specs.Messages.{PlainOrigin}
 use Rattle.cj_inputs.specs.Cases.{case_asked}
 use Rattle.cj_outputs.specs.Outcome.{cert_bytes, encounters_in, pieces_with, pieces_within, report_bytes, tells_sizes, within_cells}
 use Rattle.cj_outputs.specs.Findings.{AreFound, case_in, cert_in, report_in}
 use Rattle.cj_outputs.proofs.AcceptingLemmas.{stops_then}
-use Rattle.cj_screen.specs.Headline.{Certifies, Reports, SplitsTicks}
+use Rattle.cj_outputs.specs.SpanSplits.{SplitsTicks}
+use Rattle.cj_screen.specs.Headline.{Certifies, Reports}
 
 -- what ends the search for leaves is no read
 pub never_read : {A B : Type 0} (s : Status) (r : Result A Status) → Stops ⊥ s r → ¬ ◌≡◌ {A = Result B Status} (Err s) (Err status.ReadFault)
@@ -64,9 +66,9 @@ pieces_stop limit with_sizes version origin case s =
 -- the report of findings is that of the case that was asked
 pub reports : (files : List FileBytes) (settings : Asked) (version : ℕ) (case : PlainProblem) → case_asked files settings ≡ Ok case
     → (r : Result Findings Status) → IfOk r (λ found. case_in found ≡ case) → IfOk r (λ found. found.with_sizes ≡ tells_sizes settings) → IfOk r (λ found. found.version ≡ version) → IfOk r AreFound → OnOk r (SplitsTicks case (encounters_in case))
-    → OnOk r (Certifies case (cert_bytes version case)) → OnOk r (All (HasNearest case) (encounters_in case))
+    → OnOk r (Certifies case (cert_bytes version case)) → OnOk r (All (HasNearest case) (encounters_in case)) → OnOk r (IsAcceptedLater settings files (cert_bytes version case))
     → IfOk r (λ found. Reports settings files (report_in found).bytes (cert_in found).bytes)
-reports files settings version case read (Ok found) same tells told are split certified nearest = record {
+reports files settings version case read (Ok found) same tells told are split certified nearest later = record {
   case = case;
   read = read;
   text = ap (report_bytes found.with_sizes (case_in found)) are.leaves ∙ ap (λ (c : PlainProblem). report_bytes found.with_sizes c (list_looked c)) same
@@ -74,5 +76,7 @@ reports files settings version case read (Ok found) same tells told are split ce
   split = split;
   certified = subst (λ (n : ℕ). Certifies case (cert_bytes n (case_in found))) (sym told) (subst (λ (c : PlainProblem). Certifies case (cert_bytes version c)) (sym same) certified);
   nearest = nearest;
+  later = subst (λ (n : ℕ). IsAcceptedLater settings files (cert_bytes n (case_in found))) (sym told)
+      (subst (λ (c : PlainProblem). IsAcceptedLater settings files (cert_bytes version c)) (sym same) later);
 }
-reports files settings version case read (Err s) same tells told are split certified nearest = tt
+reports files settings version case read (Err s) same tells told are split certified nearest later = tt

@@ -11,7 +11,7 @@ use Rattle.cj_bezier.proofs.TrueLeafLemmas.{IsTrueLeaf, tells_of, outside_of}
 use Rattle.cj_cells.specs.Lists.{IsSound, list_looked}
 use Rattle.cj_meet.specs.Spans.{HaveExactSpans}
 use Rattle.cj_outputs.specs.Outcome.{encounters_in}
-use Rattle.cj_screen.specs.Headline.{SplitsTicks}
+use Rattle.cj_outputs.specs.SpanSplits.{SplitsTicks}
 use Rattle.cj_screen.specs.Refining.{HoldsAllTicks}
 
 all_true : (case : PlainProblem) (ss : List PlainLeaf) → All (IsSound case) ss → All (IsTrueLeaf case) ss

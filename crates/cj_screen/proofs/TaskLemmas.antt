@@ -1,6 +1,6 @@
 -- A task: what its command has of it, what it comes to, and how it ends.
 use Rattle.std.proofs.Common.{◌≡◌, ◌⊎◌, inl, inr, ℕ, Bool, true, false, List, ◌∷◌, [], ◌++◌, length, Option, Some, Result, Ok, Err, refl, ap, sym, subst}
-use Rattle.std.specs.Prelude.{IfErr, IfOk, IsTrue, nat_le, if◌then◌else◌}
+use Rattle.std.specs.Prelude.{IfErr, IsTrue, nat_le, if◌then◌else◌}
 use Rattle.cj_io.specs.declared.file.FileBytes.{FileBytes}
 use Rattle.cj_bezier.specs.Leaves.{PlainLeaf}
 use Rattle.cj_cells.specs.Lists.{list_looked}

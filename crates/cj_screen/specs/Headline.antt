@@ -1,12 +1,8 @@
 -- The headline: what the report of a run says of each common tick of each pair.
-use Rattle.std.specs.Prelude.{◌≡◌, ℕ, List, ◌∷◌, ◌++◌, Option, Some, Ok, All, Any}
+use Rattle.std.specs.Prelude.{◌≡◌, ℕ, List, ◌∷◌, ◌++◌, Option, Some, Ok, All}
 use Rattle.cj_io.specs.declared.file.FileBytes.{FileBytes}
-use Rattle.cj_hermite.specs.Distance.{IsNear, IsFar, IsInBand}
-use Rattle.cj_hermite.specs.PlainProblems.{PlainProblem, threshold_of, IsCommonOf, OfObjectsAt}
-use Rattle.cj_bezier.specs.declared.kind.Kind.TheVariants.{Near, Undecided}
-use Rattle.cj_bezier.specs.Leaves.{PlainLeaf}
+use Rattle.cj_hermite.specs.PlainProblems.{PlainProblem}
 use Rattle.cj_meet.specs.Closest.{HasNearest, closest_of}
-use Rattle.cj_meet.specs.Spans.{LiesInSpan}
 use Rattle.cj_report.specs.Report.{report_of, told}
 use Rattle.cj_cert.specs.Accepted.{Accepted}
 use Rattle.cj_cert.specs.Certificates.{PlainCertificate}
@@ -14,20 +10,10 @@ use Rattle.cj_cert.specs.Splits.{AcceptedSplits}
 use Rattle.cj_cert_text.specs.Texts.{text_of}
 use Rattle.cj_words.specs.Settings.{Asked}
 use Rattle.cj_inputs.specs.Cases.{case_asked}
+use Rattle.cj_outputs.specs.Again.{IsAcceptedLater}
 use Rattle.cj_outputs.specs.Messages.{has_message}
 use Rattle.cj_outputs.specs.Outcome.{cert_piece, encounters_in, report_piece, tells_sizes}
-
--- The spans of these encounters split the common ticks of every pair of objects a and b. A span holds common ticks only.
-pub record SplitsTicks (case : PlainProblem) (encounters : List (List PlainLeaf)) : Type 0 where
-  -- at each tick of a near span the distance is at most the pair's threshold
-  pub near : (a b m : ℕ) → Any (LiesInSpan Near a b m) encounters
-      → IsCommonOf case a b m × OfObjectsAt case a b m (λ c d. IsNear c d (threshold_of case a b) m)
-  -- at each tick of an undecided span it is within one millimetre of it
-  pub undecided : (a b m : ℕ) → Any (LiesInSpan Undecided a b m) encounters
-      → IsCommonOf case a b m × OfObjectsAt case a b m (λ c d. IsInBand c d (threshold_of case a b) m)
-  -- at a common tick that is in no span it is more
-  pub outside : (a b m : ℕ) → IsCommonOf case a b m → ¬ Any (LiesInSpan Near a b m) encounters → ¬ Any (LiesInSpan Undecided a b m) encounters
-      → OfObjectsAt case a b m (λ c d. IsFar c d (threshold_of case a b) m)
+use Rattle.cj_outputs.specs.SpanSplits.{SplitsTicks}
 
 -- The bytes are the text of a certificate that is accepted for the case. Whatever certificate is accepted for it, the certificate's cells
 -- split the common ticks of every pair.
@@ -40,7 +26,8 @@ pub record Certifies (case : PlainProblem) (bytes : List ℕ) : Type 0 where
 -- The first bytes are the report of the case that was asked, with the encounters of its one-thread list, the closest approach of each
 -- and whether it has a message.
 -- Their spans split the common ticks of every pair. Each pair is within its bound at its closest approach, and at no tick of the encounter
--- more than one millimetre nearer. The second bytes are an accepted certificate of the case.
+-- more than one millimetre nearer. The second bytes are an accepted certificate of the case, and a check of the same files, with these bytes
+-- among them, accepts it.
 pub record Reports (settings : Asked) (files : List FileBytes) (bytes certificate : List ℕ) : Type 0 where
   pub case : PlainProblem
   pub read : case_asked files settings ≡ Ok case
@@ -49,6 +36,7 @@ pub record Reports (settings : Asked) (files : List FileBytes) (bytes certificat
   pub split : SplitsTicks case (encounters_in case)
   pub nearest : All (HasNearest case) (encounters_in case)
   pub certified : Certifies case certificate
+  pub later : IsAcceptedLater settings files certificate
 
 -- The new pieces are such a report and such a certificate, followed by further pieces.
 pub record IsScreened (settings : Asked) (files old : List FileBytes) (new : Option (List FileBytes)) : Type 0 where

@@ -12,7 +12,7 @@ use Rattle.cj_status.specs.declared.status.Status.{Status}
 use Rattle.cj_status.specs.declared.status.Status.TheVariants as status
 use Rattle.cj_status.specs.Steps.{Stops}
 use Rattle.cj_outputs.specs.Checks.{IsChecked, Vouches}
-use Rattle.cj_outputs.specs.Outcome.{EndsMaking, EndsTrial, accepted_piece, origin_of, pieces_made, pieces_renewed, pieces_tried, pieces_within, tells_sizes}
+use Rattle.cj_outputs.specs.Outcome.{accepted_piece, origin_of, pieces_made, pieces_renewed, pieces_tried, pieces_within, tells_sizes}
 use Rattle.cj_outputs.specs.Rewrites.{IsRewritten, Renews}
 use Rattle.cj_screen.specs.Headline.{IsScreened}
 use Rattle.cj_screen.specs.declared.task.Task.{Task}

@@ -20,10 +20,10 @@ use crate::trying::try_catalogue;
 use cj_gen::catalogue;
 use cj_hermite::Problem;
 use cj_io::Gate;
-use cj_outputs::{Findings, Origin};
+use cj_outputs::{Findings, Origin, tells_sizes};
 use cj_status::Status;
 use cj_ticks::Tick;
-use cj_words::{Screening, Settings};
+use cj_words::Screening;
 use std::alloc::Global;
 use std::sync::Wait;
 use std::thread::Threads;
@@ -85,11 +85,4 @@ fn find_encounters<R: Threads + Wait + Sync, G: Gate + Sync>(
         screening.workers,
         screening.cells,
     )
-}
-
-/// Whether the report tells the sizes: the command line names a file of them.
-fn tells_sizes(settings: &Settings) -> bool
-    ensures { result ≡ spec.tells_sizes (asked_of settings.now) }
-{
-    settings.sizes.is_some()
 }

@@ -2,7 +2,6 @@
 #![tactic(auto)]
 
 mod finding;
-mod meetings;
 mod reading;
 mod refining;
 mod results;

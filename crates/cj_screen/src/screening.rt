@@ -1,20 +1,24 @@
 //! From a problem to all that is found in it.
-ghost use Rattle.std.specs.Prelude.{◌≡◌, ◌≢◌, ◌≤◌, Err, All, IfOk, IfErr, OnOk};
+ghost use Rattle.std.specs.Prelude.{◌≡◌, ◌≢◌, ◌≤◌, List, Ok, Err, All, IfOk, IfErr, OnOk};
 ghost use Rattle.cj_hermite.specs.Problems.{plain_problem};
 ghost use Rattle.cj_meet.specs.Closest.{HasNearest};
+ghost use Rattle.cj_io.specs.declared.file.FileBytes.{FileBytes};
+ghost use Rattle.cj_words.specs.Settings.{Asked};
+ghost use Rattle.cj_inputs.specs.Cases.{case_asked};
+ghost use Rattle.cj_outputs.specs.Again.{IsAcceptedLater};
 ghost use Rattle.cj_outputs.specs.Findings.{AreFound, pieces_in};
-ghost use Rattle.cj_screen.specs.Headline.{Certifies, SplitsTicks};
+ghost use Rattle.cj_screen.specs.Headline.{Certifies};
 ghost use Rattle.cj_outputs.specs.Messages.{PlainOrigin};
 ghost use Rattle.cj_outputs.specs.Outcome as spec;
 ghost use Rattle.cj_outputs.specs.Outcome.{cert_bytes, encounters_in};
+ghost use Rattle.cj_outputs.specs.SpanSplits.{SplitsTicks};
 ghost use Rattle.cj_status.specs.Steps.{Gives, ComesBetween};
 
-use crate::meetings::find_meetings;
 use crate::refining::refine;
 use cj_cert::acceptance;
 use cj_hermite::Problem;
 use cj_io::Gate;
-use cj_outputs::{Findings, count};
+use cj_outputs::{Findings, accepted_later, count, find_meetings};
 use cj_status::Status;
 use std::alloc::Global;
 use std::sync::Wait;
@@ -48,8 +52,12 @@ pub fn screen<R: Threads + Wait + Sync, G: Gate + Sync>(
     ensures split { OnOk result (SplitsTicks (plain_problem problem) (encounters_in (plain_problem problem))) }
     ensures certified { OnOk result (Certifies (plain_problem problem) (cert_bytes version (plain_problem problem))) }
     ensures nearest { OnOk result (All (HasNearest (plain_problem problem)) (encounters_in (plain_problem problem))) }
+    // Whatever files the problem is that of.
+    ensures later { (settings : Asked) (files : List FileBytes) → case_asked files settings ≡ Ok (plain_problem problem)
+        → OnOk result (IsAcceptedLater settings files (cert_bytes version (plain_problem problem))) }
 {
     acceptance(&problem);
+    accepted_later(&problem);
     let refined = refine(rt, alloc, gate, &problem, workers, cells)?;
     let leaves = refined.leaves.as_slice();
     let met = find_meetings(rt, alloc, &problem, leaves, workers)?;

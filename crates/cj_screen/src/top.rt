@@ -61,8 +61,9 @@ pub fn conj<R: Threads + Wait + Sync, F: Folder, S: StreamShelf, G: Gate + Sync>
     ensures headline { (files pieces : List FileBytes) (screening : asks.Screening) → F.files folder.old ≡ Some files → S.pieces shelf.old ≡ Some pieces
         → command_of words.now ≡ Ok (Screens screening) → result ≡ Status.Ok → IsScreened screening.settings files pieces (S.pieces shelf.new) }
 
-    // Status 0 of a check says that the named file is an accepted certificate, whose cells split the common ticks of every pair. Where a cause is
-    // due, status 1 for a certificate among them, and no count rose, that cause comes, or memory ran out.
+    // Status 0 of a check says that the named file is an accepted certificate, whose cells split the common ticks of every pair, and of a report that
+    // is named that it is that of these cells, and that its spans split the common ticks by the exact distance. Where a cause is due, status 1 for a
+    // certificate or a report among them, and no count rose, that cause comes, or memory ran out.
     ensures checked { (files pieces : List FileBytes) (checking : asks.Checking) → F.files folder.old ≡ Some files → S.pieces shelf.old ≡ Some pieces
         → command_of words.now ≡ Ok (Checks checking) → result ≡ Status.Ok → IsChecked checking files pieces (S.pieces shelf.new) }
     ensures refused { (files : List FileBytes) (cause : Ends) → AreRead words.now (F.files folder.old) files → spec.pieces_of words.now files now.micros ≡ Err cause

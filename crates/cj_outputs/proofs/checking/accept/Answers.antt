@@ -25,6 +25,7 @@ returns-in-Accepted c =
       };
       only = read.only;
       holds = holds;
+      split = checked.law certificate holds;
     }
 
 pub returns-in-Refused : goal.returns-in-Refused
@@ -36,6 +37,7 @@ returns-in-Refused c = record {
   accepted = tt;
   only = tt;
   holds = tt;
+  split = tt;
 }
 
 pub returns-in_err-certificate : goal.returns-in_err-certificate
@@ -49,6 +51,7 @@ returns-in_err-certificate c =
       accepted = tt;
       only = tt;
       holds = tt;
+      split = tt;
     })
 
 pub returns-in_err-check : goal.returns-in_err-check
@@ -61,4 +64,5 @@ returns-in_err-check c =
       accepted = tt;
       only = tt;
       holds = tt;
+      split = tt;
     })

@@ -1,53 +1,114 @@
-use Rattle.std.proofs.Common.{List, [], ◌∷◌}
+use Rattle.std.proofs.Common.{ℕ, Bool, List, [], ◌∷◌, map, Ok, Result, Vec, Global, sym, subst}
+use Rattle.std.specs.Prelude.{IfSome, OnOk}
 use Rattle.std.proofs.lemmas.Result.{err_from_is_err_and}
+use Rattle.cj_io.specs.Faults.{Rose}
 use Rattle.cj_io.specs.declared.file.FileBytes.{FileBytes}
+use Rattle.cj_hermite.specs.Problems.{plain_problem}
 use Rattle.cj_words.specs.Commands.{plain_checking}
-use Rattle.cj_cert.specs.Certificates.{PlainCertificate, plain_certificate}
+use Rattle.cj_bezier.specs.Order.{AreInOrder}
+use Rattle.cj_meet.specs.Closest.{KeepTheirIntervals}
+use Rattle.cj_cert.specs.declared.cert_lines.CellLine.{CellLine}
+use Rattle.cj_cert.specs.Splits.{CellsSplit}
+use Rattle.cj_cert.specs.Certificates.{PlainCertificate, plain_certificate, plain_cell_line}
 use Rattle.cj_inputs.specs.CheckInputs.{PlainInputs, inputs_asked, plain_inputs}
-use Rattle.cj_outputs.specs.Outcome.{accepted_piece, pieces_checked}
+use Rattle.cj_status.specs.declared.status.Status.{Status}
+use Rattle.cj_status.specs.Steps.{◌>>=◌, Gives}
+use Rattle.cj_outputs.specs.Checks.{AcceptedReport, AcceptedText}
+use Rattle.cj_outputs.specs.Outcome.{accepted_piece, pieces_checked, report_if_accepting, tells_sizes}
 use Rattle.cj_outputs.proofs.AcceptingLemmas.{pieces_made_from, same_error, unaccepted, unprepared}
+use Rattle.cj_outputs.proofs.CellLemmas.{cells_in_order, cells_keep}
 use Rattle.cj_outputs.proofs.CheckLemmas.{vouched}
+use Rattle.cj_outputs.proofs.VouchLemmas.{if_some_seen, on_ok_so, pieces_behind}
 use Rattle.cj_outputs.proofs.checking.check_certificate.Goals as goal
 
--- what is put of a certificate that is accepted
-abbrev due : PlainInputs → PlainCertificate → List FileBytes
-due inputs certificate = accepted_piece ∷ []
+-- what is put of a certificate that is accepted, where the report is
+abbrev due : Bool → PlainInputs → PlainCertificate → Result (List FileBytes) Status
+due with_sizes inputs certificate = report_if_accepting with_sizes inputs.case certificate.cells inputs.report >>= λ done. Ok (accepted_piece ∷ [])
+
+pub accept_report-requires-clause-in_order : goal.accept_report-requires-clause-in_order
+accept_report-requires-clause-in_order g c = λ lifetimes outlive.
+    let case = plain_problem c.in_ok-problem.field-0.problem in
+    subst (λ (ls : List CellLine). AreInOrder (map plain_cell_line ls)) (sym c.deref.ensures.value)
+    (cells_in_order case (plain_certificate c.in_ok-accepted.accepted) c.in_ok-accepted.ensures.holds)
+
+pub accept_report-requires-clause-intervals : goal.accept_report-requires-clause-intervals
+accept_report-requires-clause-intervals g c = λ lifetimes outlive.
+    let case = plain_problem c.in_ok-problem.field-0.problem in
+    subst (λ (ls : List CellLine). KeepTheirIntervals case (map plain_cell_line ls)) (sym c.deref.ensures.value)
+    (cells_keep case (plain_certificate c.in_ok-accepted.accepted) c.in_ok-accepted.ensures.holds)
+
+pub accept_report-requires-clause-split : goal.accept_report-requires-clause-split
+accept_report-requires-clause-split g c = λ lifetimes outlive.
+    let case = plain_problem c.in_ok-problem.field-0.problem in
+    subst (λ (ls : List CellLine). CellsSplit case (map plain_cell_line ls)) (sym c.deref.ensures.value) c.in_ok-accepted.ensures.split
 
 pub returns-clause-vouches : goal.returns-clause-vouches
 returns-clause-vouches g c = λ files told.
-    vouched files (plain_checking c.args.checking.now) (plain_inputs c.in_ok-problem.field-0) (c.in_ok-problem.ensures.told files told) c.in_ok-accept.ensures.accepted
+    let checking = plain_checking c.args.checking.now in
+    let inputs = plain_inputs c.in_ok-problem.field-0 in
+    let certificate = plain_certificate c.in_ok-accepted.accepted in
+    let accepted = c.in_ok-accepted.ensures in
+    let holds : AcceptedText inputs.case inputs.bytes = record {
+      certificate = certificate;
+      text = accepted.only.0;
+      fits = accepted.only.1;
+      accepted = accepted.holds;
+      split = accepted.split;
+    } in
+    let beside =
+    subst (λ (b : Bool). OnOk c.accept_report.result (IfSome c.in_ok-problem.field-0.report (λ report. AcceptedReport b inputs.case certificate.cells report.items)))
+    c.tells_sizes.ensures
+    (subst (λ (ls : List CellLine). OnOk c.accept_report.result
+    (IfSome c.in_ok-problem.field-0.report (λ report. AcceptedReport c.tells_sizes.result inputs.case (map plain_cell_line ls) report.items)))
+    c.deref.ensures.value c.accept_report.ensures.holds) in
+    on_ok_so c.accept_report.result
+    (λ report. vouched files checking inputs (c.in_ok-problem.ensures.told files told) holds
+    (if_some_seen (λ (text : Vec ℕ Global). text.items) (AcceptedReport (tells_sizes checking.settings) inputs.case certificate.cells) c.in_ok-problem.field-0.report report))
+    beside
 
 pub returns-clause-told : goal.returns-clause-told
 unfolding pieces_checked
 returns-clause-told g c = λ files told.
-    pieces_made_from due (inputs_asked files (plain_checking c.args.checking.now)) (plain_inputs c.in_ok-problem.field-0)
-    (plain_certificate c.in_ok-accept.field-0) (c.in_ok-problem.ensures.told files told) c.in_ok-accept.ensures.told
+    let checking = plain_checking c.args.checking.now in
+    let inputs = plain_inputs c.in_ok-problem.field-0 in
+    let certificate = plain_certificate c.in_ok-accepted.accepted in
+    let rose = Rose (g.F.Folder.faults c.args.folder.now) (g.F.Folder.faults c.prepare_check.new.folder) in
+    let pieces = accepted_piece ∷ [] in
+    let judged =
+    subst (λ (b : Bool). Gives ⊥ (λ done. done) c.accept_report.result (report_if_accepting b inputs.case certificate.cells inputs.report)) c.tells_sizes.ensures
+    (subst (λ (ls : List CellLine). Gives ⊥ (λ done. done) c.accept_report.result
+    (report_if_accepting c.tells_sizes.result inputs.case (map plain_cell_line ls) inputs.report)) c.deref.ensures.value c.accept_report.ensures.told) in
+    subst (λ (d : Result (List FileBytes) Status). Gives rose (λ done. pieces) c.accept_report.result d)
+    (sym (pieces_made_from (due (tells_sizes checking.settings)) (inputs_asked files checking) inputs certificate (c.in_ok-problem.ensures.told files told)
+    c.in_ok-accepted.ensures.told))
+    (pieces_behind rose pieces c.accept_report.result (report_if_accepting (tells_sizes checking.settings) inputs.case certificate.cells inputs.report) judged)
 
 pub returns-in_err-problem : goal.returns-in_err-problem
 unfolding pieces_checked
 returns-in_err-problem g c =
     let prepared = c.in_err-problem.ensures in
+    let checking = plain_checking c.args.checking.now in
     let p = err_from_is_err_and c.from_residual.result c.from_residual.ensures.1 in
     rw (p.1, p.2) (record {
       between = prepared.between;
       read = λ is. prepared.read (same_error is);
-      told = λ files told.
-          unprepared due _ c.in_err-problem.field-0.0 (inputs_asked files (plain_checking c.args.checking.now)) (prepared.told files told);
+      told = λ files told. unprepared (due (tells_sizes checking.settings)) _ c.in_err-problem.field-0.0 (inputs_asked files checking) (prepared.told files told);
       vouches = λ files told. tt;
       files = prepared.files;
       later = prepared.later;
     })
 
-pub returns-in_err-accept : goal.returns-in_err-accept
+pub returns-in_err-accepted : goal.returns-in_err-accepted
 unfolding pieces_checked
-returns-in_err-accept g c =
-    let accepted = c.in_err-accept.ensures in
-    let p = err_from_is_err_and c.from_residual-in_err-accept.result c.from_residual-in_err-accept.ensures.1 in
+returns-in_err-accepted g c =
+    let accepted = c.in_err-accepted.ensures in
+    let checking = plain_checking c.args.checking.now in
+    let p = err_from_is_err_and c.from_residual-in_err-accepted.result c.from_residual-in_err-accepted.ensures.1 in
     rw (p.1, p.2) (record {
       between = accepted.between;
       read = λ is. absurd (accepted.read (same_error is));
       told = λ files told.
-          unaccepted due _ c.in_err-accept.field-0.0 (inputs_asked files (plain_checking c.args.checking.now)) (plain_inputs c.in_ok-problem.field-0)
+          unaccepted (due (tells_sizes checking.settings)) _ c.in_err-accepted.field-0.0 (inputs_asked files checking) (plain_inputs c.in_ok-problem.field-0)
           (c.in_ok-problem.ensures.told files told) accepted.told;
       vouches = λ files told. tt;
       files = c.in_ok-problem.ensures.files;

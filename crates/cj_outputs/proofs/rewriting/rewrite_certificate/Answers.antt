@@ -1,18 +1,21 @@
-use Rattle.std.proofs.Common.{List, Ok, sym, ap, ◌∙◌}
+use Rattle.std.proofs.Common.{List, ◌≤◌, length, Ok, Result, subst, sym, ap, ◌∙◌}
 use Rattle.std.proofs.lemmas.Result.{err_from_is_err_and}
 use Rattle.cj_io.specs.declared.file.FileBytes.{FileBytes}
 use Rattle.cj_words.specs.Commands.{plain_checking}
 use Rattle.cj_cert.specs.Certificates.{PlainCertificate, plain_certificate}
 use Rattle.cj_cert.specs.Rewritten.{in_version_2}
+use Rattle.cj_cert_text.specs.Texts.{text_of}
 use Rattle.cj_inputs.specs.CheckInputs.{PlainInputs, inputs_asked, plain_inputs}
+use Rattle.cj_outputs.specs.Again.{IsAcceptedLater}
+use Rattle.cj_status.specs.declared.status.Status.{Status}
 use Rattle.cj_outputs.specs.Outcome.{pieces_renewed, pieces_rewritten}
 use Rattle.cj_outputs.proofs.AcceptingLemmas.{pieces_made_from, same_error, unaccepted, unprepared}
 use Rattle.cj_outputs.proofs.CheckLemmas.{renews}
 use Rattle.cj_outputs.proofs.rewriting.rewrite_certificate.Goals as goal
 
 -- what is put of a certificate that is accepted
-abbrev due : PlainInputs → PlainCertificate → List FileBytes
-due inputs certificate = pieces_renewed (in_version_2 inputs.case certificate)
+abbrev due : PlainInputs → PlainCertificate → Result (List FileBytes) Status
+due inputs certificate = Ok (pieces_renewed (in_version_2 inputs.case certificate))
 
 pub returns-clause-renews : goal.returns-clause-renews
 returns-clause-renews g c = λ files told.
@@ -25,6 +28,9 @@ returns-clause-renews g c = λ files told.
       same = c.in_ok-renewed.ensures.value;
       still = c.in_ok-renewed.ensures.accepted;
     })
+    (λ read. let checking = plain_checking c.args.checking.now in
+    subst (λ (r : PlainCertificate). length (text_of r) ≤ 1_073_741_824 → IsAcceptedLater checking.settings files (text_of r)) (sym c.in_ok-renewed.ensures.value)
+    (c.accepted_later.ensures.rewritten checking.settings files (plain_certificate c.in_ok-accepted.accepted) read c.in_ok-accepted.ensures.holds c.in_ok-accepted.ensures.only.1))
 
 pub returns-clause-told : goal.returns-clause-told
 unfolding pieces_rewritten

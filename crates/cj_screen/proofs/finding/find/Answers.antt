@@ -1,4 +1,4 @@
-use Rattle.std.proofs.Common.{◌≡◌, Ok, inl, inr, refl, ap, sym, ◌∙◌}
+use Rattle.std.proofs.Common.{Ok, inl, inr, refl, ap, sym, ◌∙◌}
 use Rattle.std.proofs.lemmas.Result.{err_from_is_err_and}
 use Rattle.cj_outputs.specs.Findings.{pieces_in}
 use Rattle.cj_outputs.specs.Messages.{PlainOrigin}

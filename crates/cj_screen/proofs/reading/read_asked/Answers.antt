@@ -1,4 +1,4 @@
-use Rattle.std.proofs.Common.{◌≡◌, Ok, refl}
+use Rattle.std.proofs.Common.{refl}
 use Rattle.std.proofs.lemmas.Result.{err_from_is_err_and}
 use Rattle.cj_words.specs.Commands.{plain_screening}
 use Rattle.cj_hermite.specs.Problems.{plain_problem}

@@ -1,11 +1,9 @@
-use Rattle.std.proofs.Common.{◌≡◌, ◌⊎◌, Option, Some, List, Result, Ok, Err, refl, sym, subst, ◌∙◌}
+use Rattle.std.proofs.Common.{◌≡◌, ◌⊎◌, Some, Result, Ok, Err, refl, sym, subst, ◌∙◌}
 use Rattle.std.proofs.lemmas.Result.{err_from_is_err_and}
 use Rattle.std.specs.Prelude.{IfOk}
-use Rattle.cj_io.specs.Faults.{Rose}
-use Rattle.cj_io.specs.declared.file.FileBytes.{FileBytes}
 use Rattle.cj_words.specs.declared.option.UsageFault.{UsageFault}
 use Rattle.cj_words.specs.Commands.{Asking, command_of, plain_command}
-use Rattle.cj_screen.specs.Tasks.{ComesToTask, Leads, Readies, ReadsNothing}
+use Rattle.cj_screen.specs.Tasks.{ComesToTask, Readies, ReadsNothing}
 use Rattle.cj_screen.proofs.ResultLemmas.{comes_before, count_stays, never_of_words, pieces_of_asking, pieces_of_fault, usage_fault}
 use Rattle.cj_screen.proofs.reading.read_task.Goals as goal
 

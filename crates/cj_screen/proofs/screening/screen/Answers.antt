@@ -1,17 +1,18 @@
 use Rattle.std.proofs.Common.{◌≡◌, ◌∙◌, All, List, length, map, ap, refl, sym, subst, arith}
+use Rattle.std.proofs.lemmas.List.{length-map}
 use Rattle.std.proofs.lemmas.Result.{err_from_is_err_and}
 use Rattle.cj_hermite.specs.Problems.{plain_problem}
-use Rattle.cj_bezier.specs.Leaves.{PlainLeaf, plain_leaves}
+use Rattle.cj_bezier.specs.Leaves.{PlainLeaf, plain_leaf, plain_leaves}
 use Rattle.cj_bezier.specs.Order.{AreInOrder}
 use Rattle.cj_bezier.specs.declared.leaf.Leaf.{Leaf}
 use Rattle.cj_cert.specs.Rewritten.{written_in}
 use Rattle.cj_meet.specs.Closest.{HasNearest, KeepTheirIntervals}
 use Rattle.cj_meet.specs.Encounters.{encounters_of}
+use Rattle.cj_outputs.specs.Meetings.{AreMeetings}
 use Rattle.cj_outputs.specs.Messages.{has_message}
 use Rattle.cj_outputs.specs.Summaries.{tally_with}
 use Rattle.cj_screen.proofs.ReportLemmas.{never_read, pieces_of_leaves, pieces_stop}
 use Rattle.cj_screen.proofs.SplitLemmas.{splits}
-use Rattle.cj_screen.specs.Meetings.{AreMeetings}
 use Rattle.cj_screen.proofs.screening.screen.Goals as goal
 
 pub find_meetings-requires-clause-in_order : goal.find_meetings-requires-clause-in_order
@@ -74,6 +75,8 @@ returns g c =
         implies = c.acceptance.ensures.splits;
       };
       nearest = subst (λ (ss : List PlainLeaf). All (HasNearest case) (encounters_of ss)) same c.in_ok-met.ensures.nearest;
+      later = λ settings files read. c.accepted_later.ensures.written settings files c.args.version read
+          (omega (arith, ap length refined.leaves, length-map c.in_ok-refined.refined.leaves.items plain_leaf, refined.few));
     }
 
 pub returns-in_err-met : goal.returns-in_err-met
@@ -90,6 +93,7 @@ returns-in_err-met g c =
       split = tt;
       certified = tt;
       nearest = tt;
+      later = λ settings files read. tt;
     })
 
 pub returns-in_err-refined : goal.returns-in_err-refined
@@ -108,4 +112,5 @@ returns-in_err-refined g c =
       split = tt;
       certified = tt;
       nearest = tt;
+      later = λ settings files read. tt;
     })

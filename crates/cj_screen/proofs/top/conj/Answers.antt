@@ -1,8 +1,7 @@
-use Rattle.std.proofs.Common.{◌≡◌, ◌⊎◌, inr, Ok, Err, List, Result, refl, ap, sym, subst, ◌∙◌}
+use Rattle.std.proofs.Common.{◌≡◌, ◌⊎◌, inr, Err, List, Result, refl, ap, sym, subst, ◌∙◌}
 use Rattle.cj_io.specs.Faults.{Rose}
 use Rattle.cj_io.specs.declared.file.FileBytes.{FileBytes}
-use Rattle.cj_words.specs.declared.option.UsageFault.{UsageFault}
-use Rattle.cj_words.specs.Commands.{Asking, Checks, Generates, Rewrites, Screens, Tries, command_of}
+use Rattle.cj_words.specs.Commands.{Checks, Generates, Rewrites, Screens, Tries, command_of}
 use Rattle.cj_status.specs.declared.status.Status.{Status}
 use Rattle.cj_status.specs.declared.status.Status.TheVariants as status
 use Rattle.cj_status.specs.Steps.{ComesBefore}

@@ -6,12 +6,12 @@ ghost use Rattle.cj_bezier.specs.Order.{AreInOrder};
 ghost use Rattle.cj_meet.specs.Closest.{HasNearest, KeepTheirIntervals};
 ghost use Rattle.cj_meet.specs.Encounters.{encounters_of};
 ghost use Rattle.cj_meet.specs.Spans.{HaveExactSpans};
-ghost use Rattle.cj_screen.specs.Meetings.{AreMeetings};
+ghost use Rattle.cj_outputs.specs.Meetings.{AreMeetings};
 
+use crate::messages::note_messages;
 use cj_bezier::{Closest, Encounter, Leaf};
 use cj_hermite::Problem;
 use cj_meet::{closest_approaches, encounters};
-use cj_outputs::note_messages;
 use std::alloc::{AllocError, Global};
 use std::thread::Threads;
 

@@ -7,7 +7,7 @@ use Rattle.cj_bezier.specs.declared.encounter.Encounter.{Encounter}
 use Rattle.cj_meet.specs.Closest.{HasNearest, closest_of, some_closest}
 use Rattle.cj_meet.specs.Encounters.{Describes, groups_in}
 use Rattle.cj_outputs.proofs.MessageLemmas.{as_many_closest, noted_in}
-use Rattle.cj_screen.proofs.meetings.find_meetings.Goals as goal
+use Rattle.cj_outputs.proofs.meetings.find_meetings.Goals as goal
 
 pub closest_approaches-requires-clause-described : goal.closest_approaches-requires-clause-described
 closest_approaches-requires-clause-described g c = λ lifetimes outlive.

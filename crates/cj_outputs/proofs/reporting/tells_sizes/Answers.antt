@@ -1,7 +1,7 @@
 use Rattle.std.proofs.Common.{◌≡◌, ℕ, List, Option, Some, None, Bor, refl, ◌∙◌}
 use Rattle.std.specs.Prelude.{is_some}
 use Rattle.std.specs.Option.{option_copied}
-use Rattle.cj_screen.proofs.finding.tells_sizes.Goals as goal
+use Rattle.cj_outputs.proofs.reporting.tells_sizes.Goals as goal
 
 copied : (o : Option (Bor (List ℕ))) → is_some o ≡ is_some (option_copied o)
 copied (Some text) = refl

@@ -5,7 +5,7 @@ use Rattle.cj_bezier.specs.Leaves.{PlainLeaf}
 use Rattle.cj_meet.specs.Closest.{closest_of, some_closest}
 use Rattle.cj_meet.specs.Encounters.{AreEncounters, groups_in}
 use Rattle.cj_outputs.specs.Messages.{has_message}
-use Rattle.cj_screen.specs.declared.meetings.Meetings.{Meetings}
+use Rattle.cj_outputs.specs.declared.meetings.Meetings.{Meetings}
 
 -- the encounters of these leaves of a case, the closest approach of each and whether it has a message
 pub record AreMeetings (case : PlainProblem) (leaves : List PlainLeaf) (found : Meetings) : Type 0 where

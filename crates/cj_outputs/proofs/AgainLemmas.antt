@@ -1,0 +1,302 @@
+-- A folder with a file beside its own, whose name is that of no input: the case that is asked of it, and the certificate that this file is.
+use Rattle.std.proofs.Common.{◌≡◌, ℕ, suc, ◌+◌, ◌<◌, ◌≤◌, Bool, true, false, not, ◌&&◌, cond, if◌then◌else◌, nat_le, nat_lt, ◌==◌, bytes_eq}
+use Rattle.std.proofs.Common.{List, [], ◌∷◌, ◌++◌, length, map, filter, Option, Some, None, option_map, Result, Ok, Err, refl, sym, ap, ◌∙◌, le-ltb, arith}
+use Rattle.std.specs.List.{AllByRecursion, position_from}
+use Rattle.std.specs.Cmp.Lexicographic.{slice_cmp}
+use Rattle.std.specs.declared.cmp.Ordering.{Ordering}
+use Rattle.std.specs.declared.cmp.Ordering.TheVariants.{Less, Equal, Greater}
+use Rattle.std.specs.Ordering.{is_lt, nat_cmp, ordering_then}
+use Rattle.std.proofs.lemmas.Bool.Decides.{nat_tests}
+use Rattle.std.proofs.lemmas.Iterator.Adapters.{position_from-zero}
+use Rattle.std.proofs.lemmas.List.{length-map}
+use Rattle.std.proofs.lemmas.Slice.Eq.{bytes_eq-Decides}
+use Rattle.cj_io.specs.declared.file.FileBytes.{FileBytes}
+use Rattle.cj_io.specs.Files.{bytes_of, names_of}
+use Rattle.cj_words.specs.Settings.{Asked}
+use Rattle.cj_track.specs.PlainTracks.{PlainTrack}
+use Rattle.cj_hermite.specs.PlainProblems.{PlainProblem}
+use Rattle.cj_status.specs.declared.status.Status.{Status}
+use Rattle.cj_status.specs.declared.status.Status.TheVariants as status
+use Rattle.cj_status.specs.declared.status.CertificateCause.TheVariants.{NoFile}
+use Rattle.cj_status.specs.declared.status.FileCause.TheVariants.{NoSizes}
+use Rattle.cj_status.specs.declared.status.LimitFault.TheVariants.{Objects}
+use Rattle.cj_status.specs.Steps.{◌>>=◌}
+use Rattle.cj_inputs.specs.declared.input_files.Entry.{Entry}
+use Rattle.cj_inputs.specs.Cases.{case_asked, case_of_run, within_limits, within_objects}
+use Rattle.cj_inputs.specs.CheckInputs.{certificate_at, certificate_named}
+use Rattle.cj_inputs.specs.InputFiles.{entries_from, entry_cmp, has_sizes, inputs_of, is_taken}
+use Rattle.cj_inputs.specs.ObjectSizes.{first_named, sizes_asked, sizes_at, sizes_of_file}
+use Rattle.cj_inputs.specs.Orders.{inserted, sorted}
+use Rattle.cj_inputs.specs.Readings.{checked_after, reading_after, reading_of, readings_after, readings_of, within}
+use Rattle.cj_outputs.specs.Again.{HoldAlso, IsNoInput, has_name, without_name}
+use Rattle.cj_outputs.specs.Outcome.{piece}
+
+-- ---- files that are told by their names
+
+-- what passes is the same where before it is left out what does not pass
+passing_without : {X : Type 0} (passes left_out : X → Bool) → ((x : X) → left_out x ≡ true → passes x ≡ false) → (xs : List X)
+    → filter passes (filter (λ x. not (left_out x)) xs) ≡ filter passes xs
+passing_without passes left_out fails [] = refl
+passing_without {X = X} passes left_out fails (x ∷ xs) = chosen (left_out x) (fails x) (passing_without passes left_out fails xs)
+  where
+    chosen : (b : Bool) → (b ≡ true → passes x ≡ false) → filter passes (filter (λ y. not (left_out y)) xs) ≡ filter passes xs
+        → filter passes (cond (not b) (x ∷ filter (λ y. not (left_out y)) xs) (filter (λ y. not (left_out y)) xs)) ≡ filter passes (x ∷ xs)
+    chosen true none rest = rest ∙ sym (ap (λ (p : Bool). cond p (x ∷ filter passes xs) (filter passes xs)) (none refl))
+    chosen false none rest = ap (λ (ys : List X). cond (passes x) (x ∷ ys) ys) rest
+
+-- the same of files that differ in those of one name, which do not pass
+passing_alike : (passes : FileBytes → Bool) (name : List ℕ) (files later : List FileBytes) → ((file : FileBytes) → file.name ≡ name → passes file ≡ false)
+    → without_name name later ≡ without_name name files → filter passes later ≡ filter passes files
+passing_alike passes name files later fails others =
+    let named : (file : FileBytes) → has_name name file ≡ true → passes file ≡ false = λ file has. fails file ((bytes_eq-Decides file.name name).0 has) in
+    sym (passing_without passes (has_name name) named later) ∙ ap (filter passes) others ∙ passing_without passes (has_name name) named files
+
+-- ---- files that are told by their numbers
+
+-- these files stand in the folder from a number on
+abbrev StandFrom : List FileBytes → ℕ → List FileBytes → Type 0
+StandFrom all number files = (k : ℕ) → bytes_of all (number + k) ≡ bytes_of files k
+
+stand_all : (all : List FileBytes) → StandFrom all 0 all
+stand_all all k = let same : 0 + k ≡ k = omega arith in ap (bytes_of all) same
+
+stand_behind : (all : List FileBytes) (number : ℕ) (file : FileBytes) (files : List FileBytes) → StandFrom all number (file ∷ files)
+    → StandFrom all (number + 1) files
+stand_behind all number file files stand k = let same : number + 1 + k ≡ number + suc k = omega arith in ap (bytes_of all) same ∙ stand (suc k)
+
+stands_first : (all : List FileBytes) (number : ℕ) (file : FileBytes) (files : List FileBytes) → StandFrom all number (file ∷ files)
+    → bytes_of all number ≡ file.bytes
+stands_first all number file files stand = let same : number ≡ number + 0 = omega arith in ap (bytes_of all) same ∙ stand 0
+
+-- ---- the first file with a name
+
+abbrev first_bytes : List FileBytes → Option (List ℕ)
+first_bytes [] = None
+first_bytes (file ∷ files) = Some file.bytes
+
+first_from : (name : List ℕ) (all : List FileBytes) (number : ℕ) (files : List FileBytes) → StandFrom all number files
+    → option_map (bytes_of all) (position_from (λ other. bytes_eq other name) number (names_of files)) ≡ first_bytes (filter (has_name name) files)
+first_from name all number [] stand = refl
+first_from name all number (file ∷ files) stand =
+    chosen (bytes_eq file.name name) (first_from name all (number + 1) files (stand_behind all number file files stand))
+  where
+    chosen : (b : Bool)
+        → option_map (bytes_of all) (position_from (λ other. bytes_eq other name) (number + 1) (names_of files)) ≡ first_bytes (filter (has_name name) files)
+        → option_map (bytes_of all) (cond b (Some number) (position_from (λ other. bytes_eq other name) (number + 1) (names_of files)))
+        ≡ first_bytes (cond b (file ∷ filter (has_name name) files) (filter (has_name name) files))
+    chosen true rest = ap Some (stands_first all number file files stand)
+    chosen false rest = rest
+
+-- its bytes are those of the first of the files that have the name
+first_found : (name : List ℕ) (files : List FileBytes)
+    → option_map (bytes_of files) (first_named name (names_of files)) ≡ first_bytes (filter (has_name name) files)
+first_found name files =
+    ap (option_map (bytes_of files)) (position_from-zero (λ other. bytes_eq other name) (names_of files)) ∙ first_from name files 0 files (stand_all files)
+
+-- what is read of bytes, where there are some
+abbrev read_or : {A : Type 0} → Result A Status → (List ℕ → Result A Status) → Option (List ℕ) → Result A Status
+read_or missing read None = missing
+read_or missing read (Some bytes) = read bytes
+
+-- ---- the sizes
+
+sizes_by_bytes : (files : List FileBytes) (name : List ℕ) (number : Option ℕ)
+    → sizes_at files name number ≡ read_or (Err (status.BadFile name 0 NoSizes)) (sizes_of_file name) (option_map (bytes_of files) number)
+sizes_by_bytes files name None = refl
+sizes_by_bytes files name (Some number) = refl
+
+sizes_again : (sizes : Option (List ℕ)) (name : List ℕ) (files later : List FileBytes) → has_sizes sizes name ≡ false
+    → without_name name later ≡ without_name name files → sizes_asked later sizes ≡ sizes_asked files sizes
+unfolding sizes_asked
+sizes_again None name files later other others = refl
+sizes_again (Some own) name files later other others =
+    let fails : (file : FileBytes) → file.name ≡ name → has_name own file ≡ false = λ file is. ap (λ (n : List ℕ). bytes_eq n own) is ∙ other in
+    let same : filter (has_name own) later ≡ filter (has_name own) files = passing_alike (has_name own) name files later fails others in
+    sizes_by_bytes later own (first_named own (names_of later))
+    ∙ ap (read_or (Err (status.BadFile own 0 NoSizes)) (sizes_of_file own)) (first_found own later ∙ ap first_bytes same ∙ sym (first_found own files))
+    ∙ sym (sizes_by_bytes files own (first_named own (names_of files)))
+
+-- ---- the files that are taken
+
+-- the file of an entry
+abbrev file_of : List FileBytes → Entry → FileBytes
+file_of all entry = piece entry.name (bytes_of all entry.number)
+
+abbrev by_name : FileBytes → FileBytes → Ordering
+by_name a b = slice_cmp nat_cmp a.name b.name
+
+abbrev takes : List ℕ → Option (List ℕ) → FileBytes → Bool
+takes suffix sizes file = is_taken suffix sizes file.name
+
+-- the order of what stands later is that of the first sort alone
+tie_stays : (o : Ordering) (m n : ℕ) → n < m → is_lt (ordering_then o (nat_cmp m n)) ≡ is_lt o
+tie_stays Less m n more = refl
+tie_stays Equal m n more = not_less (nat_lt m n) (m == n) (le-ltb m n (omega arith))
+  where
+    not_less : (lt eq : Bool) → lt ≡ false → is_lt (cond lt Less (cond eq Equal Greater)) ≡ false
+    not_less true eq is = absurd cc
+    not_less false true is = refl
+    not_less false false is = refl
+tie_stays Greater m n more = refl
+
+-- an entry among such with greater numbers stands where its name takes it
+inserted_again : (all : List FileBytes) (x : Entry) (ys : List Entry) → AllByRecursion (λ (y : Entry). x.number < y.number) ys
+    → map (file_of all) (inserted entry_cmp x ys) ≡ inserted by_name (file_of all x) (map (file_of all) ys)
+inserted_again all x [] behind = refl
+inserted_again all x (y ∷ ys) behind =
+    ap (λ (b : Bool). map (file_of all) (cond b (y ∷ inserted entry_cmp x ys) (x ∷ y ∷ ys)))
+    (tie_stays (slice_cmp nat_cmp y.name x.name) y.number x.number behind.0)
+    ∙ chosen (is_lt (by_name (file_of all y) (file_of all x))) (inserted_again all x ys behind.1)
+  where
+    chosen : (b : Bool) → map (file_of all) (inserted entry_cmp x ys) ≡ inserted by_name (file_of all x) (map (file_of all) ys)
+        → map (file_of all) (cond b (y ∷ inserted entry_cmp x ys) (x ∷ y ∷ ys))
+        ≡ cond b (file_of all y ∷ inserted by_name (file_of all x) (map (file_of all) ys)) (file_of all x ∷ file_of all y ∷ map (file_of all) ys)
+    chosen true rest = ap (λ (fs : List FileBytes). file_of all y ∷ fs) rest
+    chosen false rest = refl
+
+all_inserted : {K : Type 0} (P : K → Type 0) (R : K → K → Ordering) (x : K) (ys : List K) → P x → AllByRecursion P ys → AllByRecursion P (inserted R x ys)
+all_inserted P R x [] here all = (here, tt)
+all_inserted P R x (y ∷ ys) here all = chosen (is_lt (R y x)) (all_inserted P R x ys here all.1)
+  where
+    chosen : (b : Bool) → AllByRecursion P (inserted R x ys) → AllByRecursion P (cond b (y ∷ inserted R x ys) (x ∷ y ∷ ys))
+    chosen true later = (all.0, later)
+    chosen false later = (here, all)
+
+all_sorted : {K : Type 0} (P : K → Type 0) (R : K → K → Ordering) (xs : List K) → AllByRecursion P xs → AllByRecursion P (sorted R xs)
+all_sorted P R [] all = tt
+all_sorted P R (x ∷ xs) all = all_inserted P R x (sorted R xs) all.0 (all_sorted P R xs all.1)
+
+-- entries from a number on have greater numbers than one before it
+numbers_behind : (suffix : List ℕ) (sizes : Option (List ℕ)) (before number : ℕ) (names : List (List ℕ)) → before < number
+    → AllByRecursion (λ (y : Entry). before < y.number) (entries_from suffix sizes number names)
+numbers_behind suffix sizes before number [] less = tt
+numbers_behind suffix sizes before number (name ∷ names) less =
+    chosen (is_taken suffix sizes name) (numbers_behind suffix sizes before (number + 1) names (omega arith))
+  where
+    chosen : (b : Bool) → AllByRecursion (λ (y : Entry). before < y.number) (entries_from suffix sizes (number + 1) names)
+        → AllByRecursion (λ (y : Entry). before < y.number)
+        (cond b (record { name = name; number = number } ∷ entries_from suffix sizes (number + 1) names) (entries_from suffix sizes (number + 1) names))
+    chosen true rest = (less, rest)
+    chosen false rest = rest
+
+-- the files of the entries in their order are the files that are taken, by name, ties as they stood
+sorted_from : (suffix : List ℕ) (sizes : Option (List ℕ)) (all : List FileBytes) (number : ℕ) (files : List FileBytes) → StandFrom all number files
+    → map (file_of all) (sorted entry_cmp (entries_from suffix sizes number (names_of files))) ≡ sorted by_name (filter (takes suffix sizes) files)
+sorted_from suffix sizes all number [] stand = refl
+sorted_from suffix sizes all number (file ∷ files) stand =
+    chosen (takes suffix sizes file) (sorted_from suffix sizes all (number + 1) files (stand_behind all number file files stand))
+  where
+    entry : Entry
+    entry = record { name = file.name; number = number }
+
+    behind : List Entry
+    behind = entries_from suffix sizes (number + 1) (names_of files)
+
+    chosen : (b : Bool) → map (file_of all) (sorted entry_cmp behind) ≡ sorted by_name (filter (takes suffix sizes) files)
+        → map (file_of all) (sorted entry_cmp (cond b (entry ∷ behind) behind))
+        ≡ sorted by_name (cond b (file ∷ filter (takes suffix sizes) files) (filter (takes suffix sizes) files))
+    chosen true rest =
+        let greater = numbers_behind suffix sizes number (number + 1) (names_of files) (omega arith) in
+        let here : file_of all entry ≡ file = ap (piece file.name) (stands_first all number file files stand) in
+        inserted_again all entry (sorted entry_cmp behind) (all_sorted (λ (y : Entry). number < y.number) entry_cmp behind greater)
+        ∙ (λ i. inserted by_name (here i) (rest i))
+    chosen false rest = rest
+
+files_taken : (suffix : List ℕ) (sizes : Option (List ℕ)) (files : List FileBytes)
+    → map (file_of files) (inputs_of suffix sizes (names_of files)) ≡ sorted by_name (filter (takes suffix sizes) files)
+unfolding inputs_of
+files_taken suffix sizes files = sorted_from suffix sizes files 0 files (stand_all files)
+
+-- a file of a name that is no input's is not taken
+none_taken : (settings : Asked) (name : List ℕ) (files later : List FileBytes) → IsNoInput settings name → without_name name later ≡ without_name name files
+    → filter (takes settings.suffix settings.sizes) later ≡ filter (takes settings.suffix settings.sizes) files
+none_taken settings name files later apart others = passing_alike (takes settings.suffix settings.sizes) name files later fails others
+  where
+    fails : (file : FileBytes) → file.name ≡ name → takes settings.suffix settings.sizes file ≡ false
+    fails file is =
+        ap (is_taken settings.suffix settings.sizes) is ∙ ap (λ (b : Bool). b && not (has_sizes settings.sizes name)) apart.suffix
+
+-- ---- what they are read as
+
+abbrev files_after : Bool → List PlainTrack → List FileBytes → Result (List PlainTrack) Status
+files_after as_hermite3 before [] = Ok before
+files_after as_hermite3 before (file ∷ files) =
+    (reading_of as_hermite3 file.name file.bytes >>= checked_after before file.name) >>= λ e. files_after as_hermite3 (before ++ e ∷ []) files
+
+readings_by_files : (as_hermite3 : Bool) (all : List FileBytes) (before : List PlainTrack) (entries : List Entry)
+    → readings_after as_hermite3 all before entries ≡ files_after as_hermite3 before (map (file_of all) entries)
+readings_by_files as_hermite3 all before [] = refl
+readings_by_files as_hermite3 all before (entry ∷ entries) =
+    each (reading_after as_hermite3 all before entry) (λ e. readings_by_files as_hermite3 all (before ++ e ∷ []) entries)
+  where
+    one : PlainTrack → Result (List PlainTrack) Status
+    one e = readings_after as_hermite3 all (before ++ e ∷ []) entries
+
+    other : PlainTrack → Result (List PlainTrack) Status
+    other e = files_after as_hermite3 (before ++ e ∷ []) (map (file_of all) entries)
+
+    each : (r : Result PlainTrack Status) → ((e : PlainTrack) → one e ≡ other e) → (r >>= one) ≡ (r >>= other)
+    each (Ok e) same = same e
+    each (Err s) same = refl
+
+abbrev within_files : List FileBytes → Result (List FileBytes) Status
+within_files files = if nat_le (length files) 2000 then Ok files else Err (status.Limit (Objects (length files)))
+
+-- the case that is made of the files that are taken, in order, and of sizes
+abbrev case_in : {S : Type 0} → (List PlainTrack → S → PlainProblem) → Bool → List FileBytes → Result S Status → Result PlainProblem Status
+case_in made as_hermite3 taken sizes =
+    within_files taken >>= λ files. files_after as_hermite3 [] files >>= λ es. sizes >>= λ given. within_limits (made es given)
+
+-- as many entries as files are within the limit where these are
+within_alike : {A : Type 0} (entries : List Entry) (files : List FileBytes) (f : List Entry → Result A Status) (g : List FileBytes → Result A Status)
+    → length entries ≡ length files → f entries ≡ g files → (within_objects entries >>= f) ≡ (within_files files >>= g)
+within_alike entries files f g many same =
+    chosen (nat_le (length entries) 2000) ∙ ap (λ (n : ℕ). cond (nat_le n 2000) (Ok files) (Err (status.Limit (Objects n))) >>= g) many
+  where
+    chosen : (b : Bool) → (cond b (Ok entries) (Err (status.Limit (Objects (length entries)))) >>= f)
+        ≡ (cond b (Ok files) (Err (status.Limit (Objects (length entries)))) >>= g)
+    chosen true = same
+    chosen false = refl
+
+asked_by_files : (settings : Asked) (files : List FileBytes)
+    → case_asked files settings
+    ≡ case_in (case_of_run settings) settings.as_hermite3 (sorted by_name (filter (takes settings.suffix settings.sizes) files))
+    (sizes_asked files settings.sizes)
+unfolding case_asked
+asked_by_files settings files =
+    let entries = inputs_of settings.suffix settings.sizes (names_of files) in
+    let sizes = sizes_asked files settings.sizes in
+    let rest : List PlainTrack → Result PlainProblem Status = λ es. sizes >>= λ given. within_limits (case_of_run settings es given) in
+    within_alike entries (map (file_of files) entries) (λ es. readings_of settings.as_hermite3 files es >>= rest)
+    (λ fs. files_after settings.as_hermite3 [] fs >>= rest) (sym (length-map entries (file_of files)))
+    (ap (λ (r : Result (List PlainTrack) Status). r >>= rest) (readings_by_files settings.as_hermite3 files [] entries))
+    ∙ ap (λ (taken : List FileBytes). case_in (case_of_run settings) settings.as_hermite3 taken sizes) (files_taken settings.suffix settings.sizes files)
+
+-- the case that is asked is the same
+pub asked_again : (settings : Asked) (name bytes : List ℕ) (files later : List FileBytes) → IsNoInput settings name → HoldAlso name bytes files later
+    → case_asked later settings ≡ case_asked files settings
+asked_again settings name bytes files later apart hold =
+    let taken = none_taken settings name files later apart hold.others in
+    let sizes = sizes_again settings.sizes name files later apart.sizes hold.others in
+    asked_by_files settings later
+    ∙ (λ i. case_in (case_of_run settings) settings.as_hermite3 (sorted by_name (taken i)) (sizes i))
+    ∙ sym (asked_by_files settings files)
+
+-- ---- the certificate
+
+abbrev no_certificate : Result (List ℕ) Status
+no_certificate = Err (status.NotAccepted 0 NoFile)
+
+certificate_by_bytes : (files : List FileBytes) (name : List ℕ) (number : Option ℕ)
+    → certificate_at files name number ≡ read_or no_certificate (within 1_073_741_824 name) (option_map (bytes_of files) number)
+certificate_by_bytes files name None = refl
+certificate_by_bytes files name (Some number) = refl
+
+-- it is what this file holds
+pub named_again : (name bytes : List ℕ) (files later : List FileBytes) → HoldAlso name bytes files later → length bytes ≤ 1_073_741_824
+    → certificate_named later name ≡ Ok bytes
+unfolding certificate_named
+named_again name bytes files later hold short =
+    let few : nat_le (length bytes) 1_073_741_824 ≡ true = grind (arith, nat_tests) in
+    certificate_by_bytes later name (first_named name (names_of later))
+    ∙ ap (read_or no_certificate (within 1_073_741_824 name)) (first_found name later ∙ ap first_bytes hold.once) ∙ rw few refl

@@ -1,0 +1,126 @@
+-- What was put as a certificate is accepted by a check of the same files.
+use Rattle.std.proofs.Common.{◌≡◌, ℕ, ◌*◌, ◌^◌, ◌<◌, ◌≤◌, ◌⊎◌, Bool, true, false, cond, List, [], ◌∷◌, length, None, Ok, refl, sym, ap, ◌∙◌, subst, inl, inr, arith}
+use Rattle.std.specs.Prelude.{◌==◌, All}
+use Rattle.std.proofs.lemmas.List.{length-map}
+use Rattle.cj_io.specs.declared.file.FileBytes.{FileBytes}
+use Rattle.cj_ticks.specs.Ticks.{LAST_TICK}
+use Rattle.cj_track.specs.Tracks.{plain_track}
+use Rattle.cj_hermite.specs.declared.problem.Problem.{Problem}
+use Rattle.cj_hermite.specs.Limits.{MAX_SIZE}
+use Rattle.cj_hermite.specs.PlainProblems.{PlainProblem}
+use Rattle.cj_hermite.specs.Problems.{plain_problem}
+use Rattle.cj_hermite.specs.Slots.{slot_count}
+use Rattle.cj_bezier.specs.Leaves.{PlainLeaf}
+use Rattle.cj_cells.specs.Lists.{list_looked}
+use Rattle.cj_cert.specs.Accepted.{Accepted}
+use Rattle.cj_cert.specs.Certificates.{PlainCertificate}
+use Rattle.cj_cert.specs.Reaches.{AllStayNear}
+use Rattle.cj_cert.specs.Rewritten.{in_version_2, with_blocks, written_in, written_in_blocks}
+use Rattle.cj_cert.specs.Written.{leaves_in_order, written}
+use Rattle.cj_cert_text.specs.Fits.{Fits}
+use Rattle.cj_cert_text.specs.Texts.{text_of}
+use Rattle.cj_cert_text.proofs.ChainLemmas.{reading_again}
+use Rattle.cj_cert_text.proofs.LengthLemmas.{text_short}
+use Rattle.cj_cert_text.proofs.WrittenFitsLemmas.{IsOfRun, few_boxes, few_shells, few_sizes, in_version_2_fits, written_in_fits}
+use Rattle.cj_checker.specs.First.{first_failure}
+use Rattle.cj_words.specs.Commands.{Checking}
+use Rattle.cj_words.specs.Settings.{Asked}
+use Rattle.cj_inputs.specs.Cases.{case_asked}
+use Rattle.cj_inputs.specs.CheckInputs.{PlainInputs, certificate_named, inputs_asked}
+use Rattle.cj_outputs.specs.Again.{IsAcceptedLater}
+use Rattle.cj_outputs.specs.Outcome.{accepted_piece, cert_bytes, pieces_checked, report_if_accepting, said_or, tells_sizes}
+use Rattle.cj_status.specs.Steps.{◌>>=◌}
+use Rattle.cj_outputs.proofs.AcceptingLemmas.{accepted_so, pieces_made_from}
+use Rattle.cj_outputs.proofs.AgainLemmas.{asked_again, named_again}
+use Rattle.cj_outputs.proofs.CertificateLemmas.{leaves_alike}
+
+-- ---- what is so of a problem
+
+few_slots : (first last : ℕ) → last ≤ LAST_TICK → slot_count first last < 2 ^ 32
+few_slots first last most = omega arith
+
+pub of_run : (problem : Problem) → All (λ size. size ≤ MAX_SIZE) problem.sizes → AllStayNear (plain_problem problem) → IsOfRun (plain_problem problem)
+of_run problem sizes near =
+    let objects = length-map problem.tracks plain_track in
+    let few = problem.few in
+    let sized = problem.sized in
+    let last = problem.window.last.in_range in
+    record {
+      few = omega arith;
+      first = problem.window.first.in_range;
+      last = last;
+      least = problem.least;
+      most = problem.most;
+      short = few_slots problem.window.first.micros problem.window.last.micros last.1;
+      sizes = sizes;
+      sized = omega arith;
+      near = near;
+    }
+
+pub slots_of_run : (problem : Problem) → length (plain_problem problem).ephemerides * slot_count problem.window.first.micros problem.window.last.micros ≤ 4_000_000
+slots_of_run problem =
+    subst (λ (n : ℕ). n * slot_count problem.window.first.micros problem.window.last.micros ≤ 4_000_000) (sym (length-map problem.tracks plain_track)) problem.few_slots
+
+-- ---- a text that is accepted later
+
+-- a check by this name, of no report
+abbrev by_name : Asked → List ℕ → Checking
+by_name settings name = record { settings = settings; certificate = name; report = None }
+
+abbrev alone : PlainProblem → List ℕ → PlainInputs
+alone case bytes = record { case = case; bytes = bytes; report = None }
+
+inputs_there : (files : List FileBytes) (settings : Asked) (name : List ℕ) (case : PlainProblem) (bytes : List ℕ) → case_asked files settings ≡ Ok case
+    → certificate_named files name ≡ Ok bytes → inputs_asked files (by_name settings name) ≡ Ok (alone case bytes)
+unfolding inputs_asked
+inputs_there files settings name case bytes read named = rw (read, named) refl
+
+text_accepted : (settings : Asked) (files : List FileBytes) (case : PlainProblem) (c : PlainCertificate) → case_asked files settings ≡ Ok case → Fits c → first_failure case c ≡ None
+    → length (text_of c) ≤ 1_073_741_824 → IsAcceptedLater settings files (text_of c)
+unfolding pieces_checked
+text_accepted settings files case c read fits none short name later outside holds =
+    let bytes = text_of c in
+    let asked = asked_again settings name bytes files later outside holds ∙ read in
+    let there = inputs_there later settings name case bytes asked (named_again name bytes files later holds short) in
+    pieces_made_from (λ inputs certificate. report_if_accepting (tells_sizes settings) inputs.case certificate.cells inputs.report >>= λ done. Ok (accepted_piece ∷ []))
+    (inputs_asked later (by_name settings name)) (alone case bytes) c there (accepted_so case bytes c (ap said_or (reading_again c fits)) none)
+
+-- ---- a certificate that is written
+
+same_cells : (version : ℕ) (case : PlainProblem) → (written_in version case).cells ≡ leaves_in_order case
+unfolding with_blocks written
+same_cells version case = go (version == 1)
+  where
+    go : (b : Bool) → (cond b (written case) (written_in_blocks case)).cells ≡ leaves_in_order case
+    go true = refl
+    go false = refl
+
+text_few : (case : PlainProblem) (c : PlainCertificate) → IsOfRun case → length case.ephemerides * slot_count case.first case.last ≤ 4_000_000 → Accepted case c → Fits c → length c.cells ≤ 4_000_000
+    → length (text_of c) ≤ 1_073_741_824
+text_few case c run slots accepted fits cells =
+    let few = run.few in
+    let shells = few_shells case c.shells accepted.shells in
+    let boxes = few_boxes case c.boxes accepted.boxes in
+    text_short c fits (sizes fits.version) (omega arith) (omega arith) cells
+  where
+    sizes : ((c.version ≡ 1) × (c.sizes ≡ []) × All (λ b. b.first ≡ b.last) c.boxes) ⊎ (c.version ≡ 2) → length c.sizes ≤ 2000
+    sizes (inl first) = let none = ap length first.1 in omega arith
+    sizes (inr second) = let all = few_sizes case c.sizes (accepted.sizes second) in let sized = run.sized in let few = run.few in omega arith
+
+pub written_later : (problem : Problem) (settings : Asked) (files : List FileBytes) (version : ℕ) → IsOfRun (plain_problem problem) → Accepted (plain_problem problem) (written (plain_problem problem))
+    → Accepted (plain_problem problem) (written_in version (plain_problem problem)) → first_failure (plain_problem problem) (written_in version (plain_problem problem)) ≡ None
+    → case_asked files settings ≡ Ok (plain_problem problem) → length (list_looked (plain_problem problem)) ≤ 4_000_000 → IsAcceptedLater settings files (cert_bytes version (plain_problem problem))
+written_later problem settings files version run first accepted none read leaves =
+    let case = plain_problem problem in
+    let c = written_in version case in
+    let fits = written_in_fits version case run first in
+    let cells : length c.cells ≤ 4_000_000 =
+    subst (λ (ss : List PlainLeaf). length ss ≤ 4_000_000) (leaves_alike case ∙ sym (same_cells version case)) leaves in
+    text_accepted settings files case c read fits none (text_few case c run (slots_of_run problem) accepted fits cells)
+
+-- ---- a certificate that is rewritten
+
+pub rewritten_later : (settings : Asked) (files : List FileBytes) (case : PlainProblem) (c : PlainCertificate) → IsOfRun case → first_failure case (in_version_2 case c) ≡ None
+    → case_asked files settings ≡ Ok case → Fits c → length (text_of (in_version_2 case c)) ≤ 1_073_741_824 → IsAcceptedLater settings files (text_of (in_version_2 case c))
+rewritten_later settings files case c run none read fits short =
+    text_accepted settings files case (in_version_2 case c) read (in_version_2_fits case c run fits) none short

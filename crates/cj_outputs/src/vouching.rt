@@ -1,0 +1,171 @@
+//! Whether a report is that of the cells of an accepted certificate.
+ghost use Rattle.std.specs.Prelude.{◌≡◌, ◌≢◌, ◌≤◌, Err, All, IfOk, IfErr, IfSome, OnOk, count_by, length, map, option_map};
+ghost use Rattle.cj_hermite.specs.Problems.{plain_problem};
+ghost use Rattle.cj_bezier.specs.Leaves.{plain_leaf, plain_leaves};
+ghost use Rattle.cj_bezier.specs.Order.{AreInOrder};
+ghost use Rattle.cj_cert.specs.Certificates.{plain_cell_line};
+ghost use Rattle.cj_cert.specs.Splits.{CellsSplit};
+ghost use Rattle.cj_meet.specs.Closest.{HasNearest, KeepTheirIntervals};
+ghost use Rattle.cj_meet.specs.Encounters.{encounters_of};
+ghost use Rattle.cj_meet.specs.Spans.{HaveExactSpans};
+ghost use Rattle.cj_outputs.specs.Checks.{AcceptedReport};
+ghost use Rattle.cj_outputs.specs.Differences as text;
+ghost use Rattle.cj_outputs.specs.Outcome as spec;
+ghost use Rattle.cj_status.specs.Steps.{Gives, ComesBetween};
+
+use crate::checking::WORKERS;
+use crate::meetings::find_meetings;
+use cj_bezier::{Cell, Leaf};
+use cj_cert::CellLine;
+use cj_hermite::Problem;
+use cj_report::report_text;
+use cj_status::{CertificateCause, LimitFault, Status};
+use std::alloc::{AllocError, Global};
+use std::thread::Threads;
+
+/// The greatest number of cells beside which a report is checked: as many as the leaves of a run.
+const MAX_CELLS: usize = 4_000_000;
+
+/// Accepts the bytes of a report, where there are any, that are the report of a problem with the encounters of these cells of an accepted
+/// certificate. The report is to tell the sizes, or not.
+pub fn accept_report<R: Threads + Sync>(
+    rt: &R,
+    alloc: Global,
+    problem: &Problem,
+    with_sizes: bool,
+    cells: &[CellLine],
+    report: Option<Vec<u8>>,
+) -> Result<(), Status>
+    requires small { IfSome report (λ bytes. length bytes.items ≤ 1_073_741_824) }
+    requires in_order { AreInOrder (map plain_cell_line cells.now) }
+    requires intervals { KeepTheirIntervals (plain_problem problem.now) (map plain_cell_line cells.now) }
+    requires split { CellsSplit (plain_problem problem.now) (map plain_cell_line cells.now) }
+    ensures between { IfErr result ComesBetween }
+    ensures read { result ≢ Err Status.ReadFault }
+    ensures told { Gives ⊥ (λ done. done) result
+        (spec.report_if_accepting with_sizes (plain_problem problem.now) (map plain_cell_line cells.now) (option_map (λ bytes. bytes.items) report)) }
+    ensures holds { OnOk result
+        (IfSome report (λ bytes. AcceptedReport with_sizes (plain_problem problem.now) (map plain_cell_line cells.now) bytes.items)) }
+{
+    match report {
+        None => Ok(()),
+        Some(bytes) => accept_bytes(rt, alloc, problem, with_sizes, cells, &bytes),
+    }
+}
+
+/// Accepts the bytes that are the report of a problem with the encounters of these cells.
+#[tactic(auto, unfolding(crate::specs::Outcome::report_accepting))]
+fn accept_bytes<R: Threads + Sync>(
+    rt: &R,
+    alloc: Global,
+    problem: &Problem,
+    with_sizes: bool,
+    cells: &[CellLine],
+    bytes: &[u8],
+) -> Result<(), Status>
+    requires small { length bytes.now ≤ 1_073_741_824 }
+    requires in_order { AreInOrder (map plain_cell_line cells.now) }
+    requires intervals { KeepTheirIntervals (plain_problem problem.now) (map plain_cell_line cells.now) }
+    requires split { CellsSplit (plain_problem problem.now) (map plain_cell_line cells.now) }
+    ensures between { IfErr result ComesBetween }
+    ensures read { result ≢ Err Status.ReadFault }
+    ensures told { Gives ⊥ (λ done. done) result (spec.report_accepting with_sizes (plain_problem problem.now) (map plain_cell_line cells.now) bytes.now) }
+    ensures holds { OnOk result (AcceptedReport with_sizes (plain_problem problem.now) (map plain_cell_line cells.now) bytes.now) }
+{
+    if cells.len() > MAX_CELLS {
+        return Err(Status::Limit(LimitFault::Cells {
+            limit: MAX_CELLS as u64,
+        }));
+    }
+    let leaves = leaves_of(alloc, cells)?;
+    let due = report_due(rt, alloc, problem, with_sizes, &leaves)?;
+    accept_as(bytes, &due)
+}
+
+/// The cells of a certificate as leaves.
+fn leaves_of(alloc: Global, cells: &[CellLine]) -> Result<Vec<Leaf>, AllocError>
+    ensures { IfOk result (λ leaves. plain_leaves leaves.items ≡ map plain_cell_line cells.now) }
+{
+    let mut leaves = Vec::with_capacity(alloc, cells.len())?;
+    for cell in cells {
+        leaves.push(leaf_of(cell))?;
+    }
+    Ok(leaves)
+}
+
+/// A cell of a certificate as a leaf. It tells of no root, and stands as the first one's.
+fn leaf_of(line: &CellLine) -> Leaf
+    ensures { plain_leaf result ≡ plain_cell_line line.now }
+{
+    Leaf {
+        cell: Cell {
+            pair: line.pair,
+            root: 0,
+            first: line.first,
+            last: line.last,
+        },
+        kind: line.kind,
+    }
+}
+
+/// The report of a problem with the encounters of these leaves.
+fn report_due<R: Threads + Sync>(
+    rt: &R,
+    alloc: Global,
+    problem: &Problem,
+    with_sizes: bool,
+    leaves: &[Leaf],
+) -> Result<Vec<u8>, AllocError>
+    requires few { length leaves.now ≤ 4_000_000 }
+    requires in_order { AreInOrder (plain_leaves leaves.now) }
+    requires intervals { KeepTheirIntervals (plain_problem problem.now) (plain_leaves leaves.now) }
+    ensures text { IfOk result (λ text. text.items ≡ spec.report_bytes with_sizes (plain_problem problem.now) (plain_leaves leaves.now)) }
+    ensures spans { HaveExactSpans (plain_leaves leaves.now) }
+    ensures nearest { OnOk result (All (HasNearest (plain_problem problem.now)) (encounters_of (plain_leaves leaves.now))) }
+{
+    let met = find_meetings(rt, alloc, problem, leaves, WORKERS)?;
+    report_text(
+        alloc,
+        problem,
+        with_sizes,
+        leaves,
+        &met.encounters,
+        &met.closest,
+        &met.messages,
+    )
+}
+
+/// Accepts the bytes of a report that are those that are due.
+fn accept_as(bytes: &[u8], due: &[u8]) -> Result<(), Status>
+    requires { length bytes.now ≤ 1_073_741_824 }
+    ensures { result ≡ spec.as_due bytes.now due.now }
+{
+    if bytes == due {
+        Ok(())
+    } else {
+        Err(Status::NotAccepted {
+            line: differing_line(bytes, due),
+            cause: CertificateCause::Report,
+        })
+    }
+}
+
+/// The number of the line in which a text first differs from another, counted from 1.
+fn differing_line(bytes: &[u8], others: &[u8]) -> u32
+    requires { length bytes.now ≤ 1_073_741_824 }
+    ensures { result ≡ text.differing_line bytes.now others.now }
+{
+    common_lines(bytes, others) as u32 + 1
+}
+
+/// How many lines end in what two texts both begin with.
+fn common_lines(bytes: &[u8], others: &[u8]) -> usize
+    ensures { result ≡ count_by text.ends_line (text.common_front bytes.now others.now) }
+{
+    bytes
+        .iter()
+        .zip(others)
+        .take_while(|(byte, other)| byte == other)
+        .filter(|(byte, _)| **byte == b'\n')
+        .count()
+}
