@@ -4,6 +4,8 @@
 #[cfg(test)]
 mod cells;
 #[cfg(test)]
+mod crowds;
+#[cfg(test)]
 mod lines;
 #[cfg(test)]
 mod rows;

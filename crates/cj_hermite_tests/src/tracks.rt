@@ -117,6 +117,37 @@ fn track(rt: &impl Abort, alloc: Global) -> Result<Track, AllocError>
     named(alloc, Segments::new(alloc, segments)?)
 }
 
+/// A segment of two pieces that is useable from the middle of its first piece on.
+fn useable_late(rt: &impl Abort, alloc: Global) -> Result<Track, AllocError> {
+    let segments = vec![in alloc; long(rt, alloc, 30_000, 120_000, 0, 60_000, 120_000)?]?;
+    named(alloc, Segments::new(alloc, segments)?)
+}
+
+/// The piece at this tick, after so many microseconds.
+fn piece_after(track: &Track, micros: u32) -> Option<u32> {
+    piece_at(
+        track,
+        Tick::nearest(1_735_689_600_000_000 + u64::from(micros)),
+    )
+}
+
+#[test]
+fn a_segment_has_no_piece_before_it_is_useable(rt: HostRuntime) {
+    let track = useable_late(&rt, rt.alloc()).expect(&rt, "no fault");
+    let pieces = [
+        (0, None),
+        (29_999_999, None),
+        (30_000_000, Some(0)),
+        (59_999_999, Some(0)),
+        (60_000_000, Some(1)),
+        (120_000_000, Some(1)),
+        (120_000_001, None),
+    ];
+    for (micros, index) in pieces {
+        assert_eq!(rt; piece_after(&track, micros), index, "after {micros}");
+    }
+}
+
 #[test]
 fn a_shared_tick_belongs_to_the_last_segment(rt: HostRuntime) {
     let track = track(&rt, rt.alloc()).expect(&rt, "no fault");

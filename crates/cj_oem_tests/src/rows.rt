@@ -130,6 +130,20 @@ const ROWS: [Case<'static>; 29] = [
     (15, b"META_STOP", Some((15, OemCause::Order))),
 ];
 
+/// A node at the greatest coordinate, which is written with digits beyond the last place.
+const FAR: [Stated; 1] = [(
+    1_735_689_600_000_000,
+    [500_000_000_000_000_000, 0, 0, 0, 0, 0],
+)];
+
+#[test]
+fn digits_beyond_a_nanometre_are_rounded_before_the_limit(rt: HostRuntime) {
+    let row: Change = (15, b"2025-01-01T00:00:00 500000.0000000000004 0 0 0 0 0");
+    let text = base_with(rt.alloc(), &[row]).expect(&rt, "no fault");
+    let track = read(rt.alloc(), &text, false).expect(&rt, "no fault");
+    assert!(rt; begins_with(&track, 0, FAR.as_slice()));
+}
+
 #[test]
 fn a_row_has_its_first_fault(rt: HostRuntime) {
     assert_eq!(rt;

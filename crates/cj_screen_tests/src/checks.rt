@@ -100,7 +100,7 @@ type Case<'a> = (&'a str, Change, &'a [u8]);
 
 const ACCEPTED: &[u8] = b"ACCEPTED\n";
 
-const CASES: [Case; 13] = [
+const CASES: [Case; 15] = [
     ("check .", Change::Nothing, ACCEPTED),
     // The text.
     (
@@ -142,6 +142,11 @@ const CASES: [Case; 13] = [
     ),
     (
         "check .",
+        Change::With(7, b"BOX 1 0 7000000000000001 7000000000000001 0 0 0 0"),
+        b"conj: not accepted: line 7: BoxOf\n",
+    ),
+    (
+        "check .",
         Change::With(10, b"BOX 2 1 7005000000000001 7005000000000001 0 0 0 0"),
         b"conj: not accepted: line 10: BoxOf\n",
     ),
@@ -155,6 +160,12 @@ const CASES: [Case; 13] = [
         "check .",
         Change::With(11, b"CELL 1 2 1735689600000000 1735689659999999 F"),
         b"conj: not accepted: line 11: NotFar\n",
+    ),
+    // What is exactly at the threshold is in the band too.
+    (
+        "check .",
+        Change::With(11, b"CELL 1 2 1735689600000000 1735689659999999 U"),
+        ACCEPTED,
     ),
     // The window comes before the certificate, and another name has none.
     (

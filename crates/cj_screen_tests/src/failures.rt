@@ -1,6 +1,6 @@
 //! Folders and shelves that fail.
 use crate::runs::{End, end_failing};
-use crate::scenes::{COVERED, Content, Scene, base_text, copies, files_of};
+use crate::scenes::{COVERED, CROSSING, Content, Scene, base_text, copies, files_of};
 use cj_io::{CalmShelf, FileBytes, MemShelf};
 use cj_stream::StreamShelf;
 use std::alloc::{AllocError, Global};
@@ -8,14 +8,15 @@ use std::panic::Expect;
 use std::sync::Wait;
 use std::thread::Threads;
 
-/// How a run over the crossing ends where these calls of the folder fail.
+/// How a run over these files ends where these calls of the folder fail.
 fn end_over<R: Threads + Wait + Sync, S: StreamShelf>(
     rt: &R,
     alloc: Global,
+    scene: Scene,
     calls: Vec<u64>,
     shelf: &mut S,
 ) -> Result<End, AllocError> {
-    let files = files_of(alloc, COVERED)?;
+    let files = files_of(alloc, scene)?;
     end_failing(rt, alloc, "screen .", files, calls, shelf)
 }
 
@@ -26,13 +27,14 @@ const CALLS: u64 = 5;
 fn put_where<R: Threads + Wait + Sync>(
     rt: &R,
     alloc: Global,
+    scene: Scene,
     call: u64,
     number: u8,
     line: &[u8],
 ) -> Result<Option<usize>, AllocError> {
     let mut shelf = CalmShelf::new(alloc);
     let calls = Vec::from_array(alloc, [call])?;
-    let end = end_over(rt, alloc, calls, &mut shelf)?;
+    let end = end_over(rt, alloc, scene, calls, &mut shelf)?;
     if end.number == number && end.line.as_slice() == line {
         Ok(Some(shelf.written().len()))
     } else {
@@ -43,16 +45,14 @@ fn put_where<R: Threads + Wait + Sync>(
 #[test]
 fn nothing_is_put_where_the_folder_fails(rt: HostRuntime) {
     let alloc = rt.alloc();
-    for call in 1..CALLS + 1 {
-        assert_eq!(rt;
-            put_where(&rt, alloc, call, 4, b"conj: read fault\n").expect(&rt, "no fault"),
-            Some(0)
-        );
+    for (scene, pieces) in [(CROSSING, 3), (COVERED, 4)] {
+        for call in 1..CALLS + 1 {
+            let put = put_where(&rt, alloc, scene, call, 4, b"conj: read fault\n");
+            assert_eq!(rt; put.expect(&rt, "no fault"), Some(0));
+        }
+        let put = put_where(&rt, alloc, scene, CALLS + 1, 0, b"");
+        assert_eq!(rt; put.expect(&rt, "no fault"), Some(pieces));
     }
-    assert_eq!(rt;
-        put_where(&rt, alloc, CALLS + 1, 0, b"").expect(&rt, "no fault"),
-        Some(4)
-    );
 }
 
 /// A file that is read, and one that is refused.
@@ -111,6 +111,7 @@ fn is_front(pieces: &[FileBytes], due: &[FileBytes], count: usize) -> bool {
 fn stand_whole<R: Threads + Wait + Sync>(
     rt: &R,
     alloc: Global,
+    scene: Scene,
     due: &[FileBytes],
     whole: usize,
     number: u8,
@@ -118,22 +119,31 @@ fn stand_whole<R: Threads + Wait + Sync>(
 ) -> Result<bool, AllocError> {
     let puts = Vec::from_array(alloc, [(whole as u64).saturating_add(1)])?;
     let mut shelf = MemShelf::new(alloc, puts);
-    let end = end_over(rt, alloc, Vec::new(alloc), &mut shelf)?;
+    let end = end_over(rt, alloc, scene, Vec::new(alloc), &mut shelf)?;
     Ok(end.number == number && end.line.as_slice() == line && is_front(shelf.written(), due, whole))
+}
+
+/// Whether a run over these files puts so many pieces, and those before whichever put fails stand whole.
+fn each_stands_whole<R: Threads + Wait + Sync>(
+    rt: &R,
+    alloc: Global,
+    scene: Scene,
+    pieces: usize,
+) -> Result<bool, AllocError> {
+    let mut calm = CalmShelf::new(alloc);
+    end_over(rt, alloc, scene, Vec::new(alloc), &mut calm)?;
+    let due = calm.written();
+    for whole in 0..pieces {
+        if !stand_whole(rt, alloc, scene, due, whole, 5, b"conj: write fault\n")? {
+            return Ok(false);
+        }
+    }
+    Ok(due.len() == pieces && stand_whole(rt, alloc, scene, due, pieces, 0, b"")?)
 }
 
 #[test]
 fn the_pieces_before_a_put_that_fails_stand_whole(rt: HostRuntime) {
     let alloc = rt.alloc();
-    let mut calm = CalmShelf::new(alloc);
-    let end = end_over(&rt, alloc, Vec::new(alloc), &mut calm).expect(&rt, "no fault");
-    assert_eq!(rt; end.number, 0);
-    let due = calm.written();
-    assert_eq!(rt; due.len(), 4);
-    for whole in 0..4 {
-        assert!(rt;
-            stand_whole(&rt, alloc, due, whole, 5, b"conj: write fault\n").expect(&rt, "no fault")
-        );
-    }
-    assert!(rt; stand_whole(&rt, alloc, due, 4, 0, b"").expect(&rt, "no fault"));
+    assert!(rt; each_stands_whole(&rt, alloc, CROSSING, 3).expect(&rt, "no fault"));
+    assert!(rt; each_stands_whole(&rt, alloc, COVERED, 4).expect(&rt, "no fault"));
 }

@@ -22,6 +22,8 @@ mod refusals;
 #[cfg(test)]
 mod refusing;
 #[cfg(test)]
+mod reports;
+#[cfg(test)]
 mod results;
 #[cfg(test)]
 mod runs;
@@ -31,3 +33,5 @@ mod scenes;
 mod trials;
 #[cfg(test)]
 mod versions;
+#[cfg(test)]
+mod workers;

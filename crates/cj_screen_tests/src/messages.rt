@@ -110,6 +110,38 @@ const ONE_COVERED: Scene = &[
     ),
 ];
 
+/// The crossing, the first of whose objects has its covariance in another frame.
+const OF_ANOTHER_FRAME: Scene = &[
+    (
+        "a.oem",
+        Content::Covered(
+            "7000 -225 0 0 7.5 0",
+            "7000 225 0 0 7.5 0",
+            &[],
+            "COVARIANCE_START
+EPOCH = 2025-01-01T00:00:00
+COV_REF_FRAME = EME2000
+3.3313494e-04
+4.6189273e-04 6.7824216e-04
+0 0 0
+0 0 0 0
+0 0 0 0 0
+0 0 0 0 0 0
+COVARIANCE_STOP
+",
+        ),
+    ),
+    (
+        "b.oem",
+        Content::Covered(
+            "7001 0 -225 0 0 7.5",
+            "7001 0 225 0 0 7.5",
+            &[],
+            OF_ONE_ELEMENT,
+        ),
+    ),
+];
+
 /// Three objects in a row, each near the next, of which the last two have a covariance.
 const TWO_OF_THREE: Scene = &[
     ("a.oem", Content::Rest("7000 0 0")),
@@ -131,7 +163,7 @@ type Told = (
     &'static str,
 );
 
-const TOLD: [Told; 4] = [
+const TOLD: [Told; 5] = [
     (
         COVERED,
         &["screen.report", "screen.cert", "000001.cdm", "-"],
@@ -146,6 +178,12 @@ const TOLD: [Told; 4] = [
     ),
     (
         ONE_COVERED,
+        &["screen.report", "screen.cert", "-"],
+        &["NOCOV"],
+        "ENCOUNTERS 1\nMESSAGES 0\n",
+    ),
+    (
+        OF_ANOTHER_FRAME,
         &["screen.report", "screen.cert", "-"],
         &["NOCOV"],
         "ENCOUNTERS 1\nMESSAGES 0\n",

@@ -1,5 +1,5 @@
 //! Runs of the top call.
-use cj_io::{Bytes, CalmFolder, CalmShelf, FileBytes, Folder, MemFolder, Name, OpenGate};
+use cj_io::{Bytes, CalmFolder, CalmShelf, FileBytes, Folder, Gate, MemFolder, Name, OpenGate};
 use cj_screen::conj;
 use cj_status::{Status, fault_text};
 use cj_stream::StreamShelf;
@@ -88,6 +88,21 @@ fn end_of(alloc: Global, status: &Status) -> Result<End, AllocError> {
     })
 }
 
+/// How a command line ends over this folder and shelf at this time, where workers enter this gate.
+fn end_at_gate<R: Threads + Wait + Sync, F: Folder, S: StreamShelf, G: Gate + Sync>(
+    rt: &R,
+    alloc: Global,
+    line: &str,
+    folder: &mut F,
+    shelf: &mut S,
+    now: Tick,
+    gate: &G,
+) -> Result<End, AllocError> {
+    let words = words(alloc, line)?;
+    let status = conj(rt, alloc, &words, folder, shelf, now, gate);
+    end_of(alloc, &status)
+}
+
 /// How a command line ends over this folder and shelf at this time.
 pub fn end_over<R: Threads + Wait + Sync, F: Folder, S: StreamShelf>(
     rt: &R,
@@ -97,9 +112,7 @@ pub fn end_over<R: Threads + Wait + Sync, F: Folder, S: StreamShelf>(
     shelf: &mut S,
     now: Tick,
 ) -> Result<End, AllocError> {
-    let words = words(alloc, line)?;
-    let status = conj(rt, alloc, &words, folder, shelf, now, &OpenGate);
-    end_of(alloc, &status)
+    end_at_gate(rt, alloc, line, folder, shelf, now, &OpenGate)
 }
 
 /// How a command line ends over these files where these calls of their folder fail.
@@ -137,6 +150,20 @@ pub fn run_at<R: Threads + Wait + Sync>(
     let mut folder = calm(alloc, files);
     let mut shelf = CalmShelf::new(alloc);
     let end = end_over(rt, alloc, line, &mut folder, &mut shelf, now)?;
+    Ok((end, shelf))
+}
+
+/// Runs a command line over these files, whose workers enter this gate. It gives how the run ended, and the shelf with what it put.
+pub fn run_at_gate<R: Threads + Wait + Sync, G: Gate + Sync>(
+    rt: &R,
+    alloc: Global,
+    line: &str,
+    files: Vec<FileBytes>,
+    gate: &G,
+) -> Result<(End, CalmShelf), AllocError> {
+    let mut folder = calm(alloc, files);
+    let mut shelf = CalmShelf::new(alloc);
+    let end = end_at_gate(rt, alloc, line, &mut folder, &mut shelf, Tick::FIRST, gate)?;
     Ok((end, shelf))
 }
 

@@ -45,6 +45,31 @@ fn a_catalogue_in_memory_gives_the_summary_of_its_files(rt: HostRuntime) {
     assert!(rt; text.ends_with(b"\nCHECK ACCEPTED\n"));
 }
 
+/// What a trial of fifty objects over two hours tells, which the program's stored run with four workers tells too.
+const TRIAL: &[u8] = b"OBJECTS 50
+PAIRS 1225
+PARTED 924
+TOUCHING 54
+ROOTS 54
+SPLITS 371
+LEAVES 425
+FAR 235
+NEAR 184
+UNDECIDED 6
+ENCOUNTERS 8
+MESSAGES 8
+CHECK ACCEPTED
+";
+
+#[test]
+fn one_worker_tells_of_a_trial_what_four_do(rt: HostRuntime) {
+    let mut shelf = CalmShelf::new(rt.alloc());
+    let line = "selfrun --objects 50 --minutes 120";
+    let end = end_alone(&rt, rt.alloc(), line, &mut shelf).expect(&rt, "no fault");
+    assert_eq!(rt; end.number, 0);
+    assert!(rt; piece_of(shelf.written(), b"-") == TRIAL);
+}
+
 #[test]
 fn a_limit_ends_it(rt: HostRuntime) {
     let mut shelf = CalmShelf::new(rt.alloc());
