@@ -7,6 +7,7 @@ from dataclasses import dataclass
 
 from conjtools.epochs import EpochFault, read_written_epoch
 from conjtools.faults import InputFault
+from conjtools.report import Report, ReportObject
 
 LINES = 82
 HEADING = (
@@ -39,6 +40,24 @@ class Message:
 def message_name(number: int) -> str:
     """The name of the file with the message of an encounter."""
     return f"{number:06}.cdm"
+
+
+def message_of(report: Report, number: int) -> Message:
+    """What the message of the encounter with this number says."""
+    encounter = report.encounters[number - 1]
+    sides = told_side(report.objects[encounter.a - 1]), told_side(report.objects[encounter.b - 1])
+    return Message(number, encounter.closest, encounter.miss, sides)
+
+
+def told_side(told: ReportObject) -> MessageSide:
+    """What a message says of an object."""
+    return MessageSide(told.designator, told.name, told.file)
+
+
+def check_message(file: str, content: bytes, expected: Message) -> None:
+    """The message in a file says this; InputFault, by the name of the file, where it does not."""
+    if read_message(file, content) != expected:
+        raise InputFault(file, 0, f"the message is not of encounter {expected.number} of the report")
 
 
 def read_message(file: str, content: bytes) -> Message:

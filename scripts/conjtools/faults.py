@@ -5,7 +5,7 @@ from __future__ import annotations
 from dataclasses import dataclass
 
 
-@dataclass(frozen=True)
+@dataclass(eq=False)
 class InputFault(Exception):
     """An input is refused: the file by its name, the number of its line (0: the file as a whole), and the cause."""
 

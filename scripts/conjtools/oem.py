@@ -85,14 +85,7 @@ class Cursor:
 
 def read_oem(file: str, content: bytes) -> Ephemeris:
     """What the bytes of the file with this name say; InputFault where they are refused."""
-    if not is_file_name(file):
-        raise InputFault(file, 0, "Name")
-    try:
-        lines = checked_lines(content)
-    except KvnFault as fault:
-        raise InputFault(file, fault.line, fault.cause) from None
-    telling = [(number, text) for number, text in enumerate(lines, 1) if text]
-    cursor = Cursor(file, telling + [(len(lines) + 1, b"")])
+    cursor = cursor_of(file, content)
     read_header(cursor)
     first: Metadata | None = None
     segments: list[Segment] = []
@@ -102,6 +95,25 @@ def read_oem(file: str, content: bytes) -> Ephemeris:
         segments.append(read_segment(cursor, metadata, segments[-1].last if segments else 0))
     assert first is not None
     return Ephemeris(file, first.name, first.designator, first.frame, tuple(segments), prepared_within(content))
+
+
+def read_first_metadata(file: str, content: bytes) -> Metadata:
+    """What the metadata of the first segment says, by bytes that reach to its end at least; InputFault where it is refused."""
+    cursor = cursor_of(file, content)
+    read_header(cursor)
+    return read_metadata(cursor, None)
+
+
+def cursor_of(file: str, content: bytes) -> Cursor:
+    """The lines of a file that say something, from the first on."""
+    if not is_file_name(file):
+        raise InputFault(file, 0, "Name")
+    try:
+        lines = checked_lines(content)
+    except KvnFault as fault:
+        raise InputFault(file, fault.line, fault.cause) from None
+    telling = [(number, text) for number, text in enumerate(lines, 1) if text]
+    return Cursor(file, telling + [(len(lines) + 1, b"")])
 
 
 def prepared_within(content: bytes) -> int | None:

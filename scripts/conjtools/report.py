@@ -101,6 +101,14 @@ class Report:
         return f"{head}{objects}{encounters}END\n"
 
 
+def check_object(file: str, told: ReportObject, designator: str, name: str) -> None:
+    """An object of a report has this designator and this name; InputFault, by the name of the report's file, where it has not."""
+    if told.designator != designator:
+        raise InputFault(file, told.line + 2, f"ID is {told.designator}, and that of {told.file} is {designator}")
+    if told.name != name:
+        raise InputFault(file, told.line + 3, f"NAME is {told.name}, and that of {told.file} is {name}")
+
+
 def object_text(number: int, told: ReportObject) -> str:
     """The lines of an object."""
     size = "" if told.size is None else f"SIZE {told.size}\n"

@@ -4,14 +4,13 @@ from __future__ import annotations
 
 import argparse
 import os
-import sys
 from collections.abc import Mapping, Sequence
 from pathlib import Path
-from typing import NoReturn
 
 from conjtools.catalogue import catalogue_of
-from conjtools.cdm import Message, MessageSide, message_name, read_message
+from conjtools.cdm import check_message, message_name, message_of
 from conjtools.changes import Changes, compare
+from conjtools.command import Parser, read_file, run
 from conjtools.coverage import coverage
 from conjtools.curves import Curve, curve_of
 from conjtools.faults import InputFault, RunFault, UsageFault
@@ -19,8 +18,8 @@ from conjtools.motion import Approach, approaches
 from conjtools.oem import Ephemeris, read_all
 from conjtools.output import write_all
 from conjtools.page import Content, page_text
-from conjtools.progress import clear_line, progress
-from conjtools.report import Encounter, Report, ReportObject, read_report
+from conjtools.progress import progress
+from conjtools.report import Encounter, Report, check_object, read_report
 from conjtools.tables import csv_text, json_text, rows_of
 
 NAME = "show"
@@ -29,18 +28,10 @@ CERTIFICATES = ("screen.cert", "screen.cert2")
 DEFAULT_PAGE = "screen.html"
 DEFAULT_MOST = 24
 TOLERANCE = 1.5e-3
-STATUS_RUN, STATUS_USAGE, STATUS_INPUT = 1, 2, 3
 
 DESCRIPTION = """Makes a page of a report of `conj screen`: the encounters as a timeline and a table that can be sorted and filtered, the
 distance over time for the nearest, and when each object has data. The page needs no network. Its curves are drawn in floating point and
 illustrate the report, which decides."""
-
-
-class Parser(argparse.ArgumentParser):
-    """A parser whose faults are one line."""
-
-    def error(self, message: str) -> NoReturn:
-        raise UsageFault(message)
 
 
 def count_from(text: str) -> int:
@@ -64,14 +55,6 @@ def parser() -> Parser:
     return words
 
 
-def read_file(path: Path, named: str, line: int = 0) -> bytes:
-    """The bytes of a file; where it cannot be read, InputFault at the line that names it."""
-    try:
-        return path.read_bytes()
-    except OSError as error:
-        raise InputFault(named, line, f"{path}: {error.strerror}") from None
-
-
 def read_objects(report: Report, folder: Path) -> list[Ephemeris]:
     """The ephemerides that the report names, each of which has to be of the object that it names."""
     lines = {told.file: told.line for told in report.objects}
@@ -81,16 +64,8 @@ def read_objects(report: Report, folder: Path) -> list[Ephemeris]:
         progress(NAME, "ephemerides", len(report.objects)),
     )
     for told, ephemeris in zip(report.objects, ephemerides):
-        if told.designator != ephemeris.designator:
-            raise InputFault(REPORT, told.line + 2, f"ID is {told.designator}, and that of {told.file} is {ephemeris.designator}")
-        if told.name != ephemeris.name:
-            raise InputFault(REPORT, told.line + 3, f"NAME is {told.name}, and that of {told.file} is {ephemeris.name}")
+        check_object(REPORT, told, ephemeris.designator, ephemeris.name)
     return ephemerides
-
-
-def side_of(told: ReportObject) -> MessageSide:
-    """What a message says of an object."""
-    return MessageSide(told.designator, told.name, told.file)
 
 
 def check_messages(report: Report, results: Path) -> None:
@@ -99,10 +74,7 @@ def check_messages(report: Report, results: Path) -> None:
     for number, encounter in enumerate(report.encounters, 1):
         if encounter.has_message:
             name = message_name(number)
-            message = read_message(name, read_file(results / name, REPORT, encounter.line))
-            sides = side_of(report.objects[encounter.a - 1]), side_of(report.objects[encounter.b - 1])
-            if message != Message(number, encounter.closest, encounter.miss, sides):
-                raise InputFault(name, 0, f"the message is not of encounter {number} of the report")
+            check_message(name, read_file(results / name, REPORT, encounter.line), message_of(report, number))
         tell(number)
 
 
@@ -190,21 +162,4 @@ def show(words: argparse.Namespace) -> None:
 
 def main(arguments: Sequence[str]) -> int:
     """Runs the script with these words, and gives its exit status."""
-    try:
-        show(parser().parse_args(arguments))
-    except UsageFault as fault:
-        return failed(fault, STATUS_USAGE)
-    except InputFault as fault:
-        return failed(fault, STATUS_INPUT)
-    except RunFault as fault:
-        return failed(fault, STATUS_RUN)
-    except MemoryError:
-        return failed("out of memory", STATUS_RUN)
-    return 0
-
-
-def failed(fault: object, status: int) -> int:
-    """Tells a fault in one line."""
-    clear_line()
-    print(f"{NAME}: {fault}", file=sys.stderr)
-    return status
+    return run(NAME, lambda: show(parser().parse_args(arguments)))

@@ -1,4 +1,4 @@
-"""What several tests need: the samples with the reports that README and `conj` give for them, small ephemerides, and numpy or a word
+"""What several tests need: the samples with the reports that docs/GUIDE.md and `conj` give for them, small ephemerides, and numpy or a word
 that it is missing."""
 
 from __future__ import annotations
@@ -101,7 +101,7 @@ def need_numpy() -> None:
 
 
 def catalogue_report() -> str:
-    """The report of samples/catalogue: its objects by their files, its encounters as README has them."""
+    """The report of samples/catalogue: its objects by their files, its encounters as docs/GUIDE.md has them."""
     objects = ""
     for number, path in enumerate(sorted((SAMPLES / "catalogue").glob("*.oem")), 1):
         text = path.read_text("ascii")

@@ -100,7 +100,7 @@ class ShowCase(FolderCase):
 
 class Table(ShowCase):
     def test_crossing(self) -> None:
-        """README: closest approach 00:00:30 at 1,000 m, and the span; the speed is 7.5 km/s along two axes."""
+        """docs/GUIDE.md: closest approach 00:00:30 at 1,000 m, and the span; the speed is 7.5 km/s along two axes."""
         (row,) = self.table(self.crossing())
         self.assertAlmostEqual(float(row.pop("relative_speed_m_per_s")), 7500 * 2**0.5, delta=1e-6)
         self.assertEqual(

@@ -56,7 +56,7 @@ MIB = 1 << 20
 IDLE = 32 * MIB
 # Bytes of what is kept, as docs/LIMITS.md has them or as its types are, with room for a list that has doubled: a node, a matrix, the box of an object in a
 # slot with its line in the certificate, a leaf with its lines in report and certificate, an encounter with its lines.
-NODE, MATRIX, BOX, LEAF, ENCOUNTER = 112, 344, 256, 160, 160
+NODE, MATRIX, BOX, LEAF, ENCOUNTER = 112, 512, 256, 160, 160
 
 
 @dataclass(frozen=True)
@@ -168,13 +168,13 @@ LOADS = (
     Load(long_comments, LARGEST_FILE, (screens("OBJECTS 1", "PAIRS 0"),), Bound(5, 4, nothing, "each byte is looked at a few times")),
     Load(late_fault, LARGEST_FILE, (Run("screen", (), fault_in_the_last_line),), Bound(10, 4, nothing, "one pass finds it")),
     Load(matrices_alone, LARGEST_FILE // 2, (screens("ENCOUNTERS 3", "MESSAGES 3", workers=(1, 4)),),
-         Bound(40, 4, lambda size: 3 * size // 84 * MATRIX, "numbers are parsed, and 344 bytes kept of 84")),
+         Bound(40, 4, lambda size: 3 * size // 84 * MATRIX, "numbers are parsed, and 512 bytes kept of 84")),
     Load(many_nodes, 2_000_000, (screens("OBJECTS 1", "PAIRS 0"),), Bound(40, 4, lambda size: size * NODE, "a hull a node, for the shell and for a box")),
     Load(small_files, 2_000, (ALL_PARTED,), Bound(5, 4, lambda size: size * 4096 + 16 * MIB, "shells part all pairs; a file stands in room of its size")),
     Load(long_numbers, LARGEST_FILE // 2, (screens("OBJECTS 1", AT_7000_KM),), Bound(5, 4, nothing, "each digit is looked at a few times")),
     Load(long_epochs, LARGEST_FILE // 2, (screens("OBJECTS 1", AT_7000_KM),), Bound(5, 4, nothing, "each digit is looked at a few times")),
     Load(sizes_alone, LARGEST_FILE // 4, (Run("screen", ("--sizes", "sizes.txt"), ends_well("OBJECTS 2", "PARTED 1")),),
-         Bound(60, 4, lambda size: size // 8 * 128, "two million designators are put into trees")),
+         Bound(60, 4, lambda size: size // 8 * 128, "two million designators are put into a tree")),
     Load(crowded_folder, 100_000, (screens("OBJECTS 2", "PARTED 1"),), Bound(5, 4, lambda size: size * 512, "a name is asked for its end")),
     Load(many_matrices, LARGEST_FILE // 4, (Run("screen", (), segments_are_encounters),),
          Bound(40, 4, lambda size: size // 84 * MATRIX + size // 3 // 400 * ENCOUNTER, "a matrix is found in the logarithm of their number")),

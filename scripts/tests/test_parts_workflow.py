@@ -1,0 +1,85 @@
+"""workflow/Snakefile on the processors of this machine, with a program that is made up for it."""
+
+from __future__ import annotations
+
+import json
+import os
+import shutil
+import subprocess
+import unittest
+from pathlib import Path
+
+from tests.support import ROOT, SAMPLES, FolderCase, need_numpy
+
+need_numpy()
+
+from conjtools.parts.plan import PARTS, WHOLE, Plan, read_plan  # noqa: E402
+
+PROGRAM = Path(__file__).with_name("made_up_program.py")
+SNAKEMAKE = Path("/usr/bin/snakemake")
+
+
+class Workflow(FolderCase):
+    def setUp(self) -> None:
+        if not SNAKEMAKE.exists():
+            raise unittest.SkipTest("snakemake is missing: apt-get install snakemake")
+        if not (ROOT / "scripts" / "join").exists():
+            raise unittest.SkipTest("scripts/join is not there")
+        super().setUp()
+        self.files = self.folder / "files"
+        self.files.mkdir()
+        for number in (1, 2):
+            shutil.copy(SAMPLES / "catalogue" / f"demo-0{number}.oem", self.files)
+        (self.folder / "faults").mkdir()
+        told = {
+            "folder": "files", "from": "2025-01-01T00:00:00", "to": "2025-01-01T00:30:00", "part_minutes": 15, "options": {"threshold": 5000},
+            "results": "results", "threads": 1, "retries": 0, "program": str(PROGRAM),
+        }  # fmt: skip
+        (self.folder / "config.yaml").write_text(json.dumps(told), "utf-8")
+
+    def run_workflow(self, *more: str) -> subprocess.CompletedProcess[str]:
+        """A run of the workflow."""
+        words = [str(SNAKEMAKE), "--snakefile", str(ROOT / "workflow" / "Snakefile"), "--profile", str(ROOT / "workflow" / "profiles" / "local")]
+        return subprocess.run(
+            [*words, "--configfile", "config.yaml", "--cores", "2", "--nocolor", *more], cwd=self.folder, stdin=subprocess.DEVNULL, capture_output=True,
+            text=True, env={**os.environ, "FAULTS": str(self.folder / "faults")},
+        )  # fmt: skip
+
+    def plan(self) -> Plan:
+        """The plan of the last survey."""
+        return read_plan(self.folder / "results" / "plan.json")
+
+    def made(self, run: subprocess.CompletedProcess[str]) -> list[str]:
+        """The rules that ran, in order of their names."""
+        lines = (line.strip() for line in run.stderr.splitlines())
+        return sorted(line.rstrip(":").split()[1] for line in lines if line.startswith(("rule ", "checkpoint ")))
+
+    def test_a_fault_is_told_and_mended_and_what_is_not_touched_stays(self) -> None:
+        (self.folder / "faults" / "screen-2025-01-01T00:15:00.000000").write_text("conj: write fault", "ascii")
+        run = self.run_workflow()
+        self.assertNotEqual(run.returncode, 0)
+        results = self.folder / "results"
+        first, second = ((results / PARTS / part.name) for part in self.plan().parts)
+        self.assertIn(f"parts: part 2 of 2 ({second.name}): screen: made_up_program.py screen ended with status 5: conj: write fault", run.stderr)
+        self.assertTrue((first / "result" / "checked").exists())
+        self.assertFalse((results / WHOLE).exists())
+
+        run = self.run_workflow()
+        self.assertEqual(run.returncode, 0, run.stderr)
+        self.assertEqual(self.made(run), ["check", "join", "screen", "show", "survey"])
+        whole = results / "latest"
+        self.assertEqual(whole.resolve(), (results / WHOLE / self.plan().whole).resolve())
+        self.assertIn("WINDOW 2025-01-01T00:00:00.000000 2025-01-01T00:30:00.000000\n", (whole / "joined" / "screen.report").read_text("ascii"))
+        self.assertIn("<html", (whole / "screen.html").read_text("utf-8"))
+
+        path = self.files / "demo-01.oem"
+        path.write_text(path.read_text("ascii").replace("2025-01-01T00:03:00 ", "2025-01-01T00:03:00 0"), "ascii")
+        run = self.run_workflow()
+        self.assertEqual(run.returncode, 0, run.stderr)
+        self.assertEqual(self.made(run), ["check", "join", "screen", "show", "survey"])
+        self.assertEqual((self.plan().parts[0].name == first.name, self.plan().parts[1].name == second.name), (False, True))
+        self.assertEqual(sorted(path.name for path in (results / PARTS).iterdir()), sorted(part.name for part in self.plan().parts))
+
+
+if __name__ == "__main__":
+    unittest.main()
