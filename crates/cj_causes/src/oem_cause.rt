@@ -1,6 +1,10 @@
 //! What is wrong with a line of an ephemeris.
+ghost use Rattle.std.specs.Prelude.{◌≡◌};
+ghost use Rattle.cj_causes.specs.declared.oem_cause.OemCause.TheVariants.{Kvn};
+ghost use Rattle.cj_kvn.specs.declared.text_fault.Refused.TheVariants.{Because};
+
 use cj_epoch::EpochFault;
-use cj_kvn::KvnCause;
+use cj_kvn::{KvnCause, Refused};
 
 /// What is wrong with a line. The end of the file counts as a line.
 #[derive(Clone, Copy, Debug, PartialEq, Eq)]
@@ -53,4 +57,20 @@ pub enum OemCause {
     SegmentsOverlap,
     /// A matrix does not have its six rows of 1 to 6 fields, or its frame stands elsewhere or twice.
     MatrixForm,
+}
+
+impl From<KvnCause> for OemCause {
+    ghost from_gives = { λ cause c. c ≡ Kvn cause };
+
+    fn from(cause: KvnCause) -> Self {
+        OemCause::Kvn(cause)
+    }
+}
+
+impl From<OemCause> for Refused<OemCause> {
+    ghost from_gives = { λ cause e. e ≡ Because cause };
+
+    fn from(cause: OemCause) -> Self {
+        Refused::Because(cause)
+    }
 }

@@ -1,6 +1,7 @@
 -- Readers that are exact, one behind another: what they take off the front is the text of what they read.
 use Rattle.std.proofs.Common.{◌≡◌, ℕ, List, [], ◌++◌, ap, sym, ◌∙◌, refl, subst, append_assoc, Result, Ok, Err}
-use Rattle.cj_cdm.specs.Reading.{Fault, Reading, Rest, and_then, give, ◌>>=◌}
+use Rattle.cj_kvn.specs.Faults.{◌>>=◌ as and_then}
+use Rattle.cj_cdm.specs.Reading.{Fault, Reading, Rest, give, ◌>>=◌}
 
 abbrev pub Anything : {A : Type 0} → A → Type 0
 Anything x = Unit {0}

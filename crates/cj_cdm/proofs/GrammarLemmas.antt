@@ -13,7 +13,8 @@ use Rattle.cj_cdm.specs.declared.vector.Vector.{Vector}
 use Rattle.cj_cdm.specs.Fits.{Fits, IsShort, IsSide, IsStamp}
 use Rattle.cj_cdm.specs.Messages.{PlainMessage, PlainSide, PlainStamp}
 use Rattle.cj_values.specs.Bytes.{is_feed}
-use Rattle.cj_cdm.specs.Reading.{Fault, Heading, Object, Rest, and_then, elements_said, ended, entry_said, fault_at, give, heading_said, is_none_left, line_said, message_said, object_said, place_said, rate_said, reading, side_said, stamp_said, vector_said, ◌>>=◌, source_said}
+use Rattle.cj_kvn.specs.Faults.{◌>>=◌ as and_then}
+use Rattle.cj_cdm.specs.Reading.{Fault, Heading, Object, Rest, elements_said, ended, entry_said, fault_at, give, heading_said, is_none_left, line_said, message_said, object_said, place_said, rate_said, reading, side_said, stamp_said, vector_said, ◌>>=◌, source_said}
 use Rattle.cj_kvn.specs.Entries.{entry, line}
 use Rattle.cj_track.specs.Frames.{frame_text}
 use Rattle.cj_cdm.specs.Texts.{covariance_text, element_text, elements, elements_text, heading_text, kilometres, metres, number_text, object_text, quantity, side_text, state_text, text_of}

@@ -14,7 +14,8 @@ use Rattle.cj_values.proofs.LogicLemmas.{some_is}
 use Rattle.cj_cdm.specs.declared.fault.CdmCause.{CdmCause}
 use Rattle.cj_cdm.specs.declared.fault.CdmCause.TheVariants as causes
 use Rattle.cj_values.specs.Bytes.{is_feed}
-use Rattle.cj_cdm.specs.Reading.{Rest, and_then, behind_feed, behind_line, fault_at, is_none_left, line_said, or_fault, taken, value_in}
+use Rattle.cj_kvn.specs.Faults.{◌>>=◌ as and_then}
+use Rattle.cj_cdm.specs.Reading.{Rest, behind_feed, behind_line, fault_at, is_none_left, line_said, or_fault, taken, value_in}
 use Rattle.cj_kvn.specs.Entries.{line}
 use Rattle.cj_cdm.specs.Values.{behind_front, only_if, same}
 use Rattle.cj_cdm.proofs.ExactLemmas.{Anything, IsExact, stepped}

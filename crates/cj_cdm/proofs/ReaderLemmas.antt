@@ -7,10 +7,10 @@ use Rattle.cj_values.specs.Numbers.{Number}
 pub use Rattle.cj_kvn.proofs.DecimalLemmas.{written_more as values_more}
 use Rattle.cj_cdm.specs.Fits.{Fits}
 use Rattle.cj_cdm.specs.Messages.{PlainMessage}
-use Rattle.cj_cdm.specs.declared.fault.LineFault.{LineFault}
 use Rattle.cj_cdm.specs.declared.reading.rest.Rest.{Rest as Left}
 use Rattle.cj_cdm.specs.Read.{told}
-use Rattle.cj_cdm.specs.Reading.{Fault, Reading, Rest, and_then, behind_line, elements_said, entry_said, give, is_none_left, line_said, reading, taken, value_in, ◌>>=◌}
+use Rattle.cj_kvn.specs.Faults.{◌>>=◌ as and_then}
+use Rattle.cj_cdm.specs.Reading.{Fault, Reading, Rest, behind_line, elements_said, entry_said, give, is_none_left, line_said, reading, taken, value_in, ◌>>=◌}
 use Rattle.cj_cdm.specs.Texts.{elements, text_of}
 use Rattle.cj_cdm.specs.Values.{element_said}
 use Rattle.cj_cdm.proofs.GrammarLemmas.{reading_again}
@@ -28,12 +28,12 @@ taken_mapped {X} {A} view rest (Some x) = by_end (behind_line rest)
     by_end (Ok r) = refl
     by_end (Err e) = refl
 
-told_mapped : {X A : Type 0} (view : X → A) (r : Result X LineFault) (left : Left) → told view r left ≡ mapped view (told (λ x. x) r left)
+told_mapped : {X A : Type 0} (view : X → A) (r : Result X Fault) (left : Left) → told view r left ≡ mapped view (told (λ x. x) r left)
 told_mapped view (Ok x) left = refl
 told_mapped view (Err e) left = refl
 
 -- a line whose value is found, or not
-pub line_told : {X A : Type 0} (view : X → A) (front : List ℕ) (said : List ℕ → Option A) (rest : Rest) (value : List ℕ) (o : Option X) (r : Result X LineFault) (left : Left)
+pub line_told : {X A : Type 0} (view : X → A) (front : List ℕ) (said : List ℕ → Option A) (rest : Rest) (value : List ℕ) (o : Option X) (r : Result X Fault) (left : Left)
     → Ok value ≡ value_in front rest → option_map view o ≡ said value → told (λ x. x) r left ≡ taken rest o → told view r left ≡ line_said front said rest
 unfolding line_said
 line_told view front said rest value o r left there found end =
@@ -44,7 +44,7 @@ option_mapped None = refl
 option_mapped (Some x) = refl
 
 -- the same where it is told as it is found
-pub line_same : {X : Type 0} (front : List ℕ) (said : List ℕ → Option X) (rest : Rest) (value : List ℕ) (o : Option X) (r : Result X LineFault) (left : Left)
+pub line_same : {X : Type 0} (front : List ℕ) (said : List ℕ → Option X) (rest : Rest) (value : List ℕ) (o : Option X) (r : Result X Fault) (left : Left)
     → Ok value ≡ value_in front rest → o ≡ said value → told (λ x. x) r left ≡ taken rest o → told (λ x. x) r left ≡ line_said front said rest
 line_same front said rest value o r left there found end = line_told (λ x. x) front said rest value o r left there (option_mapped o ∙ found) end
 

@@ -1,12 +1,9 @@
 -- How readers answer.
-use Rattle.std.specs.Prelude.{◌≡◌, ℕ, List, map, Result, Ok, Err}
+use Rattle.std.specs.Prelude.{ℕ, List, map, Result, Ok, Err}
 use Rattle.std.specs.Borrow.{Bor}
 use Rattle.cj_values.specs.Decimals.{number_of}
 use Rattle.cj_cdm.specs.declared.cdm.Cdm.{Cdm}
 use Rattle.cj_cdm.specs.declared.cdm.Side.{Side}
-use Rattle.cj_cdm.specs.declared.fault.CdmFault.{CdmFault}
-use Rattle.cj_cdm.specs.declared.fault.CdmFault.TheVariants.{Memory, At}
-use Rattle.cj_cdm.specs.declared.fault.LineFault.{LineFault}
 use Rattle.cj_cdm.specs.declared.reading.rest.Rest.{Rest as Left}
 use Rattle.cj_cdm.specs.declared.reading.said.HeadingSaid.{HeadingSaid}
 use Rattle.cj_cdm.specs.declared.reading.said.MessageSaid.{MessageSaid}
@@ -41,20 +38,11 @@ plain_cdm c = record {
   object2 = plain_side c.second;
 }
 
--- what is found is what is said, or memory ran out
-abbrev pub Gives : {X Y : Type 0} → (X → Y) → Result X CdmFault → Result Y Fault → Type 0
-Gives view (Ok x) said = said ≡ Ok (view x)
-Gives view (Err (At line cause)) said = said ≡ Err (record { line = line; cause = cause })
-Gives view (Err Memory) said = Unit {0}
-
 abbrev pub bytes_of : Bor (List ℕ) → List ℕ
 bytes_of text = text.now
 
 abbrev pub plain_rest : Left → Rest
 plain_rest rest = record { text = rest.text.now; line = rest.line }
-
-abbrev pub plain_fault : LineFault → Fault
-plain_fault fault = record { line = fault.line; cause = fault.cause }
 
 abbrev pub plain_object : ObjectSaid → Object
 plain_object o = record { id = o.id.now; name = o.name.now; designator = o.designator.now; file = o.file.now; frame = o.frame }
@@ -87,11 +75,11 @@ message_of_said m = record {
 }
 
 -- an answer in the words of the definitions
-abbrev pub plain : {X Y : Type 0} → (X → Y) → Result X LineFault → Result Y Fault
+abbrev pub plain : {X Y : Type 0} → (X → Y) → Result X Fault → Result Y Fault
 plain view (Ok x) = Ok (view x)
-plain view (Err fault) = Err (plain_fault fault)
+plain view (Err fault) = Err fault
 
 -- the same with what is left behind it
-abbrev pub told : {X Y : Type 0} → (X → Y) → Result X LineFault → Left → Result (Y × Rest) Fault
+abbrev pub told : {X Y : Type 0} → (X → Y) → Result X Fault → Left → Result (Y × Rest) Fault
 told view (Ok x) left = Ok (view x, plain_rest left)
-told view (Err fault) left = Err (plain_fault fault)
+told view (Err fault) left = Err fault

@@ -3,6 +3,8 @@ use Rattle.std.specs.Prelude.{ℕ, ◌+◌, Bool, true, false, if◌then◌else�
 use Rattle.std.specs.List.{after_first, before_first, list_any}
 use Rattle.cj_values.specs.Bytes.{is_feed}
 use Rattle.cj_values.specs.Numbers.{Number}
+use Rattle.cj_kvn.specs.Faults.{◌>>=◌ as and_then}
+use Rattle.cj_kvn.specs.declared.text_fault.LineFault.{LineFault}
 use Rattle.cj_track.specs.declared.frame.Frame.{Frame}
 use Rattle.cj_cdm.specs.declared.fault.CdmCause.{CdmCause}
 use Rattle.cj_cdm.specs.declared.fault.CdmCause.TheVariants as causes
@@ -16,10 +18,9 @@ pub record Rest : Type 0 where
   pub text : List ℕ
   pub line : ℕ
 
--- a fault at its line
-pub record Fault : Type 0 where
-  pub line : ℕ
-  pub cause : CdmCause
+-- a fault of a message at its line
+abbrev pub Fault : Type 0
+Fault = LineFault CdmCause
 
 abbrev pub fault_at : {A : Type 0} → ℕ → CdmCause → Result A Fault
 fault_at line cause = Err (record { line = line; cause = cause })
@@ -27,10 +28,6 @@ fault_at line cause = Err (record { line = line; cause = cause })
 -- a reader takes what it reads off the front of the rest
 abbrev pub Reading : Type 0 → Type 0
 Reading A = Rest → Result (A × Rest) Fault
-
-abbrev pub and_then : {A B : Type 0} → Result A Fault → (A → Result B Fault) → Result B Fault
-and_then (Ok x) f = f x
-and_then (Err e) f = Err e
 
 infixl 10 ◌>>=◌
 abbrev pub ◌>>=◌ : {A B : Type 0} → Reading A → (A → Reading B) → Reading B

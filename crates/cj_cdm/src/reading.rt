@@ -2,7 +2,8 @@
 ghost use Rattle.std.specs.Prelude.{◌≡◌, ◌<◌, ◌^◌, length, IfOk, Ok};
 ghost use Rattle.cj_cdm.specs.Fits.{Fits};
 ghost use Rattle.cj_cdm.specs.Messages.{PlainMessage};
-ghost use Rattle.cj_cdm.specs.Read.{Gives, message_of_said, plain, plain_cdm, plain_side, side_of_said};
+ghost use Rattle.cj_kvn.specs.Faults.{Gives};
+ghost use Rattle.cj_cdm.specs.Read.{message_of_said, plain, plain_cdm, plain_side, side_of_said};
 ghost use Rattle.cj_cdm.specs.Reading as spec;
 ghost use Rattle.cj_cdm.specs.Texts.{text_of};
 
@@ -16,7 +17,8 @@ mod taking;
 mod values;
 
 use crate::cdm::{Cdm, Side};
-use crate::fault::{CdmCause, CdmFault, LineFault};
+use crate::fault::{CdmCause, CdmFault};
+use cj_kvn::LineFault;
 use cj_values::Text;
 use heading::read_heading;
 use object::read_side;
@@ -43,7 +45,7 @@ pub fn read_cdm(alloc: Global, bytes: &[u8]) -> Result<Cdm, CdmFault>
 
 /// What a message says, lent by its text.
 #[tactic(auto, unfolding(crate::specs::Reading::reading, crate::specs::Reading::message_said))]
-fn said_by(bytes: &[u8]) -> Result<MessageSaid<'_>, LineFault>
+fn said_by(bytes: &[u8]) -> Result<MessageSaid<'_>, LineFault<CdmCause>>
     requires { length bytes.now < 2 ^ 32 }
     ensures { plain message_of_said result ≡ spec.reading bytes.now }
 {

@@ -8,7 +8,7 @@ use Rattle.std.proofs.lemmas.List.Splits.{length-slice_split}
 use Rattle.cj_cert.specs.declared.cert_lines.BoxLine.{BoxLine}
 use Rattle.cj_cert.specs.declared.certificate.Certificate.{Certificate}
 use Rattle.cj_causes.specs.declared.cert_cause.CertCause.{CertCause}
-use Rattle.cj_cert_text.specs.declared.fault.CertFault.{CertFault}
+use Rattle.cj_kvn.specs.declared.text_fault.TextFault.{TextFault}
 use Rattle.cj_cert_text.specs.declared.rank.Rank.{Rank}
 use Rattle.cj_cert.specs.Certificates.{PlainCertificate, line_count, plain_box_line, plain_certificate}
 use Rattle.cj_cert_text.specs.Fits.{Fits}
@@ -28,16 +28,16 @@ Read = Result PlainCertificate Fault
 
 -- ---- what is given
 
-pub gives_only : (bytes : List ℕ) (r : Result Certificate CertFault) → Gives plain_certificate r (reading bytes)
+pub gives_only : (bytes : List ℕ) (r : Result Certificate (TextFault CertCause)) → Gives plain_certificate r (reading bytes)
     → IfOk r (λ c. (bytes ≡ text_of (plain_certificate c)) × Fits (plain_certificate c))
 gives_only bytes (Ok c) is = reading_only bytes (plain_certificate c) is
 gives_only bytes (Err fault) is = tt
 
-pub gives_again : (bytes : List ℕ) (r : Result Certificate CertFault) → Gives plain_certificate r (reading bytes) → (c : PlainCertificate) → Fits c → bytes ≡ text_of c
+pub gives_again : (bytes : List ℕ) (r : Result Certificate (TextFault CertCause)) → Gives plain_certificate r (reading bytes) → (c : PlainCertificate) → Fits c → bytes ≡ text_of c
     → Gives plain_certificate r (Ok c)
 gives_again bytes r is c fits same = subst (Gives plain_certificate r) (ap reading same ∙ reading_again c fits) is
 
-pub gives_few : (bytes : List ℕ) (r : Result Certificate CertFault) → Gives plain_certificate r (reading bytes) → IfOk r (λ c. line_count (plain_certificate c) ≤ length bytes)
+pub gives_few : (bytes : List ℕ) (r : Result Certificate (TextFault CertCause)) → Gives plain_certificate r (reading bytes) → IfOk r (λ c. line_count (plain_certificate c) ≤ length bytes)
 gives_few bytes (Ok c) is =
     let same = (reading_only bytes (plain_certificate c) is).0 in
     subst (λ (t : List ℕ). line_count (plain_certificate c) ≤ length t) (sym same) (lines_within (plain_certificate c))

@@ -3,17 +3,15 @@ use Rattle.std.specs.Prelude.{◌≡◌, ℕ, ◌-◌, ◌^◌, ◌==◌, Bool, 
 use Rattle.std.specs.Borrow.{Bor}
 use Rattle.std.specs.Int.{int_min, int_max}
 use Rattle.std.specs.List.{slice_split}
+pub use Rattle.cj_kvn.specs.Faults.{Gives, Tells}
 use Rattle.cj_cert_text.specs.declared.cert_line.CertLine.{CertLine}
 use Rattle.cj_cert_text.specs.declared.cert_line.CertLine.TheVariants as lines
 use Rattle.cj_cert_text.specs.declared.draft.Draft.{Draft}
 use Rattle.cj_causes.specs.declared.cert_cause.CertCause.{CertCause}
 use Rattle.cj_causes.specs.declared.cert_cause.CertCause.TheVariants as causes
-use Rattle.cj_cert_text.specs.declared.fault.CertFault.{CertFault}
-use Rattle.cj_cert_text.specs.declared.fault.CertFault.TheVariants.{Memory, At}
 use Rattle.cj_cert.specs.Certificates.{PlainCertificate, plain_box_line, plain_cell_line}
 use Rattle.cj_cert_text.specs.Lines.{PlainLine, Heading, Window, Threshold, Objects, Size, Shell, Box, Cell, End}
 use Rattle.cj_cert_text.specs.Numbers.{numbers_in, others_in}
-use Rattle.cj_cert_text.specs.Reading.{Fault}
 
 -- the greatest size to which a number is read: beyond every range
 abbrev pub CAP : ℤ
@@ -42,17 +40,6 @@ plain_line lines.End = End
 abbrev pub Takes : {X V : Type 0} → (X → V) → Bool → V → Result X CertCause → Type 0
 Takes view ok value (Ok x) = (ok ≡ true) × (view x ≡ value)
 Takes view ok value (Err cause) = (ok ≡ false) × (cause ≡ causes.Range)
-
--- what is found is what is said
-abbrev pub Tells : {X Y : Type 0} → (X → Y) → Result X CertCause → Result Y CertCause → Type 0
-Tells view (Ok x) said = said ≡ Ok (view x)
-Tells view (Err cause) said = said ≡ Err cause
-
--- the same of a text, whose faults have a line, or memory ran out
-abbrev pub Gives : {X Y : Type 0} → (X → Y) → Result X CertFault → Result Y Fault → Type 0
-Gives view (Ok x) said = said ≡ Ok (view x)
-Gives view (Err (At line cause)) said = said ≡ Err (record { line = line; cause = cause })
-Gives view (Err Memory) said = Unit {0}
 
 -- what a draft says so far
 abbrev pub plain_draft : Draft → PlainCertificate

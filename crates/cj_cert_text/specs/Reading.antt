@@ -2,6 +2,8 @@
 use Rattle.std.specs.Prelude.{ℕ, ◌+◌, ◌==◌, if◌then◌else◌, List, [], ◌∷◌, ◌++◌, codes, Option, Some, None, Result, Ok, Err}
 use Rattle.std.specs.List.{slice_split, starts_with}
 use Rattle.cj_ticks.specs.Ticks.{FIRST_TICK}
+pub use Rattle.cj_kvn.specs.Faults.{at_line, ◌>>=◌ as and_then}
+use Rattle.cj_kvn.specs.declared.text_fault.LineFault.{LineFault}
 use Rattle.cj_causes.specs.declared.cert_cause.CertCause.{CertCause}
 use Rattle.cj_causes.specs.declared.cert_cause.CertCause.TheVariants as causes
 use Rattle.cj_cert_text.specs.declared.rank.Rank.{Rank}
@@ -9,18 +11,9 @@ use Rattle.cj_cert.specs.Certificates.{PlainCertificate}
 use Rattle.cj_cert_text.specs.Lines.{PlainLine, Heading, Window, Threshold, Objects, Size, Shell, Box, Cell, End, line_said, rank_of}
 use Rattle.cj_cert_text.specs.Ranks.{has_ended}
 
--- a fault at its line
-pub record Fault : Type 0 where
-  pub line : ℕ
-  pub cause : CertCause
-
-abbrev pub at_line : {A : Type 0} → ℕ → Result A CertCause → Result A Fault
-at_line line (Ok x) = Ok x
-at_line line (Err cause) = Err (record { line = line; cause = cause })
-
-abbrev pub and_then : {A B : Type 0} → Result A Fault → (A → Result B Fault) → Result B Fault
-and_then (Ok x) f = f x
-and_then (Err e) f = Err e
+-- a fault of a text at its line
+abbrev pub Fault : Type 0
+Fault = LineFault CertCause
 
 abbrev pub ends_at : ℕ → Result PlainCertificate Fault
 ends_at line = Err (record { line = line; cause = causes.End })

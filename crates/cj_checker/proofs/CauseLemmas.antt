@@ -15,9 +15,8 @@ use Rattle.cj_cert.specs.declared.cert_lines.CellLine.{CellLine}
 use Rattle.cj_cert.specs.Certificates.{plain_cell_line}
 use Rattle.cj_causes.specs.declared.check_cause.CheckCause.{CheckCause}
 use Rattle.cj_causes.specs.declared.check_cause.CheckCause.TheVariants.{Untiled, Stranger}
-use Rattle.cj_checker.specs.declared.failure.Failure.{Failure}
 use Rattle.cj_checker.specs.Tests.{is_supported}
-use Rattle.cj_checker.specs.First.{failed, begins, comes_after, behind, unsupported, cells_from}
+use Rattle.cj_checker.specs.First.{failed, begins, comes_after, behind, unsupported, cells_from, Failure}
 use Rattle.cj_checker.specs.Tiling.{cause_at}
 
 -- ---- whether a kind is supported, by the interpolants

@@ -9,9 +9,8 @@ use Rattle.cj_cert.specs.declared.cert_lines.ShellLine.{ShellLine}
 use Rattle.cj_cert.specs.Certificates.{PlainCertificate}
 use Rattle.cj_checker.specs.declared.answer.Answer.{Answer}
 use Rattle.cj_checker.specs.declared.answer.Answer.TheVariants as answers
-use Rattle.cj_checker.specs.declared.failure.Failure.{Failure}
 use Rattle.cj_checker.specs.Answers.{failure_of}
-use Rattle.cj_checker.specs.First.{header_failure, size_failure, shell_failure, box_failure, cell_failure, first_failure}
+use Rattle.cj_checker.specs.First.{header_failure, size_failure, shell_failure, box_failure, cell_failure, first_failure, Failure}
 use Rattle.cj_checker.proofs.FirstLemmas.{header_law, shell_law}
 
 -- what fails before the cells

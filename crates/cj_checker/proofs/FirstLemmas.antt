@@ -20,9 +20,8 @@ use Rattle.cj_cert.specs.Certificates.{PlainBoxLine, PlainCertificate}
 use Rattle.cj_cert.specs.Listed.{slots_of_line, is_looked_listed}
 use Rattle.cj_causes.specs.declared.check_cause.CheckCause.{CheckCause}
 use Rattle.cj_causes.specs.declared.check_cause.CheckCause.TheVariants.{Header, SizeOf, ShellOf, BoxOf, Untiled, Stranger}
-use Rattle.cj_checker.specs.declared.failure.Failure.{Failure}
 use Rattle.cj_checker.specs.Tests.{is_size_line, is_shell_over, is_shell_line, is_box_line, are_in_front, holds_hulls, is_supported}
-use Rattle.cj_checker.specs.First.{failed, header_failure, first_unfit, first_line, size_failure, first_shell_line, shell_failure}
+use Rattle.cj_checker.specs.First.{failed, header_failure, first_unfit, first_line, size_failure, first_shell_line, shell_failure, Failure}
 use Rattle.cj_checker.specs.First.{unlisted, boxes_from, first_box_line, box_failure, begins, comes_after, behind, unsupported, cells_from, first_cell_line, cell_failure, first_failure}
 use Rattle.cj_checker.proofs.CauseLemmas.{behind_last, cells_done}
 use Rattle.cj_checker.proofs.TestLemmas.{decides_same, decides_shell, decides_holds, decides_front, decides_nat_le, decides_supported}

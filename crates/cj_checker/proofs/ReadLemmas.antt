@@ -7,8 +7,7 @@ use Rattle.cj_cert.specs.Certificates.{PlainBoxLine}
 use Rattle.cj_checker.specs.BoxesRead.{fails_behind}
 use Rattle.cj_checker.specs.declared.boxes_read.BoxesRead.{BoxesRead}
 use Rattle.cj_causes.specs.declared.check_cause.CheckCause.TheVariants.{BoxOf}
-use Rattle.cj_checker.specs.declared.failure.Failure.{Failure}
-use Rattle.cj_checker.specs.First.{failed, boxes_from}
+use Rattle.cj_checker.specs.First.{failed, boxes_from, Failure}
 use Rattle.cj_checker.specs.Places.{slots_from, places_from}
 use Rattle.cj_checker.proofs.BoxLemmas.{boxes_missing, boxes_done, boxes_left}
 use Rattle.cj_checker.proofs.PlaceLemmas.{first_place, next_object, same_places}

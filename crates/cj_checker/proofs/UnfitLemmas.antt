@@ -5,8 +5,7 @@ use Rattle.std.specs.List.{enumerate_from}
 use Rattle.std.specs.Option.{option_map_or}
 use Rattle.std.proofs.lemmas.Option.{slice_get-map, slice_get_past, slice_get_read}
 use Rattle.cj_causes.specs.declared.check_cause.CheckCause.{CheckCause}
-use Rattle.cj_checker.specs.declared.failure.Failure.{Failure}
-use Rattle.cj_checker.specs.First.{failed, first_unfit, fits_at}
+use Rattle.cj_checker.specs.First.{failed, first_unfit, fits_at, Failure}
 
 -- the list from a place on
 pub dropped : {X : Type 0} (xs : List X) (k : ℕ) (x : X) → slice_get xs k ≡ Some x → drop k xs ≡ x ∷ drop (k + 1) xs

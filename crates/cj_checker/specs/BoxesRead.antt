@@ -4,8 +4,7 @@ use Rattle.cj_hermite.specs.PlainProblems.{PlainProblem}
 use Rattle.cj_cert.specs.Certificates.{PlainBoxLine}
 use Rattle.cj_checker.specs.declared.boxes_read.BoxesRead.{BoxesRead}
 use Rattle.cj_causes.specs.declared.check_cause.CheckCause.TheVariants.{BoxOf}
-use Rattle.cj_checker.specs.declared.failure.Failure.{Failure}
-use Rattle.cj_checker.specs.First.{failed, boxes_from}
+use Rattle.cj_checker.specs.First.{failed, boxes_from, Failure}
 use Rattle.cj_checker.specs.Places.{places_from}
 
 -- The failure of lines that begin at a line, where so many of them were read and these places are left: that of the next line, or that

@@ -11,10 +11,9 @@ use Rattle.cj_cert.specs.declared.cert_lines.CellLine.{CellLine}
 use Rattle.cj_cert.specs.Certificates.{plain_cell_line}
 use Rattle.cj_causes.specs.declared.check_cause.CheckCause.{CheckCause}
 use Rattle.cj_causes.specs.declared.check_cause.CheckCause.TheVariants.{Untiled, Stranger}
-use Rattle.cj_checker.specs.declared.failure.Failure.{Failure}
 use Rattle.cj_checker.specs.declared.cell_fault.CellFault.{CellFault}
 use Rattle.cj_checker.specs.declared.root.Root.{Root}
-use Rattle.cj_checker.specs.First.{failed, begins, comes_after, unsupported, cells_from}
+use Rattle.cj_checker.specs.First.{failed, begins, comes_after, unsupported, cells_from, Failure}
 
 -- what is wrong with a cell where it is to begin a root, by whether its kind is supported
 abbrev pub cause_at : Bool → PlainCell → PlainLeaf → Option CheckCause

@@ -2,13 +2,10 @@ ghost use Rattle.std.specs.Prelude.{◌≡◌};
 ghost use Rattle.cj_checker.specs.First.{failed as a_failure};
 
 use cj_causes::CheckCause;
+use cj_kvn::LineFault;
 
 /// The first line at which a certificate is not accepted, counted from 1, and why.
-#[derive(Clone, Copy, Debug, PartialEq, Eq)]
-pub struct Failure {
-    pub line: u32,
-    pub cause: CheckCause,
-}
+pub type Failure = LineFault<CheckCause>;
 
 pub(crate) fn failed(line: u32, cause: CheckCause) -> Option<Failure>
     ensures { result ≡ a_failure line cause }

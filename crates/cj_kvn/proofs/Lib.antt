@@ -2,6 +2,7 @@ pub mod AgainLemmas
 pub mod CountLemmas
 pub mod CursorLemmas
 pub mod DecimalLemmas
+pub mod FaultLemmas
 pub mod FieldLemmas
 pub mod LineLemmas
 pub mod ListLemmas

@@ -9,7 +9,7 @@ use Rattle.std.proofs.lemmas.List.Splits.{slice_split_first, slice_split_none, l
 use Rattle.std.proofs.lemmas.List.Sums.{fails_before_first}
 use Rattle.cj_values.specs.Bytes.{is_feed}
 use Rattle.cj_kvn.specs.Lines.{Row, Comment, is_comment, is_printable, is_equals, form_of, line_form, pair_of, pair_or_row, trimmed}
-use Rattle.cj_kvn.specs.declared.lines.KvnFault.TheVariants as faults
+use Rattle.cj_kvn.specs.declared.lines.KvnCause.TheVariants.{NotPrintable}
 use Rattle.cj_kvn.proofs.ListLemmas.{any_yes, any_no, at_yes, at_no}
 use Rattle.cj_kvn.proofs.RangeLemmas.{slice_drop, slice_take}
 
@@ -87,7 +87,7 @@ pub inner_is : (number : ℕ) (line : List ℕ) → is_comment line ≡ false �
 unfolding line_form
 inner_is number line h printable = rw (h, printable) refl
 
-pub fault_is : (number : ℕ) (line : List ℕ) → is_comment line ≡ false → list_all is_printable line ≡ false → line_form number line ≡ Err (faults.NotPrintable number)
+pub fault_is : (number : ℕ) (line : List ℕ) → is_comment line ≡ false → list_all is_printable line ≡ false → line_form number line ≡ Err (record { line = number; cause = NotPrintable })
 unfolding line_form
 fault_is number line h printable = rw (h, printable) refl
 

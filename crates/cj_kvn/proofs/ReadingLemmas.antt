@@ -1,12 +1,15 @@
 -- The lines read so far, and those that are left.
-use Rattle.std.proofs.Common.{◌≡◌, ℕ, ◌+◌, List, [], ◌∷◌, ◌++◌, ap, ◌∙◌, refl, Result, Ok, Err}
+use Rattle.std.proofs.Common.{◌≡◌, ℕ, List, [], ◌∷◌, ◌++◌, ap, refl, Result, Ok, Err}
 use Rattle.std.proofs.lemmas.List.{append_assoc, append-nil}
-use Rattle.cj_kvn.specs.Lines.{Form, Gives, Numbered, line_form, lines_said, ◌>>=◌}
-use Rattle.cj_kvn.specs.declared.lines.KvnFault.{KvnFault}
-use Rattle.cj_kvn.specs.declared.lines.KvnFault.TheVariants.{Memory, NotPrintable, NoLineForm}
+use Rattle.cj_kvn.specs.Faults.{Gives, IsToldAs, ◌>>=◌}
+use Rattle.cj_kvn.specs.Lines.{Form, Numbered, line_form, lines_said}
+use Rattle.cj_kvn.specs.declared.lines.KvnCause.{KvnCause}
+use Rattle.cj_kvn.specs.declared.text_fault.LineFault.{LineFault}
+use Rattle.cj_kvn.specs.declared.text_fault.TextFault.{TextFault}
+use Rattle.cj_kvn.proofs.FaultLemmas.{told_gives}
 
 abbrev Said : Type 0
-Said = Result (List Numbered) KvnFault
+Said = Result (List Numbered) (LineFault KvnCause)
 
 -- these lines, and then those that are read
 abbrev pub with_front : List Numbered → Said → Said
@@ -21,7 +24,7 @@ front_step front line (Ok others) = ap (λ (xs : List Numbered). Ok xs) (append_
 front_step front line (Err e) = refl
 
 -- a line with a fault
-pub line_fails : (front : List Numbered) (n : ℕ) (line : List ℕ) (rest : List (List ℕ)) (e : KvnFault) → line_form n line ≡ Err e
+pub line_fails : (front : List Numbered) (n : ℕ) (line : List ℕ) (rest : List (List ℕ)) (e : LineFault KvnCause) → line_form n line ≡ Err e
     → with_front front (lines_said n (line ∷ rest)) ≡ Err e
 line_fails front n line rest e h = rw h refl
 
@@ -29,7 +32,7 @@ line_fails front n line rest e h = rw h refl
 pub all_read : (front : List Numbered) → with_front front (Ok []) ≡ Ok front
 all_read front = ap (λ (xs : List Numbered). Ok xs) (append-nil front)
 
-pub gives_fault : {X Y : Type 0} (view : X → Y) (said : Result Y KvnFault) (e : KvnFault) → said ≡ Err e → Gives view (Err e) said
-gives_fault view said Memory h = tt
-gives_fault view said (NotPrintable line) h = h
-gives_fault view said (NoLineForm line) h = h
+-- a fault of lines, in the words of the same format
+pub gives_fault : {X Y C : Type 0} (view : X → Y) (said : Result Y (LineFault C)) (fault : LineFault C) (e : TextFault C) → said ≡ Err fault
+    → IsToldAs (λ x y. y ≡ x) fault e → Gives view (Err e) said
+gives_fault view said fault e h told = told_gives view (λ x. x) said fault e told h

@@ -2,8 +2,9 @@
 use Rattle.std.specs.Prelude.{◌≡◌, ℕ, ◌+◌, ◌≤◌, List, [], ◌∷◌, length, Option, Some, None, Result, Ok, Err, IsOk}
 use Rattle.std.specs.Str.Lines.{lines}
 use Rattle.cj_kvn.specs.Lines.{LineIsWithin, Numbered, form_at, line_form, lines_said}
-use Rattle.cj_kvn.specs.declared.lines.KvnFault.{KvnFault}
+use Rattle.cj_kvn.specs.declared.lines.KvnCause.{KvnCause}
 use Rattle.cj_kvn.specs.declared.lines.Line.{Line}
+use Rattle.cj_kvn.specs.declared.text_fault.LineFault.{LineFault}
 
 -- the texts of the lines that are left of these bytes, and how many lines stand before them
 pub record LinesLeft : Type 0 where
@@ -16,7 +17,7 @@ abbrev pub all_lines : List ℕ → LinesLeft
 all_lines bytes = record { bytes = bytes; number = 0; rest = lines bytes }
 
 -- what they say, or the first fault
-abbrev pub said_by : LinesLeft → Result (List Numbered) KvnFault
+abbrev pub said_by : LinesLeft → Result (List Numbered) (LineFault KvnCause)
 said_by left = lines_said (left.number + 1) left.rest
 
 -- this is the first of them, and these are left behind it
@@ -31,12 +32,12 @@ pub record IsFirst (left : LinesLeft) (line : Line) (behind : LinesLeft) : Type 
   pub same : behind.bytes ≡ left.bytes
 
 -- the first of them, if there is one, or the fault that they begin with
-abbrev pub Follows : LinesLeft → Result (Option Line) KvnFault → LinesLeft → Type 0
+abbrev pub Follows : LinesLeft → Result (Option Line) (LineFault KvnCause) → LinesLeft → Type 0
 Follows left (Ok None) behind = (left.rest ≡ []) × (behind ≡ left)
 Follows left (Ok (Some line)) behind = IsFirst left line behind
 Follows left (Err e) behind = said_by left ≡ Err e
 
 -- each of them has a form, or this is their first fault
-abbrev pub HaveForms : Result (Unit {0}) KvnFault → LinesLeft → Type 0
+abbrev pub HaveForms : Result (Unit {0}) (LineFault KvnCause) → LinesLeft → Type 0
 HaveForms (Ok done) left = IsOk (said_by left)
 HaveForms (Err e) left = said_by left ≡ Err e

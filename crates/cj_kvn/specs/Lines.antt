@@ -1,17 +1,19 @@
 -- What the lines of a key-value file say.
-use Rattle.std.specs.Prelude.{◌≡◌, ℕ, ◌+◌, ◌-◌, Bool, true, ◌&&◌, ◌||◌, ◌==◌, nat_eq, nat_lt, nat_le, if◌then◌else◌, List, [], ◌∷◌, length, drop, take, map, Option, Some, None, Result, Ok, Err, codes}
+use Rattle.std.specs.Prelude.{ℕ, ◌+◌, ◌-◌, Bool, true, false, ◌&&◌, ◌||◌, ◌==◌, nat_eq, nat_lt, nat_le, if◌then◌else◌, List, [], ◌∷◌, length, drop, take, filter, map, Option, Some, None, Result, Ok, Err, codes}
 use Rattle.std.specs.Char.{is_ascii_digit, is_ascii_uppercase}
 use Rattle.std.specs.Cmp.Lexicographic.{pointwise}
 use Rattle.std.specs.List.{list_all, list_any, before_first, after_first, starts_with, prefix_len, suffix_len}
 use Rattle.std.specs.Str.Lines.{lines}
+use Rattle.cj_kvn.specs.Faults.{◌>>=◌}
 use Rattle.cj_kvn.specs.Ranges.{text_at, IsWithin}
-use Rattle.cj_kvn.specs.declared.lines.KvnFault.{KvnFault}
-use Rattle.cj_kvn.specs.declared.lines.KvnFault.TheVariants as faults
+use Rattle.cj_kvn.specs.declared.lines.KvnCause.{KvnCause}
+use Rattle.cj_kvn.specs.declared.lines.KvnCause.TheVariants.{NotPrintable, NoLineForm}
 use Rattle.cj_kvn.specs.declared.lines.Line.{Line}
 use Rattle.cj_kvn.specs.declared.lines.LineKind.{LineKind}
 use Rattle.cj_kvn.specs.declared.lines.LineKind.TheVariants as kinds
 use Rattle.cj_kvn.specs.declared.lines.MarkKind.{MarkKind}
 use Rattle.cj_kvn.specs.declared.lines.MarkKind.TheVariants.{MetaStart, MetaStop, CovarianceStart, CovarianceStop}
+use Rattle.cj_kvn.specs.declared.text_fault.LineFault.{LineFault}
 
 -- a space or a tab
 abbrev pub is_blank : ℕ → Bool
@@ -72,42 +74,49 @@ pub data Form : Type 0 where
   Row : List ℕ → Form
 
 -- a pair with a key
-abbrev pub pair_of : ℕ → List ℕ → List ℕ → Result Form KvnFault
-pair_of number key value = if is_key key then Ok (Pair key value) else Err (faults.NoLineForm number)
+abbrev pub pair_of : ℕ → List ℕ → List ℕ → Result Form (LineFault KvnCause)
+pair_of number key value = if is_key key then Ok (Pair key value) else Err (record { line = number; cause = NoLineForm })
 
 -- a pair where there is an equals sign, and else a row
-unfoldable pub pair_or_row : ℕ → List ℕ → Result Form KvnFault
+unfoldable pub pair_or_row : ℕ → List ℕ → Result Form (LineFault KvnCause)
 pair_or_row number text =
     if list_any is_equals text then pair_of number (trimmed (before_first is_equals text)) (trimmed (after_first is_equals text))
     else Ok (Row text)
 
-abbrev pub mark_or : Option MarkKind → Result Form KvnFault → Result Form KvnFault
+abbrev pub mark_or : Option MarkKind → Result Form (LineFault KvnCause) → Result Form (LineFault KvnCause)
 mark_or None other = other
 mark_or (Some mark) other = Ok (Mark mark)
 
 -- what a line says that is no comment, of its text without outer blanks
-unfoldable pub form_of : ℕ → List ℕ → Result Form KvnFault
+unfoldable pub form_of : ℕ → List ℕ → Result Form (LineFault KvnCause)
 form_of number text = if length text == 0 then Ok Blank else mark_or (mark_of text) (pair_or_row number text)
 
 -- what a line of this number says, or its fault
-unfoldable pub line_form : ℕ → List ℕ → Result Form KvnFault
+unfoldable pub line_form : ℕ → List ℕ → Result Form (LineFault KvnCause)
 line_form number line =
     if is_comment line then Ok Comment
     else if list_all is_printable line then form_of number (trimmed line)
-    else Err (faults.NotPrintable number)
+    else Err (record { line = number; cause = NotPrintable })
 
 -- a line by its number and what it says
 pub record Numbered : Type 0 where
   pub number : ℕ
   pub form : Form
 
-infixl 10 ◌>>=◌
-abbrev pub ◌>>=◌ : {A B : Type 0} → Result A KvnFault → (A → Result B KvnFault) → Result B KvnFault
-(Ok x) >>= f = f x
-(Err e) >>= f = Err e
+-- neither blank nor a comment
+abbrev pub tells : Form → Bool
+tells Blank = false
+tells Comment = false
+tells (Mark mark) = true
+tells (Pair key value) = true
+tells (Row text) = true
+
+-- the lines that say something
+abbrev pub telling : List Numbered → List Form
+telling lines = filter tells (map (λ line. line.form) lines)
 
 -- what the lines say from this number on, or the first fault
-abbrev pub lines_said : ℕ → List (List ℕ) → Result (List Numbered) KvnFault
+abbrev pub lines_said : ℕ → List (List ℕ) → Result (List Numbered) (LineFault KvnCause)
 lines_said number [] = Ok []
 lines_said number (line ∷ rest) = do
   form ← line_form number line
@@ -115,7 +124,7 @@ lines_said number (line ∷ rest) = do
   Ok (record { number = number; form = form } ∷ others)
 
 -- what the lines of a file say, numbered from 1, or the first fault
-abbrev pub reading : List ℕ → Result (List Numbered) KvnFault
+abbrev pub reading : List ℕ → Result (List Numbered) (LineFault KvnCause)
 reading bytes = lines_said 1 (lines bytes)
 
 -- what a line of the program says of these bytes
@@ -142,15 +151,3 @@ KindIsWithin bytes (kinds.Row text) = IsWithin bytes text
 
 abbrev pub LineIsWithin : List ℕ → Line → Type 0
 LineIsWithin bytes line = KindIsWithin bytes line.kind
-
--- what was found is what the text says
-abbrev pub Tells : {X Y : Type 0} → (X → Y) → Result X KvnFault → Result Y KvnFault → Type 0
-Tells view (Ok x) said = said ≡ Ok (view x)
-Tells view (Err e) said = said ≡ Err e
-
--- the same, or memory ran out
-abbrev pub Gives : {X Y : Type 0} → (X → Y) → Result X KvnFault → Result Y KvnFault → Type 0
-Gives view (Ok x) said = said ≡ Ok (view x)
-Gives view (Err faults.Memory) said = Unit {0}
-Gives view (Err (faults.NotPrintable line)) said = said ≡ Err (faults.NotPrintable line)
-Gives view (Err (faults.NoLineForm line)) said = said ≡ Err (faults.NoLineForm line)

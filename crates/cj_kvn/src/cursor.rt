@@ -1,7 +1,8 @@
 //! The lines of a file, one after another.
-use crate::lines::{KvnFault, Line};
+use crate::lines::{KvnCause, Line};
 use crate::raw_line::first_line;
 use crate::reading::kind_of;
+use crate::text_fault::LineFault;
 use std::marker::Model;
 
 /// A place in the bytes of a file where a line begins: the lines from there on are left.
@@ -42,7 +43,7 @@ impl<'a> LineCursor<'a> {
     }
 
     /// Goes on by a line: the next one, and nothing where none is left.
-    pub fn next_line(&mut self) -> Result<Option<Line>, KvnFault>
+    pub fn next_line(&mut self) -> Result<Option<Line>, LineFault<KvnCause>>
         ensures { Follows self.old result self.new }
     {
         if self.at as usize == self.bytes.len() {
@@ -57,7 +58,7 @@ impl<'a> LineCursor<'a> {
     }
 
     /// Whether all lines that are left have a form.
-    pub fn check_rest(self) -> Result<(), KvnFault>
+    pub fn check_rest(self) -> Result<(), LineFault<KvnCause>>
         ensures { HaveForms result self.entry }
     {
         let mut rest = self;

@@ -20,6 +20,7 @@ mod rounded;
 mod rounding;
 mod scaling;
 mod scanning;
+mod text_fault;
 mod words;
 
 pub use cursor::LineCursor;
@@ -33,3 +34,4 @@ pub use printing::decimal_text;
 pub use range::Range32;
 pub use reading::read_lines;
 pub use rounding::read_decimal;
+pub use text_fault::{LineFault, Refused, TextFault};

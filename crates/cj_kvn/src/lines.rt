@@ -1,9 +1,6 @@
 //! Lines of a key-value file.
-ghost use Rattle.std.specs.Prelude.{◌≡◌};
-ghost use Rattle.cj_kvn.specs.declared.lines.KvnFault.TheVariants.{Memory};
-
 use crate::range::Range32;
-use std::alloc::{AllocError, AllocFailed};
+use crate::text_fault::TextFault;
 
 /// A line by its number, counted from 1, and its kind.
 #[derive(Clone, Copy, Debug, PartialEq, Eq)]
@@ -31,33 +28,6 @@ pub enum MarkKind {
     CovarianceStop,
 }
 
-/// Why the lines of a file are not read.
-#[derive(Clone, Copy, Debug, PartialEq, Eq)]
-pub enum KvnFault {
-    /// Memory ran out.
-    Memory,
-    /// The line has a byte that may stand in comments alone.
-    NotPrintable { line: u32 },
-    /// The line is a pair whose key is not one or more of A to Z, 0 to 9 and `_`.
-    NoLineForm { line: u32 },
-}
-
-impl From<AllocError> for KvnFault {
-    ghost from_gives = { λ _ e. e ≡ Memory };
-
-    fn from(_e: AllocError) -> KvnFault {
-        KvnFault::Memory
-    }
-}
-
-impl<T: Drop> From<AllocFailed<T>> for KvnFault {
-    ghost from_gives = { λ _ e. e ≡ Memory };
-
-    fn from(_e: AllocFailed<T>) -> KvnFault {
-        KvnFault::Memory
-    }
-}
-
 /// Why a line is none of key-value notation.
 #[derive(Clone, Copy, Debug, PartialEq, Eq)]
 pub enum KvnCause {
@@ -66,3 +36,6 @@ pub enum KvnCause {
     /// Its key is not one or more of A to Z, 0 to 9 and `_`.
     NoLineForm,
 }
+
+/// Why the lines of a file are not read.
+pub type KvnFault = TextFault<KvnCause>;

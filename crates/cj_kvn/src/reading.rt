@@ -1,14 +1,16 @@
 //! Reading the lines of a key-value file.
 ghost use Rattle.std.specs.Prelude.{◌≡◌, ◌+◌, ◌∷◌, ◌^◌, ◌<◌, ◌≤◌, length, drop, All, IfOk};
-ghost use Rattle.cj_kvn.specs.Lines.{Gives, KindIsWithin, LineIsWithin, Tells, form_at, form_of, line_form, lines_at, pair_or_row as the_pair_or_row, reading};
+ghost use Rattle.cj_kvn.specs.Faults.{Gives, Tells};
+ghost use Rattle.cj_kvn.specs.Lines.{KindIsWithin, LineIsWithin, form_at, form_of, line_form, lines_at, pair_or_row as the_pair_or_row, reading};
 ghost use Rattle.cj_kvn.specs.RawLines.{IsRaw, equals_at};
 ghost use Rattle.cj_kvn.specs.Ranges.{IsWithin, text_at};
 
 use crate::blanks::trimmed;
 use crate::cursor::LineCursor;
-use crate::lines::{KvnFault, Line, LineKind};
+use crate::lines::{KvnCause, KvnFault, Line, LineKind};
 use crate::range::Range32;
 use crate::raw_line::RawLine;
+use crate::text_fault::LineFault;
 use crate::words::{is_comment, is_key, mark_of};
 use std::alloc::Global;
 
@@ -27,7 +29,7 @@ pub fn read_lines(alloc: Global, bytes: &[u8]) -> Result<Vec<Line>, KvnFault>
 }
 
 /// What a line of this number is.
-pub fn kind_of(bytes: &[u8], line: RawLine, number: u32) -> Result<LineKind, KvnFault>
+pub fn kind_of(bytes: &[u8], line: RawLine, number: u32) -> Result<LineKind, LineFault<KvnCause>>
     requires { IsRaw bytes.now line }
     ensures exact { Tells (form_at bytes.now) result (line_form number (text_at bytes.now line.text)) }
     ensures within { IfOk result (KindIsWithin bytes.now) }
@@ -37,7 +39,10 @@ pub fn kind_of(bytes: &[u8], line: RawLine, number: u32) -> Result<LineKind, Kvn
     } else if line.printable {
         kind_of_inner(bytes, trimmed(bytes, line.text), line.equals, number)
     } else {
-        Err(KvnFault::NotPrintable { line: number })
+        Err(LineFault {
+            line: number,
+            cause: KvnCause::NotPrintable,
+        })
     }
 }
 
@@ -48,7 +53,7 @@ fn kind_of_inner(
     inner: Range32,
     equals: Option<u32>,
     number: u32,
-) -> Result<LineKind, KvnFault>
+) -> Result<LineKind, LineFault<KvnCause>>
     requires within { IsWithin bytes.now inner }
     requires equals { equals ≡ equals_at bytes.now inner }
     ensures exact { Tells (form_at bytes.now) result (form_of number (text_at bytes.now inner)) }
@@ -70,7 +75,7 @@ fn pair_or_row(
     inner: Range32,
     equals: Option<u32>,
     number: u32,
-) -> Result<LineKind, KvnFault>
+) -> Result<LineKind, LineFault<KvnCause>>
     requires within { IsWithin bytes.now inner }
     requires equals { equals ≡ equals_at bytes.now inner }
     ensures exact { Tells (form_at bytes.now) result (the_pair_or_row number (text_at bytes.now inner)) }
@@ -96,6 +101,9 @@ fn pair_or_row(
     if is_key(key.text(bytes)) {
         Ok(LineKind::Pair { key, value })
     } else {
-        Err(KvnFault::NoLineForm { line: number })
+        Err(LineFault {
+            line: number,
+            cause: KvnCause::NoLineForm,
+        })
     }
 }

@@ -6,6 +6,8 @@ mod decimals;
 #[cfg(test)]
 mod digits;
 #[cfg(test)]
+mod faults;
+#[cfg(test)]
 mod lines;
 #[cfg(test)]
 mod scaled;

@@ -1,5 +1,6 @@
 use cj_kvn::{
-    KvnFault, Line, LineCursor, LineKind, MarkKind, Range32, field, read_lines, row_fields,
+    KvnCause, KvnFault, Line, LineCursor, LineFault, LineKind, MarkKind, Range32, field,
+    read_lines, row_fields,
 };
 use cj_values::Text;
 use std::panic::Expect;
@@ -99,21 +100,25 @@ fn fields_found_in_one_pass(rt: HostRuntime) {
 
 #[test]
 fn the_first_fault(rt: HostRuntime) {
-    let texts: [(&[u8], KvnFault); 11] = [
-        (b"KEY = 1\nbad key = 2\n", KvnFault::NoLineForm { line: 2 }),
-        (b"= 1", KvnFault::NoLineForm { line: 1 }),
-        (b"a = 1\nK = \x01\n", KvnFault::NoLineForm { line: 1 }),
-        (b"K = \x01\na = 1\n", KvnFault::NotPrintable { line: 1 }),
-        (b"\n\nkey\x7f = 1", KvnFault::NotPrintable { line: 3 }),
-        (b"K = 1\rL = 2\n", KvnFault::NotPrintable { line: 1 }),
-        (b"K = 1\r", KvnFault::NotPrintable { line: 1 }),
-        (b"COMMENT\r", KvnFault::NotPrintable { line: 1 }),
-        (b"KEY = 1\r\n\t\x08\r\n", KvnFault::NotPrintable { line: 2 }),
-        (b"a = b = c\n", KvnFault::NoLineForm { line: 1 }),
-        (b"COMMENT\r\r\n", KvnFault::NotPrintable { line: 1 }),
+    let texts: [(&[u8], u32, KvnCause); 11] = [
+        (b"KEY = 1\nbad key = 2\n", 2, KvnCause::NoLineForm),
+        (b"= 1", 1, KvnCause::NoLineForm),
+        (b"a = 1\nK = \x01\n", 1, KvnCause::NoLineForm),
+        (b"K = \x01\na = 1\n", 1, KvnCause::NotPrintable),
+        (b"\n\nkey\x7f = 1", 3, KvnCause::NotPrintable),
+        (b"K = 1\rL = 2\n", 1, KvnCause::NotPrintable),
+        (b"K = 1\r", 1, KvnCause::NotPrintable),
+        (b"COMMENT\r", 1, KvnCause::NotPrintable),
+        (b"KEY = 1\r\n\t\x08\r\n", 2, KvnCause::NotPrintable),
+        (b"a = b = c\n", 1, KvnCause::NoLineForm),
+        (b"COMMENT\r\r\n", 1, KvnCause::NotPrintable),
     ];
-    for (text, fault) in &texts {
-        assert_eq!(rt; read_lines(rt.alloc(), text).err(), Some(*fault));
+    for (text, line, cause) in &texts {
+        let fault = KvnFault::At {
+            line: *line,
+            cause: *cause,
+        };
+        assert_eq!(rt; read_lines(rt.alloc(), text).err(), Some(fault));
     }
 }
 
@@ -151,7 +156,10 @@ fn lines_one_after_another(rt: HostRuntime) {
 #[test]
 fn a_fault_behind_lines_with_forms(rt: HostRuntime) {
     let bytes = b"A = 1\n\nb = 2\nC = \x01\n";
-    let fault = KvnFault::NoLineForm { line: 3 };
+    let fault = LineFault {
+        line: 3,
+        cause: KvnCause::NoLineForm,
+    };
     let mut left = LineCursor::new(bytes);
     assert!(rt; left.next_line().is_ok());
     assert!(rt; left.next_line().is_ok());
@@ -161,7 +169,10 @@ fn a_fault_behind_lines_with_forms(rt: HostRuntime) {
     assert!(rt; behind.next_line().is_ok());
     assert_eq!(rt;
         behind.check_rest(),
-        Err(KvnFault::NotPrintable { line: 2 })
+        Err(LineFault {
+            line: 2,
+            cause: KvnCause::NotPrintable,
+        })
     );
 }
 

@@ -13,7 +13,8 @@ use Rattle.cj_causes.specs.declared.oem_cause.OemCause.TheVariants as causes
 use Rattle.cj_oem.specs.CovarianceRows.{Covariances, NO_COVARIANCES, closed, with_matrix_pair, with_matrix_row}
 use Rattle.cj_track.specs.PlainTracks.{PlainSegment, PlainMatrix, PlainNode}
 use Rattle.cj_oem.specs.Grammar.{AreBlocks, AreCovariances, Entry, HasNoCovariances, IsBlock, IsUseable, last, more, pair_lines, row_lines}
-use Rattle.cj_oem.specs.Metadata.{◌>>=◌, EMPTY, Object, Metadata, MetadataDraft, metadata_of, unless, with_pair}
+use Rattle.cj_kvn.specs.Faults.{◌>>=◌}
+use Rattle.cj_oem.specs.Metadata.{EMPTY, Object, Metadata, MetadataDraft, metadata_of, unless, with_pair}
 use Rattle.cj_oem.specs.NodeRows.{state_of_row}
 use Rattle.cj_oem.specs.Stages.{Body, Meta, Data, Cov, After, OpenSegment, close_nodes, end_of, finished, first_state, is_useable, last_state, with_arc}
 use Rattle.cj_oem.proofs.MatrixLemmas.{covariances_from, matrices_again, matrices_are, with_line}
@@ -21,7 +22,8 @@ use Rattle.cj_oem.proofs.MetadataLemmas.{Suits, metadata_again, metadata_is, met
 use Rattle.cj_oem.proofs.NodeRowLemmas.{states_again, states_are, states_from}
 use Rattle.cj_oem.proofs.RunLemmas.{end_push, run, run_covariances, run_meta, run_rows}
 use Rattle.cj_oem.proofs.StateAgainLemmas.{open_segment}
-use Rattle.cj_oem.proofs.StepLemmas.{bind_into, bind_ok, unless_ok}
+use Rattle.cj_kvn.proofs.FaultLemmas.{bind_ok}
+use Rattle.cj_oem.proofs.StepLemmas.{bind_into, unless_ok}
 
 -- ---- the end of the nodes
 

@@ -9,7 +9,8 @@ use Rattle.std.proofs.lemmas.List.Sums.{count_by-le-length, sum_by-cons, sum_by_
 use Rattle.std.proofs.lemmas.Result.{IfOk-at_ok, IfOk-weaker}
 use Rattle.cj_kvn.specs.Lines as kvn
 use Rattle.cj_kvn.specs.Lines.{Form, Blank, Comment, Mark, Pair, Row, Numbered}
-use Rattle.cj_kvn.specs.declared.lines.KvnFault.{KvnFault}
+use Rattle.cj_kvn.specs.declared.lines.KvnCause.{KvnCause}
+use Rattle.cj_kvn.specs.declared.text_fault.LineFault.{LineFault}
 use Rattle.cj_kvn.specs.declared.lines.MarkKind.TheVariants.{MetaStart, MetaStop, CovarianceStart, CovarianceStop}
 use Rattle.cj_track.specs.declared.segment.Segment.{Segment}
 use Rattle.cj_causes.specs.declared.oem_cause.OemCause.{OemCause}
@@ -18,8 +19,8 @@ use Rattle.cj_oem.specs.Words.{is_text}
 use Rattle.cj_oem.specs.Metadata.{MetadataDraft, metadata_of, with_pair}
 use Rattle.cj_oem.specs.NodeRows.{state_of_row}
 use Rattle.cj_oem.specs.CovarianceRows.{Covariances, closed, with_matrix_pair, with_matrix_row}
-use Rattle.cj_oem.specs.Reading as reader
-use Rattle.cj_oem.specs.Reading.{Fault, at_line, read_on}
+use Rattle.cj_kvn.specs.Faults.{at_line, ◌>>=◌}
+use Rattle.cj_oem.specs.Reading.{Fault, read_on}
 use Rattle.cj_track.specs.Segments.{node_count}
 use Rattle.cj_oem.specs.Stages.{Body, Head, Stage, Start, Header, Meta, Data, Cov, After, OpenSegment, NO_HEAD, begun, close_nodes, finished, follows, in_after, in_cov, in_data, in_header, in_meta, is_version, last_state, led, with_arc, with_head_key}
 use Rattle.cj_track.specs.Tracks.{plain_segment, plain_node}
@@ -202,7 +203,7 @@ at_line_ok P number (Ok x) h = h
 at_line_ok P number (Err e) h = tt
 
 line_then : {A B : Type 0} (P : A → Type 0) (Q : B → Type 0) (number : ℕ) (r : Result A OemCause) (f : A → Result B Fault)
-    → IfOk r P → ((x : A) → P x → IfOk (f x) Q) → IfOk (reader.◌>>=◌ (at_line number r) f) Q
+    → IfOk r P → ((x : A) → P x → IfOk (f x) Q) → IfOk (at_line number r >>= f) Q
 line_then P Q number (Ok x) f h g = g x h
 line_then P Q number (Err e) f h g = tt
 
@@ -265,7 +266,7 @@ pub lines_few : (bytes : List ℕ) → length (lines bytes) ≤ length bytes + 1
 lines_few bytes =
     omega (arith, parts_count (slice_split (λ b. b == 10) bytes), length-slice_split (λ (b : ℕ). b == 10) bytes, count_by-le-length (λ (b : ℕ). b == 10) bytes)
 
-kvn_then : {A B : Type 0} (P : A → Type 0) (Q : B → Type 0) (r : Result A KvnFault) (f : A → Result B KvnFault) → IfOk r P → ((x : A) → P x → IfOk (f x) Q) → IfOk (kvn.◌>>=◌ r f) Q
+kvn_then : {A B : Type 0} (P : A → Type 0) (Q : B → Type 0) (r : Result A (LineFault KvnCause)) (f : A → Result B (LineFault KvnCause)) → IfOk r P → ((x : A) → P x → IfOk (f x) Q) → IfOk (r >>= f) Q
 kvn_then P Q (Ok x) f h g = g x h
 kvn_then P Q (Err e) f h g = tt
 
@@ -275,7 +276,7 @@ said_count number (line ∷ texts) =
     kvn_then (λ _. Unit {0}) (λ said. length said ≡ length (line ∷ texts)) (kvn.line_form number line) _ (any_ok (kvn.line_form number line)) (λ form _.
     kvn_then (λ others. length others ≡ length texts) (λ said. length said ≡ length (line ∷ texts)) (kvn.lines_said (number + 1) texts) _ (said_count (number + 1) texts) (λ others h. ap suc h))
   where
-    any_ok : {A : Type 0} (r : Result A KvnFault) → IfOk r (λ _. Unit {0})
+    any_ok : {A : Type 0} (r : Result A (LineFault KvnCause)) → IfOk r (λ _. Unit {0})
     any_ok (Ok x) = tt
     any_ok (Err e) = tt
 

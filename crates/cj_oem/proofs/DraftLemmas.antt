@@ -14,7 +14,7 @@ use Rattle.cj_causes.specs.declared.oem_cause.OemCause.{OemCause}
 use Rattle.std.specs.Prelude.{◌==◌, ◌||◌, not, false, Some}
 use Rattle.cj_oem.specs.CovarianceRows.{Draft, number_or, numbers_said, with_fields}
 use Rattle.cj_oem.specs.Drafts.{value_count}
-use Rattle.cj_oem.specs.Metadata.{◌>>=◌}
+use Rattle.cj_kvn.specs.Faults.{◌>>=◌}
 
 -- a decimal that a matrix may have
 abbrev pub IsKept : Decimal → Type 0

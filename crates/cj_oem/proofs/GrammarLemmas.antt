@@ -2,28 +2,29 @@
 use Rattle.std.proofs.Common.{◌≡◌, ℕ, ◌↔◌, inl, inr, List, [], ◌∷◌, ◌++◌, Bool, true, false, Some, IfOk, IfErr, Result, Ok, Err, ap, sym, ◌∙◌, refl, subst}
 use Rattle.std.specs.Prelude.{◌&&◌, ◌||◌, codes, if◌then◌else◌}
 use Rattle.cj_kvn.specs.Lines as kvn
-use Rattle.cj_kvn.specs.Lines.{Form, Blank, Comment, Mark, Pair, Row, Numbered}
-use Rattle.cj_kvn.specs.declared.lines.KvnFault.{KvnFault}
-use Rattle.cj_kvn.specs.declared.lines.KvnFault.TheVariants as faults
+use Rattle.cj_kvn.specs.Lines.{Form, Blank, Comment, Mark, Pair, Row, Numbered, telling}
+use Rattle.cj_kvn.specs.declared.lines.KvnCause.{KvnCause}
+use Rattle.cj_kvn.specs.declared.text_fault.LineFault.{LineFault}
 use Rattle.cj_kvn.specs.declared.lines.MarkKind.TheVariants.{MetaStart, MetaStop, CovarianceStart, CovarianceStop}
 use Rattle.cj_causes.specs.declared.oem_cause.OemCause.{OemCause}
 use Rattle.cj_causes.specs.declared.oem_cause.OemCause.TheVariants as causes
-use Rattle.cj_oem.specs.declared.fault.OemFault.{OemFault}
-use Rattle.cj_oem.specs.declared.fault.OemFault.TheVariants.{Memory, At}
+use Rattle.cj_kvn.specs.declared.text_fault.TextFault.{TextFault}
+use Rattle.cj_kvn.specs.declared.text_fault.TextFault.TheVariants.{Memory, At}
 use Rattle.cj_track.specs.declared.track.Track.{Track}
 use Rattle.cj_track.specs.PlainTracks.{PlainSegment, PlainTrack}
-use Rattle.cj_oem.specs.Grammar.{AreBlocks, Entry, IsFile, IsVersion, Says, pair_lines, telling}
+use Rattle.cj_oem.specs.Grammar.{AreBlocks, Entry, IsFile, IsVersion, Says, pair_lines}
 use Rattle.cj_track.specs.Labels.{is_file_name}
 use Rattle.cj_oem.specs.Words.{is_text}
-use Rattle.cj_oem.specs.Metadata.{◌>>=◌, EMPTY, Object}
-use Rattle.cj_oem.specs.Reading as reader
-use Rattle.cj_oem.specs.Reading.{Fault, Gives, IsOfFile, IsTrackOf, lines_or, lines_read, read_on, reading, with_object}
+use Rattle.cj_kvn.specs.Faults.{◌>>=◌, lines_or}
+use Rattle.cj_oem.specs.Metadata.{EMPTY, Object}
+use Rattle.cj_oem.specs.Reading.{Fault, Gives, IsOfFile, IsTrackOf, lines_read, read_on, reading, with_object}
 use Rattle.cj_oem.specs.Stages.{Body, Head, Start, Header, Meta, After, NO_BODY, NO_HEAD, finished, is_version, with_head_key}
 use Rattle.cj_track.specs.Tracks.{plain_track}
 use Rattle.cj_oem.proofs.BlockLemmas.{Begins, blocks_again, blocks_are, blocks_begin}
 use Rattle.cj_oem.proofs.HeaderLemmas.{head_from, header_again, header_is}
 use Rattle.cj_oem.proofs.MetadataAgainLemmas.{object_of}
 use Rattle.cj_oem.proofs.RunLemmas.{run, run_header, run_lines, without_line}
+use Rattle.cj_kvn.proofs.FaultLemmas.{bind_ok, lines_ok}
 use Rattle.cj_oem.proofs.StepLemmas.{bind_into, text_is, wanted}
 
 -- ---- the version
@@ -161,16 +162,6 @@ file_again as_hermite3 forms e f =
 
 -- ---- the bytes
 
-pub bind_ok : {A B : Type 0} (r : Result A Fault) (f : A → Result B Fault) (y : B) → reader.◌>>=◌ r f ≡ Ok y → (x : A) × (r ≡ Ok x) × (f x ≡ Ok y)
-bind_ok (Ok x) f y e = (x, refl, e)
-bind_ok (Err fault) f y e = absurd cc
-
-pub lines_ok : (r : Result (List Numbered) KvnFault) (lines : List Numbered) → lines_or r ≡ Ok lines → r ≡ Ok lines
-lines_ok (Ok ls) lines e = let same : ls ≡ lines = cc in ap (λ (all : List Numbered). Ok all) same
-lines_ok (Err (faults.NotPrintable line)) lines e = absurd cc
-lines_ok (Err (faults.NoLineForm line)) lines e = absurd cc
-lines_ok (Err faults.Memory) lines e = absurd cc
-
 ok_without_line : {A : Type 0} (r : Result A Fault) (x : A) → without_line r ≡ Ok x → r ≡ Ok x
 ok_without_line (Ok y) x e = cc
 ok_without_line (Err fault) x e = absurd cc
@@ -190,24 +181,24 @@ lines_again : (as_hermite3 : Bool) (file : List ℕ) (lines : List Numbered) (e 
 unfolding lines_read
 lines_again as_hermite3 file lines e f named =
     let read = ok_without_line (read_on as_hermite3 Start 1 lines) (body_of e) (run_lines as_hermite3 lines Start 1 ∙ file_again as_hermite3 (telling lines) e f) in
-    ap (λ (r : Result Body Fault). reader.◌>>=◌ r (λ body. with_object file body body.object)) read
+    ap (λ (r : Result Body Fault). r >>= λ body. with_object file body body.object) read
     ∙ ap (λ (name : List ℕ). Ok (record e { file = name })) (sym named)
 
 -- a file that is read says by the grammar what was read
 pub reading_says : (as_hermite3 : Bool) (file bytes : List ℕ) (e : PlainTrack) → reading file bytes as_hermite3 ≡ Ok e → Says as_hermite3 file bytes e
 unfolding reading
 reading_says as_hermite3 file bytes e read =
-    let named = wanted (is_file_name file) (reader.◌>>=◌ (lines_or (kvn.reading bytes)) (lines_read as_hermite3 file)) _ e read in
-    let step = bind_ok (lines_or (kvn.reading bytes)) (lines_read as_hermite3 file) e named.1 in
+    let named = wanted (is_file_name file) (lines_or causes.Kvn (kvn.reading bytes) >>= lines_read as_hermite3 file) _ e read in
+    let step = bind_ok (lines_or causes.Kvn (kvn.reading bytes)) (lines_read as_hermite3 file) e named.1 in
     let says = lines_say as_hermite3 file step.0 e step.2 in
-    record { name = named.0; lines = step.0; named = says.1; readable = lines_ok (kvn.reading bytes) step.0 step.1; whole = says.0 }
+    record { name = named.0; lines = step.0; named = says.1; readable = lines_ok causes.Kvn (kvn.reading bytes) step.0 step.1; whole = says.0 }
 
 -- what a file says by the grammar is read
 pub says_reading : (as_hermite3 : Bool) (file bytes : List ℕ) (e : PlainTrack) → Says as_hermite3 file bytes e → reading file bytes as_hermite3 ≡ Ok e
 unfolding reading
 says_reading as_hermite3 file bytes e says =
-    ap (λ (b : Bool). if b then reader.◌>>=◌ (lines_or (kvn.reading bytes)) (lines_read as_hermite3 file) else Err (record { line = 0; cause = causes.Name })) says.name
-    ∙ ap (λ (r : Result (List Numbered) KvnFault). reader.◌>>=◌ (lines_or r) (lines_read as_hermite3 file)) says.readable
+    ap (λ (b : Bool). if b then lines_or causes.Kvn (kvn.reading bytes) >>= lines_read as_hermite3 file else Err (record { line = 0; cause = causes.Name })) says.name
+    ∙ ap (λ (r : Result (List Numbered) (LineFault KvnCause)). lines_or causes.Kvn r >>= lines_read as_hermite3 file) says.readable
     ∙ lines_again as_hermite3 file says.lines e says.whole says.named
 
 -- so the grammar says just which files are read, and what they say
@@ -225,23 +216,23 @@ says_one as_hermite3 file bytes d e a b =
 -- ---- what a program answers
 
 -- a track that it gives is said by the grammar
-pub gives_says : (as_hermite3 : Bool) (file bytes : List ℕ) (result : Result Track OemFault) → Gives result (reading file bytes as_hermite3)
+pub gives_says : (as_hermite3 : Bool) (file bytes : List ℕ) (result : Result Track (TextFault OemCause)) → Gives result (reading file bytes as_hermite3)
     → IfOk result (λ track. Says as_hermite3 file bytes (plain_track track))
 gives_says as_hermite3 file bytes (Ok track) e = reading_says as_hermite3 file bytes (plain_track track) e
 gives_says as_hermite3 file bytes (Err fault) e = tt
 
-is_track_of : (e : PlainTrack) (result : Result Track OemFault) → Gives result (Ok e) → IsTrackOf result e
+is_track_of : (e : PlainTrack) (result : Result Track (TextFault OemCause)) → Gives result (Ok e) → IsTrackOf result e
 is_track_of e (Ok track) same = cc
 is_track_of e (Err (At line cause)) same = absurd cc
 is_track_of e (Err Memory) same = tt
 
 -- what the grammar says it gives
-pub gives_accepts : (as_hermite3 : Bool) (file bytes : List ℕ) (result : Result Track OemFault) → Gives result (reading file bytes as_hermite3)
+pub gives_accepts : (as_hermite3 : Bool) (file bytes : List ℕ) (result : Result Track (TextFault OemCause)) → Gives result (reading file bytes as_hermite3)
     → (e : PlainTrack) → Says as_hermite3 file bytes e → IsTrackOf result e
 gives_accepts as_hermite3 file bytes result gives e says = is_track_of e result (subst (Gives result) (says_reading as_hermite3 file bytes e says) gives)
 
 -- where it finds a fault the grammar says nothing
-pub gives_refuses : (as_hermite3 : Bool) (file bytes : List ℕ) (result : Result Track OemFault) → Gives result (reading file bytes as_hermite3)
+pub gives_refuses : (as_hermite3 : Bool) (file bytes : List ℕ) (result : Result Track (TextFault OemCause)) → Gives result (reading file bytes as_hermite3)
     → IfErr result (λ fault. IsOfFile fault → (e : PlainTrack) → Says as_hermite3 file bytes e → ⊥)
 gives_refuses as_hermite3 file bytes (Ok track) gives = tt
 gives_refuses as_hermite3 file bytes (Err (At line cause)) gives = λ _ e says. gives_accepts as_hermite3 file bytes (Err (At line cause)) gives e says

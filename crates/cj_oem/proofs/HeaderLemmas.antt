@@ -8,10 +8,11 @@ use Rattle.cj_causes.specs.declared.oem_cause.OemCause.{OemCause}
 use Rattle.cj_causes.specs.declared.oem_cause.OemCause.TheVariants as causes
 use Rattle.cj_oem.specs.Grammar.{Entry, IsHeader, IsHeaderKey}
 use Rattle.cj_oem.specs.Words.{is_text}
-use Rattle.cj_oem.specs.Metadata.{◌>>=◌}
+use Rattle.cj_kvn.specs.Faults.{◌>>=◌}
 use Rattle.cj_oem.specs.Stages.{Head, NO_HEAD, once, with_head_key}
 use Rattle.cj_oem.proofs.ElementLemmas.{any_cases, any_here, any_later, any_none, pairs_head, pairs_tail}
-use Rattle.cj_oem.proofs.StepLemmas.{bind_ok, text_is}
+use Rattle.cj_kvn.proofs.FaultLemmas.{bind_ok}
+use Rattle.cj_oem.proofs.StepLemmas.{text_is}
 
 -- the keys of a header, and whether they were given
 data HeaderKey : Type 0 where

@@ -8,8 +8,10 @@ use Rattle.std.proofs.lemmas.List.{length-map, length-take, length-reverse, get_
 use Rattle.std.proofs.lemmas.List.Elements.{All-cons, All-drop, All-map, All-nil, All-take, All-weaker}
 use Rattle.std.proofs.lemmas.List.Sums.{AllPass-from_list_all, list_all-from_AllPass, prefix_len_stops, suffix_len-le-length}
 use Rattle.cj_values.specs.Bytes.{spaced}
-use Rattle.cj_kvn.specs.Lines.{Form, Blank, Comment, Pair, Row, Numbered, is_blank, is_comment, is_equals, is_key, is_printable, trimmed, without_leading_blanks, mark_of, mark_or, pair_of, pair_or_row, form_of, form_at, line_at, line_form, lines_at, lines_said, reading, ◌>>=◌}
-use Rattle.cj_kvn.specs.declared.lines.KvnFault.{KvnFault}
+use Rattle.cj_kvn.specs.Lines.{Form, Blank, Comment, Pair, Row, Numbered, is_blank, is_comment, is_equals, is_key, is_printable, trimmed, without_leading_blanks, mark_of, mark_or, pair_of, pair_or_row, form_of, form_at, line_at, line_form, lines_at, lines_said, reading}
+use Rattle.cj_kvn.specs.Faults.{◌>>=◌}
+use Rattle.cj_kvn.specs.declared.lines.KvnCause.{KvnCause}
+use Rattle.cj_kvn.specs.declared.text_fault.LineFault.{LineFault}
 use Rattle.cj_kvn.specs.declared.lines.Line.{Line}
 use Rattle.cj_kvn.specs.declared.lines.MarkKind.{MarkKind}
 use Rattle.cj_kvn.proofs.ListLemmas.{HeadFails, behind_fails}
@@ -90,15 +92,15 @@ labelled text all =
 -- ---- lines
 
 -- what is said, if anything, has the property
-abbrev Where : {A : Type 0} → (A → Type 0) → Result A KvnFault → Type 0
+abbrev Where : {A : Type 0} → (A → Type 0) → Result A (LineFault KvnCause) → Type 0
 Where P (Ok x) = P x
 Where P (Err e) = Unit {0}
 
-pair_labelled : (b : Bool) (key value : List ℕ) (e : KvnFault) → IsLabelled value → Where HasLabel (if b then Ok (Pair key value) else Err e)
+pair_labelled : (b : Bool) (key value : List ℕ) (e : LineFault KvnCause) → IsLabelled value → Where HasLabel (if b then Ok (Pair key value) else Err e)
 pair_labelled true key value e h = h
 pair_labelled false key value e h = tt
 
-row_labelled : (b : Bool) (said : Result Form KvnFault) (text : List ℕ) → Where HasLabel said → Where HasLabel (if b then said else Ok (Row text))
+row_labelled : (b : Bool) (said : Result Form (LineFault KvnCause)) (text : List ℕ) → Where HasLabel said → Where HasLabel (if b then said else Ok (Row text))
 row_labelled true said text h = h
 row_labelled false said text h = tt
 
@@ -111,11 +113,11 @@ pair_or_row_labelled number text all =
     row_labelled (list_any is_equals text) (pair_of number key (trimmed value)) text
     (pair_labelled (is_key key) key (trimmed value) _ (labelled value behind))
 
-mark_labelled : (mark : Option MarkKind) (said : Result Form KvnFault) → Where HasLabel said → Where HasLabel (mark_or mark said)
+mark_labelled : (mark : Option MarkKind) (said : Result Form (LineFault KvnCause)) → Where HasLabel said → Where HasLabel (mark_or mark said)
 mark_labelled None said h = h
 mark_labelled (Some mark) said h = tt
 
-blank_labelled : (b : Bool) (said : Result Form KvnFault) → Where HasLabel said → Where HasLabel (if b then Ok Blank else said)
+blank_labelled : (b : Bool) (said : Result Form (LineFault KvnCause)) → Where HasLabel said → Where HasLabel (if b then Ok Blank else said)
 blank_labelled true said h = tt
 blank_labelled false said h = h
 
@@ -125,11 +127,11 @@ form_labelled number text all =
     blank_labelled (length text == 0) (mark_or (mark_of text) (pair_or_row number text))
     (mark_labelled (mark_of text) (pair_or_row number text) (pair_or_row_labelled number text all))
 
-printable_labelled : (b : Bool) (said : Result Form KvnFault) (e : KvnFault) → (b ≡ true → Where HasLabel said) → Where HasLabel (if b then said else Err e)
+printable_labelled : (b : Bool) (said : Result Form (LineFault KvnCause)) (e : LineFault KvnCause) → (b ≡ true → Where HasLabel said) → Where HasLabel (if b then said else Err e)
 printable_labelled true said e h = h refl
 printable_labelled false said e h = tt
 
-comment_labelled : (b : Bool) (said : Result Form KvnFault) → Where HasLabel said → Where HasLabel (if b then Ok Comment else said)
+comment_labelled : (b : Bool) (said : Result Form (LineFault KvnCause)) → Where HasLabel said → Where HasLabel (if b then Ok Comment else said)
 comment_labelled true said h = tt
 comment_labelled false said h = h
 
@@ -140,7 +142,7 @@ line_labelled number line =
     (printable_labelled (list_all is_printable line) (form_of number (trimmed line)) _
     (λ all. form_labelled number (trimmed line) (trimmed_printable line (AllPass-from_list_all is_printable line all))))
 
-where_ok : {A : Type 0} (P : A → Type 0) (said : Result A KvnFault) (x : A) → said ≡ Ok x → Where P said → P x
+where_ok : {A : Type 0} (P : A → Type 0) (said : Result A (LineFault KvnCause)) (x : A) → said ≡ Ok x → Where P said → P x
 where_ok P said x e h = subst (Where P) e h
 
 -- a line that has a form

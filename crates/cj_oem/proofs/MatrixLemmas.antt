@@ -17,9 +17,11 @@ use Rattle.cj_oem.specs.Drafts.{begun}
 use Rattle.cj_track.specs.PlainTracks.{PlainMatrix}
 use Rattle.cj_oem.specs.Grammar.{AreMatrices, IsMatrix, IsRtn, frame_lines, kept, none, row_lines, unused}
 use Rattle.cj_oem.specs.Words.{is_text, is_word}
-use Rattle.cj_oem.specs.Metadata.{◌>>=◌, parse_epoch, unless}
+use Rattle.cj_kvn.specs.Faults.{◌>>=◌}
+use Rattle.cj_oem.specs.Metadata.{parse_epoch, unless}
 use Rattle.cj_oem.proofs.MetadataLemmas.{epoch_is}
-use Rattle.cj_oem.proofs.StepLemmas.{bind_ok, chosen, ok_is, text_is, unless_ok, unwanted, wanted}
+use Rattle.cj_kvn.proofs.FaultLemmas.{bind_ok}
+use Rattle.cj_oem.proofs.StepLemmas.{chosen, ok_is, text_is, unless_ok, unwanted, wanted}
 
 -- what a line between the marks of covariances says
 abbrev pub with_line : Covariances → Form → Result Covariances OemCause

@@ -17,9 +17,11 @@ use Rattle.cj_oem.specs.declared.key.Key.{Key}
 use Rattle.cj_oem.specs.declared.key.Key.TheVariants as keys
 use Rattle.cj_oem.specs.Grammar.{AreCubic, Entry, Has, HasEpoch, SaysText, IsMetadata, IsWord, Lacks, HasEpochOr, METADATA_KEYS}
 use Rattle.cj_oem.specs.Words.{is_text, is_word}
-use Rattle.cj_oem.specs.Metadata.{◌>>=◌, EMPTY, Object, Metadata, MetadataDraft, epoch_or, parse_epoch, frame_kept, frame_named, frame_of, id_of, is_cubic, is_given, key_of, parse_label, name_of, needed, metadata_of, same_frame, text_differs, unless, with_key, with_pair, with_value}
+use Rattle.cj_kvn.specs.Faults.{◌>>=◌}
+use Rattle.cj_oem.specs.Metadata.{EMPTY, Object, Metadata, MetadataDraft, epoch_or, parse_epoch, frame_kept, frame_named, frame_of, id_of, is_cubic, is_given, key_of, parse_label, name_of, needed, metadata_of, same_frame, text_differs, unless, with_key, with_pair, with_value}
 use Rattle.cj_oem.proofs.ElementLemmas.{any_all, any_at, any_cases, any_here, any_later, any_none, any_weaker, contains_cases, contains_none, pairs_head, pairs_tail}
-use Rattle.cj_oem.proofs.StepLemmas.{bind_ok, ok_is, text_is, text_self, unless_not, unwanted, wanted}
+use Rattle.cj_kvn.proofs.FaultLemmas.{bind_ok}
+use Rattle.cj_oem.proofs.StepLemmas.{ok_is, text_is, text_self, unless_not, unwanted, wanted}
 
 -- ---- the keys
 

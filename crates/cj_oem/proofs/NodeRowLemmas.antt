@@ -22,11 +22,13 @@ use Rattle.cj_track.specs.declared.vec3.Vec3.{Vec3}
 use Rattle.cj_track.specs.PlainTracks.{PlainNode}
 use Rattle.cj_oem.specs.Grammar.{AreStateSteps, IsNodeRow, IsStateStep, SayStates}
 use Rattle.cj_track.specs.Limits.{IsWithin, MAX_COORDINATE, MAX_RATE, MAX_STEP}
-use Rattle.cj_oem.specs.Metadata.{◌>>=◌, parse_epoch, unless}
+use Rattle.cj_kvn.specs.Faults.{◌>>=◌}
+use Rattle.cj_oem.specs.Metadata.{parse_epoch, unless}
 use Rattle.cj_oem.specs.NodeRows.{field_in, figure_or, figures_in, parse_figure, following, is_decimal, is_decimal_read, state_of_fields, state_of_row, state_said, vector_within, within_or}
 use Rattle.cj_oem.proofs.MetadataLemmas.{epoch_is}
 use Rattle.cj_oem.proofs.StateAgainLemmas.{vector_again}
-use Rattle.cj_oem.proofs.StepLemmas.{bind_ok, ok_is, unless_not, unless_ok, wanted}
+use Rattle.cj_kvn.proofs.FaultLemmas.{bind_ok}
+use Rattle.cj_oem.proofs.StepLemmas.{ok_is, unless_not, unless_ok, wanted}
 
 -- ---- numbers
 

@@ -3,36 +3,36 @@ use Rattle.std.proofs.Common.{◌≡◌, ℕ, ◌+◌, List, [], ◌∷◌, Bool
 use Rattle.cj_kvn.specs.Cursors.{IsFirst, LinesLeft, said_by}
 use Rattle.cj_kvn.specs.Lines.{Form, Numbered, form_at, line_at}
 use Rattle.cj_kvn.specs.Lines as kvn
-use Rattle.cj_kvn.specs.declared.lines.KvnFault.{KvnFault}
-use Rattle.cj_kvn.specs.declared.lines.KvnFault.TheVariants as lines
+use Rattle.cj_kvn.specs.declared.lines.KvnCause.{KvnCause}
+use Rattle.cj_kvn.specs.declared.text_fault.LineFault.{LineFault}
 use Rattle.cj_kvn.specs.declared.lines.Line.{Line}
 use Rattle.cj_kvn.proofs.CursorLemmas.{first_said}
-use Rattle.cj_oem.specs.Answers as answers
-use Rattle.cj_oem.specs.Readers.{Gives, body_of, fault_of, refused_at, stage_of}
-use Rattle.cj_oem.specs.Reading.{Fault, at_line, lines_or, read_on, ◌>>=◌}
+use Rattle.cj_kvn.proofs.FaultLemmas.{told_gives}
+use Rattle.cj_kvn.specs.Faults.{Follows, Gives, IsToldAs, refused_at, at_line, lines_or, ◌>>=◌}
+use Rattle.cj_oem.specs.Readers.{body_of, stage_of}
+use Rattle.cj_oem.specs.Reading.{Fault, read_on}
 use Rattle.cj_oem.specs.Stages.{Body, Stage, follows}
 use Rattle.cj_causes.specs.declared.oem_cause.OemCause.{OemCause}
+use Rattle.cj_causes.specs.declared.oem_cause.OemCause.TheVariants.{Kvn}
 use Rattle.cj_oem.specs.declared.body.Body as program
-use Rattle.cj_oem.specs.declared.fault.OemFault.{OemFault}
-use Rattle.cj_oem.specs.declared.refused.Refused.{Refused}
-use Rattle.cj_oem.specs.declared.refused.Refused.TheVariants.{Memory, Because}
+use Rattle.cj_kvn.specs.declared.text_fault.TextFault.{TextFault}
+use Rattle.cj_kvn.specs.declared.text_fault.Refused.{Refused}
+use Rattle.cj_kvn.specs.declared.text_fault.Refused.TheVariants as refused
 
 abbrev pub Said : Type 0
-Said = Result (List Numbered) KvnFault
+Said = Result (List Numbered) (LineFault KvnCause)
 
 -- where lines lead to from a stage, if each has a form
 abbrev pub led_from : Bool → Stage → ℕ → Said → Result Body Fault
-led_from as_hermite3 stage number said = lines_or said >>= read_on as_hermite3 stage number
+led_from as_hermite3 stage number said = lines_or Kvn said >>= read_on as_hermite3 stage number
 
 abbrev behind_line : Numbered → Said → Said
-behind_line line said = kvn.◌>>=◌ said (λ others. Ok (line ∷ others))
+behind_line line said = said >>= λ others. Ok (line ∷ others)
 
 stage_led : (as_hermite3 : Bool) (stage next : Stage) (number : ℕ) (line : Numbered) (others : Said) → follows as_hermite3 stage line.form ≡ Ok next
     → led_from as_hermite3 stage number (behind_line line others) ≡ led_from as_hermite3 next (line.number + 1) others
 stage_led as_hermite3 stage next number line (Ok ls) h = ap (λ (r : Result Stage OemCause). at_line line.number r >>= λ s. read_on as_hermite3 s (line.number + 1) ls) h
-stage_led as_hermite3 stage next number line (Err lines.Memory) h = refl
-stage_led as_hermite3 stage next number line (Err (lines.NotPrintable k)) h = refl
-stage_led as_hermite3 stage next number line (Err (lines.NoLineForm k)) h = refl
+stage_led as_hermite3 stage next number line (Err e) h = refl
 
 -- the next line leads from a stage to the next
 pub line_followed : (as_hermite3 : Bool) (stage next : Stage) (number : ℕ) (left behind : LinesLeft) (line : Line) (bytes : List ℕ) → IsFirst left line behind → left.bytes ≡ bytes
@@ -49,28 +49,24 @@ stage_ends as_hermite3 stage number line (Ok ls) cause is h = ap (λ (r : Result
 stage_ends as_hermite3 stage number line (Err e) cause is h = absurd cc
 
 -- it is the first with a fault, where each line behind it has a form
-pub line_refused : (as_hermite3 : Bool) (stage : Stage) (number : ℕ) (left behind : LinesLeft) (line : Line) (bytes : List ℕ) (refused : Refused) (fault : OemFault) (said : Result Body Fault)
+pub line_refused : (as_hermite3 : Bool) (stage : Stage) (number : ℕ) (left behind : LinesLeft) (line : Line) (bytes : List ℕ) (why : Refused OemCause) (fault : TextFault OemCause) (said : Result Body Fault)
     → IsFirst left line behind → left.bytes ≡ bytes → IsOk (said_by behind)
-    → answers.Gives stage_of (Err refused) (follows as_hermite3 stage (form_at bytes line.kind)) → fault ≡ refused_at line.number refused
+    → Follows stage_of (Err why) (follows as_hermite3 stage (form_at bytes line.kind)) → fault ≡ refused_at line.number why
     → led_from as_hermite3 stage number (said_by left) ≡ said → Gives body_of (Err fault) said
-line_refused as_hermite3 stage number left behind line bytes Memory fault said is same forms h e whole = subst (λ (f : OemFault). Gives body_of (Err f) said) (sym e) tt
-line_refused as_hermite3 stage number left behind line bytes (Because cause) fault said is same forms h e whole =
+line_refused as_hermite3 stage number left behind line bytes refused.Memory fault said is same forms h e whole = subst (λ (f : TextFault OemCause). Gives body_of (Err f) said) (sym e) tt
+line_refused as_hermite3 stage number left behind line bytes (refused.Because cause) fault said is same forms h e whole =
     let here = ap (λ (b : List ℕ). follows as_hermite3 stage (form_at b line.kind)) same ∙ h in
-    subst (λ (f : OemFault). Gives body_of (Err f) said) (sym e)
+    subst (λ (f : TextFault OemCause). Gives body_of (Err f) said) (sym e)
     (sym whole ∙ ap (led_from as_hermite3 stage number) (first_said left behind line is)
     ∙ stage_ends as_hermite3 stage number (line_at left.bytes line) (said_by behind) cause forms here)
 
 -- a line without a form
-pub form_refused : (as_hermite3 : Bool) (stage : Stage) (number : ℕ) (others : Said) (e : KvnFault) (fault : OemFault) (said : Result Body Fault)
-    → others ≡ Err e → fault ≡ fault_of e → led_from as_hermite3 stage number others ≡ said → Gives body_of (Err fault) said
-form_refused as_hermite3 stage number others lines.Memory fault said h same whole = subst (λ (f : OemFault). Gives body_of (Err f) said) (sym same) tt
-form_refused as_hermite3 stage number others (lines.NotPrintable k) fault said h same whole =
-    subst (λ (f : OemFault). Gives body_of (Err f) said) (sym same) (sym whole ∙ ap (led_from as_hermite3 stage number) h)
-form_refused as_hermite3 stage number others (lines.NoLineForm k) fault said h same whole =
-    subst (λ (f : OemFault). Gives body_of (Err f) said) (sym same) (sym whole ∙ ap (led_from as_hermite3 stage number) h)
+pub form_refused : (as_hermite3 : Bool) (stage : Stage) (number : ℕ) (others : Said) (e : LineFault KvnCause) (fault : TextFault OemCause) (said : Result Body Fault)
+    → others ≡ Err e → IsToldAs (λ cause c. c ≡ Kvn cause) e fault → led_from as_hermite3 stage number others ≡ said → Gives body_of (Err fault) said
+form_refused as_hermite3 stage number others e fault said h told whole = told_gives body_of Kvn said e fault told (sym whole ∙ ap (led_from as_hermite3 stage number) h)
 
 -- one behind the next line
-pub fault_behind : (left behind : LinesLeft) (line : Line) (e : KvnFault) → IsFirst left line behind → said_by behind ≡ Err e → said_by left ≡ Err e
+pub fault_behind : (left behind : LinesLeft) (line : Line) (e : LineFault KvnCause) → IsFirst left line behind → said_by behind ≡ Err e → said_by left ≡ Err e
 fault_behind left behind line e is h = first_said left behind line is ∙ ap (behind_line (line_at left.bytes line)) h
 
 -- no line is left

@@ -1,23 +1,23 @@
 -- What a reader makes of the lines that say something, and how it goes over lines of one kind.
 use Rattle.std.proofs.Common.{◌≡◌, ℕ, ◌+◌, List, [], ◌∷◌, ◌++◌, map, Bool, Option, Some, None, Result, Ok, Err, ap, sym, ◌∙◌, refl}
 use Rattle.std.proofs.lemmas.List.{append_assoc, append-nil, map-append}
-use Rattle.cj_kvn.specs.Lines.{Form, Blank, Comment, Mark, Pair, Row, Numbered}
+use Rattle.cj_kvn.specs.Lines.{Form, Blank, Comment, Mark, Pair, Row, Numbered, telling}
 use Rattle.cj_kvn.proofs.ListLemmas.{last_push}
 use Rattle.cj_causes.specs.declared.oem_cause.OemCause.{OemCause}
 use Rattle.cj_oem.specs.CovarianceRows.{Covariances}
 use Rattle.cj_track.specs.PlainTracks.{PlainSegment, PlainNode}
-use Rattle.cj_oem.specs.Grammar.{Entry, pair_lines, row_lines, telling}
-use Rattle.cj_oem.specs.Metadata.{◌>>=◌, Metadata, MetadataDraft, with_pair}
+use Rattle.cj_oem.specs.Grammar.{Entry, pair_lines, row_lines}
+use Rattle.cj_kvn.specs.Faults.{◌>>=◌, at_line}
+use Rattle.cj_oem.specs.Metadata.{Metadata, MetadataDraft, with_pair}
 use Rattle.cj_oem.specs.NodeRows.{state_of_row}
-use Rattle.cj_oem.specs.Reading as reader
-use Rattle.cj_oem.specs.Reading.{Fault, at_line, read_on}
+use Rattle.cj_oem.specs.Reading.{Fault, read_on}
 use Rattle.cj_oem.specs.Stages.{Body, Head, Stage, Header, Meta, Data, Cov, OpenSegment, end_of, finished, follows, last_state, led, with_head_key}
 use Rattle.cj_oem.proofs.HeaderLemmas.{head_from}
 use Rattle.cj_oem.proofs.MatrixLemmas.{covariances_from, with_line}
 use Rattle.cj_oem.proofs.MetadataLemmas.{sheet_from}
 use Rattle.cj_oem.proofs.NodeRowLemmas.{states_from}
 use Rattle.cj_oem.proofs.StateAgainLemmas.{open_segment}
-use Rattle.cj_oem.proofs.StepLemmas.{bind_ok}
+use Rattle.cj_kvn.proofs.FaultLemmas.{bind_ok}
 
 -- where lines that say something lead from a stage
 abbrev pub run : Bool → Stage → List Form → Result Body OemCause
@@ -36,7 +36,7 @@ at_line_same number (Ok x) = refl
 at_line_same number (Err cause) = refl
 
 bind_same : {A B : Type 0} (number : ℕ) (r : Result A OemCause) (f : A → Result B Fault) (g : A → Result B OemCause) → ((x : A) → without_line (f x) ≡ g x)
-    → without_line (reader.◌>>=◌ (at_line number r) f) ≡ (r >>= g)
+    → without_line (at_line number r >>= f) ≡ (r >>= g)
 bind_same number (Ok x) f g h = h x
 bind_same number (Err cause) f g h = refl
 

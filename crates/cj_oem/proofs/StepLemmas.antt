@@ -5,7 +5,8 @@ use Rattle.std.proofs.lemmas.Bool.{not-false}
 use Rattle.std.specs.Cmp.Lexicographic.{bytes_decides}
 use Rattle.cj_causes.specs.declared.oem_cause.OemCause.{OemCause}
 use Rattle.cj_oem.specs.Words.{is_text}
-use Rattle.cj_oem.specs.Metadata.{◌>>=◌, unless}
+use Rattle.cj_kvn.specs.Faults.{◌>>=◌}
+use Rattle.cj_oem.specs.Metadata.{unless}
 
 -- ---- what holds of what is found
 
@@ -19,11 +20,7 @@ if_ok_cond P false r s h g = g
 
 -- ---- the way that was gone
 
-pub bind_ok : {A B : Type 0} (r : Result A OemCause) (f : A → Result B OemCause) (y : B) → (r >>= f) ≡ Ok y → (x : A) × (r ≡ Ok x) × (f x ≡ Ok y)
-bind_ok (Ok x) f y e = (x, refl, e)
-bind_ok (Err c) f y e = absurd cc
-
--- the same of a step with what is made of its value, and then another
+-- a step with what is made of its value, and then another
 pub bind_into : {A B C : Type 0} (r : Result A OemCause) (c : A → B) (f : B → Result C OemCause) (y : C) → ((r >>= λ x. Ok (c x)) >>= f) ≡ Ok y
     → (x : A) × (r ≡ Ok x) × (f (c x) ≡ Ok y)
 bind_into (Ok x) c f y e = (x, refl, e)

@@ -2,8 +2,8 @@
 use Rattle.std.proofs.Common.{◌≡◌, ℕ, ◌+◌, List, [], ◌∷◌, ◌++◌, false, ap, ◌∙◌, refl, Result, Ok, Err}
 use Rattle.cj_kvn.specs.Lines.{Form}
 use Rattle.cj_causes.specs.declared.oem_cause.OemCause.{OemCause}
-use Rattle.cj_oem.specs.Metadata.{◌>>=◌}
-use Rattle.cj_oem.specs.Reading.{at_line, read_on}
+use Rattle.cj_kvn.specs.Faults.{◌>>=◌, at_line}
+use Rattle.cj_oem.specs.Reading.{read_on}
 use Rattle.cj_oem.specs.Stages.{Body, Stage, finished, follows}
 use Rattle.cj_oem.proofs.PrintedLineLemmas.{numbered_from}
 

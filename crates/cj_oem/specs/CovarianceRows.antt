@@ -8,7 +8,8 @@ use Rattle.cj_causes.specs.declared.oem_cause.OemCause.{OemCause}
 use Rattle.cj_causes.specs.declared.oem_cause.OemCause.TheVariants as causes
 use Rattle.cj_oem.specs.Words.{is_text, is_word}
 use Rattle.cj_track.specs.PlainTracks.{PlainMatrix}
-use Rattle.cj_oem.specs.Metadata.{◌>>=◌, unless, parse_epoch}
+use Rattle.cj_kvn.specs.Faults.{◌>>=◌}
+use Rattle.cj_oem.specs.Metadata.{unless, parse_epoch}
 
 -- a matrix so far: its epoch, whether its frame was given and is RTN, how many rows were read, their values
 pub record Draft : Type 0 where

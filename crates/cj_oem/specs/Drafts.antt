@@ -5,7 +5,7 @@ use Rattle.cj_causes.specs.declared.oem_cause.OemCause.{OemCause}
 use Rattle.cj_oem.specs.declared.draft.Draft as kept_draft
 use Rattle.cj_oem.specs.declared.covariances.Covariances as kept_covariances
 use Rattle.cj_oem.specs.CovarianceRows.{Draft, Covariances}
-use Rattle.cj_oem.specs.Metadata.{◌>>=◌}
+use Rattle.cj_kvn.specs.Faults.{◌>>=◌}
 use Rattle.cj_track.specs.Tracks.{plain_matrix}
 
 -- how many values the first rows of a lower triangle have

@@ -2,7 +2,7 @@
 use Rattle.std.specs.Prelude.{◌≡◌, ◌≢◌, ℕ, ◌+◌, ◌<◌, ◌≤◌, ◌⊎◌, Bool, true, false, List, [], ◌∷◌, ◌++◌}
 use Rattle.std.specs.Prelude.{map, flat_map, drop, length, All, AllPairs, Any, Contains, ℤ, Option, Some, None, Ok, IsSomeAnd, IsOk, codes}
 use Rattle.cj_values.specs.Bytes.{spaced}
-use Rattle.cj_kvn.specs.Lines.{Form, Blank, Comment, Mark, Pair, Row, Numbered}
+use Rattle.cj_kvn.specs.Lines.{Form, Mark, Pair, Row, Numbered, telling}
 use Rattle.cj_kvn.specs.Lines as kvn
 use Rattle.cj_kvn.specs.declared.lines.MarkKind.TheVariants.{MetaStart, MetaStop, CovarianceStart, CovarianceStop}
 use Rattle.cj_kvn.specs.Fields.{fields}
@@ -21,18 +21,6 @@ use Rattle.cj_oem.specs.NodeRows.{field_in}
 pub record Entry : Type 0 where
   pub key : List ℕ
   pub value : List ℕ
-
--- the lines that say something: neither blank nor a comment
-abbrev pub telling : List Numbered → List Form
-telling [] = []
-telling (line ∷ lines) = with_form line.form (telling lines)
-  where
-    with_form : Form → List Form → List Form
-    with_form Blank rest = rest
-    with_form Comment rest = rest
-    with_form (Mark mark) rest = Mark mark ∷ rest
-    with_form (Pair key value) rest = Pair key value ∷ rest
-    with_form (Row text) rest = Row text ∷ rest
 
 -- lines of keys with their values
 abbrev pub pair_lines : List Entry → List Form

@@ -1,6 +1,7 @@
 -- The metadata of a segment, key by key.
 use Rattle.std.specs.Prelude.{ℕ, Bool, true, false, ◌&&◌, ◌||◌, not, ◌==◌, if◌then◌else◌, List, length, map, Option, Some, None, is_some, unwrap_or, Result, Ok, Err, codes}
 use Rattle.cj_values.specs.Bytes.{spaced}
+use Rattle.cj_kvn.specs.Faults.{◌>>=◌}
 use Rattle.cj_epoch.specs.Reading.{reading_of}
 use Rattle.cj_epoch.specs.declared.fault.EpochFault.{EpochFault}
 use Rattle.cj_track.specs.declared.frame.Frame.{Frame}
@@ -10,12 +11,6 @@ use Rattle.cj_oem.specs.declared.key.Key.TheVariants as keys
 use Rattle.cj_causes.specs.declared.oem_cause.OemCause.{OemCause}
 use Rattle.cj_causes.specs.declared.oem_cause.OemCause.TheVariants as causes
 use Rattle.cj_oem.specs.Words.{is_text, is_word}
-
--- one step after another, up to the first cause
-infixl 10 ◌>>=◌
-abbrev pub ◌>>=◌ : {A B : Type 0} → Result A OemCause → (A → Result B OemCause) → Result B OemCause
-(Ok x) >>= f = f x
-(Err e) >>= f = Err e
 
 -- only where the test holds
 abbrev pub unless : Bool → OemCause → Result (Unit {0}) OemCause

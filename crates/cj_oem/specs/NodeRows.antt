@@ -14,7 +14,8 @@ use Rattle.cj_causes.specs.declared.oem_cause.OemCause.TheVariants as causes
 use Rattle.cj_oem.specs.declared.figures.Figures.{Figures}
 use Rattle.cj_track.specs.Limits.{MAX_COORDINATE, MAX_RATE, MAX_STEP}
 use Rattle.cj_track.specs.PlainTracks.{PlainNode}
-use Rattle.cj_oem.specs.Metadata.{◌>>=◌, unless, parse_epoch}
+use Rattle.cj_kvn.specs.Faults.{◌>>=◌}
+use Rattle.cj_oem.specs.Metadata.{unless, parse_epoch}
 
 -- a number in units of 10 ^ -12; none where it is past every range
 abbrev pub figure_or : Result ℤ NumFault → Result (Option ℤ) OemCause

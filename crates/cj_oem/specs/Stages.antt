@@ -8,7 +8,8 @@ use Rattle.cj_causes.specs.declared.oem_cause.OemCause.TheVariants as causes
 use Rattle.cj_oem.specs.Words.{is_text}
 use Rattle.cj_track.specs.PlainTracks.{PlainNode, PlainSegment, PlainMatrix}
 pub use Rattle.cj_track.specs.PlainTracks.{first_state, last_state}
-use Rattle.cj_oem.specs.Metadata.{◌>>=◌, unless, Object, MetadataDraft, EMPTY, Metadata, with_pair, metadata_of}
+use Rattle.cj_kvn.specs.Faults.{◌>>=◌}
+use Rattle.cj_oem.specs.Metadata.{unless, Object, MetadataDraft, EMPTY, Metadata, with_pair, metadata_of}
 use Rattle.cj_oem.specs.NodeRows.{state_of_row}
 use Rattle.cj_oem.specs.CovarianceRows.{Covariances, NO_COVARIANCES, closed, with_matrix_pair, with_matrix_row}
 

@@ -23,7 +23,7 @@ pub(crate) struct CompleteNodes {
 
 impl CompleteNodes {
     ghost use Rattle.std.specs.Prelude.{IfOk};
-    ghost use Rattle.cj_oem.specs.Answers.{Tells};
+    ghost use Rattle.cj_kvn.specs.Faults.{Tells};
     ghost use Rattle.cj_oem.specs.Readers.{body_of, open_segment_of};
     ghost use Rattle.cj_track.specs.Tracks.{plain_matrix};
 

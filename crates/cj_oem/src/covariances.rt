@@ -1,13 +1,12 @@
 //! The covariances of a segment, as they are read.
 ghost use Rattle.std.specs.Prelude.{◌≡◌, ◌^◌, ◌<◌, length, map};
 ghost use Rattle.cj_kvn.specs.Ranges.{IsWithin, text_at};
-ghost use Rattle.cj_oem.specs.Answers.{Gives, Tells};
+ghost use Rattle.cj_kvn.specs.Faults.{Follows, Tells};
 
 use crate::draft::Draft;
-use crate::refused::Refused;
 use crate::word::parse_epoch;
 use cj_causes::OemCause;
-use cj_kvn::Range32;
+use cj_kvn::{Range32, Refused};
 use cj_track::Matrix;
 use std::alloc::Global;
 
@@ -34,8 +33,8 @@ impl Covariances {
 
     /// Follows a pair: the epoch of a matrix, or its frame.
     #[tactic(auto, unfolding(crate::specs::CovarianceRows::with_matrix_pair))]
-    pub(crate) fn pair(&mut self, key: &[u8], value: &[u8]) -> Result<(), Refused>
-        ensures { Gives (λ _. covariances_of self.new) result (spec.with_matrix_pair (covariances_of self.old) key.now value.now) }
+    pub(crate) fn pair(&mut self, key: &[u8], value: &[u8]) -> Result<(), Refused<OemCause>>
+        ensures { Follows (λ _. covariances_of self.new) result (spec.with_matrix_pair (covariances_of self.old) key.now value.now) }
     {
         if key == b"EPOCH".as_slice() {
             self.begin(value)
@@ -60,8 +59,8 @@ impl Covariances {
     }
 
     /// The covariances in the frame RTN, where the last one is whole, without room for others.
-    pub(crate) fn close(self) -> Result<Vec<Matrix>, Refused>
-        ensures { Gives (λ v. map plain_matrix v.items) result (spec.closed (covariances_of self)) }
+    pub(crate) fn close(self) -> Result<Vec<Matrix>, Refused<OemCause>>
+        ensures { Follows (λ v. map plain_matrix v.items) result (spec.closed (covariances_of self)) }
     {
         let mut covariances = self;
         covariances.finish()?;
@@ -75,8 +74,8 @@ impl Covariances {
 
     /// Puts the matrix that was read to the others, where its frame is RTN.
     #[tactic(auto, unfolding(crate::specs::CovarianceRows::closed))]
-    fn finish(&mut self) -> Result<(), Refused>
-        ensures { Gives (λ _. map plain_matrix self.new.whole.items) result (spec.closed (covariances_of self.old)) }
+    fn finish(&mut self) -> Result<(), Refused<OemCause>>
+        ensures { Follows (λ _. map plain_matrix self.new.whole.items) result (spec.closed (covariances_of self.old)) }
     {
         let Some(draft) = self.draft else {
             return Ok(());
@@ -91,8 +90,8 @@ impl Covariances {
     }
 
     /// Begins the next matrix.
-    fn begin(&mut self, value: &[u8]) -> Result<(), Refused>
-        ensures { Gives (λ _. covariances_of self.new) result (spec.with_epoch (covariances_of self.old) value.now) }
+    fn begin(&mut self, value: &[u8]) -> Result<(), Refused<OemCause>>
+        ensures { Follows (λ _. covariances_of self.new) result (spec.with_epoch (covariances_of self.old) value.now) }
     {
         self.finish()?;
         let at = parse_epoch(value)?;

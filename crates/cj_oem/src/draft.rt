@@ -29,7 +29,7 @@ impl Draft {
     ghost use Rattle.std.specs.Prelude.{◌≡◌, ◌^◌, ◌<◌, length, Some};
     ghost use Rattle.cj_kvn.specs.Fields.{fields};
     ghost use Rattle.cj_kvn.specs.Ranges.{IsWithin, text_at};
-    ghost use Rattle.cj_oem.specs.Answers.{Tells};
+    ghost use Rattle.cj_kvn.specs.Faults.{Tells};
     ghost use Rattle.cj_oem.specs.CovarianceRows as spec;
     ghost use Rattle.cj_oem.specs.Drafts.{begun, draft_of};
     ghost use Rattle.cj_track.specs.Tracks.{plain_matrix};
@@ -103,7 +103,7 @@ impl Draft {
 ghost use Rattle.std.specs.Prelude.{◌^◌, ◌<◌, length, map, IfOk};
 ghost use Rattle.cj_kvn.specs.Fields.{fields};
 ghost use Rattle.cj_kvn.specs.Ranges.{IsWithin, text_at};
-ghost use Rattle.cj_oem.specs.Answers.{Tells};
+ghost use Rattle.cj_kvn.specs.Faults.{Tells};
 ghost use Rattle.cj_oem.specs.CovarianceRows.{numbers_said};
 
 /// Writes the numbers of a row, which has as many fields as there are places.

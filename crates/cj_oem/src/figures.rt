@@ -2,7 +2,7 @@
 ghost use Rattle.std.specs.Prelude.{◌≡◌, ◌^◌, ◌<◌, ◌≤◌, length, IfOk};
 ghost use Rattle.cj_values.specs.Decimals.{IsReadable, number_of};
 ghost use Rattle.cj_kvn.specs.Decimals.{decimal_of};
-ghost use Rattle.cj_oem.specs.Answers.{Tells};
+ghost use Rattle.cj_kvn.specs.Faults.{Tells};
 ghost use Rattle.cj_oem.specs.CovarianceRows.{number_or};
 ghost use Rattle.cj_track.specs.Limits.{IsWithin};
 ghost use Rattle.cj_oem.specs.NodeRows as spec;

@@ -1,6 +1,6 @@
 //! The header of a file.
 ghost use Rattle.std.specs.Prelude.{◌≡◌};
-ghost use Rattle.cj_oem.specs.Answers.{Tells};
+ghost use Rattle.cj_kvn.specs.Faults.{Tells};
 ghost use Rattle.cj_oem.specs.Readers.{head_of};
 ghost use Rattle.cj_oem.specs.Stages as spec;
 

@@ -17,7 +17,6 @@ mod node_row;
 mod object;
 mod printing;
 mod reader;
-mod refused;
 mod row_fields;
 mod segment_list;
 mod segment_metadata;

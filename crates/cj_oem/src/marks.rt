@@ -1,6 +1,6 @@
 //! What marks lead to, stage by stage.
 ghost use Rattle.cj_kvn.specs.Lines.{Mark};
-ghost use Rattle.cj_oem.specs.Answers.{Gives};
+ghost use Rattle.cj_kvn.specs.Faults.{Follows};
 ghost use Rattle.cj_oem.specs.Drafts.{covariances_of};
 ghost use Rattle.cj_oem.specs.MetadataDrafts.{metadata_draft_of};
 ghost use Rattle.cj_oem.specs.Readers.{body_of, head_of, open_segment_of, stage_of};
@@ -11,15 +11,18 @@ use crate::complete_nodes::CompleteNodes;
 use crate::covariances::Covariances;
 use crate::head::Head;
 use crate::metadata_draft::MetadataDraft;
-use crate::refused::Refused;
 use crate::stage::Stage;
 use cj_causes::OemCause;
-use cj_kvn::MarkKind;
+use cj_kvn::{MarkKind, Refused};
 use std::alloc::Global;
 
 /// What a mark behind the header leads to.
-pub(crate) fn after_header(alloc: Global, head: Head, mark: MarkKind) -> Result<Stage, Refused>
-    ensures { Gives stage_of result (spec.in_header (head_of head) (Mark mark)) }
+pub(crate) fn after_header(
+    alloc: Global,
+    head: Head,
+    mark: MarkKind,
+) -> Result<Stage, Refused<OemCause>>
+    ensures { Follows stage_of result (spec.in_header (head_of head) (Mark mark)) }
 {
     match mark {
         MarkKind::MetaStart if head.date && head.originator => {
@@ -37,8 +40,8 @@ pub(crate) fn after_metadata(
     draft: MetadataDraft,
     mark: MarkKind,
     as_hermite3: bool,
-) -> Result<Stage, Refused>
-    ensures { Gives stage_of result (spec.in_meta as_hermite3 (body_of body) (metadata_draft_of draft) (Mark mark)) }
+) -> Result<Stage, Refused<OemCause>>
+    ensures { Follows stage_of result (spec.in_meta as_hermite3 (body_of body) (metadata_draft_of draft) (Mark mark)) }
 {
     match mark {
         MarkKind::MetaStop => match draft.metadata(as_hermite3) {
@@ -62,8 +65,8 @@ pub(crate) fn after_nodes(
     body: Body,
     open_segment: OpenSegment,
     mark: MarkKind,
-) -> Result<Stage, Refused>
-    ensures { Gives stage_of result (spec.in_data (body_of body) (open_segment_of open_segment) (Mark mark)) }
+) -> Result<Stage, Refused<OemCause>>
+    ensures { Follows stage_of result (spec.in_data (body_of body) (open_segment_of open_segment) (Mark mark)) }
 {
     match mark {
         MarkKind::MetaStart => {
@@ -87,8 +90,8 @@ pub(crate) fn after_covariances(
     closed: CompleteNodes,
     covariances: Covariances,
     mark: MarkKind,
-) -> Result<Stage, Refused>
-    ensures { Gives stage_of result (spec.in_cov (body_of closed.body) (open_segment_of closed.open_segment) (covariances_of covariances) (Mark mark)) }
+) -> Result<Stage, Refused<OemCause>>
+    ensures { Follows stage_of result (spec.in_cov (body_of closed.body) (open_segment_of closed.open_segment) (covariances_of covariances) (Mark mark)) }
 {
     match mark {
         MarkKind::CovarianceStop => match covariances.close() {
@@ -107,8 +110,8 @@ pub(crate) fn after_covariances(
 }
 
 /// What a mark behind a segment with covariances leads to.
-pub(crate) fn after_segment(body: Body, mark: MarkKind) -> Result<Stage, Refused>
-    ensures { Gives stage_of result (spec.in_after (body_of body) (Mark mark)) }
+pub(crate) fn after_segment(body: Body, mark: MarkKind) -> Result<Stage, Refused<OemCause>>
+    ensures { Follows stage_of result (spec.in_after (body_of body) (Mark mark)) }
 {
     match mark {
         MarkKind::MetaStart => Ok(Stage::Meta(body, MetadataDraft::new())),

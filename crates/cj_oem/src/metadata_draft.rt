@@ -5,11 +5,11 @@ ghost use Rattle.cj_track.specs.Labels.{is_label};
 
 use crate::key::{Key, key_of};
 use crate::object::Object;
-use crate::refused::Refused;
 use crate::segment_metadata::Metadata;
 use crate::values::{frame_of, id_of, name_of, parse_frame, parse_label};
 use crate::word::{is_word, parse_epoch};
 use cj_causes::OemCause;
+use cj_kvn::Refused;
 use cj_ticks::Tick;
 use cj_track::Frame;
 use cj_values::Text;
@@ -39,7 +39,7 @@ pub(crate) struct MetadataDraft {
 impl MetadataDraft {
     ghost use Rattle.std.specs.Prelude.{◌≡◌, IfOk, is_some, true};
     ghost use Rattle.std.specs.Option.{option_copied, option_map};
-    ghost use Rattle.cj_oem.specs.Answers.{Gives, Tells};
+    ghost use Rattle.cj_kvn.specs.Faults.{Follows, Tells};
     ghost use Rattle.cj_oem.specs.Metadata as spec;
     ghost use Rattle.cj_oem.specs.MetadataDrafts.{IsLabelled, object_of, metadata_of, metadata_draft_of, metadata_with};
 
@@ -71,9 +71,9 @@ impl MetadataDraft {
         first: Option<&Object>,
         key: &[u8],
         value: &[u8],
-    ) -> Result<(), Refused>
+    ) -> Result<(), Refused<OemCause>>
         requires { IsLabelled value.now }
-        ensures { Gives (λ _. metadata_draft_of self.new) result (spec.with_pair (option_map object_of (option_copied first.entry)) (metadata_draft_of self.old) key.now value.now) }
+        ensures { Follows (λ _. metadata_draft_of self.new) result (spec.with_pair (option_map object_of (option_copied first.entry)) (metadata_draft_of self.old) key.now value.now) }
     {
         match key_of(key) {
             None => Err(Refused::Because(OemCause::Unknown)),
@@ -87,9 +87,9 @@ impl MetadataDraft {
         first: Option<&Object>,
         key: Key,
         value: &[u8],
-    ) -> Result<(), Refused>
+    ) -> Result<(), Refused<OemCause>>
         requires { IsLabelled value.now }
-        ensures { Gives (λ _. metadata_draft_of self.new) result (spec.with_key (option_map object_of (option_copied first.entry)) (metadata_draft_of self.old) (Some key) value.now) }
+        ensures { Follows (λ _. metadata_draft_of self.new) result (spec.with_key (option_map object_of (option_copied first.entry)) (metadata_draft_of self.old) (Some key) value.now) }
     {
         if self.is_given(key) {
             return Err(Refused::Because(OemCause::Twice));
@@ -125,9 +125,9 @@ impl MetadataDraft {
         first: Option<&Object>,
         key: Key,
         value: &[u8],
-    ) -> Result<(), Refused>
+    ) -> Result<(), Refused<OemCause>>
         requires { IsLabelled value.now }
-        ensures { Gives (λ _. metadata_draft_of self.new) result (spec.with_value (option_map object_of (option_copied first.entry)) (metadata_draft_of self.old) key value.now) }
+        ensures { Follows (λ _. metadata_draft_of self.new) result (spec.with_value (option_map object_of (option_copied first.entry)) (metadata_draft_of self.old) key value.now) }
     {
         match key {
             Key::ObjectName => self.name = Some(parse_label(alloc, name_of(first), value)?),

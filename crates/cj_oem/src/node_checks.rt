@@ -1,6 +1,6 @@
 //! Whether the nodes of a segment may be closed.
 ghost use Rattle.std.specs.Prelude.{◌≡◌, ◌≤◌, true, length, map, IfOk};
-ghost use Rattle.cj_oem.specs.Answers.{Tells};
+ghost use Rattle.cj_kvn.specs.Faults.{Tells};
 ghost use Rattle.cj_oem.specs.Readers.{body_of, open_segment_of};
 ghost use Rattle.cj_oem.specs.Stages as spec;
 ghost use Rattle.cj_track.specs.Tracks.{plain_segment, plain_node};

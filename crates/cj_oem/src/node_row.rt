@@ -3,7 +3,7 @@ ghost use Rattle.std.specs.Prelude.{◌≡◌, ◌==◌, ◌||◌, ◌^◌, ◌<
 ghost use Rattle.std.specs.List.{list_all};
 ghost use Rattle.cj_kvn.specs.Fields.{fields, texts_of};
 ghost use Rattle.cj_kvn.specs.Ranges.{IsWithin, text_at};
-ghost use Rattle.cj_oem.specs.Answers.{Tells};
+ghost use Rattle.cj_kvn.specs.Faults.{Tells};
 ghost use Rattle.cj_track.specs.Limits as limits;
 ghost use Rattle.cj_oem.specs.Metadata.{unless};
 ghost use Rattle.cj_oem.specs.NodeRows as spec;

@@ -6,7 +6,8 @@ ghost use Rattle.cj_track.specs.PlainTracks.{PlainTrack};
 ghost use Rattle.cj_oem.specs.Grammar.{Says};
 ghost use Rattle.cj_track.specs.Labels as labels;
 ghost use Rattle.cj_oem.specs.Reading as spec;
-ghost use Rattle.cj_oem.specs.Readers.{Gives, body_of};
+ghost use Rattle.cj_kvn.specs.Faults.{Gives};
+ghost use Rattle.cj_oem.specs.Readers.{body_of};
 ghost use Rattle.cj_track.specs.Segments.{node_count};
 ghost use Rattle.cj_track.specs.Tracks.{plain_track};
 

@@ -2,7 +2,7 @@
 ghost use Rattle.std.specs.Prelude.{◌≡◌, ◌^◌, ◌<◌, Bool, length};
 ghost use Rattle.cj_kvn.specs.Lines.{KindIsWithin, Mark, Pair, Row, form_at};
 ghost use Rattle.cj_kvn.specs.Ranges.{IsWithin, text_at};
-ghost use Rattle.cj_oem.specs.Answers.{Gives, Tells};
+ghost use Rattle.cj_kvn.specs.Faults.{Follows, Tells};
 ghost use Rattle.cj_oem.specs.Readers.{body_of, stage_of};
 ghost use Rattle.cj_oem.specs.MetadataDrafts.{HasLabel, IsLabelled};
 ghost use Rattle.cj_oem.specs.Stages as spec;
@@ -14,9 +14,8 @@ use crate::head::Head;
 use crate::marks::{after_covariances, after_header, after_metadata, after_nodes, after_segment};
 use crate::metadata_draft::MetadataDraft;
 use crate::node_row::node_of_row;
-use crate::refused::Refused;
 use cj_causes::OemCause;
-use cj_kvn::{LineKind, MarkKind, Range32};
+use cj_kvn::{LineKind, MarkKind, Range32, Refused};
 use std::alloc::Global;
 use std::mem;
 
@@ -43,11 +42,11 @@ impl Stage {
         bytes: &[u8],
         line: LineKind,
         as_hermite3: bool,
-    ) -> Result<(), Refused>
+    ) -> Result<(), Refused<OemCause>>
         requires within { KindIsWithin bytes.now line }
         requires short { length bytes.now < 2 ^ 32 }
         requires label { HasLabel (form_at bytes.now line) }
-        ensures { Gives (λ _. stage_of self.new) result (spec.follows as_hermite3 (stage_of self.old) (form_at bytes.now line)) }
+        ensures { Follows (λ _. stage_of self.new) result (spec.follows as_hermite3 (stage_of self.old) (form_at bytes.now line)) }
     {
         match line {
             LineKind::Blank | LineKind::Comment => Ok(()),
@@ -65,10 +64,10 @@ impl Stage {
     }
 
     /// Takes a row of a node or of a covariance.
-    fn take_row(&mut self, bytes: &[u8], text: Range32) -> Result<(), Refused>
+    fn take_row(&mut self, bytes: &[u8], text: Range32) -> Result<(), Refused<OemCause>>
         requires within { IsWithin bytes.now text }
         requires short { length bytes.now < 2 ^ 32 }
-        ensures { (as_hermite3 : Bool) → Gives (λ _. stage_of self.new) result (spec.led as_hermite3 (stage_of self.old) (Row (text_at bytes.now text))) }
+        ensures { (as_hermite3 : Bool) → Follows (λ _. stage_of self.new) result (spec.led as_hermite3 (stage_of self.old) (Row (text_at bytes.now text))) }
     {
         match self {
             Stage::Data(_, open_segment) => {
@@ -85,9 +84,14 @@ impl Stage {
     }
 
     /// Takes a key with its value: the first line is one.
-    fn take_pair(&mut self, alloc: Global, key: &[u8], value: &[u8]) -> Result<(), Refused>
+    fn take_pair(
+        &mut self,
+        alloc: Global,
+        key: &[u8],
+        value: &[u8],
+    ) -> Result<(), Refused<OemCause>>
         requires { IsLabelled value.now }
-        ensures { (as_hermite3 : Bool) → Gives (λ _. stage_of self.new) result (spec.led as_hermite3 (stage_of self.old) (Pair key.now value.now)) }
+        ensures { (as_hermite3 : Bool) → Follows (λ _. stage_of self.new) result (spec.led as_hermite3 (stage_of self.old) (Pair key.now value.now)) }
     {
         match self {
             Stage::Start => {
@@ -106,8 +110,13 @@ impl Stage {
     }
 
     /// What a mark leads to.
-    fn marked(self, alloc: Global, mark: MarkKind, as_hermite3: bool) -> Result<Stage, Refused>
-        ensures { Gives stage_of result (spec.led as_hermite3 (stage_of self) (Mark mark)) }
+    fn marked(
+        self,
+        alloc: Global,
+        mark: MarkKind,
+        as_hermite3: bool,
+    ) -> Result<Stage, Refused<OemCause>>
+        ensures { Follows stage_of result (spec.led as_hermite3 (stage_of self) (Mark mark)) }
     {
         match self {
             Stage::Start => Err(Refused::Because(OemCause::Order)),
@@ -121,8 +130,8 @@ impl Stage {
 
     /// What the end of the file leads to.
     #[tactic(auto, unfolding(crate::specs::Stages::finished))]
-    pub(crate) fn finish(self, alloc: Global) -> Result<Body, Refused>
-        ensures { Gives body_of result (spec.finished (stage_of self)) }
+    pub(crate) fn finish(self, alloc: Global) -> Result<Body, Refused<OemCause>>
+        ensures { Follows body_of result (spec.finished (stage_of self)) }
     {
         match self {
             Stage::Data(body, open_segment) => {

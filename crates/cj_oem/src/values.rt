@@ -1,15 +1,15 @@
 //! What the values of metadata say.
 ghost use Rattle.std.specs.Prelude.{◌≡◌, true, IfOk};
 ghost use Rattle.std.specs.Option.{option_copied, option_map};
-ghost use Rattle.cj_oem.specs.Answers.{Gives, Tells};
+ghost use Rattle.cj_kvn.specs.Faults.{Follows, Tells};
 ghost use Rattle.cj_track.specs.Labels.{is_label};
 ghost use Rattle.cj_oem.specs.Metadata as spec;
 ghost use Rattle.cj_oem.specs.MetadataDrafts.{IsLabelled, object_of};
 
 use crate::object::Object;
-use crate::refused::Refused;
 use crate::word::is_word;
 use cj_causes::OemCause;
+use cj_kvn::Refused;
 use cj_track::Frame;
 use cj_values::Text;
 use std::alloc::Global;
@@ -19,9 +19,9 @@ pub(crate) fn parse_label(
     alloc: Global,
     first: Option<&Text>,
     value: &[u8],
-) -> Result<Text, Refused>
+) -> Result<Text, Refused<OemCause>>
     requires { IsLabelled value.now }
-    ensures exact { Gives (λ text. text) result (spec.parse_label (option_copied first.entry) value.now) }
+    ensures exact { Follows (λ text. text) result (spec.parse_label (option_copied first.entry) value.now) }
     ensures label { IfOk result (λ text. is_label text ≡ true) }
 {
     if value.is_empty() {

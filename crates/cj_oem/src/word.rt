@@ -1,6 +1,6 @@
 //! Words and epochs of values.
 ghost use Rattle.std.specs.Prelude.{◌≡◌, ◌^◌, ◌<◌, length};
-ghost use Rattle.cj_oem.specs.Answers.{Tells};
+ghost use Rattle.cj_kvn.specs.Faults.{Tells};
 ghost use Rattle.cj_oem.specs.Words as words;
 ghost use Rattle.cj_oem.specs.Metadata as spec;
 

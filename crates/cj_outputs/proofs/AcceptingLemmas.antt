@@ -4,8 +4,7 @@ use Rattle.cj_io.specs.declared.file.FileBytes.{FileBytes}
 use Rattle.cj_hermite.specs.PlainProblems.{PlainProblem}
 use Rattle.cj_cert.specs.Certificates.{PlainCertificate}
 use Rattle.cj_cert_text.specs.Reading.{reading}
-use Rattle.cj_checker.specs.declared.failure.Failure.{Failure}
-use Rattle.cj_checker.specs.First.{first_failure}
+use Rattle.cj_checker.specs.First.{first_failure, Failure}
 use Rattle.cj_inputs.specs.CheckInputs.{PlainInputs}
 use Rattle.cj_inputs.proofs.StepLemmas.{stops_wider}
 use Rattle.cj_status.specs.declared.status.Status.{Status}

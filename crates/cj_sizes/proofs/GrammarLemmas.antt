@@ -4,20 +4,21 @@ use Rattle.std.specs.List.{AllZip, IsDistinct}
 use Rattle.std.specs.Bool.{nat_le}
 use Rattle.std.proofs.lemmas.Bool.{leb-true, le-leb}
 use Rattle.cj_kvn.specs.Fields.{fields}
-use Rattle.cj_kvn.specs.Lines.{Form, Blank, Comment, Mark, Pair, Row, Numbered}
+use Rattle.cj_kvn.specs.Lines.{Form, Blank, Comment, Mark, Pair, Row, Numbered, tells, telling}
 use Rattle.cj_kvn.specs.Lines as kvn
 use Rattle.cj_kvn.specs.Numbers.{scaled_of}
-use Rattle.cj_kvn.specs.declared.lines.KvnFault.{KvnFault}
-use Rattle.cj_kvn.specs.declared.lines.KvnFault.TheVariants as faults
+use Rattle.cj_kvn.specs.declared.lines.KvnCause.{KvnCause}
+use Rattle.cj_kvn.specs.declared.text_fault.LineFault.{LineFault}
 use Rattle.cj_kvn.specs.declared.numbers.NumFault.{NumFault}
 use Rattle.cj_kvn.specs.declared.numbers.NumFault.TheVariants.{NotNumber, TooLarge}
-use Rattle.cj_sizes.specs.Grammar.{IsRadius, IsRow, Says, tells, telling}
+use Rattle.cj_sizes.specs.Grammar.{IsRadius, IsRow, Says}
 use Rattle.cj_sizes.specs.Limits.{MAX_RADIUS}
-use Rattle.cj_sizes.specs.Reading.{and_then, at_line, is_named, lines_or, reading, with_line, with_lines, with_size}
-use Rattle.cj_sizes.specs.Rows.{◌>>=◌, radius_or, radius_said, size_of_fields, size_of_row}
+use Rattle.cj_kvn.specs.Faults.{◌>>=◌, at_line, lines_or}
+use Rattle.cj_sizes.specs.Reading.{is_named, reading, with_line, with_lines, with_size}
+use Rattle.cj_sizes.specs.Rows.{radius_or, radius_said, size_of_fields, size_of_row}
 use Rattle.cj_sizes.specs.Sizes.{Size, ids_of}
 use Rattle.cj_causes.specs.declared.sizes_cause.SizesCause.{SizesCause}
-use Rattle.cj_causes.specs.declared.sizes_cause.SizesCause.TheVariants.{Range, Twice}
+use Rattle.cj_causes.specs.declared.sizes_cause.SizesCause.TheVariants.{Kvn, Range, Twice}
 use Rattle.cj_sizes.proofs.DraftLemmas.{distinct_more, not_named}
 
 -- ---- rows
@@ -95,7 +96,7 @@ record Add (before : List Size) (lines : List Form) (all : List Size) : Type 0 w
 
 -- a line, given what the lines behind it say
 line_adds : (before all : List Size) (number : ℕ) (form : Form) (lines : List Numbered) → IsDistinct bytes_eq (ids_of before)
-    → (next : Result (List Size) SizesCause) → with_line before form ≡ next → and_then (at_line number next) (λ sizes. with_lines sizes lines) ≡ Ok all
+    → (next : Result (List Size) SizesCause) → with_line before form ≡ next → at_line number next >>= (λ sizes. with_lines sizes lines) ≡ Ok all
     → ((sizes : List Size) → IsDistinct bytes_eq (ids_of sizes) → with_lines sizes lines ≡ Ok all → Add sizes (telling lines) all)
     → Add before (cond (tells form) (form ∷ telling lines) (telling lines)) all
 unfolding with_line
@@ -125,7 +126,7 @@ lines_add before all (line ∷ lines) once e = line_adds before all line.number 
 -- the way back
 line_again : (before more : List Size) (number : ℕ) (form : Form) (lines : List Numbered) → AllZip IsRow (cond (tells form) (form ∷ telling lines) (telling lines)) more → IsDistinct bytes_eq (ids_of (before ++ more))
     → ((sizes others : List Size) → AllZip IsRow (telling lines) others → IsDistinct bytes_eq (ids_of (sizes ++ others)) → with_lines sizes lines ≡ Ok (sizes ++ others))
-    → and_then (at_line number (with_line before form)) (λ sizes. with_lines sizes lines) ≡ Ok (before ++ more)
+    → at_line number (with_line before form) >>= (λ sizes. with_lines sizes lines) ≡ Ok (before ++ more)
 unfolding with_line
 line_again before more number Blank lines rows once rest = rest before more rows once
 line_again before more number Comment lines rows once rest = rest before more rows once
@@ -136,8 +137,8 @@ line_again before (size ∷ more) number (Pair key value) lines rows once rest =
 line_again before [] number (Row text) lines rows once rest = absurd rows
 line_again before (size ∷ more) number (Row text) lines rows once rest =
     let flat : (before ++ size ∷ []) ++ more ≡ before ++ size ∷ more = append_assoc before (size ∷ []) more in
-    ap (λ (r : Result Size SizesCause). and_then (at_line number (r >>= λ s. with_size before s)) (λ sizes. with_lines sizes lines)) (row_again text size rows.0)
-    ∙ ap (λ (b : Bool). and_then (at_line number (cond b (Err Twice) (Ok (before ++ size ∷ [])))) (λ sizes. with_lines sizes lines)) (not_named before more size once)
+    ap (λ (r : Result Size SizesCause). (at_line number (r >>= λ s. with_size before s)) >>= (λ sizes. with_lines sizes lines)) (row_again text size rows.0)
+    ∙ ap (λ (b : Bool). (at_line number (cond b (Err Twice) (Ok (before ++ size ∷ [])))) >>= (λ sizes. with_lines sizes lines)) (not_named before more size once)
     ∙ rest (before ++ size ∷ []) more rows.1 (subst (λ (s : List Size). IsDistinct bytes_eq (ids_of s)) (sym flat) once)
     ∙ ap (λ (s : List Size). Ok s) flat
 
@@ -151,19 +152,17 @@ lines_again before more (line ∷ lines) rows once = line_again before more line
 -- what a file says by its lines
 pub by_lines : (bytes : List ℕ) (lines : List Numbered) → kvn.reading bytes ≡ Ok lines → reading bytes ≡ with_lines [] lines
 unfolding reading
-by_lines bytes lines e = ap (λ (r : Result (List Numbered) KvnFault). and_then (lines_or r) (with_lines [])) e
+by_lines bytes lines e = ap (λ (r : Result (List Numbered) (LineFault KvnCause)). lines_or Kvn r >>= with_lines []) e
 
 -- a file that is read says what the grammar says
 pub reading_says : (bytes : List ℕ) (sizes : List Size) → reading bytes ≡ Ok sizes → Says bytes sizes
 unfolding reading IsDistinct
 reading_says bytes sizes e = at (kvn.reading bytes) refl e
   where
-    at : (read : Result (List Numbered) KvnFault) → kvn.reading bytes ≡ read → and_then (lines_or read) (with_lines []) ≡ Ok sizes → Says bytes sizes
+    at : (read : Result (List Numbered) (LineFault KvnCause)) → kvn.reading bytes ≡ read → lines_or Kvn read >>= with_lines [] ≡ Ok sizes → Says bytes sizes
     at (Ok lines) is e = let added = lines_add [] sizes lines tt e in
         record { lines = lines; readable = is; rows = subst (AllZip IsRow (telling lines)) (sym added.whole) added.rows; once = added.once }
-    at (Err (faults.NotPrintable line)) is e = absurd cc
-    at (Err (faults.NoLineForm line)) is e = absurd cc
-    at (Err faults.Memory) is e = absurd cc
+    at (Err fault) is e = absurd cc
 
 -- and what the grammar says is read
 pub says_reading : (bytes : List ℕ) (sizes : List Size) → Says bytes sizes → reading bytes ≡ Ok sizes

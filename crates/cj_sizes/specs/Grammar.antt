@@ -1,25 +1,13 @@
 -- A file of sizes as a whole: the lines that say something are rows of an id and a radius, and no id stands twice.
-use Rattle.std.specs.Prelude.{◌≡◌, ℕ, ◌≤◌, Bool, true, false, List, [], ◌∷◌, filter, map, Ok, pos}
+use Rattle.std.specs.Prelude.{◌≡◌, ℕ, ◌≤◌, List, [], ◌∷◌, Ok, pos}
 use Rattle.std.specs.List.{AllZip, IsDistinct}
 use Rattle.std.specs.Str.{bytes_eq}
 use Rattle.cj_kvn.specs.Fields.{fields}
-use Rattle.cj_kvn.specs.Lines.{Form, Blank, Comment, Mark, Pair, Row, Numbered}
+use Rattle.cj_kvn.specs.Lines.{Form, Row, Numbered, telling}
 use Rattle.cj_kvn.specs.Lines as kvn
 use Rattle.cj_kvn.specs.Numbers.{scaled_of}
 use Rattle.cj_sizes.specs.Limits.{MAX_RADIUS}
 use Rattle.cj_sizes.specs.Sizes.{Size, ids_of}
-
--- neither blank nor a comment
-abbrev pub tells : Form → Bool
-tells Blank = false
-tells Comment = false
-tells (Mark mark) = true
-tells (Pair key value) = true
-tells (Row text) = true
-
--- the lines that say something
-abbrev pub telling : List Numbered → List Form
-telling lines = filter tells (map (λ line. line.form) lines)
 
 -- a number of metres, to the ninth place, is this many nm, and at most a kilometre
 pub record IsRadius (text : List ℕ) (radius : ℕ) : Type 0 where

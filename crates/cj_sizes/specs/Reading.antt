@@ -4,12 +4,12 @@ use Rattle.std.specs.List.{list_any}
 use Rattle.std.specs.Str.{bytes_eq}
 use Rattle.cj_kvn.specs.Lines as kvn
 use Rattle.cj_kvn.specs.Lines.{Blank, Comment, Mark, Pair, Row, Numbered}
-use Rattle.cj_kvn.specs.declared.lines.KvnFault.{KvnFault}
-use Rattle.cj_kvn.specs.declared.lines.KvnFault.TheVariants as faults
-use Rattle.cj_kvn.specs.declared.lines.KvnCause.TheVariants.{NotPrintable, NoLineForm}
+use Rattle.cj_kvn.specs.Faults.{at_line, lines_or, ◌>>=◌}
+use Rattle.cj_kvn.specs.declared.lines.KvnCause.{KvnCause}
+use Rattle.cj_kvn.specs.declared.text_fault.LineFault.{LineFault}
 use Rattle.cj_causes.specs.declared.sizes_cause.SizesCause.{SizesCause}
 use Rattle.cj_causes.specs.declared.sizes_cause.SizesCause.TheVariants as causes
-use Rattle.cj_sizes.specs.Rows.{◌>>=◌, size_of_row}
+use Rattle.cj_sizes.specs.Rows.{size_of_row}
 use Rattle.cj_sizes.specs.Sizes.{Size, ids_of}
 
 -- one of the sizes is given for this id
@@ -28,34 +28,18 @@ with_line before (Mark mark) = Err causes.Form
 with_line before (Pair key value) = Err causes.Form
 with_line before (Row text) = size_of_row text >>= λ size. with_size before size
 
--- a fault at its line
-pub record Fault : Type 0 where
-  pub line : ℕ
-  pub cause : SizesCause
-
-abbrev pub at_line : {A : Type 0} → ℕ → Result A SizesCause → Result A Fault
-at_line line (Ok x) = Ok x
-at_line line (Err cause) = Err (record { line = line; cause = cause })
-
-abbrev pub and_then : {A B : Type 0} → Result A Fault → (A → Result B Fault) → Result B Fault
-and_then (Ok x) f = f x
-and_then (Err e) f = Err e
+-- a fault of a file at its line
+abbrev pub Fault : Type 0
+Fault = LineFault SizesCause
 
 -- the sizes with what further lines say, or the first fault of these
 abbrev pub with_lines : List Size → List Numbered → Result (List Size) Fault
 with_lines before [] = Ok before
-with_lines before (line ∷ lines) = and_then (at_line line.number (with_line before line.form)) (λ sizes. with_lines sizes lines)
-
--- the lines of a text, which are never out of memory
-abbrev pub lines_or : Result (List Numbered) KvnFault → Result (List Numbered) Fault
-lines_or (Ok lines) = Ok lines
-lines_or (Err (faults.NotPrintable line)) = Err (record { line = line; cause = causes.Kvn NotPrintable })
-lines_or (Err (faults.NoLineForm line)) = Err (record { line = line; cause = causes.Kvn NoLineForm })
-lines_or (Err faults.Memory) = Err (record { line = 0; cause = causes.Form })
+with_lines before (line ∷ lines) = at_line line.number (with_line before line.form) >>= λ sizes. with_lines sizes lines
 
 -- the sizes with what further lines say; a line without a form comes before what is wrong with an earlier one
-abbrev pub sizes_said : List Size → Result (List Numbered) KvnFault → Result (List Size) Fault
-sizes_said before said = and_then (lines_or said) (with_lines before)
+abbrev pub sizes_said : List Size → Result (List Numbered) (LineFault KvnCause) → Result (List Size) Fault
+sizes_said before said = lines_or causes.Kvn said >>= with_lines before
 
 -- what the bytes of a file of sizes say
 unfoldable pub reading : List ℕ → Result (List Size) Fault

@@ -1,5 +1,6 @@
 -- The row of a size: an id and a radius in metres.
 use Rattle.std.specs.Prelude.{ℕ, nat_le, if◌then◌else◌, List, [], ◌∷◌, Result, Ok, Err, ℤ, pos, negsuc}
+use Rattle.cj_kvn.specs.Faults.{◌>>=◌}
 use Rattle.cj_kvn.specs.Fields.{fields}
 use Rattle.cj_kvn.specs.Numbers.{scaled_of}
 use Rattle.cj_kvn.specs.declared.numbers.NumFault.{NumFault}
@@ -8,11 +9,6 @@ use Rattle.cj_causes.specs.declared.sizes_cause.SizesCause.{SizesCause}
 use Rattle.cj_causes.specs.declared.sizes_cause.SizesCause.TheVariants.{Form, Number, Range}
 use Rattle.cj_sizes.specs.Limits.{MAX_RADIUS}
 use Rattle.cj_sizes.specs.Sizes.{Size}
-
-infixl 10 ◌>>=◌
-abbrev pub ◌>>=◌ : {A B : Type 0} → Result A SizesCause → (A → Result B SizesCause) → Result B SizesCause
-(Ok x) >>= f = f x
-(Err e) >>= f = Err e
 
 -- a number of nm that may be a radius
 abbrev pub radius_within : ℤ → Result ℕ SizesCause

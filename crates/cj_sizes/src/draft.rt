@@ -1,9 +1,8 @@
-use crate::refused::Refused;
 use crate::row::Row;
 use crate::rows::row_said;
 use crate::size_line::SizeLine;
 use cj_causes::SizesCause;
-use cj_kvn::LineKind;
+use cj_kvn::{LineKind, Refused};
 use cj_values::Text;
 use std::alloc::Global;
 use std::collections::BTreeSet;
@@ -32,7 +31,8 @@ impl<'a> Draft<'a> {
     ghost use Rattle.std.specs.Prelude.{◌≡◌, ◌^◌, ◌<◌, [], length};
     ghost use Rattle.cj_kvn.specs.Lines.{KindIsWithin, form_at};
     ghost use Rattle.cj_sizes.specs.Reading.{with_line, with_size};
-    ghost use Rattle.cj_sizes.specs.Readers.{Follows, row_of};
+    ghost use Rattle.cj_kvn.specs.Faults.{Follows};
+    ghost use Rattle.cj_sizes.specs.Readers.{row_of};
     ghost use Rattle.cj_sizes.specs.Sizes.{sizes_of};
 
     pub(crate) fn new(alloc: Global) -> Self
@@ -51,7 +51,7 @@ impl<'a> Draft<'a> {
         alloc: Global,
         bytes: &'a [u8],
         kind: LineKind,
-    ) -> Result<Self, Refused>
+    ) -> Result<Self, Refused<SizesCause>>
         requires within { KindIsWithin bytes.now kind }
         requires short { length bytes.now < 2 ^ 32 }
         ensures { Follows (λ next. next) result (with_line self.entry (form_at bytes.now kind)) }
@@ -64,7 +64,7 @@ impl<'a> Draft<'a> {
     }
 
     /// The sizes with a further one, whose designator was not given before.
-    fn with_row(self, alloc: Global, row: Row<'a>) -> Result<Self, Refused>
+    fn with_row(self, alloc: Global, row: Row<'a>) -> Result<Self, Refused<SizesCause>>
         ensures { Follows (λ next. next) result (with_size self.entry (row_of row.entry)) }
     {
         let Draft { mut sizes, mut ids } = self;

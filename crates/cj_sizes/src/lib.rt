@@ -5,7 +5,6 @@ mod draft;
 mod fault;
 mod radii;
 mod reader;
-mod refused;
 mod row;
 mod rows;
 mod size_line;

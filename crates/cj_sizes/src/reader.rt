@@ -1,9 +1,10 @@
 //! Reading a file of sizes.
 ghost use Rattle.std.specs.Prelude.{◌≡◌, ◌^◌, ◌<◌, [], IfOk, IfErr, List, MatchResult, length};
 ghost use Rattle.cj_kvn.specs.Lines.{reading};
+ghost use Rattle.cj_kvn.specs.declared.text_fault.TextFault.TheVariants.{Memory};
 ghost use Rattle.cj_sizes.specs.Grammar.{Says};
 ghost use Rattle.cj_sizes.specs.Reading as spec;
-ghost use Rattle.cj_sizes.specs.Readers.{Gives};
+ghost use Rattle.cj_kvn.specs.Faults.{Gives};
 ghost use Rattle.cj_sizes.specs.Sizes.{Size, sizes_of};
 
 use crate::draft::Draft;
@@ -21,7 +22,7 @@ pub fn read_sizes(alloc: Global, bytes: &[u8]) -> Result<Vec<SizeLine>, SizesFau
     requires { length bytes.now < 2 ^ 32 }
     ensures value { Gives (λ v. sizes_of v.items) result (spec.reading bytes.now) }
     ensures says { IfOk result (λ v. Says bytes.now (sizes_of v.items)) }
-    ensures accepts { (sizes : List Size) → Says bytes.now sizes → MatchResult result (λ v. sizes_of v.items ≡ sizes) (λ fault. fault ≡ SizesFault.Memory) }
+    ensures accepts { (sizes : List Size) → Says bytes.now sizes → MatchResult result (λ v. sizes_of v.items ≡ sizes) (λ fault. fault ≡ Memory) }
 {
     sizes_said(alloc, bytes)
 }

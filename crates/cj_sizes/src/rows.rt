@@ -3,7 +3,8 @@ ghost use Rattle.std.specs.Prelude.{◌≡◌, ◌≢◌, ◌∷◌, ◌^◌, �
 ghost use Rattle.cj_kvn.specs.Fields.{fields};
 ghost use Rattle.cj_kvn.specs.Ranges.{IsWithin, text_at};
 ghost use Rattle.cj_sizes.specs.Limits.{MAX_RADIUS};
-ghost use Rattle.cj_sizes.specs.Readers.{Tells, row_of};
+ghost use Rattle.cj_kvn.specs.Faults.{Tells};
+ghost use Rattle.cj_sizes.specs.Readers.{row_of};
 ghost use Rattle.cj_sizes.specs.Rows as spec;
 
 use crate::row::Row;

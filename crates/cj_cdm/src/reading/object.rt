@@ -6,15 +6,19 @@ ghost use Rattle.cj_cdm.specs.Reading.{elements_said, object_said, place_said, r
 ghost use Rattle.cj_cdm.specs.Texts.{elements};
 
 use crate::elements::element_at;
-use crate::fault::LineFault;
+use crate::fault::CdmCause;
 use crate::reading::rest::Rest;
 use crate::reading::said::{ObjectSaid, SideSaid};
 use crate::vector::Vector;
+use cj_kvn::LineFault;
 use cj_values::Decimal;
 
 /// The lines of an object that is called by this word.
 #[tactic(auto, unfolding(crate::specs::Reading::side_said))]
-pub(crate) fn read_side<'a>(called: &[u8], rest: &mut Rest<'a>) -> Result<SideSaid<'a>, LineFault>
+pub(crate) fn read_side<'a>(
+    called: &[u8],
+    rest: &mut Rest<'a>,
+) -> Result<SideSaid<'a>, LineFault<CdmCause>>
     ensures { told side_of_said result rest.new ≡ side_said called.now (plain_rest rest.old) }
 {
     let object = read_object(called, rest)?;
@@ -32,7 +36,10 @@ pub(crate) fn read_side<'a>(called: &[u8], rest: &mut Rest<'a>) -> Result<SideSa
 }
 
 #[tactic(auto, unfolding(crate::specs::Reading::object_said))]
-fn read_object<'a>(called: &[u8], rest: &mut Rest<'a>) -> Result<ObjectSaid<'a>, LineFault>
+fn read_object<'a>(
+    called: &[u8],
+    rest: &mut Rest<'a>,
+) -> Result<ObjectSaid<'a>, LineFault<CdmCause>>
     ensures { told plain_object result rest.new ≡ object_said called.now (plain_rest rest.old) }
 {
     rest.constant(b"OBJECT", called)?;
@@ -48,7 +55,7 @@ fn read_source<'a>(
     id: &'a [u8],
     name: &'a [u8],
     rest: &mut Rest<'a>,
-) -> Result<ObjectSaid<'a>, LineFault>
+) -> Result<ObjectSaid<'a>, LineFault<CdmCause>>
     ensures { told plain_object result rest.new ≡ source_said id.now name.now (plain_rest rest.old) }
 {
     let designator = rest.designator(b"INTERNATIONAL_DESIGNATOR")?;
@@ -65,13 +72,13 @@ fn read_source<'a>(
     })
 }
 
-fn read_place(rest: &mut Rest<'_>) -> Result<Vector, LineFault>
+fn read_place(rest: &mut Rest<'_>) -> Result<Vector, LineFault<CdmCause>>
     ensures { told (λ v. v) result rest.new ≡ place_said (plain_rest rest.old) }
 {
     read_vector(b"X", b"Y", b"Z", b"km", rest)
 }
 
-fn read_rate(rest: &mut Rest<'_>) -> Result<Vector, LineFault>
+fn read_rate(rest: &mut Rest<'_>) -> Result<Vector, LineFault<CdmCause>>
     ensures { told (λ v. v) result rest.new ≡ rate_said (plain_rest rest.old) }
 {
     read_vector(b"X_DOT", b"Y_DOT", b"Z_DOT", b"km/s", rest)
@@ -85,7 +92,7 @@ fn read_vector<'a>(
     z_key: &[u8],
     unit: &[u8],
     rest: &mut Rest<'a>,
-) -> Result<Vector, LineFault>
+) -> Result<Vector, LineFault<CdmCause>>
     ensures { told (λ v. v) result rest.new ≡ vector_said x_key.now y_key.now z_key.now unit.now (plain_rest rest.old) }
 {
     let x = rest.kilometres(x_key, unit)?;
@@ -95,7 +102,7 @@ fn read_vector<'a>(
 }
 
 /// The elements of a covariance.
-fn read_elements(rest: &mut Rest<'_>) -> Result<[Decimal; 21], LineFault>
+fn read_elements(rest: &mut Rest<'_>) -> Result<[Decimal; 21], LineFault<CdmCause>>
     ensures { told (λ values. map number_of values) result rest.new ≡ elements_said elements (plain_rest rest.old) }
 {
     let mut values = [Decimal::ZERO; 21];

@@ -6,14 +6,15 @@ ghost use Rattle.cj_cdm.specs.Reading as spec;
 ghost use Rattle.cj_values.specs.Bytes.{is_feed};
 ghost use Rattle.cj_cdm.specs.Reading.{behind_feed};
 
-use crate::fault::{CdmCause, LineFault};
+use crate::fault::CdmCause;
 use crate::reading::rest::Rest;
 use crate::reading::values::{behind_front, place_of};
+use cj_kvn::LineFault;
 
 impl<'a> Rest<'a> {
     /// What stands behind this front in the next line.
     #[tactic(auto, unfolding(crate::specs::Reading::value_in))]
-    pub(crate) fn behind(self, front: &[u8]) -> Result<&'a [u8], LineFault>
+    pub(crate) fn behind(self, front: &[u8]) -> Result<&'a [u8], LineFault<CdmCause>>
         ensures value { plain bytes_of result ≡ spec.value_in front.now (plain_rest self.entry) }
         ensures long { IfOk result (λ value. length front.now + length value.now ≤ length self.entry.text.now) }
         ensures short { IfOk result (λ value. length value.now < 2 ^ 32) }
@@ -29,7 +30,7 @@ impl<'a> Rest<'a> {
 
     /// What was read of the next line, where that is something. The line is taken then.
     #[tactic(auto, unfolding(crate::specs::Reading::taken, crate::specs::Reading::behind_line))]
-    pub(crate) fn taken<T: Drop>(&mut self, said: Option<T>) -> Result<T, LineFault>
+    pub(crate) fn taken<T: Drop>(&mut self, said: Option<T>) -> Result<T, LineFault<CdmCause>>
         requires { 2 ≤ length self.old.text.now }
         ensures { told (λ x. x) result self.new ≡ spec.taken (plain_rest self.old) said }
     {
@@ -50,7 +51,7 @@ impl<'a> Rest<'a> {
     }
 
     /// A fault of the next line.
-    pub(crate) fn fault(self, cause: CdmCause) -> LineFault
+    pub(crate) fn fault(self, cause: CdmCause) -> LineFault<CdmCause>
         ensures line { result.line ≡ self.entry.line }
         ensures cause { result.cause ≡ cause }
     {

@@ -1,7 +1,8 @@
 use Rattle.std.proofs.Common.{◌∙◌, Err, Ok, ap, sym}
 use Rattle.std.proofs.lemmas.Result.{err_from_is_err_and}
+use Rattle.cj_kvn.proofs.FaultLemmas.{told_gives}
 use Rattle.cj_cdm.specs.Messages.{PlainMessage}
-use Rattle.cj_cdm.specs.Read.{message_of_said, plain_cdm, plain_fault}
+use Rattle.cj_cdm.specs.Read.{message_of_said, plain_cdm}
 use Rattle.cj_cdm.proofs.GrammarLemmas.{reading_only}
 use Rattle.cj_cdm.proofs.ReaderLemmas.{told_again}
 use Rattle.cj_cdm.proofs.reading.read_cdm.Goals as goal
@@ -9,7 +10,8 @@ use Rattle.cj_cdm.proofs.reading.read_cdm.Goals as goal
 pub returns-in_err-said-clause-again : goal.returns-in_err-said-clause-again
 returns-in_err-said-clause-again c =
     let p = err_from_is_err_and c.from_residual.result c.from_residual.ensures.1 in
-    rw (p.1, p.2) (λ m fit e. sym (told_again c.args.bytes.now (Err (plain_fault c.in_err-said.field-0.0)) c.in_err-said.ensures m fit e))
+    let fault = c.in_err-said.field-0.0 in
+    rw p.1 (λ m fit e. told_gives plain_cdm (λ x. x) (Ok m) fault p.0 p.2 (sym (told_again c.args.bytes.now (Err fault) c.in_err-said.ensures m fit e)))
 
 pub returns-clause-only : goal.returns-clause-only
 returns-clause-only c =

@@ -5,8 +5,7 @@ use Rattle.std.proofs.lemmas.List.{length-map}
 use Rattle.cj_track.specs.Tracks.{plain_track}
 use Rattle.cj_hermite.specs.Problems.{plain_problem}
 use Rattle.cj_cert.specs.Certificates.{plain_certificate}
-use Rattle.cj_checker.specs.declared.failure.Failure.{Failure}
-use Rattle.cj_checker.specs.First.{cell_failure, first_failure}
+use Rattle.cj_checker.specs.First.{cell_failure, first_failure, Failure}
 use Rattle.cj_checker.proofs.CheckLemmas.{fails_before, fails_in_cells, same_count, same_shells}
 use Rattle.cj_checker.proofs.checking.first_failure.Goals as goal
 

@@ -11,9 +11,8 @@ use Rattle.cj_hermite.specs.Problems.{plain_problem}
 use Rattle.cj_cert.specs.declared.cert_lines.BoxLine.{BoxLine}
 use Rattle.cj_cert.specs.Certificates.{plain_box_line, plain_certificate}
 use Rattle.cj_causes.specs.declared.check_cause.CheckCause.TheVariants.{ShellOf}
-use Rattle.cj_checker.specs.declared.failure.Failure.{Failure}
 use Rattle.cj_checker.specs.BoxesRead.{IsReadOn, fails_behind}
-use Rattle.cj_checker.specs.First.{box_failure, failed, first_box_line, first_line}
+use Rattle.cj_checker.specs.First.{box_failure, failed, first_box_line, first_line, Failure}
 use Rattle.cj_checker.specs.Places.{places_from}
 use Rattle.cj_checker.specs.Tests.{is_shell_line}
 use Rattle.cj_checker.proofs.PlaceLemmas.{no_place}

@@ -1,11 +1,9 @@
-use Rattle.std.proofs.Common.{◌≡◌, ◌∙◌, ℕ, refl, sym, ap, subst, Ok, Err, List, Result, Vec, Global}
+use Rattle.std.proofs.Common.{◌≡◌, ◌∙◌, ℕ, refl, sym, ap, Ok, Err, List, Result, Vec, Global}
 use Rattle.std.proofs.lemmas.Result.{err_from_is_err_and}
 use Rattle.cj_io.specs.Files.{bytes_of}
 use Rattle.cj_sizes.specs.Reading.{Fault, reading}
-use Rattle.cj_sizes.specs.Readers.{Gives}
 use Rattle.cj_sizes.specs.Sizes.{Size, sizes_of}
 use Rattle.cj_sizes.specs.declared.size_line.SizeLine.{SizeLine}
-use Rattle.cj_sizes.specs.declared.fault.SizesFault.{SizesFault}
 use Rattle.cj_inputs.specs.ObjectSizes.{refused_sizes, sizes_of_file}
 use Rattle.cj_inputs.specs.Readings.{Reads, within_bytes}
 use Rattle.cj_inputs.specs.declared.reading.InputError.{InputError}
@@ -79,8 +77,7 @@ returns-in_err-copy_of-in-Err-At g c =
 pub returns : goal.returns
 returns g c =
     let fault : Fault = record { line = c.in-Err-At.line; cause = c.in-Err-At.cause } in
-    let said : reading c.deref.result.now ≡ Err fault =
-    subst (λ (f : SizesFault). Gives lines_of (Err f) (reading c.deref.result.now)) c.in-Err-At.field-0-is c.in-Err-At.ensures.value in
+    let said : reading c.deref.result.now ≡ Err fault = rw c.in-Err-At.field-0-is at c.in-Err-At.ensures.value in
     record {
       fault = not_failed _ tt;
       told = λ files told.

@@ -1,5 +1,6 @@
 use Rattle.std.proofs.Common.{◌∙◌, ap, sym, subst}
-use Rattle.cj_kvn.specs.Lines.{Tells, form_at, form_of, is_comment}
+use Rattle.cj_kvn.specs.Faults.{Tells}
+use Rattle.cj_kvn.specs.Lines.{form_at, form_of, is_comment}
 use Rattle.cj_kvn.specs.Ranges.{text_at}
 use Rattle.cj_kvn.proofs.LineLemmas.{comment_is, inner_is, fault_is}
 use Rattle.cj_kvn.proofs.RawLemmas.{equals_trimmed}

@@ -1,5 +1,5 @@
 use Rattle.std.proofs.Common.{sym, subst}
-use Rattle.cj_sizes.specs.Readers.{Gives}
+use Rattle.cj_kvn.specs.Faults.{Gives}
 use Rattle.cj_sizes.proofs.FileLemmas.{by_said, gives_says, says_gives, sizes_in}
 use Rattle.cj_sizes.proofs.reader.read_sizes.Goals as goal
 

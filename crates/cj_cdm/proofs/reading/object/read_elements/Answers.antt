@@ -4,7 +4,7 @@ use Rattle.std.proofs.lemmas.Result.{err_from_is_err_and}
 use Rattle.cj_values.specs.Decimals.{number_of}
 use Rattle.cj_values.specs.Numbers.{Number}
 use Rattle.cj_cdm.specs.Elements.{element_of}
-use Rattle.cj_cdm.specs.Read.{plain_fault, plain_rest}
+use Rattle.cj_cdm.specs.Read.{plain_rest}
 use Rattle.cj_cdm.specs.Reading.{elements_said}
 use Rattle.cj_cdm.specs.Texts.{elements}
 use Rattle.cj_cdm.proofs.ReaderLemmas.{element_failed, element_read, elements_read, prepended, prepended_none, values_more}
@@ -18,7 +18,7 @@ returns-in_err-values c =
     let p = err_from_is_err_and c.from_residual.result c.from_residual.ensures.1 in
     let i = c.loop-index.index in
     let short : i < 21 = omega arith in
-    rw (p.1, p.2) (element_failed i (map number_of (take i c.loop-index.values)) (element_of c.element_at-element.result) (plain_rest c.loop-index.rest) (plain_fault c.in_err-values.field-0.0)
+    rw (p.1, p.2) (element_failed i (map number_of (take i c.loop-index.values)) (element_of c.element_at-element.result) (plain_rest c.loop-index.rest) c.in_err-values.field-0.0
     (elements_said elements (plain_rest c.args.rest.now)) short c.element_at-element.ensures c.in_err-values.ensures c.loop-index.invariant.1)
 
 pub loop-index-preserved : goal.loop-index-preserved

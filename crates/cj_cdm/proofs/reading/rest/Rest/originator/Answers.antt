@@ -1,8 +1,7 @@
 use Rattle.std.proofs.Common.{◌++◌}
 use Rattle.std.specs.Prelude.{codes}
 use Rattle.std.proofs.lemmas.Result.{err_from_is_err_and}
-use Rattle.cj_cdm.specs.Read.{bytes_of}
-use Rattle.cj_cdm.specs.Read.{plain_fault, plain_rest}
+use Rattle.cj_cdm.specs.Read.{bytes_of, plain_rest}
 use Rattle.cj_cdm.specs.Values.{originator_said}
 use Rattle.cj_cdm.proofs.ReaderLemmas.{line_failed, line_told}
 use Rattle.cj_cdm.proofs.reading.rest.Rest.originator.Goals as goal
@@ -10,7 +9,7 @@ use Rattle.cj_cdm.proofs.reading.rest.Rest.originator.Goals as goal
 pub returns-in_err-value : goal.returns-in_err-value
 returns-in_err-value c =
     let p = err_from_is_err_and c.from_residual.result c.from_residual.ensures.1 in
-    rw (p.1, p.2) (line_failed (c.args.key.now ++ codes " = ") (originator_said) (plain_rest c.args.self.now) (plain_fault c.in_err-value.field-0.0) c.in_err-value.ensures.value)
+    rw (p.1, p.2) (line_failed (c.args.key.now ++ codes " = ") (originator_said) (plain_rest c.args.self.now) c.in_err-value.field-0.0 c.in_err-value.ensures.value)
 
 pub returns : goal.returns
 returns c =

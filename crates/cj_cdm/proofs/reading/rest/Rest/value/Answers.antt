@@ -4,7 +4,8 @@ use Rattle.std.proofs.lemmas.Result.{err_from_is_err_and}
 use Rattle.cj_cdm.specs.declared.fault.CdmCause.{CdmCause}
 use Rattle.cj_cdm.specs.declared.fault.CdmCause.TheVariants as causes
 use Rattle.cj_cdm.specs.Read.{plain_rest}
-use Rattle.cj_cdm.specs.Reading.{Fault, Rest, and_then, fault_at, or_fault}
+use Rattle.cj_kvn.specs.Faults.{◌>>=◌ as and_then}
+use Rattle.cj_cdm.specs.Reading.{Fault, Rest, fault_at, or_fault}
 use Rattle.cj_cdm.specs.Values.{behind_front}
 use Rattle.cj_cdm.proofs.LineLemmas.{value_more}
 use Rattle.cj_cdm.proofs.reading.rest.Rest.value.Goals as goal
