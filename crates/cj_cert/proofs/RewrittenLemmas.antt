@@ -1,6 +1,6 @@
 -- A certificate that is rewritten with blocks is accepted where it was before.
 use Rattle.std.proofs.Common.{◌≡◌, ℕ, zero, suc, ◌+◌, ◌-◌, ◌*◌, ◌^◌, ◌<◌, ◌≤◌, ◌&&◌, Bool, true, false, cond, List, [], ◌∷◌, ◌++◌, length, map, filter, Option, Some, None, refl, sym, ap, ◌∙◌, subst, arith}
-use Rattle.std.specs.Prelude.{◌==◌, ℤ, ◌≤ℤ◌, All, IsSomeAnd, is_some, option_map, option_and_then, slice_get}
+use Rattle.std.specs.Prelude.{ℤ, ◌≤ℤ◌, All, IsSomeAnd, is_some, option_map, option_and_then, slice_get}
 use Rattle.std.specs.List.{enumerate_from, find, flat_map, range_with_len}
 use Rattle.std.proofs.Math.Nat.{suc-mul}
 use Rattle.std.proofs.lemmas.Int.{ints}
@@ -11,6 +11,8 @@ use Rattle.std.proofs.lemmas.List.FromFn.{length-range_with_len}
 use Rattle.std.proofs.lemmas.Option.{slice_get-map, slice_get_within}
 use Rattle.cj_interval.proofs.ListLemmas.{Each, Each-weaker, Each-both, Each-map, Each-flat_map, Each-range, All-from_each, each_from_All, each_from_flat_map, each_from_map, Each-filter, flat_map_alike}
 use Rattle.cj_interval.proofs.RangeLemmas.{each_in_range}
+use Rattle.cj_causes.specs.declared.cert_version.CertVersion.{CertVersion}
+use Rattle.cj_causes.specs.declared.cert_version.CertVersion.TheVariants.{One, Two}
 use Rattle.cj_track.specs.PlainTracks.{PlainTrack}
 use Rattle.cj_hermite.specs.Interpolant.{Four}
 use Rattle.cj_hermite.specs.Pairs.{pairs_of}
@@ -34,7 +36,7 @@ use Rattle.cj_blocks.proofs.RunLemmas.{IsRound, each_round, slots_told, slots_ar
 use Rattle.cj_cert.specs.Accepted.{IsHullIn, has_state_in, slots_with_states, HoldsHulls, AreBoxes, IsSupported, TileRoots, Accepted}
 use Rattle.cj_cert.specs.Certificates.{PlainBoxLine, PlainCertificate}
 use Rattle.cj_cert.specs.Listed.{slots_of_line, is_line_of, box_listed, boxes_listed, shells_listed, is_looked_listed}
-use Rattle.cj_cert.specs.Rewritten.{size_line, line_of_block, boxes_by_lines, pairs_by_shells, given_of, with_blocks, rewritten, in_version_2, written_in_blocks, written_in}
+use Rattle.cj_cert.specs.Rewritten.{size_line, line_of_block, boxes_by_lines, pairs_by_shells, given_of, with_blocks, rewritten, from_version, in_version_2, written_in_blocks, written_in}
 use Rattle.cj_bezier.specs.AllBoxes.{boxes_of}
 use Rattle.cj_cert.specs.Written.{box_in, written}
 use Rattle.cj_cert.proofs.ListedLemmas.{AreAllInTime, told_by, find_some, in_one_box, range_at}
@@ -330,7 +332,7 @@ rewritten_accepted case c time accepted = record {
   last = accepted.last;
   threshold = accepted.threshold;
   objects = accepted.objects;
-  sizes = λ second. sizes_numbered 0 case.sizes;
+  sizes = sizes_numbered 0 case.sizes;
   shells = accepted.shells;
   boxes = new_boxes case c time accepted.boxes;
   cells = subst (λ (roots : List PlainCell). TileRoots (IsSupported case) roots c.cells)
@@ -339,11 +341,11 @@ rewritten_accepted case c time accepted = record {
 
 -- a certificate of either version
 pub in_version_2_accepted : (case : PlainProblem) (c : PlainCertificate) → AreAllInTime case → Accepted case c → Accepted case (in_version_2 case c)
-in_version_2_accepted case c time accepted = go (c.version == 1)
+in_version_2_accepted case c time accepted = go c.version
   where
-    go : (b : Bool) → Accepted case (cond b (rewritten case c) c)
-    go true = rewritten_accepted case c time accepted
-    go false = accepted
+    go : (version : CertVersion) → Accepted case (from_version version case c)
+    go One = rewritten_accepted case c time accepted
+    go Two = accepted
 
 -- ---- what a run writes
 
@@ -381,9 +383,6 @@ written_in_blocks_accepted case time within big =
     subst (λ (c : PlainCertificate). Accepted case c) (blocks_same case time) (rewritten_accepted case (written case) time (written_accepted case time within big))
 
 -- in either version
-pub written_in_accepted : (version : ℕ) (case : PlainProblem) → AreAllInTime case → AreAllWithin case → 10 ^ 9 ≤ case.threshold → Accepted case (written_in version case)
-written_in_accepted version case time within big = go (version == 1)
-  where
-    go : (b : Bool) → Accepted case (cond b (written case) (written_in_blocks case))
-    go true = written_accepted case time within big
-    go false = written_in_blocks_accepted case time within big
+pub written_in_accepted : (version : CertVersion) (case : PlainProblem) → AreAllInTime case → AreAllWithin case → 10 ^ 9 ≤ case.threshold → Accepted case (written_in version case)
+written_in_accepted One case time within big = written_accepted case time within big
+written_in_accepted Two case time within big = written_in_blocks_accepted case time within big

@@ -10,6 +10,8 @@ use Rattle.std.proofs.lemmas.List.FromFn.{map-range_with_len_more}
 use Rattle.std.proofs.lemmas.Option.{slice_get-get_or, slice_get-map}
 use Rattle.cj_interval.proofs.ListLemmas.{Each, Each-range}
 use Rattle.cj_interval.proofs.RangeLemmas.{filter_map-range_more}
+use Rattle.cj_causes.specs.declared.cert_version.CertVersion.{CertVersion}
+use Rattle.cj_causes.specs.declared.cert_version.CertVersion.TheVariants.{One}
 use Rattle.cj_track.specs.PlainTracks.{PlainTrack}
 use Rattle.cj_hermite.specs.PlainProblems.{PlainProblem}
 use Rattle.cj_hermite.specs.Roots.{slots_of}
@@ -161,7 +163,7 @@ boxes_are case boxes n same count =
         ap (λ (o : Option PlainBox). option_map (line_of_box (0 + i) k) o) here))
 
 -- a certificate of a version with these lines
-abbrev pub of_lines_in : ℕ → PlainProblem → ℕ → List SizeOfLine → List ShellLine → List PlainBoxLine → List PlainLeaf → PlainCertificate
+abbrev pub of_lines_in : CertVersion → PlainProblem → ℕ → List SizeOfLine → List ShellLine → List PlainBoxLine → List PlainLeaf → PlainCertificate
 of_lines_in version case objects sizes shells boxes cells = record {
   version = version;
   first = case.first;
@@ -177,9 +179,9 @@ of_lines_in version case objects sizes shells boxes cells = record {
 pub certificate_is : (case : PlainProblem) (objects : ℕ) (sizes : List SizeOfLine) (shells : List ShellLine) (boxes : List PlainBoxLine) (cells : List PlainLeaf)
     → objects ≡ length case.ephemerides → sizes ≡ []
     → shells ≡ map (shell_line case) (enumerate_from 0 case.ephemerides) → boxes ≡ flat_map (box_lines case) (enumerate_from 0 case.ephemerides) → cells ≡ leaves_in_order case
-    → of_lines_in 1 case objects sizes shells boxes cells ≡ written case
+    → of_lines_in One case objects sizes shells boxes cells ≡ written case
 unfolding written
-certificate_is case objects sizes shells boxes cells p q r s t = λ i. of_lines_in 1 case (p i) (q i) (r i) (s i) (t i)
+certificate_is case objects sizes shells boxes cells p q r s t = λ i. of_lines_in One case (p i) (q i) (r i) (s i) (t i)
 
 -- one line of one slot more
 pub single_more : (lines new : List BoxLine) (line : BoxLine) → new ≡ lines ++ line ∷ [] → line.first ≡ line.last → list_all (λ (b : BoxLine). b.first == b.last) lines ≡ true

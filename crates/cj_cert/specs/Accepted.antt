@@ -1,6 +1,8 @@
 -- Which certificates are accepted for a problem.
 use Rattle.std.specs.Prelude.{◌≡◌, ℕ, ◌+◌, ◌-◌, ◌≤◌, Bool, List, map, filter, length, Option, Some, None, is_some, slice_get, IsSomeAnd}
 use Rattle.std.specs.List.{All, AllZip, flat_map, range_with_len, enumerate_from, list_any}
+use Rattle.cj_causes.specs.declared.cert_version.CertVersion.{CertVersion}
+use Rattle.cj_causes.specs.declared.cert_version.CertVersion.TheVariants.{One, Two}
 use Rattle.cj_track.specs.PlainTracks.{PlainTrack}
 use Rattle.cj_hermite.specs.Pieces.{interval_index_at}
 use Rattle.cj_hermite.specs.PlainProblems.{PlainProblem, threshold_of, OfObjectsAt}
@@ -26,6 +28,11 @@ use Rattle.cj_cert.specs.Listed.{slots_of_line, is_looked_listed}
 -- a line for each object, in order, with its size
 abbrev pub AreSizes : PlainProblem → List SizeOfLine → Type 0
 AreSizes case lines = map (λ line. (line.object, line.size)) lines ≡ enumerate_from 0 case.sizes
+
+-- the same in a version that tells them
+abbrev pub AreSizesIn : CertVersion → PlainProblem → List SizeOfLine → Type 0
+AreSizesIn One case lines = Unit {0}
+AreSizesIn Two case lines = AreSizes case lines
 
 -- ---- shells
 
@@ -98,7 +105,7 @@ pub record Accepted (case : PlainProblem) (c : PlainCertificate) : Type 0 where
   pub last : c.last ≡ case.last
   pub threshold : c.threshold ≡ case.threshold
   pub objects : c.objects ≡ length case.ephemerides
-  pub sizes : c.version ≡ 2 → AreSizes case c.sizes
+  pub sizes : AreSizesIn c.version case c.sizes
   pub shells : AreShells case c.shells
   pub boxes : AreBoxes case c.boxes
   pub cells : TileRoots (IsSupported case) (roots_of (is_looked_listed case c) case) c.cells

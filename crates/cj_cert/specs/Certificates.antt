@@ -1,5 +1,6 @@
 -- Certificates as plain facts. Objects are numbered from 0.
 use Rattle.std.specs.Prelude.{ℕ, ◌+◌, List, length, map}
+use Rattle.cj_causes.specs.declared.cert_version.CertVersion.{CertVersion}
 use Rattle.cj_bezier.specs.Leaves.{PlainLeaf}
 use Rattle.cj_bezier.specs.SlotBoxes.{PlainBox, plain_box}
 use Rattle.cj_cert.specs.declared.cert_lines.BoxLine.{BoxLine}
@@ -24,7 +25,7 @@ plain_cell_line c = record { a = c.pair.a; b = c.pair.b; first = c.first.micros;
 -- what a certificate says: the window from its first tick to its last, the threshold in nm, how many objects there are, and of these
 -- the sizes, the shells, the boxes by slots, and what each pair is at which ticks
 pub record PlainCertificate : Type 0 where
-  pub version : ℕ
+  pub version : CertVersion
   pub first : ℕ
   pub last : ℕ
   pub threshold : ℕ

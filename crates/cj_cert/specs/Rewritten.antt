@@ -1,6 +1,8 @@
 -- Certificates of version 2: one box for a block of slots, where the object then touches nothing more.
-use Rattle.std.specs.Prelude.{ℕ, ◌==◌, if◌then◌else◌, List, map, filter, length, Option}
+use Rattle.std.specs.Prelude.{ℕ, List, map, filter, length, Option}
 use Rattle.std.specs.List.{enumerate_from, flat_map, range_with_len}
+use Rattle.cj_causes.specs.declared.cert_version.CertVersion.{CertVersion}
+use Rattle.cj_causes.specs.declared.cert_version.CertVersion.TheVariants.{One, Two}
 use Rattle.cj_hermite.specs.Pairs.{pairs_of}
 use Rattle.cj_hermite.specs.PlainProblems.{PlainProblem}
 use Rattle.cj_hermite.specs.Roots.{slots_of}
@@ -52,7 +54,7 @@ given_of case boxes kept = record {
 -- a certificate with the problem's sizes and these blocks, and the same shells and cells
 unfoldable pub with_blocks : PlainProblem → Given → PlainCertificate → PlainCertificate
 with_blocks case g c = record {
-  version = 2;
+  version = Two;
   first = c.first;
   last = c.last;
   threshold = c.threshold;
@@ -67,14 +69,20 @@ with_blocks case g c = record {
 abbrev pub rewritten : PlainProblem → PlainCertificate → PlainCertificate
 rewritten case c = with_blocks case (given_of case (boxes_by_lines case c.boxes) (pairs_by_shells case c)) c
 
+-- a certificate of this version in version 2
+abbrev pub from_version : CertVersion → PlainProblem → PlainCertificate → PlainCertificate
+from_version One case c = rewritten case c
+from_version Two case c = c
+
 -- a certificate in version 2
 abbrev pub in_version_2 : PlainProblem → PlainCertificate → PlainCertificate
-in_version_2 case c = if c.version == 1 then rewritten case c else c
+in_version_2 case c = from_version c.version case c
 
 -- what a run writes in version 2: blocks over the exact boxes and the pairs that are kept
 abbrev pub written_in_blocks : PlainProblem → PlainCertificate
 written_in_blocks case = with_blocks case (given_of case (boxes_of case) (pairs_kept case)) (written case)
 
 -- what a run writes in a version
-abbrev pub written_in : ℕ → PlainProblem → PlainCertificate
-written_in version case = if version == 1 then written case else written_in_blocks case
+abbrev pub written_in : CertVersion → PlainProblem → PlainCertificate
+written_in One case = written case
+written_in Two case = written_in_blocks case

@@ -1,6 +1,7 @@
 -- The certificate that a run writes for a problem: exact shells and boxes, and the one-thread list.
 use Rattle.std.specs.Prelude.{ℕ, ◌+◌, ◌*◌, List, [], map, length, Option, option_map}
 use Rattle.std.specs.List.{enumerate_from, filter_map, flat_map, range_with_len}
+use Rattle.cj_causes.specs.declared.cert_version.CertVersion.TheVariants.{One}
 use Rattle.cj_track.specs.PlainTracks.{PlainTrack}
 use Rattle.cj_hermite.specs.PlainProblems.{PlainProblem}
 use Rattle.cj_hermite.specs.Roots.{roots_of, slots_of}
@@ -41,7 +42,7 @@ leaves_in_order case = leaves_of_roots case (roots_of (is_looked case) case)
 -- in version 1
 unfoldable pub written : PlainProblem → PlainCertificate
 written case = record {
-  version = 1;
+  version = One;
   first = case.first;
   last = case.last;
   threshold = case.threshold;

@@ -1,6 +1,7 @@
 //! What an accepted certificate says, and that the one a run writes is accepted: laws, which cost next to nothing to call.
 ghost use Rattle.std.specs.Prelude.{◌^◌, ℕ};
 ghost use Rattle.std.specs.List.{All};
+ghost use Rattle.cj_causes.specs.declared.cert_version.CertVersion.{CertVersion};
 ghost use Rattle.cj_track.specs.Tracks.{plain_track};
 ghost use Rattle.cj_hermite.specs.Problems.{plain_problem};
 ghost use Rattle.cj_bezier.specs.Gaps.{gap_terms};
@@ -25,7 +26,7 @@ pub fn acceptance(problem: &Problem)
     ensures written { Accepted (plain_problem problem.now) (written (plain_problem problem.now)) }
 
     // So they do in either version.
-    ensures in_version { (version : ℕ) → Accepted (plain_problem problem.now) (written_in version (plain_problem problem.now)) }
+    ensures in_version { (version : CertVersion) → Accepted (plain_problem problem.now) (written_in version (plain_problem problem.now)) }
 
     // An accepted certificate is accepted in version 2.
     ensures rewritten { (c : PlainCertificate) → Accepted (plain_problem problem.now) c → Accepted (plain_problem problem.now) (in_version_2 (plain_problem problem.now) c) }

@@ -1,14 +1,14 @@
-ghost use Rattle.std.specs.Prelude.{◌≡◌, ◌≤◌, true};
+ghost use Rattle.std.specs.Prelude.{◌≡◌, true};
 ghost use Rattle.cj_cert.specs.Versions.{is_of_version};
 
 use crate::cert_lines::{BoxLine, CellLine, ShellLine, SizeOfLine};
+use cj_causes::CertVersion;
 use cj_ticks::Window;
 
 /// A certificate: what a run was asked, and for each object and pair what stands behind its report.
 #[derive(Debug, Drop, PartialEq, Eq)]
 pub struct Certificate {
-    /// The first version has no sizes, and a box of its own for each slot. The second has both sizes and boxes for runs of slots.
-    pub version: u32,
+    pub version: CertVersion,
     pub window: Window,
     /// In nm.
     pub threshold: u64,
@@ -18,7 +18,5 @@ pub struct Certificate {
     pub shells: Vec<ShellLine>,
     pub boxes: Vec<BoxLine>,
     pub cells: Vec<CellLine>,
-    pub ghost least: { 1 ≤ version },
-    pub ghost most: { version ≤ 2 },
     pub ghost of_version: { is_of_version version sizes.items boxes.items ≡ true },
 }

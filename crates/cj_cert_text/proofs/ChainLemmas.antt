@@ -1,5 +1,5 @@
 -- The text of a certificate that fits is read as the certificate.
-use Rattle.std.proofs.Common.{◌≡◌, ℕ, ◌+◌, ◌^◌, ◌<◌, ◌⊎◌, inl, inr, List, [], ◌∷◌, ◌++◌, All, map, arith, ap, ap₂, sym, ◌∙◌, refl, subst, true, false, Bool, cond, ℤ, pos, Option}
+use Rattle.std.proofs.Common.{◌≡◌, ℕ, ◌+◌, ◌<◌, List, [], ◌∷◌, ◌++◌, All, map, arith, ap, ap₂, sym, ◌∙◌, refl, subst, true, false, Bool, cond, ℤ, pos, Option}
 use Rattle.std.proofs.Common.{Some, None, Result, Ok, Err, length, append_assoc, append-nil}
 use Rattle.std.specs.Prelude.{◌==◌, flat_map, codes}
 use Rattle.std.specs.List.{join_with_byte, slice_split}
@@ -13,44 +13,47 @@ use Rattle.cj_bezier.specs.Leaves.{PlainLeaf}
 use Rattle.cj_cert.specs.declared.cert_lines.ShellLine.{ShellLine}
 use Rattle.cj_cert.specs.declared.cert_lines.SizeOfLine.{SizeOfLine}
 use Rattle.cj_causes.specs.declared.cert_cause.CertCause.{CertCause}
+use Rattle.cj_causes.specs.declared.cert_version.CertVersion.{CertVersion}
+use Rattle.cj_causes.specs.declared.cert_version.CertVersion.TheVariants.{One, Two}
+use Rattle.cj_causes.specs.Versions.{most_objects, number_of_version}
 use Rattle.cj_causes.specs.declared.cert_cause.CertCause.TheVariants as causes
 use Rattle.cj_cert_text.specs.declared.rank.Rank.{Rank}
 use Rattle.cj_cert_text.specs.declared.rank.Rank.TheVariants as rank
 use Rattle.cj_cert.specs.Certificates.{PlainBoxLine, PlainCertificate}
-use Rattle.cj_cert_text.specs.Fits.{Fits, FitsSize, FitsBox, FitsCell}
+use Rattle.cj_cert_text.specs.Fits.{Fits, FitsSize, FitsBox, FitsCell, IsOfVersion}
 use Rattle.cj_cert_text.specs.Lines.{PlainLine, Heading, Window, Threshold, Objects, Size, Shell, Box, Cell, End, rank_of, said, said_by, said_in, line_said, where_it_may_stand}
 use Rattle.cj_cert_text.specs.Ranks.{has_ended, may_follow}
 use Rattle.cj_cert_text.specs.Reading.{and_then, at_line, ends_at, nothing_said, reading, reads_on, version_of, with_line}
 use Rattle.cj_cert_text.specs.Texts.{row, size_text, shell_text, box_text, cell_text, text_of}
 use Rattle.cj_cert_text.proofs.AgainLemmas.{line_words, numbers_small, others_last, said_again}
 use Rattle.cj_cert_text.proofs.LineLemmas.{FitsLine, numbers_of, others_of, word_of, word_ranks, words_of}
-use Rattle.cj_cert_text.proofs.ReadLemmas.{line_text, small_version, text_is_told, told}
+use Rattle.cj_cert_text.proofs.ReadLemmas.{line_text, text_is_told, told}
 use Rattle.cj_cert_text.proofs.WordLemmas.{joined_above, joined_again, line_first, words_again}
 
 -- ---- one line
 
-abbrev joined : ℕ → PlainLine → List ℕ
+abbrev joined : CertVersion → PlainLine → List ℕ
 joined v l = join_with_byte 32 (word_of (rank_of l) ∷ words_of v l)
 
-said_words : (v : ℕ) (l : PlainLine) → v < 2 ^ 64 → FitsLine v l → said v (rank_of l) (words_of v l) ≡ Ok l
+said_words : (v : CertVersion) (l : PlainLine) → FitsLine v l → said v (rank_of l) (words_of v l) ≡ Ok l
 unfolding said
-said_words v l small fits =
-    let w = words_again (numbers_of v l) (others_of l) (numbers_small v l small fits) (others_last l) in
+said_words v l fits =
+    let w = words_again (numbers_of v l) (others_of l) (numbers_small v l fits) (others_last l) in
     ap₂ (λ (zs : List ℤ) (ws : List (List ℕ)). said_by v (rank_of l) zs ws) w.0 w.1 ∙ said_again v l fits
 
-line_again : (v : ℕ) (before : Option Rank) (l : PlainLine) → v < 2 ^ 64 → FitsLine v l → has_ended before ≡ false → may_follow (rank_of l) before ≡ true → line_said v before (joined v l) ≡ Ok l
+line_again : (v : CertVersion) (before : Option Rank) (l : PlainLine) → FitsLine v l → has_ended before ≡ false → may_follow (rank_of l) before ≡ true → line_said v before (joined v l) ≡ Ok l
 unfolding line_said
-line_again v before l small fits open_end follows =
+line_again v before l fits open_end follows =
     ap (λ (b : Bool). cond b (Err causes.End) (said_in v before (slice_split (λ k. k == 32) (joined v l)))) open_end
-    ∙ ap (said_in v before) (joined_again (word_of (rank_of l)) (words_of v l) (line_words v l small fits))
+    ∙ ap (said_in v before) (joined_again (word_of (rank_of l)) (words_of v l) (line_words v l fits))
     ∙ ap (λ (r : Option Rank). where_it_may_stand v before r (words_of v l)) (word_ranks (rank_of l))
     ∙ ap (λ (b : Bool). cond b (said v (rank_of l) (words_of v l)) (Err causes.Form)) follows
-    ∙ said_words v l small fits
+    ∙ said_words v l fits
 
 -- ---- lines in their order
 
 -- lines that fit, each behind the one before, up to the last of all
-abbrev AreInOrder : ℕ → Option Rank → List PlainLine → Type 0
+abbrev AreInOrder : CertVersion → Option Rank → List PlainLine → Type 0
 AreInOrder v before [] = has_ended before ≡ true
 AreInOrder v before (l ∷ ls) = (has_ended before ≡ false) × (may_follow (rank_of l) before ≡ true) × FitsLine v l × AreInOrder v (Some (rank_of l)) ls
 
@@ -80,17 +83,17 @@ nothing_left : (number : ℕ) (before : Option Rank) (c : PlainCertificate) → 
 unfolding reads_on
 nothing_left number before c ended = ap (λ (b : Bool). cond b (Ok c) (ends_at number)) ended
 
-lines_read : (v number : ℕ) (before : Option Rank) (c : PlainCertificate) (ls : List PlainLine) → v < 2 ^ 64 → c.version ≡ v → AreInOrder v before ls
+lines_read : (v : CertVersion) (number : ℕ) (before : Option Rank) (c : PlainCertificate) (ls : List PlainLine) → c.version ≡ v → AreInOrder v before ls
     → reads_on number before c (slice_split (λ b. b == 10) (flat_map (line_text v) ls)) ≡ Ok (with_lines c ls)
-lines_read v number before c [] small same order = nothing_left number before c order
-lines_read v number before c (l ∷ ls) small same order =
+lines_read v number before c [] same order = nothing_left number before c order
+lines_read v number before c (l ∷ ls) same order =
     let rest = flat_map (line_text v) ls in
     let parts = slice_split (λ b. b == 10) rest in
     let some : 0 < length parts = omega (arith, length-slice_split (λ b. b == 10) rest) in
-    let is : line_said c.version before (joined v l) ≡ Ok l = ap (λ (k : ℕ). line_said k before (joined v l)) same ∙ line_again v before l small order.2 order.0 order.1 in
-    ap (reads_on number before c) (line_first (joined v l) rest (joined_above (word_of (rank_of l)) (words_of v l) (line_words v l small order.2)))
+    let is : line_said c.version before (joined v l) ≡ Ok l = ap (λ (k : CertVersion). line_said k before (joined v l)) same ∙ line_again v before l order.2 order.0 order.1 in
+    ap (reads_on number before c) (line_first (joined v l) rest (joined_above (word_of (rank_of l)) (words_of v l) (line_words v l order.2)))
     ∙ step number before c (joined v l) l parts some is
-    ∙ lines_read v (number + 1) (Some (rank_of l)) (with_line c l) ls small (version_kept c l ∙ same) order.3
+    ∙ lines_read v (number + 1) (Some (rank_of l)) (with_line c l) ls (version_kept c l ∙ same) order.3
 
 -- ---- the lines of a certificate
 
@@ -139,7 +142,7 @@ lines_together c =
     ∙ with_cells (record c { cells = [] }) c.cells last_line
 
 -- lines of one kind, and then others
-more_lines : {A : Type 0} (v : ℕ) (say : A → PlainLine) (r : Rank) (xs : List A) (rest : List PlainLine) (before : Option Rank) → ((x : A) → rank_of (say x) ≡ r)
+more_lines : {A : Type 0} (v : CertVersion) (say : A → PlainLine) (r : Rank) (xs : List A) (rest : List PlainLine) (before : Option Rank) → ((x : A) → rank_of (say x) ≡ r)
     → All (λ x. FitsLine v (say x)) xs
     → may_follow r (Some r) ≡ true → has_ended (Some r) ≡ false → may_follow r before ≡ true → has_ended before ≡ false
     → AreInOrder v before rest → AreInOrder v (Some r) rest → AreInOrder v before (map say xs ++ rest)
@@ -152,10 +155,10 @@ more_lines v say r (x ∷ xs) rest before kind fits again open_again follows ope
       (more_lines v say r xs rest (Some r) kind (All-tail (λ y. FitsLine v (say y)) x xs fits) again open_again again open_again behind behind),
 )
 
-last_in_order : (v : ℕ) (r : Rank) → has_ended (Some r) ≡ false → may_follow rank.End (Some r) ≡ true → AreInOrder v (Some r) last_line
+last_in_order : (v : CertVersion) (r : Rank) → has_ended (Some r) ≡ false → may_follow rank.End (Some r) ≡ true → AreInOrder v (Some r) last_line
 last_in_order v r open_end follows = (open_end, follows, tt, refl)
 
-cells_in_order : (c : PlainCertificate) (r : Rank) → All FitsCell c.cells → has_ended (Some r) ≡ false → may_follow rank.End (Some r) ≡ true → may_follow rank.Cell (Some r) ≡ true
+cells_in_order : (c : PlainCertificate) (r : Rank) → All (FitsCell (most_objects c.version)) c.cells → has_ended (Some r) ≡ false → may_follow rank.End (Some r) ≡ true → may_follow rank.Cell (Some r) ≡ true
     → AreInOrder c.version (Some r) (cell_lines c)
 cells_in_order c r fits open_end ends follows =
     more_lines c.version Cell rank.Cell c.cells last_line (Some r) (λ x. refl) fits refl refl follows open_end (last_in_order c.version r open_end ends) (last_in_order c.version rank.Cell refl refl)
@@ -175,15 +178,15 @@ shells_in_order c r fits open_end ends cells boxes follows each =
     (boxes_in_order c r fits open_end ends cells boxes each) (boxes_in_order c rank.Shell fits refl refl refl refl each)
 
 -- what the version says of sizes and boxes
-sizes_of_version : (v : ℕ) (xs : List SizeOfLine) (boxes : List PlainBoxLine) → ((v ≡ 1) × (xs ≡ []) × All (λ b. b.first ≡ b.last) boxes) ⊎ (v ≡ 2) → All FitsSize xs
+sizes_of_version : (v : CertVersion) (xs : List SizeOfLine) (boxes : List PlainBoxLine) → IsOfVersion v xs boxes → All (FitsSize (most_objects v)) xs
     → All (λ s. FitsLine v (Size s)) xs
-sizes_of_version v xs boxes (inl one) fits = λ k d less. absurd (let none : length xs ≡ 0 = ap length one.1 in omega arith)
-sizes_of_version v xs boxes (inr two) fits = λ k d less. (two, fits k d less)
+sizes_of_version One xs boxes first fits = λ k d less. absurd (let none : length xs ≡ 0 = ap length first.0 in omega arith)
+sizes_of_version Two xs boxes second fits = fits
 
-boxes_of_version : (v : ℕ) (xs : List SizeOfLine) (boxes : List PlainBoxLine) → ((v ≡ 1) × (xs ≡ []) × All (λ b. b.first ≡ b.last) boxes) ⊎ (v ≡ 2) → All FitsBox boxes
+boxes_of_version : (v : CertVersion) (xs : List SizeOfLine) (boxes : List PlainBoxLine) → IsOfVersion v xs boxes → All (FitsBox (most_objects v)) boxes
     → All (λ b. FitsLine v (Box b)) boxes
-boxes_of_version v xs boxes (inl one) fits = λ k d less. (fits k d less, λ _. one.2 k d less)
-boxes_of_version v xs boxes (inr two) fits = λ k d less. (fits k d less, λ one. absurd (omega arith))
+boxes_of_version One xs boxes first fits = λ k d less. (fits k d less, first.1 k d less)
+boxes_of_version Two xs boxes second fits = λ k d less. (fits k d less, tt)
 
 lines_in_order : (c : PlainCertificate) → Fits c → AreInOrder c.version None (lines_of c)
 lines_in_order c fits =
@@ -211,11 +214,11 @@ lines_in_order c fits =
     )
 
 -- the text of a certificate is the text of its lines
-told_lines : (v : ℕ) (ls : List PlainLine) → flat_map (line_text v) ls ≡ flat_map (told v) ls
+told_lines : (v : CertVersion) (ls : List PlainLine) → flat_map (line_text v) ls ≡ flat_map (told v) ls
 told_lines v [] = refl
 told_lines v (l ∷ ls) = ap₂ (λ (t u : List ℕ). t ++ u) (text_is_told v l) (told_lines v ls)
 
-told_kind : {A : Type 0} (v : ℕ) (say : A → PlainLine) (xs : List A) (rest : List PlainLine) → flat_map (told v) (map say xs ++ rest) ≡ flat_map (λ x. told v (say x)) xs ++ flat_map (told v) rest
+told_kind : {A : Type 0} (v : CertVersion) (say : A → PlainLine) (xs : List A) (rest : List PlainLine) → flat_map (told v) (map say xs ++ rest) ≡ flat_map (λ x. told v (say x)) xs ++ flat_map (told v) rest
 told_kind v say xs rest = flat_map-append (told v) (map say xs) rest ∙ ap (λ (t : List ℕ). t ++ flat_map (told v) rest) (flat_map-map (told v) say xs)
 
 told_all : (c : PlainCertificate) → flat_map (told c.version) (lines_of c) ≡ text_of c
@@ -235,35 +238,27 @@ told_all c =
 
 -- ---- the version
 
-version_text : (c : PlainCertificate) → (c.version ≡ 1) ⊎ (c.version ≡ 2) → version_of (text_of c) ≡ c.version
+version_text : (c : PlainCertificate) → version_of (text_of c) ≡ c.version
 unfolding text_of row
-version_text c is = by is
+version_text c = by c.version
   where
-    version_by : List ℕ → ℕ
+    version_by : List ℕ → CertVersion
     version_by digits = version_of (
         ((codes "CONJ-CERT" ++ 32 ∷ digits) ++ 10 ∷ []) ++ row (codes "WINDOW") (pos c.first ∷ pos c.last ∷ []) ++ row (codes "THRESHOLD") (pos c.threshold ∷ []) ++ row
         (codes "OBJECTS") (pos c.objects ∷ [])
         ++ flat_map size_text c.sizes ++ flat_map shell_text c.shells ++ flat_map (box_text c.version) c.boxes ++ flat_map cell_text c.cells ++ row (codes "END") []
         )
 
-    by : (c.version ≡ 1) ⊎ (c.version ≡ 2) → version_of (text_of c) ≡ c.version
-    by (inl one) = ap (λ (k : ℕ). version_by (decimal k)) one ∙ ap version_by (decimal_digit 1 (omega arith)) ∙ sym one
-    by (inr two) = ap (λ (k : ℕ). version_by (decimal k)) two ∙ ap version_by (decimal_digit 2 (omega arith)) ∙ sym two
-
-version_fits : (c : PlainCertificate) → Fits c → (c.version ≡ 1) ⊎ (c.version ≡ 2)
-version_fits c fits = by fits.version
-  where
-    by : ((c.version ≡ 1) × (c.sizes ≡ []) × All (λ b. b.first ≡ b.last) c.boxes) ⊎ (c.version ≡ 2) → (c.version ≡ 1) ⊎ (c.version ≡ 2)
-    by (inl one) = inl one.0
-    by (inr two) = inr two
+    by : (v : CertVersion) → version_by (decimal (number_of_version v)) ≡ v
+    by One = ap version_by (decimal_digit 1 (omega arith))
+    by Two = ap version_by (decimal_digit 2 (omega arith))
 
 -- the text of a certificate that fits is read as it
 pub reading_again : (c : PlainCertificate) → Fits c → reading (text_of c) ≡ Ok c
 unfolding reading
 reading_again c fits =
     let v = c.version in
-    let is = version_fits c fits in
-    ap (λ (k : ℕ). reads_on 1 None (nothing_said k) (slice_split (λ b. b == 10) (text_of c))) (version_text c is)
+    ap (λ (k : CertVersion). reads_on 1 None (nothing_said k) (slice_split (λ b. b == 10) (text_of c))) (version_text c)
     ∙ ap (λ (t : List ℕ). reads_on 1 None (nothing_said v) (slice_split (λ b. b == 10) t)) (sym (told_lines v (lines_of c) ∙ told_all c))
-    ∙ lines_read v 1 None (nothing_said v) (lines_of c) (small_version v is) refl (lines_in_order c fits)
+    ∙ lines_read v 1 None (nothing_said v) (lines_of c) refl (lines_in_order c fits)
     ∙ ap (λ (x : PlainCertificate). Ok x) (lines_together c)

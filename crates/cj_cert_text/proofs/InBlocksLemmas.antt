@@ -1,10 +1,10 @@
 -- Certificates of version 2 from their parts.
-use Rattle.std.proofs.Common.{◌≡◌, ℕ, ◌+◌, ◌<◌, Bool, cond, List, [], ◌∷◌, ◌++◌, length, get_or, map, filter, take, Option, sym, ap, ◌∙◌, subst}
+use Rattle.std.proofs.Common.{◌≡◌, ℕ, ◌+◌, ◌<◌, Bool, List, [], ◌∷◌, ◌++◌, length, get_or, map, filter, take, Option, sym, ap, ◌∙◌, subst}
 use Rattle.std.specs.Prelude.{All}
 use Rattle.std.specs.List.{enumerate_from, flat_map, range_with_len}
-use Rattle.std.proofs.lemmas.Bool.{eq-eqb}
 use Rattle.std.proofs.lemmas.List.{map_push, take_more}
 use Rattle.cj_interval.proofs.ListLemmas.{Each, Each-weaker, All-from_each, each_from_map, Each-filter}
+use Rattle.cj_causes.specs.declared.cert_version.CertVersion.TheVariants.{Two}
 use Rattle.cj_hermite.specs.declared.pair.Pair.{Pair}
 use Rattle.cj_hermite.specs.Pairs.{objects_of, pairs_of}
 use Rattle.cj_hermite.specs.PlainProblems.{PlainProblem}
@@ -18,7 +18,7 @@ use Rattle.cj_cert.specs.declared.cert_lines.ShellLine.{ShellLine}
 use Rattle.cj_cert.specs.declared.cert_lines.SizeOfLine.{SizeOfLine}
 use Rattle.cj_cert.specs.Certificates.{PlainBoxLine, PlainCertificate}
 use Rattle.cj_cert.specs.Listed.{box_listed}
-use Rattle.cj_cert.specs.Rewritten.{size_lines, line_of_block, boxes_by_lines, pairs_by_shells, given_of, with_blocks, rewritten, in_version_2, written_in}
+use Rattle.cj_cert.specs.Rewritten.{size_lines, line_of_block, boxes_by_lines, pairs_by_shells, given_of, with_blocks, rewritten, written_in}
 use Rattle.cj_bezier.specs.AllBoxes.{boxes_of}
 use Rattle.cj_cert.specs.Written.{leaves_in_order, shell_line, written}
 use Rattle.cj_cert.proofs.WrittenLineLemmas.{of_lines_in}
@@ -35,7 +35,7 @@ pairs_of_objects n m test kept same count =
 -- a certificate in version 2 with these sizes and boxes
 abbrev with_lines : PlainCertificate → List SizeOfLine → List PlainBoxLine → PlainCertificate
 with_lines c sizes boxes = record {
-  version = 2;
+  version = Two;
   first = c.first;
   last = c.last;
   threshold = c.threshold;
@@ -55,22 +55,21 @@ pub listed_in_order : (case : PlainProblem) (lines : List PlainBoxLine) (objects
 unfolding boxes_by_lines
 listed_in_order case lines objects slots many wide = λ i. flat_map (λ object. map (λ slot. box_listed lines slot object) (range_with_len 0 (wide i))) (range_with_len 0 (many i))
 
-pub rewritten_is : (case : PlainProblem) (c : PlainCertificate) (sizes : List SizeOfLine) (lines : List PlainBoxLine) (boxes : List (Option PlainBox)) (kept : List (ℕ × ℕ)) → c.version ≡ 1
-    → sizes ≡ size_lines case.sizes → lines ≡ lines_over case boxes kept → boxes ≡ boxes_by_lines case c.boxes → kept ≡ pairs_by_shells case c → with_lines c sizes lines ≡ in_version_2 case c
+pub rewritten_is : (case : PlainProblem) (c : PlainCertificate) (sizes : List SizeOfLine) (lines : List PlainBoxLine) (boxes : List (Option PlainBox)) (kept : List (ℕ × ℕ))
+    → sizes ≡ size_lines case.sizes → lines ≡ lines_over case boxes kept → boxes ≡ boxes_by_lines case c.boxes → kept ≡ pairs_by_shells case c → with_lines c sizes lines ≡ rewritten case c
 unfolding with_blocks
-rewritten_is case c sizes lines boxes kept first same are by_lines by_shells =
+rewritten_is case c sizes lines boxes kept same are by_lines by_shells =
     (λ i. with_lines c (same i) (are i))
     ∙ (λ i. with_lines c (size_lines case.sizes) (lines_over case (by_lines i) (by_shells i)))
-    ∙ ap (λ (b : Bool). cond b (rewritten case c) c) (sym (eq-eqb c.version 1 first))
 
 -- what a run writes in version 2
 pub written_is : (case : PlainProblem) (objects : ℕ) (sizes : List SizeOfLine) (shells : List ShellLine) (lines : List PlainBoxLine) (cells : List PlainLeaf) (boxes : List (Option PlainBox)) (kept : List (ℕ × ℕ))
     → objects ≡ length case.ephemerides → sizes ≡ size_lines case.sizes → shells ≡ map (shell_line case) (enumerate_from 0 case.ephemerides) → lines ≡ lines_over case boxes kept
-    → boxes ≡ boxes_of case → kept ≡ pairs_kept case → cells ≡ leaves_in_order case → of_lines_in 2 case objects sizes shells lines cells ≡ written_in 2 case
+    → boxes ≡ boxes_of case → kept ≡ pairs_kept case → cells ≡ leaves_in_order case → of_lines_in Two case objects sizes shells lines cells ≡ written_in Two case
 unfolding with_blocks written
 written_is case objects sizes shells lines cells boxes kept many same rounds are by_place by_pair leaves =
-    (λ i. of_lines_in 2 case (many i) (same i) (rounds i) (are i) (leaves i))
-    ∙ (λ i. of_lines_in 2 case (length case.ephemerides) (size_lines case.sizes) (map (shell_line case) (enumerate_from 0 case.ephemerides)) (lines_over case (by_place i) (by_pair i)) (leaves_in_order case))
+    (λ i. of_lines_in Two case (many i) (same i) (rounds i) (are i) (leaves i))
+    ∙ (λ i. of_lines_in Two case (length case.ephemerides) (size_lines case.sizes) (map (shell_line case) (enumerate_from 0 case.ephemerides)) (lines_over case (by_place i) (by_pair i)) (leaves_in_order case))
 
 -- what comes of one element more
 pub mapped_more : {A B : Type 0} (f : A → B) (xs : List A) (i : ℕ) (d : A) (old new : List B) → i < length xs → old ≡ map f (take i xs) → new ≡ old ++ f (get_or xs i d) ∷ []

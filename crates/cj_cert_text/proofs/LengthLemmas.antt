@@ -1,12 +1,15 @@
 -- How long the text of a certificate may be.
-use Rattle.std.proofs.Common.{◌≡◌, ℕ, suc, ◌+◌, ◌*◌, ◌^◌, ◌<◌, ◌≤◌, ◌⊎◌, inl, inr, Bool, true, false, List, [], ◌∷◌, ◌++◌, length, All}
+use Rattle.std.proofs.Common.{◌≡◌, ℕ, suc, ◌+◌, ◌*◌, ◌^◌, ◌<◌, ◌≤◌, List, [], ◌∷◌, ◌++◌, length, All}
 use Rattle.std.proofs.Common.{Option, Some, None, refl, ap, arith}
-use Rattle.std.specs.Prelude.{ℤ, pos, negsuc, unsigned_abs, IfSome, codes, flat_map, get_or, map, ◌==◌, if◌then◌else◌}
+use Rattle.std.specs.Prelude.{ℤ, pos, negsuc, unsigned_abs, IfSome, codes, flat_map, get_or, map}
 use Rattle.std.specs.Fmt.{signed_decimal}
 use Rattle.std.specs.List.{join_with_byte}
 use Rattle.std.proofs.lemmas.Fmt.{length-decimal-le}
 use Rattle.std.proofs.lemmas.List.{length-append}
 use Rattle.std.proofs.lemmas.List.Elements.{All-head, All-tail}
+use Rattle.cj_causes.specs.declared.cert_version.CertVersion.{CertVersion}
+use Rattle.cj_causes.specs.declared.cert_version.CertVersion.TheVariants.{One, Two}
+use Rattle.cj_causes.specs.Versions.{most_objects, number_of_version}
 use Rattle.cj_bezier.specs.declared.kind.Kind.{Kind}
 use Rattle.cj_bezier.specs.declared.kind.Kind.TheVariants as kinds
 use Rattle.cj_bezier.specs.declared.shells.Shell.{Shell as Radii}
@@ -14,12 +17,13 @@ use Rattle.cj_bezier.specs.Leaves.{PlainLeaf}
 use Rattle.cj_bezier.specs.Shells.{MAX_RADIUS}
 use Rattle.cj_cert.specs.declared.cert_lines.SizeOfLine.{SizeOfLine}
 use Rattle.cj_cert.specs.Certificates.{PlainBoxLine, PlainCertificate}
-use Rattle.cj_cert_text.specs.Fits.{Fits, FitsBox, FitsCell, FitsSize}
-use Rattle.cj_cert_text.specs.Lines.{Box, Cell, MAX_OBJECTS, Objects, Threshold, Window}
+use Rattle.cj_cert_text.specs.Fits.{Fits, FitsBox, FitsCell, FitsSize, IsOfVersion}
+use Rattle.cj_cert_text.specs.Lines.{Box, Cell, Objects, Threshold, Window}
 use Rattle.cj_cert_text.specs.Texts.{box_text, cell_text, ends, head_text, kind_word, number, row, row_ended}
 use Rattle.cj_cert_text.specs.Texts.{shell_row, shell_text, size_text, slots, spaced_numbers, text_of}
 use Rattle.cj_cert_text.proofs.RowLemmas.{join-ended, join-spaced}
 use Rattle.cj_cert_text.proofs.AgainLemmas.{numbers_small}
+use Rattle.cj_cert_text.proofs.LineLemmas.{FitsSlots, small_version}
 use Rattle.cj_cert_text.proofs.WordLemmas.{AreSmall}
 
 -- ---- numbers
@@ -35,12 +39,18 @@ numbers_length (z ∷ zs) small =
     omega (arith, length-append (32 ∷ signed_decimal z) (spaced_numbers zs), number_length z small.0, numbers_length zs small.1)
 
 -- that of an object has four digits at most
-object_length : (object : ℕ) (zs : List ℤ) → object < MAX_OBJECTS → length (spaced_numbers (number object ∷ zs)) ≤ 5 + length (spaced_numbers zs)
-object_length object zs few =
+four_digits : (v : CertVersion) → most_objects v < 10 ^ 4
+four_digits One = omega arith
+four_digits Two = omega arith
+
+object_length : (v : CertVersion) (object : ℕ) (zs : List ℤ) → object < most_objects v → length (spaced_numbers (number object ∷ zs)) ≤ 5 + length (spaced_numbers zs)
+object_length v object zs few =
     omega (
       arith,
+      four_digits v,
+      few,
       length-append (32 ∷ signed_decimal (number object)) (spaced_numbers zs),
-      length-decimal-le 4 (object + 1) (omega arith) (omega arith) (omega arith),
+      length-decimal-le 4 (object + 1) (omega arith) (omega (arith, four_digits v, few)) (omega (arith, four_digits v, few)),
     )
 
 -- ---- lines
@@ -66,54 +76,54 @@ row_ended_length word last zs =
       length-append (spaced_numbers zs) (32 ∷ last),
     )
 
-size_length : (s : SizeOfLine) → FitsSize s → length (size_text s) ≤ 32
-size_length s fits =
+size_length : (v : CertVersion) (s : SizeOfLine) → FitsSize (most_objects v) s → length (size_text s) ≤ 32
+size_length v s fits =
     let size : List ℤ = pos s.size ∷ [] in
     omega (
       arith,
       row_length (codes "SIZE") (number s.object ∷ size),
-      object_length s.object size fits.object,
+      object_length v s.object size fits.object,
       numbers_length size (omega (arith, fits.size), tt),
     )
 
-shell_length : (object : ℕ) (shell : Option Radii) → object < MAX_OBJECTS → IfSome shell (λ r. r.lo ≤ r.hi × r.hi ≤ MAX_RADIUS)
+shell_length : (v : CertVersion) (object : ℕ) (shell : Option Radii) → object < most_objects v → IfSome shell (λ r. r.lo ≤ r.hi × r.hi ≤ MAX_RADIUS)
     → length (shell_row object shell) ≤ 55
-shell_length object None few radii =
-    omega (arith, row_ended_length (codes "SHELL") (codes "NONE") (number object ∷ []), object_length object [] few)
-shell_length object (Some r) few radii =
+shell_length v object None few radii =
+    omega (arith, row_ended_length (codes "SHELL") (codes "NONE") (number object ∷ []), object_length v object [] few)
+shell_length v object (Some r) few radii =
     let ends : List ℤ = pos r.lo ∷ pos r.hi ∷ [] in
     omega (
       arith,
       row_length (codes "SHELL") (number object ∷ ends),
-      object_length object ends few,
+      object_length v object ends few,
       numbers_length ends (omega (arith, radii.0, radii.1), (omega (arith, radii.1), tt)),
     )
 
-box_length : (version : ℕ) (b : PlainBoxLine) → version < 2 ^ 64 → (version ≡ 1 → b.first ≡ b.last) → FitsBox b → length (box_text version b) ≤ 185
-box_length version b small same fits =
-    let rest = slots version b ++ ends b.area in
+box_length : (v : CertVersion) (b : PlainBoxLine) → FitsSlots v b → FitsBox (most_objects v) b → length (box_text v b) ≤ 185
+box_length v b same fits =
+    let rest = slots v b ++ ends b.area in
     omega (
       arith,
       row_length (codes "BOX") (number b.object ∷ rest),
-      object_length b.object rest fits.object,
-      numbers_length rest (numbers_small version (Box b) small (fits, same)).1,
-      length-append (slots version b) (ends b.area),
-      few (version == 1),
+      object_length v b.object rest fits.object,
+      numbers_length rest (numbers_small v (Box b) (fits, same)).1,
+      length-append (slots v b) (ends b.area),
+      few v,
     )
   where
-    few : (one : Bool) → length (if one then pos b.first ∷ [] else pos b.first ∷ pos b.last ∷ []) ≤ 2
-    few true = omega arith
-    few false = omega arith
+    few : (w : CertVersion) → length (slots w b) ≤ 2
+    few One = omega arith
+    few Two = omega arith
 
-cell_length : (s : PlainLeaf) → FitsCell s → length (cell_text s) ≤ 61
-cell_length s fits =
+cell_length : (v : CertVersion) (s : PlainLeaf) → FitsCell (most_objects v) s → length (cell_text s) ≤ 61
+cell_length v s fits =
     let ticks : List ℤ = pos s.first ∷ pos s.last ∷ [] in
     omega (
       arith,
       row_ended_length (codes "CELL") (kind_word s.kind) (number s.a ∷ number s.b ∷ ticks),
-      object_length s.a (number s.b ∷ ticks) (omega (arith, fits.ordered, fits.objects)),
-      object_length s.b ticks fits.objects,
-      numbers_length ticks (numbers_small 1 (Cell s) (omega arith) fits).1.1,
+      object_length v s.a (number s.b ∷ ticks) (omega (arith, fits.ordered, fits.objects)),
+      object_length v s.b ticks fits.objects,
+      numbers_length ticks (numbers_small v (Cell s) fits).1.1,
       letter s.kind,
     )
   where
@@ -135,9 +145,9 @@ parts_length f most (x ∷ xs) short =
       parts_length f most xs (All-tail (λ y. length (f y) ≤ most) x xs short),
     )
 
-head_length : (c : PlainCertificate) → c.version < 2 ^ 64 → Fits c → length (head_text c) ≤ 200
-head_length c small fits =
-    let version : List ℤ = pos c.version ∷ [] in
+head_length : (c : PlainCertificate) → Fits c → length (head_text c) ≤ 200
+head_length c fits =
+    let version : List ℤ = pos (number_of_version c.version) ∷ [] in
     let window : List ℤ = pos c.first ∷ pos c.last ∷ [] in
     let threshold : List ℤ = pos c.threshold ∷ [] in
     let objects : List ℤ = pos c.objects ∷ [] in
@@ -154,27 +164,16 @@ head_length c small fits =
       row_length (codes "WINDOW") window,
       row_length (codes "THRESHOLD") threshold,
       row_length (codes "OBJECTS") objects,
-      numbers_length version (small, tt),
-      numbers_length window (numbers_small 1 (Window c.first c.last) (omega arith) (fits.first, fits.last)),
-      numbers_length threshold (numbers_small 1 (Threshold c.threshold) (omega arith) (fits.some, fits.threshold)),
-      numbers_length objects (numbers_small 1 (Objects c.objects) (omega arith) fits.objects),
+      numbers_length version (omega (arith, small_version c.version), tt),
+      numbers_length window (numbers_small c.version (Window c.first c.last) (fits.first, fits.last)),
+      numbers_length threshold (numbers_small c.version (Threshold c.threshold) (fits.some, fits.threshold)),
+      numbers_length objects (numbers_small c.version (Objects c.objects) fits.objects),
     )
 
-boxes_length : (c : PlainCertificate) → Fits c → All (λ b. length (box_text c.version b) ≤ 185) c.boxes
-boxes_length c fits = by fits.version
-  where
-    by : ((c.version ≡ 1) × (c.sizes ≡ []) × All (λ b. b.first ≡ b.last) c.boxes) ⊎ (c.version ≡ 2)
-        → All (λ b. length (box_text c.version b) ≤ 185) c.boxes
-    by (inl one) k d below = box_length c.version (get_or c.boxes k d) (omega (arith, one.0)) (λ is. one.2 k d below) (fits.boxes k d below)
-    by (inr two) k d below =
-        box_length c.version (get_or c.boxes k d) (omega (arith, two)) (λ is. absurd (omega (arith, two, is))) (fits.boxes k d below)
-
-version_small : (c : PlainCertificate) → Fits c → c.version < 2 ^ 64
-version_small c fits = by fits.version
-  where
-    by : ((c.version ≡ 1) × (c.sizes ≡ []) × All (λ b. b.first ≡ b.last) c.boxes) ⊎ (c.version ≡ 2) → c.version < 2 ^ 64
-    by (inl one) = omega (arith, one.0)
-    by (inr two) = omega (arith, two)
+boxes_length : (v : CertVersion) (sizes : List SizeOfLine) (boxes : List PlainBoxLine) → IsOfVersion v sizes boxes → All (FitsBox (most_objects v)) boxes
+    → All (λ b. length (box_text v b) ≤ 185) boxes
+boxes_length One sizes boxes first fits k d below = box_length One (get_or boxes k d) (first.1 k d below) (fits k d below)
+boxes_length Two sizes boxes second fits k d below = box_length Two (get_or boxes k d) tt (fits k d below)
 
 -- the text of a certificate with no more lines than there are for a case within the limits may be read again
 pub text_short : (c : PlainCertificate) → Fits c → length c.sizes ≤ 2000 → length c.shells ≤ 2000 → length c.boxes ≤ 4_000_000 → length c.cells ≤ 4_000_000
@@ -187,18 +186,18 @@ text_short c fits few_sizes few_shells few_boxes few_cells =
     let boxes = flat_map (box_text c.version) c.boxes in
     let cells = flat_map cell_text c.cells in
     let each_shell : All (λ s. length (shell_text s) ≤ 55) c.shells = λ k d below.
-    let s = get_or c.shells k d in let own = fits.shells k d below in shell_length s.object s.shell own.object own.radii in
+    let s = get_or c.shells k d in let own = fits.shells k d below in shell_length c.version s.object s.shell own.object own.radii in
     omega (
       arith,
       few_sizes,
       few_shells,
       few_boxes,
       few_cells,
-      head_length c (version_small c fits) fits,
-      parts_length size_text 32 c.sizes (λ k d below. size_length (get_or c.sizes k d) (fits.sizes k d below)),
+      head_length c fits,
+      parts_length size_text 32 c.sizes (λ k d below. size_length c.version (get_or c.sizes k d) (fits.sizes k d below)),
       parts_length shell_text 55 c.shells each_shell,
-      parts_length (box_text c.version) 185 c.boxes (boxes_length c fits),
-      parts_length cell_text 61 c.cells (λ k d below. cell_length (get_or c.cells k d) (fits.cells k d below)),
+      parts_length (box_text c.version) 185 c.boxes (boxes_length c.version c.sizes c.boxes fits.version fits.boxes),
+      parts_length cell_text 61 c.cells (λ k d below. cell_length c.version (get_or c.cells k d) (fits.cells k d below)),
       row_length (codes "END") [],
       length-append head sizes,
       length-append (head ++ sizes) shells,

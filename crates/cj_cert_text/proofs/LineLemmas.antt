@@ -1,9 +1,9 @@
 -- What a line says, and the line that says it.
 use Rattle.std.proofs.Common.{◌≡◌, ℕ, ◌+◌, ◌-◌, ◌^◌, ◌<◌, ◌≤◌, List, [], ◌∷◌, ◌++◌, arith, ap, ap₂, sym, ◌∙◌, refl, subst, true, false, Bool, cond, ℤ, pos, negsuc, Option, Some}
 use Rattle.std.proofs.Common.{None, Result, Ok, Err}
-use Rattle.std.specs.Prelude.{◌==◌, ◌&&◌, if◌then◌else◌, unsigned_abs, codes, int_le, int_lt, neg_ℤ}
+use Rattle.std.specs.Prelude.{◌&&◌, unsigned_abs, codes, int_le, int_lt, neg_ℤ}
 use Rattle.std.specs.Str.{bytes_eq}
-use Rattle.std.proofs.lemmas.Bool.{and_parts, eqb-true, eq-eqb, le-leb, leb-true}
+use Rattle.std.proofs.lemmas.Bool.{and_parts, le-leb, leb-true}
 use Rattle.std.proofs.lemmas.Int.{ints}
 use Rattle.std.proofs.lemmas.Slice.Eq.{bytes_eq-Decides}
 use Rattle.cj_ticks.specs.Ticks.{IsTick, FIRST_TICK, LAST_TICK}
@@ -15,6 +15,9 @@ use Rattle.cj_bezier.specs.Shells.{MAX_RADIUS}
 use Rattle.cj_cert.specs.declared.cert_lines.ShellLine.{ShellLine}
 use Rattle.cj_cert.specs.declared.cert_lines.SizeOfLine.{SizeOfLine}
 use Rattle.cj_causes.specs.declared.cert_cause.CertCause.{CertCause}
+use Rattle.cj_causes.specs.declared.cert_version.CertVersion.{CertVersion}
+use Rattle.cj_causes.specs.declared.cert_version.CertVersion.TheVariants.{One, Two}
+use Rattle.cj_causes.specs.Versions.{most_objects, number_of_version}
 use Rattle.cj_cert_text.specs.declared.rank.Rank.{Rank}
 use Rattle.cj_cert_text.specs.declared.rank.Rank.TheVariants as rank
 use Rattle.cj_cert.specs.Certificates.{PlainBoxLine}
@@ -22,7 +25,7 @@ use Rattle.cj_cert_text.specs.Fits.{FitsSize, FitsShell, FitsBox, FitsCell}
 use Rattle.cj_cert_text.specs.Lines as spec
 use Rattle.cj_cert_text.specs.Lines.{PlainLine, Heading, Window, Threshold, Objects, Size, Shell, Box, Cell, End, rank_of, said_by, in_range, is_from, is_tick, is_object, is_slot}
 use Rattle.cj_hermite.specs.Limits.{MAX_SIZE}
-use Rattle.cj_cert_text.specs.Lines.{is_radius, is_coordinate, is_reach, object_of, MAX_OBJECTS, MAX_THRESHOLD}
+use Rattle.cj_cert_text.specs.Lines.{is_radius, is_coordinate, is_reach, object_of, MAX_THRESHOLD}
 use Rattle.cj_cert_text.specs.Ranks.{rank_of_word}
 use Rattle.cj_cert_text.specs.Texts.{line, number, slots, ends, kind_word}
 use Rattle.cj_cert_text.proofs.WordLemmas.{texts}
@@ -85,8 +88,8 @@ abbrev pub shell_numbers : ℕ → Option Radii → List ℤ
 shell_numbers object None = number object ∷ []
 shell_numbers object (Some r) = number object ∷ pos r.lo ∷ pos r.hi ∷ []
 
-abbrev pub numbers_of : ℕ → PlainLine → List ℤ
-numbers_of v Heading = pos v ∷ []
+abbrev pub numbers_of : CertVersion → PlainLine → List ℤ
+numbers_of v Heading = pos (number_of_version v) ∷ []
 numbers_of v (Window first last) = pos first ∷ pos last ∷ []
 numbers_of v (Threshold threshold) = pos threshold ∷ []
 numbers_of v (Objects count) = pos count ∷ []
@@ -112,19 +115,28 @@ others_of (Cell s) = kind_word s.kind ∷ []
 others_of End = []
 
 -- the words of a line behind its first
-abbrev pub words_of : ℕ → PlainLine → List (List ℕ)
+abbrev pub words_of : CertVersion → PlainLine → List (List ℕ)
 words_of v l = texts (numbers_of v l) ++ others_of l
 
+-- in version 1 no size is told, and each box is of one slot
+abbrev pub FitsSizeIn : CertVersion → SizeOfLine → Type 0
+FitsSizeIn One s = ⊥
+FitsSizeIn Two s = FitsSize (most_objects Two) s
+
+abbrev pub FitsSlots : CertVersion → PlainBoxLine → Type 0
+FitsSlots One b = b.first ≡ b.last
+FitsSlots Two b = Unit {0}
+
 -- its numbers are in their ranges, and it is of this version
-abbrev pub FitsLine : ℕ → PlainLine → Type 0
+abbrev pub FitsLine : CertVersion → PlainLine → Type 0
 FitsLine v Heading = Unit {0}
 FitsLine v (Window first last) = IsTick first × IsTick last
 FitsLine v (Threshold threshold) = (1 ≤ threshold) × (threshold ≤ MAX_THRESHOLD)
-FitsLine v (Objects count) = count ≤ MAX_OBJECTS
-FitsLine v (Size s) = (v ≡ 2) × FitsSize s
-FitsLine v (Shell s) = FitsShell s
-FitsLine v (Box b) = FitsBox b × (v ≡ 1 → b.first ≡ b.last)
-FitsLine v (Cell s) = FitsCell s
+FitsLine v (Objects count) = count ≤ most_objects v
+FitsLine v (Size s) = FitsSizeIn v s
+FitsLine v (Shell s) = FitsShell (most_objects v) s
+FitsLine v (Box b) = FitsBox (most_objects v) b × FitsSlots v b
+FitsLine v (Cell s) = FitsCell (most_objects v) s
 FitsLine v End = Unit {0}
 
 -- ---- ranges
@@ -143,14 +155,23 @@ from_range least most (negsuc n) h = absurd cc
 pub into_range : (least most n : ℕ) → least ≤ n → n ≤ most → is_from least most (pos n) ≡ true
 into_range least most n low high = rw (le-leb least n low, le-leb n most high) refl
 
-object_again : (z : ℤ) → is_object z ≡ true → (number (object_of z) ≡ z) × (object_of z < MAX_OBJECTS)
-object_again z h =
-    let from = from_range 1 MAX_OBJECTS z h in
+-- far below the greatest number that is kept
+pub small_version : (v : CertVersion) → number_of_version v < 2 ^ 32
+small_version One = omega arith
+small_version Two = omega arith
+
+pub small_objects : (v : CertVersion) → most_objects v < 2 ^ 32
+small_objects One = omega arith
+small_objects Two = omega arith
+
+object_again : (v : CertVersion) (z : ℤ) → is_object v z ≡ true → (number (object_of z) ≡ z) × (object_of z < most_objects v)
+object_again v z h =
+    let from = from_range 1 (most_objects v) z h in
     let more : unsigned_abs z - 1 + 1 ≡ unsigned_abs z = omega (arith, from.low) in
     (ap pos more ∙ sym from.value, omega (arith, from.low, from.high))
 
-pub is_object_of : (o : ℕ) → o < MAX_OBJECTS → is_object (number o) ≡ true
-is_object_of o small = into_range 1 MAX_OBJECTS (o + 1) (omega arith) (omega arith)
+pub is_object_of : (v : CertVersion) (o : ℕ) → o < most_objects v → is_object v (number o) ≡ true
+is_object_of v o small = into_range 1 (most_objects v) (o + 1) (omega arith) (omega arith)
 
 pub object_back : (o : ℕ) → object_of (number o) ≡ o
 object_back o = omega arith
@@ -181,7 +202,7 @@ reach_parts least most h =
 -- ---- what is said
 
 -- what a line says is its own numbers and words
-pub record IsSaid (v : ℕ) (r : Rank) (numbers : List ℤ) (others : List (List ℕ)) (l : PlainLine) : Type 0 where
+pub record IsSaid (v : CertVersion) (r : Rank) (numbers : List ℤ) (others : List (List ℕ)) (l : PlainLine) : Type 0 where
   pub rank : rank_of l ≡ r
   pub its_numbers : numbers ≡ numbers_of v l
   pub its_others : others ≡ others_of l
@@ -196,19 +217,24 @@ pub tested : (b : Bool) (x : Result PlainLine CertCause) (cause : CertCause) (l 
 tested true x cause l h = (refl, h)
 tested false x cause l h = absurd cc
 
-heading_said : (v : ℕ) (numbers : List ℤ) (l : PlainLine) → spec.heading v numbers ≡ Ok l → IsSaid v rank.Heading numbers [] l
-heading_said v [] l h = absurd cc
-heading_said v (z ∷ []) l h =
-    let t = tested (int_le z (pos v) && int_le (pos v) z) (Ok Heading) _ l h in
-    let same : Heading ≡ l = let e = t.1 in cc in
-    let parts = and_parts (int_le z (pos v)) (int_le (pos v) z) t.0 in
+-- a number that is neither less nor more
+pub equal_by : (n : ℕ) (z : ℤ) → (int_le z (pos n) && int_le (pos n) z) ≡ true → z ≡ pos n
+equal_by n z is =
+    let parts = and_parts (int_le z (pos n)) (int_le (pos n) z) is in
     let low = parts.0 in
     let high = parts.1 in
-    let equal : z ≡ pos v = grind (arith, ints) in
-    subst (IsSaid v rank.Heading (z ∷ []) []) same (record { rank = refl; its_numbers = ap (λ (y : ℤ). y ∷ []) equal; its_others = refl; fits = tt })
+    grind (arith, ints)
+
+heading_said : (v : CertVersion) (numbers : List ℤ) (l : PlainLine) → spec.heading v numbers ≡ Ok l → IsSaid v rank.Heading numbers [] l
+heading_said v [] l h = absurd cc
+heading_said v (z ∷ []) l h =
+    let n = number_of_version v in
+    let t = tested (int_le z (pos n) && int_le (pos n) z) (Ok Heading) _ l h in
+    let same : Heading ≡ l = let e = t.1 in cc in
+    subst (IsSaid v rank.Heading (z ∷ []) []) same (record { rank = refl; its_numbers = ap (λ (y : ℤ). y ∷ []) (equal_by n z t.0); its_others = refl; fits = tt })
 heading_said v (z ∷ y ∷ zs) l h = absurd cc
 
-window_said : (v : ℕ) (numbers : List ℤ) (l : PlainLine) → spec.window numbers ≡ Ok l → IsSaid v rank.Window numbers [] l
+window_said : (v : CertVersion) (numbers : List ℤ) (l : PlainLine) → spec.window numbers ≡ Ok l → IsSaid v rank.Window numbers [] l
 window_said v [] l h = absurd cc
 window_said v (a ∷ []) l h = absurd cc
 window_said v (a ∷ b ∷ []) l h =
@@ -224,7 +250,7 @@ window_said v (a ∷ b ∷ []) l h =
     })
 window_said v (a ∷ b ∷ c ∷ zs) l h = absurd cc
 
-threshold_said : (v : ℕ) (numbers : List ℤ) (l : PlainLine) → spec.threshold numbers ≡ Ok l → IsSaid v rank.Threshold numbers [] l
+threshold_said : (v : CertVersion) (numbers : List ℤ) (l : PlainLine) → spec.threshold numbers ≡ Ok l → IsSaid v rank.Threshold numbers [] l
 threshold_said v [] l h = absurd cc
 threshold_said v (z ∷ []) l h =
     let r = ranged (is_from 1 MAX_THRESHOLD z) (Threshold (unsigned_abs z)) l h in
@@ -232,43 +258,46 @@ threshold_said v (z ∷ []) l h =
     subst (IsSaid v rank.Threshold (z ∷ []) []) r.1 (record { rank = refl; its_numbers = ap (λ (x : ℤ). x ∷ []) from.value; its_others = refl; fits = (from.low, from.high) })
 threshold_said v (z ∷ y ∷ zs) l h = absurd cc
 
-objects_said : (v : ℕ) (numbers : List ℤ) (l : PlainLine) → spec.objects numbers ≡ Ok l → IsSaid v rank.Objects numbers [] l
+objects_said : (v : CertVersion) (numbers : List ℤ) (l : PlainLine) → spec.objects v numbers ≡ Ok l → IsSaid v rank.Objects numbers [] l
 objects_said v [] l h = absurd cc
 objects_said v (z ∷ []) l h =
-    let r = ranged (is_from 0 MAX_OBJECTS z) (Objects (unsigned_abs z)) l h in
-    let from = from_range 0 MAX_OBJECTS z r.0 in
+    let r = ranged (is_from 0 (most_objects v) z) (Objects (unsigned_abs z)) l h in
+    let from = from_range 0 (most_objects v) z r.0 in
     subst (IsSaid v rank.Objects (z ∷ []) []) r.1 (record { rank = refl; its_numbers = ap (λ (x : ℤ). x ∷ []) from.value; its_others = refl; fits = from.high })
 objects_said v (z ∷ y ∷ zs) l h = absurd cc
 
-size_said : (v : ℕ) (numbers : List ℤ) (l : PlainLine) → spec.size v numbers ≡ Ok l → IsSaid v rank.Size numbers [] l
-size_said v [] l h = absurd cc
-size_said v (i ∷ []) l h = absurd cc
-size_said v (i ∷ z ∷ []) l h =
+size_2_said : (numbers : List ℤ) (l : PlainLine) → spec.size_of Two numbers ≡ Ok l → IsSaid Two rank.Size numbers [] l
+size_2_said [] l h = absurd cc
+size_2_said (i ∷ []) l h = absurd cc
+size_2_said (i ∷ z ∷ []) l h =
     let made : SizeOfLine = record { object = object_of i; size = unsigned_abs z } in
-    let t = tested (v == 2) (in_range (is_object i && is_from 0 MAX_SIZE z) (Size made)) _ l h in
-    let r = ranged (is_object i && is_from 0 MAX_SIZE z) (Size made) l t.1 in
-    let parts = and_parts (is_object i) (is_from 0 MAX_SIZE z) r.0 in
-    let object = object_again i parts.0 in
+    let r = ranged (is_object Two i && is_from 0 MAX_SIZE z) (Size made) l h in
+    let parts = and_parts (is_object Two i) (is_from 0 MAX_SIZE z) r.0 in
+    let object = object_again Two i parts.0 in
     let size = from_range 0 MAX_SIZE z parts.1 in
-    subst (IsSaid v rank.Size (i ∷ z ∷ []) []) r.1 (record {
+    subst (IsSaid Two rank.Size (i ∷ z ∷ []) []) r.1 (record {
       rank = refl;
       its_numbers = ap₂ (λ (x y : ℤ). x ∷ y ∷ []) (sym object.0) size.value;
       its_others = refl;
-      fits = (eqb-true v 2 t.0, record { object = object.1; size = size.high });
+      fits = record { object = object.1; size = size.high };
     })
-size_said v (i ∷ z ∷ y ∷ zs) l h = absurd cc
+size_2_said (i ∷ z ∷ y ∷ zs) l h = absurd cc
 
-radii_said : (v : ℕ) (numbers : List ℤ) (l : PlainLine) → spec.shell numbers ≡ Ok l → IsSaid v rank.Shell numbers [] l
+size_said : (v : CertVersion) (numbers : List ℤ) (l : PlainLine) → spec.size v numbers ≡ Ok l → IsSaid v rank.Size numbers [] l
+size_said One numbers l h = absurd cc
+size_said Two numbers l h = size_2_said numbers l h
+
+radii_said : (v : CertVersion) (numbers : List ℤ) (l : PlainLine) → spec.shell v numbers ≡ Ok l → IsSaid v rank.Shell numbers [] l
 radii_said v [] l h = absurd cc
 radii_said v (i ∷ []) l h = absurd cc
 radii_said v (i ∷ lo ∷ []) l h = absurd cc
 radii_said v (i ∷ lo ∷ hi ∷ []) l h =
     let made : ShellLine = record { object = object_of i; shell = Some (record { lo = unsigned_abs lo; hi = unsigned_abs hi }) } in
-    let r = ranged (is_object i && is_radius lo && is_radius hi && int_le lo hi) (Shell made) l h in
-    let p1 = and_parts (is_object i && is_radius lo && is_radius hi) (int_le lo hi) r.0 in
-    let p2 = and_parts (is_object i && is_radius lo) (is_radius hi) p1.0 in
-    let p3 = and_parts (is_object i) (is_radius lo) p2.0 in
-    let object = object_again i p3.0 in
+    let r = ranged (is_object v i && is_radius lo && is_radius hi && int_le lo hi) (Shell made) l h in
+    let p1 = and_parts (is_object v i && is_radius lo && is_radius hi) (int_le lo hi) r.0 in
+    let p2 = and_parts (is_object v i && is_radius lo) (is_radius hi) p1.0 in
+    let p3 = and_parts (is_object v i) (is_radius lo) p2.0 in
+    let object = object_again v i p3.0 in
     let low = from_range 0 MAX_RADIUS lo p3.1 in
     let high = from_range 0 MAX_RADIUS hi p2.1 in
     subst (IsSaid v rank.Shell (i ∷ lo ∷ hi ∷ []) []) r.1 (record {
@@ -279,13 +308,13 @@ radii_said v (i ∷ lo ∷ hi ∷ []) l h =
     })
 radii_said v (i ∷ lo ∷ hi ∷ z ∷ zs) l h = absurd cc
 
-no_shell_said : (v : ℕ) (numbers : List ℤ) (word : List ℕ) (words : List (List ℕ)) (l : PlainLine) → spec.no_shell numbers (word ∷ words) ≡ Ok l → IsSaid v rank.Shell numbers (word ∷ words) l
+no_shell_said : (v : CertVersion) (numbers : List ℤ) (word : List ℕ) (words : List (List ℕ)) (l : PlainLine) → spec.no_shell v numbers (word ∷ words) ≡ Ok l → IsSaid v rank.Shell numbers (word ∷ words) l
 no_shell_said v [] word words l h = absurd cc
 no_shell_said v (i ∷ []) word [] l h =
     let made : ShellLine = record { object = object_of i; shell = None } in
-    let t = tested (bytes_eq word (codes "NONE")) (in_range (is_object i) (Shell made)) _ l h in
-    let r = ranged (is_object i) (Shell made) l t.1 in
-    let object = object_again i r.0 in
+    let t = tested (bytes_eq word (codes "NONE")) (in_range (is_object v i) (Shell made)) _ l h in
+    let r = ranged (is_object v i) (Shell made) l t.1 in
+    let object = object_again v i r.0 in
     subst (IsSaid v rank.Shell (i ∷ []) (word ∷ [])) r.1 (record {
       rank = refl;
       its_numbers = ap (λ (x : ℤ). x ∷ []) (sym object.0);
@@ -295,13 +324,13 @@ no_shell_said v (i ∷ []) word [] l h =
 no_shell_said v (i ∷ []) word (next ∷ words) l h = absurd cc
 no_shell_said v (i ∷ z ∷ zs) word words l h = absurd cc
 
-shell_said : (v : ℕ) (numbers : List ℤ) (others : List (List ℕ)) (l : PlainLine) → spec.shell_or_none numbers others ≡ Ok l → IsSaid v rank.Shell numbers others l
+shell_said : (v : CertVersion) (numbers : List ℤ) (others : List (List ℕ)) (l : PlainLine) → spec.shell_or_none v numbers others ≡ Ok l → IsSaid v rank.Shell numbers others l
 shell_said v numbers [] l h = radii_said v numbers l h
 shell_said v numbers (word ∷ words) l h = no_shell_said v numbers word words l h
 
 -- the nine tests of a box
-pub record BoxTests (i first last xl xm yl ym zl zm : ℤ) : Type 0 where
-  pub object : is_object i ≡ true
+pub record BoxTests (v : CertVersion) (i first last xl xm yl ym zl zm : ℤ) : Type 0 where
+  pub object : is_object v i ≡ true
   pub from : is_slot first ≡ true
   pub to : is_slot last ≡ true
   pub ordered : int_le first last ≡ true
@@ -309,17 +338,17 @@ pub record BoxTests (i first last xl xm yl ym zl zm : ℤ) : Type 0 where
   pub y : is_reach yl ym ≡ true
   pub z : is_reach zl zm ≡ true
 
-abbrev pub box_test : ℤ → ℤ → ℤ → ℤ → ℤ → ℤ → ℤ → ℤ → ℤ → Bool
-box_test i first last xl xm yl ym zl zm = is_object i && is_slot first && is_slot last && int_le first last && is_reach xl xm && is_reach yl ym && is_reach zl zm
+abbrev pub box_test : CertVersion → ℤ → ℤ → ℤ → ℤ → ℤ → ℤ → ℤ → ℤ → ℤ → Bool
+box_test v i first last xl xm yl ym zl zm = is_object v i && is_slot first && is_slot last && int_le first last && is_reach xl xm && is_reach yl ym && is_reach zl zm
 
-pub box_tests : (i first last xl xm yl ym zl zm : ℤ) → box_test i first last xl xm yl ym zl zm ≡ true → BoxTests i first last xl xm yl ym zl zm
-box_tests i first last xl xm yl ym zl zm h =
-    let p1 = and_parts (is_object i && is_slot first && is_slot last && int_le first last && is_reach xl xm && is_reach yl ym) (is_reach zl zm) h in
-    let p2 = and_parts (is_object i && is_slot first && is_slot last && int_le first last && is_reach xl xm) (is_reach yl ym) p1.0 in
-    let p3 = and_parts (is_object i && is_slot first && is_slot last && int_le first last) (is_reach xl xm) p2.0 in
-    let p4 = and_parts (is_object i && is_slot first && is_slot last) (int_le first last) p3.0 in
-    let p5 = and_parts (is_object i && is_slot first) (is_slot last) p4.0 in
-    let p6 = and_parts (is_object i) (is_slot first) p5.0 in
+pub box_tests : (v : CertVersion) (i first last xl xm yl ym zl zm : ℤ) → box_test v i first last xl xm yl ym zl zm ≡ true → BoxTests v i first last xl xm yl ym zl zm
+box_tests v i first last xl xm yl ym zl zm h =
+    let p1 = and_parts (is_object v i && is_slot first && is_slot last && int_le first last && is_reach xl xm && is_reach yl ym) (is_reach zl zm) h in
+    let p2 = and_parts (is_object v i && is_slot first && is_slot last && int_le first last && is_reach xl xm) (is_reach yl ym) p1.0 in
+    let p3 = and_parts (is_object v i && is_slot first && is_slot last && int_le first last) (is_reach xl xm) p2.0 in
+    let p4 = and_parts (is_object v i && is_slot first && is_slot last) (int_le first last) p3.0 in
+    let p5 = and_parts (is_object v i && is_slot first) (is_slot last) p4.0 in
+    let p6 = and_parts (is_object v i) (is_slot first) p5.0 in
     record { object = p6.0; from = p6.1; to = p5.1; ordered = p4.1; x = p3.1; y = p2.1; z = p1.1 }
 
 abbrev pub the_box : ℤ → ℤ → ℤ → ℤ → ℤ → ℤ → ℤ → ℤ → ℤ → PlainBoxLine
@@ -331,27 +360,27 @@ the_box i first last xl xm yl ym zl zm = record {
 }
 
 -- a box that is said
-record SaysBox (i first last : ℤ) (ns : List ℤ) (l : PlainLine) : Type 0 where
+record SaysBox (v : CertVersion) (i first last : ℤ) (ns : List ℤ) (l : PlainLine) : Type 0 where
   box : PlainBoxLine
   same : Box box ≡ l
   object : number box.object ≡ i
   from : pos box.first ≡ first
   to : pos box.last ≡ last
   reaches : ns ≡ ends box.area
-  fits : FitsBox box
+  fits : FitsBox (most_objects v) box
 
-box_of_said : (i first last : ℤ) (ns : List ℤ) (l : PlainLine) → spec.box_of i first last ns ≡ Ok l → SaysBox i first last ns l
-box_of_said i first last [] l h = absurd cc
-box_of_said i first last (xl ∷ []) l h = absurd cc
-box_of_said i first last (xl ∷ xm ∷ []) l h = absurd cc
-box_of_said i first last (xl ∷ xm ∷ yl ∷ []) l h = absurd cc
-box_of_said i first last (xl ∷ xm ∷ yl ∷ ym ∷ []) l h = absurd cc
-box_of_said i first last (xl ∷ xm ∷ yl ∷ ym ∷ zl ∷ []) l h = absurd cc
-box_of_said i first last (xl ∷ xm ∷ yl ∷ ym ∷ zl ∷ zm ∷ []) l h =
+box_of_said : (v : CertVersion) (i first last : ℤ) (ns : List ℤ) (l : PlainLine) → spec.box_of v i first last ns ≡ Ok l → SaysBox v i first last ns l
+box_of_said v i first last [] l h = absurd cc
+box_of_said v i first last (xl ∷ []) l h = absurd cc
+box_of_said v i first last (xl ∷ xm ∷ []) l h = absurd cc
+box_of_said v i first last (xl ∷ xm ∷ yl ∷ []) l h = absurd cc
+box_of_said v i first last (xl ∷ xm ∷ yl ∷ ym ∷ []) l h = absurd cc
+box_of_said v i first last (xl ∷ xm ∷ yl ∷ ym ∷ zl ∷ []) l h = absurd cc
+box_of_said v i first last (xl ∷ xm ∷ yl ∷ ym ∷ zl ∷ zm ∷ []) l h =
     let made = the_box i first last xl xm yl ym zl zm in
-    let r = ranged (box_test i first last xl xm yl ym zl zm) (Box made) l h in
-    let t = box_tests i first last xl xm yl ym zl zm r.0 in
-    let object = object_again i t.object in
+    let r = ranged (box_test v i first last xl xm yl ym zl zm) (Box made) l h in
+    let t = box_tests v i first last xl xm yl ym zl zm r.0 in
+    let object = object_again v i t.object in
     let from = from_range 0 (2 ^ 32 - 1) first t.from in
     let to = from_range 0 (2 ^ 32 - 1) last t.to in
     record {
@@ -370,46 +399,41 @@ box_of_said i first last (xl ∷ xm ∷ yl ∷ ym ∷ zl ∷ zm ∷ []) l h =
         z = t.z;
       };
     }
-box_of_said i first last (xl ∷ xm ∷ yl ∷ ym ∷ zl ∷ zm ∷ w ∷ ws) l h = absurd cc
+box_of_said v i first last (xl ∷ xm ∷ yl ∷ ym ∷ zl ∷ zm ∷ w ∷ ws) l h = absurd cc
 
 same_numbers : (m n : ℕ) (z : ℤ) → pos m ≡ z → pos n ≡ z → m ≡ n
 same_numbers m n z em en = ap unsigned_abs (em ∙ sym en)
 
-box_1_said : (numbers : List ℤ) (l : PlainLine) → spec.box_1 numbers ≡ Ok l → IsSaid 1 rank.Box numbers [] l
+box_1_said : (numbers : List ℤ) (l : PlainLine) → spec.box_1 numbers ≡ Ok l → IsSaid One rank.Box numbers [] l
 box_1_said [] l h = absurd cc
 box_1_said (i ∷ []) l h = absurd cc
 box_1_said (i ∷ slot ∷ ns) l h =
-    let s = box_of_said i slot slot ns l h in
-    subst (IsSaid 1 rank.Box (i ∷ slot ∷ ns) []) s.same (record {
+    let s = box_of_said One i slot slot ns l h in
+    subst (IsSaid One rank.Box (i ∷ slot ∷ ns) []) s.same (record {
       rank = refl;
       its_numbers = ap₂ (λ (x y : ℤ). x ∷ y ∷ ns) (sym s.object) (sym s.from) ∙ ap (λ (zs : List ℤ). number s.box.object ∷ pos s.box.first ∷ zs) s.reaches;
       its_others = refl;
-      fits = (s.fits, λ e. same_numbers s.box.first s.box.last slot s.from s.to);
+      fits = (s.fits, same_numbers s.box.first s.box.last slot s.from s.to);
     })
 
-box_2_said : (v : ℕ) (numbers : List ℤ) (l : PlainLine) → (v == 1) ≡ false → spec.box_2 numbers ≡ Ok l → IsSaid v rank.Box numbers [] l
-box_2_said v [] l later h = absurd cc
-box_2_said v (i ∷ []) l later h = absurd cc
-box_2_said v (i ∷ first ∷ []) l later h = absurd cc
-box_2_said v (i ∷ first ∷ last ∷ ns) l later h =
-    let s = box_of_said i first last ns l h in
-    let both : slots v s.box ≡ pos s.box.first ∷ pos s.box.last ∷ [] = ap (λ (b : Bool). if b then pos s.box.first ∷ [] else pos s.box.first ∷ pos s.box.last ∷ []) later in
-    subst (IsSaid v rank.Box (i ∷ first ∷ last ∷ ns) []) s.same (record {
+box_2_said : (numbers : List ℤ) (l : PlainLine) → spec.box_2 numbers ≡ Ok l → IsSaid Two rank.Box numbers [] l
+box_2_said [] l h = absurd cc
+box_2_said (i ∷ []) l h = absurd cc
+box_2_said (i ∷ first ∷ []) l h = absurd cc
+box_2_said (i ∷ first ∷ last ∷ ns) l h =
+    let s = box_of_said Two i first last ns l h in
+    subst (IsSaid Two rank.Box (i ∷ first ∷ last ∷ ns) []) s.same (record {
       rank = refl;
       its_numbers = ap₂ (λ (x y : ℤ). x ∷ y ∷ last ∷ ns) (sym s.object) (sym s.from)
           ∙ ap (λ (x : ℤ). number s.box.object ∷ pos s.box.first ∷ x ∷ ns) (sym s.to)
-          ∙ ap (λ (zs : List ℤ). number s.box.object ∷ pos s.box.first ∷ pos s.box.last ∷ zs) s.reaches
-          ∙ ap (λ (zs : List ℤ). number s.box.object ∷ (zs ++ ends s.box.area)) (sym both);
+          ∙ ap (λ (zs : List ℤ). number s.box.object ∷ pos s.box.first ∷ pos s.box.last ∷ zs) s.reaches;
       its_others = refl;
-      fits = (s.fits, λ e. absurd (let one : (v == 1) ≡ true = eq-eqb v 1 e in cc));
+      fits = (s.fits, tt);
     })
 
-box_said : (v : ℕ) (numbers : List ℤ) (l : PlainLine) → spec.box v numbers ≡ Ok l → IsSaid v rank.Box numbers [] l
-box_said v numbers l h = by (v == 1) refl h
-  where
-    by : (b : Bool) → (v == 1) ≡ b → cond b (spec.box_1 numbers) (spec.box_2 numbers) ≡ Ok l → IsSaid v rank.Box numbers [] l
-    by true one h = subst (λ (k : ℕ). IsSaid k rank.Box numbers [] l) (sym (eqb-true v 1 one)) (box_1_said numbers l h)
-    by false later h = box_2_said v numbers l later h
+box_said : (v : CertVersion) (numbers : List ℤ) (l : PlainLine) → spec.box v numbers ≡ Ok l → IsSaid v rank.Box numbers [] l
+box_said One numbers l h = box_1_said numbers l h
+box_said Two numbers l h = box_2_said numbers l h
 
 -- ---- cells
 
@@ -430,19 +454,19 @@ kind_said (word ∷ []) kind h =
     )
 kind_said (word ∷ next ∷ words) kind h = absurd cc
 
-cell_of_said : (v : ℕ) (a b first last : ℤ) (words : List (List ℕ)) (kind : Option Kind) (l : PlainLine) → spec.kind_of words ≡ kind → spec.cell_of a b first last kind ≡ Ok l
+cell_of_said : (v : CertVersion) (a b first last : ℤ) (words : List (List ℕ)) (kind : Option Kind) (l : PlainLine) → spec.kind_of words ≡ kind → spec.cell_of v a b first last kind ≡ Ok l
     → IsSaid v rank.Cell (a ∷ b ∷ first ∷ last ∷ []) words l
 cell_of_said v a b first last words None l said h = absurd cc
 cell_of_said v a b first last words (Some kind) l said h =
     let made : PlainLeaf = record { a = object_of a; b = object_of b; first = unsigned_abs first; last = unsigned_abs last; kind = kind } in
-    let r = ranged (is_object a && is_object b && int_lt a b && is_tick first && is_tick last && int_le first last) (Cell made) l h in
-    let p1 = and_parts (is_object a && is_object b && int_lt a b && is_tick first && is_tick last) (int_le first last) r.0 in
-    let p2 = and_parts (is_object a && is_object b && int_lt a b && is_tick first) (is_tick last) p1.0 in
-    let p3 = and_parts (is_object a && is_object b && int_lt a b) (is_tick first) p2.0 in
-    let p4 = and_parts (is_object a && is_object b) (int_lt a b) p3.0 in
-    let p5 = and_parts (is_object a) (is_object b) p4.0 in
-    let oa = object_again a p5.0 in
-    let ob = object_again b p5.1 in
+    let r = ranged (is_object v a && is_object v b && int_lt a b && is_tick first && is_tick last && int_le first last) (Cell made) l h in
+    let p1 = and_parts (is_object v a && is_object v b && int_lt a b && is_tick first && is_tick last) (int_le first last) r.0 in
+    let p2 = and_parts (is_object v a && is_object v b && int_lt a b && is_tick first) (is_tick last) p1.0 in
+    let p3 = and_parts (is_object v a && is_object v b && int_lt a b) (is_tick first) p2.0 in
+    let p4 = and_parts (is_object v a && is_object v b) (int_lt a b) p3.0 in
+    let p5 = and_parts (is_object v a) (is_object v b) p4.0 in
+    let oa = object_again v a p5.0 in
+    let ob = object_again v b p5.1 in
     let from = from_range FIRST_TICK LAST_TICK first p3.1 in
     let to = from_range FIRST_TICK LAST_TICK last p2.1 in
     let lower : object_of a + 1 < object_of b + 1 = of_lt a b _ _ (sym oa.0) (sym ob.0) p4.1 in
@@ -459,7 +483,7 @@ cell_of_said v a b first last words (Some kind) l said h =
       };
     })
 
-cell_said : (v : ℕ) (numbers : List ℤ) (words : List (List ℕ)) (l : PlainLine) → spec.cell numbers (spec.kind_of words) ≡ Ok l → IsSaid v rank.Cell numbers words l
+cell_said : (v : CertVersion) (numbers : List ℤ) (words : List (List ℕ)) (l : PlainLine) → spec.cell v numbers (spec.kind_of words) ≡ Ok l → IsSaid v rank.Cell numbers words l
 cell_said v [] words l h = absurd cc
 cell_said v (a ∷ []) words l h = absurd cc
 cell_said v (a ∷ b ∷ []) words l h = absurd cc
@@ -467,21 +491,21 @@ cell_said v (a ∷ b ∷ first ∷ []) words l h = absurd cc
 cell_said v (a ∷ b ∷ first ∷ last ∷ []) words l h = cell_of_said v a b first last words (spec.kind_of words) l refl h
 cell_said v (a ∷ b ∷ first ∷ last ∷ z ∷ zs) words l h = absurd cc
 
-end_said : (v : ℕ) (numbers : List ℤ) (l : PlainLine) → spec.end numbers ≡ Ok l → IsSaid v rank.End numbers [] l
+end_said : (v : CertVersion) (numbers : List ℤ) (l : PlainLine) → spec.end numbers ≡ Ok l → IsSaid v rank.End numbers [] l
 end_said v [] l h = subst (IsSaid v rank.End [] []) (let same : End ≡ l = cc in same) (record { rank = refl; its_numbers = refl; its_others = refl; fits = tt })
 end_said v (z ∷ zs) l h = absurd cc
 
 -- a line of numbers alone
-alone_said : (v : ℕ) (r : Rank) (numbers : List ℤ) (words : List (List ℕ)) (x : Result PlainLine CertCause) (l : PlainLine) → (x ≡ Ok l → IsSaid v r numbers [] l)
+alone_said : (v : CertVersion) (r : Rank) (numbers : List ℤ) (words : List (List ℕ)) (x : Result PlainLine CertCause) (l : PlainLine) → (x ≡ Ok l → IsSaid v r numbers [] l)
     → spec.alone words x ≡ Ok l → IsSaid v r numbers words l
 alone_said v r numbers [] x l rest h = rest h
 alone_said v r numbers (word ∷ words) x l rest h = absurd cc
 
-pub what_is_said : (v : ℕ) (r : Rank) (numbers : List ℤ) (words : List (List ℕ)) (l : PlainLine) → said_by v r numbers words ≡ Ok l → IsSaid v r numbers words l
+pub what_is_said : (v : CertVersion) (r : Rank) (numbers : List ℤ) (words : List (List ℕ)) (l : PlainLine) → said_by v r numbers words ≡ Ok l → IsSaid v r numbers words l
 what_is_said v rank.Heading numbers words l h = alone_said v rank.Heading numbers words (spec.heading v numbers) l (heading_said v numbers l) h
 what_is_said v rank.Window numbers words l h = alone_said v rank.Window numbers words (spec.window numbers) l (window_said v numbers l) h
 what_is_said v rank.Threshold numbers words l h = alone_said v rank.Threshold numbers words (spec.threshold numbers) l (threshold_said v numbers l) h
-what_is_said v rank.Objects numbers words l h = alone_said v rank.Objects numbers words (spec.objects numbers) l (objects_said v numbers l) h
+what_is_said v rank.Objects numbers words l h = alone_said v rank.Objects numbers words (spec.objects v numbers) l (objects_said v numbers l) h
 what_is_said v rank.Size numbers words l h = alone_said v rank.Size numbers words (spec.size v numbers) l (size_said v numbers l) h
 what_is_said v rank.Shell numbers words l h = shell_said v numbers words l h
 what_is_said v rank.Box numbers words l h = alone_said v rank.Box numbers words (spec.box v numbers) l (box_said v numbers l) h

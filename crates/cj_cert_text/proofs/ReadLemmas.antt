@@ -1,5 +1,5 @@
 -- A text that is read is the text of what is read, which fits.
-use Rattle.std.proofs.Common.{◌≡◌, ℕ, ◌+◌, ◌^◌, ◌<◌, ◌≤◌, ◌⊎◌, inl, inr, List, [], ◌∷◌, ◌++◌, All, arith, ap, ap₂, sym, ◌∙◌, refl, subst, true, false, Bool, cond, ℤ, pos, Option}
+use Rattle.std.proofs.Common.{◌≡◌, ℕ, ◌+◌, ◌<◌, ◌≤◌, List, [], ◌∷◌, ◌++◌, All, arith, ap, ap₂, sym, ◌∙◌, refl, subst, true, false, Bool, cond, ℤ, pos, Option}
 use Rattle.std.proofs.Common.{Some, None, Result, Ok, Err, append_assoc, append-nil}
 use Rattle.std.specs.Prelude.{◌==◌, ◌&&◌, if◌then◌else◌, nat_le, nat_lt, flat_map, codes}
 use Rattle.std.specs.List.{join_with_byte, slice_split}
@@ -14,39 +14,42 @@ use Rattle.cj_bezier.specs.Leaves.{PlainLeaf}
 use Rattle.cj_cert.specs.declared.cert_lines.ShellLine.{ShellLine}
 use Rattle.cj_cert.specs.declared.cert_lines.SizeOfLine.{SizeOfLine}
 use Rattle.cj_causes.specs.declared.cert_cause.CertCause.{CertCause}
+use Rattle.cj_causes.specs.declared.cert_version.CertVersion.{CertVersion}
+use Rattle.cj_causes.specs.declared.cert_version.CertVersion.TheVariants.{One, Two}
+use Rattle.cj_causes.specs.Versions.{most_objects, number_of_version}
 use Rattle.cj_causes.specs.declared.cert_cause.CertCause.TheVariants as causes
 use Rattle.cj_cert_text.specs.declared.rank.Rank.{Rank}
 use Rattle.cj_cert_text.specs.declared.rank.Rank.TheVariants as rank
 use Rattle.cj_cert.specs.Certificates.{PlainBoxLine, PlainCertificate}
-use Rattle.cj_cert_text.specs.Fits.{Fits, FitsSize, FitsShell, FitsBox, FitsCell}
-use Rattle.cj_cert_text.specs.Lines.{PlainLine, Heading, Window, Threshold, Objects, Size, Shell, Box, Cell, End, rank_of, said, said_in, line_said, where_it_may_stand, MAX_OBJECTS, MAX_THRESHOLD}
+use Rattle.cj_cert_text.specs.Fits.{Fits, FitsSize, FitsShell, FitsBox, FitsCell, IsOfVersion}
+use Rattle.cj_cert_text.specs.Lines.{PlainLine, Heading, Window, Threshold, Objects, Size, Shell, Box, Cell, End, rank_of, said, said_in, line_said, where_it_may_stand, MAX_THRESHOLD}
 use Rattle.cj_cert_text.specs.Numbers.{numbers_in, others_in}
 use Rattle.cj_cert_text.specs.Ranks.{has_ended, may_follow, place, rank_of_word}
 use Rattle.cj_cert_text.specs.Reading.{and_then, at_line, behind_lines, ends_at, nothing_said, reading, reads_on, version_of, with_line}
 use Rattle.cj_cert_text.specs.Texts.{line, row, row_ended, number, size_text, shell_text, shell_row, box_text, cell_text, head_text, kind_word, text_of}
 use Rattle.cj_cert_text.proofs.AgainLemmas.{numbers_small}
-use Rattle.cj_cert_text.proofs.LineLemmas.{FitsLine, IsSaid, numbers_of, rank_word, tested, what_is_said, word_of, words_of}
+use Rattle.cj_cert_text.proofs.LineLemmas.{FitsLine, FitsSizeIn, FitsSlots, IsSaid, numbers_of, rank_word, tested, what_is_said, word_of, words_of}
 use Rattle.cj_cert_text.proofs.WordLemmas.{AreSmall, texts, words_written}
 
 -- ---- one line
 
 -- a line as the text of what it says
-pub record IsLine (v : ℕ) (before : Option Rank) (text : List ℕ) (l : PlainLine) : Type 0 where
+pub record IsLine (v : CertVersion) (before : Option Rank) (text : List ℕ) (l : PlainLine) : Type 0 where
   pub open_end : has_ended before ≡ false
   pub follows : may_follow (rank_of l) before ≡ true
   pub fits : FitsLine v l
   pub joined : text ≡ join_with_byte 32 (word_of (rank_of l) ∷ words_of v l)
 
-words_are : (v : ℕ) (l : PlainLine) (words : List (List ℕ)) → v < 2 ^ 64 → IsSaid v (rank_of l) (numbers_in words) (others_in words) l → words ≡ words_of v l
-words_are v l words small is =
-    words_written words (subst AreSmall (sym is.its_numbers) (numbers_small v l small is.fits))
+words_are : (v : CertVersion) (l : PlainLine) (words : List (List ℕ)) → IsSaid v (rank_of l) (numbers_in words) (others_in words) l → words ≡ words_of v l
+words_are v l words is =
+    words_written words (subst AreSmall (sym is.its_numbers) (numbers_small v l is.fits))
     ∙ ap₂ (λ (zs : List ℤ) (ws : List (List ℕ)). texts zs ++ ws) is.its_numbers is.its_others
 
-ranked : (v : ℕ) (before : Option Rank) (word text : List ℕ) (words : List (List ℕ)) (r : Option Rank) (l : PlainLine) → v < 2 ^ 64 → has_ended before ≡ false → rank_of_word word ≡ r
+ranked : (v : CertVersion) (before : Option Rank) (word text : List ℕ) (words : List (List ℕ)) (r : Option Rank) (l : PlainLine) → has_ended before ≡ false → rank_of_word word ≡ r
     → text ≡ join_with_byte 32 (word ∷ words) → where_it_may_stand v before r words ≡ Ok l → IsLine v before text l
 unfolding said
-ranked v before word text words None l small open_end is joined h = absurd cc
-ranked v before word text words (Some r) l small open_end is joined h =
+ranked v before word text words None l open_end is joined h = absurd cc
+ranked v before word text words (Some r) l open_end is joined h =
     let c = tested (may_follow r before) (said v r words) _ l h in
     let s = what_is_said v r (numbers_in words) (others_in words) l c.1 in
     let own : IsSaid v (rank_of l) (numbers_in words) (others_in words) l = subst (λ k. IsSaid v k (numbers_in words) (others_in words) l) (sym s.rank) s in
@@ -54,29 +57,29 @@ ranked v before word text words (Some r) l small open_end is joined h =
       open_end = open_end;
       follows = subst (λ k. may_follow k before ≡ true) (sym s.rank) c.0;
       fits = s.fits;
-      joined = joined ∙ ap₂ (λ (w : List ℕ) (ws : List (List ℕ)). join_with_byte 32 (w ∷ ws)) (rank_word word r is ∙ ap word_of (sym s.rank)) (words_are v l words small own);
+      joined = joined ∙ ap₂ (λ (w : List ℕ) (ws : List (List ℕ)). join_with_byte 32 (w ∷ ws)) (rank_word word r is ∙ ap word_of (sym s.rank)) (words_are v l words own);
     }
 
-split_line : (v : ℕ) (before : Option Rank) (text : List ℕ) (words : List (List ℕ)) (l : PlainLine) → v < 2 ^ 64 → has_ended before ≡ false → text ≡ join_with_byte 32 words
+split_line : (v : CertVersion) (before : Option Rank) (text : List ℕ) (words : List (List ℕ)) (l : PlainLine) → has_ended before ≡ false → text ≡ join_with_byte 32 words
     → said_in v before words ≡ Ok l → IsLine v before text l
-split_line v before text [] l small open_end joined h = absurd cc
-split_line v before text (word ∷ words) l small open_end joined h = ranked v before word text words (rank_of_word word) l small open_end refl joined h
+split_line v before text [] l open_end joined h = absurd cc
+split_line v before text (word ∷ words) l open_end joined h = ranked v before word text words (rank_of_word word) l open_end refl joined h
 
-ended_or : (v : ℕ) (before : Option Rank) (text : List ℕ) (l : PlainLine) (ended : Bool) → v < 2 ^ 64 → has_ended before ≡ ended
+ended_or : (v : CertVersion) (before : Option Rank) (text : List ℕ) (l : PlainLine) (ended : Bool) → has_ended before ≡ ended
     → cond ended (Err causes.End) (said_in v before (slice_split (λ b. b == 32) text)) ≡ Ok l → IsLine v before text l
-ended_or v before text l true small e h = absurd cc
-ended_or v before text l false small e h = split_line v before text (slice_split (λ b. b == 32) text) l small e (sym (join_with_byte-slice_split 32 text)) h
+ended_or v before text l true e h = absurd cc
+ended_or v before text l false e h = split_line v before text (slice_split (λ b. b == 32) text) l e (sym (join_with_byte-slice_split 32 text)) h
 
-pub line_read : (v : ℕ) (before : Option Rank) (text : List ℕ) (l : PlainLine) → v < 2 ^ 64 → line_said v before text ≡ Ok l → IsLine v before text l
+pub line_read : (v : CertVersion) (before : Option Rank) (text : List ℕ) (l : PlainLine) → line_said v before text ≡ Ok l → IsLine v before text l
 unfolding line_said
-line_read v before text l small h = ended_or v before text l (has_ended before) small refl h
+line_read v before text l h = ended_or v before text l (has_ended before) refl h
 
 -- the text of a line, by its kind
-abbrev pub line_text : ℕ → PlainLine → List ℕ
+abbrev pub line_text : CertVersion → PlainLine → List ℕ
 line_text v l = line (word_of (rank_of l) ∷ words_of v l)
 
-abbrev pub told : ℕ → PlainLine → List ℕ
-told v Heading = row (codes "CONJ-CERT") (pos v ∷ [])
+abbrev pub told : CertVersion → PlainLine → List ℕ
+told v Heading = row (codes "CONJ-CERT") (pos (number_of_version v) ∷ [])
 told v (Window first last) = row (codes "WINDOW") (pos first ∷ pos last ∷ [])
 told v (Threshold threshold) = row (codes "THRESHOLD") (pos threshold ∷ [])
 told v (Objects count) = row (codes "OBJECTS") (pos count ∷ [])
@@ -94,24 +97,24 @@ ended_is : (word : List ℕ) (numbers : List ℤ) (last : List ℕ) → line (wo
 unfolding row_ended
 ended_is word numbers last = refl
 
-shell_is : (o : ℕ) (shell : Option Radii) → line_text 1 (Shell (record { object = o; shell = shell })) ≡ shell_row o shell
-shell_is o None = ended_is (codes "SHELL") (number o ∷ []) (codes "NONE")
-shell_is o (Some s) = row_is (codes "SHELL") (number o ∷ pos s.lo ∷ pos s.hi ∷ [])
+shell_is : (v : CertVersion) (o : ℕ) (shell : Option Radii) → line_text v (Shell (record { object = o; shell = shell })) ≡ shell_row o shell
+shell_is v o None = ended_is (codes "SHELL") (number o ∷ []) (codes "NONE")
+shell_is v o (Some s) = row_is (codes "SHELL") (number o ∷ pos s.lo ∷ pos s.hi ∷ [])
 
-pub text_is_told : (v : ℕ) (l : PlainLine) → line_text v l ≡ told v l
+pub text_is_told : (v : CertVersion) (l : PlainLine) → line_text v l ≡ told v l
 text_is_told v Heading = row_is (codes "CONJ-CERT") (numbers_of v Heading)
 text_is_told v (Window first last) = row_is (codes "WINDOW") (numbers_of v (Window first last))
 text_is_told v (Threshold threshold) = row_is (codes "THRESHOLD") (numbers_of v (Threshold threshold))
 text_is_told v (Objects count) = row_is (codes "OBJECTS") (numbers_of v (Objects count))
 text_is_told v (Size s) = row_is (codes "SIZE") (numbers_of v (Size s))
-text_is_told v (Shell s) = shell_is s.object s.shell
+text_is_told v (Shell s) = shell_is v s.object s.shell
 text_is_told v (Box b) = row_is (codes "BOX") (numbers_of v (Box b))
 text_is_told v (Cell s) = ended_is (codes "CELL") (numbers_of v (Cell s)) (kind_word s.kind)
 text_is_told v End = row_is (codes "END") []
 
 -- ---- the text so far
 
-abbrev whole : List ℕ → ℕ → List SizeOfLine → List ShellLine → List PlainBoxLine → List PlainLeaf → List ℕ
+abbrev whole : List ℕ → CertVersion → List SizeOfLine → List ShellLine → List PlainBoxLine → List PlainLeaf → List ℕ
 whole head v sizes shells boxes cells = head ++ flat_map size_text sizes ++ flat_map shell_text shells ++ flat_map (box_text v) boxes ++ flat_map cell_text cells
 
 abbrev body : PlainCertificate → List ℕ
@@ -193,34 +196,34 @@ regroup3 h a b d t = simp (append_assoc, append-nil)
 regroup4 : (h a b d e t : List ℕ) → (h ++ a ++ b ++ d ++ e) ++ t ≡ h ++ a ++ b ++ d ++ (e ++ t)
 regroup4 h a b d e t = simp append_assoc
 
-size_more : (h : List ℕ) (v : ℕ) (ss : List SizeOfLine) (s : SizeOfLine) (hs : List ShellLine) (bs : List PlainBoxLine) (cs : List PlainLeaf) → hs ≡ [] → bs ≡ [] → cs ≡ []
+size_more : (h : List ℕ) (v : CertVersion) (ss : List SizeOfLine) (s : SizeOfLine) (hs : List ShellLine) (bs : List PlainBoxLine) (cs : List PlainLeaf) → hs ≡ [] → bs ≡ [] → cs ≡ []
     → whole h v ss hs bs cs ++ size_text s ≡ whole h v (ss ++ s ∷ []) hs bs cs
 size_more h v ss s [] [] [] eh eb ec = regroup1 h (flat_map size_text ss) (size_text s) ∙ ap (λ (t : List ℕ). h ++ t ++ [] ++ [] ++ []) (sym (flat_more size_text ss s))
 size_more h v ss s [] [] (c ∷ cs) eh eb ec = absurd cc
 size_more h v ss s [] (b ∷ bs) cs eh eb ec = absurd cc
 size_more h v ss s (x ∷ hs) bs cs eh eb ec = absurd cc
 
-shell_more : (h : List ℕ) (v : ℕ) (ss : List SizeOfLine) (hs : List ShellLine) (s : ShellLine) (bs : List PlainBoxLine) (cs : List PlainLeaf) → bs ≡ [] → cs ≡ []
+shell_more : (h : List ℕ) (v : CertVersion) (ss : List SizeOfLine) (hs : List ShellLine) (s : ShellLine) (bs : List PlainBoxLine) (cs : List PlainLeaf) → bs ≡ [] → cs ≡ []
     → whole h v ss hs bs cs ++ shell_text s ≡ whole h v ss (hs ++ s ∷ []) bs cs
 shell_more h v ss hs s [] [] eb ec =
     regroup2 h (flat_map size_text ss) (flat_map shell_text hs) (shell_text s) ∙ ap (λ (t : List ℕ). h ++ flat_map size_text ss ++ t ++ [] ++ []) (sym (flat_more shell_text hs s))
 shell_more h v ss hs s [] (c ∷ cs) eb ec = absurd cc
 shell_more h v ss hs s (b ∷ bs) cs eb ec = absurd cc
 
-box_more : (h : List ℕ) (v : ℕ) (ss : List SizeOfLine) (hs : List ShellLine) (bs : List PlainBoxLine) (b : PlainBoxLine) (cs : List PlainLeaf) → cs ≡ []
+box_more : (h : List ℕ) (v : CertVersion) (ss : List SizeOfLine) (hs : List ShellLine) (bs : List PlainBoxLine) (b : PlainBoxLine) (cs : List PlainLeaf) → cs ≡ []
     → whole h v ss hs bs cs ++ box_text v b ≡ whole h v ss hs (bs ++ b ∷ []) cs
 box_more h v ss hs bs b [] ec =
     regroup3 h (flat_map size_text ss) (flat_map shell_text hs) (flat_map (box_text v) bs) (box_text v b)
     ∙ ap (λ (t : List ℕ). h ++ flat_map size_text ss ++ flat_map shell_text hs ++ t ++ []) (sym (flat_more (box_text v) bs b))
 box_more h v ss hs bs b (c ∷ cs) ec = absurd cc
 
-cell_more : (h : List ℕ) (v : ℕ) (ss : List SizeOfLine) (hs : List ShellLine) (bs : List PlainBoxLine) (cs : List PlainLeaf) (c : PlainLeaf)
+cell_more : (h : List ℕ) (v : CertVersion) (ss : List SizeOfLine) (hs : List ShellLine) (bs : List PlainBoxLine) (cs : List PlainLeaf) (c : PlainLeaf)
     → whole h v ss hs bs cs ++ cell_text c ≡ whole h v ss hs bs (cs ++ c ∷ [])
 cell_more h v ss hs bs cs c =
     regroup4 h (flat_map size_text ss) (flat_map shell_text hs) (flat_map (box_text v) bs) (flat_map cell_text cs) (cell_text c)
     ∙ ap (λ (t : List ℕ). h ++ flat_map size_text ss ++ flat_map shell_text hs ++ flat_map (box_text v) bs ++ t) (sym (flat_more cell_text cs c))
 
-objects_more : (a b d e : List ℕ) (v : ℕ) (ss : List SizeOfLine) (hs : List ShellLine) (bs : List PlainBoxLine) (cs : List PlainLeaf) → ss ≡ [] → hs ≡ [] → bs ≡ [] → cs ≡ []
+objects_more : (a b d e : List ℕ) (v : CertVersion) (ss : List SizeOfLine) (hs : List ShellLine) (bs : List PlainBoxLine) (cs : List PlainLeaf) → ss ≡ [] → hs ≡ [] → bs ≡ [] → cs ≡ []
     → a ++ b ++ d ++ e ≡ whole (a ++ b ++ d ++ e) v ss hs bs cs
 objects_more a b d e v [] [] [] [] es eh eb ec = simp (append_assoc, append-nil)
 objects_more a b d e v [] [] [] (c ∷ cs) es eh eb ec = absurd cc
@@ -300,56 +303,67 @@ goes before c l none e f = absurd cc
 -- ---- ranges
 
 -- the ranges of the head
-record HeadFits (v f l thr n : ℕ) : Type 0 where
-  version : (v ≡ 1) ⊎ (v ≡ 2)
+record HeadFits (v : CertVersion) (f l thr n : ℕ) : Type 0 where
   first : IsTick f
   last : IsTick l
   threshold : thr ≤ MAX_THRESHOLD
-  objects : n ≤ MAX_OBJECTS
+  objects : n ≤ most_objects v
 
 -- the ranges of the lists
-record ListsFit (v : ℕ) (ss : List SizeOfLine) (hs : List ShellLine) (bs : List PlainBoxLine) (cs : List PlainLeaf) : Type 0 where
-  no_sizes : v ≡ 1 → ss ≡ []
-  one_slot : v ≡ 1 → All (λ b. b.first ≡ b.last) bs
-  sizes : All FitsSize ss
-  shells : All FitsShell hs
-  boxes : All FitsBox bs
-  cells : All FitsCell cs
+record ListsFit (v : CertVersion) (ss : List SizeOfLine) (hs : List ShellLine) (bs : List PlainBoxLine) (cs : List PlainLeaf) : Type 0 where
+  version : IsOfVersion v ss bs
+  sizes : All (FitsSize (most_objects v)) ss
+  shells : All (FitsShell (most_objects v)) hs
+  boxes : All (FitsBox (most_objects v)) bs
+  cells : All (FitsCell (most_objects v)) cs
 
 -- the ranges of what is told so far
 record FitsSoFar (c : PlainCertificate) : Type 0 where
   head : HeadFits c.version c.first c.last c.threshold c.objects
   lists : ListsFit c.version c.sizes c.shells c.boxes c.cells
 
+-- one size or box more of a line that fits
+size_fits : (v : CertVersion) (s : SizeOfLine) → FitsSizeIn v s → FitsSize (most_objects v) s
+size_fits One s is = absurd is
+size_fits Two s is = is
+
+size_allowed : (v : CertVersion) (ss : List SizeOfLine) (s : SizeOfLine) (bs : List PlainBoxLine) → IsOfVersion v ss bs → FitsSizeIn v s → IsOfVersion v (ss ++ s ∷ []) bs
+size_allowed One ss s bs of is = absurd is
+size_allowed Two ss s bs of is = tt
+
+box_allowed : (v : CertVersion) (ss : List SizeOfLine) (bs : List PlainBoxLine) (b : PlainBoxLine) → IsOfVersion v ss bs → FitsSlots v b → IsOfVersion v ss (bs ++ b ∷ [])
+box_allowed One ss bs b of is = (of.0, All-push (λ (x : PlainBoxLine). x.first ≡ x.last) bs b of.1 is)
+box_allowed Two ss bs b of is = tt
+
 fits_more : (c : PlainCertificate) (l : PlainLine) → FitsSoFar c → FitsLine c.version l → FitsSoFar (with_line c l)
 fits_more c Heading so is = so
 fits_more c (Window first last) so is =
     let h = so.head in
-    record { head = record { version = h.version; first = is.0; last = is.1; threshold = h.threshold; objects = h.objects }; lists = so.lists }
+    record { head = record { first = is.0; last = is.1; threshold = h.threshold; objects = h.objects }; lists = so.lists }
 fits_more c (Threshold threshold) so is =
     let h = so.head in
-    record { head = record { version = h.version; first = h.first; last = h.last; threshold = is.1; objects = h.objects }; lists = so.lists }
+    record { head = record { first = h.first; last = h.last; threshold = is.1; objects = h.objects }; lists = so.lists }
 fits_more c (Objects count) so is =
     let h = so.head in
-    record { head = record { version = h.version; first = h.first; last = h.last; threshold = h.threshold; objects = is }; lists = so.lists }
+    record { head = record { first = h.first; last = h.last; threshold = h.threshold; objects = is }; lists = so.lists }
 fits_more c (Size s) so is =
     let ls = so.lists in
-    let sizes = All-push FitsSize c.sizes s ls.sizes is.1 in
-    let none : c.version ≡ 1 → c.sizes ++ s ∷ [] ≡ [] = λ one. absurd (let two = is.0 in omega arith) in
-    record { head = so.head; lists = record { no_sizes = none; one_slot = ls.one_slot; sizes = sizes; shells = ls.shells; boxes = ls.boxes; cells = ls.cells } }
+    let sizes = All-push (FitsSize (most_objects c.version)) c.sizes s ls.sizes (size_fits c.version s is) in
+    let version = size_allowed c.version c.sizes s c.boxes ls.version is in
+    record { head = so.head; lists = record { version = version; sizes = sizes; shells = ls.shells; boxes = ls.boxes; cells = ls.cells } }
 fits_more c (Shell s) so is =
     let ls = so.lists in
-    let shells = All-push FitsShell c.shells s ls.shells is in
-    record { head = so.head; lists = record { no_sizes = ls.no_sizes; one_slot = ls.one_slot; sizes = ls.sizes; shells = shells; boxes = ls.boxes; cells = ls.cells } }
+    let shells = All-push (FitsShell (most_objects c.version)) c.shells s ls.shells is in
+    record { head = so.head; lists = record { version = ls.version; sizes = ls.sizes; shells = shells; boxes = ls.boxes; cells = ls.cells } }
 fits_more c (Box b) so is =
     let ls = so.lists in
-    let boxes = All-push FitsBox c.boxes b ls.boxes is.0 in
-    let one_slot = λ (one : c.version ≡ 1). All-push (λ (x : PlainBoxLine). x.first ≡ x.last) c.boxes b (ls.one_slot one) (is.1 one) in
-    record { head = so.head; lists = record { no_sizes = ls.no_sizes; one_slot = one_slot; sizes = ls.sizes; shells = ls.shells; boxes = boxes; cells = ls.cells } }
+    let boxes = All-push (FitsBox (most_objects c.version)) c.boxes b ls.boxes is.0 in
+    let version = box_allowed c.version c.sizes c.boxes b ls.version is.1 in
+    record { head = so.head; lists = record { version = version; sizes = ls.sizes; shells = ls.shells; boxes = boxes; cells = ls.cells } }
 fits_more c (Cell s) so is =
     let ls = so.lists in
-    let cells = All-push FitsCell c.cells s ls.cells is in
-    record { head = so.head; lists = record { no_sizes = ls.no_sizes; one_slot = ls.one_slot; sizes = ls.sizes; shells = ls.shells; boxes = ls.boxes; cells = cells } }
+    let cells = All-push (FitsCell (most_objects c.version)) c.cells s ls.cells is in
+    record { head = so.head; lists = record { version = ls.version; sizes = ls.sizes; shells = ls.shells; boxes = ls.boxes; cells = cells } }
 fits_more c End so is = so
 
 -- behind its line the threshold is told
@@ -365,7 +379,7 @@ threshold_more before c l has f is low = has ((in_order (rank_of l) before f).re
 
 fits_whole : (c : PlainCertificate) → FitsSoFar c → 1 ≤ c.threshold → Fits c
 fits_whole c so some = record {
-  version = of_version so.head.version;
+  version = so.lists.version;
   first = so.head.first;
   last = so.head.last;
   some = some;
@@ -376,14 +390,6 @@ fits_whole c so some = record {
   boxes = so.lists.boxes;
   cells = so.lists.cells;
 }
-  where
-    of_version : (c.version ≡ 1) ⊎ (c.version ≡ 2) → ((c.version ≡ 1) × (c.sizes ≡ []) × All (λ b. b.first ≡ b.last) c.boxes) ⊎ (c.version ≡ 2)
-    of_version (inl one) = inl (one, so.lists.no_sizes one, so.lists.one_slot one)
-    of_version (inr two) = inr two
-
-pub small_version : (v : ℕ) → (v ≡ 1) ⊎ (v ≡ 2) → v < 2 ^ 64
-small_version v (inl one) = omega arith
-small_version v (inr two) = omega arith
 
 -- ---- the whole text
 
@@ -418,7 +424,7 @@ one_part : (number : ℕ) (before : Option Rank) (c d : PlainCertificate) (text 
     → IsWhole before c d (text ++ 10 ∷ rest)
 one_part number before c d text rest parts (Err cause) later so some is h next = absurd cc
 one_part number before c d text rest parts (Ok l) later so some is h next =
-    let read = line_read c.version before text l (small_version c.version so.head.version) is in
+    let read = line_read c.version before text l is in
     let on = goes before c l later read.open_end read.follows in
     let w = next l on.later (fits_more c l so read.fits) (threshold_more before c l some read.follows read.fits) h in
     let here : text ++ 10 ∷ [] ≡ told c.version l = ap (λ (t : List ℕ). t ++ 10 ∷ []) read.joined ∙ text_is_told c.version l in
@@ -437,23 +443,19 @@ all_read number before c d (text ∷ next ∷ parts) later so some h =
     one_part number before c d text (join_with_byte 10 (next ∷ parts)) (next ∷ parts) (line_said c.version before text) later so some refl h
     (λ l later' so' some' h'. all_read (number + 1) (Some (rank_of l)) (with_line c l) d (next ∷ parts) later' so' some' h')
 
-abbrev version_by : Bool → ℕ
-version_by b = if b then 2 else 1
+nothing_allowed : (v : CertVersion) → IsOfVersion v [] []
+nothing_allowed One = (refl, All-nil (λ (b : PlainBoxLine). b.first ≡ b.last))
+nothing_allowed Two = tt
 
-version_is : (b : Bool) → (version_by b ≡ 1) ⊎ (version_by b ≡ 2)
-version_is true = inr refl
-version_is false = inl refl
-
-nothing_fits : (v : ℕ) → (v ≡ 1) ⊎ (v ≡ 2) → FitsSoFar (nothing_said v)
-nothing_fits v is = record {
-  head = record { version = is; first = omega arith; last = omega arith; threshold = omega arith; objects = omega arith };
+nothing_fits : (v : CertVersion) → FitsSoFar (nothing_said v)
+nothing_fits v = record {
+  head = record { first = omega arith; last = omega arith; threshold = omega arith; objects = omega arith };
   lists = record {
-    no_sizes = λ one. refl;
-    one_slot = λ one. All-nil (λ (b : PlainBoxLine). b.first ≡ b.last);
-    sizes = All-nil FitsSize;
-    shells = All-nil FitsShell;
-    boxes = All-nil FitsBox;
-    cells = All-nil FitsCell;
+    version = nothing_allowed v;
+    sizes = All-nil (FitsSize (most_objects v));
+    shells = All-nil (FitsShell (most_objects v));
+    boxes = All-nil (FitsBox (most_objects v));
+    cells = All-nil (FitsCell (most_objects v));
   };
 }
 
@@ -464,6 +466,6 @@ reading_only bytes c h =
     let v = version_of bytes in
     let none : NoLater None (nothing_said v) =
     record { no_sizes = λ lt. refl; no_shells = λ lt. refl; no_boxes = λ lt. refl; no_cells = λ lt. refl } in
-    let w = all_read 1 None (nothing_said v) c (slice_split (λ b. b == 10) bytes) none (nothing_fits v (version_is _))
+    let w = all_read 1 None (nothing_said v) c (slice_split (λ b. b == 10) bytes) none (nothing_fits v)
     (λ low. absurd (omega arith)) h in
     (sym (join_with_byte-slice_split 10 bytes) ∙ w.text, w.fits)

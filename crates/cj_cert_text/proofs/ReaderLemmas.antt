@@ -1,17 +1,20 @@
 -- How a text is read line by line.
-use Rattle.std.proofs.Common.{◌≡◌, ℕ, ◌+◌, ◌<◌, ◌≤◌, ◌⊎◌, inl, inr, List, [], ◌∷◌, map, All, arith, ap, sym, ◌∙◌, refl, subst, true, Bool, cond, Option, Some, None, Result, Ok, Err, IfOk, length}
+use Rattle.std.proofs.Common.{◌≡◌, ℕ, ◌+◌, ◌<◌, ◌≤◌, List, [], ◌∷◌, map, All, arith, ap, sym, ◌∙◌, refl, subst, true, Bool, cond, Option, Some, None, Result, Ok, Err, IfOk, length}
 use Rattle.std.specs.Prelude.{◌==◌}
 use Rattle.std.specs.List.{list_all, slice_split}
 use Rattle.std.proofs.lemmas.Bool.{eq-eqb}
 use Rattle.std.proofs.lemmas.List.Elements.{All-head, All-tail}
 use Rattle.std.proofs.lemmas.List.Splits.{length-slice_split}
 use Rattle.cj_cert.specs.declared.cert_lines.BoxLine.{BoxLine}
+use Rattle.cj_cert.specs.declared.cert_lines.SizeOfLine.{SizeOfLine}
 use Rattle.cj_cert.specs.declared.certificate.Certificate.{Certificate}
 use Rattle.cj_causes.specs.declared.cert_cause.CertCause.{CertCause}
 use Rattle.cj_kvn.specs.declared.text_fault.TextFault.{TextFault}
+use Rattle.cj_causes.specs.declared.cert_version.CertVersion.{CertVersion}
+use Rattle.cj_causes.specs.declared.cert_version.CertVersion.TheVariants.{One, Two}
 use Rattle.cj_cert_text.specs.declared.rank.Rank.{Rank}
 use Rattle.cj_cert.specs.Certificates.{PlainCertificate, line_count, plain_box_line, plain_certificate}
-use Rattle.cj_cert_text.specs.Fits.{Fits}
+use Rattle.cj_cert_text.specs.Fits.{Fits, IsOfVersion}
 use Rattle.cj_cert_text.specs.Lines.{PlainLine, line_said, rank_of}
 use Rattle.cj_cert_text.specs.Ranks.{has_ended}
 use Rattle.cj_cert_text.specs.Reading.{Fault, and_then, at_line, behind_lines, ends_at, nothing_said, reading, reads_on, version_of, with_line}
@@ -87,14 +90,14 @@ pub ends_well : (bytes : List ℕ) (number : ℕ) (before : Option Rank) (c : Pl
 ends_well bytes number before c rest read parts done = sym read ∙ last_part number before c rest parts ∙ all_taken number before c rest done.0 done.1
 
 -- the text that is not begun
-pub begins : (bytes : List ℕ) (v : ℕ) (c : PlainCertificate) → c ≡ nothing_said v → v ≡ version_of bytes → reads_on 1 None c (slice_split (λ b. b == 10) bytes) ≡ reading bytes
+pub begins : (bytes : List ℕ) (v : CertVersion) (c : PlainCertificate) → c ≡ nothing_said v → v ≡ version_of bytes → reads_on 1 None c (slice_split (λ b. b == 10) bytes) ≡ reading bytes
 unfolding reading
 begins bytes v c same version = ap (λ (d : PlainCertificate). reads_on 1 None d (slice_split (λ b. b == 10) bytes)) (same ∙ ap nothing_said version)
 
 -- a line has three bytes at least
-pub line_length : (v : ℕ) (before : Option Rank) (text : List ℕ) (l : PlainLine) → v ≤ 2 → line_said v before text ≡ Ok l → 3 ≤ length text
-line_length v before text l most is =
-    let read = line_read v before text l (omega arith) is in
+pub line_length : (v : CertVersion) (before : Option Rank) (text : List ℕ) (l : PlainLine) → line_said v before text ≡ Ok l → 3 ≤ length text
+line_length v before text l is =
+    let read = line_read v before text l is in
     subst (λ (t : List ℕ). 3 ≤ length t) (sym read.joined) (line_long (rank_of l) (words_of v l))
 
 -- ---- versions
@@ -106,10 +109,7 @@ all_same (b ∷ bs) all =
     let others = All-tail (λ x. x.first ≡ x.last) (plain_box_line b) (map plain_box_line bs) all in
     rw (eq-eqb b.first b.last here, all_same bs others) refl
 
--- a certificate that fits has what its version allows
-pub version_allows : (c : PlainCertificate) (boxes : List BoxLine) → c.boxes ≡ map plain_box_line boxes → Fits c → is_of_version c.version c.sizes boxes ≡ true
-version_allows c boxes same fits = by fits.version
-  where
-    by : ((c.version ≡ 1) × (c.sizes ≡ []) × All (λ b. b.first ≡ b.last) c.boxes) ⊎ (c.version ≡ 2) → is_of_version c.version c.sizes boxes ≡ true
-    by (inl one) = rw (one.0, one.1, all_same boxes (subst (All (λ b. b.first ≡ b.last)) same one.2)) refl
-    by (inr two) = rw two refl
+-- sizes and boxes that fit are what the version allows
+pub version_allows : (v : CertVersion) (sizes : List SizeOfLine) (boxes : List BoxLine) → IsOfVersion v sizes (map plain_box_line boxes) → is_of_version v sizes boxes ≡ true
+version_allows One sizes boxes first = rw (first.0, all_same boxes first.1) refl
+version_allows Two sizes boxes second = refl

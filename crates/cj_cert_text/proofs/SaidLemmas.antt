@@ -1,9 +1,10 @@
 -- What a line says by its numbers and by whether words are left behind them.
-use Rattle.std.proofs.Common.{◌≡◌, ℕ, ◌<◌, ◌≤◌, List, [], ◌∷◌, take, map, arith, ap, ◌∙◌, refl, subst, true, false, Bool, cond, ℤ, Option, None, Result, Ok, Err, length}
+use Rattle.std.proofs.Common.{◌≡◌, ℕ, ◌<◌, List, [], ◌∷◌, take, map, arith, ap, ◌∙◌, refl, subst, true, false, Bool, cond, ℤ, Option, None, Result, Ok, Err, length}
 use Rattle.std.specs.Prelude.{◌==◌, ◌+◌}
 use Rattle.std.proofs.lemmas.Bool.{eqb-true}
 use Rattle.cj_cert_text.specs.declared.cert_line.CertLine.{CertLine}
 use Rattle.cj_causes.specs.declared.cert_cause.CertCause.{CertCause}
+use Rattle.cj_causes.specs.declared.cert_version.CertVersion.{CertVersion}
 use Rattle.cj_causes.specs.declared.cert_cause.CertCause.TheVariants as causes
 use Rattle.cj_cert_text.specs.declared.rank.Rank.{Rank}
 use Rattle.cj_cert_text.specs.declared.rank.Rank.TheVariants as rank
@@ -20,12 +21,12 @@ pub none_left : (words : List (List ℕ)) → (length words == 0) ≡ true → w
 none_left [] h = refl
 none_left (word ∷ words) h = absurd (let e = eqb-true (length (word ∷ words)) 0 h in omega arith)
 
-pub shell_left : (numbers : List ℤ) (words : List (List ℕ)) → (length words == 0) ≡ false → spec.no_shell numbers words ≡ spec.shell_or_none numbers words
-shell_left numbers [] h = absurd cc
-shell_left numbers (word ∷ words) h = refl
+pub shell_left : (v : CertVersion) (numbers : List ℤ) (words : List (List ℕ)) → (length words == 0) ≡ false → spec.no_shell v numbers words ≡ spec.shell_or_none v numbers words
+shell_left v numbers [] h = absurd cc
+shell_left v numbers (word ∷ words) h = refl
 
 -- a line of another kind has no words behind its numbers
-pub words_left : (v : ℕ) (r : Rank) (numbers : List ℤ) (words : List (List ℕ)) → (length words == 0) ≡ false → (r ≡ rank.Shell → ⊥) → (r ≡ rank.Cell → ⊥)
+pub words_left : (v : CertVersion) (r : Rank) (numbers : List ℤ) (words : List (List ℕ)) → (length words == 0) ≡ false → (r ≡ rank.Shell → ⊥) → (r ≡ rank.Cell → ⊥)
     → said_by v r numbers words ≡ Err causes.Form
 words_left v r numbers [] some no_shell no_cell = absurd cc
 words_left v rank.Heading numbers (word ∷ words) some no_shell no_cell = refl
@@ -39,30 +40,30 @@ words_left v rank.Cell numbers (word ∷ words) some no_shell no_cell = absurd (
 words_left v rank.End numbers (word ∷ words) some no_shell no_cell = refl
 
 -- a cell without its kind
-pub no_kind : (numbers : List ℤ) → spec.cell numbers None ≡ Err causes.Form
-no_kind [] = refl
-no_kind (a ∷ []) = refl
-no_kind (a ∷ b ∷ []) = refl
-no_kind (a ∷ b ∷ first ∷ []) = refl
-no_kind (a ∷ b ∷ first ∷ last ∷ []) = refl
-no_kind (a ∷ b ∷ first ∷ last ∷ z ∷ zs) = refl
+pub no_kind : (v : CertVersion) (numbers : List ℤ) → spec.cell v numbers None ≡ Err causes.Form
+no_kind v [] = refl
+no_kind v (a ∷ []) = refl
+no_kind v (a ∷ b ∷ []) = refl
+no_kind v (a ∷ b ∷ first ∷ []) = refl
+no_kind v (a ∷ b ∷ first ∷ last ∷ []) = refl
+no_kind v (a ∷ b ∷ first ∷ last ∷ z ∷ zs) = refl
 
 -- what is said by the numbers that are kept is what the words say
-pub tells_kept : (v : ℕ) (r : Rank) (words others : List (List ℕ)) (kept : List ℤ) (x : Result CertLine CertCause) → v ≤ 2 → kept ≡ take 10 (map capped (numbers_in words))
+pub tells_kept : (v : CertVersion) (r : Rank) (words others : List (List ℕ)) (kept : List ℤ) (x : Result CertLine CertCause) → kept ≡ take 10 (map capped (numbers_in words))
     → (length (numbers_in words) < 10 → others ≡ others_in words) → Tells plain_line x (said_by v r kept others) → Tells plain_line x (said v r words)
 unfolding said
-tells_kept v r words others kept x most same behind h =
-    subst (Tells plain_line x) (ap (λ (ns : List ℤ). said_by v r ns others) same ∙ said_by_kept v r (numbers_in words) others (others_in words) (omega arith) behind) h
+tells_kept v r words others kept x same behind h =
+    subst (Tells plain_line x) (ap (λ (ns : List ℤ). said_by v r ns others) same ∙ said_by_kept v r (numbers_in words) others (others_in words) behind) h
 
 -- ---- behind the last LF
 
-pub behind_refused : (number : ℕ) (before : Option Rank) (c : PlainCertificate) (v : ℕ) (rest : List ℕ) (cause : CertCause) → (length rest == 0) ≡ false → c.version ≡ v
+pub behind_refused : (number : ℕ) (before : Option Rank) (c : PlainCertificate) (v : CertVersion) (rest : List ℕ) (cause : CertCause) → (length rest == 0) ≡ false → c.version ≡ v
     → line_said v before rest ≡ Err cause
     → behind_lines number before c rest ≡ Err (record { line = number; cause = cause })
 behind_refused number before c v [] cause some same is = absurd cc
 behind_refused number before c v (b ∷ bs) cause some same is = rw (same, is) refl
 
-pub behind_taken : (number : ℕ) (before : Option Rank) (c : PlainCertificate) (v : ℕ) (rest : List ℕ) (l : PlainLine) → (length rest == 0) ≡ false → c.version ≡ v → line_said v before rest ≡ Ok l
+pub behind_taken : (number : ℕ) (before : Option Rank) (c : PlainCertificate) (v : CertVersion) (rest : List ℕ) (l : PlainLine) → (length rest == 0) ≡ false → c.version ≡ v → line_said v before rest ≡ Ok l
     → behind_lines number before c rest ≡ ends_at (number + 1)
 behind_taken number before c v [] l some same is = absurd cc
 behind_taken number before c v (b ∷ bs) l some same is = rw (same, is) refl

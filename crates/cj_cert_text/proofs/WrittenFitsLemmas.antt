@@ -1,6 +1,6 @@
 -- The certificate that a run writes fits, in either version, and one that is rewritten fits where the given one does.
-use Rattle.std.proofs.Common.{◌≡◌, ℕ, zero, suc, ◌+◌, ◌-◌, ◌*◌, ◌^◌, ◌<◌, ◌≤◌, Bool, true, false, cond, List, [], ◌∷◌, length, map, filter, not, Option, Some, None, refl, sym, ap, ◌∙◌, subst, inl, inr, arith}
-use Rattle.std.specs.Prelude.{◌==◌, ◌&&◌, ℤ, pos, neg_ℤ, ◌+ℤ◌, ◌*ℤ◌, ◌≤ℤ◌, ◌<ℤ◌, int_le, int_lt, All, IfSome, IsSomeAnd, option_and_then, option_map, slice_get, slice_index_or}
+use Rattle.std.proofs.Common.{◌≡◌, ℕ, zero, suc, ◌+◌, ◌-◌, ◌*◌, ◌^◌, ◌<◌, ◌≤◌, Bool, true, false, cond, List, [], ◌∷◌, length, map, filter, not, Option, Some, None, refl, sym, ap, ◌∙◌, subst, arith}
+use Rattle.std.specs.Prelude.{◌&&◌, ℤ, pos, neg_ℤ, ◌+ℤ◌, ◌*ℤ◌, ◌≤ℤ◌, ◌<ℤ◌, int_le, int_lt, All, IfSome, IsSomeAnd, option_and_then, option_map, slice_get, slice_index_or}
 use Rattle.std.specs.Int.{int_min, int_max}
 use Rattle.std.specs.List.{enumerate_from, filter_map, find, flat_map, fold, list_all, range_with_len}
 use Rattle.std.proofs.lemmas.Bool.{and_parts, and_from}
@@ -16,6 +16,9 @@ use Rattle.cj_interval.proofs.ListLemmas.{Each, Each-weaker, Each-always, Each-b
 use Rattle.cj_interval.proofs.RangeLemmas.{Each-numbered}
 use Rattle.cj_interval.proofs.RoundingLemmas.{le-greatest, least-le}
 use Rattle.cj_ticks.specs.Ticks.{IsTick}
+use Rattle.cj_causes.specs.declared.cert_version.CertVersion.{CertVersion}
+use Rattle.cj_causes.specs.declared.cert_version.CertVersion.TheVariants.{One, Two}
+use Rattle.cj_causes.specs.Versions.{most_objects}
 use Rattle.cj_track.specs.PlainTracks.{PlainTrack}
 use Rattle.cj_hermite.specs.Limits.{MAX_SIZE}
 use Rattle.cj_hermite.specs.PlainProblems.{PlainProblem}
@@ -43,13 +46,13 @@ use Rattle.cj_cert.specs.Accepted.{Accepted, AreBoxes, AreShells, AreSizes, IsSh
 use Rattle.cj_cert.specs.Certificates.{PlainBoxLine, PlainCertificate}
 use Rattle.cj_cert.specs.Listed.{box_listed, is_line_of, is_looked_listed, slots_of_line}
 use Rattle.cj_cert.specs.Reaches.{AllStayNear, IsAxisNear, IsHullNear, StaysNear}
-use Rattle.cj_cert.specs.Rewritten.{boxes_by_lines, given_of, in_version_2, line_of_block, pairs_by_shells, rewritten, size_line, size_lines, with_blocks, written_in, written_in_blocks}
+use Rattle.cj_cert.specs.Rewritten.{boxes_by_lines, from_version, given_of, in_version_2, line_of_block, pairs_by_shells, rewritten, size_line, size_lines, with_blocks, written_in, written_in_blocks}
 use Rattle.cj_cert.specs.Written.{box_in, box_lines, leaves_in_order, line_in_slot, line_of_box, shell_line, written}
 use Rattle.cj_cert.proofs.ListedLemmas.{AreAllInTime}
 use Rattle.cj_cert.proofs.RewrittenLemmas.{blocks_same}
 use Rattle.cj_cert.proofs.TiledLemmas.{each_tiled}
 use Rattle.cj_cert_text.specs.Fits.{Fits, FitsBox, FitsCell, FitsShell, FitsSize}
-use Rattle.cj_cert_text.specs.Lines.{MAX_OBJECTS, is_coordinate, is_reach}
+use Rattle.cj_cert_text.specs.Lines.{is_coordinate, is_reach}
 
 -- ---- reaches
 
@@ -110,8 +113,8 @@ record IsToldBox (area : PlainBox) : Type 0 where
   y : IsTold area.y
   z : IsTold area.z
 
-told_box : (b : PlainBoxLine) → FitsBox b → IsToldBox b.area
-told_box b fits = record { x = told_reach b.area.x fits.x; y = told_reach b.area.y fits.y; z = told_reach b.area.z fits.z }
+told_box : (most : ℕ) (b : PlainBoxLine) → FitsBox most b → IsToldBox b.area
+told_box most b fits = record { x = told_reach b.area.x fits.x; y = told_reach b.area.y fits.y; z = told_reach b.area.z fits.z }
 
 -- ---- the box round several
 
@@ -208,13 +211,13 @@ by_lines_told case lines each =
     (Each-always (λ slot. IsToldWhere (box_listed lines slot object)) (λ slot. found_told lines each slot object) (slots_of case)))
     (range_with_len 0 (length case.ephemerides)))
 
-blocks_fit : (case : PlainProblem) (lines : List PlainBoxLine) (kept : List (ℕ × ℕ)) → length case.ephemerides ≤ MAX_OBJECTS → slot_count case.first case.last < 2 ^ 32 → Each FitsBox lines
-    → Each FitsBox (map line_of_block (blocks_of (given_of case (boxes_by_lines case lines) kept)))
-blocks_fit case lines kept few short each =
+blocks_fit : (most own : ℕ) (case : PlainProblem) (lines : List PlainBoxLine) (kept : List (ℕ × ℕ)) → length case.ephemerides ≤ most → slot_count case.first case.last < 2 ^ 32 → Each (FitsBox own) lines
+    → Each (FitsBox most) (map line_of_block (blocks_of (given_of case (boxes_by_lines case lines) kept)))
+blocks_fit most own case lines kept few short each =
     let g = given_of case (boxes_by_lines case lines) kept in
-    let boxes = by_lines_told case lines (Each-weaker FitsBox HasToldBox told_box lines each) in
-    Each-map FitsBox line_of_block (blocks_of g)
-    (Each-weaker (λ b. IsRound g b × HasToldArea b) (λ b. FitsBox (line_of_block b)) (λ b both.
+    let boxes = by_lines_told case lines (Each-weaker (FitsBox own) HasToldBox (told_box own) lines each) in
+    Each-map (FitsBox most) line_of_block (blocks_of g)
+    (Each-weaker (λ b. IsRound g b × HasToldArea b) (λ b. FitsBox most (line_of_block b)) (λ b both.
     let exists = both.0.exists in
     let within = both.0.within in
     record {
@@ -230,13 +233,13 @@ blocks_fit case lines kept few short each =
 
 -- ---- a certificate that is rewritten
 
-sizes_fit : (n : ℕ) (sizes : List ℕ) → Each (λ size. size ≤ MAX_SIZE) sizes → n + length sizes ≤ MAX_OBJECTS → Each FitsSize (map size_line (enumerate_from n sizes))
-sizes_fit n [] each few = tt
-sizes_fit n (size ∷ sizes) each few = (record { object = omega arith; size = each.0 }, sizes_fit (n + 1) sizes each.1 (omega arith))
+sizes_fit : (most n : ℕ) (sizes : List ℕ) → Each (λ size. size ≤ MAX_SIZE) sizes → n + length sizes ≤ most → Each (FitsSize most) (map size_line (enumerate_from n sizes))
+sizes_fit most n [] each few = tt
+sizes_fit most n (size ∷ sizes) each few = (record { object = omega arith; size = each.0 }, sizes_fit most (n + 1) sizes each.1 (omega arith))
 
 -- what is so of the problem of a run
 pub record IsOfRun (case : PlainProblem) : Type 0 where
-  pub few : length case.ephemerides ≤ MAX_OBJECTS
+  pub few : (version : CertVersion) → length case.ephemerides ≤ most_objects version
   pub first : IsTick case.first
   pub last : IsTick case.last
   pub least : 10 ^ 9 ≤ case.threshold
@@ -246,29 +249,30 @@ pub record IsOfRun (case : PlainProblem) : Type 0 where
   pub sized : length case.sizes ≡ length case.ephemerides
   pub near : AllStayNear case
 
-pub rewritten_fits : (case : PlainProblem) (c : PlainCertificate) → IsOfRun case → Fits c → Fits (rewritten case c)
+pub rewritten_fits : (case : PlainProblem) (c : PlainCertificate) → c.version ≡ One → IsOfRun case → Fits c → Fits (rewritten case c)
 unfolding with_blocks
-rewritten_fits case c run fits = record {
-  version = inr refl;
+rewritten_fits case c first run fits = record {
+  version = tt;
   first = fits.first;
   last = fits.last;
   some = fits.some;
   threshold = fits.threshold;
-  objects = fits.objects;
-  sizes = All-from_each FitsSize (size_lines case.sizes)
-      (sizes_fit 0 case.sizes (each_from_All (λ size. size ≤ MAX_SIZE) case.sizes run.sizes) (omega (arith, run.sized, run.few)));
-  shells = fits.shells;
-  boxes = All-from_each FitsBox (map line_of_block (blocks_of (given_of case (boxes_by_lines case c.boxes) (pairs_by_shells case c))))
-      (blocks_fit case c.boxes (pairs_by_shells case c) run.few run.short (each_from_All FitsBox c.boxes fits.boxes));
-  cells = fits.cells;
+  objects = subst (λ (v : CertVersion). c.objects ≤ most_objects v) first fits.objects;
+  sizes = All-from_each (FitsSize (most_objects Two)) (size_lines case.sizes)
+      (sizes_fit (most_objects Two) 0 case.sizes (each_from_All (λ size. size ≤ MAX_SIZE) case.sizes run.sizes) (omega (arith, run.sized, run.few Two)));
+  shells = subst (λ (v : CertVersion). All (FitsShell (most_objects v)) c.shells) first fits.shells;
+  boxes = All-from_each (FitsBox (most_objects Two)) (map line_of_block (blocks_of (given_of case (boxes_by_lines case c.boxes) (pairs_by_shells case c))))
+      (blocks_fit (most_objects Two) (most_objects c.version) case c.boxes (pairs_by_shells case c) (run.few Two) run.short
+      (each_from_All (FitsBox (most_objects c.version)) c.boxes fits.boxes));
+  cells = subst (λ (v : CertVersion). All (FitsCell (most_objects v)) c.cells) first fits.cells;
 }
 
 pub in_version_2_fits : (case : PlainProblem) (c : PlainCertificate) → IsOfRun case → Fits c → Fits (in_version_2 case c)
-in_version_2_fits case c run fits = go (c.version == 1)
+in_version_2_fits case c run fits = go c.version refl
   where
-    go : (b : Bool) → Fits (cond b (rewritten case c) c)
-    go true = rewritten_fits case c run fits
-    go false = fits
+    go : (version : CertVersion) → c.version ≡ version → Fits (from_version version case c)
+    go One first = rewritten_fits case c first run fits
+    go Two second = fits
 
 -- ---- the shells that a run writes
 
@@ -317,9 +321,9 @@ shells_low case =
     Each-map (λ (line : ShellLine). HasLowTop line.shell) (shell_line case) (enumerate_from 0 case.ephemerides)
     (Each-always (λ object. HasLowTop (shell_of object.1 case.first case.last)) (λ object. round_low (hulls_of object.1 case.first case.last)) (enumerate_from 0 case.ephemerides))
 
-shell_fits : (case : PlainProblem) (line : ShellLine) → line.object < MAX_OBJECTS → IsSomeAnd (slice_get case.ephemerides line.object) (λ e. IsShellOver e case.first case.last line.shell) → HasLowTop line.shell
-    → FitsShell line
-shell_fits case line object over low = record { object = object; radii = radii (slice_get case.ephemerides line.object) line.shell over low }
+shell_fits : (most : ℕ) (case : PlainProblem) (line : ShellLine) → line.object < most → IsSomeAnd (slice_get case.ephemerides line.object) (λ e. IsShellOver e case.first case.last line.shell) → HasLowTop line.shell
+    → FitsShell most line
+shell_fits most case line object over low = record { object = object; radii = radii (slice_get case.ephemerides line.object) line.shell over low }
   where
     radii : (o : Option PlainTrack) (shell : Option Shell) → IsSomeAnd o (λ e. IsShellOver e case.first case.last shell) → HasLowTop shell → IfSome shell (λ r. r.lo ≤ r.hi × r.hi ≤ MAX_RADIUS)
     radii o None over low = tt
@@ -332,11 +336,11 @@ objects_in n lines same =
     each_from_map (λ k. k < n) (λ (line : ShellLine). line.object) lines
     (subst (λ (ks : List ℕ). Each (λ k. k < n) ks) (sym same) (Each-range (λ k. k < n) 0 n (λ k low high. omega arith)))
 
-shells_fit : (case : PlainProblem) (lines : List ShellLine) → length case.ephemerides ≤ MAX_OBJECTS → AreShells case lines → Each (λ line. HasLowTop line.shell) lines → Each FitsShell lines
-shells_fit case lines few are low =
+shells_fit : (most : ℕ) (case : PlainProblem) (lines : List ShellLine) → length case.ephemerides ≤ most → AreShells case lines → Each (λ line. HasLowTop line.shell) lines → Each (FitsShell most) lines
+shells_fit most case lines few are low =
     let Over = λ (line : ShellLine). IsSomeAnd (slice_get case.ephemerides line.object) (λ e. IsShellOver e case.first case.last line.shell) in
-    Each-weaker (λ line. (line.object < length case.ephemerides × Over line) × HasLowTop line.shell) FitsShell
-    (λ line all. let object = all.0.0 in shell_fits case line (omega arith) all.0.1 all.1) lines
+    Each-weaker (λ line. (line.object < length case.ephemerides × Over line) × HasLowTop line.shell) (FitsShell most)
+    (λ line all. let object = all.0.0 in shell_fits most case line (omega arith) all.0.1 all.1) lines
     (Each-both (λ line. line.object < length case.ephemerides × Over line) (λ line. HasLowTop line.shell) lines
     (Each-both (λ line. line.object < length case.ephemerides) Over lines (objects_in (length case.ephemerides) lines are.objects) (each_from_All Over lines are.hold)) low)
 
@@ -394,9 +398,9 @@ own_box_told e from to r near is =
 
 -- a line of one slot
 abbrev FitsOwn : PlainBoxLine → Type 0
-FitsOwn b = FitsBox b × (b.first ≡ b.last)
+FitsOwn b = FitsBox (most_objects One) b × (b.first ≡ b.last)
 
-own_fit : (case : PlainProblem) (object : ℕ × PlainTrack) → object.0 < MAX_OBJECTS → StaysNear object.1 → (slots : List ℕ) → Each (λ k. k < 2 ^ 32) slots
+own_fit : (case : PlainProblem) (object : ℕ × PlainTrack) → object.0 < most_objects One → StaysNear object.1 → (slots : List ℕ) → Each (λ k. k < 2 ^ 32) slots
     → Each FitsOwn (filter_map (line_in_slot case object) slots)
 own_fit case object exists near [] small = tt
 own_fit case object exists near (k ∷ slots) small = go (box_in case object.1 k) refl (own_fit case object exists near slots small.1)
@@ -424,18 +428,18 @@ boxes_fit case run =
     Each-flat_map FitsOwn (box_lines case) (enumerate_from 0 case.ephemerides)
     (Each-numbered (λ object. Each FitsOwn (box_lines case object)) case.ephemerides (λ i e is.
     let lt = slice_get_within case.ephemerides i e is in
-    let few = run.few in
+    let few = run.few One in
     own_fit case (i, e) (omega arith) (each_at StaysNear case.ephemerides i e (each_from_All StaysNear case.ephemerides run.near) is) (slots_of case)
     (Each-range (λ k. k < 2 ^ 32) 0 (slot_count case.first case.last) (λ k low high. let short = run.short in omega arith))))
 
 -- ---- the cells that a run writes
 
-cells_fit : (case : PlainProblem) (looked : ℕ → ℕ → ℕ → Bool) (cells : List PlainLeaf) → IsOfRun case → TileRoots (IsSupported case) (roots_of looked case) cells → Each FitsCell cells
-cells_fit case looked cells run tile = each_tiled (IsSupported case) FitsCell (IsRootOf case) law (roots_of looked case) cells tile (Each-roots looked case)
+cells_fit : (case : PlainProblem) (looked : ℕ → ℕ → ℕ → Bool) (cells : List PlainLeaf) → IsOfRun case → TileRoots (IsSupported case) (roots_of looked case) cells → Each (FitsCell (most_objects One)) cells
+cells_fit case looked cells run tile = each_tiled (IsSupported case) (FitsCell (most_objects One)) (IsRootOf case) law (roots_of looked case) cells tile (Each-roots looked case)
   where
-    law : (r : PlainCell) (s : PlainLeaf) → IsRootOf case r → IsLeaf (IsSupported case) r.a r.b r.first r.last s → FitsCell s
+    law : (r : PlainCell) (s : PlainLeaf) → IsRootOf case r → IsLeaf (IsSupported case) r.a r.b r.first r.last s → FitsCell (most_objects One) s
     law r s is leaf =
-        let few = run.few in
+        let few = run.few One in
         let a = leaf.first_object in
         let b = leaf.second_object in
         let up = is.ordered in
@@ -459,29 +463,31 @@ written_fits case run accepted =
     let least = run.least in
     let most = run.most in
     record {
-      version = inl (refl, refl, All-from_each (λ b. b.first ≡ b.last) lines (Each-weaker FitsOwn (λ b. b.first ≡ b.last) (λ b own. own.1) lines boxes));
+      version = (refl, All-from_each (λ b. b.first ≡ b.last) lines (Each-weaker FitsOwn (λ b. b.first ≡ b.last) (λ b own. own.1) lines boxes));
       first = run.first;
       last = run.last;
       some = omega arith;
       threshold = omega arith;
-      objects = run.few;
-      sizes = All-from_each FitsSize [] tt;
+      objects = run.few One;
+      sizes = All-from_each (FitsSize (most_objects One)) [] tt;
       shells =
-          All-from_each FitsShell (map (shell_line case) (enumerate_from 0 case.ephemerides))
-          (shells_fit case (map (shell_line case) (enumerate_from 0 case.ephemerides)) run.few accepted.shells (shells_low case));
-      boxes = All-from_each FitsBox lines (Each-weaker FitsOwn FitsBox (λ b own. own.0) lines boxes);
-      cells = All-from_each FitsCell (leaves_in_order case) (cells_fit case (is_looked_listed case (written case)) (leaves_in_order case) run accepted.cells);
+          All-from_each (FitsShell (most_objects One)) (map (shell_line case) (enumerate_from 0 case.ephemerides))
+          (shells_fit (most_objects One) case (map (shell_line case) (enumerate_from 0 case.ephemerides)) (run.few One) accepted.shells (shells_low case));
+      boxes = All-from_each (FitsBox (most_objects One)) lines (Each-weaker FitsOwn (FitsBox (most_objects One)) (λ b own. own.0) lines boxes);
+      cells = All-from_each (FitsCell (most_objects One)) (leaves_in_order case) (cells_fit case (is_looked_listed case (written case)) (leaves_in_order case) run accepted.cells);
     }
 
-pub written_in_fits : (version : ℕ) (case : PlainProblem) → IsOfRun case → Accepted case (written case) → Fits (written_in version case)
-written_in_fits version case run accepted = go (version == 1)
+written_in_blocks_fits : (case : PlainProblem) → IsOfRun case → Accepted case (written case) → Fits (written_in_blocks case)
+unfolding written
+written_in_blocks_fits case run accepted =
+    subst (λ (c : PlainCertificate). Fits c) (blocks_same case time) (rewritten_fits case (written case) refl run (written_fits case run accepted))
   where
     time : AreAllInTime case
     time i e is from to = (each_at StaysNear case.ephemerides i e (each_from_All StaysNear case.ephemerides run.near) is).time from to
 
-    go : (b : Bool) → Fits (cond b (written case) (written_in_blocks case))
-    go true = written_fits case run accepted
-    go false = subst (λ (c : PlainCertificate). Fits c) (blocks_same case time) (rewritten_fits case (written case) run (written_fits case run accepted))
+pub written_in_fits : (version : CertVersion) (case : PlainProblem) → IsOfRun case → Accepted case (written case) → Fits (written_in version case)
+written_in_fits One case run accepted = written_fits case run accepted
+written_in_fits Two case run accepted = written_in_blocks_fits case run accepted
 
 -- ---- how many lines there are
 

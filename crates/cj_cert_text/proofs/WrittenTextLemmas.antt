@@ -5,6 +5,8 @@ use Rattle.std.specs.List.{enumerate_from, range_with_len}
 use Rattle.std.proofs.Math.Nat.{mul-le-mul_right}
 use Rattle.std.proofs.lemmas.Grind.{flat_map-append}
 use Rattle.std.proofs.lemmas.List.Folds.{flat_map-map}
+use Rattle.cj_causes.specs.declared.cert_version.CertVersion.{CertVersion}
+use Rattle.cj_causes.specs.declared.cert_version.CertVersion.TheVariants.{One}
 use Rattle.cj_interval.proofs.RangeLemmas.{flat_map-range_more}
 use Rattle.cj_hermite.specs.PlainProblems.{PlainProblem}
 use Rattle.cj_bezier.specs.declared.leaf.Leaf.{Leaf}
@@ -20,7 +22,7 @@ use Rattle.cj_cert.proofs.WrittenLineLemmas.{box_missing, box_more}
 
 -- ---- one box more of an object
 
-pub box_added : (version : ℕ) (boxes : List (Option PlainBox)) (slots object slot : ℕ) (area : PlainBox) (old text new : List ℕ)
+pub box_added : (version : CertVersion) (boxes : List (Option PlainBox)) (slots object slot : ℕ) (area : PlainBox) (old text new : List ℕ)
     → reaches_in boxes (object * slots + slot) ≡ Some area
     → text ≡ old ++ flat_map (box_text version) (lines_by_boxes boxes slots slot object)
     → new ≡ text ++ box_text version (line_of_box object slot area)
@@ -37,7 +39,7 @@ box_added version boxes slots object slot area old text new is so_far added =
     ∙ append_assoc old (flat_map (box_text version) lines) (box_text version line)
     ∙ ap (λ (t : List ℕ). old ++ t) both
 
-pub no_box : (version : ℕ) (boxes : List (Option PlainBox)) (slots object slot : ℕ) (old text : List ℕ)
+pub no_box : (version : CertVersion) (boxes : List (Option PlainBox)) (slots object slot : ℕ) (old text : List ℕ)
     → reaches_in boxes (object * slots + slot) ≡ None
     → text ≡ old ++ flat_map (box_text version) (lines_by_boxes boxes slots slot object)
     → text ≡ old ++ flat_map (box_text version) (lines_by_boxes boxes slots (slot + 1) object)
@@ -46,7 +48,7 @@ no_box version boxes slots object slot old text is so_far =
 
 -- ---- one object more
 
-pub object_added : (version : ℕ) (lines : ℕ → List PlainBoxLine) (object : ℕ) (each new : List ObjectBoxes) (own : ObjectBoxes)
+pub object_added : (version : CertVersion) (lines : ℕ → List PlainBoxLine) (object : ℕ) (each new : List ObjectBoxes) (own : ObjectBoxes)
     → new ≡ each ++ own ∷ [] → object_text version own ≡ flat_map (box_text version) (lines object)
     → flat_map (object_text version) each ≡ flat_map (box_text version) (flat_map lines (range_with_len 0 object))
     → flat_map (object_text version) new ≡ flat_map (box_text version) (flat_map lines (range_with_len 0 (object + 1)))
@@ -62,21 +64,21 @@ object_added version lines object each new own added is before =
 
 pub all_left : (case : PlainProblem) (objects : ℕ) (shells : List ShellLine) (each : List ObjectBoxes) (leaves : List Leaf) (front back : List ℕ)
     → objects ≡ length case.ephemerides → shells ≡ map (shell_line case) (enumerate_from 0 case.ephemerides)
-    → flat_map (object_text 1) each ≡ flat_map (box_text 1) (flat_map (box_lines case) (enumerate_from 0 case.ephemerides))
+    → flat_map (object_text One) each ≡ flat_map (box_text One) (flat_map (box_lines case) (enumerate_from 0 case.ephemerides))
     → plain_leaves leaves ≡ leaves_in_order case
-    → front ≡ first_lines 1 case.first case.last case.threshold objects → back ≡ row (codes "END") []
-    → front ++ (flat_map shell_text shells ++ (flat_map (object_text 1) each ++ (flat_map (λ (leaf : Leaf). cell_text (plain_leaf leaf)) leaves ++ back)))
+    → front ≡ first_lines One case.first case.last case.threshold objects → back ≡ row (codes "END") []
+    → front ++ (flat_map shell_text shells ++ (flat_map (object_text One) each ++ (flat_map (λ (leaf : Leaf). cell_text (plain_leaf leaf)) leaves ++ back)))
     ≡ text_of (written case)
 unfolding text_of written
 all_left case objects shells each leaves front back count of_shells of_boxes of_leaves of_front of_back =
-    let head = first_lines 1 case.first case.last case.threshold (length case.ephemerides) in
+    let head = first_lines One case.first case.last case.threshold (length case.ephemerides) in
     let s = flat_map shell_text (map (shell_line case) (enumerate_from 0 case.ephemerides)) in
-    let b = flat_map (box_text 1) (flat_map (box_lines case) (enumerate_from 0 case.ephemerides)) in
+    let b = flat_map (box_text One) (flat_map (box_lines case) (enumerate_from 0 case.ephemerides)) in
     let l = flat_map cell_text (leaves_in_order case) in
     let e = row (codes "END") [] in
     let of_cells : flat_map (λ (leaf : Leaf). cell_text (plain_leaf leaf)) leaves ≡ l =
     sym (flat_map-map cell_text plain_leaf leaves) ∙ ap (flat_map cell_text) of_leaves in
-    let fronts : front ≡ head = of_front ∙ ap (first_lines 1 case.first case.last case.threshold) count in
+    let fronts : front ≡ head = of_front ∙ ap (first_lines One case.first case.last case.threshold) count in
     (λ i. fronts i ++ (flat_map shell_text (of_shells i) ++ (of_boxes i ++ (of_cells i ++ of_back i))))
     ∙ sym (append_assoc (((head ++ []) ++ s) ++ b) l e
     ∙ append_assoc ((head ++ []) ++ s) b (l ++ e)

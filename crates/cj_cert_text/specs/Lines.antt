@@ -12,6 +12,9 @@ use Rattle.cj_cert.specs.declared.cert_lines.ShellLine.{ShellLine}
 use Rattle.cj_cert.specs.declared.cert_lines.SizeOfLine.{SizeOfLine}
 use Rattle.cj_causes.specs.declared.cert_cause.CertCause.{CertCause}
 use Rattle.cj_causes.specs.declared.cert_cause.CertCause.TheVariants as causes
+use Rattle.cj_causes.specs.declared.cert_version.CertVersion.{CertVersion}
+use Rattle.cj_causes.specs.declared.cert_version.CertVersion.TheVariants.{One, Two}
+use Rattle.cj_causes.specs.Versions.{most_objects, number_of_version}
 use Rattle.cj_cert_text.specs.declared.rank.Rank.{Rank}
 use Rattle.cj_cert_text.specs.declared.rank.Rank.TheVariants as rank
 use Rattle.cj_cert.specs.Certificates.{PlainBoxLine}
@@ -46,15 +49,12 @@ rank_of End = rank.End
 abbrev pub is_from : ℕ → ℕ → ℤ → Bool
 is_from least most z = int_le (pos least) z && int_le z (pos most)
 
-abbrev pub MAX_OBJECTS : ℕ
-MAX_OBJECTS = 2000
-
 -- in nm
 abbrev pub MAX_THRESHOLD : ℕ
 MAX_THRESHOLD = 10 ^ 16
 
-abbrev pub is_object : ℤ → Bool
-is_object z = is_from 1 MAX_OBJECTS z
+abbrev pub is_object : CertVersion → ℤ → Bool
+is_object version z = is_from 1 (most_objects version) z
 
 abbrev pub is_tick : ℤ → Bool
 is_tick z = is_from FIRST_TICK LAST_TICK z
@@ -83,8 +83,9 @@ abbrev pub in_range : Bool → PlainLine → Result PlainLine CertCause
 in_range true line = Ok line
 in_range false line = Err causes.Range
 
-abbrev pub heading : ℕ → List ℤ → Result PlainLine CertCause
-heading version (z ∷ []) = if int_le z (pos version) && int_le (pos version) z then Ok Heading else Err causes.Form
+abbrev pub heading : CertVersion → List ℤ → Result PlainLine CertCause
+heading version (z ∷ []) =
+    if int_le z (pos (number_of_version version)) && int_le (pos (number_of_version version)) z then Ok Heading else Err causes.Form
 heading version numbers = Err causes.Form
 
 abbrev pub window : List ℤ → Result PlainLine CertCause
@@ -95,50 +96,53 @@ abbrev pub threshold : List ℤ → Result PlainLine CertCause
 threshold (z ∷ []) = in_range (is_from 1 MAX_THRESHOLD z) (Threshold (unsigned_abs z))
 threshold numbers = Err causes.Form
 
-abbrev pub objects : List ℤ → Result PlainLine CertCause
-objects (z ∷ []) = in_range (is_from 0 MAX_OBJECTS z) (Objects (unsigned_abs z))
-objects numbers = Err causes.Form
+abbrev pub objects : CertVersion → List ℤ → Result PlainLine CertCause
+objects version (z ∷ []) = in_range (is_from 0 (most_objects version) z) (Objects (unsigned_abs z))
+objects version numbers = Err causes.Form
 
--- a size is told in version 2
-abbrev pub size : ℕ → List ℤ → Result PlainLine CertCause
-size version (i ∷ z ∷ []) =
-    if version == 2 then in_range (is_object i && is_from 0 MAX_SIZE z) (Size (record { object = object_of i; size = unsigned_abs z }))
-    else Err causes.Form
-size version numbers = Err causes.Form
+abbrev pub size_of : CertVersion → List ℤ → Result PlainLine CertCause
+size_of version (i ∷ z ∷ []) = in_range (is_object version i && is_from 0 MAX_SIZE z) (Size (record { object = object_of i; size = unsigned_abs z }))
+size_of version numbers = Err causes.Form
 
-abbrev pub shell : List ℤ → Result PlainLine CertCause
-shell (i ∷ lo ∷ hi ∷ []) = in_range (is_object i && is_radius lo && is_radius hi && int_le lo hi)
+-- in version 1 no size is told
+abbrev pub size : CertVersion → List ℤ → Result PlainLine CertCause
+size One numbers = Err causes.Form
+size Two numbers = size_of Two numbers
+
+abbrev pub shell : CertVersion → List ℤ → Result PlainLine CertCause
+shell version (i ∷ lo ∷ hi ∷ []) = in_range (is_object version i && is_radius lo && is_radius hi && int_le lo hi)
     (Shell (record { object = object_of i; shell = Some (record { lo = unsigned_abs lo; hi = unsigned_abs hi }) }))
-shell numbers = Err causes.Form
+shell version numbers = Err causes.Form
 
-abbrev pub no_shell : List ℤ → List (List ℕ) → Result PlainLine CertCause
-no_shell (i ∷ []) (word ∷ []) =
-    if bytes_eq word (codes "NONE") then in_range (is_object i) (Shell (record { object = object_of i; shell = None })) else Err causes.Form
-no_shell numbers words = Err causes.Form
+abbrev pub no_shell : CertVersion → List ℤ → List (List ℕ) → Result PlainLine CertCause
+no_shell version (i ∷ []) (word ∷ []) =
+    if bytes_eq word (codes "NONE") then in_range (is_object version i) (Shell (record { object = object_of i; shell = None })) else Err causes.Form
+no_shell version numbers words = Err causes.Form
 
 -- the box of an object from one slot to another
-abbrev pub box_of : ℤ → ℤ → ℤ → List ℤ → Result PlainLine CertCause
-box_of i first last (xl ∷ xm ∷ yl ∷ ym ∷ zl ∷ zm ∷ []) =
-    in_range (is_object i && is_slot first && is_slot last && int_le first last && is_reach xl xm && is_reach yl ym && is_reach zl zm)
+abbrev pub box_of : CertVersion → ℤ → ℤ → ℤ → List ℤ → Result PlainLine CertCause
+box_of version i first last (xl ∷ xm ∷ yl ∷ ym ∷ zl ∷ zm ∷ []) =
+    in_range (is_object version i && is_slot first && is_slot last && int_le first last && is_reach xl xm && is_reach yl ym && is_reach zl zm)
     (Box (record {
       object = object_of i;
       first = unsigned_abs first;
       last = unsigned_abs last;
       area = record { x = record { least = xl; most = xm }; y = record { least = yl; most = ym }; z = record { least = zl; most = zm } };
     }))
-box_of i first last numbers = Err causes.Form
+box_of version i first last numbers = Err causes.Form
 
 -- in version 1 a box is of one slot
 abbrev pub box_1 : List ℤ → Result PlainLine CertCause
-box_1 (i ∷ slot ∷ ends) = box_of i slot slot ends
+box_1 (i ∷ slot ∷ ends) = box_of One i slot slot ends
 box_1 numbers = Err causes.Form
 
 abbrev pub box_2 : List ℤ → Result PlainLine CertCause
-box_2 (i ∷ first ∷ last ∷ ends) = box_of i first last ends
+box_2 (i ∷ first ∷ last ∷ ends) = box_of Two i first last ends
 box_2 numbers = Err causes.Form
 
-abbrev pub box : ℕ → List ℤ → Result PlainLine CertCause
-box version numbers = if version == 1 then box_1 numbers else box_2 numbers
+abbrev pub box : CertVersion → List ℤ → Result PlainLine CertCause
+box One numbers = box_1 numbers
+box Two numbers = box_2 numbers
 
 abbrev pub kind_of_word : List ℕ → Option Kind
 kind_of_word word =
@@ -153,15 +157,15 @@ kind_of [] = None
 kind_of (word ∷ []) = kind_of_word word
 kind_of (word ∷ next ∷ words) = None
 
-abbrev pub cell_of : ℤ → ℤ → ℤ → ℤ → Option Kind → Result PlainLine CertCause
-cell_of a b first last None = Err causes.Form
-cell_of a b first last (Some kind) =
-    in_range (is_object a && is_object b && int_lt a b && is_tick first && is_tick last && int_le first last)
+abbrev pub cell_of : CertVersion → ℤ → ℤ → ℤ → ℤ → Option Kind → Result PlainLine CertCause
+cell_of version a b first last None = Err causes.Form
+cell_of version a b first last (Some kind) =
+    in_range (is_object version a && is_object version b && int_lt a b && is_tick first && is_tick last && int_le first last)
     (Cell (record { a = object_of a; b = object_of b; first = unsigned_abs first; last = unsigned_abs last; kind = kind }))
 
-abbrev pub cell : List ℤ → Option Kind → Result PlainLine CertCause
-cell (a ∷ b ∷ first ∷ last ∷ []) kind = cell_of a b first last kind
-cell numbers kind = Err causes.Form
+abbrev pub cell : CertVersion → List ℤ → Option Kind → Result PlainLine CertCause
+cell version (a ∷ b ∷ first ∷ last ∷ []) kind = cell_of version a b first last kind
+cell version numbers kind = Err causes.Form
 
 abbrev pub end : List ℤ → Result PlainLine CertCause
 end [] = Ok End
@@ -175,33 +179,33 @@ alone [] line = line
 alone (word ∷ words) line = Err causes.Form
 
 -- a shell, or none
-abbrev pub shell_or_none : List ℤ → List (List ℕ) → Result PlainLine CertCause
-shell_or_none numbers [] = shell numbers
-shell_or_none numbers (word ∷ words) = no_shell numbers (word ∷ words)
+abbrev pub shell_or_none : CertVersion → List ℤ → List (List ℕ) → Result PlainLine CertCause
+shell_or_none version numbers [] = shell version numbers
+shell_or_none version numbers (word ∷ words) = no_shell version numbers (word ∷ words)
 
-abbrev pub said_by : ℕ → Rank → List ℤ → List (List ℕ) → Result PlainLine CertCause
+abbrev pub said_by : CertVersion → Rank → List ℤ → List (List ℕ) → Result PlainLine CertCause
 said_by version rank.Heading numbers words = alone words (heading version numbers)
 said_by version rank.Window numbers words = alone words (window numbers)
 said_by version rank.Threshold numbers words = alone words (threshold numbers)
-said_by version rank.Objects numbers words = alone words (objects numbers)
+said_by version rank.Objects numbers words = alone words (objects version numbers)
 said_by version rank.Size numbers words = alone words (size version numbers)
-said_by version rank.Shell numbers words = shell_or_none numbers words
+said_by version rank.Shell numbers words = shell_or_none version numbers words
 said_by version rank.Box numbers words = alone words (box version numbers)
-said_by version rank.Cell numbers words = cell numbers (kind_of words)
+said_by version rank.Cell numbers words = cell version numbers (kind_of words)
 said_by version rank.End numbers words = alone words (end numbers)
 
 -- what a line of this kind says, by the words behind its first
-unfoldable pub said : ℕ → Rank → List (List ℕ) → Result PlainLine CertCause
+unfoldable pub said : CertVersion → Rank → List (List ℕ) → Result PlainLine CertCause
 said version rank words = said_by version rank (numbers_in words) (others_in words)
 
-abbrev pub where_it_may_stand : ℕ → Option Rank → Option Rank → List (List ℕ) → Result PlainLine CertCause
+abbrev pub where_it_may_stand : CertVersion → Option Rank → Option Rank → List (List ℕ) → Result PlainLine CertCause
 where_it_may_stand version before None words = Err causes.Form
 where_it_may_stand version before (Some rank) words = if may_follow rank before then said version rank words else Err causes.Form
 
-abbrev pub said_in : ℕ → Option Rank → List (List ℕ) → Result PlainLine CertCause
+abbrev pub said_in : CertVersion → Option Rank → List (List ℕ) → Result PlainLine CertCause
 said_in version before [] = Err causes.Form
 said_in version before (word ∷ words) = where_it_may_stand version before (rank_of_word word) words
 
 -- what a line says behind one of this kind: behind the last line nothing may stand
-unfoldable pub line_said : ℕ → Option Rank → List ℕ → Result PlainLine CertCause
+unfoldable pub line_said : CertVersion → Option Rank → List ℕ → Result PlainLine CertCause
 line_said version before text = if has_ended before then Err causes.End else said_in version before (slice_split (λ b. b == 32) text)

@@ -1,10 +1,11 @@
 -- The text of the boxes of one object.
 use Rattle.std.specs.Prelude.{ℕ, List, flat_map}
+use Rattle.cj_causes.specs.declared.cert_version.CertVersion.{CertVersion}
 use Rattle.cj_bezier.specs.SlotBoxes.{plain_boxes}
 use Rattle.cj_cert_text.specs.declared.object_boxes.ObjectBoxes.{ObjectBoxes}
 use Rattle.cj_cert_text.specs.Texts.{box_text}
 use Rattle.cj_cert.specs.Written.{lines_by_boxes}
 
 -- a line for each slot in which it has a box
-abbrev pub object_text : ℕ → ObjectBoxes → List ℕ
+abbrev pub object_text : CertVersion → ObjectBoxes → List ℕ
 object_text version own = flat_map (box_text version) (lines_by_boxes (plain_boxes own.boxes.now) own.slots own.slots own.object)

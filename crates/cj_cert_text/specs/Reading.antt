@@ -6,6 +6,8 @@ pub use Rattle.cj_kvn.specs.Faults.{at_line, ◌>>=◌ as and_then}
 use Rattle.cj_kvn.specs.declared.text_fault.LineFault.{LineFault}
 use Rattle.cj_causes.specs.declared.cert_cause.CertCause.{CertCause}
 use Rattle.cj_causes.specs.declared.cert_cause.CertCause.TheVariants as causes
+use Rattle.cj_causes.specs.declared.cert_version.CertVersion.{CertVersion}
+use Rattle.cj_causes.specs.declared.cert_version.CertVersion.TheVariants.{One, Two}
 use Rattle.cj_cert_text.specs.declared.rank.Rank.{Rank}
 use Rattle.cj_cert.specs.Certificates.{PlainCertificate}
 use Rattle.cj_cert_text.specs.Lines.{PlainLine, Heading, Window, Threshold, Objects, Size, Shell, Box, Cell, End, line_said, rank_of}
@@ -43,7 +45,7 @@ reads_on number before c (text ∷ []) = behind_lines number before c text
 reads_on number before c (text ∷ next ∷ parts) =
     and_then (at_line number (line_said c.version before text)) (λ line. reads_on (number + 1) (Some (rank_of line)) (with_line c line) (next ∷ parts))
 
-abbrev pub nothing_said : ℕ → PlainCertificate
+abbrev pub nothing_said : CertVersion → PlainCertificate
 nothing_said version = record {
   version = version;
   first = FIRST_TICK;
@@ -57,8 +59,8 @@ nothing_said version = record {
 }
 
 -- the version of a text, if it is a certificate
-abbrev pub version_of : List ℕ → ℕ
-version_of bytes = if starts_with (λ a b. a == b) bytes (codes "CONJ-CERT 2") then 2 else 1
+abbrev pub version_of : List ℕ → CertVersion
+version_of bytes = if starts_with (λ a b. a == b) bytes (codes "CONJ-CERT 2") then Two else One
 
 -- what the bytes of a certificate say
 unfoldable pub reading : List ℕ → Result PlainCertificate Fault

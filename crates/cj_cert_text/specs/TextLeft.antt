@@ -1,5 +1,6 @@
 -- What is left of a text of a certificate that is made batch by batch.
 use Rattle.std.specs.Prelude.{ℕ, ◌+◌, ◌-◌, List, ◌++◌, drop, flat_map, length}
+use Rattle.cj_causes.specs.declared.cert_version.CertVersion.TheVariants.{One}
 use Rattle.cj_bezier.specs.Leaves.{plain_leaf}
 use Rattle.cj_cert_text.specs.declared.certificate_text.CertificateText.{CertificateText}
 use Rattle.cj_cert_text.specs.ObjectTexts.{object_text}
@@ -10,7 +11,7 @@ abbrev pub text_left : CertificateText → List ℕ
 text_left t =
     t.head.items
     ++ (flat_map shell_text (drop t.shells_made t.shells.items)
-    ++ (flat_map (object_text 1) (drop t.boxes_made t.boxes.items)
+    ++ (flat_map (object_text One) (drop t.boxes_made t.boxes.items)
     ++ (flat_map (λ leaf. cell_text (plain_leaf leaf)) (drop t.leaves_made t.leaves.now)
     ++ t.end.items)))
 

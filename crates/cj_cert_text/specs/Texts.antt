@@ -1,7 +1,10 @@
 -- The text of a certificate. Objects are numbered from 1 in it.
-use Rattle.std.specs.Prelude.{ℕ, ◌+◌, ◌==◌, if◌then◌else◌, ℤ, pos, List, [], ◌∷◌, ◌++◌, codes, flat_map, map, Option, Some, None}
+use Rattle.std.specs.Prelude.{ℕ, ◌+◌, ℤ, pos, List, [], ◌∷◌, ◌++◌, codes, flat_map, map, Option, Some, None}
 use Rattle.std.specs.Fmt.{signed_decimal}
 use Rattle.std.specs.List.{join_with_byte}
+use Rattle.cj_causes.specs.declared.cert_version.CertVersion.{CertVersion}
+use Rattle.cj_causes.specs.declared.cert_version.CertVersion.TheVariants.{One, Two}
+use Rattle.cj_causes.specs.Versions.{number_of_version}
 use Rattle.cj_bezier.specs.declared.kind.Kind.{Kind}
 use Rattle.cj_bezier.specs.declared.kind.Kind.TheVariants as kind
 use Rattle.cj_bezier.specs.declared.shells.Shell.{Shell}
@@ -32,9 +35,9 @@ abbrev pub number : ℕ → ℤ
 number object = pos (object + 1)
 
 -- the first four lines, of a version, a window, a threshold and a number of objects
-abbrev pub first_lines : ℕ → ℕ → ℕ → ℕ → ℕ → List ℕ
+abbrev pub first_lines : CertVersion → ℕ → ℕ → ℕ → ℕ → List ℕ
 first_lines version first last threshold objects =
-    row (codes "CONJ-CERT") (pos version ∷ [])
+    row (codes "CONJ-CERT") (pos (number_of_version version) ∷ [])
     ++ row (codes "WINDOW") (pos first ∷ pos last ∷ [])
     ++ row (codes "THRESHOLD") (pos threshold ∷ [])
     ++ row (codes "OBJECTS") (pos objects ∷ [])
@@ -53,15 +56,16 @@ shell_row object (Some s) = row (codes "SHELL") (number object ∷ pos s.lo ∷ 
 abbrev pub shell_text : ShellLine → List ℕ
 shell_text s = shell_row s.object s.shell
 
--- the slots of a box: in version 1 the one, later the first and the last
-abbrev pub slots : ℕ → PlainBoxLine → List ℤ
-slots version b = if version == 1 then pos b.first ∷ [] else pos b.first ∷ pos b.last ∷ []
+-- the slots of a box: in version 1 the one, in version 2 the first and the last
+abbrev pub slots : CertVersion → PlainBoxLine → List ℤ
+slots One b = pos b.first ∷ []
+slots Two b = pos b.first ∷ pos b.last ∷ []
 
 -- the ends of a box, axis by axis
 abbrev pub ends : PlainBox → List ℤ
 ends r = r.x.least ∷ r.x.most ∷ r.y.least ∷ r.y.most ∷ r.z.least ∷ r.z.most ∷ []
 
-abbrev pub box_text : ℕ → PlainBoxLine → List ℕ
+abbrev pub box_text : CertVersion → PlainBoxLine → List ℕ
 box_text version b = row (codes "BOX") (number b.object ∷ (slots version b ++ ends b.area))
 
 abbrev pub kind_word : Kind → List ℕ

@@ -1,5 +1,6 @@
 //! The text of a run's certificate, batch by batch.
 ghost use Rattle.std.specs.Prelude.{◌≡◌, ◌<◌, ◌≤◌, ◌++◌, [], IfOk, OnOk, drop, flat_map, length};
+ghost use Rattle.cj_causes.specs.declared.cert_version.CertVersion.TheVariants.{One};
 ghost use Rattle.cj_io.specs.Parts.{joined};
 ghost use Rattle.cj_cert_text.specs.TextLeft.{count_left, text_left};
 
@@ -7,6 +8,7 @@ use crate::object_boxes::ObjectBoxes;
 use crate::printed_line::PrintedLine;
 use crate::printed_parts::{PARTS_A_WORKER, push_parted};
 use cj_bezier::Leaf;
+use cj_causes::CertVersion;
 use cj_cert::ShellLine;
 use cj_stream::PartSource;
 use std::alloc::{AllocError, Global};
@@ -102,14 +104,22 @@ fn next_texts<R: Threads + Sync, L: PrintedLine + Sync>(
 ) -> Result<Vec<Vec<u8>>, AllocError>
     requires share { 0 < share }
     requires left { made.old < length lines.now }
-    ensures parts { IfOk result (λ parts. flat_map (L.text_by 1) (drop made.old lines.now) ≡ joined parts.items ++ flat_map (L.text_by 1) (drop made.new lines.now)) }
+    ensures parts { IfOk result (λ parts. flat_map (L.text_by One) (drop made.old lines.now) ≡ joined parts.items ++ flat_map (L.text_by One) (drop made.new lines.now)) }
     ensures some { IfOk result (λ parts. 0 < length parts.items) }
     ensures further { OnOk result (made.old < made.new) }
 {
     let end = batch_end(*made, lines.len(), share, workers);
     let size = share.div_ceil(PARTS_A_WORKER);
     let mut parts = Vec::new(alloc);
-    push_parted(rt, alloc, &mut parts, 1, &lines[*made..end], size, workers)?;
+    push_parted(
+        rt,
+        alloc,
+        &mut parts,
+        CertVersion::One,
+        &lines[*made..end],
+        size,
+        workers,
+    )?;
     *made = end;
     Ok(parts)
 }

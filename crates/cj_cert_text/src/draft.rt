@@ -1,6 +1,5 @@
-ghost use Rattle.std.specs.Prelude.{◌≡◌, ◌≤◌};
-
 use crate::cert_line::CertLine;
+use cj_causes::CertVersion;
 use cj_cert::{BoxLine, CellLine, Certificate, ShellLine, SizeOfLine};
 use cj_ticks::{Tick, Window};
 use std::alloc::{AllocError, Global};
@@ -8,7 +7,7 @@ use std::alloc::{AllocError, Global};
 /// What the lines so far say. What is not told yet is as in the certificate of an empty folder.
 #[derive(Drop)]
 pub(crate) struct Draft {
-    version: u32,
+    version: CertVersion,
     window: Window,
     threshold: u64,
     objects: u32,
@@ -19,13 +18,13 @@ pub(crate) struct Draft {
 }
 
 impl Draft {
-    ghost use Rattle.std.specs.Prelude.{◌≡◌, ◌≤◌, OnOk, true};
+    ghost use Rattle.std.specs.Prelude.{◌≡◌, OnOk, true};
     ghost use Rattle.cj_cert.specs.Certificates.{plain_certificate};
     ghost use Rattle.cj_cert_text.specs.Readers.{plain_draft, plain_line};
     ghost use Rattle.cj_cert_text.specs.Reading.{nothing_said, with_line};
     ghost use Rattle.cj_cert.specs.Versions.{is_of_version};
 
-    pub(crate) fn new(alloc: Global, version: u32) -> Draft
+    pub(crate) fn new(alloc: Global, version: CertVersion) -> Draft
         ensures { plain_draft result ≡ nothing_said version }
     {
         Draft {
@@ -62,9 +61,7 @@ impl Draft {
 
     /// What all lines said.
     pub(crate) fn into_certificate(self) -> Certificate
-        requires least { 1 ≤ self.version }
-        requires most { self.version ≤ 2 }
-        requires of_version { is_of_version self.version self.sizes.items self.boxes.items ≡ true }
+        requires { is_of_version self.version self.sizes.items self.boxes.items ≡ true }
         ensures { plain_certificate result ≡ plain_draft self }
     {
         Certificate {

@@ -1,5 +1,6 @@
 //! Certificates of version 2, which have one box for a block of slots where the object then touches nothing more.
 ghost use Rattle.std.specs.Prelude.{◌≡◌, map, IfOk};
+ghost use Rattle.cj_causes.specs.declared.cert_version.CertVersion.TheVariants.{Two};
 ghost use Rattle.cj_hermite.specs.Pairs.{objects_of};
 ghost use Rattle.cj_hermite.specs.Problems.{plain_problem};
 ghost use Rattle.cj_bezier.specs.Leaves.{plain_leaves};
@@ -17,6 +18,7 @@ use crate::block_lines::{block_lines, size_lines};
 use crate::listed_boxes::listed_boxes;
 use crate::written::{cell_lines, shell_lines};
 use cj_bezier::{AxisBox, Leaf, Shell};
+use cj_causes::CertVersion;
 use cj_cert::{Certificate, acceptance};
 use cj_hermite::{Pair, Problem, slot_count};
 use std::alloc::{AllocError, Global};
@@ -36,7 +38,7 @@ pub fn certificate_in_blocks(
     requires boxes { plain_boxes boxes.now ≡ boxes_of (plain_problem problem.now) }
     requires kept { map objects_of kept.now ≡ pairs_kept (plain_problem problem.now) }
     requires leaves { plain_leaves leaves.now ≡ leaves_in_order (plain_problem problem.now) }
-    ensures value { IfOk result (λ cert. plain_certificate cert ≡ written_in 2 (plain_problem problem.now)) }
+    ensures value { IfOk result (λ cert. plain_certificate cert ≡ written_in Two (plain_problem problem.now)) }
     ensures accepted { IfOk result (λ cert. Accepted (plain_problem problem.now) (plain_certificate cert)) }
 {
     acceptance(problem);
@@ -46,7 +48,7 @@ pub fn certificate_in_blocks(
     let boxes = block_lines(alloc, problem, boxes, kept)?;
     let cells = cell_lines(alloc, leaves)?;
     Ok(Certificate {
-        version: 2,
+        version: CertVersion::Two,
         window: problem.window,
         threshold: problem.threshold,
         objects,
@@ -81,15 +83,29 @@ pub fn in_version_2(
     ensures accepted { IfOk result (λ new. Accepted (plain_problem problem.now) (plain_certificate cert) → Accepted (plain_problem problem.now) (plain_certificate new)) }
 {
     acceptance(problem);
-    if cert.version != 1 {
-        return Ok(cert);
+    match cert.version {
+        CertVersion::One => rewritten(alloc, problem, cert, kept),
+        CertVersion::Two => Ok(cert),
     }
+}
+
+/// A certificate of version 1 with the problem's sizes, the same shells and cells, and blocks over its listed boxes and the pairs that its
+/// listed shells keep.
+fn rewritten(
+    alloc: Global,
+    problem: &Problem,
+    cert: Certificate,
+    kept: &[Pair],
+) -> Result<Certificate, AllocError>
+    requires { map objects_of kept.now ≡ pairs_by_shells (plain_problem problem.now) (plain_certificate cert) }
+    ensures { IfOk result (λ new. plain_certificate new ≡ spec.rewritten (plain_problem problem.now) (plain_certificate cert)) }
+{
     let objects = problem.tracks.as_slice().len() as u32;
     let sizes = size_lines(alloc, problem.sizes.as_slice())?;
     let given = listed_boxes(alloc, &cert.boxes, objects, slot_count(problem.window))?;
     let boxes = block_lines(alloc, problem, &given, kept)?;
     Ok(Certificate {
-        version: 2,
+        version: CertVersion::Two,
         window: cert.window,
         threshold: cert.threshold,
         objects: cert.objects,

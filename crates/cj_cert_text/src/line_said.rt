@@ -1,5 +1,5 @@
 //! What a line says behind others.
-ghost use Rattle.std.specs.Prelude.{◌≡◌, ◌≤◌};
+ghost use Rattle.std.specs.Prelude.{◌≡◌};
 ghost use Rattle.cj_cert_text.specs.Lines as spec;
 ghost use Rattle.cj_cert_text.specs.Ranks as ranks;
 ghost use Rattle.cj_cert_text.specs.Readers.{Tells, plain_line};
@@ -8,7 +8,7 @@ use crate::cert_line::CertLine;
 use crate::line_text::said;
 use crate::rank::Rank;
 use crate::words::Words;
-use cj_causes::CertCause;
+use cj_causes::{CertCause, CertVersion};
 
 /// What a line says behind a line of that kind, or first of all.
 ///
@@ -17,12 +17,10 @@ use cj_causes::CertCause;
 /// `End` behind the last line, `Form` where it is none of the lines that may stand there, `Range` where a number is out of its range.
 #[tactic(auto, unfolding(crate::specs::Lines::line_said))]
 pub(crate) fn line_said(
-    version: u32,
+    version: CertVersion,
     before: Option<Rank>,
     text: &[u8],
 ) -> Result<CertLine, CertCause>
-    requires least { 1 ≤ version }
-    requires most { version ≤ 2 }
     ensures { Tells plain_line result (spec.line_said version before text.now) }
 {
     if has_ended(before) {

@@ -1,16 +1,16 @@
 //! What a line of a certificate says, by its own text.
-ghost use Rattle.std.specs.Prelude.{◌≡◌, ◌≢◌, ◌≤◌, ◌<◌, [], ◌∷◌, IfNone, IfSome, Some, length, map, take};
+ghost use Rattle.std.specs.Prelude.{◌≡◌, ◌≢◌, ◌<◌, [], ◌∷◌, IfNone, IfSome, Some, length, map, take};
 ghost use Rattle.cj_cert_text.specs.Lines as spec;
 ghost use Rattle.cj_cert_text.specs.Numbers as spoken;
 ghost use Rattle.cj_cert_text.specs.Readers.{HasNoNumber, LeadsTo, Tells, capped, plain_line, words_in};
 
 use crate::cert_line::CertLine;
-use crate::number::{MAX_OBJECTS, object, reach, read_number, slot, tick, within};
+use crate::number::{object, reach, read_number, slot, tick, within};
 use crate::rank::Rank;
 use crate::words::Words;
 use arrayvec::ArrayVec;
 use cj_bezier::{AxisBox, Kind, Shell};
-use cj_causes::CertCause;
+use cj_causes::{CertCause, CertVersion};
 use cj_cert::{BoxLine, CellLine, ShellLine, SizeOfLine};
 use cj_hermite::Pair;
 use cj_ticks::Window;
@@ -33,9 +33,11 @@ const ROOM: usize = 10;
 /// # Errors
 ///
 /// `Form` where the line has not the form of its kind in this version, else `Range` where a number is out of its range.
-pub(crate) fn said(version: u32, rank: Rank, words: Words<'_>) -> Result<CertLine, CertCause>
-    requires least { 1 ≤ version }
-    requires most { version ≤ 2 }
+pub(crate) fn said(
+    version: CertVersion,
+    rank: Rank,
+    words: Words<'_>,
+) -> Result<CertLine, CertCause>
     ensures { Tells plain_line result (spec.said version rank (words_in words.entry.rest)) }
 {
     let (numbers, others) = numbers_in(words);
@@ -44,7 +46,7 @@ pub(crate) fn said(version: u32, rank: Rank, words: Words<'_>) -> Result<CertLin
 
 /// What a line says by its numbers and the words behind them.
 fn said_by(
-    version: u32,
+    version: CertVersion,
     rank: Rank,
     numbers: &[i128],
     others: Words<'_>,
@@ -55,24 +57,28 @@ fn said_by(
         said_by_numbers(version, rank, numbers)
     } else {
         match rank {
-            Rank::Shell => no_shell(numbers, others),
-            Rank::Cell => cell(numbers, others),
+            Rank::Shell => no_shell(version, numbers, others),
+            Rank::Cell => cell(version, numbers, others),
             _ => Err(CertCause::Form),
         }
     }
 }
 
 /// What a line of numbers alone says.
-fn said_by_numbers(version: u32, rank: Rank, numbers: &[i128]) -> Result<CertLine, CertCause>
+fn said_by_numbers(
+    version: CertVersion,
+    rank: Rank,
+    numbers: &[i128],
+) -> Result<CertLine, CertCause>
     ensures { Tells plain_line result (spec.said_by version rank numbers.now []) }
 {
     match rank {
         Rank::Heading => heading(version, numbers),
         Rank::Window => window(numbers),
         Rank::Threshold => threshold(numbers),
-        Rank::Objects => objects(numbers),
+        Rank::Objects => objects(version, numbers),
         Rank::Size => size(version, numbers),
-        Rank::Shell => shell(numbers),
+        Rank::Shell => shell(version, numbers),
         Rank::Box => area(version, numbers),
         Rank::Cell => Err(CertCause::Form),
         Rank::End => end(numbers),
@@ -105,11 +111,11 @@ fn first_number(words: Words<'_>) -> Option<(i128, Words<'_>)>
     Some((read_number(word)?, behind))
 }
 
-fn heading(version: u32, numbers: &[i128]) -> Result<CertLine, CertCause>
+fn heading(version: CertVersion, numbers: &[i128]) -> Result<CertLine, CertCause>
     ensures { Tells plain_line result (spec.heading version numbers.now) }
 {
     match numbers {
-        [number] if *number == i128::from(version) => Ok(CertLine::Heading),
+        [number] if *number == i128::from(version.number()) => Ok(CertLine::Heading),
         _ => Err(CertCause::Form),
     }
 }
@@ -134,37 +140,44 @@ fn threshold(numbers: &[i128]) -> Result<CertLine, CertCause>
     Ok(CertLine::Threshold(within(*threshold, 1, MAX_THRESHOLD)?))
 }
 
-fn objects(numbers: &[i128]) -> Result<CertLine, CertCause>
-    ensures { Tells plain_line result (spec.objects numbers.now) }
+fn objects(version: CertVersion, numbers: &[i128]) -> Result<CertLine, CertCause>
+    ensures { Tells plain_line result (spec.objects version numbers.now) }
 {
     let [count] = numbers else {
         return Err(CertCause::Form);
     };
-    Ok(CertLine::Objects(within(*count, 0, MAX_OBJECTS)? as u32))
+    let count = within(*count, 0, u64::from(version.most_objects()))?;
+    Ok(CertLine::Objects(count as u32))
 }
 
 /// The size of an object, which version 1 does not tell.
-fn size(version: u32, numbers: &[i128]) -> Result<CertLine, CertCause>
+fn size(version: CertVersion, numbers: &[i128]) -> Result<CertLine, CertCause>
     ensures { Tells plain_line result (spec.size version numbers.now) }
+{
+    match version {
+        CertVersion::One => Err(CertCause::Form),
+        CertVersion::Two => size_of(version, numbers),
+    }
+}
+
+fn size_of(version: CertVersion, numbers: &[i128]) -> Result<CertLine, CertCause>
+    ensures { Tells plain_line result (spec.size_of version numbers.now) }
 {
     let [number, size] = numbers else {
         return Err(CertCause::Form);
     };
-    if version != 2 {
-        return Err(CertCause::Form);
-    }
-    let object = object(*number)?;
+    let object = object(version, *number)?;
     let size = within(*size, 0, MAX_SIZE)?;
     Ok(CertLine::Size(SizeOfLine { object, size }))
 }
 
-fn shell(numbers: &[i128]) -> Result<CertLine, CertCause>
-    ensures { Tells plain_line result (spec.shell numbers.now) }
+fn shell(version: CertVersion, numbers: &[i128]) -> Result<CertLine, CertCause>
+    ensures { Tells plain_line result (spec.shell version numbers.now) }
 {
     let [number, lo, hi] = numbers else {
         return Err(CertCause::Form);
     };
-    let object = object(*number)?;
+    let object = object(version, *number)?;
     let lo = within(*lo, 0, MAX_RADIUS)?;
     let hi = within(*hi, lo, MAX_RADIUS)?;
     Ok(CertLine::Shell(ShellLine {
@@ -173,8 +186,12 @@ fn shell(numbers: &[i128]) -> Result<CertLine, CertCause>
     }))
 }
 
-fn no_shell(numbers: &[i128], others: Words<'_>) -> Result<CertLine, CertCause>
-    ensures { Tells plain_line result (spec.no_shell numbers.now (words_in others.entry.rest)) }
+fn no_shell(
+    version: CertVersion,
+    numbers: &[i128],
+    others: Words<'_>,
+) -> Result<CertLine, CertCause>
+    ensures { Tells plain_line result (spec.no_shell version numbers.now (words_in others.entry.rest)) }
 {
     let [number] = numbers else {
         return Err(CertCause::Form);
@@ -182,7 +199,7 @@ fn no_shell(numbers: &[i128], others: Words<'_>) -> Result<CertLine, CertCause>
     if only(others) != Some(b"NONE".as_slice()) {
         return Err(CertCause::Form);
     }
-    let object = object(*number)?;
+    let object = object(version, *number)?;
     Ok(CertLine::Shell(ShellLine {
         object,
         shell: None,
@@ -199,13 +216,12 @@ fn only(words: Words<'_>) -> Option<&[u8]>
 }
 
 /// A box, in version 1 of one slot, in version 2 of those from the first to the last.
-fn area(version: u32, numbers: &[i128]) -> Result<CertLine, CertCause>
+fn area(version: CertVersion, numbers: &[i128]) -> Result<CertLine, CertCause>
     ensures { Tells plain_line result (spec.box version numbers.now) }
 {
-    if version == 1 {
-        area_in_slot(numbers)
-    } else {
-        area_in_slots(numbers)
+    match version {
+        CertVersion::One => area_in_slot(numbers),
+        CertVersion::Two => area_in_slots(numbers),
     }
 }
 
@@ -215,7 +231,7 @@ fn area_in_slot(numbers: &[i128]) -> Result<CertLine, CertCause>
     let [number, slot, ends @ ..] = numbers else {
         return Err(CertCause::Form);
     };
-    area_of(*number, *slot, *slot, ends)
+    area_of(CertVersion::One, *number, *slot, *slot, ends)
 }
 
 fn area_in_slots(numbers: &[i128]) -> Result<CertLine, CertCause>
@@ -224,16 +240,22 @@ fn area_in_slots(numbers: &[i128]) -> Result<CertLine, CertCause>
     let [number, first, last, ends @ ..] = numbers else {
         return Err(CertCause::Form);
     };
-    area_of(*number, *first, *last, ends)
+    area_of(CertVersion::Two, *number, *first, *last, ends)
 }
 
-fn area_of(number: i128, first: i128, last: i128, ends: &[i128]) -> Result<CertLine, CertCause>
-    ensures { Tells plain_line result (spec.box_of number first last ends.now) }
+fn area_of(
+    version: CertVersion,
+    number: i128,
+    first: i128,
+    last: i128,
+    ends: &[i128],
+) -> Result<CertLine, CertCause>
+    ensures { Tells plain_line result (spec.box_of version number first last ends.now) }
 {
     let [x_least, x_most, y_least, y_most, z_least, z_most] = ends else {
         return Err(CertCause::Form);
     };
-    let object = object(number)?;
+    let object = object(version, number)?;
     let first = slot(first)?;
     let last = within(last, u64::from(first), u64::from(u32::MAX))? as u32;
     let (x_least, x_most) = reach(*x_least, *x_most)?;
@@ -258,8 +280,8 @@ fn area_of(number: i128, first: i128, last: i128, ends: &[i128]) -> Result<CertL
     }))
 }
 
-fn cell(numbers: &[i128], others: Words<'_>) -> Result<CertLine, CertCause>
-    ensures { Tells plain_line result (spec.cell numbers.now (spec.kind_of (words_in others.entry.rest))) }
+fn cell(version: CertVersion, numbers: &[i128], others: Words<'_>) -> Result<CertLine, CertCause>
+    ensures { Tells plain_line result (spec.cell version numbers.now (spec.kind_of (words_in others.entry.rest))) }
 {
     let [a, b, first, last] = numbers else {
         return Err(CertCause::Form);
@@ -267,14 +289,21 @@ fn cell(numbers: &[i128], others: Words<'_>) -> Result<CertLine, CertCause>
     let Some(kind) = kind_of(others) else {
         return Err(CertCause::Form);
     };
-    cell_of(*a, *b, *first, *last, kind)
+    cell_of(version, *a, *b, *first, *last, kind)
 }
 
-fn cell_of(a: i128, b: i128, first: i128, last: i128, kind: Kind) -> Result<CertLine, CertCause>
-    ensures { Tells plain_line result (spec.cell_of a b first last (Some kind)) }
+fn cell_of(
+    version: CertVersion,
+    a: i128,
+    b: i128,
+    first: i128,
+    last: i128,
+    kind: Kind,
+) -> Result<CertLine, CertCause>
+    ensures { Tells plain_line result (spec.cell_of version a b first last (Some kind)) }
 {
-    let a = object(a)?;
-    let b = object(b)?;
+    let a = object(version, a)?;
+    let b = object(version, b)?;
     let first = tick(first)?;
     let last = tick(last)?;
     if b <= a {

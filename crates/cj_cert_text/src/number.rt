@@ -8,7 +8,7 @@ ghost use Rattle.cj_cert_text.specs.Lines.{is_coordinate, is_from, is_object, is
 ghost use Rattle.cj_cert_text.specs.Numbers as spec;
 ghost use Rattle.cj_cert_text.specs.Readers.{Takes, capped};
 
-use cj_causes::CertCause;
+use cj_causes::{CertCause, CertVersion};
 use cj_ticks::Tick;
 
 /// The number that a text says. The greatest u64 stands for all that is greater too, and its negative for all that is less.
@@ -99,9 +99,6 @@ fn size_of(digits: &[u8]) -> u64
     size
 }
 
-/// How many objects there may be.
-pub(crate) const MAX_OBJECTS: u64 = 2_000;
-
 /// The number, where it lies within this range.
 pub(crate) fn within(number: i128, least: u64, most: u64) -> Result<u64, CertCause>
     ensures { Takes (λ n. n) (is_from least most number) (unsigned_abs number) result }
@@ -114,10 +111,10 @@ pub(crate) fn within(number: i128, least: u64, most: u64) -> Result<u64, CertCau
 }
 
 /// The object of this number, where objects are counted from 1.
-pub(crate) fn object(number: i128) -> Result<u32, CertCause>
-    ensures { Takes (λ n. n) (is_object number) (object_of number) result }
+pub(crate) fn object(version: CertVersion, number: i128) -> Result<u32, CertCause>
+    ensures { Takes (λ n. n) (is_object version number) (object_of number) result }
 {
-    Ok((within(number, 1, MAX_OBJECTS)? - 1) as u32)
+    Ok((within(number, 1, u64::from(version.most_objects()))? - 1) as u32)
 }
 
 pub(crate) fn slot(number: i128) -> Result<u32, CertCause>

@@ -1,6 +1,7 @@
 //! The boxes of all objects as text, object by object.
-ghost use Rattle.std.specs.Prelude.{◌≡◌, ◌*◌, ℕ, IfOk, flat_map, length};
+ghost use Rattle.std.specs.Prelude.{◌≡◌, ◌*◌, IfOk, flat_map, length};
 ghost use Rattle.std.specs.List.{range_with_len};
+ghost use Rattle.cj_causes.specs.declared.cert_version.CertVersion.{CertVersion};
 ghost use Rattle.cj_bezier.specs.SlotBoxes.{plain_boxes};
 ghost use Rattle.cj_cert_text.specs.ObjectTexts.{object_text};
 ghost use Rattle.cj_cert_text.specs.Texts.{box_text};
@@ -9,6 +10,7 @@ ghost use Rattle.cj_cert.specs.Written.{lines_by_boxes};
 use crate::object_boxes::ObjectBoxes;
 use crate::printed_line::{BOX_ROOM, PrintedLine};
 use cj_bezier::AxisBox;
+use cj_causes::CertVersion;
 use cj_cert::BoxLine;
 use std::alloc::{AllocError, Global};
 
@@ -19,7 +21,7 @@ impl PrintedLine for ObjectBoxes<'_> {
         (self.slots as usize).saturating_mul(BOX_ROOM)
     }
 
-    fn push_onto(&self, text: &mut Vec<u8>, version: u32) -> Result<(), AllocError> {
+    fn push_onto(&self, text: &mut Vec<u8>, version: CertVersion) -> Result<(), AllocError> {
         for slot in 0..self.slots {
             let place = self.object as usize * self.slots as usize + slot as usize;
             if let Some(area) = self.boxes[place] {
@@ -44,7 +46,7 @@ pub(crate) fn boxes_by_object(
     slots: u32,
 ) -> Result<Vec<ObjectBoxes<'_>>, AllocError>
     requires { length boxes.now ≡ objects * slots }
-    ensures { (version : ℕ) → IfOk result (λ each. flat_map (object_text version) each.items
+    ensures { (version : CertVersion) → IfOk result (λ each. flat_map (object_text version) each.items
         ≡ flat_map (box_text version) (flat_map (lines_by_boxes (plain_boxes boxes.now) slots slots) (range_with_len 0 objects))) }
 {
     let mut each = Vec::with_capacity(alloc, objects as usize)?;

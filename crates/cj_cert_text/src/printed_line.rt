@@ -1,11 +1,13 @@
 //! The lines of a certificate as text.
 ghost use Rattle.std.specs.Prelude.{◌≡◌, ℕ, ◌+◌, ◌++◌, ◌∷◌, [], List, OnOk, codes, pos};
+ghost use Rattle.cj_causes.specs.declared.cert_version.CertVersion.{CertVersion};
 ghost use Rattle.cj_bezier.specs.Leaves.{plain_leaf};
 ghost use Rattle.cj_cert.specs.Certificates.{plain_box_line, plain_cell_line};
 ghost use Rattle.cj_cert_text.specs.Texts.{box_text, cell_text, kind_word as the_word, number, row_ended, shell_text, size_text};
 
 use crate::rows::{push_row, push_row_ended};
 use cj_bezier::{Kind, Leaf};
+use cj_causes::CertVersion;
 use cj_cert::{BoxLine, CellLine, ShellLine, SizeOfLine};
 use cj_hermite::Pair;
 use cj_ticks::Tick;
@@ -21,10 +23,10 @@ pub(crate) trait PrintedLine {
     /// How many bytes its text has at most.
     fn room(&self) -> usize;
 
-    ghost text_by: { ℕ → Self → List ℕ };
+    ghost text_by: { CertVersion → Self → List ℕ };
 
     /// Adds the line in this version.
-    fn push_onto(&self, text: &mut Vec<u8>, version: u32) -> Result<(), AllocError>
+    fn push_onto(&self, text: &mut Vec<u8>, version: CertVersion) -> Result<(), AllocError>
         ensures { OnOk result (text.new.items ≡ text.old.items ++ text_by version self.now) };
 }
 
@@ -35,7 +37,7 @@ impl PrintedLine for SizeOfLine {
         24
     }
 
-    fn push_onto(&self, text: &mut Vec<u8>, _version: u32) -> Result<(), AllocError> {
+    fn push_onto(&self, text: &mut Vec<u8>, _version: CertVersion) -> Result<(), AllocError> {
         let size = i128::from(self.size);
         push_row(text, b"SIZE", &[number_of(self.object), size])
     }
@@ -48,7 +50,7 @@ impl PrintedLine for ShellLine {
         51
     }
 
-    fn push_onto(&self, text: &mut Vec<u8>, _version: u32) -> Result<(), AllocError> {
+    fn push_onto(&self, text: &mut Vec<u8>, _version: CertVersion) -> Result<(), AllocError> {
         let object = number_of(self.object);
         match self.shell {
             None => push_row_ended(text, b"SHELL", &[object], b"NONE"),
@@ -68,29 +70,28 @@ impl PrintedLine for BoxLine {
         BOX_ROOM
     }
 
-    fn push_onto(&self, text: &mut Vec<u8>, version: u32) -> Result<(), AllocError> {
+    fn push_onto(&self, text: &mut Vec<u8>, version: CertVersion) -> Result<(), AllocError> {
         let object = number_of(self.object);
         let (first, last) = (i128::from(self.first), i128::from(self.last));
         let (least, most) = (self.area.least, self.area.most);
         let (x_least, x_most) = (i128::from(least.x), i128::from(most.x));
         let (y_least, y_most) = (i128::from(least.y), i128::from(most.y));
         let (z_least, z_most) = (i128::from(least.z), i128::from(most.z));
-        if version == 1 {
-            push_row(
+        match version {
+            CertVersion::One => push_row(
                 text,
                 b"BOX",
                 &[
                     object, first, x_least, x_most, y_least, y_most, z_least, z_most,
                 ],
-            )
-        } else {
-            push_row(
+            ),
+            CertVersion::Two => push_row(
                 text,
                 b"BOX",
                 &[
                     object, first, last, x_least, x_most, y_least, y_most, z_least, z_most,
                 ],
-            )
+            ),
         }
     }
 }
@@ -102,7 +103,7 @@ impl PrintedLine for CellLine {
         CELL_ROOM
     }
 
-    fn push_onto(&self, text: &mut Vec<u8>, _version: u32) -> Result<(), AllocError> {
+    fn push_onto(&self, text: &mut Vec<u8>, _version: CertVersion) -> Result<(), AllocError> {
         push_cell(text, self.pair, self.first, self.last, self.kind)
     }
 }
@@ -114,7 +115,7 @@ impl PrintedLine for Leaf {
         CELL_ROOM
     }
 
-    fn push_onto(&self, text: &mut Vec<u8>, _version: u32) -> Result<(), AllocError> {
+    fn push_onto(&self, text: &mut Vec<u8>, _version: CertVersion) -> Result<(), AllocError> {
         let cell = self.cell;
         push_cell(text, cell.pair, cell.first, cell.last, self.kind)
     }

@@ -4,6 +4,7 @@ ghost use Rattle.cj_io.specs.Parts.{joined};
 ghost use Rattle.cj_cert_text.specs.Parts.{AreTexts};
 
 use crate::printed_line::PrintedLine;
+use cj_causes::CertVersion;
 use cj_jobs::{Jobs, run_jobs};
 use std::alloc::{AllocError, Global};
 use std::thread::Threads;
@@ -17,7 +18,7 @@ pub(crate) const PARTS_A_WORKER: usize = 4;
 /// What is done with lines: their text is made in a version.
 #[derive(Clone, Copy)]
 struct Printing {
-    version: u32,
+    version: CertVersion,
 }
 
 impl<L: PrintedLine + Sync> Jobs<L> for Printing {
@@ -50,7 +51,7 @@ pub(crate) fn push_lines<R: Threads + Sync, L: PrintedLine + Sync>(
     rt: &R,
     alloc: Global,
     parts: &mut Vec<Vec<u8>>,
-    version: u32,
+    version: CertVersion,
     lines: &[L],
     workers: u32,
 ) -> Result<(), AllocError>
@@ -65,7 +66,7 @@ pub(crate) fn push_parted<R: Threads + Sync, L: PrintedLine + Sync>(
     rt: &R,
     alloc: Global,
     parts: &mut Vec<Vec<u8>>,
-    version: u32,
+    version: CertVersion,
     lines: &[L],
     size: usize,
     workers: u32,
@@ -86,7 +87,11 @@ fn part_size(count: usize, workers: u32) -> usize {
 }
 
 /// The text of some lines.
-fn part_text<L: PrintedLine>(alloc: Global, version: u32, part: &[L]) -> Result<Vec<u8>, AllocError>
+fn part_text<L: PrintedLine>(
+    alloc: Global,
+    version: CertVersion,
+    part: &[L],
+) -> Result<Vec<u8>, AllocError>
     ensures { IfOk result (λ text. text.items ≡ flat_map (L.text_by version) part.now) }
 {
     let mut text = Vec::with_capacity(alloc, room_of(part))?;
@@ -106,7 +111,7 @@ fn room_of<L: PrintedLine>(part: &[L]) -> usize {
 /// Adds lines, one after another.
 fn push_in_turn<L: PrintedLine>(
     text: &mut Vec<u8>,
-    version: u32,
+    version: CertVersion,
     lines: &[L],
 ) -> Result<(), AllocError>
     ensures { OnOk result (text.new.items ≡ text.old.items ++ flat_map (L.text_by version) lines.now) }

@@ -6,6 +6,7 @@ ghost use Rattle.cj_cert_text.specs.Texts.{first_lines, row, text_of};
 
 use crate::printed_parts::push_lines;
 use crate::rows::push_row;
+use cj_causes::CertVersion;
 use cj_cert::Certificate;
 use cj_io::join_parts;
 use cj_ticks::Window;
@@ -50,7 +51,7 @@ pub fn cert_parts<R: Threads + Sync>(
 /// The first four lines.
 pub(crate) fn head(
     alloc: Global,
-    version: u32,
+    version: CertVersion,
     window: Window,
     threshold: u64,
     objects: u32,
@@ -60,7 +61,7 @@ pub(crate) fn head(
     let first = i128::from(window.first.micros);
     let last = i128::from(window.last.micros);
     let mut text = Vec::new(alloc);
-    push_row(&mut text, b"CONJ-CERT", &[i128::from(version)])?;
+    push_row(&mut text, b"CONJ-CERT", &[i128::from(version.number())])?;
     push_row(&mut text, b"WINDOW", &[first, last])?;
     push_row(&mut text, b"THRESHOLD", &[i128::from(threshold)])?;
     push_row(&mut text, b"OBJECTS", &[i128::from(objects)])?;

@@ -12,7 +12,7 @@ use crate::fault::CertFault;
 use crate::line_said::{has_ended, line_said};
 use crate::rank::Rank;
 use crate::words::split_at_byte;
-use cj_causes::CertCause;
+use cj_causes::{CertCause, CertVersion};
 use cj_cert::Certificate;
 use std::alloc::Global;
 
@@ -54,10 +54,13 @@ pub fn read_cert(alloc: Global, bytes: &[u8]) -> Result<Certificate, CertFault>
 }
 
 /// What is wrong with a text behind its last LF: the rest would be the line of this number.
-fn end_fault(version: u32, before: Option<Rank>, number: u32, rest: &[u8]) -> Option<CertFault>
-    requires least { 1 ≤ version }
-    requires most { version ≤ 2 }
-    requires room { number < 2 ^ 32 - 1 }
+fn end_fault(
+    version: CertVersion,
+    before: Option<Rank>,
+    number: u32,
+    rest: &[u8],
+) -> Option<CertFault>
+    requires { number < 2 ^ 32 - 1 }
     ensures none { IfNone result ((rest.now ≡ []) × (ranks.has_ended before ≡ true)) }
     ensures some { IfSome result (λ fault. (c : PlainCertificate) → c.version ≡ version → Gives plain_certificate (Err fault) (spec.behind_lines number before c rest.now)) }
 {
@@ -83,14 +86,12 @@ fn end_fault(version: u32, before: Option<Rank>, number: u32, rest: &[u8]) -> Op
 }
 
 /// The version that a text has, if it is a certificate.
-fn version_of(bytes: &[u8]) -> u32
-    ensures value { result ≡ spec.version_of bytes.now }
-    ensures least { 1 ≤ result }
-    ensures most { result ≤ 2 }
+fn version_of(bytes: &[u8]) -> CertVersion
+    ensures { result ≡ spec.version_of bytes.now }
 {
     if bytes.starts_with(b"CONJ-CERT 2") {
-        2
+        CertVersion::Two
     } else {
-        1
+        CertVersion::One
     }
 }

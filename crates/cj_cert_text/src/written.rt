@@ -1,6 +1,7 @@
 //! The certificate that a run writes.
 ghost use Rattle.std.specs.Prelude.{◌≡◌, ◌+◌, ◌*◌, ◌++◌, ◌<◌, ◌≤◌, ◌^◌, true, [], map, length, IfOk, OnOk};
 ghost use Rattle.std.specs.List.{flat_map, range_with_len};
+ghost use Rattle.cj_causes.specs.declared.cert_version.CertVersion.TheVariants.{One};
 ghost use Rattle.cj_hermite.specs.Problems.{plain_problem};
 ghost use Rattle.cj_bezier.specs.Leaves.{plain_leaves};
 ghost use Rattle.cj_bezier.specs.Looked.{shells_of};
@@ -12,6 +13,7 @@ ghost use Rattle.cj_bezier.specs.AllBoxes.{boxes_of};
 ghost use Rattle.cj_cert.specs.Written.{leaves_in_order, line_by_shells, lines_by_boxes, written};
 
 use cj_bezier::{AxisBox, Leaf, Shell};
+use cj_causes::CertVersion;
 use cj_cert::{BoxLine, CellLine, Certificate, ShellLine, acceptance};
 use cj_hermite::{Problem, slot_count};
 use std::alloc::{AllocError, Global};
@@ -37,7 +39,7 @@ pub fn written_certificate(
     let boxes = box_lines(alloc, boxes, objects, slot_count(problem.window))?;
     let cells = cell_lines(alloc, leaves)?;
     Ok(Certificate {
-        version: 1,
+        version: CertVersion::One,
         window: problem.window,
         threshold: problem.threshold,
         objects,
@@ -73,7 +75,7 @@ fn box_lines(
 ) -> Result<Vec<BoxLine>, AllocError>
     requires all { length boxes.now ≡ objects * slots }
     ensures value { IfOk result (λ lines. map plain_box_line lines.items ≡ flat_map (lines_by_boxes (plain_boxes boxes.now) slots slots) (range_with_len 0 objects)) }
-    ensures single { IfOk result (λ lines. is_of_version 1 [] lines.items ≡ true) }
+    ensures single { IfOk result (λ lines. is_of_version One [] lines.items ≡ true) }
 {
     let mut lines = Vec::with_capacity(alloc, boxes.len())?;
     for object in 0..objects {
@@ -91,7 +93,7 @@ fn append_box_lines(
 ) -> Result<(), AllocError>
     requires { object * slots + slots ≤ length boxes.now }
     ensures value { OnOk result (map plain_box_line lines.new.items ≡ map plain_box_line lines.old.items ++ lines_by_boxes (plain_boxes boxes.now) slots slots object) }
-    ensures single { OnOk result (is_of_version 1 [] lines.old.items ≡ true → is_of_version 1 [] lines.new.items ≡ true) }
+    ensures single { OnOk result (is_of_version One [] lines.old.items ≡ true → is_of_version One [] lines.new.items ≡ true) }
 {
     for slot in 0..slots {
         let place = object as usize * slots as usize + slot as usize;

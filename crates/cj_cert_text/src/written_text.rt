@@ -15,6 +15,7 @@ use crate::printed_boxes::boxes_by_object;
 use crate::printing::{end, head};
 use crate::written::shell_lines;
 use cj_bezier::{AxisBox, Leaf, Shell};
+use cj_causes::CertVersion;
 use cj_cert::acceptance;
 use cj_hermite::{Problem, slot_count};
 use std::alloc::{AllocError, Global};
@@ -41,7 +42,13 @@ impl<'a> CertificateText<'a> {
         let slots = slot_count(problem.window);
         Ok(CertificateText {
             workers,
-            head: head(alloc, 1, problem.window, problem.threshold, objects)?,
+            head: head(
+                alloc,
+                CertVersion::One,
+                problem.window,
+                problem.threshold,
+                objects,
+            )?,
             shells: shell_lines(alloc, shells)?,
             shells_made: 0,
             boxes: boxes_by_object(alloc, boxes, objects, slots)?,

@@ -5,6 +5,7 @@ ghost use Rattle.cj_cert.specs.Listed.{shells_listed};
 ghost use Rattle.cj_cert.specs.Versions.{is_of_version};
 
 use cj_bezier::{AxisBox, Kind, Shell};
+use cj_causes::CertVersion;
 use cj_cert::{BoxLine, CellLine, Certificate, ShellLine, SizeOfLine};
 use cj_cert_text::{cert_text, read_cert};
 use cj_hermite::Pair;
@@ -63,7 +64,7 @@ const LAST: Tick = Tick {
 
 fn empty(alloc: Global) -> Certificate {
     Certificate {
-        version: 1,
+        version: CertVersion::One,
         window: Window {
             first: Tick::FIRST,
             last: Tick::FIRST,
@@ -123,14 +124,12 @@ fn near(first: Tick, last: Tick) -> CellLine
 
 fn at_rest(
     alloc: Global,
-    version: u32,
+    version: CertVersion,
     sizes: Vec<SizeOfLine>,
     boxes: Vec<BoxLine>,
 ) -> Result<Certificate, AllocError>
-    requires least { 1 ≤ version }
-    requires most { version ≤ 2 }
-    requires of_version { is_of_version version sizes.items boxes.items ≡ true }
-    ensures shells { IfOk result (λ cert. shells_listed (plain_certificate cert)
+    requires { is_of_version version sizes.items boxes.items ≡ true }
+    ensures { IfOk result (λ cert. shells_listed (plain_certificate cert)
         ≡ Some (record { lo = 7000000000000000; hi = 7000000000000000 }) ∷ Some (record { lo = 7005000000000000; hi = 7005000000000000 }) ∷ []) }
 {
     let before_last = Tick {
@@ -164,7 +163,7 @@ pub fn at_rest_1(alloc: Global) -> Result<Certificate, AllocError>
         box_of(1, 0, 0, 7_005_000_000_000_000),
         box_of(1, 1, 1, 7_005_000_000_000_000),
     ]?;
-    at_rest(alloc, 1, Vec::new(alloc), boxes)
+    at_rest(alloc, CertVersion::One, Vec::new(alloc), boxes)
 }
 
 pub fn at_rest_2(alloc: Global) -> Result<Certificate, AllocError>
@@ -179,7 +178,7 @@ pub fn at_rest_2(alloc: Global) -> Result<Certificate, AllocError>
         box_of(0, 0, 1, 7_000_000_000_000_000),
         box_of(1, 0, 1, 7_005_000_000_000_000),
     ]?;
-    at_rest(alloc, 2, sizes, boxes)
+    at_rest(alloc, CertVersion::Two, sizes, boxes)
 }
 
 #[test]
@@ -229,7 +228,7 @@ fn of_many_cells(alloc: Global) -> Result<Certificate, AllocError> {
         cells.push(near(tick, tick))?;
     }
     Ok(Certificate {
-        version: 1,
+        version: CertVersion::One,
         window: Window {
             first: FIRST,
             last: LAST,

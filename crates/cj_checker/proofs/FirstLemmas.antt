@@ -4,7 +4,7 @@ use Rattle.std.specs.Prelude.{IsSomeAnd, ◌==◌, if◌then◌else◌, nat_le, 
 use Rattle.std.specs.Bool.{Decides}
 use Rattle.std.specs.List.{AllZip, enumerate_from, flat_map, range_with_len}
 use Rattle.std.specs.Option.{option_or}
-use Rattle.std.proofs.lemmas.Bool.{cases_eq, eqb-true, eq-eqb, false_from_ne_true}
+use Rattle.std.proofs.lemmas.Bool.{cases_eq, eqb-true, false_from_ne_true}
 use Rattle.std.proofs.lemmas.Bool.Decides.{Decides-and, Decides-eqb}
 use Rattle.cj_interval.proofs.ListLemmas.{Each, Each-weaker, Each-both, All-from_each, each_from_All}
 use Rattle.cj_track.specs.PlainTracks.{PlainTrack}
@@ -15,13 +15,15 @@ use Rattle.cj_bezier.specs.Leaves.{PlainLeaf}
 use Rattle.cj_bezier.specs.Tiles.{IsLeaf, Tile}
 use Rattle.cj_cert.specs.declared.cert_lines.ShellLine.{ShellLine}
 use Rattle.cj_cert.specs.declared.cert_lines.SizeOfLine.{SizeOfLine}
-use Rattle.cj_cert.specs.Accepted.{AreSizes, AreShells, IsShellOver, slots_with_states, HoldsHulls, AreBoxes, IsSupported, TileRoots, Accepted}
+use Rattle.cj_cert.specs.Accepted.{AreSizesIn, AreShells, IsShellOver, slots_with_states, HoldsHulls, AreBoxes, IsSupported, TileRoots, Accepted}
 use Rattle.cj_cert.specs.Certificates.{PlainBoxLine, PlainCertificate}
 use Rattle.cj_cert.specs.Listed.{slots_of_line, is_looked_listed}
 use Rattle.cj_causes.specs.declared.check_cause.CheckCause.{CheckCause}
 use Rattle.cj_causes.specs.declared.check_cause.CheckCause.TheVariants.{Header, SizeOf, ShellOf, BoxOf, Untiled, Stranger}
+use Rattle.cj_causes.specs.declared.cert_version.CertVersion.{CertVersion}
+use Rattle.cj_causes.specs.declared.cert_version.CertVersion.TheVariants.{One, Two}
 use Rattle.cj_checker.specs.Tests.{is_size_line, is_shell_over, is_shell_line, is_box_line, are_in_front, holds_hulls, is_supported}
-use Rattle.cj_checker.specs.First.{failed, header_failure, first_unfit, first_line, size_failure, first_shell_line, shell_failure, Failure}
+use Rattle.cj_checker.specs.First.{failed, header_failure, first_unfit, first_line, size_failure_in, size_failure, first_shell_line, shell_failure, Failure}
 use Rattle.cj_checker.specs.First.{unlisted, boxes_from, first_box_line, box_failure, begins, comes_after, behind, unsupported, cells_from, first_cell_line, cell_failure, first_failure}
 use Rattle.cj_checker.proofs.CauseLemmas.{behind_last, cells_done}
 use Rattle.cj_checker.proofs.TestLemmas.{decides_same, decides_shell, decides_holds, decides_front, decides_nat_le, decides_supported}
@@ -89,16 +91,9 @@ sizes_law n at (s ∷ sizes) (l ∷ lines) =
           here.1 ((ap (λ (p : ℕ × ℕ). p.0) head, ap (λ (p : ℕ × ℕ). p.1) head), rest.1 tail),
     )
 
-size_law : (case : PlainProblem) (c : PlainCertificate) → (size_failure case c ≡ None) ↔ (c.version ≡ 2 → AreSizes case c.sizes)
-size_law case c = elim (cases_eq c.version 2) [
-  | inl same ↦
-      let is : (c.version == 2) ≡ true = eq-eqb c.version 2 same in
-      let law = sizes_law 0 first_line case.sizes c.sizes in
-      rw is ((λ h _. law.0 h), λ h. law.1 (h same))
-  | inr other ↦
-      let other_is : (c.version == 2) ≡ false = false_from_ne_true (c.version == 2) (λ yes. other (eqb-true c.version 2 yes)) in
-      rw other_is ((λ h two. absurd (other two)), λ h. refl)
-]
+size_law : (version : CertVersion) (case : PlainProblem) (lines : List SizeOfLine) → (size_failure_in version case lines ≡ None) ↔ AreSizesIn version case lines
+size_law One case lines = (λ h. tt, λ h. refl)
+size_law Two case lines = sizes_law 0 first_line case.sizes lines
 
 -- ---- shells
 
@@ -373,7 +368,7 @@ first_law case c =
             last = made.last;
             threshold = made.threshold;
             objects = made.objects;
-            sizes = (size_law case c).0 b.0;
+            sizes = (size_law c.version case c.sizes).0 b.0;
             shells = (shell_law case c).0 d.0;
             boxes = (box_law case c).0 f.0;
             cells = (cell_law case c).0 f.1;
@@ -382,7 +377,7 @@ first_law case c =
           by_header.1 (
             (header_law case c).1 (record { first = is.first; last = is.last; threshold = is.threshold; objects = is.objects }),
             by_size.1 (
-              (size_law case c).1 is.sizes,
+              (size_law c.version case c.sizes).1 is.sizes,
               by_shell.1 (
                 (shell_law case c).1 is.shells,
                 by_box.1 ((box_law case c).1 is.boxes, (cell_law case c).1 is.cells),

@@ -7,12 +7,15 @@ use Rattle.cj_hermite.specs.Roots.{PlainCell, roots_of}
 use Rattle.cj_bezier.specs.declared.kind.Kind.{Kind}
 use Rattle.cj_bezier.specs.declared.kind.Kind.TheVariants as kinds
 use Rattle.cj_bezier.specs.Leaves.{PlainLeaf}
+use Rattle.cj_cert.specs.declared.cert_lines.SizeOfLine.{SizeOfLine}
 use Rattle.cj_cert.specs.Accepted.{slots_with_states}
 use Rattle.cj_cert.specs.Certificates.{PlainBoxLine, PlainCertificate}
 use Rattle.cj_cert.specs.Listed.{slots_of_line, is_looked_listed}
 use Rattle.cj_kvn.specs.declared.text_fault.LineFault.{LineFault}
 use Rattle.cj_causes.specs.declared.check_cause.CheckCause.{CheckCause}
 use Rattle.cj_causes.specs.declared.check_cause.CheckCause.TheVariants.{Header, SizeOf, ShellOf, BoxOf, Untiled, Stranger, NotFar, NotNear, NotBand}
+use Rattle.cj_causes.specs.declared.cert_version.CertVersion.{CertVersion}
+use Rattle.cj_causes.specs.declared.cert_version.CertVersion.TheVariants.{One, Two}
 use Rattle.cj_checker.specs.Tests.{is_size_line, is_shell_line, is_box_line, is_supported}
 
 -- a line at which a certificate is not accepted, and why
@@ -48,9 +51,13 @@ fits_at fits xs place y = option_map_or (λ x. fits x y) (slice_get xs place) fa
 abbrev pub first_line : ℕ
 first_line = 5
 
--- the sizes, in version 2
+-- the sizes, in a version that tells them
+abbrev pub size_failure_in : CertVersion → PlainProblem → List SizeOfLine → Option Failure
+size_failure_in One case lines = None
+size_failure_in Two case lines = first_unfit is_size_line SizeOf first_line (enumerate_from 0 case.sizes) lines
+
 abbrev pub size_failure : PlainProblem → PlainCertificate → Option Failure
-size_failure case c = if c.version == 2 then first_unfit is_size_line SizeOf first_line (enumerate_from 0 case.sizes) c.sizes else None
+size_failure case c = size_failure_in c.version case c.sizes
 
 abbrev pub first_shell_line : PlainCertificate → ℕ
 first_shell_line c = first_line + length c.sizes

@@ -8,7 +8,7 @@ ghost use Rattle.cj_checker.specs.First.{first_line, first_unfit, fits_at, size_
 ghost use Rattle.cj_checker.specs.Tests.{is_size_line as the_test};
 
 use crate::failure::{FIRST_LINE, Failure, failed};
-use cj_causes::CheckCause;
+use cj_causes::{CertVersion, CheckCause};
 use cj_cert::{Certificate, SizeOfLine};
 use cj_hermite::Problem;
 
@@ -18,10 +18,9 @@ pub fn size_failure(problem: &Problem, cert: &Certificate) -> Option<Failure>
     requires few { vec_len cert.now.sizes < 2 ^ 32 - 5 }
     ensures { result ≡ the_failure (plain_problem problem.now) (plain_certificate cert.now) }
 {
-    if cert.version == 2 {
-        unfit_size(problem.sizes.as_slice(), &cert.sizes)
-    } else {
-        None
+    match cert.version {
+        CertVersion::One => None,
+        CertVersion::Two => unfit_size(problem.sizes.as_slice(), &cert.sizes),
     }
 }
 

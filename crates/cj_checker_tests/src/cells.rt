@@ -2,6 +2,7 @@
 ghost use Rattle.std.specs.Prelude.{◌≤◌, length};
 
 use cj_bezier::{AxisBox, Kind, Shell};
+use cj_causes::CertVersion;
 use cj_cert::{BoxLine, CellLine, Certificate, ShellLine, SizeOfLine};
 use cj_checker::{Answer, CheckCause, check};
 use cj_hermite::Pair;
@@ -48,7 +49,7 @@ fn answer(alloc: Global, cells: &[CellLine]) -> Result<Answer, AllocError>
     let mut list = Vec::new(alloc);
     list.extend_from_slice(cells)?;
     let cert = Certificate {
-        version: 1,
+        version: CertVersion::One,
         window: seconds(0, 60),
         threshold: 5_000_000_000_000,
         objects: 2,
@@ -209,7 +210,7 @@ fn a_certificate_of_version_2_is_checked(rt: HostRuntime) {
     ] {
         let (a, b) = (place(x), place(7_005_000_000_000_000));
         let cert = Certificate {
-            version: 2,
+            version: CertVersion::Two,
             window: seconds(0, 60),
             threshold,
             objects: 2,

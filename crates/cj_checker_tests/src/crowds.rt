@@ -5,6 +5,7 @@ ghost use Rattle.cj_track.specs.declared.frame.Frame.TheVariants.{Eme2000};
 ghost use Rattle.cj_track.specs.Segments.{node_count};
 
 use cj_bezier::{AxisBox, Kind, Shell};
+use cj_causes::CertVersion;
 use cj_cert::{BoxLine, CellLine, Certificate, ShellLine, SizeOfLine};
 use cj_checker::{Answer, CheckCause, check};
 use cj_hermite::{Pair, Problem, Sizes, Tracks};
@@ -186,7 +187,7 @@ fn answer(rt: &impl Abort, alloc: Global, scene: Scene, cells: &[CellLine]) -> A
     let mut list = Vec::new(alloc);
     list.extend_from_slice(cells).expect(rt, "no fault");
     let cert = Certificate {
-        version: 2,
+        version: CertVersion::Two,
         window: seconds(0, 59),
         threshold,
         objects: 8,

@@ -2,6 +2,7 @@
 ghost use Rattle.std.specs.Prelude.{◌≡◌, ◌≤◌, ◌≤ℤ◌, IfOk, vec_len};
 
 use cj_bezier::{AxisBox, Shell};
+use cj_causes::CertVersion;
 use cj_cert::{BoxLine, Certificate, ShellLine, SizeOfLine};
 use cj_checker::{CheckCause, Failure, header_failure, hull_failure, size_failure};
 use cj_hermite::{Problem, Sizes, Tracks};
@@ -86,7 +87,7 @@ fn certificate(
     ensures boxes { vec_len result.boxes ≡ vec_len boxes }
 {
     Certificate {
-        version: 2,
+        version: CertVersion::Two,
         window: seconds(0, 180),
         threshold: 5_000_000_000_000,
         objects: 3,

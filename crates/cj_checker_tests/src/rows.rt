@@ -3,6 +3,7 @@ ghost use Rattle.std.specs.Prelude.{◌≡◌, ◌^◌, ◌<◌, ◌≤◌, pos,
 ghost use Rattle.cj_hermite.specs.Limits.{MAX_SIZE};
 
 use cj_bezier::{AxisBox, Kind, Shell};
+use cj_causes::CertVersion;
 use cj_cert::{BoxLine, CellLine, Certificate, ShellLine, SizeOfLine};
 use cj_checker::{Answer, CheckCause, check};
 use cj_hermite::{Pair, Problem, Sizes, Tracks};
@@ -103,7 +104,7 @@ fn answer(
     requires few { vec_len cells ≤ 100 }
 {
     let cert = Certificate {
-        version: 2,
+        version: CertVersion::Two,
         window: seconds(0, 120),
         threshold,
         objects: 4,

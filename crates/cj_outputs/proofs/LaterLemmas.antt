@@ -1,8 +1,11 @@
 -- What was put as a certificate is accepted by a check of the same files.
-use Rattle.std.proofs.Common.{◌≡◌, ℕ, ◌*◌, ◌^◌, ◌<◌, ◌≤◌, ◌⊎◌, Bool, true, false, cond, List, [], ◌∷◌, length, None, Ok, refl, sym, ap, ◌∙◌, subst, inl, inr, arith}
-use Rattle.std.specs.Prelude.{◌==◌, All}
+use Rattle.std.proofs.Common.{◌≡◌, ℕ, ◌*◌, ◌^◌, ◌<◌, ◌≤◌, List, [], ◌∷◌, length, None, Ok, refl, sym, ap, ◌∙◌, subst, arith}
+use Rattle.std.specs.Prelude.{All}
 use Rattle.std.proofs.lemmas.List.{length-map}
 use Rattle.cj_io.specs.declared.file.FileBytes.{FileBytes}
+use Rattle.cj_causes.specs.declared.cert_version.CertVersion.{CertVersion}
+use Rattle.cj_causes.specs.declared.cert_version.CertVersion.TheVariants.{One, Two}
+use Rattle.cj_causes.specs.Versions.{most_objects}
 use Rattle.cj_ticks.specs.Ticks.{LAST_TICK}
 use Rattle.cj_track.specs.Tracks.{plain_track}
 use Rattle.cj_hermite.specs.declared.problem.Problem.{Problem}
@@ -12,12 +15,13 @@ use Rattle.cj_hermite.specs.Problems.{plain_problem}
 use Rattle.cj_hermite.specs.Slots.{slot_count}
 use Rattle.cj_bezier.specs.Leaves.{PlainLeaf}
 use Rattle.cj_cells.specs.Lists.{list_looked}
-use Rattle.cj_cert.specs.Accepted.{Accepted}
-use Rattle.cj_cert.specs.Certificates.{PlainCertificate}
+use Rattle.cj_cert.specs.declared.cert_lines.SizeOfLine.{SizeOfLine}
+use Rattle.cj_cert.specs.Accepted.{Accepted, AreSizesIn}
+use Rattle.cj_cert.specs.Certificates.{PlainBoxLine, PlainCertificate}
 use Rattle.cj_cert.specs.Reaches.{AllStayNear}
-use Rattle.cj_cert.specs.Rewritten.{in_version_2, with_blocks, written_in, written_in_blocks}
+use Rattle.cj_cert.specs.Rewritten.{in_version_2, with_blocks, written_in}
 use Rattle.cj_cert.specs.Written.{leaves_in_order, written}
-use Rattle.cj_cert_text.specs.Fits.{Fits}
+use Rattle.cj_cert_text.specs.Fits.{Fits, IsOfVersion}
 use Rattle.cj_cert_text.specs.Texts.{text_of}
 use Rattle.cj_cert_text.proofs.ChainLemmas.{reading_again}
 use Rattle.cj_cert_text.proofs.LengthLemmas.{text_short}
@@ -39,6 +43,11 @@ use Rattle.cj_outputs.proofs.CertificateLemmas.{leaves_alike}
 few_slots : (first last : ℕ) → last ≤ LAST_TICK → slot_count first last < 2 ^ 32
 few_slots first last most = omega arith
 
+-- each version has as many objects as a problem
+few_objects : (n : ℕ) → n ≤ 2000 → (version : CertVersion) → n ≤ most_objects version
+few_objects n few One = few
+few_objects n few Two = few
+
 pub of_run : (problem : Problem) → All (λ size. size ≤ MAX_SIZE) problem.sizes → AllStayNear (plain_problem problem) → IsOfRun (plain_problem problem)
 of_run problem sizes near =
     let objects = length-map problem.tracks plain_track in
@@ -46,7 +55,7 @@ of_run problem sizes near =
     let sized = problem.sized in
     let last = problem.window.last.in_range in
     record {
-      few = omega arith;
+      few = few_objects (length (plain_problem problem).ephemerides) (omega arith);
       first = problem.window.first.in_range;
       last = last;
       least = problem.least;
@@ -87,27 +96,24 @@ text_accepted settings files case c read fits none short name later outside hold
 
 -- ---- a certificate that is written
 
-same_cells : (version : ℕ) (case : PlainProblem) → (written_in version case).cells ≡ leaves_in_order case
+same_cells : (version : CertVersion) (case : PlainProblem) → (written_in version case).cells ≡ leaves_in_order case
 unfolding with_blocks written
-same_cells version case = go (version == 1)
-  where
-    go : (b : Bool) → (cond b (written case) (written_in_blocks case)).cells ≡ leaves_in_order case
-    go true = refl
-    go false = refl
+same_cells One case = refl
+same_cells Two case = refl
 
 text_few : (case : PlainProblem) (c : PlainCertificate) → IsOfRun case → length case.ephemerides * slot_count case.first case.last ≤ 4_000_000 → Accepted case c → Fits c → length c.cells ≤ 4_000_000
     → length (text_of c) ≤ 1_073_741_824
 text_few case c run slots accepted fits cells =
-    let few = run.few in
+    let few = run.few One in
     let shells = few_shells case c.shells accepted.shells in
     let boxes = few_boxes case c.boxes accepted.boxes in
-    text_short c fits (sizes fits.version) (omega arith) (omega arith) cells
+    text_short c fits (sizes c.version c.sizes c.boxes fits.version accepted.sizes) (omega arith) (omega arith) cells
   where
-    sizes : ((c.version ≡ 1) × (c.sizes ≡ []) × All (λ b. b.first ≡ b.last) c.boxes) ⊎ (c.version ≡ 2) → length c.sizes ≤ 2000
-    sizes (inl first) = let none = ap length first.1 in omega arith
-    sizes (inr second) = let all = few_sizes case c.sizes (accepted.sizes second) in let sized = run.sized in let few = run.few in omega arith
+    sizes : (version : CertVersion) (lines : List SizeOfLine) (boxes : List PlainBoxLine) → IsOfVersion version lines boxes → AreSizesIn version case lines → length lines ≤ 2000
+    sizes One lines boxes first given = let none = ap length first.0 in omega arith
+    sizes Two lines boxes second given = let all = few_sizes case lines given in let sized = run.sized in let few = run.few One in omega arith
 
-pub written_later : (problem : Problem) (settings : Asked) (files : List FileBytes) (version : ℕ) → IsOfRun (plain_problem problem) → Accepted (plain_problem problem) (written (plain_problem problem))
+pub written_later : (problem : Problem) (settings : Asked) (files : List FileBytes) (version : CertVersion) → IsOfRun (plain_problem problem) → Accepted (plain_problem problem) (written (plain_problem problem))
     → Accepted (plain_problem problem) (written_in version (plain_problem problem)) → first_failure (plain_problem problem) (written_in version (plain_problem problem)) ≡ None
     → case_asked files settings ≡ Ok (plain_problem problem) → length (list_looked (plain_problem problem)) ≤ 4_000_000 → IsAcceptedLater settings files (cert_bytes version (plain_problem problem))
 written_later problem settings files version run first accepted none read leaves =

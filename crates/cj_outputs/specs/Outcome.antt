@@ -21,6 +21,7 @@ use Rattle.cj_cert.specs.Certificates.{PlainCertificate}
 use Rattle.cj_cert_text.specs.Reading.{Fault, reading}
 use Rattle.cj_cert_text.specs.Texts.{text_of}
 use Rattle.cj_cert.specs.Rewritten.{in_version_2, written_in}
+use Rattle.cj_causes.specs.declared.cert_version.CertVersion.{CertVersion}
 use Rattle.cj_checker.specs.First.{first_failure, Failure}
 use Rattle.cj_status.specs.declared.status.Status.{Status}
 use Rattle.cj_status.specs.declared.status.Status.TheVariants as status
@@ -52,7 +53,7 @@ report_bytes with_sizes case leaves =
     report_of case.first case.last case.threshold case.ephemerides (told with_sizes case.sizes) (closest_of case) (has_message case) (encounters_of leaves)
 
 -- its certificate in a version
-abbrev pub cert_bytes : ℕ → PlainProblem → List ℕ
+abbrev pub cert_bytes : CertVersion → PlainProblem → List ℕ
 cert_bytes version case = text_of (written_in version case)
 
 -- its summary
@@ -73,12 +74,12 @@ abbrev pub further_pieces : PlainOrigin → PlainProblem → List PlainLeaf → 
 further_pieces origin case leaves = message_pieces case origin (encounters_of leaves) ++ summary_piece (summary_bytes case leaves) ∷ []
 
 -- the pieces of a case with these leaves: the report, the certificate, and those
-abbrev pub pieces_with : Bool → ℕ → PlainOrigin → PlainProblem → List PlainLeaf → List FileBytes
+abbrev pub pieces_with : Bool → CertVersion → PlainOrigin → PlainProblem → List PlainLeaf → List FileBytes
 pieces_with with_sizes version origin case leaves =
     report_piece (report_bytes with_sizes case leaves) ∷ cert_piece (cert_bytes version case) ∷ further_pieces origin case leaves
 
 -- the pieces of a case, where it has at most so many leaves
-unfoldable pub pieces_within : ℕ → Bool → ℕ → PlainOrigin → PlainProblem → Result (List FileBytes) Status
+unfoldable pub pieces_within : ℕ → Bool → CertVersion → PlainOrigin → PlainProblem → Result (List FileBytes) Status
 pieces_within limit with_sizes version origin case =
     within_cells limit (list_looked case) >>= λ leaves. Ok (pieces_with with_sizes version origin case leaves)
 

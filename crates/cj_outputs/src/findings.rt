@@ -1,4 +1,5 @@
 use cj_bezier::{AxisBox, Closest, Encounter, Leaf, Shell};
+use cj_causes::CertVersion;
 use cj_hermite::Problem;
 use cj_report::Counts;
 
@@ -11,7 +12,7 @@ pub struct Findings {
     /// How many workers found it, and are to make its texts.
     pub workers: u32,
     /// The version of its certificate.
-    pub version: u32,
+    pub version: CertVersion,
     /// The shell of each object in the window.
     pub shells: Vec<Option<Shell>>,
     /// The box of each object in each slot, in order of object and slot.

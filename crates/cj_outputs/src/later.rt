@@ -1,6 +1,7 @@
 //! That a check accepts what a run put: a law, which costs next to nothing to call.
-ghost use Rattle.std.specs.Prelude.{◌≡◌, ◌≤◌, ℕ, List, Ok, length};
+ghost use Rattle.std.specs.Prelude.{◌≡◌, ◌≤◌, List, Ok, length};
 ghost use Rattle.cj_io.specs.declared.file.FileBytes.{FileBytes};
+ghost use Rattle.cj_causes.specs.declared.cert_version.CertVersion.{CertVersion};
 ghost use Rattle.cj_hermite.specs.Problems.{plain_problem};
 ghost use Rattle.cj_cells.specs.Lists.{list_looked};
 ghost use Rattle.cj_cert.specs.Accepted.{Accepted};
@@ -20,7 +21,7 @@ use cj_hermite::Problem;
 /// What is written as the certificate of a problem that is asked of files, a check of these files accepts, once it is among them.
 pub fn accepted_later(problem: &Problem)
     // In either version.
-    ensures written { (settings : Asked) (files : List FileBytes) (version : ℕ) → case_asked files settings ≡ Ok (plain_problem problem.now)
+    ensures written { (settings : Asked) (files : List FileBytes) (version : CertVersion) → case_asked files settings ≡ Ok (plain_problem problem.now)
         → length (list_looked (plain_problem problem.now)) ≤ 4_000_000 → IsAcceptedLater settings files (cert_bytes version (plain_problem problem.now)) }
 
     // And where an accepted certificate is rewritten, as far as its text is not longer than a check takes.

@@ -3,6 +3,7 @@ ghost use Rattle.std.specs.Prelude.{◌≡◌, ◌≤◌, List, [], ◌∷◌, S
 ghost use Rattle.cj_io.specs.Faults.{Rose};
 ghost use Rattle.cj_io.specs.Parts.{joined};
 ghost use Rattle.cj_io.specs.declared.file.FileBytes.{FileBytes};
+ghost use Rattle.cj_causes.specs.declared.cert_version.CertVersion.TheVariants.{One, Two};
 ghost use Rattle.cj_cert.specs.Certificates.{plain_certificate};
 ghost use Rattle.cj_cert.specs.Rewritten.{written_in};
 ghost use Rattle.cj_cert_text.specs.TextLeft.{text_left};
@@ -16,6 +17,7 @@ use crate::findings::Findings;
 use crate::messages::put_messages;
 use crate::origin::Origin;
 use crate::putting::{put, put_made, put_parts};
+use cj_causes::CertVersion;
 use cj_cert::Certificate;
 use cj_cert_text::{CertificateText, cert_parts, certificate_in_blocks};
 use cj_io::Shelf;
@@ -81,19 +83,22 @@ fn put_certificate<R: Threads + Sync, S: StreamShelf>(
     ensures leaves { (old : List FileBytes) → S.pieces shelf.old ≡ Some old → Leaves (ended result) (Ok (cert_in found.now ∷ [])) old (S.pieces shelf.new) }
     ensures later { S.faults shelf.old ≤ S.faults shelf.new }
 {
-    if found.version == 1 {
-        let mut text = certificate_text(alloc, found)?;
-        put_made(rt, alloc, shelf, b"screen.cert", &mut text)
-    } else {
-        let parts = parts_by_blocks(rt, alloc, found)?;
-        put_parts(alloc, shelf, b"screen.cert", &parts)
+    match found.version {
+        CertVersion::One => {
+            let mut text = certificate_text(alloc, found)?;
+            put_made(rt, alloc, shelf, b"screen.cert", &mut text)
+        }
+        CertVersion::Two => {
+            let parts = parts_by_blocks(rt, alloc, found)?;
+            put_parts(alloc, shelf, b"screen.cert", &parts)
+        }
     }
 }
 
 /// The text of the certificate in version 1, which is still to be made.
 fn certificate_text(alloc: Global, found: &Findings) -> Result<CertificateText<'_>, AllocError>
     requires { AreFound found.now }
-    ensures { IfOk result (λ text. text_left text ≡ cert_bytes 1 (case_in found.now)) }
+    ensures { IfOk result (λ text. text_left text ≡ cert_bytes One (case_in found.now)) }
 {
     let Findings {
         problem,
@@ -113,7 +118,7 @@ fn parts_by_blocks<R: Threads + Sync>(
     found: &Findings,
 ) -> Result<Vec<Vec<u8>>, AllocError>
     requires { AreFound found.now }
-    ensures { IfOk result (λ parts. joined parts.items ≡ cert_bytes 2 (case_in found.now)) }
+    ensures { IfOk result (λ parts. joined parts.items ≡ cert_bytes Two (case_in found.now)) }
 {
     let certificate = certificate_by_blocks(alloc, found)?;
     cert_parts(rt, alloc, &certificate, found.workers)
@@ -122,7 +127,7 @@ fn parts_by_blocks<R: Threads + Sync>(
 /// The certificate in version 2, with blocks by the pairs that are kept.
 fn certificate_by_blocks(alloc: Global, found: &Findings) -> Result<Certificate, AllocError>
     requires { AreFound found.now }
-    ensures { IfOk result (λ cert. plain_certificate cert ≡ written_in 2 (case_in found.now)) }
+    ensures { IfOk result (λ cert. plain_certificate cert ≡ written_in Two (case_in found.now)) }
 {
     let Findings {
         problem,

@@ -3,6 +3,7 @@ use Rattle.std.proofs.Common.{◌≡◌, ℕ, ◌<◌, List, Bool, true, false, 
 use Rattle.std.specs.Prelude.{nat_le, All, IfOk, OnOk}
 use Rattle.std.proofs.lemmas.Bool.Decides.{nat_tests}
 use Rattle.cj_io.specs.declared.file.FileBytes.{FileBytes}
+use Rattle.cj_causes.specs.declared.cert_version.CertVersion.{CertVersion}
 use Rattle.cj_words.specs.Settings.{Asked}
 use Rattle.cj_hermite.specs.PlainProblems.{PlainProblem}
 use Rattle.cj_bezier.specs.Leaves.{PlainLeaf}
@@ -48,7 +49,7 @@ between_refined limit refine.Memory = tt
 between_refined limit refine.TooMany = tt
 
 -- the pieces of a case, of its leaves
-pub pieces_of_leaves : (limit : ℕ) (with_sizes : Bool) (version : ℕ) (origin : PlainOrigin) (case : PlainProblem) (leaves : List PlainLeaf)
+pub pieces_of_leaves : (limit : ℕ) (with_sizes : Bool) (version : CertVersion) (origin : PlainOrigin) (case : PlainProblem) (leaves : List PlainLeaf)
     → within_cells limit (list_looked case) ≡ Ok leaves
     → pieces_within limit with_sizes version origin case ≡ Ok (pieces_with with_sizes version origin case leaves)
 unfolding pieces_within
@@ -56,7 +57,7 @@ pieces_of_leaves limit with_sizes version origin case leaves same =
     ap (λ (r : Result (List PlainLeaf) Status). r >>= λ ss. Ok (pieces_with with_sizes version origin case ss)) same
 
 -- what ends the search for the leaves ends that for the pieces
-pub pieces_stop : (limit : ℕ) (with_sizes : Bool) (version : ℕ) (origin : PlainOrigin) (case : PlainProblem) (s : Status)
+pub pieces_stop : (limit : ℕ) (with_sizes : Bool) (version : CertVersion) (origin : PlainOrigin) (case : PlainProblem) (s : Status)
     → Stops ⊥ s (within_cells limit (list_looked case))
     → Stops ⊥ s (pieces_within limit with_sizes version origin case)
 unfolding pieces_within
@@ -64,7 +65,7 @@ pieces_stop limit with_sizes version origin case s =
     stops_then ⊥ s (within_cells limit (list_looked case)) (λ ss. Ok (pieces_with with_sizes version origin case ss))
 
 -- the report of findings is that of the case that was asked
-pub reports : (files : List FileBytes) (settings : Asked) (version : ℕ) (case : PlainProblem) → case_asked files settings ≡ Ok case
+pub reports : (files : List FileBytes) (settings : Asked) (version : CertVersion) (case : PlainProblem) → case_asked files settings ≡ Ok case
     → (r : Result Findings Status) → IfOk r (λ found. case_in found ≡ case) → IfOk r (λ found. found.with_sizes ≡ tells_sizes settings) → IfOk r (λ found. found.version ≡ version) → IfOk r AreFound → OnOk r (SplitsTicks case (encounters_in case))
     → OnOk r (Certifies case (cert_bytes version case)) → OnOk r (All (HasNearest case) (encounters_in case)) → OnOk r (IsAcceptedLater settings files (cert_bytes version case))
     → IfOk r (λ found. Reports settings files (report_in found).bytes (cert_in found).bytes)
@@ -74,9 +75,9 @@ reports files settings version case read (Ok found) same tells told are split ce
   text = ap (report_bytes found.with_sizes (case_in found)) are.leaves ∙ ap (λ (c : PlainProblem). report_bytes found.with_sizes c (list_looked c)) same
       ∙ ap (λ (b : Bool). report_bytes b case (list_looked case)) tells;
   split = split;
-  certified = subst (λ (n : ℕ). Certifies case (cert_bytes n (case_in found))) (sym told) (subst (λ (c : PlainProblem). Certifies case (cert_bytes version c)) (sym same) certified);
+  certified = subst (λ (n : CertVersion). Certifies case (cert_bytes n (case_in found))) (sym told) (subst (λ (c : PlainProblem). Certifies case (cert_bytes version c)) (sym same) certified);
   nearest = nearest;
-  later = subst (λ (n : ℕ). IsAcceptedLater settings files (cert_bytes n (case_in found))) (sym told)
+  later = subst (λ (n : CertVersion). IsAcceptedLater settings files (cert_bytes n (case_in found))) (sym told)
       (subst (λ (c : PlainProblem). IsAcceptedLater settings files (cert_bytes version c)) (sym same) later);
 }
 reports files settings version case read (Err s) same tells told are split certified nearest later = tt

@@ -2,6 +2,7 @@
 use Rattle.std.proofs.Common.{◌≡◌, ◌⊎◌, inl, inr, ℕ, Bool, true, false, List, ◌∷◌, [], ◌++◌, length, Option, Some, Result, Ok, Err, refl, ap, sym, subst}
 use Rattle.std.specs.Prelude.{IfErr, IsTrue, nat_le, if◌then◌else◌}
 use Rattle.cj_io.specs.declared.file.FileBytes.{FileBytes}
+use Rattle.cj_causes.specs.declared.cert_version.CertVersion.{CertVersion}
 use Rattle.cj_bezier.specs.Leaves.{PlainLeaf}
 use Rattle.cj_cells.specs.Lists.{list_looked}
 use Rattle.cj_cert.specs.declared.certificate.Certificate.{Certificate}
@@ -79,7 +80,7 @@ few_or_many : (b : Bool) (limit : ℕ) (leaves : List PlainLeaf) (pieces : List 
 few_or_many true limit leaves pieces = inl (pieces leaves, refl)
 few_or_many false limit leaves pieces = inr (limit, refl)
 
-within_or_many : (limit : ℕ) (with_sizes : Bool) (version : ℕ) (origin : PlainOrigin) (case : PlainProblem)
+within_or_many : (limit : ℕ) (with_sizes : Bool) (version : CertVersion) (origin : PlainOrigin) (case : PlainProblem)
     → ArePieces (pieces_within limit with_sizes version origin case) ⊎ AreTooManyCells (pieces_within limit with_sizes version origin case)
 unfolding pieces_within
 within_or_many limit with_sizes version origin case =
@@ -110,7 +111,7 @@ counted_ends b limit leaves pieces (status.Limit fault) stops = tt
 counted_ends b limit leaves pieces status.OutOfMemory stops = tt
 
 -- only a limit and want of memory end a screening's search
-pub search_ends : (limit : ℕ) (with_sizes : Bool) (version : ℕ) (origin : PlainOrigin) (case : PlainProblem) (r : Result Findings Status)
+pub search_ends : (limit : ℕ) (with_sizes : Bool) (version : CertVersion) (origin : PlainOrigin) (case : PlainProblem) (r : Result Findings Status)
     → Gives ⊥ (pieces_in origin) r (pieces_within limit with_sizes version origin case) → IfErr r ComesOfTrial
 unfolding pieces_within
 search_ends limit with_sizes version origin case (Ok found) gives = tt

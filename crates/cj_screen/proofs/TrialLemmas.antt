@@ -5,6 +5,7 @@ use Rattle.std.specs.List.{AllByRecursion}
 use Rattle.cj_io.specs.declared.file.FileBytes.{FileBytes}
 use Rattle.cj_io.specs.Faults.{Rose}
 use Rattle.cj_io.specs.Files.{bytes_of, names_of}
+use Rattle.cj_causes.specs.declared.cert_version.CertVersion.{CertVersion}
 use Rattle.cj_track.specs.declared.frame.Frame.{Frame}
 use Rattle.cj_track.specs.declared.frame.Frame.TheVariants as frames
 use Rattle.cj_track.specs.PlainTracks.{PlainTrack}
@@ -216,7 +217,7 @@ there true x e y f is = refl
 there false x e y f is = absurd cc
 
 -- what is found is what the piece of a catalogue's screening tells
-pub tried_of : (most : ℕ) (with_sizes : Bool) (version : ℕ) (origin : PlainOrigin) (case : PlainProblem) (r : Result Findings Status)
+pub tried_of : (most : ℕ) (with_sizes : Bool) (version : CertVersion) (origin : PlainOrigin) (case : PlainProblem) (r : Result Findings Status)
     → Gives ⊥ (pieces_in origin) r (pieces_within most with_sizes version origin case)
     → IfOk r (λ found. plain_problem found.problem ≡ case) → IfOk r AreFound → Gives ⊥ (λ found. tried_in found ∷ []) r (tried_within most case)
 unfolding pieces_within
@@ -230,7 +231,7 @@ tried_of most with_sizes version origin case (Err s) told same are =
     let leaves = list_looked case in
     stops_turned (nat_le (length leaves) most) leaves (status.Limit (limit.Cells most)) s (pieces_with with_sizes version origin case) (λ ss. tried_piece case ss ∷ []) told
 
-pub within_limits_of : (most : ℕ) (with_sizes : Bool) (version : ℕ) (origin : PlainOrigin) (case : PlainProblem) → IfErr (pieces_within most with_sizes version origin case) IsLimit
+pub within_limits_of : (most : ℕ) (with_sizes : Bool) (version : CertVersion) (origin : PlainOrigin) (case : PlainProblem) → IfErr (pieces_within most with_sizes version origin case) IsLimit
 unfolding pieces_within
 within_limits_of most with_sizes version origin case =
     let leaves = list_looked case in

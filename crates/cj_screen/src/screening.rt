@@ -15,6 +15,7 @@ ghost use Rattle.cj_outputs.specs.SpanSplits.{SplitsTicks};
 ghost use Rattle.cj_status.specs.Steps.{Gives, ComesBetween};
 
 use crate::refining::refine;
+use cj_causes::CertVersion;
 use cj_cert::acceptance;
 use cj_hermite::Problem;
 use cj_io::Gate;
@@ -34,7 +35,7 @@ pub fn screen<R: Threads + Wait + Sync, G: Gate + Sync>(
     gate: &G,
     problem: Problem,
     with_sizes: bool,
-    version: u32,
+    version: CertVersion,
     workers: u32,
     cells: u64,
 ) -> Result<Findings, Status>

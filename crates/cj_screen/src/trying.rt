@@ -11,6 +11,7 @@ ghost use Rattle.cj_outputs.specs.Outcome.{ComesOfPuts, ComesOfTrial, Leaves};
 ghost use Rattle.cj_status.specs.Steps.{Gives};
 
 use crate::screening::screen;
+use cj_causes::CertVersion;
 use cj_cert_text::written_certificate;
 use cj_checker::{Answer, check};
 use cj_gen::catalogue;
@@ -44,7 +45,7 @@ pub fn try_catalogue<R: Threads + Wait + Sync, G: Gate + Sync>(
         gate,
         problem,
         false,
-        1,
+        CertVersion::One,
         trial.workers,
         trial.cells,
     )?;

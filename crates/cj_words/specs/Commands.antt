@@ -1,6 +1,8 @@
 -- The commands of the program, and what the words of a command line ask for.
 use Rattle.std.specs.Prelude.{ℕ, ◌-◌, ◌^◌, if◌then◌else◌, List, Option, Some, None, Result, Ok, Err, codes}
 use Rattle.std.specs.Option.{option_copied}
+use Rattle.cj_causes.specs.declared.cert_version.CertVersion.{CertVersion as Version}
+use Rattle.cj_causes.specs.declared.cert_version.CertVersion.TheVariants.{One}
 use Rattle.cj_words.specs.declared.command.Checking as kept_checking
 use Rattle.cj_words.specs.declared.command.Command.{Command}
 use Rattle.cj_words.specs.declared.command.Command.TheVariants as commands
@@ -15,7 +17,7 @@ use Rattle.cj_words.specs.declared.option.UsageFault.{UsageFault}
 use Rattle.cj_words.specs.declared.option.UsageFault.TheVariants.{Words, Value}
 use Rattle.cj_words.specs.Lines.{Line, line_of}
 use Rattle.cj_words.specs.Options.{Given, given_of, are_accepted, listed, value_of}
-use Rattle.cj_words.specs.Settings.{◌>>=◌, Asked, asked_of, file_text_or, in_range, is_path_or_none, name_or, number_or, originator_or, sized_of, threshold_of, unsized_of}
+use Rattle.cj_words.specs.Settings.{◌>>=◌, Asked, asked_of, file_text_or, in_range, is_path_or_none, name_or, number_or, originator_or, sized_of, threshold_of, unsized_of, version_or}
 
 -- how files are screened: how many workers share the work, who makes the messages, the greatest number of leaves, the version of the
 -- certificate
@@ -24,7 +26,7 @@ pub record Screening : Type 0 where
   pub workers : ℕ
   pub originator : List ℕ
   pub cells : ℕ
-  pub version : ℕ
+  pub version : Version
 
 -- what is checked against files, or rewritten: the certificate in the file with this name, and beside it the report in the file with that
 -- name, where one is named
@@ -91,7 +93,7 @@ screening_of givens = do
   originator ← in_range Originator (originator_or (codes "CONJ") (value_of Originator givens))
   cells ← in_range Cells (number_or 1 4_000_000 4_000_000 (value_of Cells givens))
   settings ← sized_of unsized givens
-  version ← in_range CertVersion (number_or 1 2 1 (value_of CertVersion givens))
+  version ← in_range CertVersion (version_or One (value_of CertVersion givens))
   Ok (record { settings = settings; workers = workers; originator = originator; cells = cells; version = version })
 
 -- the same of a check, and of a certificate that is rewritten, which has no option for a report

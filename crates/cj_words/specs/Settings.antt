@@ -1,9 +1,11 @@
 -- What the words of a command line ask for.
-use Rattle.std.specs.Prelude.{ℕ, Bool, true, not, ◌&&◌, ◌==◌, nat_le, length, if◌then◌else◌, List, Option, Some, None, Result, Ok, Err, codes}
+use Rattle.std.specs.Prelude.{ℕ, ◌-◌, ◌^◌, Bool, true, not, ◌&&◌, ◌==◌, nat_le, length, if◌then◌else◌, List, Option, Some, None, Result, Ok, Err, codes}
 use Rattle.std.specs.List.{list_all}
-use Rattle.std.specs.Option.{option_map, option_copied}
+use Rattle.std.specs.Option.{option_and_then, option_map, option_copied}
 use Rattle.std.specs.Char.{is_ascii_digit}
 use Rattle.std.specs.Str.Parse.{digits_value}
+use Rattle.cj_causes.specs.declared.cert_version.CertVersion.{CertVersion}
+use Rattle.cj_causes.specs.Versions.{version_of_number}
 use Rattle.cj_kvn.specs.Originators.{is_originator}
 use Rattle.cj_ticks.specs.declared.tick.Tick.{Tick}
 use Rattle.cj_epoch.specs.Reading.{reading_of}
@@ -57,6 +59,11 @@ number_in low high text =
 abbrev pub number_or : ℕ → ℕ → ℕ → Option (List ℕ) → Option ℕ
 number_or low high left_out None = Some left_out
 number_or low high left_out (Some text) = number_in low high text
+
+-- the version that the number of an option tells, which may be left out
+abbrev pub version_or : CertVersion → Option (List ℕ) → Option CertVersion
+version_or left_out None = Some left_out
+version_or left_out (Some text) = option_and_then version_of_number (number_in 0 (2 ^ 64 - 1) text)
 
 -- an end of the window that may be left out, as a tick
 abbrev pub epoch_or : Option (List ℕ) → Option (Option ℕ)

@@ -1,6 +1,7 @@
 ghost use Rattle.std.specs.Prelude.{◌≤◌};
 
 use crate::settings::Settings;
+use cj_causes::CertVersion;
 
 /// The command that the first word of a command line names.
 #[derive(Clone, Copy, Debug, PartialEq, Eq)]
@@ -37,14 +38,12 @@ pub struct Screening<'w> {
     pub originator: &'w [u8],
     /// The greatest number of leaves, from 1 to 4,000,000.
     pub cells: u64,
-    /// The version of the certificate: 1 or 2.
-    pub version: u32,
+    /// The version of the certificate.
+    pub version: CertVersion,
     pub ghost some_workers: { 1 ≤ workers },
     pub ghost most_workers: { workers ≤ 16 },
     pub ghost some_cells: { 1 ≤ cells },
     pub ghost most_cells: { cells ≤ 4_000_000 },
-    pub ghost least_version: { 1 ≤ version },
-    pub ghost most_version: { version ≤ 2 },
 }
 
 /// Which certificate is checked against the files of a directory, or rewritten, and which report beside it. Their names are lent by the words.

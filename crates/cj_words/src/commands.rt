@@ -10,11 +10,12 @@ ghost use Rattle.cj_words.specs.Settings.{said};
 use crate::command::{Checking, Command, Recipe, Screening, Trial, Verb};
 use crate::given::{are_options, value_of};
 use crate::line::{Line, line_of};
-use crate::numbers::{number_or, out_of_range};
+use crate::numbers::{number_or, out_of_range, version_or};
 use crate::option::{Opt, UsageFault};
 use crate::reading::{sized_of, threshold_of, unsized_of};
 use crate::settings::Word;
 use crate::texts::{file_text_or, is_path_or_none, name_or, originator_or};
+use cj_causes::CertVersion;
 
 /// Reads the words of a command line, without the program's name.
 ///
@@ -109,7 +110,7 @@ fn screening_of(words: &[Word]) -> Result<Screening<'_>, UsageFault>
         return Err(out_of_range(Opt::Cells));
     };
     let settings = sized_of(unsized_settings, words)?;
-    let Some(version) = number_or(value_of(words, Opt::CertVersion), 1, 2, 1) else {
+    let Some(version) = version_or(value_of(words, Opt::CertVersion), CertVersion::One) else {
         return Err(out_of_range(Opt::CertVersion));
     };
     Ok(Screening {
@@ -117,7 +118,7 @@ fn screening_of(words: &[Word]) -> Result<Screening<'_>, UsageFault>
         workers,
         originator,
         cells,
-        version: version as u32,
+        version,
     })
 }
 

@@ -5,6 +5,7 @@ ghost use Rattle.cj_words.specs.Settings as spec;
 
 use crate::digits::read_number;
 use crate::option::{Opt, UsageFault};
+use cj_causes::CertVersion;
 
 /// What is wrong where the value of the option is out of its range.
 pub fn out_of_range(option: Opt) -> UsageFault
@@ -24,6 +25,16 @@ pub fn number_or(value: Option<&[u8]>, least: u64, greatest: u64, left_out: u64)
     match value {
         None => Some(left_out),
         Some(text) => number_in(text, least, greatest),
+    }
+}
+
+/// The version whose number a value says, or the one that stands for a value that is left out.
+pub fn version_or(value: Option<&[u8]>, left_out: CertVersion) -> Option<CertVersion>
+    ensures { result ≡ spec.version_or left_out (option_copied value.entry) }
+{
+    match value {
+        None => Some(left_out),
+        Some(text) => CertVersion::from_number(number_in(text, 0, u64::MAX)?),
     }
 }
 

@@ -1,5 +1,6 @@
 //! What command lines ask for.
 use crate::lines::words;
+use cj_causes::CertVersion;
 use cj_epoch::read_epoch;
 use cj_ticks::Tick;
 use cj_words::{
@@ -48,7 +49,7 @@ fn what_is_left_out(rt: HostRuntime) {
                 workers: 1,
                 originator: b"CONJ",
                 cells: 4_000_000,
-                version: 1,
+                version: CertVersion::One,
             }),
         ),
         (
@@ -102,7 +103,7 @@ fn all_that_can_be_asked_of_a_screening(rt: HostRuntime) {
         workers: 16,
         originator: b"MY_site-1",
         cells: 9,
-        version: 2,
+        version: CertVersion::Two,
     };
     assert_eq!(rt; read_command(&words), Ok(Command::Screen(screening)));
 }

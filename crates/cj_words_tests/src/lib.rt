@@ -11,3 +11,5 @@ mod faults;
 mod lines;
 #[cfg(test)]
 mod refused;
+#[cfg(test)]
+mod versions;

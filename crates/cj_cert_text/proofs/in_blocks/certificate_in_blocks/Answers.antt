@@ -1,6 +1,7 @@
 use Rattle.std.proofs.Common.{◌∙◌, ℕ, ◌*◌, List, length, map, ap, sym, subst, arith}
 use Rattle.std.specs.Prelude.{Option}
 use Rattle.std.proofs.lemmas.List.{length-map}
+use Rattle.cj_causes.specs.declared.cert_version.CertVersion.TheVariants.{Two}
 use Rattle.cj_track.specs.Tracks.{plain_track}
 use Rattle.cj_hermite.specs.Pairs.{objects_of}
 use Rattle.cj_hermite.specs.Problems.{plain_problem}
@@ -50,4 +51,4 @@ returns-clause-value c =
     (c.in_ok-cells.ensures ∙ c.requires.leaves)
 
 pub returns-clause-accepted : goal.returns-clause-accepted
-returns-clause-accepted c = subst (λ (x : PlainCertificate). Accepted (plain_problem c.args.problem.now) x) (sym (returns-clause-value c)) (c.acceptance.ensures.in_version 2)
+returns-clause-accepted c = subst (λ (x : PlainCertificate). Accepted (plain_problem c.args.problem.now) x) (sym (returns-clause-value c)) (c.acceptance.ensures.in_version Two)

@@ -1,4 +1,5 @@
 use Rattle.std.proofs.Common.{◌≡◌, ◌++◌, true, [], map}
+use Rattle.cj_causes.specs.declared.cert_version.CertVersion.TheVariants.{One}
 use Rattle.cj_bezier.specs.SlotBoxes.{plain_boxes}
 use Rattle.cj_cert.specs.Certificates.{plain_box_line}
 use Rattle.cj_cert.specs.Versions.{is_of_version}
@@ -8,5 +9,5 @@ use Rattle.cj_cert_text.proofs.written.append_box_lines.Given as goal
 abbrev pub invariant-loop-slot : goal.invariant-loop-slot
 invariant-loop-slot l = record {
   lines : map plain_box_line l.lines.items ≡ map plain_box_line l.initial.lines.items ++ lines_by_boxes (plain_boxes l.boxes) l.slots l.slot l.object;
-  single : is_of_version 1 [] l.initial.lines.items ≡ true → is_of_version 1 [] l.lines.items ≡ true;
+  single : is_of_version One [] l.initial.lines.items ≡ true → is_of_version One [] l.lines.items ≡ true;
 }

@@ -1,5 +1,6 @@
 use Rattle.std.proofs.Common.{◌≡◌, ◌∙◌, ◌++◌, [], List, ℕ, map, true, ap, refl, sym, subst, arith}
 use Rattle.std.specs.List.{flat_map, range_with_len}
+use Rattle.cj_causes.specs.declared.cert_version.CertVersion.TheVariants.{One}
 use Rattle.cj_interval.proofs.RangeLemmas.{flat_map-range_more}
 use Rattle.cj_bezier.specs.SlotBoxes.{plain_boxes}
 use Rattle.cj_cert.specs.declared.cert_lines.BoxLine.{BoxLine}
@@ -22,7 +23,7 @@ loop-object-preserved c =
 pub loop-object-init : goal.loop-object-init
 loop-object-init c = record {
   lines = ap (map plain_box_line) c.in_ok-lines.ensures.items;
-  single = subst (λ (ls : List BoxLine). is_of_version 1 [] ls ≡ true) (sym c.in_ok-lines.ensures.items) refl;
+  single = subst (λ (ls : List BoxLine). is_of_version One [] ls ≡ true) (sym c.in_ok-lines.ensures.items) refl;
 }
 
 pub returns-clause-value : goal.returns-clause-value

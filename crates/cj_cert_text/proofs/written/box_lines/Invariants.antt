@@ -1,5 +1,6 @@
 use Rattle.std.proofs.Common.{◌≡◌, true, [], map}
 use Rattle.std.specs.List.{flat_map, range_with_len}
+use Rattle.cj_causes.specs.declared.cert_version.CertVersion.TheVariants.{One}
 use Rattle.cj_bezier.specs.SlotBoxes.{plain_boxes}
 use Rattle.cj_cert.specs.Certificates.{plain_box_line}
 use Rattle.cj_cert.specs.Versions.{is_of_version}
@@ -9,5 +10,5 @@ use Rattle.cj_cert_text.proofs.written.box_lines.Given as goal
 abbrev pub invariant-loop-object : goal.invariant-loop-object
 invariant-loop-object l = record {
   lines : map plain_box_line l.lines.items ≡ flat_map (lines_by_boxes (plain_boxes l.boxes) l.slots l.slots) (range_with_len 0 l.object);
-  single : is_of_version 1 [] l.lines.items ≡ true;
+  single : is_of_version One [] l.lines.items ≡ true;
 }

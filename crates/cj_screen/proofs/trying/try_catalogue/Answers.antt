@@ -1,6 +1,7 @@
 use Rattle.std.proofs.Common.{◌∙◌, List, Result, Ok, Err, [], false, sym, subst}
 use Rattle.std.proofs.lemmas.Result.{err_from_is_err_and}
 use Rattle.cj_io.specs.declared.file.FileBytes.{FileBytes}
+use Rattle.cj_causes.specs.declared.cert_version.CertVersion.TheVariants.{One}
 use Rattle.cj_hermite.specs.Problems.{plain_problem}
 use Rattle.cj_words.specs.Commands.{plain_trial}
 use Rattle.cj_status.specs.declared.status.Status.{Status}
@@ -20,15 +21,15 @@ returns-in_err-found-clause-ends g c =
     let case = plain_problem c.in_ok-problem.problem in
     let cells = c.args.trial.now.cells in
     let p = err_from_is_err_and c.from_residual-in_err-found.result c.from_residual-in_err-found.ensures.1 in
-    rw (p.1, p.2) (comes_of_trial ⊥ (pieces_in nobody) (Err c.in_err-found.field-0.0) (pieces_within cells false 1 nobody case) (λ none. none)
-    (c.in_err-found.ensures.told nobody) (within_limits_of cells false 1 nobody case))
+    rw (p.1, p.2) (comes_of_trial ⊥ (pieces_in nobody) (Err c.in_err-found.field-0.0) (pieces_within cells false One nobody case) (λ none. none)
+    (c.in_err-found.ensures.told nobody) (within_limits_of cells false One nobody case))
 
 pub returns-in_err-found-clause-told : goal.returns-in_err-found-clause-told
 returns-in_err-found-clause-told g c =
     let case = plain_problem c.in_ok-problem.problem in
     let trial = plain_trial c.args.trial.now in
     let s = c.in_err-found.field-0.0 in
-    let within = tried_of trial.cells false 1 nobody case (Err s) (c.in_err-found.ensures.told nobody) tt tt in
+    let within = tried_of trial.cells false One nobody case (Err s) (c.in_err-found.ensures.told nobody) tt tt in
     let p = err_from_is_err_and c.from_residual-in_err-found.result c.from_residual-in_err-found.ensures.1 in
     rw (p.1, p.2) (subst (λ (due : Result (List FileBytes) Status). Stops ⊥ s due) (sym (tried_after trial case c.in_ok-problem.ensures.told)) within)
 
@@ -37,4 +38,4 @@ returns-clause-told g c =
     let case = plain_problem c.in_ok-problem.problem in
     let trial = plain_trial c.args.trial.now in
     tried_after trial case c.in_ok-problem.ensures.told
-    ∙ tried_of trial.cells false 1 nobody case (Ok c.in_ok-found.found) (c.in_ok-found.ensures.told nobody) c.in_ok-found.ensures.same c.in_ok-found.ensures.found
+    ∙ tried_of trial.cells false One nobody case (Ok c.in_ok-found.found) (c.in_ok-found.ensures.told nobody) c.in_ok-found.ensures.same c.in_ok-found.ensures.found

@@ -1,7 +1,8 @@
 use Rattle.std.proofs.Common.{refl, sym, ap, ◌∙◌}
 use Rattle.std.specs.Prelude.{codes}
+use Rattle.cj_causes.specs.declared.cert_version.CertVersion.TheVariants.{One}
 use Rattle.cj_words.specs.Commands.{screening_of}
-use Rattle.cj_words.specs.Settings.{number_or, originator_or}
+use Rattle.cj_words.specs.Settings.{number_or, originator_or, version_or}
 use Rattle.cj_words.proofs.commands.screening_of.Goals as goal
 
 pub returns : goal.returns
@@ -9,7 +10,7 @@ unfolding screening_of
 returns c =
     let originator = c.in-Some.ensures ∙ ap (originator_or (codes "CONJ")) c.value_of.ensures in
     let cells = c.in-Some-number_or.ensures.value ∙ ap (number_or 1 4_000_000 4_000_000) c.value_of-2.ensures in
-    let version = c.in-Some-number_or-2.ensures.value ∙ ap (number_or 1 2 1) c.value_of-3.ensures in
+    let version = c.in-Some-version_or.ensures ∙ ap (version_or One) c.value_of-3.ensures in
     let some = sym c.in_ok-unsized_settings.ensures in
     let all = sym c.in_ok-settings.ensures in
     rw (sym c.in_ok-threshold.ensures.value, sym c.in_ok-workers.ensures.value, some, sym originator, sym cells, all, sym version) refl

@@ -2,6 +2,7 @@ use Rattle.std.proofs.Common.{ℕ, ◌*◌, List, length, sym, ap, ◌∙◌, ar
 use Rattle.std.specs.Prelude.{Option, flat_map}
 use Rattle.std.specs.List.{range_with_len}
 use Rattle.std.proofs.lemmas.List.{length-map}
+use Rattle.cj_causes.specs.declared.cert_version.CertVersion.TheVariants.{One}
 use Rattle.cj_track.specs.Tracks.{plain_track}
 use Rattle.cj_hermite.specs.Problems.{plain_problem}
 use Rattle.cj_hermite.specs.Slots.{slot_count}
@@ -34,9 +35,9 @@ returns-clause-value c =
     let count = objects_are c.args.problem.now.tracks c.as_slice.result.now c.as_slice.ensures.value in
     let slots = c.slot_count-slots.result in
     let lines = flat_map (lines_by_boxes (plain_boxes c.args.boxes.now) slots slots) in
-    let boxes = c.in_ok-boxes_by_object.ensures 1
-    ∙ ap (λ (n : ℕ). flat_map (box_text 1) (lines (range_with_len 0 n))) count
-    ∙ ap (flat_map (box_text 1)) (boxes_are case (plain_boxes c.args.boxes.now) slots c.requires.boxes c.slot_count-slots.ensures) in
+    let boxes = c.in_ok-boxes_by_object.ensures One
+    ∙ ap (λ (n : ℕ). flat_map (box_text One) (lines (range_with_len 0 n))) count
+    ∙ ap (flat_map (box_text One)) (boxes_are case (plain_boxes c.args.boxes.now) slots c.requires.boxes c.slot_count-slots.ensures) in
     all_left case (length c.as_slice.result.now) c.in_ok-shell_lines.field-0.items c.in_ok-boxes_by_object.field-0.items c.args.leaves.now
     c.in_ok-head.field-0.items c.in_ok-end.field-0.items
     count (c.in_ok-shell_lines.ensures ∙ shells_are case c.args.shells.now c.requires.shells) boxes c.requires.leaves

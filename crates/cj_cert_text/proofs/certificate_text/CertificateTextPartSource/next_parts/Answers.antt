@@ -3,6 +3,7 @@ use Rattle.std.specs.Prelude.{◌==◌, flat_map}
 use Rattle.std.specs.Global.{Vec}
 use Rattle.std.proofs.lemmas.Bool.{eqb-true}
 use Rattle.std.proofs.lemmas.List.{nil_from_length}
+use Rattle.cj_causes.specs.declared.cert_version.CertVersion.TheVariants.{One}
 use Rattle.cj_io.specs.Parts.{joined}
 use Rattle.cj_bezier.specs.Leaves.{plain_leaf}
 use Rattle.cj_bezier.specs.declared.leaf.Leaf.{Leaf}
@@ -19,7 +20,7 @@ abbrev shells_left : CertificateText → List ℕ
 shells_left t = flat_map shell_text (drop t.shells_made t.shells.items)
 
 abbrev boxes_left : CertificateText → List ℕ
-boxes_left t = flat_map (object_text 1) (drop t.boxes_made t.boxes.items)
+boxes_left t = flat_map (object_text One) (drop t.boxes_made t.boxes.items)
 
 abbrev cell_of : Leaf → List ℕ
 cell_of leaf = cell_text (plain_leaf leaf)
@@ -54,13 +55,13 @@ returns-then-self-len-2-clause-parts g c =
     let t = c.args.self.now in
     let made = c.next_texts-then-self-len-2.result in
     let now = c.next_texts-then-self-len-2.new.made in
-    let left = flat_map (object_text 1) (drop now t.boxes.items) in
+    let left = flat_map (object_text One) (drop now t.boxes.items) in
     let rest = cells_left t ++ t.end.items in
     behind_none made t.head.items (shells_left t ++ (boxes_left t ++ rest)) (shells_left t ++ (left ++ rest)) (none_left t.head (sym c.if-not-is_empty.ensures))
     (behind_none made (shells_left t) (boxes_left t ++ rest) (left ++ rest)
     (all_made shell_text t.shells.items t.shells_made (omega (arith, t.shells.ok.0, c.len.ensures, c.if-self-len.false)))
     (with_behind made (boxes_left t) left rest
-    (subst (λ (ls : List ObjectBoxes). IfOk made (λ parts. flat_map (object_text 1) (drop t.boxes_made ls) ≡ joined parts.items ++ flat_map (object_text 1) (drop now ls)))
+    (subst (λ (ls : List ObjectBoxes). IfOk made (λ parts. flat_map (object_text One) (drop t.boxes_made ls) ≡ joined parts.items ++ flat_map (object_text One) (drop now ls)))
     c.deref-then-self-len-2.ensures.value c.next_texts-then-self-len-2.ensures.parts)))
 
 pub returns-then-self-clause-parts : goal.returns-then-self-clause-parts
@@ -74,7 +75,7 @@ returns-then-self-clause-parts g c =
     (behind_none made (shells_left t) (boxes_left t ++ (cells_left t ++ rest)) (boxes_left t ++ (left ++ rest))
     (all_made shell_text t.shells.items t.shells_made (omega (arith, t.shells.ok.0, c.len.ensures, c.if-self-len.false)))
     (behind_none made (boxes_left t) (cells_left t ++ rest) (left ++ rest)
-    (all_made (object_text 1) t.boxes.items t.boxes_made (omega (arith, t.boxes.ok.0, c.len-2.ensures, c.if-self-len-2.false)))
+    (all_made (object_text One) t.boxes.items t.boxes_made (omega (arith, t.boxes.ok.0, c.len-2.ensures, c.if-self-len-2.false)))
     (with_behind made (cells_left t) left rest c.next_texts-then-self.ensures.parts)))
 
 pub returns-then-not-is_empty-2-clause-parts : goal.returns-then-not-is_empty-2-clause-parts
@@ -88,7 +89,7 @@ returns-then-not-is_empty-2-clause-parts g c =
     (behind_none made (shells_left t) (boxes_left t ++ (cells_left t ++ t.end.items)) (boxes_left t ++ (cells_left t ++ left))
     (all_made shell_text t.shells.items t.shells_made (omega (arith, t.shells.ok.0, c.len.ensures, c.if-self-len.false)))
     (behind_none made (boxes_left t) (cells_left t ++ t.end.items) (cells_left t ++ left)
-    (all_made (object_text 1) t.boxes.items t.boxes_made (omega (arith, t.boxes.ok.0, c.len-2.ensures, c.if-self-len-2.false)))
+    (all_made (object_text One) t.boxes.items t.boxes_made (omega (arith, t.boxes.ok.0, c.len-2.ensures, c.if-self-len-2.false)))
     (behind_none made (cells_left t) t.end.items left
     (all_made cell_of t.leaves.now t.leaves_made c.if-self.false)
     (printed_whole made t.end.items left whole.parts whole.taken))))

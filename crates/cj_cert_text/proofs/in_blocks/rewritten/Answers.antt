@@ -1,6 +1,5 @@
-use Rattle.std.proofs.Common.{◌≡◌, ◌∙◌, List, length, map, ap, refl, sym, subst}
+use Rattle.std.proofs.Common.{◌∙◌, List, length, map, ap}
 use Rattle.std.specs.List.{flat_map, range_with_len}
-use Rattle.std.proofs.lemmas.Bool.{ne_eqb}
 use Rattle.std.proofs.lemmas.List.{length-map}
 use Rattle.cj_track.specs.Tracks.{plain_track}
 use Rattle.cj_hermite.specs.Pairs.{objects_of}
@@ -9,40 +8,28 @@ use Rattle.cj_hermite.proofs.TrackLemmas.{objects_are}
 use Rattle.cj_bezier.specs.Shells.{keeps_between}
 use Rattle.cj_bezier.specs.SlotBoxes.{plain_boxes}
 use Rattle.cj_cert.specs.declared.cert_lines.BoxLine.{BoxLine}
-use Rattle.cj_cert.specs.Accepted.{Accepted}
-use Rattle.cj_cert.specs.Certificates.{PlainCertificate, plain_box_line, plain_certificate}
+use Rattle.cj_cert.specs.Certificates.{plain_box_line, plain_certificate}
 use Rattle.cj_cert.specs.Listed.{box_listed, shells_listed}
 use Rattle.cj_cert.specs.Rewritten.{size_lines}
 use Rattle.cj_cert_text.proofs.InBlocksLemmas.{listed_in_order, pairs_of_objects, rewritten_is}
-use Rattle.cj_cert_text.proofs.in_blocks.in_version_2.Goals as goal
+use Rattle.cj_cert_text.proofs.in_blocks.rewritten.Goals as goal
 
 pub block_lines-requires-clause-exist : goal.block_lines-requires-clause-exist
 block_lines-requires-clause-exist c =
     let problem = c.args.problem.now in
     let case = plain_problem problem in
-    pairs_of_objects (length case.ephemerides) (length problem.tracks) (keeps_between case.threshold case.sizes (shells_listed (plain_certificate c.args.cert))) c.args.kept.now c.requires.kept
+    pairs_of_objects (length case.ephemerides) (length problem.tracks) (keeps_between case.threshold case.sizes (shells_listed (plain_certificate c.args.cert))) c.args.kept.now c.requires
     (length-map problem.tracks plain_track)
 
-pub returns-clause-value : goal.returns-clause-value
-returns-clause-value c =
+pub returns : goal.returns
+returns c =
     let problem = c.args.problem.now in
     let case = plain_problem problem in
     let cert = plain_certificate c.args.cert in
-    let first : c.args.cert.version ≡ 1 = c.if-cert-ne1.false in
-    rewritten_is case cert c.in_ok-sizes.sizes.items (map plain_box_line c.in_ok-boxes.boxes.items) (plain_boxes c.deref-2.result.now) (map objects_of c.args.kept.now) first
+    rewritten_is case cert c.in_ok-sizes.sizes.items (map plain_box_line c.in_ok-boxes.boxes.items) (plain_boxes c.deref-2.result.now) (map objects_of c.args.kept.now)
     (c.in_ok-sizes.ensures ∙ ap size_lines c.as_slice-2.ensures.value)
     c.in_ok-boxes.ensures
     (ap plain_boxes c.deref-2.ensures.value ∙ c.in_ok-given.ensures.value
     ∙ ap (λ (ls : List BoxLine). flat_map (λ object. map (λ slot. box_listed (map plain_box_line ls) slot object) (range_with_len 0 c.slot_count.result)) (range_with_len 0 (length c.as_slice.result.now))) c.deref.ensures.value
     ∙ listed_in_order case cert.boxes (length c.as_slice.result.now) c.slot_count.result (objects_are problem.tracks c.as_slice.result.now c.as_slice.ensures.value) c.slot_count.ensures)
-    c.requires.kept
-
-pub returns-clause-accepted : goal.returns-clause-accepted
-returns-clause-accepted c accepted =
-    subst (λ (x : PlainCertificate). Accepted (plain_problem c.args.problem.now) x) (sym (returns-clause-value c)) (c.acceptance.ensures.rewritten (plain_certificate c.args.cert) accepted)
-
-pub returns-then-cert-ne1-clause-value : goal.returns-then-cert-ne1-clause-value
-returns-then-cert-ne1-clause-value c = rw (ne_eqb c.args.cert.version 1 c.if-cert-ne1.true) refl
-
-pub returns-then-cert-ne1-clause-accepted : goal.returns-then-cert-ne1-clause-accepted
-returns-then-cert-ne1-clause-accepted c = λ accepted. accepted
+    c.requires
