@@ -382,6 +382,11 @@ pub beyond_at : (a b : Curve) (e first m last : ℕ) → first ≤ m → m ≤ l
 beyond_at a b e first m last p q oa ob far =
     above_of_gap (place_denominator a.span * place_denominator b.span) e (hull_gap a b first last) _ _ _ (large_bound a.span b.span oa.some ob.some) (hull_gap_at a b first m last p q oa ob) far
 
+pub at_least_at : (a b : Curve) (e first m last : ℕ) → first ≤ m → m ≤ last → IsOver a first last → IsOver b first last → LowsAtLeast (hull_gap a b first last) e → square_bound a b e ≤ℤ square_distance a b m
+at_least_at a b e first m last p q oa ob low =
+    at_least_of_gap (place_denominator a.span * place_denominator b.span) (e * e) (hull_gap a b first last) _ _ _
+    (hull_gap_at a b first m last p q oa ob) low
+
 pub within_at : (a b : Curve) (e first m last : ℕ) → first ≤ m → m ≤ last → IsOver a first last → IsOver b first last → HighsAtMost (hull_gap a b first last) e → square_distance a b m ≤ℤ square_bound a b e
 within_at a b e first m last p q oa ob near =
     at_most_of_gap (place_denominator a.span * place_denominator b.span) (e * e) (hull_gap a b first last) _ _ _

@@ -1,6 +1,5 @@
 -- What a supported kind says of each tick, and which verdict comes when.
-use Rattle.std.proofs.Common.{◌≡◌, ℕ, ◌+◌, ◌-◌, ◌*◌, ◌^◌, ◌<◌, ◌≤◌, ◌↔◌, arith, refl, sym, subst, Bool, true, false}
-use Rattle.std.proofs.lemmas.Int.{ints}
+use Rattle.std.proofs.Common.{◌≡◌, ℕ, ◌+◌, ◌-◌, ◌*◌, ◌^◌, ◌≤◌, ◌↔◌, refl, sym, subst, Bool, true, false}
 use Rattle.std.specs.Prelude.{ℤ, pos, ◌≤ℤ◌, ◌<ℤ◌, IsTrue}
 use Rattle.cj_hermite.specs.Interpolant.{Curve, IsOver}
 use Rattle.cj_hermite.specs.Distance.{BAND}
@@ -10,9 +9,9 @@ use Rattle.cj_bezier.specs.declared.kind.Kind.TheVariants as kinds
 use Rattle.cj_bezier.specs.declared.verdicts.Verdict.TheVariants as verdicts
 use Rattle.cj_bezier.specs.Hulls.{PlainHull}
 use Rattle.cj_bezier.specs.Gaps.{PlainGap, IsGapOver, gap_terms, gap_low, gap_high, hull_gap}
-use Rattle.cj_bezier.specs.Verdicts.{choose6, AreAbove, AreAtLeast, AreAtMost, Supports, supported, verdict_of, HoldsThroughout}
-use Rattle.cj_bezier.proofs.GapLemmas.{LowsAbove, LowsAtLeast, HighsAtMost, beyond_at, within_at}
-use Rattle.cj_bezier.proofs.SevenLemmas.{first_seven, from_seven, choose6-bounds}
+use Rattle.cj_bezier.specs.Verdicts.{AreAbove, AreAtLeast, AreAtMost, Supports, supported, verdict_of, HoldsThroughout}
+use Rattle.cj_bezier.proofs.GapLemmas.{LowsAbove, LowsAtLeast, HighsAtMost, at_least_at, beyond_at, within_at}
+use Rattle.cj_bezier.proofs.SevenLemmas.{first_seven, from_seven}
 use Rattle.cj_bezier.proofs.TestLemmas.{decides_supports}
 
 -- ---- the seven ends of a gap are all its ends
@@ -43,19 +42,6 @@ are_at_most_from d e h = first_seven (λ c z. z ≤ℤ pos (c * (e * e))) (gap_h
 
 -- ---- a supported kind holds at each tick
 
--- what is at least C(6,k) (e + 1)² exceeds C(6,k) e²
-above_next : (d : PlainHull) (e f : ℕ) → f ≡ e + 1 → LowsAtLeast d f → LowsAbove d e
-above_next d e f eq h k = step (choose6 k) e f (gap_low d k) (choose6-bounds k).0 eq (h k)
-  where
-    more : (c e : ℕ) → 0 < c → c * (e * e) < c * ((e + 1) * (e + 1))
-    more c e p = omega arith
-
-    step : (c e f : ℕ) (g : ℤ) → 0 < c → f ≡ e + 1 → pos (c * (f * f)) ≤ℤ g → pos (c * (e * e)) <ℤ g
-    step c e f g p q h =
-        let h' : pos (c * ((e + 1) * (e + 1))) ≤ℤ g = subst (λ (n : ℕ). pos (c * (n * n)) ≤ℤ g) q h in
-        let m = more c e p in
-        omega (arith, ints)
-
 pub supported_holds : (a b : Curve) (thr first last : ℕ) (kind : Kind) → 10 ^ 9 ≤ thr → IsOver a first last → IsOver b first last
     → Supports (gap_terms (hull_gap a b first last)) thr kind → HoldsThroughout kind a b thr first last
 unfolding HoldsThroughout
@@ -64,10 +50,9 @@ supported_holds a b thr first last kinds.Far big oa ob s m p q =
 supported_holds a b thr first last kinds.Near big oa ob s m p q =
     within_at a b thr first m last p q oa ob (all_at_most (hull_gap a b first last) thr s)
 supported_holds a b thr first last kinds.Undecided big oa ob s m p q =
-    let next : thr - BAND ≡ thr - BAND - 1 + 1 = omega arith in
     record {
       within = within_at a b (thr + BAND) first m last p q oa ob (all_at_most (hull_gap a b first last) (thr + BAND) s.1);
-      beyond = beyond a b (thr - BAND - 1) m (beyond_at a b (thr - BAND - 1) first m last p q oa ob (above_next (hull_gap a b first last) (thr - BAND - 1) (thr - BAND) next (all_at_least (hull_gap a b first last) (thr - BAND) s.0)));
+      beyond = at_least_at a b (thr - BAND) first m last p q oa ob (all_at_least (hull_gap a b first last) (thr - BAND) s.0);
     }
 
 -- the same of a test that was true of a gap

@@ -35,15 +35,15 @@ pair_number (suc n) m e =
     let same : m ≡ suc n * n = e ∙ ap (λ k. suc n * k) less in
     omega arith
 
-square_few : (n : ℕ) → n ≤ 2000 → n * n ≤ 4_000_000
+square_few : (n : ℕ) → n ≤ 65_535 → n * n ≤ 4_294_836_225
 square_few zero few = omega arith
 square_few (suc n) few =
-    let fits = column_fits (suc n) n 2000 2000 (omega arith) few in
+    let fits = column_fits (suc n) n 65_535 65_535 (omega arith) few in
     let square = mul-suc (suc n) n in
     omega arith
 
 -- the pairs that are looked at in a slot are few
-pub looked_few : (case : PlainProblem) (slot : ℕ) → length case.ephemerides ≤ 2000 → length (pairs_looked case slot) ≤ 4_000_000
+pub looked_few : (case : PlainProblem) (slot : ℕ) → length case.ephemerides ≤ 65_535 → length (pairs_looked case slot) ≤ 4_294_836_225
 looked_few case slot few =
     let n = length case.ephemerides in
     let all = length-filter (λ pair. is_looked case pair.0 pair.1 slot) (pairs_of n) in

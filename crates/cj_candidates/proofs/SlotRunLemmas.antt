@@ -228,14 +228,14 @@ few_so_far old mid new now rest whole kept before few =
 -- ---- runs of all slots
 
 -- the pairs that are looked at are few
-looked_over_few : (case : PlainProblem) (from count : ℕ) → length case.ephemerides ≤ 2000 → looked_over case from count ≤ count * 4_000_000
+looked_over_few : (case : PlainProblem) (from count : ℕ) → length case.ephemerides ≤ 65_535 → looked_over case from count ≤ count * 4_294_836_225
 looked_over_few case from count few =
-    subst (λ (n : ℕ). looked_over case from count ≤ n * 4_000_000) (length-range_with_len from count)
-    (sum_by-le (λ slot. length (pairs_looked case slot)) 4_000_000 (range_with_len from count) (λ k d lt. looked_few case (get_or (range_with_len from count) k d) few))
+    subst (λ (n : ℕ). looked_over case from count ≤ n * 4_294_836_225) (length-range_with_len from count)
+    (sum_by-le (λ slot. length (pairs_looked case slot)) 4_294_836_225 (range_with_len from count) (λ k d lt. looked_few case (get_or (range_with_len from count) k d) few))
 
 -- what is found in runs that are all slots, merged
 pub all_found : (case : PlainProblem) (from count limit : ℕ) (stretches : List Stretch) (runs : SlotRuns) (run : SlotRun) → roots_at stretches ≡ roots_over case from count
-    → looked_at stretches ≡ looked_over case from count → length case.ephemerides ≤ 2000 → count < 4_294_967_296 → IsFoundAt stretches runs → runs.whole ≡ true
+    → looked_at stretches ≡ looked_over case from count → length case.ephemerides ≤ 65_535 → count < 4_294_967_296 → IsFoundAt stretches runs → runs.whole ≡ true
     → length (roots_listed runs) ≤ limit → IsPermutation (roots_listed runs) run.roots.items → vec_len run.roots ≡ length run.roots.items → run.touching ≡ runs.touching
     → IsFound case from count limit run
 all_found case from count limit stretches runs run same looked objects slots found whole few merged len touching =

@@ -2,6 +2,7 @@
 //! in order at the end.
 ghost use Rattle.std.specs.Prelude.{◌≡◌, ◌<◌, ◌≤◌, length, vec_len, IfOk, OnOk, IsErrOf};
 ghost use Rattle.std.specs.List.{range_with_len};
+ghost use Rattle.cj_values.specs.Bounds.{MOST_LEAVES};
 ghost use Rattle.cj_hermite.specs.Problems.{plain_problem};
 ghost use Rattle.cj_hermite.specs.Slots.{slot_count};
 ghost use Rattle.cj_bezier.specs.SlotBoxes.{plain_boxes};
@@ -45,7 +46,7 @@ fn search_all<R: Threads + Sync>(
     workers: u32,
     limit: u64,
 ) -> Result<SlotRun, RefineError>
-    requires { limit ≤ 4_000_000 }
+    requires { limit ≤ MOST_LEAVES }
     ensures too_many { IsErrOf result RefineError.TooMany
         → limit < length (roots_of (is_looked (plain_problem ground.now.problem.now)) (plain_problem ground.now.problem.now)) }
 
@@ -68,7 +69,7 @@ pub fn find_candidates<R: Threads + Sync>(
     workers: u32,
     limit: u64,
 ) -> Result<Candidates, RefineError>
-    requires { limit ≤ 4_000_000 }
+    requires { limit ≤ MOST_LEAVES }
     ensures too_many { IsErrOf result RefineError.TooMany → limit < length (roots_of (is_looked (plain_problem problem.now)) (plain_problem problem.now)) }
 
     ensures shells { IfOk result (λ found. found.shells.items ≡ shells_of (plain_problem problem.now)) }

@@ -1,6 +1,7 @@
 //! The roots of a run of slots: slot by slot, or by several threads.
 ghost use Rattle.std.specs.Prelude.{◌≡◌, ◌+◌, ◌<◌, ◌≤◌, length, map, min, flat_map, IfOk};
 ghost use Rattle.std.specs.List.Sorted.{IsPermutation};
+ghost use Rattle.cj_values.specs.Bounds.{MOST_LEAVES};
 ghost use Rattle.cj_hermite.specs.Pairs.{objects_of};
 ghost use Rattle.cj_hermite.specs.Problems.{plain_problem};
 ghost use Rattle.cj_bezier.specs.Looked.{boxes_in, pairs_looked};
@@ -62,7 +63,7 @@ fn search_in_turn(
     limit: u64,
 ) -> Result<SlotRun, RefineError>
     requires within { from + count ≤ ground.now.slots }
-    requires limit { limit ≤ 4_000_000 }
+    requires limit { limit ≤ MOST_LEAVES }
     ensures { AreSought (plain_problem ground.now.problem.now) from count limit result }
 {
     let problem = ground.problem;
@@ -148,7 +149,7 @@ pub fn search_slots<R: Threads + Sync>(
     limit: u64,
 ) -> Result<SlotRun, RefineError>
     requires within { from + count ≤ ground.now.slots }
-    requires limit { limit ≤ 4_000_000 }
+    requires limit { limit ≤ MOST_LEAVES }
     ensures { AreSought (plain_problem ground.now.problem.now) from count limit result }
 {
     if workers < 2 {

@@ -1,5 +1,6 @@
 //! Runs of slots that several threads search, until all of them together have found too many roots.
 ghost use Rattle.std.specs.Prelude.{◌≡◌, ◌+◌, ◌<◌, ◌≤◌, ◌++◌, List, length, map, min, take, vec_len, true, false, All, IfOk, OnOk};
+ghost use Rattle.cj_values.specs.Bounds.{MOST_LEAVES};
 ghost use Rattle.cj_hermite.specs.Pairs.{objects_of};
 ghost use Rattle.cj_hermite.specs.Problems.{plain_problem};
 ghost use Rattle.cj_hermite.specs.Roots.{roots_in_slot};
@@ -35,7 +36,7 @@ fn append_some(
     roots: &mut Vec<Cell>,
 ) -> Result<bool, AllocError>
     requires exist { All (λ pair. pair.b < length problem.now.tracks) pairs.now }
-    requires limit { limit ≤ 4_000_000 }
+    requires limit { limit ≤ MOST_LEAVES }
     requires room { vec_len roots.old ≤ limit + 1 }
     ensures added { IfOk result (λ whole. whole ≡ true
         → added_roots roots.old.items roots.new.items ≡ roots_in_slot (plain_problem problem.now) slot (map objects_of pairs.now)) }
@@ -77,7 +78,7 @@ fn append_until_stopped(
     roots: &mut Vec<Cell>,
 ) -> Result<bool, AllocError>
     requires exist { All (λ pair. pair.b < length problem.now.tracks) pairs.now }
-    requires limit { limit ≤ 4_000_000 }
+    requires limit { limit ≤ MOST_LEAVES }
     requires room { vec_len roots.old ≤ limit + 1 }
     ensures added { IfOk result (λ whole. whole ≡ true
         → added_roots roots.old.items roots.new.items ≡ roots_in_slot (plain_problem problem.now) slot (map objects_of pairs.now)) }
@@ -107,7 +108,7 @@ fn search_slot(
     run: &mut ThreadRun,
 ) -> Result<bool, AllocError>
     requires exists { slot < ground.now.slots }
-    requires limit { limit ≤ 4_000_000 }
+    requires limit { limit ≤ MOST_LEAVES }
     requires room { vec_len run.old.roots ≤ limit + 1 }
     ensures added { IfOk result (λ whole. whole ≡ true → added_roots run.old.roots.items run.new.roots.items
         ≡ roots_in_slot (plain_problem ground.now.problem.now) slot (pairs_looked (plain_problem ground.now.problem.now) slot)) }
@@ -149,7 +150,7 @@ fn search_stretch(
     limit: u64,
     together: &Together,
 ) -> Result<ThreadRun, AllocError>
-    requires limit { limit ≤ 4_000_000 }
+    requires limit { limit ≤ MOST_LEAVES }
     ensures { IfOk result (IsFoundIn stretch.now) }
 {
     let mut hints = Hints::new(alloc, stretch.ground.problem.tracks.as_slice().len())?;
@@ -190,7 +191,7 @@ fn search_each(
     limit: u64,
     together: &Together,
 ) -> Result<SlotRuns, AllocError>
-    requires { limit ≤ 4_000_000 }
+    requires { limit ≤ MOST_LEAVES }
     ensures { IfOk result (IsFoundAt stretches.now) }
 {
     let mut all = Vec::with_capacity(alloc, stretches.len())?;
@@ -228,7 +229,7 @@ fn joined(mut front: SlotRuns, mut back: SlotRuns) -> Result<SlotRuns, AllocErro
 struct Searching<'c> {
     limit: u64,
     together: &'c Together,
-    ghost few: { limit ≤ 4_000_000 },
+    ghost few: { limit ≤ MOST_LEAVES },
 }
 
 impl<'c, 'g> Jobs<Stretch<'g>> for Searching<'c> {
@@ -256,7 +257,7 @@ pub fn search_together<R: Threads + Sync>(
     workers: u32,
     limit: u64,
 ) -> Result<SlotRuns, AllocError>
-    requires { limit ≤ 4_000_000 }
+    requires { limit ≤ MOST_LEAVES }
     ensures { IfOk result (IsFoundAt stretches.now) }
 {
     let together = Together::new();

@@ -1,4 +1,5 @@
 ghost use Rattle.std.specs.Prelude.{◌≡◌, ◌≤◌, ◌<◌, ◌+◌, ◌^◌, length, map, All, IsOk, IfOk, false, Ok};
+ghost use Rattle.cj_values.specs.Bounds.{MOST_MADE_OBJECTS};
 ghost use Rattle.cj_gen.specs.Catalogues.{catalogue_of};
 ghost use Rattle.cj_oem.specs.Reading.{reading};
 ghost use Rattle.cj_track.specs.Tracks.{plain_track};
@@ -17,7 +18,7 @@ pub fn catalogue_tracks(
     objects: u32,
     minutes: u32,
 ) -> Result<Vec<Track>, AllocError>
-    requires objects { objects ≤ 2000 }
+    requires objects { objects ≤ MOST_MADE_OBJECTS }
     requires some { 1 ≤ minutes }
     requires minutes { minutes ≤ 1440 }
     ensures value { IfOk result (λ tracks. map plain_track tracks.items ≡ tracks_of seed objects minutes) }

@@ -2,6 +2,7 @@
 ghost use Rattle.std.specs.Prelude.{◌≡◌, ℕ, ◌≤◌, Bool, length, vec_len, AllPairs};
 ghost use Rattle.std.specs.List.{range_with_len};
 ghost use Rattle.std.specs.List.Sorted.{IsPermutation};
+ghost use Rattle.cj_values.specs.Bounds.{MOST_LEAVES};
 ghost use Rattle.cj_hermite.specs.PlainProblems.{PlainProblem};
 ghost use Rattle.cj_hermite.specs.Roots.{IsRootUpTo, roots_of, roots_by_slot};
 ghost use Rattle.cj_bezier.specs.Cells.{plain_cells};
@@ -24,7 +25,7 @@ fn sort(roots: &mut Vec<Cell>)
 
 /// Gives each root its place as its number.
 fn number(roots: &mut [Cell])
-    requires { length roots.old ≤ 4_000_000 }
+    requires { length roots.old ≤ MOST_LEAVES }
     ensures kept { plain_cells roots.new ≡ plain_cells roots.old }
     ensures numbered { root_numbers roots.new ≡ range_with_len 0 (length roots.new) }
 {
@@ -35,7 +36,7 @@ fn number(roots: &mut [Cell])
 
 /// Puts roots in order of pair and tick, and gives each its place as its number.
 pub fn order_roots(roots: &mut Vec<Cell>)
-    requires { vec_len roots.old ≤ 4_000_000 }
+    requires { vec_len roots.old ≤ MOST_LEAVES }
 
     ensures permutation { IsPermutation (plain_cells roots.old.items) (plain_cells roots.new.items) }
     ensures ordered { AllPairs IsRootUpTo (plain_cells roots.new.items) }

@@ -1,8 +1,9 @@
 ghost use Rattle.std.specs.Prelude.{◌≡◌, ◌<◌, ◌≤◌};
+ghost use Rattle.cj_values.specs.Bounds.{MOST_OBJECTS};
 
 use cj_hermite::Pair;
 
-/// A pair that is looked at in a slot, in eight bytes. Objects are numbered below 2,000.
+/// A pair that is looked at in a slot, in eight bytes. The numbers of objects fit 16 bits.
 #[derive(Clone, Copy, PartialEq, Eq, PartialOrd, Ord)]
 pub(crate) struct Key {
     pub a: u16,
@@ -12,7 +13,7 @@ pub(crate) struct Key {
 
 impl Key {
     pub(crate) fn new(pair: Pair, slot: u32) -> Self
-        requires { pair.b ≤ 2000 }
+        requires { pair.b ≤ MOST_OBJECTS }
         ensures a { result.a ≡ pair.a }
         ensures b { result.b ≡ pair.b }
         ensures slot { result.slot ≡ slot }

@@ -2,6 +2,7 @@
 //! to be had for.
 ghost use Rattle.std.specs.Prelude.{◌≡◌, ℕ, ◌+◌, ◌<◌, ◌≤◌, Bool, All, true, map, length, IfOk, OnOk};
 ghost use Rattle.std.specs.List.{range_with_len};
+ghost use Rattle.cj_values.specs.Bounds.{MOST_OBJECTS};
 ghost use Rattle.cj_bezier.specs.SlotBoxes.{plain_boxes};
 ghost use Rattle.cj_cert.specs.Certificates.{plain_certificate};
 ghost use Rattle.cj_cert.specs.Listed.{box_listed};
@@ -50,7 +51,7 @@ fn append_key(
     end: u32,
     keys: &mut Vec<Key>,
 ) -> Result<(), AllocError>
-    requires few { pair.b ≤ 2000 }
+    requires few { pair.b ≤ MOST_OBJECTS }
     ensures keys { OnOk result ((looked : ℕ → ℕ → ℕ → Bool) (objects slots : ℕ) → slot < slots → pair.b < objects
         → looked pair.a pair.b slot ≡ true
         → AreKeysIn looked first end objects slots keys.old.items → AreKeysIn looked first end objects slots keys.new.items) }
@@ -71,7 +72,7 @@ fn append_keys(
     end: u32,
     keys: &mut Vec<Key>,
 ) -> Result<(), AllocError>
-    requires few { All (λ pair. pair.b ≤ 2000) pairs.now }
+    requires few { All (λ pair. pair.b ≤ MOST_OBJECTS) pairs.now }
     ensures keys { OnOk result ((looked : ℕ → ℕ → ℕ → Bool) (objects slots : ℕ) → slot < slots
         → All (λ pair. pair.b < objects) pairs.now → All (λ pair. looked pair.a pair.b slot ≡ true) pairs.now
         → AreKeysIn looked first end objects slots keys.old.items → AreKeysIn looked first end objects slots keys.new.items) }

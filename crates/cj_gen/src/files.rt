@@ -1,4 +1,5 @@
 ghost use Rattle.std.specs.Prelude.{◌≡◌, ◌≤◌, IfOk};
+ghost use Rattle.cj_values.specs.Bounds.{MOST_MADE_OBJECTS};
 ghost use Rattle.cj_gen.specs.Catalogues as spec;
 ghost use Rattle.cj_gen.specs.Catalogues.{catalogue_of};
 ghost use Rattle.cj_gen.specs.Orbits.{IsOrbit};
@@ -19,7 +20,7 @@ pub fn catalogue(
     objects: u32,
     minutes: u32,
 ) -> Result<Vec<FileBytes>, AllocError>
-    requires objects { objects ≤ 2000 }
+    requires objects { objects ≤ MOST_MADE_OBJECTS }
     requires minutes { minutes ≤ 1440 }
     ensures { IfOk result (λ files. files.items ≡ catalogue_of seed objects minutes) }
 {

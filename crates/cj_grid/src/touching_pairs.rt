@@ -1,6 +1,7 @@
 //! The pairs of objects whose boxes touch.
 ghost use Rattle.std.specs.Prelude.{◌≡◌, ℕ, ◌+◌, ◌^◌, ◌<◌, ◌≤◌, map, filter, length, option_map, All, true, None, IfOk};
 ghost use Rattle.std.specs.List.Sorted.{IsPermutation};
+ghost use Rattle.cj_values.specs.Bounds.{MOST_OBJECTS};
 ghost use Rattle.cj_hermite.specs.Limits.{MAX_SIZE};
 ghost use Rattle.cj_hermite.specs.Pairs.{HasPair, objects_of, pairs_of};
 ghost use Rattle.cj_bezier.specs.SlotBoxes.{plain_boxes, touch_between};
@@ -97,7 +98,7 @@ pub fn touching<L: Ledger>(
     thr: u64,
     steps: &mut Steps<L>,
 ) -> Result<Vec<Pair>, AllocError>
-    requires few { length boxes.now ≤ 2000 }
+    requires few { length boxes.now ≤ MOST_OBJECTS }
     requires sized { length sizes.now ≡ length boxes.now }
     requires small { All (λ size. size ≤ MAX_SIZE) sizes.now }
     requires least { 10 ^ 9 ≤ thr }
@@ -135,7 +136,7 @@ pub fn find_touching(
     sizes: &[u64],
     thr: u64,
 ) -> Result<Vec<Pair>, AllocError>
-    requires few { length boxes.now ≤ 2000 }
+    requires few { length boxes.now ≤ MOST_OBJECTS }
     requires sized { length sizes.now ≡ length boxes.now }
     requires small { All (λ size. size ≤ MAX_SIZE) sizes.now }
     requires least { 10 ^ 9 ≤ thr }

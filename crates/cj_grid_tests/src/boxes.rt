@@ -1,4 +1,5 @@
 ghost use Rattle.std.specs.Prelude.{◌≡◌, ◌+◌, ◌<◌, ◌≤◌, ◌≤ℤ◌, ◌*◌, ◌^◌, ◌-ℤ◌, pos, length, replicate, IfOk};
+ghost use Rattle.cj_values.specs.Bounds.{MOST_OBJECTS};
 ghost use Rattle.cj_bezier.specs.SlotBoxes.{plain_box, plain_boxes};
 ghost use Rattle.cj_grid_tests.specs.Rows.{box_in_row, boxes_in_row};
 
@@ -406,7 +407,7 @@ fn by_each_pair<L: Ledger>(
     requires name { blank.name ≡ L.name }
     requires parts { blank.parts ≡ L.parts }
     requires some { 0 < blank.parts }
-    requires few { length boxes.now ≤ 2000 }
+    requires few { length boxes.now ≤ MOST_OBJECTS }
 {
     let mut steps = Steps::<L>::new(blank);
     let mut pairs = Vec::new(alloc);

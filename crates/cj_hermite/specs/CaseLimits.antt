@@ -1,5 +1,6 @@
--- Limits of a run.
+-- Bounds of a case.
 use Rattle.std.specs.Prelude.{ℕ, ◌-◌, ◌*◌, ◌≤◌, List, sum_by}
+use Rattle.cj_values.specs.Bounds.{MOST_NODES, MOST_OBJECT_SLOTS}
 use Rattle.cj_track.specs.Segments.{node_count}
 use Rattle.cj_track.specs.declared.track.Track.{Track}
 use Rattle.cj_hermite.specs.Slots.{slot_count}
@@ -10,7 +11,7 @@ node_total tracks = sum_by (λ track. node_count track.segments) tracks
 
 -- at most so many nodes in all
 abbrev pub AreFewNodes : List Track → Type 0
-AreFewNodes tracks = node_total tracks ≤ 2_000_000
+AreFewNodes tracks = node_total tracks ≤ MOST_NODES
 
 -- at most fourteen days from the first tick to the last
 abbrev pub IsShort : ℕ → ℕ → Type 0
@@ -18,4 +19,4 @@ IsShort first last = last - first ≤ 1_209_600_000_000
 
 -- at most so many objects times slots
 abbrev pub AreFewSlots : ℕ → ℕ → ℕ → Type 0
-AreFewSlots objects first last = objects * slot_count first last ≤ 4_000_000
+AreFewSlots objects first last = objects * slot_count first last ≤ MOST_OBJECT_SLOTS

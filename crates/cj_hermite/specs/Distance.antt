@@ -28,6 +28,10 @@ square_bound a b e =
 abbrev pub IsWithinAt : Curve → Curve → ℕ → ℕ → Type 0
 IsWithinAt a b e m = square_distance a b m ≤ℤ square_bound a b e
 
+-- at least e nm apart at tick m
+abbrev pub IsBeyondAt : Curve → Curve → ℕ → ℕ → Type 0
+IsBeyondAt a b e m = square_bound a b e ≤ℤ square_distance a b m
+
 -- near: within the threshold
 abbrev pub IsNear : Curve → Curve → ℕ → ℕ → Type 0
 IsNear a b thr m = IsWithinAt a b thr m
@@ -36,7 +40,7 @@ IsNear a b thr m = IsWithinAt a b thr m
 abbrev pub IsFar : Curve → Curve → ℕ → ℕ → Type 0
 IsFar a b thr m = ¬ IsNear a b thr m
 
--- in the band: one millimetre about the threshold, which is at least 10^9 nm
+-- in the band: within one millimetre of the threshold, which is at least 10^9 nm
 pub record IsInBand (a b : Curve) (thr m : ℕ) : Type 0 where
   pub within : IsWithinAt a b (thr + BAND) m
-  pub beyond : ¬ IsWithinAt a b (thr - BAND - 1) m
+  pub beyond : IsBeyondAt a b (thr - BAND) m

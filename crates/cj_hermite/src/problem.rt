@@ -1,4 +1,5 @@
 ghost use Rattle.std.specs.Prelude.{◌≡◌, ◌*◌, ◌≤◌, ◌<◌, ◌^◌, length};
+ghost use Rattle.cj_values.specs.Bounds.{MOST_OBJECTS};
 ghost use Rattle.cj_hermite.specs.CaseLimits.{IsShort, AreFewSlots};
 
 use crate::pair::Pair;
@@ -17,7 +18,7 @@ pub struct Problem {
     pub threshold: u64,
     /// One size for each track.
     pub sizes: Sizes,
-    pub ghost few: { length tracks ≤ 2000 },
+    pub ghost few: { length tracks ≤ MOST_OBJECTS },
     pub ghost short: { IsShort window.first.micros window.last.micros },
     pub ghost few_slots: { AreFewSlots (length tracks) window.first.micros window.last.micros },
     pub ghost least: { 10 ^ 9 ≤ threshold },

@@ -1,11 +1,12 @@
 ghost use Rattle.std.specs.Prelude.{◌≡◌, ◌≤◌, length};
+ghost use Rattle.cj_values.specs.Bounds.{MOST_OBJECTS};
 ghost use Rattle.cj_hermite.specs.CaseLimits.{AreFewNodes};
 ghost use Rattle.cj_hermite.specs.Frames.{HaveOneFrame};
 
 use cj_track::Track;
 use std::marker::Model;
 
-/// The tracks of a run: at most 2,000, of one frame, with at most 2,000,000 nodes in all. Objects are numbered from 0 by their place.
+/// The tracks of a run, of one frame: at most 65,535, with at most 64,000,000 nodes in all. Objects are numbered from 0 by their place.
 #[derive(Debug, Drop)]
 pub struct Tracks {
     items: Vec<Track>,
@@ -13,6 +14,7 @@ pub struct Tracks {
 
 impl Model for Tracks {
     ghost use Rattle.std.specs.Prelude.{List, length, ◌≤◌};
+    ghost use Rattle.cj_values.specs.Bounds.{MOST_OBJECTS};
     ghost use Rattle.cj_track.specs.declared.track.Track.{Track};
     ghost use Rattle.cj_hermite.specs.CaseLimits.{AreFewNodes};
     ghost use Rattle.cj_hermite.specs.Frames.{HaveOneFrame};
@@ -21,12 +23,12 @@ impl Model for Tracks {
 
     ghost view = { λ t. t.items.items };
 
-    ghost invariant = { λ t. (length t.items.items ≤ 2000) × HaveOneFrame t.items.items × AreFewNodes t.items.items };
+    ghost invariant = { λ t. (length t.items.items ≤ MOST_OBJECTS) × HaveOneFrame t.items.items × AreFewNodes t.items.items };
 }
 
 impl Tracks {
     pub fn new(items: Vec<Track>) -> Self
-        requires few { length items.items ≤ 2000 }
+        requires few { length items.items ≤ MOST_OBJECTS }
         requires frame { HaveOneFrame items.items }
         requires nodes { AreFewNodes items.items }
         ensures { result ≡ items.items }
@@ -36,7 +38,7 @@ impl Tracks {
 
     pub fn as_slice(&self) -> &[Track]
         ensures value { result.now ≡ self.now }
-        ensures few { length self.now ≤ 2000 }
+        ensures few { length self.now ≤ MOST_OBJECTS }
         ensures frame { HaveOneFrame self.now }
         ensures nodes { AreFewNodes self.now }
     {

@@ -5,3 +5,4 @@ pub mod ReadingLemmas
 pub mod SortLemmas
 pub mod StepLemmas
 pub mod WindowLemmas
+pub mod WithinLemmas

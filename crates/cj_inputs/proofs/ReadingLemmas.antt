@@ -1,5 +1,5 @@
 -- Reading files one after another.
-use Rattle.std.proofs.Common.{◌≡◌, ℕ, zero, suc, ◌+◌, ◌<◌, ◌≤◌, ◌⊎◌, inl, inr, List, [], ◌∷◌, ◌++◌, length, map, drop, get_or, Ok, Err, Result, Bool, true, false, refl, sym, ap, ap₂, ◌∙◌, arith}
+use Rattle.std.proofs.Common.{◌≡◌, ℕ, zero, suc, ◌+◌, ◌<◌, ◌≤◌, ◌⊎◌, inl, inr, List, [], ◌∷◌, ◌++◌, length, map, drop, get_or, Ok, Err, Result, true, false, refl, sym, ap, ap₂, ◌∙◌, arith}
 use Rattle.std.specs.Prelude.{nat_le}
 use Rattle.std.proofs.lemmas.Bool.Decides.{nat_tests}
 use Rattle.std.proofs.lemmas.Bool.{cases_lt}
@@ -16,6 +16,7 @@ use Rattle.cj_track.specs.declared.frame.Frame.TheVariants as frames
 use Rattle.cj_track.specs.declared.track.Track.{Track}
 use Rattle.cj_hermite.specs.CaseLimits.{node_total}
 use Rattle.cj_hermite.specs.Frames.{HaveOneFrame}
+use Rattle.cj_words.specs.Settings.{Asked}
 use Rattle.cj_status.specs.declared.status.Status.{Status}
 use Rattle.cj_status.specs.declared.status.Status.TheVariants.{Limit}
 use Rattle.cj_status.specs.declared.status.LimitFault.TheVariants as limit
@@ -62,20 +63,20 @@ nodes_with tracks track =
     ap nodes_in (sym (map-append plain_track tracks (track ∷ []))) ∙ same_nodes (tracks ++ track ∷ []) ∙ nodes_behind tracks track
 
 -- a track of the same frame, which has few nodes with those before it
-pub fits : (tracks : List Track) (name : List ℕ) (track : Track) (nodes : ℕ) → has_frame_of (map plain_track tracks) (plain_track track) ≡ true
-    → nodes ≡ node_total tracks + node_count track.segments → nodes ≤ 2_000_000
-    → checked_after (map plain_track tracks) name (plain_track track) ≡ Ok (plain_track track)
-fits tracks name track nodes frame is few =
-    let small : nat_le nodes 2_000_000 ≡ true = grind (arith, nat_tests) in
+pub fits : (most : ℕ) (tracks : List Track) (name : List ℕ) (track : Track) (nodes : ℕ) → has_frame_of (map plain_track tracks) (plain_track track) ≡ true
+    → nodes ≡ node_total tracks + node_count track.segments → nodes ≤ most
+    → checked_after most (map plain_track tracks) name (plain_track track) ≡ Ok (plain_track track)
+fits most tracks name track nodes frame is few =
+    let small : nat_le nodes most ≡ true = grind (arith, nat_tests) in
     let all : nodes_in (map plain_track tracks ++ plain_track track ∷ []) ≡ nodes = nodes_with tracks track ∙ sym is in
     rw (frame, all, small) refl
 
 -- a track of the same frame, which has too many
-pub overflows : (tracks : List Track) (name : List ℕ) (track : Track) (nodes : ℕ) → has_frame_of (map plain_track tracks) (plain_track track) ≡ true
-    → nodes ≡ node_total tracks + node_count track.segments → 2_000_000 < nodes
-    → checked_after (map plain_track tracks) name (plain_track track) ≡ Err (Limit (limit.Nodes nodes))
-overflows tracks name track nodes frame is many =
-    let large : nat_le nodes 2_000_000 ≡ false = grind (arith, nat_tests) in
+pub overflows : (most : ℕ) (tracks : List Track) (name : List ℕ) (track : Track) (nodes : ℕ) → has_frame_of (map plain_track tracks) (plain_track track) ≡ true
+    → nodes ≡ node_total tracks + node_count track.segments → most < nodes
+    → checked_after most (map plain_track tracks) name (plain_track track) ≡ Err (Limit (limit.Nodes nodes))
+overflows most tracks name track nodes frame is many =
+    let large : nat_le nodes most ≡ false = grind (arith, nat_tests) in
     let all : nodes_in (map plain_track tracks ++ plain_track track ∷ []) ≡ nodes = nodes_with tracks track ∙ sym is in
     rw (frame, all, large) refl
 
@@ -109,9 +110,9 @@ one_frame_more tracks track one e = λ i j d below_i below_j. last i d below_i �
         either (inr h) = at_end i d (omega (arith, length-append tracks (track ∷ [])))
 
 -- the reading from an entry on: that file, and then the rest
-pub from_on : (as_hermite3 : Bool) (files : List FileBytes) (before : List PlainTrack) (entries : List Entry) (i : ℕ) (d : Entry) → i < length entries
-    → readings_after as_hermite3 files before (drop i entries)
-    ≡ (reading_after as_hermite3 files before (get_or entries i d) >>= λ e. readings_after as_hermite3 files (before ++ e ∷ []) (drop (suc i) entries))
-from_on as_hermite3 files before [] i d below = absurd (omega arith)
-from_on as_hermite3 files before (entry ∷ entries) zero d below = refl
-from_on as_hermite3 files before (entry ∷ entries) (suc i) d below = from_on as_hermite3 files before entries i d (omega arith)
+pub from_on : (settings : Asked) (files : List FileBytes) (before : List PlainTrack) (entries : List Entry) (i : ℕ) (d : Entry) → i < length entries
+    → readings_after settings files before (drop i entries)
+    ≡ (reading_after settings files before (get_or entries i d) >>= λ e. readings_after settings files (before ++ e ∷ []) (drop (suc i) entries))
+from_on settings files before [] i d below = absurd (omega arith)
+from_on settings files before (entry ∷ entries) zero d below = refl
+from_on settings files before (entry ∷ entries) (suc i) d below = from_on settings files before entries i d (omega arith)

@@ -67,33 +67,33 @@ folder_failed (input.Refused file line cause) failed is = absurd cc
 folder_failed (input.Limit fault) failed is = absurd cc
 
 -- more files than may be
-pub too_many : (entries asked : List Entry) → entries ≡ asked → 2000 < length entries → within_objects asked ≡ Err (status.Limit (Objects (length entries)))
-too_many entries asked same more =
-    let large : nat_le (length entries) 2000 ≡ false = grind (arith, nat_tests) in
+pub too_many : (most : ℕ) (entries asked : List Entry) → entries ≡ asked → most < length entries → within_objects most asked ≡ Err (status.Limit (Objects (length entries)))
+too_many most entries asked same more =
+    let large : nat_le (length entries) most ≡ false = grind (arith, nat_tests) in
     rw (← same, large) refl
 
 -- no more than may be
-pub few_enough : (entries asked : List Entry) → entries ≡ asked → length entries ≤ 2000 → within_objects asked ≡ Ok entries
-few_enough entries asked same few =
-    let small : nat_le (length entries) 2000 ≡ true = grind (arith, nat_tests) in
+pub few_enough : (most : ℕ) (entries asked : List Entry) → entries ≡ asked → length entries ≤ most → within_objects most asked ≡ Ok entries
+few_enough most entries asked same few =
+    let small : nat_le (length entries) most ≡ true = grind (arith, nat_tests) in
     rw (← same, small) refl
 
 -- the rest, once the files are known
 pub asked_of_entries : (files : List FileBytes) (settings : Asked) (entries : List Entry)
-    → within_objects (inputs_of settings.suffix settings.sizes (names_of files)) ≡ Ok entries
-    → case_asked files settings ≡ (readings_of settings.as_hermite3 files entries >>= λ es. sizes_asked files settings.sizes >>= λ sizes. within_limits (case_of_run settings es sizes))
+    → within_objects settings.limits.objects (inputs_of settings.suffix settings.sizes (names_of files)) ≡ Ok entries
+    → case_asked files settings ≡ (readings_of settings files entries >>= λ es. sizes_asked files settings.sizes >>= λ sizes. within_limits settings.limits.object_slots (case_of_run settings es sizes))
 unfolding case_asked
 asked_of_entries files settings entries taken = rw taken refl
 
 -- the files that are taken are not listed
 pub entries_fail : (rose : Type 0) (files : List FileBytes) (settings : Asked) (names : List Name) (s : Status) → names ≡ names_of files
-    → Stops ⊥ s (within_objects (inputs_of settings.suffix settings.sizes names)) → Stops rose s (case_asked files settings)
+    → Stops ⊥ s (within_objects settings.limits.objects (inputs_of settings.suffix settings.sizes names)) → Stops rose s (case_asked files settings)
 unfolding case_asked
 entries_fail rose files settings names s known stops =
-    stops_behind ⊥ rose s (within_objects (inputs_of settings.suffix settings.sizes (names_of files)))
-    (λ entries. readings_of settings.as_hermite3 files entries >>= λ es. sizes_asked files settings.sizes
-    >>= λ sizes. within_limits (case_of_run settings es sizes))
-    (λ none. absurd none) (subst (λ (ns : List Name). Stops ⊥ s (within_objects (inputs_of settings.suffix settings.sizes ns))) known stops)
+    stops_behind ⊥ rose s (within_objects settings.limits.objects (inputs_of settings.suffix settings.sizes (names_of files)))
+    (λ entries. readings_of settings files entries >>= λ es. sizes_asked files settings.sizes
+    >>= λ sizes. within_limits settings.limits.object_slots (case_of_run settings es sizes))
+    (λ none. absurd none) (subst (λ (ns : List Name). Stops ⊥ s (within_objects settings.limits.objects (inputs_of settings.suffix settings.sizes ns))) known stops)
 
 -- a reading that was given up, as the run's cause
 pub input_stops : {X A B : Type 0} (P Q : Type 0) (view : X → A) (why : InputError) (read : Result A Status) (f : A → Result B Status) → (P → Q)
@@ -105,40 +105,40 @@ input_stops {X} {A} {B} P Q view (input.Limit fault) read f rose here = ap (λ (
 
 -- a file is not read
 pub tracks_fail : {X : Type 0} (rose : Type 0) (view : X → List PlainTrack) (files : List FileBytes) (settings : Asked) (entries : List Entry) (why : InputError)
-    → within_objects (inputs_of settings.suffix settings.sizes (names_of files)) ≡ Ok entries
-    → Reads rose view (Err why) (readings_of settings.as_hermite3 files entries)
+    → within_objects settings.limits.objects (inputs_of settings.suffix settings.sizes (names_of files)) ≡ Ok entries
+    → Reads rose view (Err why) (readings_of settings files entries)
     → Stops rose (input_status why) (case_asked files settings)
 tracks_fail rose view files settings entries why taken read =
-    let rest : List PlainTrack → Result PlainProblem Status = λ es. sizes_asked files settings.sizes >>= λ sizes. within_limits (case_of_run settings es sizes) in
+    let rest : List PlainTrack → Result PlainProblem Status = λ es. sizes_asked files settings.sizes >>= λ sizes. within_limits settings.limits.object_slots (case_of_run settings es sizes) in
     rw (asked_of_entries files settings entries taken)
-    (input_stops rose rose view why (readings_of settings.as_hermite3 files entries) rest (λ risen. risen) read)
+    (input_stops rose rose view why (readings_of settings files entries) rest (λ risen. risen) read)
 
 -- the rest, once the tracks are read
 pub asked_of_tracks : (files : List FileBytes) (settings : Asked) (entries : List Entry) (es : List PlainTrack)
-    → within_objects (inputs_of settings.suffix settings.sizes (names_of files)) ≡ Ok entries
-    → readings_of settings.as_hermite3 files entries ≡ Ok es
-    → case_asked files settings ≡ (sizes_asked files settings.sizes >>= λ sizes. within_limits (case_of_run settings es sizes))
+    → within_objects settings.limits.objects (inputs_of settings.suffix settings.sizes (names_of files)) ≡ Ok entries
+    → readings_of settings files entries ≡ Ok es
+    → case_asked files settings ≡ (sizes_asked files settings.sizes >>= λ sizes. within_limits settings.limits.object_slots (case_of_run settings es sizes))
 asked_of_tracks files settings entries es taken read = asked_of_entries files settings entries taken ∙ rw read refl
 
 -- the file of sizes is not read
 pub sizes_fail : {X : Type 0} (later rose : Type 0) (view : X → List Size) (files : List FileBytes) (settings : Asked) (es : List PlainTrack) (why : InputError) → (later → rose)
-    → case_asked files settings ≡ (sizes_asked files settings.sizes >>= λ sizes. within_limits (case_of_run settings es sizes))
+    → case_asked files settings ≡ (sizes_asked files settings.sizes >>= λ sizes. within_limits settings.limits.object_slots (case_of_run settings es sizes))
     → Reads later view (Err why) (sizes_asked files settings.sizes)
     → Stops rose (input_status why) (case_asked files settings)
 sizes_fail later rose view files settings es why wider is read =
-    rw is (input_stops later rose view why (sizes_asked files settings.sizes) (λ sizes. within_limits (case_of_run settings es sizes)) wider read)
+    rw is (input_stops later rose view why (sizes_asked files settings.sizes) (λ sizes. within_limits settings.limits.object_slots (case_of_run settings es sizes)) wider read)
 
 -- the rest, once all is read
 pub asked_of_sizes : (files : List FileBytes) (settings : Asked) (es : List PlainTrack) (sizes : List Size)
-    → case_asked files settings ≡ (sizes_asked files settings.sizes >>= λ given. within_limits (case_of_run settings es given))
+    → case_asked files settings ≡ (sizes_asked files settings.sizes >>= λ given. within_limits settings.limits.object_slots (case_of_run settings es given))
     → sizes_asked files settings.sizes ≡ Ok sizes
-    → case_asked files settings ≡ within_limits (case_of_run settings es sizes)
+    → case_asked files settings ≡ within_limits settings.limits.object_slots (case_of_run settings es sizes)
 asked_of_sizes files settings es sizes is read = is ∙ rw read refl
 
 -- the case that is asked has this window and these radii
 pub case_made : (settings : Asked) (es : List PlainTrack) (sizes : List Size) (first last : ℕ) (radii : List ℕ)
     → first ≡ window_first settings es → last ≡ window_last settings es → radii ≡ object_sizes sizes es
-    → within_limits (case_of_run settings es sizes) ≡ within_limits (case_with es first last (settings.threshold * 1_000_000_000) radii)
+    → within_limits settings.limits.object_slots (case_of_run settings es sizes) ≡ within_limits settings.limits.object_slots (case_with es first last (settings.threshold * 1_000_000_000) radii)
 case_made settings es sizes first last radii starts ends sized = rw (starts, ends, sized) refl
 
 -- what a folder's error means for what is due
@@ -181,27 +181,27 @@ listing_failed folder.Failed failed is = failed refl
 -- ---- the limits of a case
 
 -- a window that is too long
-pub too_long : (case : PlainProblem) (length : ℕ) → length ≡ case.last - case.first → 1_209_600_000_000 < length
-    → within_limits case ≡ Err (status.Limit (Window length))
-too_long case length is more =
+pub too_long : (most : ℕ) (case : PlainProblem) (length : ℕ) → length ≡ case.last - case.first → 1_209_600_000_000 < length
+    → within_limits most case ≡ Err (status.Limit (Window length))
+too_long most case length is more =
     let large : nat_le length 1_209_600_000_000 ≡ false = grind (arith, nat_tests) in
     rw (← is, large) refl
 
 -- too many objects times slots
-pub too_many_slots : (case : PlainProblem) (length count : ℕ) → length ≡ case.last - case.first → length ≤ 1_209_600_000_000 → count ≡ object_slots case
-    → 4_000_000 < count
-    → within_limits case ≡ Err (status.Limit (Slots count))
-too_many_slots case length count is short same more =
+pub too_many_slots : (most : ℕ) (case : PlainProblem) (length count : ℕ) → length ≡ case.last - case.first → length ≤ 1_209_600_000_000 → count ≡ object_slots case
+    → most < count
+    → within_limits most case ≡ Err (status.Limit (Slots count))
+too_many_slots most case length count is short same more =
     let small : nat_le length 1_209_600_000_000 ≡ true = grind (arith, nat_tests) in
-    let large : nat_le count 4_000_000 ≡ false = grind (arith, nat_tests) in
+    let large : nat_le count most ≡ false = grind (arith, nat_tests) in
     rw (← is, small, ← same, large) refl
 
 -- neither
-pub no_limit : (case : PlainProblem) (length count : ℕ) → length ≡ case.last - case.first → length ≤ 1_209_600_000_000 → count ≡ object_slots case
-    → count ≤ 4_000_000 → within_limits case ≡ Ok case
-no_limit case length count is short same few =
+pub no_limit : (most : ℕ) (case : PlainProblem) (length count : ℕ) → length ≡ case.last - case.first → length ≤ 1_209_600_000_000 → count ≡ object_slots case
+    → count ≤ most → within_limits most case ≡ Ok case
+no_limit most case length count is short same few =
     let small : nat_le length 1_209_600_000_000 ≡ true = grind (arith, nat_tests) in
-    let fits : nat_le count 4_000_000 ≡ true = grind (arith, nat_tests) in
+    let fits : nat_le count most ≡ true = grind (arith, nat_tests) in
     rw (← is, small, ← same, fits) refl
 
 -- ---- the certificate and the report

@@ -7,6 +7,7 @@ use Rattle.cj_track.specs.PlainTracks.{PlainTrack}
 use Rattle.cj_track.specs.Tracks.{plain_track}
 use Rattle.cj_track.specs.declared.track.Track.{Track}
 use Rattle.cj_oem.specs.Reading.{reading}
+use Rattle.cj_words.specs.Settings.{Asked}
 use Rattle.cj_status.specs.declared.status.Status.{Status}
 use Rattle.cj_status.specs.Steps.{◌>>=◌}
 use Rattle.cj_inputs.specs.declared.batch.Batch.{Batch}
@@ -41,16 +42,16 @@ said_by as_hermite3 file = refused_of file.name.now (reading file.name.now file.
 abbrev pub AreParsed : Bool → List FileRead → List (Result Track InputError) → Type 0
 AreParsed as_hermite3 files readings = AllZip (Reads ⊥ plain_track) readings (map (said_by as_hermite3) files)
 
--- the ephemerides before, and these, or why the first that may not stand there is not taken
-abbrev pub tracks_after : List PlainTrack → List (Result PlainTrack Status) → Result (List PlainTrack) Status
-tracks_after before [] = Ok before
-tracks_after before (said ∷ more) = (said >>= λ e. checked_after before e.file e) >>= λ e. tracks_after (before ++ e ∷ []) more
+-- the ephemerides before, and these, or why the first that may not stand there is not taken, where all may have so many nodes
+abbrev pub tracks_after : ℕ → List PlainTrack → List (Result PlainTrack Status) → Result (List PlainTrack) Status
+tracks_after most before [] = Ok before
+tracks_after most before (said ∷ more) = (said >>= λ e. checked_after most before e.file e) >>= λ e. tracks_after most (before ++ e ∷ []) more
 
 -- it tells why these and what is behind them are not read, where `why` tells it of what is behind
-abbrev pub IsFirstCause : InputError → List PlainTrack → List (Result PlainTrack Status) → InputError → Type 0
-IsFirstCause why before said cause =
+abbrev pub IsFirstCause : ℕ → InputError → List PlainTrack → List (Result PlainTrack Status) → InputError → Type 0
+IsFirstCause most why before said cause =
     (behind : List PlainTrack → Result (List PlainTrack) Status) → ((es : List PlainTrack) → Reads ⊤ (λ (all : List PlainTrack). all) (Err why) (behind es))
-    → Reads ⊤ (λ (all : List PlainTrack). all) (Err cause) (tracks_after before said >>= behind)
+    → Reads ⊤ (λ (all : List PlainTrack). all) (Err cause) (tracks_after most before said >>= behind)
 
 -- tracks and batch are of no more than these files; where nothing stops the batch and files are left, it has some
 pub record Fits (entries : List Entry) (progress : Progress) : Type 0 where
@@ -58,13 +59,13 @@ pub record Fits (entries : List Entry) (progress : Progress) : Type 0 where
   pub some : progress.batch.stop ≡ None → length progress.taken.tracks.items < length entries → 0 < length progress.batch.files.items
 
 -- the first of these files are taken, what is left leads where all of them lead, and the batch was read of what is left
-pub record IsOnTheWay (as_hermite3 : Bool) (files : List FileBytes) (entries : List Entry) (progress : Progress) : Type 0 where
-  pub leads : readings_after as_hermite3 files (map plain_track progress.taken.tracks.items) (drop (length progress.taken.tracks.items) entries)
-      ≡ readings_of as_hermite3 files entries
+pub record IsOnTheWay (settings : Asked) (files : List FileBytes) (entries : List Entry) (progress : Progress) : Type 0 where
+  pub leads : readings_after settings files (map plain_track progress.taken.tracks.items) (drop (length progress.taken.tracks.items) entries)
+      ≡ readings_of settings files entries
   pub batch : IsBatchOf files (drop (length progress.taken.tracks.items) entries) progress.batch
 
 -- more of them are taken, or this is why the first that is not taken is not
-abbrev pub GoesOn : Bool → List FileBytes → List Entry → Result Progress InputError → Type 0
-GoesOn as_hermite3 files entries (Ok progress) = IsOnTheWay as_hermite3 files entries progress
-GoesOn as_hermite3 files entries (Err why) =
-    Reads ⊤ (λ (progress : Progress). map plain_track progress.taken.tracks.items) (Err why) (readings_of as_hermite3 files entries)
+abbrev pub GoesOn : Asked → List FileBytes → List Entry → Result Progress InputError → Type 0
+GoesOn settings files entries (Ok progress) = IsOnTheWay settings files entries progress
+GoesOn settings files entries (Err why) =
+    Reads ⊤ (λ (progress : Progress). map plain_track progress.taken.tracks.items) (Err why) (readings_of settings files entries)

@@ -17,9 +17,9 @@ use Rattle.cj_inputs.specs.InputFiles.{inputs_of}
 use Rattle.cj_inputs.specs.ObjectSizes.{sizes_asked, object_sizes}
 use Rattle.cj_inputs.specs.Windows.{window_first, window_last}
 
--- at most 2,000 objects
-abbrev pub within_objects : List Entry → Result (List Entry) Status
-within_objects entries = if nat_le (length entries) 2000 then Ok entries else Err (status.Limit (Objects (length entries)))
+-- at most so many objects
+abbrev pub within_objects : ℕ → List Entry → Result (List Entry) Status
+within_objects most entries = if nat_le (length entries) most then Ok entries else Err (status.Limit (Objects (length entries)))
 
 abbrev pub case_with : List PlainTrack → ℕ → ℕ → ℕ → List ℕ → PlainProblem
 case_with es first last threshold sizes = record { ephemerides = es; first = first; last = last; threshold = threshold; sizes = sizes }
@@ -35,18 +35,18 @@ within_window case = if nat_le (case.last - case.first) 1_209_600_000_000 then O
 abbrev pub object_slots : PlainProblem → ℕ
 object_slots case = length case.ephemerides * slot_count case.first case.last
 
--- at most 4,000,000 objects times slots
-abbrev pub within_slots : PlainProblem → Result PlainProblem Status
-within_slots case = if nat_le (object_slots case) 4_000_000 then Ok case else Err (status.Limit (Slots (object_slots case)))
+-- at most so many objects times slots
+abbrev pub within_slots : ℕ → PlainProblem → Result PlainProblem Status
+within_slots most case = if nat_le (object_slots case) most then Ok case else Err (status.Limit (Slots (object_slots case)))
 
 -- both
-abbrev pub within_limits : PlainProblem → Result PlainProblem Status
-within_limits case = within_window case >>= within_slots
+abbrev pub within_limits : ℕ → PlainProblem → Result PlainProblem Status
+within_limits most case = within_window case >>= within_slots most
 
 -- the case that is asked of the files, or the first cause for which there is none
 unfoldable pub case_asked : List FileBytes → Asked → Result PlainProblem Status
 case_asked files settings = do
-  entries ← within_objects (inputs_of settings.suffix settings.sizes (names_of files))
-  es ← readings_of settings.as_hermite3 files entries
+  entries ← within_objects settings.limits.objects (inputs_of settings.suffix settings.sizes (names_of files))
+  es ← readings_of settings files entries
   sizes ← sizes_asked files settings.sizes
-  within_limits (case_of_run settings es sizes)
+  within_limits settings.limits.object_slots (case_of_run settings es sizes)

@@ -5,6 +5,7 @@ use Rattle.cj_io.specs.Files.{bytes_of}
 use Rattle.cj_track.specs.PlainTracks.{PlainSegment, PlainTrack}
 use Rattle.cj_oem.specs.Metadata.{same_frame}
 use Rattle.cj_oem.specs.Reading.{Fault, reading}
+use Rattle.cj_words.specs.Settings.{Asked}
 use Rattle.cj_status.specs.declared.status.Status.{Status}
 use Rattle.cj_status.specs.declared.status.Status.TheVariants.{BadFile, Limit}
 use Rattle.cj_status.specs.declared.status.FileCause.TheVariants.{Oem, MixedFrames}
@@ -52,28 +53,29 @@ nodes_of ephemeris = sum_by state_count ephemeris.arcs
 abbrev pub nodes_in : List PlainTrack → ℕ
 nodes_in ephemerides = sum_by nodes_of ephemerides
 
--- an ephemeris that has, with those before it, at most 2,000,000 nodes
-abbrev pub within_nodes : List PlainTrack → PlainTrack → Result PlainTrack Status
-within_nodes before ephemeris =
-    if nat_le (nodes_in (before ++ ephemeris ∷ [])) 2_000_000 then Ok ephemeris else Err (Limit (limit.Nodes (nodes_in (before ++ ephemeris ∷ []))))
+-- an ephemeris that has, with those before it, at most so many nodes
+abbrev pub within_nodes : ℕ → List PlainTrack → PlainTrack → Result PlainTrack Status
+within_nodes most before ephemeris =
+    if nat_le (nodes_in (before ++ ephemeris ∷ [])) most then Ok ephemeris else Err (Limit (limit.Nodes (nodes_in (before ++ ephemeris ∷ []))))
 
--- an ephemeris that may stand behind those before it
-abbrev pub checked_after : List PlainTrack → List ℕ → PlainTrack → Result PlainTrack Status
-checked_after before name ephemeris = same_frame_as before name ephemeris >>= within_nodes before
+-- an ephemeris that may stand behind those before it, where all may have so many nodes
+abbrev pub checked_after : ℕ → List PlainTrack → List ℕ → PlainTrack → Result PlainTrack Status
+checked_after most before name ephemeris = same_frame_as before name ephemeris >>= within_nodes most before
 
 -- what a file is read as behind the files before it
-abbrev pub reading_after : Bool → List FileBytes → List PlainTrack → Entry → Result PlainTrack Status
-reading_after as_hermite3 files before entry = reading_of as_hermite3 entry.name (bytes_of files entry.number) >>= checked_after before entry.name
+abbrev pub reading_after : Asked → List FileBytes → List PlainTrack → Entry → Result PlainTrack Status
+reading_after settings files before entry =
+    reading_of settings.as_hermite3 entry.name (bytes_of files entry.number) >>= checked_after settings.limits.nodes before entry.name
 
 -- the ephemerides before, and those of these files, or why the first of them that is not read is not
-abbrev pub readings_after : Bool → List FileBytes → List PlainTrack → List Entry → Result (List PlainTrack) Status
-readings_after as_hermite3 files before [] = Ok before
-readings_after as_hermite3 files before (entry ∷ entries) =
-    reading_after as_hermite3 files before entry >>= λ ephemeris. readings_after as_hermite3 files (before ++ ephemeris ∷ []) entries
+abbrev pub readings_after : Asked → List FileBytes → List PlainTrack → List Entry → Result (List PlainTrack) Status
+readings_after settings files before [] = Ok before
+readings_after settings files before (entry ∷ entries) =
+    reading_after settings files before entry >>= λ ephemeris. readings_after settings files (before ++ ephemeris ∷ []) entries
 
 -- the ephemerides of the files that are taken, or why the first that is not read is not
-abbrev pub readings_of : Bool → List FileBytes → List Entry → Result (List PlainTrack) Status
-readings_of as_hermite3 files entries = readings_after as_hermite3 files [] entries
+abbrev pub readings_of : Asked → List FileBytes → List Entry → Result (List PlainTrack) Status
+readings_of settings files entries = readings_after settings files [] entries
 
 -- What a reader gives, seen by `view`, is what was expected. It gives up for want of memory, for a fault of the folder, for the refusal of a
 -- file, or for a limit.

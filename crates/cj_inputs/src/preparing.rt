@@ -1,5 +1,6 @@
 //! From the settings and a folder to the problem that is to be screened.
 ghost use Rattle.std.specs.Prelude.{◌≡◌, ◌<◌, ◌≤◌, ◌^◌, List, Some, Err, IfErr, IfOk, All, map, length};
+ghost use Rattle.cj_values.specs.Bounds.{MOST_OBJECTS};
 ghost use Rattle.std.specs.Option.{option_copied};
 ghost use Rattle.cj_io.specs.Faults.{Rose};
 ghost use Rattle.cj_io.specs.Files.{names_of};
@@ -24,18 +25,13 @@ use cj_sizes::SizeLine;
 use cj_status::{LimitFault, Status};
 use cj_ticks::Window;
 use cj_track::Track;
+use cj_values::Limits;
 use cj_words::Settings;
 use std::alloc::Global;
 use std::thread::Threads;
 
-/// The greatest number of objects.
-const MAX_OBJECTS: usize = 2000;
-
 /// The greatest length of a window in ticks: fourteen days.
 const MAX_LENGTH: u64 = 1_209_600_000_000;
-
-/// The greatest number of objects times slots.
-const MAX_SLOTS: u64 = 4_000_000;
 
 /// Reads the files that are taken and the sizes of their objects, and puts them with the window and the threshold that are asked for.
 /// The files are parsed by so many workers.
@@ -80,27 +76,23 @@ pub fn prepare_listed<R: Threads + Sync, F: Folder>(
     ensures files { F.files folder.new ≡ F.files folder.old }
     ensures later { F.faults folder.old ≤ F.faults folder.new }
 {
-    let entries = list_few_inputs(alloc, names, settings.suffix, settings.sizes)?;
-    let tracks = read_tracks(rt, alloc, folder, &entries, settings.as_hermite3, workers)?;
+    let entries = list_few_inputs(alloc, names, settings)?;
+    let tracks = read_tracks(rt, alloc, folder, &entries, settings, workers)?;
     let lines = read_size_lines(alloc, folder, names, settings.sizes)?;
     problem_of(alloc, settings, tracks, &lines)
 }
 
 /// The files that are taken of those with these names, where there are not too many.
-fn list_few_inputs(
-    alloc: Global,
-    names: &[Name],
-    suffix: &[u8],
-    sizes: Option<&[u8]>,
-) -> Result<Vec<Entry>, Status>
+fn list_few_inputs(alloc: Global, names: &[Name], settings: &Settings) -> Result<Vec<Entry>, Status>
     requires { length names.now < 2 ^ 32 }
     ensures between { IfErr result ComesBetween }
-    ensures told { Gives ⊥ (λ entries. entries.items) result (spec.within_objects (inputs_of suffix.now (option_copied sizes.entry) names.now)) }
-    ensures few { IfOk result (λ entries. length entries.items ≤ 2000) }
+    ensures told { Gives ⊥ (λ entries. entries.items) result
+        (spec.within_objects settings.now.limits.objects (inputs_of settings.now.suffix.now (option_copied settings.now.sizes) names.now)) }
+    ensures few { IfOk result (λ entries. length entries.items ≤ MOST_OBJECTS) }
     ensures numbers { IfOk result (λ entries. All (λ entry. entry.number < length names.now) entries.items) }
 {
-    let entries = list_inputs(alloc, names, suffix, sizes)?;
-    if entries.len() > MAX_OBJECTS {
+    let entries = list_inputs(alloc, names, settings.suffix, settings.sizes)?;
+    if entries.len() > settings.limits.objects as usize {
         return Err(too_many_objects(entries.len() as u32));
     }
     Ok(entries)
@@ -119,16 +111,17 @@ fn problem_of(
     tracks: Vec<Track>,
     lines: &[SizeLine],
 ) -> Result<Problem, Status>
-    requires few { length tracks.items ≤ 2000 }
+    requires few { length tracks.items ≤ MOST_OBJECTS }
     requires frame { HaveOneFrame tracks.items }
     requires nodes { AreFewNodes tracks.items }
     ensures between { IfErr result ComesBetween }
     ensures told { Gives ⊥ plain_problem result
-        (spec.within_limits (spec.case_of_run (asked_of settings.now) (map plain_track tracks.items) (sizes_of lines.now))) }
+        (spec.within_limits settings.now.limits.object_slots (spec.case_of_run (asked_of settings.now) (map plain_track tracks.items) (sizes_of lines.now))) }
 {
     let sizes = sizes_of_tracks(alloc, lines, &tracks)?;
     let window = window_of(settings, &tracks);
-    make_problem(tracks, sizes, window, settings.threshold * 1_000_000_000)
+    let threshold = settings.threshold * 1_000_000_000;
+    make_problem(tracks, sizes, window, threshold, settings.limits)
 }
 
 /// The problem of these tracks, whose objects have these sizes, where its window is within the limits.
@@ -137,22 +130,24 @@ fn make_problem(
     sizes: Sizes,
     window: Window,
     threshold: u64,
+    limits: Limits,
 ) -> Result<Problem, Status>
-    requires few { length tracks.items ≤ 2000 }
+    requires few { length tracks.items ≤ MOST_OBJECTS }
     requires frame { HaveOneFrame tracks.items }
     requires nodes { AreFewNodes tracks.items }
     requires sized { length sizes ≡ length tracks.items }
     requires least { 10 ^ 9 ≤ threshold }
     requires most { threshold ≤ 10 ^ 15 }
     ensures limit { IfErr result IsLimit }
-    ensures told { Gives ⊥ plain_problem result (spec.within_limits (spec.case_with (map plain_track tracks.items) window.first.micros window.last.micros threshold sizes)) }
+    ensures told { Gives ⊥ plain_problem result
+        (spec.within_limits limits.object_slots (spec.case_with (map plain_track tracks.items) window.first.micros window.last.micros threshold sizes)) }
 {
     let length = window.last.micros.saturating_sub(window.first.micros);
     if length > MAX_LENGTH {
         return Err(Status::Limit(LimitFault::Window { length }));
     }
     let count = tracks.len() as u64 * u64::from(slot_count(window));
-    if count > MAX_SLOTS {
+    if count > limits.object_slots {
         return Err(Status::Limit(LimitFault::Slots { count }));
     }
     Ok(Problem {

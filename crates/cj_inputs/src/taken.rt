@@ -1,5 +1,6 @@
 //! Tracks that are taken together.
 ghost use Rattle.std.specs.Prelude.{◌≡◌, ◌<◌, ◌≤◌, ◌+◌, ◌++◌, ◌∷◌, ◌^◌, [], map, IfOk, OnOk, true};
+ghost use Rattle.cj_values.specs.Bounds.{MOST_NODES};
 ghost use Rattle.cj_hermite.specs.CaseLimits.{node_total};
 ghost use Rattle.cj_hermite.specs.Frames.{HaveOneFrame};
 ghost use Rattle.cj_track.specs.Segments.{node_count as the_count};
@@ -11,12 +12,10 @@ use crate::reading::InputError;
 use cj_io::Name;
 use cj_status::{FileCause, LimitFault};
 use cj_track::Track;
+use cj_values::Limits;
 use std::alloc::{AllocError, Global};
 
-/// The greatest number of nodes of all files.
-const MAX_NODES: u64 = 2_000_000;
-
-/// Tracks that are taken: of one frame, with at most 2,000,000 nodes.
+/// Tracks that are taken, of one frame.
 #[derive(Drop)]
 pub struct Taken {
     pub tracks: Vec<Track>,
@@ -24,7 +23,7 @@ pub struct Taken {
     pub nodes: u64,
     pub ghost frame: { HaveOneFrame tracks.items },
     pub ghost counted: { nodes ≡ node_total tracks.items },
-    pub ghost few: { nodes ≤ 2_000_000 },
+    pub ghost few: { nodes ≤ MOST_NODES },
 }
 
 impl Taken {
@@ -39,12 +38,13 @@ impl Taken {
     }
 
     /// These and one more, where it may stand behind them.
-    pub fn with(self, alloc: Global, track: Track) -> Result<Self, InputError>
-        ensures told { Reads ⊥ (λ taken. plain_track track) result (spec.checked_after (map plain_track self.tracks.items) track.file (plain_track track)) }
+    pub fn with(self, alloc: Global, track: Track, limits: Limits) -> Result<Self, InputError>
+        ensures told { Reads ⊥ (λ taken. plain_track track) result
+            (spec.checked_after limits.nodes (map plain_track self.tracks.items) track.file (plain_track track)) }
         ensures more { IfOk result (λ taken. taken.tracks.items ≡ self.tracks.items ++ track ∷ []) }
     {
         let nodes = self.nodes + node_count(&track);
-        check_limits(alloc, &self.tracks, &track, nodes)?;
+        check_limits(alloc, &self.tracks, &track, nodes, limits)?;
         let mut tracks = self.tracks;
         tracks.push(track)?;
         Ok(Taken { tracks, nodes })
@@ -69,12 +69,13 @@ fn check_limits(
     before: &[Track],
     track: &Track,
     nodes: u64,
+    limits: Limits,
 ) -> Result<(), InputError>
     requires { nodes ≡ node_total before.now + the_count track.now.segments }
     ensures told { Reads ⊥ (λ done. plain_track track.now) result
-        (spec.checked_after (map plain_track before.now) track.now.file (plain_track track.now)) }
+        (spec.checked_after limits.nodes (map plain_track before.now) track.now.file (plain_track track.now)) }
     ensures frame { OnOk result (spec.has_frame_of (map plain_track before.now) (plain_track track.now) ≡ true) }
-    ensures nodes { OnOk result (nodes ≤ 2_000_000) }
+    ensures nodes { OnOk result (nodes ≤ limits.nodes) }
 {
     if !has_frame_of(before, track) {
         return Err(InputError::Refused {
@@ -83,7 +84,7 @@ fn check_limits(
             cause: FileCause::MixedFrames,
         });
     }
-    if nodes > MAX_NODES {
+    if nodes > limits.nodes {
         return Err(InputError::Limit(LimitFault::Nodes { count: nodes }));
     }
     Ok(())

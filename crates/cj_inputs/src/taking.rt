@@ -7,6 +7,7 @@ ghost use Rattle.cj_hermite.specs.CaseLimits.{AreFewNodes};
 ghost use Rattle.cj_hermite.specs.Frames.{HaveOneFrame};
 ghost use Rattle.cj_track.specs.PlainTracks.{PlainTrack};
 ghost use Rattle.cj_track.specs.Tracks.{plain_track};
+ghost use Rattle.cj_words.specs.Settings.{asked_of};
 ghost use Rattle.cj_status.specs.declared.status.Status.{Status};
 ghost use Rattle.cj_inputs.specs.Batches.{Fits, GoesOn, IsBatchOf, IsFirstCause, IsOnTheWay, said_by, tracks_after};
 ghost use Rattle.cj_inputs.specs.Readings.{Reads, readings_of};
@@ -21,6 +22,8 @@ use crate::reading::InputError;
 use crate::taken::Taken;
 use cj_io::Folder;
 use cj_track::Track;
+use cj_values::Limits;
+use cj_words::Settings;
 use std::alloc::{AllocError, Global};
 use std::thread::Threads;
 
@@ -30,14 +33,15 @@ pub fn read_tracks<R: Threads + Sync, F: Folder>(
     alloc: Global,
     folder: &mut F,
     entries: &[Entry],
-    as_hermite3: bool,
+    settings: &Settings<'_>,
     workers: u32,
 ) -> Result<Vec<Track>, InputError>
     requires numbers { All (λ entry. entry.number < F.count folder.old) entries.now }
 
     ensures fault { result ≡ Err InputError.Failed → Rose (F.faults folder.old) (F.faults folder.new) }
     ensures told { (files : List FileBytes) → F.files folder.old ≡ Some files
-        → Reads (Rose (F.faults folder.old) (F.faults folder.new)) (λ tracks. map plain_track tracks.items) result (readings_of as_hermite3 files entries.now) }
+        → Reads (Rose (F.faults folder.old) (F.faults folder.new)) (λ tracks. map plain_track tracks.items) result
+        (readings_of (asked_of settings.now) files entries.now) }
 
     ensures many { IfOk result (λ tracks. length tracks.items ≡ length entries.now) }
     ensures frame { IfOk result (λ tracks. HaveOneFrame tracks.items) }
@@ -51,7 +55,7 @@ pub fn read_tracks<R: Threads + Sync, F: Folder>(
     let batch = read_batch(alloc, folder, entries, workers, 0)?;
     let mut progress = Progress { taken, batch };
     while progress.taken.tracks.len() < entries.len() {
-        progress = go_on(rt, alloc, folder, progress, entries, as_hermite3, workers)?;
+        progress = go_on(rt, alloc, folder, progress, entries, settings, workers)?;
     }
     drop(progress.batch);
     Ok(progress.taken.tracks)
@@ -65,7 +69,7 @@ fn go_on<'a, R: Threads + Sync, F: Folder>(
     folder: &mut F,
     progress: Progress<'a>,
     entries: &'a [Entry],
-    as_hermite3: bool,
+    settings: &Settings<'_>,
     workers: u32,
 ) -> Result<Progress<'a>, InputError>
     requires numbers { All (λ entry. entry.number < F.count folder.old) entries.now }
@@ -74,8 +78,8 @@ fn go_on<'a, R: Threads + Sync, F: Folder>(
 
     ensures stopped { result ≡ Err InputError.Failed → progress.entry.batch.stop ≡ Some InputError.Failed }
     ensures fault { IfOk result (λ next. next.batch.stop ≡ Some InputError.Failed → Rose (F.faults folder.old) (F.faults folder.new)) }
-    ensures told { (files : List FileBytes) → F.files folder.old ≡ Some files → IsOnTheWay as_hermite3 files entries.now progress.entry
-        → GoesOn as_hermite3 files entries.now result }
+    ensures told { (files : List FileBytes) → F.files folder.old ≡ Some files → IsOnTheWay (asked_of settings.now) files entries.now progress.entry
+        → GoesOn (asked_of settings.now) files entries.now result }
 
     ensures more { IfOk result (λ next. length progress.entry.taken.tracks.items < length next.taken.tracks.items) }
     ensures fits { IfOk result (Fits entries.now) }
@@ -89,10 +93,10 @@ fn go_on<'a, R: Threads + Sync, F: Folder>(
         batch: Batch { files, stop },
     } = progress;
     if let Some(why) = stop {
-        return Err(first_cause(rt, alloc, taken, &files, why, as_hermite3, workers));
+        return Err(first_cause(rt, alloc, taken, &files, why, settings, workers));
     }
     let rest = &entries[taken.tracks.len() + files.len()..];
-    take_and_read(rt, alloc, folder, taken, files, rest, as_hermite3, workers)
+    take_and_read(rt, alloc, folder, taken, files, rest, settings, workers)
 }
 
 /// Why one of these files is not taken, or else why the next was not read.
@@ -102,13 +106,13 @@ fn first_cause<R: Threads + Sync>(
     taken: Taken,
     files: &[FileRead<'_>],
     why: InputError,
-    as_hermite3: bool,
+    settings: &Settings<'_>,
     workers: u32,
 ) -> InputError
     ensures failed { result ≡ InputError.Failed → why ≡ InputError.Failed }
-    ensures told { IsFirstCause why (map plain_track taken.tracks.items) (map (said_by as_hermite3) files.now) result }
+    ensures told { IsFirstCause settings.now.limits.nodes why (map plain_track taken.tracks.items) (map (said_by settings.now.as_hermite3) files.now) result }
 {
-    match take_files(rt, alloc, taken, files, as_hermite3, workers) {
+    match take_files(rt, alloc, taken, files, settings, workers) {
         Ok(all) => {
             drop(all);
             why
@@ -128,13 +132,13 @@ fn take_and_read<'a, R: Threads + Sync, F: Folder>(
     taken: Taken,
     files: Vec<FileRead<'_>>,
     rest: &'a [Entry],
-    as_hermite3: bool,
+    settings: &Settings<'_>,
     workers: u32,
 ) -> Result<Progress<'a>, InputError>
     requires numbers { All (λ entry. entry.number < F.count folder.old) rest.now }
 
     ensures taken { Reads ⊥ (λ next. map plain_track next.taken.tracks.items) result
-        (tracks_after (map plain_track taken.tracks.items) (map (said_by as_hermite3) files.entry.items)) }
+        (tracks_after settings.now.limits.nodes (map plain_track taken.tracks.items) (map (said_by settings.now.as_hermite3) files.entry.items)) }
 
     ensures fault { IfOk result (λ next. next.batch.stop ≡ Some InputError.Failed → Rose (F.faults folder.old) (F.faults folder.new)) }
     ensures told { (told : List FileBytes) → F.files folder.old ≡ Some told → IfOk result (λ next. IsBatchOf told rest.now next.batch) }
@@ -147,13 +151,21 @@ fn take_and_read<'a, R: Threads + Sync, F: Folder>(
 {
     if workers < 2 {
         let before = files.len();
-        let taken = take_and_drop(rt, alloc, taken, files, as_hermite3, workers)?;
+        let taken = take_and_drop(rt, alloc, taken, files, settings, workers)?;
         let batch = read_batch(alloc, folder, rest, workers, before)?;
         return Ok(Progress { taken, batch });
     }
-    let (readings, batch) = parse_and_read(rt, alloc, folder, &files, rest, as_hermite3, workers);
+    let (readings, batch) = parse_and_read(
+        rt,
+        alloc,
+        folder,
+        &files,
+        rest,
+        settings.as_hermite3,
+        workers,
+    );
     drop(files);
-    with_batch(take_all(alloc, taken, readings), batch)
+    with_batch(take_all(alloc, taken, readings, settings.limits), batch)
 }
 
 /// Tracks that were taken, with the next batch.
@@ -183,13 +195,13 @@ fn take_and_drop<R: Threads + Sync>(
     alloc: Global,
     taken: Taken,
     files: Vec<FileRead<'_>>,
-    as_hermite3: bool,
+    settings: &Settings<'_>,
     workers: u32,
 ) -> Result<Taken, InputError>
     ensures { Reads ⊥ (λ all. map plain_track all.tracks.items) result
-        (tracks_after (map plain_track taken.tracks.items) (map (said_by as_hermite3) files.entry.items)) }
+        (tracks_after settings.now.limits.nodes (map plain_track taken.tracks.items) (map (said_by settings.now.as_hermite3) files.entry.items)) }
 {
-    let all = take_files(rt, alloc, taken, &files, as_hermite3, workers);
+    let all = take_files(rt, alloc, taken, &files, settings, workers);
     drop(files);
     all
 }
@@ -200,16 +212,17 @@ fn take_files<R: Threads + Sync>(
     alloc: Global,
     taken: Taken,
     files: &[FileRead<'_>],
-    as_hermite3: bool,
+    settings: &Settings<'_>,
     workers: u32,
 ) -> Result<Taken, InputError>
     ensures { Reads ⊥ (λ all. map plain_track all.tracks.items) result
-        (tracks_after (map plain_track taken.tracks.items) (map (said_by as_hermite3) files.now)) }
+        (tracks_after settings.now.limits.nodes (map plain_track taken.tracks.items) (map (said_by settings.now.as_hermite3) files.now)) }
 {
     take_all(
         alloc,
         taken,
-        parse_files(rt, alloc, files, as_hermite3, workers),
+        parse_files(rt, alloc, files, settings.as_hermite3, workers),
+        settings.limits,
     )
 }
 
@@ -218,12 +231,13 @@ fn take_all(
     alloc: Global,
     mut taken: Taken,
     readings: Result<Vec<Result<Track, InputError>>, AllocError>,
+    limits: Limits,
 ) -> Result<Taken, InputError>
     ensures { (said : List (Result PlainTrack Status)) → IfOk readings (λ all. AllZip (Reads ⊥ plain_track) all.items said)
-        → Reads ⊥ (λ all. map plain_track all.tracks.items) result (tracks_after (map plain_track taken.tracks.items) said) }
+        → Reads ⊥ (λ all. map plain_track all.tracks.items) result (tracks_after limits.nodes (map plain_track taken.tracks.items) said) }
 {
     for reading in readings? {
-        taken = taken.with(alloc, reading?)?;
+        taken = taken.with(alloc, reading?, limits)?;
     }
     Ok(taken)
 }

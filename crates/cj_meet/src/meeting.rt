@@ -1,4 +1,5 @@
 ghost use Rattle.std.specs.Prelude.{◌≡◌, ◌+◌, ◌<◌, ◌≤◌, ◌==◌, ◌&&◌, false, List, [], ◌∷◌, ◌++◌, length, if◌then◌else◌, IfOk, OnOk, All};
+ghost use Rattle.cj_values.specs.Bounds.{MOST_LEAVES};
 ghost use Rattle.cj_bezier.specs.Leaves.{PlainLeaf, plain_leaf, plain_leaves};
 ghost use Rattle.cj_bezier.specs.declared.encounter.Mark.TheVariants as Mark;
 ghost use Rattle.cj_bezier.specs.Order.{AreInOrder, HaveTicks};
@@ -11,7 +12,7 @@ use std::alloc::{AllocError, Global};
 /// The encounters of the leaves of a run, in order of pair and time. The only error is want of memory.
 pub fn encounters(alloc: Global, leaves: &[Leaf]) -> Result<Vec<Encounter>, AllocError>
     requires in_order { AreInOrder (plain_leaves leaves.now) }
-    requires few { length leaves.now ≤ 4_000_000 }
+    requires few { length leaves.now ≤ MOST_LEAVES }
 
     ensures groups { IfOk result (λ es.
         groups_in (plain_leaves leaves.now) es.items ≡ encounters_of (plain_leaves leaves.now)) }
@@ -29,7 +30,7 @@ pub fn encounters(alloc: Global, leaves: &[Leaf]) -> Result<Vec<Encounter>, Allo
 
 // Adds the leaf that comes after so many others, if it is not far.
 fn add(found: &mut Vec<Encounter>, leaf: &Leaf, at: u32) -> Result<(), AllocError>
-    requires room { at < 4_000_000 }
+    requires room { at < MOST_LEAVES }
     requires within { All (λ e. e.past ≤ at) found.old.items }
     ensures within { OnOk result (All (λ e. e.past ≤ at + 1) found.new.items) }
     // Whatever stretches come before it, if these are their encounters.
@@ -51,7 +52,7 @@ fn add_marked(
     mark: Mark,
     at: u32,
 ) -> Result<(), AllocError>
-    requires room { at < 4_000_000 }
+    requires room { at < MOST_LEAVES }
     requires within { All (λ e. e.past ≤ at) found.old.items }
     requires not_far { is_far (plain_leaf leaf.now) ≡ false }
     requires marked { mark ≡ mark_of (plain_leaf leaf.now ∷ []) }
@@ -105,7 +106,7 @@ fn extended(last: &Encounter, leaf: &Leaf, mark: Mark, past: u32) -> Encounter
 
 // The encounter that begins with this leaf.
 fn begun(leaf: &Leaf, mark: Mark, at: u32) -> Encounter
-    requires { at < 4_000_000 }
+    requires { at < MOST_LEAVES }
     ensures cell { (result.pair ≡ leaf.now.cell.pair) × (result.first ≡ leaf.now.cell.first) × (result.last ≡ leaf.now.cell.last) }
     ensures place { (result.leaf ≡ at) × (result.past ≡ at + 1) }
     ensures mark { result.mark ≡ mark }

@@ -218,40 +218,40 @@ none_taken settings name files later apart others = passing_alike (takes setting
 
 -- ---- what they are read as
 
-abbrev files_after : Bool → List PlainTrack → List FileBytes → Result (List PlainTrack) Status
-files_after as_hermite3 before [] = Ok before
-files_after as_hermite3 before (file ∷ files) =
-    (reading_of as_hermite3 file.name file.bytes >>= checked_after before file.name) >>= λ e. files_after as_hermite3 (before ++ e ∷ []) files
+abbrev files_after : Asked → List PlainTrack → List FileBytes → Result (List PlainTrack) Status
+files_after settings before [] = Ok before
+files_after settings before (file ∷ files) =
+    (reading_of settings.as_hermite3 file.name file.bytes >>= checked_after settings.limits.nodes before file.name) >>= λ e. files_after settings (before ++ e ∷ []) files
 
-readings_by_files : (as_hermite3 : Bool) (all : List FileBytes) (before : List PlainTrack) (entries : List Entry)
-    → readings_after as_hermite3 all before entries ≡ files_after as_hermite3 before (map (file_of all) entries)
-readings_by_files as_hermite3 all before [] = refl
-readings_by_files as_hermite3 all before (entry ∷ entries) =
-    each (reading_after as_hermite3 all before entry) (λ e. readings_by_files as_hermite3 all (before ++ e ∷ []) entries)
+readings_by_files : (settings : Asked) (all : List FileBytes) (before : List PlainTrack) (entries : List Entry)
+    → readings_after settings all before entries ≡ files_after settings before (map (file_of all) entries)
+readings_by_files settings all before [] = refl
+readings_by_files settings all before (entry ∷ entries) =
+    each (reading_after settings all before entry) (λ e. readings_by_files settings all (before ++ e ∷ []) entries)
   where
     one : PlainTrack → Result (List PlainTrack) Status
-    one e = readings_after as_hermite3 all (before ++ e ∷ []) entries
+    one e = readings_after settings all (before ++ e ∷ []) entries
 
     other : PlainTrack → Result (List PlainTrack) Status
-    other e = files_after as_hermite3 (before ++ e ∷ []) (map (file_of all) entries)
+    other e = files_after settings (before ++ e ∷ []) (map (file_of all) entries)
 
     each : (r : Result PlainTrack Status) → ((e : PlainTrack) → one e ≡ other e) → (r >>= one) ≡ (r >>= other)
     each (Ok e) same = same e
     each (Err s) same = refl
 
-abbrev within_files : List FileBytes → Result (List FileBytes) Status
-within_files files = if nat_le (length files) 2000 then Ok files else Err (status.Limit (Objects (length files)))
+abbrev within_files : ℕ → List FileBytes → Result (List FileBytes) Status
+within_files most files = if nat_le (length files) most then Ok files else Err (status.Limit (Objects (length files)))
 
 -- the case that is made of the files that are taken, in order, and of sizes
-abbrev case_in : {S : Type 0} → (List PlainTrack → S → PlainProblem) → Bool → List FileBytes → Result S Status → Result PlainProblem Status
-case_in made as_hermite3 taken sizes =
-    within_files taken >>= λ files. files_after as_hermite3 [] files >>= λ es. sizes >>= λ given. within_limits (made es given)
+abbrev case_in : {S : Type 0} → (List PlainTrack → S → PlainProblem) → Asked → List FileBytes → Result S Status → Result PlainProblem Status
+case_in made settings taken sizes =
+    within_files settings.limits.objects taken >>= λ files. files_after settings [] files >>= λ es. sizes >>= λ given. within_limits settings.limits.object_slots (made es given)
 
 -- as many entries as files are within the limit where these are
-within_alike : {A : Type 0} (entries : List Entry) (files : List FileBytes) (f : List Entry → Result A Status) (g : List FileBytes → Result A Status)
-    → length entries ≡ length files → f entries ≡ g files → (within_objects entries >>= f) ≡ (within_files files >>= g)
-within_alike entries files f g many same =
-    chosen (nat_le (length entries) 2000) ∙ ap (λ (n : ℕ). cond (nat_le n 2000) (Ok files) (Err (status.Limit (Objects n))) >>= g) many
+within_alike : {A : Type 0} (most : ℕ) (entries : List Entry) (files : List FileBytes) (f : List Entry → Result A Status) (g : List FileBytes → Result A Status)
+    → length entries ≡ length files → f entries ≡ g files → (within_objects most entries >>= f) ≡ (within_files most files >>= g)
+within_alike most entries files f g many same =
+    chosen (nat_le (length entries) most) ∙ ap (λ (n : ℕ). cond (nat_le n most) (Ok files) (Err (status.Limit (Objects n))) >>= g) many
   where
     chosen : (b : Bool) → (cond b (Ok entries) (Err (status.Limit (Objects (length entries)))) >>= f)
         ≡ (cond b (Ok files) (Err (status.Limit (Objects (length entries)))) >>= g)
@@ -260,17 +260,17 @@ within_alike entries files f g many same =
 
 asked_by_files : (settings : Asked) (files : List FileBytes)
     → case_asked files settings
-    ≡ case_in (case_of_run settings) settings.as_hermite3 (sorted by_name (filter (takes settings.suffix settings.sizes) files))
+    ≡ case_in (case_of_run settings) settings (sorted by_name (filter (takes settings.suffix settings.sizes) files))
     (sizes_asked files settings.sizes)
 unfolding case_asked
 asked_by_files settings files =
     let entries = inputs_of settings.suffix settings.sizes (names_of files) in
     let sizes = sizes_asked files settings.sizes in
-    let rest : List PlainTrack → Result PlainProblem Status = λ es. sizes >>= λ given. within_limits (case_of_run settings es given) in
-    within_alike entries (map (file_of files) entries) (λ es. readings_of settings.as_hermite3 files es >>= rest)
-    (λ fs. files_after settings.as_hermite3 [] fs >>= rest) (sym (length-map entries (file_of files)))
-    (ap (λ (r : Result (List PlainTrack) Status). r >>= rest) (readings_by_files settings.as_hermite3 files [] entries))
-    ∙ ap (λ (taken : List FileBytes). case_in (case_of_run settings) settings.as_hermite3 taken sizes) (files_taken settings.suffix settings.sizes files)
+    let rest : List PlainTrack → Result PlainProblem Status = λ es. sizes >>= λ given. within_limits settings.limits.object_slots (case_of_run settings es given) in
+    within_alike settings.limits.objects entries (map (file_of files) entries) (λ es. readings_of settings files es >>= rest)
+    (λ fs. files_after settings [] fs >>= rest) (sym (length-map entries (file_of files)))
+    (ap (λ (r : Result (List PlainTrack) Status). r >>= rest) (readings_by_files settings files [] entries))
+    ∙ ap (λ (taken : List FileBytes). case_in (case_of_run settings) settings taken sizes) (files_taken settings.suffix settings.sizes files)
 
 -- the case that is asked is the same
 pub asked_again : (settings : Asked) (name bytes : List ℕ) (files later : List FileBytes) → IsNoInput settings name → HoldAlso name bytes files later
@@ -279,7 +279,7 @@ asked_again settings name bytes files later apart hold =
     let taken = none_taken settings name files later apart hold.others in
     let sizes = sizes_again settings.sizes name files later apart.sizes hold.others in
     asked_by_files settings later
-    ∙ (λ i. case_in (case_of_run settings) settings.as_hermite3 (sorted by_name (taken i)) (sizes i))
+    ∙ (λ i. case_in (case_of_run settings) settings (sorted by_name (taken i)) (sizes i))
     ∙ sym (asked_by_files settings files)
 
 -- ---- the certificate

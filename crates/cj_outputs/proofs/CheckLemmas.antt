@@ -4,6 +4,7 @@ use Rattle.std.specs.Prelude.{IfSome}
 use Rattle.std.specs.List.{enumerate_from, cons_option, filter_map, flat_map}
 use Rattle.std.proofs.lemmas.List.{length-append, length-map}
 use Rattle.std.proofs.lemmas.List.FromFn.{length-enumerate_from, length-range_with_len}
+use Rattle.cj_values.specs.Bounds.{MOST_LEAVES, MOST_OBJECTS, MOST_OBJECT_SLOTS}
 use Rattle.cj_track.specs.PlainTracks.{PlainTrack}
 use Rattle.cj_io.specs.declared.file.FileBytes.{FileBytes}
 use Rattle.cj_track.specs.Tracks.{plain_track}
@@ -42,7 +43,7 @@ boxes_few case n (e ∷ es) =
     let here = filtered_few (λ slot. line_in_slot case (n, e) slot) (slots_of case) in
     omega (arith, length-append (box_lines case (n, e)) (flat_map (box_lines case) (enumerate_from (n + 1) es)), here, boxes_few case (n + 1) es)
 
-pub written_few : (case : PlainProblem) → length case.ephemerides ≤ 2000 → length case.ephemerides * slot_count case.first case.last ≤ 4_000_000 → length (list_looked case) ≤ 4_000_000
+pub written_few : (case : PlainProblem) → length case.ephemerides ≤ MOST_OBJECTS → length case.ephemerides * slot_count case.first case.last ≤ MOST_OBJECT_SLOTS → length (list_looked case) ≤ MOST_LEAVES
     → line_count (written case) < 2 ^ 32 - 5
 unfolding written
 written_few case few slots leaves =
@@ -67,10 +68,10 @@ found_few found are =
     let case = case_in found in
     let problem = found.problem in
     let objects : length case.ephemerides ≡ length problem.tracks = length-map problem.tracks plain_track in
-    let few : length case.ephemerides ≤ 2000 = omega (arith, objects, problem.few) in
-    let slots : length case.ephemerides * slot_count case.first case.last ≤ 4_000_000 =
-    subst (λ (n : ℕ). n * slot_count case.first case.last ≤ 4_000_000) (sym objects) problem.few_slots in
-    let leaves : length (list_looked case) ≤ 4_000_000 =
+    let few : length case.ephemerides ≤ MOST_OBJECTS = omega (arith, objects, problem.few) in
+    let slots : length case.ephemerides * slot_count case.first case.last ≤ MOST_OBJECT_SLOTS =
+    subst (λ (n : ℕ). n * slot_count case.first case.last ≤ MOST_OBJECT_SLOTS) (sym objects) problem.few_slots in
+    let leaves : length (list_looked case) ≤ MOST_LEAVES =
     omega (arith, ap (λ (ss : List PlainLeaf). length ss) are.leaves, length-map found.leaves.items plain_leaf, are.few) in
     written_few case few slots leaves
 

@@ -2,6 +2,7 @@
 use Rattle.std.proofs.Common.{◌≡◌, ℕ, ◌*◌, ◌^◌, ◌<◌, ◌≤◌, List, [], ◌∷◌, length, None, Ok, refl, sym, ap, ◌∙◌, subst, arith}
 use Rattle.std.specs.Prelude.{All}
 use Rattle.std.proofs.lemmas.List.{length-map}
+use Rattle.cj_values.specs.Limits.{PlainLimits, USUAL}
 use Rattle.cj_io.specs.declared.file.FileBytes.{FileBytes}
 use Rattle.cj_causes.specs.declared.cert_version.CertVersion.{CertVersion}
 use Rattle.cj_causes.specs.declared.cert_version.CertVersion.TheVariants.{One, Two}
@@ -37,25 +38,29 @@ use Rattle.cj_status.specs.Steps.{◌>>=◌}
 use Rattle.cj_outputs.proofs.AcceptingLemmas.{accepted_so, pieces_made_from}
 use Rattle.cj_outputs.proofs.AgainLemmas.{asked_again, named_again}
 use Rattle.cj_outputs.proofs.CertificateLemmas.{leaves_alike}
+use Rattle.cj_inputs.proofs.WithinLemmas.{usual_slots}
 
 -- ---- what is so of a problem
 
 few_slots : (first last : ℕ) → last ≤ LAST_TICK → slot_count first last < 2 ^ 32
 few_slots first last most = omega arith
 
--- each version has as many objects as a problem
+-- each version has as many objects as the usual limits allow, and no more
 few_objects : (n : ℕ) → n ≤ 2000 → (version : CertVersion) → n ≤ most_objects version
 few_objects n few One = few
 few_objects n few Two = few
 
-pub of_run : (problem : Problem) → All (λ size. size ≤ MAX_SIZE) problem.sizes → AllStayNear (plain_problem problem) → IsOfRun (plain_problem problem)
-of_run problem sizes near =
+pub usual_few : (n : ℕ) (version : CertVersion) → n ≤ most_objects version → n ≤ 2000
+usual_few n One few = few
+usual_few n Two few = few
+
+pub of_run : (problem : Problem) → length (plain_problem problem).ephemerides ≤ 2000 → All (λ size. size ≤ MAX_SIZE) problem.sizes → AllStayNear (plain_problem problem) → IsOfRun (plain_problem problem)
+of_run problem few sizes near =
     let objects = length-map problem.tracks plain_track in
-    let few = problem.few in
     let sized = problem.sized in
     let last = problem.window.last.in_range in
     record {
-      few = few_objects (length (plain_problem problem).ephemerides) (omega arith);
+      few = few_objects (length (plain_problem problem).ephemerides) few;
       first = problem.window.first.in_range;
       last = last;
       least = problem.least;
@@ -65,10 +70,6 @@ of_run problem sizes near =
       sized = omega arith;
       near = near;
     }
-
-pub slots_of_run : (problem : Problem) → length (plain_problem problem).ephemerides * slot_count problem.window.first.micros problem.window.last.micros ≤ 4_000_000
-slots_of_run problem =
-    subst (λ (n : ℕ). n * slot_count problem.window.first.micros problem.window.last.micros ≤ 4_000_000) (sym (length-map problem.tracks plain_track)) problem.few_slots
 
 -- ---- a text that is accepted later
 
@@ -115,14 +116,14 @@ text_few case c run slots accepted fits cells =
 
 pub written_later : (problem : Problem) (settings : Asked) (files : List FileBytes) (version : CertVersion) → IsOfRun (plain_problem problem) → Accepted (plain_problem problem) (written (plain_problem problem))
     → Accepted (plain_problem problem) (written_in version (plain_problem problem)) → first_failure (plain_problem problem) (written_in version (plain_problem problem)) ≡ None
-    → case_asked files settings ≡ Ok (plain_problem problem) → length (list_looked (plain_problem problem)) ≤ 4_000_000 → IsAcceptedLater settings files (cert_bytes version (plain_problem problem))
-written_later problem settings files version run first accepted none read leaves =
+    → case_asked files settings ≡ Ok (plain_problem problem) → settings.limits ≡ USUAL → length (list_looked (plain_problem problem)) ≤ settings.limits.leaves → IsAcceptedLater settings files (cert_bytes version (plain_problem problem))
+written_later problem settings files version run first accepted none read usual leaves =
     let case = plain_problem problem in
     let c = written_in version case in
     let fits = written_in_fits version case run first in
     let cells : length c.cells ≤ 4_000_000 =
-    subst (λ (ss : List PlainLeaf). length ss ≤ 4_000_000) (leaves_alike case ∙ sym (same_cells version case)) leaves in
-    text_accepted settings files case c read fits none (text_few case c run (slots_of_run problem) accepted fits cells)
+    subst (λ (ss : List PlainLeaf). length ss ≤ 4_000_000) (leaves_alike case ∙ sym (same_cells version case)) (subst (λ (l : PlainLimits). length (list_looked case) ≤ l.leaves) usual leaves) in
+    text_accepted settings files case c read fits none (text_few case c run (usual_slots files settings case read usual) accepted fits cells)
 
 -- ---- a certificate that is rewritten
 

@@ -5,6 +5,7 @@ use Rattle.std.specs.Prelude.{option_and_then, count_by}
 use Rattle.std.specs.Option.{option_map_or}
 use Rattle.std.proofs.lemmas.List.{length-append, length-map, map_more, map_push}
 use Rattle.std.proofs.lemmas.List.Sums.{sum_by-cons}
+use Rattle.cj_values.specs.Bounds.{MOST_LEAVES}
 use Rattle.cj_io.specs.declared.file.FileBytes.{FileBytes}
 use Rattle.cj_hermite.specs.declared.problem.Problem.{Problem}
 use Rattle.cj_hermite.specs.PlainProblems.{PlainProblem}
@@ -150,7 +151,7 @@ messages_cut case origin ss es i e here old now s lt is made comes leaves =
     (second_leaves (Err s) before (here ++ behind) old now comes (first_leaves s here behind (old ++ before) now comes leaves))
 
 -- the number of an encounter is small
-pub encounters_within : (leaves : List Leaf) (es : List Encounter) → AreEncounters (plain_leaves leaves) es → length leaves ≤ 4_000_000 → length es ≤ 4_000_000
+pub encounters_within : (leaves : List Leaf) (es : List Encounter) → AreEncounters (plain_leaves leaves) es → length leaves ≤ MOST_LEAVES → length es ≤ MOST_LEAVES
 encounters_within leaves es are few =
     let ss = plain_leaves leaves in
     omega (arith, ap (λ (gs : List (List PlainLeaf)). length gs) are.groups, encounters_few ss, length-map leaves plain_leaf, length-map es (stretches_in ss), few)

@@ -1,5 +1,6 @@
 -- What is found in a problem, and what is put of it.
 use Rattle.std.specs.Prelude.{◌≡◌, ◌≤◌, List, length, map, Result, Ok, Err}
+use Rattle.cj_values.specs.Bounds.{MOST_LEAVES}
 use Rattle.cj_io.specs.declared.file.FileBytes.{FileBytes}
 use Rattle.cj_hermite.specs.PlainProblems.{PlainProblem}
 use Rattle.cj_hermite.specs.Problems.{plain_problem}
@@ -27,7 +28,7 @@ pub record AreFound (found : Findings) : Type 0 where
   pub shells : found.shells.items ≡ shells_of (case_in found)
   pub boxes : plain_boxes found.boxes.items ≡ boxes_of (case_in found)
   pub leaves : plain_leaves found.leaves.items ≡ list_looked (case_in found)
-  pub few : length found.leaves.items ≤ 4_000_000
+  pub few : length found.leaves.items ≤ MOST_LEAVES
   pub encounters : AreEncounters (plain_leaves found.leaves.items) found.encounters.items
   pub closest : map some_closest found.closest.items ≡ map (closest_of (case_in found)) (groups_in (plain_leaves found.leaves.items) found.encounters.items)
   pub messages : found.messages.items ≡ map (has_message (case_in found)) (groups_in (plain_leaves found.leaves.items) found.encounters.items)

@@ -4,6 +4,7 @@ use Rattle.std.specs.Fmt.{decimal}
 use Rattle.std.specs.Str.{bytes_eq}
 use Rattle.cj_io.specs.declared.file.FileBytes.{FileBytes}
 use Rattle.cj_io.specs.Files.{IsPrefix}
+use Rattle.cj_values.specs.Limits.{USUAL}
 use Rattle.cj_words.specs.declared.option.UsageFault.{UsageFault}
 use Rattle.cj_words.specs.Commands.{Asking, Screens, Checks, Generates, Tries, Rewrites, Checking, Screening, Trial, command_of}
 use Rattle.cj_words.specs.Settings.{Asked}
@@ -158,9 +159,9 @@ pieces_rewritten files checking = do
   certificate ← accepting inputs.case inputs.bytes
   Ok (pieces_renewed (in_version_2 inputs.case certificate))
 
--- the settings by which a made-up catalogue is screened: over its whole span
+-- the settings by which a made-up catalogue is screened: over its whole span, within the usual limits
 abbrev pub settings_tried : Trial → Asked
-settings_tried trial = record { threshold = trial.threshold; from = None; to = None; suffix = codes ".oem"; as_hermite3 = false; sizes = None }
+settings_tried trial = record { threshold = trial.threshold; from = None; to = None; suffix = codes ".oem"; as_hermite3 = false; sizes = None; limits = USUAL }
 
 -- the case of a made-up catalogue: that of its files
 unfoldable pub case_tried : Trial → Result PlainProblem Status

@@ -1,5 +1,6 @@
 //! What the summary of a problem counts.
 ghost use Rattle.std.specs.Prelude.{◌≡◌, ◌+◌, ◌≤◌, length, map, count_by};
+ghost use Rattle.cj_values.specs.Bounds.{MOST_LEAVES, MOST_OBJECTS};
 ghost use Rattle.cj_bezier.specs.Leaves.{plain_leaves};
 ghost use Rattle.cj_candidates.specs.Counts.{looked_count};
 ghost use Rattle.cj_cells.specs.Lists.{splits_of};
@@ -31,7 +32,7 @@ pub fn count(
     messages: &[bool],
     candidates: CandidateCounts,
 ) -> Counts
-    requires few { length leaves.now ≤ 4_000_000 }
+    requires few { length leaves.now ≤ MOST_LEAVES }
     requires kept { candidates.kept ≡ spec.kept_count (plain_problem problem.now) }
     requires touching { candidates.touching ≡ looked_count (plain_problem problem.now) }
     requires roots { candidates.roots ≡ length (roots_of (is_looked (plain_problem problem.now)) (plain_problem problem.now)) }
@@ -61,7 +62,7 @@ pub fn count(
 
 /// How many pairs there are of so many objects.
 fn pairs(objects: u64) -> u64
-    requires { objects ≤ 2000 }
+    requires { objects ≤ MOST_OBJECTS }
     ensures { result ≡ length (pairs_of objects) }
 {
     objects * objects.saturating_sub(1) / 2
@@ -77,7 +78,7 @@ struct KindCounts {
 
 /// How many of these leaves are of each kind, in one pass.
 fn count_kinds(leaves: &[Leaf]) -> KindCounts
-    requires { length leaves.now ≤ 4_000_000 }
+    requires { length leaves.now ≤ MOST_LEAVES }
     ensures far { result.far ≡ count_by (spec.is_of Kind.Far) (plain_leaves leaves.now) }
     ensures near { result.near ≡ count_by (spec.is_of Kind.Near) (plain_leaves leaves.now) }
     ensures undecided { result.undecided ≡ count_by (spec.is_of Kind.Undecided) (plain_leaves leaves.now) }

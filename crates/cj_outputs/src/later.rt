@@ -1,5 +1,6 @@
 //! That a check accepts what a run put: a law, which costs next to nothing to call.
 ghost use Rattle.std.specs.Prelude.{◌≡◌, ◌≤◌, List, Ok, length};
+ghost use Rattle.cj_values.specs.Limits.{USUAL};
 ghost use Rattle.cj_io.specs.declared.file.FileBytes.{FileBytes};
 ghost use Rattle.cj_causes.specs.declared.cert_version.CertVersion.{CertVersion};
 ghost use Rattle.cj_hermite.specs.Problems.{plain_problem};
@@ -18,13 +19,15 @@ use cj_cert::acceptance;
 use cj_checker::acceptance as first_failures;
 use cj_hermite::Problem;
 
-/// What is written as the certificate of a problem that is asked of files, a check of these files accepts, once it is among them.
+/// What is written as the certificate of a problem that is asked of files within the usual limits, a check of these files accepts, once it is
+/// among them.
 pub fn accepted_later(problem: &Problem)
     // In either version.
     ensures written { (settings : Asked) (files : List FileBytes) (version : CertVersion) → case_asked files settings ≡ Ok (plain_problem problem.now)
-        → length (list_looked (plain_problem problem.now)) ≤ 4_000_000 → IsAcceptedLater settings files (cert_bytes version (plain_problem problem.now)) }
+        → settings.limits ≡ USUAL → length (list_looked (plain_problem problem.now)) ≤ settings.limits.leaves
+        → IsAcceptedLater settings files (cert_bytes version (plain_problem problem.now)) }
 
-    // And where an accepted certificate is rewritten, as far as its text is not longer than a check takes.
+    // And where an accepted certificate is rewritten, whatever the limits, as far as its text is not longer than a check takes.
     ensures rewritten { (settings : Asked) (files : List FileBytes) (c : PlainCertificate) → case_asked files settings ≡ Ok (plain_problem problem.now)
         → Accepted (plain_problem problem.now) c → Fits c → length (text_of (in_version_2 (plain_problem problem.now) c)) ≤ 1_073_741_824
         → IsAcceptedLater settings files (text_of (in_version_2 (plain_problem problem.now) c)) }

@@ -1,5 +1,6 @@
 //! From the leaves of a problem to its encounters and what is told of them.
 ghost use Rattle.std.specs.Prelude.{◌≤◌, length, All, IfOk, OnOk};
+ghost use Rattle.cj_values.specs.Bounds.{MOST_LEAVES};
 ghost use Rattle.cj_hermite.specs.Problems.{plain_problem};
 ghost use Rattle.cj_bezier.specs.Leaves.{plain_leaves};
 ghost use Rattle.cj_bezier.specs.Order.{AreInOrder};
@@ -35,7 +36,7 @@ pub fn find_meetings<R: Threads + Sync>(
     workers: u32,
 ) -> Result<Meetings, AllocError>
     requires in_order { AreInOrder (plain_leaves leaves.now) }
-    requires few { length leaves.now ≤ 4_000_000 }
+    requires few { length leaves.now ≤ MOST_LEAVES }
     requires intervals { KeepTheirIntervals (plain_problem problem.now) (plain_leaves leaves.now) }
     ensures meetings { IfOk result (AreMeetings (plain_problem problem.now) (plain_leaves leaves.now)) }
     ensures spans { HaveExactSpans (plain_leaves leaves.now) }

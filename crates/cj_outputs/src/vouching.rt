@@ -1,5 +1,6 @@
 //! Whether a report is that of the cells of an accepted certificate.
 ghost use Rattle.std.specs.Prelude.{◌≡◌, ◌≢◌, ◌≤◌, Err, All, IfOk, IfErr, IfSome, OnOk, count_by, length, map, option_map};
+ghost use Rattle.cj_values.specs.Bounds.{MOST_LEAVES};
 ghost use Rattle.cj_hermite.specs.Problems.{plain_problem};
 ghost use Rattle.cj_bezier.specs.Leaves.{plain_leaf, plain_leaves};
 ghost use Rattle.cj_bezier.specs.Order.{AreInOrder};
@@ -116,7 +117,7 @@ fn report_due<R: Threads + Sync>(
     with_sizes: bool,
     leaves: &[Leaf],
 ) -> Result<Vec<u8>, AllocError>
-    requires few { length leaves.now ≤ 4_000_000 }
+    requires few { length leaves.now ≤ MOST_LEAVES }
     requires in_order { AreInOrder (plain_leaves leaves.now) }
     requires intervals { KeepTheirIntervals (plain_problem problem.now) (plain_leaves leaves.now) }
     ensures text { IfOk result (λ text. text.items ≡ spec.report_bytes with_sizes (plain_problem problem.now) (plain_leaves leaves.now)) }

@@ -8,6 +8,7 @@ use Rattle.std.proofs.lemmas.List.{length-map}
 use Rattle.std.proofs.lemmas.List.Elements.{All-map, All-weaker}
 use Rattle.std.proofs.lemmas.List.FromFn.{length-range_with_len}
 use Rattle.std.proofs.lemmas.List.Sorted.{IsPermutation-append_left, IsPermutation-map, IsPermutation-trans, length_permutation}
+use Rattle.cj_values.specs.Bounds.{MOST_LEAVES}
 use Rattle.atomic_blocks.specs.Lent.{RowsId}
 use Rattle.cj_interval.proofs.ListLemmas.{each_from_All, All-from_each}
 use Rattle.cj_hermite.specs.Problems.{plain_problem}
@@ -160,7 +161,7 @@ run_of run roots limit hands deques ledger = record { problem = run; roots = roo
 
 pub seen_sound : (problem run : Problem) (roots : List Cell) (limit hands : ℕ) (deques : List (RowsId × Global)) (ledger : LedgerSeen) (seen : RefinerySeen) →
     problem ≡ run → run_of problem roots limit hands deques ledger ≡ seen → HaveLengths (plain_problem problem) →
-    AreRoots (plain_problem run) roots → length roots ≤ limit → limit ≤ 4_000_000 → 1 ≤ hands → IsSound seen
+    AreRoots (plain_problem run) roots → length roots ≤ limit → limit ≤ MOST_LEAVES → 1 ≤ hands → IsSound seen
 seen_sound problem run roots limit hands deques ledger seen e is long are few_roots few_leaves some =
     subst IsSound (refinery_of problem run roots limit hands deques ledger seen e is) (record {
       long = subst (λ (p : Problem). HaveLengths (plain_problem p)) e long;

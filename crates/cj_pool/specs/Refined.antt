@@ -2,6 +2,7 @@
 use Rattle.std.specs.Prelude.{◌≡◌, ℕ, ◌+◌, ◌<◌, ◌≤◌, List, map, take, length, All}
 use Rattle.std.specs.Global.{Vec}
 use Rattle.std.specs.List.{flat_map, range_with_len}
+use Rattle.cj_values.specs.Bounds.{MOST_LEAVES}
 use Rattle.cj_hermite.specs.Lengths.{HaveLengths}
 use Rattle.cj_hermite.specs.Problems.{plain_problem}
 use Rattle.cj_hermite.specs.declared.problem.Problem.{Problem}
@@ -70,7 +71,7 @@ pub record IsSound (r : RefinerySeen) : Type 0 where
   pub long : HaveLengths (plain_problem r.problem)
   pub roots_are : AreRoots (plain_problem r.problem) r.roots
   pub few_roots : length r.roots ≤ r.limit
-  pub few_leaves : r.limit ≤ 4_000_000
+  pub few_leaves : r.limit ≤ MOST_LEAVES
   pub some : 1 ≤ r.hands
 
 -- the cells that are open at the end are those that hands keep and those that are left in deques; however cells are weighed, what was

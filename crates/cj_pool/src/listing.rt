@@ -1,6 +1,7 @@
 //! The one-thread list of a problem, by several hands.
 ghost use Rattle.std.specs.Prelude.{◌≡◌, ℕ, ◌+◌, ◌<◌, ◌≤◌, true, length, vec_len, All, Any, IfOk, OnOk, IsErrOf};
 ghost use Rattle.std.specs.List.{range_with_len};
+ghost use Rattle.cj_values.specs.Bounds.{MOST_LEAVES};
 ghost use Rattle.cj_hermite.specs.PlainProblems.{IsCommonOf};
 ghost use Rattle.cj_hermite.specs.Problems.{plain_problem};
 ghost use Rattle.cj_hermite.specs.Roots.{KeepIntervals, roots_of};
@@ -56,7 +57,7 @@ pub fn leaves_by_hands<K: Run + Send + Sync, R: Threads + Wait + Sync, G: Gate +
     requires some { 1 ≤ workers }
     requires few_workers { workers ≤ 16 }
     requires few_roots { length roots.items ≤ limit }
-    requires few_leaves { limit ≤ 4_000_000 }
+    requires few_leaves { limit ≤ MOST_LEAVES }
 
     ensures value { IfOk result (λ leaves. plain_leaves leaves.items ≡ leaves_of_roots (plain_problem problem.now) (plain_cells roots.items)) }
     ensures within { IfOk result (λ leaves. vec_len leaves ≤ limit) }
@@ -85,7 +86,7 @@ pub fn leaves_by_workers<R: Threads + Wait + Sync, G: Gate + Sync>(
     limit: u64,
 ) -> Result<Vec<Leaf>, RefineError>
     requires few { vec_len roots ≤ limit }
-    requires limit { limit ≤ 4_000_000 }
+    requires limit { limit ≤ MOST_LEAVES }
     requires some { 1 ≤ workers }
     requires few_workers { workers ≤ 16 }
     requires found { plain_cells roots.items ≡ roots_of (is_looked (plain_problem problem.now)) (plain_problem problem.now) }

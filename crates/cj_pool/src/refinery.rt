@@ -17,6 +17,7 @@ pub struct Refinery<'p, K: Run> {
 
 impl<'p, K: Run> Model for Refinery<'p, K> {
     ghost use Rattle.std.specs.Prelude.{◌≡◌, ◌≤◌, length};
+    ghost use Rattle.cj_values.specs.Bounds.{MOST_LEAVES};
     ghost use Rattle.cj_hermite.specs.Problems.{plain_problem};
     ghost use Rattle.cj_pool.specs.Hands.{RefinerySeen};
     ghost use Rattle.cj_pool.specs.Passes.{deques_of};
@@ -26,6 +27,6 @@ impl<'p, K: Run> Model for Refinery<'p, K> {
 
     ghost view = { λ r. record { problem = r.problem.now; roots = K.roots; limit = r.limit; hands = K.workers; deques = deques_of r.thieves.items; ledger = r.ledger } };
 
-    ghost invariant = { λ r. (r.problem.now ≡ K.problem) × AreRoots (plain_problem K.problem) K.roots × (length K.roots ≤ r.limit) × (r.limit ≤ 4_000_000)
+    ghost invariant = { λ r. (r.problem.now ≡ K.problem) × AreRoots (plain_problem K.problem) K.roots × (length K.roots ≤ r.limit) × (r.limit ≤ MOST_LEAVES)
         × (1 ≤ K.workers) × (K.workers ≤ 16) × (length r.thieves.items ≡ K.workers) × (r.ledger.opening ≡ record { roots = length K.roots; shares = K.workers }) };
 }

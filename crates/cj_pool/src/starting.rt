@@ -1,6 +1,7 @@
 //! A refinery and its hands.
 ghost use Rattle.std.specs.Prelude.{◌≡◌, ◌<◌, ◌≤◌, length, All, IfOk};
 ghost use Rattle.std.specs.List.{range_with_len};
+ghost use Rattle.cj_values.specs.Bounds.{MOST_LEAVES};
 ghost use Rattle.cj_hermite.specs.Problems.{plain_problem};
 ghost use Rattle.cj_pool.specs.Hands.{IsHandOf, IsFresh};
 ghost use Rattle.cj_pool.specs.Refined.{numbers_of};
@@ -71,7 +72,7 @@ impl<'p, K: Run + Send + Sync> Refinery<'p, K> {
         requires some { 1 ≤ workers }
         requires few_workers { workers ≤ 16 }
         requires few_roots { length roots.items ≤ limit }
-        requires few_leaves { limit ≤ 4_000_000 }
+        requires few_leaves { limit ≤ MOST_LEAVES }
 
         ensures seen { IfOk result (λ r. (r.0.problem ≡ problem.now) × (r.0.roots ≡ roots.items) × (r.0.limit ≡ limit) × (r.0.hands ≡ workers)) }
         ensures hands { IfOk result (λ r. All (IsHandOf r.0) r.1.items) }

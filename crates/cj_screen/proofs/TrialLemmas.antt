@@ -2,6 +2,7 @@
 use Rattle.std.proofs.Common.{◌≡◌, ℕ, zero, suc, ◌+◌, ◌-◌, ◌<◌, ◌≤◌, Bool, true, false, cond, List, [], ◌∷◌, ◌++◌, length, get_or, Some, None, Result, Ok, Err, refl, sym, ap, ap₂, subst, ◌∙◌, arith}
 use Rattle.std.specs.Prelude.{IfErr, IfOk, nat_le, slice_get}
 use Rattle.std.specs.List.{AllByRecursion}
+use Rattle.cj_values.specs.Limits.{USUAL}
 use Rattle.cj_io.specs.declared.file.FileBytes.{FileBytes}
 use Rattle.cj_io.specs.Faults.{Rose}
 use Rattle.cj_io.specs.Files.{bytes_of, names_of}
@@ -93,38 +94,38 @@ has_same : (frame : Frame) (before : List PlainTrack) (e : PlainTrack) → Begin
 has_same frame [] e begins own = refl
 has_same frame (d ∷ before) e begins own = ap₂ same_frame begins own ∙ frame_itself frame
 
-checked_limits : (before : List PlainTrack) (name : List ℕ) (e : PlainTrack) → has_frame_of before e ≡ true → IfErr (checked_after before name e) IsLimit
-checked_limits before name e same =
-    rw same (limited (nat_le (nodes_in (before ++ e ∷ [])) 2_000_000) e (limit.Nodes (nodes_in (before ++ e ∷ []))))
+checked_limits : (most : ℕ) (before : List PlainTrack) (name : List ℕ) (e : PlainTrack) → has_frame_of before e ≡ true → IfErr (checked_after most before name e) IsLimit
+checked_limits most before name e same =
+    rw same (limited (nat_le (nodes_in (before ++ e ∷ [])) most) e (limit.Nodes (nodes_in (before ++ e ∷ []))))
 
-checked_kept : (before : List PlainTrack) (name : List ℕ) (d e : PlainTrack) → checked_after before name d ≡ Ok e → d ≡ e
-checked_kept before name d e = by_frame (has_frame_of before d)
+checked_kept : (most : ℕ) (before : List PlainTrack) (name : List ℕ) (d e : PlainTrack) → checked_after most before name d ≡ Ok e → d ≡ e
+checked_kept most before name d e = by_frame (has_frame_of before d)
   where
-    by_frame : (b : Bool) → ◌≡◌ {A = Result PlainTrack Status} (cond b (Ok d) (Err (status.BadFile name 0 MixedFrames)) >>= within_nodes before) (Ok e) → d ≡ e
-    by_frame true same = kept (nat_le (nodes_in (before ++ d ∷ [])) 2_000_000) d e (limit.Nodes (nodes_in (before ++ d ∷ []))) same
+    by_frame : (b : Bool) → ◌≡◌ {A = Result PlainTrack Status} (cond b (Ok d) (Err (status.BadFile name 0 MixedFrames)) >>= within_nodes most before) (Ok e) → d ≡ e
+    by_frame true same = kept (nat_le (nodes_in (before ++ d ∷ [])) most) d e (limit.Nodes (nodes_in (before ++ d ∷ []))) same
     by_frame false same = absurd cc
 
-after_framed : (frame : Frame) (before : List PlainTrack) (name : List ℕ) (e : PlainTrack) (r : Result PlainTrack Status) → ((d : PlainTrack) → r ≡ Ok d → d.frame ≡ frame)
-    → (r >>= checked_after before name) ≡ Ok e → e.frame ≡ frame
-after_framed frame before name e (Ok d) framed same = ap (λ (x : PlainTrack). x.frame) (sym (checked_kept before name d e same)) ∙ framed d refl
-after_framed frame before name e (Err s) framed same = absurd cc
+after_framed : (most : ℕ) (frame : Frame) (before : List PlainTrack) (name : List ℕ) (e : PlainTrack) (r : Result PlainTrack Status) → ((d : PlainTrack) → r ≡ Ok d → d.frame ≡ frame)
+    → (r >>= checked_after most before name) ≡ Ok e → e.frame ≡ frame
+after_framed most frame before name e (Ok d) framed same = ap (λ (x : PlainTrack). x.frame) (sym (checked_kept most before name d e same)) ∙ framed d refl
+after_framed most frame before name e (Err s) framed same = absurd cc
 
 abbrev ReadsAt : Frame → List FileBytes → Entry → Type 0
 ReadsAt frame files entry = IsReadIn frame (record { name = entry.name; bytes = bytes_of files entry.number })
 
-readings_limit : (frame : Frame) (files : List FileBytes) (before : List PlainTrack) (entries : List Entry) → BeginsIn frame before → AllByRecursion (ReadsAt frame files) entries
-    → IfErr (readings_after false files before entries) IsLimit
-readings_limit frame files before [] begins all = tt
-readings_limit frame files before (entry ∷ entries) begins all =
+readings_limit : (trial : Trial) (frame : Frame) (files : List FileBytes) (before : List PlainTrack) (entries : List Entry) → BeginsIn frame before → AllByRecursion (ReadsAt frame files) entries
+    → IfErr (readings_after (settings_tried trial) files before entries) IsLimit
+readings_limit trial frame files before [] begins all = tt
+readings_limit trial frame files before (entry ∷ entries) begins all =
     let bytes = bytes_of files entry.number in
     let read = read_framed frame entry.name bytes in
-    let here : IfErr (reading_after false files before entry) IsLimit =
-    then (reading_of false entry.name bytes) (checked_after before entry.name) (read_limits frame entry.name bytes all.0)
-    (λ d same. checked_limits before entry.name d (has_same frame before d begins (read d all.0 same))) in
-    then (reading_after false files before entry) (λ e. readings_after false files (before ++ e ∷ []) entries) here
+    let here : IfErr (reading_after (settings_tried trial) files before entry) IsLimit =
+    then (reading_of false entry.name bytes) (checked_after USUAL.nodes before entry.name) (read_limits frame entry.name bytes all.0)
+    (λ d same. checked_limits USUAL.nodes before entry.name d (has_same frame before d begins (read d all.0 same))) in
+    then (reading_after (settings_tried trial) files before entry) (λ e. readings_after (settings_tried trial) files (before ++ e ∷ []) entries) here
     (λ e same.
-    let own = after_framed frame before entry.name e (reading_of false entry.name bytes) (λ d is. read d all.0 is) same in
-    readings_limit frame files (before ++ e ∷ []) entries (begins_more frame before e begins own) all.1)
+    let own = after_framed USUAL.nodes frame before entry.name e (reading_of false entry.name bytes) (λ d is. read d all.0 is) same in
+    readings_limit trial frame files (before ++ e ∷ []) entries (begins_more frame before e begins own) all.1)
 
 -- ---- the files of a folder
 
@@ -140,10 +141,10 @@ reads_all : (frame : Frame) (files : List FileBytes) (entries : List Entry) → 
 reads_all frame files [] all stand = tt
 reads_all frame files (entry ∷ entries) all stand = (read_at frame files entry.number entry.name all stand.0, reads_all frame files entries all stand.1)
 
-window_limits : (case : PlainProblem) → IfErr (within_limits case) IsLimit
-window_limits case =
-    then (within_window case) within_slots (limited (nat_le (case.last - case.first) 1_209_600_000_000) case (limit.Window (case.last - case.first)))
-    (λ c same. limited (nat_le (object_slots c) 4_000_000) c (limit.Slots (object_slots c)))
+window_limits : (most : ℕ) (case : PlainProblem) → IfErr (within_limits most case) IsLimit
+window_limits most case =
+    then (within_window case) (within_slots most) (limited (nat_le (case.last - case.first) 1_209_600_000_000) case (limit.Window (case.last - case.first)))
+    (λ c same. limited (nat_le (object_slots c) most) c (limit.Slots (object_slots c)))
 
 -- ---- a made-up catalogue
 
@@ -170,14 +171,14 @@ tried_limits trial some few =
     let settings = settings_tried trial in
     let entries = inputs_of settings.suffix None (names_of files) in
     let read = each_read seed objects minutes some few files 1 (λ i d below. file_at seed objects minutes i d (omega (arith, file_count seed objects minutes))) in
-    then (within_objects entries) (λ es. readings_of false files es >>= λ tracks. within_limits (case_of_run settings tracks []))
-    (limited (nat_le (length entries) 2000) entries (limit.Objects (length entries)))
+    then (within_objects settings.limits.objects entries) (λ es. readings_of settings files es >>= λ tracks. within_limits settings.limits.object_slots (case_of_run settings tracks []))
+    (limited (nat_le (length entries) settings.limits.objects) entries (limit.Objects (length entries)))
     (λ es same.
-    let is : entries ≡ es = kept (nat_le (length entries) 2000) entries es (limit.Objects (length entries)) same in
+    let is : entries ≡ es = kept (nat_le (length entries) settings.limits.objects) entries es (limit.Objects (length entries)) same in
     let stand = subst (AllByRecursion (Stands (names_of files))) is (inputs_stand settings.suffix None (names_of files)) in
-    then (readings_of false files es) (λ tracks. within_limits (case_of_run settings tracks []))
-    (readings_limit frames.Eme2000 files [] es tt (reads_all frames.Eme2000 files es read stand))
-    (λ tracks got. window_limits (case_of_run settings tracks [])))
+    then (readings_of settings files es) (λ tracks. within_limits settings.limits.object_slots (case_of_run settings tracks []))
+    (readings_limit trial frames.Eme2000 files [] es tt (reads_all frames.Eme2000 files es read stand))
+    (λ tracks got. window_limits settings.limits.object_slots (case_of_run settings tracks [])))
 
 -- what is due or a limit comes, or memory ran out
 pub comes_of_trial : {X A : Type 0} (read : Type 0) (view : X → A) (r : Result X Status) (due : Result A Status) → ¬ read → Gives read view r due → IfErr due IsLimit → IfErr r ComesOfTrial

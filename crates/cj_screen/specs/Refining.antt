@@ -1,5 +1,6 @@
 -- What comes of the refining of a problem.
 use Rattle.std.specs.Prelude.{◌≡◌, ℕ, ◌+◌, ◌≤◌, true, length, All, Any}
+use Rattle.cj_values.specs.Bounds.{MOST_LEAVES}
 use Rattle.cj_hermite.specs.PlainProblems.{PlainProblem, IsCommonOf}
 use Rattle.cj_hermite.specs.Roots.{roots_of}
 use Rattle.cj_hermite.specs.Slots.{slot_of}
@@ -20,7 +21,7 @@ pub record AreRefined (case : PlainProblem) (found : Refined) : Type 0 where
   pub shells : found.shells.items ≡ shells_of case
   pub boxes : plain_boxes found.boxes.items ≡ boxes_of case
   pub leaves : plain_leaves found.leaves.items ≡ list_looked case
-  pub few : length found.leaves.items ≤ 4_000_000
+  pub few : length found.leaves.items ≤ MOST_LEAVES
   pub kept : found.counted.kept ≡ kept_count case
   pub touching : found.counted.touching ≡ looked_count case
   pub roots : found.counted.roots ≡ length (roots_of (is_looked case) case)

@@ -1,5 +1,6 @@
 //! From a problem to its leaves.
-ghost use Rattle.std.specs.Prelude.{◌≡◌, ◌≤◌, IfOk, IfErr, OnOk};
+ghost use Rattle.std.specs.Prelude.{◌≡◌, ◌≤◌, length, IfOk, IfErr, OnOk};
+ghost use Rattle.cj_values.specs.Bounds.{MOST_LEAVES};
 ghost use Rattle.cj_hermite.specs.Problems.{plain_problem};
 ghost use Rattle.cj_bezier.specs.Leaves.{plain_leaves};
 ghost use Rattle.cj_cells.specs.Lists.{list_looked};
@@ -44,9 +45,10 @@ pub fn refine<R: Threads + Wait + Sync, G: Gate + Sync>(
 ) -> Result<Refined, Status>
     requires some { 1 ≤ workers }
     requires few_workers { workers ≤ 16 }
-    requires few_cells { cells ≤ 4_000_000 }
+    requires few_cells { cells ≤ MOST_LEAVES }
     ensures between { IfErr result ComesBetween }
     ensures told { Gives ⊥ (λ refined. plain_leaves refined.leaves.items) result (within_cells cells (list_looked (plain_problem problem.now))) }
+    ensures few { IfOk result (λ refined. length refined.leaves.items ≤ cells) }
     ensures refined { IfOk result (AreRefined (plain_problem problem.now)) }
     ensures ticks { OnOk result (HoldsAllTicks (plain_problem problem.now)) }
 {

@@ -1,5 +1,7 @@
 //! From a problem to all that is found in it.
 ghost use Rattle.std.specs.Prelude.{◌≡◌, ◌≢◌, ◌≤◌, List, Ok, Err, All, IfOk, IfErr, OnOk};
+ghost use Rattle.cj_values.specs.Bounds.{MOST_LEAVES};
+ghost use Rattle.cj_values.specs.Limits.{USUAL};
 ghost use Rattle.cj_hermite.specs.Problems.{plain_problem};
 ghost use Rattle.cj_meet.specs.Closest.{HasNearest};
 ghost use Rattle.cj_io.specs.declared.file.FileBytes.{FileBytes};
@@ -41,7 +43,7 @@ pub fn screen<R: Threads + Wait + Sync, G: Gate + Sync>(
 ) -> Result<Findings, Status>
     requires some { 1 ≤ workers }
     requires few_workers { workers ≤ 16 }
-    requires few_cells { cells ≤ 4_000_000 }
+    requires few_cells { cells ≤ MOST_LEAVES }
     ensures between { IfErr result ComesBetween }
     ensures read { result ≢ Err Status.ReadFault }
     // Whenever and by whomever messages are made.
@@ -53,8 +55,9 @@ pub fn screen<R: Threads + Wait + Sync, G: Gate + Sync>(
     ensures split { OnOk result (SplitsTicks (plain_problem problem) (encounters_in (plain_problem problem))) }
     ensures certified { OnOk result (Certifies (plain_problem problem) (cert_bytes version (plain_problem problem))) }
     ensures nearest { OnOk result (All (HasNearest (plain_problem problem)) (encounters_in (plain_problem problem))) }
-    // Whatever files the problem is that of.
+    // Whatever files the problem is that of, within the usual limits.
     ensures later { (settings : Asked) (files : List FileBytes) → case_asked files settings ≡ Ok (plain_problem problem)
+        → settings.limits ≡ USUAL → cells ≤ settings.limits.leaves
         → OnOk result (IsAcceptedLater settings files (cert_bytes version (plain_problem problem))) }
 {
     acceptance(&problem);

@@ -21,6 +21,7 @@ use cj_io::{CalmFolder, Gate, Shelf};
 use cj_outputs::{Findings, put};
 use cj_report::summary_text;
 use cj_status::Status;
+use cj_values::Limits;
 use cj_words::{Settings, Trial};
 use std::alloc::{AllocError, Global};
 use std::sync::Wait;
@@ -80,6 +81,7 @@ fn settings_of(trial: &Trial) -> Settings<'static>
         suffix: b".oem",
         as_hermite3: false,
         sizes: None,
+        limits: Limits::USUAL,
     }
 }
 

@@ -1,5 +1,6 @@
 //! The pairs that the filter keeps.
 ghost use Rattle.std.specs.Prelude.{◌≡◌, ◌^◌, ◌<◌, ◌≤◌, ◌++◌, map, filter, length, All, IfOk, OnOk};
+ghost use Rattle.cj_values.specs.Bounds.{MOST_OBJECTS};
 ghost use Rattle.cj_hermite.specs.Limits.{MAX_SIZE};
 ghost use Rattle.cj_hermite.specs.Pairs.{objects_of, pairs_of};
 ghost use Rattle.cj_bezier.specs.Shells.{keeps_between, shell_in};
@@ -37,7 +38,7 @@ pub fn keeps(objects: &ShelledObjects<'_>, pair: Pair) -> bool
 fn count_row(a: u32, objects: &ShelledObjects<'_>) -> u64
     requires { a < length objects.now.shells.now }
     ensures value { result ≡ length (row_among objects.now a) }
-    ensures few { result ≤ 2000 }
+    ensures few { result ≤ MOST_OBJECTS }
 {
     let mut count = 0;
     for b in a + 1..objects.shells.len() as u32 {
@@ -91,7 +92,7 @@ pub fn kept_pairs(
     sizes: &[u64],
     thr: u64,
 ) -> Result<Vec<Pair>, AllocError>
-    requires few { length shells.now ≤ 2000 }
+    requires few { length shells.now ≤ MOST_OBJECTS }
     requires sized { length sizes.now ≡ length shells.now }
     requires small { All (λ size. size ≤ MAX_SIZE) sizes.now }
     requires least { 10 ^ 9 ≤ thr }

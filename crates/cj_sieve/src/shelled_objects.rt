@@ -1,4 +1,5 @@
 ghost use Rattle.std.specs.Prelude.{◌≡◌, ◌^◌, ◌≤◌, length, All};
+ghost use Rattle.cj_values.specs.Bounds.{MOST_OBJECTS};
 ghost use Rattle.cj_hermite.specs.Limits.{MAX_SIZE};
 
 use cj_bezier::Shell;
@@ -12,7 +13,7 @@ pub struct ShelledObjects<'s> {
     pub sizes: &'s [u64],
     /// The threshold of the run in nm, without sizes.
     pub thr: u64,
-    pub ghost few: { length shells.now ≤ 2000 },
+    pub ghost few: { length shells.now ≤ MOST_OBJECTS },
     pub ghost sized: { length sizes.now ≡ length shells.now },
     pub ghost small: { All (λ size. size ≤ MAX_SIZE) sizes.now },
     pub ghost least: { 10 ^ 9 ≤ thr },

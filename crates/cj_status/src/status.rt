@@ -36,15 +36,15 @@ pub enum CertificateCause {
 /// What is beyond its limit.
 #[derive(Debug, PartialEq, Eq, Drop)]
 pub enum LimitFault {
-    /// There are so many objects, more than 2,000.
+    /// There are so many objects, more than the limit of the run.
     Objects { count: u32 },
     /// This file has more than 67,108,864 bytes, or it is the certificate or the report and has more than 1,073,741,824.
     FileBytes { file: Name },
-    /// The files up to one of them have so many nodes, more than 2,000,000.
+    /// The files up to one of them have so many nodes, more than the limit of the run.
     Nodes { count: u64 },
     /// The last tick of the window less the first is so much, more than fourteen days.
     Window { length: u64 },
-    /// The objects times the slots of the window are so many, more than 4,000,000.
+    /// The objects times the slots of the window are so many, more than the limit of the run.
     Slots { count: u64 },
     /// There are more leaves than this limit.
     Cells { limit: u64 },

@@ -1,6 +1,8 @@
 -- The commands of the program, and what the words of a command line ask for.
 use Rattle.std.specs.Prelude.{ℕ, ◌-◌, ◌^◌, if◌then◌else◌, List, Option, Some, None, Result, Ok, Err, codes}
 use Rattle.std.specs.Option.{option_copied}
+use Rattle.cj_values.specs.Bounds.{MOST_MADE_OBJECTS}
+use Rattle.cj_values.specs.Limits.{USUAL}
 use Rattle.cj_causes.specs.declared.cert_version.CertVersion.{CertVersion as Version}
 use Rattle.cj_causes.specs.declared.cert_version.CertVersion.TheVariants.{One}
 use Rattle.cj_words.specs.declared.command.Checking as kept_checking
@@ -91,7 +93,7 @@ screening_of givens = do
   workers ← workers_of givens
   unsized ← unsized_of threshold givens
   originator ← in_range Originator (originator_or (codes "CONJ") (value_of Originator givens))
-  cells ← in_range Cells (number_or 1 4_000_000 4_000_000 (value_of Cells givens))
+  cells ← in_range Cells (number_or 1 unsized.limits.leaves unsized.limits.leaves (value_of Cells givens))
   settings ← sized_of unsized givens
   version ← in_range CertVersion (version_or One (value_of CertVersion givens))
   Ok (record { settings = settings; workers = workers; originator = originator; cells = cells; version = version })
@@ -110,7 +112,7 @@ checking_of givens = do
 unfoldable pub recipe_of : List Given → Result Recipe UsageFault
 recipe_of givens = do
   seed ← in_range Seed (number_or 0 (2 ^ 64 - 1) 1 (value_of Seed givens))
-  objects ← in_range Objects (number_or 1 2000 50 (value_of Objects givens))
+  objects ← in_range Objects (number_or 1 MOST_MADE_OBJECTS 50 (value_of Objects givens))
   minutes ← in_range Minutes (number_or 1 1440 120 (value_of Minutes givens))
   Ok (record { seed = seed; objects = objects; minutes = minutes })
 
@@ -119,7 +121,7 @@ unfoldable pub trial_of : List Given → Result Trial UsageFault
 trial_of givens = do
   threshold ← threshold_of givens
   workers ← workers_of givens
-  cells ← in_range Cells (number_or 1 4_000_000 4_000_000 (value_of Cells givens))
+  cells ← in_range Cells (number_or 1 USUAL.leaves USUAL.leaves (value_of Cells givens))
   recipe ← recipe_of givens
   Ok (record { threshold = threshold; workers = workers; cells = cells; recipe = recipe })
 

@@ -4,6 +4,7 @@ use Rattle.std.specs.List.{list_all}
 use Rattle.std.specs.Option.{option_and_then, option_map, option_copied}
 use Rattle.std.specs.Char.{is_ascii_digit}
 use Rattle.std.specs.Str.Parse.{digits_value}
+use Rattle.cj_values.specs.Limits.{PlainLimits, USUAL, plain_limits}
 use Rattle.cj_causes.specs.declared.cert_version.CertVersion.{CertVersion}
 use Rattle.cj_causes.specs.Versions.{version_of_number}
 use Rattle.cj_kvn.specs.Originators.{is_originator}
@@ -18,7 +19,8 @@ use Rattle.cj_words.specs.declared.settings.Settings.{Settings}
 use Rattle.cj_words.specs.Options.{Given, value_of, is_given}
 
 -- settings: the threshold in metres, the ends of the window in ticks, where they are given, what the names of the files that are taken
--- end with, whether each file is taken as if it declared the cubic, and the name of the file of sizes, where it is given
+-- end with, whether each file is taken as if it declared the cubic, the name of the file of sizes, where it is given, and how much a run
+-- may take
 pub record Asked : Type 0 where
   pub threshold : ℕ
   pub from : Option ℕ
@@ -26,6 +28,7 @@ pub record Asked : Type 0 where
   pub suffix : List ℕ
   pub as_hermite3 : Bool
   pub sizes : Option (List ℕ)
+  pub limits : PlainLimits
 
 abbrev pub micros_of : Tick → ℕ
 micros_of tick = tick.micros
@@ -39,6 +42,7 @@ asked_of s = record {
   suffix = s.suffix.now;
   as_hermite3 = s.as_hermite3;
   sizes = option_copied s.sizes;
+  limits = plain_limits s.limits;
 }
 
 -- what is read, seen by `view`
@@ -142,7 +146,7 @@ unsized_of threshold givens = do
   from ← in_range From (epoch_or (value_of From givens))
   to ← in_range To (not_before from (epoch_or (value_of To givens)))
   suffix ← in_range Suffix (file_text_or 20 (codes ".oem") (value_of Suffix givens))
-  Ok (record { threshold = threshold; from = from; to = to; suffix = suffix; as_hermite3 = is_given AsHermite3 givens; sizes = None })
+  Ok (record { threshold = threshold; from = from; to = to; suffix = suffix; as_hermite3 = is_given AsHermite3 givens; sizes = None; limits = USUAL })
 
 -- these settings with the file of sizes that options name, where they name one
 unfoldable pub sized_of : Asked → List Given → Result Asked UsageFault

@@ -1,4 +1,5 @@
 ghost use Rattle.std.specs.Prelude.{◌≤◌};
+ghost use Rattle.cj_values.specs.Bounds.{MOST_LEAVES, MOST_MADE_OBJECTS};
 
 use crate::settings::Settings;
 use cj_causes::CertVersion;
@@ -36,14 +37,14 @@ pub struct Screening<'w> {
     pub workers: u32,
     /// Who makes the messages: 1 to 40 letters, digits, `_` or `-`.
     pub originator: &'w [u8],
-    /// The greatest number of leaves, from 1 to 4,000,000.
+    /// The greatest number of leaves, from 1 to that of the limits.
     pub cells: u64,
     /// The version of the certificate.
     pub version: CertVersion,
     pub ghost some_workers: { 1 ≤ workers },
     pub ghost most_workers: { workers ≤ 16 },
     pub ghost some_cells: { 1 ≤ cells },
-    pub ghost most_cells: { cells ≤ 4_000_000 },
+    pub ghost most_cells: { cells ≤ settings.limits.leaves },
 }
 
 /// Which certificate is checked against the files of a directory, or rewritten, and which report beside it. Their names are lent by the words.
@@ -66,7 +67,7 @@ pub struct Recipe {
     /// How many minutes it covers, from 1 to 1,440.
     pub minutes: u32,
     pub ghost some_objects: { 1 ≤ objects },
-    pub ghost most_objects: { objects ≤ 2000 },
+    pub ghost most_objects: { objects ≤ MOST_MADE_OBJECTS },
     pub ghost some_minutes: { 1 ≤ minutes },
     pub ghost most_minutes: { minutes ≤ 1440 },
 }
@@ -78,7 +79,7 @@ pub struct Trial {
     pub threshold: u64,
     /// How many workers share the work, from 1 to 16.
     pub workers: u32,
-    /// The greatest number of leaves, from 1 to 4,000,000.
+    /// The greatest number of leaves, from 1 to the usual one, 4,000,000.
     pub cells: u64,
     pub recipe: Recipe,
     pub ghost some_workers: { 1 ≤ workers },
@@ -86,5 +87,5 @@ pub struct Trial {
     pub ghost some: { 1 ≤ threshold },
     pub ghost most: { threshold ≤ 1_000_000 },
     pub ghost some_cells: { 1 ≤ cells },
-    pub ghost most_cells: { cells ≤ 4_000_000 },
+    pub ghost most_cells: { cells ≤ MOST_LEAVES },
 }

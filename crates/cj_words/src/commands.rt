@@ -15,6 +15,7 @@ use crate::option::{Opt, UsageFault};
 use crate::reading::{sized_of, threshold_of, unsized_of};
 use crate::settings::Word;
 use crate::texts::{file_text_or, is_path_or_none, name_or, originator_or};
+use cj_values::{Limits, MOST_MADE_OBJECTS};
 use cj_causes::CertVersion;
 
 /// Reads the words of a command line, without the program's name.
@@ -106,7 +107,8 @@ fn screening_of(words: &[Word]) -> Result<Screening<'_>, UsageFault>
     let Some(originator) = originator_or(value_of(words, Opt::Originator), b"CONJ") else {
         return Err(out_of_range(Opt::Originator));
     };
-    let Some(cells) = number_or(value_of(words, Opt::Cells), 1, 4_000_000, 4_000_000) else {
+    let most_cells = unsized_settings.limits.leaves;
+    let Some(cells) = number_or(value_of(words, Opt::Cells), 1, most_cells, most_cells) else {
         return Err(out_of_range(Opt::Cells));
     };
     let settings = sized_of(unsized_settings, words)?;
@@ -151,7 +153,8 @@ fn recipe_of(words: &[Word]) -> Result<Recipe, UsageFault>
     let Some(seed) = number_or(value_of(words, Opt::Seed), 0, u64::MAX, 1) else {
         return Err(out_of_range(Opt::Seed));
     };
-    let Some(objects) = number_or(value_of(words, Opt::Objects), 1, 2000, 50) else {
+    let most_objects = MOST_MADE_OBJECTS as u64;
+    let Some(objects) = number_or(value_of(words, Opt::Objects), 1, most_objects, 50) else {
         return Err(out_of_range(Opt::Objects));
     };
     let Some(minutes) = number_or(value_of(words, Opt::Minutes), 1, 1440, 120) else {
@@ -171,7 +174,8 @@ fn trial_of(words: &[Word]) -> Result<Trial, UsageFault>
 {
     let threshold = threshold_of(words)?;
     let workers = workers_of(words)?;
-    let Some(cells) = number_or(value_of(words, Opt::Cells), 1, 4_000_000, 4_000_000) else {
+    let most_cells = Limits::USUAL.leaves;
+    let Some(cells) = number_or(value_of(words, Opt::Cells), 1, most_cells, most_cells) else {
         return Err(out_of_range(Opt::Cells));
     };
     let recipe = recipe_of(words)?;

@@ -13,6 +13,7 @@ use crate::settings::{Settings, Word};
 use crate::texts::{file_text_or, name_or};
 use cj_epoch::read_epoch;
 use cj_ticks::Tick;
+use cj_values::Limits;
 
 /// The greatest miss distance that is reported, in metres.
 pub fn threshold_of(words: &[Word]) -> Result<u64, UsageFault>
@@ -54,6 +55,7 @@ pub fn unsized_of(words: &[Word], threshold: u64) -> Result<Settings<'_>, UsageF
         suffix,
         as_hermite3: is_given(words, Opt::AsHermite3),
         sizes: None,
+        limits: Limits::USUAL,
     })
 }
 
@@ -64,7 +66,8 @@ pub fn sized_of<'w>(
     words: &'w [Word],
 ) -> Result<Settings<'w>, UsageFault>
     requires { IsTrue (options.are_listed (given_of words.now)) }
-    ensures { said asked_of result ≡ spec.sized_of (asked_of settings.entry) (listed (given_of words.now)) }
+    ensures value { said asked_of result ≡ spec.sized_of (asked_of settings.entry) (listed (given_of words.now)) }
+    ensures limits { IfOk result (λ sized. sized.limits ≡ settings.entry.limits) }
 {
     let Some(sizes) = name_or(value_of(words, Opt::Sizes)) else {
         return Err(out_of_range(Opt::Sizes));

@@ -1,8 +1,9 @@
 ghost use Rattle.std.specs.Prelude.{◌≤◌, ◌≡◌, Option, Some};
+ghost use Rattle.cj_values.specs.Limits.{USUAL, plain_limits};
 ghost use Rattle.cj_ticks.specs.declared.tick.Tick.{Tick};
 
 use cj_ticks::Tick;
-use cj_values::Text;
+use cj_values::{Limits, Text};
 
 /// A word of the command line.
 pub type Word = Text;
@@ -22,6 +23,9 @@ pub struct Settings<'w> {
     pub as_hermite3: bool,
     /// The name of the file of sizes, where it is given: 1 to 200 such bytes. Without it no object has a size.
     pub sizes: Option<&'w [u8]>,
+    /// How much a run may take. No option tells it.
+    pub limits: Limits,
     pub ghost some: { 1 ≤ threshold },
     pub ghost most: { threshold ≤ 1_000_000 },
+    pub ghost usual: { plain_limits limits ≡ USUAL },
 }

@@ -3,6 +3,7 @@ use crate::lines::words;
 use cj_causes::CertVersion;
 use cj_epoch::read_epoch;
 use cj_ticks::Tick;
+use cj_values::Limits;
 use cj_words::{
     Checking, Command, Opt, Recipe, Screening, Settings, Trial, option_name, read_command,
 };
@@ -31,6 +32,7 @@ const USUAL: Settings = Settings {
     suffix: b".oem",
     as_hermite3: false,
     sizes: None,
+    limits: Limits::USUAL,
 };
 
 const USUAL_RECIPE: Recipe = Recipe {
@@ -99,6 +101,7 @@ fn all_that_can_be_asked_of_a_screening(rt: HostRuntime) {
             suffix: b".txt",
             as_hermite3: true,
             sizes: Some(b"r.txt"),
+            limits: Limits::USUAL,
         },
         workers: 16,
         originator: b"MY_site-1",
@@ -121,6 +124,7 @@ fn all_that_can_be_asked_of_a_check(rt: HostRuntime) {
             suffix: b".txt",
             as_hermite3: true,
             sizes: Some(b"r.txt"),
+            limits: Limits::USUAL,
         },
         certificate: b"other.cert",
         report: Some(b"other.report"),

@@ -9,5 +9,5 @@ invariant-loop-slot l = record {
   room : vec_len l.roots ≤ l.limit;
   found : plain_cells l.roots.items ≡ roots_over (plain_problem l.ground.problem.now) l.from (l.slot - l.from);
   counted : l.touching ≡ looked_over (plain_problem l.ground.problem.now) l.from (l.slot - l.from);
-  small : l.touching ≤ (l.slot - l.from) * 4_000_000;
+  small : l.touching ≤ (l.slot - l.from) * 4_294_836_225;
 }

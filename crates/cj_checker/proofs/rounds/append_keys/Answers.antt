@@ -40,7 +40,7 @@ loop-pair-init c = record {
 
 pub append_key-requires : goal.append_key-requires
 append_key-requires c =
-    record { few = subst (λ (p : Pair). p.b ≤ 2000) (sym c.pair-item.is) (c.requires.few c.loop-pair.pair-index c.pair-item.result c.loop-pair-test.true) }
+    record { few = subst (λ (p : Pair). p.b ≤ 65_535) (sym c.pair-item.is) (c.requires.few c.loop-pair.pair-index c.pair-item.result c.loop-pair-test.true) }
 
 pub returns-clause-keys : goal.returns-clause-keys
 returns-clause-keys c = c.loop-pair.invariant.keys

@@ -14,7 +14,7 @@ use Rattle.cj_checker.proofs.rounds.collect.Goals as goal
 pub append_keys-requires : goal.append_keys-requires
 append_keys-requires c =
     record {
-      few = subst (λ (ps : List Pair). All (λ pair. pair.b ≤ 2000) ps) (sym c.deref.ensures.value)
+      few = subst (λ (ps : List Pair). All (λ pair. pair.b ≤ 65_535) ps) (sym c.deref.ensures.value)
           (λ k d lt. let there = c.in_ok-find_pairs.ensures.exist k d lt in omega (arith, there, c.args.problem.now.few));
     }
 

@@ -46,7 +46,7 @@ returns-in_err-entries g c =
     let asked = asked_of c.args.settings.now in
     let names = c.args.names.now in
     let s = c.in_err-entries.field-0.0 in
-    let due = within_objects (inputs_of asked.suffix asked.sizes names) in
+    let due = within_objects asked.limits.objects (inputs_of asked.suffix asked.sizes names) in
     let p = err_from_is_err_and c.from_residual.result c.from_residual.ensures.1 in
     rw (p.1, p.2)
     (record {
@@ -71,8 +71,8 @@ returns-in_err-tracks g c =
       read = folder_failed why c.in_err-tracks.ensures.fault;
       told = λ files told known.
           tracks_fail rose tracks_of files asked entries why
-          (subst (λ (ns : List Name). within_objects (inputs_of asked.suffix asked.sizes ns) ≡ Ok entries) known c.in_ok-entries.ensures.told)
-          (subst (λ (es : List Entry). Reads rose tracks_of (Err why) (readings_of asked.as_hermite3 files es))
+          (subst (λ (ns : List Name). within_objects asked.limits.objects (inputs_of asked.suffix asked.sizes ns) ≡ Ok entries) known c.in_ok-entries.ensures.told)
+          (subst (λ (es : List Entry). Reads rose tracks_of (Err why) (readings_of asked files es))
           c.deref.ensures.value (c.in_err-tracks.ensures.told files told));
       count = c.read_tracks.ensures.count;
       files = c.read_tracks.ensures.files;
@@ -94,8 +94,8 @@ returns-in_err-lines g c =
       between = comes_between why;
       read = λ is. rose_since first before now c.read_tracks.ensures.later (folder_failed why c.in_err-lines.ensures.fault is);
       told = λ files told known.
-          let taken = subst (λ (ns : List Name). within_objects (inputs_of asked.suffix asked.sizes ns) ≡ Ok entries) known c.in_ok-entries.ensures.told in
-          let read = subst (λ (some : List Entry). readings_of asked.as_hermite3 files some ≡ Ok es)
+          let taken = subst (λ (ns : List Name). within_objects asked.limits.objects (inputs_of asked.suffix asked.sizes ns) ≡ Ok entries) known c.in_ok-entries.ensures.told in
+          let read = subst (λ (some : List Entry). readings_of asked files some ≡ Ok es)
           c.deref.ensures.value (c.in_ok-tracks.ensures.told files told) in
           sizes_fail (Rose before now) (Rose first now) lines_of files asked es why (rose_since first before now c.read_tracks.ensures.later)
           (asked_of_tracks files asked entries es taken read) (c.in_err-lines.ensures.told files (c.read_tracks.ensures.files ∙ told) known);
@@ -111,15 +111,15 @@ returns g c =
     let es = tracks_of c.in_ok-tracks.tracks in
     let sizes = lines_of c.in_ok-lines.lines in
     let made = c.problem_of.result in
-    let due = within_limits (case_of_run asked es sizes) in
-    let gives = subst (λ (lines : List SizeLine). Gives ⊥ plain_problem made (within_limits (case_of_run asked es (sizes_of lines))))
+    let due = within_limits asked.limits.object_slots (case_of_run asked es sizes) in
+    let gives = subst (λ (lines : List SizeLine). Gives ⊥ plain_problem made (within_limits asked.limits.object_slots (case_of_run asked es (sizes_of lines))))
     c.deref-2.ensures.value c.problem_of.ensures.told in
     record {
       between = c.problem_of.ensures.between;
       read = λ is. absurd (gives_unread plain_problem made due gives is);
       told = λ files told known.
-          let taken = subst (λ (ns : List Name). within_objects (inputs_of asked.suffix asked.sizes ns) ≡ Ok entries) known c.in_ok-entries.ensures.told in
-          let read = subst (λ (some : List Entry). readings_of asked.as_hermite3 files some ≡ Ok es)
+          let taken = subst (λ (ns : List Name). within_objects asked.limits.objects (inputs_of asked.suffix asked.sizes ns) ≡ Ok entries) known c.in_ok-entries.ensures.told in
+          let read = subst (λ (some : List Entry). readings_of asked files some ≡ Ok es)
           c.deref.ensures.value (c.in_ok-tracks.ensures.told files told) in
           let is = asked_of_sizes files asked es sizes (asked_of_tracks files asked entries es taken read)
           (c.in_ok-lines.ensures.told files (c.read_tracks.ensures.files ∙ told) known) in

@@ -16,5 +16,5 @@ returns-in-Ok-clause-told g c = λ behind each.
 
 pub returns-in-Err-clause-told : goal.returns-in-Err-clause-told
 returns-in-Err-clause-told g c = λ behind each.
-    let expected = tracks_after (map plain_track c.args.taken.tracks.items) (map (said_by c.args.as_hermite3) c.args.files.now) in
+    let expected = tracks_after c.args.settings.now.limits.nodes (map plain_track c.args.taken.tracks.items) (map (said_by c.args.settings.now.as_hermite3) c.args.files.now) in
     front_fails ⊤ (λ (all : Taken). map plain_track all.tracks.items) (λ (all : List PlainTrack). all) c.in-Err.earlier (expected >>= behind) expected behind refl c.in-Err.ensures

@@ -12,4 +12,4 @@ use Rattle.cj_inputs.proofs.taking.take_all.Given as goal
 
 abbrev pub invariant-loop-reading : goal.invariant-loop-reading
 invariant-loop-reading l = (said : List (Result PlainTrack Status)) → IfOk l.fn.readings (λ all. AllZip (Reads ⊥ plain_track) all.items said)
-    → LeadsTo (into_iter_items l.reading-iterator) (map plain_track l.taken.tracks.items) (tracks_after (map plain_track l.fn.taken.tracks.items) said)
+    → LeadsTo l.limits.nodes (into_iter_items l.reading-iterator) (map plain_track l.taken.tracks.items) (tracks_after l.limits.nodes (map plain_track l.fn.taken.tracks.items) said)

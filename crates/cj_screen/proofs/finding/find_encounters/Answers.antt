@@ -1,4 +1,4 @@
-use Rattle.std.proofs.Common.{◌≡◌, Bool, Result, Ok, Err, subst, ◌∙◌}
+use Rattle.std.proofs.Common.{◌≡◌, Bool, Result, Ok, Err, subst, ◌∙◌, arith}
 use Rattle.std.specs.Prelude.{IfOk}
 use Rattle.cj_hermite.specs.Problems.{plain_problem}
 use Rattle.cj_words.specs.Commands.{plain_screening}
@@ -15,6 +15,9 @@ use Rattle.cj_screen.proofs.finding.find_encounters.Goals as goal
 tells : (b d : Bool) → b ≡ d → (r : Result Findings Status) → IfOk r (λ found. found.with_sizes ≡ b) → IfOk r (λ found. found.with_sizes ≡ d)
 tells b d same (Ok found) is = is ∙ same
 tells b d same (Err s) is = tt
+
+pub screen-requires-clause-few_cells : goal.screen-requires-clause-few_cells
+screen-requires-clause-few_cells g c = omega (arith, c.args.screening.now.most_cells, c.args.screening.now.settings.limits.most_leaves)
 
 pub returns-clause-ends : goal.returns-clause-ends
 returns-clause-ends g c =
@@ -35,4 +38,4 @@ returns-clause-reports g c = λ files read.
     reports files asked c.args.screening.now.version (plain_problem c.args.problem) read
     c.screen.result c.screen.ensures.same (tells c.tells_sizes.result (tells_sizes asked) c.tells_sizes.ensures c.screen.result c.screen.ensures.tells)
     c.screen.ensures.version c.screen.ensures.found c.screen.ensures.split c.screen.ensures.certified c.screen.ensures.nearest
-    (c.screen.ensures.later asked files read)
+    (c.screen.ensures.later asked files read c.args.screening.now.settings.usual c.args.screening.now.most_cells)

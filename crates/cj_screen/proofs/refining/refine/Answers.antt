@@ -15,6 +15,7 @@ returns-in-Err g c =
       between = between_refined c.args.cells c.in-Err.error;
       told = stops_refined c.args.cells (list_looked case) c.in-Err.error
           (λ is. let many = c.in-Err.ensures.too_many (ap (λ e. Err e) is) in omega (arith, many, list_split case));
+      few = tt;
       refined = tt;
       ticks = tt;
     })
@@ -25,6 +26,7 @@ returns-in-Err-leaves_by_workers g c =
     rw c.refused-in-Err-leaves_by_workers.ensures (record {
       between = between_refined c.args.cells failed.error;
       told = stops_refined c.args.cells (list_looked (plain_problem c.args.problem.now)) failed.error (λ is. failed.ensures.too_many (ap (λ e. Err e) is));
+      few = tt;
       refined = tt;
       ticks = tt;
     })
@@ -40,6 +42,7 @@ returns-in-Ok-leaves_by_workers g c =
     record {
       between = tt;
       told = few_leaves c.args.cells all few ∙ ap (λ ss. Ok ss) (sym listed.value);
+      few = omega (arith, listed.within, leaves.ok.0);
       refined = record {
         shells = found.shells;
         boxes = found.boxes;

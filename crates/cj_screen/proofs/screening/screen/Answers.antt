@@ -75,8 +75,8 @@ returns g c =
         implies = c.acceptance.ensures.splits;
       };
       nearest = subst (λ (ss : List PlainLeaf). All (HasNearest case) (encounters_of ss)) same c.in_ok-met.ensures.nearest;
-      later = λ settings files read. c.accepted_later.ensures.written settings files c.args.version read
-          (omega (arith, ap length refined.leaves, length-map c.in_ok-refined.refined.leaves.items plain_leaf, refined.few));
+      later = λ settings files read usual few. c.accepted_later.ensures.written settings files c.args.version read usual
+          (omega (arith, ap length refined.leaves, length-map c.in_ok-refined.refined.leaves.items plain_leaf, c.in_ok-refined.ensures.few, few));
     }
 
 pub returns-in_err-met : goal.returns-in_err-met

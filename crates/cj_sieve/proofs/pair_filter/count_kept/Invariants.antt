@@ -7,5 +7,5 @@ use Rattle.cj_sieve.proofs.pair_filter.count_kept.Given as goal
 abbrev pub invariant-loop-a : goal.invariant-loop-a
 invariant-loop-a l = record {
   counted : l.count ≡ length (filter (keeps_among l.objects) (flat_map (pairs_from (length l.objects.shells.now)) (range_with_len 0 l.a)));
-  few : l.count ≤ l.a * 2000;
+  few : l.count ≤ l.a * 65_535;
 }

@@ -9,4 +9,4 @@ unfolding checking_of
 returns c =
     let certificate = c.in-Some.ensures ∙ ap (file_text_or 200 (codes "screen.cert")) c.value_of.ensures in
     let report = c.in-Some-name_or.ensures ∙ ap name_or c.value_of-2.ensures in
-    rw (sym c.in_ok-threshold.ensures.value, sym c.in_ok-unsized_settings.ensures, sym certificate, sym c.in_ok-settings.ensures, sym report) refl
+    rw (sym c.in_ok-threshold.ensures.value, sym c.in_ok-unsized_settings.ensures, sym certificate, sym c.in_ok-settings.ensures.value, sym report) refl

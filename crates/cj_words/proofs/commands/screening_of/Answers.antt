@@ -9,8 +9,9 @@ pub returns : goal.returns
 unfolding screening_of
 returns c =
     let originator = c.in-Some.ensures ∙ ap (originator_or (codes "CONJ")) c.value_of.ensures in
-    let cells = c.in-Some-number_or.ensures.value ∙ ap (number_or 1 4_000_000 4_000_000) c.value_of-2.ensures in
+    let leaves = c.in_ok-unsized_settings.unsized_settings.limits.leaves in
+    let cells = c.in-Some-number_or.ensures.value ∙ ap (number_or 1 leaves leaves) c.value_of-2.ensures in
     let version = c.in-Some-version_or.ensures ∙ ap (version_or One) c.value_of-3.ensures in
     let some = sym c.in_ok-unsized_settings.ensures in
-    let all = sym c.in_ok-settings.ensures in
+    let all = sym c.in_ok-settings.ensures.value in
     rw (sym c.in_ok-threshold.ensures.value, sym c.in_ok-workers.ensures.value, some, sym originator, sym cells, all, sym version) refl

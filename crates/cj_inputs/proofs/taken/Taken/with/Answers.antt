@@ -16,5 +16,5 @@ invariant_of-result c =
     record {
       frame = subst HaveOneFrame (sym c.in_ok-push.ensures.items) (one_frame_more tracks track c.args.self.frame fits);
       counted = omega (arith, c.args.self.counted, c.node_count.ensures.value, nodes_behind tracks track, ap node_total c.in_ok-push.ensures.items);
-      few = c.in_ok-check_limits.ensures.nodes;
+      few = omega (arith, c.in_ok-check_limits.ensures.nodes, c.args.limits.most_nodes);
     }
