@@ -24,8 +24,8 @@ rows_length (e ∷ es) first last n =
     let all : suc (length es) * n ≡ length es * n + n = suc-mul (length es) n in
     omega (arith, length-append (boxes_over e first last n) rest)
 
-pub boxes_count : (case : PlainProblem) (boxes : List (Option AxisBox)) → plain_boxes boxes ≡ boxes_of case → length boxes ≡ length case.ephemerides * slot_count case.first case.last
+pub boxes_count : (case : PlainProblem) (boxes : List (Option AxisBox)) → plain_boxes boxes ≡ boxes_of case → length boxes ≡ length case.tracks * slot_count case.first case.last
 unfolding boxes_of
 boxes_count case boxes same =
     sym (length-map boxes (option_map plain_box)) ∙ ap (λ (bs : List (Option PlainBox)). length bs) same
-    ∙ rows_length case.ephemerides case.first case.last (slot_count case.first case.last)
+    ∙ rows_length case.tracks case.first case.last (slot_count case.first case.last)

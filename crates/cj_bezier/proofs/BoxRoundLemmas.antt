@@ -9,7 +9,7 @@ use Rattle.cj_interval.proofs.IntegerLemmas.{mul-le_right, le_trans_ℤ}
 use Rattle.cj_interval.proofs.ListLemmas.{Each, Each-weaker, Each-both, Each-map, each_from_map}
 use Rattle.cj_track.specs.PlainTracks.{PlainTrack}
 use Rattle.cj_hermite.specs.Interpolant.{Four, Curve, place_numerator, place_denominator}
-use Rattle.cj_hermite.specs.Pieces.{interval_at, curve_of_interval}
+use Rattle.cj_hermite.specs.Pieces.{piece_holding, curve_of_piece}
 use Rattle.cj_hermite.specs.Walks.{HasNone}
 use Rattle.cj_bezier.specs.declared.axis_box.AxisBox.{AxisBox}
 use Rattle.cj_bezier.specs.Hulls.{PlainHull, Ends, Encloses, EnclosesAxis}
@@ -150,7 +150,7 @@ pub record IsWithinReaches (r : PlainBox) (h : PlainHull) : Type 0 where
   pub z : LiesWithin r.z h.z
 
 -- reaches within which each hull lies hold the place at each tick
-pub places_lie : (e : PlainTrack) (from to m : ℕ) (r : PlainBox) → AreInTime e from to → Each (IsWithinReaches r) (hulls_of e from to) → from ≤ m → m ≤ to → IfSome (interval_at e m) (λ x. IsPlaceIn (curve_of_interval x) m r)
+pub places_lie : (e : PlainTrack) (from to m : ℕ) (r : PlainBox) → AreInTime e from to → Each (IsWithinReaches r) (hulls_of e from to) → from ≤ m → m ≤ to → IfSome (piece_holding e m) (λ x. IsPlaceIn (curve_of_piece x) m r)
 places_lie e from to m r time each = at_each_tick e from to m (IsWithinReaches r) (λ c. IsPlaceIn c m r) time each place
   where
     place : (h : PlainHull) (c : Curve) → IsWithinReaches r h → IsHullRound c m h → IsPlaceIn c m r
@@ -180,5 +180,5 @@ within_box e from to r some = go (hulls_of e from to) some
 
 -- so the box holds the place at each tick
 pub box_holds : (e : PlainTrack) (from to m : ℕ) (r : PlainBox) → AreInTime e from to → box_of e from to ≡ Some r → from ≤ m → m ≤ to
-    → IfSome (interval_at e m) (λ x. IsPlaceIn (curve_of_interval x) m r)
+    → IfSome (piece_holding e m) (λ x. IsPlaceIn (curve_of_piece x) m r)
 box_holds e from to m r time some = places_lie e from to m r time (within_box e from to r some)

@@ -1,4 +1,4 @@
--- Leaves of a stretch: they tile it in order, each with its own kind.
+-- Leaves of a leaf: they tile it in order, each with its own kind.
 use Rattle.std.proofs.Common.{◌≡◌, ℕ, zero, suc, ◌+◌, ◌-◌, ◌<◌, ◌≤◌, List, [], ◌∷◌, ◌++◌, Option, Some, None, refl, ap, ◌∙◌, inl, inr, arith}
 use Rattle.std.specs.Prelude.{is_some, unwrap_or, true}
 use Rattle.std.proofs.lemmas.Bool.{cases_lt}
@@ -10,7 +10,7 @@ use Rattle.cj_bezier.specs.Tiles.{IsLeaf, Tile}
 use Rattle.cj_bezier.specs.Order.{IsBefore}
 use Rattle.cj_interval.proofs.ListLemmas.{Each, Exists, Ordered, Each-weaker}
 
--- the stretch has the kind that its ticks are judged to have
+-- the leaf has the kind that its ticks are judged to have
 abbrev pub HasKind : (ℕ → ℕ → Option Kind) → PlainLeaf → Type 0
 HasKind judge s = judge s.first s.last ≡ Some s.kind
 
@@ -40,7 +40,7 @@ one_leaf : (judge : ℕ → ℕ → Option Kind) (a b first last : ℕ) (kind : 
 one_leaf judge a b first last kind le is =
     (refl, (record { first_object = refl; second_object = refl; from = omega arith; some = le; to = omega arith; judged = is }, refl))
 
--- a stretch that is not closed has two ticks or more
+-- a leaf that is not closed has two ticks or more
 pub two_ticks : (judge : ℕ → ℕ → Option Kind) (first last : ℕ) → first ≤ last → IsSettled judge first last → judge first last ≡ None → first < last
 two_ticks judge first last le settled none = elim (cases_lt first last) [
   | inl lt ↦ lt
@@ -108,7 +108,7 @@ enough_is_enough judge a b (suc n) (suc k) first last le n_enough k_enough settl
         let r = right more in
         rw (l, r)
 
--- ---- a stretch that has a kind, and one that has none
+-- ---- a leaf that has a kind, and one that has none
 
 pub leaves-closed : (judge : ℕ → ℕ → Option Kind) (a b first last : ℕ) (kind : Kind) → judge first last ≡ Some kind → leaves_between judge a b first last ≡ closed a b first last kind ∷ []
 unfolding leaves_between leaves_within
@@ -135,7 +135,7 @@ leaves-halved judge a b first last le settled none = go (last - first) (omega ar
         let right = enough_is_enough judge a b n (last - (middle first last + 1)) (middle first last + 1) last (omega arith) (omega arith) (omega arith) (λ m low high. settled m (omega arith) high) in
         rw (none, left, right)
 
--- ---- what tiling stretches hold
+-- ---- what tiling leaves hold
 
 pub Each-tile : (P : PlainLeaf → Type 0) (a b lo lo' hi : ℕ) (ss : List PlainLeaf) → lo ≤ lo' → Tile P a b lo' hi ss → Each (IsLeaf P a b lo hi) ss
 Each-tile P a b lo lo' hi [] le t = tt
@@ -164,7 +164,7 @@ Ordered-tile P a b lo hi (s ∷ ss) t =
       Ordered-tile P a b (s.last + 1) hi ss t.1.1,
     )
 
--- the tick is one of the stretch's
+-- the tick is one of the leaf's
 pub record HasTick (m : ℕ) (s : PlainLeaf) : Type 0 where
   pub from : s.first ≤ m
   pub to : m ≤ s.last

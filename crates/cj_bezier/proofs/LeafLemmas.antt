@@ -6,7 +6,7 @@ use Rattle.cj_hermite.specs.PlainProblems.{PlainProblem, curve_at, threshold_of,
 use Rattle.cj_hermite.specs.Roots.{PlainCell}
 use Rattle.cj_hermite.proofs.RootLemmas.{IsRootOf}
 use Rattle.cj_hermite.proofs.ObjectLemmas.{of_objects}
-use Rattle.cj_hermite.proofs.CurveLemmas.{Curves, curves, curves_of, root_intervals}
+use Rattle.cj_hermite.proofs.CurveLemmas.{Curves, curves, curves_of, root_pieces}
 use Rattle.cj_hermite.proofs.TrackLemmas.{over_part}
 use Rattle.cj_bezier.specs.declared.kind.Kind.{Kind}
 use Rattle.cj_bezier.specs.Leaves.{PlainLeaf, IsTickOf}
@@ -93,7 +93,7 @@ some_within judge a b (suc n) first last =
 -- a root has a leaf at least
 some_leaf : (case : PlainProblem) (r : PlainCell) → IsRootOf case r → 0 < length (leaves_of_root case r)
 unfolding leaves_of_root leaves_between
-some_leaf case r is = go (curves_of case r.a r.b r.first r.last (root_intervals case r is))
+some_leaf case r is = go (curves_of case r.a r.b r.first r.last (root_pieces case r is))
   where
     go : Curves case r.a r.b r.first r.last → 0 < length (leaves_of_curves r (threshold_of case r.a r.b) (curve_at case r.a r.first) (curve_at case r.b r.first))
     go (curves c d have) =

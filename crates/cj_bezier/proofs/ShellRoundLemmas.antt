@@ -5,7 +5,7 @@ use Rattle.std.specs.List.{list_all}
 use Rattle.std.proofs.lemmas.Bool.{cases_eq, eqb-true, eq-eqb, false_from_ne_true}
 use Rattle.cj_interval.proofs.ListLemmas.{Each, Each-weaker, Each-always, Each-both, each_from_list_all, list_all-from_each}
 use Rattle.cj_track.specs.PlainTracks.{PlainTrack}
-use Rattle.cj_hermite.specs.Pieces.{interval_at, curve_of_interval}
+use Rattle.cj_hermite.specs.Pieces.{piece_holding, curve_of_piece}
 use Rattle.cj_hermite.specs.Walks.{HasNone}
 use Rattle.cj_bezier.specs.declared.shells.Shell.{Shell}
 use Rattle.cj_bezier.specs.Gaps.{gap_terms}
@@ -160,7 +160,7 @@ shell_of_parts e from to s have is = record {
 
 -- radii that the hulls show hold the distance from the origin at each tick
 pub radii_hold : (e : PlainTrack) (from to lo hi m : ℕ) → AreInTime e from to → is_inner (hulls_of e from to) lo ≡ true → is_outer (hulls_of e from to) hi ≡ true → from ≤ m → m ≤ to
-    → IfSome (interval_at e m) (λ x. IsRadiusWithin (curve_of_interval x) m lo hi)
+    → IfSome (piece_holding e m) (λ x. IsRadiusWithin (curve_of_piece x) m lo hi)
 radii_hold e from to lo hi m time inner outer =
     at_each_tick e from to m (λ h. IsInner (gap_terms h) lo × IsOuter (gap_terms h) hi) (λ c. IsRadiusWithin c m lo hi) time
     (Each-both (λ h. IsInner (gap_terms h) lo) (λ h. IsOuter (gap_terms h) hi) (hulls_of e from to) (test_inner (hulls_of e from to) lo inner) (test_outer (hulls_of e from to) hi outer))

@@ -30,7 +30,7 @@ tells case s m is from to =
         ordered = is.ordered;
         after = omega (arith, is.from, from);
         before = omega (arith, is.to, to);
-        states = of_objects-wider case s.a s.b m (λ c d. Holds s.kind c d (threshold_of case s.a s.b) m) (λ c d. Unit {0}) (λ c d h. tt) here;
+        nodes = of_objects-wider case s.a s.b m (λ c d. Holds s.kind c d (threshold_of case s.a s.b) m) (λ c d. Unit {0}) (λ c d h. tt) here;
       };
       holds = here;
     }
@@ -59,10 +59,10 @@ far_of case ss a b m all tick near undecided = by_kind tick.1.kind refl
     by_kind Near is = absurd (near (lies Near is))
     by_kind Undecided is = absurd (undecided (lies Undecided is))
 
--- a tick that is looked at lies in a leaf, and at another the pair is far: so it is far where it lies in no near and in no undecided one
-pub outside_of : (case : PlainProblem) (ss : List PlainLeaf) (a b m : ℕ) (looked : Bool) → All (IsTrueLeaf case) ss
-    → (looked ≡ true → Any (IsTickOf a b m) ss)
-    → (looked ≡ false → OfObjectsAt case a b m (λ c d. IsFar c d (threshold_of case a b) m))
+-- a tick of a candidate lies in a leaf, and at another the pair is far: so it is far where it lies in no near and in no undecided one
+pub outside_of : (case : PlainProblem) (ss : List PlainLeaf) (a b m : ℕ) (candidate : Bool) → All (IsTrueLeaf case) ss
+    → (candidate ≡ true → Any (IsTickOf a b m) ss)
+    → (candidate ≡ false → OfObjectsAt case a b m (λ c d. IsFar c d (threshold_of case a b) m))
     → ¬ Any (LiesIn Near a b m) ss → ¬ Any (LiesIn Undecided a b m) ss → OfObjectsAt case a b m (λ c d. IsFar c d (threshold_of case a b) m)
 outside_of case ss a b m true all complete far near undecided = far_of case ss a b m all (complete refl) near undecided
 outside_of case ss a b m false all complete far near undecided = far refl

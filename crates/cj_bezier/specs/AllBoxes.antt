@@ -12,4 +12,4 @@ boxes_over e first last n = map (λ slot. box_of e (slot_first first slot) (slot
 
 -- the boxes of all objects in each slot, in order of object and slot
 unfoldable pub boxes_of : PlainProblem → List (Option PlainBox)
-boxes_of case = flat_map (λ e. boxes_over e case.first case.last (slot_count case.first case.last)) case.ephemerides
+boxes_of case = flat_map (λ e. boxes_over e case.first case.last (slot_count case.first case.last)) case.tracks

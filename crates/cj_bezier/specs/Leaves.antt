@@ -35,20 +35,20 @@ plain_leaf leaf = record {
 abbrev pub plain_leaves : List Leaf → List PlainLeaf
 plain_leaves leaves = map plain_leaf leaves
 
--- the tick is one of the stretch's, which is of the objects a and b
+-- the tick is one of the leaf's, which is of the objects a and b
 pub record IsTickOf (a b m : ℕ) (s : PlainLeaf) : Type 0 where
   pub first_object : s.a ≡ a
   pub second_object : s.b ≡ b
   pub from : s.first ≤ m
   pub to : m ≤ s.last
 
--- the stretch is of this kind, and the tick is one of its own
+-- the leaf is of this kind, and the tick is one of its own
 pub record Covers (kind : Kind) (tick : ℕ) (s : PlainLeaf) : Type 0 where
   pub same : s.kind ≡ kind
   pub from : s.first ≤ tick
   pub to : tick ≤ s.last
 
--- the tick lies in this stretch, which is of this kind and of the objects a and b
+-- the tick lies in this leaf, which is of this kind and of the objects a and b
 pub record LiesIn (kind : Kind) (a b tick : ℕ) (s : PlainLeaf) : Type 0 where
   pub objects : (s.a ≡ a) × (s.b ≡ b)
   pub covered : Covers kind tick s

@@ -6,7 +6,7 @@ pub mod Gaps
 pub mod Halving
 pub mod Hulls
 pub mod Leaves
-pub mod Looked
+pub mod Candidates
 pub mod Order
 pub mod Parts
 pub mod RootLeaves

@@ -8,10 +8,10 @@ pub record IsBefore (s t : PlainLeaf) : Type 0 where
   pub second_object : s.a ≡ t.a → s.b ≤ t.b
   pub ticks : s.a ≡ t.a → s.b ≡ t.b → s.last < t.first
 
--- each stretch lies before all later ones, so that no two overlap
+-- each leaf lies before all later ones, so that no two overlap
 abbrev pub AreInOrder : List PlainLeaf → Type 0
 AreInOrder ss = AllPairs IsBefore ss
 
--- each stretch has a tick
+-- each leaf has a tick
 abbrev pub HaveTicks : List PlainLeaf → Type 0
 HaveTicks ss = All (λ s. s.first ≤ s.last) ss

@@ -38,7 +38,7 @@ leaves_of_root case r = leaves_of_curves r (threshold_of case r.a r.b) (curve_at
 unfoldable pub leaves_of_roots : PlainProblem → List PlainCell → List PlainLeaf
 leaves_of_roots case rs = flat_map (leaves_of_root case) rs
 
--- what a stretch says is so at each of its ticks: there both its objects have a state, and their distance is of its kind
+-- what a leaf says is so at each of its ticks: there both its objects have a state, and their distance is of its kind
 abbrev pub IsTrueThroughout : PlainProblem → PlainLeaf → Type 0
 IsTrueThroughout case s = (m : ℕ) → s.first ≤ m → m ≤ s.last → OfObjectsAt case s.a s.b m (λ c d. Holds s.kind c d (threshold_of case s.a s.b) m)
 

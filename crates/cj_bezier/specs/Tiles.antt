@@ -2,7 +2,7 @@
 use Rattle.std.specs.Prelude.{◌≡◌, ℕ, ◌+◌, ◌≤◌, List, [], ◌∷◌}
 use Rattle.cj_bezier.specs.Leaves.{PlainLeaf}
 
--- a stretch of the objects a and b of which P holds, from lo to hi
+-- a leaf of the objects a and b of which P holds, from lo to hi
 pub record IsLeaf (P : PlainLeaf → Type 0) (a b lo hi : ℕ) (s : PlainLeaf) : Type 0 where
   pub first_object : s.a ≡ a
   pub second_object : s.b ≡ b
@@ -11,7 +11,7 @@ pub record IsLeaf (P : PlainLeaf → Type 0) (a b lo hi : ℕ) (s : PlainLeaf) :
   pub to : s.last ≤ hi
   pub judged : P s
 
--- such stretches that tile the ticks from lo to hi
+-- such leaves that tile the ticks from lo to hi
 abbrev pub Tile : (PlainLeaf → Type 0) → ℕ → ℕ → ℕ → ℕ → List PlainLeaf → Type 0
 Tile P a b lo hi [] = lo ≡ hi + 1
 Tile P a b lo hi (s ∷ ss) = (s.first ≡ lo) × (IsLeaf P a b lo hi s × Tile P a b (s.last + 1) hi ss)

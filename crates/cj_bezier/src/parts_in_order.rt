@@ -22,7 +22,7 @@ pub fn next_part(track: &Track, from: Tick, last: Tick, guide: &mut Guide) -> Op
     ensures later { IfSome result (λ part. from.micros ≤ part.last.micros) }
     ensures within { IfSome result (λ part. part.last.micros ≤ last.micros) }
 
-    // A track's intervals come in order of time.
+    // A track's pieces come in order of time.
     ensures time { IfSome result (λ part. AreInTime (plain_track track.now) from.micros part.last.micros) }
 {
     let run = run_from(track, from, last, &mut guide.hint)?;

@@ -1,5 +1,5 @@
 //! Blocks: one box for an object in four slots on end, where the object then touches nothing more. So a certificate has fewer lines,
-//! and the same pairs are looked at in the same slots.
+//! and the same pairs are candidates in the same slots.
 #![tactic(auto)]
 
 mod block;

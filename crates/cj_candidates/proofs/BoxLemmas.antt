@@ -16,7 +16,7 @@ use Rattle.cj_hermite.specs.Slots.{slot_first, slot_last, slot_count}
 use Rattle.cj_interval.proofs.RangeLemmas.{range_more}
 use Rattle.cj_bezier.specs.declared.axis_box.AxisBox.{AxisBox}
 use Rattle.cj_bezier.specs.SlotBoxes.{PlainBox, plain_boxes, box_of, plain_box}
-use Rattle.cj_bezier.specs.Looked.{boxes_in}
+use Rattle.cj_bezier.specs.Candidates.{boxes_in}
 use Rattle.cj_bezier.proofs.AllBoxLemmas.{row_length, boxes_count}
 use Rattle.cj_bezier.specs.AllBoxes.{boxes_of, boxes_over}
 use Rattle.cj_candidates.specs.ObjectRuns.{IsInOwnBox, IsInOwnBoxes}
@@ -71,21 +71,21 @@ pub place_within : (i objects n slot : ℕ) → i < objects → slot < n → i *
 place_within i objects n slot lt below = let fits = row_fits i n objects n lt (omega arith) in omega arith
 
 -- one object more in a slot
-pub slot_more : (case : PlainProblem) (boxes : List (Option AxisBox)) (i slot : ℕ) (found : Option AxisBox) → plain_boxes boxes ≡ boxes_of case → slot < slot_count case.first case.last → i < length case.ephemerides
+pub slot_more : (case : PlainProblem) (boxes : List (Option AxisBox)) (i slot : ℕ) (found : Option AxisBox) → plain_boxes boxes ≡ boxes_of case → slot < slot_count case.first case.last → i < length case.tracks
     → found ≡ get_or boxes (i * slot_count case.first case.last + slot) found → take i (boxes_in case slot) ++ option_map plain_box found ∷ [] ≡ take (i + 1) (boxes_in case slot)
 unfolding boxes_of boxes_in
 slot_more case boxes i slot found same lt below is =
     let n = slot_count case.first case.last in
     let d = option_map plain_box found in
     let box : PlainTrack → Option PlainBox = λ e. box_of e (slot_first case.first slot) (slot_last case.first case.last slot) in
-    let place = place_within i (length case.ephemerides) n slot below lt in
+    let place = place_within i (length case.tracks) n slot below lt in
     let count = boxes_count case boxes same in
-    let here : d ≡ get_or (map box case.ephemerides) i d =
+    let here : d ≡ get_or (map box case.tracks) i d =
     ap (option_map plain_box) is ∙ sym (get_or-map (option_map plain_box) boxes (i * n + slot) found d (omega arith))
-    ∙ ap (λ (bs : List (Option PlainBox)). get_or bs (i * n + slot) d) same ∙ in_row case.ephemerides case.first case.last n i slot d lt below in
-    let short : i < length (map box case.ephemerides) = omega (arith, length-map case.ephemerides box) in
-    ap (λ (b : Option PlainBox). take i (map box case.ephemerides) ++ b ∷ []) here ∙ sym (take_more (map box case.ephemerides) i d short)
+    ∙ ap (λ (bs : List (Option PlainBox)). get_or bs (i * n + slot) d) same ∙ in_row case.tracks case.first case.last n i slot d lt below in
+    let short : i < length (map box case.tracks) = omega (arith, length-map case.tracks box) in
+    ap (λ (b : Option PlainBox). take i (map box case.tracks) ++ b ∷ []) here ∙ sym (take_more (map box case.tracks) i d short)
 
-pub objects_in_slot : (case : PlainProblem) (slot : ℕ) → length (boxes_in case slot) ≡ length case.ephemerides
+pub objects_in_slot : (case : PlainProblem) (slot : ℕ) → length (boxes_in case slot) ≡ length case.tracks
 unfolding boxes_in
-objects_in_slot case slot = length-map case.ephemerides (λ e. box_of e (slot_first case.first slot) (slot_last case.first case.last slot))
+objects_in_slot case slot = length-map case.tracks (λ e. box_of e (slot_first case.first slot) (slot_last case.first case.last slot))

@@ -1,4 +1,4 @@
--- How many pairs there are, and how many of them are looked at.
+-- How many pairs there are, and how many of them are candidates.
 use Rattle.std.proofs.Common.{◌≡◌, ℕ, zero, suc, ◌+◌, ◌-◌, ◌*◌, ◌/◌, ◌≤◌, [], ◌∷◌, length, refl, ap, ◌∙◌, arith, length-append}
 use Rattle.std.specs.List.{flat_map, range_with_len, sum_by}
 use Rattle.std.proofs.Math.Nat.{mul-suc, suc-mul}
@@ -10,7 +10,7 @@ use Rattle.cj_hermite.specs.PlainProblems.{PlainProblem}
 use Rattle.cj_hermite.specs.Pairs.{pairs_of}
 use Rattle.cj_interval.proofs.RangeLemmas.{range_more}
 use Rattle.cj_hermite.proofs.PairLemmas.{pairs_from}
-use Rattle.cj_bezier.specs.Looked.{is_kept, is_looked, pairs_kept, pairs_looked}
+use Rattle.cj_bezier.specs.Candidates.{is_kept, is_candidate, pairs_kept, candidate_pairs}
 
 -- the pairs of the last k of n objects
 rows : (n a k : ℕ) → a + k ≡ n → 2 * length (flat_map (pairs_from n) (range_with_len a k)) + k ≡ k * k
@@ -42,28 +42,28 @@ square_few (suc n) few =
     let square = mul-suc (suc n) n in
     omega arith
 
--- the pairs that are looked at in a slot are few
-pub looked_few : (case : PlainProblem) (slot : ℕ) → length case.ephemerides ≤ 65_535 → length (pairs_looked case slot) ≤ 4_294_836_225
-looked_few case slot few =
-    let n = length case.ephemerides in
-    let all = length-filter (λ pair. is_looked case pair.0 pair.1 slot) (pairs_of n) in
-    let some = count_by-le-length (λ pair. is_looked case pair.0 pair.1 slot) (pairs_of n) in
+-- the candidates of a slot are few
+pub candidates_few : (case : PlainProblem) (slot : ℕ) → length case.tracks ≤ 65_535 → length (candidate_pairs case slot) ≤ 4_294_836_225
+candidates_few case slot few =
+    let n = length case.tracks in
+    let all = length-filter (λ pair. is_candidate case pair.0 pair.1 slot) (pairs_of n) in
+    let some = count_by-le-length (λ pair. is_candidate case pair.0 pair.1 slot) (pairs_of n) in
     let twice = pair_twice n in
     let square = square_few n few in
     omega arith
 
 -- one slot more
-pub looked_more : (case : PlainProblem) (k : ℕ) → sum_by (λ slot. length (pairs_looked case slot)) (range_with_len 0 (k + 1)) ≡ sum_by (λ slot. length (pairs_looked case slot)) (range_with_len 0 k) + length (pairs_looked case k)
-looked_more case k =
-    let f = λ (slot : ℕ). length (pairs_looked case slot) in
+pub candidates_more : (case : PlainProblem) (k : ℕ) → sum_by (λ slot. length (candidate_pairs case slot)) (range_with_len 0 (k + 1)) ≡ sum_by (λ slot. length (candidate_pairs case slot)) (range_with_len 0 k) + length (candidate_pairs case k)
+candidates_more case k =
+    let f = λ (slot : ℕ). length (candidate_pairs case slot) in
     ap (sum_by f) (range_more 0 k) ∙ sum_by-append f (range_with_len 0 k) ((0 + k) ∷ [])
     ∙ ap (λ n. sum_by f (range_with_len 0 k) + n) (sum_by-cons f (0 + k) [])
     ∙ (let e : f (0 + k) + sum_by f [] ≡ f k = (let same : 0 + k ≡ k = omega arith in ap (λ (j : ℕ). f j + 0) same ∙ omega arith) in ap (λ n. sum_by f (range_with_len 0 k) + n) e)
 
 -- no more pairs are kept than there are
-pub kept_le : (case : PlainProblem) (n : ℕ) → n ≡ length case.ephemerides → length (pairs_kept case) ≤ length (pairs_of n)
+pub kept_le : (case : PlainProblem) (n : ℕ) → n ≡ length case.tracks → length (pairs_kept case) ≤ length (pairs_of n)
 kept_le case n same =
-    let all = length-filter (is_kept case) (pairs_of (length case.ephemerides)) in
-    let some = count_by-le-length (is_kept case) (pairs_of (length case.ephemerides)) in
+    let all = length-filter (is_kept case) (pairs_of (length case.tracks)) in
+    let some = count_by-le-length (is_kept case) (pairs_of (length case.tracks)) in
     let count = ap (λ (k : ℕ). length (pairs_of k)) same in
     omega arith

@@ -11,7 +11,7 @@ use Rattle.cj_track.specs.Tracks.{plain_track}
 use Rattle.cj_hermite.specs.declared.pair.Pair.{Pair}
 use Rattle.cj_hermite.specs.PlainProblems.{PlainProblem}
 use Rattle.cj_hermite.specs.Pairs.{objects_of, pairs_of}
-use Rattle.cj_hermite.specs.Pieces.{interval_at, curve_of_interval}
+use Rattle.cj_hermite.specs.Pieces.{piece_holding, curve_of_piece}
 use Rattle.cj_hermite.specs.Slots.{slot_count, slot_first, slot_last}
 use Rattle.cj_hermite.specs.Walks.{HasNone}
 use Rattle.cj_hermite.proofs.PairLemmas.{IsPair, Each-pairs}
@@ -19,7 +19,7 @@ use Rattle.cj_bezier.specs.declared.axis_box.AxisBox.{AxisBox}
 use Rattle.cj_bezier.specs.declared.shells.Shell.{Shell}
 use Rattle.cj_bezier.specs.Shells.{IsRadiusWithin, keeps_between, shell_of}
 use Rattle.cj_bezier.specs.SlotBoxes.{PlainBox, IsPlaceIn, plain_boxes, box_of, plain_box, touch_between}
-use Rattle.cj_bezier.specs.Looked.{boxes_in, is_kept, is_touching, is_looked, pairs_kept, pairs_looked, shells_of}
+use Rattle.cj_bezier.specs.Candidates.{boxes_in, is_kept, is_touching, is_candidate, pairs_kept, candidate_pairs, shells_of}
 use Rattle.cj_bezier.specs.Enclosed.{AreInBoxes, AreInShells, IsInBox, IsInShell}
 use Rattle.cj_candidates.specs.ObjectRuns.{IsInOwnShell, IsInOwnBox, IsInOwnBoxes}
 
@@ -58,54 +58,54 @@ made_at f (x ∷ es) (suc i) e is = made_at f es i e is
 -- ---- shells
 
 in_shell : (e : PlainTrack) (from to : ℕ) (found : Option Shell) → IfNone found (HasNone e from to)
-    → IfSome found (λ s. (m : ℕ) → from ≤ m → m ≤ to → IfSome (interval_at e m) (λ x. IsRadiusWithin (curve_of_interval x) m s.lo s.hi)) → IsInShell from to e found
+    → IfSome found (λ s. (m : ℕ) → from ≤ m → m ≤ to → IfSome (piece_holding e m) (λ x. IsRadiusWithin (curve_of_piece x) m s.lo s.hi)) → IsInShell from to e found
 in_shell e from to None none holds = record { none = λ is. none; holds = λ s is. absurd cc }
 in_shell e from to (Some t) none holds = record {
   none = λ is. absurd cc;
   holds = λ s is.
       let same : t ≡ s = cc in
-      subst (λ (u : Shell). (m : ℕ) → from ≤ m → m ≤ to → IfSome (interval_at e m) (λ x. IsRadiusWithin (curve_of_interval x) m u.lo u.hi)) same holds;
+      subst (λ (u : Shell). (m : ℕ) → from ≤ m → m ≤ to → IfSome (piece_holding e m) (λ x. IsRadiusWithin (curve_of_piece x) m u.lo u.hi)) same holds;
 }
 
 -- a shell that was found
 pub in_own_shell : (e : PlainTrack) (from to : ℕ) (found : Option Shell) → found ≡ shell_of e from to → IfNone found (HasNone e from to)
-    → IfSome found (λ s. (m : ℕ) → from ≤ m → m ≤ to → IfSome (interval_at e m) (λ x. IsRadiusWithin (curve_of_interval x) m s.lo s.hi)) → IsInOwnShell from to e
+    → IfSome found (λ s. (m : ℕ) → from ≤ m → m ≤ to → IfSome (piece_holding e m) (λ x. IsRadiusWithin (curve_of_piece x) m s.lo s.hi)) → IsInOwnShell from to e
 in_own_shell e from to found exact none holds = subst (λ (s : Option Shell). IsInShell from to e s) exact (in_shell e from to found none holds)
 
 -- what holds of a track in a window holds of the same track in the same window
 pub same_for : (P : Track → Window → Type 0) (t u : Track) (v w : Window) → t ≡ u → v ≡ w → P t v → P u w
 same_for P t u v w track window holds = subst (P u) window (subst (λ (x : Track). P x v) track holds)
 
-pub in_shells : (case : PlainProblem) → All (IsInOwnShell case.first case.last) case.ephemerides → AreInShells case (shells_of case)
+pub in_shells : (case : PlainProblem) → All (IsInOwnShell case.first case.last) case.tracks → AreInShells case (shells_of case)
 unfolding shells_of
 in_shells case all i e is =
-    subst (λ (s : Option Shell). IsInShell case.first case.last e s) (made_at (λ z. shell_of z case.first case.last) case.ephemerides i e is)
-    (held_at (IsInOwnShell case.first case.last) case.ephemerides i e all is)
+    subst (λ (s : Option Shell). IsInShell case.first case.last e s) (made_at (λ z. shell_of z case.first case.last) case.tracks i e is)
+    (held_at (IsInOwnShell case.first case.last) case.tracks i e all is)
 
 -- ---- boxes
 
 in_box : (e : PlainTrack) (from to : ℕ) (found : Option PlainBox) → IfNone found (HasNone e from to)
-    → IfSome found (λ r. (m : ℕ) → from ≤ m → m ≤ to → IfSome (interval_at e m) (λ x. IsPlaceIn (curve_of_interval x) m r)) → IsInBox from to e found
+    → IfSome found (λ r. (m : ℕ) → from ≤ m → m ≤ to → IfSome (piece_holding e m) (λ x. IsPlaceIn (curve_of_piece x) m r)) → IsInBox from to e found
 in_box e from to None none holds = record { none = λ is. none; holds = λ r is. absurd cc }
 in_box e from to (Some t) none holds = record {
   none = λ is. absurd cc;
   holds = λ r is.
       let same : t ≡ r = cc in
-      subst (λ (u : PlainBox). (m : ℕ) → from ≤ m → m ≤ to → IfSome (interval_at e m) (λ x. IsPlaceIn (curve_of_interval x) m u)) same holds;
+      subst (λ (u : PlainBox). (m : ℕ) → from ≤ m → m ≤ to → IfSome (piece_holding e m) (λ x. IsPlaceIn (curve_of_piece x) m u)) same holds;
 }
 
 -- a box that was found
 pub in_own_box : (e : PlainTrack) (from to : ℕ) (found : Option AxisBox) → option_map plain_box found ≡ box_of e from to → IfNone found (HasNone e from to)
-    → IfSome found (λ area. (m : ℕ) → from ≤ m → m ≤ to → IfSome (interval_at e m) (λ x. IsPlaceIn (curve_of_interval x) m (plain_box area))) → IsInOwnBox from to e
+    → IfSome found (λ area. (m : ℕ) → from ≤ m → m ≤ to → IfSome (piece_holding e m) (λ x. IsPlaceIn (curve_of_piece x) m (plain_box area))) → IsInOwnBox from to e
 in_own_box e from to None exact none holds = subst (λ (r : Option PlainBox). IsInBox from to e r) exact (in_box e from to None none tt)
 in_own_box e from to (Some area) exact none holds = subst (λ (r : Option PlainBox). IsInBox from to e r) exact (in_box e from to (Some (plain_box area)) tt holds)
 
-pub in_boxes : (case : PlainProblem) → All (IsInOwnBoxes case.first case.last (slot_count case.first case.last)) case.ephemerides → AreInBoxes case (boxes_in case)
+pub in_boxes : (case : PlainProblem) → All (IsInOwnBoxes case.first case.last (slot_count case.first case.last)) case.tracks → AreInBoxes case (boxes_in case)
 unfolding boxes_in
 in_boxes case all slot i e lt is =
     subst (λ (r : Option PlainBox). IsInBox (slot_first case.first slot) (slot_last case.first case.last slot) e r)
-    (made_at (λ z. box_of z (slot_first case.first slot) (slot_last case.first case.last slot)) case.ephemerides i e is)
-    (held_at (IsInOwnBoxes case.first case.last (slot_count case.first case.last)) case.ephemerides i e all is slot lt)
+    (made_at (λ z. box_of z (slot_first case.first slot) (slot_last case.first case.last slot)) case.tracks i e is)
+    (held_at (IsInOwnBoxes case.first case.last (slot_count case.first case.last)) case.tracks i e all is slot lt)
 
 -- ---- pairs that pass two tests
 
@@ -124,16 +124,16 @@ both_orders true false = refl
 both_orders false true = refl
 both_orders false false = refl
 
--- the pairs of a slot that are looked at: of those that touch the ones that are kept
-pub pairs_looked_is : (case : PlainProblem) (slot n : ℕ) (found touching : List (ℕ × ℕ)) (shells : List (Option Shell)) (boxes : List (Option PlainBox)) (sizes : List ℕ)
-    → n ≡ length case.ephemerides → shells ≡ shells_of case → boxes ≡ boxes_in case slot → sizes ≡ case.sizes
-    → touching ≡ filter (touch_between case.threshold sizes boxes) (pairs_of n) → found ≡ filter (keeps_between case.threshold sizes shells) touching → found ≡ pairs_looked case slot
-unfolding is_looked
-pairs_looked_is case slot n found touching shells boxes sizes count in_shells in_boxes sized near kept =
+-- the candidates of a slot: of those that touch the ones that are kept
+pub candidate_pairs_is : (case : PlainProblem) (slot n : ℕ) (found touching : List (ℕ × ℕ)) (shells : List (Option Shell)) (boxes : List (Option PlainBox)) (sizes : List ℕ)
+    → n ≡ length case.tracks → shells ≡ shells_of case → boxes ≡ boxes_in case slot → sizes ≡ case.sizes
+    → touching ≡ filter (touch_between case.threshold sizes boxes) (pairs_of n) → found ≡ filter (keeps_between case.threshold sizes shells) touching → found ≡ candidate_pairs case slot
+unfolding is_candidate
+candidate_pairs_is case slot n found touching shells boxes sizes count in_shells in_boxes sized near kept =
     kept ∙ ap (filter (keeps_between case.threshold sizes shells)) near
     ∙ (λ i. filter (keeps_between case.threshold (sized i) (in_shells i)) (filter (touch_between case.threshold (sized i) (in_boxes i)) (pairs_of (count i))))
-    ∙ filter_both (is_touching case slot) (is_kept case) (pairs_of (length case.ephemerides))
-    ∙ filter_agree (λ pair. is_touching case slot pair && is_kept case pair) (λ pair. is_kept case pair && is_touching case slot pair) (λ pair. both_orders (is_touching case slot pair) (is_kept case pair)) (pairs_of (length case.ephemerides))
+    ∙ filter_both (is_touching case slot) (is_kept case) (pairs_of (length case.tracks))
+    ∙ filter_agree (λ pair. is_touching case slot pair && is_kept case pair) (λ pair. is_kept case pair && is_touching case slot pair) (λ pair. both_orders (is_touching case slot pair) (is_kept case pair)) (pairs_of (length case.tracks))
 
 each_filtered : (P : ℕ × ℕ → Type 0) (p : ℕ × ℕ → Bool) (ps : List (ℕ × ℕ)) → Each P ps → Each P (filter p ps)
 each_filtered P p [] e = tt
@@ -153,20 +153,20 @@ pairs_within p n pairs same =
     (Each-weaker (IsPair n) (λ (q : ℕ × ℕ). q.1 < n) (λ q is. is.exists) (pairs_of n) (Each-pairs n)))))
 
 -- there is a shell and a box for each object
-pub as_many_shells : (case : PlainProblem) (shells : List (Option Shell)) → shells ≡ shells_of case → length shells ≡ length case.ephemerides
+pub as_many_shells : (case : PlainProblem) (shells : List (Option Shell)) → shells ≡ shells_of case → length shells ≡ length case.tracks
 unfolding shells_of
-as_many_shells case shells same = ap (λ (xs : List (Option Shell)). length xs) same ∙ length-map case.ephemerides (λ e. shell_of e case.first case.last)
+as_many_shells case shells same = ap (λ (xs : List (Option Shell)). length xs) same ∙ length-map case.tracks (λ e. shell_of e case.first case.last)
 
-pub as_many_boxes : (case : PlainProblem) (slot : ℕ) (boxes : List (Option AxisBox)) → plain_boxes boxes ≡ boxes_in case slot → length boxes ≡ length case.ephemerides
+pub as_many_boxes : (case : PlainProblem) (slot : ℕ) (boxes : List (Option AxisBox)) → plain_boxes boxes ≡ boxes_in case slot → length boxes ≡ length case.tracks
 unfolding boxes_in
 as_many_boxes case slot boxes same =
     sym (length-map boxes (option_map plain_box)) ∙ ap (λ (xs : List (Option PlainBox)). length xs) same
-    ∙ length-map case.ephemerides (λ e. box_of e (slot_first case.first slot) (slot_last case.first case.last slot))
+    ∙ length-map case.tracks (λ e. box_of e (slot_first case.first slot) (slot_last case.first case.last slot))
 
 -- the pairs that are kept
 pub kept_is : (case : PlainProblem) (shells : List (Option Shell)) (sizes : List ℕ) → shells ≡ shells_of case → sizes ≡ case.sizes
     → filter (keeps_between case.threshold sizes shells) (pairs_of (length shells)) ≡ pairs_kept case
 kept_is case shells sizes same sized =
     ap (λ (n : ℕ). filter (keeps_between case.threshold sizes shells) (pairs_of n)) (as_many_shells case shells same)
-    ∙ ap (λ (ss : List (Option Shell)). filter (keeps_between case.threshold sizes ss) (pairs_of (length case.ephemerides))) same
-    ∙ ap (λ (ss : List ℕ). filter (keeps_between case.threshold ss (shells_of case)) (pairs_of (length case.ephemerides))) sized
+    ∙ ap (λ (ss : List (Option Shell)). filter (keeps_between case.threshold sizes ss) (pairs_of (length case.tracks))) same
+    ∙ ap (λ (ss : List ℕ). filter (keeps_between case.threshold ss (shells_of case)) (pairs_of (length case.tracks))) sized

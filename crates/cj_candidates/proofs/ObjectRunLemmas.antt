@@ -16,7 +16,7 @@ use Rattle.cj_bezier.specs.declared.shells.Shell.{Shell}
 use Rattle.cj_bezier.specs.Shells.{shell_of}
 use Rattle.cj_bezier.specs.SlotBoxes.{PlainBox, plain_box, plain_boxes}
 use Rattle.cj_bezier.specs.Enclosed.{AreInBoxes, AreInShells}
-use Rattle.cj_bezier.specs.Looked.{boxes_in, shells_of}
+use Rattle.cj_bezier.specs.Candidates.{boxes_in, shells_of}
 use Rattle.cj_bezier.specs.AllBoxes.{boxes_of, boxes_over}
 use Rattle.cj_candidates.specs.declared.object_run.ObjectRun.{ObjectRun}
 use Rattle.cj_candidates.specs.ObjectRuns.{AreMeasured, AreMeasuredIn, AreTheirs, IsInOwnShell, IsInOwnBoxes}
@@ -87,22 +87,22 @@ run_more items runs i run lt is =
 
 -- ---- all objects of a case
 
-pub case_shells : (case : PlainProblem) (tracks : List Track) (n : ℕ) (run : ObjectRun) → map plain_track tracks ≡ case.ephemerides → AreMeasured tracks case.first case.last n run → run.shells.items ≡ shells_of case
+pub case_shells : (case : PlainProblem) (tracks : List Track) (n : ℕ) (run : ObjectRun) → map plain_track tracks ≡ case.tracks → AreMeasured tracks case.first case.last n run → run.shells.items ≡ shells_of case
 unfolding shells_of
 case_shells case tracks n run all found = found.shells ∙ ap (map (λ e. shell_of e case.first case.last)) all
 
-pub case_boxes : (case : PlainProblem) (tracks : List Track) (n : ℕ) (run : ObjectRun) → map plain_track tracks ≡ case.ephemerides → n ≡ slot_count case.first case.last
+pub case_boxes : (case : PlainProblem) (tracks : List Track) (n : ℕ) (run : ObjectRun) → map plain_track tracks ≡ case.tracks → n ≡ slot_count case.first case.last
     → AreMeasured tracks case.first case.last n run → plain_boxes run.boxes.items ≡ boxes_of case
 unfolding boxes_of
 case_boxes case tracks n run all count found =
     found.boxes ∙ ap (λ (k : ℕ). flat_map (λ e. boxes_over e case.first case.last k) (map plain_track tracks)) count
     ∙ ap (flat_map (λ e. boxes_over e case.first case.last (slot_count case.first case.last))) all
 
-pub case_in_shells : (case : PlainProblem) (tracks : List Track) (n : ℕ) (run : ObjectRun) → map plain_track tracks ≡ case.ephemerides → AreMeasured tracks case.first case.last n run → AreInShells case (shells_of case)
+pub case_in_shells : (case : PlainProblem) (tracks : List Track) (n : ℕ) (run : ObjectRun) → map plain_track tracks ≡ case.tracks → AreMeasured tracks case.first case.last n run → AreInShells case (shells_of case)
 case_in_shells case tracks n run all found = in_shells case (subst (λ (es : List PlainTrack). All (IsInOwnShell case.first case.last) es) all found.in_shells)
 
-pub case_in_boxes : (case : PlainProblem) (tracks : List Track) (n : ℕ) (run : ObjectRun) → map plain_track tracks ≡ case.ephemerides → n ≡ slot_count case.first case.last
+pub case_in_boxes : (case : PlainProblem) (tracks : List Track) (n : ℕ) (run : ObjectRun) → map plain_track tracks ≡ case.tracks → n ≡ slot_count case.first case.last
     → AreMeasured tracks case.first case.last n run → AreInBoxes case (boxes_in case)
 case_in_boxes case tracks n run all count found =
-    in_boxes case (subst (λ (k : ℕ). All (IsInOwnBoxes case.first case.last k) case.ephemerides) count
+    in_boxes case (subst (λ (k : ℕ). All (IsInOwnBoxes case.first case.last k) case.tracks) count
     (subst (λ (es : List PlainTrack). All (IsInOwnBoxes case.first case.last n) es) all found.in_boxes))

@@ -15,52 +15,52 @@ use Rattle.cj_hermite.specs.Pairs.{objects_of}
 use Rattle.cj_hermite.specs.Roots.{PlainCell, roots_in, roots_in_slot}
 use Rattle.cj_bezier.specs.declared.cell.Cell.{Cell}
 use Rattle.cj_bezier.specs.Cells.{plain_cell, plain_cells}
-use Rattle.cj_bezier.specs.Looked.{pairs_looked}
+use Rattle.cj_bezier.specs.Candidates.{candidate_pairs}
 use Rattle.cj_cells.specs.Cells.{added_roots}
 use Rattle.cj_cells.proofs.WalkLemmas.{added_count, added_twice}
 use Rattle.cj_candidates.specs.declared.slot_run.SlotRun.{SlotRun}
 use Rattle.cj_candidates.specs.declared.slot_run.SlotRuns.{SlotRuns}
 use Rattle.cj_candidates.specs.declared.stretch.Stretch.{Stretch}
-use Rattle.cj_candidates.specs.SlotRuns.{roots_over, looked_over, roots_of_stretch, looked_of_stretch, roots_at, roots_listed, looked_at, IsFound, IsFoundAt}
-use Rattle.cj_candidates.proofs.CountLemmas.{looked_few}
+use Rattle.cj_candidates.specs.SlotRuns.{roots_over, candidates_over, roots_of_stretch, looked_of_stretch, roots_at, roots_listed, candidates_at, IsFound, IsFoundAt}
+use Rattle.cj_candidates.proofs.CountLemmas.{candidates_few}
 
 pub roots_both : (case : PlainProblem) (from a b : ℕ) → roots_over case from (a + b) ≡ roots_over case from a ++ roots_over case (from + a) b
 roots_both case from a b =
-    let f = λ (slot : ℕ). roots_in_slot case slot (pairs_looked case slot) in
+    let f = λ (slot : ℕ). roots_in_slot case slot (candidate_pairs case slot) in
     ap (flat_map f) (range_cut from a b) ∙ flat_map-append f (range_with_len from a) (range_with_len (from + a) b)
 
-pub looked_both : (case : PlainProblem) (from a b : ℕ) → looked_over case from (a + b) ≡ looked_over case from a + looked_over case (from + a) b
-looked_both case from a b =
-    let f = λ (slot : ℕ). length (pairs_looked case slot) in
+pub candidates_both : (case : PlainProblem) (from a b : ℕ) → candidates_over case from (a + b) ≡ candidates_over case from a + candidates_over case (from + a) b
+candidates_both case from a b =
+    let f = λ (slot : ℕ). length (candidate_pairs case slot) in
     ap (sum_by f) (range_cut from a b) ∙ sum_by-append f (range_with_len from a) (range_with_len (from + a) b)
 
 -- ---- one slot more
 
-pub roots_of_one : (case : PlainProblem) (slot : ℕ) → roots_over case slot 1 ≡ roots_in_slot case slot (pairs_looked case slot)
-roots_of_one case slot = append-nil (roots_in_slot case slot (pairs_looked case slot))
+pub roots_of_one : (case : PlainProblem) (slot : ℕ) → roots_over case slot 1 ≡ roots_in_slot case slot (candidate_pairs case slot)
+roots_of_one case slot = append-nil (roots_in_slot case slot (candidate_pairs case slot))
 
-pub looked_of_one : (case : PlainProblem) (slot : ℕ) → looked_over case slot 1 ≡ length (pairs_looked case slot)
-looked_of_one case slot =
-    let f = λ (k : ℕ). length (pairs_looked case k) in
+pub candidates_of_one : (case : PlainProblem) (slot : ℕ) → candidates_over case slot 1 ≡ length (candidate_pairs case slot)
+candidates_of_one case slot =
+    let f = λ (k : ℕ). length (candidate_pairs case k) in
     sum_by-cons f slot [] ∙ (omega arith)
 
-pub slots_more : (case : PlainProblem) (from slot : ℕ) → from ≤ slot → roots_over case from (slot + 1 - from) ≡ roots_over case from (slot - from) ++ roots_in_slot case slot (pairs_looked case slot)
+pub slots_more : (case : PlainProblem) (from slot : ℕ) → from ≤ slot → roots_over case from (slot + 1 - from) ≡ roots_over case from (slot - from) ++ roots_in_slot case slot (candidate_pairs case slot)
 slots_more case from slot le =
     let count : slot + 1 - from ≡ (slot - from) + 1 = omega arith in
     let at : from + (slot - from) ≡ slot = omega arith in
     ap (λ (n : ℕ). roots_over case from n) count ∙ roots_both case from (slot - from) 1
     ∙ ap (λ rs. roots_over case from (slot - from) ++ rs) (ap (λ (k : ℕ). roots_over case k 1) at ∙ roots_of_one case slot)
 
-pub counts_more : (case : PlainProblem) (from slot : ℕ) → from ≤ slot → looked_over case from (slot + 1 - from) ≡ looked_over case from (slot - from) + length (pairs_looked case slot)
+pub counts_more : (case : PlainProblem) (from slot : ℕ) → from ≤ slot → candidates_over case from (slot + 1 - from) ≡ candidates_over case from (slot - from) + length (candidate_pairs case slot)
 counts_more case from slot le =
     let count : slot + 1 - from ≡ (slot - from) + 1 = omega arith in
     let at : from + (slot - from) ≡ slot = omega arith in
-    ap (λ (n : ℕ). looked_over case from n) count ∙ looked_both case from (slot - from) 1
-    ∙ ap (λ n. looked_over case from (slot - from) + n) (ap (λ (k : ℕ). looked_over case k 1) at ∙ looked_of_one case slot)
+    ap (λ (n : ℕ). candidates_over case from n) count ∙ candidates_both case from (slot - from) 1
+    ∙ ap (λ n. candidates_over case from (slot - from) + n) (ap (λ (k : ℕ). candidates_over case k 1) at ∙ candidates_of_one case slot)
 
 -- up to a slot and in it there are no more roots than in all
 pub roots_upto : (case : PlainProblem) (from slot count : ℕ) → from ≤ slot → slot < from + count
-    → length (roots_over case from (slot - from)) + length (roots_in_slot case slot (pairs_looked case slot)) ≤ length (roots_over case from count)
+    → length (roots_over case from (slot - from)) + length (roots_in_slot case slot (candidate_pairs case slot)) ≤ length (roots_over case from count)
 roots_upto case from slot count le lt =
     let all : count ≡ (slot + 1 - from) + (from + count - (slot + 1)) = omega arith in
     let whole = ap length (ap (λ (n : ℕ). roots_over case from n) all ∙ roots_both case from (slot + 1 - from) (from + count - (slot + 1))) in
@@ -70,7 +70,7 @@ roots_upto case from slot count le lt =
       whole,
       more,
       length-append (roots_over case from (slot + 1 - from)) (roots_over case (from + (slot + 1 - from)) (from + count - (slot + 1))),
-      length-append (roots_over case from (slot - from)) (roots_in_slot case slot (pairs_looked case slot)),
+      length-append (roots_over case from (slot - from)) (roots_in_slot case slot (candidate_pairs case slot)),
     )
 
 -- ---- several runs
@@ -80,8 +80,8 @@ pub roots_after : (old new : List Stretch) (stretch : Stretch) → new ≡ old +
 roots_after old new stretch more =
     ap roots_at more ∙ flat_map-append roots_of_stretch old (stretch ∷ []) ∙ ap (λ (rs : List PlainCell). roots_at old ++ rs) (append-nil (roots_of_stretch stretch))
 
-pub looked_after : (old new : List Stretch) (stretch : Stretch) → new ≡ old ++ stretch ∷ [] → looked_at new ≡ looked_at old + looked_of_stretch stretch
-looked_after old new stretch more = ap looked_at more ∙ sum_by_push looked_of_stretch old stretch
+pub candidates_after : (old new : List Stretch) (stretch : Stretch) → new ≡ old ++ stretch ∷ [] → candidates_at new ≡ candidates_at old + looked_of_stretch stretch
+candidates_after old new stretch more = ap candidates_at more ∙ sum_by_push looked_of_stretch old stretch
 
 -- of the first runs, and the next
 pub roots_more : (stretches : List Stretch) (i : ℕ) (stretch : Stretch) → i < length stretches → stretch ≡ get_or stretches i stretch
@@ -89,10 +89,10 @@ pub roots_more : (stretches : List Stretch) (i : ℕ) (stretch : Stretch) → i 
 roots_more stretches i stretch lt is =
     roots_after (take i stretches) (take (i + 1) stretches) stretch (take_more stretches i stretch lt ∙ ap (λ (s : Stretch). take i stretches ++ s ∷ []) (sym is))
 
-pub looked_more_at : (stretches : List Stretch) (i : ℕ) (stretch : Stretch) → i < length stretches → stretch ≡ get_or stretches i stretch
-    → looked_at (take (i + 1) stretches) ≡ looked_at (take i stretches) + looked_of_stretch stretch
-looked_more_at stretches i stretch lt is =
-    sum_by_more looked_of_stretch stretches i stretch lt ∙ ap (λ (s : Stretch). looked_at (take i stretches) + looked_of_stretch s) (sym is)
+pub candidates_more_at : (stretches : List Stretch) (i : ℕ) (stretch : Stretch) → i < length stretches → stretch ≡ get_or stretches i stretch
+    → candidates_at (take (i + 1) stretches) ≡ candidates_at (take i stretches) + looked_of_stretch stretch
+candidates_more_at stretches i stretch lt is =
+    sum_by_more looked_of_stretch stretches i stretch lt ∙ ap (λ (s : Stretch). candidates_at (take i stretches) + looked_of_stretch s) (sym is)
 
 -- one run has no more roots than all
 pub one_within : (stretches : List Stretch) (i : ℕ) (stretch : Stretch) → i < length stretches → stretch ≡ get_or stretches i stretch
@@ -227,23 +227,23 @@ few_so_far old mid new now rest whole kept before few =
 
 -- ---- runs of all slots
 
--- the pairs that are looked at are few
-looked_over_few : (case : PlainProblem) (from count : ℕ) → length case.ephemerides ≤ 65_535 → looked_over case from count ≤ count * 4_294_836_225
-looked_over_few case from count few =
-    subst (λ (n : ℕ). looked_over case from count ≤ n * 4_294_836_225) (length-range_with_len from count)
-    (sum_by-le (λ slot. length (pairs_looked case slot)) 4_294_836_225 (range_with_len from count) (λ k d lt. looked_few case (get_or (range_with_len from count) k d) few))
+-- the candidates are few
+candidates_over_few : (case : PlainProblem) (from count : ℕ) → length case.tracks ≤ 65_535 → candidates_over case from count ≤ count * 4_294_836_225
+candidates_over_few case from count few =
+    subst (λ (n : ℕ). candidates_over case from count ≤ n * 4_294_836_225) (length-range_with_len from count)
+    (sum_by-le (λ slot. length (candidate_pairs case slot)) 4_294_836_225 (range_with_len from count) (λ k d lt. candidates_few case (get_or (range_with_len from count) k d) few))
 
 -- what is found in runs that are all slots, merged
 pub all_found : (case : PlainProblem) (from count limit : ℕ) (stretches : List Stretch) (runs : SlotRuns) (run : SlotRun) → roots_at stretches ≡ roots_over case from count
-    → looked_at stretches ≡ looked_over case from count → length case.ephemerides ≤ 65_535 → count < 4_294_967_296 → IsFoundAt stretches runs → runs.whole ≡ true
+    → candidates_at stretches ≡ candidates_over case from count → length case.tracks ≤ 65_535 → count < 4_294_967_296 → IsFoundAt stretches runs → runs.whole ≡ true
     → length (roots_listed runs) ≤ limit → IsPermutation (roots_listed runs) run.roots.items → vec_len run.roots ≡ length run.roots.items → run.touching ≡ runs.touching
     → IsFound case from count limit run
-all_found case from count limit stretches runs run same looked objects slots found whole few merged len touching =
+all_found case from count limit stretches runs run same candidate objects slots found whole few merged len touching =
     let all = found.touching whole in
     record {
       roots = subst (λ (rs : List PlainCell). IsPermutation rs (plain_cells run.roots.items)) same
           (IsPermutation-trans (roots_at stretches) (cells_at runs.roots.items) (plain_cells run.roots.items) (found.roots whole)
           (IsPermutation-map plain_cell (roots_listed runs) run.roots.items merged));
       few = omega (arith, few, len, length_permutation _ _ merged);
-      touching = omega (arith, touching, all, looked, looked_over_few case from count objects, slots);
+      touching = omega (arith, touching, all, candidate, candidates_over_few case from count objects, slots);
     }

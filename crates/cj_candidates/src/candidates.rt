@@ -9,8 +9,8 @@ pub struct Candidates {
     pub boxes: Vec<Option<AxisBox>>,
     /// How many pairs are kept: their shells are not parted.
     pub kept: u64,
-    /// The roots of the pairs that are looked at in each slot, in order of pair and time, each with its place as its number.
+    /// The roots of the candidates of each slot, in order of pair and time, each with its place as its number.
     pub roots: Vec<Cell>,
-    /// How many pairs are looked at, summed over all slots.
+    /// How many candidates there are, summed over all slots.
     pub touching: u64,
 }

@@ -1,4 +1,4 @@
-//! From a problem to its candidates: shells and boxes first, then slot by slot the pairs that are looked at and their roots, and these
+//! From a problem to its candidates: shells and boxes first, then slot by slot the candidates and their roots, and these
 //! in order at the end.
 ghost use Rattle.std.specs.Prelude.{◌≡◌, ◌<◌, ◌≤◌, length, vec_len, IfOk, OnOk, IsErrOf};
 ghost use Rattle.std.specs.List.{range_with_len};
@@ -7,12 +7,12 @@ ghost use Rattle.cj_hermite.specs.Problems.{plain_problem};
 ghost use Rattle.cj_hermite.specs.Slots.{slot_count};
 ghost use Rattle.cj_bezier.specs.SlotBoxes.{plain_boxes};
 ghost use Rattle.cj_bezier.specs.Cells.{plain_cells};
-ghost use Rattle.cj_bezier.specs.Looked.{shells_of, is_looked, pairs_kept};
+ghost use Rattle.cj_bezier.specs.Candidates.{shells_of, is_candidate, pairs_kept};
 ghost use Rattle.cj_hermite.specs.Roots.{roots_of};
 ghost use Rattle.cj_bezier.specs.AllBoxes.{boxes_of};
 ghost use Rattle.cj_cells.specs.Cells.{root_numbers};
-ghost use Rattle.cj_candidates.specs.Counts.{looked_count};
-ghost use Rattle.cj_bezier.specs.Enclosed.{UnlookedAreFar};
+ghost use Rattle.cj_candidates.specs.Counts.{candidate_count};
+ghost use Rattle.cj_bezier.specs.Enclosed.{OthersAreFar};
 
 use crate::candidates::Candidates;
 use crate::ground::Ground;
@@ -48,13 +48,13 @@ fn search_all<R: Threads + Sync>(
 ) -> Result<SlotRun, RefineError>
     requires { limit ≤ MOST_LEAVES }
     ensures too_many { IsErrOf result RefineError.TooMany
-        → limit < length (roots_of (is_looked (plain_problem ground.now.problem.now)) (plain_problem ground.now.problem.now)) }
+        → limit < length (roots_of (is_candidate (plain_problem ground.now.problem.now)) (plain_problem ground.now.problem.now)) }
 
     ensures roots { IfOk result (λ run. plain_cells run.roots.items
-        ≡ roots_of (is_looked (plain_problem ground.now.problem.now)) (plain_problem ground.now.problem.now)) }
+        ≡ roots_of (is_candidate (plain_problem ground.now.problem.now)) (plain_problem ground.now.problem.now)) }
     ensures numbered { IfOk result (λ run. root_numbers run.roots.items ≡ range_with_len 0 (vec_len run.roots)) }
     ensures few { IfOk result (λ run. vec_len run.roots ≤ limit) }
-    ensures touching { IfOk result (λ run. run.touching ≡ looked_count (plain_problem ground.now.problem.now)) }
+    ensures touching { IfOk result (λ run. run.touching ≡ candidate_count (plain_problem ground.now.problem.now)) }
 {
     let mut found = search_slots(rt, alloc, ground, 0, ground.slots, workers, limit)?;
     order_roots(&mut found.roots);
@@ -70,18 +70,18 @@ pub fn find_candidates<R: Threads + Sync>(
     limit: u64,
 ) -> Result<Candidates, RefineError>
     requires { limit ≤ MOST_LEAVES }
-    ensures too_many { IsErrOf result RefineError.TooMany → limit < length (roots_of (is_looked (plain_problem problem.now)) (plain_problem problem.now)) }
+    ensures too_many { IsErrOf result RefineError.TooMany → limit < length (roots_of (is_candidate (plain_problem problem.now)) (plain_problem problem.now)) }
 
     ensures shells { IfOk result (λ found. found.shells.items ≡ shells_of (plain_problem problem.now)) }
     ensures boxes { IfOk result (λ found. plain_boxes found.boxes.items ≡ boxes_of (plain_problem problem.now)) }
     ensures kept { IfOk result (λ found. found.kept ≡ length (pairs_kept (plain_problem problem.now))) }
-    ensures roots { IfOk result (λ found. plain_cells found.roots.items ≡ roots_of (is_looked (plain_problem problem.now)) (plain_problem problem.now)) }
+    ensures roots { IfOk result (λ found. plain_cells found.roots.items ≡ roots_of (is_candidate (plain_problem problem.now)) (plain_problem problem.now)) }
     ensures numbered { IfOk result (λ found. root_numbers found.roots.items ≡ range_with_len 0 (vec_len found.roots)) }
     ensures few { IfOk result (λ found. vec_len found.roots ≤ limit) }
-    ensures touching { IfOk result (λ found. found.touching ≡ looked_count (plain_problem problem.now)) }
+    ensures touching { IfOk result (λ found. found.touching ≡ candidate_count (plain_problem problem.now)) }
 
-    // What is not looked at is far.
-    ensures far { OnOk result (UnlookedAreFar (plain_problem problem.now) (is_looked (plain_problem problem.now))) }
+    // What is no candidate is far.
+    ensures far { OnOk result (OthersAreFar (plain_problem problem.now) (is_candidate (plain_problem problem.now))) }
 {
     let tracks = problem.tracks.as_slice();
     let slots = slot_count(problem.window);

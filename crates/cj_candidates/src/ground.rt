@@ -2,13 +2,13 @@ ghost use Rattle.std.specs.Prelude.{◌≡◌};
 ghost use Rattle.cj_hermite.specs.Problems.{plain_problem};
 ghost use Rattle.cj_hermite.specs.Slots.{slot_count};
 ghost use Rattle.cj_bezier.specs.SlotBoxes.{plain_boxes};
-ghost use Rattle.cj_bezier.specs.Looked.{shells_of};
+ghost use Rattle.cj_bezier.specs.Candidates.{shells_of};
 ghost use Rattle.cj_bezier.specs.AllBoxes.{boxes_of};
 
 use cj_bezier::{AxisBox, Shell};
 use cj_hermite::Problem;
 
-/// What is known of the objects of a problem before their pairs are looked at: their shells, and their boxes in all slots.
+/// What is known of the objects of a problem before their pairs are compared: their shells, and their boxes in all slots.
 #[derive(Clone, Copy)]
 pub struct Ground<'g> {
     pub problem: &'g Problem,

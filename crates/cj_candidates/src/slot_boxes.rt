@@ -3,7 +3,7 @@ ghost use Rattle.std.specs.Prelude.{◌≡◌, ◌<◌, IfOk};
 ghost use Rattle.cj_hermite.specs.Problems.{plain_problem};
 ghost use Rattle.cj_hermite.specs.Slots.{slot_count};
 ghost use Rattle.cj_bezier.specs.SlotBoxes.{plain_boxes};
-ghost use Rattle.cj_bezier.specs.Looked.{boxes_in};
+ghost use Rattle.cj_bezier.specs.Candidates.{boxes_in};
 ghost use Rattle.cj_bezier.specs.AllBoxes.{boxes_of};
 
 use cj_bezier::AxisBox;

@@ -3,7 +3,7 @@ use cj_bezier::Cell;
 /// What is found in a run of slots.
 #[derive(Drop)]
 pub struct SlotRun {
-    /// The roots of the pairs that are looked at.
+    /// The roots of the candidates.
     pub roots: Vec<Cell>,
     /// How many pairs these are, summed over the slots.
     pub touching: u64,
@@ -12,7 +12,7 @@ pub struct SlotRun {
 /// What a thread has found in a run of slots.
 #[derive(Drop)]
 pub struct ThreadRun {
-    /// Roots of the pairs that are looked at.
+    /// Roots of the candidates.
     pub roots: Vec<Cell>,
     /// How many pairs these are, summed over the slots, or the greatest number that there is.
     pub touching: u64,
@@ -23,7 +23,7 @@ pub struct ThreadRun {
 /// What threads have found in several runs of slots.
 #[derive(Drop)]
 pub struct SlotRuns {
-    /// Roots of the pairs that are looked at, a list for each run.
+    /// Roots of the candidates, a list for each run.
     pub roots: Vec<Vec<Cell>>,
     /// How many pairs these are, summed over the slots of all runs, or the greatest number that there is.
     pub touching: u64,

@@ -4,9 +4,9 @@ ghost use Rattle.std.specs.List.Sorted.{IsPermutation};
 ghost use Rattle.cj_values.specs.Bounds.{MOST_LEAVES};
 ghost use Rattle.cj_hermite.specs.Pairs.{objects_of};
 ghost use Rattle.cj_hermite.specs.Problems.{plain_problem};
-ghost use Rattle.cj_bezier.specs.Looked.{boxes_in, pairs_looked};
+ghost use Rattle.cj_bezier.specs.Candidates.{boxes_in, candidate_pairs};
 ghost use Rattle.cj_bezier.specs.SlotBoxes.{plain_boxes};
-ghost use Rattle.cj_candidates.specs.SlotRuns.{AreSought, looked_at, looked_over, roots_at, roots_over};
+ghost use Rattle.cj_candidates.specs.SlotRuns.{AreSought, candidates_at, candidates_over, roots_at, roots_over};
 
 use crate::ground::Ground;
 use crate::keeping::kept_of;
@@ -23,15 +23,15 @@ use cj_sieve::ShelledObjects;
 use std::alloc::{AllocError, Global};
 use std::thread::Threads;
 
-/// The pairs that are looked at in a slot, whose boxes are given: of those whose boxes touch the ones that are kept.
-pub fn looked_among(
+/// The candidates of a slot, whose boxes are given: of those whose boxes touch the ones that are kept.
+pub fn candidates_among(
     alloc: Global,
     ground: &Ground<'_>,
     slot: u32,
     boxes: &[Option<AxisBox>],
 ) -> Result<Vec<Pair>, AllocError>
     requires { plain_boxes boxes.now ≡ boxes_in (plain_problem ground.now.problem.now) slot }
-    ensures { IfOk result (λ pairs. map objects_of pairs.items ≡ pairs_looked (plain_problem ground.now.problem.now) slot) }
+    ensures { IfOk result (λ pairs. map objects_of pairs.items ≡ candidate_pairs (plain_problem ground.now.problem.now) slot) }
 {
     let problem = ground.problem;
     let sizes = problem.sizes.as_slice();
@@ -44,13 +44,13 @@ pub fn looked_among(
     kept_of(alloc, &touching, &objects)
 }
 
-/// The pairs that are looked at in a slot.
-fn looked_pairs(alloc: Global, ground: &Ground<'_>, slot: u32) -> Result<Vec<Pair>, AllocError>
+/// The candidates of a slot.
+fn candidates_paired(alloc: Global, ground: &Ground<'_>, slot: u32) -> Result<Vec<Pair>, AllocError>
     requires exists { slot < ground.now.slots }
-    ensures { IfOk result (λ pairs. map objects_of pairs.items ≡ pairs_looked (plain_problem ground.now.problem.now) slot) }
+    ensures { IfOk result (λ pairs. map objects_of pairs.items ≡ candidate_pairs (plain_problem ground.now.problem.now) slot) }
 {
     let here = boxes_in_slot(alloc, ground.problem, ground.boxes, ground.slots, slot)?;
-    looked_among(alloc, ground, slot, &here)
+    candidates_among(alloc, ground, slot, &here)
 }
 
 /// So many slots from one on, one after another, with at most so many roots. They are sorted, so that merging them takes one pass;
@@ -71,7 +71,7 @@ fn search_in_turn(
     let mut roots = Vec::new(alloc);
     let mut touching = 0;
     for slot in from..from + count {
-        let pairs = looked_pairs(alloc, ground, slot)?;
+        let pairs = candidates_paired(alloc, ground, slot)?;
         touching += pairs.len() as u64;
         roots_of_slot(alloc, problem, slot, &pairs, limit, &mut hints, &mut roots)?;
     }
@@ -90,7 +90,7 @@ fn cut<'g>(
     requires within { from + count ≤ ground.now.slots }
     requires some { 0 < size }
     ensures roots { IfOk result (λ stretches. roots_at stretches.items ≡ roots_over (plain_problem ground.now.problem.now) from count) }
-    ensures touching { IfOk result (λ stretches. looked_at stretches.items ≡ looked_over (plain_problem ground.now.problem.now) from count) }
+    ensures touching { IfOk result (λ stretches. candidates_at stretches.items ≡ candidates_over (plain_problem ground.now.problem.now) from count) }
 {
     let mut stretches = Vec::new(alloc);
     let mut done = 0;

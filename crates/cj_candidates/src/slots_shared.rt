@@ -4,7 +4,7 @@ ghost use Rattle.cj_values.specs.Bounds.{MOST_LEAVES};
 ghost use Rattle.cj_hermite.specs.Pairs.{objects_of};
 ghost use Rattle.cj_hermite.specs.Problems.{plain_problem};
 ghost use Rattle.cj_hermite.specs.Roots.{roots_in_slot};
-ghost use Rattle.cj_bezier.specs.Looked.{pairs_looked};
+ghost use Rattle.cj_bezier.specs.Candidates.{candidate_pairs};
 ghost use Rattle.cj_cells.specs.Cells.{added_roots};
 ghost use Rattle.cj_candidates.specs.declared.stretch.Stretch.{Stretch};
 ghost use Rattle.cj_candidates.specs.SlotRuns.{IsFoundAt, IsFoundIn};
@@ -13,7 +13,7 @@ use crate::crowding::is_crowd;
 use crate::ground::Ground;
 use crate::slot_boxes::boxes_in_slot;
 use crate::slot_run::{SlotRuns, ThreadRun};
-use crate::slots_searched::looked_among;
+use crate::slots_searched::candidates_among;
 use crate::stretch::Stretch;
 use crate::together::Together;
 use cj_bezier::Cell;
@@ -111,12 +111,12 @@ fn search_slot(
     requires limit { limit ≤ MOST_LEAVES }
     requires room { vec_len run.old.roots ≤ limit + 1 }
     ensures added { IfOk result (λ whole. whole ≡ true → added_roots run.old.roots.items run.new.roots.items
-        ≡ roots_in_slot (plain_problem ground.now.problem.now) slot (pairs_looked (plain_problem ground.now.problem.now) slot)) }
-    ensures looked { IfOk result (λ whole. whole ≡ true → run.new.touching
-        ≡ min (run.old.touching + length (pairs_looked (plain_problem ground.now.problem.now) slot)) 18_446_744_073_709_551_615) }
+        ≡ roots_in_slot (plain_problem ground.now.problem.now) slot (candidate_pairs (plain_problem ground.now.problem.now) slot)) }
+    ensures candidate { IfOk result (λ whole. whole ≡ true → run.new.touching
+        ≡ min (run.old.touching + length (candidate_pairs (plain_problem ground.now.problem.now) slot)) 18_446_744_073_709_551_615) }
     ensures room { IfOk result (λ whole. whole ≡ true → vec_len run.new.roots ≤ limit + 1) }
     ensures few { OnOk result (vec_len run.new.roots ≤ vec_len run.old.roots
-        + length (roots_in_slot (plain_problem ground.now.problem.now) slot (pairs_looked (plain_problem ground.now.problem.now) slot))) }
+        + length (roots_in_slot (plain_problem ground.now.problem.now) slot (candidate_pairs (plain_problem ground.now.problem.now) slot))) }
     ensures kept { OnOk result (take (vec_len run.old.roots) run.new.roots.items ≡ run.old.roots.items) }
     ensures stays { run.new.whole ≡ run.old.whole }
 {
@@ -125,7 +125,7 @@ fn search_slot(
     if !together.begin(limit, is_crowded) {
         return Ok(false);
     }
-    let pairs = looked_among(alloc, ground, slot, &here)?;
+    let pairs = candidates_among(alloc, ground, slot, &here)?;
     drop(here);
     run.touching = run.touching.saturating_add(pairs.len() as u64);
     let whole = append_until_stopped(

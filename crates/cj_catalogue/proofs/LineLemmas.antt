@@ -14,7 +14,7 @@ use Rattle.cj_track.specs.declared.frame.Frame.TheVariants as frames
 use Rattle.cj_track.specs.Labels.{is_visible}
 use Rattle.cj_oem.specs.CovarianceRows.{NO_COVARIANCES, closed, with_matrix_pair, with_matrix_row}
 use Rattle.cj_oem.specs.Metadata.{EMPTY, Metadata, MetadataDraft, Object, epoch_or, key_of, metadata_of, parse_label, with_pair, with_value}
-use Rattle.cj_oem.specs.Stages.{After, Body, Cov, Data, Meta, NO_BODY, OpenSegment, Start, follows, with_arc}
+use Rattle.cj_oem.specs.Stages.{After, Body, Cov, Data, Meta, NO_BODY, OpenSegment, Start, follows, with_segment}
 use Rattle.cj_oem.specs.Words.{is_word}
 use Rattle.cj_oem.proofs.MetadataAgainLemmas.{IsNeat}
 use Rattle.cj_oem.proofs.PrintedLineLemmas.{Says, Tells, told_append, told_line}
@@ -190,11 +190,11 @@ metadata number minutes = record { object = object number; first = 1_735_689_600
 
 ending_walk : (number minutes : ℕ)
     → walk (Meta NO_BODY (record (begun (object number).name (object number).id) { stop = Some (tick_at minutes) })) ending_forms
-    ≡ Ok (Data NO_BODY (record { metadata = metadata number minutes; states = [] }))
+    ≡ Ok (Data NO_BODY (record { metadata = metadata number minutes; nodes = [] }))
 unfolding follows with_pair key_of with_value metadata_of is_word
 ending_walk number minutes = refl
 
-pub head_walk : (number minutes : ℕ) → minutes ≤ 1440 → walk Start (head_forms number minutes) ≡ Ok (Data NO_BODY (record { metadata = metadata number minutes; states = [] }))
+pub head_walk : (number minutes : ℕ) → minutes ≤ 1440 → walk Start (head_forms number minutes) ≡ Ok (Data NO_BODY (record { metadata = metadata number minutes; nodes = [] }))
 head_walk number minutes few =
     let o = object number in
     let r4 = Pair (codes "STOP_TIME") (stamp minutes) ∷ ending_forms in
@@ -210,6 +210,6 @@ head_walk number minutes few =
 
 -- ---- the covariance leads behind the segment
 
-pub matrix_walk : (b : Body) (s : OpenSegment) → walk (Cov b s NO_COVARIANCES) matrix_forms ≡ Ok (After (with_arc b s (covariance ∷ [])))
+pub matrix_walk : (b : Body) (s : OpenSegment) → walk (Cov b s NO_COVARIANCES) matrix_forms ≡ Ok (After (with_segment b s (covariance ∷ [])))
 unfolding follows with_matrix_pair with_matrix_row closed fields is_word is_number number parts_of is_tiny is_huge rounded without_trailing_zeros digit_count trailing_zeros
 matrix_walk b s = rw start_read refl

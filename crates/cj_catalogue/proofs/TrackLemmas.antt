@@ -10,7 +10,7 @@ use Rattle.cj_track.specs.Labels.{is_file_name, is_visible}
 use Rattle.cj_track.specs.PlainTracks.{PlainNode, PlainTrack, first_state, last_state}
 use Rattle.cj_oem.specs.CovarianceRows.{NO_COVARIANCES}
 use Rattle.cj_oem.specs.Reading.{Fault, lines_read, reading}
-use Rattle.cj_oem.specs.Stages.{After, Body, Cov, Data, NO_BODY, OpenSegment, Start, close_nodes, finished, follows, is_useable, with_arc}
+use Rattle.cj_oem.specs.Stages.{After, Body, Cov, Data, NO_BODY, OpenSegment, Start, close_nodes, finished, follows, is_useable, with_segment}
 use Rattle.cj_oem.proofs.AgainLemmas.{reading_lines}
 use Rattle.cj_oem.proofs.PrintedLineLemmas.{Tells, numbered_from, reading_told, told_append}
 use Rattle.cj_oem.proofs.WalkLemmas.{read_walk, walk, walk_append, walk_step}
@@ -37,7 +37,7 @@ unfolding oem_of
 text_told number o minutes is few = told_append _ _ _ _ (told_append _ _ _ _ (head_told number minutes) (nodes_told o is minutes few)) covariance_told
 
 abbrev segment : ℕ → Orbit → ℕ → OpenSegment
-segment number o minutes = record { metadata = metadata number minutes; states = nodes o minutes }
+segment number o minutes = record { metadata = metadata number minutes; nodes = nodes o minutes }
 
 useable : (o : Orbit) (minutes : ℕ) → is_useable 1_735_689_600_000_000 (tick_at minutes) (first_state (nodes o minutes)) (last_state (nodes o minutes)) ≡ true
 useable o minutes =
@@ -59,13 +59,13 @@ unfolding follows
 start_follows number o minutes some = rw (closes number o minutes some) refl
 
 abbrev body : ℕ → Orbit → ℕ → Body
-body number o minutes = with_arc NO_BODY (segment number o minutes) (covariance ∷ [])
+body number o minutes = with_segment NO_BODY (segment number o minutes) (covariance ∷ [])
 
 text_walk : (number : ℕ) (o : Orbit) (minutes : ℕ) → IsMade o → 1 ≤ minutes → minutes ≤ 1440 → walk Start (forms_of number o minutes) ≡ Ok (After (body number o minutes))
 text_walk number o minutes is some few =
     let rows = flat_map (node_forms o) (range_with_len 0 (minutes + 1)) in
     let s = segment number o minutes in
-    let to_nodes = walk_append Start (Data NO_BODY (record { metadata = metadata number minutes; states = [] })) (head_forms number minutes) rows (head_walk number minutes few)
+    let to_nodes = walk_append Start (Data NO_BODY (record { metadata = metadata number minutes; nodes = [] })) (head_forms number minutes) rows (head_walk number minutes few)
     ∙ nodes_walk NO_BODY (metadata number minutes) o is minutes few in
     walk_append Start (Data NO_BODY s) (head_forms number minutes ++ rows) covariance_forms to_nodes
     ∙ walk_step (Data NO_BODY s) (Cov NO_BODY s NO_COVARIANCES) (Mark CovarianceStart) matrix_forms (start_follows number o minutes some)

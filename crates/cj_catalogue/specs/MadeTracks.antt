@@ -56,10 +56,10 @@ track_on number orbit minutes = record {
   name = codes "GEN " ++ five number;
   id = codes "GEN-" ++ five number;
   frame = frames.Eme2000;
-  arcs = record {
+  segments = record {
     first = 1_735_689_600_000_000;
     last = tick_at minutes;
-    states = map (node_at orbit) (range_with_len 0 (minutes + 1));
+    nodes = map (node_at orbit) (range_with_len 0 (minutes + 1));
     covariances = covariance ∷ [];
   } ∷ [];
 }

@@ -2,7 +2,7 @@
 use Rattle.std.proofs.Common.{◌≡◌, ℕ, ap, sym, ◌∙◌, refl, false, Option, Some, None, option_map, is_some}
 use Rattle.std.specs.Prelude.{◌&&◌, option_and_then, slice_get}
 use Rattle.cj_track.specs.PlainTracks.{PlainSegment, PlainTrack}
-use Rattle.cj_hermite.specs.Pieces.{PlainPiece, curve_of_interval, interval_at, interval_index_at, intervals_of, last_covering}
+use Rattle.cj_hermite.specs.Pieces.{PlainPiece, curve_of_piece, piece_holding, piece_at, pieces_of, last_covering}
 use Rattle.cj_hermite.specs.PlainProblems.{PlainProblem}
 use Rattle.cj_cdm.specs.Building.{have_covariances, message_of, object_covariance, object_side, side_of, side_with}
 use Rattle.cj_cdm.specs.Covariances.{covariance_at, covariance_for, segment_with}
@@ -14,14 +14,14 @@ some_mapped f (Some x) = refl
 
 -- an object has a covariance only where it has a state
 some_side : (e : PlainTrack) (m : ℕ) (l : Option (ℕ × PlainPiece)) →
-    let covariance = option_and_then (λ (arc : PlainSegment). covariance_for m arc.covariances) (option_and_then (λ index. segment_with index e.arcs) (option_map (λ (x : ℕ × PlainPiece). x.0) l)) in
-    is_some (option_and_then (λ (x : PlainPiece). option_map (side_with e m (curve_of_interval x)) covariance) (option_map (λ (x : ℕ × PlainPiece). x.1) l)) ≡ is_some covariance
+    let covariance = option_and_then (λ (segment : PlainSegment). covariance_for m segment.covariances) (option_and_then (λ index. segment_with index e.segments) (option_map (λ (x : ℕ × PlainPiece). x.0) l)) in
+    is_some (option_and_then (λ (x : PlainPiece). option_map (side_with e m (curve_of_piece x)) covariance) (option_map (λ (x : ℕ × PlainPiece). x.1) l)) ≡ is_some covariance
 some_side e m None = refl
-some_side e m (Some x) = some_mapped (side_with e m (curve_of_interval x.1)) _
+some_side e m (Some x) = some_mapped (side_with e m (curve_of_piece x.1)) _
 
 side_some : (e : PlainTrack) (m : ℕ) → is_some (side_of e m) ≡ is_some (covariance_at e m)
-unfolding side_of covariance_at interval_at interval_index_at
-side_some e m = some_side e m (last_covering m 0 (intervals_of e))
+unfolding side_of covariance_at piece_holding piece_at
+side_some e m = some_side e m (last_covering m 0 (pieces_of e))
 
 some_object : (m : ℕ) (e : Option PlainTrack) → is_some (option_and_then (λ e. side_of e m) e) ≡ is_some (option_and_then (λ e. covariance_at e m) e)
 some_object m None = refl
@@ -44,8 +44,8 @@ message_some case a b m miss stamp =
       object1 = object1;
       object2 = object2;
     }) (object_side case a m) (object_side case b m)
-    ∙ ap (λ t. t && is_some (object_side case b m)) (some_object m (slice_get case.ephemerides a))
-    ∙ ap (λ t. is_some (object_covariance case a m) && t) (some_object m (slice_get case.ephemerides b))
+    ∙ ap (λ t. t && is_some (object_side case b m)) (some_object m (slice_get case.tracks a))
+    ∙ ap (λ t. is_some (object_covariance case a m) && t) (some_object m (slice_get case.tracks b))
 
 no_some : {A : Type 0} (o : Option A) → is_some o ≡ false → o ≡ None
 no_some None none = refl
@@ -54,4 +54,4 @@ no_some (Some x) none = absurd (cc)
 -- without a covariance nothing is said of an object
 pub object_bare : (case : PlainProblem) (object m : ℕ) → None ≡ object_covariance case object m → None ≡ object_side case object m
 object_bare case object m none =
-    sym (no_some (object_side case object m) (some_object m (slice_get case.ephemerides object) ∙ sym (ap is_some none)))
+    sym (no_some (object_side case object m) (some_object m (slice_get case.tracks object) ∙ sym (ap is_some none)))

@@ -6,22 +6,22 @@ use Rattle.cj_track.specs.declared.track.Track.{Track}
 use Rattle.cj_track.specs.Tracks.{plain_track}
 use Rattle.cj_track.specs.PlainTracks.{PlainMatrix, PlainTrack}
 use Rattle.cj_hermite.specs.Interpolant.{Curve}
-use Rattle.cj_hermite.specs.Pieces.{PlainPiece, curve_of_interval, interval_at, interval_index_at, intervals_of, last_covering}
+use Rattle.cj_hermite.specs.Pieces.{PlainPiece, curve_of_piece, piece_holding, piece_at, pieces_of, last_covering}
 use Rattle.cj_cdm.specs.Building.{side_of, side_with}
 use Rattle.cj_cdm.specs.Covariances.{covariance_at}
 use Rattle.cj_cdm.specs.Indexed.{AreOfTracks}
 
-no_interval : (l : Option (ℕ × PlainPiece)) → option_map (λ (x : ℕ × PlainPiece). x.0) l ≡ None → option_map (λ (x : ℕ × PlainPiece). x.1) l ≡ None
-no_interval None none = refl
-no_interval (Some x) none = absurd (cc)
+no_piece : (l : Option (ℕ × PlainPiece)) → option_map (λ (x : ℕ × PlainPiece). x.0) l ≡ None → option_map (λ (x : ℕ × PlainPiece). x.1) l ≡ None
+no_piece None none = refl
+no_piece (Some x) none = absurd (cc)
 
 -- where it has no state
-pub side_nowhere : (e : PlainTrack) (m : ℕ) → interval_index_at e m ≡ None → side_of e m ≡ None
-unfolding side_of interval_at interval_index_at
-side_nowhere e m none = rw (no_interval (last_covering m 0 (intervals_of e)) none) refl
+pub side_nowhere : (e : PlainTrack) (m : ℕ) → piece_at e m ≡ None → side_of e m ≡ None
+unfolding side_of piece_holding piece_at
+side_nowhere e m none = rw (no_piece (last_covering m 0 (pieces_of e)) none) refl
 
 -- on an interpolant, with a covariance
-pub side_built : (e : PlainTrack) (m : ℕ) (z : Option PlainPiece) (c : PlainMatrix) (curve : Curve) → interval_at e m ≡ z → IsSomeAnd z (λ x. curve ≡ curve_of_interval x)
+pub side_built : (e : PlainTrack) (m : ℕ) (z : Option PlainPiece) (c : PlainMatrix) (curve : Curve) → piece_holding e m ≡ z → IsSomeAnd z (λ x. curve ≡ curve_of_piece x)
     → covariance_at e m ≡ Some c → side_of e m ≡ Some (side_with e m curve c)
 unfolding side_of
 side_built e m None c curve at same covariance = absurd same

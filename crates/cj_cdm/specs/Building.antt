@@ -4,7 +4,7 @@ use Rattle.cj_values.specs.Numbers.{Number}
 use Rattle.cj_values.specs.Decimals.{shifted}
 use Rattle.cj_track.specs.PlainTracks.{PlainMatrix, PlainTrack}
 use Rattle.cj_hermite.specs.Interpolant.{Curve}
-use Rattle.cj_hermite.specs.Pieces.{interval_at, curve_of_interval}
+use Rattle.cj_hermite.specs.Pieces.{piece_holding, curve_of_piece}
 use Rattle.cj_hermite.specs.PlainProblems.{PlainProblem}
 use Rattle.cj_cdm.specs.Covariances.{covariance_at}
 use Rattle.cj_cdm.specs.Designators.{designator_of}
@@ -31,15 +31,15 @@ side_with e m curve covariance = record {
 
 -- an object at tick m, or none where it has no state or no covariance
 unfoldable pub side_of : PlainTrack → ℕ → Option PlainSide
-side_of e m = option_and_then (λ x. option_map (side_with e m (curve_of_interval x)) (covariance_at e m)) (interval_at e m)
+side_of e m = option_and_then (λ x. option_map (side_with e m (curve_of_piece x)) (covariance_at e m)) (piece_holding e m)
 
 -- the same by the object's number
 abbrev pub object_side : PlainProblem → ℕ → ℕ → Option PlainSide
-object_side case object m = option_and_then (λ e. side_of e m) (slice_get case.ephemerides object)
+object_side case object m = option_and_then (λ e. side_of e m) (slice_get case.tracks object)
 
 -- the covariance of an object at tick m, by the object's number
 abbrev pub object_covariance : PlainProblem → ℕ → ℕ → Option PlainMatrix
-object_covariance case object m = option_and_then (λ e. covariance_at e m) (slice_get case.ephemerides object)
+object_covariance case object m = option_and_then (λ e. covariance_at e m) (slice_get case.tracks object)
 
 -- the objects a and b both have a covariance at tick m
 abbrev pub have_covariances : PlainProblem → ℕ → ℕ → ℕ → Bool

@@ -1,7 +1,7 @@
 //! Which covariance is told at a tick, by a look at all of the segment.
 ghost use Rattle.std.specs.Prelude.{◌≡◌, ◌<◌, length, map, option_map};
 ghost use Rattle.cj_track.specs.Tracks.{plain_matrix, plain_track};
-ghost use Rattle.cj_hermite.specs.Pieces.{intervals_of};
+ghost use Rattle.cj_hermite.specs.Pieces.{pieces_of};
 ghost use Rattle.cj_hermite.specs.Problems.{plain_problem};
 ghost use Rattle.cj_cdm.specs.Building as building;
 ghost use Rattle.cj_cdm.specs.Covariances as spec;
@@ -30,8 +30,8 @@ fn covariance_at(track: &Track, at: Tick) -> Option<&Matrix>
 
 /// The covariances of the segment in which the piece with this number lies.
 fn matrices_of(track: &Track, index: u32) -> &[Matrix]
-    requires { index < length (intervals_of (plain_track track.now)) }
-    ensures { option_map (λ arc. arc.covariances) (segment_with index (plain_track track.now).arcs) ≡ Some (map plain_matrix result.now) }
+    requires { index < length (pieces_of (plain_track track.now)) }
+    ensures { option_map (λ segment. segment.covariances) (segment_with index (plain_track track.now).segments) ≡ Some (map plain_matrix result.now) }
 {
     let number = segment_of(track, index);
     track.segments.as_slice()[number as usize]

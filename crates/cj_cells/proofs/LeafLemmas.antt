@@ -1,4 +1,4 @@
--- The one-thread list: its stretches are sound and in order, and hold each common tick that is looked at.
+-- The one-thread list: its leaves are sound and in order, and hold each common tick of a candidate.
 use Rattle.std.proofs.Common.{◌≡◌, ℕ, ◌+◌, ◌-◌, Bool, true, List, [], ◌∷◌, length, refl, sym, subst, ◌∙◌, arith, length-append}
 use Rattle.std.specs.Prelude.{All, Any, AllPairs}
 use Rattle.std.specs.List.{flat_map, sum_by}
@@ -6,17 +6,17 @@ use Rattle.std.proofs.lemmas.List.Sums.{sum_by-cons}
 use Rattle.cj_hermite.specs.PlainProblems.{PlainProblem, number_at, curve_at, threshold_of, IsCommonOf}
 use Rattle.cj_bezier.specs.Halving.{leaves_between}
 use Rattle.cj_hermite.specs.Slots.{slot_of}
-use Rattle.cj_bezier.specs.Looked.{is_looked}
-use Rattle.cj_hermite.specs.Roots.{PlainCell, KeepIntervals, roots_of, IsRootBefore}
+use Rattle.cj_bezier.specs.Candidates.{is_candidate}
+use Rattle.cj_hermite.specs.Roots.{PlainCell, KeepPieces, roots_of, IsRootBefore}
 use Rattle.cj_bezier.specs.Order.{IsBefore}
 use Rattle.cj_bezier.specs.RootLeaves.{kind_between, leaves_of_curves, leaves_of_root, leaves_of_roots, IsTrueThroughout, IsPartOf, Describe}
-use Rattle.cj_cells.specs.Lists.{list_of, list_looked, splits_of_curves, splits_of_root, splits_of, IsSound}
+use Rattle.cj_cells.specs.Lists.{list_of, list_candidates, splits_of_curves, splits_of_root, splits_of, IsSound}
 use Rattle.cj_bezier.specs.Leaves.{IsTickOf}
 use Rattle.cj_interval.proofs.ListLemmas.{Each, Exists, Ordered, Each-weaker, Each-both, Each-flat_map, Each-exists, Exists-weaker, Exists-flat_map, Ordered-flat_map, All-from_each, Any-from_exists, AllPairs-from_ordered, each_from_All, exists_from_Any, ordered_from_AllPairs}
 use Rattle.cj_hermite.proofs.RootLemmas.{IsRootOf, Each-roots, Ordered-roots, Exists-roots}
 use Rattle.cj_hermite.proofs.RootLemmas.{Holds as HasRootTick}
 use Rattle.cj_hermite.proofs.ObjectLemmas.{numbers_exist, second_exists}
-use Rattle.cj_hermite.proofs.CurveLemmas.{Curves, curves, curves_of, keep_part, root_intervals, some_both}
+use Rattle.cj_hermite.proofs.CurveLemmas.{Curves, curves, curves_of, keep_part, root_pieces, some_both}
 use Rattle.cj_bezier.proofs.LeafLemmas.{leaves_split}
 
 -- ---- the list
@@ -69,76 +69,76 @@ root_across case r q is is' before =
     }) (leaves_of_root case q) (root_parts case q is'))
     (leaves_of_root case r) (root_parts case r is)
 
-root_keeps : (case : PlainProblem) (r : PlainCell) → IsDescribed case r → Each (λ s. KeepIntervals case s.a s.b s.first s.last) (leaves_of_root case r)
+root_keeps : (case : PlainProblem) (r : PlainCell) → IsDescribed case r → Each (λ s. KeepPieces case s.a s.b s.first s.last) (leaves_of_root case r)
 root_keeps case r is =
-    Each-weaker (IsPartOf r) (λ s. KeepIntervals case s.a s.b s.first s.last)
+    Each-weaker (IsPartOf r) (λ s. KeepPieces case s.a s.b s.first s.last)
     (λ s part.
-    subst (λ (a : ℕ). KeepIntervals case a s.b s.first s.last) (sym part.first_object)
-    (subst (λ (b : ℕ). KeepIntervals case r.a b s.first s.last) (sym part.second_object)
-    (keep_part case r.a r.b r.first r.last s.first s.last (root_intervals case r is.root) part.from part.some part.to)))
+    subst (λ (a : ℕ). KeepPieces case a s.b s.first s.last) (sym part.first_object)
+    (subst (λ (b : ℕ). KeepPieces case r.a b s.first s.last) (sym part.second_object)
+    (keep_part case r.a r.b r.first r.last s.first s.last (root_pieces case r is.root) part.from part.some part.to)))
     (leaves_of_root case r) (root_parts case r is)
 
-module _ (looked : ℕ → ℕ → ℕ → Bool) (case : PlainProblem) (leaves : All (λ r. Describe case r (leaves_of_root case r)) (roots_of looked case)) where
-  each_described : Each (IsDescribed case) (roots_of looked case)
-  each_described = both_facts case (roots_of looked case) (Each-roots looked case) (each_from_All (λ r. Describe case r (leaves_of_root case r)) (roots_of looked case) leaves)
+module _ (candidate : ℕ → ℕ → ℕ → Bool) (case : PlainProblem) (leaves : All (λ r. Describe case r (leaves_of_root case r)) (roots_of candidate case)) where
+  each_described : Each (IsDescribed case) (roots_of candidate case)
+  each_described = both_facts case (roots_of candidate case) (Each-roots candidate case) (each_from_All (λ r. Describe case r (leaves_of_root case r)) (roots_of candidate case) leaves)
 
-  list_sound : All (IsSound case) (list_of looked case)
+  list_sound : All (IsSound case) (list_of candidate case)
   unfolding list_of leaves_of_roots
   list_sound =
-      All-from_each (IsSound case) (flat_map (leaves_of_root case) (roots_of looked case))
-      (Each-flat_map (IsSound case) (leaves_of_root case) (roots_of looked case)
-      (Each-weaker (IsDescribed case) (λ r. Each (IsSound case) (leaves_of_root case r)) (root_sound case) (roots_of looked case) each_described))
+      All-from_each (IsSound case) (flat_map (leaves_of_root case) (roots_of candidate case))
+      (Each-flat_map (IsSound case) (leaves_of_root case) (roots_of candidate case)
+      (Each-weaker (IsDescribed case) (λ r. Each (IsSound case) (leaves_of_root case r)) (root_sound case) (roots_of candidate case) each_described))
 
-  list_keeps : All (λ s. KeepIntervals case s.a s.b s.first s.last) (list_of looked case)
+  list_keeps : All (λ s. KeepPieces case s.a s.b s.first s.last) (list_of candidate case)
   unfolding list_of leaves_of_roots
   list_keeps =
-      All-from_each (λ s. KeepIntervals case s.a s.b s.first s.last) (flat_map (leaves_of_root case) (roots_of looked case))
-      (Each-flat_map (λ s. KeepIntervals case s.a s.b s.first s.last) (leaves_of_root case) (roots_of looked case)
-      (Each-weaker (IsDescribed case) (λ r. Each (λ s. KeepIntervals case s.a s.b s.first s.last) (leaves_of_root case r)) (root_keeps case) (roots_of looked case) each_described))
+      All-from_each (λ s. KeepPieces case s.a s.b s.first s.last) (flat_map (leaves_of_root case) (roots_of candidate case))
+      (Each-flat_map (λ s. KeepPieces case s.a s.b s.first s.last) (leaves_of_root case) (roots_of candidate case)
+      (Each-weaker (IsDescribed case) (λ r. Each (λ s. KeepPieces case s.a s.b s.first s.last) (leaves_of_root case r)) (root_keeps case) (roots_of candidate case) each_described))
 
-  list_ordered : AllPairs IsBefore (list_of looked case)
+  list_ordered : AllPairs IsBefore (list_of candidate case)
   unfolding list_of leaves_of_roots
   list_ordered =
-      AllPairs-from_ordered IsBefore (flat_map (leaves_of_root case) (roots_of looked case))
+      AllPairs-from_ordered IsBefore (flat_map (leaves_of_root case) (roots_of candidate case))
       (Ordered-flat_map IsBefore IsRootBefore (IsDescribed case) (leaves_of_root case) (root_ordered case) (root_across case)
-      (roots_of looked case) each_described (Ordered-roots looked case))
+      (roots_of candidate case) each_described (Ordered-roots candidate case))
 
-  list_has : (a b m : ℕ) → IsCommonOf case a b m → looked a b (slot_of case.first m) ≡ true → Any (IsTickOf a b m) (list_of looked case)
+  list_has : (a b m : ℕ) → IsCommonOf case a b m → candidate a b (slot_of case.first m) ≡ true → Any (IsTickOf a b m) (list_of candidate case)
   unfolding list_of leaves_of_roots
   list_has a b m common is =
-      let numbers = numbers_exist case a b m common.states in
-      Any-from_exists (IsTickOf a b m) (flat_map (leaves_of_root case) (roots_of looked case))
-      (Exists-flat_map (IsTickOf a b m) (leaves_of_root case) (roots_of looked case)
-      (Exists-weaker (λ r. IsDescribed case r × HasRootTick a b m r) (λ r. Exists (IsTickOf a b m) (leaves_of_root case r)) (λ r h. root_has case a b m r h.0 h.1) (roots_of looked case)
-      (Each-exists (IsDescribed case) (HasRootTick a b m) (roots_of looked case) each_described
-      (Exists-roots looked case a b m common.ordered (second_exists case a b m common.states) common.after common.before is
+      let numbers = numbers_exist case a b m common.nodes in
+      Any-from_exists (IsTickOf a b m) (flat_map (leaves_of_root case) (roots_of candidate case))
+      (Exists-flat_map (IsTickOf a b m) (leaves_of_root case) (roots_of candidate case)
+      (Exists-weaker (λ r. IsDescribed case r × HasRootTick a b m r) (λ r. Exists (IsTickOf a b m) (leaves_of_root case r)) (λ r h. root_has case a b m r h.0 h.1) (roots_of candidate case)
+      (Each-exists (IsDescribed case) (HasRootTick a b m) (roots_of candidate case) each_described
+      (Exists-roots candidate case a b m common.ordered (second_exists case a b m common.nodes) common.after common.before is
       (some_both (number_at case a m) (number_at case b m) numbers.0 numbers.1)))))
 
--- what the list of the pairs that are looked at says of its case
+-- what the list of the candidates says of its case
 pub record DescribesCase (case : PlainProblem) : Type 0 where
-  pub sound : All (IsSound case) (list_looked case)
-  pub complete : (a b m : ℕ) → IsCommonOf case a b m → is_looked case a b (slot_of case.first m) ≡ true → Any (IsTickOf a b m) (list_looked case)
-  pub ordered : AllPairs IsBefore (list_looked case)
-  pub intervals : All (λ s. KeepIntervals case s.a s.b s.first s.last) (list_looked case)
+  pub sound : All (IsSound case) (list_candidates case)
+  pub complete : (a b m : ℕ) → IsCommonOf case a b m → is_candidate case a b (slot_of case.first m) ≡ true → Any (IsTickOf a b m) (list_candidates case)
+  pub ordered : AllPairs IsBefore (list_candidates case)
+  pub pieces : All (λ s. KeepPieces case s.a s.b s.first s.last) (list_candidates case)
 
 -- it does where the leaves of each root describe that root
-pub list_described : (case : PlainProblem) (roots : List PlainCell) → roots ≡ roots_of (is_looked case) case →
+pub list_described : (case : PlainProblem) (roots : List PlainCell) → roots ≡ roots_of (is_candidate case) case →
     All (λ r. Describe case r (leaves_of_root case r)) roots → DescribesCase case
 list_described case roots same leaves =
-    let looked = is_looked case in
+    let candidate = is_candidate case in
     let described = subst (λ (rs : List PlainCell). All (λ r. Describe case r (leaves_of_root case r)) rs) same leaves in
     record {
-      sound = list_sound looked case described;
-      complete = list_has looked case described;
-      ordered = list_ordered looked case described;
-      intervals = list_keeps looked case described;
+      sound = list_sound candidate case described;
+      complete = list_has candidate case described;
+      ordered = list_ordered candidate case described;
+      pieces = list_keeps candidate case described;
     }
 
 -- ---- how often roots are halved
 
 root_split : (case : PlainProblem) (r : PlainCell) → IsRootOf case r → length (leaves_of_root case r) ≡ 1 + splits_of_root case r
 unfolding leaves_of_root leaves_between splits_of_root
-root_split case r is = go (curves_of case r.a r.b r.first r.last (root_intervals case r is))
+root_split case r is = go (curves_of case r.a r.b r.first r.last (root_pieces case r is))
   where
     go : Curves case r.a r.b r.first r.last → length (leaves_of_curves r (threshold_of case r.a r.b) (curve_at case r.a r.first) (curve_at case r.b r.first)) ≡ 1 + splits_of_curves r (threshold_of case r.a r.b) (curve_at case r.a r.first) (curve_at case r.b r.first)
     go (curves c d have) =
@@ -157,6 +157,6 @@ roots_split case (r ∷ rs) are =
     omega (arith, length-append (leaves_of_root case r) (flat_map (leaves_of_root case) rs))
 
 -- a case has as many leaves as roots and halvings
-pub list_split : (case : PlainProblem) → length (list_looked case) ≡ length (roots_of (is_looked case) case) + splits_of case
+pub list_split : (case : PlainProblem) → length (list_candidates case) ≡ length (roots_of (is_candidate case) case) + splits_of case
 unfolding list_of splits_of
-list_split case = roots_split case (roots_of (is_looked case) case) (Each-roots (is_looked case) case)
+list_split case = roots_split case (roots_of (is_candidate case) case) (Each-roots (is_candidate case) case)

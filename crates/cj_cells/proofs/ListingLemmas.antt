@@ -10,32 +10,32 @@ use Rattle.cj_bezier.specs.declared.cell.Cell.{Cell}
 use Rattle.cj_bezier.specs.declared.leaf.Leaf.{Leaf}
 use Rattle.cj_bezier.specs.Leaves.{PlainLeaf, plain_leaf, plain_leaves}
 use Rattle.cj_hermite.specs.Slots.{slot_count}
-use Rattle.cj_hermite.specs.Roots.{PlainCell, KeepIntervals, roots_in_slot, roots_of, roots_by_slot}
-use Rattle.cj_bezier.specs.Looked.{is_looked, pairs_looked}
+use Rattle.cj_hermite.specs.Roots.{PlainCell, KeepPieces, roots_in_slot, roots_of, roots_by_slot}
+use Rattle.cj_bezier.specs.Candidates.{is_candidate, candidate_pairs}
 use Rattle.cj_bezier.specs.Cells.{plain_cell, plain_cells}
-use Rattle.cj_cells.specs.Cells.{added_roots, added_stretches}
+use Rattle.cj_cells.specs.Cells.{added_roots, added_leaves}
 use Rattle.cj_bezier.specs.RootLeaves.{leaves_of_root, leaves_of_roots}
 use Rattle.cj_interval.proofs.ListLemmas.{Each, Each-weaker, All-from_each, each_from_map}
 use Rattle.cj_interval.proofs.RangeLemmas.{range_more}
 use Rattle.cj_hermite.proofs.RootLemmas.{IsRootOf, Each-roots}
-use Rattle.cj_hermite.proofs.CurveLemmas.{root_intervals}
+use Rattle.cj_hermite.proofs.CurveLemmas.{root_pieces}
 use Rattle.cj_interval.proofs.SumLemmas.{total}
 use Rattle.cj_hermite.proofs.RootSumLemmas.{same_roots}
 
 -- ---- slots
 
 abbrev pub roots_to : PlainProblem → ℕ → List PlainCell
-roots_to case k = flat_map (λ slot. roots_in_slot case slot (pairs_looked case slot)) (range_with_len 0 k)
+roots_to case k = flat_map (λ slot. roots_in_slot case slot (candidate_pairs case slot)) (range_with_len 0 k)
 
-pub slot_more : (case : PlainProblem) (k : ℕ) → roots_to case (k + 1) ≡ roots_to case k ++ roots_in_slot case k (pairs_looked case k)
+pub slot_more : (case : PlainProblem) (k : ℕ) → roots_to case (k + 1) ≡ roots_to case k ++ roots_in_slot case k (candidate_pairs case k)
 slot_more case k =
-    ap (flat_map (λ slot. roots_in_slot case slot (pairs_looked case slot))) (range_more 0 k)
-    ∙ flat_map-append (λ slot. roots_in_slot case slot (pairs_looked case slot)) (range_with_len 0 k) ((0 + k) ∷ [])
-    ∙ ap (λ rs. roots_to case k ++ rs) (append-nil (roots_in_slot case (0 + k) (pairs_looked case (0 + k))))
-    ∙ (let e : 0 + k ≡ k = omega arith in ap (λ (j : ℕ). roots_to case k ++ roots_in_slot case j (pairs_looked case j)) e)
+    ap (flat_map (λ slot. roots_in_slot case slot (candidate_pairs case slot))) (range_more 0 k)
+    ∙ flat_map-append (λ slot. roots_in_slot case slot (candidate_pairs case slot)) (range_with_len 0 k) ((0 + k) ∷ [])
+    ∙ ap (λ rs. roots_to case k ++ rs) (append-nil (roots_in_slot case (0 + k) (candidate_pairs case (0 + k))))
+    ∙ (let e : 0 + k ≡ k = omega arith in ap (λ (j : ℕ). roots_to case k ++ roots_in_slot case j (candidate_pairs case j)) e)
 
 -- the roots slot by slot
-pub by_slot : (case : PlainProblem) → roots_to case (slot_count case.first case.last) ≡ roots_by_slot (is_looked case) case
+pub by_slot : (case : PlainProblem) → roots_to case (slot_count case.first case.last) ≡ roots_by_slot (is_candidate case) case
 unfolding roots_by_slot
 by_slot case = refl
 
@@ -45,7 +45,7 @@ roots_to_le case j (suc n) =
     let e : j + suc n ≡ j + n + 1 = omega arith in
     let before = roots_to_le case j n in
     let more = ap length (slot_more case (j + n)) in
-    rw e (omega (arith, before, more, length-append (roots_to case (j + n)) (roots_in_slot case (j + n) (pairs_looked case (j + n)))))
+    rw e (omega (arith, before, more, length-append (roots_to case (j + n)) (roots_in_slot case (j + n) (candidate_pairs case (j + n)))))
 
 length_is : {X : Type 0} (xs : List X) → length xs ≡ total (λ x. 1) xs
 unfolding total
@@ -53,11 +53,11 @@ length_is [] = refl
 length_is (x ∷ xs) = let rest = length_is xs in omega arith
 
 -- slot by slot there are as many roots as in all
-pub same_count : (case : PlainProblem) → length (roots_by_slot (is_looked case) case) ≡ length (roots_of (is_looked case) case)
-same_count case = length_is (roots_by_slot (is_looked case) case) ∙ same_roots (is_looked case) case (λ r. 1) ∙ sym (length_is (roots_of (is_looked case) case))
+pub same_count : (case : PlainProblem) → length (roots_by_slot (is_candidate case) case) ≡ length (roots_of (is_candidate case) case)
+same_count case = length_is (roots_by_slot (is_candidate case) case) ∙ same_roots (is_candidate case) case (λ r. 1) ∙ sym (length_is (roots_of (is_candidate case) case))
 
 -- no slot has more roots than there are in all
-pub slots_count : (case : PlainProblem) (k : ℕ) → k < slot_count case.first case.last → length (roots_to case k) + length (roots_in_slot case k (pairs_looked case k)) ≤ length (roots_of (is_looked case) case)
+pub slots_count : (case : PlainProblem) (k : ℕ) → k < slot_count case.first case.last → length (roots_to case k) + length (roots_in_slot case k (candidate_pairs case k)) ≤ length (roots_of (is_candidate case) case)
 slots_count case k lt =
     let next = ap length (slot_more case k) in
     let count = slot_count case.first case.last in
@@ -65,7 +65,7 @@ slots_count case k lt =
     let upto = subst (λ (n : ℕ). length (roots_to case (k + 1)) ≤ length (roots_to case n)) at (roots_to_le case (k + 1) (count - (k + 1))) in
     let slots = ap length (by_slot case) in
     let same = same_count case in
-    omega (arith, next, upto, slots, same, length-append (roots_to case k) (roots_in_slot case k (pairs_looked case k)))
+    omega (arith, next, upto, slots, same, length-append (roots_to case k) (roots_in_slot case k (candidate_pairs case k)))
 
 -- cells that were added behind others
 pub cells_more : (old new : List Cell) → take (length old) new ≡ old → plain_cells new ≡ plain_cells old ++ added_roots old new
@@ -75,8 +75,8 @@ cells_more old new kept =
 
 -- ---- leaves
 
-pub stretches_more : (old new : List Leaf) → take (length old) new ≡ old → plain_leaves new ≡ plain_leaves old ++ added_stretches old new
-stretches_more old new kept =
+pub leaves_more : (old new : List Leaf) → take (length old) new ≡ old → plain_leaves new ≡ plain_leaves old ++ added_leaves old new
+leaves_more old new kept =
     ap plain_leaves (sym (take-append-drop (length old) new) ∙ ap (λ (xs : List Leaf). xs ++ drop (length old) new) kept)
     ∙ map-append plain_leaf old (drop (length old) new)
 
@@ -108,14 +108,14 @@ described_more P i cells c lt is all here =
     (ap plain_cells (take_more cells i c lt) ∙ map_push plain_cell (take i cells) (get_or cells i c) ∙ ap (λ (x : Cell). plain_cells (take i cells) ++ plain_cell x ∷ []) (sym is))
     (All-push P (plain_cells (take i cells)) (plain_cell c) all here)
 
--- the cells of all roots keep their intervals
-pub cells_keep : (looked : ℕ → ℕ → ℕ → Bool) (case : PlainProblem) (cells : List Cell) → plain_cells cells ≡ roots_of looked case →
-    All (λ cell. KeepIntervals case cell.pair.a cell.pair.b cell.first.micros cell.last.micros) cells
-cells_keep looked case cells same =
-    All-from_each (λ cell. KeepIntervals case cell.pair.a cell.pair.b cell.first.micros cell.last.micros) cells
-    (each_from_map (λ (r : PlainCell). KeepIntervals case r.a r.b r.first r.last) plain_cell cells
-    (subst (Each (λ (r : PlainCell). KeepIntervals case r.a r.b r.first r.last)) (sym same)
-    (Each-weaker (IsRootOf case) (λ (r : PlainCell). KeepIntervals case r.a r.b r.first r.last) (root_intervals case) (roots_of looked case) (Each-roots looked case))))
+-- the cells of all roots keep their pieces
+pub cells_keep : (candidate : ℕ → ℕ → ℕ → Bool) (case : PlainProblem) (cells : List Cell) → plain_cells cells ≡ roots_of candidate case →
+    All (λ cell. KeepPieces case cell.pair.a cell.pair.b cell.first.micros cell.last.micros) cells
+cells_keep candidate case cells same =
+    All-from_each (λ cell. KeepPieces case cell.pair.a cell.pair.b cell.first.micros cell.last.micros) cells
+    (each_from_map (λ (r : PlainCell). KeepPieces case r.a r.b r.first r.last) plain_cell cells
+    (subst (Each (λ (r : PlainCell). KeepPieces case r.a r.b r.first r.last)) (sym same)
+    (Each-weaker (IsRootOf case) (λ (r : PlainCell). KeepPieces case r.a r.b r.first r.last) (root_pieces case) (roots_of candidate case) (Each-roots candidate case))))
 
 -- an error is the same whatever was due
 pub error_is : {S T E : Type 0} (x y : E) → IsErrOf {T = S} {E = E} (Err x) y → IsErrOf {T = T} {E = E} (Err x) y

@@ -30,13 +30,13 @@ pub sorted_up_to : (cells : List Cell) →
 sorted_up_to cells h = roots_in_order cells (sorted (λ c. (c.pair, c.first)) cells h)
 
 -- the roots that were found slot by slot, in whatever order they came, once they are sorted
-pub sorted_roots : (looked : ℕ → ℕ → ℕ → Bool) (case : PlainProblem) (found sorted : List PlainCell) → IsPermutation (roots_by_slot looked case) found → IsPermutation found sorted → AllPairs IsRootUpTo sorted → sorted ≡ roots_of looked case
-sorted_roots looked case found sorted found_all moved ordered =
-    sym (same_root_list (roots_of looked case) sorted
-    (Each-weaker (IsRootOf case) (λ r. r.first ≤ r.last) (λ r is. let root = is.root in omega (arith, root.some)) (roots_of looked case) (Each-roots looked case))
-    (Ordered-roots looked case)
+pub sorted_roots : (candidate : ℕ → ℕ → ℕ → Bool) (case : PlainProblem) (found sorted : List PlainCell) → IsPermutation (roots_by_slot candidate case) found → IsPermutation found sorted → AllPairs IsRootUpTo sorted → sorted ≡ roots_of candidate case
+sorted_roots candidate case found sorted found_all moved ordered =
+    sym (same_root_list (roots_of candidate case) sorted
+    (Each-weaker (IsRootOf case) (λ r. r.first ≤ r.last) (λ r is. let root = is.root in omega (arith, root.some)) (roots_of candidate case) (Each-roots candidate case))
+    (Ordered-roots candidate case)
     (ordered_from_AllPairs IsRootUpTo sorted ordered)
-    (λ f. sym (same_roots looked case f) ∙ sym (same_totals f (roots_by_slot looked case) found found_all) ∙ sym (same_totals f found sorted moved)))
+    (λ f. sym (same_roots candidate case f) ∙ sym (same_totals f (roots_by_slot candidate case) found found_all) ∙ sym (same_totals f found sorted moved)))
 
 -- ---- numbering
 

@@ -7,7 +7,7 @@ use Rattle.cj_ticks.specs.declared.tick.Tick.{Tick}
 use Rattle.cj_bezier.specs.declared.kind.Kind.{Kind}
 use Rattle.cj_bezier.specs.declared.leaf.Leaf.{Leaf}
 use Rattle.cj_bezier.specs.Leaves.{PlainLeaf, plain_leaf, plain_leaves}
-use Rattle.cj_cells.specs.Cells.{added_stretches}
+use Rattle.cj_cells.specs.Cells.{added_leaves}
 use Rattle.cj_hermite.specs.Interpolant.{Curve, IsOver}
 use Rattle.cj_bezier.specs.RootLeaves.{kind_between}
 use Rattle.cj_bezier.proofs.JudgeLemmas.{settled_over}
@@ -156,7 +156,7 @@ nothing_waits judge a b first top lasts done all le whole =
 old_length : (old xs : List Leaf) → take (length old) xs ≡ old → length old ≤ length xs
 old_length old xs kept = let same : length (take (length old) xs) ≡ length old = ap length kept in omega (arith, length-take (length old) xs)
 
-pub added_more : (old xs : List Leaf) (leaf : Leaf) → take (length old) xs ≡ old → added_stretches old (xs ++ leaf ∷ []) ≡ added_stretches old xs ++ plain_leaf leaf ∷ []
+pub added_more : (old xs : List Leaf) (leaf : Leaf) → take (length old) xs ≡ old → added_leaves old (xs ++ leaf ∷ []) ≡ added_leaves old xs ++ plain_leaf leaf ∷ []
 added_more old xs leaf kept =
     let le = old_length old xs kept in
     ap plain_leaves (drop-append-le (length old) xs (leaf ∷ []) le) ∙ map_push plain_leaf (drop (length old) xs) leaf
@@ -170,7 +170,7 @@ root_more root old xs leaf kept all here =
     let le = old_length old xs kept in
     rw (drop-append-le (length old) xs (leaf ∷ []) le) (All-push (λ l. l.cell.root ≡ root) (drop (length old) xs) leaf all here)
 
-pub added_length : (old xs : List Leaf) → take (length old) xs ≡ old → length old + length (added_stretches old xs) ≡ length xs
+pub added_length : (old xs : List Leaf) → take (length old) xs ≡ old → length old + length (added_leaves old xs) ≡ length xs
 added_length old xs kept =
     let le = old_length old xs kept in
     omega (arith, length-map (drop (length old) xs) plain_leaf, length-drop (length old) xs)

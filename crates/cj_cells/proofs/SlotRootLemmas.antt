@@ -6,7 +6,7 @@ use Rattle.cj_track.specs.declared.track.Track.{Track}
 use Rattle.cj_hermite.specs.declared.pair.Pair.{Pair}
 use Rattle.cj_hermite.specs.PlainProblems.{PlainProblem}
 use Rattle.cj_hermite.specs.Pairs.{objects_of}
-use Rattle.cj_hermite.specs.Roots.{PlainCell, KeepIntervals}
+use Rattle.cj_hermite.specs.Roots.{PlainCell, KeepPieces}
 use Rattle.cj_hermite.proofs.SlotRootLemmas.{roots_of_pairs, Keeps, each_keeps}
 use Rattle.cj_bezier.specs.declared.cell.Cell.{Cell}
 use Rattle.cj_bezier.specs.Cells.{plain_cell, plain_cells}
@@ -36,9 +36,9 @@ count_of done here rest all whole = let sum = ap length whole in omega (arith, s
 -- ---- the cells that are appended
 
 pub cells_keep : (case : PlainProblem) (slot k : ℕ) (pairs : List Pair) (cells : List Cell) → plain_cells cells ≡ take k (roots_of_pairs case slot pairs) →
-    All (λ cell. KeepIntervals case cell.pair.a cell.pair.b cell.first.micros cell.last.micros) cells
+    All (λ cell. KeepPieces case cell.pair.a cell.pair.b cell.first.micros cell.last.micros) cells
 cells_keep case slot k pairs cells same =
-    All-from_each (λ cell. KeepIntervals case cell.pair.a cell.pair.b cell.first.micros cell.last.micros) cells
+    All-from_each (λ cell. KeepPieces case cell.pair.a cell.pair.b cell.first.micros cell.last.micros) cells
     (each_from_map (Keeps case) plain_cell cells
     (subst (Each (Keeps case)) (sym same) (Each-take (Keeps case) k (roots_of_pairs case slot pairs) (each_keeps case slot (map objects_of pairs)))))
 

@@ -14,6 +14,6 @@ root_numbers cells = map (λ cell. cell.root) cells
 abbrev pub added_roots : List Cell → List Cell → List PlainCell
 added_roots old new = plain_cells (drop (length old) new)
 
--- what was added to a list of leaves, as stretches
-abbrev pub added_stretches : List Leaf → List Leaf → List PlainLeaf
-added_stretches old new = plain_leaves (drop (length old) new)
+-- what was added to a list of leaves, as leaves
+abbrev pub added_leaves : List Leaf → List Leaf → List PlainLeaf
+added_leaves old new = plain_leaves (drop (length old) new)

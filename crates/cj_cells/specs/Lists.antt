@@ -6,14 +6,14 @@ use Rattle.cj_hermite.specs.PlainProblems.{PlainProblem, threshold_of, curve_at}
 use Rattle.cj_hermite.specs.Roots.{PlainCell, roots_of}
 use Rattle.cj_bezier.specs.Leaves.{PlainLeaf}
 use Rattle.cj_bezier.specs.Halving.{splits_between}
-use Rattle.cj_bezier.specs.Looked.{is_looked}
+use Rattle.cj_bezier.specs.Candidates.{is_candidate}
 use Rattle.cj_bezier.specs.RootLeaves.{kind_between, leaves_of_roots, IsTrueThroughout}
 
--- the one-thread list of the pairs and slots that are looked at
+-- the one-thread list of the candidates
 unfoldable pub list_of : (ℕ → ℕ → ℕ → Bool) → PlainProblem → List PlainLeaf
-list_of looked case = leaves_of_roots case (roots_of looked case)
+list_of candidate case = leaves_of_roots case (roots_of candidate case)
 
--- a stretch within the window, of two objects in order, that is true throughout
+-- a leaf within the window, of two objects in order, that is true throughout
 pub record IsSound (case : PlainProblem) (s : PlainLeaf) : Type 0 where
   pub ordered : s.a < s.b
   pub from : case.first ≤ s.first
@@ -22,8 +22,8 @@ pub record IsSound (case : PlainProblem) (s : PlainLeaf) : Type 0 where
   pub holds : IsTrueThroughout case s
 
 -- the one-thread list of a case
-abbrev pub list_looked : PlainProblem → List PlainLeaf
-list_looked case = list_of (is_looked case) case
+abbrev pub list_candidates : PlainProblem → List PlainLeaf
+list_candidates case = list_of (is_candidate case) case
 
 -- how often a root is halved whose objects have these interpolants
 abbrev pub splits_of_curves : PlainCell → ℕ → Option Curve → Option Curve → ℕ
@@ -37,4 +37,4 @@ splits_of_root case r = splits_of_curves r (threshold_of case r.a r.b) (curve_at
 
 -- how often the roots of a case are halved
 unfoldable pub splits_of : PlainProblem → ℕ
-splits_of case = sum_by (splits_of_root case) (roots_of (is_looked case) case)
+splits_of case = sum_by (splits_of_root case) (roots_of (is_candidate case) case)

@@ -5,11 +5,11 @@ ghost use Rattle.cj_hermite.specs.Problems.{plain_problem};
 ghost use Rattle.cj_hermite.specs.Slots.{slot_of};
 ghost use Rattle.cj_bezier.specs.Leaves.{plain_leaves};
 ghost use Rattle.cj_bezier.specs.Order.{AreInOrder};
-ghost use Rattle.cj_bezier.specs.Looked.{is_looked};
-ghost use Rattle.cj_hermite.specs.Roots.{KeepIntervals, roots_of};
+ghost use Rattle.cj_bezier.specs.Candidates.{is_candidate};
+ghost use Rattle.cj_hermite.specs.Roots.{KeepPieces, roots_of};
 ghost use Rattle.cj_bezier.specs.Cells.{plain_cells};
 ghost use Rattle.cj_bezier.specs.RootLeaves.{leaves_of_root, leaves_of_roots, Describe};
-ghost use Rattle.cj_cells.specs.Lists.{list_looked, splits_of, IsSound};
+ghost use Rattle.cj_cells.specs.Lists.{list_candidates, splits_of, IsSound};
 ghost use Rattle.cj_bezier.specs.Leaves.{IsTickOf};
 
 use crate::refine_error::RefineError;
@@ -25,7 +25,7 @@ pub fn refine_all(
     roots: &[Cell],
     limit: u64,
 ) -> Result<Vec<Leaf>, RefineError>
-    requires { All (λ cell. KeepIntervals (plain_problem problem.now) cell.pair.a cell.pair.b cell.first.micros cell.last.micros) roots.now }
+    requires { All (λ cell. KeepPieces (plain_problem problem.now) cell.pair.a cell.pair.b cell.first.micros cell.last.micros) roots.now }
 
     ensures value { IfOk result (λ leaves. plain_leaves leaves.items ≡ leaves_of_roots (plain_problem problem.now) (plain_cells roots.now)) }
     ensures within { IfOk result (λ leaves. vec_len leaves ≤ limit) }
@@ -41,31 +41,31 @@ pub fn refine_all(
     Ok(leaves)
 }
 
-/// The one-thread list, of the roots of the pairs that are looked at in each slot.
+/// The one-thread list, of the roots of the candidates of each slot.
 pub fn leaves_of(
     alloc: Global,
     problem: &Problem,
     roots: &[Cell],
     limit: u64,
 ) -> Result<Vec<Leaf>, RefineError>
-    requires { plain_cells roots.now ≡ roots_of (is_looked (plain_problem problem.now)) (plain_problem problem.now) }
+    requires { plain_cells roots.now ≡ roots_of (is_candidate (plain_problem problem.now)) (plain_problem problem.now) }
 
-    ensures value { IfOk result (λ leaves. plain_leaves leaves.items ≡ list_looked (plain_problem problem.now)) }
+    ensures value { IfOk result (λ leaves. plain_leaves leaves.items ≡ list_candidates (plain_problem problem.now)) }
     ensures within { IfOk result (λ leaves. vec_len leaves ≤ limit) }
-    ensures too_many { IsErrOf result RefineError.TooMany → limit < length (list_looked (plain_problem problem.now)) }
+    ensures too_many { IsErrOf result RefineError.TooMany → limit < length (list_candidates (plain_problem problem.now)) }
 
     // Each halving makes one leaf more.
     ensures splits { IfOk result (λ leaves. vec_len leaves ≡ length roots.now + splits_of (plain_problem problem.now)) }
 
-    // Each stretch of the list is true at each of its ticks, each common tick of a pair that is looked at lies in a stretch of that
+    // Each leaf of the list is true at each of its ticks, each common tick of a candidate lies in a leaf of that
     // pair, and they are in order of pair and time.
-    ensures sound { OnOk result (All (IsSound (plain_problem problem.now)) (list_looked (plain_problem problem.now))) }
-    ensures complete { OnOk result ((a b m : ℕ) → IsCommonOf (plain_problem problem.now) a b m → is_looked (plain_problem problem.now) a b (slot_of problem.now.window.first.micros m) ≡ true
-        → Any (IsTickOf a b m) (list_looked (plain_problem problem.now))) }
-    ensures ordered { OnOk result (AreInOrder (list_looked (plain_problem problem.now))) }
+    ensures sound { OnOk result (All (IsSound (plain_problem problem.now)) (list_candidates (plain_problem problem.now))) }
+    ensures complete { OnOk result ((a b m : ℕ) → IsCommonOf (plain_problem problem.now) a b m → is_candidate (plain_problem problem.now) a b (slot_of problem.now.window.first.micros m) ≡ true
+        → Any (IsTickOf a b m) (list_candidates (plain_problem problem.now))) }
+    ensures ordered { OnOk result (AreInOrder (list_candidates (plain_problem problem.now))) }
 
-    // Over each stretch both its objects are in one interval.
-    ensures intervals { OnOk result (All (λ s. KeepIntervals (plain_problem problem.now) s.a s.b s.first s.last) (list_looked (plain_problem problem.now))) }
+    // Over each leaf both its objects are in one piece.
+    ensures pieces { OnOk result (All (λ s. KeepPieces (plain_problem problem.now) s.a s.b s.first s.last) (list_candidates (plain_problem problem.now))) }
 {
     refine_all(alloc, problem, roots, limit)
 }

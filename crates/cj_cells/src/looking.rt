@@ -4,7 +4,7 @@ ghost use Rattle.cj_hermite.specs.Problems.{plain_problem};
 ghost use Rattle.cj_bezier.specs.Cells.{AreHalves, plain_cell};
 ghost use Rattle.cj_bezier.specs.RootLeaves.{kind_of_cell};
 ghost use Rattle.cj_cells.specs.Looks.{kind_found, IfClosed, IfHalves};
-ghost use Rattle.cj_hermite.specs.Roots.{KeepIntervals};
+ghost use Rattle.cj_hermite.specs.Roots.{KeepPieces};
 
 use crate::looker::Looker;
 use crate::outcome::Look;
@@ -31,7 +31,7 @@ impl<'p> Looker<'p> {
     /// The leaf of a cell whose ticks have the same two pieces, where they are of one kind, or else its halves. Its pieces are made
     /// ready where they are not those of the last cell for which that was done.
     pub fn look(&mut self, cell: Cell) -> Look
-        requires { KeepIntervals (plain_problem self.old) cell.pair.a cell.pair.b cell.first.micros cell.last.micros }
+        requires { KeepPieces (plain_problem self.old) cell.pair.a cell.pair.b cell.first.micros cell.last.micros }
         ensures same { self.new ≡ self.old }
         ensures kind { kind_found result ≡ kind_of_cell (plain_problem self.old) (plain_cell cell) }
         ensures closed { IfClosed result (λ leaf. leaf.cell ≡ cell) }
@@ -53,7 +53,7 @@ impl<'p> Looker<'p> {
 
 /// The leaf of a cell whose ticks have the same two pieces, where they are of one kind, or else its halves: a look at one cell alone.
 pub fn look(problem: &Problem, cell: Cell) -> Look
-    requires { KeepIntervals (plain_problem problem.now) cell.pair.a cell.pair.b cell.first.micros cell.last.micros }
+    requires { KeepPieces (plain_problem problem.now) cell.pair.a cell.pair.b cell.first.micros cell.last.micros }
     ensures kind { kind_found result ≡ kind_of_cell (plain_problem problem.now) (plain_cell cell) }
     ensures closed { IfClosed result (λ leaf. leaf.cell ≡ cell) }
     ensures halved { IfHalves result (AreHalves cell) }

@@ -43,7 +43,7 @@ pub fn order_roots(roots: &mut Vec<Cell>)
     ensures numbered { root_numbers roots.new.items ≡ range_with_len 0 (vec_len roots.new) }
 
     // The roots that were found slot by slot, in whatever order they came, are then all roots in order.
-    ensures all { (looked : ℕ → ℕ → ℕ → Bool) (case : PlainProblem) → IsPermutation (roots_by_slot looked case) (plain_cells roots.old.items) → plain_cells roots.new.items ≡ roots_of looked case }
+    ensures all { (candidate : ℕ → ℕ → ℕ → Bool) (case : PlainProblem) → IsPermutation (roots_by_slot candidate case) (plain_cells roots.old.items) → plain_cells roots.new.items ≡ roots_of candidate case }
 {
     sort(roots);
     number(roots);

@@ -1,7 +1,7 @@
 //! The pieces of a cell, made ready.
 ghost use Rattle.std.specs.Prelude.{◌≡◌};
 ghost use Rattle.cj_hermite.specs.Problems.{plain_problem};
-ghost use Rattle.cj_hermite.specs.Roots.{KeepIntervals};
+ghost use Rattle.cj_hermite.specs.Roots.{KeepPieces};
 ghost use Rattle.cj_cells.specs.ReadyPairs.{IsReadyPair};
 
 use crate::ready_pair::ReadyPair;
@@ -12,7 +12,7 @@ use cj_interval::Divisor;
 /// The pieces of both objects over a cell whose ticks have the same two pieces, made ready: for less where they are as long as one
 /// that was made ready before.
 pub(crate) fn prepare(problem: &Problem, cell: Cell, like: &Divisor) -> ReadyPair
-    requires { KeepIntervals (plain_problem problem.now) cell.pair.a cell.pair.b cell.first.micros cell.last.micros }
+    requires { KeepPieces (plain_problem problem.now) cell.pair.a cell.pair.b cell.first.micros cell.last.micros }
     ensures pair { result.pair ≡ cell.pair }
     ensures first { result.first ≡ cell.first }
     ensures last { result.last ≡ cell.last }

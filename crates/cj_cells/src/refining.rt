@@ -3,11 +3,11 @@ ghost use Rattle.std.specs.Prelude.{◌≡◌, ◌+◌, ◌^◌, ◌<◌, ◌≤
 ghost use Rattle.cj_hermite.specs.Interpolant.{IsOver};
 ghost use Rattle.cj_hermite.specs.Problems.{plain_problem};
 ghost use Rattle.cj_hermite.specs.Ready.{curve_ready};
-ghost use Rattle.cj_hermite.specs.Roots.{KeepIntervals};
+ghost use Rattle.cj_hermite.specs.Roots.{KeepPieces};
 ghost use Rattle.cj_bezier.specs.RootLeaves.{kind_between, leaves_of_root, Describe};
 ghost use Rattle.cj_bezier.specs.Halving.{leaves_between};
 ghost use Rattle.cj_bezier.specs.Cells.{plain_cell};
-ghost use Rattle.cj_cells.specs.Cells.{added_stretches};
+ghost use Rattle.cj_cells.specs.Cells.{added_leaves};
 
 use crate::looking::USUAL_SPAN;
 use crate::outcome::Look;
@@ -38,13 +38,13 @@ fn refine_between(
     requires most { thr ≤ 10 ^ 16 }
     requires room { vec_len leaves.old ≤ limit }
 
-    ensures ok { OnOk result (added_stretches leaves.old.items leaves.new.items
+    ensures ok { OnOk result (added_leaves leaves.old.items leaves.new.items
         ≡ leaves_between (kind_between (curve_ready a.now) (curve_ready b.now) thr) cell.pair.a cell.pair.b cell.first.micros cell.last.micros) }
     ensures within { OnOk result (vec_len leaves.new ≤ limit) }
     ensures too_many { IsErrOf result RefineError.TooMany
         → limit < vec_len leaves.old + length (leaves_between (kind_between (curve_ready a.now) (curve_ready b.now) thr) cell.pair.a cell.pair.b cell.first.micros cell.last.micros) }
-    ensures err { OnErr result (added_stretches leaves.old.items leaves.new.items
-        ≡ take (length (added_stretches leaves.old.items leaves.new.items)) (leaves_between (kind_between (curve_ready a.now) (curve_ready b.now) thr) cell.pair.a cell.pair.b cell.first.micros cell.last.micros)) }
+    ensures err { OnErr result (added_leaves leaves.old.items leaves.new.items
+        ≡ take (length (added_leaves leaves.old.items leaves.new.items)) (leaves_between (kind_between (curve_ready a.now) (curve_ready b.now) thr) cell.pair.a cell.pair.b cell.first.micros cell.last.micros)) }
     ensures kept { take (vec_len leaves.old) leaves.new.items ≡ leaves.old.items }
     ensures root { All (λ leaf. leaf.cell.root ≡ cell.root) (drop (vec_len leaves.old) leaves.new.items) }
 {
@@ -85,14 +85,14 @@ pub fn refine(
     limit: u64,
     leaves: &mut Vec<Leaf>,
 ) -> Result<(), RefineError>
-    requires intervals { KeepIntervals (plain_problem problem.now) cell.pair.a cell.pair.b cell.first.micros cell.last.micros }
+    requires pieces { KeepPieces (plain_problem problem.now) cell.pair.a cell.pair.b cell.first.micros cell.last.micros }
     requires room { vec_len leaves.old ≤ limit }
 
-    ensures ok { OnOk result (added_stretches leaves.old.items leaves.new.items ≡ leaves_of_root (plain_problem problem.now) (plain_cell cell)) }
+    ensures ok { OnOk result (added_leaves leaves.old.items leaves.new.items ≡ leaves_of_root (plain_problem problem.now) (plain_cell cell)) }
     ensures within { OnOk result (vec_len leaves.new ≤ limit) }
     ensures too_many { IsErrOf result RefineError.TooMany → limit < vec_len leaves.old + length (leaves_of_root (plain_problem problem.now) (plain_cell cell)) }
-    ensures err { OnErr result (added_stretches leaves.old.items leaves.new.items
-        ≡ take (length (added_stretches leaves.old.items leaves.new.items)) (leaves_of_root (plain_problem problem.now) (plain_cell cell))) }
+    ensures err { OnErr result (added_leaves leaves.old.items leaves.new.items
+        ≡ take (length (added_leaves leaves.old.items leaves.new.items)) (leaves_of_root (plain_problem problem.now) (plain_cell cell))) }
 
     // The leaves lie in order in the cell, hold each of its ticks, and each is true at each of its own.
     ensures leaves { Describe (plain_problem problem.now) (plain_cell cell) (leaves_of_root (plain_problem problem.now) (plain_cell cell)) }

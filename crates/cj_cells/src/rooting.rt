@@ -4,7 +4,7 @@ ghost use Rattle.cj_track.specs.Tracks.{plain_track};
 ghost use Rattle.cj_hermite.specs.Problems.{plain_problem};
 ghost use Rattle.cj_hermite.specs.CommonRuns.{runs_between, run_of, both_numbers};
 ghost use Rattle.cj_hermite.specs.Pairs.{objects_of};
-ghost use Rattle.cj_hermite.specs.Roots.{KeepIntervals, root_of_run, roots_in_slot};
+ghost use Rattle.cj_hermite.specs.Roots.{KeepPieces, root_of_run, roots_in_slot};
 ghost use Rattle.cj_cells.specs.Cells.{added_roots};
 
 use crate::refine_error::RefineError;
@@ -92,7 +92,7 @@ pub fn roots_of_slot(
         ≡ take (length (added_roots roots.old.items roots.new.items)) (roots_in_slot (plain_problem problem.now) slot (map objects_of pairs.now))) }
 
     // Each cell that is appended can be looked at and refined.
-    ensures intervals { All (λ cell. KeepIntervals (plain_problem problem.now) cell.pair.a cell.pair.b cell.first.micros cell.last.micros) (drop (vec_len roots.old) roots.new.items) }
+    ensures pieces { All (λ cell. KeepPieces (plain_problem problem.now) cell.pair.a cell.pair.b cell.first.micros cell.last.micros) (drop (vec_len roots.old) roots.new.items) }
 
     // What was there stays.
     ensures kept { take (vec_len roots.old) roots.new.items ≡ roots.old.items }

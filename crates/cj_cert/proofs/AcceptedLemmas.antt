@@ -9,14 +9,14 @@ use Rattle.cj_hermite.proofs.CurveLemmas.{some_both}
 use Rattle.cj_hermite.proofs.ObjectLemmas.{numbers_exist, second_exists}
 use Rattle.cj_hermite.proofs.RootLemmas.{IsRootOf, Each-roots, Exists-roots}
 use Rattle.cj_bezier.specs.declared.kind.Kind.TheVariants.{Near, Undecided}
-use Rattle.cj_bezier.specs.Enclosed.{UnlookedAreFar}
+use Rattle.cj_bezier.specs.Enclosed.{OthersAreFar}
 use Rattle.cj_bezier.specs.Leaves.{PlainLeaf, IsTickOf}
 use Rattle.cj_bezier.specs.Tiles.{IsLeaf}
-use Rattle.cj_bezier.proofs.FarLemmas.{unlooked_far}
+use Rattle.cj_bezier.proofs.FarLemmas.{others_far}
 use Rattle.cj_bezier.proofs.TrueLeafLemmas.{IsTrueLeaf, tells_of, outside_of}
 use Rattle.cj_cert.specs.Accepted.{IsSupported, Accepted}
 use Rattle.cj_cert.specs.Certificates.{PlainCertificate}
-use Rattle.cj_cert.specs.Listed.{boxes_listed, shells_listed, is_looked_listed}
+use Rattle.cj_cert.specs.Listed.{boxes_listed, shells_listed, is_candidate_listed}
 use Rattle.cj_cert.specs.Splits.{CellsSplit}
 use Rattle.cj_cert.proofs.ListedLemmas.{AreAllInTime, in_shells, in_boxes}
 use Rattle.cj_cert.proofs.TiledLemmas.{each_tiled, some_tiled, true_cell}
@@ -32,31 +32,31 @@ true_leaf case time big r s is leaf =
       holds = true_cell case r s time big is leaf;
     }
 
--- a common tick that is looked at lies in a cell
-complete : (case : PlainProblem) (c : PlainCertificate) → Accepted case c → (a b m : ℕ) → IsCommonOf case a b m → is_looked_listed case c a b (slot_of case.first m) ≡ true
+-- a common tick of a candidate lies in a cell
+complete : (case : PlainProblem) (c : PlainCertificate) → Accepted case c → (a b m : ℕ) → IsCommonOf case a b m → is_candidate_listed case c a b (slot_of case.first m) ≡ true
     → Any (IsTickOf a b m) c.cells
 complete case c accepted a b m common is =
-    let numbers = numbers_exist case a b m common.states in
+    let numbers = numbers_exist case a b m common.nodes in
     Any-from_exists (IsTickOf a b m) c.cells
-    (some_tiled (IsSupported case) a b m (roots_of (is_looked_listed case c) case) c.cells accepted.cells
-    (Exists-roots (is_looked_listed case c) case a b m common.ordered (second_exists case a b m common.states) common.after common.before is
+    (some_tiled (IsSupported case) a b m (roots_of (is_candidate_listed case c) case) c.cells accepted.cells
+    (Exists-roots (is_candidate_listed case c) case a b m common.ordered (second_exists case a b m common.nodes) common.after common.before is
     (some_both (number_at case a m) (number_at case b m) numbers.0 numbers.1)))
 
--- what is not looked at is far
-far : (case : PlainProblem) (c : PlainCertificate) → AreAllInTime case → Accepted case c → UnlookedAreFar case (is_looked_listed case c)
-unfolding is_looked_listed
-far case c time accepted = unlooked_far case (shells_listed c) (boxes_listed c) (in_shells case c time accepted.shells) (in_boxes case c time accepted.objects accepted.boxes)
+-- what is no candidate is far
+far : (case : PlainProblem) (c : PlainCertificate) → AreAllInTime case → Accepted case c → OthersAreFar case (is_candidate_listed case c)
+unfolding is_candidate_listed
+far case c time accepted = others_far case (shells_listed c) (boxes_listed c) (in_shells case c time accepted.shells) (in_boxes case c time accepted.objects accepted.boxes)
 
 pub splits : (case : PlainProblem) (c : PlainCertificate) → AreAllInTime case → 10 ^ 9 ≤ case.threshold → Accepted case c → CellsSplit case c.cells
 splits case c time big accepted =
     let all : All (IsTrueLeaf case) c.cells =
     All-from_each (IsTrueLeaf case) c.cells
     (each_tiled (IsSupported case) (IsTrueLeaf case) (IsRootOf case) (true_leaf case time big)
-    (roots_of (is_looked_listed case c) case) c.cells accepted.cells (Each-roots (is_looked_listed case c) case)) in
+    (roots_of (is_candidate_listed case c) case) c.cells accepted.cells (Each-roots (is_candidate_listed case c) case)) in
     record {
       near = λ a b m here. let told = tells_of case c.cells Near a b m all here in (told.common, told.holds);
       undecided = λ a b m here. let told = tells_of case c.cells Undecided a b m all here in (told.common, told.holds);
       outside = λ a b m common near undecided.
-          outside_of case c.cells a b m (is_looked_listed case c a b (slot_of case.first m)) all
+          outside_of case c.cells a b m (is_candidate_listed case c a b (slot_of case.first m)) all
           (complete case c accepted a b m common) (far case c time accepted a b m common) near undecided;
     }

@@ -21,9 +21,9 @@ use Rattle.cj_hermite.specs.Boxes.{IsBoxWithin}
 use Rattle.cj_hermite.specs.Interpolant.{Four, Curve, AreBounded, IsOver, controls_of, place_denominator}
 use Rattle.cj_hermite.specs.Levels.{polar}
 use Rattle.cj_hermite.specs.Limits.{REACH}
-use Rattle.cj_hermite.specs.Pieces.{PlainPiece, intervals_of_arc, intervals_of, curve_of_interval}
+use Rattle.cj_hermite.specs.Pieces.{PlainPiece, pieces_of_segment, pieces_of, curve_of_piece}
 use Rattle.cj_hermite.proofs.LevelLemmas.{level-low_within, level-high_within, polar-low, polar-high}
-use Rattle.cj_hermite.proofs.PieceLemmas.{interval_between, intervals_in, intervals_through}
+use Rattle.cj_hermite.proofs.PieceLemmas.{piece_between, pieces_in, pieces_through}
 use Rattle.cj_bezier.specs.Gaps.{gap_terms}
 use Rattle.cj_bezier.specs.Hulls.{PlainHull, hull_axes, hull_ends, axes_of}
 use Rattle.cj_bezier.specs.Parts.{IsPart, AreInTime, hulls_of}
@@ -41,13 +41,13 @@ controls_bounded p v q w t p_in v_in q_in w_in short =
     let back = product_within w (pos t) MAX_RATE 3_600_000_000 (omega (arith, ints)) (omega arith) in
     record { k0 = omega (arith, ints); k1 = omega (arith, ints); k2 = omega (arith, ints); k3 = omega (arith, ints) }
 
--- the control values of an interval are bounded on each axis
+-- the control values of a piece are bounded on each axis
 pub record IsBounded (piece : PlainPiece) : Type 0 where
-  pub x : AreBounded (curve_of_interval piece).x
-  pub y : AreBounded (curve_of_interval piece).y
-  pub z : AreBounded (curve_of_interval piece).z
+  pub x : AreBounded (curve_of_piece piece).x
+  pub y : AreBounded (curve_of_piece piece).y
+  pub z : AreBounded (curve_of_piece piece).z
 
-bounded_between : (first last : ℕ) (a b : Node) → IsStep a b → IsBounded (interval_between first last a b)
+bounded_between : (first last : ℕ) (a b : Node) → IsStep a b → IsBounded (piece_between first last a b)
 bounded_between first last a b step =
     let t = b.at.micros - a.at.micros in
     let short : b.at.micros - a.at.micros ≤ 3_600_000_000 = omega (arith, step.short) in
@@ -57,15 +57,15 @@ bounded_between first last a b step =
       z = controls_bounded a.p.z a.v.z b.p.z b.v.z t a.place.2 a.rate.2 b.place.2 b.rate.2 short;
     }
 
-bounded_in : (first last : ℕ) (nodes : List Node) → AreSteps nodes → Each IsBounded (intervals_in first last nodes)
+bounded_in : (first last : ℕ) (nodes : List Node) → AreSteps nodes → Each IsBounded (pieces_in first last nodes)
 bounded_in first last [] steps = tt
 bounded_in first last (a ∷ []) steps = tt
 bounded_in first last (a ∷ b ∷ nodes) steps = (bounded_between first last a b steps.0, bounded_in first last (b ∷ nodes) steps.1)
 
-pub bounded : (segments : List Segment) → Each (λ s. AreNodes s.nodes) segments → Each IsBounded (intervals_through segments)
+pub bounded : (segments : List Segment) → Each (λ s. AreNodes s.nodes) segments → Each IsBounded (pieces_through segments)
 bounded [] nodes = tt
 bounded (a ∷ segments) nodes =
-    Each-append IsBounded (intervals_of_arc (plain_segment a)) (intervals_through segments) (bounded_in a.first.micros a.last.micros a.nodes nodes.0.steps) (bounded segments nodes.1)
+    Each-append IsBounded (pieces_of_segment (plain_segment a)) (pieces_through segments) (bounded_in a.first.micros a.last.micros a.nodes nodes.0.steps) (bounded segments nodes.1)
 
 -- ---- their hulls
 
@@ -186,22 +186,22 @@ hull_near c first last le over x y z =
 abbrev OfBounded : (PlainHull → Type 0) → Type 0
 OfBounded P = (c : Curve) (first last : ℕ) → first ≤ last → IsOver c first last → AreBounded c.x → AreBounded c.y → AreBounded c.z → P (hull_axes c first last)
 
-each_bounded : (P : PlainHull → Type 0) → OfBounded P → (e : PlainTrack) (from to : ℕ) → AreInTime e from to → Each Rises (intervals_of e) → Each IsBounded (intervals_of e)
+each_bounded : (P : PlainHull → Type 0) → OfBounded P → (e : PlainTrack) (from to : ℕ) → AreInTime e from to → Each Rises (pieces_of e) → Each IsBounded (pieces_of e)
     → Each P (hulls_of e from to)
 each_bounded P holds e from to time rise bounded = each_hull e from to P (have_parts e from to time) of_part
   where
-    of_part : (index first last : ℕ) (x : PlainPiece) → IsPart e from to index x first last → P (hull_axes (curve_of_interval x) first last)
+    of_part : (index first last : ℕ) (x : PlainPiece) → IsPart e from to index x first last → P (hull_axes (curve_of_piece x) first last)
     of_part index first last x part =
         let some = part.some in
-        let rises : x.from.at < x.to.at = each_at Rises (intervals_of e) index x rise part.interval in
-        let own = each_at IsBounded (intervals_of e) index x bounded part.interval in
-        let a = (of_number e first index x part.interval ((part.ticks first).0 (omega arith, some)).here).covers in
-        let b = (of_number e last index x part.interval ((part.ticks last).0 (some, omega arith)).here).covers in
-        holds (curve_of_interval x) first last some (record { some = omega arith; from = a.from; to = omega (arith, a.from, b.to) }) own.x own.y own.z
+        let rises : x.from.at < x.to.at = each_at Rises (pieces_of e) index x rise part.piece in
+        let own = each_at IsBounded (pieces_of e) index x bounded part.piece in
+        let a = (of_number e first index x part.piece ((part.ticks first).0 (omega arith, some)).here).covers in
+        let b = (of_number e last index x part.piece ((part.ticks last).0 (some, omega arith)).here).covers in
+        holds (curve_of_piece x) first last some (record { some = omega arith; from = a.from; to = omega (arith, a.from, b.to) }) own.x own.y own.z
 
-pub hulls_outer : (e : PlainTrack) (from to : ℕ) → AreInTime e from to → Each Rises (intervals_of e) → Each IsBounded (intervals_of e)
+pub hulls_outer : (e : PlainTrack) (from to : ℕ) → AreInTime e from to → Each Rises (pieces_of e) → Each IsBounded (pieces_of e)
     → Each (λ h. IsOuter (gap_terms h) (10 ^ 18)) (hulls_of e from to)
 hulls_outer e from to time rise bounded = each_bounded (λ h. IsOuter (gap_terms h) (10 ^ 18)) hull_outer e from to time rise bounded
 
-pub hulls_near : (e : PlainTrack) (from to : ℕ) → AreInTime e from to → Each Rises (intervals_of e) → Each IsBounded (intervals_of e) → Each IsHullNear (hulls_of e from to)
+pub hulls_near : (e : PlainTrack) (from to : ℕ) → AreInTime e from to → Each Rises (pieces_of e) → Each IsBounded (pieces_of e) → Each IsHullNear (hulls_of e from to)
 hulls_near e from to time rise bounded = each_bounded IsHullNear hull_near e from to time rise bounded

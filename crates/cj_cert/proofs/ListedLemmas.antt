@@ -11,7 +11,7 @@ use Rattle.cj_interval.proofs.ListLemmas.{Exists-filter, Exists-flat_map, Exists
 use Rattle.cj_interval.proofs.RangeLemmas.{Exists-enumerated}
 use Rattle.cj_track.specs.PlainTracks.{PlainTrack}
 use Rattle.cj_hermite.specs.PlainProblems.{PlainProblem}
-use Rattle.cj_hermite.specs.Pieces.{interval_at, interval_index_at, curve_of_interval}
+use Rattle.cj_hermite.specs.Pieces.{piece_holding, piece_at, curve_of_piece}
 use Rattle.cj_hermite.specs.Roots.{slots_of}
 use Rattle.cj_hermite.specs.Slots.{slot_first, slot_last, slot_count}
 use Rattle.cj_hermite.specs.Walks.{HasNone}
@@ -28,9 +28,9 @@ use Rattle.cj_cert.specs.Accepted.{ShowsRadii, IsShellOver, AreShells, IsHullIn,
 use Rattle.cj_cert.specs.Certificates.{PlainBoxLine, PlainCertificate}
 use Rattle.cj_cert.specs.Listed.{slots_of_line, is_line_of, box_listed, boxes_listed, shells_listed}
 
--- the intervals of each object come in order of time
+-- the pieces of each object come in order of time
 abbrev pub AreAllInTime : PlainProblem → Type 0
-AreAllInTime case = (i : ℕ) (e : PlainTrack) → slice_get case.ephemerides i ≡ Some e → (from to : ℕ) → AreInTime e from to
+AreAllInTime case = (i : ℕ) (e : PlainTrack) → slice_get case.tracks i ≡ Some e → (from to : ℕ) → AreInTime e from to
 
 -- ---- places in lists
 
@@ -57,7 +57,7 @@ in_one_shell e from to (Some t) time over = record {
   none = λ is. absurd cc;
   holds = λ s is m low high.
       let same : t ≡ s = cc in
-      subst (λ (u : Shell). IfSome (interval_at e m) (λ x. IsRadiusWithin (curve_of_interval x) m u.lo u.hi)) same
+      subst (λ (u : Shell). IfSome (piece_holding e m) (λ x. IsRadiusWithin (curve_of_piece x) m u.lo u.hi)) same
       (radii_hold e from to t.lo t.hi m time
       (inner_test (hulls_of e from to) t.lo (Each-weaker (ShowsRadii t) (λ h. IsInner (gap_terms h) t.lo) (λ h shows. shows.inner) (hulls_of e from to)
       (each_from_All (ShowsRadii t) (hulls_of e from to) over.1)))
@@ -67,15 +67,15 @@ in_one_shell e from to (Some t) time over = record {
 }
 
 pub in_shells : (case : PlainProblem) (c : PlainCertificate) → AreAllInTime case → AreShells case c.shells → AreInShells case (shells_listed c)
-in_shells case c time are i e is = go (slice_get c.shells i) refl (line_at 0 (length case.ephemerides) i c.shells are.objects (slice_get_within case.ephemerides i e is))
+in_shells case c time are i e is = go (slice_get c.shells i) refl (line_at 0 (length case.tracks) i c.shells are.objects (slice_get_within case.tracks i e is))
   where
     go : (o : Option ShellLine) → slice_get c.shells i ≡ o → IsSomeAnd o (λ line. line.object ≡ 0 + i) → IsInShell case.first case.last e (shell_in (shells_listed c) i)
     go None at line = absurd line
     go (Some l) at line =
         let object : i ≡ l.object = omega arith in
-        let own : slice_get case.ephemerides l.object ≡ Some e = subst (λ (k : ℕ). slice_get case.ephemerides k ≡ Some e) object is in
-        let hold = each_at (λ line. IsSomeAnd (slice_get case.ephemerides line.object) (λ e. IsShellOver e case.first case.last line.shell)) c.shells i l
-        (each_from_All (λ line. IsSomeAnd (slice_get case.ephemerides line.object) (λ e. IsShellOver e case.first case.last line.shell)) c.shells are.hold) at in
+        let own : slice_get case.tracks l.object ≡ Some e = subst (λ (k : ℕ). slice_get case.tracks k ≡ Some e) object is in
+        let hold = each_at (λ line. IsSomeAnd (slice_get case.tracks line.object) (λ e. IsShellOver e case.first case.last line.shell)) c.shells i l
+        (each_from_All (λ line. IsSomeAnd (slice_get case.tracks line.object) (λ e. IsShellOver e case.first case.last line.shell)) c.shells are.hold) at in
         let over : IsShellOver e case.first case.last l.shell = subst (λ (o : Option PlainTrack). IsSomeAnd o (λ e. IsShellOver e case.first case.last l.shell)) own hold in
         let listed : shell_in (shells_listed c) i ≡ l.shell =
         ap (λ (o : Option (Option Shell)). option_and_then (λ s. s) o) (slice_get-map (λ line. line.shell) c.shells i ∙ ap (λ (o : Option ShellLine). option_map (λ line. line.shell) o) at) in
@@ -93,17 +93,17 @@ no_state_in p a (suc n) none k low high =
     ]
 
 pub no_state : (case : PlainProblem) (e : PlainTrack) (slot : ℕ) → has_state_in case e slot ≡ false → HasNone e (slot_first case.first slot) (slot_last case.first case.last slot)
-no_state case e slot none m low high = go (interval_index_at e m) refl
+no_state case e slot none m low high = go (piece_at e m) refl
   where
-    fails : is_some (interval_index_at e m) ≡ false
+    fails : is_some (piece_at e m) ≡ false
     fails =
         let from = slot_first case.first slot in
         let to = slot_last case.first case.last slot in
-        no_state_in (λ m. is_some (interval_index_at e m)) from (to + 1 - from) none m low (omega arith)
+        no_state_in (λ m. is_some (piece_at e m)) from (to + 1 - from) none m low (omega arith)
 
-    go : (o : Option ℕ) → interval_index_at e m ≡ o → o ≡ None
+    go : (o : Option ℕ) → piece_at e m ≡ o → o ≡ None
     go None is = refl
-    go (Some i) is = let fails = fails in let has : is_some (interval_index_at e m) ≡ true = ap is_some is in absurd cc
+    go (Some i) is = let fails = fails in let has : is_some (piece_at e m) ≡ true = ap is_some is in absurd cc
 
 -- what is made of an object, among what is made of all
 of_object : (P : ℕ × ℕ → Type 0) (f : ℕ × PlainTrack → List (ℕ × ℕ)) (n i : ℕ) (es : List PlainTrack) (e : PlainTrack) → slice_get es i ≡ Some e
@@ -114,10 +114,10 @@ pair_is : (i k slot : ℕ) → k ≡ slot → ◌≡◌ {A = ℕ × ℕ} (0 + i,
 pair_is i k slot same = let own : 0 + i ≡ i = omega arith in λ j. (own j, same j)
 
 -- a slot of an object with a state is one of the slots with states
-has_slot : (case : PlainProblem) (i slot : ℕ) (e : PlainTrack) → slice_get case.ephemerides i ≡ Some e → slot < slot_count case.first case.last → has_state_in case e slot ≡ true
+has_slot : (case : PlainProblem) (i slot : ℕ) (e : PlainTrack) → slice_get case.tracks i ≡ Some e → slot < slot_count case.first case.last → has_state_in case e slot ≡ true
     → Exists (λ p. p ≡ (i, slot)) (slots_with_states case)
 has_slot case i slot e is lt some =
-    of_object (λ p. p ≡ (i, slot)) (λ object. map (λ k. (object.0, k)) (filter (has_state_in case object.1) (slots_of case))) 0 i case.ephemerides e is
+    of_object (λ p. p ≡ (i, slot)) (λ object. map (λ k. (object.0, k)) (filter (has_state_in case object.1) (slots_of case))) 0 i case.tracks e is
     (Exists-map (λ p. p ≡ (i, slot)) (λ (k : ℕ). let p : ℕ × ℕ = (0 + i, k) in p) (filter (has_state_in case e) (slots_of case))
     (Exists-filter (λ k. ◌≡◌ {A = ℕ × ℕ} (0 + i, k) (i, slot)) (has_state_in case e) (slots_of case)
     (Exists-weaker (λ k. k ≡ slot) (λ k. (◌≡◌ {A = ℕ × ℕ} (0 + i, k) (i, slot)) × (has_state_in case e k ≡ true))
@@ -168,13 +168,13 @@ find_some {X = X} p Q (x ∷ xs) y each is = go (λ h. find_some p Q xs y each.1
     go rest false fails h = rest h
 
 -- the box of a line round an object in one of the line's slots
-in_line : (case : PlainProblem) (e : PlainTrack) (i slot m : ℕ) (line : PlainBoxLine) → ((from to : ℕ) → AreInTime e from to) → slice_get case.ephemerides i ≡ Some e → IsToldBy i slot line
+in_line : (case : PlainProblem) (e : PlainTrack) (i slot m : ℕ) (line : PlainBoxLine) → ((from to : ℕ) → AreInTime e from to) → slice_get case.tracks i ≡ Some e → IsToldBy i slot line
     → HoldsHulls case line
-    → slot_first case.first slot ≤ m → m ≤ slot_last case.first case.last slot → IfSome (interval_at e m) (λ x. IsPlaceIn (curve_of_interval x) m line.area)
+    → slot_first case.first slot ≤ m → m ≤ slot_last case.first case.last slot → IfSome (piece_holding e m) (λ x. IsPlaceIn (curve_of_piece x) m line.area)
 in_line case e i slot m line time is told holds low high =
     let from = slot_first case.first slot in
     let to = slot_last case.first case.last slot in
-    let own : slice_get case.ephemerides line.object ≡ Some e = subst (λ (k : ℕ). slice_get case.ephemerides k ≡ Some e) (sym told.own) is in
+    let own : slice_get case.tracks line.object ≡ Some e = subst (λ (k : ℕ). slice_get case.tracks k ≡ Some e) (sym told.own) is in
     let all : All (IsHullIn line.area) (hulls_of e from to) =
     subst (λ (o : Option PlainTrack). IsSomeAnd o (λ f. All (IsHullIn line.area) (hulls_of f from to))) own (holds slot told.low told.high) in
     places_lie e from to m line.area (time from to)
@@ -183,7 +183,7 @@ in_line case e i slot m line time is told holds low high =
     (each_from_All (IsHullIn line.area) (hulls_of e from to) all)) low high
 
 pub in_one_box : (case : PlainProblem) (lines : List PlainBoxLine) (e : PlainTrack) (i slot : ℕ) → ((from to : ℕ) → AreInTime e from to) → AreBoxes case lines
-    → slice_get case.ephemerides i ≡ Some e → slot < slot_count case.first case.last
+    → slice_get case.tracks i ≡ Some e → slot < slot_count case.first case.last
     → IsInBox (slot_first case.first slot) (slot_last case.first case.last slot) e (box_listed lines slot i)
 in_one_box case lines e i slot time are is lt = record {
   none = λ missing. no_state case e slot (false_from_ne_true (has_state_in case e slot) (λ some.
@@ -207,16 +207,16 @@ in_one_box case lines e i slot time are is lt = record {
 
     from_line : (o : Option PlainBoxLine) → find (is_line_of i slot) lines ≡ o → (r : PlainBox) → option_map (λ line. line.area) o ≡ Some r → (m : ℕ) → slot_first case.first slot ≤ m
         → m ≤ slot_last case.first case.last slot
-        → IfSome (interval_at e m) (λ x. IsPlaceIn (curve_of_interval x) m r)
+        → IfSome (piece_holding e m) (λ x. IsPlaceIn (curve_of_piece x) m r)
     from_line None at r found m low high = absurd cc
     from_line (Some line) at r found m low high =
         let area : line.area ≡ r = cc in
         let told = find_some (is_line_of i slot) (HoldsHulls case) lines line (each_from_All (HoldsHulls case) lines are.hold) at in
-        subst (λ (b : PlainBox). IfSome (interval_at e m) (λ x. IsPlaceIn (curve_of_interval x) m b)) area (in_line case e i slot m line time is (told_by i slot line told.0) told.1 low high)
+        subst (λ (b : PlainBox). IfSome (piece_holding e m) (λ x. IsPlaceIn (curve_of_piece x) m b)) area (in_line case e i slot m line time is (told_by i slot line told.0) told.1 low high)
 
-pub in_boxes : (case : PlainProblem) (c : PlainCertificate) → AreAllInTime case → c.objects ≡ length case.ephemerides → AreBoxes case c.boxes → AreInBoxes case (boxes_listed c)
+pub in_boxes : (case : PlainProblem) (c : PlainCertificate) → AreAllInTime case → c.objects ≡ length case.tracks → AreBoxes case c.boxes → AreInBoxes case (boxes_listed c)
 in_boxes case c time objects are slot i e lt is =
-    let below : i < c.objects = omega (arith, slice_get_within case.ephemerides i e is) in
+    let below : i < c.objects = omega (arith, slice_get_within case.tracks i e is) in
     let at : slice_get (range_with_len 0 c.objects) i ≡ Some i = range_at 0 c.objects i below ∙ (let same : 0 + i ≡ i = omega arith in ap (λ (k : ℕ). Some k) same) in
     let listed : reaches_in (boxes_listed c slot) i ≡ box_listed c.boxes slot i =
     ap (λ (o : Option (Option PlainBox)). option_and_then (λ box. box) o)

@@ -16,7 +16,7 @@ use Rattle.cj_causes.specs.declared.cert_version.CertVersion.TheVariants.{One, T
 use Rattle.cj_track.specs.PlainTracks.{PlainTrack}
 use Rattle.cj_hermite.specs.Interpolant.{Four}
 use Rattle.cj_hermite.specs.Pairs.{pairs_of}
-use Rattle.cj_hermite.specs.Pieces.{interval_index_at}
+use Rattle.cj_hermite.specs.Pieces.{piece_at}
 use Rattle.cj_hermite.specs.PlainProblems.{PlainProblem, threshold_between}
 use Rattle.cj_hermite.specs.Roots.{PlainCell, roots_in, roots_of, slots_of}
 use Rattle.cj_hermite.specs.Slots.{slot_first, slot_last, slot_count}
@@ -24,7 +24,7 @@ use Rattle.cj_hermite.specs.Walks.{HasNone}
 use Rattle.cj_hermite.proofs.PairLemmas.{IsPair, Each-pairs}
 use Rattle.cj_bezier.specs.declared.shells.Shell.{Shell}
 use Rattle.cj_bezier.specs.Hulls.{PlainHull}
-use Rattle.cj_bezier.specs.Looked.{pairs_kept}
+use Rattle.cj_bezier.specs.Candidates.{pairs_kept}
 use Rattle.cj_bezier.specs.Parts.{hulls_of}
 use Rattle.cj_bezier.specs.Shells.{keeps_between}
 use Rattle.cj_bezier.specs.SlotBoxes.{IsAtMostEach, IsAtLeastEach, PlainBox, reaches_in, both_touch, touch_between}
@@ -35,7 +35,7 @@ use Rattle.cj_blocks.proofs.RoundLemmas.{LiesIn}
 use Rattle.cj_blocks.proofs.RunLemmas.{IsRound, each_round, slots_told, slots_are, touch_listed}
 use Rattle.cj_cert.specs.Accepted.{IsHullIn, has_state_in, slots_with_states, HoldsHulls, AreBoxes, IsSupported, TileRoots, Accepted}
 use Rattle.cj_cert.specs.Certificates.{PlainBoxLine, PlainCertificate}
-use Rattle.cj_cert.specs.Listed.{slots_of_line, is_line_of, box_listed, boxes_listed, shells_listed, is_looked_listed}
+use Rattle.cj_cert.specs.Listed.{slots_of_line, is_line_of, box_listed, boxes_listed, shells_listed, is_candidate_listed}
 use Rattle.cj_cert.specs.Rewritten.{size_line, line_of_block, boxes_by_lines, pairs_by_shells, given_of, with_blocks, rewritten, from_version, in_version_2, written_in_blocks, written_in}
 use Rattle.cj_bezier.specs.AllBoxes.{boxes_of}
 use Rattle.cj_cert.specs.Written.{box_in, written}
@@ -78,31 +78,31 @@ in_rows f slots a (suc n) (suc object) slot exists lt =
     ∙ ap (λ (o : ℕ). Some (f o slot)) next
 
 -- the box that is given of an object in a slot is the listed one
-given_is : (case : PlainProblem) (c : PlainCertificate) (object slot : ℕ) → object < length case.ephemerides → slot < slot_count case.first case.last
+given_is : (case : PlainProblem) (c : PlainCertificate) (object slot : ℕ) → object < length case.tracks → slot < slot_count case.first case.last
     → box_given (given_of case (boxes_by_lines case c.boxes) (pairs_by_shells case c)) object slot ≡ box_listed c.boxes slot object
 unfolding boxes_by_lines
 given_is case c object slot exists lt =
     let own : 0 + object ≡ object = omega arith in
     ap (λ (o : Option (Option PlainBox)). option_and_then (λ b. b) o)
-    (in_rows (λ object slot. box_listed c.boxes slot object) (slot_count case.first case.last) 0 (length case.ephemerides) object slot exists lt)
+    (in_rows (λ object slot. box_listed c.boxes slot object) (slot_count case.first case.last) 0 (length case.tracks) object slot exists lt)
     ∙ ap (box_listed c.boxes slot) own
 
 -- ---- where lines tell of an object
 
 -- an object with this number has a state in a slot
 abbrev HasState : PlainProblem → ℕ × ℕ → Type 0
-HasState case p = IsSomeAnd (slice_get case.ephemerides p.0) (λ e. has_state_in case e p.1 ≡ true)
+HasState case p = IsSomeAnd (slice_get case.tracks p.0) (λ e. has_state_in case e p.1 ≡ true)
 
 have_states : (case : PlainProblem) → Each (HasState case) (slots_with_states case)
 have_states case =
-    Each-flat_map (HasState case) (λ object. map (λ slot. (object.0, slot)) (filter (has_state_in case object.1) (slots_of case))) (enumerate_from 0 case.ephemerides)
+    Each-flat_map (HasState case) (λ object. map (λ slot. (object.0, slot)) (filter (has_state_in case object.1) (slots_of case))) (enumerate_from 0 case.tracks)
     (Each-weaker (IsAtNumber case) (λ object. Each (HasState case) (map (λ slot. (object.0, slot)) (filter (has_state_in case object.1) (slots_of case))))
     (λ object at. Each-map (HasState case) (λ (slot : ℕ). let p : ℕ × ℕ = (object.0, slot) in p) (filter (has_state_in case object.1) (slots_of case))
     (Each-weaker (λ slot. has_state_in case object.1 slot ≡ true) (λ slot. HasState case (object.0, slot))
     (λ slot has. subst (λ (o : Option PlainTrack). IsSomeAnd o (λ e. has_state_in case e slot ≡ true)) (sym at) has)
     (filter (has_state_in case object.1) (slots_of case))
     (each_from_All (λ slot. has_state_in case object.1 slot ≡ true) (filter (has_state_in case object.1) (slots_of case)) (filter_passes (has_state_in case object.1) (slots_of case)))))
-    (enumerate_from 0 case.ephemerides) (numbered case))
+    (enumerate_from 0 case.tracks) (numbered case))
 
 -- the object of a line has a state in each of its slots
 abbrev HasStates : PlainProblem → PlainBoxLine → Type 0
@@ -120,11 +120,11 @@ has_none : (case : PlainProblem) (e : PlainTrack) (slot : ℕ) → HasNone e (sl
 has_none case e slot none =
     let from = slot_first case.first slot in
     let to = slot_last case.first case.last slot in
-    list_any_none (λ m. is_some (interval_index_at e m)) (range_with_len from (to + 1 - from))
-    (All-from_each (λ m. is_some (interval_index_at e m) ≡ false) (range_with_len from (to + 1 - from))
-    (Each-range (λ m. is_some (interval_index_at e m) ≡ false) from (to + 1 - from) (λ m low high. ap is_some (none m low (omega arith)))))
+    list_any_none (λ m. is_some (piece_at e m)) (range_with_len from (to + 1 - from))
+    (All-from_each (λ m. is_some (piece_at e m) ≡ false) (range_with_len from (to + 1 - from))
+    (Each-range (λ m. is_some (piece_at e m) ≡ false) from (to + 1 - from) (λ m low high. ap is_some (none m low (omega arith)))))
 
-told_as : (case : PlainProblem) (lines : List PlainBoxLine) (e : PlainTrack) (i slot : ℕ) → AreAllInTime case → AreBoxes case lines → slice_get case.ephemerides i ≡ Some e → slot < slot_count case.first case.last
+told_as : (case : PlainProblem) (lines : List PlainBoxLine) (e : PlainTrack) (i slot : ℕ) → AreAllInTime case → AreBoxes case lines → slice_get case.tracks i ≡ Some e → slot < slot_count case.first case.last
     → is_some (box_listed lines slot i) ≡ has_state_in case e slot
 told_as case lines e i slot time are at lt = go (find (is_line_of i slot) lines) refl
   where
@@ -136,7 +136,7 @@ told_as case lines e i slot time are at lt = go (find (is_line_of i slot) lines)
         let told = find_some (is_line_of i slot) (HasStates case) lines line (lines_have case lines are) found in
         let by = told_by i slot line told.0 in
         let has : HasState case (line.object, slot) = told.1 slot by.low by.high in
-        let own : slice_get case.ephemerides line.object ≡ Some e = subst (λ (k : ℕ). slice_get case.ephemerides k ≡ Some e) (sym by.own) at in
+        let own : slice_get case.tracks line.object ≡ Some e = subst (λ (k : ℕ). slice_get case.tracks k ≡ Some e) (sym by.own) at in
         let state : has_state_in case e slot ≡ true = subst (λ (o : Option PlainTrack). IsSomeAnd o (λ e. has_state_in case e slot ≡ true)) own has in
         ap (λ (o : Option PlainBoxLine). is_some (option_map (λ line. line.area) o)) found ∙ sym state
 
@@ -155,13 +155,13 @@ new_slots : (case : PlainProblem) (c : PlainCertificate) → AreAllInTime case �
 new_slots case c time are =
     slots_of_lines (blocks_of g) ∙ slots_are g
     ∙ flat_map_numbered (λ object. map (λ slot. (object, slot)) (filter (λ slot. is_some (box_given g object slot)) (range_with_len 0 g.slots)))
-    (λ object. map (λ slot. (object.0, slot)) (filter (has_state_in case object.1) (slots_of case))) 0 case.ephemerides (λ i e is.
+    (λ object. map (λ slot. (object.0, slot)) (filter (has_state_in case object.1) (slots_of case))) 0 case.tracks (λ i e is.
     let at : 0 + i ≡ i = omega arith in
-    let there : slice_get case.ephemerides (0 + i) ≡ Some e = subst (λ (k : ℕ). slice_get case.ephemerides k ≡ Some e) (sym at) is in
+    let there : slice_get case.tracks (0 + i) ≡ Some e = subst (λ (k : ℕ). slice_get case.tracks k ≡ Some e) (sym at) is in
     ap (map (λ (slot : ℕ). let p : ℕ × ℕ = (0 + i, slot) in p))
     (filter_alike (λ slot. is_some (box_given g (0 + i) slot)) (has_state_in case e) (slots_of case)
     (Each-range (λ slot. is_some (box_given g (0 + i) slot) ≡ has_state_in case e slot) 0 (slot_count case.first case.last) (λ slot low high.
-    ap is_some (given_is case c (0 + i) slot (slice_get_within case.ephemerides (0 + i) e there) (omega arith)) ∙ told_as case c.boxes e (0 + i) slot time are there (omega arith)))))
+    ap is_some (given_is case c (0 + i) slot (slice_get_within case.tracks (0 + i) e there) (omega arith)) ∙ told_as case c.boxes e (0 + i) slot time are there (omega arith)))))
   where
     g : Given
     g = given_of case (boxes_by_lines case c.boxes) (pairs_by_shells case c)
@@ -186,7 +186,7 @@ hull_further a b lies h is = record {
 
 -- in each of its slots a block holds the hulls that the line of the slot holds
 holds_in : (case : PlainProblem) (c : PlainCertificate) (object slot : ℕ) (area : PlainBox) → AreBoxes case c.boxes → IsSomeAnd (box_listed c.boxes slot object) (λ x. LiesIn x area)
-    → IsSomeAnd (slice_get case.ephemerides object) (λ e. All (IsHullIn area) (hulls_of e (slot_first case.first slot) (slot_last case.first case.last slot)))
+    → IsSomeAnd (slice_get case.tracks object) (λ e. All (IsHullIn area) (hulls_of e (slot_first case.first slot) (slot_last case.first case.last slot)))
 holds_in case c object slot area are some = go (find (is_line_of object slot) c.boxes) refl some
   where
     from : ℕ
@@ -201,13 +201,13 @@ holds_in case c object slot area are some = go (find (is_line_of object slot) c.
         (Each-weaker (IsHullIn a) (IsHullIn area) (hull_further a area lies) (hulls_of e from to) (each_from_All (IsHullIn a) (hulls_of e from to) all))
 
     go : (o : Option PlainBoxLine) → find (is_line_of object slot) c.boxes ≡ o → IsSomeAnd (option_map (λ line. line.area) o) (λ x. LiesIn x area)
-        → IsSomeAnd (slice_get case.ephemerides object) (λ e. All (IsHullIn area) (hulls_of e from to))
+        → IsSomeAnd (slice_get case.tracks object) (λ e. All (IsHullIn area) (hulls_of e from to))
     go None found lies = absurd lies
     go (Some line) found lies =
         let told = find_some (is_line_of object slot) (HoldsHulls case) c.boxes line (each_from_All (HoldsHulls case) c.boxes are.hold) found in
         let by = told_by object slot line told.0 in
-        subst (λ (k : ℕ). IsSomeAnd (slice_get case.ephemerides k) (λ e. All (IsHullIn area) (hulls_of e from to))) by.own
-        (in_area line.area (slice_get case.ephemerides line.object) lies (told.1 slot by.low by.high))
+        subst (λ (k : ℕ). IsSomeAnd (slice_get case.tracks k) (λ e. All (IsHullIn area) (hulls_of e from to))) by.own
+        (in_area line.area (slice_get case.tracks line.object) lies (told.1 slot by.low by.high))
 
 block_holds : (case : PlainProblem) (c : PlainCertificate) → AreBoxes case c.boxes → (b : PlainBlock) → IsRound (given_of case (boxes_by_lines case c.boxes) (pairs_by_shells case c)) b
     → HoldsHulls case (line_of_block b)
@@ -229,7 +229,7 @@ new_boxes case c time are =
           (Each-map (HoldsHulls case) line_of_block (blocks_of g) (Each-weaker (IsRound g) (λ b. HoldsHulls case (line_of_block b)) (block_holds case c are) (blocks_of g) (each_round g)));
     }
 
--- ---- what is looked at
+-- ---- candidates
 
 found_same : (object slot : ℕ) (bs : List PlainBlock) → box_listed (map line_of_block bs) slot object ≡ blocks.box_listed bs object slot
 found_same object slot [] = refl
@@ -254,7 +254,7 @@ each_slot P n [] f = tt
 each_slot P n (x ∷ xs) f = (λ slot lt. (f slot lt).0, each_slot P n xs (λ slot lt. (f slot lt).1))
 
 -- the boxes of a pair that is kept touch by the new lines where they do by the old ones
-one_pair : (case : PlainProblem) (c : PlainCertificate) (pair : ℕ × ℕ) (slot : ℕ) → c.objects ≡ length case.ephemerides → IsPair (length case.ephemerides) pair → slot < slot_count case.first case.last
+one_pair : (case : PlainProblem) (c : PlainCertificate) (pair : ℕ × ℕ) (slot : ℕ) → c.objects ≡ length case.tracks → IsPair (length case.tracks) pair → slot < slot_count case.first case.last
     → (kept : Bool) → (keeps_between case.threshold case.sizes (shells_listed c) pair ≡ kept)
     → (kept ≡ true → pair_touches (given_of case (boxes_by_lines case c.boxes) (pairs_by_shells case c)) (blocks.box_listed (blocks_of (given_of case (boxes_by_lines case c.boxes) (pairs_by_shells case c)))) slot pair
     ≡ pair_touches (given_of case (boxes_by_lines case c.boxes) (pairs_by_shells case c)) (box_given (given_of case (boxes_by_lines case c.boxes) (pairs_by_shells case c))) slot pair)
@@ -272,11 +272,11 @@ one_pair case c pair slot objects is lt true kept alike =
     let old' = given_is case c pair.1 slot exists lt ∙ sym (listed_at c slot pair.1 (omega (arith, exists, objects))) in
     (λ i. both_touch thr (one i) (two i)) ∙ alike refl ∙ (λ i. both_touch thr (old i) (old' i))
 
--- a pair is looked at in the same slots
-looked_as : (case : PlainProblem) (c : PlainCertificate) → c.objects ≡ length case.ephemerides
-    → Each (λ pair. (slot : ℕ) → slot < slot_count case.first case.last → is_looked_listed case (rewritten case c) pair.0 pair.1 slot ≡ is_looked_listed case c pair.0 pair.1 slot) (pairs_of (length case.ephemerides))
-unfolding is_looked_listed with_blocks
-looked_as case c objects =
+-- a pair is a candidate in the same slots
+candidates_as : (case : PlainProblem) (c : PlainCertificate) → c.objects ≡ length case.tracks
+    → Each (λ pair. (slot : ℕ) → slot < slot_count case.first case.last → is_candidate_listed case (rewritten case c) pair.0 pair.1 slot ≡ is_candidate_listed case c pair.0 pair.1 slot) (pairs_of (length case.tracks))
+unfolding is_candidate_listed with_blocks
+candidates_as case c objects =
     Each-weaker (λ pair. IsPair n pair × (keeps pair ≡ true → (slot : ℕ) → slot < slot_count case.first case.last → pair_touches g (blocks.box_listed (blocks_of g)) slot pair ≡ pair_touches g (box_given g) slot pair))
     (λ pair. (slot : ℕ) → slot < slot_count case.first case.last
     → (keeps pair && touch_between case.threshold case.sizes (boxes_listed new slot) pair) ≡ (keeps pair && touch_between case.threshold case.sizes (boxes_listed c slot) pair))
@@ -287,7 +287,7 @@ looked_as case c objects =
     kept_touch))
   where
     n : ℕ
-    n = length case.ephemerides
+    n = length case.tracks
 
     g : Given
     g = given_of case (boxes_by_lines case c.boxes) (pairs_by_shells case c)
@@ -308,20 +308,20 @@ looked_as case c objects =
         (touch_listed g (Each-weaker (IsPair n) (λ pair. pair.0 < pair.1) (λ pair is. is.ordered) (filter keeps (pairs_of n)) kept_pairs)
         (Each-weaker (IsPair n) (λ pair. pair.1 < n) (λ pair is. is.exists) (filter keeps (pairs_of n)) kept_pairs) slot lt))
 
--- the roots are the same where the same pairs are looked at
-roots_as : (f g : ℕ → ℕ → ℕ → Bool) (case : PlainProblem) → Each (λ pair. (slot : ℕ) → slot < slot_count case.first case.last → f pair.0 pair.1 slot ≡ g pair.0 pair.1 slot) (pairs_of (length case.ephemerides))
+-- the roots are the same where the candidates are the same
+roots_as : (f g : ℕ → ℕ → ℕ → Bool) (case : PlainProblem) → Each (λ pair. (slot : ℕ) → slot < slot_count case.first case.last → f pair.0 pair.1 slot ≡ g pair.0 pair.1 slot) (pairs_of (length case.tracks))
     → roots_of f case ≡ roots_of g case
 unfolding roots_of
 roots_as f g case same =
     flat_map_alike (λ pair. flat_map (λ slot. cond (f pair.0 pair.1 slot) (roots_in case slot pair.0 pair.1) []) (slots_of case))
-    (λ pair. flat_map (λ slot. cond (g pair.0 pair.1 slot) (roots_in case slot pair.0 pair.1) []) (slots_of case)) (pairs_of (length case.ephemerides))
+    (λ pair. flat_map (λ slot. cond (g pair.0 pair.1 slot) (roots_in case slot pair.0 pair.1) []) (slots_of case)) (pairs_of (length case.tracks))
     (Each-weaker (λ pair. (slot : ℕ) → slot < slot_count case.first case.last → f pair.0 pair.1 slot ≡ g pair.0 pair.1 slot)
     (λ pair. flat_map (λ slot. cond (f pair.0 pair.1 slot) (roots_in case slot pair.0 pair.1) []) (slots_of case)
     ≡ flat_map (λ slot. cond (g pair.0 pair.1 slot) (roots_in case slot pair.0 pair.1) []) (slots_of case))
     (λ pair alike. flat_map_alike (λ slot. cond (f pair.0 pair.1 slot) (roots_in case slot pair.0 pair.1) []) (λ slot. cond (g pair.0 pair.1 slot) (roots_in case slot pair.0 pair.1) []) (slots_of case)
     (Each-range (λ slot. cond (f pair.0 pair.1 slot) (roots_in case slot pair.0 pair.1) [] ≡ cond (g pair.0 pair.1 slot) (roots_in case slot pair.0 pair.1) []) 0 (slot_count case.first case.last)
     (λ slot low high. ap (λ (b : Bool). cond b (roots_in case slot pair.0 pair.1) []) (alike slot (omega arith)))))
-    (pairs_of (length case.ephemerides)) same)
+    (pairs_of (length case.tracks)) same)
 
 -- ---- the certificate
 
@@ -336,7 +336,7 @@ rewritten_accepted case c time accepted = record {
   shells = accepted.shells;
   boxes = new_boxes case c time accepted.boxes;
   cells = subst (λ (roots : List PlainCell). TileRoots (IsSupported case) roots c.cells)
-      (sym (roots_as (is_looked_listed case (rewritten case c)) (is_looked_listed case c) case (looked_as case c accepted.objects))) accepted.cells;
+      (sym (roots_as (is_candidate_listed case (rewritten case c)) (is_candidate_listed case c) case (candidates_as case c accepted.objects))) accepted.cells;
 }
 
 -- a certificate of either version
@@ -349,10 +349,10 @@ in_version_2_accepted case c time accepted = go c.version
 
 -- ---- what a run writes
 
-rows_same : (case : PlainProblem) (lines : List PlainBoxLine) → ((i : ℕ) (e : PlainTrack) → slice_get case.ephemerides i ≡ Some e → (slot : ℕ) → slot < slot_count case.first case.last → box_listed lines slot i ≡ box_in case e slot)
+rows_same : (case : PlainProblem) (lines : List PlainBoxLine) → ((i : ℕ) (e : PlainTrack) → slice_get case.tracks i ≡ Some e → (slot : ℕ) → slot < slot_count case.first case.last → box_listed lines slot i ≡ box_in case e slot)
     → boxes_by_lines case lines ≡ boxes_of case
 unfolding boxes_by_lines boxes_of
-rows_same case lines same = each_row 0 case.ephemerides (λ i e is slot lt. let at : 0 + i ≡ i = omega arith in ap (box_listed lines slot) at ∙ same i e is slot lt)
+rows_same case lines same = each_row 0 case.tracks (λ i e is slot lt. let at : 0 + i ≡ i = omega arith in ap (box_listed lines slot) at ∙ same i e is slot lt)
   where
     map_alike : (f g : ℕ → Option PlainBox) (ks : List ℕ) → Each (λ k. f k ≡ g k) ks → map f ks ≡ map g ks
     map_alike f g [] alike = refl
@@ -375,7 +375,7 @@ unfolding written
 blocks_same case time =
     let boxes = rows_same case (lines_of case) (λ i e is slot lt. box_is case e i slot time is lt) in
     let kept : pairs_by_shells case (written case) ≡ pairs_kept case =
-    ap (λ (ss : List (Option Shell)). filter (keeps_between case.threshold case.sizes ss) (pairs_of (length case.ephemerides))) (shells_same case) in
+    ap (λ (ss : List (Option Shell)). filter (keeps_between case.threshold case.sizes ss) (pairs_of (length case.tracks))) (shells_same case) in
     λ i. with_blocks case (given_of case (boxes i) (kept i)) (written case)
 
 pub written_in_blocks_accepted : (case : PlainProblem) → AreAllInTime case → AreAllWithin case → 10 ^ 9 ≤ case.threshold → Accepted case (written_in_blocks case)

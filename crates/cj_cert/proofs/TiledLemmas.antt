@@ -5,10 +5,10 @@ use Rattle.std.specs.List.{AllZip, flat_map}
 use Rattle.cj_interval.proofs.ListLemmas.{Each, Exists, Each-weaker, Each-append, Each-exists, Exists-weaker, Exists-left, Exists-right}
 use Rattle.cj_track.specs.PlainTracks.{PlainTrack}
 use Rattle.cj_hermite.specs.Interpolant.{Curve, IsOver}
-use Rattle.cj_hermite.specs.Pieces.{PlainPiece, interval_at, curve_of_interval, OfBothAt}
+use Rattle.cj_hermite.specs.Pieces.{PlainPiece, piece_holding, curve_of_piece, OfBothAt}
 use Rattle.cj_hermite.specs.PlainProblems.{PlainProblem, threshold_of, curve_at, OfObjectsAt}
 use Rattle.cj_hermite.specs.Roots.{PlainCell}
-use Rattle.cj_hermite.proofs.CurveLemmas.{Curves, curves, curves_of, root_intervals}
+use Rattle.cj_hermite.proofs.CurveLemmas.{Curves, curves, curves_of, root_pieces}
 use Rattle.cj_hermite.proofs.ObjectLemmas.{of_objects, within_at}
 use Rattle.cj_hermite.proofs.RootLemmas.{IsRootOf, Holds as HasTickOf}
 use Rattle.cj_bezier.specs.Gaps.{gap_terms, hull_gap}
@@ -66,15 +66,15 @@ some_tiled P a b m roots cells tile here = subst (Exists (IsTickOf a b m)) (sym 
 -- the interpolant of an object at a tick has ticks
 wide_at : (case : PlainProblem) (object m : ℕ) (c : Curve) → AreAllInTime case → curve_at case object m ≡ Some c → 0 < c.span
 unfolding curve_at
-wide_at case object m c time is = go (slice_get case.ephemerides object) refl is
+wide_at case object m c time is = go (slice_get case.tracks object) refl is
   where
-    at_interval : (e : PlainTrack) (o : Option PlainPiece) → IfSome o (λ x. x.from.at < x.to.at) → option_map curve_of_interval o ≡ Some c → 0 < c.span
-    at_interval e None rises h = absurd cc
-    at_interval e (Some x) rises h = let same : curve_of_interval x ≡ c = cc in subst (λ (d : Curve). 0 < d.span) same (omega arith)
+    at_piece : (e : PlainTrack) (o : Option PlainPiece) → IfSome o (λ x. x.from.at < x.to.at) → option_map curve_of_piece o ≡ Some c → 0 < c.span
+    at_piece e None rises h = absurd cc
+    at_piece e (Some x) rises h = let same : curve_of_piece x ≡ c = cc in subst (λ (d : Curve). 0 < d.span) same (omega arith)
 
-    go : (o : Option PlainTrack) → slice_get case.ephemerides object ≡ o → option_map curve_of_interval (option_and_then (λ e. interval_at e m) o) ≡ Some c → 0 < c.span
+    go : (o : Option PlainTrack) → slice_get case.tracks object ≡ o → option_map curve_of_piece (option_and_then (λ e. piece_holding e m) o) ≡ Some c → 0 < c.span
     go None there h = absurd cc
-    go (Some e) there h = at_interval e (interval_at e m) (time object e there m m m (omega arith) (omega arith)).rises h
+    go (Some e) there h = at_piece e (piece_holding e m) (time object e there m m m (omega arith) (omega arith)).rises h
 
 -- an interpolant that an object has at two ticks is over both
 pub over_both : (case : PlainProblem) (object first last : ℕ) (c : Curve) → AreAllInTime case → curve_at case object first ≡ Some c → curve_at case object last ≡ Some c → IsOver c first last
@@ -86,32 +86,32 @@ over_both case object first last c time from to =
 -- the interpolants of two objects at a tick are those of which something holds
 of_both : (case : PlainProblem) (a b m : ℕ) (c d : Curve) (P : Curve → Curve → Type 0) → curve_at case a m ≡ Some c → curve_at case b m ≡ Some d → OfObjectsAt case a b m P → P c d
 unfolding curve_at
-of_both case a b m c d P is is' holds = first (slice_get case.ephemerides a) is holds
+of_both case a b m c d P is is' holds = first (slice_get case.tracks a) is holds
   where
-    at_y : (x : PlainPiece) (o : Option PlainPiece) → curve_of_interval x ≡ c → option_map curve_of_interval o ≡ Some d → IsSomeAnd o (λ y. P (curve_of_interval x) (curve_of_interval y)) → P c d
+    at_y : (x : PlainPiece) (o : Option PlainPiece) → curve_of_piece x ≡ c → option_map curve_of_piece o ≡ Some d → IsSomeAnd o (λ y. P (curve_of_piece x) (curve_of_piece y)) → P c d
     at_y x None same h holds = absurd holds
-    at_y x (Some y) same h holds = let same' : curve_of_interval y ≡ d = cc in subst (λ (z : Curve). P c z) same' (subst (λ (z : Curve). P z (curve_of_interval y)) same holds)
+    at_y x (Some y) same h holds = let same' : curve_of_piece y ≡ d = cc in subst (λ (z : Curve). P c z) same' (subst (λ (z : Curve). P z (curve_of_piece y)) same holds)
 
-    at_x : (f : PlainTrack) (o : Option PlainPiece) → option_map curve_of_interval o ≡ Some c → option_map curve_of_interval (interval_at f m) ≡ Some d
-        → IsSomeAnd o (λ x. IsSomeAnd (interval_at f m) (λ y. P (curve_of_interval x) (curve_of_interval y))) → P c d
+    at_x : (f : PlainTrack) (o : Option PlainPiece) → option_map curve_of_piece o ≡ Some c → option_map curve_of_piece (piece_holding f m) ≡ Some d
+        → IsSomeAnd o (λ x. IsSomeAnd (piece_holding f m) (λ y. P (curve_of_piece x) (curve_of_piece y))) → P c d
     at_x f None h k holds = absurd holds
-    at_x f (Some x) h k holds = let same : curve_of_interval x ≡ c = cc in at_y x (interval_at f m) same k holds
+    at_x f (Some x) h k holds = let same : curve_of_piece x ≡ c = cc in at_y x (piece_holding f m) same k holds
 
-    second : (e : PlainTrack) (o : Option PlainTrack) → option_map curve_of_interval (interval_at e m) ≡ Some c → option_map curve_of_interval (option_and_then (λ f. interval_at f m) o) ≡ Some d
+    second : (e : PlainTrack) (o : Option PlainTrack) → option_map curve_of_piece (piece_holding e m) ≡ Some c → option_map curve_of_piece (option_and_then (λ f. piece_holding f m) o) ≡ Some d
         → IsSomeAnd o (λ f. OfBothAt e f m P) → P c d
     second e None h k holds = absurd holds
-    second e (Some f) h k holds = at_x f (interval_at e m) h k holds
+    second e (Some f) h k holds = at_x f (piece_holding e m) h k holds
 
-    first : (o : Option PlainTrack) → option_map curve_of_interval (option_and_then (λ e. interval_at e m) o) ≡ Some c
-        → IsSomeAnd o (λ e. IsSomeAnd (slice_get case.ephemerides b) (λ f. OfBothAt e f m P)) → P c d
+    first : (o : Option PlainTrack) → option_map curve_of_piece (option_and_then (λ e. piece_holding e m) o) ≡ Some c
+        → IsSomeAnd o (λ e. IsSomeAnd (slice_get case.tracks b) (λ f. OfBothAt e f m P)) → P c d
     first None h holds = absurd holds
-    first (Some e) h holds = second e (slice_get case.ephemerides b) h is' holds
+    first (Some e) h holds = second e (slice_get case.tracks b) h is' holds
 
 -- a supported cell of a root is true throughout
 pub true_cell : (case : PlainProblem) (r : PlainCell) (s : PlainLeaf) → AreAllInTime case → 10 ^ 9 ≤ case.threshold → IsRootOf case r → IsLeaf (IsSupported case) r.a r.b r.first r.last s
     → IsTrueThroughout case s
 unfolding HoldsThroughout
-true_cell case r s time big root leaf m low high = go (curves_of case r.a r.b r.first r.last (root_intervals case r root))
+true_cell case r s time big root leaf m low high = go (curves_of case r.a r.b r.first r.last (root_pieces case r root))
   where
     go : Curves case r.a r.b r.first r.last → OfObjectsAt case s.a s.b m (λ c d. Holds s.kind c d (threshold_of case s.a s.b) m)
     go (curves c d have) =

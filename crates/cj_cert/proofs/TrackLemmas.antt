@@ -10,7 +10,7 @@ use Rattle.cj_bezier.specs.Parts.{AreInTime, hulls_of}
 use Rattle.cj_bezier.specs.Shells.{IsOuter}
 use Rattle.cj_cert.specs.Reaches.{IsHullNear, StaysNear}
 
--- its intervals come in order of time, and its hulls lie within a million kilometres of the origin
+-- its pieces come in order of time, and its hulls lie within a million kilometres of the origin
 pub record IsRuled (t : Track) : Type 0 where
   pub time : (from to : ℕ) → AreInTime (plain_track t) from to
   pub within : (from to : ℕ) → All (λ h. IsOuter (gap_terms h) (10 ^ 18)) (hulls_of (plain_track t) from to)

@@ -10,11 +10,11 @@ use Rattle.cj_interval.proofs.RangeLemmas.{Each-numbered}
 use Rattle.cj_track.specs.PlainTracks.{PlainTrack}
 use Rattle.cj_hermite.specs.Interpolant.{Curve}
 use Rattle.cj_hermite.specs.Pairs.{pairs_of}
-use Rattle.cj_hermite.specs.Pieces.{interval_index_at}
+use Rattle.cj_hermite.specs.Pieces.{piece_at}
 use Rattle.cj_hermite.specs.PlainProblems.{PlainProblem, threshold_of, curve_at, HaveCurves}
 use Rattle.cj_hermite.specs.Roots.{PlainCell, roots_in, roots_of, slots_of}
 use Rattle.cj_hermite.specs.Slots.{slot_first, slot_last, slot_count}
-use Rattle.cj_hermite.proofs.CurveLemmas.{Curves, curves, curves_of, root_intervals}
+use Rattle.cj_hermite.proofs.CurveLemmas.{Curves, curves, curves_of, root_pieces}
 use Rattle.cj_hermite.proofs.ObjectLemmas.{of_objects}
 use Rattle.cj_hermite.proofs.RootLemmas.{IsRootOf, Each-roots}
 use Rattle.cj_bezier.specs.declared.kind.Kind.{Kind}
@@ -23,7 +23,7 @@ use Rattle.cj_bezier.specs.Gaps.{gap_terms, hull_gap}
 use Rattle.cj_bezier.specs.Halving.{leaves_between}
 use Rattle.cj_bezier.specs.Hulls.{PlainHull}
 use Rattle.cj_bezier.specs.Leaves.{PlainLeaf}
-use Rattle.cj_bezier.specs.Looked.{shells_of, boxes_in, is_looked, looked_by}
+use Rattle.cj_bezier.specs.Candidates.{shells_of, boxes_in, is_candidate, candidate_by}
 use Rattle.cj_bezier.specs.Parts.{hulls_of}
 use Rattle.cj_bezier.specs.RootLeaves.{kind_between, leaves_of_root, leaves_of_roots}
 use Rattle.cj_bezier.specs.Shells.{IsInner, IsOuter, MAX_RADIUS, greatest_to, least_from, is_inner, is_outer, shell_round, shell_of}
@@ -40,23 +40,23 @@ use Rattle.cj_bezier.proofs.TestLemmas.{decides_supports}
 use Rattle.cj_cert.specs.declared.cert_lines.ShellLine.{ShellLine}
 use Rattle.cj_cert.specs.Accepted.{ShowsRadii, IsShellOver, AreShells, IsHullIn, has_state_in, HoldsHulls, AreBoxes, IsSupported, TileRoots, Accepted}
 use Rattle.cj_cert.specs.Certificates.{PlainBoxLine}
-use Rattle.cj_cert.specs.Listed.{slots_of_line, is_line_of, box_listed, boxes_listed, shells_listed, is_looked_listed}
+use Rattle.cj_cert.specs.Listed.{slots_of_line, is_line_of, box_listed, boxes_listed, shells_listed, is_candidate_listed}
 use Rattle.cj_cert.specs.Written.{shell_line, box_in, line_of_box, line_in_slot, box_lines, leaves_in_order, written}
 use Rattle.cj_cert.proofs.ListedLemmas.{AreAllInTime, told_by, find_some, in_one_box, no_state as no_state_in_slot}
 use Rattle.cj_cert.proofs.TiledLemmas.{TileEach, over_both}
 
 -- each hull of each object in the window lies within a million kilometres of the origin
 abbrev pub AreAllWithin : PlainProblem → Type 0
-AreAllWithin case = (i : ℕ) (e : PlainTrack) → slice_get case.ephemerides i ≡ Some e → Each (λ h. IsOuter (gap_terms h) (10 ^ 18)) (hulls_of e case.first case.last)
+AreAllWithin case = (i : ℕ) (e : PlainTrack) → slice_get case.tracks i ≡ Some e → Each (λ h. IsOuter (gap_terms h) (10 ^ 18)) (hulls_of e case.first case.last)
 
 -- ---- objects with their numbers
 
 -- each object stands at its number
 abbrev pub IsAtNumber : PlainProblem → ℕ × PlainTrack → Type 0
-IsAtNumber case object = slice_get case.ephemerides object.0 ≡ Some object.1
+IsAtNumber case object = slice_get case.tracks object.0 ≡ Some object.1
 
-pub numbered : (case : PlainProblem) → Each (IsAtNumber case) (enumerate_from 0 case.ephemerides)
-numbered case = Each-numbered (IsAtNumber case) case.ephemerides (λ i e is. is)
+pub numbered : (case : PlainProblem) → Each (IsAtNumber case) (enumerate_from 0 case.tracks)
+numbered case = Each-numbered (IsAtNumber case) case.tracks (λ i e is. is)
 
 -- ---- shells
 
@@ -84,17 +84,17 @@ objects_in_order : (case : PlainProblem) (n : ℕ) (es : List PlainTrack) → ma
 objects_in_order case n [] = refl
 objects_in_order case n (e ∷ es) = ap (λ (ks : List ℕ). n ∷ ks) (objects_in_order case (n + 1) es)
 
-are_shells : (case : PlainProblem) → AreAllWithin case → AreShells case (map (shell_line case) (enumerate_from 0 case.ephemerides))
+are_shells : (case : PlainProblem) → AreAllWithin case → AreShells case (map (shell_line case) (enumerate_from 0 case.tracks))
 are_shells case within = record {
-  objects = objects_in_order case 0 case.ephemerides;
+  objects = objects_in_order case 0 case.tracks;
   hold =
-      let P = λ (line : ShellLine). IsSomeAnd (slice_get case.ephemerides line.object) (λ e. IsShellOver e case.first case.last line.shell) in
-      All-from_each P (map (shell_line case) (enumerate_from 0 case.ephemerides))
-      (Each-map P (shell_line case) (enumerate_from 0 case.ephemerides)
+      let P = λ (line : ShellLine). IsSomeAnd (slice_get case.tracks line.object) (λ e. IsShellOver e case.first case.last line.shell) in
+      All-from_each P (map (shell_line case) (enumerate_from 0 case.tracks))
+      (Each-map P (shell_line case) (enumerate_from 0 case.tracks)
       (Each-weaker (IsAtNumber case) (λ object. P (shell_line case object))
       (λ object at. subst (λ (o : Option PlainTrack). IsSomeAnd o (λ e. IsShellOver e case.first case.last (shell_of object.1 case.first case.last))) (sym at)
       (shell_shown object.1 case.first case.last (within object.0 object.1 at)))
-      (enumerate_from 0 case.ephemerides) (numbered case)));
+      (enumerate_from 0 case.tracks) (numbered case)));
 }
 
 -- ---- boxes
@@ -105,9 +105,9 @@ without_box case e slot none =
     let from = slot_first case.first slot in
     let to = slot_last case.first case.last slot in
     let empty = none_without e from to none in
-    list_any_none (λ m. is_some (interval_index_at e m)) (range_with_len from (to + 1 - from))
-    (All-from_each (λ m. is_some (interval_index_at e m) ≡ false) (range_with_len from (to + 1 - from))
-    (Each-range (λ m. is_some (interval_index_at e m) ≡ false) from (to + 1 - from) (λ m low high. ap is_some (empty m low (omega arith)))))
+    list_any_none (λ m. is_some (piece_at e m)) (range_with_len from (to + 1 - from))
+    (All-from_each (λ m. is_some (piece_at e m) ≡ false) (range_with_len from (to + 1 - from))
+    (Each-range (λ m. is_some (piece_at e m) ≡ false) from (to + 1 - from) (λ m low high. ap is_some (empty m low (omega arith)))))
 
 with_box : (case : PlainProblem) (e : PlainTrack) (slot : ℕ) (area : PlainBox) → box_in case e slot ≡ Some area → has_state_in case e slot ≡ true
 with_box case e slot area some =
@@ -146,7 +146,7 @@ hulls_lie e from to area some =
 -- a line of one slot, with the box of its object there
 record IsOwnLine (case : PlainProblem) (line : PlainBoxLine) : Type 0 where
   e : PlainTrack
-  object : slice_get case.ephemerides line.object ≡ Some e
+  object : slice_get case.tracks line.object ≡ Some e
   one : line.first ≡ line.last
   box : box_in case e line.first ≡ Some line.area
 
@@ -162,10 +162,10 @@ own_lines_in case object at (k ∷ slots) = go (box_in case object.1 k) refl (ow
         let all : Each (IsOwnLine case) (line_of_box object.0 k area ∷ filter_map (line_in_slot case object) slots) = (own, rest) in
         rw is all
 
-own_lines : (case : PlainProblem) → Each (IsOwnLine case) (flat_map (box_lines case) (enumerate_from 0 case.ephemerides))
+own_lines : (case : PlainProblem) → Each (IsOwnLine case) (flat_map (box_lines case) (enumerate_from 0 case.tracks))
 own_lines case =
-    Each-flat_map (IsOwnLine case) (box_lines case) (enumerate_from 0 case.ephemerides)
-    (Each-weaker (IsAtNumber case) (λ object. Each (IsOwnLine case) (box_lines case object)) (λ object at. own_lines_in case object at (slots_of case)) (enumerate_from 0 case.ephemerides)
+    Each-flat_map (IsOwnLine case) (box_lines case) (enumerate_from 0 case.tracks)
+    (Each-weaker (IsAtNumber case) (λ object. Each (IsOwnLine case) (box_lines case object)) (λ object at. own_lines_in case object at (slots_of case)) (enumerate_from 0 case.tracks)
     (numbered case))
 
 holds_hulls : (case : PlainProblem) (line : PlainBoxLine) → IsOwnLine case line → HoldsHulls case line
@@ -178,17 +178,17 @@ holds_hulls case line own slot low high =
     (All-from_each (IsHullIn line.area) (hulls_of own.e (slot_first case.first slot) (slot_last case.first case.last slot))
     (hulls_lie own.e (slot_first case.first slot) (slot_last case.first case.last slot) line.area box))
 
-are_boxes : (case : PlainProblem) → AreBoxes case (flat_map (box_lines case) (enumerate_from 0 case.ephemerides))
+are_boxes : (case : PlainProblem) → AreBoxes case (flat_map (box_lines case) (enumerate_from 0 case.tracks))
 are_boxes case =
-    let lines = flat_map (box_lines case) (enumerate_from 0 case.ephemerides) in
+    let lines = flat_map (box_lines case) (enumerate_from 0 case.tracks) in
     record {
       some =
           All-from_each (λ line. line.first ≤ line.last) lines (Each-weaker (IsOwnLine case) (λ line. line.first ≤ line.last) (λ line own. let one = own.one in omega arith) lines (own_lines case));
-      slots = slots_same case (enumerate_from 0 case.ephemerides);
+      slots = slots_same case (enumerate_from 0 case.tracks);
       hold = All-from_each (HoldsHulls case) lines (Each-weaker (IsOwnLine case) (HoldsHulls case) (holds_hulls case) lines (own_lines case));
     }
 
--- ---- what is looked at
+-- ---- candidates
 
 listed_shells_same : (case : PlainProblem) (n : ℕ) (es : List PlainTrack) → map (λ line. line.shell) (map (shell_line case) (enumerate_from n es)) ≡ map (λ e. shell_of e case.first case.last) es
 listed_shells_same case n [] = refl
@@ -196,10 +196,10 @@ listed_shells_same case n (e ∷ es) = ap (λ (ss : List (Option Shell)). shell_
 
 -- the lines of all boxes
 abbrev pub lines_of : PlainProblem → List PlainBoxLine
-lines_of case = flat_map (box_lines case) (enumerate_from 0 case.ephemerides)
+lines_of case = flat_map (box_lines case) (enumerate_from 0 case.tracks)
 
 -- the listed box of an object in a slot is its own
-pub box_is : (case : PlainProblem) (e : PlainTrack) (i slot : ℕ) → AreAllInTime case → slice_get case.ephemerides i ≡ Some e → slot < slot_count case.first case.last
+pub box_is : (case : PlainProblem) (e : PlainTrack) (i slot : ℕ) → AreAllInTime case → slice_get case.tracks i ≡ Some e → slot < slot_count case.first case.last
     → box_listed (lines_of case) slot i ≡ box_in case e slot
 box_is case e i slot time is lt = go (find (is_line_of i slot) (lines_of case)) refl
   where
@@ -212,7 +212,7 @@ box_is case e i slot time is lt = go (find (is_line_of i slot) (lines_of case)) 
         let told = told_by i slot line found.0 in
         let own = found.1 in
         let one = own.one in
-        let object : slice_get case.ephemerides i ≡ Some own.e = subst (λ (k : ℕ). slice_get case.ephemerides k ≡ Some own.e) told.own own.object in
+        let object : slice_get case.tracks i ≡ Some own.e = subst (λ (k : ℕ). slice_get case.tracks k ≡ Some own.e) told.own own.object in
         let same : own.e ≡ e = cc in
         let first : line.first ≡ slot = omega (arith, told.low, told.high) in
         let box : box_in case e slot ≡ Some line.area =
@@ -231,32 +231,32 @@ map_range f g n (e ∷ es) same =
 listed_boxes_same : (case : PlainProblem) (slot : ℕ) → AreAllInTime case → slot < slot_count case.first case.last → boxes_listed (written case) slot ≡ boxes_in case slot
 unfolding written boxes_in
 listed_boxes_same case slot time lt =
-    map_range (box_listed (lines_of case) slot) (λ e. box_in case e slot) 0 case.ephemerides
+    map_range (box_listed (lines_of case) slot) (λ e. box_in case e slot) 0 case.tracks
     (λ i e is. let own : 0 + i ≡ i = omega arith in ap (box_listed (lines_of case) slot) own ∙ box_is case e i slot time is lt)
 
 pub shells_same : (case : PlainProblem) → shells_listed (written case) ≡ shells_of case
 unfolding written shells_of
-shells_same case = listed_shells_same case 0 case.ephemerides
+shells_same case = listed_shells_same case 0 case.tracks
 
-looked_same : (case : PlainProblem) (a b slot : ℕ) → AreAllInTime case → slot < slot_count case.first case.last → is_looked_listed case (written case) a b slot ≡ is_looked case a b slot
-unfolding is_looked_listed is_looked
-looked_same case a b slot time lt =
-    ap (λ (ss : List (Option Shell)). looked_by case ss (boxes_listed (written case)) a b slot) (shells_same case)
-    ∙ ap (λ (bs : List (Option PlainBox)). looked_by case (shells_of case) (λ k. bs) a b slot) (listed_boxes_same case slot time lt)
+candidates_same : (case : PlainProblem) (a b slot : ℕ) → AreAllInTime case → slot < slot_count case.first case.last → is_candidate_listed case (written case) a b slot ≡ is_candidate case a b slot
+unfolding is_candidate_listed is_candidate
+candidates_same case a b slot time lt =
+    ap (λ (ss : List (Option Shell)). candidate_by case ss (boxes_listed (written case)) a b slot) (shells_same case)
+    ∙ ap (λ (bs : List (Option PlainBox)). candidate_by case (shells_of case) (λ k. bs) a b slot) (listed_boxes_same case slot time lt)
 
--- the roots are the same where the same is looked at
+-- the roots are the same where the candidates are the same
 roots_same : (f g : ℕ → ℕ → ℕ → Bool) (case : PlainProblem) → ((a b slot : ℕ) → slot < slot_count case.first case.last → f a b slot ≡ g a b slot) → roots_of f case ≡ roots_of g case
 unfolding roots_of
 roots_same f g case same =
     flat_map_alike (λ pair. flat_map (λ slot. cond (f pair.0 pair.1 slot) (roots_in case slot pair.0 pair.1) []) (slots_of case))
     (λ pair. flat_map (λ slot. cond (g pair.0 pair.1 slot) (roots_in case slot pair.0 pair.1) []) (slots_of case))
-    (pairs_of (length case.ephemerides))
+    (pairs_of (length case.tracks))
     (Each-always (λ pair. flat_map (λ slot. cond (f pair.0 pair.1 slot) (roots_in case slot pair.0 pair.1) []) (slots_of case)
     ≡ flat_map (λ slot. cond (g pair.0 pair.1 slot) (roots_in case slot pair.0 pair.1) []) (slots_of case))
     (λ pair. flat_map_alike (λ slot. cond (f pair.0 pair.1 slot) (roots_in case slot pair.0 pair.1) []) (λ slot. cond (g pair.0 pair.1 slot) (roots_in case slot pair.0 pair.1) []) (slots_of case)
     (Each-range (λ slot. cond (f pair.0 pair.1 slot) (roots_in case slot pair.0 pair.1) [] ≡ cond (g pair.0 pair.1 slot) (roots_in case slot pair.0 pair.1) []) 0 (slot_count case.first case.last)
     (λ slot low high. ap (λ (b : Bool). cond b (roots_in case slot pair.0 pair.1) []) (same pair.0 pair.1 slot (omega arith)))))
-    (pairs_of (length case.ephemerides)))
+    (pairs_of (length case.tracks)))
 
 -- ---- cells
 
@@ -292,7 +292,7 @@ supported_leaf case r c d have s leaf =
 
 root_tile : (case : PlainProblem) (r : PlainCell) → AreAllInTime case → 10 ^ 9 ≤ case.threshold → IsRootOf case r → Tile (IsSupported case) r.a r.b r.first r.last (leaves_of_root case r)
 unfolding leaves_between
-root_tile case r time big is = go (curves_of case r.a r.b r.first r.last (root_intervals case r is))
+root_tile case r time big is = go (curves_of case r.a r.b r.first r.last (root_pieces case r is))
   where
     go : Curves case r.a r.b r.first r.last → Tile (IsSupported case) r.a r.b r.first r.last (leaves_of_root case r)
     go (curves c d have) =
@@ -318,14 +318,14 @@ leaves_tile : (case : PlainProblem) → AreAllInTime case → 10 ^ 9 ≤ case.th
 leaves_tile case time big [] each = tt
 leaves_tile case time big (r ∷ roots) each = (root_tile case r time big each.0, leaves_tile case time big roots each.1)
 
-are_cells : (case : PlainProblem) (roots : List PlainCell) → AreAllInTime case → 10 ^ 9 ≤ case.threshold → roots ≡ roots_of (is_looked case) case
+are_cells : (case : PlainProblem) (roots : List PlainCell) → AreAllInTime case → 10 ^ 9 ≤ case.threshold → roots ≡ roots_of (is_candidate case) case
     → TileRoots (IsSupported case) roots (leaves_in_order case)
 unfolding leaves_in_order
 are_cells case roots time big same = record {
-  parts = map (leaves_of_root case) (roots_of (is_looked case) case);
-  whole = leaves_whole case (roots_of (is_looked case) case);
-  tiles = subst (λ (rs : List PlainCell). TileEach (IsSupported case) rs (map (leaves_of_root case) (roots_of (is_looked case) case))) (sym same)
-      (leaves_tile case time big (roots_of (is_looked case) case) (Each-roots (is_looked case) case));
+  parts = map (leaves_of_root case) (roots_of (is_candidate case) case);
+  whole = leaves_whole case (roots_of (is_candidate case) case);
+  tiles = subst (λ (rs : List PlainCell). TileEach (IsSupported case) rs (map (leaves_of_root case) (roots_of (is_candidate case) case))) (sym same)
+      (leaves_tile case time big (roots_of (is_candidate case) case) (Each-roots (is_candidate case) case));
 }
 
 -- ---- the certificate
@@ -340,6 +340,6 @@ written_accepted case time within big = record {
   sizes = tt;
   shells = are_shells case within;
   boxes = are_boxes case;
-  cells = are_cells case (roots_of (is_looked_listed case (written case)) case) time big
-      (roots_same (is_looked_listed case (written case)) (is_looked case) case (λ a b slot lt. looked_same case a b slot time lt));
+  cells = are_cells case (roots_of (is_candidate_listed case (written case)) case) time big
+      (roots_same (is_candidate_listed case (written case)) (is_candidate case) case (λ a b slot lt. candidates_same case a b slot time lt));
 }

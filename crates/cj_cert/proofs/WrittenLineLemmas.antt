@@ -19,7 +19,7 @@ use Rattle.cj_hermite.specs.Slots.{slot_count}
 use Rattle.cj_bezier.specs.declared.axis_box.AxisBox.{AxisBox}
 use Rattle.cj_bezier.specs.declared.shells.Shell.{Shell}
 use Rattle.cj_bezier.specs.Leaves.{PlainLeaf}
-use Rattle.cj_bezier.specs.Looked.{shells_of}
+use Rattle.cj_bezier.specs.Candidates.{shells_of}
 use Rattle.cj_bezier.specs.Shells.{shell_in, shell_of}
 use Rattle.cj_bezier.specs.SlotBoxes.{PlainBox, plain_box, plain_boxes, reaches_in}
 use Rattle.cj_cert.specs.declared.cert_lines.ShellLine.{ShellLine}
@@ -85,22 +85,22 @@ flat_map_numbered f g n (e ∷ es) same =
     let rest = flat_map_numbered f g (n + 1) es (λ i d is. let next : n + suc i ≡ n + 1 + i = omega arith in subst (λ (k : ℕ). f k ≡ g (k, d)) next (same (suc i) d is)) in
     λ i. here i ++ rest i
 
-pub shells_count : (case : PlainProblem) → length (shells_of case) ≡ length case.ephemerides
+pub shells_count : (case : PlainProblem) → length (shells_of case) ≡ length case.tracks
 unfolding shells_of
-shells_count case = length-map case.ephemerides (λ e. shell_of e case.first case.last)
+shells_count case = length-map case.tracks (λ e. shell_of e case.first case.last)
 
 pub shells_are : (case : PlainProblem) (shells : List (Option Shell)) → shells ≡ shells_of case
-    → map (line_by_shells shells) (range_with_len 0 (length shells)) ≡ map (shell_line case) (enumerate_from 0 case.ephemerides)
+    → map (line_by_shells shells) (range_with_len 0 (length shells)) ≡ map (shell_line case) (enumerate_from 0 case.tracks)
 unfolding shells_of
 shells_are case shells same =
     ap (λ (ss : List (Option Shell)). map (line_by_shells ss) (range_with_len 0 (length ss))) same
-    ∙ ap (λ (n : ℕ). map (line_by_shells (map (λ e. shell_of e case.first case.last) case.ephemerides)) (range_with_len 0 n)) (length-map case.ephemerides (λ e. shell_of e case.first case.last))
-    ∙ map_numbered (line_by_shells (map (λ e. shell_of e case.first case.last) case.ephemerides)) (shell_line case) 0 case.ephemerides (λ i e is.
+    ∙ ap (λ (n : ℕ). map (line_by_shells (map (λ e. shell_of e case.first case.last) case.tracks)) (range_with_len 0 n)) (length-map case.tracks (λ e. shell_of e case.first case.last))
+    ∙ map_numbered (line_by_shells (map (λ e. shell_of e case.first case.last) case.tracks)) (shell_line case) 0 case.tracks (λ i e is.
     let at : 0 + i ≡ i = omega arith in
-    let there : slice_get case.ephemerides (0 + i) ≡ Some e = subst (λ (k : ℕ). slice_get case.ephemerides k ≡ Some e) (sym at) is in
-    let here : shell_in (map (λ e. shell_of e case.first case.last) case.ephemerides) (0 + i) ≡ shell_of e case.first case.last =
+    let there : slice_get case.tracks (0 + i) ≡ Some e = subst (λ (k : ℕ). slice_get case.tracks k ≡ Some e) (sym at) is in
+    let here : shell_in (map (λ e. shell_of e case.first case.last) case.tracks) (0 + i) ≡ shell_of e case.first case.last =
     ap (λ (o : Option (Option Shell)). option_and_then (λ t. t) o)
-    (slice_get-map (λ e. shell_of e case.first case.last) case.ephemerides (0 + i) ∙ ap (λ (o : Option PlainTrack). option_map (λ e. shell_of e case.first case.last) o) there) in
+    (slice_get-map (λ e. shell_of e case.first case.last) case.tracks (0 + i) ∙ ap (λ (o : Option PlainTrack). option_map (λ e. shell_of e case.first case.last) o) there) in
     ap (λ (s : Option Shell). let line : ShellLine = record { object = 0 + i; shell = s } in line) here)
 
 -- the box of an object in a slot stands in its row
@@ -139,27 +139,27 @@ filter_map_same f g [] same = refl
 filter_map_same f g (k ∷ ks) same = let here = same.0 in let rest = filter_map_same f g ks same.1 in λ i. cons_option (here i) (rest i)
 
 pub boxes_are : (case : PlainProblem) (boxes : List (Option PlainBox)) (n : ℕ) → boxes ≡ boxes_of case → n ≡ slot_count case.first case.last
-    → flat_map (lines_by_boxes boxes n n) (range_with_len 0 (length case.ephemerides)) ≡ flat_map (box_lines case) (enumerate_from 0 case.ephemerides)
+    → flat_map (lines_by_boxes boxes n n) (range_with_len 0 (length case.tracks)) ≡ flat_map (box_lines case) (enumerate_from 0 case.tracks)
 unfolding boxes_of
 boxes_are case boxes n same count =
-    ap (λ (bs : List (Option PlainBox)). flat_map (lines_by_boxes bs n n) (range_with_len 0 (length case.ephemerides))) same
-    ∙ ap (λ (k : ℕ). flat_map (lines_by_boxes all k k) (range_with_len 0 (length case.ephemerides))) count
-    ∙ flat_map_numbered (lines_by_boxes all slots slots) (box_lines case) 0 case.ephemerides of_object
+    ap (λ (bs : List (Option PlainBox)). flat_map (lines_by_boxes bs n n) (range_with_len 0 (length case.tracks))) same
+    ∙ ap (λ (k : ℕ). flat_map (lines_by_boxes all k k) (range_with_len 0 (length case.tracks))) count
+    ∙ flat_map_numbered (lines_by_boxes all slots slots) (box_lines case) 0 case.tracks of_object
   where
     slots : ℕ
     slots = slot_count case.first case.last
 
     all : List (Option PlainBox)
-    all = flat_map (λ e. map (box_in case e) (slots_of case)) case.ephemerides
+    all = flat_map (λ e. map (box_in case e) (slots_of case)) case.tracks
 
-    of_object : (i : ℕ) (e : PlainTrack) → slice_get case.ephemerides i ≡ Some e → lines_by_boxes all slots slots (0 + i) ≡ box_lines case (0 + i, e)
+    of_object : (i : ℕ) (e : PlainTrack) → slice_get case.tracks i ≡ Some e → lines_by_boxes all slots slots (0 + i) ≡ box_lines case (0 + i, e)
     of_object i e is =
         let at : 0 + i ≡ i = omega arith in
-        let there : slice_get case.ephemerides (0 + i) ≡ Some e = subst (λ (k : ℕ). slice_get case.ephemerides k ≡ Some e) (sym at) is in
+        let there : slice_get case.tracks (0 + i) ≡ Some e = subst (λ (k : ℕ). slice_get case.tracks k ≡ Some e) (sym at) is in
         filter_map_same (line_by_boxes all slots (0 + i)) (line_in_slot case (0 + i, e)) (slots_of case)
         (Each-range (λ k. line_by_boxes all slots (0 + i) k ≡ line_in_slot case (0 + i, e) k) 0 slots (λ k low high.
         let here : reaches_in all ((0 + i) * slots + k) ≡ box_in case e k =
-        ap (λ (o : Option (Option PlainBox)). option_and_then (λ b. b) o) (in_row case case.ephemerides (0 + i) k e (omega arith) there) in
+        ap (λ (o : Option (Option PlainBox)). option_and_then (λ b. b) o) (in_row case case.tracks (0 + i) k e (omega arith) there) in
         ap (λ (o : Option PlainBox). option_map (line_of_box (0 + i) k) o) here))
 
 -- a certificate of a version with these lines
@@ -177,8 +177,8 @@ of_lines_in version case objects sizes shells boxes cells = record {
 }
 
 pub certificate_is : (case : PlainProblem) (objects : ℕ) (sizes : List SizeOfLine) (shells : List ShellLine) (boxes : List PlainBoxLine) (cells : List PlainLeaf)
-    → objects ≡ length case.ephemerides → sizes ≡ []
-    → shells ≡ map (shell_line case) (enumerate_from 0 case.ephemerides) → boxes ≡ flat_map (box_lines case) (enumerate_from 0 case.ephemerides) → cells ≡ leaves_in_order case
+    → objects ≡ length case.tracks → sizes ≡ []
+    → shells ≡ map (shell_line case) (enumerate_from 0 case.tracks) → boxes ≡ flat_map (box_lines case) (enumerate_from 0 case.tracks) → cells ≡ leaves_in_order case
     → of_lines_in One case objects sizes shells boxes cells ≡ written case
 unfolding written
 certificate_is case objects sizes shells boxes cells p q r s t = λ i. of_lines_in One case (p i) (q i) (r i) (s i) (t i)

@@ -4,7 +4,7 @@ use Rattle.std.specs.List.{All, AllZip, flat_map, range_with_len, enumerate_from
 use Rattle.cj_causes.specs.declared.cert_version.CertVersion.{CertVersion}
 use Rattle.cj_causes.specs.declared.cert_version.CertVersion.TheVariants.{One, Two}
 use Rattle.cj_track.specs.PlainTracks.{PlainTrack}
-use Rattle.cj_hermite.specs.Pieces.{interval_index_at}
+use Rattle.cj_hermite.specs.Pieces.{piece_at}
 use Rattle.cj_hermite.specs.PlainProblems.{PlainProblem, threshold_of, OfObjectsAt}
 use Rattle.cj_hermite.specs.Roots.{PlainCell, slots_of, roots_of}
 use Rattle.cj_hermite.specs.Slots.{slot_first, slot_last}
@@ -21,7 +21,7 @@ use Rattle.cj_bezier.specs.Verdicts.{Supports}
 use Rattle.cj_cert.specs.declared.cert_lines.ShellLine.{ShellLine}
 use Rattle.cj_cert.specs.declared.cert_lines.SizeOfLine.{SizeOfLine}
 use Rattle.cj_cert.specs.Certificates.{PlainBoxLine, PlainCertificate}
-use Rattle.cj_cert.specs.Listed.{slots_of_line, is_looked_listed}
+use Rattle.cj_cert.specs.Listed.{slots_of_line, is_candidate_listed}
 
 -- ---- sizes
 
@@ -48,8 +48,8 @@ IsShellOver e from to (Some shell) = (¬ HasNone e from to) × All (ShowsRadii s
 
 -- a line for each object, in order, with its shell in the window
 pub record AreShells (case : PlainProblem) (lines : List ShellLine) : Type 0 where
-  pub objects : map (λ line. line.object) lines ≡ range_with_len 0 (length case.ephemerides)
-  pub hold : All (λ line. IsSomeAnd (slice_get case.ephemerides line.object) (λ e. IsShellOver e case.first case.last line.shell)) lines
+  pub objects : map (λ line. line.object) lines ≡ range_with_len 0 (length case.tracks)
+  pub hold : All (λ line. IsSomeAnd (slice_get case.tracks line.object) (λ e. IsShellOver e case.first case.last line.shell)) lines
 
 -- ---- boxes
 
@@ -67,16 +67,16 @@ abbrev pub has_state_in : PlainProblem → PlainTrack → ℕ → Bool
 has_state_in case e slot =
     let from = slot_first case.first slot in
     let to = slot_last case.first case.last slot in
-    list_any (λ m. is_some (interval_index_at e m)) (range_with_len from (to + 1 - from))
+    list_any (λ m. is_some (piece_at e m)) (range_with_len from (to + 1 - from))
 
 -- the slots in which an object has a state, with its number, in order of object and slot
 abbrev pub slots_with_states : PlainProblem → List (ℕ × ℕ)
-slots_with_states case = flat_map (λ object. map (λ slot. (object.0, slot)) (filter (has_state_in case object.1) (slots_of case))) (enumerate_from 0 case.ephemerides)
+slots_with_states case = flat_map (λ object. map (λ slot. (object.0, slot)) (filter (has_state_in case object.1) (slots_of case))) (enumerate_from 0 case.tracks)
 
 -- the box of a line holds the hulls of its object in each of its slots
 abbrev pub HoldsHulls : PlainProblem → PlainBoxLine → Type 0
 HoldsHulls case line = (slot : ℕ) → line.first ≤ slot → slot ≤ line.last
-    → IsSomeAnd (slice_get case.ephemerides line.object) (λ e. All (IsHullIn line.area) (hulls_of e (slot_first case.first slot) (slot_last case.first case.last slot)))
+    → IsSomeAnd (slice_get case.tracks line.object) (λ e. All (IsHullIn line.area) (hulls_of e (slot_first case.first slot) (slot_last case.first case.last slot)))
 
 -- the slots of the lines, run by run, are those in which the objects have a state
 pub record AreBoxes (case : PlainProblem) (lines : List PlainBoxLine) : Type 0 where
@@ -99,13 +99,13 @@ pub record TileRoots (P : PlainLeaf → Type 0) (roots : List PlainCell) (cells 
 -- ---- the certificate
 
 -- It was made for this window, threshold and number of objects, and in version 2 for these sizes. Its shells and boxes hold the objects,
--- and its cells say of each tick of the roots, of those pairs and slots that are looked at by these shells and boxes, what is so.
+-- and its cells say of each tick of the roots, of the candidates by these shells and boxes, what is so.
 pub record Accepted (case : PlainProblem) (c : PlainCertificate) : Type 0 where
   pub first : c.first ≡ case.first
   pub last : c.last ≡ case.last
   pub threshold : c.threshold ≡ case.threshold
-  pub objects : c.objects ≡ length case.ephemerides
+  pub objects : c.objects ≡ length case.tracks
   pub sizes : AreSizesIn c.version case c.sizes
   pub shells : AreShells case c.shells
   pub boxes : AreBoxes case c.boxes
-  pub cells : TileRoots (IsSupported case) (roots_of (is_looked_listed case c) case) c.cells
+  pub cells : TileRoots (IsSupported case) (roots_of (is_candidate_listed case c) case) c.cells

@@ -1,9 +1,9 @@
--- What a certificate lists of the objects: their shells, the box of each in a slot, and which pairs are to be looked at by these.
+-- What a certificate lists of the objects: their shells, the box of each in a slot, and which pairs are candidates by these.
 use Rattle.std.specs.Prelude.{ℕ, ◌+◌, ◌-◌, ◌==◌, ◌&&◌, nat_le, Bool, List, map, Option, option_map}
 use Rattle.std.specs.List.{find, range_with_len}
 use Rattle.cj_hermite.specs.PlainProblems.{PlainProblem}
 use Rattle.cj_bezier.specs.declared.shells.Shell.{Shell}
-use Rattle.cj_bezier.specs.Looked.{looked_by}
+use Rattle.cj_bezier.specs.Candidates.{candidate_by}
 use Rattle.cj_bezier.specs.SlotBoxes.{PlainBox}
 use Rattle.cj_cert.specs.Certificates.{PlainBoxLine, PlainCertificate}
 
@@ -27,6 +27,6 @@ boxes_listed c slot = map (box_listed c.boxes slot) (range_with_len 0 c.objects)
 abbrev pub shells_listed : PlainCertificate → List (Option Shell)
 shells_listed c = map (λ line. line.shell) c.shells
 
--- a pair is looked at in a slot: its listed shells are not parted, and its listed boxes touch
-unfoldable pub is_looked_listed : PlainProblem → PlainCertificate → ℕ → ℕ → ℕ → Bool
-is_looked_listed case c = looked_by case (shells_listed c) (boxes_listed c)
+-- a pair is a candidate in a slot: its listed shells are not parted, and its listed boxes touch
+unfoldable pub is_candidate_listed : PlainProblem → PlainCertificate → ℕ → ℕ → ℕ → Bool
+is_candidate_listed case c = candidate_by case (shells_listed c) (boxes_listed c)

@@ -19,11 +19,11 @@ pub record IsHullNear (h : PlainHull) : Type 0 where
   pub y : IsAxisNear h.y
   pub z : IsAxisNear h.z
 
--- from any tick to any other the intervals of an ephemeris come in order of time, and their hulls are near
+-- from any tick to any other the pieces of an ephemeris come in order of time, and their hulls are near
 pub record StaysNear (e : PlainTrack) : Type 0 where
   pub time : (from to : ℕ) → AreInTime e from to
   pub hulls : (from to : ℕ) → All IsHullNear (hulls_of e from to)
 
 -- each object does so
 abbrev pub AllStayNear : PlainProblem → Type 0
-AllStayNear case = All StaysNear case.ephemerides
+AllStayNear case = All StaysNear case.tracks

@@ -7,7 +7,7 @@ use Rattle.cj_hermite.specs.Pairs.{pairs_of}
 use Rattle.cj_hermite.specs.PlainProblems.{PlainProblem}
 use Rattle.cj_hermite.specs.Roots.{slots_of}
 use Rattle.cj_hermite.specs.Slots.{slot_count}
-use Rattle.cj_bezier.specs.Looked.{pairs_kept}
+use Rattle.cj_bezier.specs.Candidates.{pairs_kept}
 use Rattle.cj_bezier.specs.Shells.{keeps_between}
 use Rattle.cj_bezier.specs.SlotBoxes.{PlainBox}
 use Rattle.cj_blocks.specs.Blocks.{PlainBlock, Given, blocks_of}
@@ -34,16 +34,16 @@ line_of_block b = record { object = b.object; first = b.first; last = b.last; ar
 
 -- the boxes that are listed for all objects in each slot, in order of object and slot
 unfoldable pub boxes_by_lines : PlainProblem → List PlainBoxLine → List (Option PlainBox)
-boxes_by_lines case lines = flat_map (λ object. map (λ slot. box_listed lines slot object) (slots_of case)) (range_with_len 0 (length case.ephemerides))
+boxes_by_lines case lines = flat_map (λ object. map (λ slot. box_listed lines slot object) (slots_of case)) (range_with_len 0 (length case.tracks))
 
 -- the pairs whose listed shells are not parted
 abbrev pub pairs_by_shells : PlainProblem → PlainCertificate → List (ℕ × ℕ)
-pairs_by_shells case c = filter (keeps_between case.threshold case.sizes (shells_listed c)) (pairs_of (length case.ephemerides))
+pairs_by_shells case c = filter (keeps_between case.threshold case.sizes (shells_listed c)) (pairs_of (length case.tracks))
 
 -- boxes and kept pairs of a problem
 abbrev pub given_of : PlainProblem → List (Option PlainBox) → List (ℕ × ℕ) → Given
 given_of case boxes kept = record {
-  objects = length case.ephemerides;
+  objects = length case.tracks;
   slots = slot_count case.first case.last;
   boxes = boxes;
   kept = kept;

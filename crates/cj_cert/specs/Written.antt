@@ -7,7 +7,7 @@ use Rattle.cj_hermite.specs.PlainProblems.{PlainProblem}
 use Rattle.cj_hermite.specs.Roots.{roots_of, slots_of}
 use Rattle.cj_hermite.specs.Slots.{slot_first, slot_last}
 use Rattle.cj_bezier.specs.Leaves.{PlainLeaf}
-use Rattle.cj_bezier.specs.Looked.{is_looked}
+use Rattle.cj_bezier.specs.Candidates.{is_candidate}
 use Rattle.cj_bezier.specs.RootLeaves.{leaves_of_roots}
 use Rattle.cj_bezier.specs.declared.shells.Shell.{Shell}
 use Rattle.cj_bezier.specs.Shells.{shell_in, shell_of}
@@ -35,9 +35,9 @@ line_in_slot case object slot = option_map (line_of_box object.0 slot) (box_in c
 abbrev pub box_lines : PlainProblem → ℕ × PlainTrack → List PlainBoxLine
 box_lines case object = filter_map (line_in_slot case object) (slots_of case)
 
--- the leaves of all pairs that are looked at, in order of pair and time
+-- the leaves of all candidates, in order of pair and time
 unfoldable pub leaves_in_order : PlainProblem → List PlainLeaf
-leaves_in_order case = leaves_of_roots case (roots_of (is_looked case) case)
+leaves_in_order case = leaves_of_roots case (roots_of (is_candidate case) case)
 
 -- in version 1
 unfoldable pub written : PlainProblem → PlainCertificate
@@ -46,10 +46,10 @@ written case = record {
   first = case.first;
   last = case.last;
   threshold = case.threshold;
-  objects = length case.ephemerides;
+  objects = length case.tracks;
   sizes = [];
-  shells = map (shell_line case) (enumerate_from 0 case.ephemerides);
-  boxes = flat_map (box_lines case) (enumerate_from 0 case.ephemerides);
+  shells = map (shell_line case) (enumerate_from 0 case.tracks);
+  boxes = flat_map (box_lines case) (enumerate_from 0 case.tracks);
   cells = leaves_in_order case;
 }
 

@@ -11,7 +11,7 @@ use Rattle.cj_hermite.specs.PlainProblems.{PlainProblem}
 use Rattle.cj_hermite.specs.Slots.{slot_count}
 use Rattle.cj_hermite.proofs.PairLemmas.{IsPair, Each-pairs}
 use Rattle.cj_bezier.specs.Leaves.{PlainLeaf}
-use Rattle.cj_bezier.specs.Looked.{pairs_kept}
+use Rattle.cj_bezier.specs.Candidates.{pairs_kept}
 use Rattle.cj_bezier.specs.SlotBoxes.{PlainBox}
 use Rattle.cj_blocks.specs.Blocks.{blocks_of}
 use Rattle.cj_cert.specs.declared.cert_lines.ShellLine.{ShellLine}
@@ -50,7 +50,7 @@ with_lines c sizes boxes = record {
 abbrev lines_over : PlainProblem → List (Option PlainBox) → List (ℕ × ℕ) → List PlainBoxLine
 lines_over case boxes kept = map line_of_block (blocks_of (given_of case boxes kept))
 
-pub listed_in_order : (case : PlainProblem) (lines : List PlainBoxLine) (objects slots : ℕ) → objects ≡ length case.ephemerides → slots ≡ slot_count case.first case.last
+pub listed_in_order : (case : PlainProblem) (lines : List PlainBoxLine) (objects slots : ℕ) → objects ≡ length case.tracks → slots ≡ slot_count case.first case.last
     → flat_map (λ object. map (λ slot. box_listed lines slot object) (range_with_len 0 slots)) (range_with_len 0 objects) ≡ boxes_by_lines case lines
 unfolding boxes_by_lines
 listed_in_order case lines objects slots many wide = λ i. flat_map (λ object. map (λ slot. box_listed lines slot object) (range_with_len 0 (wide i))) (range_with_len 0 (many i))
@@ -64,12 +64,12 @@ rewritten_is case c sizes lines boxes kept same are by_lines by_shells =
 
 -- what a run writes in version 2
 pub written_is : (case : PlainProblem) (objects : ℕ) (sizes : List SizeOfLine) (shells : List ShellLine) (lines : List PlainBoxLine) (cells : List PlainLeaf) (boxes : List (Option PlainBox)) (kept : List (ℕ × ℕ))
-    → objects ≡ length case.ephemerides → sizes ≡ size_lines case.sizes → shells ≡ map (shell_line case) (enumerate_from 0 case.ephemerides) → lines ≡ lines_over case boxes kept
+    → objects ≡ length case.tracks → sizes ≡ size_lines case.sizes → shells ≡ map (shell_line case) (enumerate_from 0 case.tracks) → lines ≡ lines_over case boxes kept
     → boxes ≡ boxes_of case → kept ≡ pairs_kept case → cells ≡ leaves_in_order case → of_lines_in Two case objects sizes shells lines cells ≡ written_in Two case
 unfolding with_blocks written
 written_is case objects sizes shells lines cells boxes kept many same rounds are by_place by_pair leaves =
     (λ i. of_lines_in Two case (many i) (same i) (rounds i) (are i) (leaves i))
-    ∙ (λ i. of_lines_in Two case (length case.ephemerides) (size_lines case.sizes) (map (shell_line case) (enumerate_from 0 case.ephemerides)) (lines_over case (by_place i) (by_pair i)) (leaves_in_order case))
+    ∙ (λ i. of_lines_in Two case (length case.tracks) (size_lines case.sizes) (map (shell_line case) (enumerate_from 0 case.tracks)) (lines_over case (by_place i) (by_pair i)) (leaves_in_order case))
 
 -- what comes of one element more
 pub mapped_more : {A B : Type 0} (f : A → B) (xs : List A) (i : ℕ) (d : A) (old new : List B) → i < length xs → old ≡ map f (take i xs) → new ≡ old ++ f (get_or xs i d) ∷ []

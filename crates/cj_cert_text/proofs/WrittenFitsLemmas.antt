@@ -44,7 +44,7 @@ use Rattle.cj_cert.specs.declared.cert_lines.ShellLine.{ShellLine}
 use Rattle.cj_cert.specs.declared.cert_lines.SizeOfLine.{SizeOfLine}
 use Rattle.cj_cert.specs.Accepted.{Accepted, AreBoxes, AreShells, AreSizes, IsShellOver, IsSupported, ShowsRadii, TileRoots, has_state_in, slots_with_states}
 use Rattle.cj_cert.specs.Certificates.{PlainBoxLine, PlainCertificate}
-use Rattle.cj_cert.specs.Listed.{box_listed, is_line_of, is_looked_listed, slots_of_line}
+use Rattle.cj_cert.specs.Listed.{box_listed, is_line_of, is_candidate_listed, slots_of_line}
 use Rattle.cj_cert.specs.Reaches.{AllStayNear, IsAxisNear, IsHullNear, StaysNear}
 use Rattle.cj_cert.specs.Rewritten.{boxes_by_lines, from_version, given_of, in_version_2, line_of_block, pairs_by_shells, rewritten, size_line, size_lines, with_blocks, written_in, written_in_blocks}
 use Rattle.cj_cert.specs.Written.{box_in, box_lines, leaves_in_order, line_in_slot, line_of_box, shell_line, written}
@@ -205,13 +205,13 @@ reaches_told boxes each k = go (slice_get boxes k) refl
 by_lines_told : (case : PlainProblem) (lines : List PlainBoxLine) → Each HasToldBox lines → Each IsToldWhere (boxes_by_lines case lines)
 unfolding boxes_by_lines
 by_lines_told case lines each =
-    Each-flat_map IsToldWhere (λ object. map (λ slot. box_listed lines slot object) (slots_of case)) (range_with_len 0 (length case.ephemerides))
+    Each-flat_map IsToldWhere (λ object. map (λ slot. box_listed lines slot object) (slots_of case)) (range_with_len 0 (length case.tracks))
     (Each-always (λ object. Each IsToldWhere (map (λ slot. box_listed lines slot object) (slots_of case)))
     (λ object. Each-map IsToldWhere (λ slot. box_listed lines slot object) (slots_of case)
     (Each-always (λ slot. IsToldWhere (box_listed lines slot object)) (λ slot. found_told lines each slot object) (slots_of case)))
-    (range_with_len 0 (length case.ephemerides)))
+    (range_with_len 0 (length case.tracks)))
 
-blocks_fit : (most own : ℕ) (case : PlainProblem) (lines : List PlainBoxLine) (kept : List (ℕ × ℕ)) → length case.ephemerides ≤ most → slot_count case.first case.last < 2 ^ 32 → Each (FitsBox own) lines
+blocks_fit : (most own : ℕ) (case : PlainProblem) (lines : List PlainBoxLine) (kept : List (ℕ × ℕ)) → length case.tracks ≤ most → slot_count case.first case.last < 2 ^ 32 → Each (FitsBox own) lines
     → Each (FitsBox most) (map line_of_block (blocks_of (given_of case (boxes_by_lines case lines) kept)))
 blocks_fit most own case lines kept few short each =
     let g = given_of case (boxes_by_lines case lines) kept in
@@ -239,14 +239,14 @@ sizes_fit most n (size ∷ sizes) each few = (record { object = omega arith; siz
 
 -- what is so of the problem of a run
 pub record IsOfRun (case : PlainProblem) : Type 0 where
-  pub few : (version : CertVersion) → length case.ephemerides ≤ most_objects version
+  pub few : (version : CertVersion) → length case.tracks ≤ most_objects version
   pub first : IsTick case.first
   pub last : IsTick case.last
   pub least : 10 ^ 9 ≤ case.threshold
   pub most : case.threshold ≤ 10 ^ 15
   pub short : slot_count case.first case.last < 2 ^ 32
   pub sizes : All (λ size. size ≤ MAX_SIZE) case.sizes
-  pub sized : length case.sizes ≡ length case.ephemerides
+  pub sized : length case.sizes ≡ length case.tracks
   pub near : AllStayNear case
 
 pub rewritten_fits : (case : PlainProblem) (c : PlainCertificate) → c.version ≡ One → IsOfRun case → Fits c → Fits (rewritten case c)
@@ -316,14 +316,14 @@ unfolding shell_round
 round_low [] = tt
 round_low (h ∷ hs) = least_upto MAX_RADIUS 0 (is_outer (h ∷ hs))
 
-shells_low : (case : PlainProblem) → Each (λ line. HasLowTop line.shell) (map (shell_line case) (enumerate_from 0 case.ephemerides))
+shells_low : (case : PlainProblem) → Each (λ line. HasLowTop line.shell) (map (shell_line case) (enumerate_from 0 case.tracks))
 shells_low case =
-    Each-map (λ (line : ShellLine). HasLowTop line.shell) (shell_line case) (enumerate_from 0 case.ephemerides)
-    (Each-always (λ object. HasLowTop (shell_of object.1 case.first case.last)) (λ object. round_low (hulls_of object.1 case.first case.last)) (enumerate_from 0 case.ephemerides))
+    Each-map (λ (line : ShellLine). HasLowTop line.shell) (shell_line case) (enumerate_from 0 case.tracks)
+    (Each-always (λ object. HasLowTop (shell_of object.1 case.first case.last)) (λ object. round_low (hulls_of object.1 case.first case.last)) (enumerate_from 0 case.tracks))
 
-shell_fits : (most : ℕ) (case : PlainProblem) (line : ShellLine) → line.object < most → IsSomeAnd (slice_get case.ephemerides line.object) (λ e. IsShellOver e case.first case.last line.shell) → HasLowTop line.shell
+shell_fits : (most : ℕ) (case : PlainProblem) (line : ShellLine) → line.object < most → IsSomeAnd (slice_get case.tracks line.object) (λ e. IsShellOver e case.first case.last line.shell) → HasLowTop line.shell
     → FitsShell most line
-shell_fits most case line object over low = record { object = object; radii = radii (slice_get case.ephemerides line.object) line.shell over low }
+shell_fits most case line object over low = record { object = object; radii = radii (slice_get case.tracks line.object) line.shell over low }
   where
     radii : (o : Option PlainTrack) (shell : Option Shell) → IsSomeAnd o (λ e. IsShellOver e case.first case.last shell) → HasLowTop shell → IfSome shell (λ r. r.lo ≤ r.hi × r.hi ≤ MAX_RADIUS)
     radii o None over low = tt
@@ -336,13 +336,13 @@ objects_in n lines same =
     each_from_map (λ k. k < n) (λ (line : ShellLine). line.object) lines
     (subst (λ (ks : List ℕ). Each (λ k. k < n) ks) (sym same) (Each-range (λ k. k < n) 0 n (λ k low high. omega arith)))
 
-shells_fit : (most : ℕ) (case : PlainProblem) (lines : List ShellLine) → length case.ephemerides ≤ most → AreShells case lines → Each (λ line. HasLowTop line.shell) lines → Each (FitsShell most) lines
+shells_fit : (most : ℕ) (case : PlainProblem) (lines : List ShellLine) → length case.tracks ≤ most → AreShells case lines → Each (λ line. HasLowTop line.shell) lines → Each (FitsShell most) lines
 shells_fit most case lines few are low =
-    let Over = λ (line : ShellLine). IsSomeAnd (slice_get case.ephemerides line.object) (λ e. IsShellOver e case.first case.last line.shell) in
-    Each-weaker (λ line. (line.object < length case.ephemerides × Over line) × HasLowTop line.shell) (FitsShell most)
+    let Over = λ (line : ShellLine). IsSomeAnd (slice_get case.tracks line.object) (λ e. IsShellOver e case.first case.last line.shell) in
+    Each-weaker (λ line. (line.object < length case.tracks × Over line) × HasLowTop line.shell) (FitsShell most)
     (λ line all. let object = all.0.0 in shell_fits most case line (omega arith) all.0.1 all.1) lines
-    (Each-both (λ line. line.object < length case.ephemerides × Over line) (λ line. HasLowTop line.shell) lines
-    (Each-both (λ line. line.object < length case.ephemerides) Over lines (objects_in (length case.ephemerides) lines are.objects) (each_from_All Over lines are.hold)) low)
+    (Each-both (λ line. line.object < length case.tracks × Over line) (λ line. HasLowTop line.shell) lines
+    (Each-both (λ line. line.object < length case.tracks) Over lines (objects_in (length case.tracks) lines are.objects) (each_from_All Over lines are.hold)) low)
 
 -- ---- the boxes that a run writes
 
@@ -423,19 +423,19 @@ own_fit case object exists near (k ∷ slots) small = go (box_in case object.1 k
         let all : Each FitsOwn (line_of_box object.0 k area ∷ filter_map (line_in_slot case object) slots) = (fits, rest) in
         rw is all
 
-boxes_fit : (case : PlainProblem) → IsOfRun case → Each FitsOwn (flat_map (box_lines case) (enumerate_from 0 case.ephemerides))
+boxes_fit : (case : PlainProblem) → IsOfRun case → Each FitsOwn (flat_map (box_lines case) (enumerate_from 0 case.tracks))
 boxes_fit case run =
-    Each-flat_map FitsOwn (box_lines case) (enumerate_from 0 case.ephemerides)
-    (Each-numbered (λ object. Each FitsOwn (box_lines case object)) case.ephemerides (λ i e is.
-    let lt = slice_get_within case.ephemerides i e is in
+    Each-flat_map FitsOwn (box_lines case) (enumerate_from 0 case.tracks)
+    (Each-numbered (λ object. Each FitsOwn (box_lines case object)) case.tracks (λ i e is.
+    let lt = slice_get_within case.tracks i e is in
     let few = run.few One in
-    own_fit case (i, e) (omega arith) (each_at StaysNear case.ephemerides i e (each_from_All StaysNear case.ephemerides run.near) is) (slots_of case)
+    own_fit case (i, e) (omega arith) (each_at StaysNear case.tracks i e (each_from_All StaysNear case.tracks run.near) is) (slots_of case)
     (Each-range (λ k. k < 2 ^ 32) 0 (slot_count case.first case.last) (λ k low high. let short = run.short in omega arith))))
 
 -- ---- the cells that a run writes
 
-cells_fit : (case : PlainProblem) (looked : ℕ → ℕ → ℕ → Bool) (cells : List PlainLeaf) → IsOfRun case → TileRoots (IsSupported case) (roots_of looked case) cells → Each (FitsCell (most_objects One)) cells
-cells_fit case looked cells run tile = each_tiled (IsSupported case) (FitsCell (most_objects One)) (IsRootOf case) law (roots_of looked case) cells tile (Each-roots looked case)
+cells_fit : (case : PlainProblem) (candidate : ℕ → ℕ → ℕ → Bool) (cells : List PlainLeaf) → IsOfRun case → TileRoots (IsSupported case) (roots_of candidate case) cells → Each (FitsCell (most_objects One)) cells
+cells_fit case candidate cells run tile = each_tiled (IsSupported case) (FitsCell (most_objects One)) (IsRootOf case) law (roots_of candidate case) cells tile (Each-roots candidate case)
   where
     law : (r : PlainCell) (s : PlainLeaf) → IsRootOf case r → IsLeaf (IsSupported case) r.a r.b r.first r.last s → FitsCell (most_objects One) s
     law r s is leaf =
@@ -459,7 +459,7 @@ pub written_fits : (case : PlainProblem) → IsOfRun case → Accepted case (wri
 unfolding written
 written_fits case run accepted =
     let boxes = boxes_fit case run in
-    let lines = flat_map (box_lines case) (enumerate_from 0 case.ephemerides) in
+    let lines = flat_map (box_lines case) (enumerate_from 0 case.tracks) in
     let least = run.least in
     let most = run.most in
     record {
@@ -471,10 +471,10 @@ written_fits case run accepted =
       objects = run.few One;
       sizes = All-from_each (FitsSize (most_objects One)) [] tt;
       shells =
-          All-from_each (FitsShell (most_objects One)) (map (shell_line case) (enumerate_from 0 case.ephemerides))
-          (shells_fit (most_objects One) case (map (shell_line case) (enumerate_from 0 case.ephemerides)) (run.few One) accepted.shells (shells_low case));
+          All-from_each (FitsShell (most_objects One)) (map (shell_line case) (enumerate_from 0 case.tracks))
+          (shells_fit (most_objects One) case (map (shell_line case) (enumerate_from 0 case.tracks)) (run.few One) accepted.shells (shells_low case));
       boxes = All-from_each (FitsBox (most_objects One)) lines (Each-weaker FitsOwn (FitsBox (most_objects One)) (λ b own. own.0) lines boxes);
-      cells = All-from_each (FitsCell (most_objects One)) (leaves_in_order case) (cells_fit case (is_looked_listed case (written case)) (leaves_in_order case) run accepted.cells);
+      cells = All-from_each (FitsCell (most_objects One)) (leaves_in_order case) (cells_fit case (is_candidate_listed case (written case)) (leaves_in_order case) run accepted.cells);
     }
 
 written_in_blocks_fits : (case : PlainProblem) → IsOfRun case → Accepted case (written case) → Fits (written_in_blocks case)
@@ -483,7 +483,7 @@ written_in_blocks_fits case run accepted =
     subst (λ (c : PlainCertificate). Fits c) (blocks_same case time) (rewritten_fits case (written case) refl run (written_fits case run accepted))
   where
     time : AreAllInTime case
-    time i e is from to = (each_at StaysNear case.ephemerides i e (each_from_All StaysNear case.ephemerides run.near) is).time from to
+    time i e is from to = (each_at StaysNear case.tracks i e (each_from_All StaysNear case.tracks run.near) is).time from to
 
 pub written_in_fits : (version : CertVersion) (case : PlainProblem) → IsOfRun case → Accepted case (written case) → Fits (written_in version case)
 written_in_fits One case run accepted = written_fits case run accepted
@@ -501,15 +501,15 @@ joined_length f most each (x ∷ xs) =
     let product : suc (length xs) * most ≡ length xs * most + most = suc-mul (length xs) most in
     omega arith
 
-slots_upto : (case : PlainProblem) → length (slots_with_states case) ≤ length case.ephemerides * slot_count case.first case.last
+slots_upto : (case : PlainProblem) → length (slots_with_states case) ≤ length case.tracks * slot_count case.first case.last
 slots_upto case =
     let f = λ (object : ℕ × PlainTrack). map (λ (slot : ℕ). let p : ℕ × ℕ = (object.0, slot) in p) (filter (has_state_in case object.1) (slots_of case)) in
     let most = joined_length f (slot_count case.first case.last) (λ object.
     let one = length-map (filter (has_state_in case object.1) (slots_of case)) (λ (slot : ℕ). let p : ℕ × ℕ = (object.0, slot) in p) in
     let two = length-filter_both (has_state_in case object.1) (λ slot. not (has_state_in case object.1 slot)) (λ slot. refl) (slots_of case) in
     let three = length-range_with_len 0 (slot_count case.first case.last) in
-    omega arith) (enumerate_from 0 case.ephemerides) in
-    subst (λ (n : ℕ). length (flat_map f (enumerate_from 0 case.ephemerides)) ≤ n * slot_count case.first case.last) (length-enumerate_from 0 case.ephemerides) most
+    omega arith) (enumerate_from 0 case.tracks) in
+    subst (λ (n : ℕ). length (flat_map f (enumerate_from 0 case.tracks)) ≤ n * slot_count case.first case.last) (length-enumerate_from 0 case.tracks) most
 
 -- each line is of one slot at least
 lines_upto : (lines : List PlainBoxLine) → Each (λ line. line.first ≤ line.last) lines → length lines ≤ length (flat_map slots_of_line lines)
@@ -522,16 +522,16 @@ lines_upto (b ∷ lines) some =
     let rest = lines_upto lines some.1 in
     omega arith
 
-pub few_boxes : (case : PlainProblem) (lines : List PlainBoxLine) → AreBoxes case lines → length lines ≤ length case.ephemerides * slot_count case.first case.last
+pub few_boxes : (case : PlainProblem) (lines : List PlainBoxLine) → AreBoxes case lines → length lines ≤ length case.tracks * slot_count case.first case.last
 few_boxes case lines are =
     let least = lines_upto lines (each_from_All (λ line. line.first ≤ line.last) lines are.some) in
     let same = ap length are.slots in
     let most = slots_upto case in
     omega arith
 
-pub few_shells : (case : PlainProblem) (lines : List ShellLine) → AreShells case lines → length lines ≡ length case.ephemerides
+pub few_shells : (case : PlainProblem) (lines : List ShellLine) → AreShells case lines → length lines ≡ length case.tracks
 few_shells case lines are =
-    sym (length-map lines (λ (line : ShellLine). line.object)) ∙ ap length are.objects ∙ length-range_with_len 0 (length case.ephemerides)
+    sym (length-map lines (λ (line : ShellLine). line.object)) ∙ ap length are.objects ∙ length-range_with_len 0 (length case.tracks)
 
 pub few_sizes : (case : PlainProblem) (lines : List SizeOfLine) → AreSizes case lines → length lines ≡ length case.sizes
 few_sizes case lines are =

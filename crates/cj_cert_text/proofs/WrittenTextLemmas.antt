@@ -63,17 +63,17 @@ object_added version lines object each new own added is before =
 -- ---- the whole, of which nothing is printed yet
 
 pub all_left : (case : PlainProblem) (objects : ℕ) (shells : List ShellLine) (each : List ObjectBoxes) (leaves : List Leaf) (front back : List ℕ)
-    → objects ≡ length case.ephemerides → shells ≡ map (shell_line case) (enumerate_from 0 case.ephemerides)
-    → flat_map (object_text One) each ≡ flat_map (box_text One) (flat_map (box_lines case) (enumerate_from 0 case.ephemerides))
+    → objects ≡ length case.tracks → shells ≡ map (shell_line case) (enumerate_from 0 case.tracks)
+    → flat_map (object_text One) each ≡ flat_map (box_text One) (flat_map (box_lines case) (enumerate_from 0 case.tracks))
     → plain_leaves leaves ≡ leaves_in_order case
     → front ≡ first_lines One case.first case.last case.threshold objects → back ≡ row (codes "END") []
     → front ++ (flat_map shell_text shells ++ (flat_map (object_text One) each ++ (flat_map (λ (leaf : Leaf). cell_text (plain_leaf leaf)) leaves ++ back)))
     ≡ text_of (written case)
 unfolding text_of written
 all_left case objects shells each leaves front back count of_shells of_boxes of_leaves of_front of_back =
-    let head = first_lines One case.first case.last case.threshold (length case.ephemerides) in
-    let s = flat_map shell_text (map (shell_line case) (enumerate_from 0 case.ephemerides)) in
-    let b = flat_map (box_text One) (flat_map (box_lines case) (enumerate_from 0 case.ephemerides)) in
+    let head = first_lines One case.first case.last case.threshold (length case.tracks) in
+    let s = flat_map shell_text (map (shell_line case) (enumerate_from 0 case.tracks)) in
+    let b = flat_map (box_text One) (flat_map (box_lines case) (enumerate_from 0 case.tracks)) in
     let l = flat_map cell_text (leaves_in_order case) in
     let e = row (codes "END") [] in
     let of_cells : flat_map (λ (leaf : Leaf). cell_text (plain_leaf leaf)) leaves ≡ l =

@@ -6,7 +6,7 @@ use Rattle.std.specs.List.{slice_split}
 pub use Rattle.cj_kvn.specs.Faults.{Gives, Tells}
 use Rattle.cj_cert_text.specs.declared.cert_line.CertLine.{CertLine}
 use Rattle.cj_cert_text.specs.declared.cert_line.CertLine.TheVariants as lines
-use Rattle.cj_cert_text.specs.declared.draft.Draft.{Draft}
+use Rattle.cj_cert_text.specs.declared.draft.CertificateDraft.{CertificateDraft}
 use Rattle.cj_causes.specs.declared.cert_cause.CertCause.{CertCause}
 use Rattle.cj_causes.specs.declared.cert_cause.CertCause.TheVariants as causes
 use Rattle.cj_cert.specs.Certificates.{PlainCertificate, plain_box_line, plain_cell_line}
@@ -42,7 +42,7 @@ Takes view ok value (Ok x) = (ok ≡ true) × (view x ≡ value)
 Takes view ok value (Err cause) = (ok ≡ false) × (cause ≡ causes.Range)
 
 -- what a draft says so far
-abbrev pub plain_draft : Draft → PlainCertificate
+abbrev pub plain_draft : CertificateDraft → PlainCertificate
 plain_draft d = record {
   version = d.version;
   first = d.window.first.micros;

@@ -6,7 +6,7 @@ use std::alloc::{AllocError, Global};
 
 /// What the lines so far say. What is not told yet is as in the certificate of an empty folder.
 #[derive(Drop)]
-pub(crate) struct Draft {
+pub(crate) struct CertificateDraft {
     version: CertVersion,
     window: Window,
     threshold: u64,
@@ -17,17 +17,17 @@ pub(crate) struct Draft {
     cells: Vec<CellLine>,
 }
 
-impl Draft {
+impl CertificateDraft {
     ghost use Rattle.std.specs.Prelude.{◌≡◌, OnOk, true};
     ghost use Rattle.cj_cert.specs.Certificates.{plain_certificate};
     ghost use Rattle.cj_cert_text.specs.Readers.{plain_draft, plain_line};
     ghost use Rattle.cj_cert_text.specs.Reading.{nothing_said, with_line};
     ghost use Rattle.cj_cert.specs.Versions.{is_of_version};
 
-    pub(crate) fn new(alloc: Global, version: CertVersion) -> Draft
+    pub(crate) fn new(alloc: Global, version: CertVersion) -> CertificateDraft
         ensures { plain_draft result ≡ nothing_said version }
     {
-        Draft {
+        CertificateDraft {
             version,
             window: Window {
                 first: Tick::FIRST,

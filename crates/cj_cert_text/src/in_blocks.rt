@@ -4,7 +4,7 @@ ghost use Rattle.cj_causes.specs.declared.cert_version.CertVersion.TheVariants.{
 ghost use Rattle.cj_hermite.specs.Pairs.{objects_of};
 ghost use Rattle.cj_hermite.specs.Problems.{plain_problem};
 ghost use Rattle.cj_bezier.specs.Leaves.{plain_leaves};
-ghost use Rattle.cj_bezier.specs.Looked.{pairs_kept, shells_of};
+ghost use Rattle.cj_bezier.specs.Candidates.{pairs_kept, shells_of};
 ghost use Rattle.cj_bezier.specs.SlotBoxes.{plain_boxes};
 ghost use Rattle.cj_cert.specs.Accepted.{Accepted};
 ghost use Rattle.cj_cert.specs.Certificates.{plain_certificate};
@@ -24,7 +24,7 @@ use cj_hermite::{Pair, Problem, slot_count};
 use std::alloc::{AllocError, Global};
 
 /// The certificate of a problem in version 2, from the shells of its objects in the window, their boxes in each slot, in order of
-/// object and slot, the pairs that these shells keep, and the leaves of all pairs that are looked at, in order of pair and time.
+/// object and slot, the pairs that these shells keep, and the leaves of all candidates, in order of pair and time.
 /// It is accepted for the problem.
 pub fn certificate_in_blocks(
     alloc: Global,

@@ -7,7 +7,7 @@ ghost use Rattle.cj_cert_text.specs.Ranks as ranks;
 ghost use Rattle.cj_cert_text.specs.Reading as spec;
 ghost use Rattle.cj_cert_text.specs.Texts.{text_of};
 
-use crate::draft::Draft;
+use crate::draft::CertificateDraft;
 use crate::fault::CertFault;
 use crate::line_said::{has_ended, line_said};
 use crate::rank::Rank;
@@ -30,7 +30,7 @@ pub fn read_cert(alloc: Global, bytes: &[u8]) -> Result<Certificate, CertFault>
     ensures few { IfOk result (λ c. line_count (plain_certificate c) ≤ length bytes.now) }
 {
     let version = version_of(bytes);
-    let mut draft = Draft::new(alloc, version);
+    let mut draft = CertificateDraft::new(alloc, version);
     let mut before = None;
     let mut number = 1;
     let mut rest = bytes;

@@ -4,7 +4,7 @@ ghost use Rattle.std.specs.List.{flat_map, range_with_len};
 ghost use Rattle.cj_causes.specs.declared.cert_version.CertVersion.TheVariants.{One};
 ghost use Rattle.cj_hermite.specs.Problems.{plain_problem};
 ghost use Rattle.cj_bezier.specs.Leaves.{plain_leaves};
-ghost use Rattle.cj_bezier.specs.Looked.{shells_of};
+ghost use Rattle.cj_bezier.specs.Candidates.{shells_of};
 ghost use Rattle.cj_bezier.specs.SlotBoxes.{plain_boxes};
 ghost use Rattle.cj_cert.specs.Accepted.{Accepted};
 ghost use Rattle.cj_cert.specs.Certificates.{plain_box_line, plain_cell_line, plain_certificate};
@@ -19,7 +19,7 @@ use cj_hermite::{Problem, slot_count};
 use std::alloc::{AllocError, Global};
 
 /// The certificate of a problem in version 1, from the shells of its objects in the window, their boxes in each slot, in order of
-/// object and slot, and the leaves of all pairs that are looked at, in order of pair and time. It is accepted for the problem.
+/// object and slot, and the leaves of all candidates, in order of pair and time. It is accepted for the problem.
 pub fn written_certificate(
     alloc: Global,
     problem: &Problem,

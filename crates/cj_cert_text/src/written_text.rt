@@ -3,7 +3,7 @@ ghost use Rattle.std.specs.Prelude.{◌≡◌, IfOk};
 ghost use Rattle.cj_hermite.specs.Problems.{plain_problem};
 ghost use Rattle.cj_bezier.specs.AllBoxes.{boxes_of};
 ghost use Rattle.cj_bezier.specs.Leaves.{plain_leaves};
-ghost use Rattle.cj_bezier.specs.Looked.{shells_of};
+ghost use Rattle.cj_bezier.specs.Candidates.{shells_of};
 ghost use Rattle.cj_bezier.specs.SlotBoxes.{plain_boxes};
 ghost use Rattle.cj_cert.specs.Accepted.{Accepted};
 ghost use Rattle.cj_cert_text.specs.TextLeft.{text_left};
@@ -22,7 +22,7 @@ use std::alloc::{AllocError, Global};
 
 impl<'a> CertificateText<'a> {
     /// The whole text for a problem: from the shells of its objects in the window, their boxes in each slot, in order of object and
-    /// slot, and the leaves of all pairs that are looked at, in order of pair and time. The certificate is accepted for the problem.
+    /// slot, and the leaves of all candidates, in order of pair and time. The certificate is accepted for the problem.
     pub fn new(
         alloc: Global,
         problem: &Problem,

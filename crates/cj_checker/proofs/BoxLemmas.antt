@@ -21,14 +21,14 @@ use Rattle.cj_checker.proofs.UnfitLemmas.{dropped, ended}
 -- ---- one line
 
 -- a line that begins with the next slot
-pub line_test : (case : PlainProblem) (left : List (ℕ × ℕ)) (line : PlainBoxLine) (e : PlainTrack) → slice_get case.ephemerides line.object ≡ Some e
+pub line_test : (case : PlainProblem) (left : List (ℕ × ℕ)) (line : PlainBoxLine) (e : PlainTrack) → slice_get case.tracks line.object ≡ Some e
     → left ≡ places_from case line.object line.first
     → (nat_le line.first line.last && list_all (is_in_box case e line.area) (range_with_len line.first (line.last + 1 - line.first))) ≡ is_box_line case left line
 line_test case left line e is are =
     (λ j. nat_le line.first line.last && sym (run_test case line e is line.first (line.last + 1 - line.first)) j)
     ∙ ap (λ (places : List (ℕ × ℕ)). is_box_line case places line) (sym are)
 
-pub behind_line : (case : PlainProblem) (left : List (ℕ × ℕ)) (line : PlainBoxLine) (e : PlainTrack) → slice_get case.ephemerides line.object ≡ Some e
+pub behind_line : (case : PlainProblem) (left : List (ℕ × ℕ)) (line : PlainBoxLine) (e : PlainTrack) → slice_get case.tracks line.object ≡ Some e
     → left ≡ places_from case line.object line.first
     → (nat_le line.first line.last && list_all (is_in_box case e line.area) (range_with_len line.first (line.last + 1 - line.first))) ≡ true
     → drop (length (slots_of_line line)) left ≡ places_from case line.object (line.last + 1)

@@ -5,7 +5,7 @@ use Rattle.std.specs.Option.{option_map_or}
 use Rattle.std.proofs.lemmas.Bool.{eq-eqb, eqb-true, false_from_ne_true, and_parts, leb-true}
 use Rattle.cj_track.specs.PlainTracks.{PlainTrack}
 use Rattle.cj_hermite.specs.Interpolant.{Curve}
-use Rattle.cj_hermite.specs.Pieces.{PlainPiece, interval_at, curve_of_interval}
+use Rattle.cj_hermite.specs.Pieces.{PlainPiece, piece_holding, curve_of_piece}
 use Rattle.cj_hermite.specs.PlainProblems.{PlainProblem, threshold_of, curve_at}
 use Rattle.cj_hermite.specs.Roots.{PlainCell}
 use Rattle.cj_bezier.specs.Gaps.{gap_terms, hull_gap}
@@ -21,29 +21,29 @@ use Rattle.cj_checker.specs.Tiling.{cause_at}
 
 -- ---- whether a kind is supported, by the interpolants
 
-supported_there : (e f : Option PlainTrack) (m thr : ℕ) (s : PlainLeaf) (c d : Curve) → option_map curve_of_interval (option_and_then (λ e. interval_at e m) e) ≡ Some c
-    → option_map curve_of_interval (option_and_then (λ e. interval_at e m) f) ≡ Some d
+supported_there : (e f : Option PlainTrack) (m thr : ℕ) (s : PlainLeaf) (c d : Curve) → option_map curve_of_piece (option_and_then (λ e. piece_holding e m) e) ≡ Some c
+    → option_map curve_of_piece (option_and_then (λ e. piece_holding e m) f) ≡ Some d
     → option_map_or (λ e. option_map_or (λ f. option_map_or (λ x. option_map_or (λ y.
-    supported (gap_terms (hull_gap (curve_of_interval x) (curve_of_interval y) s.first s.last)) thr s.kind)
-    (interval_at f m) false) (interval_at e m) false) f false) e false ≡ supported (gap_terms (hull_gap c d s.first s.last)) thr s.kind
+    supported (gap_terms (hull_gap (curve_of_piece x) (curve_of_piece y) s.first s.last)) thr s.kind)
+    (piece_holding f m) false) (piece_holding e m) false) f false) e false ≡ supported (gap_terms (hull_gap c d s.first s.last)) thr s.kind
 supported_there None f m thr s c d h k = absurd cc
 supported_there (Some e) None m thr s c d h k = absurd cc
-supported_there (Some e) (Some f) m thr s c d h k = go (interval_at e m) (interval_at f m) h k
+supported_there (Some e) (Some f) m thr s c d h k = go (piece_holding e m) (piece_holding f m) h k
   where
-    go : (o p : Option PlainPiece) → option_map curve_of_interval o ≡ Some c → option_map curve_of_interval p ≡ Some d
-        → option_map_or (λ x. option_map_or (λ y. supported (gap_terms (hull_gap (curve_of_interval x) (curve_of_interval y) s.first s.last)) thr s.kind) p false) o false
+    go : (o p : Option PlainPiece) → option_map curve_of_piece o ≡ Some c → option_map curve_of_piece p ≡ Some d
+        → option_map_or (λ x. option_map_or (λ y. supported (gap_terms (hull_gap (curve_of_piece x) (curve_of_piece y) s.first s.last)) thr s.kind) p false) o false
         ≡ supported (gap_terms (hull_gap c d s.first s.last)) thr s.kind
     go None p h k = absurd cc
     go (Some x) None h k = absurd cc
     go (Some x) (Some y) h k =
-        let one : curve_of_interval x ≡ c = cc in
-        let other : curve_of_interval y ≡ d = cc in
+        let one : curve_of_piece x ≡ c = cc in
+        let other : curve_of_piece y ≡ d = cc in
         λ i. supported (gap_terms (hull_gap (one i) (other i) s.first s.last)) thr s.kind
 
 pub supported_by : (case : PlainProblem) (s : PlainLeaf) (c d : Curve) → curve_at case s.a s.first ≡ Some c → curve_at case s.b s.first ≡ Some d
     → is_supported case s ≡ supported (gap_terms (hull_gap c d s.first s.last)) (threshold_of case s.a s.b) s.kind
 unfolding curve_at
-supported_by case s c d h k = supported_there (slice_get case.ephemerides s.a) (slice_get case.ephemerides s.b) s.first (threshold_of case s.a s.b) s c d h k
+supported_by case s c d h k = supported_there (slice_get case.tracks s.a) (slice_get case.tracks s.b) s.first (threshold_of case s.a s.b) s c d h k
 
 -- ---- what begins a root
 

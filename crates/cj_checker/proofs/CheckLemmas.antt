@@ -46,18 +46,18 @@ both_none None p h = (refl, h)
 both_none (Some f) p h = absurd cc
 
 -- what holds where nothing fails before the cells
-pub same_count : (case : PlainProblem) (c : PlainCertificate) (o : Option Failure) → o ≡ before_cells case c → is_some o ≡ false → c.objects ≡ length case.ephemerides
+pub same_count : (case : PlainProblem) (c : PlainCertificate) (o : Option Failure) → o ≡ before_cells case c → is_some o ≡ false → c.objects ≡ length case.tracks
 same_count case c o is none =
     let parts = both_none (header_failure case c) (option_or (size_failure case c) (option_or (shell_failure case c) (box_failure case c))) (sym is ∙ none_of o none) in
     ((header_law case c).0 parts.0).objects
 
-pub same_shells : (case : PlainProblem) (c : PlainCertificate) (o : Option Failure) → o ≡ before_cells case c → is_some o ≡ false → length c.shells ≡ length case.ephemerides
+pub same_shells : (case : PlainProblem) (c : PlainCertificate) (o : Option Failure) → o ≡ before_cells case c → is_some o ≡ false → length c.shells ≡ length case.tracks
 same_shells case c o is none =
     let a = both_none (header_failure case c) (option_or (size_failure case c) (option_or (shell_failure case c) (box_failure case c))) (sym is ∙ none_of o none) in
     let b = both_none (size_failure case c) (option_or (shell_failure case c) (box_failure case c)) a.1 in
     let d = both_none (shell_failure case c) (box_failure case c) b.1 in
     let are = (shell_law case c).0 d.0 in
-    sym (length-map c.shells (λ (line : ShellLine). line.object)) ∙ ap length are.objects ∙ length-range_with_len 0 (length case.ephemerides)
+    sym (length-map c.shells (λ (line : ShellLine). line.object)) ∙ ap length are.objects ∙ length-range_with_len 0 (length case.tracks)
 
 pub none_accepted : (a : Answer) → failure_of a ≡ None → a ≡ answers.Accepted
 none_accepted answers.Accepted is = refl

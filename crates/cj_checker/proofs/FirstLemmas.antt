@@ -17,7 +17,7 @@ use Rattle.cj_cert.specs.declared.cert_lines.ShellLine.{ShellLine}
 use Rattle.cj_cert.specs.declared.cert_lines.SizeOfLine.{SizeOfLine}
 use Rattle.cj_cert.specs.Accepted.{AreSizesIn, AreShells, IsShellOver, slots_with_states, HoldsHulls, AreBoxes, IsSupported, TileRoots, Accepted}
 use Rattle.cj_cert.specs.Certificates.{PlainBoxLine, PlainCertificate}
-use Rattle.cj_cert.specs.Listed.{slots_of_line, is_looked_listed}
+use Rattle.cj_cert.specs.Listed.{slots_of_line, is_candidate_listed}
 use Rattle.cj_causes.specs.declared.check_cause.CheckCause.{CheckCause}
 use Rattle.cj_causes.specs.declared.check_cause.CheckCause.TheVariants.{Header, SizeOf, ShellOf, BoxOf, Untiled, Stranger}
 use Rattle.cj_causes.specs.declared.cert_version.CertVersion.{CertVersion}
@@ -45,12 +45,12 @@ pub record IsFor (case : PlainProblem) (c : PlainCertificate) : Type 0 where
   pub first : c.first ≡ case.first
   pub last : c.last ≡ case.last
   pub threshold : c.threshold ≡ case.threshold
-  pub objects : c.objects ≡ length case.ephemerides
+  pub objects : c.objects ≡ length case.tracks
 
 pub header_law : (case : PlainProblem) (c : PlainCertificate) → (header_failure case c ≡ None) ↔ IsFor case c
 unfolding header_failure
 header_law case c =
-    let count = length case.ephemerides in
+    let count = length case.tracks in
     let third = tested (c.objects == count) 4 Header None (Decides-eqb c.objects count) in
     let second = tested (c.threshold == case.threshold) 3 Header (if c.objects == count then None else failed 4 Header) (Decides-eqb c.threshold case.threshold) in
     let first =
@@ -136,10 +136,10 @@ shells_law from to all n at (e ∷ es) (l ∷ lines) places =
 
 pub shell_law : (case : PlainProblem) (c : PlainCertificate) → (shell_failure case c ≡ None) ↔ AreShells case c.shells
 shell_law case c =
-    let law = shells_law case.first case.last case.ephemerides 0 (first_shell_line c) case.ephemerides c.shells
-    (λ i. let k : i ≡ 0 + i = omega arith in ap (λ (j : ℕ). slice_get case.ephemerides j) k) in (
-      λ h. let both = law.0 h in record { objects = both.0; hold = All-from_each (IsLineOf case.ephemerides case.first case.last) c.shells both.1 },
-      λ are. law.1 (are.objects, each_from_All (IsLineOf case.ephemerides case.first case.last) c.shells are.hold),
+    let law = shells_law case.first case.last case.tracks 0 (first_shell_line c) case.tracks c.shells
+    (λ i. let k : i ≡ 0 + i = omega arith in ap (λ (j : ℕ). slice_get case.tracks j) k) in (
+      λ h. let both = law.0 h in record { objects = both.0; hold = All-from_each (IsLineOf case.tracks case.first case.last) c.shells both.1 },
+      λ are. law.1 (are.objects, each_from_All (IsLineOf case.tracks case.first case.last) c.shells are.hold),
     )
 
 -- ---- boxes
@@ -335,13 +335,13 @@ none_from case at (r ∷ roots) (s ∷ cells) ((t ∷ part) ∷ parts) ticks who
     front_none case at r roots s cells part parts ticks (subst (λ (u : PlainLeaf). Tile (IsSupported case) r.a r.b r.first r.last (u ∷ part)) same tiles.0) tail tiles.1
     (λ rs more. none_from case (at + 1) rs cells more)
 
-cell_law : (case : PlainProblem) (c : PlainCertificate) → (cell_failure case c ≡ None) ↔ TileRoots (IsSupported case) (roots_of (is_looked_listed case c) case) c.cells
+cell_law : (case : PlainProblem) (c : PlainCertificate) → (cell_failure case c ≡ None) ↔ TileRoots (IsSupported case) (roots_of (is_candidate_listed case c) case) c.cells
 cell_law case c =
-    let roots = roots_of (is_looked_listed case c) case in (
+    let roots = roots_of (is_candidate_listed case c) case in (
       λ h. tiles_from case (first_cell_line c) roots c.cells h,
       λ tile.
           none_from case (first_cell_line c) roots c.cells tile.parts
-          (Each-weaker (IsRootOf case) (λ r. r.first ≤ r.last) (λ r is. let root = is.root in root.some) roots (Each-roots (is_looked_listed case c) case)) tile.whole tile.tiles,
+          (Each-weaker (IsRootOf case) (λ r. r.first ≤ r.last) (λ r is. let root = is.root in root.some) roots (Each-roots (is_candidate_listed case c) case)) tile.whole tile.tiles,
     )
 
 -- ---- the certificate

@@ -6,7 +6,7 @@ use Rattle.std.specs.List.{list_all}
 use Rattle.std.specs.Option.{option_eq}
 use Rattle.cj_ticks.specs.declared.tick.Window.{Window}
 use Rattle.cj_track.specs.PlainTracks.{PlainTrack}
-use Rattle.cj_hermite.specs.Pieces.{interval_index_at}
+use Rattle.cj_hermite.specs.Pieces.{piece_at}
 use Rattle.cj_hermite.specs.Walks.{HasNone, IsNextRun}
 use Rattle.cj_bezier.specs.Hulls.{PlainHull}
 use Rattle.cj_bezier.specs.Parts.{hulls_of}
@@ -61,6 +61,6 @@ pub is_there : (e : PlainTrack) (from to : ℕ) (r : Option Window) → MatchOpt
 is_there e from to None none = sym (state_none e from to none)
 is_there e from to (Some run) is =
     sym (state_some e from to (λ none.
-    let missing : is_some (interval_index_at e run.last.micros) ≡ false = ap is_some (none run.last.micros is.later is.within) in
+    let missing : is_some (piece_at e run.last.micros) ≡ false = ap is_some (none run.last.micros is.later is.within) in
     let some = is.some in
     absurd cc))

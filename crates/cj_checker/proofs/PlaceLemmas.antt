@@ -8,7 +8,7 @@ use Rattle.cj_interval.proofs.ListLemmas.{Each, Each-always, Each-append, Each-f
 use Rattle.cj_interval.proofs.RangeLemmas.{none_in_range_passes}
 use Rattle.cj_ticks.specs.declared.tick.Window.{Window}
 use Rattle.cj_track.specs.PlainTracks.{PlainTrack}
-use Rattle.cj_hermite.specs.Pieces.{interval_index_at}
+use Rattle.cj_hermite.specs.Pieces.{piece_at}
 use Rattle.cj_hermite.specs.PlainProblems.{PlainProblem}
 use Rattle.cj_hermite.specs.Slots.{slot_first, slot_last, slot_count, slot_of}
 use Rattle.cj_hermite.specs.Walks.{HasNone, IsNextRun}
@@ -50,25 +50,25 @@ all_places case [] = refl
 all_places case (object ∷ objects) = refl
 
 -- the places from an object on, of its own first
-front : (case : PlainProblem) (object slot : ℕ) (e : PlainTrack) → slice_get case.ephemerides object ≡ Some e
+front : (case : PlainProblem) (object slot : ℕ) (e : PlainTrack) → slice_get case.tracks object ≡ Some e
     → places_from case object slot ≡ places_of case (object, e) slot ++ places_from case (object + 1) 0
 front case object slot e is =
     let number : 0 + object ≡ object = omega arith in
-    let at = dropped (enumerate_from 0 case.ephemerides) object (object, e) (numbered 0 case.ephemerides object e is ∙ ap (λ (k : ℕ). Some (k, e)) number) in
+    let at = dropped (enumerate_from 0 case.tracks) object (object, e) (numbered 0 case.tracks object e is ∙ ap (λ (k : ℕ). Some (k, e)) number) in
     ap (λ (objects : List (ℕ × PlainTrack)). places_in case objects slot) at
-    ∙ ap (λ (places : List (ℕ × ℕ)). places_of case (object, e) slot ++ places) (all_places case (drop (object + 1) (enumerate_from 0 case.ephemerides)))
+    ∙ ap (λ (places : List (ℕ × ℕ)). places_of case (object, e) slot ++ places) (all_places case (drop (object + 1) (enumerate_from 0 case.tracks)))
 
-pub no_place : (case : PlainProblem) (object slot : ℕ) → slice_get case.ephemerides object ≡ None → places_from case object slot ≡ []
-no_place case object slot is = ap (λ (objects : List (ℕ × PlainTrack)). places_in case objects slot) (ended (enumerate_from 0 case.ephemerides) object (unnumbered 0 case.ephemerides object is))
+pub no_place : (case : PlainProblem) (object slot : ℕ) → slice_get case.tracks object ≡ None → places_from case object slot ≡ []
+no_place case object slot is = ap (λ (objects : List (ℕ × PlainTrack)). places_in case objects slot) (ended (enumerate_from 0 case.tracks) object (unnumbered 0 case.tracks object is))
 
 -- an object without a state from the slot on
-pub next_object : (case : PlainProblem) (object slot : ℕ) (e : PlainTrack) → slice_get case.ephemerides object ≡ Some e → slots_from case e slot ≡ []
+pub next_object : (case : PlainProblem) (object slot : ℕ) (e : PlainTrack) → slice_get case.tracks object ≡ Some e → slots_from case e slot ≡ []
     → places_from case object slot ≡ places_from case (object + 1) 0
 next_object case object slot e is empty =
     front case object slot e is ∙ ap (λ (slots : List ℕ). map (λ (s : ℕ). let place : ℕ × ℕ = (object, s) in place) slots ++ places_from case (object + 1) 0) empty
 
 -- an object with a state, the first in this slot
-pub first_place : (case : PlainProblem) (object slot s : ℕ) (e : PlainTrack) → slice_get case.ephemerides object ≡ Some e → slots_from case e slot ≡ s ∷ slots_from case e (s + 1)
+pub first_place : (case : PlainProblem) (object slot s : ℕ) (e : PlainTrack) → slice_get case.tracks object ≡ Some e → slots_from case e slot ≡ s ∷ slots_from case e (s + 1)
     → places_from case object slot ≡ (object, s) ∷ places_from case object (s + 1)
 first_place case object slot s e is are =
     front case object slot e is
@@ -78,10 +78,10 @@ first_place case object slot s e is are =
 -- ---- slots with a state
 
 -- an ephemeris with a state at a tick of a slot
-pub state_in : (case : PlainProblem) (e : PlainTrack) (slot m : ℕ) → slot_first case.first slot ≤ m → m ≤ slot_last case.first case.last slot → is_some (interval_index_at e m) ≡ true
+pub state_in : (case : PlainProblem) (e : PlainTrack) (slot m : ℕ) → slot_first case.first slot ≤ m → m ≤ slot_last case.first case.last slot → is_some (piece_at e m) ≡ true
     → has_state_in case e slot ≡ true
 state_in case e slot m low high some =
-    state_some e (slot_first case.first slot) (slot_last case.first case.last slot) (λ none. let missing : is_some (interval_index_at e m) ≡ false = ap is_some (none m low high) in absurd cc)
+    state_some e (slot_first case.first slot) (slot_last case.first case.last slot) (λ none. let missing : is_some (piece_at e m) ≡ false = ap is_some (none m low high) in absurd cc)
 
 -- a slot behind the window
 pub slot_behind : (case : PlainProblem) (e : PlainTrack) (slot : ℕ) → slot_count case.first case.last ≤ slot → has_state_in case e slot ≡ false
@@ -103,14 +103,14 @@ no_slot case e slot none =
 pub record IsFirstIn (case : PlainProblem) (e : PlainTrack) (slot at : ℕ) : Type 0 where
   pub later : slot_first case.first slot ≤ at
   pub within : at ≤ case.last
-  pub none : (m : ℕ) → slot_first case.first slot ≤ m → m < at → interval_index_at e m ≡ None
-  pub some : is_some (interval_index_at e at) ≡ true
+  pub none : (m : ℕ) → slot_first case.first slot ≤ m → m < at → piece_at e m ≡ None
+  pub some : is_some (piece_at e at) ≡ true
 
 pub run_is_first : (case : PlainProblem) (e : PlainTrack) (slot : ℕ) (run : Window) → IsNextRun e (slot_first case.first slot) case.last run → slot_first case.first slot ≤ run.first.micros
     → IsFirstIn case e slot run.first.micros
 run_is_first case e slot run is after = elim (cases_lt run.last.micros run.first.micros) [
   | inl lt ↦
-      let missing : is_some (interval_index_at e run.last.micros) ≡ false = ap is_some (is.none run.last.micros is.later lt) in
+      let missing : is_some (piece_at e run.last.micros) ≡ false = ap is_some (is.none run.last.micros is.later lt) in
       let some = is.some in
       absurd cc
   | inr le ↦ record {
@@ -149,12 +149,12 @@ slot_here case e slot some =
     filter_here (has_state_in case e) slot (count - slot) (count - (slot + 1)) (omega arith) some
 
 -- an object with a state in a slot
-pub place_here : (case : PlainProblem) (object slot : ℕ) (e : PlainTrack) → slice_get case.ephemerides object ≡ Some e → has_state_in case e slot ≡ true
+pub place_here : (case : PlainProblem) (object slot : ℕ) (e : PlainTrack) → slice_get case.tracks object ≡ Some e → has_state_in case e slot ≡ true
     → places_from case object slot ≡ (object, slot) ∷ places_from case object (slot + 1)
 place_here case object slot e is some = first_place case object slot slot e is (slot_here case e slot some)
 
 -- the same places, by the same slots
-pub same_places : (case : PlainProblem) (object slot s : ℕ) (e : PlainTrack) → slice_get case.ephemerides object ≡ Some e → slots_from case e slot ≡ slots_from case e s
+pub same_places : (case : PlainProblem) (object slot s : ℕ) (e : PlainTrack) → slice_get case.tracks object ≡ Some e → slots_from case e slot ≡ slots_from case e s
     → places_from case object slot ≡ places_from case object s
 same_places case object slot s e is are =
     front case object slot e is
@@ -195,16 +195,16 @@ IsOther object slot p = p ≡ (object, slot) → ⊥
 
 behind_object : (case : PlainProblem) (object slot : ℕ) → Each (IsOther object slot) (places_from case (object + 1) 0)
 behind_object case object slot =
-    let objects = drop (object + 1) (enumerate_from 0 case.ephemerides) in
+    let objects = drop (object + 1) (enumerate_from 0 case.tracks) in
     subst (Each (IsOther object slot)) (all_places case objects)
     (Each-flat_map (IsOther object slot) (λ other. places_of case other 0) objects
     (Each-weaker (λ (x : ℕ × PlainTrack). 0 + (object + 1) ≤ x.0) (λ (x : ℕ × PlainTrack). Each (IsOther object slot) (places_of case x 0))
     (λ x le. Each-map (IsOther object slot) (λ (s : ℕ). let place : ℕ × ℕ = (x.0, s) in place) (slots_from case x.1 0)
     (Each-always (λ s. ◌≡◌ {A = ℕ × ℕ} (x.0, s) (object, slot) → ⊥) (λ s same. let own : x.0 ≡ object = ap (λ (p : ℕ × ℕ). p.0) same in omega arith) (slots_from case x.1 0)))
-    objects (later_objects 0 (object + 1) case.ephemerides)))
+    objects (later_objects 0 (object + 1) case.tracks)))
 
 -- a slot without a state
-not_there : (case : PlainProblem) (object slot : ℕ) (e : PlainTrack) → slice_get case.ephemerides object ≡ Some e → has_state_in case e slot ≡ false → Each (IsOther object slot) (places_from case object slot)
+not_there : (case : PlainProblem) (object slot : ℕ) (e : PlainTrack) → slice_get case.tracks object ≡ Some e → has_state_in case e slot ≡ false → Each (IsOther object slot) (places_from case object slot)
 not_there case object slot e is none =
     subst (Each (IsOther object slot)) (sym (front case object slot e is))
     (Each-append (IsOther object slot) (places_of case (object, e) slot) (places_from case (object + 1) 0)
@@ -229,7 +229,7 @@ one_more false false rest all is = refl
 
 -- Slots of an object stand in front of the places from the first of them on, and its hulls lie in the box of a line, exactly where it has
 -- a state and its hulls lie there in each of them.
-pub run_test : (case : PlainProblem) (line : PlainBoxLine) (e : PlainTrack) → slice_get case.ephemerides line.object ≡ Some e → (from n : ℕ)
+pub run_test : (case : PlainProblem) (line : PlainBoxLine) (e : PlainTrack) → slice_get case.tracks line.object ≡ Some e → (from n : ℕ)
     → (are_in_front (run_of_slots line.object from n) (places_from case line.object from) && list_all (holds_in_slot case line) (range_with_len from n))
     ≡ list_all (is_in_box case e line.area) (range_with_len from n)
 run_test case line e is from zero = refl
@@ -265,7 +265,7 @@ run_test case line e is from (suc n) = go (run_test case line e is (from + 1) n)
         ∙ (λ j. (sym none j && held) && list_all (is_in_box case e line.area) (range_with_len (from + 1) n))
 
 -- the places behind such slots
-pub run_behind : (case : PlainProblem) (object : ℕ) (area : PlainBox) (e : PlainTrack) → slice_get case.ephemerides object ≡ Some e → (from n : ℕ)
+pub run_behind : (case : PlainProblem) (object : ℕ) (area : PlainBox) (e : PlainTrack) → slice_get case.tracks object ≡ Some e → (from n : ℕ)
     → list_all (is_in_box case e area) (range_with_len from n) ≡ true → drop n (places_from case object from) ≡ places_from case object (from + n)
 run_behind case object area e is from zero all = let at : from ≡ from + 0 = omega arith in ap (λ (k : ℕ). places_from case object k) at
 run_behind case object area e is from (suc n) all =

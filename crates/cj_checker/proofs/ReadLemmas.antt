@@ -20,17 +20,17 @@ abbrev pub from_slot : PlainProblem → ℕ → List PlainBoxLine → ℕ → �
 from_slot case line boxes k object slot = boxes_from case (line + k) (places_from case object slot) (drop k boxes)
 
 -- the same, by a later slot that is the first with a state
-pub later_slot : (case : PlainProblem) (line : ℕ) (boxes : List PlainBoxLine) (k object slot found : ℕ) (e : PlainTrack) → slice_get case.ephemerides object ≡ Some e
+pub later_slot : (case : PlainProblem) (line : ℕ) (boxes : List PlainBoxLine) (k object slot found : ℕ) (e : PlainTrack) → slice_get case.tracks object ≡ Some e
     → slots_from case e slot ≡ slots_from case e found → from_slot case line boxes k object slot ≡ from_slot case line boxes k object found
 later_slot case line boxes k object slot found e is same = ap (λ (places : List (ℕ × ℕ)). boxes_from case (line + k) places (drop k boxes)) (same_places case object slot found e is same)
 
 -- the same, by the next object, where no slot is left
-pub next_slots : (case : PlainProblem) (line : ℕ) (boxes : List PlainBoxLine) (k object slot : ℕ) (e : PlainTrack) → slice_get case.ephemerides object ≡ Some e
+pub next_slots : (case : PlainProblem) (line : ℕ) (boxes : List PlainBoxLine) (k object slot : ℕ) (e : PlainTrack) → slice_get case.tracks object ≡ Some e
     → slots_from case e slot ≡ [] → from_slot case line boxes k object slot ≡ from_slot case line boxes k (object + 1) 0
 next_slots case line boxes k object slot e is none = ap (λ (places : List (ℕ × ℕ)). boxes_from case (line + k) places (drop k boxes)) (next_object case object slot e is none)
 
 -- behind the last line: whether a slot is left
-pub lines_end : (case : PlainProblem) (line : ℕ) (boxes : List PlainBoxLine) (k object slot : ℕ) (e : PlainTrack) (r : Option ℕ) → slice_get case.ephemerides object ≡ Some e
+pub lines_end : (case : PlainProblem) (line : ℕ) (boxes : List PlainBoxLine) (k object slot : ℕ) (e : PlainTrack) (r : Option ℕ) → slice_get case.tracks object ≡ Some e
     → slice_get boxes k ≡ None → IfNone r (slots_from case e slot ≡ []) → IfSome r (λ found. slots_from case e slot ≡ slots_from case e found)
     → IfSome r (λ found. slots_from case e found ≡ found ∷ slots_from case e (found + 1))
     → from_slot case line boxes k object slot ≡ fails_behind case line (places_from case (object + 1) 0) boxes (record { passed = k; failed = is_some r })

@@ -26,9 +26,9 @@ use Rattle.cj_bezier.specs.SlotBoxes.{PlainBox, both_touch, plain_box, plain_box
 use Rattle.cj_hermite.specs.PlainProblems.{PlainProblem, threshold_of}
 use Rattle.cj_cert.specs.declared.cert_lines.ShellLine.{ShellLine}
 use Rattle.cj_cert.specs.Certificates.{PlainCertificate}
-use Rattle.cj_cert.specs.Listed.{boxes_listed, is_looked_listed}
+use Rattle.cj_cert.specs.Listed.{boxes_listed, is_candidate_listed}
 use Rattle.cj_checker.specs.declared.keys.Key.{Key}
-use Rattle.cj_checker.specs.Keys.{PlainKey, plain_key, HasKey, AreKeysIn, AreKeysKept, IsKeyBefore, IsKeyIn, AreInOrder, looked_with}
+use Rattle.cj_checker.specs.Keys.{PlainKey, plain_key, HasKey, AreKeysIn, AreKeysKept, IsKeyBefore, IsKeyIn, AreInOrder, candidate_with}
 
 -- ---- one more
 
@@ -145,19 +145,19 @@ ordered_from old sorted new moved is a b slot has =
 abbrev before_row : ℕ → Key → Bool
 before_row row key = nat_lt key.a row
 
-pub keys_before : (looked : ℕ → ℕ → ℕ → Bool) (first end row objects slots : ℕ) (keys : List Key) → AreKeysIn looked first end objects slots keys
-    → AreKeysIn looked first row objects slots (filter (before_row row) keys)
-keys_before looked first end row objects slots keys are =
-    All-from_each (λ k. IsKeyIn looked first row objects slots (plain_key k)) (filter (before_row row) keys)
-    (go keys (each_from_All (λ k. IsKeyIn looked first end objects slots (plain_key k)) keys are))
+pub keys_before : (candidate : ℕ → ℕ → ℕ → Bool) (first end row objects slots : ℕ) (keys : List Key) → AreKeysIn candidate first end objects slots keys
+    → AreKeysIn candidate first row objects slots (filter (before_row row) keys)
+keys_before candidate first end row objects slots keys are =
+    All-from_each (λ k. IsKeyIn candidate first row objects slots (plain_key k)) (filter (before_row row) keys)
+    (go keys (each_from_All (λ k. IsKeyIn candidate first end objects slots (plain_key k)) keys are))
   where
-    one : (k : Key) (ks : List Key) (t : Bool) → nat_lt k.a row ≡ t → IsKeyIn looked first end objects slots (plain_key k) → Each (λ x. IsKeyIn looked first row objects slots (plain_key x)) ks
-        → Each (λ x. IsKeyIn looked first row objects slots (plain_key x)) (cond t (k ∷ ks) ks)
+    one : (k : Key) (ks : List Key) (t : Bool) → nat_lt k.a row ≡ t → IsKeyIn candidate first end objects slots (plain_key k) → Each (λ x. IsKeyIn candidate first row objects slots (plain_key x)) ks
+        → Each (λ x. IsKeyIn candidate first row objects slots (plain_key x)) (cond t (k ∷ ks) ks)
     one k ks true e is rest =
-        (record { ordered = is.ordered; exists = is.exists; from = is.from; to = grind (arith, nat_tests); slot = is.slot; looked_at = is.looked_at }, rest)
+        (record { ordered = is.ordered; exists = is.exists; from = is.from; to = grind (arith, nat_tests); slot = is.slot; candidates_at = is.candidates_at }, rest)
     one k ks false e is rest = rest
 
-    go : (ks : List Key) → Each (λ k. IsKeyIn looked first end objects slots (plain_key k)) ks → Each (λ k. IsKeyIn looked first row objects slots (plain_key k)) (filter (before_row row) ks)
+    go : (ks : List Key) → Each (λ k. IsKeyIn candidate first end objects slots (plain_key k)) ks → Each (λ k. IsKeyIn candidate first row objects slots (plain_key k)) (filter (before_row row) ks)
     go [] are = tt
     go (k ∷ ks) are = one k (filter (before_row row) ks) (nat_lt k.a row) refl are.0 (go ks are.1)
 
@@ -171,22 +171,22 @@ key_before keys row a b slot lt has =
     lt_test a row lt = grind (arith, nat_tests)
 
 -- a key of some rows is one of more rows
-pub wider_rows : (looked : ℕ → ℕ → ℕ → Bool) (first end more objects slots : ℕ) → end ≤ more → (slot a b : ℕ)
-    → IsKeyIn looked first end objects slots (record { a = a; b = b; slot = slot }) → IsKeyIn looked first more objects slots (record { a = a; b = b; slot = slot })
-wider_rows looked first end more objects slots le slot a b is =
+pub wider_rows : (candidate : ℕ → ℕ → ℕ → Bool) (first end more objects slots : ℕ) → end ≤ more → (slot a b : ℕ)
+    → IsKeyIn candidate first end objects slots (record { a = a; b = b; slot = slot }) → IsKeyIn candidate first more objects slots (record { a = a; b = b; slot = slot })
+wider_rows candidate first end more objects slots le slot a b is =
     let to = is.to in
-    record { ordered = is.ordered; exists = is.exists; from = is.from; to = omega arith; slot = is.slot; looked_at = is.looked_at }
+    record { ordered = is.ordered; exists = is.exists; from = is.from; to = omega arith; slot = is.slot; candidates_at = is.candidates_at }
 
--- ---- what a pair is looked at by
+-- ---- what a pair is a candidate by
 
 pub filled_length : (f : ℕ → Option PlainBox) (n : ℕ) (areas : List (Option AxisBox)) → plain_boxes areas ≡ map f (range_with_len 0 n) → length areas ≡ n
 filled_length f n areas are =
     sym (length-map areas (option_map plain_box)) ∙ ap length are ∙ length-map (range_with_len 0 n) f ∙ length-range_with_len 0 n
 
-pub looked_listed : (case : PlainProblem) (c : PlainCertificate) (shells : List ShellLine) (areas : List (Option PlainBox)) (slot : ℕ) → shells ≡ c.shells → areas ≡ boxes_listed c slot
-    → (a b : ℕ) → looked_with case (map (λ line. line.shell) shells) areas (a, b) ≡ is_looked_listed case c a b slot
-unfolding is_looked_listed
-looked_listed case c shells areas slot same are a b = λ i. looked_with case (map (λ line. line.shell) (same i)) (are i) (a, b)
+pub candidates_listed : (case : PlainProblem) (c : PlainCertificate) (shells : List ShellLine) (areas : List (Option PlainBox)) (slot : ℕ) → shells ≡ c.shells → areas ≡ boxes_listed c slot
+    → (a b : ℕ) → candidate_with case (map (λ line. line.shell) shells) areas (a, b) ≡ is_candidate_listed case c a b slot
+unfolding is_candidate_listed
+candidates_listed case c shells areas slot same are a b = λ i. candidate_with case (map (λ line. line.shell) (same i)) (are i) (a, b)
 
 -- the shell of a line in its place, and a box
 pub shell_on : (shells : List ShellLine) (k : ℕ) (d : ShellLine) → k < length shells → shell_in (map (λ line. line.shell) shells) k ≡ (get_or shells k d).shell
@@ -198,17 +198,17 @@ box_in boxes k box lt is =
     ap (option_and_then (λ (x : Option PlainBox). x))
     (slice_get-map (option_map plain_box) boxes k ∙ ap (option_map (option_map plain_box)) (slice_get-get_or boxes k box lt ∙ ap (λ (x : Option AxisBox). Some x) (sym is)))
 
--- whether a pair is looked at, by its two shells and its two boxes
-pub looked_by : (case : PlainProblem) (shells : List ShellLine) (boxes : List (Option AxisBox)) (a b thr : ℕ) (s t : Option Shell) (x y : Option AxisBox)
+-- whether a pair is a candidate, by its two shells and its two boxes
+pub candidate_by : (case : PlainProblem) (shells : List ShellLine) (boxes : List (Option AxisBox)) (a b thr : ℕ) (s t : Option Shell) (x y : Option AxisBox)
     → thr ≡ threshold_of case a b
     → shell_in (map (λ line. line.shell) shells) a ≡ s → shell_in (map (λ line. line.shell) shells) b ≡ t
     → reaches_in (plain_boxes boxes) a ≡ option_map plain_box x → reaches_in (plain_boxes boxes) b ≡ option_map plain_box y
-    → looked_with case (map (λ line. line.shell) shells) (plain_boxes boxes) (a, b) ≡ (are_kept thr s t && both_touch thr (option_map plain_box x) (option_map plain_box y))
-looked_by case shells boxes a b thr s t x y is sa sb ba bb = λ i. are_kept (sym is i) (sa i) (sb i) && both_touch (sym is i) (ba i) (bb i)
+    → candidate_with case (map (λ line. line.shell) shells) (plain_boxes boxes) (a, b) ≡ (are_kept thr s t && both_touch thr (option_map plain_box x) (option_map plain_box y))
+candidate_by case shells boxes a b thr s t x y is sa sb ba bb = λ i. are_kept (sym is i) (sa i) (sb i) && both_touch (sym is i) (ba i) (bb i)
 
 pub not_kept : (case : PlainProblem) (shells : List ShellLine) (boxes : List (Option AxisBox)) (a b thr : ℕ) (s t : Option Shell) → thr ≡ threshold_of case a b
     → shell_in (map (λ line. line.shell) shells) a ≡ s → shell_in (map (λ line. line.shell) shells) b ≡ t → are_kept thr s t ≡ false
-    → looked_with case (map (λ line. line.shell) shells) (plain_boxes boxes) (a, b) ≡ false
+    → candidate_with case (map (λ line. line.shell) shells) (plain_boxes boxes) (a, b) ≡ false
 not_kept case shells boxes a b thr s t is sa sb none =
     let touch = touch_between case.threshold case.sizes (plain_boxes boxes) (a, b) in
     (λ i. are_kept (sym is i) (sa i) (sb i) && touch) ∙ (λ i. none i && touch)

@@ -25,14 +25,14 @@ use Rattle.cj_bezier.specs.SlotBoxes.{PlainBox, plain_box, plain_boxes, reaches_
 use Rattle.cj_checker.specs.declared.axis.Axis.{Axis}
 use Rattle.cj_checker.specs.declared.axis.Axis.TheVariants as axes
 use Rattle.cj_checker.specs.declared.reach.Reach.{Reach}
-use Rattle.cj_checker.specs.Keys.{looked_with}
-use Rattle.cj_checker.specs.Sweeps.{AreLooked, AreMet, HasReach, IsInOrder, Meet, reach_of, side}
+use Rattle.cj_checker.specs.Keys.{candidate_with}
+use Rattle.cj_checker.specs.Sweeps.{AreCandidates, AreMet, HasReach, IsInOrder, Meet, reach_of, side}
 
 -- ---- one pair more
 
-pub looked_more : (case : PlainProblem) (shells : List (Option Shell)) (areas : List (Option PlainBox)) (old : List Pair) (p : Pair) → looked_with case shells areas (objects_of p) ≡ true
-    → AreLooked case shells areas old → AreLooked case shells areas (old ++ p ∷ [])
-looked_more case shells areas old p is all = All-push (λ pair. looked_with case shells areas (objects_of pair) ≡ true) old p all is
+pub candidates_more : (case : PlainProblem) (shells : List (Option Shell)) (areas : List (Option PlainBox)) (old : List Pair) (p : Pair) → candidate_with case shells areas (objects_of p) ≡ true
+    → AreCandidates case shells areas old → AreCandidates case shells areas (old ++ p ∷ [])
+candidates_more case shells areas old p is all = All-push (λ pair. candidate_with case shells areas (objects_of pair) ≡ true) old p all is
 
 -- ---- pairs that are looked at
 
@@ -68,7 +68,7 @@ along thr s t x y kept touch axes.Y = along_y thr x y touch
 along thr s t x y kept touch axes.Z = along_z thr x y touch
 along thr s t x y kept touch axes.Radius = let both = shells_along thr s t kept in let there = both.0 in let back = both.1 in (omega (arith, ints, there), omega (arith, ints, back))
 
-pub boxed : (case : PlainProblem) (shells : List (Option Shell)) (areas : List (Option PlainBox)) (a b : ℕ) → looked_with case shells areas (a, b) ≡ true → AreBoxed case shells areas a b
+pub boxed : (case : PlainProblem) (shells : List (Option Shell)) (areas : List (Option PlainBox)) (a b : ℕ) → candidate_with case shells areas (a, b) ≡ true → AreBoxed case shells areas a b
 boxed case shells areas a b is =
     let both = and_parts (keeps_between case.threshold case.sizes shells (a, b)) (touch_between case.threshold case.sizes areas (a, b)) is in
     go (shell_in shells a) refl (shell_in shells b) refl (reaches_in areas a) refl (reaches_in areas b) refl both.0 both.1
@@ -105,7 +105,7 @@ area_read (y ∷ areas) (suc object) x lt is = area_read areas object x (omega a
 pub met : (case : PlainProblem) (shells : List (Option Shell)) (areas : List (Option PlainBox)) (axis : Axis) (rows others : List Reach) (first end objects a b : ℕ) → length areas ≡ objects
     → ((object : ℕ) → first ≤ object → object < end → HasReach case shells areas axis rows object)
     → ((object : ℕ) → end ≤ object → object < objects → HasReach case shells areas axis others object)
-    → first ≤ a → a < end → a < b → looked_with case shells areas (a, b) ≡ true → Meet rows others a b
+    → first ≤ a → a < end → a < b → candidate_with case shells areas (a, b) ≡ true → Meet rows others a b
 met case shells areas axis rows others first end objects a b count in_rows in_others low high up is =
     let r = boxed case shells areas a b is in
     let there = r.there axis in
@@ -239,7 +239,7 @@ other_way one other a b (inr both) = inl (both.1, both.0)
 -- two entries that meet are found, whichever of them begins first
 pub found_there : (case : PlainProblem) (shells : List (Option Shell)) (areas : List (Option PlainBox)) (some others : List Reach) (pairs : List Pair) (r s : Reach) (a b : ℕ)
     → AreMet case shells areas some others pairs → AreMet case shells areas others some pairs
-    → Contains some r → Contains others s → r.object ≡ a → s.object ≡ b → r.low ≤ℤ s.high → s.low ≤ℤ r.high → a < b → looked_with case shells areas (a, b) ≡ true → HasPair pairs a b
+    → Contains some r → Contains others s → r.object ≡ a → s.object ≡ b → r.low ≤ℤ s.high → s.low ≤ℤ r.high → a < b → candidate_with case shells areas (a, b) ≡ true → HasPair pairs a b
 found_there case shells areas some others pairs r s a b there back has has' own other before after up is =
     by_lt_z r.low s.low
     (λ lt. there r s has has' (weaker r.low s.low lt) after a b up (inl (own, other)) is)
@@ -256,7 +256,7 @@ met_still case shells areas some others old new kept are r s has has' up within 
 -- all pairs of the rows that are looked at are found: those of two objects of the rows first, then those with an object behind
 pub all_found : (case : PlainProblem) (shells : List (Option Shell)) (areas : List (Option PlainBox)) (rows others : List Reach) (old more all : List Pair) (a b : ℕ)
     → AreMet case shells areas rows rows old → AreMet case shells areas rows others more → AreMet case shells areas others rows all → ArePairsKept old more → ArePairsKept more all
-    → Meet rows others a b → a < b → looked_with case shells areas (a, b) ≡ true → HasPair all a b
+    → Meet rows others a b → a < b → candidate_with case shells areas (a, b) ≡ true → HasPair all a b
 all_found case shells areas rows others old more all a b within there back kept still meet up is = go meet.second_there
   where
     among : AreMet case shells areas rows rows all

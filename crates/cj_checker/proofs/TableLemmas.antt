@@ -191,7 +191,7 @@ line_entered lines slots objects number line old new some is kept enter table =
 
 pub record IsLineIn (case : PlainProblem) (line : PlainBoxLine) : Type 0 where
   pub some : line.first ≤ line.last
-  pub there : line.object < length case.ephemerides
+  pub there : line.object < length case.tracks
   pub within : line.last < slot_count case.first case.last
 
 numbered_below : (n : ℕ) (es : List PlainTrack) → Each (λ (x : ℕ × PlainTrack). x.0 < n + length es) (enumerate_from n es)
@@ -199,18 +199,18 @@ numbered_below n es = Each-enumerated (λ (x : ℕ × PlainTrack). x.0 < n + len
 
 -- a slot of the window, of one of the objects
 record IsPlaceIn (case : PlainProblem) (p : ℕ × ℕ) : Type 0 where
-  object : p.0 < length case.ephemerides
+  object : p.0 < length case.tracks
   slot : p.1 < slot_count case.first case.last
 
 all_in : (case : PlainProblem) → Each (IsPlaceIn case) (slots_with_states case)
 all_in case =
     let places = λ (x : ℕ × PlainTrack). map (λ (slot : ℕ). let place : ℕ × ℕ = (x.0, slot) in place) (filter (has_state_in case x.1) (slots_of case)) in
-    Each-flat_map (IsPlaceIn case) places (enumerate_from 0 case.ephemerides)
-    (Each-weaker (λ (x : ℕ × PlainTrack). x.0 < 0 + length case.ephemerides) (λ (x : ℕ × PlainTrack). Each (IsPlaceIn case) (places x))
+    Each-flat_map (IsPlaceIn case) places (enumerate_from 0 case.tracks)
+    (Each-weaker (λ (x : ℕ × PlainTrack). x.0 < 0 + length case.tracks) (λ (x : ℕ × PlainTrack). Each (IsPlaceIn case) (places x))
     (λ x lt. Each-map (IsPlaceIn case) (λ (slot : ℕ). let place : ℕ × ℕ = (x.0, slot) in place) (filter (has_state_in case x.1) (slots_of case))
     (Each-filter (λ slot. IsPlaceIn case (x.0, slot)) (has_state_in case x.1) (slots_of case)
     (Each-range (λ slot. IsPlaceIn case (x.0, slot)) 0 (slot_count case.first case.last) (λ slot low high. record { object = omega arith; slot = omega arith }))))
-    (enumerate_from 0 case.ephemerides) (numbered_below 0 case.ephemerides))
+    (enumerate_from 0 case.tracks) (numbered_below 0 case.tracks))
 
 line_in : (case : PlainProblem) (line : PlainBoxLine) → line.first ≤ line.last → Each (IsPlaceIn case) (slots_of_line line) → IsLineIn case line
 line_in case line some each =
@@ -235,7 +235,7 @@ line_is_in case lines all k line are same lt is =
 -- ---- the whole table
 
 -- no line tells of an object or a slot that is not there
-untold : (case : PlainProblem) (lines : List PlainBoxLine) (slot object : ℕ) → Each (IsLineIn case) lines → (object < length case.ephemerides → slot < slot_count case.first case.last → ⊥)
+untold : (case : PlainProblem) (lines : List PlainBoxLine) (slot object : ℕ) → Each (IsLineIn case) lines → (object < length case.tracks → slot < slot_count case.first case.last → ⊥)
     → box_listed lines slot object ≡ None
 untold case lines slot object each away =
     ap (option_map (λ line. line.area))
@@ -250,7 +250,7 @@ boxes_of_line None = refl
 boxes_of_line (Some line) = refl
 
 same_box : (case : PlainProblem) (lines : List BoxLine) (slots : ℕ) (numbers : List ℕ) → slots ≡ slot_count case.first case.last → AreBoxes case (map plain_box_line lines)
-    → IsTableFrom lines slots (length case.ephemerides) 0 numbers → (slot object : ℕ) → box_in_table lines slots numbers slot object ≡ box_listed (map plain_box_line lines) slot object
+    → IsTableFrom lines slots (length case.tracks) 0 numbers → (slot object : ℕ) → box_in_table lines slots numbers slot object ≡ box_listed (map plain_box_line lines) slot object
 unfolding box_in_table
 same_box case lines slots numbers count are table slot object = elim (cases_lt slot slots) [
   | inr beyond ↦
@@ -259,17 +259,17 @@ same_box case lines slots numbers count are table slot object = elim (cases_lt s
       rw out (sym none)
   | inl inside ↦
       let within = lt-ltb slot slots inside in
-      rw within (elim (cases_lt object (length case.ephemerides)) [
+      rw within (elim (cases_lt object (length case.tracks)) [
         | inl there ↦ boxes_of_line (option_and_then (line_numbered lines) (slice_get numbers (place_in_table slots slot object))) ∙ ap (option_map (λ line. line.area)) (table.entries slot object inside there)
         | inr gone ↦
-            let past = slice_get_past numbers (place_in_table slots slot object) (omega (arith, table.sized, mul-le (length case.ephemerides) slots object slots gone (omega arith))) in
+            let past = slice_get_past numbers (place_in_table slots slot object) (omega (arith, table.sized, mul-le (length case.tracks) slots object slots gone (omega arith))) in
             let none = untold case (map plain_box_line lines) slot object (lines_in case (map plain_box_line lines) are) (λ there inside. omega arith) in
             ap (λ (o : Option ℕ). option_map (λ line. plain_box line.area) (option_and_then (line_numbered lines) o)) past ∙ sym none
       ])
 ]
 
 pub table_is : (case : PlainProblem) (lines : List BoxLine) (slots : ℕ) (numbers : List ℕ) → slots ≡ slot_count case.first case.last → AreBoxes case (map plain_box_line lines)
-    → IsTableFrom lines slots (length case.ephemerides) 0 numbers → box_in_table lines slots numbers ≡ box_listed (map plain_box_line lines)
+    → IsTableFrom lines slots (length case.tracks) 0 numbers → box_in_table lines slots numbers ≡ box_listed (map plain_box_line lines)
 table_is case lines slots numbers count are table = λ j slot object. same_box case lines slots numbers count are table slot object j
 
 -- ---- one place of a table

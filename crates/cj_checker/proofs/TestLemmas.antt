@@ -9,7 +9,7 @@ use Rattle.std.proofs.lemmas.Bool.Decides.{Decides-and, Decides-by_and, Decides-
 use Rattle.cj_interval.proofs.IntegerLemmas.{decides_le}
 use Rattle.cj_track.specs.PlainTracks.{PlainTrack}
 use Rattle.cj_hermite.specs.Interpolant.{Four}
-use Rattle.cj_hermite.specs.Pieces.{interval_at, interval_index_at, curve_of_interval}
+use Rattle.cj_hermite.specs.Pieces.{piece_holding, piece_at, curve_of_piece}
 use Rattle.cj_hermite.specs.PlainProblems.{PlainProblem, threshold_of}
 use Rattle.cj_hermite.specs.Slots.{slot_first, slot_last}
 use Rattle.cj_hermite.specs.Walks.{HasNone}
@@ -88,9 +88,9 @@ no_number (Some i) missing = absurd cc
 pub decides_none : (e : PlainTrack) (from to : ℕ) → Decides (not (has_state_between e from to)) (HasNone e from to)
 decides_none e from to =
     decides_same (not (has_state_between e from to))
-    (λ none m low high. no_number (interval_index_at e m) (none m low (omega arith)))
+    (λ none m low high. no_number (piece_at e m) (none m low (omega arith)))
     (λ none m low high. let missing = none m low (omega arith) in rw missing refl)
-    (decides_no (λ m. is_some (interval_index_at e m)) from (to + 1 - from))
+    (decides_no (λ m. is_some (piece_at e m)) from (to + 1 - from))
 
 -- an ephemeris with a state from one tick to another, or with none
 pub state_none : (e : PlainTrack) (from to : ℕ) → HasNone e from to → has_state_between e from to ≡ false
@@ -150,13 +150,13 @@ decides_hull_in area h =
     (Decides-and _ _ (decides_at_most_each area.z.least h.z.low) (decides_at_least_each area.z.most h.z.high))))
 
 decides_in_slot : (case : PlainProblem) (line : PlainBoxLine) (slot : ℕ)
-    → Decides (holds_in_slot case line slot) (IsSomeAnd (slice_get case.ephemerides line.object) (λ e. All (IsHullIn line.area) (hulls_of e (slot_first case.first slot) (slot_last case.first case.last slot))))
+    → Decides (holds_in_slot case line slot) (IsSomeAnd (slice_get case.tracks line.object) (λ e. All (IsHullIn line.area) (hulls_of e (slot_first case.first slot) (slot_last case.first case.last slot))))
 decides_in_slot case line slot =
     decides_some (λ e. list_all (is_hull_in line.area) (hulls_of e (slot_first case.first slot) (slot_last case.first case.last slot)))
     (λ e. All (IsHullIn line.area) (hulls_of e (slot_first case.first slot) (slot_last case.first case.last slot)))
     (λ e. Decides-by_and (is_hull_in line.area) (IsHullIn line.area) (list_all (is_hull_in line.area)) (decides_hull_in line.area) refl (λ _ _. refl)
     (hulls_of e (slot_first case.first slot) (slot_last case.first case.last slot)))
-    (slice_get case.ephemerides line.object)
+    (slice_get case.tracks line.object)
 
 pub decides_holds : (case : PlainProblem) (line : PlainBoxLine) → Decides (holds_hulls case line) (HoldsHulls case line)
 decides_holds case line =
@@ -164,7 +164,7 @@ decides_holds case line =
     (λ h slot low high. h slot low (omega arith))
     (λ h slot low high. h slot low (omega arith))
     (decides_range (holds_in_slot case line)
-    (λ slot. IsSomeAnd (slice_get case.ephemerides line.object) (λ e. All (IsHullIn line.area) (hulls_of e (slot_first case.first slot) (slot_last case.first case.last slot))))
+    (λ slot. IsSomeAnd (slice_get case.tracks line.object) (λ e. All (IsHullIn line.area) (hulls_of e (slot_first case.first slot) (slot_last case.first case.last slot))))
     (decides_in_slot case line) line.first (line.last + 1 - line.first))
 
 pub decides_front : (slots places : List (ℕ × ℕ)) → Decides (are_in_front slots places) (slots ++ drop (length slots) places ≡ places)
@@ -196,5 +196,5 @@ decides_nat_le x y = (λ yes. leb-true x y yes, λ h. le-leb x y h)
 pub decides_supported : (case : PlainProblem) (s : PlainLeaf) → Decides (is_supported case s) (IsSupported case s)
 decides_supported case s =
     decides_some _ _ (λ e. decides_some _ _ (λ f. decides_some _ _ (λ x. decides_some _ _ (λ y.
-    decides_supports (gap_terms (hull_gap (curve_of_interval x) (curve_of_interval y) s.first s.last)) (threshold_of case s.a s.b) s.kind)
-    (interval_at f s.first)) (interval_at e s.first)) (slice_get case.ephemerides s.b)) (slice_get case.ephemerides s.a)
+    decides_supports (gap_terms (hull_gap (curve_of_piece x) (curve_of_piece y) s.first s.last)) (threshold_of case s.a s.b) s.kind)
+    (piece_holding f s.first)) (piece_holding e s.first)) (slice_get case.tracks s.b)) (slice_get case.tracks s.a)

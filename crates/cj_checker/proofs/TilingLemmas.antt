@@ -9,11 +9,11 @@ use Rattle.cj_hermite.specs.declared.problem.Problem.{Problem}
 use Rattle.cj_hermite.specs.declared.common_run.CommonRun.{CommonRun}
 use Rattle.cj_hermite.specs.CommonRuns.{both, both_numbers, runs_between, run_of, IsNextCommon}
 use Rattle.cj_hermite.specs.Interpolant.{Curve, curve_of, IsOver}
-use Rattle.cj_hermite.specs.Pieces.{interval_at, curve_of_interval}
+use Rattle.cj_hermite.specs.Pieces.{piece_holding, curve_of_piece}
 use Rattle.cj_hermite.specs.PlainProblems.{PlainProblem, threshold_of, curve_at}
 use Rattle.cj_hermite.specs.Problems.{plain_problem}
 use Rattle.cj_hermite.specs.Ready.{curve_ready}
-use Rattle.cj_hermite.specs.Roots.{PlainCell, KeepIntervals, numbers_at, root_of_run, roots_between}
+use Rattle.cj_hermite.specs.Roots.{PlainCell, KeepPieces, numbers_at, root_of_run, roots_between}
 use Rattle.cj_hermite.proofs.CurveLemmas.{have_curves}
 use Rattle.cj_hermite.proofs.RootLemmas.{IsRoot, Each-between}
 use Rattle.cj_hermite.proofs.TrackLemmas.{number_of_track, curve_of_track, first_is_over, second_is_over}
@@ -126,30 +126,30 @@ roots_none p a b from last x y is_x is_y in_a in_b none =
     ap (map (root_of_run a b)) (subst (λ (label : ℕ → Option (ℕ × ℕ)). runs_between label from last ≡ []) labels none)
 
 keeps : (case : PlainProblem) (a b from last : ℕ) (ticks : Window) (rest : List PlainCell) → roots_between case a b from last ≡ root_of_run a b (run_of ticks) ∷ rest
-    → KeepIntervals case a b ticks.first.micros ticks.last.micros
+    → KeepPieces case a b ticks.first.micros ticks.last.micros
 keeps case a b from last ticks rest are =
     let each : Each (IsRoot case a b from last) (root_of_run a b (run_of ticks) ∷ rest) = subst (Each (IsRoot case a b from last)) are (Each-between case a b from last) in
     let is = each.0 in
-    record { same = is.same; states = is.labelled }
+    record { same = is.same; nodes = is.labelled }
 
 -- the root of a run, made ready
 module _ (p : Problem) (pair : Pair) (from last : ℕ) (x y : Track) (run : CommonRun) (root : Root) (rest : List PlainCell)
     (is_x : x ≡ get_or p.tracks pair.a x) (is_y : y ≡ get_or p.tracks pair.b y) (exists : pair.b < length p.tracks)
     (are : roots_between (plain_problem p) pair.a pair.b from last ≡ root_of_run pair.a pair.b (run_of run.ticks) ∷ rest) (some : run.ticks.first.micros ≤ run.ticks.last.micros)
-    (one : option_map curve_of_interval (interval_at (plain_track x) run.ticks.first.micros) ≡ Some (curve_of run.first))
-    (other : option_map curve_of_interval (interval_at (plain_track y) run.ticks.first.micros) ≡ Some (curve_of run.second))
+    (one : option_map curve_of_piece (piece_holding (plain_track x) run.ticks.first.micros) ≡ Some (curve_of run.first))
+    (other : option_map curve_of_piece (piece_holding (plain_track y) run.ticks.first.micros) ≡ Some (curve_of run.second))
     (own : root.pair ≡ pair) (ticks : root.ticks ≡ run.ticks) (first : curve_ready root.first ≡ curve_of run.first) (second : curve_ready root.second ≡ curve_of run.second) where
   ordered : pair.a < pair.b
   ordered = pair.ordered
 
-  keep : KeepIntervals (plain_problem p) pair.a pair.b run.ticks.first.micros run.ticks.last.micros
+  keep : KeepPieces (plain_problem p) pair.a pair.b run.ticks.first.micros run.ticks.last.micros
   keep = keeps (plain_problem p) pair.a pair.b from last run.ticks rest are
 
   first_curve : curve_at (plain_problem p) pair.a run.ticks.first.micros ≡ Some (curve_of run.first)
-  first_curve = curve_of_track p pair.a run.ticks.first.micros x (let lt = ordered in omega arith) ∙ ap (λ (t : Track). option_map curve_of_interval (interval_at (plain_track t) run.ticks.first.micros)) (sym is_x) ∙ one
+  first_curve = curve_of_track p pair.a run.ticks.first.micros x (let lt = ordered in omega arith) ∙ ap (λ (t : Track). option_map curve_of_piece (piece_holding (plain_track t) run.ticks.first.micros)) (sym is_x) ∙ one
 
   second_curve : curve_at (plain_problem p) pair.b run.ticks.first.micros ≡ Some (curve_of run.second)
-  second_curve = curve_of_track p pair.b run.ticks.first.micros y exists ∙ ap (λ (t : Track). option_map curve_of_interval (interval_at (plain_track t) run.ticks.first.micros)) (sym is_y) ∙ other
+  second_curve = curve_of_track p pair.b run.ticks.first.micros y exists ∙ ap (λ (t : Track). option_map curve_of_piece (piece_holding (plain_track t) run.ticks.first.micros)) (sym is_y) ∙ other
 
   pub ready_over : AreOver root root.ticks.first.micros root.ticks.last.micros
   ready_over =

@@ -10,7 +10,7 @@ use Rattle.cj_bezier.specs.Leaves.{PlainLeaf}
 use Rattle.cj_cert.specs.declared.cert_lines.SizeOfLine.{SizeOfLine}
 use Rattle.cj_cert.specs.Accepted.{slots_with_states}
 use Rattle.cj_cert.specs.Certificates.{PlainBoxLine, PlainCertificate}
-use Rattle.cj_cert.specs.Listed.{slots_of_line, is_looked_listed}
+use Rattle.cj_cert.specs.Listed.{slots_of_line, is_candidate_listed}
 use Rattle.cj_kvn.specs.declared.text_fault.LineFault.{LineFault}
 use Rattle.cj_causes.specs.declared.check_cause.CheckCause.{CheckCause}
 use Rattle.cj_causes.specs.declared.check_cause.CheckCause.TheVariants.{Header, SizeOf, ShellOf, BoxOf, Untiled, Stranger, NotFar, NotNear, NotBand}
@@ -31,7 +31,7 @@ failed line cause = Some (record { line = line; cause = cause })
 unfoldable pub header_failure : PlainProblem → PlainCertificate → Option Failure
 header_failure case c =
     if (c.first == case.first) && (c.last == case.last)
-    then (if c.threshold == case.threshold then (if c.objects == length case.ephemerides then None else failed 4 Header) else failed 3 Header)
+    then (if c.threshold == case.threshold then (if c.objects == length case.tracks then None else failed 4 Header) else failed 3 Header)
     else failed 2 Header
 
 -- ---- a line for each object
@@ -63,7 +63,7 @@ abbrev pub first_shell_line : PlainCertificate → ℕ
 first_shell_line c = first_line + length c.sizes
 
 abbrev pub shell_failure : PlainProblem → PlainCertificate → Option Failure
-shell_failure case c = first_unfit (is_shell_line case.first case.last) ShellOf (first_shell_line c) (enumerate_from 0 case.ephemerides) c.shells
+shell_failure case c = first_unfit (is_shell_line case.first case.last) ShellOf (first_shell_line c) (enumerate_from 0 case.tracks) c.shells
 
 -- ---- boxes
 
@@ -118,7 +118,7 @@ abbrev pub first_cell_line : PlainCertificate → ℕ
 first_cell_line c = first_box_line c + length c.boxes
 
 abbrev pub cell_failure : PlainProblem → PlainCertificate → Option Failure
-cell_failure case c = cells_from case (first_cell_line c) (roots_of (is_looked_listed case c) case) c.cells
+cell_failure case c = cells_from case (first_cell_line c) (roots_of (is_candidate_listed case c) case) c.cells
 
 -- ---- the certificate
 

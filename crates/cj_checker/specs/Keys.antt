@@ -13,7 +13,7 @@ use Rattle.cj_bezier.specs.SlotBoxes.{PlainBox, plain_boxes, touch_between}
 use Rattle.cj_cert.specs.declared.cert_lines.ShellLine.{ShellLine}
 use Rattle.cj_cert.specs.declared.certificate.Certificate.{Certificate}
 use Rattle.cj_cert.specs.Certificates.{plain_certificate}
-use Rattle.cj_cert.specs.Listed.{is_looked_listed}
+use Rattle.cj_cert.specs.Listed.{is_candidate_listed}
 use Rattle.cj_checker.specs.declared.keys.Key.{Key}
 
 pub record PlainKey : Type 0 where
@@ -30,11 +30,11 @@ pairs_in_rows n first end = flat_map (λ a. map (λ b. (a, b)) (range_with_len (
 
 -- the keys of a pair, in order of its slots
 abbrev pub keys_of_pair : (ℕ → ℕ → ℕ → Bool) → PlainProblem → ℕ × ℕ → List PlainKey
-keys_of_pair looked case pair = flat_map (λ slot. if looked pair.0 pair.1 slot then record { a = pair.0; b = pair.1; slot = slot } ∷ [] else []) (slots_of case)
+keys_of_pair candidate case pair = flat_map (λ slot. if candidate pair.0 pair.1 slot then record { a = pair.0; b = pair.1; slot = slot } ∷ [] else []) (slots_of case)
 
 -- the keys of some rows, in order of pair and slot
 unfoldable pub keys_in_rows : (ℕ → ℕ → ℕ → Bool) → PlainProblem → ℕ → ℕ → List PlainKey
-keys_in_rows looked case first end = flat_map (keys_of_pair looked case) (pairs_in_rows (length case.ephemerides) first end)
+keys_in_rows candidate case first end = flat_map (keys_of_pair candidate case) (pairs_in_rows (length case.tracks) first end)
 
 -- the roots of keys, one key after another
 abbrev pub roots_of_keys : PlainProblem → List PlainKey → List PlainCell
@@ -42,21 +42,21 @@ roots_of_keys case keys = flat_map (λ key. roots_in case key.slot key.a key.b) 
 
 -- the roots of some rows
 unfoldable pub roots_in_rows : (ℕ → ℕ → ℕ → Bool) → PlainProblem → ℕ → ℕ → List PlainCell
-roots_in_rows looked case first end = roots_of_keys case (keys_in_rows looked case first end)
+roots_in_rows candidate case first end = roots_of_keys case (keys_in_rows candidate case first end)
 
 -- ---- as they are found
 
 -- a key of a pair of so many objects in these rows that is looked at in one of the slots
-pub record IsKeyIn (looked : ℕ → ℕ → ℕ → Bool) (first end objects slots : ℕ) (key : PlainKey) : Type 0 where
+pub record IsKeyIn (candidate : ℕ → ℕ → ℕ → Bool) (first end objects slots : ℕ) (key : PlainKey) : Type 0 where
   pub ordered : key.a < key.b
   pub exists : key.b < objects
   pub from : first ≤ key.a
   pub to : key.a < end
   pub slot : key.slot < slots
-  pub looked_at : looked key.a key.b key.slot ≡ true
+  pub candidates_at : candidate key.a key.b key.slot ≡ true
 
 abbrev pub AreKeysIn : (ℕ → ℕ → ℕ → Bool) → ℕ → ℕ → ℕ → ℕ → List Key → Type 0
-AreKeysIn looked first end objects slots keys = All (λ key. IsKeyIn looked first end objects slots (plain_key key)) keys
+AreKeysIn candidate first end objects slots keys = All (λ key. IsKeyIn candidate first end objects slots (plain_key key)) keys
 
 abbrev pub HasKey : List Key → ℕ → ℕ → ℕ → Type 0
 HasKey keys a b slot = Contains (map plain_key keys) (record { a = a; b = b; slot = slot })
@@ -65,9 +65,9 @@ HasKey keys a b slot = Contains (map plain_key keys) (record { a = a; b = b; slo
 abbrev pub AreKeysKept : List Key → List Key → Type 0
 AreKeysKept old new = (a b slot : ℕ) → HasKey old a b slot → HasKey new a b slot
 
--- a pair is looked at in a slot by what a certificate lists
+-- a pair is a candidate in a slot by what a certificate lists
 abbrev pub is_listed : Problem → Certificate → ℕ → ℕ → ℕ → Bool
-is_listed problem cert = is_looked_listed (plain_problem problem) (plain_certificate cert)
+is_listed problem cert = is_candidate_listed (plain_problem problem) (plain_certificate cert)
 
 -- a key by what a certificate lists
 abbrev pub IsKeyOf : Problem → Certificate → ℕ → ℕ → PlainKey → Type 0
@@ -88,10 +88,10 @@ AreInOrder keys = AllPairs IsKeyBefore (map plain_key keys)
 
 -- ---- the pairs of a slot
 
--- a pair is looked at by these shells, and by these boxes of a slot
-abbrev pub looked_with : PlainProblem → List (Option Shell) → List (Option PlainBox) → ℕ × ℕ → Bool
-looked_with case shells boxes pair = keeps_between case.threshold case.sizes shells pair && touch_between case.threshold case.sizes boxes pair
+-- a pair is a candidate by these shells, and by these boxes of a slot
+abbrev pub candidate_with : PlainProblem → List (Option Shell) → List (Option PlainBox) → ℕ × ℕ → Bool
+candidate_with case shells boxes pair = keeps_between case.threshold case.sizes shells pair && touch_between case.threshold case.sizes boxes pair
 
 -- the same, as a program keeps them
 abbrev pub looks : Problem → List ShellLine → List (Option AxisBox) → ℕ × ℕ → Bool
-looks problem shells boxes = looked_with (plain_problem problem) (map (λ line. line.shell) shells) (plain_boxes boxes)
+looks problem shells boxes = candidate_with (plain_problem problem) (map (λ line. line.shell) shells) (plain_boxes boxes)

@@ -21,4 +21,4 @@ places_in case (object ∷ objects) slot = places_of case object slot ++ flat_ma
 
 -- the places from a slot of an object on
 abbrev pub places_from : PlainProblem → ℕ → ℕ → List (ℕ × ℕ)
-places_from case object slot = places_in case (drop object (enumerate_from 0 case.ephemerides)) slot
+places_from case object slot = places_in case (drop object (enumerate_from 0 case.tracks)) slot

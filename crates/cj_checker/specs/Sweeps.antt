@@ -16,19 +16,19 @@ use Rattle.cj_checker.specs.declared.axis.Axis.{Axis}
 use Rattle.cj_checker.specs.declared.axis.Axis.TheVariants as axes
 use Rattle.cj_checker.specs.declared.reach.Reach.{Reach}
 use Rattle.cj_checker.specs.declared.reaches.Reaches.{Reaches}
-use Rattle.cj_checker.specs.Keys.{looked_with, looks}
+use Rattle.cj_checker.specs.Keys.{candidate_with, looks}
 
 -- each pair of a list is looked at
-abbrev pub AreLooked : PlainProblem → List (Option Shell) → List (Option PlainBox) → List Pair → Type 0
-AreLooked case shells boxes pairs = All (λ pair. looked_with case shells boxes (objects_of pair) ≡ true) pairs
+abbrev pub AreCandidates : PlainProblem → List (Option Shell) → List (Option PlainBox) → List Pair → Type 0
+AreCandidates case shells boxes pairs = All (λ pair. candidate_with case shells boxes (objects_of pair) ≡ true) pairs
 
 -- the same, as a program keeps them
-abbrev pub AreLookedBy : Problem → List ShellLine → List (Option AxisBox) → List Pair → Type 0
-AreLookedBy problem shells boxes pairs = AreLooked (plain_problem problem) (map (λ line. line.shell) shells) (plain_boxes boxes) pairs
+abbrev pub AreCandidatesBy : Problem → List ShellLine → List (Option AxisBox) → List Pair → Type 0
+AreCandidatesBy problem shells boxes pairs = AreCandidates (plain_problem problem) (map (λ line. line.shell) shells) (plain_boxes boxes) pairs
 
 -- a later list has only pairs that are looked at where an earlier one has
-abbrev pub StayLooked : Problem → List ShellLine → List (Option AxisBox) → List Pair → List Pair → Type 0
-StayLooked problem shells boxes old new = AreLookedBy problem shells boxes old → AreLookedBy problem shells boxes new
+abbrev pub StayCandidates : Problem → List ShellLine → List (Option AxisBox) → List Pair → List Pair → Type 0
+StayCandidates problem shells boxes old new = AreCandidatesBy problem shells boxes old → AreCandidatesBy problem shells boxes new
 
 -- from where to where an object reaches along an axis, by its shell and its box
 abbrev pub side : Axis → Shell → PlainBox → boxes.Reach
@@ -61,7 +61,7 @@ IsInOrder reaches = AllPairs (λ r s. r.low ≤ℤ s.low) reaches
 -- the objects of each two entries of which the second begins where the first is are found, where they are looked at
 abbrev pub AreMet : PlainProblem → List (Option Shell) → List (Option PlainBox) → List Reach → List Reach → List Pair → Type 0
 AreMet case shells areas some others pairs = (r s : Reach) → Contains some r → Contains others s → r.low ≤ℤ s.low → s.low ≤ℤ r.high
-    → (a b : ℕ) → a < b → AreBoth r.object s.object a b → looked_with case shells areas (a, b) ≡ true → HasPair pairs a b
+    → (a b : ℕ) → a < b → AreBoth r.object s.object a b → candidate_with case shells areas (a, b) ≡ true → HasPair pairs a b
 
 -- the same, as a program keeps them
 abbrev pub AreMetBy : Problem → List ShellLine → List (Option AxisBox) → List Reach → List Reach → List Pair → Type 0

@@ -4,7 +4,7 @@ use Rattle.std.specs.List.{list_all, list_any, range_with_len}
 use Rattle.std.specs.Option.{option_map_or}
 use Rattle.cj_track.specs.PlainTracks.{PlainTrack}
 use Rattle.cj_hermite.specs.Interpolant.{Four}
-use Rattle.cj_hermite.specs.Pieces.{interval_at, interval_index_at, curve_of_interval}
+use Rattle.cj_hermite.specs.Pieces.{piece_holding, piece_at, curve_of_piece}
 use Rattle.cj_hermite.specs.PlainProblems.{PlainProblem, threshold_of}
 use Rattle.cj_hermite.specs.Slots.{slot_first, slot_last}
 use Rattle.cj_bezier.specs.declared.shells.Shell.{Shell}
@@ -30,7 +30,7 @@ is_size_line object line = (line.object == object.0) && (line.size == object.1)
 
 -- an ephemeris has a state from one tick to another
 abbrev pub has_state_between : PlainTrack → ℕ → ℕ → Bool
-has_state_between e from to = list_any (λ m. is_some (interval_index_at e m)) (range_with_len from (to + 1 - from))
+has_state_between e from to = list_any (λ m. is_some (piece_at e m)) (range_with_len from (to + 1 - from))
 
 -- both radii are shown by the gap of a hull against the origin
 abbrev pub shows_radii : Shell → PlainHull → Bool
@@ -70,7 +70,7 @@ is_in_box case e area slot = has_state_in case e slot && list_all (is_hull_in ar
 -- the box of a line holds the hulls of its object in a slot
 abbrev pub holds_in_slot : PlainProblem → PlainBoxLine → ℕ → Bool
 holds_in_slot case line slot =
-    option_map_or (λ e. list_all (is_hull_in line.area) (hulls_of e (slot_first case.first slot) (slot_last case.first case.last slot))) (slice_get case.ephemerides line.object) false
+    option_map_or (λ e. list_all (is_hull_in line.area) (hulls_of e (slot_first case.first slot) (slot_last case.first case.last slot))) (slice_get case.tracks line.object) false
 
 -- in each of its slots
 abbrev pub holds_hulls : PlainProblem → PlainBoxLine → Bool
@@ -92,5 +92,5 @@ is_box_line case left line = nat_le line.first line.last && (are_in_front (slots
 abbrev pub is_supported : PlainProblem → PlainLeaf → Bool
 is_supported case s =
     option_map_or (λ e. option_map_or (λ f. option_map_or (λ x. option_map_or (λ y.
-    supported (gap_terms (hull_gap (curve_of_interval x) (curve_of_interval y) s.first s.last)) (threshold_of case s.a s.b) s.kind)
-    (interval_at f s.first) false) (interval_at e s.first) false) (slice_get case.ephemerides s.b) false) (slice_get case.ephemerides s.a) false
+    supported (gap_terms (hull_gap (curve_of_piece x) (curve_of_piece y) s.first s.last)) (threshold_of case s.a s.b) s.kind)
+    (piece_holding f s.first) false) (piece_holding e s.first) false) (slice_get case.tracks s.b) false) (slice_get case.tracks s.a) false

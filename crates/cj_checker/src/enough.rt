@@ -56,8 +56,8 @@ pub(crate) fn leave_enough(first: u32, end: u32, enough: usize, keys: &mut Vec<K
     requires { first < end }
     ensures some { first < result }
     ensures within { result ≤ end }
-    ensures keys { (looked : ℕ → ℕ → ℕ → Bool) (objects slots : ℕ) → AreKeysIn looked first end objects slots keys.old.items
-        → AreKeysIn looked first result objects slots keys.new.items }
+    ensures keys { (candidate : ℕ → ℕ → ℕ → Bool) (objects slots : ℕ) → AreKeysIn candidate first end objects slots keys.old.items
+        → AreKeysIn candidate first result objects slots keys.new.items }
     ensures kept { (a b slot : ℕ) → a < result → HasKey keys.old.items a b slot → HasKey keys.new.items a b slot }
 {
     if keys.len() / 3 <= enough {

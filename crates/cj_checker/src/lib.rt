@@ -17,7 +17,7 @@ mod hulls_inside;
 mod keys;
 mod laws;
 mod listed;
-mod looked;
+mod candidate;
 mod places;
 mod reach;
 mod reaches;

@@ -1,4 +1,4 @@
-//! The pairs that are looked at, with their slots, in order: row by row of their first objects, so many rows at a time as memory is
+//! The candidates, with their slots, in order: row by row of their first objects, so many rows at a time as memory is
 //! to be had for.
 ghost use Rattle.std.specs.Prelude.{◌≡◌, ℕ, ◌+◌, ◌<◌, ◌≤◌, Bool, All, true, map, length, IfOk, OnOk};
 ghost use Rattle.std.specs.List.{range_with_len};
@@ -52,9 +52,9 @@ fn append_key(
     keys: &mut Vec<Key>,
 ) -> Result<(), AllocError>
     requires few { pair.b ≤ MOST_OBJECTS }
-    ensures keys { OnOk result ((looked : ℕ → ℕ → ℕ → Bool) (objects slots : ℕ) → slot < slots → pair.b < objects
-        → looked pair.a pair.b slot ≡ true
-        → AreKeysIn looked first end objects slots keys.old.items → AreKeysIn looked first end objects slots keys.new.items) }
+    ensures keys { OnOk result ((candidate : ℕ → ℕ → ℕ → Bool) (objects slots : ℕ) → slot < slots → pair.b < objects
+        → candidate pair.a pair.b slot ≡ true
+        → AreKeysIn candidate first end objects slots keys.old.items → AreKeysIn candidate first end objects slots keys.new.items) }
     ensures kept { OnOk result (AreKeysKept keys.old.items keys.new.items) }
     ensures found { OnOk result (first ≤ pair.a → pair.a < end → HasKey keys.new.items pair.a pair.b slot) }
 {
@@ -73,9 +73,9 @@ fn append_keys(
     keys: &mut Vec<Key>,
 ) -> Result<(), AllocError>
     requires few { All (λ pair. pair.b ≤ MOST_OBJECTS) pairs.now }
-    ensures keys { OnOk result ((looked : ℕ → ℕ → ℕ → Bool) (objects slots : ℕ) → slot < slots
-        → All (λ pair. pair.b < objects) pairs.now → All (λ pair. looked pair.a pair.b slot ≡ true) pairs.now
-        → AreKeysIn looked first end objects slots keys.old.items → AreKeysIn looked first end objects slots keys.new.items) }
+    ensures keys { OnOk result ((candidate : ℕ → ℕ → ℕ → Bool) (objects slots : ℕ) → slot < slots
+        → All (λ pair. pair.b < objects) pairs.now → All (λ pair. candidate pair.a pair.b slot ≡ true) pairs.now
+        → AreKeysIn candidate first end objects slots keys.old.items → AreKeysIn candidate first end objects slots keys.new.items) }
     ensures kept { OnOk result (AreKeysKept keys.old.items keys.new.items) }
     ensures found { OnOk result ((a b : ℕ) → HasPair pairs.now a b → first ≤ a → a < end → HasKey keys.new.items a b slot) }
 {
@@ -102,7 +102,7 @@ impl Work {
         }
     }
 
-    /// Finds the pairs of some rows that are looked at in a slot, in any order.
+    /// Finds the pairs of some rows that are candidates in a slot, in any order.
     fn find_pairs(
         &mut self,
         problem: &Problem,
@@ -117,7 +117,7 @@ impl Work {
         requires boxes { table_of listed.now ≡ box_listed (plain_certificate cert.now).boxes }
         requires within { end ≤ length problem.now.tracks }
         ensures exist { OnOk result (All (λ pair. pair.b < length problem.now.tracks) self.new.pairs.items) }
-        ensures looked { OnOk result (All (λ pair. is_listed problem.now cert.now pair.a pair.b slot ≡ true) self.new.pairs.items) }
+        ensures candidate { OnOk result (All (λ pair. is_listed problem.now cert.now pair.a pair.b slot ≡ true) self.new.pairs.items) }
         ensures found { OnOk result ((a b : ℕ) → first ≤ a → a < end → a < b → is_listed problem.now cert.now a b slot ≡ true
             → HasPair self.new.pairs.items a b) }
     {

@@ -1,12 +1,12 @@
-//! The pairs that are looked at in a slot, by a sweep along an axis.
+//! The candidates of a slot, by a sweep along an axis.
 ghost use Rattle.std.specs.Prelude.{◌≡◌, ℕ, ◌<◌, ◌≤◌, true, length, option_map, Some, IfSome, OnOk};
 ghost use Rattle.std.specs.List.{Contains};
 ghost use Rattle.cj_hermite.specs.Pairs.{AreBoth, ArePairsKept, HasPair, objects_of};
 ghost use Rattle.cj_checker.specs.Keys.{looks};
-ghost use Rattle.cj_checker.specs.Sweeps.{AreLookedBy, AreMetBy, Exist, IsInOrder, StayLooked};
+ghost use Rattle.cj_checker.specs.Sweeps.{AreCandidatesBy, AreMetBy, Exist, IsInOrder, StayCandidates};
 
 use crate::axis::Axis;
-use crate::looked::is_looked;
+use crate::candidate::is_candidate;
 use crate::reach::Reach;
 use crate::reaches::{Reaches, begun_within, lay_out};
 use cj_bezier::AxisBox;
@@ -28,8 +28,8 @@ fn pair_of(one: u32, other: u32) -> Option<Pair>
     }
 }
 
-/// Appends a pair that is looked at.
-fn append_looked(
+/// Appends a candidate.
+fn append_candidates(
     problem: &Problem,
     shells: &[ShellLine],
     boxes: &[Option<AxisBox>],
@@ -39,19 +39,19 @@ fn append_looked(
     requires exists { pair.b < length problem.now.tracks }
     requires shells { length shells.now ≡ length problem.now.tracks }
     requires boxes { length boxes.now ≡ length problem.now.tracks }
-    ensures looked { OnOk result (StayLooked problem.now shells.now boxes.now pairs.old.items pairs.new.items) }
+    ensures candidate { OnOk result (StayCandidates problem.now shells.now boxes.now pairs.old.items pairs.new.items) }
     ensures kept { OnOk result (ArePairsKept pairs.old.items pairs.new.items) }
     ensures found { OnOk result (looks problem.now shells.now boxes.now (objects_of pair) ≡ true
         → HasPair pairs.new.items pair.a pair.b) }
 {
-    if !is_looked(problem, shells, boxes, pair) {
+    if !is_candidate(problem, shells, boxes, pair) {
         return Ok(());
     }
     pairs.push(pair)?;
     Ok(())
 }
 
-/// Appends the pair of two objects where it is looked at.
+/// Appends the pair of two objects where it is a candidate.
 fn append_pair(
     problem: &Problem,
     shells: &[ShellLine],
@@ -64,13 +64,13 @@ fn append_pair(
     requires other { other < length problem.now.tracks }
     requires shells { length shells.now ≡ length problem.now.tracks }
     requires boxes { length boxes.now ≡ length problem.now.tracks }
-    ensures looked { OnOk result (StayLooked problem.now shells.now boxes.now pairs.old.items pairs.new.items) }
+    ensures candidate { OnOk result (StayCandidates problem.now shells.now boxes.now pairs.old.items pairs.new.items) }
     ensures kept { OnOk result (ArePairsKept pairs.old.items pairs.new.items) }
     ensures found { OnOk result ((a b : ℕ) → a < b → AreBoth one other a b → looks problem.now shells.now boxes.now (a, b) ≡ true
         → HasPair pairs.new.items a b) }
 {
     match pair_of(one, other) {
-        Some(pair) => append_looked(problem, shells, boxes, pair, pairs),
+        Some(pair) => append_candidates(problem, shells, boxes, pair, pairs),
         None => Ok(()),
     }
 }
@@ -88,7 +88,7 @@ fn append_row(
     requires exist { Exist problem.now others.now }
     requires shells { length shells.now ≡ length problem.now.tracks }
     requires boxes { length boxes.now ≡ length problem.now.tracks }
-    ensures looked { OnOk result (StayLooked problem.now shells.now boxes.now pairs.old.items pairs.new.items) }
+    ensures candidate { OnOk result (StayCandidates problem.now shells.now boxes.now pairs.old.items pairs.new.items) }
     ensures kept { OnOk result (ArePairsKept pairs.old.items pairs.new.items) }
     ensures found { OnOk result ((reach : Reach) → Contains others.now reach → (a b : ℕ) → a < b → AreBoth one reach.object a b
         → looks problem.now shells.now boxes.now (a, b) ≡ true → HasPair pairs.new.items a b) }
@@ -99,7 +99,7 @@ fn append_row(
     Ok(())
 }
 
-/// Appends the pairs that are looked at, of some objects with others of which each begins where the first reaches.
+/// Appends the candidates, of some objects with others of which each begins where the first reaches.
 fn append_met(
     problem: &Problem,
     shells: &[ShellLine],
@@ -113,7 +113,7 @@ fn append_met(
     requires order { IsInOrder others.now }
     requires shells { length shells.now ≡ length problem.now.tracks }
     requires boxes { length boxes.now ≡ length problem.now.tracks }
-    ensures looked { OnOk result (StayLooked problem.now shells.now boxes.now pairs.old.items pairs.new.items) }
+    ensures candidate { OnOk result (StayCandidates problem.now shells.now boxes.now pairs.old.items pairs.new.items) }
     ensures kept { OnOk result (ArePairsKept pairs.old.items pairs.new.items) }
     ensures found { OnOk result (AreMetBy problem.now shells.now boxes.now some.now others.now pairs.new.items) }
 {
@@ -153,7 +153,7 @@ impl Sweep {
         requires shells { length shells.now ≡ length problem.now.tracks }
         requires boxes { length boxes.now ≡ length problem.now.tracks }
         requires within { end ≤ length problem.now.tracks }
-        ensures looked { OnOk result (AreLookedBy problem.now shells.now boxes.now pairs.new.items) }
+        ensures candidate { OnOk result (AreCandidatesBy problem.now shells.now boxes.now pairs.new.items) }
         ensures found { OnOk result ((a b : ℕ) → first ≤ a → a < end → a < b → looks problem.now shells.now boxes.now (a, b) ≡ true
             → HasPair pairs.new.items a b) }
     {

@@ -233,7 +233,7 @@ fn refused(line: u32, cause: CheckCause) -> Answer {
     Answer::Refused { line, cause }
 }
 
-/// None at all, one that is not as its kind says, one twice, one left out, and the pairs of one object alone. Each pair is looked at, and
+/// None at all, one that is not as its kind says, one twice, one left out, and the pairs of one object alone. Each pair is a candidate, and
 /// is near: the threshold is 200 km.
 #[test]
 fn the_first_failure_is_found_where_each_pair_is_looked_at(rt: HostRuntime) {
@@ -277,7 +277,7 @@ fn the_first_failure_is_found_where_each_pair_is_looked_at(rt: HostRuntime) {
     );
 }
 
-/// Objects that have their states at other ticks want no cell, though each pair is looked at.
+/// Objects that have their states at other ticks want no cell, though each pair is a candidate.
 #[test]
 fn pairs_without_common_ticks_want_no_cell(rt: HostRuntime) {
     let alloc = rt.alloc();
@@ -294,7 +294,7 @@ fn pairs_without_common_ticks_want_no_cell(rt: HostRuntime) {
     );
 }
 
-/// Boxes that meet along x alone touch not: no pair is looked at, or but the one whose boxes meet along y too.
+/// Boxes that meet along x alone touch not: no pair is a candidate, or but the one whose boxes meet along y too.
 #[test]
 fn boxes_that_meet_along_one_axis_do_not_touch(rt: HostRuntime) {
     let alloc = rt.alloc();

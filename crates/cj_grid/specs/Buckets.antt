@@ -7,7 +7,7 @@ use Rattle.cj_bezier.specs.Squares.{from_zero}
 use Rattle.cj_bezier.specs.SlotBoxes.{Reach, plain_box}
 use Rattle.cj_grid.specs.declared.entries.Entry.{Entry}
 use Rattle.cj_grid.specs.declared.bucket_ranges.BucketRange.{BucketRange}
-use Rattle.cj_grid.specs.declared.bucket_ranges.Block.{Block}
+use Rattle.cj_grid.specs.declared.bucket_ranges.BucketSpan.{BucketSpan}
 
 -- the side of a bucket in nm
 abbrev pub BUCKET_SIDE : ℕ
@@ -48,7 +48,7 @@ block_of thr size box = record {
 abbrev pub numbers_in : BucketRange → Numbers
 numbers_in r = record { first = r.first; last = r.last }
 
-abbrev pub plain_block : Block → PlainBlock
+abbrev pub plain_block : BucketSpan → PlainBlock
 plain_block b = record { x = numbers_in b.x; y = numbers_in b.y; z = numbers_in b.z }
 
 -- more than four buckets are met on an axis

@@ -12,7 +12,7 @@ pub struct BucketRange {
 
 /// The buckets that a box meets, by their numbers on each axis.
 #[derive(Clone, Copy, Debug)]
-pub struct Block {
+pub struct BucketSpan {
     pub x: BucketRange,
     pub y: BucketRange,
     pub z: BucketRange,

@@ -5,7 +5,7 @@ ghost use Rattle.cj_bezier.specs.SlotBoxes.{Reach};
 ghost use Rattle.cj_grid.specs.Among.{block_among};
 ghost use Rattle.cj_grid.specs.Buckets.{bucket_on, numbers_of, numbers_in, plain_block, block_of, is_long, is_wide};
 
-use crate::bucket_ranges::{Block, BucketRange};
+use crate::bucket_ranges::{BucketSpan, BucketRange};
 use crate::slot_objects::SlotObjects;
 use cj_bezier::AxisBox;
 
@@ -57,12 +57,12 @@ fn buckets_on(least: i64, most: i64, thr: u64, size: u64) -> BucketRange
 }
 
 /// The buckets that the box of an object of this size meets within a threshold.
-fn block_of_box(area: &AxisBox, thr: u64, size: u64) -> Block
+fn block_of_box(area: &AxisBox, thr: u64, size: u64) -> BucketSpan
     requires thr { thr ≤ 10 ^ 15 }
     requires size { size ≤ MAX_SIZE }
     ensures { plain_block result ≡ block_of thr size area.now }
 {
-    Block {
+    BucketSpan {
         x: buckets_on(area.least.x, area.most.x, thr, size),
         y: buckets_on(area.least.y, area.most.y, thr, size),
         z: buckets_on(area.least.z, area.most.z, thr, size),
@@ -70,7 +70,7 @@ fn block_of_box(area: &AxisBox, thr: u64, size: u64) -> Block
 }
 
 /// The buckets that the box of an object meets, where it has one.
-pub fn block_of_object(objects: &SlotObjects<'_>, object: u32) -> Option<Block>
+pub fn block_of_object(objects: &SlotObjects<'_>, object: u32) -> Option<BucketSpan>
     requires { object < length objects.now.boxes.now }
     ensures { option_map plain_block result ≡ block_among objects.now object }
 {
@@ -88,7 +88,7 @@ fn is_long_range(range: BucketRange) -> bool
 }
 
 /// Whether more than four buckets are met on some axis.
-pub fn is_wide_block(block: &Block) -> bool
+pub fn is_wide_block(block: &BucketSpan) -> bool
     ensures { result ≡ is_wide (plain_block block.now) }
 {
     is_long_range(block.x) || is_long_range(block.y) || is_long_range(block.z)

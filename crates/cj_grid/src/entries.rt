@@ -4,7 +4,7 @@ ghost use Rattle.cj_grid.specs.Among.{entries_among, wide_among};
 ghost use Rattle.cj_grid.specs.Sweeps.{is_narrow_one, narrow_among};
 ghost use Rattle.cj_grid.specs.Buckets.{bucket_number, numbers_in, plain_block, in_column, in_layer, in_block, entered_by, is_wide_one};
 
-use crate::bucket_ranges::{Block, BucketRange};
+use crate::bucket_ranges::{BucketSpan, BucketRange};
 use crate::buckets::{block_of_object, is_wide_block};
 use crate::slot_objects::SlotObjects;
 use std::alloc::{AllocError, Global};
@@ -65,7 +65,7 @@ fn append_layer(
 }
 
 /// Enters an object in the buckets of a block.
-fn append_block(object: u32, block: &Block, entries: &mut Vec<Entry>) -> Result<(), AllocError>
+fn append_block(object: u32, block: &BucketSpan, entries: &mut Vec<Entry>) -> Result<(), AllocError>
     ensures { OnOk result (entries.new.items ≡ entries.old.items ++ in_block object (plain_block block.now)) }
 {
     for x in block.x.first..block.x.last + 1 {
@@ -77,7 +77,7 @@ fn append_block(object: u32, block: &Block, entries: &mut Vec<Entry>) -> Result<
 /// Enters an object with a box that is not wide in all buckets that this meets.
 fn append_object(
     object: u32,
-    block: Option<Block>,
+    block: Option<BucketSpan>,
     entries: &mut Vec<Entry>,
 ) -> Result<(), AllocError>
     ensures { OnOk result (entries.new.items ≡ entries.old.items ++ entered_by object (option_map plain_block block)) }
@@ -107,7 +107,7 @@ pub fn enter_objects(alloc: Global, objects: &SlotObjects<'_>) -> Result<Vec<Ent
 }
 
 /// Whether an object with a box that meets these buckets has a wide one.
-fn has_wide_box(block: Option<Block>) -> bool
+fn has_wide_box(block: Option<BucketSpan>) -> bool
     ensures { result ≡ is_wide_one (option_map plain_block block) }
 {
     match block {
@@ -130,7 +130,7 @@ pub fn wide_objects(alloc: Global, objects: &SlotObjects<'_>) -> Result<Vec<u32>
 }
 
 /// Whether an object with a box that meets these buckets has one that is not wide.
-fn has_narrow_box(block: Option<Block>) -> bool
+fn has_narrow_box(block: Option<BucketSpan>) -> bool
     ensures { result ≡ is_narrow_one (option_map plain_block block) }
 {
     match block {

@@ -3,7 +3,7 @@ ghost use Rattle.std.specs.Prelude.{◌≡◌, ℕ, ◌≤◌, IfNone, IfSome, o
 ghost use Rattle.cj_track.specs.Tracks.{plain_track};
 ghost use Rattle.cj_interval.specs.Sizes.{IsWithin};
 ghost use Rattle.cj_hermite.specs.Boxes.{IsBoxWithin};
-ghost use Rattle.cj_hermite.specs.Pieces.{interval_at, curve_of_interval};
+ghost use Rattle.cj_hermite.specs.Pieces.{piece_holding, curve_of_piece};
 ghost use Rattle.cj_hermite.specs.Slots.{slot_first, slot_last};
 ghost use Rattle.cj_hermite.specs.Walks.{HasNone};
 ghost use Rattle.cj_bezier.specs.Parts.{AreInTime};
@@ -84,9 +84,9 @@ pub fn slot_box(walk: &mut TrackWalk<'_>, slot: u32) -> Option<AxisBox>
 
     // At each tick of the slot with a state the place lies in the box.
     ensures holds { IfSome result (λ area. (m : ℕ) → slot_first walk.old.window.first.micros slot ≤ m → m ≤ slot_last walk.old.window.first.micros walk.old.window.last.micros slot
-        → IfSome (interval_at (plain_track walk.old.track.now) m) (λ x. IsPlaceIn (curve_of_interval x) m (plain_box area))) }
+        → IfSome (piece_holding (plain_track walk.old.track.now) m) (λ x. IsPlaceIn (curve_of_piece x) m (plain_box area))) }
 
-    // A track's intervals come in order of time, as the laws of hulls ask.
+    // A track's pieces come in order of time, as the laws of hulls ask.
     ensures time { AreInTime (plain_track walk.old.track.now) (slot_first walk.old.window.first.micros slot) (slot_last walk.old.window.first.micros walk.old.window.last.micros slot) }
 
     ensures track { walk.new.track.now ≡ walk.old.track.now }

@@ -1,4 +1,4 @@
--- The last interval of a list that covers a tick.
+-- The last piece of a list that covers a tick.
 use Rattle.std.proofs.Common.{◌≡◌, ℕ, suc, ◌+◌, ◌<◌, ◌≤◌, List, [], ◌∷◌, ◌++◌, ◌⊎◌, inl, inr, length, subst, true, false, Bool, Option, Some, None, refl, sym, ap, ◌∙◌, arith, cond}
 use Rattle.std.specs.Prelude.{filter, slice_get}
 use Rattle.std.specs.List.{enumerate_from, last_or}
@@ -7,7 +7,7 @@ use Rattle.std.proofs.lemmas.Bool.Decides.{nat_tests}
 use Rattle.cj_hermite.specs.Pieces.{PlainPiece, covers, last_covering}
 use Rattle.cj_hermite.specs.PiecesOfTracks.{Covers}
 
--- none of the intervals covers the tick
+-- none of the pieces covers the tick
 abbrev pub Misses : ℕ → List PlainPiece → Type 0
 Misses m [] = Unit {0}
 Misses m (x ∷ xs) = (covers m x ≡ false) × Misses m xs
@@ -16,7 +16,7 @@ pub misses-append : (m : ℕ) (xs ys : List PlainPiece) → Misses m xs → Miss
 misses-append m [] ys h k = k
 misses-append m (x ∷ xs) ys h k = (h.0, misses-append m xs ys h.1 k)
 
--- the numbered intervals that cover the tick
+-- the numbered pieces that cover the tick
 abbrev pub covering : ℕ → ℕ → List PlainPiece → List (ℕ × PlainPiece)
 covering m n xs = filter (λ x. covers m x.1) (enumerate_from n xs)
 
@@ -43,7 +43,7 @@ last_or-some : {A : Type 0} (o : Option A) (z : A) (xs : List A) → last_or Non
 last_or-some o z [] h = absurd cc
 last_or-some o z (x ∷ xs) h = h
 
--- where the intervals behind miss the tick
+-- where the pieces behind miss the tick
 pub last_before : (m n : ℕ) (xs ys : List PlainPiece) → Misses m ys → last_covering m n (xs ++ ys) ≡ last_covering m n xs
 last_before m n xs ys h =
     ap (λ (found : List (ℕ × PlainPiece)). last_or None found) (covering-append m n xs ys)

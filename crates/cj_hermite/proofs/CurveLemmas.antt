@@ -1,10 +1,10 @@
--- The two interpolants of ticks at which each of two objects is in one interval.
+-- The two interpolants of ticks at which each of two objects is in one piece.
 use Rattle.std.proofs.Common.{◌≡◌, ℕ, ◌≤◌, true, Option, Some, None, refl, sym, ap, ◌∙◌, arith}
 use Rattle.std.specs.Prelude.{is_some}
 use Rattle.cj_hermite.specs.Interpolant.{Curve}
 use Rattle.cj_hermite.specs.PlainProblems.{PlainProblem, number_at, curve_at, HaveCurves}
 use Rattle.cj_hermite.specs.CommonRuns.{both}
-use Rattle.cj_hermite.specs.Roots.{PlainCell, KeepIntervals}
+use Rattle.cj_hermite.specs.Roots.{PlainCell, KeepPieces}
 use Rattle.cj_hermite.proofs.RootLemmas.{IsRootOf}
 use Rattle.cj_hermite.proofs.ObjectLemmas.{same_curve, curve_exists}
 
@@ -38,14 +38,14 @@ something_is (Some x) some = something x refl
 pub data Curves (case : PlainProblem) (a b first last : ℕ) : Type 0 where
   curves : (c d : Curve) → HaveCurves case a b first last c d → Curves case a b first last
 
-pub curves_of : (case : PlainProblem) (a b first last : ℕ) → KeepIntervals case a b first last → Curves case a b first last
+pub curves_of : (case : PlainProblem) (a b first last : ℕ) → KeepPieces case a b first last → Curves case a b first last
 curves_of case a b first last one = go (something_is _ (curve_exists case a first numbers.0)) (something_is _ (curve_exists case b first numbers.1))
   where
     numbers : (is_some (number_at case a first) ≡ true) × (is_some (number_at case b first) ≡ true)
-    numbers = numbers_of (number_at case a first) (number_at case b first) one.states
+    numbers = numbers_of (number_at case a first) (number_at case b first) one.nodes
 
     same : (m : ℕ) → first ≤ m → m ≤ last → (number_at case a m ≡ number_at case a first) × (number_at case b m ≡ number_at case b first)
-    same m low high = same_numbers (number_at case a m) (number_at case b m) (number_at case a first) (number_at case b first) one.states (one.same m low high)
+    same m low high = same_numbers (number_at case a m) (number_at case b m) (number_at case a first) (number_at case b first) one.nodes (one.same m low high)
 
     go : Something (curve_at case a first) → Something (curve_at case b first) → Curves case a b first last
     go (something c h) (something d k) = curves c d (record {
@@ -54,7 +54,7 @@ curves_of case a b first last one = go (something_is _ (curve_exists case a firs
     })
 
 -- the interpolants that both have at the first tick they have at all
-pub have_curves : (case : PlainProblem) (a b first last : ℕ) (c d : Curve) → first ≤ last → KeepIntervals case a b first last → curve_at case a first ≡ Some c → curve_at case b first ≡ Some d → HaveCurves case a b first last c d
+pub have_curves : (case : PlainProblem) (a b first last : ℕ) (c d : Curve) → first ≤ last → KeepPieces case a b first last → curve_at case a first ≡ Some c → curve_at case b first ≡ Some d → HaveCurves case a b first last c d
 have_curves case a b first last c d le keep is is' = go (curves_of case a b first last keep)
   where
     go : Curves case a b first last → HaveCurves case a b first last c d
@@ -63,16 +63,16 @@ have_curves case a b first last c d le keep is is' = go (curves_of case a b firs
         let q : Some y ≡ Some d = sym (have.second_curve first (omega arith) le) ∙ is' in
         record { first_curve = λ m low high. have.first_curve m low high ∙ p; second_curve = λ m low high. have.second_curve m low high ∙ q }
 
--- a part of ticks that keep their intervals keeps them
-pub keep_part : (case : PlainProblem) (a b first last from to : ℕ) → KeepIntervals case a b first last
-    → first ≤ from → from ≤ to → to ≤ last → KeepIntervals case a b from to
+-- a part of ticks that keep their pieces keeps them
+pub keep_part : (case : PlainProblem) (a b first last from to : ℕ) → KeepPieces case a b first last
+    → first ≤ from → from ≤ to → to ≤ last → KeepPieces case a b from to
 keep_part case a b first last from to keep low some high =
     let here = keep.same from low (omega arith) in
     record {
       same = λ m after before. keep.same m (omega arith) (omega arith) ∙ sym here;
-      states = ap is_some here ∙ keep.states;
+      nodes = ap is_some here ∙ keep.nodes;
     }
 
--- the ticks of a root keep their intervals
-pub root_intervals : (case : PlainProblem) (r : PlainCell) → IsRootOf case r → KeepIntervals case r.a r.b r.first r.last
-root_intervals case r is = let root = is.root in record { same = root.same; states = root.labelled }
+-- the ticks of a root keep their pieces
+pub root_pieces : (case : PlainProblem) (r : PlainCell) → IsRootOf case r → KeepPieces case r.a r.b r.first r.last
+root_pieces case r is = let root = is.root in record { same = root.same; nodes = root.labelled }

@@ -35,7 +35,7 @@ Ordered-run label lo hi (r ∷ rs) are = (
 
 -- ---- the roots of a pair
 
--- ticks of the objects a and b from lo to hi, at which each of both is in one interval
+-- ticks of the objects a and b from lo to hi, at which each of both is in one piece
 pub record IsRoot (case : PlainProblem) (a b lo hi : ℕ) (r : PlainCell) : Type 0 where
   pub first_object : r.a ≡ a
   pub second_object : r.b ≡ b
@@ -96,7 +96,7 @@ Exists-between case a b first last m low high some =
 -- ---- those of all slots
 
 abbrev pub roots_of_pair : (ℕ → ℕ → ℕ → Bool) → PlainProblem → ℕ × ℕ → List PlainCell
-roots_of_pair looked case pair = flat_map (λ slot. cond (looked pair.0 pair.1 slot) (roots_in case slot pair.0 pair.1) []) (slots_of case)
+roots_of_pair candidate case pair = flat_map (λ slot. cond (candidate pair.0 pair.1 slot) (roots_in case slot pair.0 pair.1) []) (slots_of case)
 
 in_slot : (case : PlainProblem) (a b slot : ℕ) (r : PlainCell) → IsRoot case a b (slot_first case.first slot) (slot_last case.first case.last slot) r → IsRoot case a b case.first case.last r
 in_slot case a b slot r is = record {
@@ -109,45 +109,45 @@ in_slot case a b slot r is = record {
   labelled = is.labelled;
 }
 
-pub Each-pair : (looked : ℕ → ℕ → ℕ → Bool) (case : PlainProblem) (pair : ℕ × ℕ) → Each (IsRoot case pair.0 pair.1 case.first case.last) (roots_of_pair looked case pair)
-Each-pair looked case pair =
-    Each-flat_map (IsRoot case pair.0 pair.1 case.first case.last) (λ slot. cond (looked pair.0 pair.1 slot) (roots_in case slot pair.0 pair.1) []) (slots_of case)
-    (Each-range (λ slot. Each (IsRoot case pair.0 pair.1 case.first case.last) (cond (looked pair.0 pair.1 slot) (roots_in case slot pair.0 pair.1) [])) 0 (slot_count case.first case.last)
-    (λ slot low high. Each-taken (IsRoot case pair.0 pair.1 case.first case.last) (looked pair.0 pair.1 slot) (roots_in case slot pair.0 pair.1)
+pub Each-pair : (candidate : ℕ → ℕ → ℕ → Bool) (case : PlainProblem) (pair : ℕ × ℕ) → Each (IsRoot case pair.0 pair.1 case.first case.last) (roots_of_pair candidate case pair)
+Each-pair candidate case pair =
+    Each-flat_map (IsRoot case pair.0 pair.1 case.first case.last) (λ slot. cond (candidate pair.0 pair.1 slot) (roots_in case slot pair.0 pair.1) []) (slots_of case)
+    (Each-range (λ slot. Each (IsRoot case pair.0 pair.1 case.first case.last) (cond (candidate pair.0 pair.1 slot) (roots_in case slot pair.0 pair.1) [])) 0 (slot_count case.first case.last)
+    (λ slot low high. Each-taken (IsRoot case pair.0 pair.1 case.first case.last) (candidate pair.0 pair.1 slot) (roots_in case slot pair.0 pair.1)
     (Each-weaker (IsRoot case pair.0 pair.1 (slot_first case.first slot) (slot_last case.first case.last slot)) (IsRoot case pair.0 pair.1 case.first case.last)
     (in_slot case pair.0 pair.1 slot) (roots_in case slot pair.0 pair.1)
     (Each-between case pair.0 pair.1 (slot_first case.first slot) (slot_last case.first case.last slot)))))
 
-Ordered-pair : (looked : ℕ → ℕ → ℕ → Bool) (case : PlainProblem) (pair : ℕ × ℕ) → Ordered IsRootBefore (roots_of_pair looked case pair)
-Ordered-pair looked case pair =
-    Ordered-flat_map IsRootBefore (λ j k. j < k) (λ slot. Unit {0}) (λ slot. cond (looked pair.0 pair.1 slot) (roots_in case slot pair.0 pair.1) [])
-    (λ slot _. Ordered-taken IsRootBefore (looked pair.0 pair.1 slot) (roots_in case slot pair.0 pair.1) (Ordered-between case pair.0 pair.1 (slot_first case.first slot) (slot_last case.first case.last slot)))
+Ordered-pair : (candidate : ℕ → ℕ → ℕ → Bool) (case : PlainProblem) (pair : ℕ × ℕ) → Ordered IsRootBefore (roots_of_pair candidate case pair)
+Ordered-pair candidate case pair =
+    Ordered-flat_map IsRootBefore (λ j k. j < k) (λ slot. Unit {0}) (λ slot. cond (candidate pair.0 pair.1 slot) (roots_in case slot pair.0 pair.1) [])
+    (λ slot _. Ordered-taken IsRootBefore (candidate pair.0 pair.1 slot) (roots_in case slot pair.0 pair.1) (Ordered-between case pair.0 pair.1 (slot_first case.first slot) (slot_last case.first case.last slot)))
     (λ j k _ _ lt. across j k lt)
     (slots_of case) (Each-range (λ slot. Unit {0}) 0 (slot_count case.first case.last) (λ k low high. tt)) (Ordered-range 0 (slot_count case.first case.last))
   where
-    in_one : (slot : ℕ) → Each (IsRoot case pair.0 pair.1 (slot_first case.first slot) (slot_last case.first case.last slot)) (cond (looked pair.0 pair.1 slot) (roots_in case slot pair.0 pair.1) [])
-    in_one slot = Each-taken (IsRoot case pair.0 pair.1 (slot_first case.first slot) (slot_last case.first case.last slot)) (looked pair.0 pair.1 slot) (roots_in case slot pair.0 pair.1)
+    in_one : (slot : ℕ) → Each (IsRoot case pair.0 pair.1 (slot_first case.first slot) (slot_last case.first case.last slot)) (cond (candidate pair.0 pair.1 slot) (roots_in case slot pair.0 pair.1) [])
+    in_one slot = Each-taken (IsRoot case pair.0 pair.1 (slot_first case.first slot) (slot_last case.first case.last slot)) (candidate pair.0 pair.1 slot) (roots_in case slot pair.0 pair.1)
         (Each-between case pair.0 pair.1 (slot_first case.first slot) (slot_last case.first case.last slot))
 
-    across : (j k : ℕ) → j < k → Each (λ r. Each (IsRootBefore r) (cond (looked pair.0 pair.1 k) (roots_in case k pair.0 pair.1) [])) (cond (looked pair.0 pair.1 j) (roots_in case j pair.0 pair.1) [])
+    across : (j k : ℕ) → j < k → Each (λ r. Each (IsRootBefore r) (cond (candidate pair.0 pair.1 k) (roots_in case k pair.0 pair.1) [])) (cond (candidate pair.0 pair.1 j) (roots_in case j pair.0 pair.1) [])
     across j k lt =
-        Each-weaker (IsRoot case pair.0 pair.1 (slot_first case.first j) (slot_last case.first case.last j)) (λ r. Each (IsRootBefore r) (cond (looked pair.0 pair.1 k) (roots_in case k pair.0 pair.1) []))
+        Each-weaker (IsRoot case pair.0 pair.1 (slot_first case.first j) (slot_last case.first case.last j)) (λ r. Each (IsRootBefore r) (cond (candidate pair.0 pair.1 k) (roots_in case k pair.0 pair.1) []))
         (λ r is. Each-weaker (IsRoot case pair.0 pair.1 (slot_first case.first k) (slot_last case.first case.last k)) (IsRootBefore r)
         (λ s later. record {
           first_object = omega (arith, is.first_object, later.first_object);
           second_object = λ e. omega (arith, is.second_object, later.second_object);
           ticks = λ e f. omega (arith, is.to, later.from, slots_follow case.first case.last j k lt);
         })
-        (cond (looked pair.0 pair.1 k) (roots_in case k pair.0 pair.1) []) (in_one k))
-        (cond (looked pair.0 pair.1 j) (roots_in case j pair.0 pair.1) []) (in_one j)
+        (cond (candidate pair.0 pair.1 k) (roots_in case k pair.0 pair.1) []) (in_one k))
+        (cond (candidate pair.0 pair.1 j) (roots_in case j pair.0 pair.1) []) (in_one j)
 
-Exists-pair : (looked : ℕ → ℕ → ℕ → Bool) (case : PlainProblem) (pair : ℕ × ℕ) (m : ℕ) → case.first ≤ m → m ≤ case.last → looked pair.0 pair.1 (slot_of case.first m) ≡ true →
-    is_some (numbers_at case pair.0 pair.1 m) ≡ true → Exists (Holds pair.0 pair.1 m) (roots_of_pair looked case pair)
-Exists-pair looked case pair m low high is some =
-    Exists-flat_map (Holds pair.0 pair.1 m) (λ slot. cond (looked pair.0 pair.1 slot) (roots_in case slot pair.0 pair.1) []) (slots_of case)
-    (Exists-weaker (λ slot. slot ≡ slot_of case.first m) (λ slot. Exists (Holds pair.0 pair.1 m) (cond (looked pair.0 pair.1 slot) (roots_in case slot pair.0 pair.1) []))
+Exists-pair : (candidate : ℕ → ℕ → ℕ → Bool) (case : PlainProblem) (pair : ℕ × ℕ) (m : ℕ) → case.first ≤ m → m ≤ case.last → candidate pair.0 pair.1 (slot_of case.first m) ≡ true →
+    is_some (numbers_at case pair.0 pair.1 m) ≡ true → Exists (Holds pair.0 pair.1 m) (roots_of_pair candidate case pair)
+Exists-pair candidate case pair m low high is some =
+    Exists-flat_map (Holds pair.0 pair.1 m) (λ slot. cond (candidate pair.0 pair.1 slot) (roots_in case slot pair.0 pair.1) []) (slots_of case)
+    (Exists-weaker (λ slot. slot ≡ slot_of case.first m) (λ slot. Exists (Holds pair.0 pair.1 m) (cond (candidate pair.0 pair.1 slot) (roots_in case slot pair.0 pair.1) []))
     (λ slot e. rw e
-    (Exists-taken (Holds pair.0 pair.1 m) (looked pair.0 pair.1 (slot_of case.first m)) (roots_in case (slot_of case.first m) pair.0 pair.1) is
+    (Exists-taken (Holds pair.0 pair.1 m) (candidate pair.0 pair.1 (slot_of case.first m)) (roots_in case (slot_of case.first m) pair.0 pair.1) is
     (Exists-between case pair.0 pair.1 (slot_first case.first (slot_of case.first m)) (slot_last case.first case.last (slot_of case.first m)) m
     (slot_begins case.first m low) (slot_ends case.first case.last m low high) some)))
     (slots_of case)
@@ -158,41 +158,41 @@ Exists-pair looked case pair m low high is some =
 -- a root of two of the objects, in the window
 pub record IsRootOf (case : PlainProblem) (r : PlainCell) : Type 0 where
   pub ordered : r.a < r.b
-  pub exists : r.b < length case.ephemerides
+  pub exists : r.b < length case.tracks
   pub root : IsRoot case r.a r.b case.first case.last r
 
-of_pair : (case : PlainProblem) (pair : ℕ × ℕ) (r : PlainCell) → IsPair (length case.ephemerides) pair → IsRoot case pair.0 pair.1 case.first case.last r → IsRootOf case r
+of_pair : (case : PlainProblem) (pair : ℕ × ℕ) (r : PlainCell) → IsPair (length case.tracks) pair → IsRoot case pair.0 pair.1 case.first case.last r → IsRootOf case r
 of_pair case pair r p is =
     let e : r.a ≡ pair.0 = is.first_object in
     let f : r.b ≡ pair.1 = is.second_object in
     record { ordered = omega (arith, p.ordered); exists = omega (arith, p.exists); root = subst (λ a. IsRoot case a r.b case.first case.last r) (sym e) (subst (λ b. IsRoot case pair.0 b case.first case.last r) (sym f) is) }
 
-pub Each-roots : (looked : ℕ → ℕ → ℕ → Bool) (case : PlainProblem) → Each (IsRootOf case) (roots_of looked case)
+pub Each-roots : (candidate : ℕ → ℕ → ℕ → Bool) (case : PlainProblem) → Each (IsRootOf case) (roots_of candidate case)
 unfolding roots_of
-Each-roots looked case =
-    Each-flat_map (IsRootOf case) (roots_of_pair looked case) (pairs_of (length case.ephemerides))
-    (Each-weaker (IsPair (length case.ephemerides)) (λ pair. Each (IsRootOf case) (roots_of_pair looked case pair))
-    (λ pair p. Each-weaker (IsRoot case pair.0 pair.1 case.first case.last) (IsRootOf case) (λ r is. of_pair case pair r p is) (roots_of_pair looked case pair) (Each-pair looked case pair))
-    (pairs_of (length case.ephemerides)) (Each-pairs (length case.ephemerides)))
+Each-roots candidate case =
+    Each-flat_map (IsRootOf case) (roots_of_pair candidate case) (pairs_of (length case.tracks))
+    (Each-weaker (IsPair (length case.tracks)) (λ pair. Each (IsRootOf case) (roots_of_pair candidate case pair))
+    (λ pair p. Each-weaker (IsRoot case pair.0 pair.1 case.first case.last) (IsRootOf case) (λ r is. of_pair case pair r p is) (roots_of_pair candidate case pair) (Each-pair candidate case pair))
+    (pairs_of (length case.tracks)) (Each-pairs (length case.tracks)))
 
-pub Ordered-roots : (looked : ℕ → ℕ → ℕ → Bool) (case : PlainProblem) → Ordered IsRootBefore (roots_of looked case)
+pub Ordered-roots : (candidate : ℕ → ℕ → ℕ → Bool) (case : PlainProblem) → Ordered IsRootBefore (roots_of candidate case)
 unfolding roots_of
-Ordered-roots looked case =
-    Ordered-flat_map IsRootBefore PairBefore (IsPair (length case.ephemerides)) (roots_of_pair looked case)
-    (λ pair _. Ordered-pair looked case pair)
-    (λ p q _ _ before. Each-weaker (IsRoot case p.0 p.1 case.first case.last) (λ r. Each (IsRootBefore r) (roots_of_pair looked case q))
+Ordered-roots candidate case =
+    Ordered-flat_map IsRootBefore PairBefore (IsPair (length case.tracks)) (roots_of_pair candidate case)
+    (λ pair _. Ordered-pair candidate case pair)
+    (λ p q _ _ before. Each-weaker (IsRoot case p.0 p.1 case.first case.last) (λ r. Each (IsRootBefore r) (roots_of_pair candidate case q))
     (λ r is. Each-weaker (IsRoot case q.0 q.1 case.first case.last) (IsRootBefore r) (λ s later. record {
       first_object = omega (arith, is.first_object, later.first_object, before.first_object);
       second_object = λ e. omega (arith, is.first_object, later.first_object, is.second_object, later.second_object, before.second_object (omega (arith, is.first_object, later.first_object)));
       ticks = λ e f. absurd (omega (arith, is.second_object, later.second_object, before.second_object (omega (arith, is.first_object, later.first_object))));
-    }) (roots_of_pair looked case q) (Each-pair looked case q))
-    (roots_of_pair looked case p) (Each-pair looked case p))
-    (pairs_of (length case.ephemerides)) (Each-pairs (length case.ephemerides)) (Ordered-pairs (length case.ephemerides))
+    }) (roots_of_pair candidate case q) (Each-pair candidate case q))
+    (roots_of_pair candidate case p) (Each-pair candidate case p))
+    (pairs_of (length case.tracks)) (Each-pairs (length case.tracks)) (Ordered-pairs (length case.tracks))
 
-pub Exists-roots : (looked : ℕ → ℕ → ℕ → Bool) (case : PlainProblem) (a b m : ℕ) → a < b → b < length case.ephemerides → case.first ≤ m → m ≤ case.last → looked a b (slot_of case.first m) ≡ true →
-    is_some (numbers_at case a b m) ≡ true → Exists (Holds a b m) (roots_of looked case)
+pub Exists-roots : (candidate : ℕ → ℕ → ℕ → Bool) (case : PlainProblem) (a b m : ℕ) → a < b → b < length case.tracks → case.first ≤ m → m ≤ case.last → candidate a b (slot_of case.first m) ≡ true →
+    is_some (numbers_at case a b m) ≡ true → Exists (Holds a b m) (roots_of candidate case)
 unfolding roots_of
-Exists-roots looked case a b m ordered exists low high is some =
-    Exists-flat_map (Holds a b m) (roots_of_pair looked case) (pairs_of (length case.ephemerides))
-    (Exists-weaker (λ p. p ≡ (a, b)) (λ p. Exists (Holds a b m) (roots_of_pair looked case p)) (λ p e. rw e (Exists-pair looked case (a, b) m low high is some))
-    (pairs_of (length case.ephemerides)) (Exists-pairs (length case.ephemerides) a b ordered exists))
+Exists-roots candidate case a b m ordered exists low high is some =
+    Exists-flat_map (Holds a b m) (roots_of_pair candidate case) (pairs_of (length case.tracks))
+    (Exists-weaker (λ p. p ≡ (a, b)) (λ p. Exists (Holds a b m) (roots_of_pair candidate case p)) (λ p e. rw e (Exists-pair candidate case (a, b) m low high is some))
+    (pairs_of (length case.tracks)) (Exists-pairs (length case.tracks) a b ordered exists))

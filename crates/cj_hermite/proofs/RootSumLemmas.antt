@@ -11,30 +11,30 @@ use Rattle.cj_interval.proofs.SumLemmas.{total, total_same, total-swap, total-fl
 
 -- ---- the roots slot by slot are all roots
 
-pub same_roots : (looked : ℕ → ℕ → ℕ → Bool) (case : PlainProblem) (f : PlainCell → ℕ) → total f (roots_by_slot looked case) ≡ total f (roots_of looked case)
+pub same_roots : (candidate : ℕ → ℕ → ℕ → Bool) (case : PlainProblem) (f : PlainCell → ℕ) → total f (roots_by_slot candidate case) ≡ total f (roots_of candidate case)
 unfolding roots_by_slot roots_of
-same_roots looked case f =
-    let pairs : List (ℕ × ℕ) = pairs_of (length case.ephemerides) in
+same_roots candidate case f =
+    let pairs : List (ℕ × ℕ) = pairs_of (length case.tracks) in
     let slots : List ℕ = slots_of case in
-    total-flat_map f (λ slot. flat_map (λ pair. roots_in case slot pair.0 pair.1) (filter (λ pair. looked pair.0 pair.1 slot) pairs)) slots
-    ∙ total_same (λ slot. total f (flat_map (λ pair. roots_in case slot pair.0 pair.1) (filter (λ pair. looked pair.0 pair.1 slot) pairs))) (λ slot. total (λ pair. cell pair slot) pairs) (one_slot pairs) slots
+    total-flat_map f (λ slot. flat_map (λ pair. roots_in case slot pair.0 pair.1) (filter (λ pair. candidate pair.0 pair.1 slot) pairs)) slots
+    ∙ total_same (λ slot. total f (flat_map (λ pair. roots_in case slot pair.0 pair.1) (filter (λ pair. candidate pair.0 pair.1 slot) pairs))) (λ slot. total (λ pair. cell pair slot) pairs) (one_slot pairs) slots
     ∙ total-swap (λ slot pair. cell pair slot) slots pairs
-    ∙ sym (total_same (λ pair. total f (flat_map (λ slot. cond (looked pair.0 pair.1 slot) (roots_in case slot pair.0 pair.1) []) slots)) (λ pair. total (λ slot. cell pair slot) slots) (one_pair slots) pairs)
-    ∙ sym (total-flat_map f (λ pair. flat_map (λ slot. cond (looked pair.0 pair.1 slot) (roots_in case slot pair.0 pair.1) []) slots) pairs)
+    ∙ sym (total_same (λ pair. total f (flat_map (λ slot. cond (candidate pair.0 pair.1 slot) (roots_in case slot pair.0 pair.1) []) slots)) (λ pair. total (λ slot. cell pair slot) slots) (one_pair slots) pairs)
+    ∙ sym (total-flat_map f (λ pair. flat_map (λ slot. cond (candidate pair.0 pair.1 slot) (roots_in case slot pair.0 pair.1) []) slots) pairs)
   where
     cell : ℕ × ℕ → ℕ → ℕ
-    cell pair slot = cond (looked pair.0 pair.1 slot) (total f (roots_in case slot pair.0 pair.1)) 0
+    cell pair slot = cond (candidate pair.0 pair.1 slot) (total f (roots_in case slot pair.0 pair.1)) 0
 
-    one_slot : (pairs : List (ℕ × ℕ)) (slot : ℕ) → total f (flat_map (λ pair. roots_in case slot pair.0 pair.1) (filter (λ pair. looked pair.0 pair.1 slot) pairs)) ≡ total (λ pair. cell pair slot) pairs
+    one_slot : (pairs : List (ℕ × ℕ)) (slot : ℕ) → total f (flat_map (λ pair. roots_in case slot pair.0 pair.1) (filter (λ pair. candidate pair.0 pair.1 slot) pairs)) ≡ total (λ pair. cell pair slot) pairs
     one_slot pairs slot =
-        total-flat_map f (λ pair. roots_in case slot pair.0 pair.1) (filter (λ pair. looked pair.0 pair.1 slot) pairs)
-        ∙ total-filter (λ pair. total f (roots_in case slot pair.0 pair.1)) (λ pair. looked pair.0 pair.1 slot) pairs
+        total-flat_map f (λ pair. roots_in case slot pair.0 pair.1) (filter (λ pair. candidate pair.0 pair.1 slot) pairs)
+        ∙ total-filter (λ pair. total f (roots_in case slot pair.0 pair.1)) (λ pair. candidate pair.0 pair.1 slot) pairs
 
-    one_pair : (slots : List ℕ) (pair : ℕ × ℕ) → total f (flat_map (λ slot. cond (looked pair.0 pair.1 slot) (roots_in case slot pair.0 pair.1) []) slots) ≡ total (λ slot. cell pair slot) slots
+    one_pair : (slots : List ℕ) (pair : ℕ × ℕ) → total f (flat_map (λ slot. cond (candidate pair.0 pair.1 slot) (roots_in case slot pair.0 pair.1) []) slots) ≡ total (λ slot. cell pair slot) slots
     one_pair slots pair =
-        total-flat_map f (λ slot. cond (looked pair.0 pair.1 slot) (roots_in case slot pair.0 pair.1) []) slots
-        ∙ total_same (λ slot. total f (cond (looked pair.0 pair.1 slot) (roots_in case slot pair.0 pair.1) [])) (λ slot. cell pair slot)
-        (λ slot. total-taken f (looked pair.0 pair.1 slot) (roots_in case slot pair.0 pair.1)) slots
+        total-flat_map f (λ slot. cond (candidate pair.0 pair.1 slot) (roots_in case slot pair.0 pair.1) []) slots
+        ∙ total_same (λ slot. total f (cond (candidate pair.0 pair.1 slot) (roots_in case slot pair.0 pair.1) [])) (λ slot. cell pair slot)
+        (λ slot. total-taken f (candidate pair.0 pair.1 slot) (roots_in case slot pair.0 pair.1)) slots
 
 -- ---- the same roots in order
 

@@ -12,7 +12,7 @@ use Rattle.cj_hermite.specs.Problems.{plain_problem}
 use Rattle.cj_hermite.specs.Slots.{slot_first, slot_last}
 use Rattle.cj_hermite.specs.CommonRuns.{runs_over, runs_between, both, both_numbers}
 use Rattle.cj_hermite.specs.Pairs.{objects_of}
-use Rattle.cj_hermite.specs.Roots.{PlainCell, KeepIntervals, numbers_at, root_of_run, roots_between, roots_in, roots_in_slot}
+use Rattle.cj_hermite.specs.Roots.{PlainCell, KeepPieces, numbers_at, root_of_run, roots_between, roots_in, roots_in_slot}
 use Rattle.cj_interval.proofs.ListLemmas.{Each, Each-weaker, Each-always, Each-flat_map}
 use Rattle.cj_hermite.proofs.RootLemmas.{IsRoot, Each-between}
 use Rattle.cj_hermite.proofs.TrackLemmas.{number_of_track}
@@ -67,10 +67,10 @@ pairs_apart case slot i pairs p lt is =
     ∙ flat_map-append (λ (pair : ℕ × ℕ). roots_in case slot pair.0 pair.1) (map objects_of (take i pairs)) (map objects_of (get_or pairs i p ∷ drop (i + 1) pairs))
     ∙ ap (λ (q : Pair). roots_of_pairs case slot (take i pairs) ++ (roots_in case slot q.a q.b ++ roots_of_pairs case slot (drop (i + 1) pairs))) (sym is)
 
--- ---- each keeps its intervals
+-- ---- each keeps its pieces
 
 abbrev pub Keeps : PlainProblem → PlainCell → Type 0
-Keeps case r = KeepIntervals case r.a r.b r.first r.last
+Keeps case r = KeepPieces case r.a r.b r.first r.last
 
 pub each_keeps : (case : PlainProblem) (slot : ℕ) (pairs : List (ℕ × ℕ)) → Each (Keeps case) (roots_in_slot case slot pairs)
 each_keeps case slot pairs =
@@ -81,5 +81,5 @@ each_keeps case slot pairs =
   where
     kept : (r : PlainCell) (pair : ℕ × ℕ) → IsRoot case pair.0 pair.1 (slot_first case.first slot) (slot_last case.first case.last slot) r → Keeps case r
     kept r pair is =
-        subst (λ (a : ℕ). KeepIntervals case a r.b r.first r.last) (sym is.first_object)
-        (subst (λ (b : ℕ). KeepIntervals case pair.0 b r.first r.last) (sym is.second_object) (record { same = is.same; states = is.labelled }))
+        subst (λ (a : ℕ). KeepPieces case a r.b r.first r.last) (sym is.first_object)
+        (subst (λ (b : ℕ). KeepPieces case pair.0 b r.first r.last) (sym is.second_object) (record { same = is.same; nodes = is.labelled }))

@@ -12,9 +12,9 @@ use Rattle.cj_track.specs.declared.track.Track.{Track}
 use Rattle.cj_track.specs.Segments.{AreInOrder}
 use Rattle.cj_track.specs.Tracks.{plain_node, plain_segment, plain_track}
 use Rattle.cj_track.specs.Useable.{last_tick, LiesWithin}
-use Rattle.cj_hermite.specs.Pieces.{PlainPiece, covers, last_covering, intervals_of_arc, interval_index_at}
+use Rattle.cj_hermite.specs.Pieces.{PlainPiece, covers, last_covering, pieces_of_segment, piece_at}
 use Rattle.cj_hermite.proofs.CoverLemmas.{Misses, misses-append, covers_if}
-use Rattle.cj_hermite.proofs.PieceLemmas.{interval_between, intervals_in, intervals_through, later_span, earlier_span, none_at}
+use Rattle.cj_hermite.proofs.PieceLemmas.{piece_between, pieces_in, pieces_through, later_span, earlier_span, none_at}
 use Rattle.cj_hermite.proofs.SearchLemmas.{in_order, segments_rise}
 use Rattle.cj_hermite.specs.Walks.{AreEnded, HasNoMore, IsNextState}
 use Rattle.cj_interval.proofs.ListLemmas.{Exists, Exists-at, Exists-flat_map, Exists-map}
@@ -36,30 +36,30 @@ found_last m n o (x ∷ xs) (inr later) = go (covers m x) (found_last m (n + 1) 
     go false taken left = left
 
 -- between some two neighbouring nodes
-bracketed : (first last m : ℕ) (a : Node) (nodes : List Node) → 1 ≤ length nodes → a.at.micros ≤ m → m ≤ last_tick a.at.micros nodes → first ≤ m → m ≤ last → Exists (λ x. covers m x ≡ true) (intervals_in first last (a ∷ nodes))
+bracketed : (first last m : ℕ) (a : Node) (nodes : List Node) → 1 ≤ length nodes → a.at.micros ≤ m → m ≤ last_tick a.at.micros nodes → first ≤ m → m ≤ last → Exists (λ x. covers m x ≡ true) (pieces_in first last (a ∷ nodes))
 bracketed first last m a [] some low high from to = absurd (omega arith)
-bracketed first last m a (b ∷ []) some low high from to = inl (covers_if m (interval_between first last a b) low high from to)
+bracketed first last m a (b ∷ []) some low high from to = inl (covers_if m (piece_between first last a b) low high from to)
 bracketed first last m a (b ∷ d ∷ nodes) some low high from to = elim (cases_lt b.at.micros m) [
   | inl after ↦ inr (bracketed first last m b (d ∷ nodes) (omega arith) (omega arith) high from to)
-  | inr upto ↦ inl (covers_if m (interval_between first last a b) low upto from to)
+  | inr upto ↦ inl (covers_if m (piece_between first last a b) low upto from to)
 ]
 
-in_span : (m : ℕ) (s : Segment) → s.first.micros ≤ m → m ≤ s.last.micros → Exists (λ x. covers m x ≡ true) (intervals_of_arc (plain_segment s))
+in_span : (m : ℕ) (s : Segment) → s.first.micros ≤ m → m ≤ s.last.micros → Exists (λ x. covers m x ≡ true) (pieces_of_segment (plain_segment s))
 in_span m s from to = go s.nodes s.enough s.within
   where
-    go : (nodes : List Node) → 2 ≤ length nodes → LiesWithin s.first.micros s.last.micros nodes → Exists (λ x. covers m x ≡ true) (intervals_in s.first.micros s.last.micros nodes)
+    go : (nodes : List Node) → 2 ≤ length nodes → LiesWithin s.first.micros s.last.micros nodes → Exists (λ x. covers m x ≡ true) (pieces_in s.first.micros s.last.micros nodes)
     go [] enough within = absurd (omega arith)
     go (a ∷ nodes) enough within = bracketed s.first.micros s.last.micros m a nodes (omega arith) (omega (arith, within.from)) (omega (arith, within.to)) from to
 
 pub state_in_span : (track : Track) (m k : ℕ) (d : Segment) → k < length track.segments → (get_or track.segments k d).first.micros ≤ m → m ≤ (get_or track.segments k d).last.micros →
-    is_some (interval_index_at (plain_track track) m) ≡ true
-unfolding interval_index_at
+    is_some (piece_at (plain_track track) m) ≡ true
+unfolding piece_at
 state_in_span track m k d lt from to =
-    some_map (last_covering m 0 (intervals_through track.segments))
-    (found_last m 0 None (intervals_through track.segments)
-    (Exists-flat_map (λ x. covers m x ≡ true) intervals_of_arc (map plain_segment track.segments)
-    (Exists-map (λ arc. Exists (λ x. covers m x ≡ true) (intervals_of_arc arc)) plain_segment track.segments
-    (Exists-at (λ s. Exists (λ x. covers m x ≡ true) (intervals_of_arc (plain_segment s))) track.segments k d lt (in_span m (get_or track.segments k d) from to)))))
+    some_map (last_covering m 0 (pieces_through track.segments))
+    (found_last m 0 None (pieces_through track.segments)
+    (Exists-flat_map (λ x. covers m x ≡ true) pieces_of_segment (map plain_segment track.segments)
+    (Exists-map (λ segment. Exists (λ x. covers m x ≡ true) (pieces_of_segment segment)) plain_segment track.segments
+    (Exists-at (λ s. Exists (λ x. covers m x ≡ true) (pieces_of_segment (plain_segment s))) track.segments k d lt (in_span m (get_or track.segments k d) from to)))))
   where
     some_map : (o : Option (ℕ × PlainPiece)) → is_some o ≡ true → is_some (option_map (λ x. x.0) o) ≡ true
     some_map None some = absurd cc
@@ -67,10 +67,10 @@ state_in_span track m k d lt from to =
 
 -- ---- a tick of none
 
-out_of_spans : (m : ℕ) (segments : List Segment) → ((k : ℕ) (d : Segment) → k < length segments → (m < (get_or segments k d).first.micros) ⊎ ((get_or segments k d).last.micros < m)) → Misses m (intervals_through segments)
+out_of_spans : (m : ℕ) (segments : List Segment) → ((k : ℕ) (d : Segment) → k < length segments → (m < (get_or segments k d).first.micros) ⊎ ((get_or segments k d).last.micros < m)) → Misses m (pieces_through segments)
 out_of_spans m [] h = tt
 out_of_spans m (a ∷ segments) h =
-    misses-append m (intervals_of_arc (plain_segment a)) (intervals_through segments)
+    misses-append m (pieces_of_segment (plain_segment a)) (pieces_through segments)
     (elim (h 0 a (omega arith)) [
       | inl later ↦ later_span m a.first.micros a.last.micros (map plain_node a.nodes) later
       | inr earlier ↦ earlier_span m a.first.micros a.last.micros (map plain_node a.nodes) earlier
@@ -78,7 +78,7 @@ out_of_spans m (a ∷ segments) h =
     (out_of_spans m segments (λ k d lt. h (suc k) d (omega arith)))
 
 pub no_state : (track : Track) (m : ℕ) → ((k : ℕ) (d : Segment) → k < length track.segments → (m < (get_or track.segments k d).first.micros) ⊎ ((get_or track.segments k d).last.micros < m)) →
-    interval_index_at (plain_track track) m ≡ None
+    piece_at (plain_track track) m ≡ None
 no_state track m h = none_at (plain_track track) m (out_of_spans m track.segments h)
 
 -- ---- the segments that end before a tick

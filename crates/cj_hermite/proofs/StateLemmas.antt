@@ -1,47 +1,47 @@
--- The state of an ephemeris at a tick: the interval there and its number.
+-- The state of an ephemeris at a tick: the piece there and its number.
 use Rattle.std.proofs.Common.{◌≡◌, ◌≢◌, ℕ, zero, suc, ◌+◌, true, List, [], ◌∷◌, inl, inr, Option, Some, None, refl, ap, ◌∙◌, subst, arith}
 use Rattle.std.specs.Prelude.{slice_get, option_map}
 use Rattle.std.specs.List.{last_or}
 use Rattle.std.proofs.lemmas.Bool.{cases_Bool}
 use Rattle.cj_track.specs.PlainTracks.{PlainTrack}
-use Rattle.cj_hermite.specs.Pieces.{PlainPiece, intervals_of, interval_at, interval_index_at, covers, last_covering}
+use Rattle.cj_hermite.specs.Pieces.{PlainPiece, pieces_of, piece_holding, piece_at, covers, last_covering}
 use Rattle.cj_hermite.specs.PiecesOfTracks.{Covers}
 use Rattle.cj_hermite.proofs.CoverLemmas.{covering, found_is, covers_is, covers_if}
 
--- what is found at a tick: an interval that covers it, at its number in the list
+-- what is found at a tick: a piece that covers it, at its number in the list
 pub record IsState (e : PlainTrack) (m : ℕ) (number : ℕ) (x : PlainPiece) : Type 0 where
-  pub numbered : interval_index_at e m ≡ Some number
-  pub at : interval_at e m ≡ Some x
-  pub place : slice_get (intervals_of e) number ≡ Some x
+  pub numbered : piece_at e m ≡ Some number
+  pub at : piece_holding e m ≡ Some x
+  pub place : slice_get (pieces_of e) number ≡ Some x
   pub covers : Covers m x
 
 -- an ephemeris has a state at a tick, or has not
 pub data HasState (e : PlainTrack) (m : ℕ) : Type 0 where
   has : (number : ℕ) (x : PlainPiece) → IsState e m number x → HasState e m
-  lacks : interval_index_at e m ≡ None → interval_at e m ≡ None → HasState e m
+  lacks : piece_at e m ≡ None → piece_holding e m ≡ None → HasState e m
 
 pub state : (e : PlainTrack) (m : ℕ) → HasState e m
-unfolding interval_at interval_index_at
-state e m = go (last_covering m 0 (intervals_of e)) refl
+unfolding piece_holding piece_at
+state e m = go (last_covering m 0 (pieces_of e)) refl
   where
-    go : (o : Option (ℕ × PlainPiece)) → last_covering m 0 (intervals_of e) ≡ o → HasState e m
+    go : (o : Option (ℕ × PlainPiece)) → last_covering m 0 (pieces_of e) ≡ o → HasState e m
     go None h = lacks (ap (λ (o : Option (ℕ × PlainPiece)). option_map (λ x. x.0) o) h) (ap (λ (o : Option (ℕ × PlainPiece)). option_map (λ x. x.1) o) h)
     go (Some z) h =
-        let found = found_is m 0 (intervals_of e) z h in
+        let found = found_is m 0 (pieces_of e) z h in
         let number : found.place ≡ z.0 = omega (arith, found.number) in
         has z.0 z.1 (record {
           numbered = ap (λ (o : Option (ℕ × PlainPiece)). option_map (λ x. x.0) o) h;
           at = ap (λ (o : Option (ℕ × PlainPiece)). option_map (λ x. x.1) o) h;
-          place = subst (λ k. slice_get (intervals_of e) k ≡ Some z.1) number found.is;
+          place = subst (λ k. slice_get (pieces_of e) k ≡ Some z.1) number found.is;
           covers = covers_is m z.1 found.here;
         })
 
--- where one of the intervals covers a tick there is a state
-pub covered_has : (e : PlainTrack) (m index : ℕ) (x : PlainPiece) → slice_get (intervals_of e) index ≡ Some x → Covers m x → interval_index_at e m ≢ None
-unfolding interval_index_at
+-- where one of the pieces covers a tick there is a state
+pub covered_has : (e : PlainTrack) (m index : ℕ) (x : PlainPiece) → slice_get (pieces_of e) index ≡ Some x → Covers m x → piece_at e m ≢ None
+unfolding piece_at
 covered_has e m index x is here none =
     let own = covers_if m x here.from here.to here.first here.last in
-    numbered (last_covering m 0 (intervals_of e)) none (found 0 index (intervals_of e) None is own)
+    numbered (last_covering m 0 (pieces_of e)) none (found 0 index (pieces_of e) None is own)
   where
     behind : (y : ℕ × PlainPiece) (ys : List (ℕ × PlainPiece)) → last_or (Some y) ys ≢ None
     behind y [] h = absurd cc

@@ -9,10 +9,10 @@ use Rattle.cj_track.specs.Tracks.{plain_track}
 use Rattle.cj_hermite.specs.declared.problem.Problem.{Problem}
 use Rattle.cj_hermite.specs.declared.pieces.Piece.{Piece}
 use Rattle.cj_hermite.specs.Interpolant.{Curve, curve_of, IsOver}
-use Rattle.cj_hermite.specs.Pieces.{PlainPiece, interval_at, interval_index_at, curve_of_interval}
+use Rattle.cj_hermite.specs.Pieces.{PlainPiece, piece_holding, piece_at, curve_of_piece}
 use Rattle.cj_hermite.specs.PlainProblems.{PlainProblem, number_at, curve_at}
 use Rattle.cj_hermite.specs.Problems.{plain_problem}
-use Rattle.cj_hermite.specs.Roots.{KeepIntervals}
+use Rattle.cj_hermite.specs.Roots.{KeepPieces}
 use Rattle.cj_hermite.proofs.CurveLemmas.{Curves, curves, curves_of, numbers_of}
 use Rattle.cj_hermite.proofs.ObjectLemmas.{within_at}
 
@@ -26,13 +26,13 @@ slice_get-past f [] i le = refl
 slice_get-past f (x ∷ xs) zero le = absurd (omega arith)
 slice_get-past f (x ∷ xs) (suc i) le = slice_get-past f xs i (omega arith)
 
-pub number_of_track : (p : Problem) (object m : ℕ) (d : Track) → object < length p.tracks → number_at (plain_problem p) object m ≡ interval_index_at (plain_track (get_or p.tracks object d)) m
+pub number_of_track : (p : Problem) (object m : ℕ) (d : Track) → object < length p.tracks → number_at (plain_problem p) object m ≡ piece_at (plain_track (get_or p.tracks object d)) m
 unfolding number_at
-number_of_track p object m d lt = ap (λ (o : Option PlainTrack). option_and_then (λ e. interval_index_at e m) o) (slice_get-map plain_track p.tracks object d lt)
+number_of_track p object m d lt = ap (λ (o : Option PlainTrack). option_and_then (λ e. piece_at e m) o) (slice_get-map plain_track p.tracks object d lt)
 
-pub curve_of_track : (p : Problem) (object m : ℕ) (d : Track) → object < length p.tracks → curve_at (plain_problem p) object m ≡ option_map curve_of_interval (interval_at (plain_track (get_or p.tracks object d)) m)
+pub curve_of_track : (p : Problem) (object m : ℕ) (d : Track) → object < length p.tracks → curve_at (plain_problem p) object m ≡ option_map curve_of_piece (piece_holding (plain_track (get_or p.tracks object d)) m)
 unfolding curve_at
-curve_of_track p object m d lt = ap (λ (o : Option PlainTrack). option_map curve_of_interval (option_and_then (λ e. interval_at e m) o)) (slice_get-map plain_track p.tracks object d lt)
+curve_of_track p object m d lt = ap (λ (o : Option PlainTrack). option_map curve_of_piece (option_and_then (λ e. piece_holding e m) o)) (slice_get-map plain_track p.tracks object d lt)
 
 -- there are as many objects as tracks
 pub objects_are : (tracks now : List Track) → now ≡ tracks → length now ≡ length (map plain_track tracks)
@@ -44,21 +44,21 @@ unfolding number_at
 object_exists p object m some = elim (cases_lt object (length p.tracks)) [
   | inl lt ↦ lt
   | inr past ↦
-      let none : is_some (number_at (plain_problem p) object m) ≡ false = ap (λ (o : Option PlainTrack). is_some (option_and_then (λ e. interval_index_at e m) o)) (slice_get-past plain_track p.tracks object past) in
+      let none : is_some (number_at (plain_problem p) object m) ≡ false = ap (λ (o : Option PlainTrack). is_some (option_and_then (λ e. piece_at e m) o)) (slice_get-past plain_track p.tracks object past) in
       absurd cc
 ]
 
-pub curve_is : (o : Option PlainPiece) (c : Curve) → IsSomeAnd o (λ x. c ≡ curve_of_interval x) → option_map curve_of_interval o ≡ Some c
+pub curve_is : (o : Option PlainPiece) (c : Curve) → IsSomeAnd o (λ x. c ≡ curve_of_piece x) → option_map curve_of_piece o ≡ Some c
 curve_is None c h = absurd h
 curve_is (Some x) c h = ap (λ (d : Curve). Some d) (sym h)
 
--- ---- cells that keep their intervals
+-- ---- cells that keep their pieces
 
-pub first_state : (case : PlainProblem) (a b first last : ℕ) → KeepIntervals case a b first last → is_some (number_at case a first) ≡ true
-first_state case a b first last keep = (numbers_of (number_at case a first) (number_at case b first) keep.states).0
+pub first_state : (case : PlainProblem) (a b first last : ℕ) → KeepPieces case a b first last → is_some (number_at case a first) ≡ true
+first_state case a b first last keep = (numbers_of (number_at case a first) (number_at case b first) keep.nodes).0
 
-pub second_state : (case : PlainProblem) (a b first last : ℕ) → KeepIntervals case a b first last → is_some (number_at case b first) ≡ true
-second_state case a b first last keep = (numbers_of (number_at case a first) (number_at case b first) keep.states).1
+pub second_state : (case : PlainProblem) (a b first last : ℕ) → KeepPieces case a b first last → is_some (number_at case b first) ≡ true
+second_state case a b first last keep = (numbers_of (number_at case a first) (number_at case b first) keep.nodes).1
 
 -- an interpolant over a part of its ticks
 pub over_part : (c : Curve) (first last from to : ℕ) → IsOver c first last → first ≤ from → to ≤ last → IsOver c from to
@@ -71,13 +71,13 @@ over_all case object first last c d le have is some =
     let to = within_at case object last c (have last le (omega arith) ∙ ap (λ (x : Curve). Some x) same) in
     record { some = some; from = from.0; to = to.1 }
 
-pub first_is_over : (case : PlainProblem) (a b first last : ℕ) (p : Piece) → first ≤ last → KeepIntervals case a b first last → curve_at case a first ≡ Some (curve_of p) → IsOver (curve_of p) first last
+pub first_is_over : (case : PlainProblem) (a b first last : ℕ) (p : Piece) → first ≤ last → KeepPieces case a b first last → curve_at case a first ≡ Some (curve_of p) → IsOver (curve_of p) first last
 first_is_over case a b first last p le keep is = go (curves_of case a b first last keep)
   where
     go : Curves case a b first last → IsOver (curve_of p) first last
     go (curves c d have) = over_all case a first last (curve_of p) c le have.first_curve is (let up = p.ordered in omega arith)
 
-pub second_is_over : (case : PlainProblem) (a b first last : ℕ) (p : Piece) → first ≤ last → KeepIntervals case a b first last → curve_at case b first ≡ Some (curve_of p) → IsOver (curve_of p) first last
+pub second_is_over : (case : PlainProblem) (a b first last : ℕ) (p : Piece) → first ≤ last → KeepPieces case a b first last → curve_at case b first ≡ Some (curve_of p) → IsOver (curve_of p) first last
 second_is_over case a b first last p le keep is = go (curves_of case a b first last keep)
   where
     go : Curves case a b first last → IsOver (curve_of p) first last

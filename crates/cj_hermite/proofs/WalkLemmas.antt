@@ -5,7 +5,7 @@ use Rattle.std.specs.List.{range_with_len}
 use Rattle.std.proofs.lemmas.Bool.{cases_lt, false_from_ne_true}
 use Rattle.cj_ticks.specs.declared.tick.Window.{Window}
 use Rattle.cj_track.specs.PlainTracks.{PlainTrack}
-use Rattle.cj_hermite.specs.Pieces.{interval_index_at}
+use Rattle.cj_hermite.specs.Pieces.{piece_at}
 use Rattle.cj_hermite.specs.CommonRuns.{Run, is_same, runs_over, runs_between, both, both_numbers}
 use Rattle.cj_hermite.specs.Walks.{HasNone, IsNextRun}
 use Rattle.cj_hermite.proofs.CommonRunLemmas.{IsRun, AreRuns, runs_are, same_from_is_same, skipped, taken}
@@ -25,17 +25,17 @@ no_runs label from last none =
 
 -- where one of both has no state there is no common run
 pub no_left : (e f : PlainTrack) (from last : ℕ) → HasNone e from last → runs_between (both_numbers e f) from last ≡ []
-no_left e f from last none = no_runs (both_numbers e f) from last (λ k low high. ap (λ i. both i (interval_index_at f k)) (none k low high))
+no_left e f from last none = no_runs (both_numbers e f) from last (λ k low high. ap (λ i. both i (piece_at f k)) (none k low high))
 
 pub no_right : (e f : PlainTrack) (from last : ℕ) → HasNone f from last → runs_between (both_numbers e f) from last ≡ []
 no_right e f from last none =
-    no_runs (both_numbers e f) from last (λ k low high. ap (both (interval_index_at e k)) (none k low high) ∙ both_none (interval_index_at e k))
+    no_runs (both_numbers e f) from last (λ k low high. ap (both (piece_at e k)) (none k low high) ∙ both_none (piece_at e k))
 
 -- a next run has a tick
 pub next_some : (e : PlainTrack) (from last : ℕ) (x : Window) → IsNextRun e from last x → x.first.micros ≤ x.last.micros
 next_some e from last x is = elim (cases_lt x.last.micros x.first.micros) [
   | inl lt ↦
-      let none : is_some (interval_index_at e x.last.micros) ≡ false = ap is_some (is.none x.last.micros is.later lt) in
+      let none : is_some (piece_at e x.last.micros) ≡ false = ap is_some (is.none x.last.micros is.later lt) in
       let some = is.some in
       absurd cc
   | inr le ↦ le
@@ -44,28 +44,28 @@ next_some e from last x is = elim (cases_lt x.last.micros x.first.micros) [
 module _ (e f : PlainTrack) (from last first end : ℕ) (x y : Window) (left : IsNextRun e from last x) (right : IsNextRun f from last y) where
   none_before : first ≡ max x.first.micros y.first.micros → (k : ℕ) → from ≤ k → k < first → both_numbers e f k ≡ None
   none_before is k low high = elim (cases_lt k x.first.micros) [
-    | inl before ↦ ap (λ i. both i (interval_index_at f k)) (left.none k low before)
-    | inr behind ↦ ap (both (interval_index_at e k)) (right.none k low (omega arith)) ∙ both_none (interval_index_at e k)
+    | inl before ↦ ap (λ i. both i (piece_at f k)) (left.none k low before)
+    | inr behind ↦ ap (both (piece_at e k)) (right.none k low (omega arith)) ∙ both_none (piece_at e k)
   ]
 
   -- the label of the run in front
   label_here : (k : ℕ) → from ≤ k → x.first.micros ≤ k → y.first.micros ≤ k → k ≤ x.last.micros → k ≤ y.last.micros →
-      both_numbers e f k ≡ both (interval_index_at e x.last.micros) (interval_index_at f y.last.micros)
+      both_numbers e f k ≡ both (piece_at e x.last.micros) (piece_at f y.last.micros)
   label_here k low after after' upto upto' =
       let p = left.same k low after upto in
       let q = right.same k low after' upto' in
       λ i. both (p i) (q i)
 
-  apart : end ≡ min x.last.micros y.last.micros → end < last → both_numbers e f end ≡ both (interval_index_at e x.last.micros) (interval_index_at f y.last.micros) →
+  apart : end ≡ min x.last.micros y.last.micros → end < last → both_numbers e f end ≡ both (piece_at e x.last.micros) (piece_at f y.last.micros) →
       is_same (both_numbers e f end) (both_numbers e f (end + 1)) ≡ false
   apart is more label =
       false_from_ne_true (is_same (both_numbers e f end) (both_numbers e f (end + 1))) (λ same.
-      let next : both_numbers e f (end + 1) ≡ both (interval_index_at e x.last.micros) (interval_index_at f y.last.micros) = sym (same_from_is_same (both_numbers e f end) (both_numbers e f (end + 1)) same) ∙ label in
-      let numbers = same_numbers (interval_index_at e (end + 1)) (interval_index_at f (end + 1)) (interval_index_at e x.last.micros) (interval_index_at f y.last.micros)
-      (some_both (interval_index_at e x.last.micros) (interval_index_at f y.last.micros) left.some right.some) next in
+      let next : both_numbers e f (end + 1) ≡ both (piece_at e x.last.micros) (piece_at f y.last.micros) = sym (same_from_is_same (both_numbers e f end) (both_numbers e f (end + 1)) same) ∙ label in
+      let numbers = same_numbers (piece_at e (end + 1)) (piece_at f (end + 1)) (piece_at e x.last.micros) (piece_at f y.last.micros)
+      (some_both (piece_at e x.last.micros) (piece_at f y.last.micros) left.some right.some) next in
       elim (cases_lt y.last.micros x.last.micros) [
-        | inl less ↦ let at : end ≡ y.last.micros = omega arith in right.ends (omega arith) (ap (λ (k : ℕ). interval_index_at f (k + 1)) (sym at) ∙ numbers.1)
-        | inr le ↦ let at : end ≡ x.last.micros = omega arith in left.ends (omega arith) (ap (λ (k : ℕ). interval_index_at e (k + 1)) (sym at) ∙ numbers.0)
+        | inl less ↦ let at : end ≡ y.last.micros = omega arith in right.ends (omega arith) (ap (λ (k : ℕ). piece_at f (k + 1)) (sym at) ∙ numbers.1)
+        | inr le ↦ let at : end ≡ x.last.micros = omega arith in left.ends (omega arith) (ap (λ (k : ℕ). piece_at e (k + 1)) (sym at) ∙ numbers.0)
       ])
 
   -- where the next runs of both begin there is still a tick to come
@@ -91,7 +91,7 @@ module _ (e f : PlainTrack) (from last first end : ℕ) (x y : Window) (left : I
       common_later is_first low
       ∙ (rw n
       (taken (both_numbers e f) (end - first) first end (last + 1 - (end + 1)) (omega arith)
-      (ap is_some here ∙ some_both (interval_index_at e x.last.micros) (interval_index_at f y.last.micros) left.some right.some)
+      (ap is_some here ∙ some_both (piece_at e x.last.micros) (piece_at f y.last.micros) left.some right.some)
       (λ k low' high. label_here k (omega arith) (omega arith) (omega arith) (omega arith) (omega arith) ∙ sym here)
       (λ more. apart is_end (omega arith) (label_here end (omega arith) (omega arith) (omega arith) (omega arith) (omega arith)))))
 
@@ -110,5 +110,5 @@ first_run label from last r rs is = elim (cases_lt (last + 1) from) [
 
 -- both have a state at its first tick
 pub states_of : (e f : PlainTrack) (from last : ℕ) (r : Run) (rs : List Run) → runs_between (both_numbers e f) from last ≡ r ∷ rs →
-    (is_some (interval_index_at e r.first) ≡ true) × (is_some (interval_index_at f r.first) ≡ true)
-states_of e f from last r rs is = numbers_of (interval_index_at e r.first) (interval_index_at f r.first) (first_run (both_numbers e f) from last r rs is).labelled
+    (is_some (piece_at e r.first) ≡ true) × (is_some (piece_at f r.first) ≡ true)
+states_of e f from last r rs is = numbers_of (piece_at e r.first) (piece_at f r.first) (first_run (both_numbers e f) from last r rs is).labelled

@@ -1,9 +1,9 @@
--- Runs: consecutive ticks with one label, as long as it lasts; those of two ephemerides have the intervals of both as label.
+-- Runs: consecutive ticks with one label, as long as it lasts; those of two ephemerides have the pieces of both as label.
 use Rattle.std.specs.Prelude.{◌≡◌, ℕ, ◌+◌, ◌-◌, ◌==◌, ◌&&◌, Bool, false, if◌then◌else◌, List, [], ◌∷◌, Option, Some, None, is_some}
 use Rattle.std.specs.List.{range_with_len}
 use Rattle.cj_ticks.specs.declared.tick.Window.{Window}
 use Rattle.cj_track.specs.PlainTracks.{PlainTrack}
-use Rattle.cj_hermite.specs.Pieces.{interval_index_at}
+use Rattle.cj_hermite.specs.Pieces.{piece_at}
 
 pub record Run : Type 0 where
   pub first : ℕ
@@ -38,9 +38,9 @@ both None j = None
 both (Some i) None = None
 both (Some i) (Some j) = Some (i, j)
 
--- the numbers of the intervals in which two ephemerides are at a tick, where both have a state
+-- the numbers of the pieces in which two ephemerides are at a tick, where both have a state
 abbrev pub both_numbers : PlainTrack → PlainTrack → ℕ → Option (ℕ × ℕ)
-both_numbers e f m = both (interval_index_at e m) (interval_index_at f m)
+both_numbers e f m = both (piece_at e m) (piece_at f m)
 
 -- the ticks of a window as a run
 abbrev pub run_of : Window → Run

@@ -1,16 +1,16 @@
 -- The lengths of interpolants.
 use Rattle.std.specs.Prelude.{ℕ, ◌<◌, All, IfSome}
 use Rattle.cj_track.specs.PlainTracks.{PlainTrack}
-use Rattle.cj_hermite.specs.Pieces.{PlainPiece, intervals_of}
+use Rattle.cj_hermite.specs.Pieces.{PlainPiece, pieces_of}
 use Rattle.cj_hermite.specs.PlainProblems.{PlainProblem, curve_at}
 
 -- the second state comes after the first
 abbrev pub Rises : PlainPiece → Type 0
 Rises x = x.from.at < x.to.at
 
--- each interval of an ephemeris has a length
+-- each piece of an ephemeris has a length
 abbrev pub IsRising : PlainTrack → Type 0
-IsRising e = All Rises (intervals_of e)
+IsRising e = All Rises (pieces_of e)
 
 -- each interpolant of an object has a length
 abbrev pub HaveLengths : PlainProblem → Type 0

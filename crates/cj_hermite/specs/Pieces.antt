@@ -1,4 +1,4 @@
--- Pieces: the interpolation interval of an ephemeris at a tick. Interpolation stays within a segment.
+-- Pieces: the piece of an ephemeris at a tick. Interpolation stays within a segment.
 use Rattle.std.specs.Prelude.{ℕ, ◌-◌, Bool, ◌&&◌, nat_le, List, [], ◌∷◌, filter, Option, None, option_map, IsSomeAnd}
 use Rattle.std.specs.List.{enumerate_from, flat_map, last_or}
 use Rattle.cj_track.specs.PlainTracks.{PlainNode, PlainSegment, PlainTrack}
@@ -12,38 +12,38 @@ pub record PlainPiece : Type 0 where
   pub last : ℕ
 
 -- between each two neighbours of these states
-abbrev pub intervals_between : ℕ → ℕ → List PlainNode → List PlainPiece
-intervals_between first last [] = []
-intervals_between first last (a ∷ []) = []
-intervals_between first last (a ∷ b ∷ states) =
-    record { from = a; to = b; first = first; last = last } ∷ intervals_between first last (b ∷ states)
+abbrev pub pieces_between : ℕ → ℕ → List PlainNode → List PlainPiece
+pieces_between first last [] = []
+pieces_between first last (a ∷ []) = []
+pieces_between first last (a ∷ b ∷ nodes) =
+    record { from = a; to = b; first = first; last = last } ∷ pieces_between first last (b ∷ nodes)
 
-abbrev pub intervals_of_arc : PlainSegment → List PlainPiece
-intervals_of_arc arc = intervals_between arc.first arc.last arc.states
+abbrev pub pieces_of_segment : PlainSegment → List PlainPiece
+pieces_of_segment segment = pieces_between segment.first segment.last segment.nodes
 
 -- through all segments, in order
-abbrev pub intervals_of : PlainTrack → List PlainPiece
-intervals_of e = flat_map intervals_of_arc e.arcs
+abbrev pub pieces_of : PlainTrack → List PlainPiece
+pieces_of e = flat_map pieces_of_segment e.segments
 
 -- the tick lies between the states, and in the useable span
 abbrev pub covers : ℕ → PlainPiece → Bool
 covers m x = nat_le x.from.at m && nat_le m x.to.at && nat_le x.first m && nat_le m x.last
 
--- the last of these intervals that covers the tick, with its number, counted from the given one
+-- the last of these pieces that covers the tick, with its number, counted from the given one
 abbrev pub last_covering : ℕ → ℕ → List PlainPiece → Option (ℕ × PlainPiece)
-last_covering m number intervals = last_or None (filter (λ x. covers m x.1) (enumerate_from number intervals))
+last_covering m number pieces = last_or None (filter (λ x. covers m x.1) (enumerate_from number pieces))
 
--- the last interval that covers the tick: one that two segments share belongs to the later
-unfoldable pub interval_at : PlainTrack → ℕ → Option PlainPiece
-interval_at e m = option_map (λ x. x.1) (last_covering m 0 (intervals_of e))
+-- the last piece that covers the tick: one that two segments share belongs to the later
+unfoldable pub piece_holding : PlainTrack → ℕ → Option PlainPiece
+piece_holding e m = option_map (λ x. x.1) (last_covering m 0 (pieces_of e))
 
 -- its number
-unfoldable pub interval_index_at : PlainTrack → ℕ → Option ℕ
-interval_index_at e m = option_map (λ x. x.0) (last_covering m 0 (intervals_of e))
+unfoldable pub piece_at : PlainTrack → ℕ → Option ℕ
+piece_at e m = option_map (λ x. x.0) (last_covering m 0 (pieces_of e))
 
 -- the interpolant between the two states
-abbrev pub curve_of_interval : PlainPiece → Curve
-curve_of_interval x =
+abbrev pub curve_of_piece : PlainPiece → Curve
+curve_of_piece x =
     let t = x.to.at - x.from.at in
     record {
       start = x.from.at;
@@ -55,4 +55,4 @@ curve_of_interval x =
 
 -- both have a state at the tick, and this holds of their interpolants
 abbrev pub OfBothAt : PlainTrack → PlainTrack → ℕ → (Curve → Curve → Type 0) → Type 0
-OfBothAt a b m P = IsSomeAnd (interval_at a m) (λ x. IsSomeAnd (interval_at b m) (λ y. P (curve_of_interval x) (curve_of_interval y)))
+OfBothAt a b m P = IsSomeAnd (piece_holding a m) (λ x. IsSomeAnd (piece_holding b m) (λ y. P (curve_of_piece x) (curve_of_piece y)))

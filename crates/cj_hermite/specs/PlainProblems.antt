@@ -2,12 +2,12 @@
 use Rattle.std.specs.Prelude.{◌≡◌, ℕ, ◌+◌, ◌<◌, ◌≤◌, List, Option, Some, option_map, option_and_then, slice_get, slice_index, IsSomeAnd}
 use Rattle.cj_track.specs.PlainTracks.{PlainTrack}
 use Rattle.cj_hermite.specs.Interpolant.{Curve}
-use Rattle.cj_hermite.specs.Pieces.{interval_at, interval_index_at, curve_of_interval, OfBothAt}
+use Rattle.cj_hermite.specs.Pieces.{piece_holding, piece_at, curve_of_piece, OfBothAt}
 
 -- The ephemerides of the objects, which are numbered from 0; the window from its first to its last tick; the threshold in nm; the size of
 -- each object, a radius in nm.
 pub record PlainProblem : Type 0 where
-  pub ephemerides : List PlainTrack
+  pub tracks : List PlainTrack
   pub first : ℕ
   pub last : ℕ
   pub threshold : ℕ
@@ -21,13 +21,13 @@ threshold_between thr sizes a b = thr + slice_index sizes a + slice_index sizes 
 abbrev pub threshold_of : PlainProblem → ℕ → ℕ → ℕ
 threshold_of case a b = threshold_between case.threshold case.sizes a b
 
--- the number of the interval in which an object is at a tick, or none where it has no state
+-- the number of the piece in which an object is at a tick, or none where it has no state
 unfoldable pub number_at : PlainProblem → ℕ → ℕ → Option ℕ
-number_at case object m = option_and_then (λ e. interval_index_at e m) (slice_get case.ephemerides object)
+number_at case object m = option_and_then (λ e. piece_at e m) (slice_get case.tracks object)
 
 -- the interpolant of an object at a tick, or none where it has no state
 unfoldable pub curve_at : PlainProblem → ℕ → ℕ → Option Curve
-curve_at case object m = option_map curve_of_interval (option_and_then (λ e. interval_at e m) (slice_get case.ephemerides object))
+curve_at case object m = option_map curve_of_piece (option_and_then (λ e. piece_holding e m) (slice_get case.tracks object))
 
 -- at each tick from first to last the objects a and b have these interpolants
 pub record HaveCurves (case : PlainProblem) (a b first last : ℕ) (c d : Curve) : Type 0 where
@@ -36,11 +36,11 @@ pub record HaveCurves (case : PlainProblem) (a b first last : ℕ) (c d : Curve)
 
 -- the objects a and b both have a state at the tick, and this holds of their interpolants
 abbrev pub OfObjectsAt : PlainProblem → ℕ → ℕ → ℕ → (Curve → Curve → Type 0) → Type 0
-OfObjectsAt case a b m P = IsSomeAnd (slice_get case.ephemerides a) (λ e. IsSomeAnd (slice_get case.ephemerides b) (λ f. OfBothAt e f m P))
+OfObjectsAt case a b m P = IsSomeAnd (slice_get case.tracks a) (λ e. IsSomeAnd (slice_get case.tracks b) (λ f. OfBothAt e f m P))
 
 -- a tick of the window at which the objects a and b, the lower number first, both have a state
 pub record IsCommonOf (case : PlainProblem) (a b m : ℕ) : Type 0 where
   pub ordered : a < b
   pub after : case.first ≤ m
   pub before : m ≤ case.last
-  pub states : OfObjectsAt case a b m (λ c d. Unit {0})
+  pub nodes : OfObjectsAt case a b m (λ c d. Unit {0})

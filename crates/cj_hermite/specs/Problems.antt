@@ -6,7 +6,7 @@ use Rattle.cj_hermite.specs.PlainProblems.{PlainProblem}
 
 abbrev pub plain_problem : Problem → PlainProblem
 plain_problem problem = record {
-  ephemerides = map plain_track problem.tracks;
+  tracks = map plain_track problem.tracks;
   first = problem.window.first.micros;
   last = problem.window.last.micros;
   threshold = problem.threshold;

@@ -1,4 +1,4 @@
--- Roots: for each pair of objects, the runs of ticks of a slot at which each of both is in one interval.
+-- Roots: for each pair of objects, the runs of ticks of a slot at which each of both is in one piece.
 use Rattle.std.specs.Prelude.{ℕ, ◌≡◌, ◌<◌, ◌≤◌, Bool, true, is_some, if◌then◌else◌, List, [], map, filter, length, Option}
 use Rattle.std.specs.List.{flat_map, range_with_len}
 use Rattle.cj_hermite.specs.Pairs.{pairs_of}
@@ -25,14 +25,14 @@ pub record IsRootUpTo (r s : PlainCell) : Type 0 where
   pub second_object : r.a ≡ s.a → r.b ≤ s.b
   pub ticks : r.a ≡ s.a → r.b ≡ s.b → r.first ≤ s.first
 
--- the numbers of the intervals in which the objects a and b are at a tick, where both have a state
+-- the numbers of the pieces in which the objects a and b are at a tick, where both have a state
 abbrev pub numbers_at : PlainProblem → ℕ → ℕ → ℕ → Option (ℕ × ℕ)
 numbers_at case a b m = both (number_at case a m) (number_at case b m)
 
--- from first to last each of the objects a and b is in one interval
-pub record KeepIntervals (case : PlainProblem) (a b first last : ℕ) : Type 0 where
+-- from first to last each of the objects a and b is in one piece
+pub record KeepPieces (case : PlainProblem) (a b first last : ℕ) : Type 0 where
   pub same : (m : ℕ) → first ≤ m → m ≤ last → numbers_at case a b m ≡ numbers_at case a b first
-  pub states : is_some (numbers_at case a b first) ≡ true
+  pub nodes : is_some (numbers_at case a b first) ≡ true
 
 abbrev pub root_of_run : ℕ → ℕ → Run → PlainCell
 root_of_run a b run = record { a = a; b = b; first = run.first; last = run.last }
@@ -55,11 +55,11 @@ slots_of case = range_with_len 0 (slot_count case.first case.last)
 
 -- all roots, of those pairs and slots that are looked at, in order of pair and time
 unfoldable pub roots_of : (ℕ → ℕ → ℕ → Bool) → PlainProblem → List PlainCell
-roots_of looked case =
-    flat_map (λ pair. flat_map (λ slot. if looked pair.0 pair.1 slot then roots_in case slot pair.0 pair.1 else []) (slots_of case))
-    (pairs_of (length case.ephemerides))
+roots_of candidate case =
+    flat_map (λ pair. flat_map (λ slot. if candidate pair.0 pair.1 slot then roots_in case slot pair.0 pair.1 else []) (slots_of case))
+    (pairs_of (length case.tracks))
 
 -- the same roots slot by slot, in each slot in order of pair and time
 unfoldable pub roots_by_slot : (ℕ → ℕ → ℕ → Bool) → PlainProblem → List PlainCell
-roots_by_slot looked case =
-    flat_map (λ slot. roots_in_slot case slot (filter (λ pair. looked pair.0 pair.1 slot) (pairs_of (length case.ephemerides)))) (slots_of case)
+roots_by_slot candidate case =
+    flat_map (λ slot. roots_in_slot case slot (filter (λ pair. candidate pair.0 pair.1 slot) (pairs_of (length case.tracks)))) (slots_of case)

@@ -2,7 +2,7 @@
 use Rattle.std.specs.Prelude.{◌≡◌, ℕ, ◌≤◌, ◌↔◌, Some}
 use Rattle.cj_ticks.specs.declared.tick.Window.{Window}
 use Rattle.cj_track.specs.PlainTracks.{PlainTrack}
-use Rattle.cj_hermite.specs.Pieces.{interval_index_at}
+use Rattle.cj_hermite.specs.Pieces.{piece_at}
 
 -- a tick of the window
 pub record Holds (window : Window) (m : ℕ) : Type 0 where
@@ -12,7 +12,7 @@ pub record Holds (window : Window) (m : ℕ) : Type 0 where
 -- a tick of the range at which the piece is the one with this number
 pub record IsOfPiece (e : PlainTrack) (index : ℕ) (range : Window) (m : ℕ) : Type 0 where
   pub within : Holds range m
-  pub here : interval_index_at e m ≡ Some index
+  pub here : piece_at e m ≡ Some index
 
 -- those ticks are the ones of this run, and there is one
 pub record IsRun (e : PlainTrack) (index : ℕ) (range run : Window) : Type 0 where

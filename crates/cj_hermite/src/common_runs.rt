@@ -3,7 +3,7 @@ ghost use Rattle.std.specs.Prelude.{◌≡◌, ◌≤◌, [], Some, option_map, 
 ghost use Rattle.cj_track.specs.Tracks.{plain_track};
 ghost use Rattle.cj_hermite.specs.CommonRuns.{runs_between, both_numbers, IsNextCommon};
 ghost use Rattle.cj_hermite.specs.Interpolant.{curve_of};
-ghost use Rattle.cj_hermite.specs.Pieces.{interval_at, curve_of_interval};
+ghost use Rattle.cj_hermite.specs.Pieces.{piece_holding, curve_of_piece};
 
 use crate::common_run::CommonRun;
 use crate::hints::PairHint;
@@ -40,8 +40,8 @@ pub fn next_common_pieces(
 ) -> Option<CommonRun>
     ensures none { IfNone result (runs_between (both_numbers (plain_track a.now) (plain_track b.now)) from.micros last.micros ≡ []) }
     ensures run { IfSome result (λ run. IsNextCommon (plain_track a.now) (plain_track b.now) from.micros last.micros run.ticks) }
-    ensures first { IfSome result (λ run. option_map curve_of_interval (interval_at (plain_track a.now) run.ticks.first.micros) ≡ Some (curve_of run.first)) }
-    ensures second { IfSome result (λ run. option_map curve_of_interval (interval_at (plain_track b.now) run.ticks.first.micros) ≡ Some (curve_of run.second)) }
+    ensures first { IfSome result (λ run. option_map curve_of_piece (piece_holding (plain_track a.now) run.ticks.first.micros) ≡ Some (curve_of run.first)) }
+    ensures second { IfSome result (λ run. option_map curve_of_piece (piece_holding (plain_track b.now) run.ticks.first.micros) ≡ Some (curve_of run.second)) }
     ensures from { IfSome result (λ run. from.micros ≤ run.ticks.first.micros) }
     ensures some { IfSome result (λ run. run.ticks.first.micros ≤ run.ticks.last.micros) }
     ensures to { IfSome result (λ run. run.ticks.last.micros ≤ last.micros) }

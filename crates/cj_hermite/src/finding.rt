@@ -4,8 +4,8 @@ ghost use Rattle.cj_track.specs.Nodes.{IsStep, AreNodes};
 ghost use Rattle.cj_track.specs.Segments.{AreSegments, starts_from};
 ghost use Rattle.cj_track.specs.Tracks.{plain_node, plain_segment, plain_track};
 ghost use Rattle.cj_hermite.specs.Interpolant.{curve_of};
-ghost use Rattle.cj_hermite.specs.Pieces.{intervals_of_arc, intervals_of, interval_at, interval_index_at, curve_of_interval};
-ghost use Rattle.cj_hermite.specs.PiecesOfTracks.{Covers, Spans, IsInSegment, first_state, last_state, interval_with};
+ghost use Rattle.cj_hermite.specs.Pieces.{pieces_of_segment, pieces_of, piece_holding, piece_at, curve_of_piece};
+ghost use Rattle.cj_hermite.specs.PiecesOfTracks.{Covers, Spans, IsInSegment, first_state, last_state, piece_with};
 ghost use Rattle.cj_hermite.specs.Searches.{IsLastStarted, IsPlace};
 
 use crate::found_pieces::FoundPiece;
@@ -17,14 +17,14 @@ use cj_track::{Node, Segment, Track};
 
 /// The piece in which a track is at a tick, or none where it has no state. The hint and what follows it are looked at first.
 pub fn find(track: &Track, at: Tick, hint: Hint) -> Option<FoundPiece>
-    ensures value { option_map (λ found. found.index) result ≡ interval_index_at (plain_track track.now) at.micros }
+    ensures value { option_map (λ found. found.index) result ≡ piece_at (plain_track track.now) at.micros }
     ensures place { IfSome result (IsPlace track.now.segments) }
-    ensures exists { IfSome result (λ found. found.index < length (intervals_of (plain_track track.now))) }
-    ensures interval { IfSome result (λ found. slice_get (intervals_of (plain_track track.now)) found.index ≡ interval_at (plain_track track.now) at.micros) }
-    ensures covered { IfSome result (λ found. IsSomeAnd (interval_at (plain_track track.now) at.micros) (Covers at.micros)) }
+    ensures exists { IfSome result (λ found. found.index < length (pieces_of (plain_track track.now))) }
+    ensures piece { IfSome result (λ found. slice_get (pieces_of (plain_track track.now)) found.index ≡ piece_holding (plain_track track.now) at.micros) }
+    ensures covered { IfSome result (λ found. IsSomeAnd (piece_holding (plain_track track.now) at.micros) (Covers at.micros)) }
 
     // No later tick has an earlier piece.
-    ensures later { IfSome result (λ found. (m number : ℕ) → at.micros ≤ m → interval_index_at (plain_track track.now) m ≡ Some number → found.index ≤ number) }
+    ensures later { IfSome result (λ found. (m number : ℕ) → at.micros ≤ m → piece_at (plain_track track.now) m ≡ Some number → found.index ≤ number) }
 {
     let segments = track.segments.as_slice();
     let number = last_begun_from(segments, at, hint.segment)?;
@@ -43,13 +43,13 @@ pub fn find(track: &Track, at: Tick, hint: Hint) -> Option<FoundPiece>
 
 /// The number of the piece at a tick, or none where the track has no state.
 pub fn piece_at(track: &Track, at: Tick) -> Option<u32>
-    ensures value { result ≡ interval_index_at (plain_track track.now) at.micros }
-    ensures exists { IfSome result (λ index. index < length (intervals_of (plain_track track.now))) }
-    ensures interval { IfSome result (λ index. slice_get (intervals_of (plain_track track.now)) index ≡ interval_at (plain_track track.now) at.micros) }
-    ensures covered { IfSome result (λ index. IsSomeAnd (interval_at (plain_track track.now) at.micros) (Covers at.micros)) }
+    ensures value { result ≡ piece_at (plain_track track.now) at.micros }
+    ensures exists { IfSome result (λ index. index < length (pieces_of (plain_track track.now))) }
+    ensures piece { IfSome result (λ index. slice_get (pieces_of (plain_track track.now)) index ≡ piece_holding (plain_track track.now) at.micros) }
+    ensures covered { IfSome result (λ index. IsSomeAnd (piece_holding (plain_track track.now) at.micros) (Covers at.micros)) }
 
     // No later tick has an earlier piece.
-    ensures later { IfSome result (λ index. (m number : ℕ) → at.micros ≤ m → interval_index_at (plain_track track.now) m ≡ Some number → index ≤ number) }
+    ensures later { IfSome result (λ index. (m number : ℕ) → at.micros ≤ m → piece_at (plain_track track.now) m ≡ Some number → index ≤ number) }
 {
     let found = find(track, at, Hint::default())?;
     Some(found.index)
@@ -57,16 +57,16 @@ pub fn piece_at(track: &Track, at: Tick) -> Option<u32>
 
 /// The piece with this number.
 pub fn piece(track: &Track, index: u32) -> Piece
-    requires { index < length (intervals_of (plain_track track.now)) }
-    ensures states { IsSomeAnd (slice_get (intervals_of (plain_track track.now)) index) (Spans result) }
-    ensures curve { IsSomeAnd (slice_get (intervals_of (plain_track track.now)) index) (λ x. curve_of result ≡ curve_of_interval x) }
+    requires { index < length (pieces_of (plain_track track.now)) }
+    ensures nodes { IsSomeAnd (slice_get (pieces_of (plain_track track.now)) index) (Spans result) }
+    ensures curve { IsSomeAnd (slice_get (pieces_of (plain_track track.now)) index) (λ x. curve_of result ≡ curve_of_piece x) }
 {
     found_piece(track, by_number(track, index))
 }
 
 /// Where the piece with this number is.
 pub fn by_number(track: &Track, index: u32) -> FoundPiece
-    requires { index < length (intervals_of (plain_track track.now)) }
+    requires { index < length (pieces_of (plain_track track.now)) }
     ensures same { result.index ≡ index }
     ensures place { IsPlace track.now.segments result }
 {
@@ -82,8 +82,8 @@ pub fn by_number(track: &Track, index: u32) -> FoundPiece
 /// The piece that was found.
 pub fn found_piece(track: &Track, found: FoundPiece) -> Piece
     requires { IsPlace track.now.segments found }
-    ensures states { IsSomeAnd (slice_get (intervals_of (plain_track track.now)) found.index) (Spans result) }
-    ensures curve { IsSomeAnd (slice_get (intervals_of (plain_track track.now)) found.index) (λ x. curve_of result ≡ curve_of_interval x) }
+    ensures nodes { IsSomeAnd (slice_get (pieces_of (plain_track track.now)) found.index) (Spans result) }
+    ensures curve { IsSomeAnd (slice_get (pieces_of (plain_track track.now)) found.index) (λ x. curve_of result ≡ curve_of_piece x) }
 {
     piece_of(found_segment(track, found), found.node as usize)
 }
@@ -101,7 +101,7 @@ pub fn found_segment(track: &Track, found: FoundPiece) -> &Segment
 /// The piece of a segment with this number, counted from the segment's first.
 pub fn piece_of(segment: &Segment, number: usize) -> Piece
     requires { number + 1 < length segment.now.nodes }
-    ensures value { slice_get (intervals_of_arc (plain_segment segment.now)) number ≡ Some (interval_with segment.now.first.micros segment.now.last.micros result) }
+    ensures value { slice_get (pieces_of_segment (plain_segment segment.now)) number ≡ Some (piece_with segment.now.first.micros segment.now.last.micros result) }
     ensures nodes { AreNodes segment.now.nodes }
 {
     let nodes = segment.nodes.as_slice();
@@ -126,14 +126,14 @@ fn between(from: Node, to: Node) -> Piece
 
 /// The number of the segment in which the piece with this number lies.
 pub fn segment_of(track: &Track, index: u32) -> u32
-    requires { index < length (intervals_of (plain_track track.now)) }
+    requires { index < length (pieces_of (plain_track track.now)) }
     ensures { IsInSegment (plain_track track.now) index result }
 {
     segment_number(track, index) as u32
 }
 
 fn segment_number(track: &Track, index: u32) -> usize
-    requires { index < length (intervals_of (plain_track track.now)) }
+    requires { index < length (pieces_of (plain_track track.now)) }
     ensures exists { result < length track.now.segments }
     ensures fits { result < 2 ^ 32 }
     ensures last { IsLastStarted index (starts_from 0 track.now.segments) result }

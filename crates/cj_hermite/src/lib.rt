@@ -48,7 +48,7 @@ pub use problem::Problem;
 pub use rates::rate;
 pub use ready_axis::{Ready, ReadyAxis, Speed};
 pub use readying::ready;
-pub use runs::Run;
+pub use runs::PieceRun;
 pub use sizes::Sizes;
 pub use slots::{SLOT, slot_count, slot_window};
 pub use thresholds::threshold_between;

@@ -2,7 +2,7 @@
 ghost use Rattle.std.specs.Prelude.{◌≡◌, is_some, true, option_map};
 ghost use Rattle.cj_track.specs.Tracks.{plain_track};
 ghost use Rattle.cj_hermite.specs.Interpolant.{curve_of};
-ghost use Rattle.cj_hermite.specs.Pieces.{interval_at, interval_index_at, curve_of_interval};
+ghost use Rattle.cj_hermite.specs.Pieces.{piece_holding, piece_at, curve_of_piece};
 ghost use Rattle.cj_hermite.specs.PlainProblems.{number_at, curve_at};
 ghost use Rattle.cj_hermite.specs.Problems.{plain_problem};
 
@@ -15,8 +15,8 @@ use cj_track::Track;
 
 /// The piece of a track at a tick at which it has a state.
 pub(crate) fn piece_of_track(track: &Track, at: Tick) -> Piece
-    requires { is_some (interval_index_at (plain_track track.now) at.micros) ≡ true }
-    ensures { option_map curve_of_interval (interval_at (plain_track track.now) at.micros) ≡ Some (curve_of result) }
+    requires { is_some (piece_at (plain_track track.now) at.micros) ≡ true }
+    ensures { option_map curve_of_piece (piece_holding (plain_track track.now) at.micros) ≡ Some (curve_of result) }
 {
     match find(track, at, Hint::default()) {
         Some(found) => found_piece(track, found),

@@ -3,7 +3,7 @@ ghost use Rattle.std.specs.Prelude.{◌≡◌, ◌≢◌, ℕ, ◌<◌, ◌≤�
 ghost use Rattle.cj_track.specs.Segments.{AreInOrder};
 ghost use Rattle.cj_track.specs.Tracks.{plain_track};
 ghost use Rattle.cj_hermite.specs.Interpolant.{curve_of};
-ghost use Rattle.cj_hermite.specs.Pieces.{intervals_of, interval_at, interval_index_at, curve_of_interval};
+ghost use Rattle.cj_hermite.specs.Pieces.{pieces_of, piece_holding, piece_at, curve_of_piece};
 ghost use Rattle.cj_hermite.specs.PiecesOfTracks.{Spans};
 ghost use Rattle.cj_hermite.specs.Searches.{IsPlace};
 ghost use Rattle.cj_hermite.specs.Walks.{AreEnded, HasNoMore, IsNextState, HasNone, IsNextRun};
@@ -12,7 +12,7 @@ use crate::cutting::cut_found;
 use crate::finding::{find, found_piece};
 use crate::found_pieces::FoundPiece;
 use crate::hints::Hint;
-use crate::runs::Run;
+use crate::runs::PieceRun;
 use cj_ticks::{Tick, Window};
 use cj_track::{Segment, Track};
 
@@ -40,8 +40,8 @@ fn next_state(track: &Track, from: Tick) -> Option<Tick>
 fn next_found(track: &Track, from: Tick, hint: Hint) -> Option<(Tick, FoundPiece)>
     ensures state { MatchOption result (HasNoMore (plain_track track.now) from.micros) (λ next. IsNextState (plain_track track.now) from.micros next.0.micros) }
     ensures place { IfSome result (λ next. IsPlace track.now.segments next.1) }
-    ensures number { IfSome result (λ next. interval_index_at (plain_track track.now) next.0.micros ≡ Some next.1.index) }
-    ensures later { IfSome result (λ next. (m number : ℕ) → next.0.micros ≤ m → interval_index_at (plain_track track.now) m ≡ Some number → next.1.index ≤ number) }
+    ensures number { IfSome result (λ next. piece_at (plain_track track.now) next.0.micros ≡ Some next.1.index) }
+    ensures later { IfSome result (λ next. (m number : ℕ) → next.0.micros ≤ m → piece_at (plain_track track.now) m ≡ Some number → next.1.index ≤ number) }
 {
     if let Some(found) = find(track, from, hint) {
         return Some((from, found));
@@ -52,20 +52,20 @@ fn next_found(track: &Track, from: Tick, hint: Hint) -> Option<(Tick, FoundPiece
 }
 
 /// The first run of ticks at one piece, of those from `from` to `last`, with the piece and its number. The hint then says where it is.
-pub fn run_from(track: &Track, from: Tick, last: Tick, hint: &mut Hint) -> Option<Run>
+pub fn run_from(track: &Track, from: Tick, last: Tick, hint: &mut Hint) -> Option<PieceRun>
     ensures run { MatchOption result (HasNone (plain_track track.now) from.micros last.micros) (λ run. IsNextRun (plain_track track.now) from.micros last.micros run.ticks) }
     ensures after { IfSome result (λ run. from.micros ≤ run.ticks.first.micros) }
     // Where it ends before the last tick, its piece is not used again.
     ensures ended { IfSome result (λ run. run.ticks.last.micros < last.micros → (m : ℕ) → run.ticks.last.micros < m
-        → interval_index_at (plain_track track.now) m ≢ interval_index_at (plain_track track.now) run.ticks.last.micros) }
-    ensures number { IfSome result (λ run. interval_index_at (plain_track track.now) run.ticks.last.micros ≡ Some run.index) }
+        → piece_at (plain_track track.now) m ≢ piece_at (plain_track track.now) run.ticks.last.micros) }
+    ensures number { IfSome result (λ run. piece_at (plain_track track.now) run.ticks.last.micros ≡ Some run.index) }
     // No later tick has an earlier piece.
-    ensures later { IfSome result (λ run. (m number : ℕ) → run.ticks.last.micros ≤ m → interval_index_at (plain_track track.now) m ≡ Some number → run.index ≤ number) }
-    ensures states { IfSome result (λ run. IsSomeAnd (slice_get (intervals_of (plain_track track.now)) run.index) (Spans run.piece)) }
-    ensures curve { IfSome result (λ run. IsSomeAnd (slice_get (intervals_of (plain_track track.now)) run.index) (λ x. curve_of run.piece ≡ curve_of_interval x)) }
+    ensures later { IfSome result (λ run. (m number : ℕ) → run.ticks.last.micros ≤ m → piece_at (plain_track track.now) m ≡ Some number → run.index ≤ number) }
+    ensures nodes { IfSome result (λ run. IsSomeAnd (slice_get (pieces_of (plain_track track.now)) run.index) (Spans run.piece)) }
+    ensures curve { IfSome result (λ run. IsSomeAnd (slice_get (pieces_of (plain_track track.now)) run.index) (λ x. curve_of run.piece ≡ curve_of_piece x)) }
     // At each of its ticks the track is at the piece.
     ensures piece { IfSome result (λ run. (m : ℕ) → run.ticks.first.micros ≤ m → m ≤ run.ticks.last.micros
-        → option_map curve_of_interval (interval_at (plain_track track.now) m) ≡ Some (curve_of run.piece)) }
+        → option_map curve_of_piece (piece_holding (plain_track track.now) m) ≡ Some (curve_of run.piece)) }
 {
     let (first, found) = next_found(track, from, *hint)?;
     *hint = found.hint();
@@ -73,7 +73,7 @@ pub fn run_from(track: &Track, from: Tick, last: Tick, hint: &mut Hint) -> Optio
         return None;
     }
     let ticks = cut_found(track, found, Window { first, last })?;
-    Some(Run {
+    Some(PieceRun {
         ticks,
         index: found.index,
         piece: found_piece(track, found),
@@ -86,7 +86,7 @@ pub fn next_run(track: &Track, from: Tick, last: Tick) -> Option<Window>
     ensures after { IfSome result (λ run. from.micros ≤ run.first.micros) }
     // Where it ends before the last tick, its piece is not used again.
     ensures ended { IfSome result (λ run. run.last.micros < last.micros → (m : ℕ) → run.last.micros < m
-        → interval_index_at (plain_track track.now) m ≢ interval_index_at (plain_track track.now) run.last.micros) }
+        → piece_at (plain_track track.now) m ≢ piece_at (plain_track track.now) run.last.micros) }
 {
     let mut hint = Hint::default();
     let run = run_from(track, from, last, &mut hint)?;

@@ -1,7 +1,7 @@
 //! The pieces of a track, and its runs of ticks.
 ghost use Rattle.std.specs.Prelude.{◌≡◌, ◌+◌, ◌*◌, ◌<◌, ◌≤◌, length, IfOk};
 ghost use Rattle.cj_track.specs.Tracks.{plain_track};
-ghost use Rattle.cj_hermite.specs.Pieces.{intervals_of};
+ghost use Rattle.cj_hermite.specs.Pieces.{pieces_of};
 
 use cj_epoch::leap_between;
 use cj_hermite::{Hint, cut, piece, piece_at, run_from, segment_of};
@@ -106,7 +106,7 @@ fn named(alloc: Global, segments: Segments) -> Result<Track, AllocError>
 
 /// Three segments share the tick at 30 s, and the fourth begins after a gap.
 fn track(rt: &impl Abort, alloc: Global) -> Result<Track, AllocError>
-    ensures { IfOk result (λ track. length (intervals_of (plain_track track)) ≡ 6) }
+    ensures { IfOk result (λ track. length (pieces_of (plain_track track)) ≡ 6) }
 {
     let segments = vec![in alloc;
         short(rt, alloc, 0, 30_000, 0, 30_000)?,

@@ -4,8 +4,8 @@ use Rattle.std.specs.List.{ends_with}
 use Rattle.std.specs.Option.{option_copied}
 use Rattle.std.specs.Str.{bytes_eq}
 use Rattle.cj_host.specs.declared.inputs.Inputs as kept
-use Rattle.cj_words.specs.Commands.{Asking, Screens, Checks, Generates, Tries, Rewrites}
-use Rattle.cj_words.specs.Settings.{Asked}
+use Rattle.cj_words.specs.Commands.{PlainCommand, Screens, Checks, Generates, Selfruns, Rewrites}
+use Rattle.cj_words.specs.Settings.{PlainSettings}
 use Rattle.cj_words.specs.declared.option.UsageFault.{UsageFault}
 
 -- which files are read: those whose names end with the suffix, the one of sizes, and the report that is checked
@@ -21,17 +21,17 @@ plain_inputs inputs = record { suffix = option_copied inputs.suffix; sizes = opt
 abbrev pub nothing : Reads
 nothing = record { suffix = None; sizes = None; report = None }
 
-abbrev pub reads_asked : Asked → Option (List ℕ) → Reads
+abbrev pub reads_asked : PlainSettings → Option (List ℕ) → Reads
 reads_asked asked report = record { suffix = Some asked.suffix; sizes = asked.sizes; report = report }
 
--- What a command reads. The certificate of a rewriting is left out: the one piece that takes the place of a file may take that of the
+-- What a command reads. The certificate of a rewriting is left out: the one output that takes the place of a file may take that of the
 -- certificate from which it is made.
-abbrev pub reads_of : Result Asking UsageFault → Reads
+abbrev pub reads_of : Result PlainCommand UsageFault → Reads
 reads_of (Ok (Screens screening)) = reads_asked screening.settings None
 reads_of (Ok (Checks checking)) = reads_asked checking.settings checking.report
 reads_of (Ok (Rewrites checking)) = reads_asked checking.settings None
 reads_of (Ok (Generates recipe)) = nothing
-reads_of (Ok (Tries trial)) = nothing
+reads_of (Ok (Selfruns selfrun)) = nothing
 reads_of (Err fault) = nothing
 
 abbrev pub has_suffix : Option (List ℕ) → List ℕ → Bool

@@ -3,7 +3,7 @@ ghost use Rattle.std.specs.Option.{option_copied};
 ghost use Rattle.cj_host.specs.Inputs as spec;
 ghost use Rattle.cj_host.specs.Inputs.{plain_inputs};
 ghost use Rattle.cj_words.specs.Commands.{command_of};
-ghost use Rattle.cj_words.specs.Settings.{asked_of};
+ghost use Rattle.cj_words.specs.Settings.{plain_settings};
 
 use cj_words::{Command, Settings, Word, read_command};
 
@@ -40,7 +40,7 @@ impl<'w> Inputs<'w> {
     }
 
     fn of_settings(settings: Settings<'w>, report: Option<&'w [u8]>) -> Inputs<'w>
-        ensures { plain_inputs result ≡ spec.reads_asked (asked_of settings.entry) (option_copied report.entry) }
+        ensures { plain_inputs result ≡ spec.reads_asked (plain_settings settings.entry) (option_copied report.entry) }
     {
         Inputs {
             suffix: Some(settings.suffix),

@@ -8,7 +8,7 @@ use std::io::ErrorKind;
 use std::thread::{Threads, join_mut};
 use std::{fs, io};
 
-/// A directory that this run makes for its pieces. It is filled under another name beside its own, and takes its own when all that is in it
+/// A directory that this run makes for its outputs. It is filled under another name beside its own, and takes its own when all that is in it
 /// is on the disk.
 #[derive(Drop)]
 pub struct NewDirectory<'a> {
@@ -69,7 +69,7 @@ impl<'a> NewDirectory<'a> {
         }
     }
 
-    /// Begins a piece.
+    /// Begins an output.
     pub fn start(&self, rt: &HostRuntime, alloc: Global, name: &str) -> Result<NewFile, Failure> {
         match &self.filling {
             Some(filling) => NewFile::make(rt, alloc, filling.path.part().join(alloc, name)?),
@@ -80,20 +80,20 @@ impl<'a> NewDirectory<'a> {
         }
     }
 
-    /// Keeps a piece that was written.
+    /// Keeps an output that was written.
     pub fn keep<R: Threads>(
         &mut self,
         threads: &R,
         alloc: Global,
-        piece: NewFile,
+        output: NewFile,
     ) -> Result<(), Failure> {
         match &mut self.filling {
-            Some(filling) => filling.keep(threads, alloc, piece),
+            Some(filling) => filling.keep(threads, alloc, output),
             None => Ok(()),
         }
     }
 
-    /// Brings all pieces to the disk, and gives the directory its name.
+    /// Brings all outputs to the disk, and gives the directory its name.
     pub fn finish<R: Threads>(
         &mut self,
         rt: &HostRuntime,

@@ -36,19 +36,19 @@ impl Paths {
 
     /// The files that a run of these words reads.
     pub fn folder<'a>(&'a self, rt: &'a HostRuntime, words: &'a [Word]) -> DirFolder<'a> {
-        match (&self.certificates, pieces_of(words)) {
-            (Some(other), Some(pieces)) => DirFolder::with_files_of(
+        match (&self.certificates, outputs_of(words)) {
+            (Some(other), Some(outputs)) => DirFolder::with_files_of(
                 rt,
                 self.directory.as_str(),
                 other.as_str(),
-                pieces.certificate,
-                pieces.report,
+                outputs.certificate,
+                outputs.report,
             ),
             _ => DirFolder::new(rt, self.directory.as_str()),
         }
     }
 
-    /// Where a run of these words puts its pieces.
+    /// Where a run of these words puts its outputs.
     pub fn shelf<'a, R: Threads>(
         &'a self,
         rt: &'a HostRuntime,
@@ -62,17 +62,17 @@ impl Paths {
     }
 }
 
-/// The names of pieces that are read.
+/// The names of outputs that are read.
 #[derive(Clone, Copy)]
-struct Pieces<'w> {
+struct Outputs<'w> {
     certificate: &'w str,
     report: Option<&'w str>,
 }
 
 /// The certificate that is read, and the report, where one is named.
-fn pieces_of(words: &[Word]) -> Option<Pieces<'_>> {
+fn outputs_of(words: &[Word]) -> Option<Outputs<'_>> {
     match read_command(words) {
-        Ok(Command::Check(checking)) | Ok(Command::Rewrite(checking)) => Some(Pieces {
+        Ok(Command::Check(checking)) | Ok(Command::Rewrite(checking)) => Some(Outputs {
             certificate: str::from_utf8(checking.certificate).ok()?,
             report: text_if(checking.report),
         }),

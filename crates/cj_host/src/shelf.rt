@@ -25,12 +25,12 @@ pub struct DirShelf<'a, R> {
 }
 
 impl<'a, R: Threads> DirShelf<'a, R> {
-    /// A shelf whose pieces become files of the directory with this path. Nothing is written yet.
+    /// A shelf whose outputs become files of the directory with this path. Nothing is written yet.
     pub fn new(files: &'a HostRuntime, threads: &'a R, directory: &'a str) -> Self {
         DirShelf::beside(files, threads, directory, Inputs::none())
     }
 
-    /// The same where the run reads files of the directory: no piece takes the place of one of them.
+    /// The same where the run reads files of the directory: no output takes the place of one of them.
     pub fn beside(
         files: &'a HostRuntime,
         threads: &'a R,
@@ -41,7 +41,7 @@ impl<'a, R: Threads> DirShelf<'a, R> {
         DirShelf::onto(files, threads, target)
     }
 
-    /// A shelf whose pieces become the files of a directory that is made for them, under this path.
+    /// A shelf whose outputs become the files of a directory that is made for them, under this path.
     pub fn in_new(files: &'a HostRuntime, threads: &'a R, path: &'a str) -> Self {
         DirShelf::onto(files, threads, Target::Made(NewDirectory::new(path)))
     }
@@ -56,7 +56,7 @@ impl<'a, R: Threads> DirShelf<'a, R> {
         }
     }
 
-    /// Makes the file of a piece whose bytes come in slices, one behind another.
+    /// Makes the file of an output whose bytes come in slices, one behind another.
     fn put_slices(&mut self, alloc: Global, name: &[u8], slices: &[&[u8]]) -> Result<(), PutError>
         ensures failed { IsErrOf result PutError.Failed → Rose self.old.faults self.new.faults }
         ensures memory { IsErrOf result PutError.Memory → self.new.faults ≡ self.old.faults }
@@ -96,7 +96,7 @@ impl<'a, R: Threads> DirShelf<'a, R> {
 }
 
 impl<R: Threads> Shelf for DirShelf<'_, R> {
-    ghost pieces = { λ s. None };
+    ghost outputs = { λ s. None };
 
     ghost faults = { λ s. s.faults };
 

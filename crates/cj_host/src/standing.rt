@@ -8,7 +8,7 @@ use std::io::ErrorKind;
 use std::path::Path;
 use std::{fs, io, mem};
 
-/// A directory that is there. Each piece is written under another name beside its own, and takes its own when it is whole.
+/// A directory that is there. Each output is written under another name beside its own, and takes its own when it is whole.
 #[derive(Drop)]
 pub struct StandingDirectory<'a> {
     path: &'a str,
@@ -18,7 +18,7 @@ pub struct StandingDirectory<'a> {
     held: Option<File>,
 }
 
-/// A piece that has not yet its name, and whether it is brought to the disk before.
+/// An output that has not yet its name, and whether it is brought to the disk before.
 #[derive(Drop)]
 pub struct Part {
     pub part: NewFile,
@@ -45,7 +45,7 @@ impl<'a> StandingDirectory<'a> {
         Ok(())
     }
 
-    /// Begins a piece, unless this run reads a file of its name.
+    /// Begins an output, unless this run reads a file of its name.
     pub fn start(&self, rt: &HostRuntime, alloc: Global, name: &str) -> Result<Part, Failure> {
         self.need_no_input(rt, alloc, name)?;
         if name == FIRST {
@@ -60,7 +60,7 @@ impl<'a> StandingDirectory<'a> {
         })
     }
 
-    /// Brings the names of all pieces to the disk.
+    /// Brings the names of all outputs to the disk.
     pub fn finish(&self, alloc: Global) -> Result<(), Failure> {
         match &self.held {
             Some(directory) => sync_directory(alloc, self.path, directory),
@@ -68,22 +68,22 @@ impl<'a> StandingDirectory<'a> {
         }
     }
 
-    /// Gives a piece its name, when it is on the disk.
+    /// Gives an output its name, when it is on the disk.
     pub fn keep(
         &self,
         rt: &HostRuntime,
         alloc: Global,
         name: &str,
-        piece: &Part,
+        output: &Part,
     ) -> Result<(), Failure> {
         let whole = Path::new(self.path).join(alloc, name)?;
-        if piece.is_synced {
-            piece.part.sync(alloc)?;
+        if output.is_synced {
+            output.part.sync(alloc)?;
         }
-        if !piece.part.is_there(rt) {
+        if !output.part.is_there(rt) {
             return Err(Failure::other_run(alloc, self.path));
         }
-        let named = fs::rename(rt, piece.part.path.as_path(), whole.as_path());
+        let named = fs::rename(rt, output.part.path.as_path(), whole.as_path());
         done_at(alloc, whole.as_str(), named)
     }
 
@@ -102,7 +102,7 @@ impl<'a> StandingDirectory<'a> {
     }
 }
 
-// The first two pieces of a screening: where the second may not be put, nor is the first.
+// The first two outputs of a screening: where the second may not be put, nor is the first.
 const FIRST: &str = "screen.report";
 
 const SECOND: &str = "screen.cert";

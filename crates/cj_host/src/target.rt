@@ -16,7 +16,7 @@ pub struct Host<'a, R> {
     pub threads: &'a R,
 }
 
-/// Where pieces go.
+/// Where outputs go.
 #[derive(Drop)]
 pub enum Target<'a> {
     /// Among the files of a directory.
@@ -25,7 +25,7 @@ pub enum Target<'a> {
     Made(NewDirectory<'a>),
 }
 
-/// A piece that is begun.
+/// An output that is begun.
 #[derive(Drop)]
 enum Begun {
     /// It goes to standard output.
@@ -40,7 +40,7 @@ enum Begun {
 const OUTPUT: &str = "standard output";
 
 impl Target<'_> {
-    /// Makes ready for pieces, where no other run puts its own there.
+    /// Makes ready for outputs, where no other run puts its own there.
     pub fn begin(&mut self, rt: &HostRuntime, alloc: Global) -> Result<(), Failure> {
         match self {
             Target::Standing(directory) => directory.begin(rt, alloc),
@@ -48,7 +48,7 @@ impl Target<'_> {
         }
     }
 
-    /// Puts a piece whose bytes come in slices, one behind another.
+    /// Puts an output whose bytes come in slices, one behind another.
     pub fn put<R: Threads>(
         &mut self,
         host: &Host<'_, R>,
@@ -57,12 +57,12 @@ impl Target<'_> {
         slices: &[&[u8]],
     ) -> Result<(), Failure> {
         let name = name_of(alloc, name)?;
-        let mut piece = self.start(host, alloc, name)?;
-        let written = piece.write(host, alloc, slices);
-        self.end(host, alloc, name, piece, written)
+        let mut output = self.start(host, alloc, name)?;
+        let written = output.write(host, alloc, slices);
+        self.end(host, alloc, name, output, written)
     }
 
-    /// Puts a piece of these first parts and of what the source makes behind them.
+    /// Puts an output of these first parts and of what the source makes behind them.
     pub fn put_made<R: Threads, W: Threads + Sync, M: PartSource>(
         &mut self,
         host: &Host<'_, R>,
@@ -73,9 +73,9 @@ impl Target<'_> {
         source: &mut M,
     ) -> Result<(), Failure> {
         let name = name_of(alloc, name)?;
-        let mut piece = self.start(host, alloc, name)?;
-        let written = piece.write_made(host, rt, alloc, first, source);
-        self.end(host, alloc, name, piece, written)
+        let mut output = self.start(host, alloc, name)?;
+        let written = output.write_made(host, rt, alloc, first, source);
+        self.end(host, alloc, name, output, written)
     }
 
     /// Takes away what has not got its name.
@@ -86,7 +86,7 @@ impl Target<'_> {
         }
     }
 
-    /// Begins a piece. Standard output comes last: all pieces before it are then whole, and are brought to the disk.
+    /// Begins an output. Standard output comes last: all outputs before it are then whole, and are brought to the disk.
     fn start<R: Threads>(
         &mut self,
         host: &Host<'_, R>,
@@ -105,32 +105,32 @@ impl Target<'_> {
         }
     }
 
-    /// Ends a piece that was written so. What is not whole is taken away again.
+    /// Ends an output that was written so. What is not whole is taken away again.
     fn end<R: Threads>(
         &mut self,
         host: &Host<'_, R>,
         alloc: Global,
         name: &str,
-        piece: Begun,
+        output: Begun,
         written: Result<(), Failure>,
     ) -> Result<(), Failure> {
         if written.is_err() {
-            piece.remove(host.files);
-            drop(piece);
+            output.remove(host.files);
+            drop(output);
             return written;
         }
-        self.keep(host, alloc, name, piece)
+        self.keep(host, alloc, name, output)
     }
 
-    /// Keeps a piece that is written.
+    /// Keeps an output that is written.
     fn keep<R: Threads>(
         &mut self,
         host: &Host<'_, R>,
         alloc: Global,
         name: &str,
-        piece: Begun,
+        output: Begun,
     ) -> Result<(), Failure> {
-        match (self, piece) {
+        match (self, output) {
             (Target::Standing(directory), Begun::Part(part)) => {
                 let kept = directory.keep(host.files, alloc, name, &part);
                 if kept.is_err() {
@@ -165,7 +165,7 @@ impl Begun {
                 let written = write_slices(&mut host.files.stdout(), slices);
                 done_at(alloc, OUTPUT, written)
             }
-            Begun::Part(piece) => piece.part.write(alloc, slices),
+            Begun::Part(output) => output.part.write(alloc, slices),
             Begun::File(file) => file.write(alloc, slices),
         }
     }
@@ -183,16 +183,16 @@ impl Begun {
                 let made = write_all_made(&mut host.files.stdout(), rt, alloc, &first, source);
                 made.map_err(|error| error.at(alloc, OUTPUT))
             }
-            Begun::Part(piece) => piece.part.write_made(rt, alloc, first, source),
+            Begun::Part(output) => output.part.write_made(rt, alloc, first, source),
             Begun::File(file) => file.write_made(rt, alloc, first, source),
         }
     }
 
-    /// Takes away the file of a piece that is not whole.
+    /// Takes away the file of an output that is not whole.
     fn remove(&self, rt: &HostRuntime) {
         match self {
             Begun::Output => {}
-            Begun::Part(piece) => piece.part.remove(rt),
+            Begun::Part(output) => output.part.remove(rt),
             Begun::File(file) => file.remove(rt),
         }
     }

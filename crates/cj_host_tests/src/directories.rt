@@ -37,7 +37,7 @@ fn files_of_a_directory_are_read(rt: HostRuntime) {
 }
 
 #[test]
-fn pieces_are_written_to_a_directory(rt: HostRuntime) {
+fn outputs_are_written_to_a_directory(rt: HostRuntime) {
     let alloc = rt.alloc();
     fs::create_dir(&rt, "written_here").expect(&rt, "no fault");
     fs::write(
@@ -71,7 +71,7 @@ fn pieces_are_written_to_a_directory(rt: HostRuntime) {
 }
 
 #[test]
-fn a_piece_that_cannot_take_its_name_leaves_nothing(rt: HostRuntime) {
+fn an_output_that_cannot_take_its_name_leaves_nothing(rt: HostRuntime) {
     let alloc = rt.alloc();
     fs::create_dir(&rt, "taken_here").expect(&rt, "no fault");
     fs::create_dir(&rt, "taken_here/screen.report").expect(&rt, "no fault");
@@ -95,7 +95,7 @@ fn a_piece_that_cannot_take_its_name_leaves_nothing(rt: HostRuntime) {
 }
 
 #[test]
-fn a_piece_is_written_while_it_is_made(rt: HostRuntime) {
+fn an_output_is_written_while_it_is_made(rt: HostRuntime) {
     let alloc = rt.alloc();
     fs::create_dir(&rt, "made_here").expect(&rt, "no fault");
     let mut shelf = DirShelf::new(&rt, &rt, "made_here");
@@ -171,7 +171,7 @@ impl PartSource for Starved {
 }
 
 #[test]
-fn a_piece_that_wants_memory_while_it_is_made_leaves_nothing(rt: HostRuntime) {
+fn an_output_that_wants_memory_while_it_is_made_leaves_nothing(rt: HostRuntime) {
     let alloc = rt.alloc();
     fs::create_dir(&rt, "starved_here").expect(&rt, "no fault");
     fs::write(&rt, "starved_here/screen.cert", "older").expect(&rt, "no fault");

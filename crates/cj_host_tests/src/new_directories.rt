@@ -1,4 +1,4 @@
-//! Directories that a run makes for its pieces.
+//! Directories that a run makes for its outputs.
 use crate::telling::{holds, is_free, is_told};
 use cj_host::DirShelf;
 use cj_io::{PutError, Shelf};
@@ -35,7 +35,7 @@ fn a_new_directory_takes_its_name_when_all_is_put(rt: HostRuntime) {
 }
 
 #[test]
-fn many_pieces_come_into_a_new_directory(rt: HostRuntime) {
+fn many_outputs_come_into_a_new_directory(rt: HostRuntime) {
     let alloc = rt.alloc();
     let mut shelf = DirShelf::in_new(&rt, &rt, "many_new");
     shelf.begin(alloc).expect(&rt, "no fault");
@@ -78,7 +78,7 @@ fn a_run_that_fails_leaves_no_new_directory(rt: HostRuntime) {
 }
 
 #[test]
-fn a_piece_that_was_not_begun_is_put_nowhere(rt: HostRuntime) {
+fn an_output_that_was_not_begun_is_put_nowhere(rt: HostRuntime) {
     let alloc = rt.alloc();
     fs::create_dir(&rt, "unbegun_here").expect(&rt, "no fault");
     let mut shelf = DirShelf::in_new(&rt, &rt, "unbegun_here");
@@ -90,7 +90,7 @@ fn a_piece_that_was_not_begun_is_put_nowhere(rt: HostRuntime) {
 }
 
 #[test]
-fn a_name_that_is_taken_is_told_before_the_first_piece(rt: HostRuntime) {
+fn a_name_that_is_taken_is_told_before_the_first_output(rt: HostRuntime) {
     let alloc = rt.alloc();
     fs::create_dir(&rt, "taken_new").expect(&rt, "no fault");
     fs::create_dir(&rt, "taken_new/directory").expect(&rt, "no fault");

@@ -6,7 +6,7 @@ use std::fs;
 use std::panic::Expect;
 
 #[test]
-fn one_run_at_a_time_puts_pieces_into_a_directory(rt: HostRuntime) {
+fn one_run_at_a_time_puts_outputs_into_a_directory(rt: HostRuntime) {
     let alloc = rt.alloc();
     fs::create_dir(&rt, "shared_here").expect(&rt, "no fault");
     let mut first = DirShelf::new(&rt, &rt, "shared_here");
@@ -34,7 +34,7 @@ fn one_run_at_a_time_puts_pieces_into_a_directory(rt: HostRuntime) {
 }
 
 #[test]
-fn a_directory_that_cannot_be_held_is_no_fault_before_a_piece(rt: HostRuntime) {
+fn a_directory_that_cannot_be_held_is_no_fault_before_an_output(rt: HostRuntime) {
     let alloc = rt.alloc();
     let mut shelf = DirShelf::new(&rt, &rt, "missing_here");
     shelf.begin(alloc).expect(&rt, "no fault");

@@ -1,4 +1,4 @@
-//! What stands under the name of a piece's part, or of a piece, before the piece is put.
+//! What stands under the name of an output's part, or of an output, before the output is put.
 use crate::telling::{holds, is_free, is_told};
 use cj_host::DirShelf;
 use cj_io::{PutError, Shelf};
@@ -64,7 +64,7 @@ fn a_link_under_the_name_of_a_part_is_not_followed(rt: HostRuntime) {
 }
 
 #[test]
-fn a_link_under_the_name_of_a_piece_is_replaced(rt: HostRuntime) {
+fn a_link_under_the_name_of_an_output_is_replaced(rt: HostRuntime) {
     let alloc = rt.alloc();
     fs::create_dir(&rt, "replaced_here").expect(&rt, "no fault");
     fs::write(&rt, "replaced_here/other", "kept").expect(&rt, "no fault");

@@ -12,7 +12,7 @@ use Rattle.cj_track.specs.Tracks.{plain_track}
 use Rattle.cj_track.specs.declared.track.Track.{Track}
 use Rattle.cj_oem.specs.Reading.{Fault, reading}
 use Rattle.cj_oem.proofs.GrammarLemmas.{reading_says}
-use Rattle.cj_words.specs.Settings.{Asked}
+use Rattle.cj_words.specs.Settings.{PlainSettings}
 use Rattle.cj_status.specs.declared.status.Status.{Status}
 use Rattle.cj_status.specs.Steps.{◌>>=◌}
 use Rattle.cj_inputs.specs.declared.batch.Batch.{Batch}
@@ -43,7 +43,7 @@ said_named as_hermite3 name bytes e is = (reading_says as_hermite3 name bytes e 
     unrefused (Err fault) same = absurd cc
 
 -- the reading of a file that was read
-one_after : (settings : Asked) (files : List FileBytes) (before : List PlainTrack) (entry : Entry) (file : FileRead) → WasRead files entry file
+one_after : (settings : PlainSettings) (files : List FileBytes) (before : List PlainTrack) (entry : Entry) (file : FileRead) → WasRead files entry file
     → reading_after settings files before entry ≡ (said_by settings.as_hermite3 file >>= λ e. checked_after settings.limits.nodes before e.file e)
 unfolding reading_of
 one_after settings files before entry file was =
@@ -59,7 +59,7 @@ one_after settings files before entry file was =
     named (Err s) is = refl
 
 -- the reading of files of which the first were read: those, and then the rest
-pub front_read : (settings : Asked) (files : List FileBytes) (before : List PlainTrack) (entries : List Entry) (read : List FileRead) → AllZip (WasRead files) (take (length read) entries) read
+pub front_read : (settings : PlainSettings) (files : List FileBytes) (before : List PlainTrack) (entries : List Entry) (read : List FileRead) → AllZip (WasRead files) (take (length read) entries) read
     → readings_after settings files before entries
     ≡ (tracks_after settings.limits.nodes before (map (said_by settings.as_hermite3) read) >>= λ es. readings_after settings files es (drop (length read) entries))
 front_read settings files before entries [] all = refl
@@ -86,7 +86,7 @@ front_fails rose view seen why whole front f is here =
     subst (λ (r : Result (List PlainTrack) Status). Reads rose seen (Err why) r) (sym is) (reads_wider ⊥ rose seen seen why (front >>= f) (λ none. absurd none) (reads_on ⊥ view seen why front f here))
 
 -- the file at a place is not read
-pub next_fails : {Y : Type 0} (seen : Y → List PlainTrack) (settings : Asked) (files : List FileBytes) (before : List PlainTrack) (entries : List Entry) (place : ℕ) (why : InputError)
+pub next_fails : {Y : Type 0} (seen : Y → List PlainTrack) (settings : PlainSettings) (files : List FileBytes) (before : List PlainTrack) (entries : List Entry) (place : ℕ) (why : InputError)
     → IsCause files entries place why → Reads ⊤ seen (Err why) (readings_after settings files before (drop place entries))
 unfolding reading_of
 next_fails {Y} seen settings files before entries place why cause =
@@ -102,7 +102,7 @@ next_fails {Y} seen settings files before entries place why cause =
     subst (λ (r : Result (List PlainTrack) Status). Reads ⊤ seen (Err why) r) (sym here) three
 
 -- all that were read are taken: the rest leads where all lead
-pub front_taken : (settings : Asked) (files : List FileBytes) (before after : List PlainTrack) (entries : List Entry) (read : List FileRead) → AllZip (WasRead files) (take (length read) entries) read
+pub front_taken : (settings : PlainSettings) (files : List FileBytes) (before after : List PlainTrack) (entries : List Entry) (read : List FileRead) → AllZip (WasRead files) (take (length read) entries) read
     → tracks_after settings.limits.nodes before (map (said_by settings.as_hermite3) read) ≡ Ok after → readings_after settings files before entries ≡ readings_after settings files after (drop (length read) entries)
 front_taken settings files before after entries read all taken =
     front_read settings files before entries read all
@@ -246,7 +246,7 @@ abbrev seen : Progress → List PlainTrack
 seen progress = map plain_track progress.taken.tracks.items
 
 -- one of the files that were read is not taken
-batch_fails : (settings : Asked) (files : List FileBytes) (entries : List Entry) (progress : Progress) (why : InputError)
+batch_fails : (settings : PlainSettings) (files : List FileBytes) (entries : List Entry) (progress : Progress) (why : InputError)
     → IsOnTheWay settings files entries progress
     → Reads ⊥ seen (Err why) (tracks_after settings.limits.nodes (seen progress) (map (said_by settings.as_hermite3) progress.batch.files.items)) → GoesOn settings files entries (Err why)
 batch_fails settings files entries progress why way here =
@@ -264,7 +264,7 @@ abbrev own : List PlainTrack → List PlainTrack
 own all = all
 
 -- the next was not read, for this cause or an earlier one
-pub batch_stops : (settings : Asked) (files : List FileBytes) (entries : List Entry) (progress : Progress) (why cause : InputError)
+pub batch_stops : (settings : PlainSettings) (files : List FileBytes) (entries : List Entry) (progress : Progress) (why cause : InputError)
     → IsOnTheWay settings files entries progress → progress.batch.stop ≡ Some why
     → IsFirstCause settings.limits.nodes why (seen progress) (map (said_by settings.as_hermite3) progress.batch.files.items) cause
     → GoesOn settings files entries (Err cause)
@@ -288,7 +288,7 @@ tracks_many most before (s ∷ said) after is = one (s >>= λ e. checked_after m
     one (Ok e) more is = omega (arith, more e is, length-append before (e ∷ []))
     one (Err why) more is = absurd cc
 
-many_taken : (settings : Asked) (progress next : Progress)
+many_taken : (settings : PlainSettings) (progress next : Progress)
     → tracks_after settings.limits.nodes (seen progress) (map (said_by settings.as_hermite3) progress.batch.files.items) ≡ Ok (seen next)
     → length next.taken.tracks.items ≡ length progress.taken.tracks.items + length progress.batch.files.items
 many_taken settings progress next taken =
@@ -302,7 +302,7 @@ many_taken settings progress next taken =
     )
 
 -- all are taken, and the next batch is read
-batch_taken : (settings : Asked) (files : List FileBytes) (entries rest : List Entry) (progress next : Progress)
+batch_taken : (settings : PlainSettings) (files : List FileBytes) (entries rest : List Entry) (progress next : Progress)
     → IsOnTheWay settings files entries progress
     → tracks_after settings.limits.nodes (seen progress) (map (said_by settings.as_hermite3) progress.batch.files.items) ≡ Ok (seen next)
     → rest ≡ drop (length progress.taken.tracks.items + length progress.batch.files.items) entries → IsBatchOf files rest next.batch → IsOnTheWay settings files entries next
@@ -320,7 +320,7 @@ batch_taken settings files entries rest progress next way taken left batch =
     }
 
 -- so it goes on, or one of its files is not taken
-pub batch_goes_on : (settings : Asked) (files : List FileBytes) (entries rest : List Entry) (progress : Progress) (r : Result Progress InputError)
+pub batch_goes_on : (settings : PlainSettings) (files : List FileBytes) (entries rest : List Entry) (progress : Progress) (r : Result Progress InputError)
     → IsOnTheWay settings files entries progress
     → Reads ⊥ seen r (tracks_after settings.limits.nodes (seen progress) (map (said_by settings.as_hermite3) progress.batch.files.items))
     → rest ≡ drop (length progress.taken.tracks.items + length progress.batch.files.items) entries → IfOk r (λ next. IsBatchOf files rest next.batch)
@@ -329,7 +329,7 @@ batch_goes_on settings files entries rest progress (Err why) way taken left batc
 batch_goes_on settings files entries rest progress (Ok next) way taken left batch = batch_taken settings files entries rest progress next way taken left batch
 
 -- where the batch has files, more are taken
-pub more_taken : (settings : Asked) (progress : Progress) (r : Result Progress InputError)
+pub more_taken : (settings : PlainSettings) (progress : Progress) (r : Result Progress InputError)
     → Reads ⊥ seen r (tracks_after settings.limits.nodes (seen progress) (map (said_by settings.as_hermite3) progress.batch.files.items))
     → 0 < length progress.batch.files.items → IfOk r (λ next. length progress.taken.tracks.items < length next.taken.tracks.items)
 more_taken settings progress (Err why) taken some = tt
@@ -340,7 +340,7 @@ pub all_left : (entries : List Entry) (k m : ℕ) → k ≡ m → take (length e
 all_left entries k m same = take_all (length entries - k) (drop k entries) (omega (arith, length-drop k entries)) ∙ ap (λ (n : ℕ). drop n entries) same
 
 -- the next batch is one of the files behind those that are taken
-pub next_fits : (settings : Asked) (entries rest : List Entry) (progress : Progress) (r : Result Progress InputError) → Fits entries progress
+pub next_fits : (settings : PlainSettings) (entries rest : List Entry) (progress : Progress) (r : Result Progress InputError) → Fits entries progress
     → Reads ⊥ seen r (tracks_after settings.limits.nodes (seen progress) (map (said_by settings.as_hermite3) progress.batch.files.items))
     → rest ≡ drop (length progress.taken.tracks.items + length progress.batch.files.items) entries
     → IfOk r (λ next. length next.batch.files.items ≤ length rest)
@@ -365,7 +365,7 @@ of_part {Y = Y} {F = F} P part had (Ok x) is holds = subst (λ (h : Result Y F).
 -- ---- the reading of all, batch by batch
 
 -- where nothing is taken yet and the first batch is read
-pub begun : (settings : Asked) (files : List FileBytes) (entries : List Entry) (progress : Progress) → progress.taken.tracks.items ≡ []
+pub begun : (settings : PlainSettings) (files : List FileBytes) (entries : List Entry) (progress : Progress) → progress.taken.tracks.items ≡ []
     → IsBatchOf files entries progress.batch
     → IsOnTheWay settings files entries progress
 begun settings files entries progress none batch = record {
@@ -383,7 +383,7 @@ begun_fits entries progress none few some =
     }
 
 -- where all are taken
-pub all_taken : (settings : Asked) (files : List FileBytes) (entries : List Entry) (progress : Progress) → IsOnTheWay settings files entries progress
+pub all_taken : (settings : PlainSettings) (files : List FileBytes) (entries : List Entry) (progress : Progress) → IsOnTheWay settings files entries progress
     → length entries ≤ length progress.taken.tracks.items → readings_of settings files entries ≡ Ok (seen progress)
 all_taken settings files entries progress way all =
     let done = length progress.taken.tracks.items in

@@ -16,7 +16,7 @@ use Rattle.cj_track.specs.declared.frame.Frame.TheVariants as frames
 use Rattle.cj_track.specs.declared.track.Track.{Track}
 use Rattle.cj_hermite.specs.CaseLimits.{node_total}
 use Rattle.cj_hermite.specs.Frames.{HaveOneFrame}
-use Rattle.cj_words.specs.Settings.{Asked}
+use Rattle.cj_words.specs.Settings.{PlainSettings}
 use Rattle.cj_status.specs.declared.status.Status.{Status}
 use Rattle.cj_status.specs.declared.status.Status.TheVariants.{Limit}
 use Rattle.cj_status.specs.declared.status.LimitFault.TheVariants as limit
@@ -110,7 +110,7 @@ one_frame_more tracks track one e = λ i j d below_i below_j. last i d below_i �
         either (inr h) = at_end i d (omega (arith, length-append tracks (track ∷ [])))
 
 -- the reading from an entry on: that file, and then the rest
-pub from_on : (settings : Asked) (files : List FileBytes) (before : List PlainTrack) (entries : List Entry) (i : ℕ) (d : Entry) → i < length entries
+pub from_on : (settings : PlainSettings) (files : List FileBytes) (before : List PlainTrack) (entries : List Entry) (i : ℕ) (d : Entry) → i < length entries
     → readings_after settings files before (drop i entries)
     ≡ (reading_after settings files before (get_or entries i d) >>= λ e. readings_after settings files (before ++ e ∷ []) (drop (suc i) entries))
 from_on settings files before [] i d below = absurd (omega arith)

@@ -10,7 +10,7 @@ use Rattle.cj_io.specs.Files.{names_of}
 use Rattle.cj_hermite.specs.PlainProblems.{PlainProblem}
 use Rattle.cj_track.specs.PlainTracks.{PlainTrack}
 use Rattle.cj_sizes.specs.Sizes.{Size}
-use Rattle.cj_words.specs.Settings.{Asked}
+use Rattle.cj_words.specs.Settings.{PlainSettings}
 use Rattle.cj_status.specs.declared.status.Status.{Status}
 use Rattle.cj_status.specs.declared.status.Status.TheVariants as status
 use Rattle.cj_status.specs.declared.status.LimitFault.TheVariants.{Objects, Window, Slots}
@@ -25,10 +25,10 @@ use Rattle.cj_inputs.specs.Readings.{readings_of, Reads}
 use Rattle.cj_status.specs.Errors.{folder_status}
 use Rattle.cj_inputs.specs.Errors.{input_status}
 use Rattle.cj_inputs.specs.Cases.{case_asked, case_of_run, case_with, object_slots, within_limits, within_objects}
-use Rattle.cj_inputs.specs.CheckInputs.{PlainInputs, certificate_named, inputs_asked, piece_at, piece_named, report_if_named, report_named}
+use Rattle.cj_inputs.specs.CheckInputs.{PlainInputs, certificate_named, inputs_asked, input_at, input_named, report_if_named, report_named}
 use Rattle.cj_status.specs.declared.status.CertificateCause.{CertificateCause}
 use Rattle.cj_status.specs.declared.status.CertificateCause.TheVariants.{NoFile, NoReport}
-use Rattle.cj_words.specs.Commands.{Checking}
+use Rattle.cj_words.specs.Commands.{PlainChecking}
 
 -- what ended a step ends those behind it
 pub stops_behind : {A B : Type 0} (P Q : Type 0) (s : Status) (due : Result A Status) (f : A → Result B Status)
@@ -79,14 +79,14 @@ few_enough most entries asked same few =
     rw (← same, small) refl
 
 -- the rest, once the files are known
-pub asked_of_entries : (files : List FileBytes) (settings : Asked) (entries : List Entry)
+pub asked_of_entries : (files : List FileBytes) (settings : PlainSettings) (entries : List Entry)
     → within_objects settings.limits.objects (inputs_of settings.suffix settings.sizes (names_of files)) ≡ Ok entries
     → case_asked files settings ≡ (readings_of settings files entries >>= λ es. sizes_asked files settings.sizes >>= λ sizes. within_limits settings.limits.object_slots (case_of_run settings es sizes))
 unfolding case_asked
 asked_of_entries files settings entries taken = rw taken refl
 
 -- the files that are taken are not listed
-pub entries_fail : (rose : Type 0) (files : List FileBytes) (settings : Asked) (names : List Name) (s : Status) → names ≡ names_of files
+pub entries_fail : (rose : Type 0) (files : List FileBytes) (settings : PlainSettings) (names : List Name) (s : Status) → names ≡ names_of files
     → Stops ⊥ s (within_objects settings.limits.objects (inputs_of settings.suffix settings.sizes names)) → Stops rose s (case_asked files settings)
 unfolding case_asked
 entries_fail rose files settings names s known stops =
@@ -104,7 +104,7 @@ input_stops {X} {A} {B} P Q view (input.Refused file line cause) read f rose her
 input_stops {X} {A} {B} P Q view (input.Limit fault) read f rose here = ap (λ (r : Result A Status). r >>= f) here
 
 -- a file is not read
-pub tracks_fail : {X : Type 0} (rose : Type 0) (view : X → List PlainTrack) (files : List FileBytes) (settings : Asked) (entries : List Entry) (why : InputError)
+pub tracks_fail : {X : Type 0} (rose : Type 0) (view : X → List PlainTrack) (files : List FileBytes) (settings : PlainSettings) (entries : List Entry) (why : InputError)
     → within_objects settings.limits.objects (inputs_of settings.suffix settings.sizes (names_of files)) ≡ Ok entries
     → Reads rose view (Err why) (readings_of settings files entries)
     → Stops rose (input_status why) (case_asked files settings)
@@ -114,14 +114,14 @@ tracks_fail rose view files settings entries why taken read =
     (input_stops rose rose view why (readings_of settings files entries) rest (λ risen. risen) read)
 
 -- the rest, once the tracks are read
-pub asked_of_tracks : (files : List FileBytes) (settings : Asked) (entries : List Entry) (es : List PlainTrack)
+pub asked_of_tracks : (files : List FileBytes) (settings : PlainSettings) (entries : List Entry) (es : List PlainTrack)
     → within_objects settings.limits.objects (inputs_of settings.suffix settings.sizes (names_of files)) ≡ Ok entries
     → readings_of settings files entries ≡ Ok es
     → case_asked files settings ≡ (sizes_asked files settings.sizes >>= λ sizes. within_limits settings.limits.object_slots (case_of_run settings es sizes))
 asked_of_tracks files settings entries es taken read = asked_of_entries files settings entries taken ∙ rw read refl
 
 -- the file of sizes is not read
-pub sizes_fail : {X : Type 0} (later rose : Type 0) (view : X → List Size) (files : List FileBytes) (settings : Asked) (es : List PlainTrack) (why : InputError) → (later → rose)
+pub sizes_fail : {X : Type 0} (later rose : Type 0) (view : X → List Size) (files : List FileBytes) (settings : PlainSettings) (es : List PlainTrack) (why : InputError) → (later → rose)
     → case_asked files settings ≡ (sizes_asked files settings.sizes >>= λ sizes. within_limits settings.limits.object_slots (case_of_run settings es sizes))
     → Reads later view (Err why) (sizes_asked files settings.sizes)
     → Stops rose (input_status why) (case_asked files settings)
@@ -129,14 +129,14 @@ sizes_fail later rose view files settings es why wider is read =
     rw is (input_stops later rose view why (sizes_asked files settings.sizes) (λ sizes. within_limits settings.limits.object_slots (case_of_run settings es sizes)) wider read)
 
 -- the rest, once all is read
-pub asked_of_sizes : (files : List FileBytes) (settings : Asked) (es : List PlainTrack) (sizes : List Size)
+pub asked_of_sizes : (files : List FileBytes) (settings : PlainSettings) (es : List PlainTrack) (sizes : List Size)
     → case_asked files settings ≡ (sizes_asked files settings.sizes >>= λ given. within_limits settings.limits.object_slots (case_of_run settings es given))
     → sizes_asked files settings.sizes ≡ Ok sizes
     → case_asked files settings ≡ within_limits settings.limits.object_slots (case_of_run settings es sizes)
 asked_of_sizes files settings es sizes is read = is ∙ rw read refl
 
 -- the case that is asked has this window and these radii
-pub case_made : (settings : Asked) (es : List PlainTrack) (sizes : List Size) (first last : ℕ) (radii : List ℕ)
+pub case_made : (settings : PlainSettings) (es : List PlainTrack) (sizes : List Size) (first last : ℕ) (radii : List ℕ)
     → first ≡ window_first settings es → last ≡ window_last settings es → radii ≡ object_sizes sizes es
     → within_limits settings.limits.object_slots (case_of_run settings es sizes) ≡ within_limits settings.limits.object_slots (case_with es first last (settings.threshold * 1_000_000_000) radii)
 case_made settings es sizes first last radii starts ends sized = rw (starts, ends, sized) refl
@@ -207,16 +207,16 @@ no_limit most case length count is short same few =
 -- ---- the certificate and the report
 
 -- a piece is that of the first file with the name, once the names are known
-pub piece_found : (missing : CertificateCause) (files : List FileBytes) (name : List ℕ) (names : List Name) (number : Option ℕ) → names ≡ names_of files
+pub input_found : (missing : CertificateCause) (files : List FileBytes) (name : List ℕ) (names : List Name) (number : Option ℕ) → names ≡ names_of files
     → number ≡ first_named name names
-    → piece_named missing files name ≡ piece_at missing files name number
-piece_found missing files name names number known is = ap (piece_at missing files name) (sym (is ∙ ap (first_named name) known))
+    → input_named missing files name ≡ input_at missing files name number
+input_found missing files name names number known is = ap (input_at missing files name) (sym (is ∙ ap (first_named name) known))
 
 abbrev all : PlainProblem → List ℕ → Option (List ℕ) → PlainInputs
 all case bytes report = record { case = case; bytes = bytes; report = report }
 
 -- the case is not made
-pub case_fails : (later rose : Type 0) (files : List FileBytes) (checking : Checking) (s : Status) → (later → rose)
+pub case_fails : (later rose : Type 0) (files : List FileBytes) (checking : PlainChecking) (s : Status) → (later → rose)
     → Stops later s (case_asked files checking.settings) → Stops rose s (inputs_asked files checking)
 unfolding inputs_asked
 case_fails later rose files checking s wider stops =
@@ -224,35 +224,35 @@ case_fails later rose files checking s wider stops =
     (λ case. certificate_named files checking.certificate >>= λ bytes. report_if_named files checking.report >>= λ report. Ok (all case bytes report)) wider stops
 
 -- the certificate is not read
-pub certificate_fails : (later rose : Type 0) (files : List FileBytes) (checking : Checking) (case : PlainProblem) (s : Status) → (later → rose)
-    → case_asked files checking.settings ≡ Ok case → Stops later s (piece_named NoFile files checking.certificate) → Stops rose s (inputs_asked files checking)
+pub certificate_fails : (later rose : Type 0) (files : List FileBytes) (checking : PlainChecking) (case : PlainProblem) (s : Status) → (later → rose)
+    → case_asked files checking.settings ≡ Ok case → Stops later s (input_named NoFile files checking.certificate) → Stops rose s (inputs_asked files checking)
 unfolding inputs_asked certificate_named
 certificate_fails later rose files checking case s wider made stops =
-    rw made (stops_behind later rose s (piece_named NoFile files checking.certificate)
+    rw made (stops_behind later rose s (input_named NoFile files checking.certificate)
     (λ bytes. report_if_named files checking.report >>= λ report. Ok (all case bytes report)) wider stops)
 
 -- the report is not read
-pub report_fails : (later rose : Type 0) (files : List FileBytes) (checking : Checking) (case : PlainProblem) (bytes : List ℕ) (s : Status) → (later → rose)
-    → case_asked files checking.settings ≡ Ok case → piece_named NoFile files checking.certificate ≡ Ok bytes
+pub report_fails : (later rose : Type 0) (files : List FileBytes) (checking : PlainChecking) (case : PlainProblem) (bytes : List ℕ) (s : Status) → (later → rose)
+    → case_asked files checking.settings ≡ Ok case → input_named NoFile files checking.certificate ≡ Ok bytes
     → Stops later s (report_if_named files checking.report) → Stops rose s (inputs_asked files checking)
 unfolding inputs_asked certificate_named
 report_fails later rose files checking case bytes s wider made read stops =
     rw (made, read) (stops_behind later rose s (report_if_named files checking.report) (λ report. Ok (all case bytes report)) wider stops)
 
 -- all are there
-pub inputs_made : (files : List FileBytes) (checking : Checking) (case : PlainProblem) (bytes : List ℕ) (report : Option (List ℕ))
-    → case_asked files checking.settings ≡ Ok case → piece_named NoFile files checking.certificate ≡ Ok bytes
+pub inputs_made : (files : List FileBytes) (checking : PlainChecking) (case : PlainProblem) (bytes : List ℕ) (report : Option (List ℕ))
+    → case_asked files checking.settings ≡ Ok case → input_named NoFile files checking.certificate ≡ Ok bytes
     → report_if_named files checking.report ≡ Ok report → inputs_asked files checking ≡ Ok (all case bytes report)
 unfolding inputs_asked certificate_named
 inputs_made files checking case bytes report made read beside = rw (made, read, beside) refl
 
 -- a report that is named and not read
-pub named_fails : (rose : Type 0) (files : List FileBytes) (name : List ℕ) (s : Status) → Stops rose s (piece_named NoReport files name)
+pub named_fails : (rose : Type 0) (files : List FileBytes) (name : List ℕ) (s : Status) → Stops rose s (input_named NoReport files name)
     → Stops rose s (report_if_named files (Some name))
 unfolding report_named
-named_fails rose files name s stops = stops_behind rose rose s (piece_named NoReport files name) (λ bytes. Ok (Some bytes)) (λ risen. risen) stops
+named_fails rose files name s stops = stops_behind rose rose s (input_named NoReport files name) (λ bytes. Ok (Some bytes)) (λ risen. risen) stops
 
 -- one that is
-pub named_read : (files : List FileBytes) (name bytes : List ℕ) → piece_named NoReport files name ≡ Ok bytes → report_if_named files (Some name) ≡ Ok (Some bytes)
+pub named_read : (files : List FileBytes) (name bytes : List ℕ) → input_named NoReport files name ≡ Ok bytes → report_if_named files (Some name) ≡ Ok (Some bytes)
 unfolding report_named
 named_read files name bytes read = rw read refl

@@ -8,7 +8,7 @@ use Rattle.cj_io.specs.declared.file.FileBytes.{FileBytes}
 use Rattle.cj_io.specs.Files.{names_of}
 use Rattle.cj_sizes.specs.Sizes.{Size}
 use Rattle.cj_track.specs.PlainTracks.{PlainTrack}
-use Rattle.cj_words.specs.Settings.{Asked}
+use Rattle.cj_words.specs.Settings.{PlainSettings}
 use Rattle.cj_hermite.specs.PlainProblems.{PlainProblem}
 use Rattle.cj_hermite.specs.Slots.{slot_count}
 use Rattle.cj_status.specs.declared.status.Status.{Status}
@@ -35,7 +35,7 @@ let_through {A} n most x y s is = go (nat_le n most) refl is
     go false fits same = absurd cc
 
 -- as many ephemerides are read as files are taken
-readings_many : (settings : Asked) (files : List FileBytes) (before : List PlainTrack) (entries : List Entry) (es : List PlainTrack) → readings_after settings files before entries ≡ Ok es
+readings_many : (settings : PlainSettings) (files : List FileBytes) (before : List PlainTrack) (entries : List Entry) (es : List PlainTrack) → readings_after settings files before entries ≡ Ok es
     → length es ≡ length before + length entries
 readings_many settings files before [] es is = let same : before ≡ es = cc in omega (arith, ap (λ (ts : List PlainTrack). length ts) same)
 readings_many settings files before (entry ∷ entries) es is =
@@ -44,7 +44,7 @@ readings_many settings files before (entry ∷ entries) es is =
 
 -- a case within limits
 pub record IsWithin (limits : PlainLimits) (case : PlainProblem) : Type 0 where
-  pub objects : length case.ephemerides ≤ limits.objects
+  pub objects : length case.tracks ≤ limits.objects
   pub slots : object_slots case ≤ limits.object_slots
 
 within_there : (most : ℕ) (made case : PlainProblem) → within_limits most made ≡ Ok case → (object_slots made ≤ most) × (made ≡ case)
@@ -54,7 +54,7 @@ within_there most made case is =
     let few = let_through (object_slots short.0) most short.0 case (status.Limit (Slots (object_slots short.0))) short.2 in
     (subst (λ (c : PlainProblem). object_slots c ≤ most) (sym same) few.0, same ∙ few.1)
 
-pub asked_within : (files : List FileBytes) (settings : Asked) (case : PlainProblem) → case_asked files settings ≡ Ok case → IsWithin settings.limits case
+pub asked_within : (files : List FileBytes) (settings : PlainSettings) (case : PlainProblem) → case_asked files settings ≡ Ok case → IsWithin settings.limits case
 unfolding case_asked
 asked_within files settings case is =
     let limits = settings.limits in
@@ -73,12 +73,12 @@ asked_within files settings case is =
     subst (IsWithin limits) there.1 whole
 
 -- the same of the usual limits
-usual_within : (files : List FileBytes) (settings : Asked) (case : PlainProblem) → case_asked files settings ≡ Ok case → settings.limits ≡ USUAL → IsWithin USUAL case
+usual_within : (files : List FileBytes) (settings : PlainSettings) (case : PlainProblem) → case_asked files settings ≡ Ok case → settings.limits ≡ USUAL → IsWithin USUAL case
 usual_within files settings case is usual = subst (λ (l : PlainLimits). IsWithin l case) usual (asked_within files settings case is)
 
-pub usual_objects : (files : List FileBytes) (settings : Asked) (case : PlainProblem) → case_asked files settings ≡ Ok case → settings.limits ≡ USUAL → length case.ephemerides ≤ 2000
+pub usual_objects : (files : List FileBytes) (settings : PlainSettings) (case : PlainProblem) → case_asked files settings ≡ Ok case → settings.limits ≡ USUAL → length case.tracks ≤ 2000
 usual_objects files settings case is usual = (usual_within files settings case is usual).objects
 
-pub usual_slots : (files : List FileBytes) (settings : Asked) (case : PlainProblem) → case_asked files settings ≡ Ok case → settings.limits ≡ USUAL
-    → length case.ephemerides * slot_count case.first case.last ≤ 4_000_000
+pub usual_slots : (files : List FileBytes) (settings : PlainSettings) (case : PlainProblem) → case_asked files settings ≡ Ok case → settings.limits ≡ USUAL
+    → length case.tracks * slot_count case.first case.last ≤ 4_000_000
 usual_slots files settings case is usual = (usual_within files settings case is usual).slots

@@ -7,7 +7,7 @@ use Rattle.cj_track.specs.PlainTracks.{PlainTrack}
 use Rattle.cj_track.specs.Tracks.{plain_track}
 use Rattle.cj_track.specs.declared.track.Track.{Track}
 use Rattle.cj_oem.specs.Reading.{reading}
-use Rattle.cj_words.specs.Settings.{Asked}
+use Rattle.cj_words.specs.Settings.{PlainSettings}
 use Rattle.cj_status.specs.declared.status.Status.{Status}
 use Rattle.cj_status.specs.Steps.{◌>>=◌}
 use Rattle.cj_inputs.specs.declared.batch.Batch.{Batch}
@@ -59,13 +59,13 @@ pub record Fits (entries : List Entry) (progress : Progress) : Type 0 where
   pub some : progress.batch.stop ≡ None → length progress.taken.tracks.items < length entries → 0 < length progress.batch.files.items
 
 -- the first of these files are taken, what is left leads where all of them lead, and the batch was read of what is left
-pub record IsOnTheWay (settings : Asked) (files : List FileBytes) (entries : List Entry) (progress : Progress) : Type 0 where
+pub record IsOnTheWay (settings : PlainSettings) (files : List FileBytes) (entries : List Entry) (progress : Progress) : Type 0 where
   pub leads : readings_after settings files (map plain_track progress.taken.tracks.items) (drop (length progress.taken.tracks.items) entries)
       ≡ readings_of settings files entries
   pub batch : IsBatchOf files (drop (length progress.taken.tracks.items) entries) progress.batch
 
 -- more of them are taken, or this is why the first that is not taken is not
-abbrev pub GoesOn : Asked → List FileBytes → List Entry → Result Progress InputError → Type 0
+abbrev pub GoesOn : PlainSettings → List FileBytes → List Entry → Result Progress InputError → Type 0
 GoesOn settings files entries (Ok progress) = IsOnTheWay settings files entries progress
 GoesOn settings files entries (Err why) =
     Reads ⊤ (λ (progress : Progress). map plain_track progress.taken.tracks.items) (Err why) (readings_of settings files entries)

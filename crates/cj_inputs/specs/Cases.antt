@@ -3,7 +3,7 @@ use Rattle.std.specs.Prelude.{ℕ, ◌-◌, ◌*◌, nat_le, if◌then◌else◌
 use Rattle.cj_io.specs.declared.file.FileBytes.{FileBytes}
 use Rattle.cj_io.specs.Files.{names_of}
 use Rattle.cj_sizes.specs.Sizes.{Size}
-use Rattle.cj_words.specs.Settings.{Asked}
+use Rattle.cj_words.specs.Settings.{PlainSettings}
 use Rattle.cj_track.specs.PlainTracks.{PlainTrack}
 use Rattle.cj_hermite.specs.PlainProblems.{PlainProblem}
 use Rattle.cj_hermite.specs.Slots.{slot_count}
@@ -22,10 +22,10 @@ abbrev pub within_objects : ℕ → List Entry → Result (List Entry) Status
 within_objects most entries = if nat_le (length entries) most then Ok entries else Err (status.Limit (Objects (length entries)))
 
 abbrev pub case_with : List PlainTrack → ℕ → ℕ → ℕ → List ℕ → PlainProblem
-case_with es first last threshold sizes = record { ephemerides = es; first = first; last = last; threshold = threshold; sizes = sizes }
+case_with es first last threshold sizes = record { tracks = es; first = first; last = last; threshold = threshold; sizes = sizes }
 
 -- what is asked of these ephemerides, where these sizes are given
-abbrev pub case_of_run : Asked → List PlainTrack → List Size → PlainProblem
+abbrev pub case_of_run : PlainSettings → List PlainTrack → List Size → PlainProblem
 case_of_run settings es sizes = case_with es (window_first settings es) (window_last settings es) (settings.threshold * 1_000_000_000) (object_sizes sizes es)
 
 -- a window of at most fourteen days
@@ -33,7 +33,7 @@ abbrev pub within_window : PlainProblem → Result PlainProblem Status
 within_window case = if nat_le (case.last - case.first) 1_209_600_000_000 then Ok case else Err (status.Limit (Window (case.last - case.first)))
 
 abbrev pub object_slots : PlainProblem → ℕ
-object_slots case = length case.ephemerides * slot_count case.first case.last
+object_slots case = length case.tracks * slot_count case.first case.last
 
 -- at most so many objects times slots
 abbrev pub within_slots : ℕ → PlainProblem → Result PlainProblem Status
@@ -44,7 +44,7 @@ abbrev pub within_limits : ℕ → PlainProblem → Result PlainProblem Status
 within_limits most case = within_window case >>= within_slots most
 
 -- the case that is asked of the files, or the first cause for which there is none
-unfoldable pub case_asked : List FileBytes → Asked → Result PlainProblem Status
+unfoldable pub case_asked : List FileBytes → PlainSettings → Result PlainProblem Status
 case_asked files settings = do
   entries ← within_objects settings.limits.objects (inputs_of settings.suffix settings.sizes (names_of files))
   es ← readings_of settings files entries

@@ -2,7 +2,7 @@
 use Rattle.std.specs.Prelude.{ℕ, List, Option, Some, None, Result, Ok, Err, option_map}
 use Rattle.cj_io.specs.declared.file.FileBytes.{FileBytes}
 use Rattle.cj_io.specs.Files.{bytes_of, names_of}
-use Rattle.cj_words.specs.Commands.{Checking}
+use Rattle.cj_words.specs.Commands.{PlainChecking}
 use Rattle.cj_hermite.specs.PlainProblems.{PlainProblem}
 use Rattle.cj_hermite.specs.Problems.{plain_problem}
 use Rattle.cj_status.specs.declared.status.Status.{Status}
@@ -16,17 +16,17 @@ use Rattle.cj_inputs.specs.ObjectSizes.{first_named}
 use Rattle.cj_inputs.specs.Readings.{within}
 
 -- at most 1,073,741,824 bytes of the file with this number, which has this name; for want of one there is this cause
-abbrev pub piece_at : CertificateCause → List FileBytes → List ℕ → Option ℕ → Result (List ℕ) Status
-piece_at missing files name None = Err (NotAccepted 0 missing)
-piece_at missing files name (Some number) = within 1_073_741_824 name (bytes_of files number)
+abbrev pub input_at : CertificateCause → List FileBytes → List ℕ → Option ℕ → Result (List ℕ) Status
+input_at missing files name None = Err (NotAccepted 0 missing)
+input_at missing files name (Some number) = within 1_073_741_824 name (bytes_of files number)
 
 -- the bytes of the first file with this name
-abbrev pub piece_named : CertificateCause → List FileBytes → List ℕ → Result (List ℕ) Status
-piece_named missing files name = piece_at missing files name (first_named name (names_of files))
+abbrev pub input_named : CertificateCause → List FileBytes → List ℕ → Result (List ℕ) Status
+input_named missing files name = input_at missing files name (first_named name (names_of files))
 
 -- those of the file with this number, as a certificate
 abbrev pub certificate_at : List FileBytes → List ℕ → Option ℕ → Result (List ℕ) Status
-certificate_at files name number = piece_at NoFile files name number
+certificate_at files name number = input_at NoFile files name number
 
 -- the bytes of the first file with the certificate's name
 unfoldable pub certificate_named : List FileBytes → List ℕ → Result (List ℕ) Status
@@ -34,7 +34,7 @@ certificate_named files name = certificate_at files name (first_named name (name
 
 -- the bytes of the first file with the report's name
 unfoldable pub report_named : List FileBytes → List ℕ → Result (List ℕ) Status
-report_named files name = piece_named NoReport files name
+report_named files name = input_named NoReport files name
 
 -- the same where a report is named
 abbrev pub report_if_named : List FileBytes → Option (List ℕ) → Result (Option (List ℕ)) Status
@@ -51,7 +51,7 @@ abbrev pub plain_inputs : CheckInputs → PlainInputs
 plain_inputs inputs = record { case = plain_problem inputs.problem; bytes = inputs.certificate.items; report = option_map (λ report. report.items) inputs.report }
 
 -- the case that is asked, then the bytes of the certificate, and then those of the report, or the first cause for which there is none
-unfoldable pub inputs_asked : List FileBytes → Checking → Result PlainInputs Status
+unfoldable pub inputs_asked : List FileBytes → PlainChecking → Result PlainInputs Status
 inputs_asked files checking = do
   case ← case_asked files checking.settings
   bytes ← certificate_named files checking.certificate

@@ -5,7 +5,7 @@ use Rattle.cj_io.specs.Files.{bytes_of}
 use Rattle.cj_track.specs.PlainTracks.{PlainSegment, PlainTrack}
 use Rattle.cj_oem.specs.Metadata.{same_frame}
 use Rattle.cj_oem.specs.Reading.{Fault, reading}
-use Rattle.cj_words.specs.Settings.{Asked}
+use Rattle.cj_words.specs.Settings.{PlainSettings}
 use Rattle.cj_status.specs.declared.status.Status.{Status}
 use Rattle.cj_status.specs.declared.status.Status.TheVariants.{BadFile, Limit}
 use Rattle.cj_status.specs.declared.status.FileCause.TheVariants.{Oem, MixedFrames}
@@ -25,7 +25,7 @@ within_bytes name bytes = within 67_108_864 name bytes
 
 -- a fault of the file with this name, as the run's cause
 abbrev pub refused_of : List ℕ → Result PlainTrack Fault → Result PlainTrack Status
-refused_of name (Ok ephemeris) = Ok ephemeris
+refused_of name (Ok track) = Ok track
 refused_of name (Err fault) = Err (BadFile name fault.line (Oem fault.cause))
 
 -- what one file is read as; the cubic may be taken where the file declares another interpolation or none
@@ -36,45 +36,45 @@ reading_of as_hermite3 name bytes = do
 
 -- it has the frame of the first of those before it
 abbrev pub has_frame_of : List PlainTrack → PlainTrack → Bool
-has_frame_of [] ephemeris = true
-has_frame_of (first ∷ before) ephemeris = same_frame first.frame ephemeris.frame
+has_frame_of [] track = true
+has_frame_of (first ∷ before) track = same_frame first.frame track.frame
 
 abbrev pub same_frame_as : List PlainTrack → List ℕ → PlainTrack → Result PlainTrack Status
-same_frame_as before name ephemeris = if has_frame_of before ephemeris then Ok ephemeris else Err (BadFile name 0 MixedFrames)
+same_frame_as before name track = if has_frame_of before track then Ok track else Err (BadFile name 0 MixedFrames)
 
 abbrev pub state_count : PlainSegment → ℕ
-state_count arc = length arc.states
+state_count segment = length segment.nodes
 
 -- how many nodes an ephemeris has
 abbrev pub nodes_of : PlainTrack → ℕ
-nodes_of ephemeris = sum_by state_count ephemeris.arcs
+nodes_of track = sum_by state_count track.segments
 
 -- how many nodes ephemerides have in all
 abbrev pub nodes_in : List PlainTrack → ℕ
-nodes_in ephemerides = sum_by nodes_of ephemerides
+nodes_in tracks = sum_by nodes_of tracks
 
 -- an ephemeris that has, with those before it, at most so many nodes
 abbrev pub within_nodes : ℕ → List PlainTrack → PlainTrack → Result PlainTrack Status
-within_nodes most before ephemeris =
-    if nat_le (nodes_in (before ++ ephemeris ∷ [])) most then Ok ephemeris else Err (Limit (limit.Nodes (nodes_in (before ++ ephemeris ∷ []))))
+within_nodes most before track =
+    if nat_le (nodes_in (before ++ track ∷ [])) most then Ok track else Err (Limit (limit.Nodes (nodes_in (before ++ track ∷ []))))
 
 -- an ephemeris that may stand behind those before it, where all may have so many nodes
 abbrev pub checked_after : ℕ → List PlainTrack → List ℕ → PlainTrack → Result PlainTrack Status
-checked_after most before name ephemeris = same_frame_as before name ephemeris >>= within_nodes most before
+checked_after most before name track = same_frame_as before name track >>= within_nodes most before
 
 -- what a file is read as behind the files before it
-abbrev pub reading_after : Asked → List FileBytes → List PlainTrack → Entry → Result PlainTrack Status
+abbrev pub reading_after : PlainSettings → List FileBytes → List PlainTrack → Entry → Result PlainTrack Status
 reading_after settings files before entry =
     reading_of settings.as_hermite3 entry.name (bytes_of files entry.number) >>= checked_after settings.limits.nodes before entry.name
 
 -- the ephemerides before, and those of these files, or why the first of them that is not read is not
-abbrev pub readings_after : Asked → List FileBytes → List PlainTrack → List Entry → Result (List PlainTrack) Status
+abbrev pub readings_after : PlainSettings → List FileBytes → List PlainTrack → List Entry → Result (List PlainTrack) Status
 readings_after settings files before [] = Ok before
 readings_after settings files before (entry ∷ entries) =
-    reading_after settings files before entry >>= λ ephemeris. readings_after settings files (before ++ ephemeris ∷ []) entries
+    reading_after settings files before entry >>= λ track. readings_after settings files (before ++ track ∷ []) entries
 
 -- the ephemerides of the files that are taken, or why the first that is not read is not
-abbrev pub readings_of : Asked → List FileBytes → List Entry → Result (List PlainTrack) Status
+abbrev pub readings_of : PlainSettings → List FileBytes → List Entry → Result (List PlainTrack) Status
 readings_of settings files entries = readings_after settings files [] entries
 
 -- What a reader gives, seen by `view`, is what was expected. It gives up for want of memory, for a fault of the folder, for the refusal of a

@@ -2,7 +2,7 @@
 use Rattle.std.specs.Prelude.{ℕ, min, max, List, [], ◌∷◌, map, fold, unwrap_or}
 use Rattle.cj_ticks.specs.Ticks.{FIRST_TICK}
 use Rattle.cj_track.specs.PlainTracks.{PlainSegment, PlainTrack}
-use Rattle.cj_words.specs.Settings.{Asked}
+use Rattle.cj_words.specs.Settings.{PlainSettings}
 
 -- the least of ticks, and 1972 where there are none
 abbrev pub least : List ℕ → ℕ
@@ -15,21 +15,21 @@ greatest [] = FIRST_TICK
 greatest (m ∷ ms) = fold max m ms
 
 abbrev pub first_of : PlainSegment → ℕ
-first_of arc = arc.first
+first_of segment = segment.first
 
 abbrev pub last_of : PlainSegment → ℕ
-last_of arc = arc.last
+last_of segment = segment.last
 
 -- the least useable tick of an ephemeris, and the greatest
 abbrev pub start_of : PlainTrack → ℕ
-start_of e = least (map first_of e.arcs)
+start_of e = least (map first_of e.segments)
 
 abbrev pub stop_of : PlainTrack → ℕ
-stop_of e = greatest (map last_of e.arcs)
+stop_of e = greatest (map last_of e.segments)
 
 -- the first and the last tick of the window
-abbrev pub window_first : Asked → List PlainTrack → ℕ
+abbrev pub window_first : PlainSettings → List PlainTrack → ℕ
 window_first asked es = unwrap_or asked.from (least (map start_of es))
 
-abbrev pub window_last : Asked → List PlainTrack → ℕ
+abbrev pub window_last : PlainSettings → List PlainTrack → ℕ
 window_last asked es = unwrap_or asked.to (greatest (map stop_of es))

@@ -99,7 +99,7 @@ fn read_named<F: Folder>(
     ensures between { IfErr result ComesBetween }
     ensures read { result ≡ Err Status.ReadFault → Rose (F.faults folder.old) (F.faults folder.new) }
     ensures told { (files : List FileBytes) → F.files folder.old ≡ Some files → names.now ≡ names_of files
-        → Gives (Rose (F.faults folder.old) (F.faults folder.new)) (λ bytes. bytes.items) result (spec.piece_named missing files name.now) }
+        → Gives (Rose (F.faults folder.old) (F.faults folder.new)) (λ bytes. bytes.items) result (spec.input_named missing files name.now) }
     ensures small { IfOk result (λ bytes. length bytes.items ≤ 1_073_741_824) }
 
     ensures count { F.count folder.new ≡ F.count folder.old }

@@ -10,7 +10,7 @@ ghost use Rattle.cj_hermite.specs.Frames.{HaveOneFrame};
 ghost use Rattle.cj_hermite.specs.Problems.{plain_problem};
 ghost use Rattle.cj_sizes.specs.Sizes.{sizes_of};
 ghost use Rattle.cj_track.specs.Tracks.{plain_track};
-ghost use Rattle.cj_words.specs.Settings.{asked_of};
+ghost use Rattle.cj_words.specs.Settings.{plain_settings};
 ghost use Rattle.cj_inputs.specs.Cases as spec;
 ghost use Rattle.cj_inputs.specs.InputFiles.{inputs_of};
 ghost use Rattle.cj_status.specs.Steps.{Gives, ComesBetween, IsLimit};
@@ -45,7 +45,7 @@ pub fn prepare<R: Threads + Sync, F: Folder>(
     ensures between { IfErr result ComesBetween }
     ensures read { result ≡ Err Status.ReadFault → Rose (F.faults folder.old) (F.faults folder.new) }
     ensures told { (files : List FileBytes) → F.files folder.old ≡ Some files
-        → Gives (Rose (F.faults folder.old) (F.faults folder.new)) plain_problem result (spec.case_asked files (asked_of settings.now)) }
+        → Gives (Rose (F.faults folder.old) (F.faults folder.new)) plain_problem result (spec.case_asked files (plain_settings settings.now)) }
 
     ensures files { F.files folder.new ≡ F.files folder.old }
     ensures later { F.faults folder.old ≤ F.faults folder.new }
@@ -70,7 +70,7 @@ pub fn prepare_listed<R: Threads + Sync, F: Folder>(
     ensures between { IfErr result ComesBetween }
     ensures read { result ≡ Err Status.ReadFault → Rose (F.faults folder.old) (F.faults folder.new) }
     ensures told { (files : List FileBytes) → F.files folder.old ≡ Some files → names.now ≡ names_of files
-        → Gives (Rose (F.faults folder.old) (F.faults folder.new)) plain_problem result (spec.case_asked files (asked_of settings.now)) }
+        → Gives (Rose (F.faults folder.old) (F.faults folder.new)) plain_problem result (spec.case_asked files (plain_settings settings.now)) }
 
     ensures count { F.count folder.new ≡ F.count folder.old }
     ensures files { F.files folder.new ≡ F.files folder.old }
@@ -116,7 +116,7 @@ fn problem_of(
     requires nodes { AreFewNodes tracks.items }
     ensures between { IfErr result ComesBetween }
     ensures told { Gives ⊥ plain_problem result
-        (spec.within_limits settings.now.limits.object_slots (spec.case_of_run (asked_of settings.now) (map plain_track tracks.items) (sizes_of lines.now))) }
+        (spec.within_limits settings.now.limits.object_slots (spec.case_of_run (plain_settings settings.now) (map plain_track tracks.items) (sizes_of lines.now))) }
 {
     let sizes = sizes_of_tracks(alloc, lines, &tracks)?;
     let window = window_of(settings, &tracks);

@@ -7,7 +7,7 @@ ghost use Rattle.cj_hermite.specs.CaseLimits.{AreFewNodes};
 ghost use Rattle.cj_hermite.specs.Frames.{HaveOneFrame};
 ghost use Rattle.cj_track.specs.PlainTracks.{PlainTrack};
 ghost use Rattle.cj_track.specs.Tracks.{plain_track};
-ghost use Rattle.cj_words.specs.Settings.{asked_of};
+ghost use Rattle.cj_words.specs.Settings.{plain_settings};
 ghost use Rattle.cj_status.specs.declared.status.Status.{Status};
 ghost use Rattle.cj_inputs.specs.Batches.{Fits, GoesOn, IsBatchOf, IsFirstCause, IsOnTheWay, said_by, tracks_after};
 ghost use Rattle.cj_inputs.specs.Readings.{Reads, readings_of};
@@ -41,7 +41,7 @@ pub fn read_tracks<R: Threads + Sync, F: Folder>(
     ensures fault { result ≡ Err InputError.Failed → Rose (F.faults folder.old) (F.faults folder.new) }
     ensures told { (files : List FileBytes) → F.files folder.old ≡ Some files
         → Reads (Rose (F.faults folder.old) (F.faults folder.new)) (λ tracks. map plain_track tracks.items) result
-        (readings_of (asked_of settings.now) files entries.now) }
+        (readings_of (plain_settings settings.now) files entries.now) }
 
     ensures many { IfOk result (λ tracks. length tracks.items ≡ length entries.now) }
     ensures frame { IfOk result (λ tracks. HaveOneFrame tracks.items) }
@@ -78,8 +78,8 @@ fn go_on<'a, R: Threads + Sync, F: Folder>(
 
     ensures stopped { result ≡ Err InputError.Failed → progress.entry.batch.stop ≡ Some InputError.Failed }
     ensures fault { IfOk result (λ next. next.batch.stop ≡ Some InputError.Failed → Rose (F.faults folder.old) (F.faults folder.new)) }
-    ensures told { (files : List FileBytes) → F.files folder.old ≡ Some files → IsOnTheWay (asked_of settings.now) files entries.now progress.entry
-        → GoesOn (asked_of settings.now) files entries.now result }
+    ensures told { (files : List FileBytes) → F.files folder.old ≡ Some files → IsOnTheWay (plain_settings settings.now) files entries.now progress.entry
+        → GoesOn (plain_settings settings.now) files entries.now result }
 
     ensures more { IfOk result (λ next. length progress.entry.taken.tracks.items < length next.taken.tracks.items) }
     ensures fits { IfOk result (Fits entries.now) }

@@ -2,7 +2,7 @@
 ghost use Rattle.std.specs.Prelude.{◌≡◌, map};
 ghost use Rattle.cj_track.specs.Tracks.{plain_track};
 ghost use Rattle.cj_inputs.specs.Windows as spec;
-ghost use Rattle.cj_words.specs.Settings.{asked_of};
+ghost use Rattle.cj_words.specs.Settings.{plain_settings};
 
 use cj_ticks::{Tick, Window};
 use cj_track::Track;
@@ -11,8 +11,8 @@ use cj_words::Settings;
 /// The window that is asked for. An end that is left out is that of the useable spans of all tracks, or 1972-01-01T00:00:00 where
 /// there are none.
 pub fn window_of(settings: &Settings, tracks: &[Track]) -> Window
-    ensures first { result.first.micros ≡ spec.window_first (asked_of settings.now) (map plain_track tracks.now) }
-    ensures last { result.last.micros ≡ spec.window_last (asked_of settings.now) (map plain_track tracks.now) }
+    ensures first { result.first.micros ≡ spec.window_first (plain_settings settings.now) (map plain_track tracks.now) }
+    ensures last { result.last.micros ≡ spec.window_last (plain_settings settings.now) (map plain_track tracks.now) }
 {
     let useable = useable_window(tracks);
     Window {

@@ -8,7 +8,7 @@ pub record FolderInMemory : Type 0 where
   pub files : List FileBytes
   pub calls : Calls
 
--- a shelf: its pieces and its calls
+-- a shelf: its outputs and its calls
 pub record ShelfInMemory : Type 0 where
-  pub pieces : List FileBytes
+  pub outputs : List FileBytes
   pub calls : Calls

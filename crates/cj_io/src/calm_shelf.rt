@@ -6,10 +6,10 @@ use crate::{Bytes, FileBytes, Name, PutError, Shelf};
 use std::alloc::Global;
 use std::marker::Model;
 
-/// A shelf in memory that never fails. Contracts see it as the list of its pieces.
+/// A shelf in memory that never fails. Contracts see it as the list of its outputs.
 #[derive(Debug, Drop)]
 pub struct CalmShelf {
-    pieces: Vec<FileBytes>,
+    outputs: Vec<FileBytes>,
 }
 
 impl Model for CalmShelf {
@@ -18,7 +18,7 @@ impl Model for CalmShelf {
 
     ghost Value = { List FileBytes };
 
-    ghost view = { λ s. s.pieces.items };
+    ghost view = { λ s. s.outputs.items };
 }
 
 impl CalmShelf {
@@ -26,34 +26,34 @@ impl CalmShelf {
         ensures { result ≡ [] }
     {
         CalmShelf {
-            pieces: Vec::new(alloc),
+            outputs: Vec::new(alloc),
         }
     }
 
-    /// The pieces that stand.
+    /// The outputs that stand.
     pub fn written(&self) -> &[FileBytes]
         ensures { result.now ≡ self.now }
     {
-        &self.pieces
+        &self.outputs
     }
 }
 
 impl Shelf for CalmShelf {
-    ghost pieces = { λ pieces. Some pieces };
+    ghost outputs = { λ outputs. Some outputs };
 
-    ghost faults = { λ pieces. 0 };
+    ghost faults = { λ outputs. 0 };
 
-    ghost refusals = { λ pieces. 0 };
+    ghost refusals = { λ outputs. 0 };
 
     fn put(&mut self, alloc: Global, name: &[u8], bytes: &[u8]) -> Result<(), PutError>
         ensures only { IsOkUnless result PutError.Memory }
-        ensures pieces { Puts name.now bytes.now result self.old self.new }
+        ensures outputs { Puts name.now bytes.now result self.old self.new }
     {
-        let piece = FileBytes {
+        let output = FileBytes {
             name: Name::copy_of(alloc, name)?,
             bytes: Bytes::copy_of(alloc, bytes)?,
         };
-        self.pieces.push(piece)?;
+        self.outputs.push(output)?;
         Ok(())
     }
 }

@@ -1,6 +1,6 @@
 use crate::{Bytes, Name};
 
-/// A file or a piece: its name and what it contains.
+/// A file or an output: its name and what it contains.
 #[derive(Debug, PartialEq, Eq, Drop)]
 pub struct FileBytes {
     pub name: Name,

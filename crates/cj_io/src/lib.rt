@@ -1,4 +1,4 @@
-//! The outside of the screener as traits: a folder that is read, a shelf that pieces are put on, and a gate that each turn of
+//! The outside of the screener as traits: a folder that is read, a shelf that outputs are put on, and a gate that each turn of
 //! a worker passes. A folder and a shelf may tell what they contain, and count their own faults. Beside the traits stand
 //! folders and shelves in memory, which tell all, and the reading of a whole file.
 #![tactic(auto)]

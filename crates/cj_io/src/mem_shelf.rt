@@ -20,13 +20,13 @@ impl Model for MemShelf {
 
     ghost Value = { ShelfInMemory };
 
-    ghost view = { λ s. record { pieces = s.shelf; calls = s.calls } };
+    ghost view = { λ s. record { outputs = s.shelf; calls = s.calls } };
 }
 
 impl MemShelf {
     /// An empty shelf whose calls of these numbers fail. The calls are counted from 1.
     pub fn new(alloc: Global, failing: Vec<u64>) -> Self
-        ensures { result ≡ record { pieces = []; calls = record { failing = failing.items; made = 0; faults = 0 } } }
+        ensures { result ≡ record { outputs = []; calls = record { failing = failing.items; made = 0; faults = 0 } } }
     {
         MemShelf {
             shelf: CalmShelf::new(alloc),
@@ -41,16 +41,16 @@ impl MemShelf {
         self.calls.fails_next()
     }
 
-    /// The pieces that stand.
+    /// The outputs that stand.
     pub fn written(&self) -> &[FileBytes]
-        ensures { result.now ≡ self.now.pieces }
+        ensures { result.now ≡ self.now.outputs }
     {
         self.shelf.written()
     }
 }
 
 impl Shelf for MemShelf {
-    ghost pieces = { λ s. Some s.pieces };
+    ghost outputs = { λ s. Some s.outputs };
 
     ghost faults = { λ s. s.calls.faults };
 
@@ -58,8 +58,8 @@ impl Shelf for MemShelf {
 
     fn put(&mut self, alloc: Global, name: &[u8], bytes: &[u8]) -> Result<(), PutError>
         ensures fails { IsErrOf result PutError.Failed ↔ IsTrue (fails_next self.old.calls) }
-        ensures pieces { Puts name.now bytes.now result self.old.pieces self.new.pieces }
-        ensures nothing { OnErr result (self.new.pieces ≡ self.old.pieces) }
+        ensures outputs { Puts name.now bytes.now result self.old.outputs self.new.outputs }
+        ensures nothing { OnErr result (self.new.outputs ≡ self.old.outputs) }
         ensures counted { self.new.calls ≡ after_call self.old.calls }
     {
         if self.calls.next_fails() {
@@ -70,8 +70,8 @@ impl Shelf for MemShelf {
 
     fn put_parts(&mut self, alloc: Global, name: &[u8], parts: &[Vec<u8>]) -> Result<(), PutError>
         ensures fails { IsErrOf result PutError.Failed ↔ IsTrue (fails_next self.old.calls) }
-        ensures pieces { Puts name.now (joined parts.now) result self.old.pieces self.new.pieces }
-        ensures nothing { OnErr result (self.new.pieces ≡ self.old.pieces) }
+        ensures outputs { Puts name.now (joined parts.now) result self.old.outputs self.new.outputs }
+        ensures nothing { OnErr result (self.new.outputs ≡ self.old.outputs) }
         ensures counted { self.new.calls ≡ after_call self.old.calls }
     {
         if self.calls.next_fails() {

@@ -7,7 +7,7 @@ use std::alloc::{AllocError, Global};
 use std::cmp::Ordering;
 use std::marker::Model;
 
-/// The name of a file or of a piece. Contracts see it as the list of its bytes, by which names are compared.
+/// The name of a file or of an output. Contracts see it as the list of its bytes, by which names are compared.
 #[derive(Debug, Drop)]
 pub struct Name {
     items: Vec<u8>,

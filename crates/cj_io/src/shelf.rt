@@ -8,7 +8,7 @@ ghost use Rattle.cj_io.specs.declared.shelf.PutError.TheVariants.{Memory};
 use crate::parts::join_parts;
 use std::alloc::{AllocError, AllocFailed, Global};
 
-/// Why a piece was not put.
+/// Why an output was not put.
 #[derive(Clone, Copy, Debug, PartialEq, Eq)]
 pub enum PutError {
     /// There was no memory.
@@ -33,42 +33,42 @@ impl<T: Drop> From<AllocFailed<T>> for PutError {
     }
 }
 
-/// What finished pieces are put on, one after another.
+/// What finished outputs are put on, one after another.
 pub trait Shelf {
-    /// The pieces, where they are told.
-    ghost pieces: { Self → Option (List FileBytes) };
+    /// The outputs, where they are told.
+    ghost outputs: { Self → Option (List FileBytes) };
 
     /// How often the shelf has failed. The count stops at the greatest value of a `u64`.
     ghost faults: { Self → ℕ };
 
-    /// How often a run was refused before its first piece. The count stops at the greatest value of a `u64`.
+    /// How often a run was refused before its first output. The count stops at the greatest value of a `u64`.
     ghost refusals: { Self → ℕ };
 
-    /// Called once before the first piece, by a run whose inputs are all accepted. A shelf on which one run at a time may put its pieces
+    /// Called once before the first output, by a run whose inputs are all accepted. A shelf on which one run at a time may put its outputs
     /// fails where another does; one that says nothing of it has nothing to do here.
     fn begin(&mut self, _alloc: Global) -> Result<(), PutError>
         ensures failed { IsErrOf result PutError.Failed → Rose (faults self.old) (faults self.new) }
         ensures refused { IsErrOf result PutError.Failed → Rose (refusals self.old) (refusals self.new) }
         ensures memory { IsErrOf result PutError.Memory → faults self.new ≡ faults self.old }
-        ensures pieces { pieces self.new ≡ pieces self.old }
+        ensures outputs { outputs self.new ≡ outputs self.old }
         ensures later { faults self.old ≤ faults self.new }
     {
         Ok(())
     }
 
-    /// Puts one piece behind those that stand. Want of memory leaves all as it was; after a fault a last piece of this name
+    /// Puts one output behind those that stand. Want of memory leaves all as it was; after a fault a last output of this name
     /// may stand cut short.
     fn put(&mut self, alloc: Global, name: &[u8], bytes: &[u8]) -> Result<(), PutError>
         ensures failed { IsErrOf result PutError.Failed → Rose (faults self.old) (faults self.new) }
         ensures memory { IsErrOf result PutError.Memory → faults self.new ≡ faults self.old }
-        ensures pieces { Told (Puts name.now bytes.now result) (pieces self.old) (pieces self.new) }
+        ensures outputs { Told (Puts name.now bytes.now result) (outputs self.old) (outputs self.new) }
         ensures later { faults self.old ≤ faults self.new };
 
-    /// The same for a piece whose bytes come in parts, one behind another.
+    /// The same for an output whose bytes come in parts, one behind another.
     fn put_parts(&mut self, alloc: Global, name: &[u8], parts: &[Vec<u8>]) -> Result<(), PutError>
         ensures failed { IsErrOf result PutError.Failed → Rose (faults self.old) (faults self.new) }
         ensures memory { IsErrOf result PutError.Memory → faults self.new ≡ faults self.old }
-        ensures pieces { Told (Puts name.now (joined parts.now) result) (pieces self.old) (pieces self.new) }
+        ensures outputs { Told (Puts name.now (joined parts.now) result) (outputs self.old) (outputs self.new) }
         ensures later { faults self.old ≤ faults self.new }
     {
         let bytes = join_parts(alloc, parts)?;

@@ -100,20 +100,20 @@ fn a_shelf_fails_at_its_listed_call(rt: HostRuntime) {
 }
 
 #[test]
-fn a_calm_shelf_keeps_its_pieces(rt: HostRuntime) {
+fn a_calm_shelf_keeps_its_outputs(rt: HostRuntime) {
     let alloc = rt.alloc();
     let mut shelf = CalmShelf::new(alloc);
     shelf
         .put(alloc, b"screen.report", b"text")
         .expect(&rt, "no fault");
-    let piece = FileBytes {
+    let output = FileBytes {
         name: Name::new(b"screen.report".to_vec(alloc).expect(&rt, "no fault")),
         bytes: Bytes::new(b"text".to_vec(alloc).expect(&rt, "no fault")),
     };
     assert_eq!(rt; shelf.written().len(), 1);
-    assert!(rt; shelf.written()[0] == piece);
-    assert_eq!(rt; piece.name.into_vec().len(), 13);
-    assert_eq!(rt; piece.bytes.into_vec().len(), 4);
+    assert!(rt; shelf.written()[0] == output);
+    assert_eq!(rt; output.name.into_vec().len(), 13);
+    assert_eq!(rt; output.bytes.into_vec().len(), 4);
 }
 
 #[test]

@@ -7,55 +7,55 @@ use Rattle.std.proofs.lemmas.List.Elements.{All-append, All-cons, All-nil, All-p
 use Rattle.std.proofs.lemmas.Slice.{between_is}
 use Rattle.cj_hermite.specs.PlainProblems.{PlainProblem}
 use Rattle.cj_hermite.specs.Problems.{plain_problem}
-use Rattle.cj_hermite.specs.Roots.{KeepIntervals}
+use Rattle.cj_hermite.specs.Roots.{KeepPieces}
 use Rattle.cj_bezier.specs.declared.encounter.Closest.{Closest}
 use Rattle.cj_bezier.specs.declared.encounter.Encounter.{Encounter}
 use Rattle.cj_bezier.specs.Leaves.{PlainLeaf, plain_leaves}
 use Rattle.cj_meet.specs.declared.portion.Portion.{Portion}
 use Rattle.cj_meet.specs.ApproachLists.{AreClosest, AreClosestAt, HaveNearest, closest_in}
-use Rattle.cj_meet.specs.Closest.{PlainClosest, plain_closest, some_closest, closest_of, KeepTheirIntervals, HasNearest, IsNearest}
-use Rattle.cj_meet.specs.Encounters.{second_object, Describes, groups_in, stretches_in}
+use Rattle.cj_meet.specs.Closest.{PlainClosest, plain_closest, some_closest, closest_of, KeepTheirPieces, HasNearest, IsNearest}
+use Rattle.cj_meet.specs.Encounters.{second_object, Describes, groups_in, leaves_in}
 use Rattle.cj_meet.proofs.EncounterLemmas.{described_objects}
 
--- the stretches of an encounter keep their intervals where all do
-pub keep_in : (case : PlainProblem) (ss : List PlainLeaf) (e : Encounter) → KeepTheirIntervals case ss → KeepTheirIntervals case (stretches_in ss e)
+-- the leaves of an encounter keep their pieces where all do
+pub keep_in : (case : PlainProblem) (ss : List PlainLeaf) (e : Encounter) → KeepTheirPieces case ss → KeepTheirPieces case (leaves_in ss e)
 keep_in case ss e all =
-    let P : PlainLeaf → Type 0 = λ s. KeepIntervals case s.a s.b s.first s.last in
+    let P : PlainLeaf → Type 0 = λ s. KeepPieces case s.a s.b s.first s.last in
     subst (All P) (sym (between_is ss e.leaf e.past)) (All-drop P e.leaf (take e.past ss) (All-take P e.past ss all))
 
-groups_more : (ss : List PlainLeaf) (es : List Encounter) (i : ℕ) (e : Encounter) → i < length es → e ≡ get_or es i e → groups_in ss (take (i + 1) es) ≡ groups_in ss (take i es) ++ stretches_in ss e ∷ []
-groups_more ss es i e lt is = map_more (stretches_in ss) es i e lt ∙ ap (λ (x : Encounter). groups_in ss (take i es) ++ stretches_in ss x ∷ []) (sym is)
+groups_more : (ss : List PlainLeaf) (es : List Encounter) (i : ℕ) (e : Encounter) → i < length es → e ≡ get_or es i e → groups_in ss (take (i + 1) es) ≡ groups_in ss (take i es) ++ leaves_in ss e ∷ []
+groups_more ss es i e lt is = map_more (leaves_in ss) es i e lt ∙ ap (λ (x : Encounter). groups_in ss (take i es) ++ leaves_in ss x ∷ []) (sym is)
 
 pub approaches_more : (case : PlainProblem) (ss : List PlainLeaf) (es : List Encounter) (i : ℕ) (e : Encounter) (found : List Closest) (x : Closest) → i < length es → e ≡ get_or es i e →
-    map some_closest found ≡ map (closest_of case) (groups_in ss (take i es)) → closest_of case (stretches_in ss e) ≡ some_closest x →
+    map some_closest found ≡ map (closest_of case) (groups_in ss (take i es)) → closest_of case (leaves_in ss e) ≡ some_closest x →
     map some_closest (found ++ x ∷ []) ≡ map (closest_of case) (groups_in ss (take (i + 1) es))
 approaches_more case ss es i e found x lt is before exact =
     map_push some_closest found x
     ∙ ap (λ (xs : List (Option PlainClosest)). xs ++ some_closest x ∷ []) before
     ∙ ap (λ (a : Option PlainClosest). map (closest_of case) (groups_in ss (take i es)) ++ a ∷ []) (sym exact)
-    ∙ sym (ap (map (closest_of case)) (groups_more ss es i e lt is) ∙ map_push (closest_of case) (groups_in ss (take i es)) (stretches_in ss e))
+    ∙ sym (ap (map (closest_of case)) (groups_more ss es i e lt is) ∙ map_push (closest_of case) (groups_in ss (take i es)) (leaves_in ss e))
 
-pub has_nearest : (case : PlainProblem) (ss : List PlainLeaf) (e : Encounter) (x : Closest) → Describes ss e → closest_of case (stretches_in ss e) ≡ some_closest x →
-    IsNearest case e.pair.a e.pair.b (stretches_in ss e) x.tick.micros x.high → HasNearest case (stretches_in ss e)
+pub has_nearest : (case : PlainProblem) (ss : List PlainLeaf) (e : Encounter) (x : Closest) → Describes ss e → closest_of case (leaves_in ss e) ≡ some_closest x →
+    IsNearest case e.pair.a e.pair.b (leaves_in ss e) x.tick.micros x.high → HasNearest case (leaves_in ss e)
 has_nearest case ss e x d exact law =
     let objects = described_objects ss e d in
     record {
       at = plain_closest x;
       is = exact;
-      law = subst (λ (a : ℕ). IsNearest case a (second_object (stretches_in ss e)) (stretches_in ss e) x.tick.micros x.high) (sym objects.0)
-          (subst (λ (b : ℕ). IsNearest case e.pair.a b (stretches_in ss e) x.tick.micros x.high) (sym objects.1) law);
+      law = subst (λ (a : ℕ). IsNearest case a (second_object (leaves_in ss e)) (leaves_in ss e) x.tick.micros x.high) (sym objects.0)
+          (subst (λ (b : ℕ). IsNearest case e.pair.a b (leaves_in ss e) x.tick.micros x.high) (sym objects.1) law);
     }
 
 pub nearest_one_more : (case : PlainProblem) (ss : List PlainLeaf) (es : List Encounter) (i : ℕ) (e : Encounter) → i < length es → e ≡ get_or es i e →
-    All (HasNearest case) (groups_in ss (take i es)) → HasNearest case (stretches_in ss e) → All (HasNearest case) (groups_in ss (take (i + 1) es))
+    All (HasNearest case) (groups_in ss (take i es)) → HasNearest case (leaves_in ss e) → All (HasNearest case) (groups_in ss (take (i + 1) es))
 nearest_one_more case ss es i e lt is before here =
-    All-same (HasNearest case) _ _ (groups_more ss es i e lt is) (All-push (HasNearest case) (groups_in ss (take i es)) (stretches_in ss e) before here)
+    All-same (HasNearest case) _ _ (groups_more ss es i e lt is) (All-push (HasNearest case) (groups_in ss (take i es)) (leaves_in ss e) before here)
 
 -- ---- portions of encounters
 
 groups_both : (ss : List PlainLeaf) (n : ℕ) (es some others : List Encounter) → some ≡ take n es → others ≡ drop n es → groups_in ss es ≡ groups_in ss some ++ groups_in ss others
 groups_both ss n es some others front back =
-    ap (groups_in ss) (sym (take-append-drop n es) ∙ (λ i. sym front i ++ sym back i)) ∙ map-append (stretches_in ss) some others
+    ap (groups_in ss) (sym (take-append-drop n es) ∙ (λ i. sym front i ++ sym back i)) ∙ map-append (leaves_in ss) some others
 
 -- of some portions and of those behind them
 pub both_closest : (some others : List Portion) (front back found : List Closest) → AreClosestAt some front → AreClosestAt others back → found ≡ front ++ back

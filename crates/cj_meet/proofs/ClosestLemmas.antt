@@ -1,4 +1,4 @@
--- The closest approach of several leaves: its candidates leaf by leaf, and what it says of the distance.
+-- The closest approach of several leaves: its ends leaf by leaf, and what it says of the distance.
 use Rattle.std.proofs.Common.{◌≡◌, ◌⊎◌, ℕ, ◌+◌, ◌-◌, ◌*◌, ◌<◌, ◌≤◌, List, [], ◌∷◌, ◌++◌, length, get_or, take, Option, Some, None, refl, sym, ap, subst, ◌∙◌, inl, inr, arith, append-nil}
 use Rattle.std.specs.Prelude.{All, Any, IsSomeAnd, slice_get, slice_range, option_map, option_and_then, pos, ◌≤ℤ◌}
 use Rattle.std.proofs.Math.Nat.{mul-le-mul, mul-le-mul_right}
@@ -14,9 +14,9 @@ use Rattle.cj_interval.proofs.SquareLemmas.{root-le}
 use Rattle.cj_track.specs.PlainTracks.{PlainTrack}
 use Rattle.cj_hermite.specs.Distance.{BAND, IsWithinAt, square_bound, square_distance}
 use Rattle.cj_hermite.specs.Interpolant.{Curve, IsOver}
-use Rattle.cj_hermite.specs.Pieces.{PlainPiece, interval_at, curve_of_interval, OfBothAt}
+use Rattle.cj_hermite.specs.Pieces.{PlainPiece, piece_holding, curve_of_piece, OfBothAt}
 use Rattle.cj_hermite.specs.PlainProblems.{PlainProblem, curve_at, OfObjectsAt, HaveCurves}
-use Rattle.cj_hermite.specs.Roots.{KeepIntervals}
+use Rattle.cj_hermite.specs.Roots.{KeepPieces}
 use Rattle.cj_hermite.proofs.CurveLemmas.{have_curves}
 use Rattle.cj_hermite.proofs.ObjectLemmas.{of_objects}
 use Rattle.cj_hermite.proofs.TrackLemmas.{over_part}
@@ -26,107 +26,107 @@ use Rattle.cj_bezier.specs.declared.leaf.Leaf.{Leaf}
 use Rattle.cj_bezier.specs.Gaps.{gap_terms, hull_gap}
 use Rattle.cj_bezier.specs.Leaves.{PlainLeaf, IsTickOf, plain_leaf, plain_leaves}
 use Rattle.cj_bezier.specs.Squares.{least_square, greatest_square}
-use Rattle.cj_meet.specs.Closest.{PlainApproach, PlainClosest, upper, approach_at, candidates_between, candidates_of, candidates_in, closest_by, closest_of, plain_closest, nearer, nearest, KeepTheirIntervals, IsClosest, IsFlatAt, IsNearest}
-use Rattle.cj_meet.specs.Encounters.{stretches_in}
+use Rattle.cj_meet.specs.Closest.{PlainApproach, PlainClosest, upper, approach_at, ends_between, ends_within, ends_in, closest_by, closest_of, plain_closest, nearer, nearest, KeepTheirPieces, IsClosest, IsFlatAt, IsNearest}
+use Rattle.cj_meet.specs.Encounters.{leaves_in}
 use Rattle.cj_meet.specs.Flat.{floor_root, is_flat}
 use Rattle.cj_meet.specs.Searches.{NoWorse, HasInterpolants}
-use Rattle.cj_meet.proofs.CandidateLemmas.{HasFlat, each_candidate, first_candidate, last_candidate, flat_at}
-use Rattle.cj_meet.proofs.EncounterLemmas.{stretches_in_leaves}
+use Rattle.cj_meet.proofs.EndLemmas.{HasFlat, each_end, first_end, last_end, flat_at}
+use Rattle.cj_meet.proofs.EncounterLemmas.{leaves_in_encounter}
 use Rattle.cj_meet.proofs.NearerLemmas.{IsNearer, NoWorse-trans, nearer-is, nearest_is}
 use Rattle.cj_meet.proofs.RootLemmas.{floor_root-below, ceil_root-is}
 use Rattle.cj_meet.proofs.SquareBoundLemmas.{scale, scale-some, least_holds, first-le_greatest}
 use Rattle.cj_meet.proofs.TickLemmas.{upper_holds, first_upper, one_tick_flat}
 
--- ---- the candidates of a stretch by its two interpolants
+-- ---- the ends of a leaf by its two interpolants
 
-pub candidates_are : (case : PlainProblem) (s : PlainLeaf) (c d : Curve) → curve_at case s.a s.first ≡ Some c → curve_at case s.b s.first ≡ Some d → candidates_of case s ≡ candidates_between c d s s.first s.last
-unfolding candidates_of
-candidates_are case s c d first second = rw (first, second) refl
+pub ends_are : (case : PlainProblem) (s : PlainLeaf) (c d : Curve) → curve_at case s.a s.first ≡ Some c → curve_at case s.b s.first ≡ Some d → ends_within case s ≡ ends_between c d s s.first s.last
+unfolding ends_within
+ends_are case s c d first second = rw (first, second) refl
 
--- the nearer end of a stretch is a candidate of it
+-- the nearer end of a leaf is an end of it
 pub glanced : (case : PlainProblem) (s : PlainLeaf) (c d : Curve) (p q x : PlainApproach) → s.first ≤ s.last → IsOver c s.first s.last → IsOver d s.first s.last →
-    candidates_of case s ≡ candidates_between c d s s.first s.last → p ≡ approach_at c d s.first → q ≡ approach_at c d s.last → x ≡ nearer p q → Any (λ r. r ≡ x) (candidates_of case s)
+    ends_within case s ≡ ends_between c d s s.first s.last → p ≡ approach_at c d s.first → q ≡ approach_at c d s.last → x ≡ nearer p q → Any (λ r. r ≡ x) (ends_within case s)
 glanced case s c d p q x le oc od same first last e =
-    Any-from_exists (λ r. r ≡ x) (candidates_of case s) (subst (Exists (λ r. r ≡ x)) (sym same) (go (nearer-is p q)))
+    Any-from_exists (λ r. r ≡ x) (ends_within case s) (subst (Exists (λ r. r ≡ x)) (sym same) (go (nearer-is p q)))
   where
-    go : IsNearer p q (nearer p q) → Exists (λ r. r ≡ x) (candidates_between c d s s.first s.last)
+    go : IsNearer p q (nearer p q) → Exists (λ r. r ≡ x) (ends_between c d s s.first s.last)
     go is = elim is.either [
-      | inl here ↦ subst (λ y. Exists (λ r. r ≡ y) (candidates_between c d s s.first s.last)) (sym (e ∙ here ∙ first)) (first_candidate c d s s.first s.last le oc od)
-      | inr there ↦ subst (λ y. Exists (λ r. r ≡ y) (candidates_between c d s s.first s.last)) (sym (e ∙ there ∙ last)) (last_candidate c d s s.first s.last le oc od)
+      | inl here ↦ subst (λ y. Exists (λ r. r ≡ y) (ends_between c d s s.first s.last)) (sym (e ∙ here ∙ first)) (first_end c d s s.first s.last le oc od)
+      | inr there ↦ subst (λ y. Exists (λ r. r ≡ y) (ends_between c d s s.first s.last)) (sym (e ∙ there ∙ last)) (last_end c d s s.first s.last le oc od)
     ]
 
 -- ---- leaf by leaf
 
 -- with one leaf more
-pub candidates_more : (case : PlainProblem) (leaves : List Leaf) (i : ℕ) (leaf : Leaf) → i < length leaves → leaf ≡ get_or leaves i leaf →
-    candidates_in case (plain_leaves (take (i + 1) leaves)) ≡ candidates_in case (plain_leaves (take i leaves)) ++ candidates_of case (plain_leaf leaf)
-unfolding candidates_in
-candidates_more case leaves i leaf lt is =
-    ap (candidates_in case) (map_more plain_leaf leaves i leaf lt)
-    ∙ flat_map-append (candidates_of case) (plain_leaves (take i leaves)) (plain_leaf (get_or leaves i leaf) ∷ [])
-    ∙ ap (λ ps. candidates_in case (plain_leaves (take i leaves)) ++ ps) (append-nil (candidates_of case (plain_leaf (get_or leaves i leaf))))
-    ∙ ap (λ (l : Leaf). candidates_in case (plain_leaves (take i leaves)) ++ candidates_of case (plain_leaf l)) (sym is)
+pub ends_more : (case : PlainProblem) (leaves : List Leaf) (i : ℕ) (leaf : Leaf) → i < length leaves → leaf ≡ get_or leaves i leaf →
+    ends_in case (plain_leaves (take (i + 1) leaves)) ≡ ends_in case (plain_leaves (take i leaves)) ++ ends_within case (plain_leaf leaf)
+unfolding ends_in
+ends_more case leaves i leaf lt is =
+    ap (ends_in case) (map_more plain_leaf leaves i leaf lt)
+    ∙ flat_map-append (ends_within case) (plain_leaves (take i leaves)) (plain_leaf (get_or leaves i leaf) ∷ [])
+    ∙ ap (λ ps. ends_in case (plain_leaves (take i leaves)) ++ ps) (append-nil (ends_within case (plain_leaf (get_or leaves i leaf))))
+    ∙ ap (λ (l : Leaf). ends_in case (plain_leaves (take i leaves)) ++ ends_within case (plain_leaf l)) (sym is)
 
--- a candidate of one leaf is one of all
-pub candidate_of_all : (case : PlainProblem) (leaves : List Leaf) (i : ℕ) (leaf : Leaf) (x : PlainApproach) → i < length leaves → leaf ≡ get_or leaves i leaf →
-    Any (λ p. p ≡ x) (candidates_of case (plain_leaf leaf)) → Any (λ p. p ≡ x) (candidates_in case (plain_leaves leaves))
-unfolding candidates_in
-candidate_of_all case leaves i leaf x lt is one =
-    Any-from_exists (λ p. p ≡ x) (candidates_in case (plain_leaves leaves))
-    (Exists-flat_map (λ p. p ≡ x) (candidates_of case) (plain_leaves leaves)
-    (Exists-map (λ s. Exists (λ p. p ≡ x) (candidates_of case s)) plain_leaf leaves
-    (Exists-at (λ l. Exists (λ p. p ≡ x) (candidates_of case (plain_leaf l))) leaves i leaf lt
-    (subst (λ (l : Leaf). Exists (λ p. p ≡ x) (candidates_of case (plain_leaf l))) is
-    (exists_from_Any (λ p. p ≡ x) (candidates_of case (plain_leaf leaf)) one)))))
+-- an end of one leaf is one of all
+pub end_of_all : (case : PlainProblem) (leaves : List Leaf) (i : ℕ) (leaf : Leaf) (x : PlainApproach) → i < length leaves → leaf ≡ get_or leaves i leaf →
+    Any (λ p. p ≡ x) (ends_within case (plain_leaf leaf)) → Any (λ p. p ≡ x) (ends_in case (plain_leaves leaves))
+unfolding ends_in
+end_of_all case leaves i leaf x lt is one =
+    Any-from_exists (λ p. p ≡ x) (ends_in case (plain_leaves leaves))
+    (Exists-flat_map (λ p. p ≡ x) (ends_within case) (plain_leaves leaves)
+    (Exists-map (λ s. Exists (λ p. p ≡ x) (ends_within case s)) plain_leaf leaves
+    (Exists-at (λ l. Exists (λ p. p ≡ x) (ends_within case (plain_leaf l))) leaves i leaf lt
+    (subst (λ (l : Leaf). Exists (λ p. p ≡ x) (ends_within case (plain_leaf l))) is
+    (exists_from_Any (λ p. p ≡ x) (ends_within case (plain_leaf leaf)) one)))))
 
-pub keeps_at : (case : PlainProblem) (leaves : List Leaf) (i : ℕ) (leaf : Leaf) → i < length leaves → leaf ≡ get_or leaves i leaf → KeepTheirIntervals case (plain_leaves leaves) →
-    KeepIntervals case leaf.cell.pair.a leaf.cell.pair.b leaf.cell.first.micros leaf.cell.last.micros
+pub keeps_at : (case : PlainProblem) (leaves : List Leaf) (i : ℕ) (leaf : Leaf) → i < length leaves → leaf ≡ get_or leaves i leaf → KeepTheirPieces case (plain_leaves leaves) →
+    KeepPieces case leaf.cell.pair.a leaf.cell.pair.b leaf.cell.first.micros leaf.cell.last.micros
 keeps_at case leaves i leaf lt is keep =
-    let P : PlainLeaf → Type 0 = λ s. KeepIntervals case s.a s.b s.first s.last in
+    let P : PlainLeaf → Type 0 = λ s. KeepPieces case s.a s.b s.first s.last in
     subst (λ (l : Leaf). P (plain_leaf l)) (sym is)
     (All-get_or (λ l. P (plain_leaf l)) leaves i leaf lt
     (All-from_each (λ l. P (plain_leaf l)) leaves (each_from_map P plain_leaf leaves (each_from_All P (plain_leaves leaves) keep))))
 
 -- ---- the loops over leaves
 
-pub nearest_begun : (case : PlainProblem) (leaves : List Leaf) (best : PlainApproach) → All (NoWorse best) (candidates_in case (plain_leaves (take 0 leaves)))
-unfolding candidates_in
+pub nearest_begun : (case : PlainProblem) (leaves : List Leaf) (best : PlainApproach) → All (NoWorse best) (ends_in case (plain_leaves (take 0 leaves)))
+unfolding ends_in
 nearest_begun case leaves best = All-nil (NoWorse best)
 
 -- what is found of one leaf more
 pub nearest_more : (case : PlainProblem) (leaves : List Leaf) (i : ℕ) (leaf : Leaf) (best found : PlainApproach) → i < length leaves → leaf ≡ get_or leaves i leaf →
-    All (NoWorse best) (candidates_in case (plain_leaves (take i leaves))) → NoWorse found best → All (NoWorse found) (candidates_of case (plain_leaf leaf)) →
-    All (NoWorse found) (candidates_in case (plain_leaves (take (i + 1) leaves)))
+    All (NoWorse best) (ends_in case (plain_leaves (take i leaves))) → NoWorse found best → All (NoWorse found) (ends_within case (plain_leaf leaf)) →
+    All (NoWorse found) (ends_in case (plain_leaves (take (i + 1) leaves)))
 nearest_more case leaves i leaf best found lt is before less here =
-    All-same (NoWorse found) _ _ (candidates_more case leaves i leaf lt is)
-    (All-append (NoWorse found) (candidates_in case (plain_leaves (take i leaves))) (candidates_of case (plain_leaf leaf))
-    (All-weaker (NoWorse best) (NoWorse found) (λ q h. NoWorse-trans found best q less h) (candidates_in case (plain_leaves (take i leaves))) before) here)
+    All-same (NoWorse found) _ _ (ends_more case leaves i leaf lt is)
+    (All-append (NoWorse found) (ends_in case (plain_leaves (take i leaves))) (ends_within case (plain_leaf leaf))
+    (All-weaker (NoWorse best) (NoWorse found) (λ q h. NoWorse-trans found best q less h) (ends_in case (plain_leaves (take i leaves))) before) here)
 
-pub candidate_more : (case : PlainProblem) (leaves : List Leaf) (i : ℕ) (leaf : Leaf) (best found : PlainApproach) → i < length leaves → leaf ≡ get_or leaves i leaf →
-    Any (λ p. p ≡ best) (candidates_in case (plain_leaves leaves)) → (found ≡ best) ⊎ Any (λ p. p ≡ found) (candidates_of case (plain_leaf leaf)) →
-    Any (λ p. p ≡ found) (candidates_in case (plain_leaves leaves))
-candidate_more case leaves i leaf best found lt is before (inl same) = subst (λ x. Any (λ p. p ≡ x) (candidates_in case (plain_leaves leaves))) (sym same) before
-candidate_more case leaves i leaf best found lt is before (inr one) = candidate_of_all case leaves i leaf found lt is one
+pub end_more : (case : PlainProblem) (leaves : List Leaf) (i : ℕ) (leaf : Leaf) (best found : PlainApproach) → i < length leaves → leaf ≡ get_or leaves i leaf →
+    Any (λ p. p ≡ best) (ends_in case (plain_leaves leaves)) → (found ≡ best) ⊎ Any (λ p. p ≡ found) (ends_within case (plain_leaf leaf)) →
+    Any (λ p. p ≡ found) (ends_in case (plain_leaves leaves))
+end_more case leaves i leaf best found lt is before (inl same) = subst (λ x. Any (λ p. p ≡ x) (ends_in case (plain_leaves leaves))) (sym same) before
+end_more case leaves i leaf best found lt is before (inr one) = end_of_all case leaves i leaf found lt is one
 
-pub stretch_more : (P : PlainLeaf → Type 0) (leaves : List Leaf) (i : ℕ) (leaf : Leaf) → i < length leaves → leaf ≡ get_or leaves i leaf → All P (plain_leaves (take i leaves)) → P (plain_leaf leaf) →
+pub leaf_more : (P : PlainLeaf → Type 0) (leaves : List Leaf) (i : ℕ) (leaf : Leaf) → i < length leaves → leaf ≡ get_or leaves i leaf → All P (plain_leaves (take i leaves)) → P (plain_leaf leaf) →
     All P (plain_leaves (take (i + 1) leaves))
-stretch_more P leaves i leaf lt is before here =
+leaf_more P leaves i leaf lt is before here =
     All-same P _ _ (map_more plain_leaf leaves i leaf lt ∙ ap (λ (l : Leaf). plain_leaves (take i leaves) ++ plain_leaf l ∷ []) (sym is))
     (All-push P (plain_leaves (take i leaves)) (plain_leaf leaf) before here)
 
 -- ---- what was found is the closest approach
 
--- p is a candidate of these stretches, and none is nearer
+-- p is an end of these leaves, and none is nearer
 pub record IsFound (case : PlainProblem) (ss : List PlainLeaf) (p : PlainApproach) : Type 0 where
-  pub candidate : Any (λ q. q ≡ p) (candidates_in case ss)
-  pub nearest : All (NoWorse p) (candidates_in case ss)
+  pub end : Any (λ q. q ≡ p) (ends_in case ss)
+  pub nearest : All (NoWorse p) (ends_in case ss)
 
 -- the same of the leaves of an encounter
-pub found_in : (case : PlainProblem) (leaves : List Leaf) (e : Encounter) (p : PlainApproach) → Any (λ q. q ≡ p) (candidates_in case (plain_leaves (slice_range leaves e.leaf e.past))) →
-    All (NoWorse p) (candidates_in case (plain_leaves (slice_range leaves e.leaf e.past))) → IsFound case (stretches_in (plain_leaves leaves) e) p
-found_in case leaves e p candidate nearest = record {
-  candidate = subst (λ ss. Any (λ q. q ≡ p) (candidates_in case ss)) (stretches_in_leaves leaves e) candidate;
-  nearest = subst (λ ss. All (NoWorse p) (candidates_in case ss)) (stretches_in_leaves leaves e) nearest;
+pub found_in : (case : PlainProblem) (leaves : List Leaf) (e : Encounter) (p : PlainApproach) → Any (λ q. q ≡ p) (ends_in case (plain_leaves (slice_range leaves e.leaf e.past))) →
+    All (NoWorse p) (ends_in case (plain_leaves (slice_range leaves e.leaf e.past))) → IsFound case (leaves_in (plain_leaves leaves) e) p
+found_in case leaves e p end nearest = record {
+  end = subst (λ ss. Any (λ q. q ≡ p) (ends_in case ss)) (leaves_in_encounter leaves e) end;
+  nearest = subst (λ ss. All (NoWorse p) (ends_in case ss)) (leaves_in_encounter leaves e) nearest;
 }
 
 -- an encounter has a leaf
@@ -143,24 +143,24 @@ pub record IsHigh (p : PlainApproach) (high : ℕ) : Type 0 where
 pub is_closest : (case : PlainProblem) (ss : List PlainLeaf) (p : PlainApproach) (closest : Closest) → IsFound case ss p → IsHigh p closest.high → closest.tick.micros ≡ p.tick → IsClosest case ss closest
 is_closest case ss p closest found high same = record {
   square = p.square;
-  candidate = subst (λ (t : ℕ). Any (λ q. q ≡ record { tick = t; square = p.square }) (candidates_in case ss)) (sym same) found.candidate;
-  least = All-from_each (λ q. p.square ≤ q.square) (candidates_in case ss)
-      (Each-weaker (NoWorse p) (λ q. p.square ≤ q.square) (λ q h. h.least) (candidates_in case ss) each);
-  earliest = All-from_each (λ q. q.square ≡ p.square → closest.tick.micros ≤ q.tick) (candidates_in case ss)
-      (Each-weaker (NoWorse p) (λ q. q.square ≡ p.square → closest.tick.micros ≤ q.tick) (λ q h e. omega (arith, same, h.earliest (sym e))) (candidates_in case ss) each);
+  end = subst (λ (t : ℕ). Any (λ q. q ≡ record { tick = t; square = p.square }) (ends_in case ss)) (sym same) found.end;
+  least = All-from_each (λ q. p.square ≤ q.square) (ends_in case ss)
+      (Each-weaker (NoWorse p) (λ q. p.square ≤ q.square) (λ q h. h.least) (ends_in case ss) each);
+  earliest = All-from_each (λ q. q.square ≡ p.square → closest.tick.micros ≤ q.tick) (ends_in case ss)
+      (Each-weaker (NoWorse p) (λ q. q.square ≡ p.square → closest.tick.micros ≤ q.tick) (λ q h e. omega (arith, same, h.earliest (sym e))) (ends_in case ss) each);
   high = high.above;
   least_high = high.least;
 }
   where
-    each : Each (NoWorse p) (candidates_in case ss)
-    each = each_from_All (NoWorse p) (candidates_in case ss) found.nearest
+    each : Each (NoWorse p) (ends_in case ss)
+    each = each_from_All (NoWorse p) (ends_in case ss) found.nearest
 
 pub closest_is : (case : PlainProblem) (ss : List PlainLeaf) (p : PlainApproach) (closest : Closest) → IsFound case ss p → IsHigh p closest.high → closest.tick.micros ≡ p.tick → closest_of case ss ≡ Some (plain_closest closest)
 unfolding closest_of
 closest_is case ss p closest found high same =
-    let first : nearest (candidates_in case ss) ≡ Some p = nearest_is (candidates_in case ss) p (record {
-      one_of = exists_from_Any (λ q. q ≡ p) (candidates_in case ss) found.candidate;
-      no_worse = each_from_All (NoWorse p) (candidates_in case ss) found.nearest;
+    let first : nearest (ends_in case ss) ≡ Some p = nearest_is (ends_in case ss) p (record {
+      one_of = exists_from_Any (λ q. q ≡ p) (ends_in case ss) found.end;
+      no_worse = each_from_All (NoWorse p) (ends_in case ss) found.nearest;
     }) in
     let ticks : p.tick ≡ closest.tick.micros = sym same in
     ap (option_map closest_by) first
@@ -172,23 +172,23 @@ closest_is case ss p closest found high same =
 -- what holds of objects at a tick holds of their interpolants there
 of_curves : (case : PlainProblem) (a b m : ℕ) (c d : Curve) (P : Curve → Curve → Type 0) → OfObjectsAt case a b m P → curve_at case a m ≡ Some c → curve_at case b m ≡ Some d → P c d
 unfolding curve_at
-of_curves case a b m c d P h first second = go (slice_get case.ephemerides a) (slice_get case.ephemerides b) h first second
+of_curves case a b m c d P h first second = go (slice_get case.tracks a) (slice_get case.tracks b) h first second
   where
-    at_pieces : (o p : Option PlainPiece) → IsSomeAnd o (λ x. IsSomeAnd p (λ y. P (curve_of_interval x) (curve_of_interval y)))
-        → option_map curve_of_interval o ≡ Some c → option_map curve_of_interval p ≡ Some d → P c d
+    at_pieces : (o p : Option PlainPiece) → IsSomeAnd o (λ x. IsSomeAnd p (λ y. P (curve_of_piece x) (curve_of_piece y)))
+        → option_map curve_of_piece o ≡ Some c → option_map curve_of_piece p ≡ Some d → P c d
     at_pieces None p h e f = absurd h
     at_pieces (Some x) None h e f = absurd h
     at_pieces (Some x) (Some y) h e f =
-        let one : curve_of_interval x ≡ c = cc in
-        let two : curve_of_interval y ≡ d = cc in
-        subst (λ z. P c z) two (subst (λ z. P z (curve_of_interval y)) one h)
+        let one : curve_of_piece x ≡ c = cc in
+        let two : curve_of_piece y ≡ d = cc in
+        subst (λ z. P c z) two (subst (λ z. P z (curve_of_piece y)) one h)
 
     go : (o p : Option PlainTrack) → IsSomeAnd o (λ e. IsSomeAnd p (λ f. OfBothAt e f m P))
-        → option_map curve_of_interval (option_and_then (λ e. interval_at e m) o) ≡ Some c
-        → option_map curve_of_interval (option_and_then (λ e. interval_at e m) p) ≡ Some d → P c d
+        → option_map curve_of_piece (option_and_then (λ e. piece_holding e m) o) ≡ Some c
+        → option_map curve_of_piece (option_and_then (λ e. piece_holding e m) p) ≡ Some d → P c d
     go None p h e f = absurd h
     go (Some x) None h e f = absurd h
-    go (Some x) (Some y) h e f = at_pieces (interval_at x m) (interval_at y m) h e f
+    go (Some x) (Some y) h e f = at_pieces (piece_holding x m) (piece_holding y m) h e f
 
 bound_up : (c d : Curve) (x y : ℕ) → x ≤ y → pos (x * scale c d) ≤ℤ pos (y * scale c d)
 bound_up c d x y le = let times = mul-le-mul_right (scale c d) le in omega (arith, ints)
@@ -196,7 +196,7 @@ bound_up c d x y le = let times = mul-le-mul_right (scale c d) le in omega (arit
 squares_up : (a b : ℕ) → a ≤ b → a * a ≤ b * b
 squares_up a b le = mul-le-mul le le
 
--- a stretch with its two interpolants
+-- a leaf with its two interpolants
 pub record HasCurves (case : PlainProblem) (s : PlainLeaf) : Type 0 where
   pub c : Curve
   pub d : Curve
@@ -205,37 +205,37 @@ pub record HasCurves (case : PlainProblem) (s : PlainLeaf) : Type 0 where
   pub c_over : IsOver c s.first s.last
   pub d_over : IsOver d s.first s.last
 
--- a stretch of the objects a and b
+-- a leaf of the objects a and b
 pub record IsOfPair (case : PlainProblem) (a b : ℕ) (s : PlainLeaf) : Type 0 where
   pub first_object : s.a ≡ a
   pub second_object : s.b ≡ b
   pub has : HasCurves case s
 
 module _ (case : PlainProblem) (s : PlainLeaf) (has : HasCurves case s) where
-  own_candidates : candidates_of case s ≡ candidates_between has.c has.d s s.first s.last
-  own_candidates = let have = has.have in let some = has.some in candidates_are case s has.c has.d (have.first_curve s.first (omega arith) some) (have.second_curve s.first (omega arith) some)
+  own_ends : ends_within case s ≡ ends_between has.c has.d s s.first s.last
+  own_ends = let have = has.have in let some = has.some in ends_are case s has.c has.d (have.first_curve s.first (omega arith) some) (have.second_curve s.first (omega arith) some)
 
-  -- a tick of the stretch with its bound
+  -- a tick of the leaf with its bound
   record IsTickIn (p : PlainApproach) : Type 0 where
     from : s.first ≤ p.tick
     to : p.tick ≤ s.last
     bound : p.square ≡ upper has.c has.d p.tick
 
-  candidate_tick : (x : PlainApproach) → Exists (λ p. p ≡ x) (candidates_of case s) → IsTickIn x
-  candidate_tick x one =
-      go (candidates_between has.c has.d s s.first s.last)
-      (each_candidate has.c has.d s s.first s.last has.some has.c_over has.d_over IsTickIn (λ m low high. record { from = low; to = high; bound = refl }))
-      (subst (Exists (λ p. p ≡ x)) own_candidates one)
+  end_tick : (x : PlainApproach) → Exists (λ p. p ≡ x) (ends_within case s) → IsTickIn x
+  end_tick x one =
+      go (ends_between has.c has.d s s.first s.last)
+      (each_end has.c has.d s s.first s.last has.some has.c_over has.d_over IsTickIn (λ m low high. record { from = low; to = high; bound = refl }))
+      (subst (Exists (λ p. p ≡ x)) own_ends one)
     where
       go : (ps : List PlainApproach) → Each IsTickIn ps → Exists (λ p. p ≡ x) ps → IsTickIn x
       go [] each some = absurd some
       go (p ∷ ps) each (inl same) = subst IsTickIn same each.0
       go (p ∷ ps) each (inr later) = go ps each.1 later
 
-  -- the pair is within k at a candidate whose bound is at most k²
-  within_there : (x : PlainApproach) (k : ℕ) → Exists (λ p. p ≡ x) (candidates_of case s) → x.square ≤ k * k → OfObjectsAt case s.a s.b x.tick (λ c d. IsWithinAt c d k x.tick)
+  -- the pair is within k at an end whose bound is at most k²
+  within_there : (x : PlainApproach) (k : ℕ) → Exists (λ p. p ≡ x) (ends_within case s) → x.square ≤ k * k → OfObjectsAt case s.a s.b x.tick (λ c d. IsWithinAt c d k x.tick)
   within_there x k one le =
-      let t = candidate_tick x one in
+      let t = end_tick x one in
       let have = has.have in
       let bound : upper has.c has.d x.tick ≤ k * k = omega (arith, t.bound) in
       of_objects case s.a s.b x.tick has.c has.d (λ c d. IsWithinAt c d k x.tick) (have.first_curve x.tick t.from t.to) (have.second_curve x.tick t.from t.to)
@@ -243,12 +243,12 @@ module _ (case : PlainProblem) (s : PlainLeaf) (has : HasCurves case s) where
       (upper_holds has.c has.d x.tick (over_part has.c s.first s.last x.tick x.tick has.c_over t.from t.to) (over_part has.d s.first s.last x.tick x.tick has.d_over t.from t.to))
       (bound_up has.c has.d (upper has.c has.d x.tick) (k * k) bound))
 
-  -- where no candidate of the stretch is nearer than x, no tick of it is more than one millimetre nearer
-  beyond_there : (x : PlainApproach) (high m : ℕ) → IsHigh x high → Each (NoWorse x) (candidates_of case s) → s.first ≤ m → m ≤ s.last →
+  -- where no end of the leaf is nearer than x, no tick of it is more than one millimetre nearer
+  beyond_there : (x : PlainApproach) (high m : ℕ) → IsHigh x high → Each (NoWorse x) (ends_within case s) → s.first ≤ m → m ≤ s.last →
       pos ((high - BAND) * (high - BAND) * scale has.c has.d) ≤ℤ square_distance has.c has.d m
   unfolding is_flat
   beyond_there x high m is each from to =
-      go (flat_at has.c has.d s s.first s.last m (NoWorse x) has.some has.c_over has.d_over (subst (Each (NoWorse x)) own_candidates each) from to)
+      go (flat_at has.c has.d s s.first s.last m (NoWorse x) has.some has.c_over has.d_over (subst (Each (NoWorse x)) own_ends each) from to)
     where
       go : HasFlat has.c has.d s.first s.last m (NoWorse x) → pos ((high - BAND) * (high - BAND) * scale has.c has.d) ≤ℤ square_distance has.c has.d m
       go f =
@@ -266,25 +266,25 @@ module _ (case : PlainProblem) (s : PlainLeaf) (has : HasCurves case s) where
           (bound_up has.c has.d ((high - BAND) * (high - BAND)) (least_square (gap_terms (hull_gap has.c has.d f.from f.to))) (omega arith))
           (least_holds has.c has.d f.from m f.to tick.0 tick.1 (over_part has.c s.first s.last f.from f.to has.c_over inside.0 inside.1) (over_part has.d s.first s.last f.from f.to has.d_over inside.0 inside.1))
 
--- ---- all stretches of an encounter
+-- ---- all leaves of an encounter
 
--- what holds of each candidate holds of those of each stretch
-each_stretch : (case : PlainProblem) (P : PlainApproach → Type 0) (ss : List PlainLeaf) → Each P (candidates_in case ss) → Each (λ s. Each P (candidates_of case s)) ss
-unfolding candidates_in
-each_stretch case P [] each = tt
-each_stretch case P (s ∷ ss) each = let parts = parted (candidates_of case s) (candidates_in case ss) each in (parts.0, each_stretch case P ss parts.1)
+-- what holds of each end holds of those of each leaf
+each_leaf : (case : PlainProblem) (P : PlainApproach → Type 0) (ss : List PlainLeaf) → Each P (ends_in case ss) → Each (λ s. Each P (ends_within case s)) ss
+unfolding ends_in
+each_leaf case P [] each = tt
+each_leaf case P (s ∷ ss) each = let parts = parted (ends_within case s) (ends_in case ss) each in (parts.0, each_leaf case P ss parts.1)
   where
     parted : (ps qs : List PlainApproach) → Each P (ps ++ qs) → Each P ps × Each P qs
     parted [] qs e = (tt, e)
     parted (p ∷ ps) qs e = let rest = parted ps qs e.1 in ((e.0, rest.0), rest.1)
 
--- a candidate is one of some stretch
-some_stretch : (case : PlainProblem) (P : PlainApproach → Type 0) (ss : List PlainLeaf) → Exists P (candidates_in case ss) → Exists (λ s. Exists P (candidates_of case s)) ss
-unfolding candidates_in
-some_stretch case P [] some = some
-some_stretch case P (s ∷ ss) some = elim (parted (candidates_of case s) (candidates_in case ss) some) [
+-- an end is one of some leaf
+some_leaf : (case : PlainProblem) (P : PlainApproach → Type 0) (ss : List PlainLeaf) → Exists P (ends_in case ss) → Exists (λ s. Exists P (ends_within case s)) ss
+unfolding ends_in
+some_leaf case P [] some = some
+some_leaf case P (s ∷ ss) some = elim (parted (ends_within case s) (ends_in case ss) some) [
   | inl here ↦ inl here
-  | inr there ↦ inr (some_stretch case P ss there)
+  | inr there ↦ inr (some_leaf case P ss there)
 ]
   where
     parted : (ps qs : List PlainApproach) → Exists P (ps ++ qs) → Exists P ps ⊎ Exists P qs
@@ -295,7 +295,7 @@ some_stretch case P (s ∷ ss) some = elim (parted (candidates_of case s) (candi
       | inr there ↦ inr there
     ]
 
-has_curves : (case : PlainProblem) (s : PlainLeaf) → HasInterpolants case s → KeepIntervals case s.a s.b s.first s.last → HasCurves case s
+has_curves : (case : PlainProblem) (s : PlainLeaf) → HasInterpolants case s → KeepPieces case s.a s.b s.first s.last → HasCurves case s
 has_curves case s has keep = record {
   c = has.c;
   d = has.d;
@@ -314,26 +314,26 @@ module _ (case : PlainProblem) (a b : ℕ) (ss : List PlainLeaf) (p : PlainAppro
 
   within_k : (k : ℕ) → p.square ≤ k * k → OfObjectsAt case a b p.tick (λ c d. IsWithinAt c d k p.tick)
   within_k k le =
-      go ss (Each-exists (IsOfPair case a b) (λ s. Exists (λ q. q ≡ p) (candidates_of case s)) ss pairs
-      (some_stretch case (λ q. q ≡ p) ss (exists_from_Any (λ q. q ≡ p) (candidates_in case ss) found.candidate)))
+      go ss (Each-exists (IsOfPair case a b) (λ s. Exists (λ q. q ≡ p) (ends_within case s)) ss pairs
+      (some_leaf case (λ q. q ≡ p) ss (exists_from_Any (λ q. q ≡ p) (ends_in case ss) found.end)))
     where
-      go : (ss : List PlainLeaf) → Exists (λ s. IsOfPair case a b s × Exists (λ q. q ≡ p) (candidates_of case s)) ss → OfObjectsAt case a b p.tick (λ c d. IsWithinAt c d k p.tick)
+      go : (ss : List PlainLeaf) → Exists (λ s. IsOfPair case a b s × Exists (λ q. q ≡ p) (ends_within case s)) ss → OfObjectsAt case a b p.tick (λ c d. IsWithinAt c d k p.tick)
       go [] some = absurd some
       go (s ∷ ss) (inl h) = let of = h.0 in of_pair s p.tick (λ c d. IsWithinAt c d k p.tick) of (within_there case s of.has p k h.1 le)
       go (s ∷ ss) (inr later) = go ss later
 
-  -- a stretch of the pair that has the tick, none of whose candidates is nearer
+  -- a leaf of the pair that has the tick, none of whose ends is nearer
   record HasIt (m : ℕ) (s : PlainLeaf) : Type 0 where
     of : IsOfPair case a b s
-    each : Each (NoWorse p) (candidates_of case s)
+    each : Each (NoWorse p) (ends_within case s)
     tick : IsTickOf a b m s
 
   has_it : (m : ℕ) → Any (IsTickOf a b m) ss → Exists (HasIt m) ss
   has_it m any =
-      Exists-weaker (λ s. (IsOfPair case a b s × Each (NoWorse p) (candidates_of case s)) × IsTickOf a b m s) (HasIt m) (λ s h. record { of = h.0.0; each = h.0.1; tick = h.1 }) ss
-      (Each-exists (λ s. IsOfPair case a b s × Each (NoWorse p) (candidates_of case s)) (IsTickOf a b m) ss
-      (Each-both (IsOfPair case a b) (λ s. Each (NoWorse p) (candidates_of case s)) ss pairs
-      (each_stretch case (NoWorse p) ss (each_from_All (NoWorse p) (candidates_in case ss) found.nearest)))
+      Exists-weaker (λ s. (IsOfPair case a b s × Each (NoWorse p) (ends_within case s)) × IsTickOf a b m s) (HasIt m) (λ s h. record { of = h.0.0; each = h.0.1; tick = h.1 }) ss
+      (Each-exists (λ s. IsOfPair case a b s × Each (NoWorse p) (ends_within case s)) (IsTickOf a b m) ss
+      (Each-both (IsOfPair case a b) (λ s. Each (NoWorse p) (ends_within case s)) ss pairs
+      (each_leaf case (NoWorse p) ss (each_from_All (NoWorse p) (ends_in case ss) found.nearest)))
       (exists_from_Any (IsTickOf a b m) ss any))
 
   beyond_at : (m : ℕ) → Exists (HasIt m) ss → OfObjectsAt case a b m (λ c d. square_bound c d (high - BAND) ≤ℤ square_distance c d m)
@@ -402,10 +402,10 @@ module _ (case : PlainProblem) (a b : ℕ) (ss : List PlainLeaf) (p : PlainAppro
     flat = λ m any. flat_there m (has_it m any);
   }
 
--- each stretch of an encounter is of its pair, and has two interpolants
-pub of_pairs : (case : PlainProblem) (a b : ℕ) (ss : List PlainLeaf) → All (λ s. (s.a ≡ a) × (s.b ≡ b)) ss → KeepTheirIntervals case ss → All (HasInterpolants case) ss → Each (IsOfPair case a b) ss
+-- each leaf of an encounter is of its pair, and has two interpolants
+pub of_pairs : (case : PlainProblem) (a b : ℕ) (ss : List PlainLeaf) → All (λ s. (s.a ≡ a) × (s.b ≡ b)) ss → KeepTheirPieces case ss → All (HasInterpolants case) ss → Each (IsOfPair case a b) ss
 of_pairs case a b ss objects keep has =
-    Each-weaker (λ s. ((s.a ≡ a) × (s.b ≡ b)) × (KeepIntervals case s.a s.b s.first s.last × HasInterpolants case s)) (IsOfPair case a b)
+    Each-weaker (λ s. ((s.a ≡ a) × (s.b ≡ b)) × (KeepPieces case s.a s.b s.first s.last × HasInterpolants case s)) (IsOfPair case a b)
     (λ s h. let two = h.0 in let more = h.1 in record { first_object = two.0; second_object = two.1; has = has_curves case s more.1 more.0 }) ss
-    (Each-both (λ s. (s.a ≡ a) × (s.b ≡ b)) (λ s. KeepIntervals case s.a s.b s.first s.last × HasInterpolants case s) ss (each_from_All (λ s. (s.a ≡ a) × (s.b ≡ b)) ss objects)
-    (Each-both (λ s. KeepIntervals case s.a s.b s.first s.last) (HasInterpolants case) ss (each_from_All (λ s. KeepIntervals case s.a s.b s.first s.last) ss keep) (each_from_All (HasInterpolants case) ss has)))
+    (Each-both (λ s. (s.a ≡ a) × (s.b ≡ b)) (λ s. KeepPieces case s.a s.b s.first s.last × HasInterpolants case s) ss (each_from_All (λ s. (s.a ≡ a) × (s.b ≡ b)) ss objects)
+    (Each-both (λ s. KeepPieces case s.a s.b s.first s.last) (HasInterpolants case) ss (each_from_All (λ s. KeepPieces case s.a s.b s.first s.last) ss keep) (each_from_All (HasInterpolants case) ss has)))

@@ -1,5 +1,5 @@
 pub mod ApproachListLemmas
-pub mod CandidateLemmas
+pub mod EndLemmas
 pub mod ClosestLemmas
 pub mod EncounterLemmas
 pub mod NearerLemmas

@@ -1,4 +1,4 @@
--- When stretches are in order.
+-- When leaves are in order.
 use Rattle.std.proofs.Common.{◌≡◌, ◌≤◌, List, [], ◌∷◌, sym, ◌∙◌, arith}
 use Rattle.std.proofs.lemmas.List.Elements.{All-nil, All-cons, All-head, All-tail, All-weaker}
 use Rattle.std.proofs.lemmas.List.Kept.{AllPairs-cons}
@@ -6,7 +6,7 @@ use Rattle.std.specs.Prelude.{All}
 use Rattle.cj_bezier.specs.Leaves.{PlainLeaf}
 use Rattle.cj_bezier.specs.Order.{IsBefore, AreInOrder, HaveTicks}
 
--- each stretch lies before the next
+-- each leaf lies before the next
 abbrev pub AreNeighbours : List PlainLeaf → Type 0
 AreNeighbours [] = Unit {0}
 AreNeighbours (s ∷ []) = Unit {0}
@@ -35,7 +35,7 @@ neighbours-tail : (s : PlainLeaf) (ss : List PlainLeaf) → AreNeighbours (s ∷
 neighbours-tail s [] near = tt
 neighbours-tail s (t ∷ ss) near = near.1
 
--- stretches with ticks are in order where neighbours are
+-- leaves with ticks are in order where neighbours are
 pub in_order_from_neighbours : (ss : List PlainLeaf) → HaveTicks ss → AreNeighbours ss → AreInOrder ss
 in_order_from_neighbours [] ticks near = λ i j d below short. absurd (omega (arith, short))
 in_order_from_neighbours (s ∷ ss) ticks near =

@@ -1,4 +1,4 @@
--- The ticks in the spans of the encounters of stretches are those in the stretches themselves.
+-- The ticks in the spans of the encounters of leaves are those in the leaves themselves.
 use Rattle.std.proofs.Common.{◌≡◌, ◌≢◌, ◌⊎◌, ◌↔◌, ℕ, ◌+◌, ◌≤◌, ◌==◌, true, false, ◌&&◌, List, [], ◌∷◌, get_or, refl, sym, ◌∙◌, ap, inl, inr, ⊎_elim, arith, eqb-true, eq-eqb}
 use Rattle.std.proofs.lemmas.Bool.{and_parts, cases_lt, cond_both, cond-true, cond-false, and_from, cases_Bool}
 use Rattle.std.proofs.lemmas.List.Elements.{All-nil, All-cons, All-head, All-tail, All-weaker, All-map}
@@ -13,7 +13,7 @@ use Rattle.cj_meet.specs.Encounters.{is_far, follows, with_front, encounters_of,
 use Rattle.cj_meet.specs.Spans.{with_span, spans_of, LiesInSpan, HaveExactSpans}
 use Rattle.cj_bezier.proofs.KindLemmas.{from_same_kind}
 
--- one stretch goes on from another
+-- one leaf goes on from another
 pub record GoesOn (s t : PlainLeaf) : Type 0 where
   pub a : s.a ≡ t.a
   pub b : s.b ≡ t.b
@@ -28,7 +28,7 @@ goes_on-from s t on =
 abbrev HasTick : PlainLeaf → Type 0
 HasTick s = s.first ≤ s.last
 
--- two stretches as one
+-- two leaves as one
 abbrev pub joined : PlainLeaf → PlainLeaf → PlainLeaf
 joined s t = record t { first = s.first }
 
@@ -43,7 +43,7 @@ covers_first kind tick s t on some alike h = record { same = sym alike ∙ h.sam
 covers_second : (kind : Kind) (tick : ℕ) (s t : PlainLeaf) → GoesOn s t → HasTick s → Covers kind tick t → Covers kind tick (joined s t)
 covers_second kind tick s t on some h = record { same = h.same; from = omega (arith, h.from, on.next, some); to = h.to }
 
--- what a span of stretches with ticks adds to others
+-- what a span of leaves with ticks adds to others
 with_span-case : (P : List PlainLeaf → Type 0) (s t : PlainLeaf) (ts : List PlainLeaf) →
     (follows s t ≡ true → same_kind s.kind t.kind ≡ true → P (joined s t ∷ ts)) → P (s ∷ t ∷ ts) → P (with_span s (t ∷ ts))
 with_span-case P s t ts merged apart =
@@ -76,7 +76,7 @@ with_span-covers kind tick s (t ∷ ts) some all =
     ))
     (λ h. h, λ h. h)
 
--- the spans of stretches cover what the stretches do
+-- the spans of leaves cover what the leaves do
 spans_of-covers : (kind : Kind) (tick : ℕ) (ss : List PlainLeaf) → HaveTicks ss → Exists (Covers kind tick) (spans_of ss) ↔ Exists (Covers kind tick) ss
 spans_of-covers kind tick [] all = (λ h. h, λ h. h)
 spans_of-covers kind tick (s ∷ ss) all =
@@ -96,7 +96,7 @@ not_far_is Far h e = cc
 not_far_is Near h e = cc
 not_far_is Undecided h e = cc
 
--- an encounter: stretches with ticks, none of them far, of one pair
+-- an encounter: leaves with ticks, none of them far, of one pair
 pub record IsGroup (g : List PlainLeaf) : Type 0 where
   ticks : HaveTicks g
   near : All (λ s. s.kind ≢ Far) g
@@ -110,11 +110,11 @@ alone s some near = record {
 }
 
 module _ (kind : Kind) (a b tick : ℕ) where
-  -- the tick lies in an encounter of the objects a and b, in one of its stretches of this kind
+  -- the tick lies in an encounter of the objects a and b, in one of its leaves of this kind
   abbrev LiesInGroup : List PlainLeaf → Type 0
   LiesInGroup g = Exists (LiesIn kind a b tick) g
 
-  -- one pair for all stretches, told apart from the tick
+  -- one pair for all leaves, told apart from the tick
   told_apart : (c d : ℕ) (g : List PlainLeaf) → All (λ s. (s.a ≡ c) × (s.b ≡ d)) g → Exists (LiesIn kind a b tick) g → (c ≡ a) × (d ≡ b) × Exists (Covers kind tick) g
   told_apart c d [] alike h = absurd h
   told_apart c d (s ∷ g) alike (inl h) =
@@ -141,7 +141,7 @@ module _ (kind : Kind) (a b tick : ℕ) where
       told_together (first_object g) (second_object g) g is.alike h.objects.0 h.objects.1
       ((spans_of-covers kind tick g is.ticks).0 (exists_from_Any (Covers kind tick) (spans_of g) h.span))
 
-  -- a stretch in front adds its own ticks
+  -- a leaf in front adds its own ticks
   with_front-ticks : (s : PlainLeaf) (gs : List (List PlainLeaf)) →
       Exists LiesInGroup (with_front s gs) ↔ (LiesIn kind a b tick s ⊎ Exists LiesInGroup gs)
   with_front-ticks s [] = (⊎_elim (⊎_elim inl absurd) absurd, ⊎_elim (λ h. inl (inl h)) absurd)
@@ -151,7 +151,7 @@ module _ (kind : Kind) (a b tick : ℕ) where
       (λ on. (⊎_elim (⊎_elim inl (λ h. inr (inl h))) (λ h. inr (inr h)), ⊎_elim (λ h. inl (inl h)) (⊎_elim (λ h. inl (inr h)) inr)))
       (λ off. (⊎_elim (⊎_elim inl absurd) inr, ⊎_elim (λ h. inl (inl h)) inr))
 
-  -- no tick of a far stretch counts
+  -- no tick of a far leaf counts
   far_has_none : (s : PlainLeaf) → kind ≢ Far → is_far s ≡ true → LiesIn kind a b tick s → ⊥
   far_has_none s near far h = near (sym h.covered.same ∙ far_is s.kind far)
 
@@ -197,7 +197,7 @@ encounters_of-groups (s ∷ ss) all =
     cond_both (is_far s) (encounters_of ss) (with_front s (encounters_of ss)) (All IsGroup)
     (λ far. rest) (λ off. with_front-groups s (encounters_of ss) (All-head HasTick s ss all) (not_far_is s.kind off) rest)
 
--- a tick lies in a near or undecided span of an encounter exactly where it lies in such a stretch
+-- a tick lies in a near or undecided span of an encounter exactly where it lies in such a leaf
 pub spans_hold : (kind : Kind) (a b tick : ℕ) (ss : List PlainLeaf) → kind ≢ Far → HaveTicks ss →
     Any (LiesInSpan kind a b tick) (encounters_of ss) ↔ Any (LiesIn kind a b tick) ss
 spans_hold kind a b tick ss near all =
@@ -236,7 +236,7 @@ exact_spans leaves = record {
 follows-from : (s t : PlainLeaf) → GoesOn s t → follows s t ≡ true
 follows-from s t on = rw (eq-eqb _ _ on.a, eq-eqb _ _ on.b, eq-eqb _ _ on.next) refl
 
--- the first span of stretches begins as the first of them does
+-- the first span of leaves begins as the first of them does
 record IsHead (t : PlainLeaf) (spans : List PlainLeaf) : Type 0 where
   head : PlainLeaf
   rest : List PlainLeaf
@@ -255,7 +255,7 @@ with_span-head t (u ∷ us) =
     record { head = joined t u; rest = us; is = refl; a = sym goes.a; b = sym goes.b; first = refl; kind = sym (from_same_kind t.kind u.kind alike) })
     (record { head = t; rest = u ∷ us; is = refl; a = refl; b = refl; first = refl; kind = refl })
 
--- a stretch in front of spans that goes on with the first of them
+-- a leaf in front of spans that goes on with the first of them
 with_span-on : (s t : PlainLeaf) (ts : List PlainLeaf) → follows s t ≡ true → same_kind s.kind t.kind ≡ true → with_span s (t ∷ ts) ≡ joined s t ∷ ts
 with_span-on s t ts on alike =
     cond-true (follows s t && same_kind s.kind t.kind) (joined s t ∷ ts) (s ∷ t ∷ ts) (and_from (follows s t) (same_kind s.kind t.kind) on alike)
@@ -278,13 +278,13 @@ with_span-joined s t (u ∷ us) on alike =
     ap (with_span s) (with_span-off t u us no_t) ∙ (with_span-on s t (u ∷ us) on alike ∙ sym (with_span-off (joined s t) u us no_t)))
     (cases_Bool (follows t u && same_kind t.kind u.kind))
 
--- two stretches that go on and are of one kind have the spans of one stretch
+-- two leaves that go on and are of one kind have the spans of one leaf
 pub spans_of-joined : (s t : PlainLeaf) (ss : List PlainLeaf) → (follows s t && same_kind s.kind t.kind) ≡ true → spans_of (s ∷ t ∷ ss) ≡ spans_of (joined s t ∷ ss)
 spans_of-joined s t ss on =
     let test = and_parts (follows s t) (same_kind s.kind t.kind) on in
     with_span-joined s t (spans_of ss) test.0 test.1
 
--- the spans of other stretches begin with the first of them
+-- the spans of other leaves begin with the first of them
 pub spans_of-parted : (s t : PlainLeaf) (ss : List PlainLeaf) → (follows s t && same_kind s.kind t.kind) ≡ false → spans_of (s ∷ t ∷ ss) ≡ s ∷ spans_of (t ∷ ss)
 spans_of-parted s t ss off =
     let head = with_span-head t (spans_of ss) in

@@ -10,7 +10,7 @@ use Rattle.cj_meet.specs.Closest.{PlainClosest, HasNearest, closest_of, some_clo
 use Rattle.cj_meet.specs.Encounters.{groups_in}
 use Rattle.cj_meet.specs.declared.portion.Portion.{Portion}
 
--- they are the closest approaches of these encounters of these stretches, and each says what one says of the distance
+-- they are the closest approaches of these encounters of these leaves, and each says what one says of the distance
 pub record AreClosest (case : PlainProblem) (ss : List PlainLeaf) (es : List Encounter) (found : List Closest) : Type 0 where
   pub exact : map some_closest found ≡ map (closest_of case) (groups_in ss es)
   pub law : All (HasNearest case) (groups_in ss es)

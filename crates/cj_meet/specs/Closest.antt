@@ -4,7 +4,7 @@ use Rattle.std.specs.List.{flat_map, fold}
 use Rattle.cj_hermite.specs.Interpolant.{Curve}
 use Rattle.cj_hermite.specs.Distance.{BAND, IsWithinAt, square_bound, square_distance}
 use Rattle.cj_hermite.specs.PlainProblems.{PlainProblem, curve_at, OfObjectsAt}
-use Rattle.cj_hermite.specs.Roots.{KeepIntervals}
+use Rattle.cj_hermite.specs.Roots.{KeepPieces}
 use Rattle.cj_bezier.specs.declared.encounter.Closest.{Closest}
 use Rattle.cj_bezier.specs.Gaps.{gap_high, gap_terms, hull_gap}
 use Rattle.cj_bezier.specs.Leaves.{PlainLeaf, IsTickOf}
@@ -28,30 +28,30 @@ approach_at c d m = record { tick = m; square = upper c d m }
 abbrev pub ends_of : Curve → Curve → PlainLeaf → List PlainApproach
 ends_of c d f = approach_at c d f.first ∷ approach_at c d f.last ∷ []
 
--- the ends of the flat cells of a part of a stretch whose objects have these interpolants
-abbrev pub candidates_between : Curve → Curve → PlainLeaf → ℕ → ℕ → List PlainApproach
-candidates_between c d s first last = flat_map (ends_of c d) (flats_between c d s first last)
+-- the ends of the flat cells of a part of a leaf whose objects have these interpolants
+abbrev pub ends_between : Curve → Curve → PlainLeaf → ℕ → ℕ → List PlainApproach
+ends_between c d s first last = flat_map (ends_of c d) (flats_between c d s first last)
 
--- the same of a whole stretch, where its objects have interpolants
-abbrev pub candidates_of_curves : PlainLeaf → Option Curve → Option Curve → List PlainApproach
-candidates_of_curves s None d = []
-candidates_of_curves s (Some c) None = []
-candidates_of_curves s (Some c) (Some d) = candidates_between c d s s.first s.last
+-- the same of a whole leaf, where its objects have interpolants
+abbrev pub ends_of_curves : PlainLeaf → Option Curve → Option Curve → List PlainApproach
+ends_of_curves s None d = []
+ends_of_curves s (Some c) None = []
+ends_of_curves s (Some c) (Some d) = ends_between c d s s.first s.last
 
-unfoldable pub candidates_of : PlainProblem → PlainLeaf → List PlainApproach
-candidates_of case s = candidates_of_curves s (curve_at case s.a s.first) (curve_at case s.b s.first)
+unfoldable pub ends_within : PlainProblem → PlainLeaf → List PlainApproach
+ends_within case s = ends_of_curves s (curve_at case s.a s.first) (curve_at case s.b s.first)
 
--- the ends of the flat cells of the stretches of an encounter, in order
-unfoldable pub candidates_in : PlainProblem → List PlainLeaf → List PlainApproach
-candidates_in case ss = flat_map (candidates_of case) ss
+-- the ends of the flat cells of the leaves of an encounter, in order
+unfoldable pub ends_in : PlainProblem → List PlainLeaf → List PlainApproach
+ends_in case ss = flat_map (ends_within case) ss
 
--- the closest approach of the stretches of an encounter: the earliest of the candidates with the least bound, and the least whole number of
+-- the closest approach of the leaves of an encounter: the earliest of the ends with the least bound, and the least whole number of
 -- nm whose square is at least that bound
 pub record IsClosest (case : PlainProblem) (ss : List PlainLeaf) (closest : Closest) : Type 0 where
   pub square : ℕ
-  pub candidate : Any (λ p. p ≡ record { tick = closest.tick.micros; square = square }) (candidates_in case ss)
-  pub least : All (λ p. square ≤ p.square) (candidates_in case ss)
-  pub earliest : All (λ p. p.square ≡ square → closest.tick.micros ≤ p.tick) (candidates_in case ss)
+  pub end : Any (λ p. p ≡ record { tick = closest.tick.micros; square = square }) (ends_in case ss)
+  pub least : All (λ p. square ≤ p.square) (ends_in case ss)
+  pub earliest : All (λ p. p.square ≡ square → closest.tick.micros ≤ p.tick) (ends_in case ss)
   pub high : square ≤ closest.high * closest.high
   pub least_high : (r : ℕ) → square ≤ r * r → closest.high ≤ r
 
@@ -79,21 +79,21 @@ some_closest closest = Some (plain_closest closest)
 abbrev pub closest_by : PlainApproach → PlainClosest
 closest_by p = record { tick = p.tick; high = ceil_root p.square }
 
--- the closest approach of the stretches of an encounter, where there is one
+-- the closest approach of the leaves of an encounter, where there is one
 unfoldable pub closest_of : PlainProblem → List PlainLeaf → Option PlainClosest
-closest_of case ss = option_map closest_by (nearest (candidates_in case ss))
+closest_of case ss = option_map closest_by (nearest (ends_in case ss))
 
 -- ---- what it says of the distance
 
--- each stretch keeps the intervals of both its objects
-abbrev pub KeepTheirIntervals : PlainProblem → List PlainLeaf → Type 0
-KeepTheirIntervals case ss = All (λ s. KeepIntervals case s.a s.b s.first s.last) ss
+-- each leaf keeps the pieces of both its objects
+abbrev pub KeepTheirPieces : PlainProblem → List PlainLeaf → Type 0
+KeepTheirPieces case ss = All (λ s. KeepPieces case s.a s.b s.first s.last) ss
 
 -- the cell of this one tick is flat
 abbrev pub IsFlatAt : Curve → Curve → ℕ → Type 0
 IsFlatAt c d m = is_flat (gap_terms (hull_gap c d m m)) ≡ true
 
--- The objects a and b are within `high` at the tick, and at no tick of these stretches more than one millimetre nearer. So where they are
+-- The objects a and b are within `high` at the tick, and at no tick of these leaves more than one millimetre nearer. So where they are
 -- within e at one of these ticks they are within e and one millimetre there. Each of these ticks by itself is flat, so that halving ends.
 pub record IsNearest (case : PlainProblem) (a b : ℕ) (ss : List PlainLeaf) (tick high : ℕ) : Type 0 where
   pub within : OfObjectsAt case a b tick (λ c d. IsWithinAt c d high tick)

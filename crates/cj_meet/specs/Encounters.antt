@@ -1,4 +1,4 @@
--- Encounters of a list of stretches, which are in order of pair and time and do not overlap.
+-- Encounters of a list of leaves, which are in order of pair and time and do not overlap.
 use Rattle.std.specs.Prelude.{◌≡◌, ℕ, ◌+◌, ◌≤◌, ◌==◌, Bool, true, false, ◌&&◌, if◌then◌else◌, List, [], ◌∷◌, length, map, All, slice_range}
 use Rattle.std.specs.List.{list_any}
 use Rattle.cj_bezier.specs.declared.kind.Kind.{Kind}
@@ -28,13 +28,13 @@ is_near s = near_kind s.kind
 abbrev pub follows : PlainLeaf → PlainLeaf → Bool
 follows s t = s.a == t.a && (s.b == t.b && s.last + 1 == t.first)
 
--- a stretch in front of encounters: it joins the first of them where that follows, else it is one of its own
+-- a leaf in front of encounters: it joins the first of them where that follows, else it is one of its own
 abbrev pub with_front : PlainLeaf → List (List PlainLeaf) → List (List PlainLeaf)
 with_front s [] = (s ∷ []) ∷ []
 with_front s ([] ∷ others) = (s ∷ []) ∷ others
 with_front s ((t ∷ ts) ∷ others) = if follows s t then (s ∷ t ∷ ts) ∷ others else (s ∷ []) ∷ (t ∷ ts) ∷ others
 
--- the encounters: the stretches that are near or undecided, those of consecutive ticks together
+-- the encounters: the leaves that are near or undecided, those of consecutive ticks together
 abbrev pub encounters_of : List PlainLeaf → List (List PlainLeaf)
 encounters_of [] = []
 encounters_of (s ∷ ss) = if is_far s then encounters_of ss else with_front s (encounters_of ss)
@@ -64,27 +64,27 @@ abbrev pub is_near_mark : Mark → Bool
 is_near_mark mark.Near = true
 is_near_mark mark.Undecided = false
 
--- near where some stretch is
+-- near where some leaf is
 abbrev pub mark_of : List PlainLeaf → Mark
 mark_of ss = if list_any is_near ss then mark.Near else mark.Undecided
 
--- the stretches from an encounter's first leaf to its last
-abbrev pub stretches_in : List PlainLeaf → Encounter → List PlainLeaf
-stretches_in ss e = slice_range ss e.leaf e.past
+-- the leaves from an encounter's first leaf to its last
+abbrev pub leaves_in : List PlainLeaf → Encounter → List PlainLeaf
+leaves_in ss e = slice_range ss e.leaf e.past
 
 -- the same of several encounters
 abbrev pub groups_in : List PlainLeaf → List Encounter → List (List PlainLeaf)
-groups_in ss es = map (stretches_in ss) es
+groups_in ss es = map (leaves_in ss) es
 
--- an encounter says of its stretches what holds of them
+-- an encounter says of its leaves what holds of them
 pub record Describes (ss : List PlainLeaf) (e : Encounter) : Type 0 where
   pub within : e.past ≤ length ss
-  pub objects : All (λ s. (s.a ≡ e.pair.a) × (s.b ≡ e.pair.b)) (stretches_in ss e)
-  pub first : e.first.micros ≡ first_tick (stretches_in ss e)
-  pub last : e.last.micros ≡ last_tick (stretches_in ss e)
-  pub mark : e.mark ≡ mark_of (stretches_in ss e)
+  pub objects : All (λ s. (s.a ≡ e.pair.a) × (s.b ≡ e.pair.b)) (leaves_in ss e)
+  pub first : e.first.micros ≡ first_tick (leaves_in ss e)
+  pub last : e.last.micros ≡ last_tick (leaves_in ss e)
+  pub mark : e.mark ≡ mark_of (leaves_in ss e)
 
--- these are the encounters of the stretches, each with what it says
+-- these are the encounters of the leaves, each with what it says
 pub record AreEncounters (ss : List PlainLeaf) (es : List Encounter) : Type 0 where
   pub groups : groups_in ss es ≡ encounters_of ss
   pub described : All (Describes ss) es

@@ -29,6 +29,6 @@ is_flat g = nat_le (greatest_square g) (raised (least_square g))
 unfoldable pub flat_kind : Curve → Curve → Kind → ℕ → ℕ → Option Kind
 flat_kind c d kind first last = if is_flat (gap_terms (hull_gap c d first last)) then Some kind else None
 
--- the flat cells of the ticks from first to last of a stretch whose objects have these interpolants
+-- the flat cells of the ticks from first to last of a leaf whose objects have these interpolants
 unfoldable pub flats_between : Curve → Curve → PlainLeaf → ℕ → ℕ → List PlainLeaf
 flats_between c d s first last = leaves_between (flat_kind c d s.kind) s.a s.b first last

@@ -4,7 +4,7 @@ ghost use Rattle.cj_hermite.specs.Problems.{plain_problem};
 ghost use Rattle.cj_bezier.specs.declared.encounter.Closest.{Closest};
 ghost use Rattle.cj_bezier.specs.Leaves.{plain_leaves};
 ghost use Rattle.cj_meet.specs.ApproachLists.{AreClosest, AreClosestAt};
-ghost use Rattle.cj_meet.specs.Closest.{KeepTheirIntervals, HasNearest, closest_of, some_closest};
+ghost use Rattle.cj_meet.specs.Closest.{KeepTheirPieces, HasNearest, closest_of, some_closest};
 ghost use Rattle.cj_meet.specs.Encounters.{Describes, groups_in};
 ghost use Rattle.cj_meet.specs.declared.portion.Portion.{Portion};
 
@@ -24,7 +24,7 @@ fn search_in_turn(
     encounters: &[Encounter],
 ) -> Result<Vec<Closest>, AllocError>
     requires described { All (Describes (plain_leaves leaves.now)) encounters.now }
-    requires intervals { KeepTheirIntervals (plain_problem problem.now) (plain_leaves leaves.now) }
+    requires pieces { KeepTheirPieces (plain_problem problem.now) (plain_leaves leaves.now) }
     ensures { IfOk result (λ found. AreClosest (plain_problem problem.now) (plain_leaves leaves.now) encounters.now found.items) }
 {
     let mut found = Vec::with_capacity(alloc, encounters.len())?;
@@ -86,7 +86,7 @@ fn cut<'a>(
     size: usize,
 ) -> Result<Vec<Portion<'a>>, AllocError>
     requires described { All (Describes (plain_leaves leaves.now)) encounters.now }
-    requires intervals { KeepTheirIntervals (plain_problem problem.now) (plain_leaves leaves.now) }
+    requires pieces { KeepTheirPieces (plain_problem problem.now) (plain_leaves leaves.now) }
     requires some { 0 < size }
     ensures { IfOk result (λ portions. (found : List Closest) → AreClosestAt portions.items found
         → AreClosest (plain_problem problem.now) (plain_leaves leaves.now) encounters.now found) }
@@ -123,7 +123,7 @@ pub fn closest_approaches<R: Threads + Sync>(
     workers: u32,
 ) -> Result<Vec<Closest>, AllocError>
     requires described { All (Describes (plain_leaves leaves.now)) encounters.now }
-    requires intervals { KeepTheirIntervals (plain_problem problem.now) (plain_leaves leaves.now) }
+    requires pieces { KeepTheirPieces (plain_problem problem.now) (plain_leaves leaves.now) }
 
     ensures exact { IfOk result (λ found. map some_closest found.items
         ≡ map (closest_of (plain_problem problem.now)) (groups_in (plain_leaves leaves.now) encounters.now)) }

@@ -4,10 +4,10 @@ ghost use Rattle.cj_hermite.specs.Interpolant.{IsOver};
 ghost use Rattle.cj_hermite.specs.PlainProblems.{curve_at};
 ghost use Rattle.cj_hermite.specs.Problems.{plain_problem};
 ghost use Rattle.cj_hermite.specs.Ready.{curve_ready};
-ghost use Rattle.cj_hermite.specs.Roots.{KeepIntervals};
+ghost use Rattle.cj_hermite.specs.Roots.{KeepPieces};
 ghost use Rattle.cj_bezier.specs.Leaves.{plain_leaf, plain_leaves};
-ghost use Rattle.cj_meet.specs.Closest.{KeepTheirIntervals, candidates_of, candidates_in, closest_of, plain_closest, IsClosest, IsNearest};
-ghost use Rattle.cj_meet.specs.Encounters.{Describes, stretches_in};
+ghost use Rattle.cj_meet.specs.Closest.{KeepTheirPieces, ends_within, ends_in, closest_of, plain_closest, IsClosest, IsNearest};
+ghost use Rattle.cj_meet.specs.Encounters.{Describes, leaves_in};
 ghost use Rattle.cj_meet.specs.Searches.{plain_approach, NoWorse, HasInterpolants};
 
 use crate::approaches::Approach;
@@ -20,7 +20,7 @@ use cj_interval::{Divisor, isqrt_up};
 
 /// The pieces of both objects over a leaf whose ticks have the same two pieces, made ready.
 fn prepare(problem: &Problem, leaf: &Leaf) -> (Ready, Ready)
-    requires { KeepIntervals (plain_problem problem.now) leaf.now.cell.pair.a leaf.now.cell.pair.b leaf.now.cell.first.micros leaf.now.cell.last.micros }
+    requires { KeepPieces (plain_problem problem.now) leaf.now.cell.pair.a leaf.now.cell.pair.b leaf.now.cell.first.micros leaf.now.cell.last.micros }
     ensures first { curve_at (plain_problem problem.now) leaf.now.cell.pair.a leaf.now.cell.first.micros ≡ Some (curve_ready result.0) }
     ensures second { curve_at (plain_problem problem.now) leaf.now.cell.pair.b leaf.now.cell.first.micros ≡ Some (curve_ready result.1) }
     ensures first_over { IsOver (curve_ready result.0) leaf.now.cell.first.micros leaf.now.cell.last.micros }
@@ -36,8 +36,8 @@ fn prepare(problem: &Problem, leaf: &Leaf) -> (Ready, Ready)
 
 /// The nearer end of a leaf.
 fn glance(problem: &Problem, leaf: &Leaf) -> Approach
-    requires { KeepIntervals (plain_problem problem.now) leaf.now.cell.pair.a leaf.now.cell.pair.b leaf.now.cell.first.micros leaf.now.cell.last.micros }
-    ensures { Any (λ p. p ≡ plain_approach result) (candidates_of (plain_problem problem.now) (plain_leaf leaf.now)) }
+    requires { KeepPieces (plain_problem problem.now) leaf.now.cell.pair.a leaf.now.cell.pair.b leaf.now.cell.first.micros leaf.now.cell.last.micros }
+    ensures { Any (λ p. p ≡ plain_approach result) (ends_within (plain_problem problem.now) (plain_leaf leaf.now)) }
 {
     let (a, b) = prepare(problem, leaf);
     let whole = whole_of(leaf);
@@ -47,7 +47,7 @@ fn glance(problem: &Problem, leaf: &Leaf) -> Approach
 
 /// Whether the distance is less at the last tick of a leaf than at its first.
 fn comes_nearer(problem: &Problem, leaf: &Leaf) -> bool
-    requires { KeepIntervals (plain_problem problem.now) leaf.now.cell.pair.a leaf.now.cell.pair.b leaf.now.cell.first.micros leaf.now.cell.last.micros }
+    requires { KeepPieces (plain_problem problem.now) leaf.now.cell.pair.a leaf.now.cell.pair.b leaf.now.cell.first.micros leaf.now.cell.last.micros }
 {
     let (a, b) = prepare(problem, leaf);
     let whole = whole_of(leaf);
@@ -59,8 +59,8 @@ fn comes_nearer(problem: &Problem, leaf: &Leaf) -> bool
 /// are looked at, since whatever end it is, the search for the nearest goes on from there.
 fn near_end(problem: &Problem, leaves: &[Leaf]) -> Approach
     requires some { 0 < length leaves.now }
-    requires intervals { KeepTheirIntervals (plain_problem problem.now) (plain_leaves leaves.now) }
-    ensures { Any (λ p. p ≡ plain_approach result) (candidates_in (plain_problem problem.now) (plain_leaves leaves.now)) }
+    requires pieces { KeepTheirPieces (plain_problem problem.now) (plain_leaves leaves.now) }
+    ensures { Any (λ p. p ≡ plain_approach result) (ends_in (plain_problem problem.now) (plain_leaves leaves.now)) }
 {
     let mut low = 0;
     let mut high = leaves.len() - 1;
@@ -75,12 +75,12 @@ fn near_end(problem: &Problem, leaves: &[Leaf]) -> Approach
     glance(problem, &leaves[low])
 }
 
-/// The nearest of an approach and the candidates of a leaf.
+/// The nearest of an approach and the ends of a leaf.
 fn nearest_of(problem: &Problem, leaf: &Leaf, given: Approach) -> Approach
-    requires { KeepIntervals (plain_problem problem.now) leaf.now.cell.pair.a leaf.now.cell.pair.b leaf.now.cell.first.micros leaf.now.cell.last.micros }
+    requires { KeepPieces (plain_problem problem.now) leaf.now.cell.pair.a leaf.now.cell.pair.b leaf.now.cell.first.micros leaf.now.cell.last.micros }
     ensures no_worse { NoWorse (plain_approach result) (plain_approach given) }
-    ensures nearest { All (NoWorse (plain_approach result)) (candidates_of (plain_problem problem.now) (plain_leaf leaf.now)) }
-    ensures reached { (plain_approach result ≡ plain_approach given) ⊎ Any (λ p. p ≡ plain_approach result) (candidates_of (plain_problem problem.now) (plain_leaf leaf.now)) }
+    ensures nearest { All (NoWorse (plain_approach result)) (ends_within (plain_problem problem.now) (plain_leaf leaf.now)) }
+    ensures reached { (plain_approach result ≡ plain_approach given) ⊎ Any (λ p. p ≡ plain_approach result) (ends_within (plain_problem problem.now) (plain_leaf leaf.now)) }
     ensures interpolants { HasInterpolants (plain_problem problem.now) (plain_leaf leaf.now) }
 {
     let (a, b) = prepare(problem, leaf);
@@ -90,9 +90,9 @@ fn nearest_of(problem: &Problem, leaf: &Leaf, given: Approach) -> Approach
 /// The nearest approach of several leaves: an end near it is found first, so that most parts are left out.
 fn nearest(problem: &Problem, leaves: &[Leaf]) -> Approach
     requires some { 0 < length leaves.now }
-    requires intervals { KeepTheirIntervals (plain_problem problem.now) (plain_leaves leaves.now) }
-    ensures candidate { Any (λ p. p ≡ plain_approach result) (candidates_in (plain_problem problem.now) (plain_leaves leaves.now)) }
-    ensures nearest { All (NoWorse (plain_approach result)) (candidates_in (plain_problem problem.now) (plain_leaves leaves.now)) }
+    requires pieces { KeepTheirPieces (plain_problem problem.now) (plain_leaves leaves.now) }
+    ensures end { Any (λ p. p ≡ plain_approach result) (ends_in (plain_problem problem.now) (plain_leaves leaves.now)) }
+    ensures nearest { All (NoWorse (plain_approach result)) (ends_in (plain_problem problem.now) (plain_leaves leaves.now)) }
     ensures interpolants { All (HasInterpolants (plain_problem problem.now)) (plain_leaves leaves.now) }
 {
     let mut best = near_end(problem, leaves);
@@ -106,14 +106,14 @@ fn nearest(problem: &Problem, leaves: &[Leaf]) -> Approach
 /// there.
 pub fn closest(problem: &Problem, leaves: &[Leaf], encounter: &Encounter) -> Closest
     requires described { Describes (plain_leaves leaves.now) encounter.now }
-    requires intervals { KeepTheirIntervals (plain_problem problem.now) (stretches_in (plain_leaves leaves.now) encounter.now) }
+    requires pieces { KeepTheirPieces (plain_problem problem.now) (leaves_in (plain_leaves leaves.now) encounter.now) }
 
-    ensures value { IsClosest (plain_problem problem.now) (stretches_in (plain_leaves leaves.now) encounter.now) result }
-    ensures exact { closest_of (plain_problem problem.now) (stretches_in (plain_leaves leaves.now) encounter.now) ≡ Some (plain_closest result) }
+    ensures value { IsClosest (plain_problem problem.now) (leaves_in (plain_leaves leaves.now) encounter.now) result }
+    ensures exact { closest_of (plain_problem problem.now) (leaves_in (plain_leaves leaves.now) encounter.now) ≡ Some (plain_closest result) }
 
     // The pair is within `high` then, and at no tick of the encounter more than one millimetre nearer.
     ensures law { IsNearest (plain_problem problem.now) encounter.now.pair.a encounter.now.pair.b
-        (stretches_in (plain_leaves leaves.now) encounter.now) result.tick.micros result.high }
+        (leaves_in (plain_leaves leaves.now) encounter.now) result.tick.micros result.high }
 {
     let ours = &leaves[encounter.leaf as usize..encounter.past as usize];
     let found = nearest(problem, ours);

@@ -11,7 +11,7 @@ ghost use Rattle.cj_meet.specs.Flat.{is_flat, raised};
 ghost use Rattle.cj_meet.specs.Searches.{plain_approach};
 
 use crate::approaches::Approach;
-use crate::runs::Run;
+use crate::runs::Waiting;
 use cj_bezier::{Gap, gap, greatest_square, hull_ready};
 use cj_hermite::Ready;
 use cj_interval::isqrt_down;
@@ -20,7 +20,7 @@ use cj_interval::isqrt_down;
 const BAND: u64 = 1_000_000;
 
 /// The gap of two pieces made ready, over a run of ticks.
-pub fn gap_over(a: &Ready, b: &Ready, run: Run) -> Gap
+pub fn gap_over(a: &Ready, b: &Ready, run: Waiting) -> Gap
     requires first_over { IsOver (curve_ready a.now) run.first.micros run.last.micros }
     requires second_over { IsOver (curve_ready b.now) run.first.micros run.last.micros }
     ensures { terms_of result.terms ≡ gap_terms (hull_gap (curve_ready a.now) (curve_ready b.now) run.first.micros run.last.micros) }
@@ -41,7 +41,7 @@ fn end(gap: &Gap, number: usize) -> i128
 }
 
 /// The first and the last tick of a run, with the bounds that the gap over it gives.
-pub fn ends(gap: &Gap, run: Run) -> (Approach, Approach)
+pub fn ends(gap: &Gap, run: Waiting) -> (Approach, Approach)
     ensures { (c d : Curve) → terms_of gap.now.terms ≡ gap_terms (hull_gap c d run.first.micros run.last.micros)
         → (plain_approach result.0 ≡ approach_at c d run.first.micros) × (plain_approach result.1 ≡ approach_at c d run.last.micros) }
 {

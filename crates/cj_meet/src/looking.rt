@@ -6,7 +6,7 @@ ghost use Rattle.cj_meet.specs.Searches.{plain_approach, IfSettled, IfHalved, Is
 
 use crate::approaches::Approach;
 use crate::flatness::{ends, gap_over, is_flat};
-use crate::runs::Run;
+use crate::runs::Waiting;
 use cj_bezier::least_square;
 use cj_hermite::Ready;
 
@@ -15,7 +15,7 @@ pub enum Seen {
     /// Its ticks are done with.
     Settled(Approach),
     /// It is halved, the half to be looked at next first.
-    Halved(Approach, Run, Run),
+    Halved(Approach, Waiting, Waiting),
 }
 
 /// Whether no tick of a part that begins at `first`, with squares of `low` or more, is nearer than the best so far.
@@ -27,7 +27,7 @@ fn can_be_left_out(best: Approach, low: u128, first: u64) -> bool
 
 /// Looks at a part of a leaf of two pieces made ready. It is left out where none of its ticks can be nearer than the best
 /// so far; else its ends are taken, and it is halved unless it is flat.
-pub fn look(a: &Ready, b: &Ready, part: Run, best: Approach) -> Seen
+pub fn look(a: &Ready, b: &Ready, part: Waiting, best: Approach) -> Seen
     requires first_over { IsOver (curve_ready a.now) part.first.micros part.last.micros }
     requires second_over { IsOver (curve_ready b.now) part.first.micros part.last.micros }
     ensures settled { IfSettled result (IsSettled (curve_ready a.now) (curve_ready b.now) part (plain_approach best)) }

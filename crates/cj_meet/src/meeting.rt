@@ -33,7 +33,7 @@ fn add(found: &mut Vec<Encounter>, leaf: &Leaf, at: u32) -> Result<(), AllocErro
     requires room { at < MOST_LEAVES }
     requires within { All (λ e. e.past ≤ at) found.old.items }
     ensures within { OnOk result (All (λ e. e.past ≤ at + 1) found.new.items) }
-    // Whatever stretches come before it, if these are their encounters.
+    // Whatever leaves come before it, if these are their encounters.
     ensures found { OnOk result ((ss : List PlainLeaf) →
         length ss ≡ at → HaveTicks ss → AreInOrder (ss ++ plain_leaf leaf.now ∷ []) →
         AreEncounters ss found.old.items → AreEncounters (ss ++ plain_leaf leaf.now ∷ []) found.new.items) }

@@ -1,7 +1,7 @@
 ghost use Rattle.std.specs.Prelude.{All};
 ghost use Rattle.cj_hermite.specs.Problems.{plain_problem};
 ghost use Rattle.cj_bezier.specs.Leaves.{plain_leaves};
-ghost use Rattle.cj_meet.specs.Closest.{KeepTheirIntervals};
+ghost use Rattle.cj_meet.specs.Closest.{KeepTheirPieces};
 ghost use Rattle.cj_meet.specs.Encounters.{Describes};
 
 use cj_bezier::{Encounter, Leaf};
@@ -15,5 +15,5 @@ pub struct Portion<'a> {
     pub leaves: &'a [Leaf],
     pub encounters: &'a [Encounter],
     pub ghost described: { All (Describes (plain_leaves leaves.now)) encounters.now },
-    pub ghost intervals: { KeepTheirIntervals (plain_problem problem.now) (plain_leaves leaves.now) },
+    pub ghost pieces: { KeepTheirPieces (plain_problem problem.now) (plain_leaves leaves.now) },
 }

@@ -5,37 +5,37 @@ use cj_ticks::Tick;
 
 /// A run of one tick or more.
 #[derive(Clone, Copy, Debug, PartialEq, Eq)]
-pub struct Run {
+pub struct Waiting {
     pub first: Tick,
     pub last: Tick,
     pub ghost some: { first.micros ≤ last.micros },
 }
 
 /// The ticks of a leaf.
-pub fn whole_of(leaf: &Leaf) -> Run
+pub fn whole_of(leaf: &Leaf) -> Waiting
     ensures first { result.first ≡ leaf.now.cell.first }
     ensures last { result.last ≡ leaf.now.cell.last }
 {
-    Run {
+    Waiting {
         first: leaf.cell.first,
         last: leaf.cell.last,
     }
 }
 
-impl Run {
-    ghost use Rattle.cj_meet.specs.Searches.{AreHalves};
+impl Waiting {
+    ghost use Rattle.cj_meet.specs.Searches.{AreRunHalves};
 
     /// The halves of a run of two ticks or more, the later one first where that is asked for.
-    pub fn halves(self, later_first: bool) -> (Run, Run)
+    pub fn halves(self, later_first: bool) -> (Waiting, Waiting)
         requires { self.first.micros < self.last.micros }
-        ensures { AreHalves self result.0 result.1 ⊎ AreHalves self result.1 result.0 }
+        ensures { AreRunHalves self result.0 result.1 ⊎ AreRunHalves self result.1 result.0 }
     {
         let middle = (self.first.micros + self.last.micros) / 2;
-        let early = Run {
+        let early = Waiting {
             first: self.first,
             last: Tick { micros: middle },
         };
-        let late = Run {
+        let late = Waiting {
             first: Tick { micros: middle + 1 },
             last: self.last,
         };

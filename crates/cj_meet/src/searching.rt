@@ -3,7 +3,7 @@ ghost use Rattle.std.specs.Prelude.{◌≡◌, ◌⊎◌, All, Any};
 ghost use Rattle.cj_hermite.specs.Interpolant.{IsOver};
 ghost use Rattle.cj_hermite.specs.Ready.{curve_ready};
 ghost use Rattle.cj_bezier.specs.Leaves.{plain_leaf};
-ghost use Rattle.cj_meet.specs.Closest.{candidates_between};
+ghost use Rattle.cj_meet.specs.Closest.{ends_between};
 ghost use Rattle.cj_meet.specs.Searches.{plain_approach, NoWorse};
 
 use crate::approaches::Approach;
@@ -15,15 +15,15 @@ use cj_hermite::Ready;
 /// How many parts of a leaf wait at most: one more than the halvings of 2^32 ticks, and a piece is shorter than that.
 const PLACES: usize = 33;
 
-/// The nearest of an approach and the candidates of a leaf of two pieces made ready. The parts that wait stand from `top` on.
+/// The nearest of an approach and the ends of a leaf of two pieces made ready. The parts that wait stand from `top` on.
 pub fn search(a: &Ready, b: &Ready, leaf: &Leaf, given: Approach) -> Approach
     requires first_over { IsOver (curve_ready a.now) leaf.now.cell.first.micros leaf.now.cell.last.micros }
     requires second_over { IsOver (curve_ready b.now) leaf.now.cell.first.micros leaf.now.cell.last.micros }
     ensures no_worse { NoWorse (plain_approach result) (plain_approach given) }
     ensures nearest { All (NoWorse (plain_approach result))
-        (candidates_between (curve_ready a.now) (curve_ready b.now) (plain_leaf leaf.now) leaf.now.cell.first.micros leaf.now.cell.last.micros) }
+        (ends_between (curve_ready a.now) (curve_ready b.now) (plain_leaf leaf.now) leaf.now.cell.first.micros leaf.now.cell.last.micros) }
     ensures reached { (plain_approach result ≡ plain_approach given) ⊎ Any (λ p. p ≡ plain_approach result)
-        (candidates_between (curve_ready a.now) (curve_ready b.now) (plain_leaf leaf.now) leaf.now.cell.first.micros leaf.now.cell.last.micros) }
+        (ends_between (curve_ready a.now) (curve_ready b.now) (plain_leaf leaf.now) leaf.now.cell.first.micros leaf.now.cell.last.micros) }
 {
     let mut parts = [whole_of(leaf); PLACES];
     let mut top = PLACES - 1;

@@ -1,7 +1,7 @@
 //! Closest approaches of two tracks.
 ghost use Rattle.std.specs.Prelude.{◌≡◌, ◌<◌, ◌≤◌, List, length, All, IfOk, IfSome};
 ghost use Rattle.cj_hermite.specs.Problems.{plain_problem};
-ghost use Rattle.cj_hermite.specs.Roots.{KeepIntervals};
+ghost use Rattle.cj_hermite.specs.Roots.{KeepPieces};
 ghost use Rattle.cj_bezier.specs.Leaves.{PlainLeaf};
 ghost use Rattle.cj_meet.specs.Encounters.{Describes};
 
@@ -44,7 +44,7 @@ fn side_by_side(alloc: Global) -> Result<Problem, AllocError>
 /// The first run of ticks from one microsecond to another at which both tracks are at one piece, as a leaf.
 fn leaf(problem: &Problem, from: u32, last: u32, kind: Kind) -> Option<Leaf>
     requires { length problem.now.tracks ≡ 2 }
-    ensures keeps { IfSome result (λ leaf. KeepIntervals (plain_problem problem.now) 0 1 leaf.cell.first.micros leaf.cell.last.micros) }
+    ensures keeps { IfSome result (λ leaf. KeepPieces (plain_problem problem.now) 0 1 leaf.cell.first.micros leaf.cell.last.micros) }
     ensures first_object { IfSome result (λ leaf. leaf.cell.pair.a ≡ 0) }
     ensures second_object { IfSome result (λ leaf. leaf.cell.pair.b ≡ 1) }
 {

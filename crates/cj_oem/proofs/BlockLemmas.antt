@@ -16,10 +16,10 @@ use Rattle.cj_oem.specs.Grammar.{AreBlocks, AreCovariances, Entry, HasNoCovarian
 use Rattle.cj_kvn.specs.Faults.{◌>>=◌}
 use Rattle.cj_oem.specs.Metadata.{EMPTY, Object, Metadata, MetadataDraft, metadata_of, unless, with_pair}
 use Rattle.cj_oem.specs.NodeRows.{state_of_row}
-use Rattle.cj_oem.specs.Stages.{Body, Meta, Data, Cov, After, OpenSegment, close_nodes, end_of, finished, first_state, is_useable, last_state, with_arc}
+use Rattle.cj_oem.specs.Stages.{Body, Meta, Data, Cov, After, OpenSegment, close_nodes, end_of, finished, first_state, is_useable, last_state, with_segment}
 use Rattle.cj_oem.proofs.MatrixLemmas.{covariances_from, matrices_again, matrices_are, with_line}
 use Rattle.cj_oem.proofs.MetadataLemmas.{Suits, metadata_again, metadata_is, metadata_suits, sheet_from}
-use Rattle.cj_oem.proofs.NodeRowLemmas.{states_again, states_are, states_from}
+use Rattle.cj_oem.proofs.NodeRowLemmas.{nodes_again, nodes_are, nodes_from}
 use Rattle.cj_oem.proofs.RunLemmas.{end_push, run, run_covariances, run_meta, run_rows}
 use Rattle.cj_oem.proofs.StateAgainLemmas.{open_segment}
 use Rattle.cj_kvn.proofs.FaultLemmas.{bind_ok}
@@ -43,23 +43,23 @@ useable_again start stop (Some a) (Some z) some after before = grind (arith, nat
 
 -- the nodes of a open_segment are closed
 record IsClosed (b : Body) (s : OpenSegment) : Type 0 where
-  enough : 2 ≤ length s.states
-  useable : IsUseable s.metadata.first s.metadata.last s.states
-  later : end_of b.arcs ≤ s.metadata.first
+  enough : 2 ≤ length s.nodes
+  useable : IsUseable s.metadata.first s.metadata.last s.nodes
+  later : end_of b.segments ≤ s.metadata.first
 
 closed_nodes : (b : Body) (s : OpenSegment) (u : Unit {0}) → close_nodes b s ≡ Ok u → IsClosed b s
 unfolding close_nodes
 closed_nodes b s u e =
-    let few = unless (nat_lt (length s.states) 2) causes.TooFewNodes in
-    let span = unless (not (is_useable s.metadata.first s.metadata.last (first_state s.states) (last_state s.states))) causes.UseableSpan in
-    let overlap = unless (nat_lt s.metadata.first (end_of b.arcs)) causes.SegmentsOverlap in
+    let few = unless (nat_lt (length s.nodes) 2) causes.TooFewNodes in
+    let span = unless (not (is_useable s.metadata.first s.metadata.last (first_state s.nodes) (last_state s.nodes))) causes.UseableSpan in
+    let overlap = unless (nat_lt s.metadata.first (end_of b.segments)) causes.SegmentsOverlap in
     let one = bind_ok few (λ _. span >>= λ _. overlap) u e in
     let two = bind_ok span (λ _. overlap) u one.2 in
-    let ends = useable_ends s.metadata.first s.metadata.last (first_state s.states) (last_state s.states) (not-false _ (unless_ok _ causes.UseableSpan two.0 two.1)) in
+    let ends = useable_ends s.metadata.first s.metadata.last (first_state s.nodes) (last_state s.nodes) (not-false _ (unless_ok _ causes.UseableSpan two.0 two.1)) in
     record {
-      enough = ltb-false (length s.states) 2 (unless_ok _ causes.TooFewNodes one.0 one.1);
+      enough = ltb-false (length s.nodes) 2 (unless_ok _ causes.TooFewNodes one.0 one.1);
       useable = record { some = ends.0; after = ends.1; before = ends.2 };
-      later = ltb-false s.metadata.first (end_of b.arcs) (unless_ok _ causes.SegmentsOverlap u two.2);
+      later = ltb-false s.metadata.first (end_of b.segments) (unless_ok _ causes.SegmentsOverlap u two.2);
     }
 
 close_again : (b : Body) (s : OpenSegment) → IsClosed b s → close_nodes b s ≡ Ok tt
@@ -67,9 +67,9 @@ unfolding close_nodes
 close_again b s c =
     let enough = c.enough in
     let later = c.later in
-    let a : nat_lt (length s.states) 2 ≡ false = grind (arith, nat_tests) in
-    let d : is_useable s.metadata.first s.metadata.last (first_state s.states) (last_state s.states) ≡ true = useable_again s.metadata.first s.metadata.last _ _ c.useable.some c.useable.after c.useable.before in
-    let f : nat_lt s.metadata.first (end_of b.arcs) ≡ false = grind (arith, nat_tests) in
+    let a : nat_lt (length s.nodes) 2 ≡ false = grind (arith, nat_tests) in
+    let d : is_useable s.metadata.first s.metadata.last (first_state s.nodes) (last_state s.nodes) ≡ true = useable_again s.metadata.first s.metadata.last _ _ c.useable.some c.useable.after c.useable.before in
+    let f : nat_lt s.metadata.first (end_of b.segments) ≡ false = grind (arith, nat_tests) in
     rw (a, d, f) refl
 
 -- ---- the parts of a block, as a reader finds them
@@ -126,33 +126,33 @@ NoRow (Row text ∷ forms) = ⊥
 -- rows up to another line
 record IsDataRead (as_hermite3 : Bool) (b : Body) (metadata : Metadata) (before : List PlainNode) (forms : List Form) (body : Body) : Type 0 where
   rows : List (List ℕ)
-  states : List PlainNode
+  nodes : List PlainNode
   rest : List Form
   shape : forms ≡ row_lines rows ++ rest
-  read : states_from (last_state before) rows ≡ Ok states
+  read : nodes_from (last_state before) rows ≡ Ok nodes
   all : NoRow rest
-  next : run as_hermite3 (Data b (open_segment metadata (before ++ states))) rest ≡ Ok body
+  next : run as_hermite3 (Data b (open_segment metadata (before ++ nodes))) rest ≡ Ok body
 
 data_more : (as_hermite3 : Bool) (b : Body) (metadata : Metadata) (before : List PlainNode) (state : PlainNode) (text : List ℕ) (forms : List Form) (body : Body)
     → state_of_row (last_state before) text ≡ Ok state → IsDataRead as_hermite3 b metadata (before ++ state ∷ []) forms body → IsDataRead as_hermite3 b metadata before (Row text ∷ forms) body
 data_more as_hermite3 b metadata before state text forms body e d = record {
   rows = text ∷ d.rows;
-  states = state ∷ d.states;
+  nodes = state ∷ d.nodes;
   rest = d.rest;
   shape = ap (λ (fs : List Form). Row text ∷ fs) d.shape;
   read =
-      let later : states_from (Some state) d.rows ≡ Ok d.states = ap (λ (o : Option PlainNode). states_from o d.rows) (sym (last_push None before state)) ∙ d.read in
-      ap (λ (r : Result PlainNode OemCause). r >>= λ s. states_from (Some s) d.rows >>= λ others. Ok (s ∷ others)) e
+      let later : nodes_from (Some state) d.rows ≡ Ok d.nodes = ap (λ (o : Option PlainNode). nodes_from o d.rows) (sym (last_push None before state)) ∙ d.read in
+      ap (λ (r : Result PlainNode OemCause). r >>= λ s. nodes_from (Some s) d.rows >>= λ others. Ok (s ∷ others)) e
       ∙ ap (λ (r : Result (List PlainNode) OemCause). r >>= λ others. Ok (state ∷ others)) later;
   all = d.all;
-  next = ap (λ (all : List PlainNode). run as_hermite3 (Data b (open_segment metadata all)) d.rest) (sym (append_assoc before (state ∷ []) d.states)) ∙ d.next;
+  next = ap (λ (all : List PlainNode). run as_hermite3 (Data b (open_segment metadata all)) d.rest) (sym (append_assoc before (state ∷ []) d.nodes)) ∙ d.next;
 }
 
 data_end : (as_hermite3 : Bool) (b : Body) (metadata : Metadata) (before : List PlainNode) (forms : List Form) (body : Body) → NoRow forms
     → run as_hermite3 (Data b (open_segment metadata before)) forms ≡ Ok body → IsDataRead as_hermite3 b metadata before forms body
 data_end as_hermite3 b metadata before forms body none e = record {
   rows = [];
-  states = [];
+  nodes = [];
   rest = forms;
   shape = refl;
   read = refl;
@@ -180,7 +180,7 @@ record IsCovRead (as_hermite3 : Bool) (b : Body) (s : OpenSegment) (m : Covarian
   shape : forms ≡ inner ++ Mark CovarianceStop ∷ rest
   read : covariances_from m inner ≡ Ok end
   whole : closed end ≡ Ok covariances
-  next : run as_hermite3 (After (with_arc b s covariances)) rest ≡ Ok body
+  next : run as_hermite3 (After (with_segment b s covariances)) rest ≡ Ok body
 
 cov_more : (as_hermite3 : Bool) (b : Body) (s : OpenSegment) (m next : Covariances) (line : Form) (forms : List Form) (body : Body) → with_line m line ≡ Ok next
     → IsCovRead as_hermite3 b s next forms body → IsCovRead as_hermite3 b s m (line ∷ forms) body
@@ -204,7 +204,7 @@ cov_read as_hermite3 b s (Mark MetaStart ∷ forms) m body e = absurd cc
 cov_read as_hermite3 b s (Mark MetaStop ∷ forms) m body e = absurd cc
 cov_read as_hermite3 b s (Mark CovarianceStart ∷ forms) m body e = absurd cc
 cov_read as_hermite3 b s (Mark CovarianceStop ∷ forms) m body e =
-    let step = bind_into (closed m) (λ covariances. After (with_arc b s covariances)) (λ next. run as_hermite3 next forms) body e in
+    let step = bind_into (closed m) (λ covariances. After (with_segment b s covariances)) (λ next. run as_hermite3 next forms) body e in
     record { inner = []; end = m; covariances = step.0; rest = forms; shape = refl; read = refl; whole = step.1; next = step.2 }
 cov_read as_hermite3 b s (Pair key value ∷ forms) m body e =
     let step = bind_into (with_matrix_pair m key value) (λ n. Cov b s n) (λ next. run as_hermite3 next forms) body e in
@@ -223,10 +223,10 @@ record IsEndRead (as_hermite3 : Bool) (b : Body) (s : OpenSegment) (forms : List
   shape : forms ≡ front ++ rest
   said : AreCovariances front covariances ⊎ HasNoCovariances front covariances
   closed : close_nodes b s ≡ Ok tt
-  next : run as_hermite3 (After (with_arc b s covariances)) rest ≡ Ok body
+  next : run as_hermite3 (After (with_segment b s covariances)) rest ≡ Ok body
 
 end_none : (as_hermite3 : Bool) (b : Body) (s : OpenSegment) (forms : List Form) (body : Body) (u : Unit {0}) → close_nodes b s ≡ Ok u
-    → run as_hermite3 (After (with_arc b s [])) forms ≡ Ok body → IsEndRead as_hermite3 b s forms body
+    → run as_hermite3 (After (with_segment b s [])) forms ≡ Ok body → IsEndRead as_hermite3 b s forms body
 end_none as_hermite3 b s forms body u e f =
     record { front = []; covariances = []; rest = forms; shape = refl; said = inr (record { no_line = refl; none = refl }); closed = e; next = f }
 
@@ -246,12 +246,12 @@ end_read : (as_hermite3 : Bool) (b : Body) (s : OpenSegment) (forms : List Form)
     → IsEndRead as_hermite3 b s forms body
 unfolding finished
 end_read as_hermite3 b s [] body none e =
-    let step = bind_ok (close_nodes b s) (λ _. Ok (with_arc b s [])) body e in
+    let step = bind_ok (close_nodes b s) (λ _. Ok (with_segment b s [])) body e in
     end_none as_hermite3 b s [] body step.0 step.1 step.2
 end_read as_hermite3 b s (Blank ∷ forms) body none e = absurd cc
 end_read as_hermite3 b s (Comment ∷ forms) body none e = absurd cc
 end_read as_hermite3 b s (Mark MetaStart ∷ forms) body none e =
-    let step = bind_into (close_nodes b s) (λ _. Meta (with_arc b s []) EMPTY) (λ next. run as_hermite3 next forms) body e in
+    let step = bind_into (close_nodes b s) (λ _. Meta (with_segment b s []) EMPTY) (λ next. run as_hermite3 next forms) body e in
     end_none as_hermite3 b s (Mark MetaStart ∷ forms) body step.0 step.1 step.2
 end_read as_hermite3 b s (Mark MetaStop ∷ forms) body none e = absurd cc
 end_read as_hermite3 b s (Mark CovarianceStart ∷ forms) body none e =
@@ -264,19 +264,19 @@ end_read as_hermite3 b s (Row text ∷ forms) body none e = absurd none
 -- ---- a block
 
 -- the body with a further segment
-abbrev pub with_segment : Body → Object → PlainSegment → Body
-with_segment b object arc = record { object = Some object; arcs = b.arcs ++ arc ∷ [] }
+abbrev pub with_object_segment : Body → Object → PlainSegment → Body
+with_object_segment b object segment = record { object = Some object; segments = b.segments ++ segment ∷ [] }
 
 -- a block in front, and where the lines go on
 record IsBlockRead (as_hermite3 : Bool) (b : Body) (forms : List Form) (body : Body) : Type 0 where
   block : List Form
   rest : List Form
   object : Object
-  arc : PlainSegment
+  segment : PlainSegment
   shape : forms ≡ block ++ rest
   suits : Suits b.object object
-  said : IsBlock as_hermite3 object (end_of b.arcs) block arc
-  next : run as_hermite3 (After (with_segment b object arc)) rest ≡ Ok body
+  said : IsBlock as_hermite3 object (end_of b.segments) block segment
+  next : run as_hermite3 (After (with_object_segment b object segment)) rest ≡ Ok body
 
 -- the lines of a block
 abbrev lines_of : List Entry → List (List ℕ) → List Form → List Form
@@ -291,16 +291,16 @@ lines_behind entries rows front rest =
     ∙ sym (append_assoc (pair_lines entries ++ Mark MetaStop ∷ row_lines rows) front rest))
 
 block_is : (as_hermite3 : Bool) (b : Body) (forms : List Form) (body : Body) (m : IsMetaRead as_hermite3 b EMPTY forms body) (d : IsDataRead as_hermite3 b m.metadata [] m.rest body)
-    → IsEndRead as_hermite3 b (open_segment m.metadata d.states) d.rest body → IsBlockRead as_hermite3 b (Mark MetaStart ∷ forms) body
+    → IsEndRead as_hermite3 b (open_segment m.metadata d.nodes) d.rest body → IsBlockRead as_hermite3 b (Mark MetaStart ∷ forms) body
 block_is as_hermite3 b forms body m d e =
-    let s = open_segment m.metadata d.states in
+    let s = open_segment m.metadata d.nodes in
     let closed = closed_nodes b s tt e.closed in
-    let states = states_are d.rows d.states d.read in
+    let nodes = nodes_are d.rows d.nodes d.read in
     record {
       block = lines_of m.entries d.rows e.front;
       rest = e.rest;
       object = m.metadata.object;
-      arc = record { first = m.metadata.first; last = m.metadata.last; states = d.states; covariances = e.covariances };
+      segment = record { first = m.metadata.first; last = m.metadata.last; nodes = d.nodes; covariances = e.covariances };
       shape =
           ap (λ (fs : List Form). Mark MetaStart ∷ fs) (m.shape ∙ ap (λ (fs : List Form). pair_lines m.entries ++ Mark MetaStop ∷ fs) (d.shape ∙ ap (λ (fs : List Form). row_lines d.rows ++ fs) e.shape))
           ∙ lines_behind m.entries d.rows e.front e.rest;
@@ -311,8 +311,8 @@ block_is as_hermite3 b forms body m d e =
         rest = e.front;
         shape = refl;
         metadata = metadata_is as_hermite3 b.object m.entries m.end m.metadata m.read m.whole;
-        states = states.0;
-        steps = states.1;
+        nodes = nodes.0;
+        steps = nodes.1;
         enough = closed.enough;
         useable = closed.useable;
         later = closed.later;
@@ -325,50 +325,50 @@ block_read : (as_hermite3 : Bool) (b : Body) (forms : List Form) (body : Body) �
 block_read as_hermite3 b forms body e =
     let m = meta_read as_hermite3 b forms EMPTY body e in
     let d = data_read as_hermite3 b m.metadata m.rest [] body m.next in
-    block_is as_hermite3 b forms body m d (end_read as_hermite3 b (open_segment m.metadata d.states) d.rest body d.all d.next)
+    block_is as_hermite3 b forms body m d (end_read as_hermite3 b (open_segment m.metadata d.nodes) d.rest body d.all d.next)
 
 -- ---- all blocks
 
 -- the blocks that are left, if any
 pub record AreBlocksRead (as_hermite3 : Bool) (b : Body) (forms : List Form) (body : Body) : Type 0 where
   pub object : Object
-  pub arcs : List PlainSegment
+  pub segments : List PlainSegment
   pub suits : Suits b.object object
-  pub blocks : AreBlocks as_hermite3 object (end_of b.arcs) forms arcs
+  pub blocks : AreBlocks as_hermite3 object (end_of b.segments) forms segments
   pub named : body.object ≡ Some object
-  pub whole : body.arcs ≡ b.arcs ++ arcs
+  pub whole : body.segments ≡ b.segments ++ segments
 
 -- one block is left
-blocks_last : (as_hermite3 : Bool) (b : Body) (forms : List Form) (body : Body) (r : IsBlockRead as_hermite3 b forms body) → r.rest ≡ [] → with_segment b r.object r.arc ≡ body
+blocks_last : (as_hermite3 : Bool) (b : Body) (forms : List Form) (body : Body) (r : IsBlockRead as_hermite3 b forms body) → r.rest ≡ [] → with_object_segment b r.object r.segment ≡ body
     → AreBlocksRead as_hermite3 b forms body
 blocks_last as_hermite3 b forms body r none same =
     let whole : forms ≡ r.block = r.shape ∙ ap (λ (fs : List Form). r.block ++ fs) none ∙ append-nil r.block in
     record {
       object = r.object;
-      arcs = r.arc ∷ [];
+      segments = r.segment ∷ [];
       suits = r.suits;
-      blocks = subst (λ (fs : List Form). AreBlocks as_hermite3 r.object (end_of b.arcs) fs (r.arc ∷ [])) (sym whole) (last (end_of b.arcs) r.block r.arc r.said);
+      blocks = subst (λ (fs : List Form). AreBlocks as_hermite3 r.object (end_of b.segments) fs (r.segment ∷ [])) (sym whole) (last (end_of b.segments) r.block r.segment r.said);
       named = ap (λ (c : Body). c.object) (sym same);
-      whole = ap (λ (c : Body). c.arcs) (sym same);
+      whole = ap (λ (c : Body). c.segments) (sym same);
     }
 
 -- more blocks follow
 blocks_more : (as_hermite3 : Bool) (b : Body) (forms : List Form) (body : Body) (r : IsBlockRead as_hermite3 b forms body)
-    → AreBlocksRead as_hermite3 (with_segment b r.object r.arc) r.rest body → AreBlocksRead as_hermite3 b forms body
+    → AreBlocksRead as_hermite3 (with_object_segment b r.object r.segment) r.rest body → AreBlocksRead as_hermite3 b forms body
 blocks_more as_hermite3 b forms body r later =
     let object : later.object ≡ r.object = sym later.suits in
-    let others : AreBlocks as_hermite3 r.object r.arc.last r.rest later.arcs =
-    subst (λ (n : ℕ). AreBlocks as_hermite3 r.object n r.rest later.arcs) (end_push b.arcs r.arc)
-    (subst (λ (o : Object). AreBlocks as_hermite3 o (end_of (b.arcs ++ r.arc ∷ [])) r.rest later.arcs) object later.blocks) in
+    let others : AreBlocks as_hermite3 r.object r.segment.last r.rest later.segments =
+    subst (λ (n : ℕ). AreBlocks as_hermite3 r.object n r.rest later.segments) (end_push b.segments r.segment)
+    (subst (λ (o : Object). AreBlocks as_hermite3 o (end_of (b.segments ++ r.segment ∷ [])) r.rest later.segments) object later.blocks) in
     record {
       object = r.object;
-      arcs = r.arc ∷ later.arcs;
+      segments = r.segment ∷ later.segments;
       suits = r.suits;
       blocks =
-          subst (λ (fs : List Form). AreBlocks as_hermite3 r.object (end_of b.arcs) fs (r.arc ∷ later.arcs)) (sym r.shape)
-          (more (end_of b.arcs) r.block r.rest r.arc later.arcs r.said others);
+          subst (λ (fs : List Form). AreBlocks as_hermite3 r.object (end_of b.segments) fs (r.segment ∷ later.segments)) (sym r.shape)
+          (more (end_of b.segments) r.block r.rest r.segment later.segments r.said others);
       named = later.named ∙ ap (λ (o : Object). Some o) object;
-      whole = later.whole ∙ append_assoc b.arcs (r.arc ∷ []) later.arcs;
+      whole = later.whole ∙ append_assoc b.segments (r.segment ∷ []) later.segments;
     }
 
 -- a block is not empty
@@ -390,7 +390,7 @@ blocks_read as_hermite3 (suc n) b (Mark MetaStart ∷ forms) body few e =
     inr (⊎_elim
     (λ end. blocks_last as_hermite3 b (Mark MetaStart ∷ forms) body r end.0 end.1)
     (λ later. blocks_more as_hermite3 b (Mark MetaStart ∷ forms) body r later)
-    (blocks_read as_hermite3 n (with_segment b r.object r.arc) r.rest body (omega arith) r.next))
+    (blocks_read as_hermite3 n (with_object_segment b r.object r.segment) r.rest body (omega arith) r.next))
 blocks_read as_hermite3 n b (Mark MetaStop ∷ forms) body few e = absurd cc
 blocks_read as_hermite3 n b (Mark CovarianceStart ∷ forms) body few e = absurd cc
 blocks_read as_hermite3 n b (Mark CovarianceStop ∷ forms) body few e = absurd cc
@@ -418,13 +418,13 @@ MayFollow (Pair key value ∷ forms) = ⊥
 MayFollow (Row text ∷ forms) = ⊥
 
 run_close : (as_hermite3 : Bool) (b : Body) (s : OpenSegment) (rest : List Form) → close_nodes b s ≡ Ok tt → MayFollow rest
-    → run as_hermite3 (Data b s) rest ≡ run as_hermite3 (After (with_arc b s [])) rest
+    → run as_hermite3 (Data b s) rest ≡ run as_hermite3 (After (with_segment b s [])) rest
 unfolding finished
-run_close as_hermite3 b s [] e may = ap (λ (r : Result (Unit {0}) OemCause). r >>= λ _. Ok (with_arc b s [])) e
+run_close as_hermite3 b s [] e may = ap (λ (r : Result (Unit {0}) OemCause). r >>= λ _. Ok (with_segment b s [])) e
 run_close as_hermite3 b s (Blank ∷ rest) e may = absurd may
 run_close as_hermite3 b s (Comment ∷ rest) e may = absurd may
 run_close as_hermite3 b s (Mark MetaStart ∷ rest) e may =
-    ap (λ (r : Result (Unit {0}) OemCause). (r >>= λ _. Ok (Meta (with_arc b s []) EMPTY)) >>= λ next. run as_hermite3 next rest) e
+    ap (λ (r : Result (Unit {0}) OemCause). (r >>= λ _. Ok (Meta (with_segment b s []) EMPTY)) >>= λ next. run as_hermite3 next rest) e
 run_close as_hermite3 b s (Mark MetaStop ∷ rest) e may = absurd may
 run_close as_hermite3 b s (Mark CovarianceStart ∷ rest) e may = absurd may
 run_close as_hermite3 b s (Mark CovarianceStop ∷ rest) e may = absurd may
@@ -432,7 +432,7 @@ run_close as_hermite3 b s (Pair key value ∷ rest) e may = absurd may
 run_close as_hermite3 b s (Row text ∷ rest) e may = absurd may
 
 run_end_some : (as_hermite3 : Bool) (b : Body) (s : OpenSegment) (front rest : List Form) (covariances : List PlainMatrix) → close_nodes b s ≡ Ok tt → AreCovariances front covariances
-    → run as_hermite3 (Data b s) (front ++ rest) ≡ run as_hermite3 (After (with_arc b s covariances)) rest
+    → run as_hermite3 (Data b s) (front ++ rest) ≡ run as_hermite3 (After (with_segment b s covariances)) rest
 run_end_some as_hermite3 b s front rest covariances e a =
     let inner = (a.inner ++ Mark CovarianceStop ∷ []) ++ rest in
     let again = matrices_again a.inner covariances a.matrices in
@@ -440,56 +440,56 @@ run_end_some as_hermite3 b s front rest covariances e a =
     ∙ ap (λ (r : Result (Unit {0}) OemCause). (r >>= λ _. Ok (Cov b s NO_COVARIANCES)) >>= λ next. run as_hermite3 next inner) e
     ∙ ap (run as_hermite3 (Cov b s NO_COVARIANCES)) (append_assoc a.inner (Mark CovarianceStop ∷ []) rest)
     ∙ run_covariances as_hermite3 b s a.inner NO_COVARIANCES again.0 (Mark CovarianceStop ∷ rest) again.1
-    ∙ ap (λ (r : Result (List PlainMatrix) OemCause). (r >>= λ cs. Ok (After (with_arc b s cs))) >>= λ next. run as_hermite3 next rest) again.2
+    ∙ ap (λ (r : Result (List PlainMatrix) OemCause). (r >>= λ cs. Ok (After (with_segment b s cs))) >>= λ next. run as_hermite3 next rest) again.2
 
 run_end_none : (as_hermite3 : Bool) (b : Body) (s : OpenSegment) (front rest : List Form) (covariances : List PlainMatrix) → close_nodes b s ≡ Ok tt → HasNoCovariances front covariances
-    → MayFollow rest → run as_hermite3 (Data b s) (front ++ rest) ≡ run as_hermite3 (After (with_arc b s covariances)) rest
+    → MayFollow rest → run as_hermite3 (Data b s) (front ++ rest) ≡ run as_hermite3 (After (with_segment b s covariances)) rest
 run_end_none as_hermite3 b s front rest covariances e n may =
     ap (λ (fs : List Form). run as_hermite3 (Data b s) (fs ++ rest)) n.no_line
     ∙ run_close as_hermite3 b s rest e may
-    ∙ ap (λ (cs : List PlainMatrix). run as_hermite3 (After (with_arc b s cs)) rest) (sym n.none)
+    ∙ ap (λ (cs : List PlainMatrix). run as_hermite3 (After (with_segment b s cs)) rest) (sym n.none)
 
-run_block : (as_hermite3 : Bool) (b : Body) (lines rest : List Form) (object : Object) (arc : PlainSegment) → Suits b.object object → IsBlock as_hermite3 object (end_of b.arcs) lines arc
-    → MayFollow rest → run as_hermite3 (After b) (lines ++ rest) ≡ run as_hermite3 (After (with_segment b object arc)) rest
-run_block as_hermite3 b lines rest object arc suits block may =
-    let metadata : Metadata = record { object = object; first = arc.first; last = arc.last } in
-    let s = open_segment metadata arc.states in
+run_block : (as_hermite3 : Bool) (b : Body) (lines rest : List Form) (object : Object) (segment : PlainSegment) → Suits b.object object → IsBlock as_hermite3 object (end_of b.segments) lines segment
+    → MayFollow rest → run as_hermite3 (After b) (lines ++ rest) ≡ run as_hermite3 (After (with_object_segment b object segment)) rest
+run_block as_hermite3 b lines rest object segment suits block may =
+    let metadata : Metadata = record { object = object; first = segment.first; last = segment.last } in
+    let s = open_segment metadata segment.nodes in
     let closed = close_again b s (record { enough = block.enough; useable = block.useable; later = block.later }) in
-    let again = metadata_again as_hermite3 b.object block.entries object arc.first arc.last suits block.metadata in
+    let again = metadata_again as_hermite3 b.object block.entries object segment.first segment.last suits block.metadata in
     let behind = row_lines block.rows ++ (block.rest ++ rest) in
     ap (λ (fs : List Form). run as_hermite3 (After b) (fs ++ rest)) block.shape
     ∙ ap (run as_hermite3 (After b)) (sym (lines_behind block.entries block.rows block.rest rest))
     ∙ run_meta as_hermite3 b block.entries EMPTY again.0 (Mark MetaStop ∷ behind) again.1
     ∙ ap (λ (r : Result Metadata OemCause). (r >>= λ p. Ok (Data b (open_segment p []))) >>= λ next. run as_hermite3 next behind) again.2
-    ∙ run_rows as_hermite3 b metadata block.rows [] arc.states (block.rest ++ rest) (states_again block.rows arc.states block.states block.steps)
+    ∙ run_rows as_hermite3 b metadata block.rows [] segment.nodes (block.rest ++ rest) (nodes_again block.rows segment.nodes block.nodes block.steps)
     ∙ ⊎_elim
-    (λ some. run_end_some as_hermite3 b s block.rest rest arc.covariances closed some)
-    (λ none. run_end_none as_hermite3 b s block.rest rest arc.covariances closed none may)
+    (λ some. run_end_some as_hermite3 b s block.rest rest segment.covariances closed some)
+    (λ none. run_end_none as_hermite3 b s block.rest rest segment.covariances closed none may)
     block.covariances
 
 -- a block begins with its metadata
 abbrev pub Begins : List Form → Type 0
 Begins forms = (rest : List Form) × (forms ≡ Mark MetaStart ∷ rest)
 
-block_begins : (as_hermite3 : Bool) (from : ℕ) (lines rest : List Form) (object : Object) (arc : PlainSegment) → IsBlock as_hermite3 object from lines arc → Begins (lines ++ rest)
-block_begins as_hermite3 from lines rest object arc block =
+block_begins : (as_hermite3 : Bool) (from : ℕ) (lines rest : List Form) (object : Object) (segment : PlainSegment) → IsBlock as_hermite3 object from lines segment → Begins (lines ++ rest)
+block_begins as_hermite3 from lines rest object segment block =
     (((pair_lines block.entries ++ Mark MetaStop ∷ row_lines block.rows) ++ block.rest) ++ rest, ap (λ (fs : List Form). fs ++ rest) block.shape)
 
-pub blocks_begin : (as_hermite3 : Bool) (object : Object) (from : ℕ) (forms : List Form) (arcs : List PlainSegment) → AreBlocks as_hermite3 object from forms arcs → Begins forms
-blocks_begin as_hermite3 object from forms arcs (last at ls arc block) = subst Begins (append-nil ls) (block_begins as_hermite3 at ls [] object arc block)
-blocks_begin as_hermite3 object from forms arcs (more at ls rest arc others block later) = block_begins as_hermite3 at ls rest object arc block
+pub blocks_begin : (as_hermite3 : Bool) (object : Object) (from : ℕ) (forms : List Form) (segments : List PlainSegment) → AreBlocks as_hermite3 object from forms segments → Begins forms
+blocks_begin as_hermite3 object from forms segments (last at ls segment block) = subst Begins (append-nil ls) (block_begins as_hermite3 at ls [] object segment block)
+blocks_begin as_hermite3 object from forms segments (more at ls rest segment others block later) = block_begins as_hermite3 at ls rest object segment block
 
 blocks_follow : (forms : List Form) → Begins forms → MayFollow forms
 blocks_follow forms b = subst MayFollow (sym b.1) tt
 
-pub blocks_again : (as_hermite3 : Bool) (object : Object) (from : ℕ) (forms : List Form) (arcs : List PlainSegment) → AreBlocks as_hermite3 object from forms arcs
-    → (b : Body) → Suits b.object object → from ≡ end_of b.arcs → run as_hermite3 (After b) forms ≡ Ok (record { object = Some object; arcs = b.arcs ++ arcs })
+pub blocks_again : (as_hermite3 : Bool) (object : Object) (from : ℕ) (forms : List Form) (segments : List PlainSegment) → AreBlocks as_hermite3 object from forms segments
+    → (b : Body) → Suits b.object object → from ≡ end_of b.segments → run as_hermite3 (After b) forms ≡ Ok (record { object = Some object; segments = b.segments ++ segments })
 unfolding finished
-blocks_again as_hermite3 object from forms arcs (last at ls arc block) b suits g =
+blocks_again as_hermite3 object from forms segments (last at ls segment block) b suits g =
     ap (run as_hermite3 (After b)) (sym (append-nil ls))
-    ∙ run_block as_hermite3 b ls [] object arc suits (subst (λ (n : ℕ). IsBlock as_hermite3 object n ls arc) g block) tt
-blocks_again as_hermite3 object from forms arcs (more at ls rest arc others block later) b suits g =
-    run_block as_hermite3 b ls rest object arc suits (subst (λ (n : ℕ). IsBlock as_hermite3 object n ls arc) g block)
-    (blocks_follow rest (blocks_begin as_hermite3 object arc.last rest others later))
-    ∙ blocks_again as_hermite3 object arc.last rest others later (with_segment b object arc) refl (sym (end_push b.arcs arc))
-    ∙ ap (λ (all : List PlainSegment). Ok (record { object = Some object; arcs = all })) (append_assoc b.arcs (arc ∷ []) others)
+    ∙ run_block as_hermite3 b ls [] object segment suits (subst (λ (n : ℕ). IsBlock as_hermite3 object n ls segment) g block) tt
+blocks_again as_hermite3 object from forms segments (more at ls rest segment others block later) b suits g =
+    run_block as_hermite3 b ls rest object segment suits (subst (λ (n : ℕ). IsBlock as_hermite3 object n ls segment) g block)
+    (blocks_follow rest (blocks_begin as_hermite3 object segment.last rest others later))
+    ∙ blocks_again as_hermite3 object segment.last rest others later (with_object_segment b object segment) refl (sym (end_push b.segments segment))
+    ∙ ap (λ (all : List PlainSegment). Ok (record { object = Some object; segments = all })) (append_assoc b.segments (segment ∷ []) others)

@@ -22,26 +22,26 @@ use Rattle.cj_oem.specs.CovarianceRows.{Covariances, closed, with_matrix_pair, w
 use Rattle.cj_kvn.specs.Faults.{at_line, ◌>>=◌}
 use Rattle.cj_oem.specs.Reading.{Fault, read_on}
 use Rattle.cj_track.specs.Segments.{node_count}
-use Rattle.cj_oem.specs.Stages.{Body, Head, Stage, Start, Header, Meta, Data, Cov, After, OpenSegment, NO_HEAD, begun, close_nodes, finished, follows, in_after, in_cov, in_data, in_header, in_meta, is_version, last_state, led, with_arc, with_head_key}
+use Rattle.cj_oem.specs.Stages.{Body, Head, Stage, Start, Header, Meta, Data, Cov, After, OpenSegment, NO_HEAD, begun, close_nodes, finished, follows, in_after, in_cov, in_data, in_header, in_meta, is_version, last_state, led, with_segment, with_head_key}
 use Rattle.cj_track.specs.Tracks.{plain_segment, plain_node}
 use Rattle.cj_oem.proofs.StepLemmas.{if_ok_cond, if_ok_then}
 
 -- how many nodes segments have
 abbrev pub nodes_in : List PlainSegment → ℕ
-nodes_in arcs = sum_by (λ arc. length arc.states) arcs
+nodes_in segments = sum_by (λ segment. length segment.nodes) segments
 
 -- how many nodes were read
 abbrev pub nodes_of : Stage → ℕ
 nodes_of Start = 0
 nodes_of (Header h) = 0
-nodes_of (Meta b s) = nodes_in b.arcs
-nodes_of (Data b s) = nodes_in b.arcs + length s.states
-nodes_of (Cov b s m) = nodes_in b.arcs + length s.states
-nodes_of (After b) = nodes_in b.arcs
+nodes_of (Meta b s) = nodes_in b.segments
+nodes_of (Data b s) = nodes_in b.segments + length s.nodes
+nodes_of (Cov b s m) = nodes_in b.segments + length s.nodes
+nodes_of (After b) = nodes_in b.segments
 
 -- an object is named, and a segment is whole
 abbrev pub IsWhole : Body → Type 0
-IsWhole b = IsSome b.object × (1 ≤ length b.arcs)
+IsWhole b = IsSome b.object × (1 ≤ length b.segments)
 
 -- behind covariances that is so
 abbrev pub IsSound : Stage → Type 0
@@ -54,11 +54,11 @@ IsSound (After b) = IsWhole b
 
 -- ---- one line
 
-nodes_with_arc : (b : Body) (s : OpenSegment) (covariances : List PlainMatrix) → nodes_in (with_arc b s covariances).arcs ≡ nodes_in b.arcs + length s.states
-nodes_with_arc b s covariances = sum_by_push (λ (arc : PlainSegment). length arc.states) b.arcs (record { first = s.metadata.first; last = s.metadata.last; states = s.states; covariances = covariances })
+nodes_with_segment : (b : Body) (s : OpenSegment) (covariances : List PlainMatrix) → nodes_in (with_segment b s covariances).segments ≡ nodes_in b.segments + length s.nodes
+nodes_with_segment b s covariances = sum_by_push (λ (segment : PlainSegment). length segment.nodes) b.segments (record { first = s.metadata.first; last = s.metadata.last; nodes = s.nodes; covariances = covariances })
 
-whole_with_arc : (b : Body) (s : OpenSegment) (covariances : List PlainMatrix) → IsWhole (with_arc b s covariances)
-whole_with_arc b s covariances = (refl, omega (arith, length-append b.arcs (record { first = s.metadata.first; last = s.metadata.last; states = s.states; covariances = covariances } ∷ [])))
+whole_with_segment : (b : Body) (s : OpenSegment) (covariances : List PlainMatrix) → IsWhole (with_segment b s covariances)
+whole_with_segment b s covariances = (refl, omega (arith, length-append b.segments (record { first = s.metadata.first; last = s.metadata.last; nodes = s.nodes; covariances = covariances } ∷ [])))
 
 -- what a line leads to has at most one node more, and is sound
 record IsNext (nodes : ℕ) (next : Stage) : Type 0 where
@@ -94,42 +94,42 @@ header_step h (Mark CovarianceStop) = tt
 header_step h (Pair key value) = if_ok_then (IsNext 0) (with_head_key h key) _ (λ head. record { few = omega arith; sound = tt })
 header_step h (Row text) = tt
 
-meta_step : (as_hermite3 : Bool) (b : Body) (s : MetadataDraft) (form : Form) → IfOk (in_meta as_hermite3 b s form) (IsNext (nodes_in b.arcs))
+meta_step : (as_hermite3 : Bool) (b : Body) (s : MetadataDraft) (form : Form) → IfOk (in_meta as_hermite3 b s form) (IsNext (nodes_in b.segments))
 meta_step as_hermite3 b s Blank = tt
 meta_step as_hermite3 b s Comment = tt
 meta_step as_hermite3 b s (Mark MetaStart) = tt
-meta_step as_hermite3 b s (Mark MetaStop) = if_ok_then (IsNext (nodes_in b.arcs)) (metadata_of as_hermite3 s) _ (λ metadata. record { few = omega arith; sound = tt })
+meta_step as_hermite3 b s (Mark MetaStop) = if_ok_then (IsNext (nodes_in b.segments)) (metadata_of as_hermite3 s) _ (λ metadata. record { few = omega arith; sound = tt })
 meta_step as_hermite3 b s (Mark CovarianceStart) = tt
 meta_step as_hermite3 b s (Mark CovarianceStop) = tt
-meta_step as_hermite3 b s (Pair key value) = if_ok_then (IsNext (nodes_in b.arcs)) (with_pair b.object s key value) _ (λ draft. record { few = omega arith; sound = tt })
+meta_step as_hermite3 b s (Pair key value) = if_ok_then (IsNext (nodes_in b.segments)) (with_pair b.object s key value) _ (λ draft. record { few = omega arith; sound = tt })
 meta_step as_hermite3 b s (Row text) = tt
 
-data_step : (b : Body) (s : OpenSegment) (form : Form) → IfOk (in_data b s form) (IsNext (nodes_in b.arcs + length s.states))
+data_step : (b : Body) (s : OpenSegment) (form : Form) → IfOk (in_data b s form) (IsNext (nodes_in b.segments + length s.nodes))
 data_step b s Blank = tt
 data_step b s Comment = tt
 data_step b s (Mark MetaStart) =
-    if_ok_then (IsNext (nodes_in b.arcs + length s.states)) (close_nodes b s) _ (λ _. record { few = omega (arith, nodes_with_arc b s []); sound = tt })
+    if_ok_then (IsNext (nodes_in b.segments + length s.nodes)) (close_nodes b s) _ (λ _. record { few = omega (arith, nodes_with_segment b s []); sound = tt })
 data_step b s (Mark MetaStop) = tt
-data_step b s (Mark CovarianceStart) = if_ok_then (IsNext (nodes_in b.arcs + length s.states)) (close_nodes b s) _ (λ _. record { few = omega arith; sound = tt })
+data_step b s (Mark CovarianceStart) = if_ok_then (IsNext (nodes_in b.segments + length s.nodes)) (close_nodes b s) _ (λ _. record { few = omega arith; sound = tt })
 data_step b s (Mark CovarianceStop) = tt
 data_step b s (Pair key value) = tt
 data_step b s (Row text) =
-    if_ok_then (IsNext (nodes_in b.arcs + length s.states)) (state_of_row (last_state s.states) text) _
-    (λ state. record { few = omega (arith, length-append s.states (state ∷ [])); sound = tt })
+    if_ok_then (IsNext (nodes_in b.segments + length s.nodes)) (state_of_row (last_state s.nodes) text) _
+    (λ state. record { few = omega (arith, length-append s.nodes (state ∷ [])); sound = tt })
 
-cov_step : (b : Body) (s : OpenSegment) (m : Covariances) (form : Form) → IfOk (in_cov b s m form) (IsNext (nodes_in b.arcs + length s.states))
+cov_step : (b : Body) (s : OpenSegment) (m : Covariances) (form : Form) → IfOk (in_cov b s m form) (IsNext (nodes_in b.segments + length s.nodes))
 cov_step b s m Blank = tt
 cov_step b s m Comment = tt
 cov_step b s m (Mark MetaStart) = tt
 cov_step b s m (Mark MetaStop) = tt
 cov_step b s m (Mark CovarianceStart) = tt
 cov_step b s m (Mark CovarianceStop) =
-    if_ok_then (IsNext (nodes_in b.arcs + length s.states)) (closed m) _
-    (λ covariances. record { few = omega (arith, nodes_with_arc b s covariances); sound = whole_with_arc b s covariances })
-cov_step b s m (Pair key value) = if_ok_then (IsNext (nodes_in b.arcs + length s.states)) (with_matrix_pair m key value) _ (λ next. record { few = omega arith; sound = tt })
-cov_step b s m (Row text) = if_ok_then (IsNext (nodes_in b.arcs + length s.states)) (with_matrix_row m text) _ (λ next. record { few = omega arith; sound = tt })
+    if_ok_then (IsNext (nodes_in b.segments + length s.nodes)) (closed m) _
+    (λ covariances. record { few = omega (arith, nodes_with_segment b s covariances); sound = whole_with_segment b s covariances })
+cov_step b s m (Pair key value) = if_ok_then (IsNext (nodes_in b.segments + length s.nodes)) (with_matrix_pair m key value) _ (λ next. record { few = omega arith; sound = tt })
+cov_step b s m (Row text) = if_ok_then (IsNext (nodes_in b.segments + length s.nodes)) (with_matrix_row m text) _ (λ next. record { few = omega arith; sound = tt })
 
-after_step : (b : Body) (form : Form) → IfOk (in_after b form) (IsNext (nodes_in b.arcs))
+after_step : (b : Body) (form : Form) → IfOk (in_after b form) (IsNext (nodes_in b.segments))
 after_step b Blank = tt
 after_step b Comment = tt
 after_step b (Mark MetaStart) = record { few = omega arith; sound = tt }
@@ -166,7 +166,7 @@ first_step as_hermite3 (Row text) = begun_with_none (Row text)
 
 -- what the end of the file leads to
 record IsRead (nodes : ℕ) (body : Body) : Type 0 where
-  same : nodes_in body.arcs ≡ nodes
+  same : nodes_in body.segments ≡ nodes
   whole : IsWhole body
 
 end_step : (stage : Stage) → IsSound stage → IfOk (finished stage) (IsRead (nodes_of stage))
@@ -175,7 +175,7 @@ end_step Start sound = tt
 end_step (Header h) sound = tt
 end_step (Meta b s) sound = tt
 end_step (Data b s) sound =
-    if_ok_then (IsRead (nodes_in b.arcs + length s.states)) (close_nodes b s) _ (λ _. record { same = nodes_with_arc b s []; whole = whole_with_arc b s [] })
+    if_ok_then (IsRead (nodes_in b.segments + length s.nodes)) (close_nodes b s) _ (λ _. record { same = nodes_with_segment b s []; whole = whole_with_segment b s [] })
 end_step (Cov b s m) sound = tt
 end_step (After b) sound = record { same = refl; whole = sound }
 
@@ -187,14 +187,14 @@ follows_few as_hermite3 stage (Mark mark) next e = (IfOk-at_ok (IsNext (nodes_of
 follows_few as_hermite3 stage (Pair key value) next e = (IfOk-at_ok (IsNext (nodes_of stage)) e (led_step as_hermite3 stage (Pair key value))).few
 follows_few as_hermite3 stage (Row text) next e = (IfOk-at_ok (IsNext (nodes_of stage)) e (led_step as_hermite3 stage (Row text))).few
 
-pub finished_same : (stage : Stage) (body : Body) → finished stage ≡ Ok body → nodes_in body.arcs ≡ nodes_of stage
+pub finished_same : (stage : Stage) (body : Body) → finished stage ≡ Ok body → nodes_in body.segments ≡ nodes_of stage
 unfolding finished
 finished_same Start body e = absurd cc
 finished_same (Header h) body e = absurd cc
 finished_same (Meta b s) body e = absurd cc
-finished_same (Data b s) body e = (IfOk-at_ok (IsRead (nodes_in b.arcs + length s.states)) e (end_step (Data b s) tt)).same
+finished_same (Data b s) body e = (IfOk-at_ok (IsRead (nodes_in b.segments + length s.nodes)) e (end_step (Data b s) tt)).same
 finished_same (Cov b s m) body e = absurd cc
-finished_same (After b) body e = let same : body ≡ b = cc in ap (λ (c : Body). nodes_in c.arcs) same
+finished_same (After b) body e = let same : body ≡ b = cc in ap (λ (c : Body). nodes_in c.segments) same
 
 -- ---- all lines
 
@@ -209,7 +209,7 @@ line_then P Q number (Err e) f h g = tt
 
 -- the body that the lines lead to
 record IsReadFrom (most : ℕ) (body : Body) : Type 0 where
-  few : nodes_in body.arcs ≤ most
+  few : nodes_in body.segments ≤ most
   whole : IsWhole body
 
 more_lines : {E : Type 0} (m n : ℕ) (r : Result Body E) → m ≤ n → IfOk r (IsReadFrom m) → IfOk r (IsReadFrom n)
@@ -227,14 +227,14 @@ read_few as_hermite3 stage number (line ∷ ls) sound =
     (line_step as_hermite3 stage line.form sound)
     (λ next h. more_lines (nodes_of next + length ls) (nodes_of stage + length (line ∷ ls)) _ (omega (arith, h.few)) (read_few as_hermite3 next (line.number + 1) ls h.sound))
 
-start_few : (as_hermite3 : Bool) (number : ℕ) (ls : List Numbered) → IfOk (read_on as_hermite3 Start number ls) (λ body. nodes_in body.arcs + 1 ≤ length ls)
+start_few : (as_hermite3 : Bool) (number : ℕ) (ls : List Numbered) → IfOk (read_on as_hermite3 Start number ls) (λ body. nodes_in body.segments + 1 ≤ length ls)
 unfolding finished
 start_few as_hermite3 number [] = tt
 start_few as_hermite3 number (line ∷ ls) =
-    line_then (λ next. IsBegun next × IsSound next) (λ body. nodes_in body.arcs + 1 ≤ length (line ∷ ls)) line.number (follows as_hermite3 Start line.form)
+    line_then (λ next. IsBegun next × IsSound next) (λ body. nodes_in body.segments + 1 ≤ length (line ∷ ls)) line.number (follows as_hermite3 Start line.form)
     (λ next. read_on as_hermite3 next (line.number + 1) ls)
     (both_ok (follows as_hermite3 Start line.form) (first_step as_hermite3 line.form) (line_step as_hermite3 Start line.form tt))
-    (λ next h. IfOk-weaker (read_on as_hermite3 next (line.number + 1) ls) (IsReadFrom (nodes_of next + length ls)) (λ body. nodes_in body.arcs + 1 ≤ length (line ∷ ls)) (λ body g. omega (arith, h.0, g.few)) (read_few as_hermite3 next (line.number + 1) ls h.1))
+    (λ next h. IfOk-weaker (read_on as_hermite3 next (line.number + 1) ls) (IsReadFrom (nodes_of next + length ls)) (λ body. nodes_in body.segments + 1 ≤ length (line ∷ ls)) (λ body g. omega (arith, h.0, g.few)) (read_few as_hermite3 next (line.number + 1) ls h.1))
   where
     both_ok : (r : Result Stage OemCause) → IfOk r IsBegun → IfOk r (IsNext 0) → IfOk r (λ next. IsBegun next × IsSound next)
     both_ok (Ok next) a b = (a, b.sound)
@@ -242,9 +242,9 @@ start_few as_hermite3 number (line ∷ ls) =
 
 -- fewer nodes than lines
 pub nodes_below_lines : (as_hermite3 : Bool) (number : ℕ) (ls : List Numbered) (body : Body) → read_on as_hermite3 Start number ls ≡ Ok body
-    → nodes_in body.arcs < length ls
+    → nodes_in body.segments < length ls
 nodes_below_lines as_hermite3 number ls body e =
-    let few : nodes_in body.arcs + 1 ≤ length ls = IfOk-at_ok (λ (b : Body). nodes_in b.arcs + 1 ≤ length ls) e (start_few as_hermite3 number ls) in
+    let few : nodes_in body.segments + 1 ≤ length ls = IfOk-at_ok (λ (b : Body). nodes_in b.segments + 1 ≤ length ls) e (start_few as_hermite3 number ls) in
     omega arith
 
 -- a file that is accepted has an object and a segment
@@ -288,13 +288,13 @@ said_few bytes said e =
 
 -- no more nodes than bytes
 pub nodes_fit : (as_hermite3 : Bool) (bytes : List ℕ) (said : List Numbered) (body : Body) → kvn.reading bytes ≡ Ok said → read_on as_hermite3 Start 1 said ≡ Ok body
-    → nodes_in body.arcs ≤ length bytes
+    → nodes_in body.segments ≤ length bytes
 nodes_fit as_hermite3 bytes said body e f = omega (arith, said_few bytes said e, nodes_below_lines as_hermite3 1 said body f)
 
 -- the nodes of segments are those of what they say
 pub nodes_said : (segments : List Segment) → nodes_in (map plain_segment segments) ≡ node_count segments
 nodes_said [] = refl
 nodes_said (segment ∷ segments) =
-    sum_by-cons (λ (arc : PlainSegment). length arc.states) (plain_segment segment) (map plain_segment segments)
+    sum_by-cons (λ (segment : PlainSegment). length segment.nodes) (plain_segment segment) (map plain_segment segments)
     ∙ ap₂ (λ (a b : ℕ). a + b) (length-map segment.nodes plain_node) (nodes_said segments)
     ∙ sym (sum_by-cons (λ (s : Segment). length s.nodes) segment segments)

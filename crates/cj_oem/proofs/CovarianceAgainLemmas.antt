@@ -12,7 +12,7 @@ use Rattle.cj_values.specs.Numbers.{Number}
 use Rattle.cj_ticks.specs.Ticks.{IsTick}
 use Rattle.cj_epoch.specs.Written.{epoch_of}
 use Rattle.cj_oem.specs.Canonical.{covariance_text, matrix_row, numbers_text}
-use Rattle.cj_oem.specs.CovarianceRows.{Covariances, Draft, closed, numbers_said, with_fields, with_matrix_pair, with_matrix_row}
+use Rattle.cj_oem.specs.CovarianceRows.{Covariances, CovarianceDraft, closed, numbers_said, with_fields, with_matrix_pair, with_matrix_row}
 use Rattle.cj_track.specs.PlainTracks.{PlainMatrix}
 use Rattle.cj_oem.specs.Words.{is_word}
 use Rattle.cj_oem.specs.Stages.{Body, Cov, Stage, OpenSegment, follows}
@@ -68,13 +68,13 @@ numbers_fields (n ∷ ns) some all = ap fields (numbers_shape n ns) ∙ fields_r
 
 -- ---- the next row of a matrix
 
-abbrev drafted : List PlainMatrix → Draft → Covariances
+abbrev drafted : List PlainMatrix → CovarianceDraft → Covariances
 drafted whole d = record { whole = whole; draft = Some d }
 
-abbrev draft : ℕ → Bool → ℕ → List Number → Draft
+abbrev draft : ℕ → Bool → ℕ → List Number → CovarianceDraft
 draft at framed rows values = record { at = at; framed = framed; rtn = framed; rows = rows; values = values }
 
-row_with : (d : Draft) (row : List (List ℕ)) (ns : List Number) → (d.rows == 6) ≡ false → (length row == d.rows + 1) ≡ true → numbers_said row ≡ Ok ns
+row_with : (d : CovarianceDraft) (row : List (List ℕ)) (ns : List Number) → (d.rows == 6) ≡ false → (length row == d.rows + 1) ≡ true → numbers_said row ≡ Ok ns
     → with_fields (Some d) row ≡ Ok (record d { rows = d.rows + 1; values = d.values ++ ns })
 row_with d row ns short long said = rw (short, long, said) refl
 

@@ -12,7 +12,7 @@ use Rattle.cj_values.specs.declared.decimals.Decimal.{Decimal}
 pub use Rattle.cj_kvn.proofs.DecimalLemmas.{written_more}
 use Rattle.cj_causes.specs.declared.oem_cause.OemCause.{OemCause}
 use Rattle.std.specs.Prelude.{◌==◌, ◌||◌, not, false, Some}
-use Rattle.cj_oem.specs.CovarianceRows.{Draft, number_or, numbers_said, with_fields}
+use Rattle.cj_oem.specs.CovarianceRows.{CovarianceDraft, number_or, numbers_said, with_fields}
 use Rattle.cj_oem.specs.Drafts.{value_count}
 use Rattle.cj_kvn.specs.Faults.{◌>>=◌}
 
@@ -86,6 +86,6 @@ row_kept first k values row all some =
     (All-append IsKept row (post_of first k values) some (All-drop IsKept k (drop first values) (All-drop IsKept first values all)))
 
 -- a row of the right number of fields is added
-pub row_added : (d : Draft) (row : List (List ℕ)) (numbers : List Number) → ((d.rows == 6) || not (length row == d.rows + 1)) ≡ false → numbers_said row ≡ Ok numbers
+pub row_added : (d : CovarianceDraft) (row : List (List ℕ)) (numbers : List Number) → ((d.rows == 6) || not (length row == d.rows + 1)) ≡ false → numbers_said row ≡ Ok numbers
     → with_fields (Some d) row ≡ Ok (record d { rows = d.rows + 1; values = d.values ++ numbers })
 row_added d row numbers form said = rw (form, said) refl

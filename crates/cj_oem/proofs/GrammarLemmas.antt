@@ -91,13 +91,13 @@ header_read as_hermite3 (Row text ∷ forms) h body e = absurd cc
 
 -- what a body says of its object
 abbrev said : List ℕ → Object → List PlainSegment → PlainTrack
-said file o arcs = record { file = file; name = o.name; id = o.id; frame = o.frame; arcs = arcs }
+said file o segments = record { file = file; name = o.name; id = o.id; frame = o.frame; segments = segments }
 
 -- the lines say an object with its segments
 record IsFileRead (as_hermite3 : Bool) (file : List ℕ) (forms : List Form) (body : Body) : Type 0 where
   object : Object
   named : body.object ≡ Some object
-  whole : IsFile as_hermite3 forms (said file object body.arcs)
+  whole : IsFile as_hermite3 forms (said file object body.segments)
 
 file_is : (as_hermite3 : Bool) (file key value : List ℕ) (forms : List Form) (body : Body) → key ≡ codes "CCSDS_OEM_VERS" → IsVersion value
     → IsHeaderRead as_hermite3 NO_HEAD forms body → IsFileRead as_hermite3 file (Pair key value ∷ forms) body
@@ -138,7 +138,7 @@ file_read as_hermite3 file (Row text ∷ forms) body e = absurd cc
 -- ---- back again
 
 abbrev body_of : PlainTrack → Body
-body_of e = record { object = Some (object_of e); arcs = e.arcs }
+body_of e = record { object = Some (object_of e); segments = e.segments }
 
 header_enough : (as_hermite3 : Bool) (h : Head) (rest : List Form) → (h.date && h.originator) ≡ true
     → run as_hermite3 (Header h) (Mark MetaStart ∷ rest) ≡ run as_hermite3 (Meta NO_BODY EMPTY) rest
@@ -157,8 +157,8 @@ file_again as_hermite3 forms e f =
     ap (run as_hermite3 Start) f.shape
     ∙ ap (λ (b : Bool). (if b then Ok (Header NO_HEAD) else Err causes.Version) >>= λ next. run as_hermite3 next rest) (version_again f.version f.known)
     ∙ run_header as_hermite3 f.entries NO_HEAD header.0 f.blocks header.1
-    ∙ run_blocks as_hermite3 header.0 f.blocks header.2 (blocks_begin as_hermite3 (object_of e) 0 f.blocks e.arcs f.segments)
-    ∙ blocks_again as_hermite3 (object_of e) 0 f.blocks e.arcs f.segments NO_BODY tt refl
+    ∙ run_blocks as_hermite3 header.0 f.blocks header.2 (blocks_begin as_hermite3 (object_of e) 0 f.blocks e.segments f.segments)
+    ∙ blocks_again as_hermite3 (object_of e) 0 f.blocks e.segments f.segments NO_BODY tt refl
 
 -- ---- the bytes
 
@@ -173,8 +173,8 @@ lines_say as_hermite3 file lines e read =
     let step = bind_ok (read_on as_hermite3 Start 1 lines) (λ body. with_object file body body.object) e read in
     let body = step.0 in
     let r = file_read as_hermite3 file (telling lines) body (sym (run_lines as_hermite3 lines Start 1) ∙ ap without_line step.1) in
-    let told : ◌≡◌ {A = Result PlainTrack Fault} (Ok (said file r.object body.arcs)) (Ok e) = ap (with_object file body) (sym r.named) ∙ step.2 in
-    let same : said file r.object body.arcs ≡ e = cc in
+    let told : ◌≡◌ {A = Result PlainTrack Fault} (Ok (said file r.object body.segments)) (Ok e) = ap (with_object file body) (sym r.named) ∙ step.2 in
+    let same : said file r.object body.segments ≡ e = cc in
     (subst (IsFile as_hermite3 (telling lines)) same r.whole, ap (λ (x : PlainTrack). x.file) (sym same))
 
 lines_again : (as_hermite3 : Bool) (file : List ℕ) (lines : List Numbered) (e : PlainTrack) → IsFile as_hermite3 (telling lines) e → e.file ≡ file → lines_read as_hermite3 file lines ≡ Ok e

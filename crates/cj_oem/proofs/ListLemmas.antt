@@ -56,7 +56,7 @@ order_push (a ∷ []) segment order later = (later, tt)
 order_push (a ∷ b ∷ segments) segment order later = (order.0, order_push (b ∷ segments) segment order.1 later)
 
 abbrev last_of : PlainSegment → ℕ
-last_of arc = arc.last
+last_of segment = segment.last
 
 -- where the last segment ends
 pub end_is : (segments : List Segment) → end_of (map plain_segment segments) ≡ unwrap_or (option_map (λ (s : Segment). s.last.micros) (slice_get segments (length segments - 1))) 0

@@ -12,7 +12,7 @@ use Rattle.cj_kvn.specs.declared.numbers.NumFault.{NumFault}
 use Rattle.cj_epoch.specs.Reading.{reading_of}
 use Rattle.cj_causes.specs.declared.oem_cause.OemCause.{OemCause}
 use Rattle.cj_causes.specs.declared.oem_cause.OemCause.TheVariants as causes
-use Rattle.cj_oem.specs.CovarianceRows.{Covariances, Draft, NO_COVARIANCES, closed, closed_with, number_or, numbers_said, with_epoch, with_fields, with_frame, with_matrix_pair, with_matrix_row}
+use Rattle.cj_oem.specs.CovarianceRows.{Covariances, CovarianceDraft, NO_COVARIANCES, closed, closed_with, number_or, numbers_said, with_epoch, with_fields, with_frame, with_matrix_pair, with_matrix_row}
 use Rattle.cj_oem.specs.Drafts.{begun}
 use Rattle.cj_track.specs.PlainTracks.{PlainMatrix}
 use Rattle.cj_oem.specs.Grammar.{AreMatrices, IsMatrix, IsRtn, frame_lines, kept, none, row_lines, unused}
@@ -145,7 +145,7 @@ with_used whole used c = if used then whole ++ c ∷ [] else whole
 -- ---- what is left to be read
 
 -- the rest of a matrix that is being read, and matrices behind it
-record IsRest (whole : List PlainMatrix) (d : Draft) (lines : List Form) (all : List PlainMatrix) : Type 0 where
+record IsRest (whole : List PlainMatrix) (d : CovarianceDraft) (lines : List Form) (all : List PlainMatrix) : Type 0 where
   frame : Option (List ℕ)
   rows : List (List ℕ)
   rest : List Form
@@ -159,16 +159,16 @@ record IsRest (whole : List PlainMatrix) (d : Draft) (lines : List Form) (all : 
   total : all ≡ with_used whole (rtn_with d.rtn frame) (record { at = d.at; values = d.values ++ values }) ++ others
 
 -- matrices, behind the one that is being read if there is one
-abbrev IsLeft : List PlainMatrix → Option Draft → List Form → List PlainMatrix → Type 0
+abbrev IsLeft : List PlainMatrix → Option CovarianceDraft → List Form → List PlainMatrix → Type 0
 IsLeft whole None lines all = (others : List PlainMatrix) × AreMatrices lines others × (all ≡ whole ++ others)
 IsLeft whole (Some d) lines all = IsRest whole d lines all
 
 -- a matrix that is being read has six rows at most
-abbrev IsShort : Option Draft → Type 0
+abbrev IsShort : Option CovarianceDraft → Type 0
 IsShort o = IfSome o (λ d. d.rows ≤ 6)
 
 -- where a matrix may begin or the lines end, the one before is whole
-left_whole : (whole : List PlainMatrix) (o : Option Draft) (lines : List Form) (before others all : List PlainMatrix) → closed_with whole o ≡ Ok before → AreMatrices lines others
+left_whole : (whole : List PlainMatrix) (o : Option CovarianceDraft) (lines : List Form) (before others all : List PlainMatrix) → closed_with whole o ≡ Ok before → AreMatrices lines others
     → all ≡ before ++ others → IsLeft whole o lines all
 left_whole whole None lines before others all e more total = (others, more, total ∙ ap (λ (cs : List PlainMatrix). cs ++ others) (sym (ok_is whole before e)))
 left_whole whole (Some d) lines before others all e more total =
@@ -226,7 +226,7 @@ absent None h f = refl
 absent (Some x) h f = absurd (f h)
 
 -- the frame of a matrix
-left_frame : (whole : List PlainMatrix) (d : Draft) (value : List ℕ) (lines : List Form) (all : List PlainMatrix) → (d.framed || nat_lt 0 d.rows) ≡ false
+left_frame : (whole : List PlainMatrix) (d : CovarianceDraft) (value : List ℕ) (lines : List Form) (all : List PlainMatrix) → (d.framed || nat_lt 0 d.rows) ≡ false
     → IsRest whole (record d { framed = true; rtn = is_word (codes "RTN") value }) lines all → IsRest whole d (Pair (codes "COV_REF_FRAME") value ∷ lines) all
 left_frame whole d value lines all e r =
     let early = or_parts d.framed (nat_lt 0 d.rows) e in
@@ -248,7 +248,7 @@ left_frame whole d value lines all e r =
     }
 
 -- a further row of it
-left_row : (whole : List PlainMatrix) (d : Draft) (text : List ℕ) (numbers : List Number) (lines : List Form) (all : List PlainMatrix) → d.rows < 6 → width text ≡ d.rows + 1
+left_row : (whole : List PlainMatrix) (d : CovarianceDraft) (text : List ℕ) (numbers : List Number) (lines : List Form) (all : List PlainMatrix) → d.rows < 6 → width text ≡ d.rows + 1
     → numbers_said (fields text) ≡ Ok numbers → IsRest whole (record d { rows = d.rows + 1; values = d.values ++ numbers }) lines all → IsRest whole d (Row text ∷ lines) all
 left_row whole d text numbers lines all less wide said r =
     let gone = absent r.frame r.early (λ both. one_more d.rows both.1) in
@@ -273,15 +273,15 @@ left_row whole d text numbers lines all less wide said r =
 
 -- ---- one line
 
-abbrev at_draft : List PlainMatrix → Option Draft → Covariances
+abbrev at_draft : List PlainMatrix → Option CovarianceDraft → Covariances
 at_draft whole o = record { whole = whole; draft = o }
 
 -- what stands before a line is left, where what stands behind it is
-abbrev LeadsTo : List PlainMatrix → Option Draft → Form → Covariances → Type 0
+abbrev LeadsTo : List PlainMatrix → Option CovarianceDraft → Form → Covariances → Type 0
 LeadsTo whole o line next =
     IsShort next.draft × ((lines : List Form) (all : List PlainMatrix) → IsLeft next.whole next.draft lines all → IsLeft whole o (line ∷ lines) all)
 
-epoch_leads : (whole : List PlainMatrix) (o : Option Draft) (value : List ℕ) (next : Covariances) → with_epoch (at_draft whole o) value ≡ Ok next → LeadsTo whole o (Pair (codes "EPOCH") value) next
+epoch_leads : (whole : List PlainMatrix) (o : Option CovarianceDraft) (value : List ℕ) (next : Covariances) → with_epoch (at_draft whole o) value ≡ Ok next → LeadsTo whole o (Pair (codes "EPOCH") value) next
 unfolding closed
 epoch_leads whole o value next e =
     let before = bind_ok (closed (at_draft whole o)) _ next e in
@@ -293,19 +293,19 @@ epoch_leads whole o value next e =
           left_whole whole o (Pair (codes "EPOCH") value ∷ lines) before.0 more.0 all before.1 more.1 more.2,
     )
 
-frame_leads : (whole : List PlainMatrix) (o : Option Draft) (value : List ℕ) (next : Covariances) → IsShort o → (with_frame o value >>= λ d. Ok (at_draft whole (Some d))) ≡ Ok next
+frame_leads : (whole : List PlainMatrix) (o : Option CovarianceDraft) (value : List ℕ) (next : Covariances) → IsShort o → (with_frame o value >>= λ d. Ok (at_draft whole (Some d))) ≡ Ok next
     → LeadsTo whole o (Pair (codes "COV_REF_FRAME") value) next
 frame_leads whole None value next short e = absurd cc
 frame_leads whole (Some d) value next short e =
     let framed = bind_ok (with_frame (Some d) value) (λ f. Ok (at_draft whole (Some f))) next e in
     let said = unwanted (d.framed || nat_lt 0 d.rows) (Ok (record d { framed = true; rtn = is_word (codes "RTN") value })) causes.MatrixForm framed.0 framed.1 in
-    let same = ap (λ (f : Draft). at_draft whole (Some f)) (ok_is _ framed.0 said.1) ∙ ok_is (at_draft whole (Some framed.0)) next framed.2 in
+    let same = ap (λ (f : CovarianceDraft). at_draft whole (Some f)) (ok_is _ framed.0 said.1) ∙ ok_is (at_draft whole (Some framed.0)) next framed.2 in
     subst (LeadsTo whole (Some d) (Pair (codes "COV_REF_FRAME") value)) same (short, λ lines all left. left_frame whole d value lines all said.0 left)
 
 at_most : (k : ℕ) → k < 6 → k + 1 ≤ 6
 at_most k less = omega arith
 
-row_leads : (whole : List PlainMatrix) (o : Option Draft) (text : List ℕ) (next : Covariances) → IsShort o → (with_fields o (fields text) >>= λ d. Ok (at_draft whole (Some d))) ≡ Ok next
+row_leads : (whole : List PlainMatrix) (o : Option CovarianceDraft) (text : List ℕ) (next : Covariances) → IsShort o → (with_fields o (fields text) >>= λ d. Ok (at_draft whole (Some d))) ≡ Ok next
     → LeadsTo whole o (Row text) next
 row_leads whole None text next short e = absurd cc
 row_leads whole (Some d) text next short e =
@@ -313,10 +313,10 @@ row_leads whole (Some d) text next short e =
     let fits = bind_ok (unless ((d.rows == 6) || not (width text == d.rows + 1)) causes.MatrixForm) _ further.0 further.1 in
     let numbers = bind_ok (numbers_said (fields text)) _ further.0 fits.2 in
     let is = fits_is d.rows (width text) short (unless_ok _ causes.MatrixForm fits.0 fits.1) in
-    let same = ap (λ (f : Draft). at_draft whole (Some f)) (ok_is _ further.0 numbers.2) ∙ ok_is (at_draft whole (Some further.0)) next further.2 in
+    let same = ap (λ (f : CovarianceDraft). at_draft whole (Some f)) (ok_is _ further.0 numbers.2) ∙ ok_is (at_draft whole (Some further.0)) next further.2 in
     subst (LeadsTo whole (Some d) (Row text)) same (at_most d.rows is.0, λ lines all left. left_row whole d text numbers.0 lines all is.0 is.1 numbers.1 left)
 
-pair_leads : (whole : List PlainMatrix) (o : Option Draft) (key value : List ℕ) (next : Covariances) → IsShort o → with_matrix_pair (at_draft whole o) key value ≡ Ok next
+pair_leads : (whole : List PlainMatrix) (o : Option CovarianceDraft) (key value : List ℕ) (next : Covariances) → IsShort o → with_matrix_pair (at_draft whole o) key value ≡ Ok next
     → LeadsTo whole o (Pair key value) next
 unfolding with_matrix_pair
 pair_leads whole o key value next short e = ⊎_elim
@@ -326,7 +326,7 @@ pair_leads whole o key value next short e = ⊎_elim
     subst (λ k. LeadsTo whole o (Pair k value) next) (sym (text_is (codes "COV_REF_FRAME") key is.0)) (frame_leads whole o value next short is.1))
     (chosen (is_text (codes "EPOCH") key) _ _ (Ok next) e)
 
-line_leads : (whole : List PlainMatrix) (o : Option Draft) (line : Form) (next : Covariances) → IsShort o → with_line (at_draft whole o) line ≡ Ok next → LeadsTo whole o line next
+line_leads : (whole : List PlainMatrix) (o : Option CovarianceDraft) (line : Form) (next : Covariances) → IsShort o → with_line (at_draft whole o) line ≡ Ok next → LeadsTo whole o line next
 unfolding with_matrix_row
 line_leads whole o Blank next short e = absurd cc
 line_leads whole o Comment next short e = absurd cc
@@ -334,7 +334,7 @@ line_leads whole o (Mark mark) next short e = absurd cc
 line_leads whole o (Pair key value) next short e = pair_leads whole o key value next short e
 line_leads whole o (Row text) next short e = row_leads whole o text next short e
 
-left_is : (lines : List Form) (whole : List PlainMatrix) (o : Option Draft) (end : Covariances) (all : List PlainMatrix) → IsShort o → covariances_from (at_draft whole o) lines ≡ Ok end
+left_is : (lines : List Form) (whole : List PlainMatrix) (o : Option CovarianceDraft) (end : Covariances) (all : List PlainMatrix) → IsShort o → covariances_from (at_draft whole o) lines ≡ Ok end
     → closed end ≡ Ok all → IsLeft whole o lines all
 unfolding closed
 left_is [] whole o end all short e whole_end =
@@ -352,13 +352,13 @@ matrices_are lines end all e whole =
 
 -- ---- and back again
 
-row_again : (whole : List PlainMatrix) (d : Draft) (text : List ℕ) (numbers : List Number) → d.rows < 6 → width text ≡ d.rows + 1 → numbers_said (fields text) ≡ Ok numbers
+row_again : (whole : List PlainMatrix) (d : CovarianceDraft) (text : List ℕ) (numbers : List Number) → d.rows < 6 → width text ≡ d.rows + 1 → numbers_said (fields text) ≡ Ok numbers
     → with_line (at_draft whole (Some d)) (Row text) ≡ Ok (at_draft whole (Some (record d { rows = d.rows + 1; values = d.values ++ numbers })))
 unfolding with_matrix_row
 row_again whole d text numbers less wide said = rw (fits_again d.rows (width text) less wide, said) refl
 
 -- the rows that a matrix lacks are read
-rows_again : (rows : List (List ℕ)) (whole : List PlainMatrix) (d : Draft) (values : List Number) (rest : List Form) → d.rows ≤ 6 → map width rows ≡ drop d.rows WIDTHS
+rows_again : (rows : List (List ℕ)) (whole : List PlainMatrix) (d : CovarianceDraft) (values : List Number) (rest : List Form) → d.rows ≤ 6 → map width rows ≡ drop d.rows WIDTHS
     → map decimal_of (flat_map fields rows) ≡ map (λ n. Ok n) values
     → covariances_from (at_draft whole (Some d)) (row_lines rows ++ rest) ≡ covariances_from (at_draft whole (Some (record d { rows = 6; values = d.values ++ values }))) rest
 rows_again [] whole d [] rest short widths said =
@@ -374,13 +374,13 @@ rows_again (row ∷ rows) whole d values rest short widths said =
     ∙ ap (λ (vs : List Number). covariances_from (at_draft whole (Some (record d { rows = 6; values = vs }))) rest)
     (append_assoc d.values parts.front parts.back ∙ ap (λ (ns : List Number). d.values ++ ns) parts.both)
 
-epoch_again : (whole : List PlainMatrix) (o : Option Draft) (value : List ℕ) (before : List PlainMatrix) (at : ℕ) → closed_with whole o ≡ Ok before → reading_of value ≡ Ok at
+epoch_again : (whole : List PlainMatrix) (o : Option CovarianceDraft) (value : List ℕ) (before : List PlainMatrix) (at : ℕ) → closed_with whole o ≡ Ok before → reading_of value ≡ Ok at
     → with_epoch (at_draft whole o) value ≡ Ok (at_draft before (Some (begun at)))
 unfolding closed
 epoch_again whole o value before at e f = rw (e, f) refl
 
 -- the matrix where its frame is known
-abbrev framed : ℕ → Option (List ℕ) → Draft
+abbrev framed : ℕ → Option (List ℕ) → CovarianceDraft
 framed at frame = record { at = at; framed = is_some frame; rtn = rtn_with false frame; rows = 0; values = [] }
 
 frame_again : (whole : List PlainMatrix) (at : ℕ) (frame : Option (List ℕ)) (rest : List Form)
@@ -389,7 +389,7 @@ unfolding with_matrix_pair
 frame_again whole at None rest = refl
 frame_again whole at (Some frame) rest = refl
 
-matrix_again : (whole : List PlainMatrix) (o : Option Draft) (before : List PlainMatrix) (lines rest : List Form) (frame : Option (List ℕ)) (c : PlainMatrix) → closed_with whole o ≡ Ok before
+matrix_again : (whole : List PlainMatrix) (o : Option CovarianceDraft) (before : List PlainMatrix) (lines rest : List Form) (frame : Option (List ℕ)) (c : PlainMatrix) → closed_with whole o ≡ Ok before
     → IsMatrix lines frame c
     → covariances_from (at_draft whole o) (lines ++ rest) ≡ covariances_from (at_draft before (Some (record (framed c.at frame) { rows = 6; values = c.values }))) rest
 unfolding with_matrix_pair
@@ -401,12 +401,12 @@ matrix_again whole o before lines rest frame c e m =
     ∙ rows_again m.rows before (framed c.at frame) c.values rest (omega arith) m.triangle m.numbers
 
 -- the matrices are read, the last one whole
-record AreReadAgain (whole : List PlainMatrix) (o : Option Draft) (lines : List Form) (all : List PlainMatrix) : Type 0 where
+record AreReadAgain (whole : List PlainMatrix) (o : Option CovarianceDraft) (lines : List Form) (all : List PlainMatrix) : Type 0 where
   end : Covariances
   read : covariances_from (at_draft whole o) lines ≡ Ok end
   closes : closed end ≡ Ok all
 
-all_again : (lines : List Form) (covariances : List PlainMatrix) → AreMatrices lines covariances → (whole : List PlainMatrix) (o : Option Draft) (before : List PlainMatrix)
+all_again : (lines : List Form) (covariances : List PlainMatrix) → AreMatrices lines covariances → (whole : List PlainMatrix) (o : Option CovarianceDraft) (before : List PlainMatrix)
     → closed_with whole o ≡ Ok before → AreReadAgain whole o lines (before ++ covariances)
 unfolding closed
 all_again lines covariances none whole o before e =

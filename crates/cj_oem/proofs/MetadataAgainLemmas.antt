@@ -130,17 +130,17 @@ meta_forms o first last = Mark MetaStart ∷ meta_pairs o first last
 abbrev pub object_of : PlainTrack → Object
 object_of e = record { name = e.name; id = e.id; frame = e.frame }
 
-pub metadata_told : (e : PlainTrack) (arc : PlainSegment) → IsNeat e.name → IsNeat e.id → Tells (metadata_text e arc) (meta_forms (object_of e) arc.first arc.last)
+pub metadata_told : (e : PlainTrack) (segment : PlainSegment) → IsNeat e.name → IsNeat e.id → Tells (metadata_text e segment) (meta_forms (object_of e) segment.first segment.last)
 unfolding metadata_text
-metadata_told e arc name id =
+metadata_told e segment name id =
     let t0 = told_line (codes "META_START") (Mark MetaStart) meta_start in
     let t1 = told_append _ _ _ _ t0 (fixed_told (codes "OBJECT_NAME") e.name refl refl name.visible name.starts name.ends) in
     let t2 = told_append _ _ _ _ t1 (fixed_told (codes "OBJECT_ID") e.id refl refl id.visible id.starts id.ends) in
     let t3 = told_append _ _ _ _ t2 (fixed_told (codes "CENTER_NAME") (codes "EARTH") refl refl refl refl refl) in
     let t4 = told_append _ _ _ _ t3 (frame_line e.frame) in
     let t5 = told_append _ _ _ _ t4 (fixed_told (codes "TIME_SYSTEM") (codes "UTC") refl refl refl refl refl) in
-    let t6 = told_append _ _ _ _ t5 (told_line (pair_text (codes "START_TIME") (epoch_of arc.first)) (Pair (codes "START_TIME") (epoch_of arc.first)) (epoch_line (codes "START_TIME") arc.first refl refl)) in
-    let t7 = told_append _ _ _ _ t6 (told_line (pair_text (codes "STOP_TIME") (epoch_of arc.last)) (Pair (codes "STOP_TIME") (epoch_of arc.last)) (epoch_line (codes "STOP_TIME") arc.last refl refl)) in
+    let t6 = told_append _ _ _ _ t5 (told_line (pair_text (codes "START_TIME") (epoch_of segment.first)) (Pair (codes "START_TIME") (epoch_of segment.first)) (epoch_line (codes "START_TIME") segment.first refl refl)) in
+    let t7 = told_append _ _ _ _ t6 (told_line (pair_text (codes "STOP_TIME") (epoch_of segment.last)) (Pair (codes "STOP_TIME") (epoch_of segment.last)) (epoch_line (codes "STOP_TIME") segment.last refl refl)) in
     let t8 = told_append _ _ _ _ t7 (fixed_told (codes "INTERPOLATION") (codes "HERMITE") refl refl refl refl refl) in
     let t9 = told_append _ _ _ _ t8 (fixed_told (codes "INTERPOLATION_DEGREE") (codes "3") refl refl refl refl refl) in
     told_append _ _ _ _ t9 (told_line (codes "META_STOP") (Mark MetaStop) meta_stop)
@@ -192,12 +192,12 @@ stop_follows b o first last tick = rw (epoch_again last tick) refl
 
 cubic_walk : (b : Body) (o : Object) (first last : ℕ)
     → walk (Meta b (record (named o) { start = Some first; stop = Some last })) (Pair (codes "INTERPOLATION") (codes "HERMITE") ∷ Pair (codes "INTERPOLATION_DEGREE") (codes "3") ∷ Mark MetaStop ∷ [])
-    ≡ Ok (Data b (record { metadata = metadata o first last; states = [] }))
+    ≡ Ok (Data b (record { metadata = metadata o first last; nodes = [] }))
 unfolding follows with_pair key_of with_value metadata_of is_word
 cubic_walk b o first last = refl
 
 pub meta_walk : (b : Body) (o : Object) (first last : ℕ) → IsKnown b.object o → IsNeat o.name → IsNeat o.id → IsTick first → IsTick last
-    → walk (Meta b EMPTY) (meta_pairs o first last) ≡ Ok (Data b (record { metadata = metadata o first last; states = [] }))
+    → walk (Meta b EMPTY) (meta_pairs o first last) ≡ Ok (Data b (record { metadata = metadata o first last; nodes = [] }))
 meta_walk b o first last known name id start stop =
     let cubic = Pair (codes "INTERPOLATION") (codes "HERMITE") ∷ Pair (codes "INTERPOLATION_DEGREE") (codes "3") ∷ Mark MetaStop ∷ [] in
     let r7 = Pair (codes "STOP_TIME") (epoch_of last) ∷ cubic in

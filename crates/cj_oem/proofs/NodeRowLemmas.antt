@@ -20,7 +20,7 @@ use Rattle.cj_causes.specs.declared.oem_cause.OemCause.TheVariants as causes
 use Rattle.cj_oem.specs.declared.figures.Figures.{Figures}
 use Rattle.cj_track.specs.declared.vec3.Vec3.{Vec3}
 use Rattle.cj_track.specs.PlainTracks.{PlainNode}
-use Rattle.cj_oem.specs.Grammar.{AreStateSteps, IsNodeRow, IsStateStep, SayStates}
+use Rattle.cj_oem.specs.Grammar.{AreNodeSteps, IsNodeRow, IsNodeStep, SayNodes}
 use Rattle.cj_track.specs.Limits.{IsWithin, MAX_COORDINATE, MAX_RATE, MAX_STEP}
 use Rattle.cj_kvn.specs.Faults.{◌>>=◌}
 use Rattle.cj_oem.specs.Metadata.{parse_epoch, unless}
@@ -97,9 +97,9 @@ count_again n (inl e) = ap (λ (k : ℕ). (k == 7) || (k == 10)) e
 count_again n (inr e) = ap (λ (k : ℕ). (k == 7) || (k == 10)) e
 
 abbrev Steps : Option PlainNode → PlainNode → Type 0
-Steps before s = IfSome before (λ b. IsStateStep b s)
+Steps before s = IfSome before (λ b. IsNodeStep b s)
 
-step_is : (b s : PlainNode) → nat_le s.at b.at ≡ false → nat_lt (b.at + MAX_STEP) s.at ≡ false → leap_lies_between b.at s.at ≡ false → IsStateStep b s
+step_is : (b s : PlainNode) → nat_le s.at b.at ≡ false → nat_lt (b.at + MAX_STEP) s.at ≡ false → leap_lies_between b.at s.at ≡ false → IsNodeStep b s
 step_is b s rises short steady = record { rises = leb-false s.at b.at rises; short = ltb-false (b.at + MAX_STEP) s.at short; steady = steady }
 
 following_is : (before : Option PlainNode) (a s : PlainNode) → following before a ≡ Ok s → (a ≡ s) × Steps before s
@@ -109,7 +109,7 @@ following_is (Some b) a s e =
     let short = bind_ok (unless (nat_lt (b.at + MAX_STEP) a.at) causes.StepTooLong) _ s rises.2 in
     let steady = bind_ok (unless (leap_lies_between b.at a.at) causes.LeapSecond) _ s short.2 in
     let same : a ≡ s = ok_is a s steady.2 in
-    (same, subst (IsStateStep b) same (step_is b a (unless_ok _ causes.TimesFall rises.0 rises.1) (unless_ok _ causes.StepTooLong short.0 short.1) (unless_ok _ causes.LeapSecond steady.0 steady.1)))
+    (same, subst (IsNodeStep b) same (step_is b a (unless_ok _ causes.TimesFall rises.0 rises.1) (unless_ok _ causes.StepTooLong short.0 short.1) (unless_ok _ causes.LeapSecond steady.0 steady.1)))
 
 following_again : (before : Option PlainNode) (s : PlainNode) → Steps before s → following before s ≡ Ok s
 following_again None s h = refl
@@ -187,56 +187,56 @@ fields_again before row s r step =
 -- ---- all rows
 
 -- what the rows of a block say, one after another
-abbrev pub states_from : Option PlainNode → List (List ℕ) → Result (List PlainNode) OemCause
-states_from before [] = Ok []
-states_from before (row ∷ rows) = do
+abbrev pub nodes_from : Option PlainNode → List (List ℕ) → Result (List PlainNode) OemCause
+nodes_from before [] = Ok []
+nodes_from before (row ∷ rows) = do
   state ← state_of_row before row
-  states ← states_from (Some state) rows
-  Ok (state ∷ states)
+  nodes ← nodes_from (Some state) rows
+  Ok (state ∷ nodes)
 
 -- each state is a step from the one before, the first from the given one
 abbrev Follow : Option PlainNode → List PlainNode → Type 0
 Follow before [] = Unit {0}
-Follow before (s ∷ states) = Steps before s × Follow (Some s) states
+Follow before (s ∷ nodes) = Steps before s × Follow (Some s) nodes
 
-steps_behind : (s : PlainNode) (states : List PlainNode) → Follow (Some s) states → AreStateSteps (s ∷ states)
+steps_behind : (s : PlainNode) (nodes : List PlainNode) → Follow (Some s) nodes → AreNodeSteps (s ∷ nodes)
 steps_behind s [] f = tt
-steps_behind s (t ∷ states) f = (f.0, steps_behind t states f.1)
+steps_behind s (t ∷ nodes) f = (f.0, steps_behind t nodes f.1)
 
-behind_steps : (s : PlainNode) (states : List PlainNode) → AreStateSteps (s ∷ states) → Follow (Some s) states
+behind_steps : (s : PlainNode) (nodes : List PlainNode) → AreNodeSteps (s ∷ nodes) → Follow (Some s) nodes
 behind_steps s [] f = tt
-behind_steps s (t ∷ states) f = (f.0, behind_steps t states f.1)
+behind_steps s (t ∷ nodes) f = (f.0, behind_steps t nodes f.1)
 
-steps_are : (states : List PlainNode) → Follow None states → AreStateSteps states
+steps_are : (nodes : List PlainNode) → Follow None nodes → AreNodeSteps nodes
 steps_are [] f = tt
-steps_are (s ∷ states) f = steps_behind s states f.1
+steps_are (s ∷ nodes) f = steps_behind s nodes f.1
 
-steps_again : (states : List PlainNode) → AreStateSteps states → Follow None states
+steps_again : (nodes : List PlainNode) → AreNodeSteps nodes → Follow None nodes
 steps_again [] steps = tt
-steps_again (s ∷ states) steps = (tt, behind_steps s states steps)
+steps_again (s ∷ nodes) steps = (tt, behind_steps s nodes steps)
 
-rows_are : (rows : List (List ℕ)) (before : Option PlainNode) (states : List PlainNode) → states_from before rows ≡ Ok states → SayStates rows states × Follow before states
-rows_are [] before states e = subst (λ (ss : List PlainNode). SayStates [] ss × Follow before ss) (ok_is [] states e) (tt, tt)
-rows_are (row ∷ rows) before states e =
-    let state = bind_ok (state_of_row before row) _ states e in
-    let others = bind_ok (states_from (Some state.0) rows) _ states state.2 in
+rows_are : (rows : List (List ℕ)) (before : Option PlainNode) (nodes : List PlainNode) → nodes_from before rows ≡ Ok nodes → SayNodes rows nodes × Follow before nodes
+rows_are [] before nodes e = subst (λ (ss : List PlainNode). SayNodes [] ss × Follow before ss) (ok_is [] nodes e) (tt, tt)
+rows_are (row ∷ rows) before nodes e =
+    let state = bind_ok (state_of_row before row) _ nodes e in
+    let others = bind_ok (nodes_from (Some state.0) rows) _ nodes state.2 in
     let here = fields_are before (fields row) state.0 state.1 in
     let later = rows_are rows (Some state.0) others.0 others.1 in
-    subst (λ (ss : List PlainNode). SayStates (row ∷ rows) ss × Follow before ss) (ok_is (state.0 ∷ others.0) states others.2) ((here.0, later.0), (here.1, later.1))
+    subst (λ (ss : List PlainNode). SayNodes (row ∷ rows) ss × Follow before ss) (ok_is (state.0 ∷ others.0) nodes others.2) ((here.0, later.0), (here.1, later.1))
 
-rows_again : (rows : List (List ℕ)) (before : Option PlainNode) (states : List PlainNode) → SayStates rows states → Follow before states → states_from before rows ≡ Ok states
+rows_again : (rows : List (List ℕ)) (before : Option PlainNode) (nodes : List PlainNode) → SayNodes rows nodes → Follow before nodes → nodes_from before rows ≡ Ok nodes
 rows_again [] before [] said follow = refl
-rows_again [] before (s ∷ states) said follow = absurd said
+rows_again [] before (s ∷ nodes) said follow = absurd said
 rows_again (row ∷ rows) before [] said follow = absurd said
-rows_again (row ∷ rows) before (s ∷ states) said follow =
-    rw (fields_again before (fields row) s said.0 follow.0, rows_again rows (Some s) states said.1 follow.1) refl
+rows_again (row ∷ rows) before (s ∷ nodes) said follow =
+    rw (fields_again before (fields row) s said.0 follow.0, rows_again rows (Some s) nodes said.1 follow.1) refl
 
 -- rows that are read from the start say their states, each a step from the one before
-pub states_are : (rows : List (List ℕ)) (states : List PlainNode) → states_from None rows ≡ Ok states → SayStates rows states × AreStateSteps states
-states_are rows states e = let each = rows_are rows None states e in (each.0, steps_are states each.1)
+pub nodes_are : (rows : List (List ℕ)) (nodes : List PlainNode) → nodes_from None rows ≡ Ok nodes → SayNodes rows nodes × AreNodeSteps nodes
+nodes_are rows nodes e = let each = rows_are rows None nodes e in (each.0, steps_are nodes each.1)
 
-pub states_again : (rows : List (List ℕ)) (states : List PlainNode) → SayStates rows states → AreStateSteps states → states_from None rows ≡ Ok states
-states_again rows states said steps = rows_again rows None states said (steps_again states steps)
+pub nodes_again : (rows : List (List ℕ)) (nodes : List PlainNode) → SayNodes rows nodes → AreNodeSteps nodes → nodes_from None rows ≡ Ok nodes
+nodes_again rows nodes said steps = rows_again rows None nodes said (steps_again nodes steps)
 
 -- a number that is not at most another lies above it
 pub above_if_not_le : (a b : ℕ) → is_le (nat_cmp a b) ≡ false → b < a

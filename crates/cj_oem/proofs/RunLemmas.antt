@@ -15,7 +15,7 @@ use Rattle.cj_oem.specs.Stages.{Body, Head, Stage, Header, Meta, Data, Cov, Open
 use Rattle.cj_oem.proofs.HeaderLemmas.{head_from}
 use Rattle.cj_oem.proofs.MatrixLemmas.{covariances_from, with_line}
 use Rattle.cj_oem.proofs.MetadataLemmas.{sheet_from}
-use Rattle.cj_oem.proofs.NodeRowLemmas.{states_from}
+use Rattle.cj_oem.proofs.NodeRowLemmas.{nodes_from}
 use Rattle.cj_oem.proofs.StateAgainLemmas.{open_segment}
 use Rattle.cj_kvn.proofs.FaultLemmas.{bind_ok}
 
@@ -59,8 +59,8 @@ run_lines as_hermite3 (line ∷ lines) stage number = run_line as_hermite3 stage
 
 -- ---- lists
 
-pub end_push : (arcs : List PlainSegment) (arc : PlainSegment) → end_of (arcs ++ arc ∷ []) ≡ arc.last
-end_push arcs arc = rw (map-append (λ (a : PlainSegment). a.last) arcs (arc ∷ []), last_push None (map (λ (a : PlainSegment). a.last) arcs) arc.last) refl
+pub end_push : (segments : List PlainSegment) (segment : PlainSegment) → end_of (segments ++ segment ∷ []) ≡ segment.last
+end_push segments segment = rw (map-append (λ (a : PlainSegment). a.last) segments (segment ∷ []), last_push None (map (λ (a : PlainSegment). a.last) segments) segment.last) refl
 
 -- ---- lines of one kind
 
@@ -80,20 +80,20 @@ run_meta as_hermite3 b (entry ∷ entries) s end rest e =
     ap (λ (r : Result MetadataDraft OemCause). (r >>= λ draft. Ok (Meta b draft)) >>= λ next. run as_hermite3 next (pair_lines entries ++ rest)) step.1
     ∙ run_meta as_hermite3 b entries step.0 end rest step.2
 
-pub run_rows : (as_hermite3 : Bool) (b : Body) (metadata : Metadata) (rows : List (List ℕ)) (states more : List PlainNode) (rest : List Form) → states_from (last_state states) rows ≡ Ok more
-    → run as_hermite3 (Data b (open_segment metadata states)) (row_lines rows ++ rest) ≡ run as_hermite3 (Data b (open_segment metadata (states ++ more))) rest
-run_rows as_hermite3 b metadata [] states more rest e =
+pub run_rows : (as_hermite3 : Bool) (b : Body) (metadata : Metadata) (rows : List (List ℕ)) (nodes more : List PlainNode) (rest : List Form) → nodes_from (last_state nodes) rows ≡ Ok more
+    → run as_hermite3 (Data b (open_segment metadata nodes)) (row_lines rows ++ rest) ≡ run as_hermite3 (Data b (open_segment metadata (nodes ++ more))) rest
+run_rows as_hermite3 b metadata [] nodes more rest e =
     let none : [] ≡ more = cc in
-    ap (λ (all : List PlainNode). run as_hermite3 (Data b (open_segment metadata all)) rest) (sym (append-nil states) ∙ ap (λ (xs : List PlainNode). states ++ xs) none)
-run_rows as_hermite3 b metadata (row ∷ rows) states more rest e =
-    let step = bind_ok (state_of_row (last_state states) row) (λ state. states_from (Some state) rows >>= λ others. Ok (state ∷ others)) more e in
+    ap (λ (all : List PlainNode). run as_hermite3 (Data b (open_segment metadata all)) rest) (sym (append-nil nodes) ∙ ap (λ (xs : List PlainNode). nodes ++ xs) none)
+run_rows as_hermite3 b metadata (row ∷ rows) nodes more rest e =
+    let step = bind_ok (state_of_row (last_state nodes) row) (λ state. nodes_from (Some state) rows >>= λ others. Ok (state ∷ others)) more e in
     let state = step.0 in
-    let later = bind_ok (states_from (Some state) rows) (λ others. Ok (state ∷ others)) more step.2 in
+    let later = bind_ok (nodes_from (Some state) rows) (λ others. Ok (state ∷ others)) more step.2 in
     let whole : state ∷ later.0 ≡ more = cc (later.2) in
-    let read : states_from (last_state (states ++ state ∷ [])) rows ≡ Ok later.0 = ap (λ (o : Option PlainNode). states_from o rows) (last_push None states state) ∙ later.1 in
-    ap (λ (r : Result PlainNode OemCause). (r >>= λ s. Ok (Data b (open_segment metadata (states ++ s ∷ [])))) >>= λ next. run as_hermite3 next (row_lines rows ++ rest)) step.1
-    ∙ run_rows as_hermite3 b metadata rows (states ++ state ∷ []) later.0 rest read
-    ∙ ap (λ (all : List PlainNode). run as_hermite3 (Data b (open_segment metadata all)) rest) (append_assoc states (state ∷ []) later.0 ∙ ap (λ (xs : List PlainNode). states ++ xs) whole)
+    let read : nodes_from (last_state (nodes ++ state ∷ [])) rows ≡ Ok later.0 = ap (λ (o : Option PlainNode). nodes_from o rows) (last_push None nodes state) ∙ later.1 in
+    ap (λ (r : Result PlainNode OemCause). (r >>= λ s. Ok (Data b (open_segment metadata (nodes ++ s ∷ [])))) >>= λ next. run as_hermite3 next (row_lines rows ++ rest)) step.1
+    ∙ run_rows as_hermite3 b metadata rows (nodes ++ state ∷ []) later.0 rest read
+    ∙ ap (λ (all : List PlainNode). run as_hermite3 (Data b (open_segment metadata all)) rest) (append_assoc nodes (state ∷ []) later.0 ∙ ap (λ (xs : List PlainNode). nodes ++ xs) whole)
 
 run_covariance : (as_hermite3 : Bool) (b : Body) (s : OpenSegment) (line : Form) (m next : Covariances) (rest : List Form) → with_line m line ≡ Ok next
     → run as_hermite3 (Cov b s m) (line ∷ rest) ≡ run as_hermite3 (Cov b s next) rest

@@ -44,7 +44,7 @@ pub record IsState (s : PlainNode) : Type 0 where
 -- each state follows the one before
 abbrev pub Follow : Option PlainNode → List PlainNode → Type 0
 Follow before [] = Unit {0}
-Follow before (s ∷ states) = (following before s ≡ Ok s) × Follow (Some s) states
+Follow before (s ∷ nodes) = (following before s ≡ Ok s) × Follow (Some s) nodes
 
 -- ---- the fields of a row
 
@@ -133,22 +133,22 @@ state_told s is =
 
 -- an open segment with its states
 abbrev pub open_segment : Metadata → List PlainNode → OpenSegment
-open_segment metadata states = record { metadata = metadata; states = states }
+open_segment metadata nodes = record { metadata = metadata; nodes = nodes }
 
 state_follows : (b : Body) (metadata : Metadata) (front : List PlainNode) (s : PlainNode) → IsState s → following (last_state front) s ≡ Ok s
     → follows false (Data b (open_segment metadata front)) (Row (row_content s)) ≡ Ok (Data b (open_segment metadata (front ++ s ∷ [])))
 unfolding follows
 state_follows b metadata front s is follows_on = rw (row_again (last_state front) s is follows_on) refl
 
-pub states_walk : (b : Body) (metadata : Metadata) (front states : List PlainNode) → All IsState states → Follow (last_state front) states
-    → walk (Data b (open_segment metadata front)) (flat_map state_forms states) ≡ Ok (Data b (open_segment metadata (front ++ states)))
-states_walk b metadata front [] all follow = ap (λ ss. Ok (Data b (open_segment metadata ss))) (sym (append-nil front))
-states_walk b metadata front (s ∷ states) all follow =
+pub nodes_walk : (b : Body) (metadata : Metadata) (front nodes : List PlainNode) → All IsState nodes → Follow (last_state front) nodes
+    → walk (Data b (open_segment metadata front)) (flat_map state_forms nodes) ≡ Ok (Data b (open_segment metadata (front ++ nodes)))
+nodes_walk b metadata front [] all follow = ap (λ ss. Ok (Data b (open_segment metadata ss))) (sym (append-nil front))
+nodes_walk b metadata front (s ∷ nodes) all follow =
     let next = front ++ s ∷ [] in
-    walk_step (Data b (open_segment metadata front)) (Data b (open_segment metadata next)) (Row (row_content s)) (flat_map state_forms states)
-    (state_follows b metadata front s (All-head IsState s states all) follow.0)
-    ∙ states_walk b metadata next states (All-tail IsState s states all) (subst (λ o. Follow o states) (sym (last_push None front s)) follow.1)
-    ∙ ap (λ ss. Ok (Data b (open_segment metadata ss))) (append_assoc front (s ∷ []) states)
+    walk_step (Data b (open_segment metadata front)) (Data b (open_segment metadata next)) (Row (row_content s)) (flat_map state_forms nodes)
+    (state_follows b metadata front s (All-head IsState s nodes all) follow.0)
+    ∙ nodes_walk b metadata next nodes (All-tail IsState s nodes all) (subst (λ o. Follow o nodes) (sym (last_push None front s)) follow.1)
+    ∙ ap (λ ss. Ok (Data b (open_segment metadata ss))) (append_assoc front (s ∷ []) nodes)
 
 -- ---- epochs as values
 

@@ -27,7 +27,7 @@ use Rattle.cj_track.specs.Tracks.{plain_segment, plain_matrix, plain_track, plai
 use Rattle.cj_track.specs.Useable.{LiesWithin, last_tick}
 use Rattle.cj_oem.proofs.AgainLemmas.{IsWritten}
 use Rattle.cj_oem.proofs.CovarianceAgainLemmas.{IsCovariance, IsPrinted}
-use Rattle.cj_oem.proofs.SegmentAgainLemmas.{IsArc, Later}
+use Rattle.cj_oem.proofs.SegmentAgainLemmas.{IsSegment, Later}
 use Rattle.cj_oem.proofs.StateAgainLemmas.{Follow, IsState}
 
 -- a rule of the elements is one of what they are seen as
@@ -110,11 +110,11 @@ useable_in first last (a ∷ nodes) some enough within = useable_to first last (
 abbrev pub Keeps : Segment → Type 0
 Keeps s = AreNodes s.nodes × All (λ m. length m.values ≡ 21) s.matrices
 
-segment_read : (s : Segment) → Keeps s → IsArc (plain_segment s)
+segment_read : (s : Segment) → Keeps s → IsSegment (plain_segment s)
 segment_read s keeps = record {
   first = s.first.in_range;
   last = s.last.in_range;
-  states = all_of IsState plain_node node_read s.nodes;
+  nodes = all_of IsState plain_node node_read s.nodes;
   steps = nodes_follow s.nodes keeps.0.steps;
   enough = omega (arith, s.enough, length-map s.nodes plain_node);
   useable = useable_in s.first.micros s.last.micros s.nodes s.some s.enough s.within;
@@ -135,6 +135,6 @@ track_written t segments keeps = record {
   name = t.named;
   id = t.designated;
   some = omega (arith, segments.some, length-map t.segments plain_segment);
-  arcs = all_seen Keeps IsArc plain_segment segment_read t.segments keeps;
+  segments = all_seen Keeps IsSegment plain_segment segment_read t.segments keeps;
   order = all_in_order t.segments segments.order;
 }

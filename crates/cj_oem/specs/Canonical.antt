@@ -50,15 +50,15 @@ covariances_text (c ∷ cs) = line (codes "COVARIANCE_START") ++ flat_map covari
 
 -- the metadata of a segment
 unfoldable pub metadata_text : PlainTrack → PlainSegment → List ℕ
-metadata_text e arc =
+metadata_text e segment =
     line (codes "META_START") ++ entry (codes "OBJECT_NAME") e.name ++ entry (codes "OBJECT_ID") e.id
     ++ entry (codes "CENTER_NAME") (codes "EARTH") ++ entry (codes "REF_FRAME") (frame_text e.frame) ++ entry (codes "TIME_SYSTEM") (codes "UTC")
-    ++ entry (codes "START_TIME") (epoch_of arc.first) ++ entry (codes "STOP_TIME") (epoch_of arc.last)
+    ++ entry (codes "START_TIME") (epoch_of segment.first) ++ entry (codes "STOP_TIME") (epoch_of segment.last)
     ++ entry (codes "INTERPOLATION") (codes "HERMITE") ++ entry (codes "INTERPOLATION_DEGREE") (codes "3") ++ line (codes "META_STOP")
 
 -- a segment: its metadata, its nodes, its covariances
 unfoldable pub segment_text : PlainTrack → PlainSegment → List ℕ
-segment_text e arc = metadata_text e arc ++ flat_map row_text arc.states ++ covariances_text arc.covariances
+segment_text e segment = metadata_text e segment ++ flat_map row_text segment.nodes ++ covariances_text segment.covariances
 
 -- the header
 unfoldable pub header_text : List ℕ
@@ -67,4 +67,4 @@ header_text =
 
 -- the whole text
 unfoldable pub text_of : PlainTrack → List ℕ
-text_of e = header_text ++ flat_map (segment_text e) e.arcs
+text_of e = header_text ++ flat_map (segment_text e) e.segments

@@ -12,7 +12,7 @@ use Rattle.cj_kvn.specs.Faults.{◌>>=◌}
 use Rattle.cj_oem.specs.Metadata.{unless, parse_epoch}
 
 -- a matrix so far: its epoch, whether its frame was given and is RTN, how many rows were read, their values
-pub record Draft : Type 0 where
+pub record CovarianceDraft : Type 0 where
   pub at : ℕ
   pub framed : Bool
   pub rtn : Bool
@@ -22,17 +22,17 @@ pub record Draft : Type 0 where
 -- the covariances of a segment so far: those that are whole and in RTN, and the one that is being read
 pub record Covariances : Type 0 where
   pub whole : List PlainMatrix
-  pub draft : Option Draft
+  pub draft : Option CovarianceDraft
 
 abbrev pub NO_COVARIANCES : Covariances
 NO_COVARIANCES = record { whole = []; draft = None }
 
 -- a whole matrix stands behind the others, where its frame is RTN
-abbrev pub with_whole : List PlainMatrix → Draft → List PlainMatrix
+abbrev pub with_whole : List PlainMatrix → CovarianceDraft → List PlainMatrix
 with_whole whole d = if d.rtn then whole ++ record { at = d.at; values = d.values } ∷ [] else whole
 
 -- the matrices where the last one has its six rows
-abbrev pub closed_with : List PlainMatrix → Option Draft → Result (List PlainMatrix) OemCause
+abbrev pub closed_with : List PlainMatrix → Option CovarianceDraft → Result (List PlainMatrix) OemCause
 closed_with whole None = Ok whole
 closed_with whole (Some d) = if d.rows == 6 then Ok (with_whole whole d) else Err causes.MatrixForm
 
@@ -47,7 +47,7 @@ with_epoch m value = do
   Ok (record { whole = whole; draft = Some (record { at = at; framed = false; rtn = false; rows = 0; values = [] }) })
 
 -- the frame of a matrix that has no row
-abbrev pub with_frame : Option Draft → List ℕ → Result Draft OemCause
+abbrev pub with_frame : Option CovarianceDraft → List ℕ → Result CovarianceDraft OemCause
 with_frame None value = Err causes.MatrixForm
 with_frame (Some d) value =
     if d.framed || nat_lt 0 d.rows then Err causes.MatrixForm
@@ -73,7 +73,7 @@ numbers_said (text ∷ row) = do
   Ok (n ∷ others)
 
 -- a matrix with its next row, which has one field more than the row before
-abbrev pub with_fields : Option Draft → List (List ℕ) → Result Draft OemCause
+abbrev pub with_fields : Option CovarianceDraft → List (List ℕ) → Result CovarianceDraft OemCause
 with_fields None row = Err causes.MatrixForm
 with_fields (Some d) row = do
   _ ← unless ((d.rows == 6) || not (length row == d.rows + 1)) causes.MatrixForm

@@ -121,29 +121,29 @@ pub record IsNodeRow (row : List (List ℕ)) (state : PlainNode) : Type 0 where
   pub accelerations : All (λ text. IsOk (decimal_of text)) (drop 7 row)
 
 -- each row says its state
-abbrev pub SayStates : List (List ℕ) → List PlainNode → Type 0
-SayStates [] [] = Unit {0}
-SayStates [] (state ∷ states) = ⊥
-SayStates (row ∷ rows) [] = ⊥
-SayStates (row ∷ rows) (state ∷ states) = IsNodeRow (fields row) state × SayStates rows states
+abbrev pub SayNodes : List (List ℕ) → List PlainNode → Type 0
+SayNodes [] [] = Unit {0}
+SayNodes [] (state ∷ nodes) = ⊥
+SayNodes (row ∷ rows) [] = ⊥
+SayNodes (row ∷ rows) (state ∷ nodes) = IsNodeRow (fields row) state × SayNodes rows nodes
 
 -- the second state comes after the first, at most an hour later, with no leap second between
-pub record IsStateStep (a b : PlainNode) : Type 0 where
+pub record IsNodeStep (a b : PlainNode) : Type 0 where
   pub rises : a.at < b.at
   pub short : b.at ≤ a.at + MAX_STEP
   pub steady : leap_lies_between a.at b.at ≡ false
 
 -- each state is a step from the one before
-abbrev pub AreStateSteps : List PlainNode → Type 0
-AreStateSteps [] = Unit {0}
-AreStateSteps (a ∷ []) = Unit {0}
-AreStateSteps (a ∷ b ∷ states) = IsStateStep a b × AreStateSteps (b ∷ states)
+abbrev pub AreNodeSteps : List PlainNode → Type 0
+AreNodeSteps [] = Unit {0}
+AreNodeSteps (a ∷ []) = Unit {0}
+AreNodeSteps (a ∷ b ∷ nodes) = IsNodeStep a b × AreNodeSteps (b ∷ nodes)
 
 -- the useable span is not empty, and lies from the first state to the last
-pub record IsUseable (first last : ℕ) (states : List PlainNode) : Type 0 where
+pub record IsUseable (first last : ℕ) (nodes : List PlainNode) : Type 0 where
   pub some : first ≤ last
-  pub after : IsSomeAnd (first_state states) (λ state. state.at ≤ first)
-  pub before : IsSomeAnd (last_state states) (λ state. last ≤ state.at)
+  pub after : IsSomeAnd (first_state nodes) (λ state. state.at ≤ first)
+  pub before : IsSomeAnd (last_state nodes) (λ state. last ≤ state.at)
 
 -- ---- covariances
 
@@ -187,24 +187,24 @@ pub record HasNoCovariances (lines : List Form) (covariances : List PlainMatrix)
 -- ---- blocks
 
 -- a block says a segment of the object, useable from this tick on: metadata between marks, rows of nodes, perhaps covariances
-pub record IsBlock (as_hermite3 : Bool) (object : Object) (from : ℕ) (lines : List Form) (arc : PlainSegment) : Type 0 where
+pub record IsBlock (as_hermite3 : Bool) (object : Object) (from : ℕ) (lines : List Form) (segment : PlainSegment) : Type 0 where
   pub entries : List Entry
   pub rows : List (List ℕ)
   pub rest : List Form
   pub shape : lines ≡ Mark MetaStart ∷ pair_lines entries ++ Mark MetaStop ∷ row_lines rows ++ rest
-  pub metadata : IsMetadata as_hermite3 entries object arc.first arc.last
-  pub states : SayStates rows arc.states
-  pub steps : AreStateSteps arc.states
-  pub enough : 2 ≤ length arc.states
-  pub useable : IsUseable arc.first arc.last arc.states
-  pub later : from ≤ arc.first
-  pub covariances : AreCovariances rest arc.covariances ⊎ HasNoCovariances rest arc.covariances
+  pub metadata : IsMetadata as_hermite3 entries object segment.first segment.last
+  pub nodes : SayNodes rows segment.nodes
+  pub steps : AreNodeSteps segment.nodes
+  pub enough : 2 ≤ length segment.nodes
+  pub useable : IsUseable segment.first segment.last segment.nodes
+  pub later : from ≤ segment.first
+  pub covariances : AreCovariances rest segment.covariances ⊎ HasNoCovariances rest segment.covariances
 
 -- blocks of one object, each useable from where the one before ends
 pub data AreBlocks (as_hermite3 : Bool) (object : Object) : ℕ → List Form → List PlainSegment → Type 0 where
-  last : (from : ℕ) (lines : List Form) (arc : PlainSegment) → IsBlock as_hermite3 object from lines arc → AreBlocks as_hermite3 object from lines (arc ∷ [])
-  more : (from : ℕ) (lines rest : List Form) (arc : PlainSegment) (arcs : List PlainSegment) → IsBlock as_hermite3 object from lines arc →
-      AreBlocks as_hermite3 object arc.last rest arcs → AreBlocks as_hermite3 object from (lines ++ rest) (arc ∷ arcs)
+  last : (from : ℕ) (lines : List Form) (segment : PlainSegment) → IsBlock as_hermite3 object from lines segment → AreBlocks as_hermite3 object from lines (segment ∷ [])
+  more : (from : ℕ) (lines rest : List Form) (segment : PlainSegment) (segments : List PlainSegment) → IsBlock as_hermite3 object from lines segment →
+      AreBlocks as_hermite3 object segment.last rest segments → AreBlocks as_hermite3 object from (lines ++ rest) (segment ∷ segments)
 
 -- ---- files
 
@@ -216,7 +216,7 @@ pub record IsFile (as_hermite3 : Bool) (lines : List Form) (e : PlainTrack) : Ty
   pub shape : lines ≡ Pair (codes "CCSDS_OEM_VERS") version ∷ pair_lines entries ++ blocks
   pub known : IsVersion version
   pub header : IsHeader entries
-  pub segments : AreBlocks as_hermite3 (record { name = e.name; id = e.id; frame = e.frame }) 0 blocks e.arcs
+  pub segments : AreBlocks as_hermite3 (record { name = e.name; id = e.id; frame = e.frame }) 0 blocks e.segments
 
 -- the bytes of the file with this name say the ephemeris
 pub record Says (as_hermite3 : Bool) (file bytes : List ℕ) (e : PlainTrack) : Type 0 where

@@ -15,10 +15,10 @@ abbrev pub head_of : Head → spec.Head
 head_of h = record { date = h.date; originator = h.originator; classification = h.classification; message = h.message }
 
 abbrev pub body_of : Body → spec.Body
-body_of body = record { object = option_map object_of body.object; arcs = map plain_segment body.segments }
+body_of body = record { object = option_map object_of body.object; segments = map plain_segment body.segments }
 
 abbrev pub open_segment_of : OpenSegment → spec.OpenSegment
-open_segment_of open_segment = record { metadata = metadata_of open_segment.metadata; states = map plain_node open_segment.nodes }
+open_segment_of open_segment = record { metadata = metadata_of open_segment.metadata; nodes = map plain_node open_segment.nodes }
 
 abbrev pub stage_of : Stage → spec.Stage
 stage_of stages.Start = spec.Start

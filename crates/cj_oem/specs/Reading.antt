@@ -29,7 +29,7 @@ read_on as_hermite3 stage number (line ∷ lines) = at_line line.number (follows
 -- the object with its segments
 abbrev pub with_object : List ℕ → Body → Option Object → Result PlainTrack Fault
 with_object file body None = Err (record { line = 0; cause = causes.Missing })
-with_object file body (Some o) = Ok (record { file = file; name = o.name; id = o.id; frame = o.frame; arcs = body.arcs })
+with_object file body (Some o) = Ok (record { file = file; name = o.name; id = o.id; frame = o.frame; segments = body.segments })
 
 -- what the lines of the file with this name say
 unfoldable pub lines_read : Bool → List ℕ → List Numbered → Result PlainTrack Fault

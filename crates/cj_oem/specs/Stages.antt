@@ -26,15 +26,15 @@ NO_HEAD = record { date = false; originator = false; classification = false; mes
 -- the object, where a segment has named it, and the segments that are whole
 pub record Body : Type 0 where
   pub object : Option Object
-  pub arcs : List PlainSegment
+  pub segments : List PlainSegment
 
 abbrev pub NO_BODY : Body
-NO_BODY = record { object = None; arcs = [] }
+NO_BODY = record { object = None; segments = [] }
 
 -- a segment so far: what its metadata says, and its states
 pub record OpenSegment : Type 0 where
   pub metadata : Metadata
-  pub states : List PlainNode
+  pub nodes : List PlainNode
 
 -- where a reader stands
 pub data Stage : Type 0 where
@@ -81,7 +81,7 @@ in_header h form = Err causes.Order
 
 abbrev pub in_meta : Bool → Body → MetadataDraft → Form → Result Stage OemCause
 in_meta as_hermite3 b s (Pair key value) = with_pair b.object s key value >>= λ draft. Ok (Meta b draft)
-in_meta as_hermite3 b s (Mark MetaStop) = metadata_of as_hermite3 s >>= λ metadata. Ok (Data b (record { metadata = metadata; states = [] }))
+in_meta as_hermite3 b s (Mark MetaStop) = metadata_of as_hermite3 s >>= λ metadata. Ok (Data b (record { metadata = metadata; nodes = [] }))
 in_meta as_hermite3 b s form = Err causes.Order
 
 -- ---- nodes
@@ -94,25 +94,25 @@ is_useable first last (Some a) (Some z) = nat_le first last && nat_le a.at first
 
 -- the tick up to which the segments before are useable
 abbrev pub end_of : List PlainSegment → ℕ
-end_of arcs = unwrap_or (last_or None (map (λ arc. arc.last) arcs)) 0
+end_of segments = unwrap_or (last_or None (map (λ segment. segment.last) segments)) 0
 
 -- the nodes of a segment are closed
 unfoldable pub close_nodes : Body → OpenSegment → Result (Unit {0}) OemCause
 close_nodes b s = do
-  _ ← unless (nat_lt (length s.states) 2) causes.TooFewNodes
-  _ ← unless (not (is_useable s.metadata.first s.metadata.last (first_state s.states) (last_state s.states))) causes.UseableSpan
-  unless (nat_lt s.metadata.first (end_of b.arcs)) causes.SegmentsOverlap
+  _ ← unless (nat_lt (length s.nodes) 2) causes.TooFewNodes
+  _ ← unless (not (is_useable s.metadata.first s.metadata.last (first_state s.nodes) (last_state s.nodes))) causes.UseableSpan
+  unless (nat_lt s.metadata.first (end_of b.segments)) causes.SegmentsOverlap
 
 -- the segments with a further one
-abbrev pub with_arc : Body → OpenSegment → List PlainMatrix → Body
-with_arc b s covariances = record {
+abbrev pub with_segment : Body → OpenSegment → List PlainMatrix → Body
+with_segment b s covariances = record {
   object = Some s.metadata.object;
-  arcs = b.arcs ++ record { first = s.metadata.first; last = s.metadata.last; states = s.states; covariances = covariances } ∷ [];
+  segments = b.segments ++ record { first = s.metadata.first; last = s.metadata.last; nodes = s.nodes; covariances = covariances } ∷ [];
 }
 
 abbrev pub in_data : Body → OpenSegment → Form → Result Stage OemCause
-in_data b s (Row text) = state_of_row (last_state s.states) text >>= λ state. Ok (Data b (record s { states = s.states ++ state ∷ [] }))
-in_data b s (Mark MetaStart) = close_nodes b s >>= λ _. Ok (Meta (with_arc b s []) EMPTY)
+in_data b s (Row text) = state_of_row (last_state s.nodes) text >>= λ state. Ok (Data b (record s { nodes = s.nodes ++ state ∷ [] }))
+in_data b s (Mark MetaStart) = close_nodes b s >>= λ _. Ok (Meta (with_segment b s []) EMPTY)
 in_data b s (Mark CovarianceStart) = close_nodes b s >>= λ _. Ok (Cov b s NO_COVARIANCES)
 in_data b s form = Err causes.Order
 
@@ -121,7 +121,7 @@ in_data b s form = Err causes.Order
 abbrev pub in_cov : Body → OpenSegment → Covariances → Form → Result Stage OemCause
 in_cov b s m (Pair key value) = with_matrix_pair m key value >>= λ m. Ok (Cov b s m)
 in_cov b s m (Row text) = with_matrix_row m text >>= λ m. Ok (Cov b s m)
-in_cov b s m (Mark CovarianceStop) = closed m >>= λ covariances. Ok (After (with_arc b s covariances))
+in_cov b s m (Mark CovarianceStop) = closed m >>= λ covariances. Ok (After (with_segment b s covariances))
 in_cov b s m form = Err causes.Order
 
 abbrev pub in_after : Body → Form → Result Stage OemCause
@@ -152,6 +152,6 @@ unfoldable pub finished : Stage → Result Body OemCause
 finished Start = Err causes.Missing
 finished (Header h) = Err causes.Missing
 finished (Meta b s) = Err causes.Missing
-finished (Data b s) = close_nodes b s >>= λ _. Ok (with_arc b s [])
+finished (Data b s) = close_nodes b s >>= λ _. Ok (with_segment b s [])
 finished (Cov b s m) = Err causes.Missing
 finished (After b) = Ok b

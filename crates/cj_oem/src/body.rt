@@ -37,7 +37,7 @@ pub(crate) struct OpenSegment {
 
 impl OpenSegment {
     pub(crate) fn new(alloc: Global, metadata: Metadata) -> Self
-        ensures { open_segment_of result ≡ record { metadata = metadata_of metadata; states = [] } }
+        ensures { open_segment_of result ≡ record { metadata = metadata_of metadata; nodes = [] } }
     {
         OpenSegment {
             metadata,

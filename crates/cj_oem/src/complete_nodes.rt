@@ -43,7 +43,7 @@ impl CompleteNodes {
 
     /// The segments with this one, which has these covariances.
     pub(crate) fn with(self, covariances: Vec<Matrix>) -> Result<Body, AllocError>
-        ensures { IfOk result (λ body. body_of body ≡ spec.with_arc (body_of self.body) (open_segment_of self.open_segment) (map plain_matrix covariances.items)) }
+        ensures { IfOk result (λ body. body_of body ≡ spec.with_segment (body_of self.body) (open_segment_of self.open_segment) (map plain_matrix covariances.items)) }
     {
         let CompleteNodes { body, open_segment } = self;
         drop(body.object);

@@ -3,7 +3,7 @@ ghost use Rattle.std.specs.Prelude.{◌≡◌, ◌^◌, ◌<◌, length, map};
 ghost use Rattle.cj_kvn.specs.Ranges.{IsWithin, text_at};
 ghost use Rattle.cj_kvn.specs.Faults.{Follows, Tells};
 
-use crate::draft::Draft;
+use crate::draft::CovarianceDraft;
 use crate::word::parse_epoch;
 use cj_causes::OemCause;
 use cj_kvn::{Range32, Refused};
@@ -14,7 +14,7 @@ use std::alloc::Global;
 #[derive(Drop)]
 pub(crate) struct Covariances {
     whole: Vec<Matrix>,
-    draft: Option<Draft>,
+    draft: Option<CovarianceDraft>,
 }
 
 impl Covariances {
@@ -95,7 +95,7 @@ impl Covariances {
     {
         self.finish()?;
         let at = parse_epoch(value)?;
-        self.draft = Some(Draft::new(at));
+        self.draft = Some(CovarianceDraft::new(at));
         Ok(())
     }
 

@@ -15,7 +15,7 @@ use cj_values::Decimal;
 /// A matrix that is being read: its epoch, whether its frame was given and is RTN, how many of its six rows were read, and their
 /// values, row by row.
 #[derive(Clone, Copy)]
-pub(crate) struct Draft {
+pub(crate) struct CovarianceDraft {
     pub(crate) at: Tick,
     pub(crate) framed: bool,
     pub(crate) rtn: bool,
@@ -25,7 +25,7 @@ pub(crate) struct Draft {
     pub(crate) ghost readable: { All (λ d. IsReadable (number_of d)) values },
 }
 
-impl Draft {
+impl CovarianceDraft {
     ghost use Rattle.std.specs.Prelude.{◌≡◌, ◌^◌, ◌<◌, length, Some};
     ghost use Rattle.cj_kvn.specs.Fields.{fields};
     ghost use Rattle.cj_kvn.specs.Ranges.{IsWithin, text_at};
@@ -35,11 +35,11 @@ impl Draft {
     ghost use Rattle.cj_track.specs.Tracks.{plain_matrix};
 
     /// A matrix of which only the epoch was read.
-    pub(crate) fn new(at: Tick) -> Draft
+    pub(crate) fn new(at: Tick) -> CovarianceDraft
         ensures { draft_of result ≡ begun at.micros }
     {
         let values = [Decimal::ZERO; 21];
-        Draft {
+        CovarianceDraft {
             at,
             framed: false,
             rtn: false,
@@ -49,14 +49,14 @@ impl Draft {
     }
 
     /// The matrix with its frame, which is given once and before the first row.
-    pub(crate) fn with_frame(self, value: &[u8]) -> Result<Draft, OemCause>
+    pub(crate) fn with_frame(self, value: &[u8]) -> Result<CovarianceDraft, OemCause>
         ensures { Tells draft_of result (spec.with_frame (Some (draft_of self)) value.now) }
     {
         if self.framed || 0 < self.rows {
             return Err(OemCause::MatrixForm);
         }
         let values = self.values;
-        Ok(Draft {
+        Ok(CovarianceDraft {
             at: self.at,
             framed: true,
             rtn: is_word(b"RTN", value),
@@ -66,7 +66,7 @@ impl Draft {
     }
 
     /// The matrix with its next row.
-    pub(crate) fn with_row(self, bytes: &[u8], text: Range32) -> Result<Draft, OemCause>
+    pub(crate) fn with_row(self, bytes: &[u8], text: Range32) -> Result<CovarianceDraft, OemCause>
         requires within { IsWithin bytes.now text }
         requires short { length bytes.now < 2 ^ 32 }
         ensures { Tells draft_of result (spec.with_fields (Some (draft_of self)) (fields (text_at bytes.now text))) }
@@ -78,7 +78,7 @@ impl Draft {
         let first = (self.rows * (self.rows + 1) / 2) as usize;
         let past = first + self.rows as usize + 1;
         read_numbers(bytes, text, &mut values[first..past])?;
-        Ok(Draft {
+        Ok(CovarianceDraft {
             at: self.at,
             framed: self.framed,
             rtn: self.rtn,

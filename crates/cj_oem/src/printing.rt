@@ -8,13 +8,13 @@ ghost use Rattle.cj_track.specs.Tracks.{plain_segment, plain_track};
 mod covariances;
 mod figures;
 mod metadata;
-mod states;
+mod nodes;
 
 use cj_kvn::push_entry;
 use cj_track::{Segment, Track};
 use covariances::push_covariances;
 use metadata::push_metadata;
-use states::push_states;
+use nodes::push_nodes;
 use std::alloc::{AllocError, Global};
 
 /// The track as a file: places in km and rates in km/s with twelve decimals, epochs with six, one space between the fields of
@@ -65,6 +65,6 @@ fn push_segment(text: &mut Vec<u8>, track: &Track, segment: &Segment) -> Result<
     ensures matrices { OnOk result (All (λ m. length m.values ≡ 21) segment.now.matrices) }
 {
     push_metadata(text, track, segment)?;
-    push_states(text, segment.nodes.as_slice())?;
+    push_nodes(text, segment.nodes.as_slice())?;
     push_covariances(text, segment.matrices.as_slice())
 }

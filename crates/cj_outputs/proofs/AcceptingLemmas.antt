@@ -47,24 +47,24 @@ refused_so case bytes certificate failure said some = rw (said, some) refl
 
 -- ---- what comes of a certificate that is accepted for its inputs
 
-abbrev pieces_from : (PlainInputs → PlainCertificate → Result (List FileBytes) Status) → Result PlainInputs Status → Result (List FileBytes) Status
-pieces_from pieces inputs = inputs >>= λ i. accepting i.case i.bytes >>= λ certificate. pieces i certificate
+abbrev outputs_from : (PlainInputs → PlainCertificate → Result (List FileBytes) Status) → Result PlainInputs Status → Result (List FileBytes) Status
+outputs_from outputs inputs = inputs >>= λ i. accepting i.case i.bytes >>= λ certificate. outputs i certificate
 
 -- the inputs are not there
-pub unprepared : (pieces : PlainInputs → PlainCertificate → Result (List FileBytes) Status) (read : Type 0) (s : Status) (inputs : Result PlainInputs Status)
-    → Stops read s inputs → Stops read s (pieces_from pieces inputs)
-unprepared pieces read s inputs stops = stops_then read s inputs (λ i. accepting i.case i.bytes >>= λ certificate. pieces i certificate) stops
+pub unprepared : (outputs : PlainInputs → PlainCertificate → Result (List FileBytes) Status) (read : Type 0) (s : Status) (inputs : Result PlainInputs Status)
+    → Stops read s inputs → Stops read s (outputs_from outputs inputs)
+unprepared outputs read s inputs stops = stops_then read s inputs (λ i. accepting i.case i.bytes >>= λ certificate. outputs i certificate) stops
 
 -- the certificate is not accepted
-pub unaccepted : (pieces : PlainInputs → PlainCertificate → Result (List FileBytes) Status) (read : Type 0) (s : Status) (inputs : Result PlainInputs Status)
-    (i : PlainInputs) → inputs ≡ Ok i → Stops ⊥ s (accepting i.case i.bytes) → Stops read s (pieces_from pieces inputs)
-unaccepted pieces read s inputs i there stops =
-    subst (λ (r : Result PlainInputs Status). Stops read s (pieces_from pieces r)) (sym there)
-    (stops_then read s (accepting i.case i.bytes) (λ certificate. pieces i certificate)
+pub unaccepted : (outputs : PlainInputs → PlainCertificate → Result (List FileBytes) Status) (read : Type 0) (s : Status) (inputs : Result PlainInputs Status)
+    (i : PlainInputs) → inputs ≡ Ok i → Stops ⊥ s (accepting i.case i.bytes) → Stops read s (outputs_from outputs inputs)
+unaccepted outputs read s inputs i there stops =
+    subst (λ (r : Result PlainInputs Status). Stops read s (outputs_from outputs r)) (sym there)
+    (stops_then read s (accepting i.case i.bytes) (λ certificate. outputs i certificate)
     (stops_wider ⊥ read s (accepting i.case i.bytes) (λ none. absurd none) stops))
 
 -- it is
-pub pieces_made_from : (pieces : PlainInputs → PlainCertificate → Result (List FileBytes) Status) (inputs : Result PlainInputs Status) (i : PlainInputs)
-    (certificate : PlainCertificate) → inputs ≡ Ok i → accepting i.case i.bytes ≡ Ok certificate → pieces_from pieces inputs ≡ pieces i certificate
-pieces_made_from pieces inputs i certificate there accepted =
-    ap (pieces_from pieces) there ∙ ap (λ (r : Result PlainCertificate Status). r >>= λ c. pieces i c) accepted
+pub outputs_made_from : (outputs : PlainInputs → PlainCertificate → Result (List FileBytes) Status) (inputs : Result PlainInputs Status) (i : PlainInputs)
+    (certificate : PlainCertificate) → inputs ≡ Ok i → accepting i.case i.bytes ≡ Ok certificate → outputs_from outputs inputs ≡ outputs i certificate
+outputs_made_from outputs inputs i certificate there accepted =
+    ap (outputs_from outputs) there ∙ ap (λ (r : Result PlainCertificate Status). r >>= λ c. outputs i c) accepted

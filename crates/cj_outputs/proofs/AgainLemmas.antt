@@ -12,7 +12,7 @@ use Rattle.std.proofs.lemmas.List.{length-map}
 use Rattle.std.proofs.lemmas.Slice.Eq.{bytes_eq-Decides}
 use Rattle.cj_io.specs.declared.file.FileBytes.{FileBytes}
 use Rattle.cj_io.specs.Files.{bytes_of, names_of}
-use Rattle.cj_words.specs.Settings.{Asked}
+use Rattle.cj_words.specs.Settings.{PlainSettings}
 use Rattle.cj_track.specs.PlainTracks.{PlainTrack}
 use Rattle.cj_hermite.specs.PlainProblems.{PlainProblem}
 use Rattle.cj_status.specs.declared.status.Status.{Status}
@@ -29,7 +29,7 @@ use Rattle.cj_inputs.specs.ObjectSizes.{first_named, sizes_asked, sizes_at, size
 use Rattle.cj_inputs.specs.Orders.{inserted, sorted}
 use Rattle.cj_inputs.specs.Readings.{checked_after, reading_after, reading_of, readings_after, readings_of, within}
 use Rattle.cj_outputs.specs.Again.{HoldAlso, IsNoInput, has_name, without_name}
-use Rattle.cj_outputs.specs.Outcome.{piece}
+use Rattle.cj_outputs.specs.Outcome.{output}
 
 -- ---- files that are told by their names
 
@@ -120,7 +120,7 @@ sizes_again (Some own) name files later other others =
 
 -- the file of an entry
 abbrev file_of : List FileBytes → Entry → FileBytes
-file_of all entry = piece entry.name (bytes_of all entry.number)
+file_of all entry = output entry.name (bytes_of all entry.number)
 
 abbrev by_name : FileBytes → FileBytes → Ordering
 by_name a b = slice_cmp nat_cmp a.name b.name
@@ -197,7 +197,7 @@ sorted_from suffix sizes all number (file ∷ files) stand =
         ≡ sorted by_name (cond b (file ∷ filter (takes suffix sizes) files) (filter (takes suffix sizes) files))
     chosen true rest =
         let greater = numbers_behind suffix sizes number (number + 1) (names_of files) (omega arith) in
-        let here : file_of all entry ≡ file = ap (piece file.name) (stands_first all number file files stand) in
+        let here : file_of all entry ≡ file = ap (output file.name) (stands_first all number file files stand) in
         inserted_again all entry (sorted entry_cmp behind) (all_sorted (λ (y : Entry). number < y.number) entry_cmp behind greater)
         ∙ (λ i. inserted by_name (here i) (rest i))
     chosen false rest = rest
@@ -208,7 +208,7 @@ unfolding inputs_of
 files_taken suffix sizes files = sorted_from suffix sizes files 0 files (stand_all files)
 
 -- a file of a name that is no input's is not taken
-none_taken : (settings : Asked) (name : List ℕ) (files later : List FileBytes) → IsNoInput settings name → without_name name later ≡ without_name name files
+none_taken : (settings : PlainSettings) (name : List ℕ) (files later : List FileBytes) → IsNoInput settings name → without_name name later ≡ without_name name files
     → filter (takes settings.suffix settings.sizes) later ≡ filter (takes settings.suffix settings.sizes) files
 none_taken settings name files later apart others = passing_alike (takes settings.suffix settings.sizes) name files later fails others
   where
@@ -218,12 +218,12 @@ none_taken settings name files later apart others = passing_alike (takes setting
 
 -- ---- what they are read as
 
-abbrev files_after : Asked → List PlainTrack → List FileBytes → Result (List PlainTrack) Status
+abbrev files_after : PlainSettings → List PlainTrack → List FileBytes → Result (List PlainTrack) Status
 files_after settings before [] = Ok before
 files_after settings before (file ∷ files) =
     (reading_of settings.as_hermite3 file.name file.bytes >>= checked_after settings.limits.nodes before file.name) >>= λ e. files_after settings (before ++ e ∷ []) files
 
-readings_by_files : (settings : Asked) (all : List FileBytes) (before : List PlainTrack) (entries : List Entry)
+readings_by_files : (settings : PlainSettings) (all : List FileBytes) (before : List PlainTrack) (entries : List Entry)
     → readings_after settings all before entries ≡ files_after settings before (map (file_of all) entries)
 readings_by_files settings all before [] = refl
 readings_by_files settings all before (entry ∷ entries) =
@@ -243,7 +243,7 @@ abbrev within_files : ℕ → List FileBytes → Result (List FileBytes) Status
 within_files most files = if nat_le (length files) most then Ok files else Err (status.Limit (Objects (length files)))
 
 -- the case that is made of the files that are taken, in order, and of sizes
-abbrev case_in : {S : Type 0} → (List PlainTrack → S → PlainProblem) → Asked → List FileBytes → Result S Status → Result PlainProblem Status
+abbrev case_in : {S : Type 0} → (List PlainTrack → S → PlainProblem) → PlainSettings → List FileBytes → Result S Status → Result PlainProblem Status
 case_in made settings taken sizes =
     within_files settings.limits.objects taken >>= λ files. files_after settings [] files >>= λ es. sizes >>= λ given. within_limits settings.limits.object_slots (made es given)
 
@@ -258,7 +258,7 @@ within_alike most entries files f g many same =
     chosen true = same
     chosen false = refl
 
-asked_by_files : (settings : Asked) (files : List FileBytes)
+asked_by_files : (settings : PlainSettings) (files : List FileBytes)
     → case_asked files settings
     ≡ case_in (case_of_run settings) settings (sorted by_name (filter (takes settings.suffix settings.sizes) files))
     (sizes_asked files settings.sizes)
@@ -273,7 +273,7 @@ asked_by_files settings files =
     ∙ ap (λ (taken : List FileBytes). case_in (case_of_run settings) settings taken sizes) (files_taken settings.suffix settings.sizes files)
 
 -- the case that is asked is the same
-pub asked_again : (settings : Asked) (name bytes : List ℕ) (files later : List FileBytes) → IsNoInput settings name → HoldAlso name bytes files later
+pub asked_again : (settings : PlainSettings) (name bytes : List ℕ) (files later : List FileBytes) → IsNoInput settings name → HoldAlso name bytes files later
     → case_asked later settings ≡ case_asked files settings
 asked_again settings name bytes files later apart hold =
     let taken = none_taken settings name files later apart hold.others in

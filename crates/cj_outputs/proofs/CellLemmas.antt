@@ -1,19 +1,19 @@
--- The cells of an accepted certificate are in order of pair and time, and each keeps the intervals of both its objects.
+-- The cells of an accepted certificate are in order of pair and time, and each keeps the pieces of both its objects.
 use Rattle.std.proofs.Common.{ℕ, ◌+◌, List, [], ◌∷◌, sym, subst, arith}
 use Rattle.std.specs.List.{AllZip, flat_map}
 use Rattle.cj_interval.proofs.ListLemmas.{Each, Ordered, Each-weaker, Each-append, Ordered-append, All-from_each, AllPairs-from_ordered}
 use Rattle.cj_hermite.specs.PlainProblems.{PlainProblem}
-use Rattle.cj_hermite.specs.Roots.{PlainCell, KeepIntervals, IsRootBefore, roots_of}
-use Rattle.cj_hermite.proofs.CurveLemmas.{keep_part, root_intervals}
+use Rattle.cj_hermite.specs.Roots.{PlainCell, KeepPieces, IsRootBefore, roots_of}
+use Rattle.cj_hermite.proofs.CurveLemmas.{keep_part, root_pieces}
 use Rattle.cj_hermite.proofs.RootLemmas.{IsRootOf, Each-roots, Ordered-roots}
 use Rattle.cj_bezier.specs.Leaves.{PlainLeaf}
 use Rattle.cj_bezier.specs.Order.{IsBefore, AreInOrder}
 use Rattle.cj_bezier.specs.Tiles.{IsLeaf, Tile}
 use Rattle.cj_bezier.proofs.HalvingLemmas.{Each-tile}
-use Rattle.cj_meet.specs.Closest.{KeepTheirIntervals}
+use Rattle.cj_meet.specs.Closest.{KeepTheirPieces}
 use Rattle.cj_cert.specs.Accepted.{IsSupported, Accepted}
 use Rattle.cj_cert.specs.Certificates.{PlainCertificate}
-use Rattle.cj_cert.specs.Listed.{is_looked_listed}
+use Rattle.cj_cert.specs.Listed.{is_candidate_listed}
 
 -- cells in parts, one for each root, which tiles its ticks
 abbrev TileEach : (PlainLeaf → Type 0) → List PlainCell → List (List PlainLeaf) → Type 0
@@ -32,7 +32,7 @@ each_of_parts P S Q law (r ∷ roots) (part ∷ parts) tiles each =
 
 -- ---- in order
 
--- stretches that tile ticks are in order
+-- leaves that tile ticks are in order
 tile_ordered : (P : PlainLeaf → Type 0) (a b lo hi : ℕ) (ss : List PlainLeaf) → Tile P a b lo hi ss → Ordered IsBefore ss
 tile_ordered P a b lo hi [] tile = tt
 tile_ordered P a b lo hi (s ∷ ss) tile =
@@ -47,7 +47,7 @@ tile_ordered P a b lo hi (s ∷ ss) tile =
       tile_ordered P a b (s.last + 1) hi ss tile.1.1,
     )
 
--- a stretch of a root lies before those of later roots
+-- a leaf of a root lies before those of later roots
 before_parts : (P : PlainLeaf → Type 0) (r : PlainCell) (s : PlainLeaf) → IsLeaf P r.a r.b r.first r.last s → (roots : List PlainCell) (parts : List (List PlainLeaf))
     → TileEach P roots parts → Each (IsRootBefore r) roots → Each (IsBefore s) (flat_map (λ part. part) parts)
 before_parts P r s leaf roots parts tiles later =
@@ -73,27 +73,27 @@ parts_ordered P (r ∷ roots) (part ∷ parts) tiles ordered =
 
 pub cells_in_order : (case : PlainProblem) (c : PlainCertificate) → Accepted case c → AreInOrder c.cells
 cells_in_order case c accepted =
-    let looked = is_looked_listed case c in
+    let candidate = is_candidate_listed case c in
     let tile = accepted.cells in
     AllPairs-from_ordered IsBefore c.cells
-    (subst (Ordered IsBefore) (sym tile.whole) (parts_ordered (IsSupported case) (roots_of looked case) tile.parts tile.tiles (Ordered-roots looked case)))
+    (subst (Ordered IsBefore) (sym tile.whole) (parts_ordered (IsSupported case) (roots_of candidate case) tile.parts tile.tiles (Ordered-roots candidate case)))
 
--- ---- in their intervals
+-- ---- in their pieces
 
 abbrev Keeps : PlainProblem → PlainLeaf → Type 0
-Keeps case s = KeepIntervals case s.a s.b s.first s.last
+Keeps case s = KeepPieces case s.a s.b s.first s.last
 
--- a stretch of a root keeps the root's
+-- a leaf of a root keeps the root's
 kept : (case : PlainProblem) (r : PlainCell) (s : PlainLeaf) → IsRootOf case r → IsLeaf (IsSupported case) r.a r.b r.first r.last s → Keeps case s
 kept case r s is leaf =
-    subst (λ (a : ℕ). KeepIntervals case a s.b s.first s.last) (sym leaf.first_object)
-    (subst (λ (b : ℕ). KeepIntervals case r.a b s.first s.last) (sym leaf.second_object)
-    (keep_part case r.a r.b r.first r.last s.first s.last (root_intervals case r is) leaf.from leaf.some leaf.to))
+    subst (λ (a : ℕ). KeepPieces case a s.b s.first s.last) (sym leaf.first_object)
+    (subst (λ (b : ℕ). KeepPieces case r.a b s.first s.last) (sym leaf.second_object)
+    (keep_part case r.a r.b r.first r.last s.first s.last (root_pieces case r is) leaf.from leaf.some leaf.to))
 
-pub cells_keep : (case : PlainProblem) (c : PlainCertificate) → Accepted case c → KeepTheirIntervals case c.cells
+pub cells_keep : (case : PlainProblem) (c : PlainCertificate) → Accepted case c → KeepTheirPieces case c.cells
 cells_keep case c accepted =
-    let looked = is_looked_listed case c in
+    let candidate = is_candidate_listed case c in
     let tile = accepted.cells in
     All-from_each (Keeps case) c.cells
     (subst (Each (Keeps case)) (sym tile.whole)
-    (each_of_parts (IsSupported case) (Keeps case) (IsRootOf case) (kept case) (roots_of looked case) tile.parts tile.tiles (Each-roots looked case)))
+    (each_of_parts (IsSupported case) (Keeps case) (IsRootOf case) (kept case) (roots_of candidate case) tile.parts tile.tiles (Each-roots candidate case)))

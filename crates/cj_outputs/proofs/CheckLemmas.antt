@@ -11,9 +11,9 @@ use Rattle.cj_track.specs.Tracks.{plain_track}
 use Rattle.cj_hermite.specs.PlainProblems.{PlainProblem}
 use Rattle.cj_hermite.specs.Roots.{slots_of}
 use Rattle.cj_hermite.specs.Slots.{slot_count}
-use Rattle.cj_words.specs.Commands.{Checking}
+use Rattle.cj_words.specs.Commands.{PlainChecking}
 use Rattle.cj_bezier.specs.Leaves.{PlainLeaf, plain_leaf}
-use Rattle.cj_cells.specs.Lists.{list_looked}
+use Rattle.cj_cells.specs.Lists.{list_candidates}
 use Rattle.cj_cert.specs.Certificates.{PlainCertificate, line_count}
 use Rattle.cj_cert_text.specs.Texts.{text_of}
 use Rattle.cj_cert.specs.Written.{box_lines, line_in_slot, shell_line, written}
@@ -43,11 +43,11 @@ boxes_few case n (e ∷ es) =
     let here = filtered_few (λ slot. line_in_slot case (n, e) slot) (slots_of case) in
     omega (arith, length-append (box_lines case (n, e)) (flat_map (box_lines case) (enumerate_from (n + 1) es)), here, boxes_few case (n + 1) es)
 
-pub written_few : (case : PlainProblem) → length case.ephemerides ≤ MOST_OBJECTS → length case.ephemerides * slot_count case.first case.last ≤ MOST_OBJECT_SLOTS → length (list_looked case) ≤ MOST_LEAVES
+pub written_few : (case : PlainProblem) → length case.tracks ≤ MOST_OBJECTS → length case.tracks * slot_count case.first case.last ≤ MOST_OBJECT_SLOTS → length (list_candidates case) ≤ MOST_LEAVES
     → line_count (written case) < 2 ^ 32 - 5
 unfolding written
 written_few case few slots leaves =
-    let es = case.ephemerides in
+    let es = case.tracks in
     let all : length es * length (slots_of case) ≡ length es * slot_count case.first case.last =
     ap (λ (n : ℕ). length es * n) (length-range_with_len 0 (slot_count case.first case.last)) in
     omega (
@@ -67,11 +67,11 @@ pub found_few : (found : Findings) → AreFound found → line_count (written (c
 found_few found are =
     let case = case_in found in
     let problem = found.problem in
-    let objects : length case.ephemerides ≡ length problem.tracks = length-map problem.tracks plain_track in
-    let few : length case.ephemerides ≤ MOST_OBJECTS = omega (arith, objects, problem.few) in
-    let slots : length case.ephemerides * slot_count case.first case.last ≤ MOST_OBJECT_SLOTS =
+    let objects : length case.tracks ≡ length problem.tracks = length-map problem.tracks plain_track in
+    let few : length case.tracks ≤ MOST_OBJECTS = omega (arith, objects, problem.few) in
+    let slots : length case.tracks * slot_count case.first case.last ≤ MOST_OBJECT_SLOTS =
     subst (λ (n : ℕ). n * slot_count case.first case.last ≤ MOST_OBJECT_SLOTS) (sym objects) problem.few_slots in
-    let leaves : length (list_looked case) ≤ MOST_LEAVES =
+    let leaves : length (list_candidates case) ≤ MOST_LEAVES =
     omega (arith, ap (λ (ss : List PlainLeaf). length ss) are.leaves, length-map found.leaves.items plain_leaf, are.few) in
     written_few case few slots leaves
 
@@ -86,12 +86,12 @@ all_there f (Ok x) (Err s) p z is = absurd cc
 all_there f (Err s) q p z is = absurd cc
 
 -- what the inputs of a check are that are there
-record AreInputs (files : List FileBytes) (checking : Checking) (inputs : PlainInputs) : Type 0 where
+record AreInputs (files : List FileBytes) (checking : PlainChecking) (inputs : PlainInputs) : Type 0 where
   case : case_asked files checking.settings ≡ Ok inputs.case
   bytes : certificate_named files checking.certificate ≡ Ok inputs.bytes
   report : report_if_named files checking.report ≡ Ok inputs.report
 
-inputs_there : (files : List FileBytes) (checking : Checking) (inputs : PlainInputs) → inputs_asked files checking ≡ Ok inputs → AreInputs files checking inputs
+inputs_there : (files : List FileBytes) (checking : PlainChecking) (inputs : PlainInputs) → inputs_asked files checking ≡ Ok inputs → AreInputs files checking inputs
 unfolding inputs_asked
 inputs_there files checking inputs there =
     let all = all_there (λ case bytes report. record { case = case; bytes = bytes; report = report }) (case_asked files checking.settings)
@@ -103,7 +103,7 @@ inputs_there files checking inputs there =
     }
 
 -- the report of the inputs is that of the file that was named, where one was
-reported : (checking : Checking) (files : List FileBytes) (case : PlainProblem) (cells : List PlainLeaf) (report named : Option (List ℕ)) → report_if_named files named ≡ Ok report
+reported : (checking : PlainChecking) (files : List FileBytes) (case : PlainProblem) (cells : List PlainLeaf) (report named : Option (List ℕ)) → report_if_named files named ≡ Ok report
     → IfSome report (AcceptedReport (tells_sizes checking.settings) case cells) → IfSome named (VouchesReport checking files case cells)
 reported checking files case cells report None is holds = tt
 reported checking files case cells report (Some name) is holds = go (report_named files name) refl is
@@ -115,7 +115,7 @@ reported checking files case cells report (Some name) is holds = go (report_name
     go (Err s) read same = absurd cc
 
 -- where the inputs of a check are there, the certificate is accepted, and the report too where there is one, this is so of the files that were named
-pub vouched : (files : List FileBytes) (checking : Checking) (inputs : PlainInputs) → inputs_asked files checking ≡ Ok inputs
+pub vouched : (files : List FileBytes) (checking : PlainChecking) (inputs : PlainInputs) → inputs_asked files checking ≡ Ok inputs
     → (holds : AcceptedText inputs.case inputs.bytes) → IfSome inputs.report (AcceptedReport (tells_sizes checking.settings) inputs.case holds.certificate.cells)
     → Vouches checking files
 vouched files checking inputs there holds beside =
@@ -130,7 +130,7 @@ vouched files checking inputs there holds beside =
     }
 
 -- the same of a certificate that is rewritten
-pub renews : (files : List FileBytes) (checking : Checking) (inputs : PlainInputs) (renewed : PlainCertificate) → inputs_asked files checking ≡ Ok inputs → RenewedText inputs.case inputs.bytes renewed
+pub renews : (files : List FileBytes) (checking : PlainChecking) (inputs : PlainInputs) (renewed : PlainCertificate) → inputs_asked files checking ≡ Ok inputs → RenewedText inputs.case inputs.bytes renewed
     → (case_asked files checking.settings ≡ Ok inputs.case → length (text_of renewed) ≤ 1_073_741_824 → IsAcceptedLater checking.settings files (text_of renewed)) → Renews checking files renewed
 renews files checking inputs renewed there holds later =
     let are = inputs_there files checking inputs there in

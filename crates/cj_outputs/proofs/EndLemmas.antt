@@ -8,28 +8,28 @@ use Rattle.cj_io.specs.declared.file.FileBytes.{FileBytes}
 use Rattle.cj_status.specs.declared.status.Status.{Status}
 use Rattle.cj_status.specs.declared.status.Status.TheVariants as status
 use Rattle.cj_status.specs.Steps.{Stops}
-use Rattle.cj_outputs.specs.Outcome.{Answers, ArePieces, AreTooManyCells, IsFront, PartlyPut, Leaves, Extends, ComesOfPuts, PutsNothing}
+use Rattle.cj_outputs.specs.Outcome.{Answers, AreOutputs, AreTooManyCells, IsFront, PartlyPut, Leaves, Extends, ComesOfPuts, PutsNothing}
 use Rattle.cj_outputs.specs.Findings.{ended}
 
 -- nothing was put
 pub nothing_put : (due : Result (List FileBytes) Status) (old : List FileBytes) (now : Option (List FileBytes)) → now ≡ Some old → PartlyPut due old now
-nothing_put (Ok pieces) old now same = ([], tt, same ∙ ap (λ (ps : List FileBytes). Some ps) (sym (append-nil old)))
+nothing_put (Ok outputs) old now same = ([], tt, same ∙ ap (λ (ps : List FileBytes). Some ps) (sym (append-nil old)))
 nothing_put (Err s) old now same = ([], refl, same ∙ ap (λ (ps : List FileBytes). Some ps) (sym (append-nil old)))
 
 -- a part of a run that put nothing, since memory ran out
-pub nothing_made : (pieces : List FileBytes) (shelf : Option (List FileBytes)) (faults : ℕ) (r : Result (Unit {0}) Status)
+pub nothing_made : (outputs : List FileBytes) (shelf : Option (List FileBytes)) (faults : ℕ) (r : Result (Unit {0}) Status)
     → IsErrAnd r (λ s. s ≡ status.OutOfMemory) → record {
       comes : IfErr r ComesOfPuts;
       write : r ≡ Err status.WriteFault → Rose faults faults;
-      leaves : (old : List FileBytes) → shelf ≡ Some old → Leaves (ended r) (Ok pieces) old shelf;
+      leaves : (old : List FileBytes) → shelf ≡ Some old → Leaves (ended r) (Ok outputs) old shelf;
       later : faults ≤ faults;
     }
-nothing_made pieces shelf faults r failed =
+nothing_made outputs shelf faults r failed =
     let p = err_from_is_err_and r failed in
     rw (p.1, p.2) (record {
       comes = tt;
       write = λ is. absurd cc;
-      leaves = λ old stood. nothing_put (Ok pieces) old shelf stood;
+      leaves = λ old stood. nothing_put (Ok outputs) old shelf stood;
       later = omega arith;
     })
 
@@ -38,16 +38,16 @@ pub rose_later : (first second last : ℕ) → first ≤ second → Rose second 
 rose_later first second last before rose = omega arith
 
 -- a part of a run whose put failed so, behind others that did not
-pub put_failed : (pieces : List FileBytes) (shelf now : Option (List FileBytes)) (first second last : ℕ) (s : Status) (r : Result (Unit {0}) Status)
+pub put_failed : (outputs : List FileBytes) (shelf now : Option (List FileBytes)) (first second last : ℕ) (s : Status) (r : Result (Unit {0}) Status)
     → IsErrAnd r (λ t. t ≡ s) → first ≤ second → ComesOfPuts s → (◌≡◌ {A = Result (Unit {0}) Status} (Err s) (Err status.WriteFault) → Rose second last)
     → second ≤ last
-    → ((old : List FileBytes) → shelf ≡ Some old → Leaves s (Ok pieces) old now) → record {
+    → ((old : List FileBytes) → shelf ≡ Some old → Leaves s (Ok outputs) old now) → record {
       comes : IfErr r ComesOfPuts;
       write : r ≡ Err status.WriteFault → Rose first last;
-      leaves : (old : List FileBytes) → shelf ≡ Some old → Leaves (ended r) (Ok pieces) old now;
+      leaves : (old : List FileBytes) → shelf ≡ Some old → Leaves (ended r) (Ok outputs) old now;
       later : first ≤ last;
     }
-put_failed pieces shelf now first second last s r failed before comes write later leaves =
+put_failed outputs shelf now first second last s r failed before comes write later leaves =
     let p = err_from_is_err_and r failed in
     rw (p.1, p.2) (record {
       comes = comes;
@@ -95,17 +95,17 @@ answers_wider read refused status.OutOfMemory due answers = tt
 
 -- ---- a run that came to its puts
 
-pub answers_put : (read refused : Type 0) (r : Result (Unit {0}) Status) (due : Result (List FileBytes) Status) (pieces : List FileBytes) → due ≡ Ok pieces
+pub answers_put : (read refused : Type 0) (r : Result (Unit {0}) Status) (due : Result (List FileBytes) Status) (outputs : List FileBytes) → due ≡ Ok outputs
     → IfErr r ComesOfPuts → Answers read refused (ended r) due
-answers_put read refused (Ok done) due pieces is comes = (pieces, is)
-answers_put read refused (Err status.Ok) due pieces is comes = absurd comes
-answers_put read refused (Err (status.NotAccepted line cause)) due pieces is comes = absurd comes
-answers_put read refused (Err (status.Usage fault)) due pieces is comes = absurd comes
-answers_put read refused (Err (status.BadFile file line cause)) due pieces is comes = absurd comes
-answers_put read refused (Err status.ReadFault) due pieces is comes = absurd comes
-answers_put read refused (Err status.WriteFault) due pieces is comes = inl (pieces, is)
-answers_put read refused (Err (status.Limit fault)) due pieces is comes = absurd comes
-answers_put read refused (Err status.OutOfMemory) due pieces is comes = tt
+answers_put read refused (Ok done) due outputs is comes = (outputs, is)
+answers_put read refused (Err status.Ok) due outputs is comes = absurd comes
+answers_put read refused (Err (status.NotAccepted line cause)) due outputs is comes = absurd comes
+answers_put read refused (Err (status.Usage fault)) due outputs is comes = absurd comes
+answers_put read refused (Err (status.BadFile file line cause)) due outputs is comes = absurd comes
+answers_put read refused (Err status.ReadFault) due outputs is comes = absurd comes
+answers_put read refused (Err status.WriteFault) due outputs is comes = inl (outputs, is)
+answers_put read refused (Err (status.Limit fault)) due outputs is comes = absurd comes
+answers_put read refused (Err status.OutOfMemory) due outputs is comes = tt
 
 -- puts that did not fail were made, or memory ran out
 pub put_or_memory : (write : Type 0) (r : Result (Unit {0}) Status) → ¬ write → IfErr r ComesOfPuts → (r ≡ Err status.WriteFault → write) → (ended r ≡ status.Ok) ⊎ (ended r ≡ status.OutOfMemory)
@@ -133,24 +133,24 @@ puts_some (Err status.OutOfMemory) comes = λ none. none
 
 -- ---- puts, one after another
 
--- a front of some pieces is a front of them and more
+-- a front of some outputs is a front of them and more
 front_of_more : (ps more front : List FileBytes) → IsFront front ps → IsFront front (ps ++ more)
 front_of_more ps more [] is = tt
 front_of_more [] more (f ∷ front) is = absurd is
 front_of_more (p ∷ ps) more (f ∷ []) is = is
 front_of_more (p ∷ ps) more (f ∷ g ∷ front) is = (is.0, front_of_more ps more (g ∷ front) is.1)
 
--- a front behind a first piece
+-- a front behind a first output
 front_behind_one : (p : FileBytes) (more front : List FileBytes) → IsFront front more → IsFront (p ∷ front) (p ∷ more)
 front_behind_one p more [] is = (refl, ([], sym (append-nil p.bytes)))
 front_behind_one p more (f ∷ front) is = (refl, is)
 
--- a front behind some pieces
+-- a front behind some outputs
 front_behind : (ps more front : List FileBytes) → IsFront front more → IsFront (ps ++ front) (ps ++ more)
 front_behind [] more front is = is
 front_behind (p ∷ ps) more front is = front_behind_one p (ps ++ more) (ps ++ front) (front_behind ps more front is)
 
--- a front of the first pieces alone was put
+-- a front of the first outputs alone was put
 first_partly : (ps more old : List FileBytes) (now : Option (List FileBytes)) → PartlyPut (Ok ps) old now → PartlyPut (Ok (ps ++ more)) old now
 first_partly ps more old now partly = (partly.0, front_of_more ps more partly.0 partly.1, partly.2)
 
@@ -165,11 +165,11 @@ first_leaves status.WriteFault ps more old now comes leaves = first_partly ps mo
 first_leaves (status.Limit fault) ps more old now comes leaves = leaves
 first_leaves status.OutOfMemory ps more old now comes leaves = first_partly ps more old now leaves
 
--- the first pieces stand
+-- the first outputs stand
 pub first_stand : (ps old : List FileBytes) (now : Option (List FileBytes)) → Leaves status.Ok (Ok ps) old now → now ≡ Some (old ++ ps)
 first_stand ps old now leaves = let is : leaves.0 ≡ ps = cc (leaves.1) in leaves.2 ∙ ap (λ (qs : List FileBytes). Some (old ++ qs)) is
 
--- a front behind the first pieces was put
+-- a front behind the first outputs was put
 behind_partly : (ps more old : List FileBytes) (now : Option (List FileBytes)) → PartlyPut (Ok more) (old ++ ps) now → PartlyPut (Ok (ps ++ more)) old now
 behind_partly ps more old now partly =
     (ps ++ partly.0, front_behind ps more partly.0 partly.1, partly.2 ∙ ap (λ (qs : List FileBytes). Some qs) (append_assoc old ps partly.0))
@@ -189,7 +189,7 @@ second_leaves (Err status.WriteFault) ps more old now comes leaves = behind_part
 second_leaves (Err (status.Limit fault)) ps more old now comes leaves = absurd comes
 second_leaves (Err status.OutOfMemory) ps more old now comes leaves = behind_partly ps more old now leaves
 
--- whatever ended the puts, the old pieces stand
+-- whatever ended the puts, the old outputs stand
 pub leaves_extends : (s : Status) (due : Result (List FileBytes) Status) (old : List FileBytes) (now : Option (List FileBytes)) → Leaves s due old now → Extends old now
 leaves_extends status.Ok due old now leaves = (leaves.0, leaves.2)
 leaves_extends (status.NotAccepted line cause) due old now leaves = nothing_more old now leaves
@@ -202,17 +202,17 @@ leaves_extends status.OutOfMemory due old now leaves = (leaves.0, leaves.2)
 
 -- ---- completeness
 
--- a run that stopped although pieces are due, and not for a read, met want of memory
-pub stopped_for : (read : Type 0) (s : Status) (due : Result (List FileBytes) Status) (pieces : List FileBytes) → due ≡ Ok pieces
+-- a run that stopped although outputs are due, and not for a read, met want of memory
+pub stopped_for : (read : Type 0) (s : Status) (due : Result (List FileBytes) Status) (outputs : List FileBytes) → due ≡ Ok outputs
     → (s ≡ status.ReadFault → ¬ read) → Stops read s due → s ≡ status.OutOfMemory
-stopped_for read status.Ok due pieces is calm stops = absurd stops
-stopped_for read (status.NotAccepted line cause) due pieces is calm stops = absurd cc
-stopped_for read (status.Usage fault) due pieces is calm stops = absurd cc
-stopped_for read (status.BadFile file line cause) due pieces is calm stops = absurd cc
-stopped_for read status.ReadFault due pieces is calm stops = absurd (calm refl stops)
-stopped_for read status.WriteFault due pieces is calm stops = absurd stops
-stopped_for read (status.Limit fault) due pieces is calm stops = absurd cc
-stopped_for read status.OutOfMemory due pieces is calm stops = refl
+stopped_for read status.Ok due outputs is calm stops = absurd stops
+stopped_for read (status.NotAccepted line cause) due outputs is calm stops = absurd cc
+stopped_for read (status.Usage fault) due outputs is calm stops = absurd cc
+stopped_for read (status.BadFile file line cause) due outputs is calm stops = absurd cc
+stopped_for read status.ReadFault due outputs is calm stops = absurd (calm refl stops)
+stopped_for read status.WriteFault due outputs is calm stops = absurd stops
+stopped_for read (status.Limit fault) due outputs is calm stops = absurd cc
+stopped_for read status.OutOfMemory due outputs is calm stops = refl
 
 -- where a cause is due and neither a read failed nor the shelf refused the run, it comes, or memory ran out
 pub refused_as : (read refused : Type 0) (s cause : Status) (due : Result (List FileBytes) Status) → due ≡ Err cause
@@ -223,7 +223,7 @@ refused_as read refused (status.NotAccepted line why) cause due is calm free ans
 refused_as read refused (status.Usage fault) cause due is calm free answers = inl cc
 refused_as read refused (status.BadFile file line why) cause due is calm free answers = inl cc
 refused_as read refused status.ReadFault cause due is calm free answers = absurd (calm refl answers)
-refused_as read refused status.WriteFault cause due is calm free (inl pieces) = let there = pieces.1 in absurd cc
+refused_as read refused status.WriteFault cause due is calm free (inl outputs) = let there = outputs.1 in absurd cc
 refused_as read refused status.WriteFault cause due is calm free (inr taken) = absurd (free taken.0)
 refused_as read refused (status.Limit fault) cause due is calm free answers = inl cc
 refused_as read refused status.OutOfMemory cause due is calm free answers = inr refl
@@ -242,15 +242,15 @@ leaves_refused status.WriteFault due old now comes same = nothing_put due old no
 leaves_refused (status.Limit fault) due old now comes same = absurd comes
 leaves_refused status.OutOfMemory due old now comes same = nothing_put due old now same
 
--- pieces were due, or too many leaves
+-- outputs were due, or too many leaves
 pub answers_refused : (read refused : Type 0) (s : Status) (due : Result (List FileBytes) Status) → ComesOfPuts s
-    → (◌≡◌ {A = Result (Unit {0}) Status} (Err s) (Err status.WriteFault) → refused) → ArePieces due ⊎ AreTooManyCells due → Answers read refused s due
+    → (◌≡◌ {A = Result (Unit {0}) Status} (Err s) (Err status.WriteFault) → refused) → AreOutputs due ⊎ AreTooManyCells due → Answers read refused s due
 answers_refused read refused status.Ok due comes rose either = absurd comes
 answers_refused read refused (status.NotAccepted line cause) due comes rose either = absurd comes
 answers_refused read refused (status.Usage fault) due comes rose either = absurd comes
 answers_refused read refused (status.BadFile file line cause) due comes rose either = absurd comes
 answers_refused read refused status.ReadFault due comes rose either = absurd comes
-answers_refused read refused status.WriteFault due comes rose (inl pieces) = inl pieces
+answers_refused read refused status.WriteFault due comes rose (inl outputs) = inl outputs
 answers_refused read refused status.WriteFault due comes rose (inr many) = inr (rose refl, many)
 answers_refused read refused (status.Limit fault) due comes rose either = absurd comes
 answers_refused read refused status.OutOfMemory due comes rose either = tt

@@ -15,7 +15,7 @@ use Rattle.cj_hermite.specs.PlainProblems.{PlainProblem}
 use Rattle.cj_hermite.specs.Problems.{plain_problem}
 use Rattle.cj_hermite.specs.Slots.{slot_count}
 use Rattle.cj_bezier.specs.Leaves.{PlainLeaf}
-use Rattle.cj_cells.specs.Lists.{list_looked}
+use Rattle.cj_cells.specs.Lists.{list_candidates}
 use Rattle.cj_cert.specs.declared.cert_lines.SizeOfLine.{SizeOfLine}
 use Rattle.cj_cert.specs.Accepted.{Accepted, AreSizesIn}
 use Rattle.cj_cert.specs.Certificates.{PlainBoxLine, PlainCertificate}
@@ -28,14 +28,14 @@ use Rattle.cj_cert_text.proofs.ChainLemmas.{reading_again}
 use Rattle.cj_cert_text.proofs.LengthLemmas.{text_short}
 use Rattle.cj_cert_text.proofs.WrittenFitsLemmas.{IsOfRun, few_boxes, few_shells, few_sizes, in_version_2_fits, written_in_fits}
 use Rattle.cj_checker.specs.First.{first_failure}
-use Rattle.cj_words.specs.Commands.{Checking}
-use Rattle.cj_words.specs.Settings.{Asked}
+use Rattle.cj_words.specs.Commands.{PlainChecking}
+use Rattle.cj_words.specs.Settings.{PlainSettings}
 use Rattle.cj_inputs.specs.Cases.{case_asked}
 use Rattle.cj_inputs.specs.CheckInputs.{PlainInputs, certificate_named, inputs_asked}
 use Rattle.cj_outputs.specs.Again.{IsAcceptedLater}
-use Rattle.cj_outputs.specs.Outcome.{accepted_piece, cert_bytes, pieces_checked, report_if_accepting, said_or, tells_sizes}
+use Rattle.cj_outputs.specs.Outcome.{accepted_output, cert_bytes, outputs_checked, report_if_accepting, said_or, tells_sizes}
 use Rattle.cj_status.specs.Steps.{◌>>=◌}
-use Rattle.cj_outputs.proofs.AcceptingLemmas.{accepted_so, pieces_made_from}
+use Rattle.cj_outputs.proofs.AcceptingLemmas.{accepted_so, outputs_made_from}
 use Rattle.cj_outputs.proofs.AgainLemmas.{asked_again, named_again}
 use Rattle.cj_outputs.proofs.CertificateLemmas.{leaves_alike}
 use Rattle.cj_inputs.proofs.WithinLemmas.{usual_slots}
@@ -54,13 +54,13 @@ pub usual_few : (n : ℕ) (version : CertVersion) → n ≤ most_objects version
 usual_few n One few = few
 usual_few n Two few = few
 
-pub of_run : (problem : Problem) → length (plain_problem problem).ephemerides ≤ 2000 → All (λ size. size ≤ MAX_SIZE) problem.sizes → AllStayNear (plain_problem problem) → IsOfRun (plain_problem problem)
+pub of_run : (problem : Problem) → length (plain_problem problem).tracks ≤ 2000 → All (λ size. size ≤ MAX_SIZE) problem.sizes → AllStayNear (plain_problem problem) → IsOfRun (plain_problem problem)
 of_run problem few sizes near =
     let objects = length-map problem.tracks plain_track in
     let sized = problem.sized in
     let last = problem.window.last.in_range in
     record {
-      few = few_objects (length (plain_problem problem).ephemerides) few;
+      few = few_objects (length (plain_problem problem).tracks) few;
       first = problem.window.first.in_range;
       last = last;
       least = problem.least;
@@ -74,25 +74,25 @@ of_run problem few sizes near =
 -- ---- a text that is accepted later
 
 -- a check by this name, of no report
-abbrev by_name : Asked → List ℕ → Checking
+abbrev by_name : PlainSettings → List ℕ → PlainChecking
 by_name settings name = record { settings = settings; certificate = name; report = None }
 
 abbrev alone : PlainProblem → List ℕ → PlainInputs
 alone case bytes = record { case = case; bytes = bytes; report = None }
 
-inputs_there : (files : List FileBytes) (settings : Asked) (name : List ℕ) (case : PlainProblem) (bytes : List ℕ) → case_asked files settings ≡ Ok case
+inputs_there : (files : List FileBytes) (settings : PlainSettings) (name : List ℕ) (case : PlainProblem) (bytes : List ℕ) → case_asked files settings ≡ Ok case
     → certificate_named files name ≡ Ok bytes → inputs_asked files (by_name settings name) ≡ Ok (alone case bytes)
 unfolding inputs_asked
 inputs_there files settings name case bytes read named = rw (read, named) refl
 
-text_accepted : (settings : Asked) (files : List FileBytes) (case : PlainProblem) (c : PlainCertificate) → case_asked files settings ≡ Ok case → Fits c → first_failure case c ≡ None
+text_accepted : (settings : PlainSettings) (files : List FileBytes) (case : PlainProblem) (c : PlainCertificate) → case_asked files settings ≡ Ok case → Fits c → first_failure case c ≡ None
     → length (text_of c) ≤ 1_073_741_824 → IsAcceptedLater settings files (text_of c)
-unfolding pieces_checked
+unfolding outputs_checked
 text_accepted settings files case c read fits none short name later outside holds =
     let bytes = text_of c in
     let asked = asked_again settings name bytes files later outside holds ∙ read in
     let there = inputs_there later settings name case bytes asked (named_again name bytes files later holds short) in
-    pieces_made_from (λ inputs certificate. report_if_accepting (tells_sizes settings) inputs.case certificate.cells inputs.report >>= λ done. Ok (accepted_piece ∷ []))
+    outputs_made_from (λ inputs certificate. report_if_accepting (tells_sizes settings) inputs.case certificate.cells inputs.report >>= λ done. Ok (accepted_output ∷ []))
     (inputs_asked later (by_name settings name)) (alone case bytes) c there (accepted_so case bytes c (ap said_or (reading_again c fits)) none)
 
 -- ---- a certificate that is written
@@ -102,7 +102,7 @@ unfolding with_blocks written
 same_cells One case = refl
 same_cells Two case = refl
 
-text_few : (case : PlainProblem) (c : PlainCertificate) → IsOfRun case → length case.ephemerides * slot_count case.first case.last ≤ 4_000_000 → Accepted case c → Fits c → length c.cells ≤ 4_000_000
+text_few : (case : PlainProblem) (c : PlainCertificate) → IsOfRun case → length case.tracks * slot_count case.first case.last ≤ 4_000_000 → Accepted case c → Fits c → length c.cells ≤ 4_000_000
     → length (text_of c) ≤ 1_073_741_824
 text_few case c run slots accepted fits cells =
     let few = run.few One in
@@ -114,20 +114,20 @@ text_few case c run slots accepted fits cells =
     sizes One lines boxes first given = let none = ap length first.0 in omega arith
     sizes Two lines boxes second given = let all = few_sizes case lines given in let sized = run.sized in let few = run.few One in omega arith
 
-pub written_later : (problem : Problem) (settings : Asked) (files : List FileBytes) (version : CertVersion) → IsOfRun (plain_problem problem) → Accepted (plain_problem problem) (written (plain_problem problem))
+pub written_later : (problem : Problem) (settings : PlainSettings) (files : List FileBytes) (version : CertVersion) → IsOfRun (plain_problem problem) → Accepted (plain_problem problem) (written (plain_problem problem))
     → Accepted (plain_problem problem) (written_in version (plain_problem problem)) → first_failure (plain_problem problem) (written_in version (plain_problem problem)) ≡ None
-    → case_asked files settings ≡ Ok (plain_problem problem) → settings.limits ≡ USUAL → length (list_looked (plain_problem problem)) ≤ settings.limits.leaves → IsAcceptedLater settings files (cert_bytes version (plain_problem problem))
+    → case_asked files settings ≡ Ok (plain_problem problem) → settings.limits ≡ USUAL → length (list_candidates (plain_problem problem)) ≤ settings.limits.leaves → IsAcceptedLater settings files (cert_bytes version (plain_problem problem))
 written_later problem settings files version run first accepted none read usual leaves =
     let case = plain_problem problem in
     let c = written_in version case in
     let fits = written_in_fits version case run first in
     let cells : length c.cells ≤ 4_000_000 =
-    subst (λ (ss : List PlainLeaf). length ss ≤ 4_000_000) (leaves_alike case ∙ sym (same_cells version case)) (subst (λ (l : PlainLimits). length (list_looked case) ≤ l.leaves) usual leaves) in
+    subst (λ (ss : List PlainLeaf). length ss ≤ 4_000_000) (leaves_alike case ∙ sym (same_cells version case)) (subst (λ (l : PlainLimits). length (list_candidates case) ≤ l.leaves) usual leaves) in
     text_accepted settings files case c read fits none (text_few case c run (usual_slots files settings case read usual) accepted fits cells)
 
 -- ---- a certificate that is rewritten
 
-pub rewritten_later : (settings : Asked) (files : List FileBytes) (case : PlainProblem) (c : PlainCertificate) → IsOfRun case → first_failure case (in_version_2 case c) ≡ None
+pub rewritten_later : (settings : PlainSettings) (files : List FileBytes) (case : PlainProblem) (c : PlainCertificate) → IsOfRun case → first_failure case (in_version_2 case c) ≡ None
     → case_asked files settings ≡ Ok case → Fits c → length (text_of (in_version_2 case c)) ≤ 1_073_741_824 → IsAcceptedLater settings files (text_of (in_version_2 case c))
 rewritten_later settings files case c run none read fits short =
     text_accepted settings files case (in_version_2 case c) read (in_version_2_fits case c run fits) none short

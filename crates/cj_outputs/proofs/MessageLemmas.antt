@@ -15,7 +15,7 @@ use Rattle.cj_bezier.specs.declared.encounter.Encounter.{Encounter}
 use Rattle.cj_bezier.specs.declared.leaf.Leaf.{Leaf}
 use Rattle.cj_bezier.specs.Leaves.{PlainLeaf, plain_leaf, plain_leaves}
 use Rattle.cj_meet.specs.Closest.{PlainClosest, closest_of, some_closest}
-use Rattle.cj_meet.specs.Encounters.{AreEncounters, Describes, encounters_of, first_object, follows, groups_in, is_far, second_object, stretches_in, with_front}
+use Rattle.cj_meet.specs.Encounters.{AreEncounters, Describes, encounters_of, first_object, follows, groups_in, is_far, second_object, leaves_in, with_front}
 use Rattle.cj_meet.proofs.EncounterLemmas.{described_objects}
 use Rattle.cj_cdm.specs.Building.{have_covariances, message_of}
 use Rattle.cj_cdm.specs.Messages.{PlainStamp}
@@ -27,15 +27,15 @@ use Rattle.cj_report.proofs.NumberLemmas.{numbered_parts, numbered_step}
 use Rattle.cj_status.specs.declared.status.Status.{Status}
 use Rattle.cj_outputs.specs.declared.findings.Findings.{Findings}
 use Rattle.cj_outputs.specs.Findings.{AreFound, case_in, messages_in}
-use Rattle.cj_outputs.specs.Messages.{PlainOrigin, has_message, message_piece, message_pieces, pieces_at, stamp_from}
+use Rattle.cj_outputs.specs.Messages.{PlainOrigin, has_message, message_output, message_outputs, outputs_at, stamp_from}
 use Rattle.cj_outputs.specs.Outcome.{ComesOfPuts, Leaves}
 use Rattle.cj_outputs.proofs.EndLemmas.{first_leaves, second_leaves}
 
 -- whether the objects of an encounter have covariances at this tick is whether the encounter has a message
-pub message_noted : (case : PlainProblem) (ss : List PlainLeaf) (e : Encounter) (x : Closest) → Describes ss e → some_closest x ≡ closest_of case (stretches_in ss e) →
-    have_covariances case e.pair.a e.pair.b x.tick.micros ≡ has_message case (stretches_in ss e)
+pub message_noted : (case : PlainProblem) (ss : List PlainLeaf) (e : Encounter) (x : Closest) → Describes ss e → some_closest x ≡ closest_of case (leaves_in ss e) →
+    have_covariances case e.pair.a e.pair.b x.tick.micros ≡ has_message case (leaves_in ss e)
 message_noted case ss e x d at =
-    let group = stretches_in ss e in
+    let group = leaves_in ss e in
     let objects = described_objects ss e d in
     let noted : ℕ → ℕ → Option PlainClosest → Bool = λ a b at. option_map_or (λ at. have_covariances case a b at.tick) at false in
     ap (λ (a : ℕ). noted a e.pair.b (some_closest x)) (sym objects.0)
@@ -46,34 +46,34 @@ message_noted case ss e x d at =
 pub as_many_closest : (case : PlainProblem) (ss : List PlainLeaf) (es : List Encounter) (xs : List Closest) → map some_closest xs ≡ map (closest_of case) (groups_in ss es) → length xs ≡ length es
 as_many_closest case ss es xs at =
     let same : length (map some_closest xs) ≡ length (map (closest_of case) (groups_in ss es)) = ap length at in
-    sym (length-map xs some_closest) ∙ same ∙ length-map (groups_in ss es) (closest_of case) ∙ length-map es (stretches_in ss)
+    sym (length-map xs some_closest) ∙ same ∙ length-map (groups_in ss es) (closest_of case) ∙ length-map es (leaves_in ss)
 
 -- and a note
 pub as_many_notes : (case : PlainProblem) (ss : List PlainLeaf) (es : List Encounter) (bs : List Bool) → bs ≡ map (has_message case) (groups_in ss es)
     → length bs ≡ length es
 as_many_notes case ss es bs noted =
-    ap (λ (xs : List Bool). length xs) noted ∙ length-map (groups_in ss es) (has_message case) ∙ length-map es (stretches_in ss)
+    ap (λ (xs : List Bool). length xs) noted ∙ length-map (groups_in ss es) (has_message case) ∙ length-map es (leaves_in ss)
 
 -- the notes of the encounters before place i and of that one
 pub noted_more : (case : PlainProblem) (ss : List PlainLeaf) (es : List Encounter) (i : ℕ) (e : Encounter) (bs : List Bool) (b : Bool) → i < length es → e ≡ get_or es i e →
-    bs ≡ map (has_message case) (groups_in ss (take i es)) → b ≡ has_message case (stretches_in ss e) → bs ++ b ∷ [] ≡ map (has_message case) (groups_in ss (take (i + 1) es))
+    bs ≡ map (has_message case) (groups_in ss (take i es)) → b ≡ has_message case (leaves_in ss e) → bs ++ b ∷ [] ≡ map (has_message case) (groups_in ss (take (i + 1) es))
 noted_more case ss es i e bs b lt is before here =
-    let f : Encounter → List PlainLeaf = stretches_in ss in
+    let f : Encounter → List PlainLeaf = leaves_in ss in
     let groups : groups_in ss (take (i + 1) es) ≡ groups_in ss (take i es) ++ f e ∷ [] =
     map_more f es i e lt ∙ ap (λ (y : Encounter). groups_in ss (take i es) ++ f y ∷ []) (sym is) in
     ap (λ (cs : List Bool). cs ++ b ∷ []) before
     ∙ ap (λ (c : Bool). map (has_message case) (groups_in ss (take i es)) ++ c ∷ []) here
     ∙ sym (ap (map (has_message case)) groups ∙ map_push (has_message case) (groups_in ss (take i es)) (f e))
 
--- the piece that is made of the fields of an encounter is that of its message
-pub piece_made : (case : PlainProblem) (origin : PlainOrigin) (n k : ℕ) (stamp : PlainStamp) (ss : List PlainLeaf) (e : Encounter) (x : Closest) → Describes ss e →
-    some_closest x ≡ closest_of case (stretches_in ss e) → stamp ≡ stamp_from origin n → k ≡ n →
-    option_to_list (option_map (message_piece k) (message_of case e.pair.a e.pair.b x.tick.micros x.high stamp)) ≡ pieces_at case origin n (stretches_in ss e)
-piece_made case origin n k stamp ss e x d at stamped number =
-    let group = stretches_in ss e in
+-- the output that is made of the fields of an encounter is that of its message
+pub output_made : (case : PlainProblem) (origin : PlainOrigin) (n k : ℕ) (stamp : PlainStamp) (ss : List PlainLeaf) (e : Encounter) (x : Closest) → Describes ss e →
+    some_closest x ≡ closest_of case (leaves_in ss e) → stamp ≡ stamp_from origin n → k ≡ n →
+    option_to_list (option_map (message_output k) (message_of case e.pair.a e.pair.b x.tick.micros x.high stamp)) ≡ outputs_at case origin n (leaves_in ss e)
+output_made case origin n k stamp ss e x d at stamped number =
+    let group = leaves_in ss e in
     let objects = described_objects ss e d in
     let made : ℕ → ℕ → ℕ → PlainStamp → Option PlainClosest → List FileBytes =
-    λ k a b s at. option_to_list (option_map (message_piece k) (option_and_then (λ (at : PlainClosest). message_of case a b at.tick at.high s) at)) in
+    λ k a b s at. option_to_list (option_map (message_output k) (option_and_then (λ (at : PlainClosest). message_of case a b at.tick at.high s) at)) in
     ap (λ (k : ℕ). made k e.pair.a e.pair.b stamp (some_closest x)) number
     ∙ ap (λ (a : ℕ). made n a e.pair.b stamp (some_closest x)) (sym objects.0)
     ∙ ap (λ (b : ℕ). made n (first_object group) b stamp (some_closest x)) (sym objects.1)
@@ -97,7 +97,7 @@ front_few s ((t ∷ ts) ∷ others) = joined (follows s t)
     joined true = omega arith
     joined false = omega arith
 
--- there are no more encounters than stretches
+-- there are no more encounters than leaves
 pub encounters_few : (ss : List PlainLeaf) → length (encounters_of ss) ≤ length ss
 encounters_few [] = omega arith
 encounters_few (s ∷ ss) = one_more (is_far s) (encounters_few ss)
@@ -110,43 +110,43 @@ one_or_none : {A B : Type 0} (f : A → B) (o : Option A) → length (option_to_
 one_or_none f None = refl
 one_or_none f (Some x) = refl
 
-piece_counted : (case : PlainProblem) (origin : PlainOrigin) (n : ℕ) (e : List PlainLeaf) → length (pieces_at case origin n e) ≡ cond (has_message case e) 1 0
-piece_counted case origin n e = by_closest (closest_of case e)
+output_counted : (case : PlainProblem) (origin : PlainOrigin) (n : ℕ) (e : List PlainLeaf) → length (outputs_at case origin n e) ≡ cond (has_message case e) 1 0
+output_counted case origin n e = by_closest (closest_of case e)
   where
     by_closest : (o : Option PlainClosest) →
-        length (option_to_list (option_map (message_piece n) (option_and_then (λ at. message_of case (first_object e) (second_object e) at.tick at.high (stamp_from origin n)) o)))
+        length (option_to_list (option_map (message_output n) (option_and_then (λ at. message_of case (first_object e) (second_object e) at.tick at.high (stamp_from origin n)) o)))
         ≡ cond (option_map_or (λ at. have_covariances case (first_object e) (second_object e) at.tick) o false) 1 0
     by_closest None = refl
     by_closest (Some at) =
         let made = message_of case (first_object e) (second_object e) at.tick at.high (stamp_from origin n) in
-        one_or_none (message_piece n) made ∙ ap (λ (b : Bool). cond b 1 0) (message_some case (first_object e) (second_object e) at.tick at.high (stamp_from origin n))
+        one_or_none (message_output n) made ∙ ap (λ (b : Bool). cond b 1 0) (message_some case (first_object e) (second_object e) at.tick at.high (stamp_from origin n))
 
--- there are as many pieces as encounters that have a message
-pub pieces_counted : (case : PlainProblem) (origin : PlainOrigin) (n : ℕ) (es : List (List PlainLeaf)) → length (numbered (pieces_at case origin) n es) ≡ count_by (has_message case) es
-pieces_counted case origin n [] = refl
-pieces_counted case origin n (e ∷ es) =
-    let others = numbered (pieces_at case origin) (n + 1) es in
-    length-append (pieces_at case origin n e) others
-    ∙ ap (λ (k : ℕ). k + length others) (piece_counted case origin n e)
-    ∙ ap (λ (k : ℕ). cond (has_message case e) 1 0 + k) (pieces_counted case origin (n + 1) es)
+-- there are as many outputs as encounters that have a message
+pub outputs_counted : (case : PlainProblem) (origin : PlainOrigin) (n : ℕ) (es : List (List PlainLeaf)) → length (numbered (outputs_at case origin) n es) ≡ count_by (has_message case) es
+outputs_counted case origin n [] = refl
+outputs_counted case origin n (e ∷ es) =
+    let others = numbered (outputs_at case origin) (n + 1) es in
+    length-append (outputs_at case origin n e) others
+    ∙ ap (λ (k : ℕ). k + length others) (output_counted case origin n e)
+    ∙ ap (λ (k : ℕ). cond (has_message case e) 1 0 + k) (outputs_counted case origin (n + 1) es)
     ∙ sym (sum_by-cons (λ y. cond (has_message case y) 1 0) e es)
 
 -- what is put of the encounter at place i stands behind what was put of those before it
 pub messages_more : (case : PlainProblem) (origin : PlainOrigin) (ss : List PlainLeaf) (es : List Encounter) (i : ℕ) (e : Encounter) (here old : List FileBytes) (now : Option (List FileBytes)) →
-    i < length es → e ≡ get_or es i e → here ≡ pieces_at case origin (i + 1) (stretches_in ss e) → now ≡ Some ((old ++ message_pieces case origin (groups_in ss (take i es))) ++ here) →
-    now ≡ Some (old ++ message_pieces case origin (groups_in ss (take (i + 1) es)))
+    i < length es → e ≡ get_or es i e → here ≡ outputs_at case origin (i + 1) (leaves_in ss e) → now ≡ Some ((old ++ message_outputs case origin (groups_in ss (take i es))) ++ here) →
+    now ≡ Some (old ++ message_outputs case origin (groups_in ss (take (i + 1) es)))
 messages_more case origin ss es i e here old now lt is made put =
-    let before = message_pieces case origin (groups_in ss (take i es)) in
-    put ∙ ap (λ (ps : List FileBytes). Some ps) (numbered_step (pieces_at case origin) (stretches_in ss) es i e old (old ++ before) ((old ++ before) ++ here) lt is refl (ap (λ (ps : List FileBytes). (old ++ before) ++ ps) made))
+    let before = message_outputs case origin (groups_in ss (take i es)) in
+    put ∙ ap (λ (ps : List FileBytes). Some ps) (numbered_step (outputs_at case origin) (leaves_in ss) es i e old (old ++ before) ((old ++ before) ++ here) lt is refl (ap (λ (ps : List FileBytes). (old ++ before) ++ ps) made))
 
 -- the put of the encounter at place i ended the run
 pub messages_cut : (case : PlainProblem) (origin : PlainOrigin) (ss : List PlainLeaf) (es : List Encounter) (i : ℕ) (e : Encounter) (here old : List FileBytes) (now : Option (List FileBytes)) (s : Status) →
-    i < length es → e ≡ get_or es i e → here ≡ pieces_at case origin (i + 1) (stretches_in ss e) → ComesOfPuts s →
-    Leaves s (Ok here) (old ++ message_pieces case origin (groups_in ss (take i es))) now → Leaves s (Ok (message_pieces case origin (groups_in ss es))) old now
+    i < length es → e ≡ get_or es i e → here ≡ outputs_at case origin (i + 1) (leaves_in ss e) → ComesOfPuts s →
+    Leaves s (Ok here) (old ++ message_outputs case origin (groups_in ss (take i es))) now → Leaves s (Ok (message_outputs case origin (groups_in ss es))) old now
 messages_cut case origin ss es i e here old now s lt is made comes leaves =
-    let before = message_pieces case origin (groups_in ss (take i es)) in
-    let behind = numbered (pieces_at case origin) (i + 2) (groups_in ss (drop (i + 1) es)) in
-    let whole = numbered_parts (pieces_at case origin) (stretches_in ss) es i e lt is ∙ ap (λ (ps : List FileBytes). before ++ (ps ++ behind)) (sym made) in
+    let before = message_outputs case origin (groups_in ss (take i es)) in
+    let behind = numbered (outputs_at case origin) (i + 2) (groups_in ss (drop (i + 1) es)) in
+    let whole = numbered_parts (outputs_at case origin) (leaves_in ss) es i e lt is ∙ ap (λ (ps : List FileBytes). before ++ (ps ++ behind)) (sym made) in
     subst (λ (ps : List FileBytes). Leaves s (Ok ps) old now) (sym whole)
     (second_leaves (Err s) before (here ++ behind) old now comes (first_leaves s here behind (old ++ before) now comes leaves))
 
@@ -154,13 +154,13 @@ messages_cut case origin ss es i e here old now s lt is made comes leaves =
 pub encounters_within : (leaves : List Leaf) (es : List Encounter) → AreEncounters (plain_leaves leaves) es → length leaves ≤ MOST_LEAVES → length es ≤ MOST_LEAVES
 encounters_within leaves es are few =
     let ss = plain_leaves leaves in
-    omega (arith, ap (λ (gs : List (List PlainLeaf)). length gs) are.groups, encounters_few ss, length-map leaves plain_leaf, length-map es (stretches_in ss), few)
+    omega (arith, ap (λ (gs : List (List PlainLeaf)). length gs) are.groups, encounters_few ss, length-map leaves plain_leaf, length-map es (leaves_in ss), few)
 
--- what is made of the encounter at place i of findings is the piece of its message
+-- what is made of the encounter at place i of findings is the output of its message
 made_of_found : (found : Findings) (origin : PlainOrigin) (i k : ℕ) (stamp : PlainStamp) (e : Encounter) (x : Closest) → AreFound found →
     i < length found.encounters.items → e ≡ get_or found.encounters.items i e → x ≡ get_or found.closest.items i x → stamp ≡ stamp_from origin (i + 1) → k ≡ i + 1 →
-    option_to_list (option_map (message_piece k) (message_of (case_in found) e.pair.a e.pair.b x.tick.micros x.high stamp))
-    ≡ pieces_at (case_in found) origin (i + 1) (stretches_in (plain_leaves found.leaves.items) e)
+    option_to_list (option_map (message_output k) (message_of (case_in found) e.pair.a e.pair.b x.tick.micros x.high stamp))
+    ≡ outputs_at (case_in found) origin (i + 1) (leaves_in (plain_leaves found.leaves.items) e)
 made_of_found found origin i k stamp e x are lt e_is x_is stamped number =
     let case = case_in found in
     let ss = plain_leaves found.leaves.items in
@@ -168,22 +168,22 @@ made_of_found found origin i k stamp e x are lt e_is x_is stamped number =
     let xs = found.closest.items in
     let d = subst (Describes ss) (sym e_is) (are.encounters.described i e lt) in
     let many : length xs ≡ length es =
-    omega (arith, ap (λ (os : List (Option PlainClosest)). length os) are.closest, length-map xs some_closest, length-map (groups_in ss es) (closest_of case), length-map es (stretches_in ss)) in
-    piece_made case origin (i + 1) k stamp ss e x d (approach_at (closest_of case) ss es xs i e x lt many e_is x_is are.closest) stamped number
+    omega (arith, ap (λ (os : List (Option PlainClosest)). length os) are.closest, length-map xs some_closest, length-map (groups_in ss es) (closest_of case), length-map es (leaves_in ss)) in
+    output_made case origin (i + 1) k stamp ss e x d (approach_at (closest_of case) ss es xs i e x lt many e_is x_is are.closest) stamped number
 
 -- the same of a problem that is that of the findings
 pub made_of_index : (found : Findings) (problem : Problem) (origin : PlainOrigin) (i k : ℕ) (stamp : PlainStamp) (e : Encounter) (x : Closest) → problem ≡ found.problem → AreFound found →
     i < length found.encounters.items → e ≡ get_or found.encounters.items i e → x ≡ get_or found.closest.items i x → stamp ≡ stamp_from origin (i + 1) → k ≡ i + 1 →
-    option_to_list (option_map (message_piece k) (message_of (plain_problem problem) e.pair.a e.pair.b x.tick.micros x.high stamp))
-    ≡ pieces_at (case_in found) origin (i + 1) (stretches_in (plain_leaves found.leaves.items) e)
+    option_to_list (option_map (message_output k) (message_of (plain_problem problem) e.pair.a e.pair.b x.tick.micros x.high stamp))
+    ≡ outputs_at (case_in found) origin (i + 1) (leaves_in (plain_leaves found.leaves.items) e)
 made_of_index found problem origin i k stamp e x same are lt e_is x_is stamped number =
-    ap (λ (p : Problem). option_to_list (option_map (message_piece k) (message_of (plain_problem p) e.pair.a e.pair.b x.tick.micros x.high stamp))) same
+    ap (λ (p : Problem). option_to_list (option_map (message_output k) (message_of (plain_problem p) e.pair.a e.pair.b x.tick.micros x.high stamp))) same
     ∙ made_of_found found origin i k stamp e x are lt e_is x_is stamped number
 
 -- the summary counts the messages
 pub messages_tallied : (found : Findings) (origin : PlainOrigin) → AreFound found → length (messages_in origin found) ≡ found.counts.messages
 messages_tallied found origin are =
-    pieces_counted (case_in found) origin 1 (encounters_of (plain_leaves found.leaves.items)) ∙ sym (ap (λ (t : Tally). t.messages) are.counts)
+    outputs_counted (case_in found) origin 1 (encounters_of (plain_leaves found.leaves.items)) ∙ sym (ap (λ (t : Tally). t.messages) are.counts)
 
 -- the notes of a run's encounters, which were made of what was lent
 pub noted_in : (case : PlainProblem) (ss : List PlainLeaf) (es lent : List Encounter) (xs lent_closest : List Closest) (bs : List Bool) → lent ≡ es → lent_closest ≡ xs →

@@ -17,7 +17,7 @@ pub report_is : (found : Findings) (leaves : List Leaf) (es : List Encounter) (x
     leaves ≡ found.leaves.items → es ≡ found.encounters.items → xs ≡ found.closest.items → bs ≡ found.messages.items
     → (let case = case_in found in (approach : List PlainLeaf → Option PlainClosest) (has : List PlainLeaf → Bool) → map some_closest xs ≡ map approach (groups_in (plain_leaves leaves) es)
     → bs ≡ map has (groups_in (plain_leaves leaves) es)
-    → text ≡ report_of case.first case.last case.threshold case.ephemerides (told found.with_sizes case.sizes) approach has (groups_in (plain_leaves leaves) es))
+    → text ≡ report_of case.first case.last case.threshold case.tracks (told found.with_sizes case.sizes) approach has (groups_in (plain_leaves leaves) es))
     → text ≡ report_bytes found.with_sizes (case_in found) (plain_leaves found.leaves.items)
 report_is found leaves es xs bs text are p q r b given =
     let case = case_in found in
@@ -25,4 +25,4 @@ report_is found leaves es xs bs text are p q r b given =
     let each = ap (map some_closest) r ∙ are.closest ∙ sym (λ i. map (closest_of case) (groups_in (plain_leaves (p i)) (q i))) in
     let noted = b ∙ are.messages ∙ sym (λ i. map (has_message case) (groups_in (plain_leaves (p i)) (q i))) in
     given (closest_of case) (has_message case) each noted
-    ∙ ap (report_of case.first case.last case.threshold case.ephemerides (told found.with_sizes case.sizes) (closest_of case) (has_message case)) groups
+    ∙ ap (report_of case.first case.last case.threshold case.tracks (told found.with_sizes case.sizes) (closest_of case) (has_message case)) groups

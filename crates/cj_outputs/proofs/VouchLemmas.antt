@@ -49,21 +49,21 @@ spans_split case cells split spans = record {
 report_made : (with_sizes : Bool) (case : PlainProblem) (ss : List PlainLeaf) (met : Meetings) (es : List Encounter) (xs : List Closest) (bs : List Bool) (text : List ℕ)
     → AreMeetings case ss met → es ≡ met.encounters.items → xs ≡ met.closest.items → bs ≡ met.messages.items
     → ((approach : List PlainLeaf → Option PlainClosest) (has : List PlainLeaf → Bool) → map some_closest xs ≡ map approach (groups_in ss es) → bs ≡ map has (groups_in ss es)
-    → text ≡ report_of case.first case.last case.threshold case.ephemerides (told with_sizes case.sizes) approach has (groups_in ss es))
+    → text ≡ report_of case.first case.last case.threshold case.tracks (told with_sizes case.sizes) approach has (groups_in ss es))
     → text ≡ report_bytes with_sizes case ss
 report_made with_sizes case ss met es xs bs text are p q r given =
     let groups : groups_in ss es ≡ encounters_of ss = ap (groups_in ss) p ∙ are.encounters.groups in
     let each = ap (map some_closest) q ∙ are.closest ∙ sym (ap (λ (es : List Encounter). map (closest_of case) (groups_in ss es)) p) in
     let noted = r ∙ are.messages ∙ sym (ap (λ (es : List Encounter). map (has_message case) (groups_in ss es)) p) in
     given (closest_of case) (has_message case) each noted
-    ∙ ap (report_of case.first case.last case.threshold case.ephemerides (told with_sizes case.sizes) (closest_of case) (has_message case)) groups
+    ∙ ap (report_of case.first case.last case.threshold case.tracks (told with_sizes case.sizes) (closest_of case) (has_message case)) groups
 
 -- the same where there is memory for it
 pub report_if_made : (with_sizes : Bool) (case : PlainProblem) (ss : List PlainLeaf) (met : Meetings) (es : List Encounter) (xs : List Closest) (bs : List Bool)
     (r : Result (Vec ℕ Global) AllocError) → AreMeetings case ss met → es ≡ met.encounters.items → xs ≡ met.closest.items → bs ≡ met.messages.items
     → IfOk r (λ text. (approach : List PlainLeaf → Option PlainClosest) (has : List PlainLeaf → Bool) → map some_closest xs ≡ map approach (groups_in ss es)
     → bs ≡ map has (groups_in ss es)
-    → text.items ≡ report_of case.first case.last case.threshold case.ephemerides (told with_sizes case.sizes) approach has (groups_in ss es))
+    → text.items ≡ report_of case.first case.last case.threshold case.tracks (told with_sizes case.sizes) approach has (groups_in ss es))
     → IfOk r (λ text. text.items ≡ report_bytes with_sizes case ss)
 report_if_made with_sizes case ss met es xs bs (Ok text) are p q r given = report_made with_sizes case ss met es xs bs text.items are p q r given
 report_if_made with_sizes case ss met es xs bs (Err e) are p q r given = tt
@@ -127,8 +127,8 @@ report_judged with_sizes case cells bytes due r few is text split spans nearest 
     (judged (AcceptedReport with_sizes case cells bytes) bytes due
     (λ same. record { text = same ∙ text; split = spans_split case cells split spans; nearest = nearest })))
 
--- the pieces of a check whose report is judged
-pub pieces_behind : (rose : Type 0) (pieces : List FileBytes) (r due : Result (Unit {0}) Status) → Gives ⊥ (λ done. done) r due
-    → Gives rose (λ done. pieces) r (due >>= λ done. Ok pieces)
-pieces_behind rose pieces (Ok done) due gives = ap (λ (d : Result (Unit {0}) Status). d >>= λ done. Ok pieces) gives
-pieces_behind rose pieces (Err s) due gives = stops_behind ⊥ rose s due (λ done. Ok pieces) (λ none. absurd none) gives
+-- the outputs of a check whose report is judged
+pub outputs_behind : (rose : Type 0) (outputs : List FileBytes) (r due : Result (Unit {0}) Status) → Gives ⊥ (λ done. done) r due
+    → Gives rose (λ done. outputs) r (due >>= λ done. Ok outputs)
+outputs_behind rose outputs (Ok done) due gives = ap (λ (d : Result (Unit {0}) Status). d >>= λ done. Ok outputs) gives
+outputs_behind rose outputs (Err s) due gives = stops_behind ⊥ rose s due (λ done. Ok outputs) (λ none. absurd none) gives

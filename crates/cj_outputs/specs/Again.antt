@@ -2,9 +2,9 @@
 use Rattle.std.specs.Prelude.{◌≡◌, ℕ, Bool, false, not, List, [], ◌∷◌, filter, None, Ok}
 use Rattle.std.specs.Str.{bytes_eq}
 use Rattle.cj_io.specs.declared.file.FileBytes.{FileBytes}
-use Rattle.cj_words.specs.Settings.{Asked}
+use Rattle.cj_words.specs.Settings.{PlainSettings}
 use Rattle.cj_inputs.specs.InputFiles.{has_sizes, has_suffix}
-use Rattle.cj_outputs.specs.Outcome.{accepted_piece, piece, pieces_checked}
+use Rattle.cj_outputs.specs.Outcome.{accepted_output, output, outputs_checked}
 
 -- the file has this name
 abbrev pub has_name : List ℕ → FileBytes → Bool
@@ -16,15 +16,15 @@ without_name name files = filter (λ file. not (has_name name file)) files
 
 -- Later files are the same but for those of one name, of which there is one then, with these bytes.
 pub record HoldAlso (name bytes : List ℕ) (files later : List FileBytes) : Type 0 where
-  pub once : filter (has_name name) later ≡ piece name bytes ∷ []
+  pub once : filter (has_name name) later ≡ output name bytes ∷ []
   pub others : without_name name later ≡ without_name name files
 
 -- a name that is neither that of an ephemeris nor that of the file of sizes
-pub record IsNoInput (settings : Asked) (name : List ℕ) : Type 0 where
+pub record IsNoInput (settings : PlainSettings) (name : List ℕ) : Type 0 where
   pub suffix : has_suffix settings.suffix name ≡ false
   pub sizes : has_sizes settings.sizes name ≡ false
 
 -- whatever its name, a check of such later files accepts it
-abbrev pub IsAcceptedLater : Asked → List FileBytes → List ℕ → Type 0
+abbrev pub IsAcceptedLater : PlainSettings → List FileBytes → List ℕ → Type 0
 IsAcceptedLater settings files bytes = (name : List ℕ) (later : List FileBytes) → IsNoInput settings name → HoldAlso name bytes files later
-    → pieces_checked later (record { settings = settings; certificate = name; report = None }) ≡ Ok (accepted_piece ∷ [])
+    → outputs_checked later (record { settings = settings; certificate = name; report = None }) ≡ Ok (accepted_output ∷ [])

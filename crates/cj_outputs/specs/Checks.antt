@@ -1,7 +1,7 @@
 -- What a check says that accepts a certificate, and of the report beside it.
 use Rattle.std.specs.Prelude.{◌≡◌, ℕ, Bool, List, [], ◌∷◌, ◌++◌, Option, Some, Ok, All, IfSome}
 use Rattle.cj_io.specs.declared.file.FileBytes.{FileBytes}
-use Rattle.cj_words.specs.Commands.{Checking}
+use Rattle.cj_words.specs.Commands.{PlainChecking}
 use Rattle.cj_hermite.specs.PlainProblems.{PlainProblem}
 use Rattle.cj_bezier.specs.Leaves.{PlainLeaf}
 use Rattle.cj_meet.specs.Closest.{HasNearest, closest_of}
@@ -15,7 +15,7 @@ use Rattle.cj_cert_text.specs.Texts.{text_of}
 use Rattle.cj_inputs.specs.Cases.{case_asked}
 use Rattle.cj_inputs.specs.CheckInputs.{certificate_named, report_named}
 use Rattle.cj_outputs.specs.Messages.{has_message}
-use Rattle.cj_outputs.specs.Outcome.{accepted_piece, tells_sizes}
+use Rattle.cj_outputs.specs.Outcome.{accepted_output, tells_sizes}
 use Rattle.cj_outputs.specs.SpanSplits.{SplitsTicks}
 
 -- The bytes are the text of a certificate that is accepted for a case, and its cells split the common ticks of every pair.
@@ -30,18 +30,18 @@ pub record AcceptedText (case : PlainProblem) (bytes : List ℕ) : Type 0 where
 -- split the common ticks of every pair. Each pair is within its bound at its closest approach, and at no tick of the encounter more than one
 -- millimetre nearer.
 pub record AcceptedReport (with_sizes : Bool) (case : PlainProblem) (cells : List PlainLeaf) (bytes : List ℕ) : Type 0 where
-  pub text : bytes ≡ report_of case.first case.last case.threshold case.ephemerides (told with_sizes case.sizes) (closest_of case) (has_message case) (encounters_of cells)
+  pub text : bytes ≡ report_of case.first case.last case.threshold case.tracks (told with_sizes case.sizes) (closest_of case) (has_message case) (encounters_of cells)
   pub split : SplitsTicks case (encounters_of cells)
   pub nearest : All (HasNearest case) (encounters_of cells)
 
 -- Those of the file with this name are so. The report tells the sizes where the command line names a file of them.
-pub record VouchesReport (checking : Checking) (files : List FileBytes) (case : PlainProblem) (cells : List PlainLeaf) (name : List ℕ) : Type 0 where
+pub record VouchesReport (checking : PlainChecking) (files : List FileBytes) (case : PlainProblem) (cells : List PlainLeaf) (name : List ℕ) : Type 0 where
   pub bytes : List ℕ
   pub named : report_named files name ≡ Ok bytes
   pub holds : AcceptedReport (tells_sizes checking.settings) case cells bytes
 
 -- Those of the named certificate are accepted, for the case that was asked; and where a report is named, it is that of the certificate's cells.
-pub record Vouches (checking : Checking) (files : List FileBytes) : Type 0 where
+pub record Vouches (checking : PlainChecking) (files : List FileBytes) : Type 0 where
   pub case : PlainProblem
   pub read : case_asked files checking.settings ≡ Ok case
   pub bytes : List ℕ
@@ -49,7 +49,7 @@ pub record Vouches (checking : Checking) (files : List FileBytes) : Type 0 where
   pub holds : AcceptedText case bytes
   pub reported : IfSome checking.report (VouchesReport checking files case holds.certificate.cells)
 
--- the new piece says so
-pub record IsChecked (checking : Checking) (files old : List FileBytes) (new : Option (List FileBytes)) : Type 0 where
+-- the new output says so
+pub record IsChecked (checking : PlainChecking) (files old : List FileBytes) (new : Option (List FileBytes)) : Type 0 where
   pub vouched : Vouches checking files
-  pub put : new ≡ Some (old ++ accepted_piece ∷ [])
+  pub put : new ≡ Some (old ++ accepted_output ∷ [])

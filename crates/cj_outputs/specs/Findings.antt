@@ -6,8 +6,8 @@ use Rattle.cj_hermite.specs.PlainProblems.{PlainProblem}
 use Rattle.cj_hermite.specs.Problems.{plain_problem}
 use Rattle.cj_bezier.specs.Leaves.{plain_leaves}
 use Rattle.cj_bezier.specs.SlotBoxes.{plain_boxes}
-use Rattle.cj_cells.specs.Lists.{list_looked}
-use Rattle.cj_bezier.specs.Looked.{shells_of}
+use Rattle.cj_cells.specs.Lists.{list_candidates}
+use Rattle.cj_bezier.specs.Candidates.{shells_of}
 use Rattle.cj_bezier.specs.AllBoxes.{boxes_of}
 use Rattle.cj_meet.specs.Closest.{closest_of, some_closest}
 use Rattle.cj_meet.specs.Encounters.{AreEncounters, encounters_of, groups_in}
@@ -15,8 +15,8 @@ use Rattle.cj_report.specs.Counts.{tally_of}
 use Rattle.cj_outputs.specs.declared.findings.Findings.{Findings}
 use Rattle.cj_status.specs.declared.status.Status.{Status}
 use Rattle.cj_status.specs.declared.status.Status.TheVariants as status
-use Rattle.cj_outputs.specs.Messages.{PlainOrigin, has_message, message_pieces}
-use Rattle.cj_outputs.specs.Outcome.{cert_bytes, cert_piece, pieces_with, report_bytes, report_piece, summary_bytes, summary_piece, tried_piece}
+use Rattle.cj_outputs.specs.Messages.{PlainOrigin, has_message, message_outputs}
+use Rattle.cj_outputs.specs.Outcome.{cert_bytes, cert_output, outputs_with, report_bytes, report_output, summary_bytes, summary_output, selfrun_output}
 use Rattle.cj_outputs.specs.Summaries.{tally_with}
 
 -- the case whose findings they are
@@ -27,36 +27,36 @@ case_in found = plain_problem found.problem
 pub record AreFound (found : Findings) : Type 0 where
   pub shells : found.shells.items ≡ shells_of (case_in found)
   pub boxes : plain_boxes found.boxes.items ≡ boxes_of (case_in found)
-  pub leaves : plain_leaves found.leaves.items ≡ list_looked (case_in found)
+  pub leaves : plain_leaves found.leaves.items ≡ list_candidates (case_in found)
   pub few : length found.leaves.items ≤ MOST_LEAVES
   pub encounters : AreEncounters (plain_leaves found.leaves.items) found.encounters.items
   pub closest : map some_closest found.closest.items ≡ map (closest_of (case_in found)) (groups_in (plain_leaves found.leaves.items) found.encounters.items)
   pub messages : found.messages.items ≡ map (has_message (case_in found)) (groups_in (plain_leaves found.leaves.items) found.encounters.items)
   pub counts : tally_of found.counts ≡ tally_with (case_in found) (plain_leaves found.leaves.items)
 
--- the piece of the report
+-- the output of the report
 abbrev pub report_in : Findings → FileBytes
-report_in found = report_piece (report_bytes found.with_sizes (case_in found) (plain_leaves found.leaves.items))
+report_in found = report_output (report_bytes found.with_sizes (case_in found) (plain_leaves found.leaves.items))
 
--- the piece of the certificate
+-- the output of the certificate
 abbrev pub cert_in : Findings → FileBytes
-cert_in found = cert_piece (cert_bytes found.version (case_in found))
+cert_in found = cert_output (cert_bytes found.version (case_in found))
 
--- the pieces of the messages
+-- the outputs of the messages
 abbrev pub messages_in : PlainOrigin → Findings → List FileBytes
-messages_in origin found = message_pieces (case_in found) origin (encounters_of (plain_leaves found.leaves.items))
+messages_in origin found = message_outputs (case_in found) origin (encounters_of (plain_leaves found.leaves.items))
 
--- the piece of the summary
+-- the output of the summary
 abbrev pub summary_in : Findings → FileBytes
-summary_in found = summary_piece (summary_bytes (case_in found) (plain_leaves found.leaves.items))
+summary_in found = summary_output (summary_bytes (case_in found) (plain_leaves found.leaves.items))
 
--- the piece of a made-up catalogue that is screened
-abbrev pub tried_in : Findings → FileBytes
-tried_in found = tried_piece (case_in found) (plain_leaves found.leaves.items)
+-- the output of a made-up catalogue that is screened
+abbrev pub selfrun_in : Findings → FileBytes
+selfrun_in found = selfrun_output (case_in found) (plain_leaves found.leaves.items)
 
--- all pieces, in the order in which they are put
-abbrev pub pieces_in : PlainOrigin → Findings → List FileBytes
-pieces_in origin found = pieces_with found.with_sizes found.version origin (case_in found) (plain_leaves found.leaves.items)
+-- all outputs, in the order in which they are put
+abbrev pub outputs_in : PlainOrigin → Findings → List FileBytes
+outputs_in origin found = outputs_with found.with_sizes found.version origin (case_in found) (plain_leaves found.leaves.items)
 
 -- how a run ends by its last step
 abbrev pub ended : Result (Unit {0}) Status → Status

@@ -31,14 +31,14 @@ abbrev pub message_in : PlainProblem → PlainOrigin → ℕ → List PlainLeaf 
 message_in case origin number encounter =
     option_and_then (λ at. message_of case (first_object encounter) (second_object encounter) at.tick at.high (stamp_from origin number)) (closest_of case encounter)
 
--- the piece of a message with its number
-abbrev pub message_piece : ℕ → PlainMessage → FileBytes
-message_piece number message = record { name = name_of number; bytes = text_of message }
+-- the output of a message with its number
+abbrev pub message_output : ℕ → PlainMessage → FileBytes
+message_output number message = record { name = name_of number; bytes = text_of message }
 
--- the piece of the message of an encounter, where it has one
-abbrev pub pieces_at : PlainProblem → PlainOrigin → ℕ → List PlainLeaf → List FileBytes
-pieces_at case origin number encounter = option_to_list (option_map (message_piece number) (message_in case origin number encounter))
+-- the output of the message of an encounter, where it has one
+abbrev pub outputs_at : PlainProblem → PlainOrigin → ℕ → List PlainLeaf → List FileBytes
+outputs_at case origin number encounter = option_to_list (option_map (message_output number) (message_in case origin number encounter))
 
--- the pieces of the messages of these encounters, which are numbered from 1
-abbrev pub message_pieces : PlainProblem → PlainOrigin → List (List PlainLeaf) → List FileBytes
-message_pieces case origin encounters = numbered (pieces_at case origin) 1 encounters
+-- the outputs of the messages of these encounters, which are numbered from 1
+abbrev pub message_outputs : PlainProblem → PlainOrigin → List (List PlainLeaf) → List FileBytes
+message_outputs case origin encounters = numbered (outputs_at case origin) 1 encounters

@@ -6,8 +6,8 @@ use Rattle.cj_io.specs.declared.file.FileBytes.{FileBytes}
 use Rattle.cj_io.specs.Files.{IsPrefix}
 use Rattle.cj_values.specs.Limits.{USUAL}
 use Rattle.cj_words.specs.declared.option.UsageFault.{UsageFault}
-use Rattle.cj_words.specs.Commands.{Asking, Screens, Checks, Generates, Tries, Rewrites, Checking, Screening, Trial, command_of}
-use Rattle.cj_words.specs.Settings.{Asked}
+use Rattle.cj_words.specs.Commands.{PlainCommand, Screens, Checks, Generates, Selfruns, Rewrites, PlainChecking, PlainScreening, PlainSelfrun, command_of}
+use Rattle.cj_words.specs.Settings.{PlainSettings}
 use Rattle.cj_gen.specs.Catalogues.{catalogue_of}
 use Rattle.cj_hermite.specs.PlainProblems.{PlainProblem}
 use Rattle.cj_inputs.specs.Cases.{case_asked}
@@ -15,7 +15,7 @@ use Rattle.cj_inputs.specs.CheckInputs.{inputs_asked}
 use Rattle.cj_bezier.specs.Leaves.{PlainLeaf}
 use Rattle.cj_meet.specs.Closest.{closest_of}
 use Rattle.cj_meet.specs.Encounters.{encounters_of}
-use Rattle.cj_cells.specs.Lists.{list_looked}
+use Rattle.cj_cells.specs.Lists.{list_candidates}
 use Rattle.cj_report.specs.Report.{report_of, told}
 use Rattle.cj_report.specs.Summary.{summary_of}
 use Rattle.cj_cert.specs.Certificates.{PlainCertificate}
@@ -30,28 +30,28 @@ use Rattle.cj_status.specs.declared.status.CertificateCause.TheVariants.{Text, R
 use Rattle.cj_status.specs.declared.status.LimitFault.TheVariants.{Cells}
 use Rattle.cj_status.specs.Steps.{◌>>=◌}
 use Rattle.cj_outputs.specs.Differences.{differing_line}
-use Rattle.cj_outputs.specs.Messages.{PlainOrigin, has_message, message_pieces}
+use Rattle.cj_outputs.specs.Messages.{PlainOrigin, has_message, message_outputs}
 use Rattle.cj_outputs.specs.Summaries.{tally_with}
 
-abbrev pub asked : Result Asking UsageFault → Result Asking Status
-asked (Ok asking) = Ok asking
+abbrev pub asked : Result PlainCommand UsageFault → Result PlainCommand Status
+asked (Ok command) = Ok command
 asked (Err fault) = Err (status.Usage fault)
 
 -- at most so many leaves
 abbrev pub within_cells : ℕ → List PlainLeaf → Result (List PlainLeaf) Status
 within_cells limit leaves = if nat_le (length leaves) limit then Ok leaves else Err (status.Limit (Cells limit))
 
-abbrev pub piece : List ℕ → List ℕ → FileBytes
-piece name bytes = record { name = name; bytes = bytes }
+abbrev pub output : List ℕ → List ℕ → FileBytes
+output name bytes = record { name = name; bytes = bytes }
 
 -- the encounters of a case: those of its one-thread list
 abbrev pub encounters_in : PlainProblem → List (List PlainLeaf)
-encounters_in case = encounters_of (list_looked case)
+encounters_in case = encounters_of (list_candidates case)
 
 -- the report of a case with these leaves, which may tell the sizes; it tells which encounters have a message
 abbrev pub report_bytes : Bool → PlainProblem → List PlainLeaf → List ℕ
 report_bytes with_sizes case leaves =
-    report_of case.first case.last case.threshold case.ephemerides (told with_sizes case.sizes) (closest_of case) (has_message case) (encounters_of leaves)
+    report_of case.first case.last case.threshold case.tracks (told with_sizes case.sizes) (closest_of case) (has_message case) (encounters_of leaves)
 
 -- its certificate in a version
 abbrev pub cert_bytes : CertVersion → PlainProblem → List ℕ
@@ -61,54 +61,54 @@ cert_bytes version case = text_of (written_in version case)
 abbrev pub summary_bytes : PlainProblem → List PlainLeaf → List ℕ
 summary_bytes case leaves = summary_of (tally_with case leaves)
 
-abbrev pub report_piece : List ℕ → FileBytes
-report_piece bytes = piece (codes "screen.report") bytes
+abbrev pub report_output : List ℕ → FileBytes
+report_output bytes = output (codes "screen.report") bytes
 
-abbrev pub cert_piece : List ℕ → FileBytes
-cert_piece bytes = piece (codes "screen.cert") bytes
+abbrev pub cert_output : List ℕ → FileBytes
+cert_output bytes = output (codes "screen.cert") bytes
 
-abbrev pub summary_piece : List ℕ → FileBytes
-summary_piece bytes = piece (codes "-") bytes
+abbrev pub summary_output : List ℕ → FileBytes
+summary_output bytes = output (codes "-") bytes
 
--- the pieces behind the report and the certificate: the messages by number, and the summary for standard output
-abbrev pub further_pieces : PlainOrigin → PlainProblem → List PlainLeaf → List FileBytes
-further_pieces origin case leaves = message_pieces case origin (encounters_of leaves) ++ summary_piece (summary_bytes case leaves) ∷ []
+-- the outputs behind the report and the certificate: the messages by number, and the summary for standard output
+abbrev pub further_outputs : PlainOrigin → PlainProblem → List PlainLeaf → List FileBytes
+further_outputs origin case leaves = message_outputs case origin (encounters_of leaves) ++ summary_output (summary_bytes case leaves) ∷ []
 
--- the pieces of a case with these leaves: the report, the certificate, and those
-abbrev pub pieces_with : Bool → CertVersion → PlainOrigin → PlainProblem → List PlainLeaf → List FileBytes
-pieces_with with_sizes version origin case leaves =
-    report_piece (report_bytes with_sizes case leaves) ∷ cert_piece (cert_bytes version case) ∷ further_pieces origin case leaves
+-- the outputs of a case with these leaves: the report, the certificate, and those
+abbrev pub outputs_with : Bool → CertVersion → PlainOrigin → PlainProblem → List PlainLeaf → List FileBytes
+outputs_with with_sizes version origin case leaves =
+    report_output (report_bytes with_sizes case leaves) ∷ cert_output (cert_bytes version case) ∷ further_outputs origin case leaves
 
--- the pieces of a case, where it has at most so many leaves
-unfoldable pub pieces_within : ℕ → Bool → CertVersion → PlainOrigin → PlainProblem → Result (List FileBytes) Status
-pieces_within limit with_sizes version origin case =
-    within_cells limit (list_looked case) >>= λ leaves. Ok (pieces_with with_sizes version origin case leaves)
+-- the outputs of a case, where it has at most so many leaves
+unfoldable pub outputs_within : ℕ → Bool → CertVersion → PlainOrigin → PlainProblem → Result (List FileBytes) Status
+outputs_within limit with_sizes version origin case =
+    within_cells limit (list_candidates case) >>= λ leaves. Ok (outputs_with with_sizes version origin case leaves)
 
 -- the report is to tell the sizes
-abbrev pub tells_sizes : Asked → Bool
+abbrev pub tells_sizes : PlainSettings → Bool
 tells_sizes settings = is_some settings.sizes
 
 -- when the messages of a screening at this tick are made, and by whom
-abbrev pub origin_of : ℕ → Screening → PlainOrigin
+abbrev pub origin_of : ℕ → PlainScreening → PlainOrigin
 origin_of now screening = record { created = now; originator = screening.originator }
 
--- the pieces of a screening of files at this tick, or the first cause for which there is none
-unfoldable pub pieces_screened : List FileBytes → ℕ → Screening → Result (List FileBytes) Status
-pieces_screened files now screening = do
+-- the outputs of a screening of files at this tick, or the first cause for which there is none
+unfoldable pub outputs_screened : List FileBytes → ℕ → PlainScreening → Result (List FileBytes) Status
+outputs_screened files now screening = do
   case ← case_asked files screening.settings
-  pieces_within screening.cells (tells_sizes screening.settings) screening.version (origin_of now screening) case
+  outputs_within screening.cells (tells_sizes screening.settings) screening.version (origin_of now screening) case
 
 -- how many files were made
 abbrev pub count_bytes : ℕ → List ℕ
 count_bytes count = codes "GENERATED " ++ decimal count ++ 10 ∷ []
 
--- the pieces of a catalogue: its files, and for standard output how many there are
-abbrev pub pieces_made : List FileBytes → List FileBytes
-pieces_made catalogue = catalogue ++ summary_piece (count_bytes (length catalogue)) ∷ []
+-- the outputs of a catalogue: its files, and for standard output how many there are
+abbrev pub outputs_made : List FileBytes → List FileBytes
+outputs_made catalogue = catalogue ++ summary_output (count_bytes (length catalogue)) ∷ []
 
 -- for standard output, where a certificate is accepted
-abbrev pub accepted_piece : FileBytes
-accepted_piece = piece (codes "-") (codes "ACCEPTED" ++ 10 ∷ [])
+abbrev pub accepted_output : FileBytes
+accepted_output = output (codes "-") (codes "ACCEPTED" ++ 10 ∷ [])
 
 -- what a text says as a certificate
 abbrev pub said_or : Result PlainCertificate Fault → Result PlainCertificate Status
@@ -140,94 +140,94 @@ abbrev pub report_if_accepting : Bool → PlainProblem → List PlainLeaf → Op
 report_if_accepting with_sizes case cells None = Ok tt
 report_if_accepting with_sizes case cells (Some bytes) = report_accepting with_sizes case cells bytes
 
--- the piece of a check, or the first cause for which there is none
-unfoldable pub pieces_checked : List FileBytes → Checking → Result (List FileBytes) Status
-pieces_checked files checking = do
+-- the output of a check, or the first cause for which there is none
+unfoldable pub outputs_checked : List FileBytes → PlainChecking → Result (List FileBytes) Status
+outputs_checked files checking = do
   inputs ← inputs_asked files checking
   certificate ← accepting inputs.case inputs.bytes
   done ← report_if_accepting (tells_sizes checking.settings) inputs.case certificate.cells inputs.report
-  Ok (accepted_piece ∷ [])
+  Ok (accepted_output ∷ [])
 
--- the pieces of a certificate that is rewritten: its text, and for standard output that it is
-abbrev pub pieces_renewed : PlainCertificate → List FileBytes
-pieces_renewed certificate = piece (codes "screen.cert2") (text_of certificate) ∷ piece (codes "-") (codes "REWRITTEN" ++ 10 ∷ []) ∷ []
+-- the outputs of a certificate that is rewritten: its text, and for standard output that it is
+abbrev pub outputs_renewed : PlainCertificate → List FileBytes
+outputs_renewed certificate = output (codes "screen.cert2") (text_of certificate) ∷ output (codes "-") (codes "REWRITTEN" ++ 10 ∷ []) ∷ []
 
--- the pieces of the certificate that is named in version 2, or the first cause for which there are none
-unfoldable pub pieces_rewritten : List FileBytes → Checking → Result (List FileBytes) Status
-pieces_rewritten files checking = do
+-- the outputs of the certificate that is named in version 2, or the first cause for which there are none
+unfoldable pub outputs_rewritten : List FileBytes → PlainChecking → Result (List FileBytes) Status
+outputs_rewritten files checking = do
   inputs ← inputs_asked files checking
   certificate ← accepting inputs.case inputs.bytes
-  Ok (pieces_renewed (in_version_2 inputs.case certificate))
+  Ok (outputs_renewed (in_version_2 inputs.case certificate))
 
 -- the settings by which a made-up catalogue is screened: over its whole span, within the usual limits
-abbrev pub settings_tried : Trial → Asked
-settings_tried trial = record { threshold = trial.threshold; from = None; to = None; suffix = codes ".oem"; as_hermite3 = false; sizes = None; limits = USUAL }
+abbrev pub settings_of_selfrun : PlainSelfrun → PlainSettings
+settings_of_selfrun selfrun = record { threshold = selfrun.threshold; from = None; to = None; suffix = codes ".oem"; as_hermite3 = false; sizes = None; limits = USUAL }
 
 -- the case of a made-up catalogue: that of its files
-unfoldable pub case_tried : Trial → Result PlainProblem Status
-case_tried trial = case_asked (catalogue_of trial.recipe.seed trial.recipe.objects trial.recipe.minutes) (settings_tried trial)
+unfoldable pub case_of_selfrun : PlainSelfrun → Result PlainProblem Status
+case_of_selfrun selfrun = case_asked (catalogue_of selfrun.recipe.seed selfrun.recipe.objects selfrun.recipe.minutes) (settings_of_selfrun selfrun)
 
 -- for standard output: the summary of a catalogue that is screened, and that its certificate is accepted
-abbrev pub tried_piece : PlainProblem → List PlainLeaf → FileBytes
-tried_piece case leaves = summary_piece (summary_bytes case leaves ++ (codes "CHECK ACCEPTED" ++ 10 ∷ []))
+abbrev pub selfrun_output : PlainProblem → List PlainLeaf → FileBytes
+selfrun_output case leaves = summary_output (summary_bytes case leaves ++ (codes "CHECK ACCEPTED" ++ 10 ∷ []))
 
--- the piece of a case, where it has at most so many leaves
-abbrev pub tried_within : ℕ → PlainProblem → Result (List FileBytes) Status
-tried_within limit case = within_cells limit (list_looked case) >>= λ leaves. Ok (tried_piece case leaves ∷ [])
+-- the output of a case, where it has at most so many leaves
+abbrev pub selfrun_within : ℕ → PlainProblem → Result (List FileBytes) Status
+selfrun_within limit case = within_cells limit (list_candidates case) >>= λ leaves. Ok (selfrun_output case leaves ∷ [])
 
--- the piece of a catalogue that is screened, or the first cause for which there is none
-unfoldable pub pieces_tried : Trial → Result (List FileBytes) Status
-pieces_tried trial = do
-  case ← case_tried trial
-  tried_within trial.cells case
+-- the output of a catalogue that is screened, or the first cause for which there is none
+unfoldable pub outputs_of_selfrun : PlainSelfrun → Result (List FileBytes) Status
+outputs_of_selfrun selfrun = do
+  case ← case_of_selfrun selfrun
+  selfrun_within selfrun.cells case
 
--- the pieces that a command asks of the files at this tick
-abbrev pub pieces_asked : List FileBytes → ℕ → Asking → Result (List FileBytes) Status
-pieces_asked files now (Screens screening) = pieces_screened files now screening
-pieces_asked files now (Checks checking) = pieces_checked files checking
-pieces_asked files now (Generates recipe) = Ok (pieces_made (catalogue_of recipe.seed recipe.objects recipe.minutes))
-pieces_asked files now (Tries trial) = pieces_tried trial
-pieces_asked files now (Rewrites checking) = pieces_rewritten files checking
+-- the outputs that a command asks of the files at this tick
+abbrev pub outputs_asked : List FileBytes → ℕ → PlainCommand → Result (List FileBytes) Status
+outputs_asked files now (Screens screening) = outputs_screened files now screening
+outputs_asked files now (Checks checking) = outputs_checked files checking
+outputs_asked files now (Generates recipe) = Ok (outputs_made (catalogue_of recipe.seed recipe.objects recipe.minutes))
+outputs_asked files now (Selfruns selfrun) = outputs_of_selfrun selfrun
+outputs_asked files now (Rewrites checking) = outputs_rewritten files checking
 
--- the pieces that the words ask of the files at this tick, or the first cause for which there is none
-unfoldable pub pieces_of : List (List ℕ) → List FileBytes → ℕ → Result (List FileBytes) Status
-pieces_of words files now = do
-  asking ← asked (command_of words)
-  pieces_asked files now asking
+-- the outputs that the words ask of the files at this tick, or the first cause for which there is none
+unfoldable pub outputs_of : List (List ℕ) → List FileBytes → ℕ → Result (List FileBytes) Status
+outputs_of words files now = do
+  command ← asked (command_of words)
+  outputs_asked files now command
 
--- fronts of the pieces, the last one perhaps cut
+-- fronts of the outputs, the last one perhaps cut
 abbrev pub IsFront : List FileBytes → List FileBytes → Type 0
-IsFront [] pieces = Unit {0}
+IsFront [] outputs = Unit {0}
 IsFront (p ∷ ps) [] = ⊥
 IsFront (p ∷ []) (q ∷ qs) = (p.name ≡ q.name) × IsPrefix p.bytes q.bytes
 IsFront (p ∷ r ∷ ps) (q ∷ qs) = (p ≡ q) × IsFront (r ∷ ps) qs
 
--- a front of the pieces that are due, and none where there is a cause to put none
+-- a front of the outputs that are due, and none where there is a cause to put none
 abbrev pub IsPartOf : List FileBytes → Result (List FileBytes) Status → Type 0
-IsPartOf front (Ok pieces) = IsFront front pieces
+IsPartOf front (Ok outputs) = IsFront front outputs
 IsPartOf front (Err s) = front ≡ []
 
--- a front of what is due stands behind the old pieces
+-- a front of what is due stands behind the old outputs
 abbrev pub PartlyPut : Result (List FileBytes) Status → List FileBytes → Option (List FileBytes) → Type 0
 PartlyPut due old new = (front : List FileBytes) × IsPartOf front due × (new ≡ Some (old ++ front))
 
 -- there is no cause to put none
-abbrev pub ArePieces : Result (List FileBytes) Status → Type 0
-ArePieces due = (pieces : List FileBytes) × (due ≡ Ok pieces)
+abbrev pub AreOutputs : Result (List FileBytes) Status → Type 0
+AreOutputs due = (outputs : List FileBytes) × (due ≡ Ok outputs)
 
 -- the cause to put none is that there are too many leaves, which alone is found behind a shelf's refusal
 abbrev pub AreTooManyCells : Result (List FileBytes) Status → Type 0
 AreTooManyCells due = (limit : ℕ) × (due ≡ Err (status.Limit (Cells limit)))
 
--- Which status comes of a run over told files. Status 0 or a write fault: pieces were due, but a shelf that refused the run did so before
+-- Which status comes of a run over told files. Status 0 or a write fault: outputs were due, but a shelf that refused the run did so before
 -- its leaves were counted. A cause: it is the first. A read fault: the folder's count rose. Want of memory: whatever is due.
 abbrev pub Answers : Type 0 → Type 0 → Status → Result (List FileBytes) Status → Type 0
-Answers read refused status.Ok due = ArePieces due
+Answers read refused status.Ok due = AreOutputs due
 Answers read refused (status.NotAccepted line cause) due = due ≡ Err (status.NotAccepted line cause)
 Answers read refused (status.Usage fault) due = due ≡ Err (status.Usage fault)
 Answers read refused (status.BadFile file line cause) due = due ≡ Err (status.BadFile file line cause)
 Answers read refused status.ReadFault due = read
-Answers read refused status.WriteFault due = ArePieces due ⊎ (refused × AreTooManyCells due)
+Answers read refused status.WriteFault due = AreOutputs due ⊎ (refused × AreTooManyCells due)
 Answers read refused (status.Limit fault) due = due ≡ Err (status.Limit fault)
 Answers read refused status.OutOfMemory due = Unit {0}
 
@@ -242,14 +242,14 @@ PutsNothing status.WriteFault = ⊥
 PutsNothing (status.Limit fault) = Unit {0}
 PutsNothing status.OutOfMemory = ⊥
 
--- more pieces, or none, stand behind the old ones
+-- more outputs, or none, stand behind the old ones
 abbrev pub Extends : List FileBytes → Option (List FileBytes) → Type 0
 Extends old new = (more : List FileBytes) × (new ≡ Some (old ++ more))
 
--- What a run over told files leaves on its shelf. Status 0: all that is due stands behind the old pieces. A write fault or want of
--- memory: a front of what is due, the last piece perhaps cut. Else nothing.
+-- What a run over told files leaves on its shelf. Status 0: all that is due stands behind the old outputs. A write fault or want of
+-- memory: a front of what is due, the last output perhaps cut. Else nothing.
 abbrev pub Leaves : Status → Result (List FileBytes) Status → List FileBytes → Option (List FileBytes) → Type 0
-Leaves status.Ok due old new = (pieces : List FileBytes) × (due ≡ Ok pieces) × (new ≡ Some (old ++ pieces))
+Leaves status.Ok due old new = (outputs : List FileBytes) × (due ≡ Ok outputs) × (new ≡ Some (old ++ outputs))
 Leaves (status.NotAccepted line cause) due old new = new ≡ Some old
 Leaves (status.Usage fault) due old new = new ≡ Some old
 Leaves (status.BadFile file line cause) due old new = new ≡ Some old
@@ -258,7 +258,7 @@ Leaves status.WriteFault due old new = PartlyPut due old new
 Leaves (status.Limit fault) due old new = new ≡ Some old
 Leaves status.OutOfMemory due old new = PartlyPut due old new
 
--- what may end the putting of pieces
+-- what may end the putting of outputs
 abbrev pub ComesOfPuts : Status → Type 0
 ComesOfPuts status.Ok = ⊥
 ComesOfPuts (status.NotAccepted line cause) = ⊥
@@ -270,26 +270,26 @@ ComesOfPuts (status.Limit fault) = ⊥
 ComesOfPuts status.OutOfMemory = Unit {0}
 
 -- what may end a made-up catalogue's screening before its put
-abbrev pub ComesOfTrial : Status → Type 0
-ComesOfTrial status.Ok = ⊥
-ComesOfTrial (status.NotAccepted line cause) = ⊥
-ComesOfTrial (status.Usage fault) = ⊥
-ComesOfTrial (status.BadFile file line cause) = ⊥
-ComesOfTrial status.ReadFault = ⊥
-ComesOfTrial status.WriteFault = ⊥
-ComesOfTrial (status.Limit fault) = Unit {0}
-ComesOfTrial status.OutOfMemory = Unit {0}
+abbrev pub ComesOfSelfrun : Status → Type 0
+ComesOfSelfrun status.Ok = ⊥
+ComesOfSelfrun (status.NotAccepted line cause) = ⊥
+ComesOfSelfrun (status.Usage fault) = ⊥
+ComesOfSelfrun (status.BadFile file line cause) = ⊥
+ComesOfSelfrun status.ReadFault = ⊥
+ComesOfSelfrun status.WriteFault = ⊥
+ComesOfSelfrun (status.Limit fault) = Unit {0}
+ComesOfSelfrun status.OutOfMemory = Unit {0}
 
 -- how it may end: it is done, a write failed, a limit is exceeded, or memory ran out
-abbrev pub EndsTrial : Status → Type 0
-EndsTrial status.Ok = Unit {0}
-EndsTrial (status.NotAccepted line cause) = ⊥
-EndsTrial (status.Usage fault) = ⊥
-EndsTrial (status.BadFile file line cause) = ⊥
-EndsTrial status.ReadFault = ⊥
-EndsTrial status.WriteFault = Unit {0}
-EndsTrial (status.Limit fault) = Unit {0}
-EndsTrial status.OutOfMemory = Unit {0}
+abbrev pub EndsSelfrun : Status → Type 0
+EndsSelfrun status.Ok = Unit {0}
+EndsSelfrun (status.NotAccepted line cause) = ⊥
+EndsSelfrun (status.Usage fault) = ⊥
+EndsSelfrun (status.BadFile file line cause) = ⊥
+EndsSelfrun status.ReadFault = ⊥
+EndsSelfrun status.WriteFault = Unit {0}
+EndsSelfrun (status.Limit fault) = Unit {0}
+EndsSelfrun status.OutOfMemory = Unit {0}
 
 -- how a catalogue that is made up may end: it is written, a write failed, or memory ran out
 abbrev pub EndsMaking : Status → Type 0

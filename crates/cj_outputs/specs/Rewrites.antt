@@ -1,7 +1,7 @@
 -- What a rewriting says of the certificate that it puts.
 use Rattle.std.specs.Prelude.{◌≡◌, ℕ, ◌≤◌, List, ◌++◌, length, Option, Some, Ok}
 use Rattle.cj_io.specs.declared.file.FileBytes.{FileBytes}
-use Rattle.cj_words.specs.Commands.{Checking}
+use Rattle.cj_words.specs.Commands.{PlainChecking}
 use Rattle.cj_hermite.specs.PlainProblems.{PlainProblem}
 use Rattle.cj_cert.specs.Accepted.{Accepted}
 use Rattle.cj_cert.specs.Certificates.{PlainCertificate}
@@ -11,7 +11,7 @@ use Rattle.cj_cert_text.specs.Texts.{text_of}
 use Rattle.cj_inputs.specs.Cases.{case_asked}
 use Rattle.cj_inputs.specs.CheckInputs.{certificate_named}
 use Rattle.cj_outputs.specs.Again.{IsAcceptedLater}
-use Rattle.cj_outputs.specs.Outcome.{pieces_renewed}
+use Rattle.cj_outputs.specs.Outcome.{outputs_renewed}
 
 -- The bytes are the text of a certificate that is accepted for a case. This is the same certificate in version 2, which is accepted too.
 pub record RenewedText (case : PlainProblem) (bytes : List ℕ) (renewed : PlainCertificate) : Type 0 where
@@ -24,7 +24,7 @@ pub record RenewedText (case : PlainProblem) (bytes : List ℕ) (renewed : Plain
 
 -- So are the bytes of the named file, for the case that was asked. A check of the same files, with the text of the new certificate among them,
 -- accepts it, where it is not longer than a check takes.
-pub record Renews (checking : Checking) (files : List FileBytes) (renewed : PlainCertificate) : Type 0 where
+pub record Renews (checking : PlainChecking) (files : List FileBytes) (renewed : PlainCertificate) : Type 0 where
   pub case : PlainProblem
   pub read : case_asked files checking.settings ≡ Ok case
   pub bytes : List ℕ
@@ -32,8 +32,8 @@ pub record Renews (checking : Checking) (files : List FileBytes) (renewed : Plai
   pub holds : RenewedText case bytes renewed
   pub later : length (text_of renewed) ≤ 1_073_741_824 → IsAcceptedLater checking.settings files (text_of renewed)
 
--- the new pieces are its text and that it was rewritten
-pub record IsRewritten (checking : Checking) (files old : List FileBytes) (new : Option (List FileBytes)) : Type 0 where
+-- the new outputs are its text and that it was rewritten
+pub record IsRewritten (checking : PlainChecking) (files old : List FileBytes) (new : Option (List FileBytes)) : Type 0 where
   pub renewed : PlainCertificate
   pub renews : Renews checking files renewed
-  pub put : new ≡ Some (old ++ pieces_renewed renewed)
+  pub put : new ≡ Some (old ++ outputs_renewed renewed)

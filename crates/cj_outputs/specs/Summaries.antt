@@ -5,21 +5,21 @@ use Rattle.cj_hermite.specs.Pairs.{pairs_of}
 use Rattle.cj_bezier.specs.declared.kind.Kind.{Kind}
 use Rattle.cj_bezier.specs.declared.kind.Kind.TheVariants.{Far, Near, Undecided}
 use Rattle.cj_bezier.specs.Leaves.{PlainLeaf, same_kind}
-use Rattle.cj_bezier.specs.Looked.{is_looked, pairs_kept}
+use Rattle.cj_bezier.specs.Candidates.{is_candidate, pairs_kept}
 use Rattle.cj_hermite.specs.Roots.{roots_of}
 use Rattle.cj_cells.specs.Lists.{splits_of}
-use Rattle.cj_candidates.specs.Counts.{looked_count}
+use Rattle.cj_candidates.specs.Counts.{candidate_count}
 use Rattle.cj_meet.specs.Encounters.{encounters_of}
 use Rattle.cj_report.specs.Summary.{Tally}
 use Rattle.cj_outputs.specs.Messages.{has_message}
 
--- whether a stretch is of this kind
+-- whether a leaf is of this kind
 abbrev pub is_of : Kind → PlainLeaf → Bool
 is_of kind s = same_kind kind s.kind
 
 -- how many pairs there are, and how many of them are kept
 abbrev pub pair_count : PlainProblem → ℕ
-pair_count case = length (pairs_of (length case.ephemerides))
+pair_count case = length (pairs_of (length case.tracks))
 
 abbrev pub kept_count : PlainProblem → ℕ
 kept_count case = length (pairs_kept case)
@@ -27,11 +27,11 @@ kept_count case = length (pairs_kept case)
 -- what is counted in a case with these leaves
 abbrev pub tally_with : PlainProblem → List PlainLeaf → Tally
 tally_with case leaves = record {
-  objects = length case.ephemerides;
+  objects = length case.tracks;
   pairs = pair_count case;
   parted = pair_count case - kept_count case;
-  touching = looked_count case;
-  roots = length (roots_of (is_looked case) case);
+  touching = candidate_count case;
+  roots = length (roots_of (is_candidate case) case);
   splits = splits_of case;
   leaves = length leaves;
   far = count_by (is_of Far) leaves;

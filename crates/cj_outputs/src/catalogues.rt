@@ -3,7 +3,7 @@ ghost use Rattle.std.specs.Prelude.{◌≡◌, ◌≤◌, List, Some, Ok, Err, I
 ghost use Rattle.cj_io.specs.Faults.{Rose};
 ghost use Rattle.cj_io.specs.declared.file.FileBytes.{FileBytes};
 ghost use Rattle.cj_outputs.specs.Findings.{ended};
-ghost use Rattle.cj_outputs.specs.Outcome.{ComesOfPuts, Leaves, count_bytes, pieces_made};
+ghost use Rattle.cj_outputs.specs.Outcome.{ComesOfPuts, Leaves, count_bytes, outputs_made};
 
 use crate::putting::put;
 use cj_io::{FileBytes, Shelf};
@@ -18,7 +18,7 @@ pub fn put_catalogue<S: Shelf>(
 ) -> Result<(), Status>
     ensures comes { IfErr result ComesOfPuts }
     ensures write { result ≡ Err Status.WriteFault → Rose (S.faults shelf.old) (S.faults shelf.new) }
-    ensures leaves { (old : List FileBytes) → S.pieces shelf.old ≡ Some old → Leaves (ended result) (Ok (pieces_made files.now)) old (S.pieces shelf.new) }
+    ensures leaves { (old : List FileBytes) → S.outputs shelf.old ≡ Some old → Leaves (ended result) (Ok (outputs_made files.now)) old (S.outputs shelf.new) }
     ensures later { S.faults shelf.old ≤ S.faults shelf.new }
 {
     let text = count_text(alloc, files.len())?;
@@ -30,7 +30,7 @@ pub fn put_catalogue<S: Shelf>(
 fn put_files<S: Shelf>(alloc: Global, shelf: &mut S, files: &[FileBytes]) -> Result<(), Status>
     ensures comes { IfErr result ComesOfPuts }
     ensures write { result ≡ Err Status.WriteFault → Rose (S.faults shelf.old) (S.faults shelf.new) }
-    ensures leaves { (old : List FileBytes) → S.pieces shelf.old ≡ Some old → Leaves (ended result) (Ok files.now) old (S.pieces shelf.new) }
+    ensures leaves { (old : List FileBytes) → S.outputs shelf.old ≡ Some old → Leaves (ended result) (Ok files.now) old (S.outputs shelf.new) }
     ensures later { S.faults shelf.old ≤ S.faults shelf.new }
 {
     for file in files {

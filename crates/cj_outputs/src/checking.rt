@@ -32,7 +32,7 @@ pub const WORKERS: u32 = 1;
 
 /// Checks the certificate that is named, and the report, where one is named. It answers an error where the certificate is not accepted for the
 /// files, and where the report is not that of its cells.
-#[tactic(auto, unfolding(crate::specs::Outcome::pieces_checked))]
+#[tactic(auto, unfolding(crate::specs::Outcome::outputs_checked))]
 pub fn check_certificate<R: Threads + Sync, F: Folder>(
     rt: &R,
     alloc: Global,
@@ -43,7 +43,7 @@ pub fn check_certificate<R: Threads + Sync, F: Folder>(
     ensures read { result ≡ Err Status.ReadFault → Rose (F.faults folder.old) (F.faults folder.new) }
 
     ensures told { (files : List FileBytes) → F.files folder.old ≡ Some files
-        → Gives (Rose (F.faults folder.old) (F.faults folder.new)) (λ done. spec.accepted_piece ∷ []) result (spec.pieces_checked files (plain_checking checking.now)) }
+        → Gives (Rose (F.faults folder.old) (F.faults folder.new)) (λ done. spec.accepted_output ∷ []) result (spec.outputs_checked files (plain_checking checking.now)) }
     ensures vouches { (files : List FileBytes) → F.files folder.old ≡ Some files → OnOk result (Vouches (plain_checking checking.now) files) }
 
     ensures files { F.files folder.new ≡ F.files folder.old }

@@ -2,9 +2,9 @@
 ghost use Rattle.std.specs.Prelude.{◌≡◌, ◌+◌, ◌≤◌, length, map, count_by};
 ghost use Rattle.cj_values.specs.Bounds.{MOST_LEAVES, MOST_OBJECTS};
 ghost use Rattle.cj_bezier.specs.Leaves.{plain_leaves};
-ghost use Rattle.cj_candidates.specs.Counts.{looked_count};
+ghost use Rattle.cj_candidates.specs.Counts.{candidate_count};
 ghost use Rattle.cj_cells.specs.Lists.{splits_of};
-ghost use Rattle.cj_bezier.specs.Looked.{is_looked};
+ghost use Rattle.cj_bezier.specs.Candidates.{is_candidate};
 ghost use Rattle.cj_hermite.specs.Roots.{roots_of};
 ghost use Rattle.cj_hermite.specs.Pairs.{pairs_of};
 ghost use Rattle.cj_hermite.specs.Problems.{plain_problem};
@@ -34,8 +34,8 @@ pub fn count(
 ) -> Counts
     requires few { length leaves.now ≤ MOST_LEAVES }
     requires kept { candidates.kept ≡ spec.kept_count (plain_problem problem.now) }
-    requires touching { candidates.touching ≡ looked_count (plain_problem problem.now) }
-    requires roots { candidates.roots ≡ length (roots_of (is_looked (plain_problem problem.now)) (plain_problem problem.now)) }
+    requires touching { candidates.touching ≡ candidate_count (plain_problem problem.now) }
+    requires roots { candidates.roots ≡ length (roots_of (is_candidate (plain_problem problem.now)) (plain_problem problem.now)) }
     requires splits { length leaves.now ≡ candidates.roots + splits_of (plain_problem problem.now) }
     requires messages { messages.now ≡ map (has_message (plain_problem problem.now)) (encounters_of (plain_leaves leaves.now)) }
     ensures { tally_of result ≡ spec.tally_with (plain_problem problem.now) (plain_leaves leaves.now) }

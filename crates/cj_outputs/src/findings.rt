@@ -17,7 +17,7 @@ pub struct Findings {
     pub shells: Vec<Option<Shell>>,
     /// The box of each object in each slot, in order of object and slot.
     pub boxes: Vec<Option<AxisBox>>,
-    /// The leaves of all pairs that are looked at, in order of pair and time.
+    /// The leaves of all candidates, in order of pair and time.
     pub leaves: Vec<Leaf>,
     /// The encounters of the leaves.
     pub encounters: Vec<Encounter>,

@@ -4,13 +4,13 @@ ghost use Rattle.cj_values.specs.Limits.{USUAL};
 ghost use Rattle.cj_io.specs.declared.file.FileBytes.{FileBytes};
 ghost use Rattle.cj_causes.specs.declared.cert_version.CertVersion.{CertVersion};
 ghost use Rattle.cj_hermite.specs.Problems.{plain_problem};
-ghost use Rattle.cj_cells.specs.Lists.{list_looked};
+ghost use Rattle.cj_cells.specs.Lists.{list_candidates};
 ghost use Rattle.cj_cert.specs.Accepted.{Accepted};
 ghost use Rattle.cj_cert.specs.Certificates.{PlainCertificate};
 ghost use Rattle.cj_cert.specs.Rewritten.{in_version_2};
 ghost use Rattle.cj_cert_text.specs.Fits.{Fits};
 ghost use Rattle.cj_cert_text.specs.Texts.{text_of};
-ghost use Rattle.cj_words.specs.Settings.{Asked};
+ghost use Rattle.cj_words.specs.Settings.{PlainSettings};
 ghost use Rattle.cj_inputs.specs.Cases.{case_asked};
 ghost use Rattle.cj_outputs.specs.Again.{IsAcceptedLater};
 ghost use Rattle.cj_outputs.specs.Outcome.{cert_bytes};
@@ -23,12 +23,12 @@ use cj_hermite::Problem;
 /// among them.
 pub fn accepted_later(problem: &Problem)
     // In either version.
-    ensures written { (settings : Asked) (files : List FileBytes) (version : CertVersion) → case_asked files settings ≡ Ok (plain_problem problem.now)
-        → settings.limits ≡ USUAL → length (list_looked (plain_problem problem.now)) ≤ settings.limits.leaves
+    ensures written { (settings : PlainSettings) (files : List FileBytes) (version : CertVersion) → case_asked files settings ≡ Ok (plain_problem problem.now)
+        → settings.limits ≡ USUAL → length (list_candidates (plain_problem problem.now)) ≤ settings.limits.leaves
         → IsAcceptedLater settings files (cert_bytes version (plain_problem problem.now)) }
 
     // And where an accepted certificate is rewritten, whatever the limits, as far as its text is not longer than a check takes.
-    ensures rewritten { (settings : Asked) (files : List FileBytes) (c : PlainCertificate) → case_asked files settings ≡ Ok (plain_problem problem.now)
+    ensures rewritten { (settings : PlainSettings) (files : List FileBytes) (c : PlainCertificate) → case_asked files settings ≡ Ok (plain_problem problem.now)
         → Accepted (plain_problem problem.now) c → Fits c → length (text_of (in_version_2 (plain_problem problem.now) c)) ≤ 1_073_741_824
         → IsAcceptedLater settings files (text_of (in_version_2 (plain_problem problem.now) c)) }
 {

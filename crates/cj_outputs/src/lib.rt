@@ -1,4 +1,4 @@
-//! What a run has found, and its pieces: how they are made and put, and how a certificate that is read, and the report
+//! What a run has found, and its outputs: how they are made and put, and how a certificate that is read, and the report
 //! beside it, are judged, and how one is written anew.
 #![tactic(auto)]
 
@@ -24,5 +24,5 @@ pub use meetings::{Meetings, find_meetings};
 pub use messages::note_messages;
 pub use origin::Origin;
 pub use putting::{begin, put};
-pub use reporting::{put_pieces, tells_sizes};
+pub use reporting::{put_outputs, tells_sizes};
 pub use rewriting::{put_rewritten, rewrite_certificate};

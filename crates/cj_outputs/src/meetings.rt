@@ -4,7 +4,7 @@ ghost use Rattle.cj_values.specs.Bounds.{MOST_LEAVES};
 ghost use Rattle.cj_hermite.specs.Problems.{plain_problem};
 ghost use Rattle.cj_bezier.specs.Leaves.{plain_leaves};
 ghost use Rattle.cj_bezier.specs.Order.{AreInOrder};
-ghost use Rattle.cj_meet.specs.Closest.{HasNearest, KeepTheirIntervals};
+ghost use Rattle.cj_meet.specs.Closest.{HasNearest, KeepTheirPieces};
 ghost use Rattle.cj_meet.specs.Encounters.{encounters_of};
 ghost use Rattle.cj_meet.specs.Spans.{HaveExactSpans};
 ghost use Rattle.cj_outputs.specs.Meetings.{AreMeetings};
@@ -37,7 +37,7 @@ pub fn find_meetings<R: Threads + Sync>(
 ) -> Result<Meetings, AllocError>
     requires in_order { AreInOrder (plain_leaves leaves.now) }
     requires few { length leaves.now ≤ MOST_LEAVES }
-    requires intervals { KeepTheirIntervals (plain_problem problem.now) (plain_leaves leaves.now) }
+    requires pieces { KeepTheirPieces (plain_problem problem.now) (plain_leaves leaves.now) }
     ensures meetings { IfOk result (AreMeetings (plain_problem problem.now) (plain_leaves leaves.now)) }
     ensures spans { HaveExactSpans (plain_leaves leaves.now) }
     ensures nearest { OnOk result (All (HasNearest (plain_problem problem.now)) (encounters_of (plain_leaves leaves.now))) }

@@ -10,7 +10,7 @@ ghost use Rattle.cj_cdm.specs.Building.{message_of};
 ghost use Rattle.cj_cdm.specs.Fields.{stamp_of};
 ghost use Rattle.cj_outputs.specs.Findings.{AreFound, ended, messages_in};
 ghost use Rattle.cj_outputs.specs.Messages as spec;
-ghost use Rattle.cj_outputs.specs.Messages.{message_piece};
+ghost use Rattle.cj_outputs.specs.Messages.{message_output};
 ghost use Rattle.cj_outputs.specs.Origins.{plain_origin};
 ghost use Rattle.cj_outputs.specs.Outcome.{ComesOfPuts, Leaves};
 
@@ -32,7 +32,7 @@ pub fn note_messages(
     closest: &[Closest],
 ) -> Result<Vec<bool>, AllocError>
     requires one_each { length closest.now ≡ length encounters.now }
-    // Of whatever stretches they are the encounters.
+    // Of whatever leaves they are the encounters.
     ensures { IfOk result (λ noted. (ss : List PlainLeaf) → All (Describes ss) encounters.now
         → map some_closest closest.now ≡ map (closest_of (plain_problem problem.now)) (groups_in ss encounters.now)
         → noted.items ≡ map (spec.has_message (plain_problem problem.now)) (groups_in ss encounters.now)) }
@@ -55,8 +55,8 @@ pub fn put_messages<S: Shelf>(
     requires { AreFound found.now }
     ensures comes { IfErr result ComesOfPuts }
     ensures write { result ≡ Err Status.WriteFault → Rose (S.faults shelf.old) (S.faults shelf.new) }
-    ensures leaves { (old : List FileBytes) → S.pieces shelf.old ≡ Some old
-        → Leaves (ended result) (Ok (messages_in (plain_origin origin.entry) found.now)) old (S.pieces shelf.new) }
+    ensures leaves { (old : List FileBytes) → S.outputs shelf.old ≡ Some old
+        → Leaves (ended result) (Ok (messages_in (plain_origin origin.entry) found.now)) old (S.outputs shelf.new) }
     ensures later { S.faults shelf.old ≤ S.faults shelf.new }
     // The summary counts them.
     ensures counted { length (messages_in (plain_origin origin.entry) found.now) ≡ found.now.counts.messages }
@@ -87,10 +87,10 @@ fn put_message<S: Shelf>(
 ) -> Result<(), Status>
     ensures comes { IfErr result ComesOfPuts }
     ensures write { result ≡ Err Status.WriteFault → Rose (S.faults shelf.old) (S.faults shelf.new) }
-    ensures leaves { (old : List FileBytes) → S.pieces shelf.old ≡ Some old → Leaves (ended result)
-        (Ok (option_to_list (option_map (message_piece stamp.entry.number)
+    ensures leaves { (old : List FileBytes) → S.outputs shelf.old ≡ Some old → Leaves (ended result)
+        (Ok (option_to_list (option_map (message_output stamp.entry.number)
         (message_of (plain_problem covariances.now) encounter.now.pair.a encounter.now.pair.b closest.now.tick.micros closest.now.high (stamp_of stamp.entry)))))
-        old (S.pieces shelf.new) }
+        old (S.outputs shelf.new) }
     ensures later { S.faults shelf.old ≤ S.faults shelf.new }
 {
     let made = covariances.message(alloc, encounter.pair, closest.tick, closest.high, stamp)?;

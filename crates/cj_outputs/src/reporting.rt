@@ -1,4 +1,4 @@
-//! Putting what is due of the findings onto a shelf, piece by piece.
+//! Putting what is due of the findings onto a shelf, output by output.
 ghost use Rattle.std.specs.Prelude.{◌≡◌, ◌≤◌, List, [], ◌∷◌, Some, Err, IfErr, IfOk};
 ghost use Rattle.cj_io.specs.Faults.{Rose};
 ghost use Rattle.cj_io.specs.Parts.{joined};
@@ -7,11 +7,11 @@ ghost use Rattle.cj_causes.specs.declared.cert_version.CertVersion.TheVariants.{
 ghost use Rattle.cj_cert.specs.Certificates.{plain_certificate};
 ghost use Rattle.cj_cert.specs.Rewritten.{written_in};
 ghost use Rattle.cj_cert_text.specs.TextLeft.{text_left};
-ghost use Rattle.cj_outputs.specs.Findings.{AreFound, case_in, cert_in, ended, pieces_in, report_in, summary_in};
+ghost use Rattle.cj_outputs.specs.Findings.{AreFound, case_in, cert_in, ended, outputs_in, report_in, summary_in};
 ghost use Rattle.cj_outputs.specs.Origins.{plain_origin};
 ghost use Rattle.cj_outputs.specs.Outcome as spec;
 ghost use Rattle.cj_outputs.specs.Outcome.{ComesOfPuts, Leaves, cert_bytes};
-ghost use Rattle.cj_words.specs.Settings.{asked_of};
+ghost use Rattle.cj_words.specs.Settings.{plain_settings};
 
 use crate::findings::Findings;
 use crate::messages::put_messages;
@@ -29,8 +29,8 @@ use cj_words::Settings;
 use std::alloc::{AllocError, Global};
 use std::thread::Threads;
 
-/// Makes and puts the pieces one after another, messages with this origin. Each is dropped after its put.
-pub fn put_pieces<R: Threads + Sync, S: StreamShelf>(
+/// Makes and puts the outputs one after another, messages with this origin. Each is dropped after its put.
+pub fn put_outputs<R: Threads + Sync, S: StreamShelf>(
     rt: &R,
     alloc: Global,
     shelf: &mut S,
@@ -40,8 +40,8 @@ pub fn put_pieces<R: Threads + Sync, S: StreamShelf>(
     requires { AreFound found.now }
     ensures comes { IfErr result ComesOfPuts }
     ensures write { result ≡ Err Status.WriteFault → Rose (S.faults shelf.old) (S.faults shelf.new) }
-    ensures leaves { (old : List FileBytes) → S.pieces shelf.old ≡ Some old
-        → Leaves (ended result) (Ok (pieces_in (plain_origin origin.entry) found.now)) old (S.pieces shelf.new) }
+    ensures leaves { (old : List FileBytes) → S.outputs shelf.old ≡ Some old
+        → Leaves (ended result) (Ok (outputs_in (plain_origin origin.entry) found.now)) old (S.outputs shelf.new) }
     ensures later { S.faults shelf.old ≤ S.faults shelf.new }
 {
     put_report(alloc, shelf, found)?;
@@ -55,7 +55,7 @@ fn put_report<S: Shelf>(alloc: Global, shelf: &mut S, found: &Findings) -> Resul
     requires { AreFound found.now }
     ensures comes { IfErr result ComesOfPuts }
     ensures write { result ≡ Err Status.WriteFault → Rose (S.faults shelf.old) (S.faults shelf.new) }
-    ensures leaves { (old : List FileBytes) → S.pieces shelf.old ≡ Some old → Leaves (ended result) (Ok (report_in found.now ∷ [])) old (S.pieces shelf.new) }
+    ensures leaves { (old : List FileBytes) → S.outputs shelf.old ≡ Some old → Leaves (ended result) (Ok (report_in found.now ∷ [])) old (S.outputs shelf.new) }
     ensures later { S.faults shelf.old ≤ S.faults shelf.new }
 {
     let report = report_text(
@@ -80,7 +80,7 @@ fn put_certificate<R: Threads + Sync, S: StreamShelf>(
     requires { AreFound found.now }
     ensures comes { IfErr result ComesOfPuts }
     ensures write { result ≡ Err Status.WriteFault → Rose (S.faults shelf.old) (S.faults shelf.new) }
-    ensures leaves { (old : List FileBytes) → S.pieces shelf.old ≡ Some old → Leaves (ended result) (Ok (cert_in found.now ∷ [])) old (S.pieces shelf.new) }
+    ensures leaves { (old : List FileBytes) → S.outputs shelf.old ≡ Some old → Leaves (ended result) (Ok (cert_in found.now ∷ [])) old (S.outputs shelf.new) }
     ensures later { S.faults shelf.old ≤ S.faults shelf.new }
 {
     match found.version {
@@ -145,7 +145,7 @@ fn put_summary<S: Shelf>(alloc: Global, shelf: &mut S, found: &Findings) -> Resu
     requires { AreFound found.now }
     ensures comes { IfErr result ComesOfPuts }
     ensures write { result ≡ Err Status.WriteFault → Rose (S.faults shelf.old) (S.faults shelf.new) }
-    ensures leaves { (old : List FileBytes) → S.pieces shelf.old ≡ Some old → Leaves (ended result) (Ok (summary_in found.now ∷ [])) old (S.pieces shelf.new) }
+    ensures leaves { (old : List FileBytes) → S.outputs shelf.old ≡ Some old → Leaves (ended result) (Ok (summary_in found.now ∷ [])) old (S.outputs shelf.new) }
     ensures later { S.faults shelf.old ≤ S.faults shelf.new }
 {
     let summary = summary_text(alloc, &found.counts)?;
@@ -154,7 +154,7 @@ fn put_summary<S: Shelf>(alloc: Global, shelf: &mut S, found: &Findings) -> Resu
 
 /// Whether the report tells the sizes: the command line names a file of them.
 pub fn tells_sizes(settings: &Settings) -> bool
-    ensures { result ≡ spec.tells_sizes (asked_of settings.now) }
+    ensures { result ≡ spec.tells_sizes (plain_settings settings.now) }
 {
     settings.sizes.is_some()
 }

@@ -28,7 +28,7 @@ use std::alloc::{AllocError, Global};
 use std::thread::Threads;
 
 /// The certificate that is named in version 2. It answers an error where the certificate is not accepted for the files.
-#[tactic(auto, unfolding(crate::specs::Outcome::pieces_rewritten))]
+#[tactic(auto, unfolding(crate::specs::Outcome::outputs_rewritten))]
 pub fn rewrite_certificate<R: Threads + Sync, F: Folder>(
     rt: &R,
     alloc: Global,
@@ -39,8 +39,8 @@ pub fn rewrite_certificate<R: Threads + Sync, F: Folder>(
     ensures read { result ≡ Err Status.ReadFault → Rose (F.faults folder.old) (F.faults folder.new) }
 
     ensures told { (files : List FileBytes) → F.files folder.old ≡ Some files
-        → Gives (Rose (F.faults folder.old) (F.faults folder.new)) (λ c. spec.pieces_renewed (plain_certificate c)) result
-        (spec.pieces_rewritten files (plain_checking checking.now)) }
+        → Gives (Rose (F.faults folder.old) (F.faults folder.new)) (λ c. spec.outputs_renewed (plain_certificate c)) result
+        (spec.outputs_rewritten files (plain_checking checking.now)) }
     ensures renews { (files : List FileBytes) → F.files folder.old ≡ Some files → IfOk result (λ c. Renews (plain_checking checking.now) files (plain_certificate c)) }
 
     ensures files { F.files folder.new ≡ F.files folder.old }
@@ -80,8 +80,8 @@ pub fn put_rewritten<R: Threads + Sync, S: Shelf>(
 ) -> Result<(), Status>
     ensures comes { IfErr result ComesOfPuts }
     ensures write { result ≡ Err Status.WriteFault → Rose (S.faults shelf.old) (S.faults shelf.new) }
-    ensures leaves { (old : List FileBytes) → S.pieces shelf.old ≡ Some old
-        → Leaves (ended result) (Ok (spec.pieces_renewed (plain_certificate certificate.now))) old (S.pieces shelf.new) }
+    ensures leaves { (old : List FileBytes) → S.outputs shelf.old ≡ Some old
+        → Leaves (ended result) (Ok (spec.outputs_renewed (plain_certificate certificate.now))) old (S.outputs shelf.new) }
     ensures later { S.faults shelf.old ≤ S.faults shelf.new }
 {
     let parts = cert_parts(rt, alloc, certificate, WORKERS)?;

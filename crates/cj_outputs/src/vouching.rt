@@ -6,7 +6,7 @@ ghost use Rattle.cj_bezier.specs.Leaves.{plain_leaf, plain_leaves};
 ghost use Rattle.cj_bezier.specs.Order.{AreInOrder};
 ghost use Rattle.cj_cert.specs.Certificates.{plain_cell_line};
 ghost use Rattle.cj_cert.specs.Splits.{CellsSplit};
-ghost use Rattle.cj_meet.specs.Closest.{HasNearest, KeepTheirIntervals};
+ghost use Rattle.cj_meet.specs.Closest.{HasNearest, KeepTheirPieces};
 ghost use Rattle.cj_meet.specs.Encounters.{encounters_of};
 ghost use Rattle.cj_meet.specs.Spans.{HaveExactSpans};
 ghost use Rattle.cj_outputs.specs.Checks.{AcceptedReport};
@@ -39,7 +39,7 @@ pub fn accept_report<R: Threads + Sync>(
 ) -> Result<(), Status>
     requires small { IfSome report (λ bytes. length bytes.items ≤ 1_073_741_824) }
     requires in_order { AreInOrder (map plain_cell_line cells.now) }
-    requires intervals { KeepTheirIntervals (plain_problem problem.now) (map plain_cell_line cells.now) }
+    requires pieces { KeepTheirPieces (plain_problem problem.now) (map plain_cell_line cells.now) }
     requires split { CellsSplit (plain_problem problem.now) (map plain_cell_line cells.now) }
     ensures between { IfErr result ComesBetween }
     ensures read { result ≢ Err Status.ReadFault }
@@ -66,7 +66,7 @@ fn accept_bytes<R: Threads + Sync>(
 ) -> Result<(), Status>
     requires small { length bytes.now ≤ 1_073_741_824 }
     requires in_order { AreInOrder (map plain_cell_line cells.now) }
-    requires intervals { KeepTheirIntervals (plain_problem problem.now) (map plain_cell_line cells.now) }
+    requires pieces { KeepTheirPieces (plain_problem problem.now) (map plain_cell_line cells.now) }
     requires split { CellsSplit (plain_problem problem.now) (map plain_cell_line cells.now) }
     ensures between { IfErr result ComesBetween }
     ensures read { result ≢ Err Status.ReadFault }
@@ -119,7 +119,7 @@ fn report_due<R: Threads + Sync>(
 ) -> Result<Vec<u8>, AllocError>
     requires few { length leaves.now ≤ MOST_LEAVES }
     requires in_order { AreInOrder (plain_leaves leaves.now) }
-    requires intervals { KeepTheirIntervals (plain_problem problem.now) (plain_leaves leaves.now) }
+    requires pieces { KeepTheirPieces (plain_problem problem.now) (plain_leaves leaves.now) }
     ensures text { IfOk result (λ text. text.items ≡ spec.report_bytes with_sizes (plain_problem problem.now) (plain_leaves leaves.now)) }
     ensures spans { HaveExactSpans (plain_leaves leaves.now) }
     ensures nearest { OnOk result (All (HasNearest (plain_problem problem.now)) (encounters_of (plain_leaves leaves.now))) }

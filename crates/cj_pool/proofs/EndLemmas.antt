@@ -24,7 +24,7 @@ use Rattle.cj_ledger.specs.declared.totals.Totals.{Totals}
 use Rattle.cj_pool.specs.declared.refined.FinishError.{FinishError}
 use Rattle.cj_pool.specs.Hands.{RefinerySeen, HandSeen, Accounts, IsHandOf, cells_of, settled_share}
 use Rattle.cj_hermite.specs.Lengths.{HaveLengths}
-use Rattle.cj_pool.specs.Refined.{AreAll, AreLeft, AreOpen, IsOfRun, IsSound, IsTooMany, Stands, TotalsOf, leaves_in, leaves_wanted, numbers_of}
+use Rattle.cj_pool.specs.Refined.{AreAll, AreLeft, AreOpen, IsOfRun, IsSoundRun, IsTooMany, Stands, TotalsOf, leaves_in, leaves_wanted, numbers_of}
 use Rattle.cj_pool.specs.RootLists.{IsKept, AreRoots}
 use Rattle.cj_pool.specs.Tree.{InTree, IsLeafOf}
 use Rattle.cj_pool.specs.Weights.{weigh, has}
@@ -41,11 +41,11 @@ pub refinery_of : (problem run : Problem) (roots : List Cell) (limit hands : ℕ
 refinery_of problem run roots limit hands deques ledger seen e is =
     (λ i. record { problem = sym e i; roots = roots; limit = limit; hands = hands; deques = deques; ledger = ledger }) ∙ is
 
-pub sound_described : (r : RefinerySeen) → IsSound r →
+pub sound_described : (r : RefinerySeen) → IsSoundRun r →
     All (λ root. Describe (plain_problem r.problem) root (leaves_of_root (plain_problem r.problem) root)) (plain_cells r.roots)
 sound_described r is = roots_described (plain_problem r.problem) r.roots is.long r.problem.least is.roots_are
 
-pub sound_single : (r : RefinerySeen) → IsSound r → (c : Cell) (m : ℕ) → Contains r.roots c → c.first.micros ≤ m → m ≤ c.last.micros →
+pub sound_single : (r : RefinerySeen) → IsSoundRun r → (c : Cell) (m : ℕ) → Contains r.roots c → c.first.micros ≤ m → m ≤ c.last.micros →
     weigh (has c.pair.a c.pair.b m) r.roots ≡ 1
 sound_single r is c m has_it low high = one_root (plain_problem r.problem) r.roots c m is.roots_are has_it low high
 
@@ -87,7 +87,7 @@ module _ (r : RefinerySeen) (hands : List HandSeen) (cells : List Cell) (are : A
   all_left = let s = are.sound in are_left r (plain_problem r.problem) hands cells s.some
       (each_from_All (Accounts (plain_problem r.problem) r.roots r.hands) hands are.accounts) are.numbers are.open_cells
 
-  -- the open cells keep their intervals, and the leaves that were closed are what their cells were found to be
+  -- the open cells keep their pieces, and the leaves that were closed are what their cells were found to be
   pub all_kept : All (IsKept (plain_problem r.problem)) cells
   all_kept = let s = are.sound in trees_keep (plain_problem r.problem) r.roots cells s.roots_are are.trees
 
@@ -161,9 +161,9 @@ run_of run roots limit hands deques ledger = record { problem = run; roots = roo
 
 pub seen_sound : (problem run : Problem) (roots : List Cell) (limit hands : ℕ) (deques : List (RowsId × Global)) (ledger : LedgerSeen) (seen : RefinerySeen) →
     problem ≡ run → run_of problem roots limit hands deques ledger ≡ seen → HaveLengths (plain_problem problem) →
-    AreRoots (plain_problem run) roots → length roots ≤ limit → limit ≤ MOST_LEAVES → 1 ≤ hands → IsSound seen
+    AreRoots (plain_problem run) roots → length roots ≤ limit → limit ≤ MOST_LEAVES → 1 ≤ hands → IsSoundRun seen
 seen_sound problem run roots limit hands deques ledger seen e is long are few_roots few_leaves some =
-    subst IsSound (refinery_of problem run roots limit hands deques ledger seen e is) (record {
+    subst IsSoundRun (refinery_of problem run roots limit hands deques ledger seen e is) (record {
       long = subst (λ (p : Problem). HaveLengths (plain_problem p)) e long;
       roots_are = are;
       few_roots = few_roots;
@@ -181,7 +181,7 @@ seen_run problem run roots limit hands deques ledger seen e is = record {
 
 -- all hands of a run are those of its refinery
 pub run_all : (problem : Problem) (roots : List Cell) (n : ℕ) (r : RefinerySeen) (hands : List HandSeen) (cells : List Cell) →
-    IsOfRun problem roots n r → IsSound r → All (Accounts (plain_problem problem) roots n) hands → numbers_of hands ≡ range_with_len 0 r.hands →
+    IsOfRun problem roots n r → IsSoundRun r → All (Accounts (plain_problem problem) roots n) hands → numbers_of hands ≡ range_with_len 0 r.hands →
     AreOpen hands cells → All (InTree (plain_problem problem) roots) cells → AreAll r hands cells
 run_all problem roots n r hands cells is sound accounts numbers open_cells trees = record {
   sound = sound;

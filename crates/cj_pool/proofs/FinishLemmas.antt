@@ -247,7 +247,7 @@ are_open hands start cells given taken is kept left opened took = record {
       let s = ap (weigh w) is in omega (arith, l, g, t, s);
 }
 
--- cells of trees keep their intervals
+-- cells of trees keep their pieces
 pub trees_keep : (case : PlainProblem) (roots cells : List Cell) → AreRoots case roots → All (InTree case roots) cells → All (IsKept case) cells
 trees_keep case roots cells are trees = All-weaker (InTree case roots) (IsKept case) (λ c t. tree_keeps case roots c are t) cells trees
 

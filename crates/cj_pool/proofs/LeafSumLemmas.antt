@@ -4,7 +4,7 @@ use Rattle.std.specs.List.{flat_map}
 use Rattle.cj_interval.proofs.ListLemmas.{Each, Each-weaker, Each-flat_map, Ordered, Ordered-flat_map, each_from_All, ordered_from_AllPairs, exists_from_Any, Exists}
 use Rattle.cj_hermite.specs.Interpolant.{Curve}
 use Rattle.cj_hermite.specs.PlainProblems.{PlainProblem, threshold_of, HaveCurves}
-use Rattle.cj_hermite.specs.Roots.{PlainCell, KeepIntervals, IsRootBefore}
+use Rattle.cj_hermite.specs.Roots.{PlainCell, KeepPieces, IsRootBefore}
 use Rattle.cj_hermite.proofs.CurveLemmas.{Curves, curves, curves_of}
 use Rattle.cj_bezier.specs.declared.cell.Cell.{Cell}
 use Rattle.cj_bezier.specs.declared.kind.Kind.{Kind}
@@ -35,7 +35,7 @@ judged case r c d le have = kind_of case r c d (threshold_of case r.a r.b) (have
     (have.second_curve r.first (omega arith) le) refl
 
 -- a closed cell has its own leaf alone
-pub cell_closed : (case : PlainProblem) (r : PlainCell) (kind : Kind) → r.first ≤ r.last → KeepIntervals case r.a r.b r.first r.last →
+pub cell_closed : (case : PlainProblem) (r : PlainCell) (kind : Kind) → r.first ≤ r.last → KeepPieces case r.a r.b r.first r.last →
     kind_of_cell case r ≡ Some kind →
     leaves_of_root case r ≡ closed r.a r.b r.first r.last kind ∷ []
 cell_closed case r kind le keep is = go (curves_of case r.a r.b r.first r.last keep)
@@ -53,7 +53,7 @@ part_curves case a b first last from to c d have low high = record {
 }
 
 module _ (case : PlainProblem) (long : HaveLengths case) (big : 10 ^ 9 ≤ case.threshold) where
-  ticks_halved : (a b first mid last : ℕ) → first ≤ mid → mid < last → mid ≡ middle first last → KeepIntervals case a b first last →
+  ticks_halved : (a b first mid last : ℕ) → first ≤ mid → mid < last → mid ≡ middle first last → KeepPieces case a b first last →
       kind_of_cell case (record { a = a; b = b; first = first; last = last }) ≡ None →
       leaves_of_root case (record { a = a; b = b; first = first; last = last })
       ≡ leaves_of_root case (record { a = a; b = b; first = first; last = mid }) ++ leaves_of_root case
@@ -106,7 +106,7 @@ module _ (case : PlainProblem) (long : HaveLengths case) (big : 10 ^ 9 ≤ case.
 
   -- ---- what the leaves of a cell are
 
-  pub described_cell : (r : PlainCell) → r.first ≤ r.last → KeepIntervals case r.a r.b r.first r.last → Describe case r (leaves_of_root case r)
+  pub described_cell : (r : PlainCell) → r.first ≤ r.last → KeepPieces case r.a r.b r.first r.last → Describe case r (leaves_of_root case r)
   described_cell r le keep = go (curves_of case r.a r.b r.first r.last keep)
     where
       go : Curves case r.a r.b r.first r.last → Describe case r (leaves_of_root case r)
@@ -122,7 +122,7 @@ module _ (case : PlainProblem) (long : HaveLengths case) (big : 10 ^ 9 ≤ case.
   some_of a b m (s ∷ ss) e = omega arith
 
   -- a cell has a leaf at least
-  pub some_leaf : (r : PlainCell) → r.first ≤ r.last → KeepIntervals case r.a r.b r.first r.last → 0 < length (leaves_of_root case r)
+  pub some_leaf : (r : PlainCell) → r.first ≤ r.last → KeepPieces case r.a r.b r.first r.last → 0 < length (leaves_of_root case r)
   some_leaf r le keep =
       let d = described_cell r le keep in
       some_of r.a r.b r.first (leaves_of_root case r) (exists_from_Any (IsTickOf r.a r.b r.first) (leaves_of_root case r)

@@ -23,7 +23,7 @@ use Rattle.cj_pool.specs.Tree.{ticks_kind, InTree, IsLeafOf}
 use Rattle.cj_pool.proofs.LengthLemmas.{first_over, second_over}
 use Rattle.cj_pool.proofs.TreeLemmas.{tree_keeps}
 
--- a stretch of the objects a and b in this halving tree, as what it is judged to be
+-- a leaf of the objects a and b in this halving tree, as what it is judged to be
 pub record IsInTree (judge : ℕ → ℕ → Option Kind) (a b first last : ℕ) (s : PlainLeaf) : Type 0 where
   pub first_object : s.a ≡ a
   pub second_object : s.b ≡ b

@@ -4,28 +4,28 @@ use Rattle.std.specs.Prelude.{All, IfSome, slice_get, option_map, option_and_the
 use Rattle.cj_interval.proofs.ListLemmas.{each_from_All, each_at}
 use Rattle.cj_track.specs.PlainTracks.{PlainTrack}
 use Rattle.cj_hermite.specs.Interpolant.{Curve, IsOver}
-use Rattle.cj_hermite.specs.Pieces.{intervals_of, interval_at, curve_of_interval}
+use Rattle.cj_hermite.specs.Pieces.{pieces_of, piece_holding, curve_of_piece}
 use Rattle.cj_hermite.specs.PlainProblems.{PlainProblem, curve_at, HaveCurves}
 use Rattle.cj_hermite.proofs.ObjectLemmas.{within_at}
 use Rattle.cj_hermite.proofs.StateLemmas.{has, lacks, state}
 use Rattle.cj_hermite.specs.Lengths.{Rises, IsRising, HaveLengths}
 
-curve_long : (e : PlainTrack) (m : ℕ) → IsRising e → IfSome (option_map curve_of_interval (interval_at e m)) (λ c. 0 < c.span)
+curve_long : (e : PlainTrack) (m : ℕ) → IsRising e → IfSome (option_map curve_of_piece (piece_holding e m)) (λ c. 0 < c.span)
 curve_long e m rising = elim (state e m) [
   | has number x is ↦
       let at = is.at in
-      let up : Rises x = each_at Rises (intervals_of e) number x (each_from_All Rises (intervals_of e) rising) is.place in
+      let up : Rises x = each_at Rises (pieces_of e) number x (each_from_All Rises (pieces_of e) rising) is.place in
       rw at (omega arith)
   | lacks unnumbered none ↦ rw none tt
 ]
 
-pub curves_long : (case : PlainProblem) → All IsRising case.ephemerides → HaveLengths case
+pub curves_long : (case : PlainProblem) → All IsRising case.tracks → HaveLengths case
 unfolding curve_at
-curves_long case rising object m = go (slice_get case.ephemerides object)
-    (λ e is. each_at IsRising case.ephemerides object e (each_from_All IsRising case.ephemerides rising) is)
+curves_long case rising object m = go (slice_get case.tracks object)
+    (λ e is. each_at IsRising case.tracks object e (each_from_All IsRising case.tracks rising) is)
   where
     go : (o : Option PlainTrack) → ((e : PlainTrack) → o ≡ Some e → IsRising e) →
-        IfSome (option_map curve_of_interval (option_and_then (λ e. interval_at e m) o)) (λ c. 0 < c.span)
+        IfSome (option_map curve_of_piece (option_and_then (λ e. piece_holding e m) o)) (λ c. 0 < c.span)
     go None all = tt
     go (Some e) all = curve_long e m (all e refl)
 

@@ -9,13 +9,13 @@ use Rattle.cj_bezier.specs.declared.leaf.Leaf.{Leaf}
 use Rattle.cj_bezier.specs.Cells.{plain_cell}
 use Rattle.cj_bezier.specs.Leaves.{PlainLeaf, plain_leaf, plain_leaves}
 use Rattle.cj_bezier.specs.RootLeaves.{leaves_of_root, leaves_of_roots}
-use Rattle.cj_cells.specs.Cells.{added_stretches}
+use Rattle.cj_cells.specs.Cells.{added_leaves}
 use Rattle.cj_cells.specs.declared.refine_error.RefineError.{RefineError}
 use Rattle.cj_cells.specs.declared.refine_error.RefineError.TheVariants as refine
 use Rattle.cj_pool.specs.declared.refined.FinishError.{FinishError}
 use Rattle.cj_pool.specs.declared.refined.FinishError.TheVariants.{Memory, TooMany}
 use Rattle.cj_pool.specs.Refined.{IsTooMany}
-use Rattle.cj_cells.proofs.ListingLemmas.{stretches_more, leaves_of_cells, root_more, roots_apart}
+use Rattle.cj_cells.proofs.ListingLemmas.{leaves_more, leaves_of_cells, root_more, roots_apart}
 use Rattle.cj_cells.proofs.SlotRootLemmas.{count_of}
 use Rattle.cj_hermite.specs.Lengths.{HaveLengths}
 use Rattle.cj_pool.specs.RootLists.{AreRoots}
@@ -52,13 +52,13 @@ refined_begins case cells limit start room = record {
 
 module _ (case : PlainProblem) (cells : List Cell) (limit i : ℕ) (start leaves : List Leaf) (are : AreRefined case cells limit i start leaves) (c : Cell) (lt : i < length cells) (is : c ≡ get_or cells i c) where
   pub refined_step : (new : List Leaf) → HaveLengths case → 10 ^ 9 ≤ case.threshold → length new ≤ limit → take (length leaves) new ≡ leaves →
-      added_stretches leaves new ≡ leaves_of_root case (plain_cell c) →
+      added_leaves leaves new ≡ leaves_of_root case (plain_cell c) →
       All (λ l. l.cell.root ≡ c.root) (drop (length leaves) new) → AreRefined case cells limit (i + 1) start new
   refined_step new long big room kept added numbered = record {
     room = room;
-    found = stretches_more leaves new kept
-        ∙ ap (λ (ss : List PlainLeaf). ss ++ added_stretches leaves new) are.found
-        ∙ append_assoc (plain_leaves start) (leaves_of_cells case (take i cells)) (added_stretches leaves new)
+    found = leaves_more leaves new kept
+        ∙ ap (λ (ss : List PlainLeaf). ss ++ added_leaves leaves new) are.found
+        ∙ append_assoc (plain_leaves start) (leaves_of_cells case (take i cells)) (added_leaves leaves new)
         ∙ ap (λ (ss : List PlainLeaf). plain_leaves start ++ (leaves_of_cells case (take i cells) ++ ss)) added
         ∙ ap (λ (ss : List PlainLeaf). plain_leaves start ++ ss) (sym (root_more case i cells c lt is));
     kept = kept_twice start leaves new are.kept kept;

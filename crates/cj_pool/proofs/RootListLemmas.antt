@@ -5,9 +5,9 @@ use Rattle.cj_interval.proofs.ListLemmas.{Each, Each-weaker, Each-always, Each-f
 use Rattle.cj_hermite.specs.PlainProblems.{PlainProblem}
 use Rattle.cj_hermite.specs.Pairs.{pairs_of}
 use Rattle.cj_hermite.specs.Slots.{slot_first, slot_last}
-use Rattle.cj_hermite.specs.Roots.{PlainCell, KeepIntervals, IsRootBefore, roots_in, slots_of, roots_of}
+use Rattle.cj_hermite.specs.Roots.{PlainCell, KeepPieces, IsRootBefore, roots_in, slots_of, roots_of}
 use Rattle.cj_hermite.proofs.RootLemmas.{IsRoot, IsRootOf, roots_of_pair, Each-between, Each-roots, Ordered-roots}
-use Rattle.cj_hermite.proofs.CurveLemmas.{root_intervals}
+use Rattle.cj_hermite.proofs.CurveLemmas.{root_pieces}
 use Rattle.cj_bezier.specs.declared.cell.Cell.{Cell}
 use Rattle.cj_bezier.specs.Cells.{plain_cell, plain_cells}
 use Rattle.cj_cells.specs.Cells.{root_numbers}
@@ -23,25 +23,25 @@ in_slot case a b slot =
     let hi = slot_last case.first case.last slot in
     Each-weaker (IsRoot case a b lo hi) IsShort (λ r is. omega (arith, is.from, is.to)) (roots_in case slot a b) (Each-between case a b lo hi)
 
-pub Each-short : (looked : ℕ → ℕ → ℕ → Bool) (case : PlainProblem) → Each IsShort (roots_of looked case)
+pub Each-short : (candidate : ℕ → ℕ → ℕ → Bool) (case : PlainProblem) → Each IsShort (roots_of candidate case)
 unfolding roots_of
-Each-short looked case =
-    Each-flat_map IsShort (roots_of_pair looked case) (pairs_of (length case.ephemerides))
-    (Each-always (λ pair. Each IsShort (roots_of_pair looked case pair))
-    (λ pair. Each-flat_map IsShort (λ slot. cond (looked pair.0 pair.1 slot) (roots_in case slot pair.0 pair.1) []) (slots_of case)
-    (Each-always (λ slot. Each IsShort (cond (looked pair.0 pair.1 slot) (roots_in case slot pair.0 pair.1) []))
-    (λ slot. Each-taken IsShort (looked pair.0 pair.1 slot) (roots_in case slot pair.0 pair.1) (in_slot case pair.0 pair.1 slot))
+Each-short candidate case =
+    Each-flat_map IsShort (roots_of_pair candidate case) (pairs_of (length case.tracks))
+    (Each-always (λ pair. Each IsShort (roots_of_pair candidate case pair))
+    (λ pair. Each-flat_map IsShort (λ slot. cond (candidate pair.0 pair.1 slot) (roots_in case slot pair.0 pair.1) []) (slots_of case)
+    (Each-always (λ slot. Each IsShort (cond (candidate pair.0 pair.1 slot) (roots_in case slot pair.0 pair.1) []))
+    (λ slot. Each-taken IsShort (candidate pair.0 pair.1 slot) (roots_in case slot pair.0 pair.1) (in_slot case pair.0 pair.1 slot))
     (slots_of case)))
-    (pairs_of (length case.ephemerides)))
+    (pairs_of (length case.tracks)))
 
 -- the cells of all roots in order, numbered from 0
-pub are_roots : (looked : ℕ → ℕ → ℕ → Bool) (case : PlainProblem) (roots : List Cell) → plain_cells roots ≡ roots_of looked case → root_numbers roots ≡ range_with_len 0 (length roots) → AreRoots case roots
-are_roots looked case roots is numbered = record {
+pub are_roots : (candidate : ℕ → ℕ → ℕ → Bool) (case : PlainProblem) (roots : List Cell) → plain_cells roots ≡ roots_of candidate case → root_numbers roots ≡ range_with_len 0 (length roots) → AreRoots case roots
+are_roots candidate case roots is numbered = record {
   keep = All-from_each (IsKept case) roots
-      (each_from_map (λ (r : PlainCell). KeepIntervals case r.a r.b r.first r.last) plain_cell roots
-      (subst (Each (λ (r : PlainCell). KeepIntervals case r.a r.b r.first r.last)) (sym is)
-      (Each-weaker (IsRootOf case) (λ (r : PlainCell). KeepIntervals case r.a r.b r.first r.last) (root_intervals case) (roots_of looked case) (Each-roots looked case))));
-  short = All-from_each IsShortCell roots (each_from_map IsShort plain_cell roots (subst (Each IsShort) (sym is) (Each-short looked case)));
-  ordered = subst (AllPairs IsRootBefore) (sym is) (AllPairs-from_ordered IsRootBefore (roots_of looked case) (Ordered-roots looked case));
+      (each_from_map (λ (r : PlainCell). KeepPieces case r.a r.b r.first r.last) plain_cell roots
+      (subst (Each (λ (r : PlainCell). KeepPieces case r.a r.b r.first r.last)) (sym is)
+      (Each-weaker (IsRootOf case) (λ (r : PlainCell). KeepPieces case r.a r.b r.first r.last) (root_pieces case) (roots_of candidate case) (Each-roots candidate case))));
+  short = All-from_each IsShortCell roots (each_from_map IsShort plain_cell roots (subst (Each IsShort) (sym is) (Each-short candidate case)));
+  ordered = subst (AllPairs IsRootBefore) (sym is) (AllPairs-from_ordered IsRootBefore (roots_of candidate case) (Ordered-roots candidate case));
   numbered = numbered;
 }

@@ -2,7 +2,7 @@
 use Rattle.std.proofs.Common.{◌≡◌, ℕ, ◌+◌, ◌^◌, ◌<◌, ◌≤◌, List, ap, ◌∙◌, arith}
 use Rattle.std.specs.Prelude.{None, Option, slice_get}
 use Rattle.cj_hermite.specs.PlainProblems.{PlainProblem}
-use Rattle.cj_hermite.specs.Roots.{KeepIntervals}
+use Rattle.cj_hermite.specs.Roots.{KeepPieces}
 use Rattle.cj_hermite.proofs.CurveLemmas.{keep_part}
 use Rattle.cj_bezier.specs.declared.cell.Cell.{Cell}
 use Rattle.cj_bezier.specs.declared.kind.Kind.{Kind}
@@ -21,13 +21,13 @@ tree_within judge first last lo hi whole = record { from = omega arith; to = ome
 tree_within judge first last lo hi (left from to tree lt none) = let r = tree_within judge first last from to tree in record { from = r.from; to = omega (arith, r.to) }
 tree_within judge first last lo hi (right from to tree lt none) = let r = tree_within judge first last from to tree in record { from = omega (arith, r.from); to = r.to }
 
--- the objects of a cell of a tree stay in their intervals, as they do over its root
+-- the objects of a cell of a tree stay in their pieces, as they do over its root
 pub tree_keeps : (case : PlainProblem) (roots : List Cell) (c : Cell) → AreRoots case roots → InTree case roots c → IsKept case c
 tree_keeps case roots c are tree =
     let root = tree.root in
     let keep : IsKept case root = each_at (IsKept case) roots c.root root (each_from_All (IsKept case) roots are.keep) tree.at in
     let part = tree_within (ticks_kind case c.pair.a c.pair.b) root.first.micros root.last.micros c.first.micros c.last.micros tree.tree in
-    let here : KeepIntervals case c.pair.a c.pair.b root.first.micros root.last.micros = rw (tree.pair) keep in
+    let here : KeepPieces case c.pair.a c.pair.b root.first.micros root.last.micros = rw (tree.pair) keep in
     keep_part case c.pair.a c.pair.b root.first.micros root.last.micros c.first.micros c.last.micros here part.from c.some part.to
 
 -- it is as short as a root

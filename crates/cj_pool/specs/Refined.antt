@@ -67,7 +67,7 @@ pub record IsOfRun (problem : Problem) (roots : List Cell) (workers : ℕ) (r : 
   pub hands_are : r.hands ≡ workers
 
 -- a refinery of few enough roots, whose interpolants have lengths
-pub record IsSound (r : RefinerySeen) : Type 0 where
+pub record IsSoundRun (r : RefinerySeen) : Type 0 where
   pub long : HaveLengths (plain_problem r.problem)
   pub roots_are : AreRoots (plain_problem r.problem) r.roots
   pub few_roots : length r.roots ≤ r.limit
@@ -83,7 +83,7 @@ pub record AreOpen (hands : List HandSeen) (cells : List Cell) : Type 0 where
 
 -- all hands of a refinery, and the cells that are open at the end
 pub record AreAll (r : RefinerySeen) (hands : List HandSeen) (cells : List Cell) : Type 0 where
-  pub sound : IsSound r
+  pub sound : IsSoundRun r
   pub accounts : All (Accounts (plain_problem r.problem) r.roots r.hands) hands
   pub numbers : numbers_of hands ≡ range_with_len 0 r.hands
   pub open_cells : AreOpen hands cells

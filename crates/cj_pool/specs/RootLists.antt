@@ -2,14 +2,14 @@
 use Rattle.std.specs.Prelude.{◌≡◌, ◌+◌, ◌<◌, List, All, AllPairs, length}
 use Rattle.std.specs.List.{range_with_len}
 use Rattle.cj_hermite.specs.PlainProblems.{PlainProblem}
-use Rattle.cj_hermite.specs.Roots.{KeepIntervals, IsRootBefore}
+use Rattle.cj_hermite.specs.Roots.{KeepPieces, IsRootBefore}
 use Rattle.cj_bezier.specs.declared.cell.Cell.{Cell}
 use Rattle.cj_bezier.specs.Cells.{plain_cells}
 use Rattle.cj_cells.specs.Cells.{root_numbers}
 
--- each of its objects is in one interval over the ticks of the cell
+-- each of its objects is in one piece over the ticks of the cell
 abbrev pub IsKept : PlainProblem → Cell → Type 0
-IsKept case c = KeepIntervals case c.pair.a c.pair.b c.first.micros c.last.micros
+IsKept case c = KeepPieces case c.pair.a c.pair.b c.first.micros c.last.micros
 
 -- at most a minute of ticks
 abbrev pub IsShortCell : Cell → Type 0

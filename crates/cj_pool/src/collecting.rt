@@ -5,7 +5,7 @@ ghost use Rattle.std.specs.List.Sorted.{IsPermutation};
 ghost use Rattle.cj_hermite.specs.Roots.{IsRootUpTo};
 ghost use Rattle.cj_bezier.specs.Cells.{plain_cells};
 ghost use Rattle.cj_pool.specs.Hands.{IsHandOf, cells_of, settled_share};
-ghost use Rattle.cj_pool.specs.Refined.{AreAll, IsOfRun, IsSound, leaves_in, numbers_of};
+ghost use Rattle.cj_pool.specs.Refined.{AreAll, IsOfRun, IsSoundRun, leaves_in, numbers_of};
 
 use crate::hand::Hand;
 use crate::joining::gather;
@@ -37,7 +37,7 @@ impl<'p, K: Run> Refinery<'p, K> {
         hands: Vec<Hand<'p, K>>,
     ) -> Result<Collected, AllocError>
         requires run { IsOfRun K.problem K.roots K.workers self.now }
-        requires sound { IsSound self.now }
+        requires sound { IsSoundRun self.now }
         requires hands { All (IsHandOf self.now) hands.items }
         requires all { numbers_of hands.items ≡ range_with_len 0 self.now.hands }
         ensures all { IfOk result (λ found. AreAll self.now hands.entry.items found.cells.items) }

@@ -12,7 +12,7 @@ ghost use Rattle.cj_hermite.specs.Lengths.{HaveLengths};
 ghost use Rattle.cj_ledger.specs.Shares.{IsOf};
 ghost use Rattle.cj_pool.specs.Hands.{IsHandOf, cells_of};
 ghost use Rattle.cj_pool.specs.declared.refined.FinishError.TheVariants.{Memory, TooMany};
-ghost use Rattle.cj_pool.specs.Refined.{AreLeft, IsOfRun, IsSound, IsTooMany, Stands, TotalsOf, leaves_wanted, numbers_of};
+ghost use Rattle.cj_pool.specs.Refined.{AreLeft, IsOfRun, IsSoundRun, IsTooMany, Stands, TotalsOf, leaves_wanted, numbers_of};
 ghost use Rattle.cj_pool.specs.RootLists.{AreRoots, IsKept};
 ghost use Rattle.cj_pool.specs.Tree.{InTree, IsLeafOf};
 ghost use Rattle.cj_pool.specs.Weights.{weigh, has};
@@ -77,7 +77,7 @@ impl<'p, K: Run> Refinery<'p, K> {
     /// What is so of the run and its roots, whatever the hands have done: it does nothing else than to look at the tracks.
     fn have_roots(&self)
         ensures run { IsOfRun K.problem K.roots K.workers self.now }
-        ensures sound { IsSound self.now }
+        ensures sound { IsSoundRun self.now }
         ensures single { (r : Cell) (m : ℕ) → Contains self.now.roots r → r.first.micros ≤ m → m ≤ r.last.micros
             → weigh (has r.pair.a r.pair.b m) self.now.roots ≡ 1 }
         ensures describe { All (λ root. Describe (plain_problem self.now.problem) root

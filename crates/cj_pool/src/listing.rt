@@ -4,15 +4,15 @@ ghost use Rattle.std.specs.List.{range_with_len};
 ghost use Rattle.cj_values.specs.Bounds.{MOST_LEAVES};
 ghost use Rattle.cj_hermite.specs.PlainProblems.{IsCommonOf};
 ghost use Rattle.cj_hermite.specs.Problems.{plain_problem};
-ghost use Rattle.cj_hermite.specs.Roots.{KeepIntervals, roots_of};
+ghost use Rattle.cj_hermite.specs.Roots.{KeepPieces, roots_of};
 ghost use Rattle.cj_hermite.specs.Slots.{slot_of};
 ghost use Rattle.cj_bezier.specs.Cells.{plain_cells};
 ghost use Rattle.cj_bezier.specs.Leaves.{plain_leaves, IsTickOf};
-ghost use Rattle.cj_bezier.specs.Looked.{is_looked};
+ghost use Rattle.cj_bezier.specs.Candidates.{is_candidate};
 ghost use Rattle.cj_bezier.specs.Order.{AreInOrder};
 ghost use Rattle.cj_bezier.specs.RootLeaves.{leaves_of_root, leaves_of_roots, Describe};
 ghost use Rattle.cj_cells.specs.Cells.{root_numbers};
-ghost use Rattle.cj_cells.specs.Lists.{list_looked, splits_of, IsSound};
+ghost use Rattle.cj_cells.specs.Lists.{list_candidates, splits_of, IsSound};
 ghost use Rattle.cj_pool.specs.declared.refined.FinishError.TheVariants.{Memory, TooMany};
 ghost use Rattle.cj_pool.specs.RootLists.{AreRoots};
 
@@ -73,7 +73,7 @@ pub fn leaves_by_hands<K: Run + Send + Sync, R: Threads + Wait + Sync, G: Gate +
     }
 }
 
-/// The one-thread list, by so many workers, of the roots of the pairs that are looked at in each slot, each with its place as its
+/// The one-thread list, by so many workers, of the roots of the candidates of each slot, each with its place as its
 /// number. Each of several workers calls the gate before each of its turns. One worker takes no turns: it halves the roots one after
 /// another, and enters no gate.
 pub fn leaves_by_workers<R: Threads + Wait + Sync, G: Gate + Sync>(
@@ -89,27 +89,27 @@ pub fn leaves_by_workers<R: Threads + Wait + Sync, G: Gate + Sync>(
     requires limit { limit ≤ MOST_LEAVES }
     requires some { 1 ≤ workers }
     requires few_workers { workers ≤ 16 }
-    requires found { plain_cells roots.items ≡ roots_of (is_looked (plain_problem problem.now)) (plain_problem problem.now) }
+    requires found { plain_cells roots.items ≡ roots_of (is_candidate (plain_problem problem.now)) (plain_problem problem.now) }
     requires numbered { root_numbers roots.items ≡ range_with_len 0 (vec_len roots) }
 
-    ensures value { IfOk result (λ leaves. plain_leaves leaves.items ≡ list_looked (plain_problem problem.now)) }
+    ensures value { IfOk result (λ leaves. plain_leaves leaves.items ≡ list_candidates (plain_problem problem.now)) }
     ensures within { IfOk result (λ leaves. vec_len leaves ≤ limit) }
-    ensures too_many { IsErrOf result RefineError.TooMany → limit < length (list_looked (plain_problem problem.now)) }
+    ensures too_many { IsErrOf result RefineError.TooMany → limit < length (list_candidates (plain_problem problem.now)) }
 
     // Each halving makes one leaf more.
     ensures splits { IfOk result (λ leaves. vec_len leaves ≡ vec_len roots + splits_of (plain_problem problem.now)) }
 
-    // Each stretch of the list is true at each of its ticks, each common tick of a pair that is looked at lies in a stretch of that
+    // Each leaf of the list is true at each of its ticks, each common tick of a candidate lies in a leaf of that
     // pair, and they are in order of pair and time.
-    ensures sound { OnOk result (All (IsSound (plain_problem problem.now)) (list_looked (plain_problem problem.now))) }
+    ensures sound { OnOk result (All (IsSound (plain_problem problem.now)) (list_candidates (plain_problem problem.now))) }
     ensures complete { OnOk result ((a b m : ℕ) → IsCommonOf (plain_problem problem.now) a b m
-        → is_looked (plain_problem problem.now) a b (slot_of problem.now.window.first.micros m) ≡ true
-        → Any (IsTickOf a b m) (list_looked (plain_problem problem.now))) }
-    ensures ordered { OnOk result (AreInOrder (list_looked (plain_problem problem.now))) }
+        → is_candidate (plain_problem problem.now) a b (slot_of problem.now.window.first.micros m) ≡ true
+        → Any (IsTickOf a b m) (list_candidates (plain_problem problem.now))) }
+    ensures ordered { OnOk result (AreInOrder (list_candidates (plain_problem problem.now))) }
 
-    // Over each stretch both its objects are in one interval.
-    ensures intervals { OnOk result (All
-        (λ s. KeepIntervals (plain_problem problem.now) s.a s.b s.first s.last) (list_looked (plain_problem problem.now))) }
+    // Over each leaf both its objects are in one piece.
+    ensures pieces { OnOk result (All
+        (λ s. KeepPieces (plain_problem problem.now) s.a s.b s.first s.last) (list_candidates (plain_problem problem.now))) }
 {
     if workers == 1 {
         return leaves_of(alloc, problem, &roots, limit);

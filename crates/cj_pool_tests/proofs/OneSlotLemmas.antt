@@ -1,4 +1,4 @@
--- The roots of two objects, where only the first slot is looked at.
+-- The roots of two objects, that are a candidate in the first slot alone.
 use Rattle.std.proofs.Common.{◌≡◌, ℕ, zero, suc, ◌+◌, ◌<◌, Bool, true, false, List, [], ◌∷◌, ◌++◌, length, refl, ap, ◌∙◌, arith}
 use Rattle.std.specs.Prelude.{filter}
 use Rattle.std.proofs.lemmas.List.{append-nil}
@@ -33,10 +33,10 @@ later_slots case pairs slot zero lt = refl
 later_slots case pairs slot (suc n) lt = rw (none_kept slot pairs lt) (later_slots case pairs (slot + 1) n (omega arith))
 
 -- the roots of two objects are those of their pair in the first slot
-pub one_slot : (case : PlainProblem) (n : ℕ) → length case.ephemerides ≡ 2 → slot_count case.first case.last ≡ suc n → roots_by_slot first_slot case ≡ roots_in_slot case 0 ((0, 1) ∷ [])
+pub one_slot : (case : PlainProblem) (n : ℕ) → length case.tracks ≡ 2 → slot_count case.first case.last ≡ suc n → roots_by_slot first_slot case ≡ roots_in_slot case 0 ((0, 1) ∷ [])
 unfolding roots_by_slot
 one_slot case n two slots =
-    let pairs = pairs_of (length case.ephemerides) in
+    let pairs = pairs_of (length case.tracks) in
     let all : flat_map (in_first case pairs) (range_with_len 0 (slot_count case.first case.last)) ≡ in_first case pairs 0 ++ flat_map (in_first case pairs) (range_with_len 1 n) =
     ap (λ (k : ℕ). flat_map (in_first case pairs) (range_with_len 0 k)) slots in
     let rest = later_slots case pairs 1 n (omega arith) in

@@ -1,9 +1,9 @@
--- What a line SPAN tells, as a stretch.
+-- What a line SPAN tells, as a leaf.
 use Rattle.cj_bezier.specs.Leaves.{PlainLeaf}
 use Rattle.cj_report.specs.declared.span_line.SpanLine.{SpanLine}
 
-abbrev pub stretch_of_line : SpanLine → PlainLeaf
-stretch_of_line span = record {
+abbrev pub leaf_of_line : SpanLine → PlainLeaf
+leaf_of_line span = record {
   a = span.pair.a;
   b = span.pair.b;
   first = span.first.micros;

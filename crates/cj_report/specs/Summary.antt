@@ -8,7 +8,7 @@ pub record Tally : Type 0 where
   pub objects : ℕ
   pub pairs : ℕ
   pub parted : ℕ
-  -- the pairs that are looked at, summed over all slots
+  -- the candidates, summed over all slots
   pub touching : ℕ
   -- the roots, how often they are halved, and the leaves
   pub roots : ℕ

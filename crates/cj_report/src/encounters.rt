@@ -1,11 +1,11 @@
 ghost use Rattle.std.specs.Prelude.{◌≡◌, ◌+◌, ◌++◌, Bool, List, Option, length, map, flat_map, All, OnOk};
 ghost use Rattle.cj_bezier.specs.Leaves.{PlainLeaf, plain_leaves};
 ghost use Rattle.cj_meet.specs.Closest.{PlainClosest, some_closest};
-ghost use Rattle.cj_meet.specs.Encounters.{Describes, groups_in, stretches_in};
+ghost use Rattle.cj_meet.specs.Encounters.{Describes, groups_in, leaves_in};
 ghost use Rattle.cj_meet.specs.Spans.{spans_of};
 ghost use Rattle.cj_report.specs.Report as spec;
 ghost use Rattle.cj_report.specs.Report.{encounter_line, encounter_lines, numbered, span_line, approach_words};
-ghost use Rattle.cj_report.specs.SpanLines.{stretch_of_line};
+ghost use Rattle.cj_report.specs.SpanLines.{leaf_of_line};
 
 use crate::lines::push_line;
 use crate::span_line::SpanLine;
@@ -54,7 +54,7 @@ fn push_encounter(
 ) -> Result<(), AllocError>
     requires { Describes (plain_leaves leaves.now) encounter.now }
     ensures { OnOk result (text.new.items ≡ text.old.items
-        ++ encounter_lines (λ _. some_closest closest.now) (λ _. has_message) number (stretches_in (plain_leaves leaves.now) encounter.now)) }
+        ++ encounter_lines (λ _. some_closest closest.now) (λ _. has_message) number (leaves_in (plain_leaves leaves.now) encounter.now)) }
 {
     push_heading(text, number, encounter, closest, has_message)?;
     push_spans(
@@ -112,7 +112,7 @@ fn push_spans(text: &mut Vec<u8>, leaves: &[Leaf]) -> Result<(), AllocError>
 }
 
 fn push_span(text: &mut Vec<u8>, span: &SpanLine) -> Result<(), AllocError>
-    ensures { OnOk result (text.new.items ≡ text.old.items ++ span_line (stretch_of_line span.now)) }
+    ensures { OnOk result (text.new.items ≡ text.old.items ++ span_line (leaf_of_line span.now)) }
 {
     push_line(
         text,

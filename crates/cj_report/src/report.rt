@@ -32,7 +32,7 @@ pub fn report_text(
     ensures { let case = plain_problem problem.now in IfOk result (λ text. (approach : List PlainLeaf → Option PlainClosest) (has_message : List PlainLeaf → Bool)
         → map some_closest approaches.now ≡ map approach (groups_in (plain_leaves leaves.now) encounters.now)
         → messages.now ≡ map has_message (groups_in (plain_leaves leaves.now) encounters.now)
-        → text.items ≡ report_of case.first case.last case.threshold case.ephemerides (told with_sizes case.sizes) approach has_message
+        → text.items ≡ report_of case.first case.last case.threshold case.tracks (told with_sizes case.sizes) approach has_message
         (groups_in (plain_leaves leaves.now) encounters.now)) }
 {
     let mut text = Vec::with_capacity(alloc, usual_length(problem, encounters))?;

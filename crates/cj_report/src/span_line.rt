@@ -16,11 +16,11 @@ pub(crate) struct SpanLine {
 }
 
 impl SpanLine {
-    ghost use Rattle.cj_report.specs.SpanLines.{stretch_of_line};
+    ghost use Rattle.cj_report.specs.SpanLines.{leaf_of_line};
 
     /// The line of this leaf alone.
     pub(crate) fn of(leaf: &Leaf) -> SpanLine
-        ensures { stretch_of_line result ≡ plain_leaf leaf.now }
+        ensures { leaf_of_line result ≡ plain_leaf leaf.now }
     {
         SpanLine {
             pair: leaf.cell.pair,
@@ -32,7 +32,7 @@ impl SpanLine {
 
     /// Whether the line tells of the leaf too.
     pub(crate) fn goes_on(&self, leaf: &Leaf) -> bool
-        ensures { result ≡ (follows (stretch_of_line self.now) (plain_leaf leaf.now)
+        ensures { result ≡ (follows (leaf_of_line self.now) (plain_leaf leaf.now)
             && same_kind self.now.kind leaf.now.kind) }
     {
         self.pair == leaf.cell.pair

@@ -15,7 +15,7 @@ state second p v = record { at = tick_at second; p = p; v = v }
 
 -- useable from one second to another, with two states and no covariance
 abbrev pub between : ℕ → ℕ → PlainNode → PlainNode → PlainSegment
-between first last from to = record { first = tick_at first; last = tick_at last; states = from ∷ to ∷ []; covariances = [] }
+between first last from to = record { first = tick_at first; last = tick_at last; nodes = from ∷ to ∷ []; covariances = [] }
 
 -- the rate of what is at rest
 abbrev pub no_rate : Vec3
@@ -27,4 +27,4 @@ at_rest second p = state second p no_rate
 
 -- the object SAT A of a file, with these segments
 abbrev pub sat_a : List PlainSegment → PlainTrack
-sat_a arcs = record { file = codes "a.oem"; name = codes "SAT A"; id = codes "2025-001A"; frame = frames.Eme2000; arcs = arcs }
+sat_a segments = record { file = codes "a.oem"; name = codes "SAT A"; id = codes "2025-001A"; frame = frames.Eme2000; segments = segments }

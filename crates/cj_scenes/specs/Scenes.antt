@@ -42,7 +42,7 @@ resting_at n = let p = vector (kilometres n) (pos 0) (pos 0) in minute_from p p 
 -- two objects of these sizes over that minute, its end included, by a threshold of 5 km
 abbrev pub case_of : PlainTrack → PlainTrack → ℕ → ℕ → PlainProblem
 case_of a b size_a size_b = record {
-  ephemerides = a ∷ b ∷ [];
+  tracks = a ∷ b ∷ [];
   first = tick_at 0;
   last = tick_at 60;
   threshold = 5 * 10 ^ 12;

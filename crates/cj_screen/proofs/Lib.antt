@@ -1,5 +1,5 @@
 pub mod ReportLemmas
 pub mod ResultLemmas
 pub mod SplitLemmas
-pub mod TrialLemmas
+pub mod SelfrunLemmas
 pub mod TaskLemmas

@@ -1,13 +1,13 @@
--- What the pieces that are due say.
+-- What the outputs that are due say.
 use Rattle.std.proofs.Common.{◌≡◌, ℕ, ◌<◌, List, Bool, true, false, Result, Ok, Err, refl, sym, ap, subst, ◌∙◌, length, ◌≤◌, arith}
 use Rattle.std.specs.Prelude.{nat_le, All, IfOk, OnOk}
 use Rattle.std.proofs.lemmas.Bool.Decides.{nat_tests}
 use Rattle.cj_io.specs.declared.file.FileBytes.{FileBytes}
 use Rattle.cj_causes.specs.declared.cert_version.CertVersion.{CertVersion}
-use Rattle.cj_words.specs.Settings.{Asked}
+use Rattle.cj_words.specs.Settings.{PlainSettings}
 use Rattle.cj_hermite.specs.PlainProblems.{PlainProblem}
 use Rattle.cj_bezier.specs.Leaves.{PlainLeaf}
-use Rattle.cj_cells.specs.Lists.{list_looked}
+use Rattle.cj_cells.specs.Lists.{list_candidates}
 use Rattle.cj_cells.specs.declared.refine_error.RefineError.{RefineError}
 use Rattle.cj_cells.specs.declared.refine_error.RefineError.TheVariants as refine
 use Rattle.cj_meet.specs.Closest.{HasNearest}
@@ -20,7 +20,7 @@ use Rattle.cj_screen.specs.Errors.{refined_status}
 use Rattle.cj_outputs.specs.Again.{IsAcceptedLater}
 use Rattle.cj_outputs.specs.Messages.{PlainOrigin}
 use Rattle.cj_inputs.specs.Cases.{case_asked}
-use Rattle.cj_outputs.specs.Outcome.{cert_bytes, encounters_in, pieces_with, pieces_within, report_bytes, tells_sizes, within_cells}
+use Rattle.cj_outputs.specs.Outcome.{cert_bytes, encounters_in, outputs_with, outputs_within, report_bytes, tells_sizes, within_cells}
 use Rattle.cj_outputs.specs.Findings.{AreFound, case_in, cert_in, report_in}
 use Rattle.cj_outputs.proofs.AcceptingLemmas.{stops_then}
 use Rattle.cj_outputs.specs.SpanSplits.{SplitsTicks}
@@ -48,32 +48,32 @@ pub between_refined : (limit : ℕ) (e : RefineError) → ComesBetween (refined_
 between_refined limit refine.Memory = tt
 between_refined limit refine.TooMany = tt
 
--- the pieces of a case, of its leaves
-pub pieces_of_leaves : (limit : ℕ) (with_sizes : Bool) (version : CertVersion) (origin : PlainOrigin) (case : PlainProblem) (leaves : List PlainLeaf)
-    → within_cells limit (list_looked case) ≡ Ok leaves
-    → pieces_within limit with_sizes version origin case ≡ Ok (pieces_with with_sizes version origin case leaves)
-unfolding pieces_within
-pieces_of_leaves limit with_sizes version origin case leaves same =
-    ap (λ (r : Result (List PlainLeaf) Status). r >>= λ ss. Ok (pieces_with with_sizes version origin case ss)) same
+-- the outputs of a case, of its leaves
+pub outputs_of_leaves : (limit : ℕ) (with_sizes : Bool) (version : CertVersion) (origin : PlainOrigin) (case : PlainProblem) (leaves : List PlainLeaf)
+    → within_cells limit (list_candidates case) ≡ Ok leaves
+    → outputs_within limit with_sizes version origin case ≡ Ok (outputs_with with_sizes version origin case leaves)
+unfolding outputs_within
+outputs_of_leaves limit with_sizes version origin case leaves same =
+    ap (λ (r : Result (List PlainLeaf) Status). r >>= λ ss. Ok (outputs_with with_sizes version origin case ss)) same
 
--- what ends the search for the leaves ends that for the pieces
-pub pieces_stop : (limit : ℕ) (with_sizes : Bool) (version : CertVersion) (origin : PlainOrigin) (case : PlainProblem) (s : Status)
-    → Stops ⊥ s (within_cells limit (list_looked case))
-    → Stops ⊥ s (pieces_within limit with_sizes version origin case)
-unfolding pieces_within
-pieces_stop limit with_sizes version origin case s =
-    stops_then ⊥ s (within_cells limit (list_looked case)) (λ ss. Ok (pieces_with with_sizes version origin case ss))
+-- what ends the search for the leaves ends that for the outputs
+pub outputs_stop : (limit : ℕ) (with_sizes : Bool) (version : CertVersion) (origin : PlainOrigin) (case : PlainProblem) (s : Status)
+    → Stops ⊥ s (within_cells limit (list_candidates case))
+    → Stops ⊥ s (outputs_within limit with_sizes version origin case)
+unfolding outputs_within
+outputs_stop limit with_sizes version origin case s =
+    stops_then ⊥ s (within_cells limit (list_candidates case)) (λ ss. Ok (outputs_with with_sizes version origin case ss))
 
 -- the report of findings is that of the case that was asked
-pub reports : (files : List FileBytes) (settings : Asked) (version : CertVersion) (case : PlainProblem) → case_asked files settings ≡ Ok case
+pub reports : (files : List FileBytes) (settings : PlainSettings) (version : CertVersion) (case : PlainProblem) → case_asked files settings ≡ Ok case
     → (r : Result Findings Status) → IfOk r (λ found. case_in found ≡ case) → IfOk r (λ found. found.with_sizes ≡ tells_sizes settings) → IfOk r (λ found. found.version ≡ version) → IfOk r AreFound → OnOk r (SplitsTicks case (encounters_in case))
     → OnOk r (Certifies case (cert_bytes version case)) → OnOk r (All (HasNearest case) (encounters_in case)) → OnOk r (IsAcceptedLater settings files (cert_bytes version case))
     → IfOk r (λ found. Reports settings files (report_in found).bytes (cert_in found).bytes)
 reports files settings version case read (Ok found) same tells told are split certified nearest later = record {
   case = case;
   read = read;
-  text = ap (report_bytes found.with_sizes (case_in found)) are.leaves ∙ ap (λ (c : PlainProblem). report_bytes found.with_sizes c (list_looked c)) same
-      ∙ ap (λ (b : Bool). report_bytes b case (list_looked case)) tells;
+  text = ap (report_bytes found.with_sizes (case_in found)) are.leaves ∙ ap (λ (c : PlainProblem). report_bytes found.with_sizes c (list_candidates c)) same
+      ∙ ap (λ (b : Bool). report_bytes b case (list_candidates case)) tells;
   split = split;
   certified = subst (λ (n : CertVersion). Certifies case (cert_bytes n (case_in found))) (sym told) (subst (λ (c : PlainProblem). Certifies case (cert_bytes version c)) (sym same) certified);
   nearest = nearest;

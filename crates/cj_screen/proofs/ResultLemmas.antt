@@ -3,12 +3,12 @@ use Rattle.std.proofs.Common.{◌≡◌, ℕ, ◌≤◌, List, Result, Ok, Err, 
 use Rattle.std.specs.Prelude.{◌↔◌, IfErr}
 use Rattle.cj_io.specs.declared.file.FileBytes.{FileBytes}
 use Rattle.cj_words.specs.declared.option.UsageFault.{UsageFault}
-use Rattle.cj_words.specs.Commands.{Asking, command_of}
+use Rattle.cj_words.specs.Commands.{PlainCommand, command_of}
 use Rattle.cj_status.specs.declared.status.Status.{Status}
 use Rattle.cj_status.specs.declared.status.Status.TheVariants as status
 use Rattle.cj_status.specs.Steps.{◌>>=◌, ComesBefore, ComesBetween}
 use Rattle.cj_outputs.specs.Findings.{ended}
-use Rattle.cj_outputs.specs.Outcome.{asked, pieces_asked, pieces_of}
+use Rattle.cj_outputs.specs.Outcome.{asked, outputs_asked, outputs_of}
 
 -- what comes behind the words is no fault of theirs
 pub never_of_words : {A : Type 0} (r : Result A Status) (fault : UsageFault) → IfErr r ComesBetween → ¬ (r ≡ Err (status.Usage fault))
@@ -16,15 +16,15 @@ never_of_words (Ok x) fault comes = λ e. absurd cc
 never_of_words (Err s) fault comes = λ e. let is : s ≡ status.Usage fault = cc in subst ComesBetween is comes
 
 -- what the words ask for is due, and their fault where they ask for nothing
-pub pieces_of_asking : (words : List (List ℕ)) (files : List FileBytes) (now : ℕ) (asking : Asking) → Ok asking ≡ command_of words
-    → pieces_of words files now ≡ pieces_asked files now asking
-unfolding pieces_of
-pieces_of_asking words files now asking is = ap (λ (r : Result Asking UsageFault). asked r >>= pieces_asked files now) (sym is)
+pub outputs_of_command : (words : List (List ℕ)) (files : List FileBytes) (now : ℕ) (command : PlainCommand) → Ok command ≡ command_of words
+    → outputs_of words files now ≡ outputs_asked files now command
+unfolding outputs_of
+outputs_of_command words files now command is = ap (λ (r : Result PlainCommand UsageFault). asked r >>= outputs_asked files now) (sym is)
 
-pub pieces_of_fault : (words : List (List ℕ)) (files : List FileBytes) (now : ℕ) (fault : UsageFault) → Err fault ≡ command_of words
-    → pieces_of words files now ≡ Err (status.Usage fault)
-unfolding pieces_of
-pieces_of_fault words files now fault is = ap (λ (r : Result Asking UsageFault). asked r >>= pieces_asked files now) (sym is)
+pub outputs_of_fault : (words : List (List ℕ)) (files : List FileBytes) (now : ℕ) (fault : UsageFault) → Err fault ≡ command_of words
+    → outputs_of words files now ≡ Err (status.Usage fault)
+unfolding outputs_of
+outputs_of_fault words files now fault is = ap (λ (r : Result PlainCommand UsageFault). asked r >>= outputs_asked files now) (sym is)
 
 pub usage_fault : {A : Type 0} (words : List (List ℕ)) (fault : UsageFault) → Err fault ≡ command_of words
     → (other : UsageFault) → ◌≡◌ {A = Result A Status} (Err (status.Usage fault)) (Err (status.Usage other)) ↔ (command_of words ≡ Err other)

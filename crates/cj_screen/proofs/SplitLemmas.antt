@@ -6,9 +6,9 @@ use Rattle.cj_hermite.specs.PlainProblems.{PlainProblem}
 use Rattle.cj_hermite.specs.Slots.{slot_of}
 use Rattle.cj_bezier.specs.declared.kind.Kind.TheVariants.{Near, Undecided}
 use Rattle.cj_bezier.specs.Leaves.{PlainLeaf}
-use Rattle.cj_bezier.specs.Looked.{is_looked}
+use Rattle.cj_bezier.specs.Candidates.{is_candidate}
 use Rattle.cj_bezier.proofs.TrueLeafLemmas.{IsTrueLeaf, tells_of, outside_of}
-use Rattle.cj_cells.specs.Lists.{IsSound, list_looked}
+use Rattle.cj_cells.specs.Lists.{IsSound, list_candidates}
 use Rattle.cj_meet.specs.Spans.{HaveExactSpans}
 use Rattle.cj_outputs.specs.Outcome.{encounters_in}
 use Rattle.cj_outputs.specs.SpanSplits.{SplitsTicks}
@@ -21,10 +21,10 @@ all_true case ss sound =
     (each_from_All (IsSound case) ss sound))
 
 -- these leaves are those of the case
-pub splits : (case : PlainProblem) (ss : List PlainLeaf) → ss ≡ list_looked case → HoldsAllTicks case → HaveExactSpans ss
+pub splits : (case : PlainProblem) (ss : List PlainLeaf) → ss ≡ list_candidates case → HoldsAllTicks case → HaveExactSpans ss
     → SplitsTicks case (encounters_in case)
 splits case ss same ticks spans =
-    let all = list_looked case in
+    let all = list_candidates case in
     let true_all = all_true case all ticks.sound in
     let exact : HaveExactSpans all = subst HaveExactSpans same spans in
     record {
@@ -33,6 +33,6 @@ splits case ss same ticks spans =
       undecided = λ a b m here.
           let told = tells_of case all Undecided a b m true_all ((exact.undecided a b m).0 here) in (told.common, told.holds);
       outside = λ a b m common near undecided.
-          outside_of case all a b m (is_looked case a b (slot_of case.first m)) true_all
+          outside_of case all a b m (is_candidate case a b (slot_of case.first m)) true_all
           (ticks.complete a b m common) (ticks.far a b m common) (λ h. near ((exact.near a b m).1 h)) (λ h. undecided ((exact.undecided a b m).1 h));
     }

@@ -4,7 +4,7 @@ use Rattle.std.specs.Prelude.{IfErr, IsTrue, nat_le, if◌then◌else◌}
 use Rattle.cj_io.specs.declared.file.FileBytes.{FileBytes}
 use Rattle.cj_causes.specs.declared.cert_version.CertVersion.{CertVersion}
 use Rattle.cj_bezier.specs.Leaves.{PlainLeaf}
-use Rattle.cj_cells.specs.Lists.{list_looked}
+use Rattle.cj_cells.specs.Lists.{list_candidates}
 use Rattle.cj_cert.specs.declared.certificate.Certificate.{Certificate}
 use Rattle.cj_cert.specs.Certificates.{plain_certificate}
 use Rattle.cj_gen.specs.Catalogues.{catalogue_of}
@@ -13,8 +13,8 @@ use Rattle.cj_hermite.specs.PlainProblems.{PlainProblem}
 use Rattle.cj_hermite.specs.Problems.{plain_problem}
 use Rattle.cj_words.specs.declared.option.UsageFault.{UsageFault}
 use Rattle.cj_words.specs.declared.command.Screening as kept_screening
-use Rattle.cj_words.specs.Commands.{Asking, Screens, Checks, Generates, Tries, Rewrites, Checking, Screening, plain_screening}
-use Rattle.cj_words.specs.Settings.{Asked, asked_of}
+use Rattle.cj_words.specs.Commands.{PlainCommand, Screens, Checks, Generates, Selfruns, Rewrites, PlainChecking, PlainScreening, plain_screening}
+use Rattle.cj_words.specs.Settings.{PlainSettings, plain_settings}
 use Rattle.cj_inputs.specs.Cases.{case_asked}
 use Rattle.cj_status.specs.declared.status.Status.{Status}
 use Rattle.cj_status.specs.declared.status.Status.TheVariants as status
@@ -23,19 +23,19 @@ use Rattle.cj_status.specs.Steps.{◌>>=◌, Gives, Stops}
 use Rattle.cj_outputs.specs.Checks.{IsChecked}
 use Rattle.cj_outputs.specs.declared.findings.Findings.{Findings}
 use Rattle.cj_outputs.specs.declared.origin.Origin.{Origin}
-use Rattle.cj_outputs.specs.Findings.{cert_in, ended, messages_in, pieces_in, report_in, summary_in}
+use Rattle.cj_outputs.specs.Findings.{cert_in, ended, messages_in, outputs_in, report_in, summary_in}
 use Rattle.cj_outputs.specs.Messages.{PlainOrigin}
 use Rattle.cj_outputs.specs.Origins.{plain_origin}
-use Rattle.cj_outputs.specs.Outcome.{ArePieces, AreTooManyCells, ComesOfPuts, ComesOfTrial, EndsMaking, EndsTrial, origin_of, pieces_made, pieces_renewed, pieces_screened, pieces_with, pieces_within, tells_sizes}
+use Rattle.cj_outputs.specs.Outcome.{AreOutputs, AreTooManyCells, ComesOfPuts, ComesOfSelfrun, EndsMaking, EndsSelfrun, origin_of, outputs_made, outputs_renewed, outputs_screened, outputs_with, outputs_within, tells_sizes}
 use Rattle.cj_outputs.specs.Rewrites.{IsRewritten}
 use Rattle.cj_outputs.proofs.AcceptingLemmas.{stops_then}
 use Rattle.cj_screen.specs.Headline.{IsScreened, Reports}
 use Rattle.cj_screen.specs.declared.results.Results.{Results}
-use Rattle.cj_screen.specs.declared.results.Results.TheVariants.{Screened, Checked, Made, Tried, Rewritten}
-use Rattle.cj_screen.specs.Results.{RenewsDue, ReportsDue, ShowsDue, VouchesDue, pieces_due}
+use Rattle.cj_screen.specs.declared.results.Results.TheVariants.{Screened, Checked, Made, Selfrun as SelfrunFound, Rewritten}
+use Rattle.cj_screen.specs.Results.{RenewsDue, ReportsDue, ShowsDue, VouchesDue, outputs_due}
 use Rattle.cj_screen.specs.declared.task.Task.{Task}
-use Rattle.cj_screen.specs.declared.task.Task.TheVariants.{Screen, Accept, Make, Try, Renew}
-use Rattle.cj_screen.specs.Tasks.{ComesOfSearch, ComesToTask, EndsTask, IsDone, IsMaking, IsTrial, Readies, ReadsNothing, pieces_of_task, puts_files}
+use Rattle.cj_screen.specs.declared.task.Task.TheVariants.{Screen, Accept, Make, Selfrun, Renew}
+use Rattle.cj_screen.specs.Tasks.{ComesOfSearch, ComesToTask, EndsTask, IsDone, IsMaking, IsSelfrun, Readies, ReadsNothing, outputs_of_task, puts_files}
 
 -- ---- what is read
 
@@ -44,81 +44,81 @@ pub the_first : {P Q : Type 0} → P ⊎ Q → ¬ Q → P
 the_first (inl p) none = p
 the_first (inr q) none = absurd (none q)
 
--- the pieces of a screening are those of its case
-pub screened_case : (files : List FileBytes) (now : ℕ) (screening : Screening) (case : PlainProblem) → case_asked files screening.settings ≡ Ok case
-    → pieces_screened files now screening ≡ pieces_within screening.cells (tells_sizes screening.settings) screening.version (origin_of now screening) case
-unfolding pieces_screened
+-- the outputs of a screening are those of its case
+pub screened_case : (files : List FileBytes) (now : ℕ) (screening : PlainScreening) (case : PlainProblem) → case_asked files screening.settings ≡ Ok case
+    → outputs_screened files now screening ≡ outputs_within screening.cells (tells_sizes screening.settings) screening.version (origin_of now screening) case
+unfolding outputs_screened
 screened_case files now screening case read =
-    ap (λ (r : Result PlainProblem Status). r >>= λ c. pieces_within screening.cells (tells_sizes screening.settings) screening.version (origin_of now screening) c) read
+    ap (λ (r : Result PlainProblem Status). r >>= λ c. outputs_within screening.cells (tells_sizes screening.settings) screening.version (origin_of now screening) c) read
 
 -- where there is no case there are none
-pub no_case : (read : Type 0) (files : List FileBytes) (now : ℕ) (screening : Screening) (s : Status) → Stops read s (case_asked files screening.settings)
-    → Stops read s (pieces_screened files now screening)
-unfolding pieces_screened
+pub no_case : (read : Type 0) (files : List FileBytes) (now : ℕ) (screening : PlainScreening) (s : Status) → Stops read s (case_asked files screening.settings)
+    → Stops read s (outputs_screened files now screening)
+unfolding outputs_screened
 no_case read files now screening s stops =
     stops_then read s (case_asked files screening.settings)
-    (λ case. pieces_within screening.cells (tells_sizes screening.settings) screening.version (origin_of now screening) case) stops
+    (λ case. outputs_within screening.cells (tells_sizes screening.settings) screening.version (origin_of now screening) case) stops
 
 -- where no read counts, none failed
-pub calm_read : (asked : Result Asking UsageFault) (s : Status) (rose : Type 0) → (¬ rose) ⊎ ReadsNothing asked
-    → ((asking : Asking) → asked ≡ Ok asking → ComesToTask asking (Err s)) → ((fault : UsageFault) → asked ≡ Err fault → s ≡ status.Usage fault)
+pub calm_read : (asked : Result PlainCommand UsageFault) (s : Status) (rose : Type 0) → (¬ rose) ⊎ ReadsNothing asked
+    → ((command : PlainCommand) → asked ≡ Ok command → ComesToTask command (Err s)) → ((fault : UsageFault) → asked ≡ Err fault → s ≡ status.Usage fault)
     → s ≡ status.ReadFault → ¬ rose
 calm_read asked s rose (inl calm) unread usage is = calm
 calm_read (Ok (Screens screening)) s rose (inr none) unread usage is = absurd none
 calm_read (Ok (Checks checking)) s rose (inr none) unread usage is = absurd none
 calm_read (Ok (Generates recipe)) s rose (inr none) unread usage is = absurd (unread (Generates recipe) refl)
-calm_read (Ok (Tries trial)) s rose (inr none) unread usage is = absurd (unread (Tries trial) refl)
+calm_read (Ok (Selfruns selfrun)) s rose (inr none) unread usage is = absurd (unread (Selfruns selfrun) refl)
 calm_read (Ok (Rewrites checking)) s rose (inr none) unread usage is = absurd none
 calm_read (Err fault) s rose (inr none) unread usage is = let wrong = usage fault refl in absurd cc
 
 -- ---- what a task comes to
 
 -- a screening's leaves are few enough, or too many
-few_or_many : (b : Bool) (limit : ℕ) (leaves : List PlainLeaf) (pieces : List PlainLeaf → List FileBytes)
-    → ArePieces ((if b then Ok leaves else Err (status.Limit (Cells limit))) >>= λ ss. Ok (pieces ss))
-    ⊎ AreTooManyCells ((if b then Ok leaves else Err (status.Limit (Cells limit))) >>= λ ss. Ok (pieces ss))
-few_or_many true limit leaves pieces = inl (pieces leaves, refl)
-few_or_many false limit leaves pieces = inr (limit, refl)
+few_or_many : (b : Bool) (limit : ℕ) (leaves : List PlainLeaf) (outputs : List PlainLeaf → List FileBytes)
+    → AreOutputs ((if b then Ok leaves else Err (status.Limit (Cells limit))) >>= λ ss. Ok (outputs ss))
+    ⊎ AreTooManyCells ((if b then Ok leaves else Err (status.Limit (Cells limit))) >>= λ ss. Ok (outputs ss))
+few_or_many true limit leaves outputs = inl (outputs leaves, refl)
+few_or_many false limit leaves outputs = inr (limit, refl)
 
 within_or_many : (limit : ℕ) (with_sizes : Bool) (version : CertVersion) (origin : PlainOrigin) (case : PlainProblem)
-    → ArePieces (pieces_within limit with_sizes version origin case) ⊎ AreTooManyCells (pieces_within limit with_sizes version origin case)
-unfolding pieces_within
+    → AreOutputs (outputs_within limit with_sizes version origin case) ⊎ AreTooManyCells (outputs_within limit with_sizes version origin case)
+unfolding outputs_within
 within_or_many limit with_sizes version origin case =
-    few_or_many (nat_le (length (list_looked case)) limit) limit (list_looked case) (λ leaves. pieces_with with_sizes version origin case leaves)
+    few_or_many (nat_le (length (list_candidates case)) limit) limit (list_candidates case) (λ leaves. outputs_with with_sizes version origin case leaves)
 
--- of a task that puts files pieces are due, or there are too many leaves
-pub due_or_many : (now : ℕ) (task : Task) → IsTrue (puts_files task) → ArePieces (pieces_of_task now task) ⊎ AreTooManyCells (pieces_of_task now task)
+-- of a task that puts files outputs are due, or there are too many leaves
+pub due_or_many : (now : ℕ) (task : Task) → IsTrue (puts_files task) → AreOutputs (outputs_of_task now task) ⊎ AreTooManyCells (outputs_of_task now task)
 due_or_many now (Screen problem screening) files =
-    within_or_many screening.cells (tells_sizes (asked_of screening.settings)) screening.version (origin_of now (plain_screening screening)) (plain_problem problem)
+    within_or_many screening.cells (tells_sizes (plain_settings screening.settings)) screening.version (origin_of now (plain_screening screening)) (plain_problem problem)
 due_or_many now Accept files = absurd cc
-due_or_many now (Make recipe) files = inl (pieces_made (catalogue_of recipe.seed recipe.objects recipe.minutes), refl)
-due_or_many now (Try trial) files = absurd cc
-due_or_many now (Renew certificate) files = inl (pieces_renewed (plain_certificate certificate), refl)
+due_or_many now (Make recipe) files = inl (outputs_made (catalogue_of recipe.seed recipe.objects recipe.minutes), refl)
+due_or_many now (Selfrun selfrun) files = absurd cc
+due_or_many now (Renew certificate) files = inl (outputs_renewed (plain_certificate certificate), refl)
 
 -- what ends a search whose leaves are counted so
-counted_ends : (b : Bool) (limit : ℕ) (leaves : List PlainLeaf) (pieces : List PlainLeaf → List FileBytes) (s : Status)
-    → Stops ⊥ s ((if b then Ok leaves else Err (status.Limit (Cells limit))) >>= λ ss. Ok (pieces ss)) → ComesOfTrial s
-counted_ends b limit leaves pieces status.Ok stops = stops
-counted_ends true limit leaves pieces (status.NotAccepted line cause) stops = absurd cc
-counted_ends false limit leaves pieces (status.NotAccepted line cause) stops = absurd cc
-counted_ends true limit leaves pieces (status.Usage fault) stops = absurd cc
-counted_ends false limit leaves pieces (status.Usage fault) stops = absurd cc
-counted_ends true limit leaves pieces (status.BadFile file line cause) stops = absurd cc
-counted_ends false limit leaves pieces (status.BadFile file line cause) stops = absurd cc
-counted_ends b limit leaves pieces status.ReadFault stops = stops
-counted_ends b limit leaves pieces status.WriteFault stops = stops
-counted_ends b limit leaves pieces (status.Limit fault) stops = tt
-counted_ends b limit leaves pieces status.OutOfMemory stops = tt
+counted_ends : (b : Bool) (limit : ℕ) (leaves : List PlainLeaf) (outputs : List PlainLeaf → List FileBytes) (s : Status)
+    → Stops ⊥ s ((if b then Ok leaves else Err (status.Limit (Cells limit))) >>= λ ss. Ok (outputs ss)) → ComesOfSelfrun s
+counted_ends b limit leaves outputs status.Ok stops = stops
+counted_ends true limit leaves outputs (status.NotAccepted line cause) stops = absurd cc
+counted_ends false limit leaves outputs (status.NotAccepted line cause) stops = absurd cc
+counted_ends true limit leaves outputs (status.Usage fault) stops = absurd cc
+counted_ends false limit leaves outputs (status.Usage fault) stops = absurd cc
+counted_ends true limit leaves outputs (status.BadFile file line cause) stops = absurd cc
+counted_ends false limit leaves outputs (status.BadFile file line cause) stops = absurd cc
+counted_ends b limit leaves outputs status.ReadFault stops = stops
+counted_ends b limit leaves outputs status.WriteFault stops = stops
+counted_ends b limit leaves outputs (status.Limit fault) stops = tt
+counted_ends b limit leaves outputs status.OutOfMemory stops = tt
 
 -- only a limit and want of memory end a screening's search
 pub search_ends : (limit : ℕ) (with_sizes : Bool) (version : CertVersion) (origin : PlainOrigin) (case : PlainProblem) (r : Result Findings Status)
-    → Gives ⊥ (pieces_in origin) r (pieces_within limit with_sizes version origin case) → IfErr r ComesOfTrial
-unfolding pieces_within
+    → Gives ⊥ (outputs_in origin) r (outputs_within limit with_sizes version origin case) → IfErr r ComesOfSelfrun
+unfolding outputs_within
 search_ends limit with_sizes version origin case (Ok found) gives = tt
 search_ends limit with_sizes version origin case (Err s) gives =
-    counted_ends (nat_le (length (list_looked case)) limit) limit (list_looked case) (λ leaves. pieces_with with_sizes version origin case leaves) s gives
+    counted_ends (nat_le (length (list_candidates case)) limit) limit (list_candidates case) (λ leaves. outputs_with with_sizes version origin case leaves) s gives
 
-pub comes_of_search : (task : Task) (s : Status) → ¬ IsMaking task → ComesOfTrial s → ComesOfSearch task s
+pub comes_of_search : (task : Task) (s : Status) → ¬ IsMaking task → ComesOfSelfrun s → ComesOfSearch task s
 comes_of_search task status.Ok other comes = comes
 comes_of_search task (status.NotAccepted line cause) other comes = comes
 comes_of_search task (status.Usage fault) other comes = comes
@@ -131,61 +131,61 @@ comes_of_search task status.OutOfMemory other comes = tt
 -- ---- what is due of a task shows what its command asks
 
 -- the files are those whose case is asked
-pub asked_case : (screening : kept_screening.Screening) (asked : Screening) (files : List FileBytes) (problem : Problem) (found : Findings)
+pub asked_case : (screening : kept_screening.Screening) (asked : PlainScreening) (files : List FileBytes) (problem : Problem) (found : Findings)
     → (case_asked files asked.settings ≡ Ok (plain_problem problem)) × (plain_screening screening ≡ asked)
-    → (case_asked files (asked_of screening.settings) ≡ Ok (plain_problem problem)
-    → Reports (asked_of screening.settings) files (report_in found).bytes (cert_in found).bytes)
+    → (case_asked files (plain_settings screening.settings) ≡ Ok (plain_problem problem)
+    → Reports (plain_settings screening.settings) files (report_in found).bytes (cert_in found).bytes)
     → Reports asked.settings files (report_in found).bytes (cert_in found).bytes
 asked_case screening asked files problem found readies reports =
-    let same : asked_of screening.settings ≡ asked.settings = ap (λ (s : Screening). s.settings) readies.1 in
-    subst (λ (settings : Asked). Reports settings files (report_in found).bytes (cert_in found).bytes) same
-    (reports (subst (λ (settings : Asked). case_asked files settings ≡ Ok (plain_problem problem)) (sym same) readies.0))
+    let same : plain_settings screening.settings ≡ asked.settings = ap (λ (s : PlainScreening). s.settings) readies.1 in
+    subst (λ (settings : PlainSettings). Reports settings files (report_in found).bytes (cert_in found).bytes) same
+    (reports (subst (λ (settings : PlainSettings). case_asked files settings ≡ Ok (plain_problem problem)) (sym same) readies.0))
 
-pub shows_screened : (asking : Asking) (files : List FileBytes) (problem : Problem) (screening : kept_screening.Screening) (found : Findings) (origin : Origin)
-    → Readies asking files (Screen problem screening)
-    → (case_asked files (asked_of screening.settings) ≡ Ok (plain_problem problem)
-    → Reports (asked_of screening.settings) files (report_in found).bytes (cert_in found).bytes)
-    → ShowsDue asking files (Screened found origin)
+pub shows_screened : (command : PlainCommand) (files : List FileBytes) (problem : Problem) (screening : kept_screening.Screening) (found : Findings) (origin : Origin)
+    → Readies command files (Screen problem screening)
+    → (case_asked files (plain_settings screening.settings) ≡ Ok (plain_problem problem)
+    → Reports (plain_settings screening.settings) files (report_in found).bytes (cert_in found).bytes)
+    → ShowsDue command files (Screened found origin)
 shows_screened (Screens asked) files problem screening found origin readies reports = asked_case screening asked files problem found readies reports
 shows_screened (Checks checking) files problem screening found origin readies reports = absurd readies
 shows_screened (Generates recipe) files problem screening found origin readies reports = tt
-shows_screened (Tries trial) files problem screening found origin readies reports = tt
+shows_screened (Selfruns selfrun) files problem screening found origin readies reports = tt
 shows_screened (Rewrites checking) files problem screening found origin readies reports = absurd readies
 
-pub shows_accepted : (asking : Asking) (files : List FileBytes) → Readies asking files Accept → ShowsDue asking files Checked
+pub shows_accepted : (command : PlainCommand) (files : List FileBytes) → Readies command files Accept → ShowsDue command files Checked
 shows_accepted (Screens asked) files readies = absurd readies
 shows_accepted (Checks checking) files readies = readies
 shows_accepted (Generates recipe) files readies = tt
-shows_accepted (Tries trial) files readies = tt
+shows_accepted (Selfruns selfrun) files readies = tt
 shows_accepted (Rewrites checking) files readies = absurd readies
 
-pub shows_renewed : (asking : Asking) (files : List FileBytes) (certificate : Certificate) → Readies asking files (Renew certificate)
-    → ShowsDue asking files (Rewritten certificate)
+pub shows_renewed : (command : PlainCommand) (files : List FileBytes) (certificate : Certificate) → Readies command files (Renew certificate)
+    → ShowsDue command files (Rewritten certificate)
 shows_renewed (Screens asked) files certificate readies = absurd readies
 shows_renewed (Checks checking) files certificate readies = absurd readies
 shows_renewed (Generates recipe) files certificate readies = tt
-shows_renewed (Tries trial) files certificate readies = tt
+shows_renewed (Selfruns selfrun) files certificate readies = tt
 shows_renewed (Rewrites checking) files certificate readies = readies
 
 -- a task of no file is of no command that reads one
-pub shows_made : (asking : Asking) (files : List FileBytes) (task : Task) (results : Results) → IsMaking task ⊎ IsTrial task → Readies asking files task
-    → ShowsDue asking files results
+pub shows_made : (command : PlainCommand) (files : List FileBytes) (task : Task) (results : Results) → IsMaking task ⊎ IsSelfrun task → Readies command files task
+    → ShowsDue command files results
 shows_made (Screens asked) files (Make recipe) results free readies = absurd readies
-shows_made (Screens asked) files (Try trial) results free readies = absurd readies
+shows_made (Screens asked) files (Selfrun selfrun) results free readies = absurd readies
 shows_made (Screens asked) files (Screen problem screening) results (inl none) readies = absurd none
 shows_made (Screens asked) files (Screen problem screening) results (inr none) readies = absurd none
 shows_made (Screens asked) files Accept results free readies = absurd readies
 shows_made (Screens asked) files (Renew certificate) results free readies = absurd readies
 shows_made (Checks checking) files (Make recipe) results free readies = absurd readies
-shows_made (Checks checking) files (Try trial) results free readies = absurd readies
+shows_made (Checks checking) files (Selfrun selfrun) results free readies = absurd readies
 shows_made (Checks checking) files (Screen problem screening) results free readies = absurd readies
 shows_made (Checks checking) files Accept results (inl none) readies = absurd none
 shows_made (Checks checking) files Accept results (inr none) readies = absurd none
 shows_made (Checks checking) files (Renew certificate) results free readies = absurd readies
 shows_made (Generates recipe) files task results free readies = tt
-shows_made (Tries trial) files task results free readies = tt
+shows_made (Selfruns selfrun) files task results free readies = tt
 shows_made (Rewrites checking) files (Make recipe) results free readies = absurd readies
-shows_made (Rewrites checking) files (Try trial) results free readies = absurd readies
+shows_made (Rewrites checking) files (Selfrun selfrun) results free readies = absurd readies
 shows_made (Rewrites checking) files (Screen problem screening) results free readies = absurd readies
 shows_made (Rewrites checking) files Accept results free readies = absurd readies
 shows_made (Rewrites checking) files (Renew certificate) results (inl none) readies = absurd none
@@ -194,8 +194,8 @@ shows_made (Rewrites checking) files (Renew certificate) results (inr none) read
 -- ---- what is put says it
 
 -- the report and the certificate of a screening stand in front
-pub screened : (settings : Asked) (files old : List FileBytes) (new : Option (List FileBytes)) (results : Results)
-    → ReportsDue settings files results → new ≡ Some (old ++ pieces_due results) → IsScreened settings files old new
+pub screened : (settings : PlainSettings) (files old : List FileBytes) (new : Option (List FileBytes)) (results : Results)
+    → ReportsDue settings files results → new ≡ Some (old ++ outputs_due results) → IsScreened settings files old new
 screened settings files old new (Screened found origin) reports put = record {
   bytes = (report_in found).bytes;
   certificate = (cert_in found).bytes;
@@ -205,33 +205,33 @@ screened settings files old new (Screened found origin) reports put = record {
 }
 screened settings files old new Checked reports put = absurd reports
 screened settings files old new (Made catalogue) reports put = absurd reports
-screened settings files old new (Tried found) reports put = absurd reports
+screened settings files old new (SelfrunFound found) reports put = absurd reports
 screened settings files old new (Rewritten certificate) reports put = absurd reports
 
--- the one piece of a check
-pub checked : (checking : Checking) (files old : List FileBytes) (new : Option (List FileBytes)) (results : Results)
-    → VouchesDue checking files results → new ≡ Some (old ++ pieces_due results) → IsChecked checking files old new
+-- the one output of a check
+pub checked : (checking : PlainChecking) (files old : List FileBytes) (new : Option (List FileBytes)) (results : Results)
+    → VouchesDue checking files results → new ≡ Some (old ++ outputs_due results) → IsChecked checking files old new
 checked checking files old new (Screened found origin) vouches put = absurd vouches
 checked checking files old new Checked vouches put = record { vouched = vouches; put = put }
 checked checking files old new (Made catalogue) vouches put = absurd vouches
-checked checking files old new (Tried found) vouches put = absurd vouches
+checked checking files old new (SelfrunFound found) vouches put = absurd vouches
 checked checking files old new (Rewritten certificate) vouches put = absurd vouches
 
--- the pieces of a rewriting
-pub renewed : (checking : Checking) (files old : List FileBytes) (new : Option (List FileBytes)) (results : Results)
-    → RenewsDue checking files results → new ≡ Some (old ++ pieces_due results) → IsRewritten checking files old new
+-- the outputs of a rewriting
+pub renewed : (checking : PlainChecking) (files old : List FileBytes) (new : Option (List FileBytes)) (results : Results)
+    → RenewsDue checking files results → new ≡ Some (old ++ outputs_due results) → IsRewritten checking files old new
 renewed checking files old new (Screened found origin) renews put = absurd renews
 renewed checking files old new Checked renews put = absurd renews
 renewed checking files old new (Made catalogue) renews put = absurd renews
-renewed checking files old new (Tried found) renews put = absurd renews
+renewed checking files old new (SelfrunFound found) renews put = absurd renews
 renewed checking files old new (Rewritten certificate) renews put = record { renewed = plain_certificate certificate; renews = renews; put = put }
 
-pub done_by : (asking : Asking) (files old : List FileBytes) (new : Option (List FileBytes)) (results : Results)
-    → ShowsDue asking files results → new ≡ Some (old ++ pieces_due results) → IsDone asking files old new
+pub done_by : (command : PlainCommand) (files old : List FileBytes) (new : Option (List FileBytes)) (results : Results)
+    → ShowsDue command files results → new ≡ Some (old ++ outputs_due results) → IsDone command files old new
 done_by (Screens screening) files old new results shows put = screened screening.settings files old new results shows put
 done_by (Checks checking) files old new results shows put = checked checking files old new results shows put
 done_by (Generates recipe) files old new results shows put = tt
-done_by (Tries trial) files old new results shows put = tt
+done_by (Selfruns selfrun) files old new results shows put = tt
 done_by (Rewrites checking) files old new results shows put = renewed checking files old new results shows put
 
 -- ---- how it ends
@@ -267,12 +267,12 @@ ends_making task status.WriteFault making ends = tt
 ends_making task (status.Limit fault) making ends = absurd (ends making)
 ends_making task status.OutOfMemory making ends = tt
 
-pub ends_trial : (task : Task) (s : Status) → EndsTask task s → EndsTrial s
-ends_trial task status.Ok ends = tt
-ends_trial task (status.NotAccepted line cause) ends = ends
-ends_trial task (status.Usage fault) ends = ends
-ends_trial task (status.BadFile file line cause) ends = ends
-ends_trial task status.ReadFault ends = ends
-ends_trial task status.WriteFault ends = tt
-ends_trial task (status.Limit fault) ends = tt
-ends_trial task status.OutOfMemory ends = tt
+pub ends_selfrun : (task : Task) (s : Status) → EndsTask task s → EndsSelfrun s
+ends_selfrun task status.Ok ends = tt
+ends_selfrun task (status.NotAccepted line cause) ends = ends
+ends_selfrun task (status.Usage fault) ends = ends
+ends_selfrun task (status.BadFile file line cause) ends = ends
+ends_selfrun task status.ReadFault ends = ends
+ends_selfrun task status.WriteFault ends = tt
+ends_selfrun task (status.Limit fault) ends = tt
+ends_selfrun task status.OutOfMemory ends = tt

@@ -8,11 +8,11 @@ use Rattle.cj_cert.specs.Accepted.{Accepted}
 use Rattle.cj_cert.specs.Certificates.{PlainCertificate}
 use Rattle.cj_cert.specs.Splits.{AcceptedSplits}
 use Rattle.cj_cert_text.specs.Texts.{text_of}
-use Rattle.cj_words.specs.Settings.{Asked}
+use Rattle.cj_words.specs.Settings.{PlainSettings}
 use Rattle.cj_inputs.specs.Cases.{case_asked}
 use Rattle.cj_outputs.specs.Again.{IsAcceptedLater}
 use Rattle.cj_outputs.specs.Messages.{has_message}
-use Rattle.cj_outputs.specs.Outcome.{cert_piece, encounters_in, report_piece, tells_sizes}
+use Rattle.cj_outputs.specs.Outcome.{cert_output, encounters_in, report_output, tells_sizes}
 use Rattle.cj_outputs.specs.SpanSplits.{SplitsTicks}
 
 -- The bytes are the text of a certificate that is accepted for the case. Whatever certificate is accepted for it, the certificate's cells
@@ -28,20 +28,20 @@ pub record Certifies (case : PlainProblem) (bytes : List ℕ) : Type 0 where
 -- Their spans split the common ticks of every pair. Each pair is within its bound at its closest approach, and at no tick of the encounter
 -- more than one millimetre nearer. The second bytes are an accepted certificate of the case, and a check of the same files, with these bytes
 -- among them, accepts it.
-pub record Reports (settings : Asked) (files : List FileBytes) (bytes certificate : List ℕ) : Type 0 where
+pub record Reports (settings : PlainSettings) (files : List FileBytes) (bytes certificate : List ℕ) : Type 0 where
   pub case : PlainProblem
   pub read : case_asked files settings ≡ Ok case
-  pub text : bytes ≡ report_of case.first case.last case.threshold case.ephemerides (told (tells_sizes settings) case.sizes)
+  pub text : bytes ≡ report_of case.first case.last case.threshold case.tracks (told (tells_sizes settings) case.sizes)
       (closest_of case) (has_message case) (encounters_in case)
   pub split : SplitsTicks case (encounters_in case)
   pub nearest : All (HasNearest case) (encounters_in case)
   pub certified : Certifies case certificate
   pub later : IsAcceptedLater settings files certificate
 
--- The new pieces are such a report and such a certificate, followed by further pieces.
-pub record IsScreened (settings : Asked) (files old : List FileBytes) (new : Option (List FileBytes)) : Type 0 where
+-- The new outputs are such a report and such a certificate, followed by further outputs.
+pub record IsScreened (settings : PlainSettings) (files old : List FileBytes) (new : Option (List FileBytes)) : Type 0 where
   pub bytes : List ℕ
   pub certificate : List ℕ
   pub report : Reports settings files bytes certificate
   pub further : List FileBytes
-  pub put : new ≡ Some (old ++ report_piece bytes ∷ cert_piece certificate ∷ further)
+  pub put : new ≡ Some (old ++ report_output bytes ∷ cert_output certificate ∷ further)

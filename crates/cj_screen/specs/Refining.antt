@@ -5,32 +5,32 @@ use Rattle.cj_hermite.specs.PlainProblems.{PlainProblem, IsCommonOf}
 use Rattle.cj_hermite.specs.Roots.{roots_of}
 use Rattle.cj_hermite.specs.Slots.{slot_of}
 use Rattle.cj_bezier.specs.AllBoxes.{boxes_of}
-use Rattle.cj_bezier.specs.Enclosed.{UnlookedAreFar}
+use Rattle.cj_bezier.specs.Enclosed.{OthersAreFar}
 use Rattle.cj_bezier.specs.Leaves.{IsTickOf, plain_leaves}
-use Rattle.cj_bezier.specs.Looked.{is_looked, shells_of}
+use Rattle.cj_bezier.specs.Candidates.{is_candidate, shells_of}
 use Rattle.cj_bezier.specs.Order.{AreInOrder}
 use Rattle.cj_bezier.specs.SlotBoxes.{plain_boxes}
-use Rattle.cj_candidates.specs.Counts.{looked_count}
-use Rattle.cj_cells.specs.Lists.{IsSound, list_looked, splits_of}
-use Rattle.cj_meet.specs.Closest.{KeepTheirIntervals}
+use Rattle.cj_candidates.specs.Counts.{candidate_count}
+use Rattle.cj_cells.specs.Lists.{IsSound, list_candidates, splits_of}
+use Rattle.cj_meet.specs.Closest.{KeepTheirPieces}
 use Rattle.cj_outputs.specs.Summaries.{kept_count}
-use Rattle.cj_screen.specs.declared.refining.Refined.{Refined}
+use Rattle.cj_screen.specs.declared.refining.FoundLeaves.{FoundLeaves}
 
 -- the shells, boxes, leaves and counts of a case
-pub record AreRefined (case : PlainProblem) (found : Refined) : Type 0 where
+pub record AreFoundLeaves (case : PlainProblem) (found : FoundLeaves) : Type 0 where
   pub shells : found.shells.items ≡ shells_of case
   pub boxes : plain_boxes found.boxes.items ≡ boxes_of case
-  pub leaves : plain_leaves found.leaves.items ≡ list_looked case
+  pub leaves : plain_leaves found.leaves.items ≡ list_candidates case
   pub few : length found.leaves.items ≤ MOST_LEAVES
   pub kept : found.counted.kept ≡ kept_count case
-  pub touching : found.counted.touching ≡ looked_count case
-  pub roots : found.counted.roots ≡ length (roots_of (is_looked case) case)
+  pub touching : found.counted.touching ≡ candidate_count case
+  pub roots : found.counted.roots ≡ length (roots_of (is_candidate case) case)
   pub splits : length found.leaves.items ≡ found.counted.roots + splits_of case
 
 -- the leaves of a case hold each common tick that is near or undecided, and tell the truth of each of their ticks
 pub record HoldsAllTicks (case : PlainProblem) : Type 0 where
-  pub sound : All (IsSound case) (list_looked case)
-  pub complete : (a b m : ℕ) → IsCommonOf case a b m → is_looked case a b (slot_of case.first m) ≡ true → Any (IsTickOf a b m) (list_looked case)
-  pub far : UnlookedAreFar case (is_looked case)
-  pub ordered : AreInOrder (list_looked case)
-  pub intervals : KeepTheirIntervals case (list_looked case)
+  pub sound : All (IsSound case) (list_candidates case)
+  pub complete : (a b m : ℕ) → IsCommonOf case a b m → is_candidate case a b (slot_of case.first m) ≡ true → Any (IsTickOf a b m) (list_candidates case)
+  pub far : OthersAreFar case (is_candidate case)
+  pub ordered : AreInOrder (list_candidates case)
+  pub pieces : KeepTheirPieces case (list_candidates case)

@@ -5,49 +5,49 @@ use Rattle.cj_cert.specs.Certificates.{plain_certificate}
 use Rattle.cj_gen.specs.Catalogues.{catalogue_of}
 use Rattle.cj_hermite.specs.Problems.{plain_problem}
 use Rattle.cj_words.specs.declared.option.UsageFault.{UsageFault}
-use Rattle.cj_words.specs.Commands.{Asking, Screens, Checks, Generates, Tries, Rewrites, Checking, Screening, command_of, plain_screening, plain_trial}
-use Rattle.cj_words.specs.Settings.{asked_of}
+use Rattle.cj_words.specs.Commands.{PlainCommand, Screens, Checks, Generates, Selfruns, Rewrites, PlainChecking, PlainScreening, command_of, plain_screening, plain_selfrun}
+use Rattle.cj_words.specs.Settings.{plain_settings}
 use Rattle.cj_inputs.specs.Cases.{case_asked}
 use Rattle.cj_status.specs.declared.status.Status.{Status}
 use Rattle.cj_status.specs.declared.status.Status.TheVariants as status
 use Rattle.cj_status.specs.Steps.{Stops}
 use Rattle.cj_outputs.specs.Checks.{IsChecked, Vouches}
-use Rattle.cj_outputs.specs.Outcome.{accepted_piece, origin_of, pieces_made, pieces_renewed, pieces_tried, pieces_within, tells_sizes}
+use Rattle.cj_outputs.specs.Outcome.{accepted_output, origin_of, outputs_made, outputs_renewed, outputs_of_selfrun, outputs_within, tells_sizes}
 use Rattle.cj_outputs.specs.Rewrites.{IsRewritten, Renews}
 use Rattle.cj_screen.specs.Headline.{IsScreened}
 use Rattle.cj_screen.specs.declared.task.Task.{Task}
-use Rattle.cj_screen.specs.declared.task.Task.TheVariants.{Screen, Accept, Make, Try, Renew}
+use Rattle.cj_screen.specs.declared.task.Task.TheVariants.{Screen, Accept, Make, Selfrun, Renew}
 
 -- files are put, and not only what goes to standard output
 abbrev pub puts_files : Task → Bool
 puts_files (Screen problem screening) = true
 puts_files Accept = false
 puts_files (Make recipe) = true
-puts_files (Try trial) = false
+puts_files (Selfrun selfrun) = false
 puts_files (Renew certificate) = true
 
--- the pieces of a task at this tick, or the cause for which there are none
-abbrev pub pieces_of_task : ℕ → Task → Result (List FileBytes) Status
-pieces_of_task now (Screen problem screening) =
-    pieces_within screening.cells (tells_sizes (asked_of screening.settings)) screening.version (origin_of now (plain_screening screening)) (plain_problem problem)
-pieces_of_task now Accept = Ok (accepted_piece ∷ [])
-pieces_of_task now (Make recipe) = Ok (pieces_made (catalogue_of recipe.seed recipe.objects recipe.minutes))
-pieces_of_task now (Try trial) = pieces_tried (plain_trial trial)
-pieces_of_task now (Renew certificate) = Ok (pieces_renewed (plain_certificate certificate))
+-- the outputs of a task at this tick, or the cause for which there are none
+abbrev pub outputs_of_task : ℕ → Task → Result (List FileBytes) Status
+outputs_of_task now (Screen problem screening) =
+    outputs_within screening.cells (tells_sizes (plain_settings screening.settings)) screening.version (origin_of now (plain_screening screening)) (plain_problem problem)
+outputs_of_task now Accept = Ok (accepted_output ∷ [])
+outputs_of_task now (Make recipe) = Ok (outputs_made (catalogue_of recipe.seed recipe.objects recipe.minutes))
+outputs_of_task now (Selfrun selfrun) = outputs_of_selfrun (plain_selfrun selfrun)
+outputs_of_task now (Renew certificate) = Ok (outputs_renewed (plain_certificate certificate))
 
 -- what was read leads to what is due
 abbrev pub Leads : Type 0 → ℕ → Result Task Status → Result (List FileBytes) Status → Type 0
-Leads read now (Ok task) due = due ≡ pieces_of_task now task
+Leads read now (Ok task) due = due ≡ outputs_of_task now task
 Leads read now (Err s) due = Stops read s due
 
 -- ---- what commands read
 
 -- a command that reads no file, and words that are no command
-abbrev pub ReadsNothing : Result Asking UsageFault → Type 0
+abbrev pub ReadsNothing : Result PlainCommand UsageFault → Type 0
 ReadsNothing (Ok (Screens screening)) = ⊥
 ReadsNothing (Ok (Checks checking)) = ⊥
 ReadsNothing (Ok (Generates recipe)) = Unit {0}
-ReadsNothing (Ok (Tries trial)) = Unit {0}
+ReadsNothing (Ok (Selfruns selfrun)) = Unit {0}
 ReadsNothing (Ok (Rewrites checking)) = ⊥
 ReadsNothing (Err fault) = Unit {0}
 
@@ -61,57 +61,57 @@ IsCalm words rose = (¬ rose) ⊎ ReadsNothing (command_of words)
 
 -- ---- what a task has of its command
 
-abbrev pub IsScreening : Screening → List FileBytes → Task → Type 0
+abbrev pub IsScreening : PlainScreening → List FileBytes → Task → Type 0
 IsScreening screening files (Screen problem asked) = (case_asked files screening.settings ≡ Ok (plain_problem problem)) × (plain_screening asked ≡ screening)
 IsScreening screening files Accept = ⊥
 IsScreening screening files (Make recipe) = ⊥
-IsScreening screening files (Try trial) = ⊥
+IsScreening screening files (Selfrun selfrun) = ⊥
 IsScreening screening files (Renew certificate) = ⊥
 
-abbrev pub IsAccepting : Checking → List FileBytes → Task → Type 0
+abbrev pub IsAccepting : PlainChecking → List FileBytes → Task → Type 0
 IsAccepting checking files (Screen problem asked) = ⊥
 IsAccepting checking files Accept = Vouches checking files
 IsAccepting checking files (Make recipe) = ⊥
-IsAccepting checking files (Try trial) = ⊥
+IsAccepting checking files (Selfrun selfrun) = ⊥
 IsAccepting checking files (Renew certificate) = ⊥
 
-abbrev pub IsRenewal : Checking → List FileBytes → Task → Type 0
+abbrev pub IsRenewal : PlainChecking → List FileBytes → Task → Type 0
 IsRenewal checking files (Screen problem asked) = ⊥
 IsRenewal checking files Accept = ⊥
 IsRenewal checking files (Make recipe) = ⊥
-IsRenewal checking files (Try trial) = ⊥
+IsRenewal checking files (Selfrun selfrun) = ⊥
 IsRenewal checking files (Renew certificate) = Renews checking files (plain_certificate certificate)
 
 -- what was read of the files is what the command asks
-abbrev pub Readies : Asking → List FileBytes → Task → Type 0
+abbrev pub Readies : PlainCommand → List FileBytes → Task → Type 0
 Readies (Screens screening) files task = IsScreening screening files task
 Readies (Checks checking) files task = IsAccepting checking files task
 Readies (Generates recipe) files task = Unit {0}
-Readies (Tries trial) files task = Unit {0}
+Readies (Selfruns selfrun) files task = Unit {0}
 Readies (Rewrites checking) files task = IsRenewal checking files task
 
 abbrev pub IsMaking : Task → Type 0
 IsMaking (Screen problem asked) = ⊥
 IsMaking Accept = ⊥
 IsMaking (Make recipe) = Unit {0}
-IsMaking (Try trial) = ⊥
+IsMaking (Selfrun selfrun) = ⊥
 IsMaking (Renew certificate) = ⊥
 
-abbrev pub IsTrial : Task → Type 0
-IsTrial (Screen problem asked) = ⊥
-IsTrial Accept = ⊥
-IsTrial (Make recipe) = ⊥
-IsTrial (Try trial) = Unit {0}
-IsTrial (Renew certificate) = ⊥
+abbrev pub IsSelfrun : Task → Type 0
+IsSelfrun (Screen problem asked) = ⊥
+IsSelfrun Accept = ⊥
+IsSelfrun (Make recipe) = ⊥
+IsSelfrun (Selfrun selfrun) = Unit {0}
+IsSelfrun (Renew certificate) = ⊥
 
 -- a command that reads nothing comes to its task, whatever the folder does
-abbrev pub ComesToTask : Asking → Result Task Status → Type 0
+abbrev pub ComesToTask : PlainCommand → Result Task Status → Type 0
 ComesToTask (Screens screening) r = Unit {0}
 ComesToTask (Checks checking) r = Unit {0}
 ComesToTask (Generates recipe) (Ok task) = IsMaking task
 ComesToTask (Generates recipe) (Err s) = ⊥
-ComesToTask (Tries trial) (Ok task) = IsTrial task
-ComesToTask (Tries trial) (Err s) = ⊥
+ComesToTask (Selfruns selfrun) (Ok task) = IsSelfrun task
+ComesToTask (Selfruns selfrun) (Err s) = ⊥
 ComesToTask (Rewrites checking) r = Unit {0}
 
 -- ---- how a task ends
@@ -139,9 +139,9 @@ EndsTask task (status.Limit fault) = ¬ IsMaking task
 EndsTask task status.OutOfMemory = Unit {0}
 
 -- what a command that is done has put says of the files what the command asks
-abbrev pub IsDone : Asking → List FileBytes → List FileBytes → Option (List FileBytes) → Type 0
+abbrev pub IsDone : PlainCommand → List FileBytes → List FileBytes → Option (List FileBytes) → Type 0
 IsDone (Screens screening) files old new = IsScreened screening.settings files old new
 IsDone (Checks checking) files old new = IsChecked checking files old new
 IsDone (Generates recipe) files old new = Unit {0}
-IsDone (Tries trial) files old new = Unit {0}
+IsDone (Selfruns selfrun) files old new = Unit {0}
 IsDone (Rewrites checking) files old new = IsRewritten checking files old new

@@ -2,21 +2,21 @@
 ghost use Rattle.std.specs.Prelude.{◌≡◌, ℕ, List, Ok, IfOk, IfErr};
 ghost use Rattle.cj_hermite.specs.Problems.{plain_problem};
 ghost use Rattle.cj_io.specs.declared.file.FileBytes.{FileBytes};
-ghost use Rattle.cj_words.specs.Commands.{Asking, plain_screening};
-ghost use Rattle.cj_words.specs.Settings.{asked_of};
+ghost use Rattle.cj_words.specs.Commands.{PlainCommand, plain_screening};
+ghost use Rattle.cj_words.specs.Settings.{plain_settings};
 ghost use Rattle.cj_inputs.specs.Cases.{case_asked};
-ghost use Rattle.cj_outputs.specs.Findings.{AreFound, cert_in, pieces_in, report_in};
+ghost use Rattle.cj_outputs.specs.Findings.{AreFound, cert_in, outputs_in, report_in};
 ghost use Rattle.cj_outputs.specs.Outcome as spec;
-ghost use Rattle.cj_outputs.specs.Outcome.{ComesOfTrial};
+ghost use Rattle.cj_outputs.specs.Outcome.{ComesOfSelfrun};
 ghost use Rattle.cj_screen.specs.Headline.{Reports};
-ghost use Rattle.cj_screen.specs.Results.{AreDue, ShowsDue, pieces_due};
-ghost use Rattle.cj_screen.specs.Tasks.{ComesOfSearch, Readies, pieces_of_task};
+ghost use Rattle.cj_screen.specs.Results.{AreDue, ShowsDue, outputs_due};
+ghost use Rattle.cj_screen.specs.Tasks.{ComesOfSearch, Readies, outputs_of_task};
 ghost use Rattle.cj_status.specs.Steps.{Gives};
 
 use crate::results::Results;
 use crate::screening::screen;
 use crate::task::Task;
-use crate::trying::try_catalogue;
+use crate::selfruns::try_catalogue;
 use cj_gen::catalogue;
 use cj_hermite::Problem;
 use cj_io::Gate;
@@ -37,9 +37,9 @@ pub fn find<'w, R: Threads + Wait + Sync, G: Gate + Sync>(
     now: Tick,
 ) -> Result<Results<'w>, Status>
     ensures ends { IfErr result (ComesOfSearch task.entry) }
-    ensures told { Gives ⊥ pieces_due result (pieces_of_task now.micros task.entry) }
+    ensures told { Gives ⊥ outputs_due result (outputs_of_task now.micros task.entry) }
     ensures due { IfOk result AreDue }
-    ensures shows { (files : List FileBytes) (asking : Asking) → Readies asking files task.entry → IfOk result (ShowsDue asking files) }
+    ensures shows { (files : List FileBytes) (command : PlainCommand) → Readies command files task.entry → IfOk result (ShowsDue command files) }
 {
     match task {
         Task::Screen(problem, screening) => {
@@ -53,7 +53,7 @@ pub fn find<'w, R: Threads + Wait + Sync, G: Gate + Sync>(
             recipe.objects,
             recipe.minutes,
         )?)),
-        Task::Try(trial) => Ok(Results::Tried(try_catalogue(rt, alloc, gate, &trial)?)),
+        Task::Selfrun(selfrun) => Ok(Results::Selfrun(try_catalogue(rt, alloc, gate, &selfrun)?)),
         Task::Renew(certificate) => Ok(Results::Rewritten(certificate)),
     }
 }
@@ -66,14 +66,14 @@ fn find_encounters<R: Threads + Wait + Sync, G: Gate + Sync>(
     problem: Problem,
     screening: &Screening,
 ) -> Result<Findings, Status>
-    ensures ends { IfErr result ComesOfTrial }
+    ensures ends { IfErr result ComesOfSelfrun }
     // At whatever tick the messages are made.
-    ensures told { (now : ℕ) → Gives ⊥ (pieces_in (spec.origin_of now (plain_screening screening.now))) result
-        (spec.pieces_within screening.now.cells (spec.tells_sizes (asked_of screening.now.settings)) screening.now.version
+    ensures told { (now : ℕ) → Gives ⊥ (outputs_in (spec.origin_of now (plain_screening screening.now))) result
+        (spec.outputs_within screening.now.cells (spec.tells_sizes (plain_settings screening.now.settings)) screening.now.version
         (spec.origin_of now (plain_screening screening.now)) (plain_problem problem)) }
     ensures found { IfOk result AreFound }
-    ensures reports { (files : List FileBytes) → case_asked files (asked_of screening.now.settings) ≡ Ok (plain_problem problem)
-        → IfOk result (λ found. Reports (asked_of screening.now.settings) files (report_in found).bytes (cert_in found).bytes) }
+    ensures reports { (files : List FileBytes) → case_asked files (plain_settings screening.now.settings) ≡ Ok (plain_problem problem)
+        → IfOk result (λ found. Reports (plain_settings screening.now.settings) files (report_in found).bytes (cert_in found).bytes) }
 {
     screen(
         rt,

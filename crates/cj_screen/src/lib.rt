@@ -1,4 +1,4 @@
-//! The screener's one call: from the words of a command line over a folder to the pieces on a shelf.
+//! The screener's one call: from the words of a command line over a folder to the outputs on a shelf.
 #![tactic(auto)]
 
 mod finding;
@@ -8,6 +8,6 @@ mod results;
 mod screening;
 mod task;
 mod top;
-mod trying;
+mod selfruns;
 
 pub use top::conj;

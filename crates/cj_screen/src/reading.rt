@@ -3,7 +3,7 @@ ghost use Rattle.std.specs.Prelude.{◌≡◌, ℕ, ◌↔◌, ◌⊎◌, ◌≤
 ghost use Rattle.cj_io.specs.Faults.{Rose};
 ghost use Rattle.cj_io.specs.declared.file.FileBytes.{FileBytes};
 ghost use Rattle.cj_words.specs.declared.option.UsageFault.{UsageFault};
-ghost use Rattle.cj_words.specs.Commands.{Asking, command_of, plain_command};
+ghost use Rattle.cj_words.specs.Commands.{PlainCommand, command_of, plain_command};
 ghost use Rattle.cj_outputs.specs.Outcome as spec;
 ghost use Rattle.cj_screen.specs.Tasks.{AreRead, ComesToTask, Leads, Readies, ReadsNothing};
 ghost use Rattle.cj_status.specs.Steps.{ComesBefore, ComesBetween};
@@ -30,10 +30,10 @@ pub fn read_task<'w, R: Threads + Sync, F: Folder>(
 
     // At whatever tick the messages are made.
     ensures told { (files : List FileBytes) (now : ℕ) → AreRead words.now (F.files folder.old) files
-        → Leads (Rose (F.faults folder.old) (F.faults folder.new)) now result (spec.pieces_of words.now files now) }
-    ensures readies { (files : List FileBytes) (asking : Asking) → F.files folder.old ≡ Some files → command_of words.now ≡ Ok asking
-        → IfOk result (Readies asking files) }
-    ensures unread { (asking : Asking) → command_of words.now ≡ Ok asking → ComesToTask asking result }
+        → Leads (Rose (F.faults folder.old) (F.faults folder.new)) now result (spec.outputs_of words.now files now) }
+    ensures readies { (files : List FileBytes) (command : PlainCommand) → F.files folder.old ≡ Some files → command_of words.now ≡ Ok command
+        → IfOk result (Readies command files) }
+    ensures unread { (command : PlainCommand) → command_of words.now ≡ Ok command → ComesToTask command result }
 
     ensures files { F.files folder.new ≡ F.files folder.old }
     ensures later { F.faults folder.old ≤ F.faults folder.new }
@@ -53,7 +53,7 @@ fn read_asked<'w, R: Threads + Sync, F: Folder>(
     ensures read { result ≡ Err Status.ReadFault → Rose (F.faults folder.old) (F.faults folder.new) }
 
     ensures told { (files : List FileBytes) (now : ℕ) → (F.files folder.old ≡ Some files) ⊎ ReadsNothing (Ok (plain_command command.entry))
-        → Leads (Rose (F.faults folder.old) (F.faults folder.new)) now result (spec.pieces_asked files now (plain_command command.entry)) }
+        → Leads (Rose (F.faults folder.old) (F.faults folder.new)) now result (spec.outputs_asked files now (plain_command command.entry)) }
     ensures readies { (files : List FileBytes) → F.files folder.old ≡ Some files → IfOk result (Readies (plain_command command.entry) files) }
     ensures unread { ComesToTask (plain_command command.entry) result }
 
@@ -70,7 +70,7 @@ fn read_asked<'w, R: Threads + Sync, F: Folder>(
             Ok(Task::Accept)
         }
         Command::Generate(recipe) => Ok(Task::Make(recipe)),
-        Command::Selfrun(trial) => Ok(Task::Try(trial)),
+        Command::Selfrun(selfrun) => Ok(Task::Selfrun(selfrun)),
         Command::Rewrite(checking) => {
             let certificate = rewrite_certificate(rt, alloc, folder, &checking)?;
             Ok(Task::Renew(certificate))

@@ -3,10 +3,10 @@ ghost use Rattle.std.specs.Prelude.{◌≡◌, ◌≤◌, length, IfOk, IfErr, O
 ghost use Rattle.cj_values.specs.Bounds.{MOST_LEAVES};
 ghost use Rattle.cj_hermite.specs.Problems.{plain_problem};
 ghost use Rattle.cj_bezier.specs.Leaves.{plain_leaves};
-ghost use Rattle.cj_cells.specs.Lists.{list_looked};
+ghost use Rattle.cj_cells.specs.Lists.{list_candidates};
 ghost use Rattle.cj_outputs.specs.Outcome.{within_cells};
 ghost use Rattle.cj_screen.specs.Errors.{refined_status};
-ghost use Rattle.cj_screen.specs.Refining.{AreRefined, HoldsAllTicks};
+ghost use Rattle.cj_screen.specs.Refining.{AreFoundLeaves, HoldsAllTicks};
 ghost use Rattle.cj_status.specs.Steps.{Gives, ComesBetween};
 
 use cj_bezier::{AxisBox, Leaf, Shell};
@@ -23,14 +23,14 @@ use std::thread::Threads;
 
 /// The leaves of a problem, and what they come from.
 #[derive(Drop)]
-pub struct Refined {
+pub struct FoundLeaves {
     /// The shell of each object in the window.
     pub shells: Vec<Option<Shell>>,
     /// The box of each object in each slot, in order of object and slot.
     pub boxes: Vec<Option<AxisBox>>,
     /// What was counted before any cell was halved.
     pub counted: CandidateCounts,
-    /// The leaves of all pairs that are looked at, in order of pair and time.
+    /// The leaves of all candidates, in order of pair and time.
     pub leaves: Vec<Leaf>,
 }
 
@@ -42,14 +42,14 @@ pub fn refine<R: Threads + Wait + Sync, G: Gate + Sync>(
     problem: &Problem,
     workers: u32,
     cells: u64,
-) -> Result<Refined, Status>
+) -> Result<FoundLeaves, Status>
     requires some { 1 ≤ workers }
     requires few_workers { workers ≤ 16 }
     requires few_cells { cells ≤ MOST_LEAVES }
     ensures between { IfErr result ComesBetween }
-    ensures told { Gives ⊥ (λ refined. plain_leaves refined.leaves.items) result (within_cells cells (list_looked (plain_problem problem.now))) }
+    ensures told { Gives ⊥ (λ refined. plain_leaves refined.leaves.items) result (within_cells cells (list_candidates (plain_problem problem.now))) }
     ensures few { IfOk result (λ refined. length refined.leaves.items ≤ cells) }
-    ensures refined { IfOk result (AreRefined (plain_problem problem.now)) }
+    ensures refined { IfOk result (AreFoundLeaves (plain_problem problem.now)) }
     ensures ticks { OnOk result (HoldsAllTicks (plain_problem problem.now)) }
 {
     let candidates = match find_candidates(rt, alloc, problem, workers, cells) {
@@ -69,7 +69,7 @@ pub fn refine<R: Threads + Wait + Sync, G: Gate + Sync>(
         roots: roots.len() as u64,
     };
     match leaves_by_workers(rt, alloc, gate, problem, roots, workers, cells) {
-        Ok(leaves) => Ok(Refined {
+        Ok(leaves) => Ok(FoundLeaves {
             shells,
             boxes,
             counted,

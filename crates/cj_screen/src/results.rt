@@ -12,7 +12,7 @@ pub enum Results<'w> {
     /// The files of a made-up catalogue.
     Made(Vec<FileBytes>),
     /// What is found in a made-up catalogue, whose certificate is accepted.
-    Tried(Findings),
+    Selfrun(Findings),
     /// A certificate that was accepted, in version 2.
     Rewritten(Certificate),
 }

@@ -5,10 +5,10 @@ ghost use Rattle.cj_values.specs.Limits.{USUAL};
 ghost use Rattle.cj_hermite.specs.Problems.{plain_problem};
 ghost use Rattle.cj_meet.specs.Closest.{HasNearest};
 ghost use Rattle.cj_io.specs.declared.file.FileBytes.{FileBytes};
-ghost use Rattle.cj_words.specs.Settings.{Asked};
+ghost use Rattle.cj_words.specs.Settings.{PlainSettings};
 ghost use Rattle.cj_inputs.specs.Cases.{case_asked};
 ghost use Rattle.cj_outputs.specs.Again.{IsAcceptedLater};
-ghost use Rattle.cj_outputs.specs.Findings.{AreFound, pieces_in};
+ghost use Rattle.cj_outputs.specs.Findings.{AreFound, outputs_in};
 ghost use Rattle.cj_screen.specs.Headline.{Certifies};
 ghost use Rattle.cj_outputs.specs.Messages.{PlainOrigin};
 ghost use Rattle.cj_outputs.specs.Outcome as spec;
@@ -47,7 +47,7 @@ pub fn screen<R: Threads + Wait + Sync, G: Gate + Sync>(
     ensures between { IfErr result ComesBetween }
     ensures read { result ≢ Err Status.ReadFault }
     // Whenever and by whomever messages are made.
-    ensures told { (origin : PlainOrigin) → Gives ⊥ (pieces_in origin) result (spec.pieces_within cells with_sizes version origin (plain_problem problem)) }
+    ensures told { (origin : PlainOrigin) → Gives ⊥ (outputs_in origin) result (spec.outputs_within cells with_sizes version origin (plain_problem problem)) }
     ensures same { IfOk result (λ found. plain_problem found.problem ≡ plain_problem problem) }
     ensures tells { IfOk result (λ found. found.with_sizes ≡ with_sizes) }
     ensures version { IfOk result (λ found. found.version ≡ version) }
@@ -56,7 +56,7 @@ pub fn screen<R: Threads + Wait + Sync, G: Gate + Sync>(
     ensures certified { OnOk result (Certifies (plain_problem problem) (cert_bytes version (plain_problem problem))) }
     ensures nearest { OnOk result (All (HasNearest (plain_problem problem)) (encounters_in (plain_problem problem))) }
     // Whatever files the problem is that of, within the usual limits.
-    ensures later { (settings : Asked) (files : List FileBytes) → case_asked files settings ≡ Ok (plain_problem problem)
+    ensures later { (settings : PlainSettings) (files : List FileBytes) → case_asked files settings ≡ Ok (plain_problem problem)
         → settings.limits ≡ USUAL → cells ≤ settings.limits.leaves
         → OnOk result (IsAcceptedLater settings files (cert_bytes version (plain_problem problem))) }
 {

@@ -3,7 +3,7 @@ ghost use Rattle.cj_screen.specs.Tasks.{puts_files};
 
 use cj_cert::Certificate;
 use cj_hermite::Problem;
-use cj_words::{Recipe, Screening, Trial};
+use cj_words::{Recipe, Screening, Selfrun};
 
 /// What a command line asks for, once all that it reads is accepted.
 #[derive(Drop)]
@@ -15,7 +15,7 @@ pub enum Task<'w> {
     /// A catalogue is made up.
     Make(Recipe),
     /// A made-up catalogue is screened.
-    Try(Trial),
+    Selfrun(Selfrun),
     /// A certificate that is accepted is put, as it is rewritten.
     Renew(Certificate),
 }
@@ -27,7 +27,7 @@ impl Task<'_> {
     {
         match self {
             Task::Screen(..) | Task::Make(_) | Task::Renew(_) => true,
-            Task::Accept | Task::Try(_) => false,
+            Task::Accept | Task::Selfrun(_) => false,
         }
     }
 }

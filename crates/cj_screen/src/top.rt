@@ -4,24 +4,24 @@ ghost use Rattle.cj_io.specs.Faults.{Rose};
 ghost use Rattle.cj_io.specs.declared.file.FileBytes.{FileBytes};
 ghost use Rattle.cj_words.specs.declared.option.UsageFault.{UsageFault};
 ghost use Rattle.cj_words.specs.Commands as asks;
-ghost use Rattle.cj_words.specs.Commands.{Checks, Generates, Rewrites, Screens, Tries, command_of};
+ghost use Rattle.cj_words.specs.Commands.{Checks, Generates, Rewrites, Screens, Selfruns, command_of};
 ghost use Rattle.cj_status.specs.declared.status.Status.{Status as Ends};
 ghost use Rattle.cj_outputs.specs.Checks.{IsChecked};
 ghost use Rattle.cj_outputs.specs.Findings.{ended};
 ghost use Rattle.cj_screen.specs.Headline.{IsScreened};
 ghost use Rattle.cj_outputs.specs.Outcome as spec;
-ghost use Rattle.cj_outputs.specs.Outcome.{Answers, ComesOfPuts, Extends, Leaves, EndsMaking, EndsTrial, PutsNothing};
-ghost use Rattle.cj_screen.specs.Results.{AreDue, pieces_due};
-ghost use Rattle.cj_screen.specs.Tasks.{AreRead, EndsTask, IsCalm, IsDone, Readies, pieces_of_task, puts_files};
+ghost use Rattle.cj_outputs.specs.Outcome.{Answers, ComesOfPuts, Extends, Leaves, EndsMaking, EndsSelfrun, PutsNothing};
+ghost use Rattle.cj_screen.specs.Results.{AreDue, outputs_due};
+ghost use Rattle.cj_screen.specs.Tasks.{AreRead, EndsTask, IsCalm, IsDone, Readies, outputs_of_task, puts_files};
 ghost use Rattle.cj_outputs.specs.Rewrites.{IsRewritten};
 
 use crate::finding::find;
 use crate::reading::read_task;
 use crate::results::Results;
 use crate::task::Task;
-use crate::trying::put_trial;
+use crate::selfruns::put_selfrun;
 use cj_io::{Folder, Gate};
-use cj_outputs::{begin, put, put_catalogue, put_pieces, put_rewritten};
+use cj_outputs::{begin, put, put_catalogue, put_outputs, put_rewritten};
 use cj_status::Status;
 use cj_stream::StreamShelf;
 use cj_ticks::Tick;
@@ -47,42 +47,42 @@ pub fn conj<R: Threads + Wait + Sync, F: Folder, S: StreamShelf, G: Gate + Sync>
     ensures read { result ≡ Status.ReadFault → Rose (F.faults folder.old) (F.faults folder.new) }
     ensures write { result ≡ Status.WriteFault → Rose (S.faults shelf.old) (S.faults shelf.new) }
 
-    // Over a folder that tells what it holds, or for a command that reads none of it: which status comes. Where pieces are due and nothing
+    // Over a folder that tells what it holds, or for a command that reads none of it: which status comes. Where outputs are due and nothing
     // fails, they are put, or memory ran out.
     ensures told { (files : List FileBytes) → AreRead words.now (F.files folder.old) files
         → Answers (Rose (F.faults folder.old) (F.faults folder.new)) (Rose (S.refusals shelf.old) (S.refusals shelf.new)) result
-        (spec.pieces_of words.now files now.micros) }
-    ensures complete { (files due : List FileBytes) → AreRead words.now (F.files folder.old) files → spec.pieces_of words.now files now.micros ≡ Ok due
+        (spec.outputs_of words.now files now.micros) }
+    ensures complete { (files due : List FileBytes) → AreRead words.now (F.files folder.old) files → spec.outputs_of words.now files now.micros ≡ Ok due
         → IsCalm words.now (Rose (F.faults folder.old) (F.faults folder.new)) → ¬ Rose (S.faults shelf.old) (S.faults shelf.new)
         → (result ≡ Status.Ok) ⊎ (result ≡ Status.OutOfMemory) }
 
     // With status 0 of a screening the report's spans split the common ticks of every pair by the exact distance. The certificate is accepted,
     // and acceptance implies such a split.
-    ensures headline { (files pieces : List FileBytes) (screening : asks.Screening) → F.files folder.old ≡ Some files → S.pieces shelf.old ≡ Some pieces
-        → command_of words.now ≡ Ok (Screens screening) → result ≡ Status.Ok → IsScreened screening.settings files pieces (S.pieces shelf.new) }
+    ensures headline { (files outputs : List FileBytes) (screening : asks.PlainScreening) → F.files folder.old ≡ Some files → S.outputs shelf.old ≡ Some outputs
+        → command_of words.now ≡ Ok (Screens screening) → result ≡ Status.Ok → IsScreened screening.settings files outputs (S.outputs shelf.new) }
 
     // Status 0 of a check says that the named file is an accepted certificate, whose cells split the common ticks of every pair, and of a report that
     // is named that it is that of these cells, and that its spans split the common ticks by the exact distance. Where a cause is due, status 1 for a
     // certificate or a report among them, and no count rose, that cause comes, or memory ran out.
-    ensures checked { (files pieces : List FileBytes) (checking : asks.Checking) → F.files folder.old ≡ Some files → S.pieces shelf.old ≡ Some pieces
-        → command_of words.now ≡ Ok (Checks checking) → result ≡ Status.Ok → IsChecked checking files pieces (S.pieces shelf.new) }
-    ensures refused { (files : List FileBytes) (cause : Ends) → AreRead words.now (F.files folder.old) files → spec.pieces_of words.now files now.micros ≡ Err cause
+    ensures checked { (files outputs : List FileBytes) (checking : asks.PlainChecking) → F.files folder.old ≡ Some files → S.outputs shelf.old ≡ Some outputs
+        → command_of words.now ≡ Ok (Checks checking) → result ≡ Status.Ok → IsChecked checking files outputs (S.outputs shelf.new) }
+    ensures refused { (files : List FileBytes) (cause : Ends) → AreRead words.now (F.files folder.old) files → spec.outputs_of words.now files now.micros ≡ Err cause
         → IsCalm words.now (Rose (F.faults folder.old) (F.faults folder.new)) → ¬ Rose (S.refusals shelf.old) (S.refusals shelf.new)
         → (result ≡ cause) ⊎ (result ≡ Status.OutOfMemory) }
 
     // Status 0 of a rewriting says that the named file is an accepted certificate, and that its text in version 2 is put, which is one too.
-    ensures rewritten { (files pieces : List FileBytes) (checking : asks.Checking) → F.files folder.old ≡ Some files → S.pieces shelf.old ≡ Some pieces
-        → command_of words.now ≡ Ok (Rewrites checking) → result ≡ Status.Ok → IsRewritten checking files pieces (S.pieces shelf.new) }
+    ensures rewritten { (files outputs : List FileBytes) (checking : asks.PlainChecking) → F.files folder.old ≡ Some files → S.outputs shelf.old ≡ Some outputs
+        → command_of words.now ≡ Ok (Rewrites checking) → result ≡ Status.Ok → IsRewritten checking files outputs (S.outputs shelf.new) }
 
     // A catalogue that is made up ends so whatever the folder does, and so does one that is screened.
-    ensures made { (recipe : asks.Recipe) → command_of words.now ≡ Ok (Generates recipe) → EndsMaking result }
-    ensures tried { (trial : asks.Trial) → command_of words.now ≡ Ok (Tries trial) → EndsTrial result }
+    ensures made { (recipe : asks.PlainRecipe) → command_of words.now ≡ Ok (Generates recipe) → EndsMaking result }
+    ensures selfrun { (selfrun : asks.PlainSelfrun) → command_of words.now ≡ Ok (Selfruns selfrun) → EndsSelfrun result }
 
-    // What is put: whatever the folder tells, nothing where the status says so, and no piece that stood is lost; and what is due.
-    ensures untouched { PutsNothing result → S.pieces shelf.new ≡ S.pieces shelf.old }
-    ensures kept { (pieces : List FileBytes) → S.pieces shelf.old ≡ Some pieces → Extends pieces (S.pieces shelf.new) }
-    ensures put { (files pieces : List FileBytes) → AreRead words.now (F.files folder.old) files → S.pieces shelf.old ≡ Some pieces
-        → Leaves result (spec.pieces_of words.now files now.micros) pieces (S.pieces shelf.new) }
+    // What is put: whatever the folder tells, nothing where the status says so, and no output that stood is lost; and what is due.
+    ensures untouched { PutsNothing result → S.outputs shelf.new ≡ S.outputs shelf.old }
+    ensures kept { (outputs : List FileBytes) → S.outputs shelf.old ≡ Some outputs → Extends outputs (S.outputs shelf.new) }
+    ensures put { (files outputs : List FileBytes) → AreRead words.now (F.files folder.old) files → S.outputs shelf.old ≡ Some outputs
+        → Leaves result (spec.outputs_of words.now files now.micros) outputs (S.outputs shelf.new) }
 
     // The folder's files stay, and no count of faults falls.
     ensures files { F.files folder.new ≡ F.files folder.old }
@@ -107,15 +107,15 @@ fn run<R: Threads + Wait + Sync, S: StreamShelf, G: Gate + Sync>(
     ensures ends { EndsTask task.entry (ended result) }
     ensures write { result ≡ Err Status.WriteFault → Rose (S.faults shelf.old) (S.faults shelf.new) }
 
-    ensures answers { Answers ⊥ (Rose (S.refusals shelf.old) (S.refusals shelf.new)) (ended result) (pieces_of_task now.micros task.entry) }
-    ensures complete { (due : List FileBytes) → pieces_of_task now.micros task.entry ≡ Ok due → ¬ Rose (S.faults shelf.old) (S.faults shelf.new)
+    ensures answers { Answers ⊥ (Rose (S.refusals shelf.old) (S.refusals shelf.new)) (ended result) (outputs_of_task now.micros task.entry) }
+    ensures complete { (due : List FileBytes) → outputs_of_task now.micros task.entry ≡ Ok due → ¬ Rose (S.faults shelf.old) (S.faults shelf.new)
         → (ended result ≡ Status.Ok) ⊎ (ended result ≡ Status.OutOfMemory) }
-    ensures done { (files pieces : List FileBytes) (asking : asks.Asking) → Readies asking files task.entry → S.pieces shelf.old ≡ Some pieces
-        → ended result ≡ Status.Ok → IsDone asking files pieces (S.pieces shelf.new) }
+    ensures done { (files outputs : List FileBytes) (command : asks.PlainCommand) → Readies command files task.entry → S.outputs shelf.old ≡ Some outputs
+        → ended result ≡ Status.Ok → IsDone command files outputs (S.outputs shelf.new) }
 
-    ensures untouched { PutsNothing (ended result) → S.pieces shelf.new ≡ S.pieces shelf.old }
-    ensures leaves { (pieces : List FileBytes) → S.pieces shelf.old ≡ Some pieces
-        → Leaves (ended result) (pieces_of_task now.micros task.entry) pieces (S.pieces shelf.new) }
+    ensures untouched { PutsNothing (ended result) → S.outputs shelf.new ≡ S.outputs shelf.old }
+    ensures leaves { (outputs : List FileBytes) → S.outputs shelf.old ≡ Some outputs
+        → Leaves (ended result) (outputs_of_task now.micros task.entry) outputs (S.outputs shelf.new) }
     ensures later { S.faults shelf.old ≤ S.faults shelf.new }
 {
     begin_puts(alloc, shelf, &task)?;
@@ -129,7 +129,7 @@ fn begin_puts<S: StreamShelf>(alloc: Global, shelf: &mut S, task: &Task) -> Resu
     ensures write { result ≡ Err Status.WriteFault → Rose (S.faults shelf.old) (S.faults shelf.new) }
     ensures refused { result ≡ Err Status.WriteFault → Rose (S.refusals shelf.old) (S.refusals shelf.new) }
     ensures files { IfErr result (λ status. IsTrue (puts_files task.now)) }
-    ensures pieces { S.pieces shelf.new ≡ S.pieces shelf.old }
+    ensures outputs { S.outputs shelf.new ≡ S.outputs shelf.old }
     ensures later { S.faults shelf.old ≤ S.faults shelf.new }
 {
     if task.puts_files() {
@@ -159,14 +159,14 @@ fn put_results<R: Threads + Sync, S: StreamShelf>(
     requires { AreDue results.now }
     ensures comes { IfErr result ComesOfPuts }
     ensures write { result ≡ Err Status.WriteFault → Rose (S.faults shelf.old) (S.faults shelf.new) }
-    ensures leaves { (old : List FileBytes) → S.pieces shelf.old ≡ Some old → Leaves (ended result) (Ok (pieces_due results.now)) old (S.pieces shelf.new) }
+    ensures leaves { (old : List FileBytes) → S.outputs shelf.old ≡ Some old → Leaves (ended result) (Ok (outputs_due results.now)) old (S.outputs shelf.new) }
     ensures later { S.faults shelf.old ≤ S.faults shelf.new }
 {
     match results {
-        Results::Screened(found, origin) => put_pieces(rt, alloc, shelf, found, *origin),
+        Results::Screened(found, origin) => put_outputs(rt, alloc, shelf, found, *origin),
         Results::Checked => put(alloc, shelf, b"-", b"ACCEPTED\n"),
         Results::Made(files) => put_catalogue(alloc, shelf, files),
-        Results::Tried(found) => put_trial(alloc, shelf, found),
+        Results::Selfrun(found) => put_selfrun(alloc, shelf, found),
         Results::Rewritten(certificate) => put_rewritten(rt, alloc, shelf, certificate),
     }
 }

@@ -1,5 +1,5 @@
 //! Catalogues that are written.
-use crate::runs::{are_named, end_alone, file, piece_of, run_at};
+use crate::runs::{are_named, end_alone, file, output_of, run_at};
 use cj_io::{CalmShelf, FileBytes, MemShelf};
 use cj_ticks::Tick;
 use std::alloc::{AllocError, Global};
@@ -7,7 +7,7 @@ use std::panic::Expect;
 use std::sync::Wait;
 use std::thread::Threads;
 
-/// Whether a command line puts pieces of these names, and tells so much.
+/// Whether a command line puts outputs of these names, and tells so much.
 fn is_written<R: Threads + Wait + Sync>(
     rt: &R,
     alloc: Global,
@@ -17,8 +17,8 @@ fn is_written<R: Threads + Wait + Sync>(
 ) -> Result<bool, AllocError> {
     let mut shelf = CalmShelf::new(alloc);
     let end = end_alone(rt, alloc, line, &mut shelf)?;
-    let pieces = shelf.written();
-    Ok(end.number == 0 && are_named(pieces, names) && piece_of(pieces, b"-") == due)
+    let outputs = shelf.written();
+    Ok(end.number == 0 && are_named(outputs, names) && output_of(outputs, b"-") == due)
 }
 
 #[test]
@@ -32,7 +32,7 @@ fn a_catalogue_is_written_file_by_file_and_then_counted(rt: HostRuntime) {
     assert!(rt; is_written(&rt, alloc, line, &names, b"GENERATED 1\n").expect(&rt, "no fault"));
 }
 
-/// How the writing of two files ends over a shelf that fails at this put, and how many pieces stand then.
+/// How the writing of two files ends over a shelf that fails at this put, and how many outputs stand then.
 fn written_where<R: Threads + Wait + Sync>(
     rt: &R,
     alloc: Global,
@@ -52,13 +52,13 @@ fn a_front_of_the_catalogue_stands_where_a_put_fails(rt: HostRuntime) {
     }
 }
 
-/// A copy of the pieces but for the one for standard output.
-pub fn files_of(alloc: Global, pieces: &[FileBytes]) -> Result<Vec<FileBytes>, AllocError> {
+/// A copy of the outputs but for the one for standard output.
+pub fn files_of(alloc: Global, outputs: &[FileBytes]) -> Result<Vec<FileBytes>, AllocError> {
     let mut files = Vec::new(alloc);
-    for piece in pieces {
-        let name = piece.name.as_slice();
+    for output in outputs {
+        let name = output.name.as_slice();
         if name != b"-".as_slice() {
-            files.push(file(alloc, name, piece.bytes.as_slice())?)?;
+            files.push(file(alloc, name, output.bytes.as_slice())?)?;
         }
     }
     Ok(files)
@@ -83,6 +83,6 @@ fn a_catalogue_of_one_object_is_written_and_screened(rt: HostRuntime) {
     );
     let (end, shelf) = run_at(&rt, alloc, "screen .", files, Tick::FIRST).expect(&rt, "no fault");
     assert_eq!(rt; end.number, 0);
-    let summary = piece_of(shelf.written(), b"-");
+    let summary = output_of(shelf.written(), b"-");
     assert!(rt; summary.starts_with(b"OBJECTS 1\nPAIRS 0\n"));
 }

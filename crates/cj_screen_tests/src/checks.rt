@@ -225,7 +225,7 @@ fn the_first_file_of_the_name_is_checked(rt: HostRuntime) {
     assert!(rt; is_told(&rt, alloc, line, &[bad, good], untiled).expect(&rt, "no fault"));
 }
 
-/// How a check ends whose folder fails at this call, and how many pieces it put.
+/// How a check ends whose folder fails at this call, and how many outputs it put.
 fn check_where<R: Threads + Wait + Sync>(
     rt: &R,
     alloc: Global,

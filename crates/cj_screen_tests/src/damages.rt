@@ -563,7 +563,7 @@ enum Tried {
     Other(usize),
 }
 
-/// Tries a damage at some lines.
+/// Selfruns a damage at some lines.
 fn try_row<R: Threads + Wait + Sync>(
     rt: &R,
     alloc: Global,

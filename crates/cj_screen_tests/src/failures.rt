@@ -23,7 +23,7 @@ fn end_over<R: Threads + Wait + Sync, S: StreamShelf>(
 /// How often a run goes to its folder: for the list, and for the bytes and the end of each of two files.
 const CALLS: u64 = 5;
 
-/// How many pieces are put where this call fails, if the run then ends so.
+/// How many outputs are put where this call fails, if the run then ends so.
 fn put_where<R: Threads + Wait + Sync>(
     rt: &R,
     alloc: Global,
@@ -45,13 +45,13 @@ fn put_where<R: Threads + Wait + Sync>(
 #[test]
 fn nothing_is_put_where_the_folder_fails(rt: HostRuntime) {
     let alloc = rt.alloc();
-    for (scene, pieces) in [(CROSSING, 3), (COVERED, 4)] {
+    for (scene, outputs) in [(CROSSING, 3), (COVERED, 4)] {
         for call in 1..CALLS + 1 {
             let put = put_where(&rt, alloc, scene, call, 4, b"conj: read fault\n");
             assert_eq!(rt; put.expect(&rt, "no fault"), Some(0));
         }
         let put = put_where(&rt, alloc, scene, CALLS + 1, 0, b"");
-        assert_eq!(rt; put.expect(&rt, "no fault"), Some(pieces));
+        assert_eq!(rt; put.expect(&rt, "no fault"), Some(outputs));
     }
 }
 
@@ -90,16 +90,16 @@ fn what_fails_while_files_are_parsed_is_told_behind_them(rt: HostRuntime) {
     assert!(rt; refused.as_slice() == b"conj: a.oem: line 15: Number\n".as_slice());
 }
 
-/// Whether these are the first so many pieces, and then nothing or a front of the next one.
-fn is_front(pieces: &[FileBytes], due: &[FileBytes], count: usize) -> bool {
-    if pieces.len() < count || pieces.len() - count > 1 {
+/// Whether these are the first so many outputs, and then nothing or a front of the next one.
+fn is_front(outputs: &[FileBytes], due: &[FileBytes], count: usize) -> bool {
+    if outputs.len() < count || outputs.len() - count > 1 {
         return false;
     }
-    for (place, (piece, whole)) in pieces.iter().zip(due).enumerate() {
-        let bytes = piece.bytes.as_slice();
-        if piece.name != whole.name
+    for (place, (output, whole)) in outputs.iter().zip(due).enumerate() {
+        let bytes = output.bytes.as_slice();
+        if output.name != whole.name
             || !whole.bytes.as_slice().starts_with(bytes)
-            || (place < count && piece.bytes != whole.bytes)
+            || (place < count && output.bytes != whole.bytes)
         {
             return false;
         }
@@ -107,7 +107,7 @@ fn is_front(pieces: &[FileBytes], due: &[FileBytes], count: usize) -> bool {
     true
 }
 
-/// Whether the first so many pieces stand where the put behind them fails, and the run then ends so.
+/// Whether the first so many outputs stand where the put behind them fails, and the run then ends so.
 fn stand_whole<R: Threads + Wait + Sync>(
     rt: &R,
     alloc: Global,
@@ -123,26 +123,26 @@ fn stand_whole<R: Threads + Wait + Sync>(
     Ok(end.number == number && end.line.as_slice() == line && is_front(shelf.written(), due, whole))
 }
 
-/// Whether a run over these files puts so many pieces, and those before whichever put fails stand whole.
+/// Whether a run over these files puts so many outputs, and those before whichever put fails stand whole.
 fn each_stands_whole<R: Threads + Wait + Sync>(
     rt: &R,
     alloc: Global,
     scene: Scene,
-    pieces: usize,
+    outputs: usize,
 ) -> Result<bool, AllocError> {
     let mut calm = CalmShelf::new(alloc);
     end_over(rt, alloc, scene, Vec::new(alloc), &mut calm)?;
     let due = calm.written();
-    for whole in 0..pieces {
+    for whole in 0..outputs {
         if !stand_whole(rt, alloc, scene, due, whole, 5, b"conj: write fault\n")? {
             return Ok(false);
         }
     }
-    Ok(due.len() == pieces && stand_whole(rt, alloc, scene, due, pieces, 0, b"")?)
+    Ok(due.len() == outputs && stand_whole(rt, alloc, scene, due, outputs, 0, b"")?)
 }
 
 #[test]
-fn the_pieces_before_a_put_that_fails_stand_whole(rt: HostRuntime) {
+fn the_outputs_before_a_put_that_fails_stand_whole(rt: HostRuntime) {
     let alloc = rt.alloc();
     assert!(rt; each_stands_whole(&rt, alloc, CROSSING, 3).expect(&rt, "no fault"));
     assert!(rt; each_stands_whole(&rt, alloc, COVERED, 4).expect(&rt, "no fault"));

@@ -30,7 +30,7 @@ mod runs;
 #[cfg(test)]
 mod scenes;
 #[cfg(test)]
-mod trials;
+mod selfruns;
 #[cfg(test)]
 mod versions;
 #[cfg(test)]

@@ -1,5 +1,5 @@
 //! The messages of runs.
-use crate::runs::{are_named, piece_of, run_at};
+use crate::runs::{are_named, output_of, run_at};
 use crate::scenes::{COVARIANCE, COVERED, CROSSING, Content, OF_ONE_ELEMENT, Scene, files_of};
 use cj_io::{CalmShelf, FileBytes};
 use cj_ticks::Tick;
@@ -155,7 +155,7 @@ const TWO_OF_THREE: Scene = &[
     ),
 ];
 
-/// A folder, the names of the pieces that a run puts, the last fields of the report's encounters, and the end of the summary.
+/// A folder, the names of the outputs that a run puts, the last fields of the report's encounters, and the end of the summary.
 type Told = (
     Scene,
     &'static [&'static str],
@@ -221,15 +221,15 @@ fn are_told(report: &[u8], fields: &[&str]) -> bool {
     left.next().is_none()
 }
 
-/// Whether these are the pieces of a case, with its fields and counts.
-fn are_of(pieces: &[FileBytes], case: &Told) -> bool {
+/// Whether these are the outputs of a case, with its fields and counts.
+fn are_of(outputs: &[FileBytes], case: &Told) -> bool {
     let (_, names, fields, counts) = case;
-    are_named(pieces, names)
-        && are_told(piece_of(pieces, b"screen.report"), fields)
-        && piece_of(pieces, b"-").ends_with(counts.as_bytes())
+    are_named(outputs, names)
+        && are_told(output_of(outputs, b"screen.report"), fields)
+        && output_of(outputs, b"-").ends_with(counts.as_bytes())
 }
 
-/// The place of the first case with other pieces, fields or counts.
+/// The place of the first case with other outputs, fields or counts.
 fn first_other<R: Threads + Wait + Sync>(
     rt: &R,
     alloc: Global,
@@ -255,7 +255,7 @@ fn encounters_with_both_covariances_have_a_message(rt: HostRuntime) {
 #[test]
 fn two_tracks_cross_at_one_kilometre(rt: HostRuntime) {
     let shelf = shelf_of(&rt, rt.alloc(), COVERED).expect(&rt, "no fault");
-    assert!(rt; piece_of(shelf.written(), b"000001.cdm") == MESSAGE);
+    assert!(rt; output_of(shelf.written(), b"000001.cdm") == MESSAGE);
 }
 
 #[test]
@@ -270,7 +270,7 @@ fn a_message_names_its_originator(rt: HostRuntime) {
         NOW,
     )
     .expect(&rt, "no fault");
-    let message = piece_of(shelf.written(), b"000001.cdm");
+    let message = output_of(shelf.written(), b"000001.cdm");
     let front = b"CCSDS_CDM_VERS = 1.0
 CREATION_DATE = 2025-01-02T00:00:00.000000
 ORIGINATOR = Ops_7-b

@@ -1,4 +1,4 @@
-//! A shelf on which another run writes: it refuses this one before its first piece.
+//! A shelf on which another run writes: it refuses this one before its first output.
 ghost use Rattle.std.specs.Prelude.{Some};
 
 use crate::runs::{End, certificate_of, end_failing, with_certificate};
@@ -12,21 +12,21 @@ use std::thread::Threads;
 
 #[derive(Drop)]
 struct TakenShelf {
-    pieces: CalmShelf,
+    outputs: CalmShelf,
     refusals: u64,
 }
 
 impl TakenShelf {
     fn new(alloc: Global) -> Self {
         TakenShelf {
-            pieces: CalmShelf::new(alloc),
+            outputs: CalmShelf::new(alloc),
             refusals: 0,
         }
     }
 }
 
 impl Shelf for TakenShelf {
-    ghost pieces = { λ s. Some s.pieces };
+    ghost outputs = { λ s. Some s.outputs };
 
     ghost faults = { λ s. s.refusals };
 
@@ -38,13 +38,13 @@ impl Shelf for TakenShelf {
     }
 
     fn put(&mut self, alloc: Global, name: &[u8], bytes: &[u8]) -> Result<(), PutError> {
-        self.pieces.put(alloc, name, bytes)
+        self.outputs.put(alloc, name, bytes)
     }
 }
 
 impl StreamShelf for TakenShelf {}
 
-/// How a command line ends over these files and a shelf that refuses it, how often it was refused, and how many pieces were put.
+/// How a command line ends over these files and a shelf that refuses it, how often it was refused, and how many outputs were put.
 fn end_refused<R: Threads + Wait + Sync>(
     rt: &R,
     alloc: Global,
@@ -53,7 +53,7 @@ fn end_refused<R: Threads + Wait + Sync>(
 ) -> Result<(End, u64, usize), AllocError> {
     let mut shelf = TakenShelf::new(alloc);
     let end = end_failing(rt, alloc, line, files, Vec::new(alloc), &mut shelf)?;
-    Ok((end, shelf.refusals, shelf.pieces.written().len()))
+    Ok((end, shelf.refusals, shelf.outputs.written().len()))
 }
 
 /// Whether a command line over these files is refused once, and puts nothing.
@@ -63,9 +63,9 @@ fn is_refused<R: Threads + Wait + Sync>(
     line: &str,
     files: Vec<FileBytes>,
 ) -> Result<bool, AllocError> {
-    let (end, refusals, pieces) = end_refused(rt, alloc, line, files)?;
+    let (end, refusals, outputs) = end_refused(rt, alloc, line, files)?;
     let told = end.number == 5 && end.line.as_slice() == b"conj: write fault\n".as_slice();
-    Ok(told && refusals == 1 && pieces == 0)
+    Ok(told && refusals == 1 && outputs == 0)
 }
 
 /// The files of the crossing, and its certificate.
@@ -99,13 +99,13 @@ fn too_many_leaves_are_found_behind_a_refusal(rt: HostRuntime) {
 fn what_puts_no_file_is_not_refused(rt: HostRuntime) {
     let alloc = rt.alloc();
     let files = certified(&rt, alloc).expect(&rt, "no fault");
-    let (end, refusals, pieces) = end_refused(&rt, alloc, "check .", files).expect(&rt, "no fault");
-    assert_eq!(rt; (end.number, refusals, pieces), (0, 0, 1));
+    let (end, refusals, outputs) = end_refused(&rt, alloc, "check .", files).expect(&rt, "no fault");
+    assert_eq!(rt; (end.number, refusals, outputs), (0, 0, 1));
     let line = "selfrun --objects 2 --minutes 1";
-    let (end, refusals, pieces) = end_refused(&rt, alloc, line, Vec::new(alloc)).expect(
+    let (end, refusals, outputs) = end_refused(&rt, alloc, line, Vec::new(alloc)).expect(
         &rt, "no fault",
     );
-    assert_eq!(rt; (end.number, refusals, pieces), (0, 0, 1));
+    assert_eq!(rt; (end.number, refusals, outputs), (0, 0, 1));
 }
 
 const BAD: Scene = &[("a.oem", Content::One(&[(15, b"no row")]))];

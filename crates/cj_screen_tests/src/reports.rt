@@ -75,7 +75,7 @@ fn report(alloc: Global, change: Change) -> Result<Vec<u8>, AllocError> {
 }
 
 /// The crossing objects and radii for them, and behind them this certificate and this report.
-fn with_pieces(
+fn with_outputs(
     alloc: Global,
     certificate: &[u8],
     report: &[u8],
@@ -93,7 +93,7 @@ fn screened<R: Threads + Wait + Sync>(
     alloc: Global,
     line: &str,
 ) -> Result<Ran, AllocError> {
-    run(rt, alloc, line, with_pieces(alloc, b"", b"")?)
+    run(rt, alloc, line, with_outputs(alloc, b"", b"")?)
 }
 
 /// A command line, what is done to the report, and what is told: on standard output, or of the failure.
@@ -211,7 +211,7 @@ fn first_other<R: Threads + Wait + Sync>(
 ) -> Result<Option<usize>, AllocError> {
     let certificate = screened(rt, alloc, "screen .")?.certificate;
     for (place, (line, change, due)) in cases.iter().enumerate() {
-        let files = with_pieces(alloc, &certificate, &report(alloc, *change)?)?;
+        let files = with_outputs(alloc, &certificate, &report(alloc, *change)?)?;
         if told(rt, alloc, line, files)?.as_slice() != *due {
             return Ok(Some(place));
         }
@@ -237,7 +237,7 @@ fn told_beside<R: Threads + Wait + Sync>(
 ) -> Result<Vec<u8>, AllocError> {
     let certificate = screened(rt, alloc, certified)?.certificate;
     let report = screened(rt, alloc, reported)?.report;
-    told(rt, alloc, check, with_pieces(alloc, &certificate, &report)?)
+    told(rt, alloc, check, with_outputs(alloc, &certificate, &report)?)
 }
 
 /// Two screenings, a check of the certificate of the first and the report of the second, and what is told.
@@ -291,14 +291,14 @@ fn what_is_put_together_is_accepted_together(rt: HostRuntime) {
     );
 }
 
-/// How a check ends whose folder fails at this call, and how many pieces it put.
+/// How a check ends whose folder fails at this call, and how many outputs it put.
 fn check_where<R: Threads + Wait + Sync>(
     rt: &R,
     alloc: Global,
     call: u64,
 ) -> Result<(u8, usize), AllocError> {
     let certificate = screened(rt, alloc, "screen .")?.certificate;
-    let files = with_pieces(alloc, &certificate, &report(alloc, Change::Nothing)?)?;
+    let files = with_outputs(alloc, &certificate, &report(alloc, Change::Nothing)?)?;
     let calls = Vec::from_array(alloc, [call])?;
     let mut shelf = CalmShelf::new(alloc);
     let end = end_failing(rt, alloc, LINE, files, calls, &mut shelf)?;

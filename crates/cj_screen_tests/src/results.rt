@@ -476,7 +476,7 @@ fn is_whole<R: Threads + Wait + Sync>(
     report: &[u8],
 ) -> Result<bool, AllocError> {
     let ran = run(rt, alloc, line, files_of(alloc, scene)?)?;
-    Ok(ran.number == 0 && ran.pieces == 3 && ran.report.as_slice() == report)
+    Ok(ran.number == 0 && ran.outputs == 3 && ran.report.as_slice() == report)
 }
 
 /// The place of the first case with another report, or without certificate and summary beside it.

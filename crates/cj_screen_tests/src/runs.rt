@@ -55,23 +55,23 @@ pub fn with_certificate(
     Ok(files)
 }
 
-/// The bytes of the piece of this name, none where there is no such piece.
-pub fn piece_of<'p>(pieces: &'p [FileBytes], name: &[u8]) -> &'p [u8] {
-    for piece in pieces {
-        if piece.name.as_slice() == name {
-            return piece.bytes.as_slice();
+/// The bytes of the output of this name, none where there is no such output.
+pub fn output_of<'p>(outputs: &'p [FileBytes], name: &[u8]) -> &'p [u8] {
+    for output in outputs {
+        if output.name.as_slice() == name {
+            return output.bytes.as_slice();
         }
     }
     b""
 }
 
-/// Whether the pieces have these names, in order.
-pub fn are_named(pieces: &[FileBytes], names: &[&str]) -> bool {
-    pieces.len() == names.len()
-        && pieces
+/// Whether the outputs have these names, in order.
+pub fn are_named(outputs: &[FileBytes], names: &[&str]) -> bool {
+    outputs.len() == names.len()
+        && outputs
             .iter()
             .zip(names)
-            .all(|(piece, name)| piece.name.as_slice() == name.as_bytes())
+            .all(|(output, name)| output.name.as_slice() == name.as_bytes())
 }
 
 /// How a run ended: the number of its status, and the line that tells of a failure, which is empty where there was none.
@@ -171,7 +171,7 @@ pub fn run_at_gate<R: Threads + Wait + Sync, G: Gate + Sync>(
 #[derive(Drop)]
 pub struct Ran {
     pub number: u8,
-    pub pieces: usize,
+    pub outputs: usize,
     pub report: Vec<u8>,
     pub certificate: Vec<u8>,
     /// What it told: on standard output where all went well, or of the failure.
@@ -179,10 +179,10 @@ pub struct Ran {
 }
 
 /// What a run told: on standard output where all went well, or of a failure behind which nothing was put.
-fn told_of(alloc: Global, end: &End, pieces: &[FileBytes]) -> Result<Vec<u8>, AllocError> {
+fn told_of(alloc: Global, end: &End, outputs: &[FileBytes]) -> Result<Vec<u8>, AllocError> {
     let told = if end.number == 0 {
-        piece_of(pieces, b"-")
-    } else if pieces.is_empty() {
+        output_of(outputs, b"-")
+    } else if outputs.is_empty() {
         end.line.as_slice()
     } else {
         b"a piece was put".as_slice()
@@ -190,13 +190,13 @@ fn told_of(alloc: Global, end: &End, pieces: &[FileBytes]) -> Result<Vec<u8>, Al
     Vec::from_slice(alloc, told)
 }
 
-fn seen(alloc: Global, end: &End, pieces: &[FileBytes]) -> Result<Ran, AllocError> {
+fn seen(alloc: Global, end: &End, outputs: &[FileBytes]) -> Result<Ran, AllocError> {
     Ok(Ran {
         number: end.number,
-        pieces: pieces.len(),
-        report: Vec::from_slice(alloc, piece_of(pieces, b"screen.report"))?,
-        certificate: Vec::from_slice(alloc, piece_of(pieces, b"screen.cert"))?,
-        told: told_of(alloc, end, pieces)?,
+        outputs: outputs.len(),
+        report: Vec::from_slice(alloc, output_of(outputs, b"screen.report"))?,
+        certificate: Vec::from_slice(alloc, output_of(outputs, b"screen.cert"))?,
+        told: told_of(alloc, end, outputs)?,
     })
 }
 
@@ -230,7 +230,7 @@ pub fn certificate_of<R: Threads + Wait + Sync>(
     files: Vec<FileBytes>,
 ) -> Result<Vec<u8>, AllocError> {
     let (_, shelf) = run_at(rt, alloc, line, files, Tick::FIRST)?;
-    Vec::from_slice(alloc, piece_of(shelf.written(), b"screen.cert"))
+    Vec::from_slice(alloc, output_of(shelf.written(), b"screen.cert"))
 }
 
 /// Whether just this is told.

@@ -1,7 +1,7 @@
 //! Certificates of version 2: written, checked and rewritten.
 use crate::catalogues::{files_of as copies_of, made_by};
 use crate::certificates::{AT_REST, RESTING, is_certified};
-use crate::runs::{certificate_of, is_told, piece_of, run, run_at, with_certificate};
+use crate::runs::{certificate_of, is_told, output_of, run, run_at, with_certificate};
 use crate::scenes::{CROSSING, files_of};
 use cj_io::FileBytes;
 use cj_ticks::Tick;
@@ -139,8 +139,8 @@ fn is_rewritten<R: Threads + Wait + Sync>(
     told: &[u8],
 ) -> Result<bool, AllocError> {
     let (_, shelf) = run_at(rt, alloc, line, files, Tick::FIRST)?;
-    let pieces = shelf.written();
-    Ok(piece_of(pieces, b"screen.cert2") == certificate && piece_of(pieces, b"-") == told)
+    let outputs = shelf.written();
+    Ok(output_of(outputs, b"screen.cert2") == certificate && output_of(outputs, b"-") == told)
 }
 
 /// The same over the resting objects, of a certificate with this text.

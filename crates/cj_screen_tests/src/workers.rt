@@ -9,8 +9,8 @@ use std::sync::atomic::{AtomicBool, AtomicUsize, Ordering};
 use std::thread;
 use std::thread::Threads;
 
-/// The pieces of the crossing by so many workers, who enter this gate. There is none where the run fails.
-fn pieces_by<R: Threads + Wait + Sync, G: Gate + Sync>(
+/// The outputs of the crossing by so many workers, who enter this gate. There is none where the run fails.
+fn outputs_by<R: Threads + Wait + Sync, G: Gate + Sync>(
     rt: &R,
     alloc: Global,
     workers: u32,
@@ -25,20 +25,20 @@ fn pieces_by<R: Threads + Wait + Sync, G: Gate + Sync>(
     }
 }
 
-/// Whether these are the same pieces in the same order.
-fn are_equal(pieces: &[FileBytes], others: &[FileBytes]) -> bool {
-    pieces.len() == others.len()
-        && pieces.iter().zip(others).all(|(piece, other)| piece.name == other.name
-            && piece.bytes == other.bytes)
+/// Whether these are the same outputs in the same order.
+fn are_equal(outputs: &[FileBytes], others: &[FileBytes]) -> bool {
+    outputs.len() == others.len()
+        && outputs.iter().zip(others).all(|(output, other)| output.name == other.name
+            && output.bytes == other.bytes)
 }
 
 #[test]
-fn each_number_of_workers_puts_equal_pieces(rt: HostRuntime) {
+fn each_number_of_workers_puts_equal_outputs(rt: HostRuntime) {
     let alloc = rt.alloc();
-    let one = pieces_by(&rt, alloc, 1, &OpenGate).expect(&rt, "no fault");
+    let one = outputs_by(&rt, alloc, 1, &OpenGate).expect(&rt, "no fault");
     assert_eq!(rt; one.written().len(), 3);
     for workers in [2, 3, 16] {
-        let many = pieces_by(&rt, alloc, workers, &OpenGate).expect(&rt, "no fault");
+        let many = outputs_by(&rt, alloc, workers, &OpenGate).expect(&rt, "no fault");
         assert!(rt; are_equal(many.written(), one.written()));
     }
 }
@@ -98,7 +98,7 @@ impl Gate for Meeting {
 fn two_workers_meet_and_take_each_turn_at_the_gate(rt: HostRuntime) {
     let alloc = rt.alloc();
     let gate = Meeting::new();
-    let two = pieces_by(&rt, alloc, 2, &gate).expect(&rt, "no fault");
+    let two = outputs_by(&rt, alloc, 2, &gate).expect(&rt, "no fault");
     assert!(rt; gate.zero.load(Ordering::SeqCst));
     assert!(rt; gate.one.load(Ordering::SeqCst));
     assert!(rt; !gate.missed.load(Ordering::SeqCst));

@@ -1,7 +1,7 @@
 //! The shell of a track in a window.
 ghost use Rattle.std.specs.Prelude.{◌≡◌, ℕ, ◌^◌, ◌≤◌, Some, IfSome};
 ghost use Rattle.cj_track.specs.Tracks.{plain_track};
-ghost use Rattle.cj_hermite.specs.Pieces.{interval_at, curve_of_interval};
+ghost use Rattle.cj_hermite.specs.Pieces.{piece_holding, curve_of_piece};
 ghost use Rattle.cj_bezier.specs.Gaps.{terms_of};
 ghost use Rattle.cj_bezier.specs.Parts.{AreInTime};
 ghost use Rattle.cj_bezier.specs.Shells.{IsInner, IsOuter, IsRadiusWithin, IsShellOf, shell_of};
@@ -33,11 +33,11 @@ pub fn shell(mut walk: TrackWalk<'_>) -> Shell
 
     // The shell holds the distance from the origin at each tick that has a state.
     ensures holds { (m : ℕ) → walk.entry.window.first.micros ≤ m → m ≤ walk.entry.window.last.micros
-        → IfSome (interval_at (plain_track walk.entry.track.now) m) (λ x. IsRadiusWithin (curve_of_interval x) m result.lo result.hi) }
+        → IfSome (piece_holding (plain_track walk.entry.track.now) m) (λ x. IsRadiusWithin (curve_of_piece x) m result.lo result.hi) }
     ensures ordered { result.lo ≤ result.hi }
     ensures bounded { result.hi ≤ 10 ^ 18 }
 
-    // A track's intervals come in order of time, as the laws of hulls ask.
+    // A track's pieces come in order of time, as the laws of hulls ask.
     ensures time { AreInTime (plain_track walk.entry.track.now) walk.entry.window.first.micros walk.entry.window.last.micros }
 {
     radii(&walk.gap_of_all())

@@ -10,12 +10,12 @@ use std::marker::Model;
 
 /// The sizes that the lines so far say, and their designators, which stand in the bytes of the file, in byte order.
 #[derive(Drop)]
-pub(crate) struct Draft<'a> {
+pub(crate) struct SizesDraft<'a> {
     sizes: Vec<SizeLine>,
     ids: BTreeSet<&'a [u8]>,
 }
 
-impl<'a> Model for Draft<'a> {
+impl<'a> Model for SizesDraft<'a> {
     ghost use Rattle.std.specs.Prelude.{List};
     ghost use Rattle.cj_sizes.specs.Readers.{HasIds};
     ghost use Rattle.cj_sizes.specs.Sizes.{Size, sizes_of};
@@ -27,7 +27,7 @@ impl<'a> Model for Draft<'a> {
     ghost invariant = { λ d. HasIds d.ids (sizes_of d.sizes.items) };
 }
 
-impl<'a> Draft<'a> {
+impl<'a> SizesDraft<'a> {
     ghost use Rattle.std.specs.Prelude.{◌≡◌, ◌^◌, ◌<◌, [], length};
     ghost use Rattle.cj_kvn.specs.Lines.{KindIsWithin, form_at};
     ghost use Rattle.cj_sizes.specs.Reading.{with_line, with_size};
@@ -38,7 +38,7 @@ impl<'a> Draft<'a> {
     pub(crate) fn new(alloc: Global) -> Self
         ensures { result ≡ [] }
     {
-        Draft {
+        SizesDraft {
             sizes: Vec::new(alloc),
             ids: BTreeSet::new(alloc),
         }
@@ -67,7 +67,7 @@ impl<'a> Draft<'a> {
     fn with_row(self, alloc: Global, row: Row<'a>) -> Result<Self, Refused<SizesCause>>
         ensures { Follows (λ next. next) result (with_size self.entry (row_of row.entry)) }
     {
-        let Draft { mut sizes, mut ids } = self;
+        let SizesDraft { mut sizes, mut ids } = self;
         if !ids.insert(row.id)? {
             return Err(Refused::Because(SizesCause::Twice));
         }
@@ -75,7 +75,7 @@ impl<'a> Draft<'a> {
             id: Text::copy_of(alloc, row.id)?,
             radius: row.radius,
         })?;
-        Ok(Draft { sizes, ids })
+        Ok(SizesDraft { sizes, ids })
     }
 
     pub(crate) fn into_sizes(self) -> Vec<SizeLine>

@@ -7,7 +7,7 @@ ghost use Rattle.cj_sizes.specs.Reading as spec;
 ghost use Rattle.cj_kvn.specs.Faults.{Gives};
 ghost use Rattle.cj_sizes.specs.Sizes.{Size, sizes_of};
 
-use crate::draft::Draft;
+use crate::draft::SizesDraft;
 use crate::fault::SizesFault;
 use crate::size_line::SizeLine;
 use cj_kvn::LineCursor;
@@ -32,7 +32,7 @@ fn sizes_said(alloc: Global, bytes: &[u8]) -> Result<Vec<SizeLine>, SizesFault>
     requires { length bytes.now < 2 ^ 32 }
     ensures { Gives (λ v. sizes_of v.items) result (spec.sizes_said [] (reading bytes.now)) }
 {
-    let mut draft = Draft::new(alloc);
+    let mut draft = SizesDraft::new(alloc);
     let mut lines = LineCursor::new(bytes);
     while let Some(line) = lines.next_line()? {
         draft = match draft.with_line(alloc, bytes, line.kind) {

@@ -1,4 +1,4 @@
-//! Pieces that are put onto a shelf while they are made: bytes that come part by part, and the shelves that take them so. The shelves in
+//! Outputs that are put onto a shelf while they are made: bytes that come part by part, and the shelves that take them so. The shelves in
 //! memory gather all parts first; of sources one in memory stands here too.
 #![tactic(auto)]
 

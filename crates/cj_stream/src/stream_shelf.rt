@@ -11,10 +11,10 @@ use cj_io::{CalmShelf, MemShelf, PutError, Shelf};
 use std::alloc::Global;
 use std::thread::Threads;
 
-/// A shelf on which a piece is put while it is made.
+/// A shelf on which an output is put while it is made.
 pub trait StreamShelf: Shelf {
-    /// Puts one piece behind those that stand, of the bytes that the source still has to make. Want of memory, also of the source,
-    /// leaves all as it was; after a fault a last piece of this name may stand cut short.
+    /// Puts one output behind those that stand, of the bytes that the source still has to make. Want of memory, also of the source,
+    /// leaves all as it was; after a fault a last output of this name may stand cut short.
     fn put_made<R: Threads + Sync, M: PartSource>(
         &mut self,
         rt: &R,
@@ -27,7 +27,7 @@ pub trait StreamShelf: Shelf {
 
         ensures failed { IsErrOf result PutError.Failed → Rose (Self.faults self.old) (Self.faults self.new) }
         ensures memory { IsErrOf result PutError.Memory → Self.faults self.new ≡ Self.faults self.old }
-        ensures pieces { Told (Puts name.now (M.rest source.old) result) (Self.pieces self.old) (Self.pieces self.new) }
+        ensures outputs { Told (Puts name.now (M.rest source.old) result) (Self.outputs self.old) (Self.outputs self.new) }
         ensures later { Self.faults self.old ≤ Self.faults self.new }
     {
         let parts = all_parts(rt, alloc, source)?;
@@ -48,8 +48,8 @@ impl StreamShelf for MemShelf {
         requires shared { IsSync R.row }
 
         ensures fails { IsErrOf result PutError.Failed ↔ IsTrue (fails_next self.old.calls) }
-        ensures pieces { Puts name.now (M.rest source.old) result self.old.pieces self.new.pieces }
-        ensures nothing { OnErr result (self.new.pieces ≡ self.old.pieces) }
+        ensures outputs { Puts name.now (M.rest source.old) result self.old.outputs self.new.outputs }
+        ensures nothing { OnErr result (self.new.outputs ≡ self.old.outputs) }
         // Want of memory of the source is no call.
         ensures counted { IsErrOf result PutError.Memory ⊎ (self.new.calls ≡ after_call self.old.calls) }
 

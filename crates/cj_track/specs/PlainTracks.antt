@@ -14,11 +14,11 @@ pub record PlainNode : Type 0 where
 -- the first of these states
 abbrev pub first_state : List PlainNode → Option PlainNode
 first_state [] = None
-first_state (s ∷ states) = Some s
+first_state (s ∷ nodes) = Some s
 
 -- the last of them
 abbrev pub last_state : List PlainNode → Option PlainNode
-last_state states = last_or None states
+last_state nodes = last_or None nodes
 
 -- a covariance at a tick, in the frame RTN: the lower triangle of a symmetric matrix of 6 rows, in km and km/s
 pub record PlainMatrix : Type 0 where
@@ -29,7 +29,7 @@ pub record PlainMatrix : Type 0 where
 pub record PlainSegment : Type 0 where
   pub first : ℕ
   pub last : ℕ
-  pub states : List PlainNode
+  pub nodes : List PlainNode
   pub covariances : List PlainMatrix
 
 -- one object: the file that it comes from, its name, its designator, its frame, its segments
@@ -38,4 +38,4 @@ pub record PlainTrack : Type 0 where
   pub name : List ℕ
   pub id : List ℕ
   pub frame : Frame
-  pub arcs : List PlainSegment
+  pub segments : List PlainSegment

@@ -17,9 +17,9 @@ abbrev pub plain_segment : Segment → PlainSegment
 plain_segment segment = record {
   first = segment.first.micros;
   last = segment.last.micros;
-  states = map plain_node segment.nodes;
+  nodes = map plain_node segment.nodes;
   covariances = map plain_matrix segment.matrices;
 }
 
 abbrev pub plain_track : Track → PlainTrack
-plain_track track = record { file = track.file; name = track.name; id = track.id; frame = track.frame; arcs = map plain_segment track.segments }
+plain_track track = record { file = track.file; name = track.name; id = track.id; frame = track.frame; segments = map plain_segment track.segments }

@@ -100,7 +100,7 @@ impl<'t> TrackWalk<'t> {
         ensures later { IfSome result (λ part. from.micros ≤ part.last.micros) }
         ensures within { IfSome result (λ part. part.last.micros ≤ last.micros) }
 
-        // A track's intervals come in order of time.
+        // A track's pieces come in order of time.
         ensures time { IfSome result (λ part. AreInTime (plain_track self.old.track.now) from.micros part.last.micros) }
 
         ensures track { self.new.track.now ≡ self.old.track.now }

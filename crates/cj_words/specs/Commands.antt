@@ -10,7 +10,7 @@ use Rattle.cj_words.specs.declared.command.Command.{Command}
 use Rattle.cj_words.specs.declared.command.Command.TheVariants as commands
 use Rattle.cj_words.specs.declared.command.Recipe as kept_recipe
 use Rattle.cj_words.specs.declared.command.Screening as kept_screening
-use Rattle.cj_words.specs.declared.command.Trial as kept_trial
+use Rattle.cj_words.specs.declared.command.Selfrun as kept_selfrun
 use Rattle.cj_words.specs.declared.command.Verb.{Verb}
 use Rattle.cj_words.specs.declared.command.Verb.TheVariants.{Screen, Check, Generate, Selfrun, Rewrite}
 use Rattle.cj_words.specs.declared.option.Opt.{Opt}
@@ -19,12 +19,12 @@ use Rattle.cj_words.specs.declared.option.UsageFault.{UsageFault}
 use Rattle.cj_words.specs.declared.option.UsageFault.TheVariants.{Words, Value}
 use Rattle.cj_words.specs.Lines.{Line, line_of}
 use Rattle.cj_words.specs.Options.{Given, given_of, are_accepted, listed, value_of}
-use Rattle.cj_words.specs.Settings.{◌>>=◌, Asked, asked_of, file_text_or, in_range, is_path_or_none, name_or, number_or, originator_or, sized_of, threshold_of, unsized_of, version_or}
+use Rattle.cj_words.specs.Settings.{◌>>=◌, PlainSettings, plain_settings, file_text_or, in_range, is_path_or_none, name_or, number_or, originator_or, sized_of, threshold_of, unsized_of, version_or}
 
 -- how files are screened: how many workers share the work, who makes the messages, the greatest number of leaves, the version of the
 -- certificate
-pub record Screening : Type 0 where
-  pub settings : Asked
+pub record PlainScreening : Type 0 where
+  pub settings : PlainSettings
   pub workers : ℕ
   pub originator : List ℕ
   pub cells : ℕ
@@ -32,52 +32,52 @@ pub record Screening : Type 0 where
 
 -- what is checked against files, or rewritten: the certificate in the file with this name, and beside it the report in the file with that
 -- name, where one is named
-pub record Checking : Type 0 where
-  pub settings : Asked
+pub record PlainChecking : Type 0 where
+  pub settings : PlainSettings
   pub certificate : List ℕ
   pub report : Option (List ℕ)
 
 -- how a catalogue is made up: what it is drawn from, how many objects it has, how many minutes it covers
-pub record Recipe : Type 0 where
+pub record PlainRecipe : Type 0 where
   pub seed : ℕ
   pub objects : ℕ
   pub minutes : ℕ
 
 -- how such a catalogue is screened: the threshold in metres, how many workers share the work, the greatest number of leaves
-pub record Trial : Type 0 where
+pub record PlainSelfrun : Type 0 where
   pub threshold : ℕ
   pub workers : ℕ
   pub cells : ℕ
-  pub recipe : Recipe
+  pub recipe : PlainRecipe
 
 -- what a command line asks for: files are screened, a certificate is checked, a catalogue is written, or one is screened, or a
 -- certificate is rewritten
-pub data Asking : Type 0 where
-  Screens : Screening → Asking
-  Checks : Checking → Asking
-  Generates : Recipe → Asking
-  Tries : Trial → Asking
-  Rewrites : Checking → Asking
+pub data PlainCommand : Type 0 where
+  Screens : PlainScreening → PlainCommand
+  Checks : PlainChecking → PlainCommand
+  Generates : PlainRecipe → PlainCommand
+  Selfruns : PlainSelfrun → PlainCommand
+  Rewrites : PlainChecking → PlainCommand
 
 -- ---- what a command says
 
-abbrev pub plain_screening : kept_screening.Screening → Screening
-plain_screening s = record { settings = asked_of s.settings; workers = s.workers; originator = s.originator.now; cells = s.cells; version = s.version }
+abbrev pub plain_screening : kept_screening.Screening → PlainScreening
+plain_screening s = record { settings = plain_settings s.settings; workers = s.workers; originator = s.originator.now; cells = s.cells; version = s.version }
 
-abbrev pub plain_checking : kept_checking.Checking → Checking
-plain_checking c = record { settings = asked_of c.settings; certificate = c.certificate.now; report = option_copied c.report }
+abbrev pub plain_checking : kept_checking.Checking → PlainChecking
+plain_checking c = record { settings = plain_settings c.settings; certificate = c.certificate.now; report = option_copied c.report }
 
-abbrev pub plain_recipe : kept_recipe.Recipe → Recipe
+abbrev pub plain_recipe : kept_recipe.Recipe → PlainRecipe
 plain_recipe r = record { seed = r.seed; objects = r.objects; minutes = r.minutes }
 
-abbrev pub plain_trial : kept_trial.Trial → Trial
-plain_trial t = record { threshold = t.threshold; workers = t.workers; cells = t.cells; recipe = plain_recipe t.recipe }
+abbrev pub plain_selfrun : kept_selfrun.Selfrun → PlainSelfrun
+plain_selfrun t = record { threshold = t.threshold; workers = t.workers; cells = t.cells; recipe = plain_recipe t.recipe }
 
-abbrev pub plain_command : Command → Asking
+abbrev pub plain_command : Command → PlainCommand
 plain_command (commands.Screen screening) = Screens (plain_screening screening)
 plain_command (commands.Check checking) = Checks (plain_checking checking)
 plain_command (commands.Generate recipe) = Generates (plain_recipe recipe)
-plain_command (commands.Selfrun trial) = Tries (plain_trial trial)
+plain_command (commands.Selfrun selfrun) = Selfruns (plain_selfrun selfrun)
 plain_command (commands.Rewrite checking) = Rewrites (plain_checking checking)
 
 -- ---- what words ask for
@@ -87,7 +87,7 @@ abbrev pub workers_of : List Given → Result ℕ UsageFault
 workers_of givens = in_range Workers (number_or 1 16 1 (value_of Workers givens))
 
 -- the values of the options of a screening, or the first option whose value is out of its range
-unfoldable pub screening_of : List Given → Result Screening UsageFault
+unfoldable pub screening_of : List Given → Result PlainScreening UsageFault
 screening_of givens = do
   threshold ← threshold_of givens
   workers ← workers_of givens
@@ -99,7 +99,7 @@ screening_of givens = do
   Ok (record { settings = settings; workers = workers; originator = originator; cells = cells; version = version })
 
 -- the same of a check, and of a certificate that is rewritten, which has no option for a report
-unfoldable pub checking_of : List Given → Result Checking UsageFault
+unfoldable pub checking_of : List Given → Result PlainChecking UsageFault
 checking_of givens = do
   threshold ← threshold_of givens
   unsized ← unsized_of threshold givens
@@ -109,7 +109,7 @@ checking_of givens = do
   Ok (record { settings = settings; certificate = certificate; report = report })
 
 -- the same of a catalogue
-unfoldable pub recipe_of : List Given → Result Recipe UsageFault
+unfoldable pub recipe_of : List Given → Result PlainRecipe UsageFault
 recipe_of givens = do
   seed ← in_range Seed (number_or 0 (2 ^ 64 - 1) 1 (value_of Seed givens))
   objects ← in_range Objects (number_or 1 MOST_MADE_OBJECTS 50 (value_of Objects givens))
@@ -117,8 +117,8 @@ recipe_of givens = do
   Ok (record { seed = seed; objects = objects; minutes = minutes })
 
 -- the same of a catalogue's screening
-unfoldable pub trial_of : List Given → Result Trial UsageFault
-trial_of givens = do
+unfoldable pub selfrun_of : List Given → Result PlainSelfrun UsageFault
+selfrun_of givens = do
   threshold ← threshold_of givens
   workers ← workers_of givens
   cells ← in_range Cells (number_or 1 USUAL.leaves USUAL.leaves (value_of Cells givens))
@@ -126,31 +126,31 @@ trial_of givens = do
   Ok (record { threshold = threshold; workers = workers; cells = cells; recipe = recipe })
 
 -- what the options of a command ask for
-abbrev pub asking_of : Verb → List Given → Result Asking UsageFault
-asking_of Screen givens = screening_of givens >>= λ screening. Ok (Screens screening)
-asking_of Check givens = checking_of givens >>= λ checking. Ok (Checks checking)
-asking_of Generate givens = recipe_of givens >>= λ recipe. Ok (Generates recipe)
-asking_of Selfrun givens = trial_of givens >>= λ trial. Ok (Tries trial)
-asking_of Rewrite givens = checking_of givens >>= λ checking. Ok (Rewrites checking)
+abbrev pub command_with : Verb → List Given → Result PlainCommand UsageFault
+command_with Screen givens = screening_of givens >>= λ screening. Ok (Screens screening)
+command_with Check givens = checking_of givens >>= λ checking. Ok (Checks checking)
+command_with Generate givens = recipe_of givens >>= λ recipe. Ok (Generates recipe)
+command_with Selfrun givens = selfrun_of givens >>= λ selfrun. Ok (Selfruns selfrun)
+command_with Rewrite givens = checking_of givens >>= λ checking. Ok (Rewrites checking)
 
 -- an option that names a directory has a path as its value, where it stands. What is asked of files does not depend on it
 abbrev pub place_judged : Opt → List Given → Result (Unit {0}) UsageFault
 place_judged option givens = if is_path_or_none (value_of option givens) then Ok tt else Err (Value option)
 
 -- what the options of a command ask for, the directories that they name judged behind all other values
-abbrev pub placed_asking_of : Verb → List Given → Result Asking UsageFault
-placed_asking_of verb givens = do
-  asking ← asking_of verb givens
+abbrev pub placed_command_with : Verb → List Given → Result PlainCommand UsageFault
+placed_command_with verb givens = do
+  command ← command_with verb givens
   _ ← place_judged Out givens
   _ ← place_judged CertDir givens
-  Ok asking
+  Ok command
 
 -- what a line asks for
-abbrev pub asked_in : Option Line → Result Asking UsageFault
+abbrev pub asked_in : Option Line → Result PlainCommand UsageFault
 asked_in None = Err Words
 asked_in (Some line) =
-    if are_accepted line.verb (given_of line.options) then placed_asking_of line.verb (listed (given_of line.options)) else Err Words
+    if are_accepted line.verb (given_of line.options) then placed_command_with line.verb (listed (given_of line.options)) else Err Words
 
 -- what a command line asks for: a command, a directory where the command has one, and options; or the fault that is found first
-unfoldable pub command_of : List (List ℕ) → Result Asking UsageFault
+unfoldable pub command_of : List (List ℕ) → Result PlainCommand UsageFault
 command_of words = asked_in (line_of words)

@@ -30,7 +30,7 @@ abbrev pub with_directory : Verb → List (List ℕ) → Option Line
 with_directory verb [] = None
 with_directory verb (directory ∷ options) = if is_value directory then Some (record { verb = verb; directory = directory; options = options }) else None
 
--- a command with the words behind it: a trial has no directory of its own, and stands in the current one
+-- a command with the words behind it: a selfrun has no directory of its own, and stands in the current one
 abbrev pub line_behind : Option Verb → List (List ℕ) → Option Line
 line_behind None words = None
 line_behind (Some Screen) words = with_directory Screen words

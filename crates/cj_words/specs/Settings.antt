@@ -21,7 +21,7 @@ use Rattle.cj_words.specs.Options.{Given, value_of, is_given}
 -- settings: the threshold in metres, the ends of the window in ticks, where they are given, what the names of the files that are taken
 -- end with, whether each file is taken as if it declared the cubic, the name of the file of sizes, where it is given, and how much a run
 -- may take
-pub record Asked : Type 0 where
+pub record PlainSettings : Type 0 where
   pub threshold : ℕ
   pub from : Option ℕ
   pub to : Option ℕ
@@ -34,8 +34,8 @@ abbrev pub micros_of : Tick → ℕ
 micros_of tick = tick.micros
 
 -- what settings say
-abbrev pub asked_of : Settings → Asked
-asked_of s = record {
+abbrev pub plain_settings : Settings → PlainSettings
+plain_settings s = record {
   threshold = s.threshold;
   from = option_map micros_of s.from;
   to = option_map micros_of s.to;
@@ -141,7 +141,7 @@ abbrev pub threshold_of : List Given → Result ℕ UsageFault
 threshold_of givens = in_range Threshold (number_or 1 1_000_000 5000 (value_of Threshold givens))
 
 -- the settings with this threshold that options give but for the file of sizes, or the first of these options whose value is out of its range
-unfoldable pub unsized_of : ℕ → List Given → Result Asked UsageFault
+unfoldable pub unsized_of : ℕ → List Given → Result PlainSettings UsageFault
 unsized_of threshold givens = do
   from ← in_range From (epoch_or (value_of From givens))
   to ← in_range To (not_before from (epoch_or (value_of To givens)))
@@ -149,7 +149,7 @@ unsized_of threshold givens = do
   Ok (record { threshold = threshold; from = from; to = to; suffix = suffix; as_hermite3 = is_given AsHermite3 givens; sizes = None; limits = USUAL })
 
 -- these settings with the file of sizes that options name, where they name one
-unfoldable pub sized_of : Asked → List Given → Result Asked UsageFault
+unfoldable pub sized_of : PlainSettings → List Given → Result PlainSettings UsageFault
 sized_of asked givens = do
   sizes ← in_range Sizes (name_or (value_of Sizes givens))
   Ok (record asked { sizes = sizes })

@@ -24,7 +24,7 @@ pub enum Command<'w> {
     /// A made-up catalogue is written into a directory.
     Generate(Recipe),
     /// A made-up catalogue is screened.
-    Selfrun(Trial),
+    Selfrun(Selfrun),
     /// The certificate in a directory is checked and put in version 2.
     Rewrite(Checking<'w>),
 }
@@ -74,7 +74,7 @@ pub struct Recipe {
 
 /// How a made-up catalogue is screened.
 #[derive(Clone, Copy, Debug, PartialEq, Eq)]
-pub struct Trial {
+pub struct Selfrun {
     /// The greatest miss distance that is reported, in metres, from 1 to 1,000,000.
     pub threshold: u64,
     /// How many workers share the work, from 1 to 16.

@@ -1,13 +1,13 @@
 //! From the words of a command line to its command.
 ghost use Rattle.std.specs.Prelude.{◌≡◌, ◌≤◌, IfOk, IsTrue, Some};
 ghost use Rattle.cj_words.specs.Commands as spec;
-ghost use Rattle.cj_words.specs.Commands.{plain_checking, plain_command, plain_recipe, plain_screening, plain_trial};
+ghost use Rattle.cj_words.specs.Commands.{plain_checking, plain_command, plain_recipe, plain_screening, plain_selfrun};
 ghost use Rattle.cj_words.specs.Lines.{plain_line};
 ghost use Rattle.cj_words.specs.Options as options;
 ghost use Rattle.cj_words.specs.Options.{given_of, listed};
 ghost use Rattle.cj_words.specs.Settings.{said};
 
-use crate::command::{Checking, Command, Recipe, Screening, Trial, Verb};
+use crate::command::{Checking, Command, Recipe, Screening, Selfrun, Verb};
 use crate::given::{are_options, value_of};
 use crate::line::{Line, line_of};
 use crate::numbers::{number_or, out_of_range, version_or};
@@ -50,7 +50,7 @@ pub fn command_in(line: Line<'_>) -> Result<Command<'_>, UsageFault>
 /// What the options of a command ask for, the directories that they name judged behind all other values.
 fn placed_command_of(words: &[Word], verb: Verb) -> Result<Command<'_>, UsageFault>
     requires { IsTrue (options.are_listed (given_of words.now)) }
-    ensures { said plain_command result ≡ spec.placed_asking_of verb (listed (given_of words.now)) }
+    ensures { said plain_command result ≡ spec.placed_command_with verb (listed (given_of words.now)) }
 {
     let command = command_of(words, verb)?;
     judge_place(words, Opt::Out)?;
@@ -72,13 +72,13 @@ fn judge_place(words: &[Word], option: Opt) -> Result<(), UsageFault>
 
 fn command_of(words: &[Word], verb: Verb) -> Result<Command<'_>, UsageFault>
     requires { IsTrue (options.are_listed (given_of words.now)) }
-    ensures { said plain_command result ≡ spec.asking_of verb (listed (given_of words.now)) }
+    ensures { said plain_command result ≡ spec.command_with verb (listed (given_of words.now)) }
 {
     match verb {
         Verb::Screen => Ok(Command::Screen(screening_of(words)?)),
         Verb::Check => Ok(Command::Check(checking_of(words)?)),
         Verb::Generate => Ok(Command::Generate(recipe_of(words)?)),
-        Verb::Selfrun => Ok(Command::Selfrun(trial_of(words)?)),
+        Verb::Selfrun => Ok(Command::Selfrun(selfrun_of(words)?)),
         Verb::Rewrite => Ok(Command::Rewrite(checking_of(words)?)),
     }
 }
@@ -167,10 +167,10 @@ fn recipe_of(words: &[Word]) -> Result<Recipe, UsageFault>
     })
 }
 
-#[tactic(auto, unfolding(crate::specs::Commands::trial_of))]
-fn trial_of(words: &[Word]) -> Result<Trial, UsageFault>
+#[tactic(auto, unfolding(crate::specs::Commands::selfrun_of))]
+fn selfrun_of(words: &[Word]) -> Result<Selfrun, UsageFault>
     requires { IsTrue (options.are_listed (given_of words.now)) }
-    ensures { said plain_trial result ≡ spec.trial_of (listed (given_of words.now)) }
+    ensures { said plain_selfrun result ≡ spec.selfrun_of (listed (given_of words.now)) }
 {
     let threshold = threshold_of(words)?;
     let workers = workers_of(words)?;
@@ -179,7 +179,7 @@ fn trial_of(words: &[Word]) -> Result<Trial, UsageFault>
         return Err(out_of_range(Opt::Cells));
     };
     let recipe = recipe_of(words)?;
-    Ok(Trial {
+    Ok(Selfrun {
         threshold,
         workers,
         cells,

@@ -14,7 +14,7 @@ mod reading;
 mod settings;
 mod texts;
 
-pub use command::{Checking, Command, Recipe, Screening, Trial};
+pub use command::{Checking, Command, Recipe, Screening, Selfrun};
 pub use commands::read_command;
 pub use option::{Opt, UsageFault, option_name};
 pub use places::{Places, places_of};

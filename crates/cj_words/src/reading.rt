@@ -4,7 +4,7 @@ ghost use Rattle.std.specs.Option.{option_copied};
 ghost use Rattle.cj_words.specs.Options as options;
 ghost use Rattle.cj_words.specs.Options.{given_of, listed};
 ghost use Rattle.cj_words.specs.Settings as spec;
-ghost use Rattle.cj_words.specs.Settings.{asked_of, micros_of, said};
+ghost use Rattle.cj_words.specs.Settings.{plain_settings, micros_of, said};
 
 use crate::given::{is_given, value_of};
 use crate::numbers::{number_or, out_of_range};
@@ -34,7 +34,7 @@ pub fn unsized_of(words: &[Word], threshold: u64) -> Result<Settings<'_>, UsageF
     requires listed { IsTrue (options.are_listed (given_of words.now)) }
     requires some { 1 ≤ threshold }
     requires most { threshold ≤ 1_000_000 }
-    ensures { said asked_of result ≡ spec.unsized_of threshold (listed (given_of words.now)) }
+    ensures { said plain_settings result ≡ spec.unsized_of threshold (listed (given_of words.now)) }
 {
     let Some(from) = epoch_or(value_of(words, Opt::From)) else {
         return Err(out_of_range(Opt::From));
@@ -66,7 +66,7 @@ pub fn sized_of<'w>(
     words: &'w [Word],
 ) -> Result<Settings<'w>, UsageFault>
     requires { IsTrue (options.are_listed (given_of words.now)) }
-    ensures value { said asked_of result ≡ spec.sized_of (asked_of settings.entry) (listed (given_of words.now)) }
+    ensures value { said plain_settings result ≡ spec.sized_of (plain_settings settings.entry) (listed (given_of words.now)) }
     ensures limits { IfOk result (λ sized. sized.limits ≡ settings.entry.limits) }
 {
     let Some(sizes) = name_or(value_of(words, Opt::Sizes)) else {

@@ -5,7 +5,7 @@ use cj_epoch::read_epoch;
 use cj_ticks::Tick;
 use cj_values::Limits;
 use cj_words::{
-    Checking, Command, Opt, Recipe, Screening, Settings, Trial, option_name, read_command,
+    Checking, Command, Opt, Recipe, Screening, Settings, Selfrun, option_name, read_command,
 };
 use std::alloc::{AllocError, Global};
 use std::panic::Expect;
@@ -73,7 +73,7 @@ fn what_is_left_out(rt: HostRuntime) {
         ("generate .", Command::Generate(USUAL_RECIPE)),
         (
             "selfrun",
-            Command::Selfrun(Trial {
+            Command::Selfrun(Selfrun {
                 threshold: 5000,
                 workers: 1,
                 cells: 4_000_000,
@@ -200,11 +200,11 @@ fn how_a_catalogue_is_screened(rt: HostRuntime) {
         objects: 50,
         minutes: 1440,
     };
-    let trial = Trial {
+    let selfrun = Selfrun {
         threshold: 7,
         workers: 4,
         cells: 9,
         recipe,
     };
-    assert_eq!(rt; read_command(&words), Ok(Command::Selfrun(trial)));
+    assert_eq!(rt; read_command(&words), Ok(Command::Selfrun(selfrun)));
 }

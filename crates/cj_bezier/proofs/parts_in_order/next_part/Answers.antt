@@ -2,7 +2,7 @@ use Rattle.std.proofs.Common.{ℕ, ◌≤◌, ◌∙◌, ap, refl, arith}
 use Rattle.std.specs.Prelude.{slice_get}
 use Rattle.cj_track.specs.Tracks.{plain_track}
 use Rattle.cj_hermite.specs.Interpolant.{Curve}
-use Rattle.cj_hermite.specs.Pieces.{intervals_of}
+use Rattle.cj_hermite.specs.Pieces.{pieces_of}
 use Rattle.cj_bezier.specs.Hulls.{hull_axes, axes_of}
 use Rattle.cj_bezier.proofs.NextPartLemmas.{IsFound, IsPieceOf, piece_of, found_upto, from_node, to_node, hulls_from, run_in_time}
 use Rattle.cj_bezier.proofs.parts_in_order.next_part.Goals as goal
@@ -16,7 +16,7 @@ found c upto low high =
     let run = c.in_ok-run.run' in
     let told = c.in_ok-run.ensures in
     let is : IsFound e c.args.from.micros c.args.last.micros run.index run.ticks = record { next = told.run; after = told.after; ended = told.ended; number = told.number; behind = told.later } in
-    piece_of e c.args.from.micros upto run.index run.ticks run.piece (slice_get (intervals_of e) run.index) refl told.states told.curve
+    piece_of e c.args.from.micros upto run.index run.ticks run.piece (slice_get (pieces_of e) run.index) refl told.nodes told.curve
     (found_upto e c.args.from.micros upto c.args.last.micros run.index run.ticks low high is)
 
 pub hull_ready-requires : goal.hull_ready-requires
@@ -37,7 +37,7 @@ returns-clause-first c upto low high =
     let e = plain_track c.args.track.now in
     let run = c.in_ok-run.run' in
     let is = found (goal.at.returns-clause-first c).In_ok-run upto low high in
-    hulls_from e c.args.from.micros upto run.ticks.first.micros run.ticks.last.micros is.index is.interval (axes_of c.hull_ready.result.points) is.run
+    hulls_from e c.args.from.micros upto run.ticks.first.micros run.ticks.last.micros is.index is.plain (axes_of c.hull_ready.result.points) is.run
     (c.hull_ready.ensures.value ∙ ap (λ (d : Curve). hull_axes d run.ticks.first.micros run.ticks.last.micros) (c.ready-piece.ensures ∙ is.curve))
 
 pub returns-clause-time : goal.returns-clause-time
@@ -45,4 +45,4 @@ returns-clause-time c =
     let run = c.in_ok-run.run' in
     let next = c.in_ok-run.ensures.run in
     let is = found (goal.at.returns-clause-time c).In_ok-run c.args.last.micros next.within (omega arith) in
-    run_in_time (plain_track c.args.track.now) c.args.from.micros c.args.last.micros run.ticks.first.micros run.ticks.last.micros is.index is.interval is.run
+    run_in_time (plain_track c.args.track.now) c.args.from.micros c.args.last.micros run.ticks.first.micros run.ticks.last.micros is.index is.plain is.run

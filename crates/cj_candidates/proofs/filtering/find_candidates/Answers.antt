@@ -4,8 +4,8 @@ use Rattle.cj_track.specs.declared.track.Track.{Track}
 use Rattle.cj_track.specs.Tracks.{plain_track}
 use Rattle.cj_hermite.specs.Problems.{plain_problem}
 use Rattle.cj_bezier.specs.SlotBoxes.{plain_boxes}
-use Rattle.cj_bezier.specs.Looked.{boxes_in, is_looked, shells_of}
-use Rattle.cj_bezier.proofs.FarLemmas.{unlooked_far}
+use Rattle.cj_bezier.specs.Candidates.{boxes_in, is_candidate, shells_of}
+use Rattle.cj_bezier.proofs.FarLemmas.{others_far}
 use Rattle.cj_cells.proofs.ListingLemmas.{error_is}
 use Rattle.cj_candidates.proofs.ObjectRunLemmas.{case_shells, case_boxes, case_in_shells, case_in_boxes}
 use Rattle.cj_candidates.proofs.filtering.find_candidates.Goals as goal
@@ -15,7 +15,7 @@ invariant_of-ground g c =
     let case = plain_problem c.args.problem.now in
     let tracks = c.as_slice-tracks.result.now in
     let run = c.in_ok-shells.field-0 in
-    let all : map plain_track tracks ≡ case.ephemerides = ap (λ (ts : List Track). map plain_track ts) c.as_slice-tracks.ensures.value in
+    let all : map plain_track tracks ≡ case.tracks = ap (λ (ts : List Track). map plain_track ts) c.as_slice-tracks.ensures.value in
     record {
       in_shells = c.deref.ensures.value ∙ case_shells case tracks c.slot_count-slots.result run all c.in_ok-shells.ensures;
       in_boxes = ap plain_boxes c.deref-2.ensures.value ∙ case_boxes case tracks c.slot_count-slots.result run all c.slot_count-slots.ensures
@@ -56,13 +56,13 @@ pub returns-clause-touching : goal.returns-clause-touching
 returns-clause-touching g c = c.in_ok-roots.ensures.touching
 
 pub returns-clause-far : goal.returns-clause-far
-unfolding is_looked
+unfolding is_candidate
 returns-clause-far g c =
     let case = plain_problem c.args.problem.now in
     let tracks = c.as_slice-tracks.result.now in
     let run = c.in_ok-shells.field-0 in
-    let all : map plain_track tracks ≡ case.ephemerides = ap (λ (ts : List Track). map plain_track ts) c.as_slice-tracks.ensures.value in
-    unlooked_far case (shells_of case) (boxes_in case)
+    let all : map plain_track tracks ≡ case.tracks = ap (λ (ts : List Track). map plain_track ts) c.as_slice-tracks.ensures.value in
+    others_far case (shells_of case) (boxes_in case)
     (case_in_shells case tracks c.slot_count-slots.result run all c.in_ok-shells.ensures)
     (case_in_boxes case tracks c.slot_count-slots.result run all c.slot_count-slots.ensures c.in_ok-shells.ensures)
 

@@ -6,9 +6,9 @@ use Rattle.std.proofs.lemmas.Result.{err_from_is_err_and}
 use Rattle.cj_hermite.specs.Problems.{plain_problem}
 use Rattle.cj_hermite.specs.Roots.{PlainCell}
 use Rattle.cj_bezier.specs.Cells.{plain_cell, plain_cells}
-use Rattle.cj_bezier.specs.Looked.{is_looked}
+use Rattle.cj_bezier.specs.Candidates.{is_candidate}
 use Rattle.cj_cells.proofs.ListingLemmas.{error_is, by_slot, same_count}
-use Rattle.cj_candidates.specs.SlotRuns.{looked_over, roots_over}
+use Rattle.cj_candidates.specs.SlotRuns.{candidates_over, roots_over}
 use Rattle.cj_candidates.proofs.filtering.search_all.Goals as goal
 
 pub returns-in_err-found-clause-too_many : goal.returns-in_err-found-clause-too_many
@@ -25,7 +25,7 @@ order_roots-requires g c = omega (arith, c.in_ok-found.ensures.found.few, c.requ
 pub returns-clause-roots : goal.returns-clause-roots
 returns-clause-roots g c =
     let case = plain_problem c.args.ground.now.problem.now in
-    c.order_roots.ensures.all (is_looked case) case
+    c.order_roots.ensures.all (is_candidate case) case
     (subst (λ (rs : List PlainCell). IsPermutation rs (plain_cells c.in_ok-found.found.roots.items))
     (ap (λ (n : ℕ). roots_over case 0 n) c.args.ground.now.counted ∙ by_slot case)
     c.in_ok-found.ensures.found.roots)
@@ -48,4 +48,4 @@ returns-clause-few g c =
     )
 
 pub returns-clause-touching : goal.returns-clause-touching
-returns-clause-touching g c = c.in_ok-found.ensures.found.touching ∙ ap (looked_over (plain_problem c.args.ground.now.problem.now) 0) c.args.ground.now.counted
+returns-clause-touching g c = c.in_ok-found.ensures.found.touching ∙ ap (candidates_over (plain_problem c.args.ground.now.problem.now) 0) c.args.ground.now.counted

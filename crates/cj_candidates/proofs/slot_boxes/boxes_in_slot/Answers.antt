@@ -6,7 +6,7 @@ use Rattle.cj_track.specs.Tracks.{plain_track}
 use Rattle.cj_hermite.specs.Problems.{plain_problem}
 use Rattle.cj_hermite.specs.Slots.{slot_count}
 use Rattle.cj_bezier.specs.SlotBoxes.{PlainBox, plain_boxes, plain_box}
-use Rattle.cj_bezier.specs.Looked.{boxes_in}
+use Rattle.cj_bezier.specs.Candidates.{boxes_in}
 use Rattle.cj_bezier.proofs.AllBoxLemmas.{boxes_count}
 use Rattle.cj_candidates.proofs.BoxLemmas.{place_within, slot_more, objects_in_slot}
 use Rattle.cj_candidates.proofs.slot_boxes.boxes_in_slot.Goals as goal
@@ -16,16 +16,16 @@ bounds-boxes-object c =
     let case = plain_problem c.args.problem.now in
     let count = boxes_count case c.args.boxes.now c.requires.boxes in
     let objects = length-map c.args.problem.now.tracks plain_track in
-    let same = ap (λ (n : ℕ). length case.ephemerides * n) c.requires.slots in
-    let there : c.loop-object.object < length case.ephemerides = omega (arith, objects, ap (λ (ts : List Track). length ts) c.as_slice-objects.ensures.value) in
-    let place = place_within c.loop-object.object (length case.ephemerides) c.args.slots c.args.slot there c.requires.exists in
+    let same = ap (λ (n : ℕ). length case.tracks * n) c.requires.slots in
+    let there : c.loop-object.object < length case.tracks = omega (arith, objects, ap (λ (ts : List Track). length ts) c.as_slice-objects.ensures.value) in
+    let place = place_within c.loop-object.object (length case.tracks) c.args.slots c.args.slot there c.requires.exists in
     omega (arith, place, count, same)
 
 pub loop-object-preserved : goal.loop-object-preserved
 loop-object-preserved c =
     let case = plain_problem c.args.problem.now in
     let objects = length-map c.args.problem.now.tracks plain_track in
-    let there : c.loop-object.object < length case.ephemerides = omega (arith, objects, ap (λ (ts : List Track). length ts) c.as_slice-objects.ensures.value) in
+    let there : c.loop-object.object < length case.tracks = omega (arith, objects, ap (λ (ts : List Track). length ts) c.as_slice-objects.ensures.value) in
     let found = c.index-boxes-object.result in
     let lt : c.args.slot < slot_count case.first case.last = omega (arith, c.requires.slots, c.requires.exists) in
     let at : found ≡ get_or c.args.boxes.now (c.loop-object.object * slot_count case.first case.last + c.args.slot) found =
@@ -39,5 +39,5 @@ returns c =
     let case = plain_problem c.args.problem.now in
     let objects = length-map c.args.problem.now.tracks plain_track in
     let count = objects_in_slot case c.args.slot in
-    let end : c.loop-object.object ≡ length case.ephemerides = omega (arith, objects, ap (λ (ts : List Track). length ts) c.as_slice-objects.ensures.value) in
+    let end : c.loop-object.object ≡ length case.tracks = omega (arith, objects, ap (λ (ts : List Track). length ts) c.as_slice-objects.ensures.value) in
     c.loop-object.invariant ∙ take_all c.loop-object.object (boxes_in case c.args.slot) (omega (arith, count, end))

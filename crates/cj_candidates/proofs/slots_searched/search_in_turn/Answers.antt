@@ -9,11 +9,11 @@ use Rattle.cj_hermite.specs.Pairs.{objects_of}
 use Rattle.cj_hermite.specs.Problems.{plain_problem}
 use Rattle.cj_hermite.specs.Roots.{PlainCell, roots_in_slot}
 use Rattle.cj_bezier.specs.Cells.{plain_cell, plain_cells}
-use Rattle.cj_bezier.specs.Looked.{is_looked, pairs_looked}
+use Rattle.cj_bezier.specs.Candidates.{is_candidate, candidate_pairs}
 use Rattle.cj_cells.specs.Cells.{added_roots}
 use Rattle.cj_cells.proofs.ListingLemmas.{error_is, cells_more}
-use Rattle.cj_candidates.specs.SlotRuns.{roots_over, looked_over}
-use Rattle.cj_candidates.proofs.CountLemmas.{looked_few}
+use Rattle.cj_candidates.specs.SlotRuns.{roots_over, candidates_over}
+use Rattle.cj_candidates.proofs.CountLemmas.{candidates_few}
 use Rattle.cj_candidates.proofs.ObjectLemmas.{pairs_within}
 use Rattle.cj_candidates.proofs.SlotRunLemmas.{slots_more, counts_more, roots_upto}
 use Rattle.cj_candidates.proofs.slots_searched.search_in_turn.Goals as goal
@@ -22,7 +22,7 @@ pub roots_of_slot-requires-clause-exist : goal.roots_of_slot-requires-clause-exi
 roots_of_slot-requires-clause-exist c =
     let problem = c.args.ground.now.problem.now in
     let case = plain_problem problem in
-    let within = pairs_within (λ pair. is_looked case pair.0 pair.1 c.loop-slot.slot) (length case.ephemerides) c.in_ok-pairs.pairs.items c.in_ok-pairs.ensures in
+    let within = pairs_within (λ pair. is_candidate case pair.0 pair.1 c.loop-slot.slot) (length case.tracks) c.in_ok-pairs.pairs.items c.in_ok-pairs.ensures in
     subst (λ (ps : List Pair). All (λ pair. pair.b < length problem.tracks) ps) (sym c.deref.ensures.value)
     (subst (λ (n : ℕ). All (λ pair. pair.b < n) c.in_ok-pairs.pairs.items) (length-map problem.tracks plain_track) within)
 
@@ -32,8 +32,8 @@ returns-in_err-roots_of_slot c =
     let p = err_from_is_err_and c.from_residual-in_err-roots_of_slot.result c.from_residual-in_err-roots_of_slot.ensures.1 in
     let case = plain_problem c.args.ground.now.problem.now in
     let slot = c.loop-slot.slot in
-    let pairs : map objects_of c.deref.result.now ≡ pairs_looked case slot = ap (map objects_of) c.deref.ensures.value ∙ c.in_ok-pairs.ensures in
-    let here : length (roots_in_slot case slot (map objects_of c.deref.result.now)) ≡ length (roots_in_slot case slot (pairs_looked case slot)) =
+    let pairs : map objects_of c.deref.result.now ≡ candidate_pairs case slot = ap (map objects_of) c.deref.ensures.value ∙ c.in_ok-pairs.ensures in
+    let here : length (roots_in_slot case slot (map objects_of c.deref.result.now)) ≡ length (roots_in_slot case slot (candidate_pairs case slot)) =
     ap (λ (ps : List (ℕ × ℕ)). length (roots_in_slot case slot ps)) pairs in
     let count = roots_upto case c.args.from slot c.args.count (omega arith) (omega arith) in
     let found = ap (λ (rs : List PlainCell). length rs) i.found in
@@ -49,12 +49,12 @@ loop-slot-preserved c =
     let case = plain_problem problem in
     let from = c.args.from in
     let slot = c.loop-slot.slot in
-    let pairs : map objects_of c.deref.result.now ≡ pairs_looked case slot = ap (map objects_of) c.deref.ensures.value ∙ c.in_ok-pairs.ensures in
+    let pairs : map objects_of c.deref.result.now ≡ candidate_pairs case slot = ap (map objects_of) c.deref.ensures.value ∙ c.in_ok-pairs.ensures in
     let old = c.loop-slot.roots.items in
     let new = c.roots_of_slot.new.roots.items in
     let n : vec_len c.loop-slot.roots ≡ length old = omega (arith, c.loop-slot.roots.ok.0) in
     let kept = subst (λ (k : ℕ). take k new ≡ old) n c.in_ok-roots_of_slot.ensures.kept in
-    let size : c.len.result ≡ length (pairs_looked case slot) =
+    let size : c.len.result ≡ length (candidate_pairs case slot) =
     c.len.ensures ∙ omega (arith, c.in_ok-pairs.pairs.ok.0) ∙ sym (length-map c.in_ok-pairs.pairs.items objects_of) ∙ ap (λ (ps : List (ℕ × ℕ)). length ps) c.in_ok-pairs.ensures in
     let few = problem.few in
     record {
@@ -62,8 +62,8 @@ loop-slot-preserved c =
       found = cells_more old new kept ∙ ap (λ (rs : List PlainCell). rs ++ added_roots old new) i.found
           ∙ ap (λ (rs : List PlainCell). roots_over case from (slot - from) ++ rs) (c.in_ok-roots_of_slot.ensures.ok ∙ ap (roots_in_slot case slot) pairs)
           ∙ sym (slots_more case from slot (omega arith));
-      counted = ap (λ k. k + c.len.result) i.counted ∙ ap (λ k. looked_over case from (slot - from) + k) size ∙ sym (counts_more case from slot (omega arith));
-      small = omega (arith, i.small, size, looked_few case slot (omega (arith, length-map problem.tracks plain_track)));
+      counted = ap (λ k. k + c.len.result) i.counted ∙ ap (λ k. candidates_over case from (slot - from) + k) size ∙ sym (counts_more case from slot (omega arith));
+      small = omega (arith, i.small, size, candidates_few case slot (omega (arith, length-map problem.tracks plain_track)));
     }
 
 pub returns : goal.returns
@@ -80,7 +80,7 @@ returns c =
       found = record {
         roots = subst (λ (rs : List PlainCell). IsPermutation rs (plain_cells new.items)) (i.found ∙ ap (roots_over case from) all) moved;
         few = omega (arith, i.room, c.in_ok-sort_by_key.ensures.len);
-        touching = i.counted ∙ ap (looked_over case from) all;
+        touching = i.counted ∙ ap (candidates_over case from) all;
       };
     }
 

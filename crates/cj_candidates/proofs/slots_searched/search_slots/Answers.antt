@@ -5,7 +5,7 @@ use Rattle.std.proofs.lemmas.Result.{err_from_is_err_and}
 use Rattle.cj_track.specs.Tracks.{plain_track}
 use Rattle.cj_hermite.specs.Problems.{plain_problem}
 use Rattle.cj_bezier.specs.declared.cell.Cell.{Cell}
-use Rattle.cj_candidates.specs.SlotRuns.{looked_at, looked_over, roots_at, roots_over}
+use Rattle.cj_candidates.specs.SlotRuns.{candidates_at, candidates_over, roots_at, roots_over}
 use Rattle.cj_candidates.proofs.SlotRunLemmas.{all_found}
 use Rattle.cj_candidates.proofs.slots_searched.search_slots.Goals as goal
 
@@ -20,7 +20,7 @@ returns g c =
       too_many = λ is. absurd cc;
       found = all_found (plain_problem problem) c.args.from c.args.count c.args.limit c.deref.result.now c.in_ok-runs.runs run
           (◌∙◌ {c = roots_over (plain_problem problem) c.args.from c.args.count} (ap roots_at c.deref.ensures.value) c.in_ok-stretches.ensures.roots)
-          (◌∙◌ {c = looked_over (plain_problem problem) c.args.from c.args.count} (ap looked_at c.deref.ensures.value) c.in_ok-stretches.ensures.touching)
+          (◌∙◌ {c = candidates_over (plain_problem problem) c.args.from c.args.count} (ap candidates_at c.deref.ensures.value) c.in_ok-stretches.ensures.touching)
           (omega (arith, objects, length-map problem.tracks plain_track)) (omega (arith, c.ranges.count.fits)) c.in_ok-runs.ensures c.if-not-runs.false
           (omega (arith, c.if-count_of-limit.false, c.count_of.ensures, ap size c.deref-2.ensures.value, c.requires.limit)) told.roots run.roots.ok.0 told.touching;
     }

@@ -4,8 +4,8 @@ use Rattle.std.specs.List.Sorted.{IsPermutation}
 use Rattle.std.proofs.lemmas.List.{take_all}
 use Rattle.cj_bezier.specs.Cells.{plain_cells}
 use Rattle.cj_candidates.specs.declared.stretch.Stretch.{Stretch}
-use Rattle.cj_candidates.specs.SlotRuns.{looked_at, roots_at}
-use Rattle.cj_candidates.proofs.SlotRunLemmas.{few_more, found_more, looked_more_at}
+use Rattle.cj_candidates.specs.SlotRuns.{candidates_at, roots_at}
+use Rattle.cj_candidates.proofs.SlotRunLemmas.{few_more, found_more, candidates_more_at}
 use Rattle.cj_candidates.proofs.slots_shared.search_each.Goals as goal
 
 pub loop-stretch-preserved : goal.loop-stretch-preserved
@@ -27,7 +27,7 @@ loop-stretch-preserved c =
           let both = c.are_both-every.ensures is in
           let before = i.touching both.0 in
           let here = found.touching both.1 in
-          omega (arith, c.saturating_add-sum.ensures, before, here, looked_more_at stretches at stretch c.loop-stretch-test.true c.stretch-item.is);
+          omega (arith, c.saturating_add-sum.ensures, before, here, candidates_more_at stretches at stretch c.loop-stretch-test.true c.stretch-item.is);
     }
 
 pub returns : goal.returns
@@ -37,5 +37,5 @@ returns c =
     record {
       few = subst (λ (ss : List Stretch). length (flat_map (λ list. list.items) c.loop-stretch.all.items) ≤ length (roots_at ss)) all i.few;
       roots = λ is. subst (λ (ss : List Stretch). IsPermutation (roots_at ss) (plain_cells (flat_map (λ list. list.items) c.loop-stretch.all.items))) all (i.roots is);
-      touching = λ is. i.touching is ∙ ap (λ (ss : List Stretch). min (looked_at ss) 18_446_744_073_709_551_615) all;
+      touching = λ is. i.touching is ∙ ap (λ (ss : List Stretch). min (candidates_at ss) 18_446_744_073_709_551_615) all;
     }

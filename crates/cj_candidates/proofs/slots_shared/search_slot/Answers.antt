@@ -6,19 +6,19 @@ use Rattle.cj_hermite.specs.declared.pair.Pair.{Pair}
 use Rattle.cj_hermite.specs.Pairs.{objects_of}
 use Rattle.cj_hermite.specs.Problems.{plain_problem}
 use Rattle.cj_hermite.specs.Roots.{roots_in_slot}
-use Rattle.cj_bezier.specs.Looked.{is_looked}
+use Rattle.cj_bezier.specs.Candidates.{is_candidate}
 use Rattle.cj_bezier.specs.SlotBoxes.{plain_boxes}
 use Rattle.cj_candidates.proofs.ObjectLemmas.{pairs_within}
 use Rattle.cj_candidates.proofs.slots_shared.search_slot.Goals as goal
 
-pub looked_among-requires : goal.looked_among-requires
-looked_among-requires c = ap plain_boxes c.deref-2.ensures.value ∙ c.in_ok-here.ensures
+pub candidates_among-requires : goal.candidates_among-requires
+candidates_among-requires c = ap plain_boxes c.deref-2.ensures.value ∙ c.in_ok-here.ensures
 
 pub append_until_stopped-requires-clause-exist : goal.append_until_stopped-requires-clause-exist
 append_until_stopped-requires-clause-exist c =
     let problem = c.args.ground.now.problem.now in
     let case = plain_problem problem in
-    let within = pairs_within (λ pair. is_looked case pair.0 pair.1 c.args.slot) (length case.ephemerides) c.in_ok-pairs.pairs.items c.in_ok-pairs.ensures in
+    let within = pairs_within (λ pair. is_candidate case pair.0 pair.1 c.args.slot) (length case.tracks) c.in_ok-pairs.pairs.items c.in_ok-pairs.ensures in
     subst (λ (ps : List Pair). All (λ pair. pair.b < length problem.tracks) ps) (sym c.deref-3.ensures.value)
     (subst (λ (n : ℕ). All (λ pair. pair.b < n) c.in_ok-pairs.pairs.items) (length-map problem.tracks plain_track) within)
 
@@ -27,8 +27,8 @@ returns-clause-added c = λ whole.
     c.in_ok-whole.ensures.added whole
     ∙ ap (roots_in_slot (plain_problem c.args.ground.now.problem.now) c.args.slot) (ap (map objects_of) c.deref-3.ensures.value ∙ c.in_ok-pairs.ensures)
 
-pub returns-clause-looked : goal.returns-clause-looked
-returns-clause-looked c = λ _.
+pub returns-clause-candidate : goal.returns-clause-candidate
+returns-clause-candidate c = λ _.
     let pairs = c.in_ok-pairs.pairs in
     omega (arith, c.saturating_add-run.ensures, c.len.ensures, pairs.ok.0, length-map pairs.items objects_of, ap length c.in_ok-pairs.ensures)
 

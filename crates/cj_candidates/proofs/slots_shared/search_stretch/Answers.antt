@@ -7,7 +7,7 @@ use Rattle.cj_hermite.specs.Roots.{PlainCell}
 use Rattle.cj_bezier.specs.Cells.{plain_cell, plain_cells}
 use Rattle.cj_cells.specs.Cells.{added_roots}
 use Rattle.cj_cells.proofs.ListingLemmas.{cells_more}
-use Rattle.cj_candidates.specs.SlotRuns.{roots_over, looked_over}
+use Rattle.cj_candidates.specs.SlotRuns.{roots_over, candidates_over}
 use Rattle.cj_candidates.proofs.SlotRunLemmas.{slots_more, counts_more, roots_upto}
 use Rattle.cj_candidates.proofs.slots_shared.search_stretch.Goals as goal
 
@@ -38,13 +38,13 @@ loop-slot-preserved c =
     let new = c.search_slot.new.run.roots.items in
     let whole = c.if-not-branch.false in
     let kept = subst (λ (k : ℕ). take k new ≡ old.items) old.ok.0 c.in_ok-search_slot.ensures.kept in
-    let looked = c.in_ok-search_slot.ensures.looked whole in
+    let candidate = c.in_ok-search_slot.ensures.candidate whole in
     record {
       room = c.in_ok-search_slot.ensures.room whole;
       found = cells_more old.items new kept ∙ ap (λ (rs : List PlainCell). rs ++ added_roots old.items new) i.found
           ∙ ap (λ (rs : List PlainCell). roots_over case from (l.slot - from) ++ rs) (c.in_ok-search_slot.ensures.added whole)
           ∙ sym (slots_more case from l.slot (omega arith));
-      counted = omega (arith, looked, i.counted, counts_more case from l.slot (omega arith));
+      counted = omega (arith, candidate, i.counted, counts_more case from l.slot (omega arith));
       stopped = c.search_slot.ensures.stays ∙ i.stopped;
     }
 
@@ -62,5 +62,5 @@ returns c =
     record {
       few = omega (arith, long, length_permutation l.run.roots.items new.items sorted, length-map l.run.roots.items plain_cell);
       roots = λ _. subst (λ (rs : List PlainCell). IsPermutation rs (plain_cells new.items)) found (IsPermutation-map plain_cell l.run.roots.items new.items sorted);
-      touching = λ _. i.counted ∙ ap (λ (n : ℕ). min (looked_over case s.from n) 18_446_744_073_709_551_615) all;
+      touching = λ _. i.counted ∙ ap (λ (n : ℕ). min (candidates_over case s.from n) 18_446_744_073_709_551_615) all;
     }

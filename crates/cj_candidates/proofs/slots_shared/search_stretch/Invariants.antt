@@ -1,7 +1,7 @@
 use Rattle.std.proofs.Common.{◌≡◌, ◌+◌, ◌-◌, ◌≤◌, false, min, vec_len}
 use Rattle.cj_hermite.specs.Problems.{plain_problem}
 use Rattle.cj_bezier.specs.Cells.{plain_cells}
-use Rattle.cj_candidates.specs.SlotRuns.{roots_over, looked_over}
+use Rattle.cj_candidates.specs.SlotRuns.{roots_over, candidates_over}
 use Rattle.cj_candidates.proofs.slots_shared.search_stretch.Given as goal
 
 -- what is found in the slots so far
@@ -9,6 +9,6 @@ abbrev pub invariant-loop-slot : goal.invariant-loop-slot
 invariant-loop-slot l = record {
   room : vec_len l.run.roots ≤ l.limit + 1;
   found : plain_cells l.run.roots.items ≡ roots_over (plain_problem l.stretch.ground.problem.now) l.stretch.from (l.slot - l.stretch.from);
-  counted : l.run.touching ≡ min (looked_over (plain_problem l.stretch.ground.problem.now) l.stretch.from (l.slot - l.stretch.from)) 18_446_744_073_709_551_615;
+  counted : l.run.touching ≡ min (candidates_over (plain_problem l.stretch.ground.problem.now) l.stretch.from (l.slot - l.stretch.from)) 18_446_744_073_709_551_615;
   stopped : l.run.whole ≡ false;
 }

@@ -16,7 +16,7 @@ returns-clause-value c =
     let m = c.args.at.micros in
     let matrix = c.args.matrix in
     let with_place = λ (p : Vector). Some (side_of_fields (record { track = c.args.track; place = p; rate = c.rate_at.result; matrix = matrix })) in
-    let built = side_built e m _ (plain_matrix matrix.now) (curve_of c.piece-piece.result) (sym c.in_ok-index.ensures.interval) c.piece-piece.ensures.curve c.requires in
+    let built = side_built e m _ (plain_matrix matrix.now) (curve_of c.piece-piece.result) (sym c.in_ok-index.ensures.piece) c.piece-piece.ensures.curve c.requires in
     ap with_place c.place_at.ensures.value
     ∙ ap (λ (v : Vector). Some (side_of_fields (record { track = c.args.track; place = place_at (curve_of c.piece-piece.result) m; rate = v; matrix = matrix }))) c.rate_at.ensures.value
     ∙ sym built

@@ -13,6 +13,6 @@ returns c =
     let segment = c.index-as_slice-number.result in
     let is : segment ≡ get_or segments number segment = c.index-as_slice-number.is ∙ ap (λ ss. get_or ss number segment) c.as_slice.ensures.value in
     let there = get_or-map plain_segment segments number segment ∙ ap plain_segment (sym is) in
-    ap (option_map (λ (arc : PlainSegment). arc.covariances)) (segment_found (plain_track c.args.track.now) c.args.index number (plain_segment segment) c.segment_of-number.ensures)
-    ∙ ap (λ (arc : PlainSegment). Some arc.covariances) there
+    ap (option_map (λ (segment : PlainSegment). segment.covariances)) (segment_found (plain_track c.args.track.now) c.args.index number (plain_segment segment) c.segment_of-number.ensures)
+    ∙ ap (λ (segment : PlainSegment). Some segment.covariances) there
     ∙ ap (λ ms. Some (map plain_matrix ms)) (sym (c.as_slice-2.ensures ∙ ap (λ (s : Segment). s.matrices) (sym c.index-as_slice-number.is)))

@@ -7,11 +7,11 @@ use Rattle.cj_bezier.specs.Leaves.{plain_leaf, plain_leaves}
 use Rattle.cj_cells.specs.declared.refine_error.RefineError.{RefineError}
 use Rattle.cj_hermite.specs.PlainProblems.{PlainProblem}
 use Rattle.cj_hermite.specs.Problems.{plain_problem}
-use Rattle.cj_bezier.specs.Looked.{is_looked}
+use Rattle.cj_bezier.specs.Candidates.{is_candidate}
 use Rattle.cj_hermite.specs.Roots.{roots_of}
 use Rattle.cj_bezier.specs.Cells.{plain_cell, plain_cells}
 use Rattle.cj_bezier.specs.RootLeaves.{leaves_of_roots}
-use Rattle.cj_cells.specs.Lists.{list_of, list_looked, splits_of}
+use Rattle.cj_cells.specs.Lists.{list_of, list_candidates, splits_of}
 use Rattle.cj_cells.proofs.LeafLemmas.{list_described, list_split}
 use Rattle.cj_cells.proofs.ListingLemmas.{cells_keep}
 use Rattle.cj_cells.proofs.listing.leaves_of.Goals as goal
@@ -19,13 +19,13 @@ use Rattle.cj_cells.proofs.listing.leaves_of.Goals as goal
 pub refine_all-requires : goal.refine_all-requires
 refine_all-requires c =
     let case = plain_problem c.args.problem.now in
-    cells_keep (is_looked case) case c.args.roots.now c.requires
+    cells_keep (is_candidate case) case c.args.roots.now c.requires
 
 pub returns-clause-value : goal.returns-clause-value
 unfolding list_of
 returns-clause-value c =
     let case = plain_problem c.args.problem.now in
-    let same : leaves_of_roots case (roots_of (is_looked case) case) ≡ leaves_of_roots case (plain_cells c.args.roots.now) =
+    let same : leaves_of_roots case (roots_of (is_candidate case) case) ≡ leaves_of_roots case (plain_cells c.args.roots.now) =
     ap (leaves_of_roots case) (sym c.requires) in
     rw same c.refine_all.ensures.value
 
@@ -33,7 +33,7 @@ pub returns-clause-too_many : goal.returns-clause-too_many
 unfolding list_of
 returns-clause-too_many c =
     let case = plain_problem c.args.problem.now in
-    let same : leaves_of_roots case (roots_of (is_looked case) case) ≡ leaves_of_roots case (plain_cells c.args.roots.now) =
+    let same : leaves_of_roots case (roots_of (is_candidate case) case) ≡ leaves_of_roots case (plain_cells c.args.roots.now) =
     ap (leaves_of_roots case) (sym c.requires) in
     rw same c.refine_all.ensures.too_many
 
@@ -52,10 +52,10 @@ returns-clause-ordered c =
     let case = plain_problem c.args.problem.now in
     on_ok_weaker c.refine_all.result (λ leaves. let list = list_described case (plain_cells c.args.roots.now) c.requires leaves in list.ordered) c.refine_all.ensures.leaves
 
-pub returns-clause-intervals : goal.returns-clause-intervals
-returns-clause-intervals c =
+pub returns-clause-pieces : goal.returns-clause-pieces
+returns-clause-pieces c =
     let case = plain_problem c.args.problem.now in
-    on_ok_weaker c.refine_all.result (λ leaves. let list = list_described case (plain_cells c.args.roots.now) c.requires leaves in list.intervals) c.refine_all.ensures.leaves
+    on_ok_weaker c.refine_all.result (λ leaves. let list = list_described case (plain_cells c.args.roots.now) c.requires leaves in list.pieces) c.refine_all.ensures.leaves
 
 pub returns-clause-splits : goal.returns-clause-splits
 unfolding list_of
@@ -64,7 +64,7 @@ returns-clause-splits c = go c.refine_all.result (returns-clause-value c)
     case : PlainProblem
     case = plain_problem c.args.problem.now
 
-    go : (r : Result (Vec Leaf Global) RefineError) → IfOk r (λ leaves. plain_leaves leaves.items ≡ list_looked case) → IfOk r (λ leaves. vec_len leaves ≡ length c.args.roots.now + splits_of case)
+    go : (r : Result (Vec Leaf Global) RefineError) → IfOk r (λ leaves. plain_leaves leaves.items ≡ list_candidates case) → IfOk r (λ leaves. vec_len leaves ≡ length c.args.roots.now + splits_of case)
     go (Err e) h = tt
     go (Ok leaves) h =
         let found = ap length h in

@@ -4,12 +4,12 @@ use Rattle.std.proofs.lemmas.List.{length-map, take_all}
 use Rattle.cj_bezier.specs.declared.cell.Cell.{Cell}
 use Rattle.cj_bezier.specs.Leaves.{PlainLeaf, plain_leaf, plain_leaves}
 use Rattle.cj_hermite.specs.Problems.{plain_problem}
-use Rattle.cj_hermite.specs.Roots.{KeepIntervals}
+use Rattle.cj_hermite.specs.Roots.{KeepPieces}
 use Rattle.cj_bezier.specs.Cells.{plain_cell, plain_cells}
-use Rattle.cj_cells.specs.Cells.{added_stretches}
+use Rattle.cj_cells.specs.Cells.{added_leaves}
 use Rattle.cj_bezier.specs.RootLeaves.{leaves_of_root, leaves_of_roots, Describe}
 use Rattle.cj_cells.proofs.SlotRootLemmas.{count_of}
-use Rattle.cj_cells.proofs.ListingLemmas.{error_is, stretches_more, leaves_of_cells, root_more, roots_apart, described_more}
+use Rattle.cj_cells.proofs.ListingLemmas.{error_is, leaves_more, leaves_of_cells, root_more, roots_apart, described_more}
 use Rattle.cj_cells.proofs.WalkLemmas.{no_refusal}
 use Rattle.cj_cells.proofs.listing.refine_all.Goals as goal
 
@@ -47,7 +47,7 @@ loop-root-preserved c =
     let kept = subst (λ (k : ℕ). take k new ≡ old) n c.in_ok-refine.ensures.kept in
     record {
       room = c.in_ok-refine.ensures.within;
-      found = stretches_more old new kept ∙ ap (λ (ss : List PlainLeaf). ss ++ added_stretches old new) i.found
+      found = leaves_more old new kept ∙ ap (λ (ss : List PlainLeaf). ss ++ added_leaves old new) i.found
           ∙ ap (λ (ss : List PlainLeaf). leaves_of_cells case (take at roots) ++ ss) c.in_ok-refine.ensures.ok
           ∙ sym (root_more case at roots c.root-item.result lt c.root-item.is);
       leaves = described_more (λ root. Describe case root (leaves_of_root case root)) at roots c.root-item.result lt c.root-item.is i.leaves c.in_ok-refine.ensures.leaves;
@@ -64,7 +64,7 @@ refine-requires c =
     let case = plain_problem c.args.problem.now in
     let keep = c.requires c.loop-root.root-index c.root-item.result (omega arith) in
     record {
-      intervals = subst (λ (r : Cell). KeepIntervals case r.pair.a r.pair.b r.first.micros r.last.micros) (sym c.root-item.is) keep;
+      pieces = subst (λ (r : Cell). KeepPieces case r.pair.a r.pair.b r.first.micros r.last.micros) (sym c.root-item.is) keep;
       room = c.loop-root.invariant.room;
     }
 

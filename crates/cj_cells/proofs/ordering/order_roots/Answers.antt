@@ -4,4 +4,4 @@ use Rattle.cj_cells.proofs.OrderLemmas.{sorted_roots}
 use Rattle.cj_cells.proofs.ordering.order_roots.Goals as goal
 
 pub returns-clause-all : goal.returns-clause-all
-returns-clause-all c looked case e = sorted_roots looked case _ _ e (grind (arith, common_steps)) (grind (arith, common_steps))
+returns-clause-all c candidate case e = sorted_roots candidate case _ _ e (grind (arith, common_steps)) (grind (arith, common_steps))

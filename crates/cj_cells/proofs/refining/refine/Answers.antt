@@ -11,7 +11,7 @@ use Rattle.cj_cells.proofs.refining.refine.Goals as goal
 pub pair_threshold-threshold-requires : goal.pair_threshold-threshold-requires
 pair_threshold-threshold-requires c =
     let cell = c.args.cell in
-    object_exists c.args.problem.now cell.pair.b cell.first.micros (second_state (plain_problem c.args.problem.now) cell.pair.a cell.pair.b cell.first.micros cell.last.micros c.requires.intervals)
+    object_exists c.args.problem.now cell.pair.b cell.first.micros (second_state (plain_problem c.args.problem.now) cell.pair.a cell.pair.b cell.first.micros cell.last.micros c.requires.pieces)
 
 pub refine_between-requires-clause-first_over : goal.refine_between-requires-clause-first_over
 refine_between-requires-clause-first_over c =
@@ -59,4 +59,4 @@ returns-clause-leaves c =
     let are = for_all case cell r e.ready e.pair e.first e.last in
     described case (plain_cell cell) (curve_ready r.a) (curve_ready r.b) c.args.problem.now.least cell.some
     are.first_over are.second_over
-    (have_curves case cell.pair.a cell.pair.b cell.first.micros cell.last.micros (curve_ready r.a) (curve_ready r.b) cell.some c.requires.intervals are.first are.second)
+    (have_curves case cell.pair.a cell.pair.b cell.first.micros cell.last.micros (curve_ready r.a) (curve_ready r.b) cell.some c.requires.pieces are.first are.second)

@@ -8,7 +8,7 @@ use Rattle.cj_bezier.specs.declared.leaf.Leaf.{Leaf}
 use Rattle.cj_bezier.specs.Leaves.{PlainLeaf, plain_leaf, plain_leaves}
 use Rattle.cj_bezier.specs.RootLeaves.{kind_between}
 use Rattle.cj_bezier.specs.Halving.{leaves_between, closed}
-use Rattle.cj_cells.specs.Cells.{added_stretches}
+use Rattle.cj_cells.specs.Cells.{added_leaves}
 use Rattle.cj_cells.proofs.WalkLemmas.{no_refusal, not_too_many, prefix_done}
 use Rattle.cj_cells.proofs.RefineLemmas.{rest, part_bounds, closed_fit, halved_place, halved_fit, closed_rest, part_ticks, part_halved, more_behind, added_length, nothing_waits, added_more, kept_more, root_more, rest-all, fit_all}
 use Rattle.cj_cells.proofs.refining.refine_between.Goals as goal
@@ -56,7 +56,7 @@ returns-then-len-limit-clause-too_many c _ =
     let a = curve_ready c.args.a.now in
     let b = curve_ready c.args.b.now in
     let more = more_behind a b c.args.thr cell.pair.a cell.pair.b cell.first.micros cell.last.micros c.loop-top.first c.loop-top.top c.loop-top.lasts cell.last
-    (added_stretches c.args.leaves.now.items c.loop-top.leaves.items) (leaves_between (kind_between a b c.args.thr) cell.pair.a cell.pair.b cell.first.micros cell.last.micros)
+    (added_leaves c.args.leaves.now.items c.loop-top.leaves.items) (leaves_between (kind_between a b c.args.thr) cell.pair.a cell.pair.b cell.first.micros cell.last.micros)
     c.requires.least c.requires.first_over c.requires.second_over i.from (omega arith) i.fit i.whole in
     let count = added_length c.args.leaves.now.items c.loop-top.leaves.items i.kept in
     omega (arith, more, count, c.args.leaves.now.ok.0, c.loop-top.leaves.ok.0, i.room)
@@ -110,10 +110,10 @@ loop-top-preserved-in-Closed c =
       place = omega arith;
       room = omega (arith, c.in_ok-push-in-Closed.ensures.len);
       fit = closed_fit cell.last.micros c.loop-top.first c.loop-top.top c.loop-top.lasts c.index-lasts-top.result (omega arith) i.fit;
-      whole = ap (λ xs. added_stretches old xs ++ rest judge cell.pair.a cell.pair.b (last + 1) (drop (c.loop-top.top + 1) c.loop-top.lasts)) pushed
+      whole = ap (λ xs. added_leaves old xs ++ rest judge cell.pair.a cell.pair.b (last + 1) (drop (c.loop-top.top + 1) c.loop-top.lasts)) pushed
           ∙ ap (λ ss. ss ++ rest judge cell.pair.a cell.pair.b (last + 1) (drop (c.loop-top.top + 1) c.loop-top.lasts)) (added_more old items leaf i.kept)
-          ∙ ap (λ s. (added_stretches old items ++ s ∷ []) ++ rest judge cell.pair.a cell.pair.b (last + 1) (drop (c.loop-top.top + 1) c.loop-top.lasts)) shown
-          ∙ closed_rest judge cell.pair.a cell.pair.b c.loop-top.first c.loop-top.top c.loop-top.lasts c.index-lasts-top.result leaf.kind (added_stretches old items)
+          ∙ ap (λ s. (added_leaves old items ++ s ∷ []) ++ rest judge cell.pair.a cell.pair.b (last + 1) (drop (c.loop-top.top + 1) c.loop-top.lasts)) shown
+          ∙ closed_rest judge cell.pair.a cell.pair.b c.loop-top.first c.loop-top.top c.loop-top.lasts c.index-lasts-top.result leaf.kind (added_leaves old items)
           (leaves_between judge cell.pair.a cell.pair.b cell.first.micros cell.last.micros) (omega arith) (sym c.in-Closed.ensures.kind) i.whole;
       kept = ap (take (length old)) pushed ∙ kept_more old items leaf i.kept;
       root = All-same (λ l. l.cell.root ≡ cell.root) _ _ (ap (drop (length old)) pushed)
@@ -143,7 +143,7 @@ loop-top-preserved c =
       place = omega arith;
       room = i.room;
       fit = halved_fit cell.last.micros c.loop-top.first c.loop-top.top c.loop-top.lasts c.index-lasts-top.result c.in-Halves.left.last (omega arith) i.fit more halves.left_last;
-      whole = ap (λ ss. added_stretches c.args.leaves.now.items c.loop-top.leaves.items ++ ss)
+      whole = ap (λ ss. added_leaves c.args.leaves.now.items c.loop-top.leaves.items ++ ss)
           (part_halved a b c.args.thr cell.pair.a cell.pair.b cell.first.micros cell.last.micros c.loop-top.first c.loop-top.top c.loop-top.lasts c.index-lasts-top.result c.in-Halves.left.last
           c.requires.least c.requires.first_over c.requires.second_over i.from (omega arith) i.fit none halves.left_last)
           ∙ i.whole;
@@ -154,7 +154,7 @@ loop-top-preserved c =
 pub returns-clause-ok : goal.returns-clause-ok
 returns-clause-ok c =
     nothing_waits (kind_between (curve_ready c.args.a.now) (curve_ready c.args.b.now) c.args.thr) c.args.cell.pair.a c.args.cell.pair.b c.loop-top.first c.loop-top.top c.loop-top.lasts
-    (added_stretches c.args.leaves.now.items c.loop-top.leaves.items)
+    (added_leaves c.args.leaves.now.items c.loop-top.leaves.items)
     (leaves_between (kind_between (curve_ready c.args.a.now) (curve_ready c.args.b.now) c.args.thr) c.args.cell.pair.a c.args.cell.pair.b c.args.cell.first.micros c.args.cell.last.micros)
     (let i = c.loop-top.invariant in omega (arith, i.places)) c.loop-top.invariant.whole
 

@@ -100,15 +100,15 @@ loop-pair-preserved c =
       root = root_twice old mid new i.kept kept i.root more;
     }
 
-pub returns-in_default-clause-intervals : goal.returns-in_default-clause-intervals
-returns-in_default-clause-intervals c =
+pub returns-in_default-clause-pieces : goal.returns-in_default-clause-pieces
+returns-in_default-clause-pieces c =
     let m : vec_len c.args.roots.now ≡ length c.args.roots.now.items = omega (arith, c.args.roots.now.ok.0) in
     cells_keep (plain_problem c.args.problem.now) c.args.slot 0 c.args.pairs.now (drop (vec_len c.args.roots.now) c.args.roots.now.items)
     (ap (λ (k : ℕ). plain_cells (drop k c.args.roots.now.items)) m ∙ added_nothing c.args.roots.now.items c.args.roots.now.items refl)
 
-pub returns-in_err-walk-clause-intervals : goal.returns-in_err-walk-clause-intervals
-returns-in_err-walk-clause-intervals c =
-    let walk = (goal.at.returns-in_err-walk-clause-intervals c).After-walk in
+pub returns-in_err-walk-clause-pieces : goal.returns-in_err-walk-clause-pieces
+returns-in_err-walk-clause-pieces c =
+    let walk = (goal.at.returns-in_err-walk-clause-pieces c).After-walk in
     let i = c.loop-pair.invariant in
     let old = c.args.roots.now.items in
     let mid = c.loop-pair.roots.items in
@@ -120,8 +120,8 @@ returns-in_err-walk-clause-intervals c =
     (ap (λ (k : ℕ). plain_cells (drop k new)) m
     ∙ prefix_added old mid new _ _ _ _ i.kept kept i.added (c.in_err-walk.ensures.err ∙ ap (take (length (added_roots mid new))) (pair_roots walk)) (apart walk))
 
-pub returns-clause-intervals : goal.returns-clause-intervals
-returns-clause-intervals c =
+pub returns-clause-pieces : goal.returns-clause-pieces
+returns-clause-pieces c =
     let i = c.loop-pair.invariant in
     let case = plain_problem c.args.problem.now in
     let m : vec_len c.args.roots.now ≡ length c.args.roots.now.items = omega (arith, c.args.roots.now.ok.0) in

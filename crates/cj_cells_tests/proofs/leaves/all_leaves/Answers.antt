@@ -3,7 +3,7 @@ use Rattle.std.proofs.lemmas.List.{take-append-drop}
 use Rattle.std.proofs.lemmas.List.Elements.{All-nil, All-append}
 use Rattle.cj_hermite.specs.Problems.{plain_problem}
 use Rattle.cj_bezier.specs.declared.cell.Cell.{Cell}
-use Rattle.cj_hermite.specs.Roots.{KeepIntervals}
+use Rattle.cj_hermite.specs.Roots.{KeepPieces}
 use Rattle.cj_cells_tests.proofs.leaves.all_leaves.Goals as goal
 
 -- what holds of the old ones and of those behind them holds of all
@@ -14,11 +14,11 @@ with_more P n old new before kept more =
 
 pub refine_all-requires : goal.refine_all-requires
 refine_all-requires c =
-    let P : Cell → Type 0 = λ cell. KeepIntervals (plain_problem c.args.problem.now) cell.pair.a cell.pair.b cell.first.micros cell.last.micros in
+    let P : Cell → Type 0 = λ cell. KeepPieces (plain_problem c.args.problem.now) cell.pair.a cell.pair.b cell.first.micros cell.last.micros in
     let none = c.new-roots.result.items in
     let one = c.roots_of_slot.new.roots.items in
     let both = c.roots_of_slot-2.new.roots.items in
     let empty : All P none = subst (All P) (sym c.new-roots.ensures.items) (All-nil P) in
-    let first : All P one = with_more P (vec_len c.new-roots.result) none one empty c.roots_of_slot.ensures.kept c.roots_of_slot.ensures.intervals in
-    let second : All P both = with_more P (vec_len c.roots_of_slot.new.roots) one both first c.roots_of_slot-2.ensures.kept c.roots_of_slot-2.ensures.intervals in
+    let first : All P one = with_more P (vec_len c.new-roots.result) none one empty c.roots_of_slot.ensures.kept c.roots_of_slot.ensures.pieces in
+    let second : All P both = with_more P (vec_len c.roots_of_slot.new.roots) one both first c.roots_of_slot-2.ensures.kept c.roots_of_slot-2.ensures.pieces in
     subst (All P) (sym c.deref.ensures.value) second

@@ -8,7 +8,7 @@ use Rattle.cj_hermite.specs.Problems.{plain_problem}
 use Rattle.cj_hermite.specs.Slots.{slot_count}
 use Rattle.cj_hermite.proofs.TrackLemmas.{objects_are}
 use Rattle.cj_bezier.specs.declared.shells.Shell.{Shell}
-use Rattle.cj_bezier.specs.Looked.{is_kept}
+use Rattle.cj_bezier.specs.Candidates.{is_kept}
 use Rattle.cj_bezier.specs.SlotBoxes.{plain_boxes}
 use Rattle.cj_cert.specs.Accepted.{Accepted}
 use Rattle.cj_cert.specs.Certificates.{PlainCertificate, plain_box_line, plain_cell_line}
@@ -28,7 +28,7 @@ pub block_lines-requires-clause-exist : goal.block_lines-requires-clause-exist
 block_lines-requires-clause-exist c =
     let problem = c.args.problem.now in
     let case = plain_problem problem in
-    pairs_of_objects (length case.ephemerides) (length problem.tracks) (is_kept case) c.args.kept.now c.requires.kept (length-map problem.tracks plain_track)
+    pairs_of_objects (length case.tracks) (length problem.tracks) (is_kept case) c.args.kept.now c.requires.kept (length-map problem.tracks plain_track)
 
 pub block_lines-requires-clause-all : goal.block_lines-requires-clause-all
 block_lines-requires-clause-all c =

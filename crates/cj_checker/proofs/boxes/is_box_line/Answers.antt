@@ -24,7 +24,7 @@ returns-clause-value c =
     let both = and_parts (line.object == place.object) (line.first == place.slot) (sym c.begins_at.ensures ∙ c.if-not-begins_at.false) in
     let object = eqb-true line.object place.object both.0 in
     let first = eqb-true line.first place.slot both.1 in
-    let here : slice_get case.ephemerides line.object ≡ slice_get case.ephemerides place.object = λ j. slice_get case.ephemerides (object j) in
+    let here : slice_get case.tracks line.object ≡ slice_get case.tracks place.object = λ j. slice_get case.tracks (object j) in
     let are : places_from case place.object place.slot ≡ places_from case line.object line.first = λ j. places_from case (sym object j) (sym first j) in
     c.holds_hulls.ensures.value ∙ line_test case (places_from case place.object place.slot) line e (here ∙ c.requires.object) are
 
@@ -37,7 +37,7 @@ returns-clause-behind c holds =
     let both = and_parts (line.object == place.object) (line.first == place.slot) (sym c.begins_at.ensures ∙ c.if-not-begins_at.false) in
     let object = eqb-true line.object place.object both.0 in
     let first = eqb-true line.first place.slot both.1 in
-    let here : slice_get case.ephemerides line.object ≡ slice_get case.ephemerides place.object = λ j. slice_get case.ephemerides (object j) in
+    let here : slice_get case.tracks line.object ≡ slice_get case.tracks place.object = λ j. slice_get case.tracks (object j) in
     let are : places_from case place.object place.slot ≡ places_from case line.object line.first = λ j. places_from case (sym object j) (sym first j) in
     let own : places_from case line.object (line.last + 1) ≡ places_from case place.object (line.last + 1) = λ j. places_from case (object j) (line.last + 1) in
     behind_line case (places_from case place.object place.slot) line e (here ∙ c.requires.object) are (sym c.holds_hulls.ensures.value ∙ holds) ∙ own

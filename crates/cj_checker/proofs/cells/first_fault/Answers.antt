@@ -6,7 +6,7 @@ use Rattle.cj_hermite.specs.Roots.{PlainCell}
 use Rattle.cj_hermite.specs.Slots.{slot_count}
 use Rattle.cj_cert.specs.declared.cert_lines.CellLine.{CellLine}
 use Rattle.cj_cert.specs.Certificates.{plain_cell_line, plain_certificate}
-use Rattle.cj_cert.specs.Listed.{is_looked_listed}
+use Rattle.cj_cert.specs.Listed.{is_candidate_listed}
 use Rattle.cj_checker.specs.declared.keys.Key.{Key}
 use Rattle.cj_checker.specs.First.{cell_failure, cells_from, first_cell_line}
 use Rattle.cj_checker.specs.Keys.{PlainKey, plain_key, keys_in_rows, roots_of_keys, roots_in_rows, AreKeysIn}
@@ -25,7 +25,7 @@ loop-first-init c =
     record {
       within = omega arith;
       place = omega arith;
-      rest = λ i. cells_from case (zero i) (roots_are (is_looked_listed case cert) case i) (map plain_cell_line c.args.cert.now.cells.items);
+      rest = λ i. cells_from case (zero i) (roots_are (is_candidate_listed case cert) case i) (map plain_cell_line c.args.cert.now.cells.items);
     }
 
 pub tile_keys-requires-clause-ordered : goal.tile_keys-requires-clause-ordered
@@ -33,9 +33,9 @@ tile_keys-requires-clause-ordered c =
     let case = plain_problem c.args.problem.now in
     let count = length-map c.args.problem.now.tracks plain_track in
     let round = c.in_ok-round.ensures in
-    let are = keys_are (is_looked_listed case (plain_certificate c.args.cert.now)) case c.loop-first.first c.in_ok-round.round.end c.in_ok-round.round.keys.items
+    let are = keys_are (is_candidate_listed case (plain_certificate c.args.cert.now)) case c.loop-first.first c.in_ok-round.round.end c.in_ok-round.round.keys.items
     (let some = round.some in omega arith) (let within = round.within in omega arith) round.keys in
-    let now = subst (λ (ks : List Key). AreKeysIn (is_looked_listed case (plain_certificate c.args.cert.now)) c.loop-first.first c.in_ok-round.round.end (length case.ephemerides) (slot_count case.first case.last) ks)
+    let now = subst (λ (ks : List Key). AreKeysIn (is_candidate_listed case (plain_certificate c.args.cert.now)) c.loop-first.first c.in_ok-round.round.end (length case.tracks) (slot_count case.first case.last) ks)
     (sym c.deref.ensures.value) are in
     λ k d lt. (now k d lt).ordered
 
@@ -44,9 +44,9 @@ tile_keys-requires-clause-exist c =
     let case = plain_problem c.args.problem.now in
     let count = length-map c.args.problem.now.tracks plain_track in
     let round = c.in_ok-round.ensures in
-    let are = keys_are (is_looked_listed case (plain_certificate c.args.cert.now)) case c.loop-first.first c.in_ok-round.round.end c.in_ok-round.round.keys.items
+    let are = keys_are (is_candidate_listed case (plain_certificate c.args.cert.now)) case c.loop-first.first c.in_ok-round.round.end c.in_ok-round.round.keys.items
     (let some = round.some in omega arith) (let within = round.within in omega arith) round.keys in
-    let now = subst (λ (ks : List Key). AreKeysIn (is_looked_listed case (plain_certificate c.args.cert.now)) c.loop-first.first c.in_ok-round.round.end (length case.ephemerides) (slot_count case.first case.last) ks)
+    let now = subst (λ (ks : List Key). AreKeysIn (is_candidate_listed case (plain_certificate c.args.cert.now)) c.loop-first.first c.in_ok-round.round.end (length case.tracks) (slot_count case.first case.last) ks)
     (sym c.deref.ensures.value) are in
     λ k d lt. let exists = (now k d lt).exists in omega (arith, exists, count)
 
@@ -54,24 +54,24 @@ tile_keys-requires-clause-exist c =
 step : (c : After-tile_keys) → let case = plain_problem c.args.problem.now in
     let cert = plain_certificate c.args.cert.now in
     cell_failure case cert
-    ≡ goes_on case (first_cell_line cert) (roots_in_rows (is_looked_listed case cert) case c.in_ok-round.round.end (length case.ephemerides)) (map plain_cell_line c.args.cert.now.cells.items) c.tile_keys.result
+    ≡ goes_on case (first_cell_line cert) (roots_in_rows (is_candidate_listed case cert) case c.in_ok-round.round.end (length case.tracks)) (map plain_cell_line c.args.cert.now.cells.items) c.tile_keys.result
 step c =
     let case = plain_problem c.args.problem.now in
     let cert = plain_certificate c.args.cert.now in
-    let looked = is_looked_listed case cert in
+    let candidate = is_candidate_listed case cert in
     let count = length-map c.args.problem.now.tracks plain_track in
     let round = c.in_ok-round.ensures in
     let first = c.loop-first.first in
     let end = c.in_ok-round.round.end in
-    let left = roots_in_rows looked case end (length case.ephemerides) in
+    let left = roots_in_rows candidate case end (length case.tracks) in
     let line = first_cell_line cert in
     let cells = map plain_cell_line c.args.cert.now.cells.items in
-    let keys : map plain_key c.deref.result.now ≡ keys_in_rows looked case first end = ap (map plain_key) c.deref.ensures.value ∙ round.keys in
+    let keys : map plain_key c.deref.result.now ≡ keys_in_rows candidate case first end = ap (map plain_key) c.deref.ensures.value ∙ round.keys in
     let tiles = subst (λ (cs : List CellLine). cells_from case (line + c.loop-first.at) (roots_of_keys case (map plain_key c.deref.result.now) ++ left) (drop c.loop-first.at (map plain_cell_line cs))
     ≡ goes_on case line left (map plain_cell_line cs) c.tile_keys.result) c.deref-in-loop-first.ensures.value (c.tile_keys.ensures.tiles line left) in
     c.loop-first.invariant.rest
     ∙ ap (λ (rs : List PlainCell). cells_from case (line + c.loop-first.at) rs (drop c.loop-first.at cells))
-    (roots_apart looked case first end (let some = round.some in omega arith) (let within = round.within in omega arith)
+    (roots_apart candidate case first end (let some = round.some in omega arith) (let within = round.within in omega arith)
     ∙ ap (λ (ks : List PlainKey). roots_of_keys case ks ++ left) (sym keys))
     ∙ tiles
 
@@ -81,7 +81,7 @@ returns-in-Err c =
     let cert = plain_certificate c.args.cert.now in
     c.failure_at.ensures
     ∙ sym (step (goal.at.returns-in-Err c).After-tile_keys
-    ∙ ap (goes_on case (first_cell_line cert) (roots_in_rows (is_looked_listed case cert) case c.in_ok-round.round.end (length case.ephemerides)) (map plain_cell_line c.args.cert.now.cells.items)) c.in-Err.is)
+    ∙ ap (goes_on case (first_cell_line cert) (roots_in_rows (is_candidate_listed case cert) case c.in_ok-round.round.end (length case.tracks)) (map plain_cell_line c.args.cert.now.cells.items)) c.in-Err.is)
 
 pub loop-first-preserved : goal.loop-first-preserved
 loop-first-preserved c =
@@ -91,7 +91,7 @@ loop-first-preserved c =
       within = c.in_ok-round.ensures.within;
       place = subst (λ (cs : List CellLine). c.in-Ok.next ≤ length cs) c.deref-in-loop-first.ensures.value c.in-Ok.ensures.ok;
       rest = step (goal.at.loop-first-preserved c).After-tile_keys
-          ∙ ap (goes_on case (first_cell_line cert) (roots_in_rows (is_looked_listed case cert) case c.in_ok-round.round.end (length case.ephemerides)) (map plain_cell_line c.args.cert.now.cells.items)) c.in-Ok.is;
+          ∙ ap (goes_on case (first_cell_line cert) (roots_in_rows (is_candidate_listed case cert) case c.in_ok-round.round.end (length case.tracks)) (map plain_cell_line c.args.cert.now.cells.items)) c.in-Ok.is;
     }
 
 pub returns-then-at-len : goal.returns-then-at-len
@@ -104,7 +104,7 @@ returns-then-at-len c =
     c.failure_at-then-at-len.ensures
     ∙ sym (c.loop-first.invariant.rest
     ∙ ap (λ (rs : List PlainCell). cells_from case line rs (drop c.loop-first.at (map plain_cell_line c.args.cert.now.cells.items)))
-    (roots_none_left (is_looked_listed case cert) case c.loop-first.first (omega arith))
+    (roots_none_left (is_candidate_listed case cert) case c.loop-first.first (omega arith))
     ∙ left_over case line c.args.cert.now.cells.items c.loop-first.at (omega (arith, c.args.cert.now.cells.ok.0)))
 
 pub returns : goal.returns
@@ -116,6 +116,6 @@ returns c =
     let line = first_cell_line cert + c.loop-first.at in
     sym (c.loop-first.invariant.rest
     ∙ ap (λ (rs : List PlainCell). cells_from case line rs (drop c.loop-first.at (map plain_cell_line c.args.cert.now.cells.items)))
-    (roots_none_left (is_looked_listed case cert) case c.loop-first.first (omega arith))
+    (roots_none_left (is_candidate_listed case cert) case c.loop-first.first (omega arith))
     ∙ ap (cells_from case line []) (drop_past plain_cell_line c.args.cert.now.cells.items c.loop-first.at (omega (arith, c.args.cert.now.cells.ok.0)))
     ∙ cells_done case line)

@@ -1,7 +1,7 @@
 use Rattle.std.proofs.Common.{◌≡◌, ◌+◌, ◌-◌, ◌≤◌, drop, length, map}
 use Rattle.cj_hermite.specs.Problems.{plain_problem}
 use Rattle.cj_cert.specs.Certificates.{plain_cell_line, plain_certificate}
-use Rattle.cj_cert.specs.Listed.{is_looked_listed}
+use Rattle.cj_cert.specs.Listed.{is_candidate_listed}
 use Rattle.cj_checker.specs.First.{cell_failure, cells_from, first_cell_line}
 use Rattle.cj_checker.specs.Keys.{roots_in_rows}
 use Rattle.cj_checker.proofs.cells.first_fault.Given as goal
@@ -14,7 +14,7 @@ invariant-loop-first l =
     record {
       within : l.first ≤ length l.problem.tracks;
       place : l.at ≤ length l.cert.cells.items;
-      rest : cell_failure case c ≡ cells_from case (first_cell_line c + l.at) (roots_in_rows (is_looked_listed case c) case l.first (length case.ephemerides)) (drop l.at (map plain_cell_line l.cert.cells.items));
+      rest : cell_failure case c ≡ cells_from case (first_cell_line c + l.at) (roots_in_rows (is_candidate_listed case c) case l.first (length case.tracks)) (drop l.at (map plain_cell_line l.cert.cells.items));
     }
 
 abbrev pub decreases-loop-first : goal.decreases-loop-first

@@ -5,9 +5,9 @@ use Rattle.cj_checker.proofs.RoundLemmas.{keys_before, key_before}
 use Rattle.cj_checker.proofs.enough.leave_enough.Goals as goal
 
 pub returns-clause-keys : goal.returns-clause-keys
-returns-clause-keys c looked objects slots are =
-    subst (AreKeysIn looked c.args.first c.end_of_enough-row.result objects slots) (sym c.leave_before.ensures)
-    (keys_before looked c.args.first c.args.end c.end_of_enough-row.result objects slots c.args.keys.now.items are)
+returns-clause-keys c candidate objects slots are =
+    subst (AreKeysIn candidate c.args.first c.end_of_enough-row.result objects slots) (sym c.leave_before.ensures)
+    (keys_before candidate c.args.first c.args.end c.end_of_enough-row.result objects slots c.args.keys.now.items are)
 
 pub returns-clause-kept : goal.returns-clause-kept
 returns-clause-kept c a b slot before has =

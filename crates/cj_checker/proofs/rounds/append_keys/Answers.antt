@@ -16,11 +16,11 @@ loop-pair-preserved c =
     let slot = c.args.slot in
     let lt : at < length pairs = omega arith in
     record {
-      keys = λ looked objects slots below exist all old.
-          told.keys looked objects slots below
+      keys = λ candidate objects slots below exist all old.
+          told.keys candidate objects slots below
           (subst (λ (p : Pair). p.b < objects) (sym c.pair-item.is) (exist at pair lt))
-          (subst (λ (p : Pair). looked p.a p.b slot ≡ true) (sym c.pair-item.is) (all at pair lt))
-          (i.keys looked objects slots below exist all old);
+          (subst (λ (p : Pair). candidate p.a p.b slot ≡ true) (sym c.pair-item.is) (all at pair lt))
+          (i.keys candidate objects slots below exist all old);
       kept = λ a b s has. told.kept a b s (i.kept a b s has);
       found = below_more (λ k. (a b : ℕ) → get_or (map objects_of pairs) k (a, b) ≡ (a, b) → c.args.first ≤ a → a < c.args.end → HasKey c.append_key.new.keys.items a b slot) at
           (λ k before a b is low high. told.kept a b slot (i.found k before a b is low high))
@@ -33,7 +33,7 @@ loop-pair-preserved c =
 
 pub loop-pair-init : goal.loop-pair-init
 loop-pair-init c = record {
-  keys = λ looked objects slots below exist all old. old;
+  keys = λ candidate objects slots below exist all old. old;
   kept = λ a b slot has. has;
   found = λ k lt. absurd (omega arith);
 }

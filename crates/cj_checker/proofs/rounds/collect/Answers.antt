@@ -5,7 +5,7 @@ use Rattle.cj_hermite.specs.declared.pair.Pair.{Pair}
 use Rattle.cj_hermite.specs.Problems.{plain_problem}
 use Rattle.cj_hermite.specs.Slots.{slot_count}
 use Rattle.cj_cert.specs.Certificates.{plain_certificate}
-use Rattle.cj_cert.specs.Listed.{is_looked_listed}
+use Rattle.cj_cert.specs.Listed.{is_candidate_listed}
 use Rattle.cj_hermite.specs.Pairs.{HasPair}
 use Rattle.cj_checker.specs.Keys.{AreKeysIn, HasKey, IsKeyIn}
 use Rattle.cj_checker.proofs.RoundLemmas.{wider_rows}
@@ -25,34 +25,34 @@ loop-slot-preserved c =
     let told = c.in_ok-append_keys.ensures in
     let found = c.in_ok-find_pairs.ensures in
     let case = plain_problem c.args.problem.now in
-    let looked = is_looked_listed case (plain_certificate c.args.cert.now) in
+    let candidate = is_candidate_listed case (plain_certificate c.args.cert.now) in
     let slots = slot_count case.first case.last in
     let n = length c.args.problem.now.tracks in
     let left = c.leave_enough-end.ensures in
-    let wider : (k a b : ℕ) → IsKeyIn looked c.args.first c.leave_enough-end.result n slots (record { a = a; b = b; slot = k })
-    → IsKeyIn looked c.args.first c.loop-slot.end n slots (record { a = a; b = b; slot = k }) = wider_rows looked c.args.first c.leave_enough-end.result c.loop-slot.end n slots left.within in
+    let wider : (k a b : ℕ) → IsKeyIn candidate c.args.first c.leave_enough-end.result n slots (record { a = a; b = b; slot = k })
+    → IsKeyIn candidate c.args.first c.loop-slot.end n slots (record { a = a; b = b; slot = k }) = wider_rows candidate c.args.first c.leave_enough-end.result c.loop-slot.end n slots left.within in
     record {
       some = left.some;
       within = let within = left.within in let old = i.within in omega arith;
-      keys = left.keys looked n slots (told.keys looked n slots (omega arith)
+      keys = left.keys candidate n slots (told.keys candidate n slots (omega arith)
           (subst (λ (ps : List Pair). All (λ pair. pair.b < n) ps) (sym c.deref.ensures.value) found.exist)
-          (subst (λ (ps : List Pair). All (λ pair. looked pair.a pair.b slot ≡ true) ps) (sym c.deref.ensures.value) found.looked)
+          (subst (λ (ps : List Pair). All (λ pair. candidate pair.a pair.b slot ≡ true) ps) (sym c.deref.ensures.value) found.candidate)
           i.keys);
-      found = below_more (λ k. (a b : ℕ) → IsKeyIn looked c.args.first c.leave_enough-end.result n slots (record { a = a; b = b; slot = k }) → HasKey c.leave_enough-end.new.keys.items a b k) slot
+      found = below_more (λ k. (a b : ℕ) → IsKeyIn candidate c.args.first c.leave_enough-end.result n slots (record { a = a; b = b; slot = k }) → HasKey c.leave_enough-end.new.keys.items a b k) slot
           (λ k lt a b is. left.kept a b k is.to (told.kept a b k (i.found k lt a b (wider k a b is))))
           (λ a b is.
           let to = (wider slot a b is).to in
           left.kept a b slot is.to
-          (told.found a b (subst (λ (ps : List Pair). HasPair ps a b) (sym c.deref.ensures.value) (found.found a b is.from to is.ordered is.looked_at)) is.from to));
+          (told.found a b (subst (λ (ps : List Pair). HasPair ps a b) (sym c.deref.ensures.value) (found.found a b is.from to is.ordered is.candidates_at)) is.from to));
     }
 
 pub loop-slot-init : goal.loop-slot-init
 loop-slot-init c =
     let case = plain_problem c.args.problem.now in
-    let looked = is_looked_listed case (plain_certificate c.args.cert.now) in
+    let candidate = is_candidate_listed case (plain_certificate c.args.cert.now) in
     let n = length c.args.problem.now.tracks in
     let all = ap length c.as_slice.ensures.value in
-    let are_keys = AreKeysIn looked c.args.first (length c.as_slice.result.now) n (slot_count case.first case.last) in
+    let are_keys = AreKeysIn candidate c.args.first (length c.as_slice.result.now) n (slot_count case.first case.last) in
     record {
       some = omega arith;
       within = omega arith;

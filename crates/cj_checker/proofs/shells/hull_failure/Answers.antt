@@ -33,7 +33,7 @@ returns-in_default c =
     c.failed.ensures
     ∙ (ap (λ (n : ℕ). failed n ShellOf) at
     ∙ ap (λ (o : Option Failure). option_or o boxes) (sym (c.loop-line.invariant.shells
-    ∙ unfit_now (is_shell_line case.first case.last) ShellOf first (enumerate_from 0 case.ephemerides) lines object line is c.in_default.ensures.none)))
+    ∙ unfit_now (is_shell_line case.first case.last) ShellOf first (enumerate_from 0 case.tracks) lines object line is c.in_default.ensures.none)))
 
 pub loop-line-preserved : goal.loop-line-preserved
 loop-line-preserved c =
@@ -49,7 +49,7 @@ loop-line-preserved c =
       place = omega (arith, c.loop-line.invariant.place);
       passed = omega (arith, c.in-Some.ensures.place, ap (λ (bs : List BoxLine). length bs) c.deref.ensures.value);
       shells = c.loop-line.invariant.shells
-          ∙ unfit_more (is_shell_line case.first case.last) ShellOf first (enumerate_from 0 case.ephemerides) lines object line is c.in-Some.ensures.some;
+          ∙ unfit_more (is_shell_line case.first case.last) ShellOf first (enumerate_from 0 case.tracks) lines object line is c.in-Some.ensures.some;
       boxes = c.loop-line.invariant.boxes
           ∙ subst (λ (bs : List BoxLine). IsReadOn case object (map plain_box_line bs) c.loop-line.read c.in-Some.more) c.deref.ensures.value c.in-Some.ensures.on (first_box_line cert);
     }
@@ -64,12 +64,12 @@ returns-then-object-as_slice c =
     let at : 5 + c.len.result + object ≡ first + object = omega (arith, c.len.ensures) in
     let past = (λ j. slice_get (sym c.deref-line-items.ensures.value j) object) ∙ slice_get_past c.deref-line-items.result.now object (omega (arith, c.loop-line.invariant.place, c.loop-line-test.false)) in
     let tracks = ap (λ (ts : List Track). length ts) c.as_slice.ensures.value in
-    let count = length-enumerate_from 0 case.ephemerides in
+    let count = length-enumerate_from 0 case.tracks in
     let objects = length-map c.args.problem.now.tracks plain_track in
     c.failed-then-object-as_slice.ensures
     ∙ (ap (λ (n : ℕ). failed n ShellOf) at
     ∙ ap (λ (o : Option Failure). option_or o boxes) (sym (c.loop-line.invariant.shells
-    ∙ unfit_short (is_shell_line case.first case.last) ShellOf first (enumerate_from 0 case.ephemerides) lines object past (omega (arith, tracks, count, objects, c.if-object-as_slice.true)))))
+    ∙ unfit_short (is_shell_line case.first case.last) ShellOf first (enumerate_from 0 case.tracks) lines object past (omega (arith, tracks, count, objects, c.if-object-as_slice.true)))))
 
 pub returns : goal.returns
 returns c =
@@ -81,8 +81,8 @@ returns c =
     let past = (λ j. slice_get (sym c.deref-line-items.ensures.value j) object) ∙ slice_get_past c.deref-line-items.result.now object (omega (arith, c.loop-line.invariant.place, c.loop-line-test.false)) in
     let count = ap length c.deref-line-items.ensures.value in
     let none = read_past plain_track c.args.problem.now.tracks c.as_slice.result.now object c.as_slice.ensures.value c.if-object-as_slice.false in
-    let unnumbered_too = unnumbered 0 case.ephemerides object none in
-    let shells = c.loop-line.invariant.shells ∙ unfit_done (is_shell_line case.first case.last) ShellOf first (enumerate_from 0 case.ephemerides) lines object past unnumbered_too in
+    let unnumbered_too = unnumbered 0 case.tracks object none in
+    let shells = c.loop-line.invariant.shells ∙ unfit_done (is_shell_line case.first case.last) ShellOf first (enumerate_from 0 case.tracks) lines object past unnumbered_too in
     let at : 5 + c.len.result + object ≡ first_box_line cert = omega (arith, c.len.ensures, c.loop-line.invariant.place, c.loop-line-test.false, count) in
     let items = c.deref-2.ensures.value in
     let places = no_place case object 0 none in

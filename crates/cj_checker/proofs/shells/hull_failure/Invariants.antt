@@ -17,7 +17,7 @@ invariant-loop-line l =
     let cert = plain_certificate l.cert in
     let fits = is_shell_line case.first case.last in
     let line = first_line + length l.cert.sizes.items in
-    let objects = enumerate_from 0 case.ephemerides in
+    let objects = enumerate_from 0 case.tracks in
     let boxes = map plain_box_line l.cert.boxes.items in
     record {
       place : l.object ≡ l.line-index;

@@ -6,8 +6,8 @@ use Rattle.cj_bezier.specs.SlotBoxes.{plain_boxes}
 use Rattle.cj_cert.specs.declared.cert_lines.ShellLine.{ShellLine}
 use Rattle.cj_checker.specs.declared.reach.Reach.{Reach}
 use Rattle.cj_hermite.specs.Pairs.{AreBoth, ArePairsKept, HasPair}
-use Rattle.cj_checker.specs.Keys.{looked_with}
-use Rattle.cj_checker.specs.Sweeps.{AreLooked}
+use Rattle.cj_checker.specs.Keys.{candidate_with}
+use Rattle.cj_checker.specs.Sweeps.{AreCandidates}
 use Rattle.cj_checker.proofs.sweep.append_met.Given as goal
 
 abbrev pub invariant-loop-reach : goal.invariant-loop-reach
@@ -16,8 +16,8 @@ invariant-loop-reach l =
     let shells = map (λ (line : ShellLine). line.shell) l.shells in
     let areas = plain_boxes l.boxes in
     record {
-      looked : AreLooked case shells areas l.initial.pairs.items → AreLooked case shells areas l.pairs.items;
+      candidate : AreCandidates case shells areas l.initial.pairs.items → AreCandidates case shells areas l.pairs.items;
       kept : ArePairsKept l.initial.pairs.items l.pairs.items;
       found : (k : ℕ) → k < l.reach-index → (r s : Reach) → get_or l.some k r ≡ r → Contains l.others s → r.low ≤ℤ s.low → s.low ≤ℤ r.high
-          → (a b : ℕ) → a < b → AreBoth r.object s.object a b → looked_with case shells areas (a, b) ≡ true → HasPair l.pairs.items a b;
+          → (a b : ℕ) → a < b → AreBoth r.object s.object a b → candidate_with case shells areas (a, b) ≡ true → HasPair l.pairs.items a b;
     }

@@ -4,8 +4,8 @@ use Rattle.cj_bezier.specs.SlotBoxes.{plain_boxes}
 use Rattle.cj_cert.specs.declared.cert_lines.ShellLine.{ShellLine}
 use Rattle.cj_checker.specs.declared.reach.Reach.{Reach}
 use Rattle.cj_hermite.specs.Pairs.{AreBoth, ArePairsKept, HasPair}
-use Rattle.cj_checker.specs.Keys.{looked_with}
-use Rattle.cj_checker.specs.Sweeps.{AreLooked}
+use Rattle.cj_checker.specs.Keys.{candidate_with}
+use Rattle.cj_checker.specs.Sweeps.{AreCandidates}
 use Rattle.cj_checker.proofs.sweep.append_row.Given as goal
 
 abbrev pub invariant-loop-other : goal.invariant-loop-other
@@ -14,8 +14,8 @@ invariant-loop-other l =
     let shells = map (λ (line : ShellLine). line.shell) l.shells in
     let areas = plain_boxes l.boxes in
     record {
-      looked : AreLooked case shells areas l.initial.pairs.items → AreLooked case shells areas l.pairs.items;
+      candidate : AreCandidates case shells areas l.initial.pairs.items → AreCandidates case shells areas l.pairs.items;
       kept : ArePairsKept l.initial.pairs.items l.pairs.items;
       found : (k : ℕ) → k < l.other-index → (reach : Reach) → get_or l.others k reach ≡ reach → (a b : ℕ) → a < b → AreBoth l.one reach.object a b
-          → looked_with case shells areas (a, b) ≡ true → HasPair l.pairs.items a b;
+          → candidate_with case shells areas (a, b) ≡ true → HasPair l.pairs.items a b;
     }

@@ -46,8 +46,8 @@ returns-clause-later c m number le at =
     let begins = begins_in (plain_track c.args.track.now) c.in_ok-first.found.index range c.in_ok-ticks.ticks run in
     c.in_ok-first.ensures.later m number (omega (arith, le, begins, run.some)) at
 
-pub returns-clause-states : goal.returns-clause-states
-returns-clause-states c = c.found_piece.ensures.states
+pub returns-clause-nodes : goal.returns-clause-nodes
+returns-clause-nodes c = c.found_piece.ensures.nodes
 
 pub returns-clause-curve : goal.returns-clause-curve
 returns-clause-curve c = c.found_piece.ensures.curve
@@ -57,7 +57,7 @@ returns-clause-curve c = c.found_piece.ensures.curve
 pub returns-in_err-first : goal.returns-in_err-first
 returns-in_err-first c =
     rw c.from_residual.ensures
-    (record { run = λ m low high. c.in_err-first.ensures.state m low; after = tt; ended = tt; number = tt; later = tt; states = tt; curve = tt; piece = tt })
+    (record { run = λ m low high. c.in_err-first.ensures.state m low; after = tt; ended = tt; number = tt; later = tt; nodes = tt; curve = tt; piece = tt })
 
 pub returns-then-last-first-clause-run : goal.returns-then-last-first-clause-run
 returns-then-last-first-clause-run c m low high = c.in_ok-first.ensures.state.none m low (omega (arith, high, c.if-last-first.true))
@@ -74,8 +74,8 @@ returns-in_err-ticks-clause-number c = rw c.from_residual-in_err-ticks.ensures t
 pub returns-in_err-ticks-clause-later : goal.returns-in_err-ticks-clause-later
 returns-in_err-ticks-clause-later c = rw c.from_residual-in_err-ticks.ensures tt
 
-pub returns-in_err-ticks-clause-states : goal.returns-in_err-ticks-clause-states
-returns-in_err-ticks-clause-states c = rw c.from_residual-in_err-ticks.ensures tt
+pub returns-in_err-ticks-clause-nodes : goal.returns-in_err-ticks-clause-nodes
+returns-in_err-ticks-clause-nodes c = rw c.from_residual-in_err-ticks.ensures tt
 
 pub returns-in_err-ticks-clause-curve : goal.returns-in_err-ticks-clause-curve
 returns-in_err-ticks-clause-curve c = rw c.from_residual-in_err-ticks.ensures tt

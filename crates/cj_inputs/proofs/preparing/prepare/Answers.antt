@@ -4,7 +4,7 @@ use Rattle.cj_hermite.specs.Problems.{plain_problem}
 use Rattle.cj_io.specs.Faults.{Rose}
 use Rattle.cj_io.specs.declared.folder.FolderError.TheVariants.{Failed}
 use Rattle.cj_io.proofs.FileLemmas.{rose_since}
-use Rattle.cj_words.specs.Settings.{asked_of}
+use Rattle.cj_words.specs.Settings.{plain_settings}
 use Rattle.cj_inputs.specs.Cases.{case_asked}
 use Rattle.cj_inputs.proofs.StepLemmas.{folder_between, folder_stops, gives_wider, listing_failed}
 use Rattle.cj_inputs.proofs.preparing.prepare.Goals as goal
@@ -35,7 +35,7 @@ returns g c =
       read = λ is. since (c.prepare_listed.ensures.read is);
       told = λ files told.
           let known = c.deref.ensures.value ∙ c.in_ok-names.ensures.told files told in
-          gives_wider (Rose before now) (Rose first now) plain_problem c.prepare_listed.result (case_asked files (asked_of c.args.settings.now)) since
+          gives_wider (Rose before now) (Rose first now) plain_problem c.prepare_listed.result (case_asked files (plain_settings c.args.settings.now)) since
           (c.prepare_listed.ensures.told files (c.names.ensures.files ∙ told) known);
       files = c.prepare_listed.ensures.files ∙ c.names.ensures.files;
       later = omega (arith, c.prepare_listed.ensures.later, c.names.ensures.later);

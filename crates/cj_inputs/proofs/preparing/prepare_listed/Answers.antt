@@ -8,7 +8,7 @@ use Rattle.cj_sizes.specs.declared.size_line.SizeLine.{SizeLine}
 use Rattle.cj_track.specs.PlainTracks.{PlainTrack}
 use Rattle.cj_track.specs.Tracks.{plain_track}
 use Rattle.cj_track.specs.declared.track.Track.{Track}
-use Rattle.cj_words.specs.Settings.{asked_of}
+use Rattle.cj_words.specs.Settings.{plain_settings}
 use Rattle.cj_hermite.specs.Problems.{plain_problem}
 use Rattle.cj_status.specs.Steps.{Gives}
 use Rattle.cj_inputs.specs.Cases.{case_asked, case_of_run, within_limits, within_objects}
@@ -43,7 +43,7 @@ problem_of-requires-clause-few g c = omega (arith, c.in_ok-tracks.ensures.many, 
 
 pub returns-in_err-entries : goal.returns-in_err-entries
 returns-in_err-entries g c =
-    let asked = asked_of c.args.settings.now in
+    let asked = plain_settings c.args.settings.now in
     let names = c.args.names.now in
     let s = c.in_err-entries.field-0.0 in
     let due = within_objects asked.limits.objects (inputs_of asked.suffix asked.sizes names) in
@@ -60,7 +60,7 @@ returns-in_err-entries g c =
 
 pub returns-in_err-tracks : goal.returns-in_err-tracks
 returns-in_err-tracks g c =
-    let asked = asked_of c.args.settings.now in
+    let asked = plain_settings c.args.settings.now in
     let entries = c.in_ok-entries.entries.items in
     let rose = Rose (g.F.Folder.faults c.args.folder.now) (g.F.Folder.faults c.read_tracks.new.folder) in
     let why = c.in_err-tracks.field-0.0 in
@@ -81,7 +81,7 @@ returns-in_err-tracks g c =
 
 pub returns-in_err-lines : goal.returns-in_err-lines
 returns-in_err-lines g c =
-    let asked = asked_of c.args.settings.now in
+    let asked = plain_settings c.args.settings.now in
     let entries = c.in_ok-entries.entries.items in
     let es = tracks_of c.in_ok-tracks.tracks in
     let first = g.F.Folder.faults c.args.folder.now in
@@ -106,7 +106,7 @@ returns-in_err-lines g c =
 
 pub returns : goal.returns
 returns g c =
-    let asked = asked_of c.args.settings.now in
+    let asked = plain_settings c.args.settings.now in
     let entries = c.in_ok-entries.entries.items in
     let es = tracks_of c.in_ok-tracks.tracks in
     let sizes = lines_of c.in_ok-lines.lines in

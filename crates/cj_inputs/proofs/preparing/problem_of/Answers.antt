@@ -3,7 +3,7 @@ use Rattle.std.proofs.lemmas.Result.{err_from_is_err_and}
 use Rattle.cj_sizes.specs.Sizes.{sizes_of}
 use Rattle.cj_track.specs.Tracks.{plain_track}
 use Rattle.cj_track.specs.declared.track.Track.{Track}
-use Rattle.cj_words.specs.Settings.{asked_of}
+use Rattle.cj_words.specs.Settings.{plain_settings}
 use Rattle.cj_inputs.specs.ObjectSizes.{object_sizes}
 use Rattle.cj_inputs.specs.Windows.{window_first, window_last}
 use Rattle.cj_inputs.proofs.StepLemmas.{case_made}
@@ -16,7 +16,7 @@ returns-in_err-sizes c =
 
 pub returns-clause-told : goal.returns-clause-told
 returns-clause-told c =
-    let asked = asked_of c.args.settings.now in
+    let asked = plain_settings c.args.settings.now in
     let window = c.window_of-window in
     let made = case_made asked (map plain_track c.args.tracks.items) (sizes_of c.args.lines.now)
     window.result.first.micros window.result.last.micros c.in_ok-sizes.sizes

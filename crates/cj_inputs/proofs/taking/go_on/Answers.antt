@@ -1,7 +1,7 @@
 use Rattle.std.proofs.Common.{◌∙◌, ◌+◌, ◌-◌, ◌<◌, List, Result, Some, ap, refl, map, take, drop, length, subst, arith}
 use Rattle.std.proofs.lemmas.List.Elements.{All-drop, All-take}
 use Rattle.cj_track.specs.Tracks.{plain_track}
-use Rattle.cj_words.specs.Settings.{Asked, asked_of}
+use Rattle.cj_words.specs.Settings.{PlainSettings, plain_settings}
 use Rattle.cj_inputs.specs.declared.batch.FileRead.{FileRead}
 use Rattle.cj_inputs.specs.declared.input_files.Entry.{Entry}
 use Rattle.cj_inputs.specs.declared.progress.Progress.{Progress}
@@ -13,7 +13,7 @@ use Rattle.cj_inputs.proofs.BatchLemmas.{all_left, batch_goes_on, batch_stops, m
 use Rattle.cj_inputs.proofs.taking.go_on.Goals as goal
 
 -- this comes of these files that were read
-abbrev Takes : Asked → Progress → Result Progress InputError → List FileRead → Type 0
+abbrev Takes : PlainSettings → Progress → Result Progress InputError → List FileRead → Type 0
 Takes settings progress r read =
     Reads ⊥ (λ (next : Progress). map plain_track next.taken.tracks.items) r (tracks_after settings.limits.nodes (map plain_track progress.taken.tracks.items) (map (said_by settings.as_hermite3) read))
 
@@ -26,7 +26,7 @@ returns-in-Some g c = record {
       let first = subst (λ (read : List FileRead). IsFirstCause c.args.settings.now.limits.nodes c.in-Some.why (map plain_track progress.taken.tracks.items) (map (said_by c.args.settings.now.as_hermite3) read)
       c.first_cause.result)
       c.deref.ensures.value c.first_cause.ensures.told in
-      batch_stops (asked_of c.args.settings.now) files c.args.entries.now progress c.in-Some.why c.first_cause.result way c.in-Some.is first;
+      batch_stops (plain_settings c.args.settings.now) files c.args.entries.now progress c.in-Some.why c.first_cause.result way c.in-Some.is first;
   more = tt;
   fits = tt;
   count = refl;
@@ -36,7 +36,7 @@ returns-in-Some g c = record {
 
 pub returns-clause-stopped : goal.returns-clause-stopped
 returns-clause-stopped g c = λ is.
-    absurd (subst (λ (r : Result Progress InputError). Takes (asked_of c.args.settings.now) c.args.progress r c.args.progress.batch.files.items) is c.take_and_read.ensures.taken)
+    absurd (subst (λ (r : Result Progress InputError). Takes (plain_settings c.args.settings.now) c.args.progress r c.args.progress.batch.files.items) is c.take_and_read.ensures.taken)
 
 pub returns-clause-fault : goal.returns-clause-fault
 returns-clause-fault g c = c.take_and_read.ensures.fault
@@ -63,7 +63,7 @@ returns-clause-told g c = λ files told way.
     let k = c.len.result + c.len-2.result in
     let progress = c.args.progress in
     let taken = c.take_and_read.ensures.taken in
-    batch_goes_on (asked_of c.args.settings.now) files entries (take (length entries - k) (drop k entries)) progress c.take_and_read.result way taken
+    batch_goes_on (plain_settings c.args.settings.now) files entries (take (length entries - k) (drop k entries)) progress c.take_and_read.result way taken
     (all_left entries k (length progress.taken.tracks.items + length progress.batch.files.items) (omega (arith, c.len.ensures, c.len-2.ensures))) (c.take_and_read.ensures.told files told)
 
 pub returns-clause-fits : goal.returns-clause-fits
@@ -72,7 +72,7 @@ returns-clause-fits g c =
     let k = c.len.result + c.len-2.result in
     let progress = c.args.progress in
     let taken = c.take_and_read.ensures.taken in
-    next_fits (asked_of c.args.settings.now) entries (take (length entries - k) (drop k entries)) progress c.take_and_read.result c.requires.fits taken
+    next_fits (plain_settings c.args.settings.now) entries (take (length entries - k) (drop k entries)) progress c.take_and_read.result c.requires.fits taken
     (all_left entries k (length progress.taken.tracks.items + length progress.batch.files.items) (omega (arith, c.len.ensures, c.len-2.ensures)))
     c.take_and_read.ensures.few c.take_and_read.ensures.some
 
@@ -80,4 +80,4 @@ pub returns-clause-more : goal.returns-clause-more
 returns-clause-more g c =
     let progress = c.args.progress in
     let taken = c.take_and_read.ensures.taken in
-    more_taken (asked_of c.args.settings.now) progress c.take_and_read.result taken (c.requires.fits.some c.in_default.is c.requires.left)
+    more_taken (plain_settings c.args.settings.now) progress c.take_and_read.result taken (c.requires.fits.some c.in_default.is c.requires.left)

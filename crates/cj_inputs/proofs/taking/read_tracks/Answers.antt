@@ -4,7 +4,7 @@ use Rattle.cj_io.specs.Faults.{Rose}
 use Rattle.cj_io.proofs.FileLemmas.{rose_since}
 use Rattle.cj_track.specs.Tracks.{plain_track}
 use Rattle.cj_track.specs.declared.track.Track.{Track}
-use Rattle.cj_words.specs.Settings.{asked_of}
+use Rattle.cj_words.specs.Settings.{plain_settings}
 use Rattle.cj_inputs.specs.declared.progress.Progress.{Progress}
 use Rattle.cj_inputs.specs.declared.reading.InputError.TheVariants.{Failed}
 use Rattle.cj_inputs.specs.Readings.{readings_of}
@@ -17,7 +17,7 @@ loop-alloc-init g c =
     let progress : Progress = record { taken = c.in_ok-taken.taken; batch = c.in_ok-batch.batch } in
     let entries = c.args.entries.now in
     record {
-      told = λ told is. begun (asked_of c.args.settings.now) told entries progress c.in_ok-taken.ensures (c.in_ok-batch.ensures.told told is);
+      told = λ told is. begun (plain_settings c.args.settings.now) told entries progress c.in_ok-taken.ensures (c.in_ok-batch.ensures.told told is);
       fits = begun_fits entries progress c.in_ok-taken.ensures c.in_ok-batch.ensures.few c.in_ok-batch.ensures.some;
       fault = c.in_ok-batch.ensures.fault;
       files = c.read_batch.ensures.files;
@@ -75,7 +75,7 @@ returns-in_err-progress g c =
       told = λ files told.
           reads_fault rose (λ (progress : Progress). map plain_track progress.taken.tracks.items)
           (λ (tracks : Vec Track Global). map plain_track tracks.items) why
-          (readings_of (asked_of c.args.settings.now) files c.args.entries.now) risen (c.in_err-progress.ensures.told files (before.files ∙ told) (before.told files told));
+          (readings_of (plain_settings c.args.settings.now) files c.args.entries.now) risen (c.in_err-progress.ensures.told files (before.files ∙ told) (before.told files told));
       many = tt;
       frame = tt;
       nodes = tt;
@@ -92,7 +92,7 @@ returns g c =
     let all : length c.args.entries.now ≤ length taken.tracks.items = omega (arith, c.loop-alloc-test.false, c.len.ensures, taken.tracks.ok.0) in
     record {
       fault = ok_not_err;
-      told = λ files told. all_taken (asked_of c.args.settings.now) files c.args.entries.now progress (before.told files told) all;
+      told = λ files told. all_taken (plain_settings c.args.settings.now) files c.args.entries.now progress (before.told files told) all;
       many = omega (arith, all, before.fits.few);
       frame = taken.frame;
       nodes = omega (arith, taken.counted, taken.few);

@@ -18,8 +18,8 @@ closest-requires-clause-described c =
     let lt : c.loop-encounter.encounter-index < length c.args.encounters.now = omega arith in
     subst (Describes (plain_leaves c.args.leaves.now)) (sym c.encounter-item.is) (c.requires.described c.loop-encounter.encounter-index c.encounter-item.result lt)
 
-pub closest-requires-clause-intervals : goal.closest-requires-clause-intervals
-closest-requires-clause-intervals c = keep_in (plain_problem c.args.problem.now) (plain_leaves c.args.leaves.now) c.encounter-item.result c.requires.intervals
+pub closest-requires-clause-pieces : goal.closest-requires-clause-pieces
+closest-requires-clause-pieces c = keep_in (plain_problem c.args.problem.now) (plain_leaves c.args.leaves.now) c.encounter-item.result c.requires.pieces
 
 pub loop-encounter-preserved : goal.loop-encounter-preserved
 loop-encounter-preserved c =

@@ -5,7 +5,7 @@ use Rattle.cj_bezier.specs.Squares.{least_square}
 use Rattle.cj_meet.specs.Closest.{approach_at}
 use Rattle.cj_meet.specs.Flat.{is_flat}
 use Rattle.cj_meet.specs.Searches.{plain_approach}
-use Rattle.cj_meet.proofs.CandidateLemmas.{open_run-two}
+use Rattle.cj_meet.proofs.EndLemmas.{open_run-two}
 use Rattle.cj_meet.proofs.NearerLemmas.{IsTaken, NoWorse-refl, taken}
 use Rattle.cj_meet.proofs.SearchLemmas.{left_out}
 use Rattle.cj_meet.proofs.looking.look.Goals as goal

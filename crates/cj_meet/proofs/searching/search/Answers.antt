@@ -6,16 +6,16 @@ use Rattle.cj_hermite.specs.Ready.{curve_ready}
 use Rattle.cj_hermite.proofs.TrackLemmas.{over_part}
 use Rattle.cj_bezier.specs.Leaves.{plain_leaf}
 use Rattle.cj_meet.specs.declared.approaches.Approach.{Approach}
-use Rattle.cj_meet.specs.declared.runs.Run.{Run}
-use Rattle.cj_meet.specs.Closest.{PlainApproach, candidates_between}
+use Rattle.cj_meet.specs.declared.runs.Waiting.{Waiting}
+use Rattle.cj_meet.specs.Closest.{PlainApproach, ends_between}
 use Rattle.cj_meet.specs.Searches.{plain_approach, NoWorse, IsHalved}
-use Rattle.cj_meet.proofs.CandidateLemmas.{open_run-two}
+use Rattle.cj_meet.proofs.EndLemmas.{open_run-two}
 use Rattle.cj_meet.proofs.SearchLemmas.{Fit, Searched, work, fit_all, fit_top, fit_rest, fit_place, fit_halved, work_rest, work_halved, top_part, halved_parts, searched_begun, searched_whole, searched_settled, searched_halved}
 use Rattle.cj_meet.proofs.searching.search.Goals as goal
 use Rattle.cj_meet.proofs.searching.search.Goals.{After-index-parts-top}
 
 -- the part at the top
-abbrev part : After-index-parts-top → Run
+abbrev part : After-index-parts-top → Waiting
 part c = get_or c.loop-top.parts c.loop-top.top c.index-parts-top.result
 
 -- it stands before those behind it
@@ -43,7 +43,7 @@ first_over c = let b = bounds c in over_part (curve_ready c.args.a.now) c.args.l
 second_over : (c : After-index-parts-top) → IsOver (curve_ready c.args.b.now) (part c).first.micros (part c).last.micros
 second_over c = let b = bounds c in over_part (curve_ready c.args.b.now) c.args.leaf.now.cell.first.micros c.args.leaf.now.cell.last.micros (part c).first.micros (part c).last.micros c.requires.second_over b.0 b.1
 
-module _ (c : After-index-parts-top) (best : PlainApproach) (found : Approach) (next other : Run) (is : IsHalved (curve_ready c.args.a.now) (curve_ready c.args.b.now) (part c) best found next other) where
+module _ (c : After-index-parts-top) (best : PlainApproach) (found : Approach) (next other : Waiting) (is : IsHalved (curve_ready c.args.a.now) (curve_ready c.args.b.now) (part c) best found next other) where
   -- a part that is halved has two ticks or more, and so is not at the first place
   two_ticks : (part c).first.micros < (part c).last.micros
   two_ticks = let p = part c in open_run-two (curve_ready c.args.a.now) (curve_ready c.args.b.now) p.first.micros p.last.micros p.some (first_over c) (second_over c) is.open_run
@@ -78,7 +78,7 @@ look-requires-clause-second_over c = second_over (goal.at.look-requires-clause-s
 pub loop-top-smaller-in-Settled : goal.loop-top-smaller-in-Settled
 loop-top-smaller-in-Settled c =
     let at = (goal.at.loop-top-smaller-in-Settled c).After-index-parts-top in
-    subst (λ (ps : List Run). work (drop (c.loop-top.top + 1) c.loop-top.parts) < work ps) (sym (stands at)) (work_rest (part at) (drop (c.loop-top.top + 1) c.loop-top.parts))
+    subst (λ (ps : List Waiting). work (drop (c.loop-top.top + 1) c.loop-top.parts) < work ps) (sym (stands at)) (work_rest (part at) (drop (c.loop-top.top + 1) c.loop-top.parts))
 
 pub loop-top-preserved-in-Settled : goal.loop-top-preserved-in-Settled
 loop-top-preserved-in-Settled c =
@@ -103,8 +103,8 @@ loop-top-smaller c =
     let at = (goal.at.loop-top-smaller c).After-index-parts-top in
     let halved = c.in-Halved.ensures.halved in
     let rest = drop (c.loop-top.top + 1) c.loop-top.parts in
-    subst (λ (ps : List Run). work ps < work (drop c.loop-top.top c.loop-top.parts)) (sym (halves_stand at _ _ _ _ halved))
-    (subst (λ (ps : List Run). work (c.in-Halved.next ∷ c.in-Halved.other ∷ drop (c.loop-top.top + 1) c.loop-top.parts) < work ps) (sym (stands at))
+    subst (λ (ps : List Waiting). work ps < work (drop c.loop-top.top c.loop-top.parts)) (sym (halves_stand at _ _ _ _ halved))
+    (subst (λ (ps : List Waiting). work (c.in-Halved.next ∷ c.in-Halved.other ∷ drop (c.loop-top.top + 1) c.loop-top.parts) < work ps) (sym (stands at))
     (work_halved (part at) c.in-Halved.next c.in-Halved.other rest (two_ticks at _ _ _ _ halved) halved.halves))
 
 pub loop-top-preserved : goal.loop-top-preserved
@@ -135,7 +135,7 @@ returns-clause-nearest c =
     let x = curve_ready c.args.a.now in
     let y = curve_ready c.args.b.now in
     let none = drop_all c.loop-top.top c.loop-top.parts (omega (arith, i.places)) in
-    All-from_each (NoWorse (plain_approach c.loop-top.best)) (candidates_between x y (plain_leaf c.args.leaf.now) cell.first.micros cell.last.micros)
+    All-from_each (NoWorse (plain_approach c.loop-top.best)) (ends_between x y (plain_leaf c.args.leaf.now) cell.first.micros cell.last.micros)
     (searched_whole x y (plain_leaf c.args.leaf.now) cell.first.micros cell.last.micros (plain_approach c.args.given) (plain_approach c.loop-top.best)
     (subst (Searched x y (plain_leaf c.args.leaf.now) cell.first.micros cell.last.micros (plain_approach c.args.given) (plain_approach c.loop-top.best)) none i.searched))
 
@@ -145,5 +145,5 @@ returns-clause-reached c =
     let s = c.loop-top.invariant.searched in
     elim s.reached [
       | inl same ↦ inl same
-      | inr one ↦ inr (Any-from_exists (λ p. p ≡ plain_approach c.loop-top.best) (candidates_between (curve_ready c.args.a.now) (curve_ready c.args.b.now) (plain_leaf c.args.leaf.now) cell.first.micros cell.last.micros) one)
+      | inr one ↦ inr (Any-from_exists (λ p. p ≡ plain_approach c.loop-top.best) (ends_between (curve_ready c.args.a.now) (curve_ready c.args.b.now) (plain_leaf c.args.leaf.now) cell.first.micros cell.last.micros) one)
     ]

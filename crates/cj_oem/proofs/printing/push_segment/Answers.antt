@@ -11,9 +11,9 @@ pub returns-clause-text : goal.returns-clause-text
 unfolding segment_text
 returns-clause-text c =
     let old = c.args.text.now.items in
-    let nodes = c.in_ok-push_states.ensures ∙ ap (λ ns. c.push_metadata.new.text.items ++ flat_map row_text (map plain_node ns)) c.as_slice.ensures.value in
+    let nodes = c.in_ok-push_nodes.ensures ∙ ap (λ ns. c.push_metadata.new.text.items ++ flat_map row_text (map plain_node ns)) c.as_slice.ensures.value in
     joined_ok c.push_covariances.result old _ _ _ _ (joined old _ _ _ _ c.in_ok-push_metadata.ensures nodes)
-    (on_ok_weaker c.push_covariances.result (λ e. e ∙ ap (λ ms. c.push_states.new.text.items ++ covariances_text (map plain_matrix ms))
+    (on_ok_weaker c.push_covariances.result (λ e. e ∙ ap (λ ms. c.push_nodes.new.text.items ++ covariances_text (map plain_matrix ms))
     c.as_slice-2.ensures) c.push_covariances.ensures.text)
 
 pub returns-clause-nodes : goal.returns-clause-nodes
@@ -33,11 +33,11 @@ returns-in_err-push_metadata-clause-nodes c = IfOk-from_err c.from_residual.resu
 pub returns-in_err-push_metadata-clause-matrices : goal.returns-in_err-push_metadata-clause-matrices
 returns-in_err-push_metadata-clause-matrices c = IfOk-from_err c.from_residual.result _ c.from_residual.ensures.0
 
-pub returns-in_err-push_states-clause-text : goal.returns-in_err-push_states-clause-text
-returns-in_err-push_states-clause-text c = IfOk-from_err c.from_residual-in_err-push_states.result _ c.from_residual-in_err-push_states.ensures.0
+pub returns-in_err-push_nodes-clause-text : goal.returns-in_err-push_nodes-clause-text
+returns-in_err-push_nodes-clause-text c = IfOk-from_err c.from_residual-in_err-push_nodes.result _ c.from_residual-in_err-push_nodes.ensures.0
 
-pub returns-in_err-push_states-clause-nodes : goal.returns-in_err-push_states-clause-nodes
-returns-in_err-push_states-clause-nodes c = IfOk-from_err c.from_residual-in_err-push_states.result _ c.from_residual-in_err-push_states.ensures.0
+pub returns-in_err-push_nodes-clause-nodes : goal.returns-in_err-push_nodes-clause-nodes
+returns-in_err-push_nodes-clause-nodes c = IfOk-from_err c.from_residual-in_err-push_nodes.result _ c.from_residual-in_err-push_nodes.ensures.0
 
-pub returns-in_err-push_states-clause-matrices : goal.returns-in_err-push_states-clause-matrices
-returns-in_err-push_states-clause-matrices c = IfOk-from_err c.from_residual-in_err-push_states.result _ c.from_residual-in_err-push_states.ensures.0
+pub returns-in_err-push_nodes-clause-matrices : goal.returns-in_err-push_nodes-clause-matrices
+returns-in_err-push_nodes-clause-matrices c = IfOk-from_err c.from_residual-in_err-push_nodes.result _ c.from_residual-in_err-push_nodes.ensures.0

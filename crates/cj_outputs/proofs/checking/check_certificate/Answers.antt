@@ -6,7 +6,7 @@ use Rattle.cj_io.specs.declared.file.FileBytes.{FileBytes}
 use Rattle.cj_hermite.specs.Problems.{plain_problem}
 use Rattle.cj_words.specs.Commands.{plain_checking}
 use Rattle.cj_bezier.specs.Order.{AreInOrder}
-use Rattle.cj_meet.specs.Closest.{KeepTheirIntervals}
+use Rattle.cj_meet.specs.Closest.{KeepTheirPieces}
 use Rattle.cj_cert.specs.declared.cert_lines.CellLine.{CellLine}
 use Rattle.cj_cert.specs.Splits.{CellsSplit}
 use Rattle.cj_cert.specs.Certificates.{PlainCertificate, plain_certificate, plain_cell_line}
@@ -14,16 +14,16 @@ use Rattle.cj_inputs.specs.CheckInputs.{PlainInputs, inputs_asked, plain_inputs}
 use Rattle.cj_status.specs.declared.status.Status.{Status}
 use Rattle.cj_status.specs.Steps.{◌>>=◌, Gives}
 use Rattle.cj_outputs.specs.Checks.{AcceptedReport, AcceptedText}
-use Rattle.cj_outputs.specs.Outcome.{accepted_piece, pieces_checked, report_if_accepting, tells_sizes}
-use Rattle.cj_outputs.proofs.AcceptingLemmas.{pieces_made_from, same_error, unaccepted, unprepared}
+use Rattle.cj_outputs.specs.Outcome.{accepted_output, outputs_checked, report_if_accepting, tells_sizes}
+use Rattle.cj_outputs.proofs.AcceptingLemmas.{outputs_made_from, same_error, unaccepted, unprepared}
 use Rattle.cj_outputs.proofs.CellLemmas.{cells_in_order, cells_keep}
 use Rattle.cj_outputs.proofs.CheckLemmas.{vouched}
-use Rattle.cj_outputs.proofs.VouchLemmas.{if_some_seen, on_ok_so, pieces_behind}
+use Rattle.cj_outputs.proofs.VouchLemmas.{if_some_seen, on_ok_so, outputs_behind}
 use Rattle.cj_outputs.proofs.checking.check_certificate.Goals as goal
 
 -- what is put of a certificate that is accepted, where the report is
 abbrev due : Bool → PlainInputs → PlainCertificate → Result (List FileBytes) Status
-due with_sizes inputs certificate = report_if_accepting with_sizes inputs.case certificate.cells inputs.report >>= λ done. Ok (accepted_piece ∷ [])
+due with_sizes inputs certificate = report_if_accepting with_sizes inputs.case certificate.cells inputs.report >>= λ done. Ok (accepted_output ∷ [])
 
 pub accept_report-requires-clause-in_order : goal.accept_report-requires-clause-in_order
 accept_report-requires-clause-in_order g c = λ lifetimes outlive.
@@ -31,10 +31,10 @@ accept_report-requires-clause-in_order g c = λ lifetimes outlive.
     subst (λ (ls : List CellLine). AreInOrder (map plain_cell_line ls)) (sym c.deref.ensures.value)
     (cells_in_order case (plain_certificate c.in_ok-accepted.accepted) c.in_ok-accepted.ensures.holds)
 
-pub accept_report-requires-clause-intervals : goal.accept_report-requires-clause-intervals
-accept_report-requires-clause-intervals g c = λ lifetimes outlive.
+pub accept_report-requires-clause-pieces : goal.accept_report-requires-clause-pieces
+accept_report-requires-clause-pieces g c = λ lifetimes outlive.
     let case = plain_problem c.in_ok-problem.field-0.problem in
-    subst (λ (ls : List CellLine). KeepTheirIntervals case (map plain_cell_line ls)) (sym c.deref.ensures.value)
+    subst (λ (ls : List CellLine). KeepTheirPieces case (map plain_cell_line ls)) (sym c.deref.ensures.value)
     (cells_keep case (plain_certificate c.in_ok-accepted.accepted) c.in_ok-accepted.ensures.holds)
 
 pub accept_report-requires-clause-split : goal.accept_report-requires-clause-split
@@ -67,24 +67,24 @@ returns-clause-vouches g c = λ files told.
     beside
 
 pub returns-clause-told : goal.returns-clause-told
-unfolding pieces_checked
+unfolding outputs_checked
 returns-clause-told g c = λ files told.
     let checking = plain_checking c.args.checking.now in
     let inputs = plain_inputs c.in_ok-problem.field-0 in
     let certificate = plain_certificate c.in_ok-accepted.accepted in
     let rose = Rose (g.F.Folder.faults c.args.folder.now) (g.F.Folder.faults c.prepare_check.new.folder) in
-    let pieces = accepted_piece ∷ [] in
+    let outputs = accepted_output ∷ [] in
     let judged =
     subst (λ (b : Bool). Gives ⊥ (λ done. done) c.accept_report.result (report_if_accepting b inputs.case certificate.cells inputs.report)) c.tells_sizes.ensures
     (subst (λ (ls : List CellLine). Gives ⊥ (λ done. done) c.accept_report.result
     (report_if_accepting c.tells_sizes.result inputs.case (map plain_cell_line ls) inputs.report)) c.deref.ensures.value c.accept_report.ensures.told) in
-    subst (λ (d : Result (List FileBytes) Status). Gives rose (λ done. pieces) c.accept_report.result d)
-    (sym (pieces_made_from (due (tells_sizes checking.settings)) (inputs_asked files checking) inputs certificate (c.in_ok-problem.ensures.told files told)
+    subst (λ (d : Result (List FileBytes) Status). Gives rose (λ done. outputs) c.accept_report.result d)
+    (sym (outputs_made_from (due (tells_sizes checking.settings)) (inputs_asked files checking) inputs certificate (c.in_ok-problem.ensures.told files told)
     c.in_ok-accepted.ensures.told))
-    (pieces_behind rose pieces c.accept_report.result (report_if_accepting (tells_sizes checking.settings) inputs.case certificate.cells inputs.report) judged)
+    (outputs_behind rose outputs c.accept_report.result (report_if_accepting (tells_sizes checking.settings) inputs.case certificate.cells inputs.report) judged)
 
 pub returns-in_err-problem : goal.returns-in_err-problem
-unfolding pieces_checked
+unfolding outputs_checked
 returns-in_err-problem g c =
     let prepared = c.in_err-problem.ensures in
     let checking = plain_checking c.args.checking.now in
@@ -99,7 +99,7 @@ returns-in_err-problem g c =
     })
 
 pub returns-in_err-accepted : goal.returns-in_err-accepted
-unfolding pieces_checked
+unfolding outputs_checked
 returns-in_err-accepted g c =
     let accepted = c.in_err-accepted.ensures in
     let checking = plain_checking c.args.checking.now in

@@ -6,7 +6,7 @@ use Rattle.cj_outputs.proofs.LaterLemmas.{of_run, rewritten_later, written_later
 use Rattle.cj_inputs.proofs.WithinLemmas.{usual_objects}
 use Rattle.cj_outputs.proofs.later.accepted_later.Goals as goal
 
-run : (c : goal.After-as_slice-sizes) → length (plain_problem c.args.problem.now).ephemerides ≤ 2000 → IsOfRun (plain_problem c.args.problem.now)
+run : (c : goal.After-as_slice-sizes) → length (plain_problem c.args.problem.now).tracks ≤ 2000 → IsOfRun (plain_problem c.args.problem.now)
 run c few = of_run c.args.problem.now few c.as_slice-sizes.ensures.within c.acceptance.ensures.near
 
 pub returns-clause-written : goal.returns-clause-written

@@ -4,7 +4,7 @@ use Rattle.cj_io.specs.declared.file.FileBytes.{FileBytes}
 use Rattle.cj_bezier.specs.Leaves.{PlainLeaf, plain_leaves}
 use Rattle.cj_meet.specs.Encounters.{encounters_of, groups_in}
 use Rattle.cj_outputs.specs.Findings.{case_in}
-use Rattle.cj_outputs.specs.Messages.{message_pieces}
+use Rattle.cj_outputs.specs.Messages.{message_outputs}
 use Rattle.cj_outputs.specs.Origins.{plain_origin}
 use Rattle.cj_outputs.specs.Outcome.{Leaves}
 use Rattle.cj_outputs.proofs.EndLemmas.{first_stand, nothing_made, put_failed}
@@ -41,17 +41,17 @@ returns-in_err-put_message g c =
     let es = found.encounters.items in
     let i = c.loop-place.place in
     let e = c.encounter-item.result in
-    let now = g.S.Shelf.pieces c.put_message.new.shelf in
+    let now = g.S.Shelf.outputs c.put_message.new.shelf in
     let e_is : e ≡ get_or es i e = search rules in
     let lt : i < length es = omega arith in
     let made = made_of_index found c.in_ok-covariances.covariances origin i c.stamp-stamp.result.number _ e c.index.result.now c.in_ok-covariances.ensures c.requires lt e_is c.index.ensures c.stamp-stamp.ensures (ap (λ s. s.number) c.stamp-stamp.ensures) in
     let s = c.in_err-put_message.field-0.0 in
     let failed = c.in_err-put_message.ensures in
     let ends =
-    put_failed (message_pieces case origin (encounters_of ss)) (g.S.Shelf.pieces c.args.shelf.now) now _ _ _ s _ c.from_residual-in_err-put_message.ensures.1
+    put_failed (message_outputs case origin (encounters_of ss)) (g.S.Shelf.outputs c.args.shelf.now) now _ _ _ s _ c.from_residual-in_err-put_message.ensures.1
     c.loop-place.invariant.later failed.comes failed.write failed.later
     (λ old stood.
-    subst (λ (gs : List (List PlainLeaf)). Leaves s (Ok (message_pieces case origin gs)) old now) c.requires.encounters.groups
+    subst (λ (gs : List (List PlainLeaf)). Leaves s (Ok (message_outputs case origin gs)) old now) c.requires.encounters.groups
     (messages_cut case origin ss es i e _ old now s lt e_is made failed.comes (failed.leaves _ (c.loop-place.invariant.put old stood)))) in
     record {
       comes = ends.comes;
@@ -70,7 +70,7 @@ loop-place-preserved g c =
     let es = found.encounters.items in
     let i = c.loop-place.place in
     let e = c.encounter-item.result in
-    let now = g.S.Shelf.pieces c.put_message.new.shelf in
+    let now = g.S.Shelf.outputs c.put_message.new.shelf in
     let e_is : e ≡ get_or es i e = search rules in
     let lt : i < length es = omega arith in
     let made = made_of_index found c.in_ok-covariances.covariances origin i c.stamp-stamp.result.number _ e c.index.result.now c.in_ok-covariances.ensures c.requires lt e_is c.index.ensures c.stamp-stamp.ensures (ap (λ s. s.number) c.stamp-stamp.ensures) in
@@ -87,7 +87,7 @@ returns-clause-leaves g c = λ old stood.
     let found = c.args.found.now in
     let ss = plain_leaves found.leaves.items in
     let es = found.encounters.items in
-    let pieces : List (List PlainLeaf) → List FileBytes = message_pieces (case_in found) (plain_origin c.args.origin) in
+    let outputs : List (List PlainLeaf) → List FileBytes = message_outputs (case_in found) (plain_origin c.args.origin) in
     let all : take c.loop-place.place es ≡ es = take_all c.loop-place.place es (omega arith) in
     let groups : groups_in ss (take c.loop-place.place es) ≡ encounters_of ss = ap (groups_in ss) all ∙ c.requires.encounters.groups in
-    (pieces (encounters_of ss), refl, c.loop-place.invariant.put old stood ∙ ap (λ (gs : List (List PlainLeaf)). Some (old ++ pieces gs)) groups)
+    (outputs (encounters_of ss), refl, c.loop-place.invariant.put old stood ∙ ap (λ (gs : List (List PlainLeaf)). Some (old ++ outputs gs)) groups)

@@ -6,4 +6,4 @@ returns-clause-write g c = λ fault. absurd cc
 
 pub returns-clause-leaves : goal.returns-clause-leaves
 returns-clause-leaves g c = λ old stood.
-    put_leaves c.args.name.now c.args.bytes.now old (g.S.Shelf.pieces c.args.shelf.now) (g.S.Shelf.pieces c.put.new.self) c.in_ok-put.ensures.pieces stood
+    put_leaves c.args.name.now c.args.bytes.now old (g.S.Shelf.outputs c.args.shelf.now) (g.S.Shelf.outputs c.put.new.self) c.in_ok-put.ensures.outputs stood

@@ -8,7 +8,7 @@ returns g c =
       comes = tt;
       write = λ is. absurd cc;
       leaves = λ old stood.
-          put_leaves c.args.name.now (g.M.PartSource.rest c.args.source.now) old (g.S.Shelf.pieces c.args.shelf.now)
-          (g.S.Shelf.pieces c.put_made.new.self) made.pieces stood;
+          put_leaves c.args.name.now (g.M.PartSource.rest c.args.source.now) old (g.S.Shelf.outputs c.args.shelf.now)
+          (g.S.Shelf.outputs c.put_made.new.self) made.outputs stood;
       later = made.later;
     }

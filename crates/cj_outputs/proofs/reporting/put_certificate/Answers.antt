@@ -2,7 +2,7 @@ use Rattle.std.proofs.Common.{ℕ, List, [], ◌∷◌, Ok, ap, sym, subst, ◌�
 use Rattle.cj_causes.specs.declared.cert_version.CertVersion.{CertVersion}
 use Rattle.cj_io.specs.Parts.{joined}
 use Rattle.cj_outputs.specs.Findings.{case_in, ended}
-use Rattle.cj_outputs.specs.Outcome.{Leaves, cert_bytes, cert_piece}
+use Rattle.cj_outputs.specs.Outcome.{Leaves, cert_bytes, cert_output}
 use Rattle.cj_outputs.proofs.EndLemmas.{nothing_made}
 use Rattle.cj_outputs.proofs.reporting.put_certificate.Goals as goal
 
@@ -20,7 +20,7 @@ returns-in_ok-text g c =
       comes = done.comes;
       write = done.write;
       leaves = λ old stood.
-          subst (λ (bytes : List ℕ). Leaves (ended c.put_made.result) (Ok (cert_piece bytes ∷ [])) old (g.S.Shelf.pieces c.put_made.new.shelf))
+          subst (λ (bytes : List ℕ). Leaves (ended c.put_made.result) (Ok (cert_output bytes ∷ [])) old (g.S.Shelf.outputs c.put_made.new.shelf))
           (c.in_ok-text.ensures ∙ ap (λ (version : CertVersion). cert_bytes version case) (sym c.in-One.is)) (done.leaves old stood);
       later = done.later;
     }
@@ -33,7 +33,7 @@ returns-in_ok-parts g c =
       comes = done.comes;
       write = done.write;
       leaves = λ old stood.
-          subst (λ (bytes : List ℕ). Leaves (ended c.put_parts.result) (Ok (cert_piece bytes ∷ [])) old (g.S.Shelf.pieces c.put_parts.new.shelf))
+          subst (λ (bytes : List ℕ). Leaves (ended c.put_parts.result) (Ok (cert_output bytes ∷ [])) old (g.S.Shelf.outputs c.put_parts.new.shelf))
           (ap joined c.deref.ensures.value ∙ c.in_ok-parts.ensures ∙ ap (λ (version : CertVersion). cert_bytes version (case_in found)) (sym c.in-Two.is)) (done.leaves old stood);
       later = done.later;
     }

@@ -5,7 +5,7 @@ use Rattle.cj_bezier.specs.declared.encounter.Encounter.{Encounter}
 use Rattle.cj_bezier.specs.declared.leaf.Leaf.{Leaf}
 use Rattle.cj_meet.specs.Encounters.{Describes}
 use Rattle.cj_outputs.specs.Findings.{case_in, ended}
-use Rattle.cj_outputs.specs.Outcome.{Leaves, report_piece}
+use Rattle.cj_outputs.specs.Outcome.{Leaves, report_output}
 use Rattle.cj_outputs.proofs.MessageLemmas.{as_many_closest, as_many_notes}
 use Rattle.cj_outputs.proofs.ReportTextLemmas.{report_is}
 use Rattle.cj_outputs.proofs.EndLemmas.{nothing_made}
@@ -27,7 +27,7 @@ report_text-requires g c =
 
 pub returns-clause-leaves : goal.returns-clause-leaves
 returns-clause-leaves g c = λ old stood.
-    subst (λ (bytes : List ℕ). Leaves (ended c.put.result) (Ok (report_piece bytes ∷ [])) old (g.S.Shelf.pieces c.put.new.shelf))
+    subst (λ (bytes : List ℕ). Leaves (ended c.put.result) (Ok (report_output bytes ∷ [])) old (g.S.Shelf.outputs c.put.new.shelf))
     (c.deref-5.ensures.value ∙ report_is c.args.found.now c.deref.result.now c.deref-2.result.now c.deref-3.result.now c.deref-4.result.now c.in_ok-report.report.items c.requires
     c.deref.ensures.value c.deref-2.ensures.value c.deref-3.ensures.value c.deref-4.ensures.value c.in_ok-report.ensures) (c.put.ensures.leaves old stood)
 

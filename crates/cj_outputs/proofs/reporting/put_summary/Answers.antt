@@ -1,13 +1,13 @@
 use Rattle.std.proofs.Common.{ℕ, ◌∙◌, List, [], ◌∷◌, Ok, ap, subst}
 use Rattle.cj_report.specs.Summary.{summary_of}
 use Rattle.cj_outputs.specs.Findings.{ended}
-use Rattle.cj_outputs.specs.Outcome.{Leaves, summary_piece}
+use Rattle.cj_outputs.specs.Outcome.{Leaves, summary_output}
 use Rattle.cj_outputs.proofs.EndLemmas.{nothing_made}
 use Rattle.cj_outputs.proofs.reporting.put_summary.Goals as goal
 
 pub returns-clause-leaves : goal.returns-clause-leaves
 returns-clause-leaves g c = λ old stood.
-    subst (λ (bytes : List ℕ). Leaves (ended c.put.result) (Ok (summary_piece bytes ∷ [])) old (g.S.Shelf.pieces c.put.new.shelf))
+    subst (λ (bytes : List ℕ). Leaves (ended c.put.result) (Ok (summary_output bytes ∷ [])) old (g.S.Shelf.outputs c.put.new.shelf))
     (c.deref.ensures.value ∙ c.in_ok-summary.ensures ∙ ap summary_of c.requires.counts) (c.put.ensures.leaves old stood)
 
 pub returns-in_err-summary : goal.returns-in_err-summary

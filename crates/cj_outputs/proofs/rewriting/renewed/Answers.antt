@@ -16,19 +16,19 @@ use Rattle.cj_cert.specs.Rewritten.{pairs_by_shells}
 use Rattle.cj_outputs.proofs.rewriting.renewed.Goals as goal
 
 -- a certificate that is accepted lists one shell for each object
-one_each : (case : PlainProblem) (c : PlainCertificate) (shells : List (Option Shell)) → AreShells case c.shells → shells ≡ shells_listed c → length shells ≡ length case.ephemerides
+one_each : (case : PlainProblem) (c : PlainCertificate) (shells : List (Option Shell)) → AreShells case c.shells → shells ≡ shells_listed c → length shells ≡ length case.tracks
 one_each case c shells are listed =
     ap (λ (ss : List (Option Shell)). length ss) listed ∙ length-map c.shells (λ line. line.shell) ∙ sym (length-map c.shells (λ line. line.object))
-    ∙ ap (λ (ks : List ℕ). length ks) are.objects ∙ length-range_with_len 0 (length case.ephemerides)
+    ∙ ap (λ (ks : List ℕ). length ks) are.objects ∙ length-range_with_len 0 (length case.tracks)
 
 -- the pairs that the listed shells keep
 pairs_listed : (case : PlainProblem) (c : PlainCertificate) (sizes : List ℕ) (shells : List (Option Shell)) (kept : List Pair) → sizes ≡ case.sizes → shells ≡ shells_listed c
-    → length shells ≡ length case.ephemerides → map objects_of kept ≡ filter (keeps_between case.threshold sizes shells) (pairs_of (length shells)) → map objects_of kept ≡ pairs_by_shells case c
+    → length shells ≡ length case.tracks → map objects_of kept ≡ filter (keeps_between case.threshold sizes shells) (pairs_of (length shells)) → map objects_of kept ≡ pairs_by_shells case c
 pairs_listed case c sizes shells kept sized listed many value =
     value
     ∙ ap (λ (n : ℕ). filter (keeps_between case.threshold sizes shells) (pairs_of n)) many
-    ∙ ap (λ (ss : List ℕ). filter (keeps_between case.threshold ss shells) (pairs_of (length case.ephemerides))) sized
-    ∙ ap (λ (ss : List (Option Shell)). filter (keeps_between case.threshold case.sizes ss) (pairs_of (length case.ephemerides))) listed
+    ∙ ap (λ (ss : List ℕ). filter (keeps_between case.threshold ss shells) (pairs_of (length case.tracks))) sized
+    ∙ ap (λ (ss : List (Option Shell)). filter (keeps_between case.threshold case.sizes ss) (pairs_of (length case.tracks))) listed
 
 pub kept_pairs-requires-clause-few : goal.kept_pairs-requires-clause-few
 kept_pairs-requires-clause-few c =

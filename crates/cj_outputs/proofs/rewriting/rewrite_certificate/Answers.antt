@@ -8,14 +8,14 @@ use Rattle.cj_cert_text.specs.Texts.{text_of}
 use Rattle.cj_inputs.specs.CheckInputs.{PlainInputs, inputs_asked, plain_inputs}
 use Rattle.cj_outputs.specs.Again.{IsAcceptedLater}
 use Rattle.cj_status.specs.declared.status.Status.{Status}
-use Rattle.cj_outputs.specs.Outcome.{pieces_renewed, pieces_rewritten}
-use Rattle.cj_outputs.proofs.AcceptingLemmas.{pieces_made_from, same_error, unaccepted, unprepared}
+use Rattle.cj_outputs.specs.Outcome.{outputs_renewed, outputs_rewritten}
+use Rattle.cj_outputs.proofs.AcceptingLemmas.{outputs_made_from, same_error, unaccepted, unprepared}
 use Rattle.cj_outputs.proofs.CheckLemmas.{renews}
 use Rattle.cj_outputs.proofs.rewriting.rewrite_certificate.Goals as goal
 
 -- what is put of a certificate that is accepted
 abbrev due : PlainInputs → PlainCertificate → Result (List FileBytes) Status
-due inputs certificate = Ok (pieces_renewed (in_version_2 inputs.case certificate))
+due inputs certificate = Ok (outputs_renewed (in_version_2 inputs.case certificate))
 
 pub returns-clause-renews : goal.returns-clause-renews
 returns-clause-renews g c = λ files told.
@@ -33,14 +33,14 @@ returns-clause-renews g c = λ files told.
     (c.accepted_later.ensures.rewritten checking.settings files (plain_certificate c.in_ok-accepted.accepted) read c.in_ok-accepted.ensures.holds c.in_ok-accepted.ensures.only.1))
 
 pub returns-clause-told : goal.returns-clause-told
-unfolding pieces_rewritten
+unfolding outputs_rewritten
 returns-clause-told g c = λ files told.
-    pieces_made_from due (inputs_asked files (plain_checking c.args.checking.now)) (plain_inputs c.in_ok-problem.field-0)
+    outputs_made_from due (inputs_asked files (plain_checking c.args.checking.now)) (plain_inputs c.in_ok-problem.field-0)
     (plain_certificate c.in_ok-accepted.accepted) (c.in_ok-problem.ensures.told files told) c.in_ok-accepted.ensures.told
-    ∙ ap (λ (x : PlainCertificate). Ok (pieces_renewed x)) (sym c.in_ok-renewed.ensures.value)
+    ∙ ap (λ (x : PlainCertificate). Ok (outputs_renewed x)) (sym c.in_ok-renewed.ensures.value)
 
 pub returns-in_err-problem : goal.returns-in_err-problem
-unfolding pieces_rewritten
+unfolding outputs_rewritten
 returns-in_err-problem g c =
     let prepared = c.in_err-problem.ensures in
     let p = err_from_is_err_and c.from_residual.result c.from_residual.ensures.1 in
@@ -55,7 +55,7 @@ returns-in_err-problem g c =
     })
 
 pub returns-in_err-accepted : goal.returns-in_err-accepted
-unfolding pieces_rewritten
+unfolding outputs_rewritten
 returns-in_err-accepted g c =
     let accepted = c.in_err-accepted.ensures in
     let p = err_from_is_err_and c.from_residual-in_err-accepted.result c.from_residual-in_err-accepted.ensures.1 in

@@ -5,7 +5,7 @@ use Rattle.cj_hermite.specs.Problems.{plain_problem}
 use Rattle.cj_bezier.specs.declared.leaf.Leaf.{Leaf}
 use Rattle.cj_bezier.specs.Leaves.{PlainLeaf, plain_leaf, plain_leaves}
 use Rattle.cj_bezier.specs.Order.{AreInOrder}
-use Rattle.cj_meet.specs.Closest.{HasNearest, KeepTheirIntervals}
+use Rattle.cj_meet.specs.Closest.{HasNearest, KeepTheirPieces}
 use Rattle.cj_meet.specs.Encounters.{encounters_of}
 use Rattle.cj_meet.specs.Spans.{HaveExactSpans}
 use Rattle.cj_cert.specs.Certificates.{plain_cell_line}
@@ -25,9 +25,9 @@ pub report_due-requires-clause-in_order : goal.report_due-requires-clause-in_ord
 report_due-requires-clause-in_order g c = λ lifetimes outlive.
     subst AreInOrder (sym (ap plain_leaves c.deref.ensures.value ∙ c.in_ok-leaves.ensures)) c.requires.in_order
 
-pub report_due-requires-clause-intervals : goal.report_due-requires-clause-intervals
-report_due-requires-clause-intervals g c = λ lifetimes outlive.
-    subst (KeepTheirIntervals (plain_problem c.args.problem.now)) (sym (ap plain_leaves c.deref.ensures.value ∙ c.in_ok-leaves.ensures)) c.requires.intervals
+pub report_due-requires-clause-pieces : goal.report_due-requires-clause-pieces
+report_due-requires-clause-pieces g c = λ lifetimes outlive.
+    subst (KeepTheirPieces (plain_problem c.args.problem.now)) (sym (ap plain_leaves c.deref.ensures.value ∙ c.in_ok-leaves.ensures)) c.requires.pieces
 
 pub returns : goal.returns
 returns g c =

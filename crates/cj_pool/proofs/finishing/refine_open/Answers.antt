@@ -63,7 +63,7 @@ returns-then-len-limit-clause-kept c = take_all (vec_len c.args.leaves.now) c.ar
 pub refine-requires-clause-room : goal.refine-requires-clause-room
 refine-requires-clause-room c = omega (arith, c.loop-cell.invariant.room, c.loop-cell.leaves.ok.0)
 
-pub refine-requires-clause-intervals : goal.refine-requires-clause-intervals
-refine-requires-clause-intervals c =
+pub refine-requires-clause-pieces : goal.refine-requires-clause-pieces
+refine-requires-clause-pieces c =
     let lt : c.loop-cell.cell-index < length c.args.cells.now = omega arith in
     subst (IsKept (plain_problem c.args.problem.now)) (sym c.cell-item.is) (c.requires.kept c.loop-cell.cell-index c.cell-item.result lt)

@@ -9,10 +9,10 @@ use Rattle.cj_hermite.specs.Roots.{roots_of}
 use Rattle.cj_bezier.specs.declared.leaf.Leaf.{Leaf}
 use Rattle.cj_bezier.specs.Cells.{plain_cell, plain_cells}
 use Rattle.cj_bezier.specs.Leaves.{plain_leaf, plain_leaves}
-use Rattle.cj_bezier.specs.Looked.{is_looked}
+use Rattle.cj_bezier.specs.Candidates.{is_candidate}
 use Rattle.cj_bezier.specs.RootLeaves.{leaves_of_roots}
 use Rattle.cj_cells.specs.declared.refine_error.RefineError.{RefineError}
-use Rattle.cj_cells.specs.Lists.{list_of, list_looked, splits_of}
+use Rattle.cj_cells.specs.Lists.{list_of, list_candidates, splits_of}
 use Rattle.cj_cells.proofs.LeafLemmas.{list_described, list_split}
 use Rattle.cj_pool.proofs.RootListLemmas.{are_roots}
 use Rattle.cj_pool.proofs.listing.leaves_by_workers.Goals as goal
@@ -21,13 +21,13 @@ pub leaves_by_hands-requires-clause-are_roots : goal.leaves_by_hands-requires-cl
 leaves_by_hands-requires-clause-are_roots g c =
     let case = plain_problem c.args.problem.now in
     let long : vec_len c.args.roots ≡ length c.args.roots.items = omega (arith, c.args.roots.ok.0) in
-    λ later within. are_roots (is_looked case) case c.args.roots.items c.requires.found (c.requires.numbered ∙ ap (range_with_len 0) long)
+    λ later within. are_roots (is_candidate case) case c.args.roots.items c.requires.found (c.requires.numbered ∙ ap (range_with_len 0) long)
 
 pub returns-clause-value : goal.returns-clause-value
 unfolding list_of
 returns-clause-value g c =
     let case = plain_problem c.args.problem.now in
-    let same : leaves_of_roots case (roots_of (is_looked case) case) ≡ leaves_of_roots case (plain_cells c.args.roots.items) =
+    let same : leaves_of_roots case (roots_of (is_candidate case) case) ≡ leaves_of_roots case (plain_cells c.args.roots.items) =
     ap (leaves_of_roots case) (sym c.requires.found) in
     rw same c.leaves_by_hands.ensures.value
 
@@ -35,7 +35,7 @@ pub returns-clause-too_many : goal.returns-clause-too_many
 unfolding list_of
 returns-clause-too_many g c =
     let case = plain_problem c.args.problem.now in
-    let same : leaves_of_roots case (roots_of (is_looked case) case) ≡ leaves_of_roots case (plain_cells c.args.roots.items) =
+    let same : leaves_of_roots case (roots_of (is_candidate case) case) ≡ leaves_of_roots case (plain_cells c.args.roots.items) =
     ap (leaves_of_roots case) (sym c.requires.found) in
     rw same c.leaves_by_hands.ensures.too_many
 
@@ -54,10 +54,10 @@ returns-clause-ordered g c =
     let case = plain_problem c.args.problem.now in
     on_ok_weaker c.leaves_by_hands.result (λ leaves. let list = list_described case (plain_cells c.args.roots.items) c.requires.found leaves in list.ordered) c.leaves_by_hands.ensures.leaves
 
-pub returns-clause-intervals : goal.returns-clause-intervals
-returns-clause-intervals g c =
+pub returns-clause-pieces : goal.returns-clause-pieces
+returns-clause-pieces g c =
     let case = plain_problem c.args.problem.now in
-    on_ok_weaker c.leaves_by_hands.result (λ leaves. let list = list_described case (plain_cells c.args.roots.items) c.requires.found leaves in list.intervals) c.leaves_by_hands.ensures.leaves
+    on_ok_weaker c.leaves_by_hands.result (λ leaves. let list = list_described case (plain_cells c.args.roots.items) c.requires.found leaves in list.pieces) c.leaves_by_hands.ensures.leaves
 
 pub returns-clause-splits : goal.returns-clause-splits
 unfolding list_of
@@ -66,7 +66,7 @@ returns-clause-splits g c = go c.leaves_by_hands.result (returns-clause-value g 
     case : PlainProblem
     case = plain_problem c.args.problem.now
 
-    go : (r : Result (Vec Leaf Global) RefineError) → IfOk r (λ leaves. plain_leaves leaves.items ≡ list_looked case) → IfOk r (λ leaves. vec_len leaves ≡ vec_len c.args.roots + splits_of case)
+    go : (r : Result (Vec Leaf Global) RefineError) → IfOk r (λ leaves. plain_leaves leaves.items ≡ list_candidates case) → IfOk r (λ leaves. vec_len leaves ≡ vec_len c.args.roots + splits_of case)
     go (Err e) h = tt
     go (Ok leaves) h =
         let found = ap length h in
@@ -116,5 +116,5 @@ returns-then-workers-eq1-clause-complete g c = c.leaves_of.ensures.complete
 pub returns-then-workers-eq1-clause-ordered : goal.returns-then-workers-eq1-clause-ordered
 returns-then-workers-eq1-clause-ordered g c = c.leaves_of.ensures.ordered
 
-pub returns-then-workers-eq1-clause-intervals : goal.returns-then-workers-eq1-clause-intervals
-returns-then-workers-eq1-clause-intervals g c = c.leaves_of.ensures.intervals
+pub returns-then-workers-eq1-clause-pieces : goal.returns-then-workers-eq1-clause-pieces
+returns-then-workers-eq1-clause-pieces g c = c.leaves_of.ensures.pieces

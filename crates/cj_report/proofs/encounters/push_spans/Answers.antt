@@ -4,7 +4,7 @@ use Rattle.std.proofs.lemmas.Result.{IfOk-weaker, err_from_is_err_and}
 use Rattle.cj_bezier.specs.Leaves.{plain_leaves}
 use Rattle.cj_meet.specs.Spans.{spans_of}
 use Rattle.cj_report.specs.Report.{span_line}
-use Rattle.cj_report.specs.SpanLines.{stretch_of_line}
+use Rattle.cj_report.specs.SpanLines.{leaf_of_line}
 use Rattle.cj_report.proofs.RunLemmas.{step_last, step_longer, step_parted}
 use Rattle.cj_report.proofs.encounters.push_spans.Goals as goal
 use Rattle.cj_report.proofs.encounters.push_spans.Goals.{then-goes_on, else-goes_on+in_ok-push_span}
@@ -15,12 +15,12 @@ loop-leaf-preserved c =
     let whole = c.args.text.now.items ++ flat_map span_line (spans_of (plain_leaves c.args.leaves.now)) in
     elim c.if-goes_on.branch [
       | then-goes_on w ↦
-          step_longer c.loop-leaf.text.items c.if-goes_on.text.items whole (stretch_of_line c.loop-leaf.span) (stretch_of_line c.if-goes_on.span) others c.loop-leaf.leaf-index c.leaf-item.result
-          (omega arith) (search rules) (sym c.goes_on.ensures ∙ w.if-goes_on.true) (ap stretch_of_line w.span-is)
+          step_longer c.loop-leaf.text.items c.if-goes_on.text.items whole (leaf_of_line c.loop-leaf.span) (leaf_of_line c.if-goes_on.span) others c.loop-leaf.leaf-index c.leaf-item.result
+          (omega arith) (search rules) (sym c.goes_on.ensures ∙ w.if-goes_on.true) (ap leaf_of_line w.span-is)
           (ap (λ t. t.items) w.text-is) c.loop-leaf.invariant
       | else-goes_on+in_ok-push_span w ↦
-          step_parted c.loop-leaf.text.items c.if-goes_on.text.items whole (stretch_of_line c.loop-leaf.span) (stretch_of_line c.if-goes_on.span) others c.loop-leaf.leaf-index c.leaf-item.result
-          (omega arith) (search rules) (sym c.goes_on.ensures ∙ w.if-goes_on.false) (ap stretch_of_line w.span-is ∙ w.of-span-else-goes_on.ensures)
+          step_parted c.loop-leaf.text.items c.if-goes_on.text.items whole (leaf_of_line c.loop-leaf.span) (leaf_of_line c.if-goes_on.span) others c.loop-leaf.leaf-index c.leaf-item.result
+          (omega arith) (search rules) (sym c.goes_on.ensures ∙ w.if-goes_on.false) (ap leaf_of_line w.span-is ∙ w.of-span-else-goes_on.ensures)
           (ap (λ t. t.items) w.text-is ∙ w.in_ok-push_span.ensures) c.loop-leaf.invariant
     ]
 
@@ -33,6 +33,6 @@ returns c =
     let now = c.push_span-2.new.text.items in
     let was = c.loop-leaf.text.items in
     let whole = c.args.text.now.items ++ flat_map span_line (spans_of (plain_leaves c.args.leaves.now)) in
-    let run = stretch_of_line c.loop-leaf.span in
+    let run = leaf_of_line c.loop-leaf.span in
     IfOk-weaker c.push_span-2.result (λ _. now ≡ was ++ span_line run) (λ _. now ≡ whole)
     (λ _ written. step_last was now whole run others c.loop-leaf.leaf-index (omega arith) written c.loop-leaf.invariant) c.push_span-2.ensures

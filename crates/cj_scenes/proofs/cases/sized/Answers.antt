@@ -4,9 +4,9 @@ use Rattle.cj_track.specs.Tracks.{plain_track}
 use Rattle.cj_hermite.specs.PlainProblems.{PlainProblem}
 use Rattle.cj_scenes.proofs.cases.sized.Goals as goal
 
-case_same : (c d : PlainProblem) → c.ephemerides ≡ d.ephemerides → c.first ≡ d.first → c.last ≡ d.last → c.threshold ≡ d.threshold → c.sizes ≡ d.sizes → c ≡ d
+case_same : (c d : PlainProblem) → c.tracks ≡ d.tracks → c.first ≡ d.first → c.last ≡ d.last → c.threshold ≡ d.threshold → c.sizes ≡ d.sizes → c ≡ d
 case_same c d tracks first last threshold sizes =
-    λ i. record { ephemerides = tracks i; first = first i; last = last i; threshold = threshold i; sizes = sizes i }
+    λ i. record { tracks = tracks i; first = first i; last = last i; threshold = threshold i; sizes = sizes i }
 
 pub returns-clause-tracks : goal.returns-clause-tracks
 returns-clause-tracks c = ap (λ (ts : List Track). length ts) (c.new.ensures ∙ c.in_ok-vec.ensures.items)

@@ -2,12 +2,12 @@ use Rattle.std.proofs.Common.{◌≡◌, Bool, Result, Ok, Err, subst, ◌∙◌
 use Rattle.std.specs.Prelude.{IfOk}
 use Rattle.cj_hermite.specs.Problems.{plain_problem}
 use Rattle.cj_words.specs.Commands.{plain_screening}
-use Rattle.cj_words.specs.Settings.{asked_of}
+use Rattle.cj_words.specs.Settings.{plain_settings}
 use Rattle.cj_outputs.specs.declared.findings.Findings.{Findings}
-use Rattle.cj_outputs.specs.Findings.{pieces_in}
+use Rattle.cj_outputs.specs.Findings.{outputs_in}
 use Rattle.cj_status.specs.declared.status.Status.{Status}
 use Rattle.cj_status.specs.Steps.{Gives}
-use Rattle.cj_outputs.specs.Outcome.{origin_of, pieces_within, tells_sizes}
+use Rattle.cj_outputs.specs.Outcome.{origin_of, outputs_within, tells_sizes}
 use Rattle.cj_screen.proofs.ReportLemmas.{reports}
 use Rattle.cj_screen.proofs.TaskLemmas.{search_ends}
 use Rattle.cj_screen.proofs.finding.find_encounters.Goals as goal
@@ -29,12 +29,12 @@ pub returns-clause-told : goal.returns-clause-told
 returns-clause-told g c = λ now.
     let screening = c.args.screening.now in
     let origin = origin_of now (plain_screening screening) in
-    subst (λ (b : Bool). Gives ⊥ (pieces_in origin) c.screen.result (pieces_within screening.cells b screening.version origin (plain_problem c.args.problem)))
+    subst (λ (b : Bool). Gives ⊥ (outputs_in origin) c.screen.result (outputs_within screening.cells b screening.version origin (plain_problem c.args.problem)))
     c.tells_sizes.ensures (c.screen.ensures.told origin)
 
 pub returns-clause-reports : goal.returns-clause-reports
 returns-clause-reports g c = λ files read.
-    let asked = asked_of c.args.screening.now.settings in
+    let asked = plain_settings c.args.screening.now.settings in
     reports files asked c.args.screening.now.version (plain_problem c.args.problem) read
     c.screen.result c.screen.ensures.same (tells c.tells_sizes.result (tells_sizes asked) c.tells_sizes.ensures c.screen.result c.screen.ensures.tells)
     c.screen.ensures.version c.screen.ensures.found c.screen.ensures.split c.screen.ensures.certified c.screen.ensures.nearest

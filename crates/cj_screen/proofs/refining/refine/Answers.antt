@@ -3,7 +3,7 @@ use Rattle.std.proofs.lemmas.List.{length-map}
 use Rattle.cj_hermite.specs.Problems.{plain_problem}
 use Rattle.cj_bezier.specs.Cells.{plain_cell}
 use Rattle.cj_bezier.specs.Leaves.{plain_leaf}
-use Rattle.cj_cells.specs.Lists.{list_looked}
+use Rattle.cj_cells.specs.Lists.{list_candidates}
 use Rattle.cj_cells.proofs.LeafLemmas.{list_split}
 use Rattle.cj_screen.proofs.ReportLemmas.{between_refined, few_leaves, stops_refined}
 use Rattle.cj_screen.proofs.refining.refine.Goals as goal
@@ -13,7 +13,7 @@ returns-in-Err g c =
     let case = plain_problem c.args.problem.now in
     rw c.refused.ensures (record {
       between = between_refined c.args.cells c.in-Err.error;
-      told = stops_refined c.args.cells (list_looked case) c.in-Err.error
+      told = stops_refined c.args.cells (list_candidates case) c.in-Err.error
           (λ is. let many = c.in-Err.ensures.too_many (ap (λ e. Err e) is) in omega (arith, many, list_split case));
       few = tt;
       refined = tt;
@@ -25,7 +25,7 @@ returns-in-Err-leaves_by_workers g c =
     let failed = c.in-Err-leaves_by_workers in
     rw c.refused-in-Err-leaves_by_workers.ensures (record {
       between = between_refined c.args.cells failed.error;
-      told = stops_refined c.args.cells (list_looked (plain_problem c.args.problem.now)) failed.error (λ is. failed.ensures.too_many (ap (λ e. Err e) is));
+      told = stops_refined c.args.cells (list_candidates (plain_problem c.args.problem.now)) failed.error (λ is. failed.ensures.too_many (ap (λ e. Err e) is));
       few = tt;
       refined = tt;
       ticks = tt;
@@ -33,7 +33,7 @@ returns-in-Err-leaves_by_workers g c =
 
 pub returns-in-Ok-leaves_by_workers : goal.returns-in-Ok-leaves_by_workers
 returns-in-Ok-leaves_by_workers g c =
-    let all = list_looked (plain_problem c.args.problem.now) in
+    let all = list_candidates (plain_problem c.args.problem.now) in
     let found = c.in-Ok.ensures in
     let roots = c.in-Ok.candidates.roots in
     let listed = c.in-Ok-leaves_by_workers.ensures in
@@ -58,6 +58,6 @@ returns-in-Ok-leaves_by_workers g c =
         complete = listed.complete;
         far = found.far;
         ordered = listed.ordered;
-        intervals = listed.intervals;
+        pieces = listed.pieces;
       };
     }

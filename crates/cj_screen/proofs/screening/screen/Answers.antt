@@ -6,12 +6,12 @@ use Rattle.cj_bezier.specs.Leaves.{PlainLeaf, plain_leaf, plain_leaves}
 use Rattle.cj_bezier.specs.Order.{AreInOrder}
 use Rattle.cj_bezier.specs.declared.leaf.Leaf.{Leaf}
 use Rattle.cj_cert.specs.Rewritten.{written_in}
-use Rattle.cj_meet.specs.Closest.{HasNearest, KeepTheirIntervals}
+use Rattle.cj_meet.specs.Closest.{HasNearest, KeepTheirPieces}
 use Rattle.cj_meet.specs.Encounters.{encounters_of}
 use Rattle.cj_outputs.specs.Meetings.{AreMeetings}
 use Rattle.cj_outputs.specs.Messages.{has_message}
 use Rattle.cj_outputs.specs.Summaries.{tally_with}
-use Rattle.cj_screen.proofs.ReportLemmas.{never_read, pieces_of_leaves, pieces_stop}
+use Rattle.cj_screen.proofs.ReportLemmas.{never_read, outputs_of_leaves, outputs_stop}
 use Rattle.cj_screen.proofs.SplitLemmas.{splits}
 use Rattle.cj_screen.proofs.screening.screen.Goals as goal
 
@@ -22,10 +22,10 @@ find_meetings-requires-clause-in_order g c = λ lifetimes outlive.
 pub find_meetings-requires-clause-few : goal.find_meetings-requires-clause-few
 find_meetings-requires-clause-few g c = omega (arith, ap (λ (ls : List Leaf). length ls) c.as_slice-leaves.ensures.value, c.in_ok-refined.ensures.refined.few)
 
-pub find_meetings-requires-clause-intervals : goal.find_meetings-requires-clause-intervals
-find_meetings-requires-clause-intervals g c = λ lifetimes outlive.
-    subst (KeepTheirIntervals (plain_problem c.args.problem)) (sym (ap plain_leaves c.as_slice-leaves.ensures.value ∙ c.in_ok-refined.ensures.refined.leaves))
-    c.in_ok-refined.ensures.ticks.intervals
+pub find_meetings-requires-clause-pieces : goal.find_meetings-requires-clause-pieces
+find_meetings-requires-clause-pieces g c = λ lifetimes outlive.
+    subst (KeepTheirPieces (plain_problem c.args.problem)) (sym (ap plain_leaves c.as_slice-leaves.ensures.value ∙ c.in_ok-refined.ensures.refined.leaves))
+    c.in_ok-refined.ensures.ticks.pieces
 
 pub count-counts-requires : goal.count-counts-requires
 count-counts-requires g c =
@@ -53,7 +53,7 @@ returns g c =
     record {
       between = tt;
       read = λ is. absurd cc;
-      told = λ origin. pieces_of_leaves c.args.cells c.args.with_sizes c.args.version origin case _ c.in_ok-refined.ensures.told;
+      told = λ origin. outputs_of_leaves c.args.cells c.args.with_sizes c.args.version origin case _ c.in_ok-refined.ensures.told;
       same = refl;
       tells = refl;
       version = refl;
@@ -104,7 +104,7 @@ returns-in_err-refined g c =
     rw (p.1, p.2) (record {
       between = c.in_err-refined.ensures.between;
       read = λ is. never_read s _ told is;
-      told = λ origin. pieces_stop c.args.cells c.args.with_sizes c.args.version origin (plain_problem c.args.problem) s told;
+      told = λ origin. outputs_stop c.args.cells c.args.with_sizes c.args.version origin (plain_problem c.args.problem) s told;
       same = tt;
       tells = tt;
       version = tt;

@@ -1,17 +1,17 @@
 use Rattle.std.proofs.Common.{◌≡◌, ◌⊎◌, inr, Err, List, Result, refl, ap, sym, subst, ◌∙◌}
 use Rattle.cj_io.specs.Faults.{Rose}
 use Rattle.cj_io.specs.declared.file.FileBytes.{FileBytes}
-use Rattle.cj_words.specs.Commands.{Checks, Generates, Rewrites, Screens, Tries, command_of}
+use Rattle.cj_words.specs.Commands.{Checks, Generates, Rewrites, Screens, Selfruns, command_of}
 use Rattle.cj_status.specs.declared.status.Status.{Status}
 use Rattle.cj_status.specs.declared.status.Status.TheVariants as status
 use Rattle.cj_status.specs.Steps.{ComesBefore}
 use Rattle.cj_outputs.specs.Outcome as spec
-use Rattle.cj_outputs.specs.Outcome.{Answers, EndsMaking, EndsTrial, Leaves, PutsNothing}
+use Rattle.cj_outputs.specs.Outcome.{Answers, EndsMaking, EndsSelfrun, Leaves, PutsNothing}
 use Rattle.cj_outputs.specs.Findings.{ended}
 use Rattle.cj_outputs.proofs.EndLemmas.{answers_stop, answers_wider, leaves_extends, leaves_stop, nothing_more, refused_as, stopped_for}
-use Rattle.cj_screen.specs.Tasks.{EndsTask, pieces_of_task}
+use Rattle.cj_screen.specs.Tasks.{EndsTask, outputs_of_task}
 use Rattle.cj_screen.proofs.ResultLemmas.{count_stays, ended_failed, same_status}
-use Rattle.cj_screen.proofs.TaskLemmas.{calm_read, ends_making, ends_trial}
+use Rattle.cj_screen.proofs.TaskLemmas.{calm_read, ends_making, ends_selfrun}
 use Rattle.cj_screen.proofs.top.conj.Goals as goal
 
 pub returns-in-Ok-clause-usage : goal.returns-in-Ok-clause-usage
@@ -30,8 +30,8 @@ pub returns-in-Ok-clause-told : goal.returns-in-Ok-clause-told
 returns-in-Ok-clause-told g c = λ files are.
     let read = Rose (g.F.Folder.faults c.args.folder.now) (g.F.Folder.faults c.read_task.new.folder) in
     let refused = Rose (g.S.Shelf.refusals c.args.shelf.now) (g.S.Shelf.refusals c.run.new.shelf) in
-    let due = spec.pieces_of c.args.words.now files c.args.now.micros in
-    let asked = pieces_of_task c.args.now.micros c.in-Ok.task in
+    let due = spec.outputs_of c.args.words.now files c.args.now.micros in
+    let asked = outputs_of_task c.args.now.micros c.in-Ok.task in
     subst (λ (s : Status). Answers read refused s due) (sym c.end.ensures)
     (subst (λ (d : Result (List FileBytes) Status). Answers read refused (ended c.run.result) d) (sym (c.in-Ok.ensures.told files c.args.now.micros are))
     (answers_wider read refused (ended c.run.result) asked c.run.ensures.answers))
@@ -42,21 +42,21 @@ returns-in-Ok-clause-complete g c = λ files due are is calm free.
     (c.run.ensures.complete due (sym (c.in-Ok.ensures.told files c.args.now.micros are) ∙ is) free)
 
 pub returns-in-Ok-clause-headline : goal.returns-in-Ok-clause-headline
-returns-in-Ok-clause-headline g c = λ files pieces screening told stood asked ok.
-    c.run.ensures.done files pieces (Screens screening) (c.in-Ok.ensures.readies files (Screens screening) told asked) stood (sym c.end.ensures ∙ ok)
+returns-in-Ok-clause-headline g c = λ files outputs screening told stood asked ok.
+    c.run.ensures.done files outputs (Screens screening) (c.in-Ok.ensures.readies files (Screens screening) told asked) stood (sym c.end.ensures ∙ ok)
 
 pub returns-in-Ok-clause-checked : goal.returns-in-Ok-clause-checked
-returns-in-Ok-clause-checked g c = λ files pieces checking told stood asked ok.
-    c.run.ensures.done files pieces (Checks checking) (c.in-Ok.ensures.readies files (Checks checking) told asked) stood (sym c.end.ensures ∙ ok)
+returns-in-Ok-clause-checked g c = λ files outputs checking told stood asked ok.
+    c.run.ensures.done files outputs (Checks checking) (c.in-Ok.ensures.readies files (Checks checking) told asked) stood (sym c.end.ensures ∙ ok)
 
 pub returns-in-Ok-clause-rewritten : goal.returns-in-Ok-clause-rewritten
-returns-in-Ok-clause-rewritten g c = λ files pieces checking told stood asked ok.
-    c.run.ensures.done files pieces (Rewrites checking) (c.in-Ok.ensures.readies files (Rewrites checking) told asked) stood (sym c.end.ensures ∙ ok)
+returns-in-Ok-clause-rewritten g c = λ files outputs checking told stood asked ok.
+    c.run.ensures.done files outputs (Rewrites checking) (c.in-Ok.ensures.readies files (Rewrites checking) told asked) stood (sym c.end.ensures ∙ ok)
 
 pub returns-in-Ok-clause-refused : goal.returns-in-Ok-clause-refused
 returns-in-Ok-clause-refused g c = λ files cause are is calm free.
     let refused = Rose (g.S.Shelf.refusals c.args.shelf.now) (g.S.Shelf.refusals c.run.new.shelf) in
-    let asked = pieces_of_task c.args.now.micros c.in-Ok.task in
+    let asked = outputs_of_task c.args.now.micros c.in-Ok.task in
     subst (λ (s : Status). (s ≡ cause) ⊎ (s ≡ status.OutOfMemory)) (sym c.end.ensures)
     (refused_as ⊥ refused (ended c.run.result) cause asked (sym (c.in-Ok.ensures.told files c.args.now.micros are) ∙ is) (λ e none. none) free c.run.ensures.answers)
 
@@ -64,23 +64,23 @@ pub returns-in-Ok-clause-made : goal.returns-in-Ok-clause-made
 returns-in-Ok-clause-made g c = λ recipe asked.
     subst EndsMaking (sym c.end.ensures) (ends_making c.in-Ok.task (ended c.run.result) (c.in-Ok.ensures.unread (Generates recipe) asked) c.run.ensures.ends)
 
-pub returns-in-Ok-clause-tried : goal.returns-in-Ok-clause-tried
-returns-in-Ok-clause-tried g c = λ trial asked.
-    subst EndsTrial (sym c.end.ensures) (ends_trial c.in-Ok.task (ended c.run.result) c.run.ensures.ends)
+pub returns-in-Ok-clause-selfrun : goal.returns-in-Ok-clause-selfrun
+returns-in-Ok-clause-selfrun g c = λ selfrun asked.
+    subst EndsSelfrun (sym c.end.ensures) (ends_selfrun c.in-Ok.task (ended c.run.result) c.run.ensures.ends)
 
 pub returns-in-Ok-clause-untouched : goal.returns-in-Ok-clause-untouched
 returns-in-Ok-clause-untouched g c = λ none. c.run.ensures.untouched (subst (λ (s : Status). PutsNothing s) c.end.ensures none)
 
 pub returns-in-Ok-clause-kept : goal.returns-in-Ok-clause-kept
-returns-in-Ok-clause-kept g c = λ pieces stood.
-    leaves_extends (ended c.run.result) (pieces_of_task c.args.now.micros c.in-Ok.task) pieces (g.S.Shelf.pieces c.run.new.shelf) (c.run.ensures.leaves pieces stood)
+returns-in-Ok-clause-kept g c = λ outputs stood.
+    leaves_extends (ended c.run.result) (outputs_of_task c.args.now.micros c.in-Ok.task) outputs (g.S.Shelf.outputs c.run.new.shelf) (c.run.ensures.leaves outputs stood)
 
 pub returns-in-Ok-clause-put : goal.returns-in-Ok-clause-put
-returns-in-Ok-clause-put g c = λ files pieces are stood.
-    let now = g.S.Shelf.pieces c.run.new.shelf in
-    subst (λ (s : Status). Leaves s (spec.pieces_of c.args.words.now files c.args.now.micros) pieces now) (sym c.end.ensures)
-    (subst (λ (due : Result (List FileBytes) Status). Leaves (ended c.run.result) due pieces now) (sym (c.in-Ok.ensures.told files c.args.now.micros are))
-    (c.run.ensures.leaves pieces stood))
+returns-in-Ok-clause-put g c = λ files outputs are stood.
+    let now = g.S.Shelf.outputs c.run.new.shelf in
+    subst (λ (s : Status). Leaves s (spec.outputs_of c.args.words.now files c.args.now.micros) outputs now) (sym c.end.ensures)
+    (subst (λ (due : Result (List FileBytes) Status). Leaves (ended c.run.result) due outputs now) (sym (c.in-Ok.ensures.told files c.args.now.micros are))
+    (c.run.ensures.leaves outputs stood))
 
 pub returns-in-Ok-clause-files : goal.returns-in-Ok-clause-files
 returns-in-Ok-clause-files g c = c.in-Ok.ensures.files
@@ -100,21 +100,21 @@ pub returns-in-Err-clause-told : goal.returns-in-Err-clause-told
 returns-in-Err-clause-told g c = λ files are.
     answers_stop (Rose (g.F.Folder.faults c.args.folder.now) (g.F.Folder.faults c.read_task.new.folder))
     (Rose (g.S.Shelf.refusals c.args.shelf.now) (g.S.Shelf.refusals c.args.shelf.now)) c.in-Err.status
-    (spec.pieces_of c.args.words.now files c.args.now.micros) (c.in-Err.ensures.told files c.args.now.micros are)
+    (spec.outputs_of c.args.words.now files c.args.now.micros) (c.in-Err.ensures.told files c.args.now.micros are)
 
 pub returns-in-Err-clause-complete : goal.returns-in-Err-clause-complete
 returns-in-Err-clause-complete g c = λ files due are is calm free.
     let rose = Rose (g.F.Folder.faults c.args.folder.now) (g.F.Folder.faults c.read_task.new.folder) in
     let calmed = calm_read (command_of c.args.words.now) c.in-Err.status rose calm c.in-Err.ensures.unread
     (λ fault wrong. same_status ((c.in-Err.ensures.usage fault).1 wrong)) in
-    inr (stopped_for rose c.in-Err.status (spec.pieces_of c.args.words.now files c.args.now.micros) due is calmed
+    inr (stopped_for rose c.in-Err.status (spec.outputs_of c.args.words.now files c.args.now.micros) due is calmed
     (c.in-Err.ensures.told files c.args.now.micros are))
 
 pub returns-in-Err-clause-refused : goal.returns-in-Err-clause-refused
 returns-in-Err-clause-refused g c = λ files cause are is calm free.
     let rose = Rose (g.F.Folder.faults c.args.folder.now) (g.F.Folder.faults c.read_task.new.folder) in
     let refused = Rose (g.S.Shelf.refusals c.args.shelf.now) (g.S.Shelf.refusals c.args.shelf.now) in
-    let due = spec.pieces_of c.args.words.now files c.args.now.micros in
+    let due = spec.outputs_of c.args.words.now files c.args.now.micros in
     let calmed = calm_read (command_of c.args.words.now) c.in-Err.status rose calm c.in-Err.ensures.unread
     (λ fault wrong. same_status ((c.in-Err.ensures.usage fault).1 wrong)) in
     refused_as rose refused c.in-Err.status cause due is calmed free (answers_stop rose refused c.in-Err.status due (c.in-Err.ensures.told files c.args.now.micros are))
@@ -122,16 +122,16 @@ returns-in-Err-clause-refused g c = λ files cause are is calm free.
 pub returns-in-Err-clause-made : goal.returns-in-Err-clause-made
 returns-in-Err-clause-made g c = λ recipe asked. absurd (c.in-Err.ensures.unread (Generates recipe) asked)
 
-pub returns-in-Err-clause-tried : goal.returns-in-Err-clause-tried
-returns-in-Err-clause-tried g c = λ trial asked. absurd (c.in-Err.ensures.unread (Tries trial) asked)
+pub returns-in-Err-clause-selfrun : goal.returns-in-Err-clause-selfrun
+returns-in-Err-clause-selfrun g c = λ selfrun asked. absurd (c.in-Err.ensures.unread (Selfruns selfrun) asked)
 
 pub returns-in-Err-clause-kept : goal.returns-in-Err-clause-kept
-returns-in-Err-clause-kept g c = λ pieces stood. nothing_more pieces (g.S.Shelf.pieces c.args.shelf.now) stood
+returns-in-Err-clause-kept g c = λ outputs stood. nothing_more outputs (g.S.Shelf.outputs c.args.shelf.now) stood
 
 pub returns-in-Err-clause-put : goal.returns-in-Err-clause-put
-returns-in-Err-clause-put g c = λ files pieces are stood.
+returns-in-Err-clause-put g c = λ files outputs are stood.
     leaves_stop (Rose (g.F.Folder.faults c.args.folder.now) (g.F.Folder.faults c.read_task.new.folder)) c.in-Err.status
-    (spec.pieces_of c.args.words.now files c.args.now.micros) pieces (g.S.Shelf.pieces c.args.shelf.now) stood (c.in-Err.ensures.told files c.args.now.micros are)
+    (spec.outputs_of c.args.words.now files c.args.now.micros) outputs (g.S.Shelf.outputs c.args.shelf.now) stood (c.in-Err.ensures.told files c.args.now.micros are)
 
 pub returns-in-Err-clause-read : goal.returns-in-Err-clause-read
 returns-in-Err-clause-read g c = λ is. c.in-Err.ensures.read (ap (λ (s : Status). Err s) is)
@@ -140,13 +140,13 @@ pub returns-in-Err-clause-write : goal.returns-in-Err-clause-write
 returns-in-Err-clause-write g c = λ is. absurd (subst ComesBefore is c.in-Err.ensures.before)
 
 pub returns-in-Err-clause-headline : goal.returns-in-Err-clause-headline
-returns-in-Err-clause-headline g c = λ files pieces screening told stood asked ok. absurd (subst ComesBefore ok c.in-Err.ensures.before)
+returns-in-Err-clause-headline g c = λ files outputs screening told stood asked ok. absurd (subst ComesBefore ok c.in-Err.ensures.before)
 
 pub returns-in-Err-clause-checked : goal.returns-in-Err-clause-checked
-returns-in-Err-clause-checked g c = λ files pieces checking told stood asked ok. absurd (subst ComesBefore ok c.in-Err.ensures.before)
+returns-in-Err-clause-checked g c = λ files outputs checking told stood asked ok. absurd (subst ComesBefore ok c.in-Err.ensures.before)
 
 pub returns-in-Err-clause-rewritten : goal.returns-in-Err-clause-rewritten
-returns-in-Err-clause-rewritten g c = λ files pieces checking told stood asked ok. absurd (subst ComesBefore ok c.in-Err.ensures.before)
+returns-in-Err-clause-rewritten g c = λ files outputs checking told stood asked ok. absurd (subst ComesBefore ok c.in-Err.ensures.before)
 
 pub returns-in-Err-clause-untouched : goal.returns-in-Err-clause-untouched
 returns-in-Err-clause-untouched g c = λ none. refl

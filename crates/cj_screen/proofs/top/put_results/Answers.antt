@@ -2,7 +2,7 @@ use Rattle.cj_screen.proofs.top.put_results.Goals as goal
 
 pub returns-in-Screened : goal.returns-in-Screened
 returns-in-Screened g c =
-    let done = c.put_pieces.ensures in
+    let done = c.put_outputs.ensures in
     rw c.in-Screened.is (record { comes = done.comes; write = done.write; leaves = done.leaves; later = done.later })
 
 pub returns-in-Checked : goal.returns-in-Checked
@@ -15,10 +15,10 @@ returns-in-Made g c =
     let done = c.put_catalogue.ensures in
     rw (c.in-Made.is, ← c.deref.ensures.value) (record { comes = done.comes; write = done.write; leaves = done.leaves; later = done.later })
 
-pub returns-in-Tried : goal.returns-in-Tried
-returns-in-Tried g c =
-    let done = c.put_trial.ensures in
-    rw c.in-Tried.is (record { comes = done.comes; write = done.write; leaves = done.leaves; later = done.later })
+pub returns-in-Selfrun : goal.returns-in-Selfrun
+returns-in-Selfrun g c =
+    let done = c.put_selfrun.ensures in
+    rw c.in-Selfrun.is (record { comes = done.comes; write = done.write; leaves = done.leaves; later = done.later })
 
 pub returns-in-Rewritten : goal.returns-in-Rewritten
 returns-in-Rewritten g c =

@@ -7,8 +7,8 @@ use Rattle.cj_outputs.specs.Findings.{ended}
 use Rattle.cj_outputs.specs.Outcome.{ComesOfPuts, Leaves}
 use Rattle.cj_outputs.proofs.AcceptingLemmas.{same_error}
 use Rattle.cj_outputs.proofs.EndLemmas.{answers_put, answers_refused, answers_stop, first_stand, leaves_refused, leaves_stop, put_or_memory, puts_some, rose_later, stopped_for}
-use Rattle.cj_screen.specs.Results.{pieces_due}
-use Rattle.cj_screen.specs.Tasks.{ComesOfSearch, pieces_of_task}
+use Rattle.cj_screen.specs.Results.{outputs_due}
+use Rattle.cj_screen.specs.Tasks.{ComesOfSearch, outputs_of_task}
 use Rattle.cj_screen.proofs.TaskLemmas.{done_by, due_or_many, ends_of_puts, ends_of_search}
 use Rattle.cj_screen.proofs.ResultLemmas.{count_later, same_status}
 use Rattle.cj_screen.proofs.top.run.Goals as goal
@@ -18,7 +18,7 @@ pub returns-in_err-begin_puts : goal.returns-in_err-begin_puts
 returns-in_err-begin_puts g c =
     let s = c.in_err-begin_puts.field-0.0 in
     let task = c.args.task in
-    let due = pieces_of_task c.args.now.micros task in
+    let due = outputs_of_task c.args.now.micros task in
     let refused = Rose (g.S.Shelf.refusals c.args.shelf.now) (g.S.Shelf.refusals c.begin_puts.new.shelf) in
     let begun = c.in_err-begin_puts.ensures in
     let p = err_from_is_err_and c.from_residual.result c.from_residual.ensures.1 in
@@ -26,11 +26,11 @@ returns-in_err-begin_puts g c =
       ends = ends_of_puts task (Err s) begun.comes;
       write = λ is. begun.write (same_error is);
       answers = answers_refused ⊥ refused s due begun.comes begun.refused (due_or_many c.args.now.micros task begun.files);
-      complete = λ pieces is calm.
+      complete = λ outputs is calm.
           put_or_memory (Rose (g.S.Shelf.faults c.args.shelf.now) (g.S.Shelf.faults c.begin_puts.new.shelf)) (Err s) calm begun.comes (λ e. begun.write (same_error e));
-      done = λ files pieces asking readies stood ok. absurd (subst ComesOfPuts ok begun.comes);
-      untouched = λ none. begun.pieces;
-      leaves = λ pieces stood. leaves_refused s due pieces (g.S.Shelf.pieces c.begin_puts.new.shelf) begun.comes (begun.pieces ∙ stood);
+      done = λ files outputs command readies stood ok. absurd (subst ComesOfPuts ok begun.comes);
+      untouched = λ none. begun.outputs;
+      leaves = λ outputs stood. leaves_refused s due outputs (g.S.Shelf.outputs c.begin_puts.new.shelf) begun.comes (begun.outputs ∙ stood);
       later = begun.later;
     })
 
@@ -39,7 +39,7 @@ pub returns-in_err-results : goal.returns-in_err-results
 returns-in_err-results g c =
     let s = c.in_err-results.field-0.0 in
     let task = c.args.task in
-    let due = pieces_of_task c.args.now.micros task in
+    let due = outputs_of_task c.args.now.micros task in
     let refused = Rose (g.S.Shelf.refusals c.args.shelf.now) (g.S.Shelf.refusals c.begin_puts.new.shelf) in
     let begun = c.in_ok-begin_puts.ensures in
     let found = c.in_err-results.ensures in
@@ -48,10 +48,10 @@ returns-in_err-results g c =
       ends = ends_of_search task s found.ends;
       write = λ is. absurd (subst (λ (t : Status). ComesOfSearch task t) (same_status is) found.ends);
       answers = answers_stop ⊥ refused s due found.told;
-      complete = λ pieces is calm. inr (stopped_for ⊥ s due pieces is (λ e none. none) found.told);
-      done = λ files pieces asking readies stood ok. absurd (subst (λ (t : Status). ComesOfSearch task t) ok found.ends);
-      untouched = λ none. begun.pieces;
-      leaves = λ pieces stood. leaves_stop ⊥ s due pieces (g.S.Shelf.pieces c.begin_puts.new.shelf) (begun.pieces ∙ stood) found.told;
+      complete = λ outputs is calm. inr (stopped_for ⊥ s due outputs is (λ e none. none) found.told);
+      done = λ files outputs command readies stood ok. absurd (subst (λ (t : Status). ComesOfSearch task t) ok found.ends);
+      untouched = λ none. begun.outputs;
+      leaves = λ outputs stood. leaves_stop ⊥ s due outputs (g.S.Shelf.outputs c.begin_puts.new.shelf) (begun.outputs ∙ stood) found.told;
       later = begun.later;
     })
 
@@ -67,7 +67,7 @@ returns-clause-write g c = λ is.
 pub returns-clause-answers : goal.returns-clause-answers
 returns-clause-answers g c =
     answers_put ⊥ (Rose (g.S.Shelf.refusals c.args.shelf.now) (g.S.Shelf.refusals c.put_results.new.shelf)) c.put_results.result
-    (pieces_of_task c.args.now.micros c.args.task) (pieces_due c.in_ok-results.results) c.in_ok-results.ensures.told c.put_results.ensures.comes
+    (outputs_of_task c.args.now.micros c.args.task) (outputs_due c.in_ok-results.results) c.in_ok-results.ensures.told c.put_results.ensures.comes
 
 pub returns-clause-complete : goal.returns-clause-complete
 returns-clause-complete g c = λ due is calm.
@@ -78,21 +78,21 @@ returns-clause-complete g c = λ due is calm.
     c.put_results.ensures.comes c.put_results.ensures.write
 
 pub returns-clause-done : goal.returns-clause-done
-returns-clause-done g c = λ files pieces asking readies stood ok.
+returns-clause-done g c = λ files outputs command readies stood ok.
     let results = c.in_ok-results.results in
-    let now = g.S.Shelf.pieces c.put_results.new.shelf in
-    let due : Result (List FileBytes) Status = Ok (pieces_due results) in
-    let leaves = subst (λ (s : Status). Leaves s due pieces now) ok (c.put_results.ensures.leaves pieces (c.in_ok-begin_puts.ensures.pieces ∙ stood)) in
-    done_by asking files pieces now results (c.in_ok-results.ensures.shows files asking readies) (first_stand (pieces_due results) pieces now leaves)
+    let now = g.S.Shelf.outputs c.put_results.new.shelf in
+    let due : Result (List FileBytes) Status = Ok (outputs_due results) in
+    let leaves = subst (λ (s : Status). Leaves s due outputs now) ok (c.put_results.ensures.leaves outputs (c.in_ok-begin_puts.ensures.outputs ∙ stood)) in
+    done_by command files outputs now results (c.in_ok-results.ensures.shows files command readies) (first_stand (outputs_due results) outputs now leaves)
 
 pub returns-clause-untouched : goal.returns-clause-untouched
 returns-clause-untouched g c = λ none. absurd (puts_some c.put_results.result c.put_results.ensures.comes none)
 
 pub returns-clause-leaves : goal.returns-clause-leaves
-returns-clause-leaves g c = λ pieces stood.
-    let now = g.S.Shelf.pieces c.put_results.new.shelf in
-    subst (λ (due : Result (List FileBytes) Status). Leaves (ended c.put_results.result) due pieces now) (sym c.in_ok-results.ensures.told)
-    (c.put_results.ensures.leaves pieces (c.in_ok-begin_puts.ensures.pieces ∙ stood))
+returns-clause-leaves g c = λ outputs stood.
+    let now = g.S.Shelf.outputs c.put_results.new.shelf in
+    subst (λ (due : Result (List FileBytes) Status). Leaves (ended c.put_results.result) due outputs now) (sym c.in_ok-results.ensures.told)
+    (c.put_results.ensures.leaves outputs (c.in_ok-begin_puts.ensures.outputs ∙ stood))
 
 pub returns-clause-later : goal.returns-clause-later
 returns-clause-later g c =

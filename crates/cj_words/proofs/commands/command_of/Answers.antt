@@ -26,13 +26,13 @@ returns-in_err-recipe_of-in-Generate c =
     let p = err_from_is_err_and c.from_residual-in_err-recipe_of-in-Generate.result c.from_residual-in_err-recipe_of-in-Generate.ensures.1 in
     rw (p.1, p.2, c.in-Generate.is, sym c.in_err-recipe_of-in-Generate.ensures) refl
 
-pub returns-in_ok-trial_of-in-Selfrun : goal.returns-in_ok-trial_of-in-Selfrun
-returns-in_ok-trial_of-in-Selfrun c = rw (c.in-Selfrun.is, sym c.in_ok-trial_of-in-Selfrun.ensures) refl
+pub returns-in_ok-selfrun_of-in-Selfrun : goal.returns-in_ok-selfrun_of-in-Selfrun
+returns-in_ok-selfrun_of-in-Selfrun c = rw (c.in-Selfrun.is, sym c.in_ok-selfrun_of-in-Selfrun.ensures) refl
 
-pub returns-in_err-trial_of-in-Selfrun : goal.returns-in_err-trial_of-in-Selfrun
-returns-in_err-trial_of-in-Selfrun c =
-    let p = err_from_is_err_and c.from_residual-in_err-trial_of-in-Selfrun.result c.from_residual-in_err-trial_of-in-Selfrun.ensures.1 in
-    rw (p.1, p.2, c.in-Selfrun.is, sym c.in_err-trial_of-in-Selfrun.ensures) refl
+pub returns-in_err-selfrun_of-in-Selfrun : goal.returns-in_err-selfrun_of-in-Selfrun
+returns-in_err-selfrun_of-in-Selfrun c =
+    let p = err_from_is_err_and c.from_residual-in_err-selfrun_of-in-Selfrun.result c.from_residual-in_err-selfrun_of-in-Selfrun.ensures.1 in
+    rw (p.1, p.2, c.in-Selfrun.is, sym c.in_err-selfrun_of-in-Selfrun.ensures) refl
 
 pub returns-in_ok-checking_of-in-Rewrite : goal.returns-in_ok-checking_of-in-Rewrite
 returns-in_ok-checking_of-in-Rewrite c = rw (c.in-Rewrite.is, sym c.in_ok-checking_of-in-Rewrite.ensures) refl

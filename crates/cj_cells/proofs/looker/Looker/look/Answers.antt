@@ -2,7 +2,7 @@ use Rattle.std.proofs.Common.{Option, refl, ap, ◌∙◌, sym, subst}
 use Rattle.std.specs.Prelude.{IfSome}
 use Rattle.cj_hermite.specs.declared.problem.Problem.{Problem}
 use Rattle.cj_hermite.specs.Problems.{plain_problem}
-use Rattle.cj_hermite.specs.Roots.{KeepIntervals}
+use Rattle.cj_hermite.specs.Roots.{KeepPieces}
 use Rattle.cj_hermite.specs.Ready.{curve_ready}
 use Rattle.cj_hermite.proofs.TrackLemmas.{object_exists, second_state}
 use Rattle.cj_bezier.specs.Cells.{plain_cell}
@@ -18,7 +18,7 @@ pair_threshold-threshold-requires c =
     let cell = c.args.cell in
     let case = plain_problem c.self.inside.problem.now in
     object_exists c.self.inside.problem.now cell.pair.b cell.first.micros (second_state case cell.pair.a cell.pair.b cell.first.micros cell.last.micros
-    (subst (λ (p : Problem). KeepIntervals (plain_problem p) cell.pair.a cell.pair.b cell.first.micros cell.last.micros) (sym c.self.view_is) c.requires))
+    (subst (λ (p : Problem). KeepPieces (plain_problem p) cell.pair.a cell.pair.b cell.first.micros cell.last.micros) (sym c.self.view_is) c.requires))
 
 pub returns-then-are_of-clause-kind : goal.returns-then-are_of-clause-kind
 returns-then-are_of-clause-kind c =
@@ -43,7 +43,7 @@ returns-clause-kind c =
 pub prepare-ready-requires : goal.prepare-ready-requires
 prepare-ready-requires c =
     let cell = c.args.cell in
-    subst (λ (p : Problem). KeepIntervals (plain_problem p) cell.pair.a cell.pair.b cell.first.micros cell.last.micros) (sym c.self.view_is) c.requires
+    subst (λ (p : Problem). KeepPieces (plain_problem p) cell.pair.a cell.pair.b cell.first.micros cell.last.micros) (sym c.self.view_is) c.requires
 
 pub look_at-requires-clause-first_over : goal.look_at-requires-clause-first_over
 look_at-requires-clause-first_over c =

@@ -6,10 +6,10 @@ use Rattle.cj_hermite.specs.Problems.{plain_problem}
 use Rattle.cj_bezier.specs.SlotBoxes.{plain_box, plain_boxes}
 use Rattle.cj_cert.specs.declared.cert_lines.ShellLine.{ShellLine}
 use Rattle.cj_cert.specs.Certificates.{plain_certificate}
-use Rattle.cj_cert.specs.Listed.{is_looked_listed}
+use Rattle.cj_cert.specs.Listed.{is_candidate_listed}
 use Rattle.cj_checker.specs.ListedBoxes.{table_of}
-use Rattle.cj_checker.specs.Keys.{looked_with}
-use Rattle.cj_checker.proofs.RoundLemmas.{filled_length, looked_listed}
+use Rattle.cj_checker.specs.Keys.{candidate_with}
+use Rattle.cj_checker.proofs.RoundLemmas.{filled_length, candidates_listed}
 use Rattle.cj_checker.proofs.SweepLemmas.{boxed, boxed_exists}
 use Rattle.cj_checker.proofs.rounds.Work.find_pairs.Goals as goal
 use Rattle.cj_checker.proofs.rounds.Work.find_pairs.Goals.{After-find}
@@ -22,11 +22,11 @@ count : (c : After-find) → length c.deref-2.result.now ≡ length c.args.probl
 count c = ap length c.deref-2.ensures.value ∙ filled_length (table_of c.args.listed.now c.args.slot) _ c.fill.new.boxes.items c.in_ok-fill.ensures ∙ ap length c.as_slice.ensures.value
 
 -- what the sweep looks at is what is listed
-same : (c : After-find) (a b : ℕ) → looked_with (plain_problem c.args.problem.now) (map (λ (line : ShellLine). line.shell) c.deref.result.now) (plain_boxes c.deref-2.result.now) (a, b)
-    ≡ is_looked_listed (plain_problem c.args.problem.now) (plain_certificate c.args.cert.now) a b c.args.slot
+same : (c : After-find) (a b : ℕ) → candidate_with (plain_problem c.args.problem.now) (map (λ (line : ShellLine). line.shell) c.deref.result.now) (plain_boxes c.deref-2.result.now) (a, b)
+    ≡ is_candidate_listed (plain_problem c.args.problem.now) (plain_certificate c.args.cert.now) a b c.args.slot
 same c a b =
     let objects : length c.as_slice.result.now ≡ c.args.cert.now.objects = ap length c.as_slice.ensures.value ∙ sym c.requires.objects in
-    looked_listed (plain_problem c.args.problem.now) (plain_certificate c.args.cert.now) c.deref.result.now (plain_boxes c.deref-2.result.now) c.args.slot c.deref.ensures.value
+    candidates_listed (plain_problem c.args.problem.now) (plain_certificate c.args.cert.now) c.deref.result.now (plain_boxes c.deref-2.result.now) c.args.slot c.deref.ensures.value
     (ap plain_boxes c.deref-2.ensures.value ∙ c.in_ok-fill.ensures ∙ (λ i. map (c.requires.boxes i c.args.slot) (range_with_len 0 (objects i)))) a b
 
 pub returns-clause-exist : goal.returns-clause-exist
@@ -35,15 +35,15 @@ returns-clause-exist c =
     λ k d lt.
     let case = plain_problem c.args.problem.now in
     let areas = plain_boxes c.deref-2.result.now in
-    let boxes = boxed case (map (λ (line : ShellLine). line.shell) c.deref.result.now) areas _ _ (c.in_ok-find.ensures.looked k d lt) in
+    let boxes = boxed case (map (λ (line : ShellLine). line.shell) c.deref.result.now) areas _ _ (c.in_ok-find.ensures.candidate k d lt) in
     let there = boxed_exists areas _ boxes.second boxes.second_is in
     let n = length-map c.deref-2.result.now (option_map plain_box) in
     omega (arith, there, n, count find)
 
-pub returns-clause-looked : goal.returns-clause-looked
-returns-clause-looked c =
-    let find = (goal.at.returns-clause-looked c).After-find in
-    λ k d lt. sym (same find _ _) ∙ c.in_ok-find.ensures.looked k d lt
+pub returns-clause-candidate : goal.returns-clause-candidate
+returns-clause-candidate c =
+    let find = (goal.at.returns-clause-candidate c).After-find in
+    λ k d lt. sym (same find _ _) ∙ c.in_ok-find.ensures.candidate k d lt
 
 pub returns-clause-found : goal.returns-clause-found
 returns-clause-found c =

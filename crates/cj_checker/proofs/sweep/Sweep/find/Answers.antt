@@ -3,17 +3,17 @@ use Rattle.cj_hermite.specs.Problems.{plain_problem}
 use Rattle.cj_bezier.specs.SlotBoxes.{plain_boxes}
 use Rattle.cj_cert.specs.declared.cert_lines.ShellLine.{ShellLine}
 use Rattle.cj_checker.specs.declared.reach.Reach.{Reach}
-use Rattle.cj_checker.specs.Sweeps.{AreLooked, Meet}
+use Rattle.cj_checker.specs.Sweeps.{AreCandidates, Meet}
 use Rattle.cj_checker.proofs.SweepLemmas.{all_found}
 use Rattle.cj_checker.proofs.sweep.Sweep.find.Goals as goal
 
-pub returns-clause-looked : goal.returns-clause-looked
-returns-clause-looked c =
+pub returns-clause-candidate : goal.returns-clause-candidate
+returns-clause-candidate c =
     let case = plain_problem c.args.problem.now in
     let shells = map (λ (line : ShellLine). line.shell) c.args.shells.now in
     let areas = plain_boxes c.args.boxes.now in
-    c.in_ok-append_met-3.ensures.looked (c.in_ok-append_met-2.ensures.looked (c.in_ok-append_met.ensures.looked
-    (subst (AreLooked case shells areas) (sym c.clear.ensures.items) (λ k d short. absurd (omega (arith, short))))))
+    c.in_ok-append_met-3.ensures.candidate (c.in_ok-append_met-2.ensures.candidate (c.in_ok-append_met.ensures.candidate
+    (subst (AreCandidates case shells areas) (sym c.clear.ensures.items) (λ k d short. absurd (omega (arith, short))))))
 
 pub returns-clause-found : goal.returns-clause-found
 returns-clause-found c a b low high up is =

@@ -9,5 +9,5 @@ returns-clause-memory g c = c.put_parts.ensures.memory
 pub returns-clause-later : goal.returns-clause-later
 returns-clause-later g c = c.put_parts.ensures.later
 
-pub returns-clause-pieces : goal.returns-clause-pieces
-returns-clause-pieces g c = rw (c.deref.ensures.value, c.in_ok-parts.ensures) at c.put_parts.ensures.pieces
+pub returns-clause-outputs : goal.returns-clause-outputs
+returns-clause-outputs g c = rw (c.deref.ensures.value, c.in_ok-parts.ensures) at c.put_parts.ensures.outputs

@@ -1,0 +1,41 @@
+use Rattle.std.proofs.Common.{◌∙◌, List, Result, Ok, Err, [], false, sym, subst}
+use Rattle.std.proofs.lemmas.Result.{err_from_is_err_and}
+use Rattle.cj_io.specs.declared.file.FileBytes.{FileBytes}
+use Rattle.cj_causes.specs.declared.cert_version.CertVersion.TheVariants.{One}
+use Rattle.cj_hermite.specs.Problems.{plain_problem}
+use Rattle.cj_words.specs.Commands.{plain_selfrun}
+use Rattle.cj_status.specs.declared.status.Status.{Status}
+use Rattle.cj_status.specs.Steps.{Stops}
+use Rattle.cj_outputs.specs.Findings.{outputs_in}
+use Rattle.cj_outputs.specs.Messages.{PlainOrigin}
+use Rattle.cj_outputs.specs.Outcome.{outputs_within}
+use Rattle.cj_screen.proofs.SelfrunLemmas.{comes_of_selfrun, selfrun_after, selfrun_told, within_limits_of}
+use Rattle.cj_screen.proofs.selfruns.try_catalogue.Goals as goal
+
+-- nothing is made of it here
+nobody : PlainOrigin
+nobody = record { created = 0; originator = [] }
+
+pub returns-in_err-found-clause-ends : goal.returns-in_err-found-clause-ends
+returns-in_err-found-clause-ends g c =
+    let case = plain_problem c.in_ok-problem.problem in
+    let cells = c.args.selfrun.now.cells in
+    let p = err_from_is_err_and c.from_residual-in_err-found.result c.from_residual-in_err-found.ensures.1 in
+    rw (p.1, p.2) (comes_of_selfrun ⊥ (outputs_in nobody) (Err c.in_err-found.field-0.0) (outputs_within cells false One nobody case) (λ none. none)
+    (c.in_err-found.ensures.told nobody) (within_limits_of cells false One nobody case))
+
+pub returns-in_err-found-clause-told : goal.returns-in_err-found-clause-told
+returns-in_err-found-clause-told g c =
+    let case = plain_problem c.in_ok-problem.problem in
+    let selfrun = plain_selfrun c.args.selfrun.now in
+    let s = c.in_err-found.field-0.0 in
+    let within = selfrun_told selfrun.cells false One nobody case (Err s) (c.in_err-found.ensures.told nobody) tt tt in
+    let p = err_from_is_err_and c.from_residual-in_err-found.result c.from_residual-in_err-found.ensures.1 in
+    rw (p.1, p.2) (subst (λ (due : Result (List FileBytes) Status). Stops ⊥ s due) (sym (selfrun_after selfrun case c.in_ok-problem.ensures.told)) within)
+
+pub returns-clause-told : goal.returns-clause-told
+returns-clause-told g c =
+    let case = plain_problem c.in_ok-problem.problem in
+    let selfrun = plain_selfrun c.args.selfrun.now in
+    selfrun_after selfrun case c.in_ok-problem.ensures.told
+    ∙ selfrun_told selfrun.cells false One nobody case (Ok c.in_ok-found.found) (c.in_ok-found.ensures.told nobody) c.in_ok-found.ensures.same c.in_ok-found.ensures.found

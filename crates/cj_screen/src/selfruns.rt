@@ -1,0 +1,116 @@
+//! A made-up catalogue that is screened in memory.
+ghost use Rattle.std.specs.Prelude.{◌≡◌, ◌≤◌, List, [], ◌∷◌, Some, Ok, Err, IfErr, IfOk};
+ghost use Rattle.cj_io.specs.Faults.{Rose};
+ghost use Rattle.cj_io.specs.declared.file.FileBytes.{FileBytes};
+ghost use Rattle.cj_hermite.specs.Problems.{plain_problem};
+ghost use Rattle.cj_words.specs.Commands.{plain_selfrun};
+ghost use Rattle.cj_words.specs.Settings.{plain_settings};
+ghost use Rattle.cj_outputs.specs.Findings.{AreFound, ended, selfrun_in};
+ghost use Rattle.cj_outputs.specs.Outcome as spec;
+ghost use Rattle.cj_outputs.specs.Outcome.{ComesOfPuts, ComesOfSelfrun, Leaves};
+ghost use Rattle.cj_status.specs.Steps.{Gives};
+
+use crate::screening::screen;
+use cj_causes::CertVersion;
+use cj_cert_text::written_certificate;
+use cj_checker::{Answer, check};
+use cj_gen::catalogue;
+use cj_hermite::Problem;
+use cj_inputs::prepare;
+use cj_io::{CalmFolder, Gate, Shelf};
+use cj_outputs::{Findings, put};
+use cj_report::summary_text;
+use cj_status::Status;
+use cj_values::Limits;
+use cj_words::{Settings, Selfrun};
+use std::alloc::{AllocError, Global};
+use std::sync::Wait;
+use std::thread::Threads;
+
+/// Screens a made-up catalogue over its whole span, and checks the certificate of what is found.
+#[tactic(auto, unfolding(cj_outputs::specs::Outcome::outputs_of_selfrun))]
+pub fn try_catalogue<R: Threads + Wait + Sync, G: Gate + Sync>(
+    rt: &R,
+    alloc: Global,
+    gate: &G,
+    selfrun: &Selfrun,
+) -> Result<Findings, Status>
+    ensures ends { IfErr result ComesOfSelfrun }
+    ensures told { Gives ⊥ (λ found. selfrun_in found ∷ []) result (spec.outputs_of_selfrun (plain_selfrun selfrun.now)) }
+    ensures found { IfOk result AreFound }
+{
+    let problem = prepare_catalogue(rt, alloc, selfrun)?;
+    let found = screen(
+        rt,
+        alloc,
+        gate,
+        problem,
+        false,
+        CertVersion::One,
+        selfrun.workers,
+        selfrun.cells,
+    )?;
+    confirm(alloc, &found)?;
+    Ok(found)
+}
+
+/// The problem of a made-up catalogue: its files are read as those of a folder are.
+#[tactic(auto, unfolding(cj_outputs::specs::Outcome::case_of_selfrun))]
+fn prepare_catalogue<R: Threads + Sync>(
+    rt: &R,
+    alloc: Global,
+    selfrun: &Selfrun,
+) -> Result<Problem, Status>
+    ensures ends { IfErr result ComesOfSelfrun }
+    ensures told { Gives ⊥ plain_problem result (spec.case_of_selfrun (plain_selfrun selfrun.now)) }
+{
+    let recipe = selfrun.recipe;
+    let files = catalogue(alloc, recipe.seed, recipe.objects, recipe.minutes)?;
+    let mut folder = CalmFolder::new(files);
+    prepare(rt, alloc, &mut folder, &settings_of(selfrun), selfrun.workers)
+}
+
+/// The settings of a made-up catalogue.
+fn settings_of(selfrun: &Selfrun) -> Settings<'static>
+    ensures { plain_settings result ≡ spec.settings_of_selfrun (plain_selfrun selfrun.now) }
+{
+    Settings {
+        threshold: selfrun.threshold,
+        from: None,
+        to: None,
+        suffix: b".oem",
+        as_hermite3: false,
+        sizes: None,
+        limits: Limits::USUAL,
+    }
+}
+
+/// Has the certificate of what is found checked. It is accepted.
+fn confirm(alloc: Global, found: &Findings) -> Result<(), AllocError>
+    requires { AreFound found.now }
+{
+    let certificate = written_certificate(
+        alloc,
+        &found.problem,
+        &found.shells,
+        &found.boxes,
+        &found.leaves,
+    )?;
+    match check(alloc, &found.problem, &certificate)? {
+        Answer::Accepted => Ok(()),
+        Answer::Refused { .. } => unreachable!(),
+    }
+}
+
+/// Puts the summary, and that the certificate is accepted.
+pub fn put_selfrun<S: Shelf>(alloc: Global, shelf: &mut S, found: &Findings) -> Result<(), Status>
+    requires { AreFound found.now }
+    ensures comes { IfErr result ComesOfPuts }
+    ensures write { result ≡ Err Status.WriteFault → Rose (S.faults shelf.old) (S.faults shelf.new) }
+    ensures leaves { (old : List FileBytes) → S.outputs shelf.old ≡ Some old → Leaves (ended result) (Ok (selfrun_in found.now ∷ [])) old (S.outputs shelf.new) }
+    ensures later { S.faults shelf.old ≤ S.faults shelf.new }
+{
+    let mut text = summary_text(alloc, &found.counts)?;
+    text.extend_from_slice(b"CHECK ACCEPTED\n")?;
+    put(alloc, shelf, b"-", &text)
+}
