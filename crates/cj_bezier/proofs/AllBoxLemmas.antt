@@ -6,11 +6,12 @@ use Rattle.std.proofs.Math.Nat.{suc-mul}
 use Rattle.std.proofs.lemmas.List.{length-map, length-append}
 use Rattle.std.proofs.lemmas.List.FromFn.{length-range_with_len}
 use Rattle.cj_track.specs.PlainTracks.{PlainTrack}
-use Rattle.cj_hermite.specs.PlainProblems.{PlainProblem}
-use Rattle.cj_hermite.specs.Slots.{slot_first, slot_last, slot_count}
+use Rattle.cj_case.specs.PlainProblems.{PlainProblem}
+use Rattle.cj_case.specs.Slots.{slot_first, slot_last, slot_count}
 use Rattle.cj_bezier.specs.AllBoxes.{boxes_of, boxes_over}
-use Rattle.cj_bezier.specs.declared.axis_box.AxisBox.{AxisBox}
-use Rattle.cj_bezier.specs.SlotBoxes.{PlainBox, plain_boxes, box_of, plain_box}
+use Rattle.cj_case.specs.declared.axis_box.AxisBox.{AxisBox}
+use Rattle.cj_case.specs.Boxes.{PlainBox, plain_boxes, plain_box}
+use Rattle.cj_bezier.specs.SlotBoxes.{box_of}
 
 pub row_length : (e : PlainTrack) (first last n : ℕ) → length (boxes_over e first last n) ≡ n
 row_length e first last n = length-map (range_with_len 0 n) (λ slot. box_of e (slot_first first slot) (slot_last first last slot)) ∙ length-range_with_len 0 n

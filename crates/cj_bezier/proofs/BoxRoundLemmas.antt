@@ -11,10 +11,11 @@ use Rattle.cj_track.specs.PlainTracks.{PlainTrack}
 use Rattle.cj_hermite.specs.Interpolant.{Four, Curve, place_numerator, place_denominator}
 use Rattle.cj_hermite.specs.Pieces.{piece_holding, curve_of_piece}
 use Rattle.cj_hermite.specs.Walks.{HasNone}
-use Rattle.cj_bezier.specs.declared.axis_box.AxisBox.{AxisBox}
+use Rattle.cj_case.specs.declared.axis_box.AxisBox.{AxisBox}
 use Rattle.cj_bezier.specs.Hulls.{PlainHull, Ends, Encloses, EnclosesAxis}
 use Rattle.cj_bezier.specs.Parts.{hulls_of, HaveParts, AreInTime}
-use Rattle.cj_bezier.specs.SlotBoxes.{IsAtMostEach, IsAtLeastEach, IsExtent, IsBoxOf, Reach, PlainBox, least_four, greatest_four, reach_on, reaches_round, box_of, plain_box, IsPlaceIn}
+use Rattle.cj_bezier.specs.SlotBoxes.{IsAtMostEach, IsAtLeastEach, IsExtent, IsBoxOf, least_four, greatest_four, reach_on, reaches_round, box_of, IsPlaceIn}
+use Rattle.cj_case.specs.Boxes.{Reach, PlainBox, plain_box}
 use Rattle.cj_bezier.proofs.HullLemmas.{encloses}
 use Rattle.cj_bezier.proofs.HullListLemmas.{IsHullRound, of_each_hull, each_hull, no_hulls, no_state, at_each_tick}
 

@@ -2,17 +2,18 @@
 use Rattle.std.proofs.Common.{◌≡◌, ℕ, ◌<◌, ◌≤◌, Bool, true, false, ◌&&◌, not, List, Option, Some, None, refl, subst}
 use Rattle.std.specs.Prelude.{IfSome, IsSomeAnd, slice_get}
 use Rattle.cj_track.specs.PlainTracks.{PlainTrack}
-use Rattle.cj_hermite.specs.PlainProblems.{PlainProblem, threshold_of}
+use Rattle.cj_case.specs.PlainProblems.{PlainProblem, threshold_of}
 use Rattle.cj_hermite.specs.Distance.{IsFar}
 use Rattle.cj_hermite.specs.Pieces.{PlainPiece, piece_holding, curve_of_piece, OfBothAt}
-use Rattle.cj_hermite.specs.Slots.{slot_first, slot_last, slot_of}
+use Rattle.cj_case.specs.Slots.{slot_first, slot_last, slot_of}
 use Rattle.cj_hermite.specs.Walks.{HasNone}
 use Rattle.cj_hermite.proofs.StateLemmas.{has, lacks, state}
-use Rattle.cj_hermite.proofs.SlotLemmas.{slot_exists, slot_begins, slot_ends}
-use Rattle.cj_bezier.specs.declared.shells.Shell.{Shell}
+use Rattle.cj_case.proofs.SlotLemmas.{slot_exists, slot_begins, slot_ends}
+use Rattle.cj_case.specs.declared.shells.Shell.{Shell}
 use Rattle.cj_bezier.specs.Candidates.{candidate_by}
 use Rattle.cj_bezier.specs.Shells.{IsRadiusWithin, are_parted, are_kept, shell_in}
-use Rattle.cj_bezier.specs.SlotBoxes.{PlainBox, IsPlaceIn, both_touch, reaches_in}
+use Rattle.cj_case.specs.Boxes.{PlainBox}
+use Rattle.cj_bezier.specs.SlotBoxes.{IsPlaceIn, both_touch, reaches_in}
 use Rattle.cj_bezier.proofs.PartedLemmas.{law_of}
 use Rattle.cj_bezier.proofs.TouchLemmas.{far_apart}
 use Rattle.cj_bezier.specs.Enclosed.{IsInShell, IsInBox, AreInShells, AreInBoxes, OthersAreFar}

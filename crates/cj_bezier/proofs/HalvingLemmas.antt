@@ -2,12 +2,12 @@
 use Rattle.std.proofs.Common.{◌≡◌, ℕ, zero, suc, ◌+◌, ◌-◌, ◌<◌, ◌≤◌, List, [], ◌∷◌, ◌++◌, Option, Some, None, refl, ap, ◌∙◌, inl, inr, arith}
 use Rattle.std.specs.Prelude.{is_some, unwrap_or, true}
 use Rattle.std.proofs.lemmas.Bool.{cases_lt}
-use Rattle.cj_bezier.specs.declared.kind.Kind.{Kind}
-use Rattle.cj_bezier.specs.declared.kind.Kind.TheVariants.{Undecided}
-use Rattle.cj_bezier.specs.Leaves.{PlainLeaf}
+use Rattle.cj_case.specs.declared.kind.Kind.{Kind}
+use Rattle.cj_case.specs.declared.kind.Kind.TheVariants.{Undecided}
+use Rattle.cj_case.specs.Leaves.{PlainLeaf}
 use Rattle.cj_bezier.specs.Halving.{middle, closed, closed_or, leaves_within, leaves_between}
 use Rattle.cj_bezier.specs.Tiles.{IsLeaf, Tile}
-use Rattle.cj_bezier.specs.Order.{IsBefore}
+use Rattle.cj_case.specs.Order.{IsBefore}
 use Rattle.cj_interval.proofs.ListLemmas.{Each, Exists, Ordered, Each-weaker}
 
 -- the leaf has the kind that its ticks are judged to have

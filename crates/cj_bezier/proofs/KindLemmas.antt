@@ -1,8 +1,8 @@
 -- Kinds of leaves.
 use Rattle.std.proofs.Common.{◌≡◌, true, refl}
-use Rattle.cj_bezier.specs.declared.kind.Kind.{Kind}
-use Rattle.cj_bezier.specs.declared.kind.Kind.TheVariants.{Far, Near, Undecided}
-use Rattle.cj_bezier.specs.Leaves.{same_kind}
+use Rattle.cj_case.specs.declared.kind.Kind.{Kind}
+use Rattle.cj_case.specs.declared.kind.Kind.TheVariants.{Far, Near, Undecided}
+use Rattle.cj_case.specs.Leaves.{same_kind}
 
 pub same_kind-self : (k : Kind) → same_kind k k ≡ true
 same_kind-self Far = refl

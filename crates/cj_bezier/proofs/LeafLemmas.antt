@@ -2,15 +2,16 @@
 use Rattle.std.proofs.Common.{◌≡◌, ℕ, zero, suc, ◌+◌, ◌-◌, ◌^◌, ◌<◌, ◌≤◌, List, [], ◌∷◌, ◌++◌, length, Option, Some, None, refl, sym, ap, subst, ◌∙◌, arith, length-append}
 use Rattle.std.specs.List.{flat_map}
 use Rattle.cj_hermite.specs.Interpolant.{Curve, IsOver}
-use Rattle.cj_hermite.specs.PlainProblems.{PlainProblem, curve_at, threshold_of, HaveCurves}
-use Rattle.cj_hermite.specs.Roots.{PlainCell}
+use Rattle.cj_case.specs.PlainProblems.{PlainProblem, threshold_of}
+use Rattle.cj_hermite.specs.ObjectsAtTicks.{curve_at, HaveCurves}
+use Rattle.cj_case.specs.Cells.{PlainCell}
 use Rattle.cj_hermite.proofs.RootLemmas.{IsRootOf}
 use Rattle.cj_hermite.proofs.ObjectLemmas.{of_objects}
 use Rattle.cj_hermite.proofs.CurveLemmas.{Curves, curves, curves_of, root_pieces}
 use Rattle.cj_hermite.proofs.TrackLemmas.{over_part}
-use Rattle.cj_bezier.specs.declared.kind.Kind.{Kind}
-use Rattle.cj_bezier.specs.Leaves.{PlainLeaf, IsTickOf}
-use Rattle.cj_bezier.specs.Order.{IsBefore}
+use Rattle.cj_case.specs.declared.kind.Kind.{Kind}
+use Rattle.cj_case.specs.Leaves.{PlainLeaf, IsTickOf}
+use Rattle.cj_case.specs.Order.{IsBefore}
 use Rattle.cj_bezier.specs.Verdicts.{Holds}
 use Rattle.cj_bezier.specs.Halving.{middle, closed_or, halved_or, leaves_within, leaves_between, splits_within}
 use Rattle.cj_bezier.specs.Tiles.{IsLeaf, Tile}

@@ -10,7 +10,7 @@ use Rattle.cj_interval.proofs.SizeLemmas.{mul_pos}
 use Rattle.cj_interval.proofs.SquareLemmas.{square_is, root-le}
 use Rattle.cj_hermite.specs.Interpolant.{Curve, place_numerator, place_denominator}
 use Rattle.cj_hermite.specs.Distance.{IsFar}
-use Rattle.cj_bezier.specs.declared.shells.Shell.{Shell}
+use Rattle.cj_case.specs.declared.shells.Shell.{Shell}
 use Rattle.cj_bezier.specs.Shells.{IsRadiusWithin, are_parted}
 use Rattle.cj_bezier.proofs.GapLemmas.{squares}
 

@@ -7,7 +7,7 @@ use Rattle.cj_interval.proofs.ListLemmas.{Each, Each-weaker, Each-always, Each-b
 use Rattle.cj_track.specs.PlainTracks.{PlainTrack}
 use Rattle.cj_hermite.specs.Pieces.{piece_holding, curve_of_piece}
 use Rattle.cj_hermite.specs.Walks.{HasNone}
-use Rattle.cj_bezier.specs.declared.shells.Shell.{Shell}
+use Rattle.cj_case.specs.declared.shells.Shell.{Shell}
 use Rattle.cj_bezier.specs.Gaps.{gap_terms}
 use Rattle.cj_bezier.specs.Hulls.{PlainHull}
 use Rattle.cj_bezier.specs.Parts.{hulls_of, HaveParts, AreInTime}

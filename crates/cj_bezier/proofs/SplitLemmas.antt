@@ -12,7 +12,7 @@ use Rattle.cj_hermite.specs.Interpolant.{Four, Curve, IsOver, place_denominator}
 use Rattle.cj_hermite.specs.Levels.{polar}
 use Rattle.cj_hermite.specs.Distance.{BAND}
 use Rattle.cj_hermite.proofs.LevelLemmas.{polar-low, polar-high, polar-width}
-use Rattle.cj_bezier.specs.declared.kind.Kind.TheVariants as kinds
+use Rattle.cj_case.specs.declared.kind.Kind.TheVariants as kinds
 use Rattle.cj_bezier.specs.Hulls.{Ends, PlainHull, hull_ends, hull_axes}
 use Rattle.cj_bezier.specs.Gaps.{PlainGap, value_at, coefficient, apart, apart_axes, product_low, product_high, gap_low, gap_high, gap_terms, hull_gap}
 use Rattle.cj_bezier.specs.Verdicts.{choose6, share, Supports, supported}

@@ -8,8 +8,8 @@ use Rattle.std.specs.List.{All, list_all, zip}
 use Rattle.cj_interval.specs.declared.span.Span.{Span}
 use Rattle.cj_interval.proofs.IntegerLemmas.{decides_le}
 use Rattle.cj_hermite.specs.Distance.{BAND}
-use Rattle.cj_bezier.specs.declared.kind.Kind.{Kind}
-use Rattle.cj_bezier.specs.declared.kind.Kind.TheVariants as kinds
+use Rattle.cj_case.specs.declared.kind.Kind.{Kind}
+use Rattle.cj_case.specs.declared.kind.Kind.TheVariants as kinds
 use Rattle.cj_bezier.specs.Hulls.{lows, highs}
 use Rattle.cj_bezier.specs.Gaps.{PlainGap}
 use Rattle.cj_bezier.specs.Verdicts.{share, AreAbove, AreAtLeast, AreAtMost, Supports, SEVEN, are_above, are_at_least, are_at_most, supported}

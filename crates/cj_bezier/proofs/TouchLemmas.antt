@@ -10,7 +10,8 @@ use Rattle.cj_interval.proofs.SquareLemmas.{square_is}
 use Rattle.cj_hermite.specs.Interpolant.{Curve, place_denominator}
 use Rattle.cj_hermite.specs.Distance.{IsFar, offset}
 use Rattle.cj_hermite.proofs.DistanceLemmas.{apart_one, beyond}
-use Rattle.cj_bezier.specs.SlotBoxes.{PlainBox, IsPlaceIn, reach_touches, reaches_touch}
+use Rattle.cj_case.specs.Boxes.{PlainBox}
+use Rattle.cj_bezier.specs.SlotBoxes.{IsPlaceIn, reach_touches, reaches_touch}
 use Rattle.cj_bezier.proofs.PartedLemmas.{denominator_some}
 
 -- a number of at least n in size has a square of at least n²

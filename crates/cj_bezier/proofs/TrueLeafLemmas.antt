@@ -2,11 +2,12 @@
 use Rattle.std.proofs.Common.{◌≡◌, ℕ, ◌<◌, ◌≤◌, Bool, true, false, List, refl, subst, arith}
 use Rattle.std.specs.Prelude.{All, Any}
 use Rattle.cj_hermite.specs.Distance.{IsFar}
-use Rattle.cj_hermite.specs.PlainProblems.{PlainProblem, threshold_of, IsCommonOf, OfObjectsAt}
+use Rattle.cj_case.specs.PlainProblems.{PlainProblem, threshold_of}
+use Rattle.cj_hermite.specs.ObjectsAtTicks.{IsCommonOf, OfObjectsAt}
 use Rattle.cj_hermite.proofs.ObjectLemmas.{of_objects-wider}
-use Rattle.cj_bezier.specs.declared.kind.Kind.{Kind}
-use Rattle.cj_bezier.specs.declared.kind.Kind.TheVariants.{Far, Near, Undecided}
-use Rattle.cj_bezier.specs.Leaves.{PlainLeaf, IsTickOf, Covers, LiesIn}
+use Rattle.cj_case.specs.declared.kind.Kind.{Kind}
+use Rattle.cj_case.specs.declared.kind.Kind.TheVariants.{Far, Near, Undecided}
+use Rattle.cj_case.specs.Leaves.{PlainLeaf, IsTickOf, Covers, LiesIn}
 use Rattle.cj_bezier.specs.RootLeaves.{IsTrueThroughout}
 use Rattle.cj_bezier.specs.Verdicts.{Holds}
 

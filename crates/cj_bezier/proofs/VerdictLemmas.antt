@@ -4,8 +4,8 @@ use Rattle.std.specs.Prelude.{ℤ, pos, ◌≤ℤ◌, ◌<ℤ◌, IsTrue}
 use Rattle.cj_hermite.specs.Interpolant.{Curve, IsOver}
 use Rattle.cj_hermite.specs.Distance.{BAND}
 use Rattle.cj_hermite.proofs.DistanceLemmas.{beyond}
-use Rattle.cj_bezier.specs.declared.kind.Kind.{Kind}
-use Rattle.cj_bezier.specs.declared.kind.Kind.TheVariants as kinds
+use Rattle.cj_case.specs.declared.kind.Kind.{Kind}
+use Rattle.cj_case.specs.declared.kind.Kind.TheVariants as kinds
 use Rattle.cj_bezier.specs.declared.verdicts.Verdict.TheVariants as verdicts
 use Rattle.cj_bezier.specs.Hulls.{PlainHull}
 use Rattle.cj_bezier.specs.Gaps.{PlainGap, IsGapOver, gap_terms, gap_low, gap_high, hull_gap}

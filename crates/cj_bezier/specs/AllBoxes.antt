@@ -2,9 +2,10 @@
 use Rattle.std.specs.Prelude.{ℕ, List, map, Option}
 use Rattle.std.specs.List.{flat_map, range_with_len}
 use Rattle.cj_track.specs.PlainTracks.{PlainTrack}
-use Rattle.cj_hermite.specs.PlainProblems.{PlainProblem}
-use Rattle.cj_hermite.specs.Slots.{slot_first, slot_last, slot_count}
-use Rattle.cj_bezier.specs.SlotBoxes.{PlainBox, box_of}
+use Rattle.cj_case.specs.PlainProblems.{PlainProblem}
+use Rattle.cj_case.specs.Slots.{slot_first, slot_last, slot_count}
+use Rattle.cj_case.specs.Boxes.{PlainBox}
+use Rattle.cj_bezier.specs.SlotBoxes.{box_of}
 
 -- the boxes of an object in the first n slots of a window
 abbrev pub boxes_over : PlainTrack → ℕ → ℕ → ℕ → List (Option PlainBox)

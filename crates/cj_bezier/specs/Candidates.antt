@@ -1,11 +1,12 @@
 -- Candidates: in each slot the pairs of objects whose shells are not parted and whose boxes touch.
 use Rattle.std.specs.Prelude.{ℕ, Bool, ◌&&◌, List, map, filter, length, Option}
-use Rattle.cj_hermite.specs.PlainProblems.{PlainProblem}
-use Rattle.cj_hermite.specs.Pairs.{pairs_of}
-use Rattle.cj_hermite.specs.Slots.{slot_first, slot_last}
-use Rattle.cj_bezier.specs.declared.shells.Shell.{Shell}
+use Rattle.cj_case.specs.PlainProblems.{PlainProblem}
+use Rattle.cj_case.specs.Pairs.{pairs_of}
+use Rattle.cj_case.specs.Slots.{slot_first, slot_last}
+use Rattle.cj_case.specs.declared.shells.Shell.{Shell}
 use Rattle.cj_bezier.specs.Shells.{shell_of, keeps_between}
-use Rattle.cj_bezier.specs.SlotBoxes.{PlainBox, box_of, touch_between}
+use Rattle.cj_case.specs.Boxes.{PlainBox}
+use Rattle.cj_bezier.specs.SlotBoxes.{box_of, touch_between}
 
 -- the shells of all objects in the window
 unfoldable pub shells_of : PlainProblem → List (Option Shell)

@@ -1,14 +1,16 @@
 -- What shells and boxes that are given say of the objects of a case, and that pairs which are no candidates are far.
 use Rattle.std.specs.Prelude.{◌≡◌, ℕ, ◌<◌, ◌≤◌, Bool, List, Option, Some, None, IfSome, false, slice_get}
 use Rattle.cj_track.specs.PlainTracks.{PlainTrack}
-use Rattle.cj_hermite.specs.PlainProblems.{PlainProblem, threshold_of, IsCommonOf, OfObjectsAt}
+use Rattle.cj_case.specs.PlainProblems.{PlainProblem, threshold_of}
+use Rattle.cj_hermite.specs.ObjectsAtTicks.{IsCommonOf, OfObjectsAt}
 use Rattle.cj_hermite.specs.Distance.{IsFar}
 use Rattle.cj_hermite.specs.Pieces.{piece_holding, curve_of_piece}
-use Rattle.cj_hermite.specs.Slots.{slot_first, slot_last, slot_of, slot_count}
+use Rattle.cj_case.specs.Slots.{slot_first, slot_last, slot_of, slot_count}
 use Rattle.cj_hermite.specs.Walks.{HasNone}
-use Rattle.cj_bezier.specs.declared.shells.Shell.{Shell}
+use Rattle.cj_case.specs.declared.shells.Shell.{Shell}
 use Rattle.cj_bezier.specs.Shells.{IsRadiusWithin, shell_in}
-use Rattle.cj_bezier.specs.SlotBoxes.{PlainBox, IsPlaceIn, reaches_in}
+use Rattle.cj_case.specs.Boxes.{PlainBox}
+use Rattle.cj_bezier.specs.SlotBoxes.{IsPlaceIn, reaches_in}
 
 -- from one tick to another this shell holds the distance from the origin, and there is one where there is a state
 pub record IsInShell (from to : ℕ) (e : PlainTrack) (shell : Option Shell) : Type 0 where

@@ -1,8 +1,8 @@
 -- Halving: a stretch of ticks is closed as one kind, or is halved until each part can be.
 use Rattle.std.specs.Prelude.{◌≡◌, ℕ, zero, suc, ◌+◌, ◌-◌, ◌/◌, ◌<◌, List, [], ◌∷◌, ◌++◌, Option, Some, None, unwrap_or}
-use Rattle.cj_bezier.specs.declared.kind.Kind.{Kind}
-use Rattle.cj_bezier.specs.declared.kind.Kind.TheVariants.{Undecided}
-use Rattle.cj_bezier.specs.Leaves.{PlainLeaf}
+use Rattle.cj_case.specs.declared.kind.Kind.{Kind}
+use Rattle.cj_case.specs.declared.kind.Kind.TheVariants.{Undecided}
+use Rattle.cj_case.specs.Leaves.{PlainLeaf}
 
 -- the last tick of the first half
 abbrev pub middle : ℕ → ℕ → ℕ

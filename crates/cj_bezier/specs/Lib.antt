@@ -1,13 +1,11 @@
 pub mod AllBoxes
-pub mod Cells
+pub mod Halves
 pub mod Enclosed
 pub mod FirstParts
 pub mod Gaps
 pub mod Halving
 pub mod Hulls
-pub mod Leaves
 pub mod Candidates
-pub mod Order
 pub mod Parts
 pub mod RootLeaves
 pub mod Shells

@@ -2,11 +2,12 @@
 use Rattle.std.specs.Prelude.{ℕ, ◌≡◌, ◌≤◌, List, [], All, Any, Option, Some, None}
 use Rattle.std.specs.List.{flat_map}
 use Rattle.cj_hermite.specs.Interpolant.{Curve}
-use Rattle.cj_hermite.specs.PlainProblems.{PlainProblem, threshold_of, curve_at, OfObjectsAt}
-use Rattle.cj_hermite.specs.Roots.{PlainCell}
-use Rattle.cj_bezier.specs.declared.kind.Kind.{Kind}
-use Rattle.cj_bezier.specs.Leaves.{PlainLeaf, IsTickOf}
-use Rattle.cj_bezier.specs.Order.{AreInOrder}
+use Rattle.cj_case.specs.PlainProblems.{PlainProblem, threshold_of}
+use Rattle.cj_hermite.specs.ObjectsAtTicks.{curve_at, OfObjectsAt}
+use Rattle.cj_case.specs.Cells.{PlainCell}
+use Rattle.cj_case.specs.declared.kind.Kind.{Kind}
+use Rattle.cj_case.specs.Leaves.{PlainLeaf, IsTickOf}
+use Rattle.cj_case.specs.Order.{AreInOrder}
 use Rattle.cj_bezier.specs.Verdicts.{kind_of, cell_verdict, Holds}
 use Rattle.cj_bezier.specs.Halving.{leaves_between}
 

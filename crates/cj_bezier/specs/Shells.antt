@@ -4,8 +4,8 @@ use Rattle.std.specs.Prelude.{ℤ, pos, ◌+ℤ◌, ◌*ℤ◌, ◌≤ℤ◌, Li
 use Rattle.std.specs.List.{list_all}
 use Rattle.cj_track.specs.PlainTracks.{PlainTrack}
 use Rattle.cj_hermite.specs.Interpolant.{Curve, place_numerator, place_denominator}
-use Rattle.cj_hermite.specs.PlainProblems.{threshold_between}
-use Rattle.cj_bezier.specs.declared.shells.Shell.{Shell}
+use Rattle.cj_case.specs.PlainProblems.{threshold_between}
+use Rattle.cj_case.specs.declared.shells.Shell.{Shell}
 use Rattle.cj_bezier.specs.Gaps.{PlainGap, gap_terms}
 use Rattle.cj_bezier.specs.Hulls.{PlainHull}
 use Rattle.cj_bezier.specs.Parts.{OfEachHull, hulls_of}

@@ -1,14 +1,15 @@
 -- Slot boxes: the smallest boxes along the axes round the hulls of an ephemeris, and whether two of them touch.
-use Rattle.std.specs.Prelude.{ℕ, ◌-◌, Bool, false, ◌&&◌, ℤ, pos, ◌+ℤ◌, ◌*ℤ◌, ◌≤ℤ◌, int_le, List, [], ◌∷◌, map, Option, Some, None, option_map, option_and_then, slice_get}
+use Rattle.std.specs.Prelude.{ℕ, ◌-◌, Bool, false, ◌&&◌, ℤ, pos, ◌+ℤ◌, ◌*ℤ◌, ◌≤ℤ◌, int_le, List, [], ◌∷◌, map, Option, Some, None, option_and_then, slice_get}
 use Rattle.std.specs.Int.{int_min, int_max}
 use Rattle.std.specs.List.{fold}
 use Rattle.cj_track.specs.PlainTracks.{PlainTrack}
 use Rattle.cj_interval.specs.Spans.{IsIn, least, greatest}
 use Rattle.cj_hermite.specs.Interpolant.{Four, Curve, place_numerator, place_denominator}
-use Rattle.cj_hermite.specs.PlainProblems.{threshold_between}
-use Rattle.cj_bezier.specs.declared.axis_box.AxisBox.{AxisBox}
+use Rattle.cj_case.specs.PlainProblems.{threshold_between}
+use Rattle.cj_case.specs.declared.axis_box.AxisBox.{AxisBox}
 use Rattle.cj_bezier.specs.Hulls.{PlainHull, Ends}
 use Rattle.cj_bezier.specs.Parts.{OfEachHull, hulls_of}
+use Rattle.cj_case.specs.Boxes.{Reach, PlainBox, plain_box}
 
 -- v is at most each of four values
 pub record IsAtMostEach (v : ℤ) (k : Four) : Type 0 where
@@ -39,17 +40,6 @@ pub record IsBoxOf (e : PlainTrack) (from to : ℕ) (box : AxisBox) : Type 0 whe
 
 -- ---- the same as a function
 
--- how far something reaches on an axis
-pub record Reach : Type 0 where
-  pub least : ℤ
-  pub most : ℤ
-
--- how far something reaches on each axis
-pub record PlainBox : Type 0 where
-  pub x : Reach
-  pub y : Reach
-  pub z : Reach
-
 -- how far two reach together on an axis
 abbrev pub round_reaches : Reach → Reach → Reach
 round_reaches a b = record { least = int_min a.least b.least; most = int_max a.most b.most }
@@ -79,14 +69,6 @@ reaches_round (h ∷ hs) = Some (record { x = reach_on (λ g. g.x) h hs; y = rea
 -- the smallest box round the hulls of the parts of an ephemeris, where it has a state
 abbrev pub box_of : PlainTrack → ℕ → ℕ → Option PlainBox
 box_of e from to = reaches_round (hulls_of e from to)
-
--- how far a box reaches
-abbrev pub plain_box : AxisBox → PlainBox
-plain_box box = record {
-  x = record { least = box.least.x; most = box.most.x };
-  y = record { least = box.least.y; most = box.most.y };
-  z = record { least = box.least.z; most = box.most.z };
-}
 
 -- ---- places
 
@@ -126,7 +108,3 @@ touch thr boxes pair = both_touch thr (reaches_in boxes pair.0) (reaches_in boxe
 -- the same, by the threshold between the two, which have these sizes
 abbrev pub touch_between : ℕ → List ℕ → List (Option PlainBox) → ℕ × ℕ → Bool
 touch_between thr sizes boxes pair = touch (threshold_between thr sizes pair.0 pair.1) boxes pair
-
--- how far the boxes of a list reach
-abbrev pub plain_boxes : List (Option AxisBox) → List (Option PlainBox)
-plain_boxes boxes = map (option_map plain_box) boxes

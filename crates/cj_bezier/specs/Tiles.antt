@@ -1,6 +1,6 @@
 -- Stretches that tile ticks: they follow one another without a gap.
 use Rattle.std.specs.Prelude.{◌≡◌, ℕ, ◌+◌, ◌≤◌, List, [], ◌∷◌}
-use Rattle.cj_bezier.specs.Leaves.{PlainLeaf}
+use Rattle.cj_case.specs.Leaves.{PlainLeaf}
 
 -- a leaf of the objects a and b of which P holds, from lo to hi
 pub record IsLeaf (P : PlainLeaf → Type 0) (a b lo hi : ℕ) (s : PlainLeaf) : Type 0 where

@@ -3,8 +3,8 @@ use Rattle.std.specs.Prelude.{ℕ, zero, suc, ◌+◌, ◌-◌, ◌*◌, ◌<◌
 use Rattle.std.specs.List.{list_all}
 use Rattle.cj_hermite.specs.Interpolant.{Curve}
 use Rattle.cj_hermite.specs.Distance.{IsFar, IsNear, IsInBand, BAND}
-use Rattle.cj_bezier.specs.declared.kind.Kind.{Kind}
-use Rattle.cj_bezier.specs.declared.kind.Kind.TheVariants as kinds
+use Rattle.cj_case.specs.declared.kind.Kind.{Kind}
+use Rattle.cj_case.specs.declared.kind.Kind.TheVariants as kinds
 use Rattle.cj_bezier.specs.declared.verdicts.Verdict.{Verdict}
 use Rattle.cj_bezier.specs.declared.verdicts.Verdict.TheVariants as verdicts
 use Rattle.cj_bezier.specs.Gaps.{PlainGap, gap_terms, hull_gap}

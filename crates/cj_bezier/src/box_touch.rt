@@ -2,7 +2,7 @@
 ghost use Rattle.std.specs.Prelude.{◌≡◌, ◌+◌, ◌&&◌, pos, ◌+ℤ◌, int_le};
 ghost use Rattle.cj_bezier.specs.SlotBoxes.{are_touching};
 
-use crate::axis_box::AxisBox;
+use cj_case::AxisBox;
 
 /// Whether a reach on an axis begins at most a threshold behind the end of another.
 fn begins_within(least: i64, most: i64, thr: u64) -> bool

@@ -8,9 +8,9 @@ ghost use Rattle.cj_bezier.specs.Hulls.{Encloses, hull_ends, hull_axes, ends_of,
 ghost use Rattle.cj_bezier.specs.Sizes.{HasEndsWithin, IsNarrow};
 
 use crate::hulls::Hull;
+use cj_base::Tick;
 use cj_hermite::{Box3, Ready, ReadyAxis, first_level, second_level, third_level};
 use cj_interval::{Fraction, Span};
-use cj_ticks::Tick;
 
 /// The hull of one axis between two fractions of its piece. Its points share their levels.
 fn hull_axis(axis: &ReadyAxis, a: &Fraction, b: &Fraction) -> [Span; 4]

@@ -8,8 +8,8 @@ ghost use Rattle.cj_bezier.specs.Parts.{AreInTime};
 use crate::guide::Guide;
 use crate::hull_of_piece::hull_ready;
 use crate::part::Part;
+use cj_base::Tick;
 use cj_hermite::{ready, run_from};
-use cj_ticks::Tick;
 use cj_track::Track;
 
 /// The first part of a track from one tick to another. The guide then says where it is.

@@ -1,13 +1,11 @@
 ghost use Rattle.std.specs.Prelude.{◌≡◌, ◌+◌, ◌≤◌};
 ghost use Rattle.cj_track.specs.Limits.{MAX_COORDINATE, MAX_RATE, IsWithin};
 
-use cj_bezier::{
-    Gap, Hull, Kind, Shell, Verdict, gap, greatest_square, hull_ready, join, least_square, radius,
-    supports, verdict,
-};
+use cj_base::Tick;
+use cj_bezier::{Gap, Hull, Verdict, gap, greatest_square, hull_ready, join, least_square, radius, supports, verdict};
+use cj_case::{Kind, Shell};
 use cj_hermite::{Piece, ready};
 use cj_interval::{Divisor, Span};
-use cj_ticks::Tick;
 use cj_track::Vec3;
 
 /// Five kilometres.

@@ -4,8 +4,9 @@ use Rattle.std.specs.Prelude.{◌||◌}
 use Rattle.std.specs.Option.{option_or}
 use Rattle.std.proofs.lemmas.Bool.{cases_eq, eqb-true, eq-eqb}
 use Rattle.cj_interval.proofs.ListLemmas.{Each, Each-weaker, Each-always, Each-both}
-use Rattle.cj_hermite.specs.PlainProblems.{threshold_between}
-use Rattle.cj_bezier.specs.SlotBoxes.{PlainBox, both_touch}
+use Rattle.cj_case.specs.PlainProblems.{threshold_between}
+use Rattle.cj_case.specs.Boxes.{PlainBox}
+use Rattle.cj_bezier.specs.SlotBoxes.{both_touch}
 use Rattle.cj_blocks.specs.Blocks.{Given, BLOCK, box_given, first_slot, slots_in, is_pair_of, partner_of, touches_only_as, joined_in, current_boxes, pair_touches}
 use Rattle.cj_blocks.proofs.JoinLemmas.{joins, touch_alike}
 use Rattle.cj_blocks.proofs.RoundLemmas.{touch_swap}

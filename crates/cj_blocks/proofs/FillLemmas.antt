@@ -4,8 +4,9 @@ use Rattle.std.specs.Prelude.{◌==◌, ◌&&◌, nat_le, nat_lt, option_map}
 use Rattle.std.specs.Option.{option_or}
 use Rattle.std.proofs.lemmas.Bool.{cases_eq}
 use Rattle.std.proofs.lemmas.Bool.Decides.{nat_tests}
-use Rattle.cj_bezier.specs.declared.axis_box.AxisBox.{AxisBox}
-use Rattle.cj_bezier.specs.SlotBoxes.{PlainBox, plain_box, plain_boxes, reaches_in}
+use Rattle.cj_case.specs.declared.axis_box.AxisBox.{AxisBox}
+use Rattle.cj_case.specs.Boxes.{PlainBox, plain_box, plain_boxes}
+use Rattle.cj_bezier.specs.SlotBoxes.{reaches_in}
 use Rattle.cj_blocks.specs.BoxRows.{box_at}
 use Rattle.cj_blocks.specs.Listed.{IsFilled}
 use Rattle.cj_blocks.proofs.CurrentLemmas.{other_number, same_number}

@@ -7,7 +7,7 @@ use Rattle.std.proofs.lemmas.Bool.{and_parts, cases_eq, eqb-true, leb-true}
 use Rattle.std.proofs.lemmas.Bool.Decides.{nat_tests}
 use Rattle.std.proofs.lemmas.List.Folds.{find-append}
 use Rattle.cj_interval.proofs.ListLemmas.{Each, Each-weaker, Each-flat_map, Each-range, none_found}
-use Rattle.cj_bezier.specs.SlotBoxes.{PlainBox}
+use Rattle.cj_case.specs.Boxes.{PlainBox}
 use Rattle.cj_blocks.specs.Blocks.{PlainBlock, Given, BLOCK, block_count, box_given, first_slot, slots_in, joined_in, current_boxes, single_in, listed_in, blocks_in, blocks_of, is_block_of, box_listed}
 use Rattle.cj_blocks.proofs.CurrentLemmas.{in_own_block, block_of_slot, long_ago, same_number}
 

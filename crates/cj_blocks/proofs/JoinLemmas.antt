@@ -5,8 +5,9 @@ use Rattle.std.specs.List.{list_all, range_with_len}
 use Rattle.std.proofs.lemmas.List.Folds.{list_all-append}
 use Rattle.cj_interval.proofs.ListLemmas.{Each, Each-weaker, Each-range, each_from_map, each_from_list_all}
 use Rattle.cj_interval.proofs.RangeLemmas.{range_more, each_in_range}
-use Rattle.cj_hermite.specs.PlainProblems.{threshold_between}
-use Rattle.cj_bezier.specs.SlotBoxes.{PlainBox, both_touch}
+use Rattle.cj_case.specs.PlainProblems.{threshold_between}
+use Rattle.cj_case.specs.Boxes.{PlainBox}
+use Rattle.cj_bezier.specs.SlotBoxes.{both_touch}
 use Rattle.cj_blocks.specs.Blocks.{partner_of, touches_only_as, touches_as_own, joined_box}
 use Rattle.cj_blocks.specs.BoxRows.{round_all}
 use Rattle.cj_blocks.proofs.RoundLemmas.{LiesIn, round_holds, touches_more}

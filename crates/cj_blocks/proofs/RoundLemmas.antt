@@ -10,7 +10,8 @@ use Rattle.std.proofs.lemmas.List.Folds.{fold_stays}
 use Rattle.std.proofs.lemmas.List.Sums.{fold_push}
 use Rattle.cj_interval.proofs.ListLemmas.{Each}
 use Rattle.cj_interval.proofs.IntegerLemmas.{le_test}
-use Rattle.cj_bezier.specs.SlotBoxes.{PlainBox, Reach, both_touch, reach_touches, reaches_touch, round_reaches, round_two}
+use Rattle.cj_case.specs.Boxes.{PlainBox, Reach}
+use Rattle.cj_bezier.specs.SlotBoxes.{both_touch, reach_touches, reaches_touch, round_reaches, round_two}
 use Rattle.cj_blocks.specs.BoxRows.{round_both, round_all}
 
 -- ---- what lies in what

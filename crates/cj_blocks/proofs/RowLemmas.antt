@@ -4,8 +4,9 @@ use Rattle.std.specs.Prelude.{option_map, option_and_then}
 use Rattle.std.proofs.Math.Nat.{mul-le-mul_right}
 use Rattle.std.proofs.lemmas.Bool.{cases_lt}
 use Rattle.std.proofs.lemmas.Option.{slice_get-get_or, slice_get-map}
-use Rattle.cj_bezier.specs.declared.axis_box.AxisBox.{AxisBox}
-use Rattle.cj_bezier.specs.SlotBoxes.{PlainBox, plain_box, plain_boxes, reaches_in}
+use Rattle.cj_case.specs.declared.axis_box.AxisBox.{AxisBox}
+use Rattle.cj_case.specs.Boxes.{PlainBox, plain_box, plain_boxes}
+use Rattle.cj_bezier.specs.SlotBoxes.{reaches_in}
 use Rattle.cj_blocks.specs.BoxRows.{box_at}
 
 -- the box that stands at a place

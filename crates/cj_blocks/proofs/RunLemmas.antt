@@ -6,8 +6,9 @@ use Rattle.std.proofs.lemmas.List.{map-append}
 use Rattle.std.proofs.lemmas.List.Elements.{filter-append}
 use Rattle.cj_interval.proofs.ListLemmas.{Each, Each-weaker, Each-flat_map, Each-range, Each-both, All-from_each, flat_map_alike, flat_map-flat_map}
 use Rattle.cj_interval.proofs.RangeLemmas.{range_cut}
-use Rattle.cj_hermite.specs.PlainProblems.{threshold_between}
-use Rattle.cj_bezier.specs.SlotBoxes.{PlainBox, both_touch}
+use Rattle.cj_case.specs.PlainProblems.{threshold_between}
+use Rattle.cj_case.specs.Boxes.{PlainBox}
+use Rattle.cj_bezier.specs.SlotBoxes.{both_touch}
 use Rattle.cj_blocks.specs.Blocks.{PlainBlock, Given, block_count, box_given, first_slot, slots_in, slots_of_block, is_pair_of, joined_in, current_boxes, single_in, listed_in, blocks_in, blocks_of, box_listed, pair_touches, TouchAsGiven}
 use Rattle.cj_blocks.proofs.CurrentLemmas.{AreOrdered, TouchesAsGiven, touch_as_given}
 use Rattle.cj_blocks.proofs.FoundLemmas.{listed_is}

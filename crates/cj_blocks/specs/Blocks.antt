@@ -2,8 +2,9 @@
 use Rattle.std.specs.Prelude.{◌≡◌, ℕ, zero, suc, ◌+◌, ◌-◌, ◌*◌, ◌/◌, ◌<◌, ◌==◌, ◌&&◌, ◌||◌, not, min, nat_le, Bool, if◌then◌else◌, List, [], ◌∷◌, map, filter, All, Option, Some, None, option_map}
 use Rattle.std.specs.List.{filter_map, find, flat_map, list_all, range_with_len}
 use Rattle.std.specs.Option.{option_or}
-use Rattle.cj_hermite.specs.PlainProblems.{threshold_between}
-use Rattle.cj_bezier.specs.SlotBoxes.{PlainBox, both_touch}
+use Rattle.cj_case.specs.PlainProblems.{threshold_between}
+use Rattle.cj_case.specs.Boxes.{PlainBox}
+use Rattle.cj_bezier.specs.SlotBoxes.{both_touch}
 use Rattle.cj_blocks.specs.BoxRows.{box_at, round_all}
 
 -- a box that is listed for an object in each of the slots from the first to the last

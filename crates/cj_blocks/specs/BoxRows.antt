@@ -1,7 +1,8 @@
 -- Boxes of objects by slots, in one list in order of object and slot, and the smallest box round several.
 use Rattle.std.specs.Prelude.{ℕ, ◌+◌, ◌*◌, List, [], ◌∷◌, Option, Some, None}
 use Rattle.std.specs.List.{fold}
-use Rattle.cj_bezier.specs.SlotBoxes.{PlainBox, reaches_in, round_two}
+use Rattle.cj_case.specs.Boxes.{PlainBox}
+use Rattle.cj_bezier.specs.SlotBoxes.{reaches_in, round_two}
 
 -- the box of an object in one of so many slots
 abbrev pub box_at : ℕ → List (Option PlainBox) → ℕ → ℕ → Option PlainBox

@@ -1,6 +1,6 @@
 ghost use Rattle.std.specs.Prelude.{◌≤◌};
 
-use cj_bezier::AxisBox;
+use cj_case::AxisBox;
 
 /// A box in nm round an object in each of the slots from the first to the last. Objects are numbered from 0.
 #[derive(Clone, Copy, Debug, PartialEq, Eq)]

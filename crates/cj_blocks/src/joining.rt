@@ -1,18 +1,18 @@
 //! Whether the slots of an object are joined.
 ghost use Rattle.std.specs.Prelude.{◌≡◌, ℕ, ◌+◌, ◌*◌, ◌^◌, ◌<◌, ◌≤◌, All, length, option_map};
 ghost use Rattle.std.specs.List.{list_all, range_with_len};
-ghost use Rattle.cj_hermite.specs.Limits.{MAX_SIZE};
-ghost use Rattle.cj_hermite.specs.Pairs.{objects_of};
+ghost use Rattle.cj_case.specs.CaseLimits.{MAX_SIZE};
+ghost use Rattle.cj_case.specs.Pairs.{objects_of};
 ghost use Rattle.cj_bezier.specs.SlotBoxes as touch;
-ghost use Rattle.cj_bezier.specs.SlotBoxes.{plain_box, plain_boxes};
+ghost use Rattle.cj_case.specs.Boxes.{plain_box, plain_boxes};
 ghost use Rattle.cj_blocks.specs.Blocks as spec;
 ghost use Rattle.cj_blocks.specs.BoxRows.{box_at};
 ghost use Rattle.cj_blocks.specs.Listed.{Treated, joined_of};
 
 use crate::block_slots::BlockSlots;
 use crate::round_boxes::box_round;
-use cj_bezier::{AxisBox, box_touches};
-use cj_hermite::{Pair, threshold_between};
+use cj_bezier::box_touches;
+use cj_case::{AxisBox, Pair, threshold_between};
 
 /// Whether two boxes are there and apart by at most a threshold on each axis.
 fn both_touch(a: &Option<AxisBox>, b: &Option<AxisBox>, thr: u64) -> bool

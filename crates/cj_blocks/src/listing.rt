@@ -1,8 +1,8 @@
 //! What is listed of the objects.
 ghost use Rattle.std.specs.Prelude.{◌≡◌, ℕ, ◌+◌, ◌*◌, ◌^◌, ◌<◌, ◌≤◌, ◌++◌, All, length, map, vec_len, Some, IfOk, OnOk};
 ghost use Rattle.std.specs.List.{filter_map, flat_map, range_with_len};
-ghost use Rattle.cj_hermite.specs.Limits.{MAX_SIZE};
-ghost use Rattle.cj_bezier.specs.SlotBoxes.{plain_box, plain_boxes};
+ghost use Rattle.cj_case.specs.CaseLimits.{MAX_SIZE};
+ghost use Rattle.cj_case.specs.Boxes.{plain_box, plain_boxes};
 ghost use Rattle.cj_blocks.specs.Blocks.{TouchAsGiven, block_count, blocks_of, single_in};
 ghost use Rattle.cj_blocks.specs.BoxRows.{box_at};
 ghost use Rattle.cj_blocks.specs.Listed.{IsFilled, IsTreated, block_of, given, joined_of, listed_of, plain_block};
@@ -11,8 +11,7 @@ use crate::block::Block;
 use crate::block_slots::{BLOCK, BlockSlots};
 use crate::joining::joined_box;
 use crate::pairs_by_object::pairs_by_object;
-use cj_bezier::AxisBox;
-use cj_hermite::Pair;
+use cj_case::{AxisBox, Pair};
 use std::alloc::{AllocError, Global};
 
 /// Appends each box of an object in some slots by itself.

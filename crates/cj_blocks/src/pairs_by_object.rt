@@ -1,10 +1,10 @@
 //! The kept pairs of each object.
 ghost use Rattle.std.specs.Prelude.{◌≡◌, ℕ, ◌<◌, ◌==◌, ◌++◌, [], ◌∷◌, All, map, filter, vec_len, if◌then◌else◌, IfOk, OnOk};
-ghost use Rattle.cj_hermite.specs.Pairs.{objects_of};
+ghost use Rattle.cj_case.specs.Pairs.{objects_of};
 ghost use Rattle.cj_blocks.specs.Blocks.{is_pair_of};
 ghost use Rattle.cj_blocks.specs.PairsByObject.{pairs_at};
 
-use cj_hermite::Pair;
+use cj_case::Pair;
 use std::alloc::{AllocError, Global};
 
 /// As many empty lists as there are objects.

@@ -3,11 +3,11 @@ ghost use Rattle.std.specs.Prelude.{◌≡◌, ◌+◌, ◌*◌, ◌≤◌, leng
 ghost use Rattle.std.specs.Int.{int_min, int_max};
 ghost use Rattle.std.specs.List.{range_with_len};
 ghost use Rattle.cj_bezier.specs.SlotBoxes as slot_boxes;
-ghost use Rattle.cj_bezier.specs.SlotBoxes.{plain_box, plain_boxes};
+ghost use Rattle.cj_case.specs.Boxes.{plain_box, plain_boxes};
 ghost use Rattle.cj_blocks.specs.BoxRows as spec;
 
 use crate::block_slots::BlockSlots;
-use cj_bezier::AxisBox;
+use cj_case::AxisBox;
 use cj_track::Vec3;
 
 /// On each axis the lesser of two places.

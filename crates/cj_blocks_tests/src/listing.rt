@@ -1,8 +1,7 @@
 ghost use Rattle.std.specs.Prelude.{◌≤◌, ◌≤ℤ◌};
 
-use cj_bezier::AxisBox;
 use cj_blocks::{Block, blocks};
-use cj_hermite::Pair;
+use cj_case::{AxisBox, Pair};
 use cj_track::Vec3;
 use std::panic::Expect;
 

@@ -11,11 +11,12 @@ use Rattle.std.proofs.lemmas.Nat.{row_fits}
 use Rattle.cj_track.specs.declared.track.Track.{Track}
 use Rattle.cj_track.specs.PlainTracks.{PlainTrack}
 use Rattle.cj_track.specs.Tracks.{plain_track}
-use Rattle.cj_hermite.specs.PlainProblems.{PlainProblem}
-use Rattle.cj_hermite.specs.Slots.{slot_first, slot_last, slot_count}
+use Rattle.cj_case.specs.PlainProblems.{PlainProblem}
+use Rattle.cj_case.specs.Slots.{slot_first, slot_last, slot_count}
 use Rattle.cj_interval.proofs.RangeLemmas.{range_more}
-use Rattle.cj_bezier.specs.declared.axis_box.AxisBox.{AxisBox}
-use Rattle.cj_bezier.specs.SlotBoxes.{PlainBox, plain_boxes, box_of, plain_box}
+use Rattle.cj_case.specs.declared.axis_box.AxisBox.{AxisBox}
+use Rattle.cj_case.specs.Boxes.{PlainBox, plain_boxes, plain_box}
+use Rattle.cj_bezier.specs.SlotBoxes.{box_of}
 use Rattle.cj_bezier.specs.Candidates.{boxes_in}
 use Rattle.cj_bezier.proofs.AllBoxLemmas.{row_length, boxes_count}
 use Rattle.cj_bezier.specs.AllBoxes.{boxes_of, boxes_over}

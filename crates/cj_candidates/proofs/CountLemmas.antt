@@ -6,10 +6,10 @@ use Rattle.std.proofs.lemmas.Nat.{column_fits}
 use Rattle.std.proofs.lemmas.List.{length-map}
 use Rattle.std.proofs.lemmas.List.FromFn.{length-range_with_len}
 use Rattle.std.proofs.lemmas.List.Sums.{length-filter, count_by-le-length, sum_by-append, sum_by-cons}
-use Rattle.cj_hermite.specs.PlainProblems.{PlainProblem}
-use Rattle.cj_hermite.specs.Pairs.{pairs_of}
+use Rattle.cj_case.specs.PlainProblems.{PlainProblem}
+use Rattle.cj_case.specs.Pairs.{pairs_of}
 use Rattle.cj_interval.proofs.RangeLemmas.{range_more}
-use Rattle.cj_hermite.proofs.PairLemmas.{pairs_from}
+use Rattle.cj_case.proofs.PairLemmas.{pairs_from}
 use Rattle.cj_bezier.specs.Candidates.{is_kept, is_candidate, pairs_kept, candidate_pairs}
 
 -- the pairs of the last k of n objects

@@ -4,11 +4,12 @@ use Rattle.std.specs.Prelude.{option_map}
 use Rattle.std.specs.List.{range_with_len}
 use Rattle.std.proofs.lemmas.List.{map-append, take_all}
 use Rattle.cj_track.specs.PlainTracks.{PlainTrack}
-use Rattle.cj_hermite.specs.Slots.{slot_first, slot_last}
+use Rattle.cj_case.specs.Slots.{slot_first, slot_last}
 use Rattle.cj_hermite.specs.Walks.{HasNone}
-use Rattle.cj_bezier.specs.declared.axis_box.AxisBox.{AxisBox}
+use Rattle.cj_case.specs.declared.axis_box.AxisBox.{AxisBox}
 use Rattle.cj_bezier.specs.AllBoxes.{boxes_over}
-use Rattle.cj_bezier.specs.SlotBoxes.{PlainBox, box_of, plain_box, plain_boxes}
+use Rattle.cj_case.specs.Boxes.{PlainBox, plain_box, plain_boxes}
+use Rattle.cj_bezier.specs.SlotBoxes.{box_of}
 use Rattle.cj_bezier.proofs.BoxRoundLemmas.{box_none}
 
 pub none_in_slot : (e : PlainTrack) (first last slot : ℕ) → HasNone e first last → HasNone e (slot_first first slot) (slot_last first last slot)

@@ -4,21 +4,22 @@ use Rattle.std.specs.Prelude.{All, IfSome, IfNone, option_map, option_and_then, 
 use Rattle.std.proofs.lemmas.List.{take_more, map-append, length-map}
 use Rattle.std.proofs.lemmas.List.Elements.{All-push, All-same, filter_agree}
 use Rattle.cj_interval.proofs.ListLemmas.{Each, Each-weaker, All-from_each, each_from_map}
-use Rattle.cj_ticks.specs.declared.tick.Window.{Window}
+use Rattle.cj_base.specs.declared.tick.Window.{Window}
 use Rattle.cj_track.specs.declared.track.Track.{Track}
 use Rattle.cj_track.specs.PlainTracks.{PlainTrack}
 use Rattle.cj_track.specs.Tracks.{plain_track}
-use Rattle.cj_hermite.specs.declared.pair.Pair.{Pair}
-use Rattle.cj_hermite.specs.PlainProblems.{PlainProblem}
-use Rattle.cj_hermite.specs.Pairs.{objects_of, pairs_of}
+use Rattle.cj_case.specs.declared.pair.Pair.{Pair}
+use Rattle.cj_case.specs.PlainProblems.{PlainProblem}
+use Rattle.cj_case.specs.Pairs.{objects_of, pairs_of}
 use Rattle.cj_hermite.specs.Pieces.{piece_holding, curve_of_piece}
-use Rattle.cj_hermite.specs.Slots.{slot_count, slot_first, slot_last}
+use Rattle.cj_case.specs.Slots.{slot_count, slot_first, slot_last}
 use Rattle.cj_hermite.specs.Walks.{HasNone}
-use Rattle.cj_hermite.proofs.PairLemmas.{IsPair, Each-pairs}
-use Rattle.cj_bezier.specs.declared.axis_box.AxisBox.{AxisBox}
-use Rattle.cj_bezier.specs.declared.shells.Shell.{Shell}
+use Rattle.cj_case.proofs.PairLemmas.{IsPair, Each-pairs}
+use Rattle.cj_case.specs.declared.axis_box.AxisBox.{AxisBox}
+use Rattle.cj_case.specs.declared.shells.Shell.{Shell}
 use Rattle.cj_bezier.specs.Shells.{IsRadiusWithin, keeps_between, shell_of}
-use Rattle.cj_bezier.specs.SlotBoxes.{PlainBox, IsPlaceIn, plain_boxes, box_of, plain_box, touch_between}
+use Rattle.cj_case.specs.Boxes.{PlainBox, plain_boxes, plain_box}
+use Rattle.cj_bezier.specs.SlotBoxes.{IsPlaceIn, box_of, touch_between}
 use Rattle.cj_bezier.specs.Candidates.{boxes_in, is_kept, is_touching, is_candidate, pairs_kept, candidate_pairs, shells_of}
 use Rattle.cj_bezier.specs.Enclosed.{AreInBoxes, AreInShells, IsInBox, IsInShell}
 use Rattle.cj_candidates.specs.ObjectRuns.{IsInOwnShell, IsInOwnBox, IsInOwnBoxes}

@@ -9,12 +9,12 @@ use Rattle.std.proofs.lemmas.List.Elements.{All-append, All-same}
 use Rattle.cj_track.specs.declared.track.Track.{Track}
 use Rattle.cj_track.specs.PlainTracks.{PlainTrack}
 use Rattle.cj_track.specs.Tracks.{plain_track}
-use Rattle.cj_hermite.specs.PlainProblems.{PlainProblem}
-use Rattle.cj_hermite.specs.Slots.{slot_count}
-use Rattle.cj_bezier.specs.declared.axis_box.AxisBox.{AxisBox}
-use Rattle.cj_bezier.specs.declared.shells.Shell.{Shell}
+use Rattle.cj_case.specs.PlainProblems.{PlainProblem}
+use Rattle.cj_case.specs.Slots.{slot_count}
+use Rattle.cj_case.specs.declared.axis_box.AxisBox.{AxisBox}
+use Rattle.cj_case.specs.declared.shells.Shell.{Shell}
 use Rattle.cj_bezier.specs.Shells.{shell_of}
-use Rattle.cj_bezier.specs.SlotBoxes.{PlainBox, plain_box, plain_boxes}
+use Rattle.cj_case.specs.Boxes.{PlainBox, plain_box, plain_boxes}
 use Rattle.cj_bezier.specs.Enclosed.{AreInBoxes, AreInShells}
 use Rattle.cj_bezier.specs.Candidates.{boxes_in, shells_of}
 use Rattle.cj_bezier.specs.AllBoxes.{boxes_of, boxes_over}

@@ -2,11 +2,12 @@
 use Rattle.std.specs.Prelude.{◌≡◌, ℕ, ◌<◌, ◌≤◌, List, length, min, true, vec_len, Result, IfOk, IsErrOf}
 use Rattle.std.specs.List.{flat_map, range_with_len, sum_by}
 use Rattle.std.specs.List.Sorted.{IsPermutation}
-use Rattle.cj_hermite.specs.PlainProblems.{PlainProblem}
-use Rattle.cj_hermite.specs.Problems.{plain_problem}
-use Rattle.cj_hermite.specs.Roots.{PlainCell, roots_in_slot}
-use Rattle.cj_bezier.specs.declared.cell.Cell.{Cell}
-use Rattle.cj_bezier.specs.Cells.{plain_cells}
+use Rattle.cj_case.specs.PlainProblems.{PlainProblem}
+use Rattle.cj_case.specs.Problems.{plain_problem}
+use Rattle.cj_case.specs.Cells.{PlainCell}
+use Rattle.cj_hermite.specs.Roots.{roots_in_slot}
+use Rattle.cj_case.specs.declared.cell.Cell.{Cell}
+use Rattle.cj_case.specs.Cells.{plain_cells}
 use Rattle.cj_bezier.specs.Candidates.{candidate_pairs}
 use Rattle.cj_cells.specs.declared.refine_error.RefineError.{RefineError}
 use Rattle.cj_cells.specs.declared.refine_error.RefineError.TheVariants.{TooMany}

@@ -1,4 +1,4 @@
-use cj_bezier::{AxisBox, Cell, Shell};
+use cj_case::{AxisBox, Cell, Shell};
 
 /// What is found of a problem before any cell is halved.
 #[derive(Debug, Drop)]

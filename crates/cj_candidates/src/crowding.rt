@@ -1,7 +1,7 @@
 //! Whether the objects of a slot crowd. It is a guess, of which nothing is promised.
 ghost use Rattle.std.specs.Prelude.{◌<◌};
 
-use cj_bezier::AxisBox;
+use cj_case::AxisBox;
 
 /// A crowd has so many pairs of objects near each other.
 const CROWD: usize = 250_000;

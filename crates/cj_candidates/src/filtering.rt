@@ -2,11 +2,11 @@
 //! in order at the end.
 ghost use Rattle.std.specs.Prelude.{◌≡◌, ◌<◌, ◌≤◌, length, vec_len, IfOk, OnOk, IsErrOf};
 ghost use Rattle.std.specs.List.{range_with_len};
-ghost use Rattle.cj_values.specs.Bounds.{MOST_LEAVES};
-ghost use Rattle.cj_hermite.specs.Problems.{plain_problem};
-ghost use Rattle.cj_hermite.specs.Slots.{slot_count};
-ghost use Rattle.cj_bezier.specs.SlotBoxes.{plain_boxes};
-ghost use Rattle.cj_bezier.specs.Cells.{plain_cells};
+ghost use Rattle.cj_base.specs.Bounds.{MOST_LEAVES};
+ghost use Rattle.cj_case.specs.Problems.{plain_problem};
+ghost use Rattle.cj_case.specs.Slots.{slot_count};
+ghost use Rattle.cj_case.specs.Boxes.{plain_boxes};
+ghost use Rattle.cj_case.specs.Cells.{plain_cells};
 ghost use Rattle.cj_bezier.specs.Candidates.{shells_of, is_candidate, pairs_kept};
 ghost use Rattle.cj_hermite.specs.Roots.{roots_of};
 ghost use Rattle.cj_bezier.specs.AllBoxes.{boxes_of};
@@ -20,8 +20,8 @@ use crate::object_run::ObjectRun;
 use crate::objects_measured::measure_objects;
 use crate::slot_run::SlotRun;
 use crate::slots_searched::search_slots;
+use cj_case::{Problem, slot_count};
 use cj_cells::{RefineError, order_roots};
-use cj_hermite::{Problem, slot_count};
 use cj_sieve::{ShelledObjects, count_kept};
 use std::alloc::Global;
 use std::thread::Threads;

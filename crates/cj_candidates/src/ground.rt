@@ -1,12 +1,11 @@
 ghost use Rattle.std.specs.Prelude.{◌≡◌};
-ghost use Rattle.cj_hermite.specs.Problems.{plain_problem};
-ghost use Rattle.cj_hermite.specs.Slots.{slot_count};
-ghost use Rattle.cj_bezier.specs.SlotBoxes.{plain_boxes};
+ghost use Rattle.cj_case.specs.Problems.{plain_problem};
+ghost use Rattle.cj_case.specs.Slots.{slot_count};
+ghost use Rattle.cj_case.specs.Boxes.{plain_boxes};
 ghost use Rattle.cj_bezier.specs.Candidates.{shells_of};
 ghost use Rattle.cj_bezier.specs.AllBoxes.{boxes_of};
 
-use cj_bezier::{AxisBox, Shell};
-use cj_hermite::Problem;
+use cj_case::{AxisBox, Problem, Shell};
 
 /// What is known of the objects of a problem before their pairs are compared: their shells, and their boxes in all slots.
 #[derive(Clone, Copy)]

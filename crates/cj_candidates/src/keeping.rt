@@ -1,9 +1,9 @@
 //! Of pairs those that the filter of perigee and apogee keeps.
 ghost use Rattle.std.specs.Prelude.{◌≡◌, ◌<◌, length, map, filter, All, IfOk};
-ghost use Rattle.cj_hermite.specs.Pairs.{objects_of};
+ghost use Rattle.cj_case.specs.Pairs.{objects_of};
 ghost use Rattle.cj_sieve.specs.Among.{keeps_among};
 
-use cj_hermite::Pair;
+use cj_case::Pair;
 use cj_sieve::{ShelledObjects, keeps};
 use std::alloc::{AllocError, Global};
 

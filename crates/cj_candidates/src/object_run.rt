@@ -1,4 +1,4 @@
-use cj_bezier::{AxisBox, Shell};
+use cj_case::{AxisBox, Shell};
 
 /// What is found of each of some objects.
 #[derive(Drop)]

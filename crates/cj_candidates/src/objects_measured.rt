@@ -3,18 +3,17 @@ ghost use Rattle.std.specs.Prelude.{◌≡◌, ◌<◌, ◌++◌, [], flat_map, 
 ghost use Rattle.std.specs.Thread.{IsSync};
 ghost use Rattle.cj_track.specs.Tracks.{plain_track};
 ghost use Rattle.cj_bezier.specs.Shells.{shell_of};
-ghost use Rattle.cj_bezier.specs.SlotBoxes.{plain_boxes};
+ghost use Rattle.cj_case.specs.Boxes.{plain_boxes};
 ghost use Rattle.cj_bezier.specs.AllBoxes.{boxes_over};
 ghost use Rattle.cj_walk.specs.TrackWalks.{IsWalk};
 ghost use Rattle.cj_candidates.specs.ObjectRuns.{AreMeasured, AreMeasuredIn, IsInOwnBoxes, IsInOwnShell};
 
 use crate::object_run::ObjectRun;
-use cj_bezier::{AxisBox, Shell};
+use cj_base::Window;
+use cj_case::{AxisBox, Shell};
 use cj_grid::slot_box;
-use cj_jobs::{Jobs, run_jobs};
-use cj_merge::ready_list;
 use cj_sieve::shell;
-use cj_ticks::Window;
+use cj_threads::{Jobs, ready_list, run_jobs};
 use cj_track::Track;
 use cj_walk::TrackWalk;
 use std::alloc::{AllocError, Global};

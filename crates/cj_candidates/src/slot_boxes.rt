@@ -1,13 +1,12 @@
 //! The boxes of all objects in one slot.
 ghost use Rattle.std.specs.Prelude.{◌≡◌, ◌<◌, IfOk};
-ghost use Rattle.cj_hermite.specs.Problems.{plain_problem};
-ghost use Rattle.cj_hermite.specs.Slots.{slot_count};
-ghost use Rattle.cj_bezier.specs.SlotBoxes.{plain_boxes};
+ghost use Rattle.cj_case.specs.Problems.{plain_problem};
+ghost use Rattle.cj_case.specs.Slots.{slot_count};
+ghost use Rattle.cj_case.specs.Boxes.{plain_boxes};
 ghost use Rattle.cj_bezier.specs.Candidates.{boxes_in};
 ghost use Rattle.cj_bezier.specs.AllBoxes.{boxes_of};
 
-use cj_bezier::AxisBox;
-use cj_hermite::Problem;
+use cj_case::{AxisBox, Problem};
 use std::alloc::{AllocError, Global};
 
 /// Of the boxes of all objects those in a slot.

@@ -1,4 +1,4 @@
-use cj_bezier::Cell;
+use cj_case::Cell;
 
 /// What is found in a run of slots.
 #[derive(Drop)]

@@ -1,11 +1,11 @@
 //! The roots of a run of slots: slot by slot, or by several threads.
 ghost use Rattle.std.specs.Prelude.{◌≡◌, ◌+◌, ◌<◌, ◌≤◌, length, map, min, flat_map, IfOk};
 ghost use Rattle.std.specs.List.Sorted.{IsPermutation};
-ghost use Rattle.cj_values.specs.Bounds.{MOST_LEAVES};
-ghost use Rattle.cj_hermite.specs.Pairs.{objects_of};
-ghost use Rattle.cj_hermite.specs.Problems.{plain_problem};
+ghost use Rattle.cj_base.specs.Bounds.{MOST_LEAVES};
+ghost use Rattle.cj_case.specs.Pairs.{objects_of};
+ghost use Rattle.cj_case.specs.Problems.{plain_problem};
 ghost use Rattle.cj_bezier.specs.Candidates.{boxes_in, candidate_pairs};
-ghost use Rattle.cj_bezier.specs.SlotBoxes.{plain_boxes};
+ghost use Rattle.cj_case.specs.Boxes.{plain_boxes};
 ghost use Rattle.cj_candidates.specs.SlotRuns.{AreSought, candidates_at, candidates_over, roots_at, roots_over};
 
 use crate::ground::Ground;
@@ -14,12 +14,12 @@ use crate::slot_boxes::boxes_in_slot;
 use crate::slot_run::{SlotRun, SlotRuns};
 use crate::slots_shared::search_together;
 use crate::stretch::Stretch;
-use cj_bezier::{AxisBox, Cell};
+use cj_case::{AxisBox, Cell, Pair};
 use cj_cells::{RefineError, roots_of_slot};
 use cj_grid::find_touching;
-use cj_hermite::{Hints, Pair};
-use cj_merge::{Placed, merge_runs};
+use cj_hermite::Hints;
 use cj_sieve::ShelledObjects;
+use cj_threads::{Placed, merge_runs};
 use std::alloc::{AllocError, Global};
 use std::thread::Threads;
 

@@ -1,8 +1,8 @@
 //! Runs of slots that several threads search, until all of them together have found too many roots.
 ghost use Rattle.std.specs.Prelude.{◌≡◌, ◌+◌, ◌<◌, ◌≤◌, ◌++◌, List, length, map, min, take, vec_len, true, false, All, IfOk, OnOk};
-ghost use Rattle.cj_values.specs.Bounds.{MOST_LEAVES};
-ghost use Rattle.cj_hermite.specs.Pairs.{objects_of};
-ghost use Rattle.cj_hermite.specs.Problems.{plain_problem};
+ghost use Rattle.cj_base.specs.Bounds.{MOST_LEAVES};
+ghost use Rattle.cj_case.specs.Pairs.{objects_of};
+ghost use Rattle.cj_case.specs.Problems.{plain_problem};
 ghost use Rattle.cj_hermite.specs.Roots.{roots_in_slot};
 ghost use Rattle.cj_bezier.specs.Candidates.{candidate_pairs};
 ghost use Rattle.cj_cells.specs.Cells.{added_roots};
@@ -16,11 +16,10 @@ use crate::slot_run::{SlotRuns, ThreadRun};
 use crate::slots_searched::candidates_among;
 use crate::stretch::Stretch;
 use crate::together::Together;
-use cj_bezier::Cell;
+use cj_case::{Cell, Pair, Problem};
 use cj_cells::{RefineError, roots_of_slot};
-use cj_hermite::{Hints, Pair, Problem};
-use cj_jobs::{Jobs, run_jobs};
-use cj_merge::Placed;
+use cj_hermite::Hints;
+use cj_threads::{Jobs, Placed, run_jobs};
 use std::alloc::{AllocError, Global};
 use std::thread::Threads;
 

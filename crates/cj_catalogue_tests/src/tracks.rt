@@ -1,4 +1,4 @@
-use cj_catalogue::catalogue_tracks;
+use cj_gen::catalogue_tracks;
 use std::panic::Expect;
 
 #[test]

@@ -3,7 +3,7 @@ use Rattle.std.proofs.Common.{◌≡◌, ℕ, ◌+◌, ◌<◌, ◌≤◌, List,
 use Rattle.std.specs.Prelude.{flat_map}
 use Rattle.std.specs.List.{zip}
 use Rattle.std.proofs.lemmas.Slice.Zip.{get_or-zip, length-zip}
-use Rattle.cj_values.specs.Numbers.{Number}
+use Rattle.cj_base.specs.Numbers.{Number}
 use Rattle.cj_cdm.specs.Texts.{element_text, elements, elements_text}
 use Rattle.cj_cdm.proofs.TextLemmas.{part_more}
 

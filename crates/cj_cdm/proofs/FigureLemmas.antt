@@ -10,11 +10,11 @@ use Rattle.std.proofs.lemmas.Bool.{and_parts, eqb-true, not-true}
 use Rattle.std.proofs.lemmas.Bool.Decides.{leb_tells, nat_tests}
 use Rattle.std.proofs.lemmas.Fmt.{decimal_digit}
 use Rattle.std.proofs.lemmas.Int.{ints}
-use Rattle.cj_values.specs.Numbers.{Number}
+use Rattle.cj_base.specs.Numbers.{Number}
 use Rattle.cj_kvn.specs.Numbers.{are_digits, scaled_of}
 use Rattle.cj_kvn.specs.Scanning.{exponent_said}
-use Rattle.cj_values.specs.Decimals.{IsReadable, shifted}
-use Rattle.cj_values.specs.declared.decimals.Decimal.{Decimal}
+use Rattle.cj_base.specs.Decimals.{IsReadable, shifted}
+use Rattle.cj_base.specs.declared.decimals.Decimal.{Decimal}
 use Rattle.cj_kvn.specs.Decimals.{decimal_form, decimal_of, decimal_text_of, digit_count, exponent_text, leading_power, minus_if, number_read, significand_text, zero_number}
 use Rattle.cj_kvn.proofs.AgainLemmas as kvn
 use Rattle.cj_kvn.proofs.AgainLemmas.{IsNormal, behind_sign, digits_of_number, first_digit, other_digits, padded_if}
@@ -24,7 +24,7 @@ use Rattle.cj_kvn.proofs.NumberTextLemmas.{Says, decimal_digits, decimal_some, d
 use Rattle.cj_kvn.proofs.PrintLemmas.{sign_text}
 use Rattle.cj_kvn.specs.declared.numbers.NumFault.{NumFault}
 use Rattle.cj_kvn.proofs.ListLemmas.{HeadFails}
-use Rattle.cj_values.specs.Bytes.{is_feed}
+use Rattle.cj_base.specs.Bytes.{is_feed}
 use Rattle.cj_cdm.specs.Texts.{fixed_text, kilometres, last_digits, metres, number_text}
 use Rattle.cj_cdm.specs.Values.{behind_front, decimal_said, element_said, fixed_said, id_said, is_decimal, is_mark, is_miss, is_number, is_power, is_short, is_zero, kept, kilometres_said, miss_said, natural, number_said, scientific}
 use Rattle.cj_cdm.proofs.DigitLemmas.{last_are_digits, last_length, last_value}

@@ -5,11 +5,11 @@ use Rattle.std.specs.List.{list_all}
 use Rattle.std.proofs.lemmas.Bool.Decides.{leb_tells, nat_tests}
 use Rattle.std.proofs.lemmas.Int.{ints}
 use Rattle.std.proofs.lemmas.List.{length-map}
-use Rattle.cj_ticks.specs.declared.tick.Tick.{Tick}
-use Rattle.cj_values.specs.Decimals.{IsReadable, number_of}
+use Rattle.cj_base.specs.declared.tick.Tick.{Tick}
+use Rattle.cj_base.specs.Decimals.{IsReadable, number_of}
 use Rattle.cj_kvn.specs.Decimals.{zero_number}
-use Rattle.cj_values.specs.Numbers.{Number}
-use Rattle.cj_values.specs.declared.decimals.Decimal.{Decimal}
+use Rattle.cj_base.specs.Numbers.{Number}
+use Rattle.cj_base.specs.declared.decimals.Decimal.{Decimal}
 use Rattle.cj_kvn.proofs.AgainLemmas.{zero_is}
 use Rattle.cj_kvn.proofs.ReadableLemmas.{exponent_bounds}
 use Rattle.cj_track.specs.Labels.{is_label}

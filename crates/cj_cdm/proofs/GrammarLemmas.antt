@@ -4,7 +4,7 @@ use Rattle.std.specs.Prelude.{◌&&◌, not, if◌then◌else◌, codes}
 use Rattle.std.specs.List.{list_all, list_any}
 use Rattle.std.proofs.lemmas.Bool.{and_parts, not-true}
 use Rattle.cj_epoch.specs.Written.{epoch_of}
-use Rattle.cj_values.specs.Numbers.{Number}
+use Rattle.cj_base.specs.Numbers.{Number}
 use Rattle.cj_kvn.specs.Decimals.{decimal_text_of}
 use Rattle.cj_track.specs.Labels.{is_label}
 use Rattle.cj_track.specs.declared.frame.Frame.{Frame}
@@ -12,7 +12,7 @@ use Rattle.cj_cdm.specs.declared.fault.CdmCause.TheVariants as causes
 use Rattle.cj_cdm.specs.declared.vector.Vector.{Vector}
 use Rattle.cj_cdm.specs.Fits.{Fits, IsShort, IsSide, IsStamp}
 use Rattle.cj_cdm.specs.Messages.{PlainMessage, PlainSide, PlainStamp}
-use Rattle.cj_values.specs.Bytes.{is_feed}
+use Rattle.cj_base.specs.Bytes.{is_feed}
 use Rattle.cj_kvn.specs.Faults.{◌>>=◌ as and_then}
 use Rattle.cj_cdm.specs.Reading.{Fault, Heading, Object, Rest, elements_said, ended, entry_said, fault_at, give, heading_said, is_none_left, line_said, message_said, object_said, place_said, rate_said, reading, side_said, stamp_said, vector_said, ◌>>=◌, source_said}
 use Rattle.cj_kvn.specs.Entries.{entry, line}

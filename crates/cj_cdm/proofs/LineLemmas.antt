@@ -10,10 +10,10 @@ use Rattle.std.proofs.lemmas.List.{length-drop, nil_from_length, take-append-dro
 use Rattle.std.proofs.lemmas.List.Folds.{list_any-append}
 use Rattle.cj_kvn.proofs.LineLemmas.{found, not_found}
 use Rattle.cj_kvn.proofs.ListLemmas.{after_no, after_yes, any_no, any_yes, before_no, before_yes}
-use Rattle.cj_values.proofs.LogicLemmas.{some_is}
+use Rattle.cj_base.proofs.LogicLemmas.{some_is}
 use Rattle.cj_cdm.specs.declared.fault.CdmCause.{CdmCause}
 use Rattle.cj_cdm.specs.declared.fault.CdmCause.TheVariants as causes
-use Rattle.cj_values.specs.Bytes.{is_feed}
+use Rattle.cj_base.specs.Bytes.{is_feed}
 use Rattle.cj_kvn.specs.Faults.{◌>>=◌ as and_then}
 use Rattle.cj_cdm.specs.Reading.{Rest, behind_feed, behind_line, fault_at, is_none_left, line_said, or_fault, taken, value_in}
 use Rattle.cj_kvn.specs.Entries.{line}

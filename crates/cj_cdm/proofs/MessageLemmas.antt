@@ -3,7 +3,7 @@ use Rattle.std.proofs.Common.{◌≡◌, ℕ, ap, sym, ◌∙◌, refl, false, O
 use Rattle.std.specs.Prelude.{◌&&◌, option_and_then, slice_get}
 use Rattle.cj_track.specs.PlainTracks.{PlainSegment, PlainTrack}
 use Rattle.cj_hermite.specs.Pieces.{PlainPiece, curve_of_piece, piece_holding, piece_at, pieces_of, last_covering}
-use Rattle.cj_hermite.specs.PlainProblems.{PlainProblem}
+use Rattle.cj_case.specs.PlainProblems.{PlainProblem}
 use Rattle.cj_cdm.specs.Building.{have_covariances, message_of, object_covariance, object_side, side_of, side_with}
 use Rattle.cj_cdm.specs.Covariances.{covariance_at, covariance_for, segment_with}
 use Rattle.cj_cdm.specs.Messages.{PlainSide, PlainStamp}

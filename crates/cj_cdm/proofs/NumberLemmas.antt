@@ -5,9 +5,9 @@ use Rattle.std.proofs.lemmas.Fmt.{decimal_step_wide, length-decimal-le_wide}
 use Rattle.std.proofs.lemmas.Int.{ints}
 use Rattle.std.proofs.lemmas.List.{length-append}
 use Rattle.std.specs.Prelude.{◌==◌, if◌then◌else◌, pos, neg_ℤ, ◌+ℤ◌, ◌≤ℤ◌}
-use Rattle.cj_values.specs.declared.decimals.Decimal.{Decimal}
-use Rattle.cj_values.specs.Decimals.{IsReadable, number_of, shifted}
-use Rattle.cj_values.specs.Numbers.{Number}
+use Rattle.cj_base.specs.declared.decimals.Decimal.{Decimal}
+use Rattle.cj_base.specs.Decimals.{IsReadable, number_of, shifted}
+use Rattle.cj_base.specs.Numbers.{Number}
 use Rattle.cj_kvn.proofs.ReadableLemmas.{exponent_bounds}
 use Rattle.cj_cdm.specs.Texts.{last_digits}
 use Rattle.cj_cdm.proofs.TextLemmas.{joined}

@@ -3,7 +3,7 @@ use Rattle.std.proofs.Common.{◌≡◌, ℕ, ◌+◌, ◌<◌, ◌≤◌, true,
 use Rattle.std.proofs.lemmas.Bool.{eqb-true}
 use Rattle.std.proofs.lemmas.List.{drop_more, length-drop, nil_from_length}
 use Rattle.std.specs.Prelude.{◌==◌}
-use Rattle.cj_values.specs.Numbers.{Number}
+use Rattle.cj_base.specs.Numbers.{Number}
 pub use Rattle.cj_kvn.proofs.DecimalLemmas.{written_more as values_more}
 use Rattle.cj_cdm.specs.Fits.{Fits}
 use Rattle.cj_cdm.specs.Messages.{PlainMessage}

@@ -11,8 +11,8 @@ use Rattle.std.proofs.lemmas.Bool.Decides.{nat_tests}
 use Rattle.std.proofs.lemmas.List.{length-append, take-append-drop}
 use Rattle.std.proofs.lemmas.List.Folds.{list_any-append}
 use Rattle.cj_epoch.specs.Reading.{reading_of}
-use Rattle.cj_ticks.specs.Ticks.{FIRST_TICK, IsTick, LAST_TICK, DAY, HOUR, MINUTE, SECOND}
-use Rattle.cj_ticks.specs.Calendar.{Civil, civil_of}
+use Rattle.cj_base.specs.Ticks.{FIRST_TICK, IsTick, LAST_TICK, DAY, HOUR, MINUTE, SECOND}
+use Rattle.cj_base.specs.Calendar.{Civil, civil_of}
 use Rattle.cj_epoch.specs.Written.{clock_text, date_text, epoch_of, four, six, two}
 use Rattle.cj_epoch.proofs.WrittenLemmas.{epoch_of-read}
 use Rattle.cj_kvn.specs.Originators.{is_originator, is_originator_byte}
@@ -21,7 +21,7 @@ use Rattle.cj_track.proofs.LabelLemmas.{visible_apart}
 use Rattle.cj_track.specs.declared.frame.Frame.{Frame}
 use Rattle.cj_track.specs.declared.frame.Frame.TheVariants as frames
 use Rattle.cj_cdm.specs.Designators.{is_designator}
-use Rattle.cj_values.specs.Bytes.{is_feed}
+use Rattle.cj_base.specs.Bytes.{is_feed}
 use Rattle.cj_track.specs.Frames.{frame_text}
 use Rattle.cj_cdm.specs.Values.{as_written, before_ending, before_unit, constant_said, designator_said, epoch_said, frame_said, is_international, is_tick, kept, label_said, only_if, originator_said, same}
 use Rattle.cj_cdm.proofs.ExactLemmas.{Anything}

@@ -1,11 +1,11 @@
 -- The message of an encounter.
 use Rattle.std.specs.Prelude.{ℕ, Bool, ◌&&◌, is_some, map, Option, option_map, option_and_then, slice_get, pos}
-use Rattle.cj_values.specs.Numbers.{Number}
-use Rattle.cj_values.specs.Decimals.{shifted}
+use Rattle.cj_base.specs.Numbers.{Number}
+use Rattle.cj_base.specs.Decimals.{shifted}
 use Rattle.cj_track.specs.PlainTracks.{PlainMatrix, PlainTrack}
 use Rattle.cj_hermite.specs.Interpolant.{Curve}
 use Rattle.cj_hermite.specs.Pieces.{piece_holding, curve_of_piece}
-use Rattle.cj_hermite.specs.PlainProblems.{PlainProblem}
+use Rattle.cj_case.specs.PlainProblems.{PlainProblem}
 use Rattle.cj_cdm.specs.Covariances.{covariance_at}
 use Rattle.cj_cdm.specs.Designators.{designator_of}
 use Rattle.cj_cdm.specs.Messages.{PlainSide, PlainStamp, PlainMessage}

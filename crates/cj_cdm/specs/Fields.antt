@@ -1,6 +1,6 @@
 -- What the fields of a message say.
 use Rattle.std.specs.Prelude.{map}
-use Rattle.cj_values.specs.Decimals.{number_of}
+use Rattle.cj_base.specs.Decimals.{number_of}
 use Rattle.cj_cdm.specs.declared.stamp.Stamp.{Stamp}
 use Rattle.cj_cdm.specs.declared.fields.SideFields.{SideFields}
 use Rattle.cj_cdm.specs.declared.fields.MessageFields.{MessageFields}

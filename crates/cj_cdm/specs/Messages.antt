@@ -1,6 +1,6 @@
 -- What a conjunction data message says.
 use Rattle.std.specs.Prelude.{ℕ, List}
-use Rattle.cj_values.specs.Numbers.{Number}
+use Rattle.cj_base.specs.Numbers.{Number}
 use Rattle.cj_track.specs.declared.frame.Frame.{Frame}
 use Rattle.cj_cdm.specs.declared.vector.Vector.{Vector}
 

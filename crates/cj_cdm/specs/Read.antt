@@ -1,7 +1,7 @@
 -- How readers answer.
 use Rattle.std.specs.Prelude.{ℕ, List, map, Result, Ok, Err}
 use Rattle.std.specs.Borrow.{Bor}
-use Rattle.cj_values.specs.Decimals.{number_of}
+use Rattle.cj_base.specs.Decimals.{number_of}
 use Rattle.cj_cdm.specs.declared.cdm.Cdm.{Cdm}
 use Rattle.cj_cdm.specs.declared.cdm.Side.{Side}
 use Rattle.cj_cdm.specs.declared.reading.rest.Rest.{Rest as Left}

@@ -1,8 +1,8 @@
 -- How a message is read: line by line, each with the key in its place.
 use Rattle.std.specs.Prelude.{ℕ, ◌+◌, Bool, true, false, if◌then◌else◌, List, [], ◌∷◌, ◌++◌, codes, Option, Some, None, option_map, Result, Ok, Err}
 use Rattle.std.specs.List.{after_first, before_first, list_any}
-use Rattle.cj_values.specs.Bytes.{is_feed}
-use Rattle.cj_values.specs.Numbers.{Number}
+use Rattle.cj_base.specs.Bytes.{is_feed}
+use Rattle.cj_base.specs.Numbers.{Number}
 use Rattle.cj_kvn.specs.Faults.{◌>>=◌ as and_then}
 use Rattle.cj_kvn.specs.declared.text_fault.LineFault.{LineFault}
 use Rattle.cj_track.specs.declared.frame.Frame.{Frame}

@@ -2,7 +2,7 @@
 use Rattle.std.specs.Prelude.{ℕ, zero, suc, ◌+◌, ◌/◌, ◌%◌, ◌^◌, nat_lt, if◌then◌else◌, List, [], ◌∷◌, ◌++◌, flat_map, ℤ, pos, unsigned_abs, int_lt, decimal, codes}
 use Rattle.std.specs.List.{zip}
 use Rattle.cj_epoch.specs.Written.{epoch_of}
-use Rattle.cj_values.specs.Numbers.{Number}
+use Rattle.cj_base.specs.Numbers.{Number}
 use Rattle.cj_kvn.specs.Decimals.{decimal_text_of}
 use Rattle.cj_kvn.specs.Entries.{entry, line}
 use Rattle.cj_track.specs.Frames.{frame_text}

@@ -4,11 +4,11 @@ use Rattle.std.specs.Cmp.Lexicographic.{pointwise}
 use Rattle.std.specs.List.{before_first, after_first}
 use Rattle.std.specs.Result.{result_ok}
 use Rattle.cj_epoch.specs.Reading.{reading_of}
-use Rattle.cj_ticks.specs.Ticks.{FIRST_TICK, LAST_TICK}
+use Rattle.cj_base.specs.Ticks.{FIRST_TICK, LAST_TICK}
 use Rattle.cj_epoch.specs.Written.{epoch_of}
-use Rattle.cj_values.specs.Numbers.{Number}
+use Rattle.cj_base.specs.Numbers.{Number}
 use Rattle.cj_kvn.specs.Numbers.{scaled_of}
-use Rattle.cj_values.specs.Decimals.{shifted}
+use Rattle.cj_base.specs.Decimals.{shifted}
 use Rattle.cj_kvn.specs.Decimals.{decimal_of, decimal_text_of}
 use Rattle.cj_kvn.specs.Originators.{is_originator}
 use Rattle.cj_track.specs.Labels.{is_label}

@@ -1,7 +1,7 @@
 //! The fields of a message, from a problem.
 ghost use Rattle.std.specs.Prelude.{◌≡◌, IfSome, Some, option_map};
 ghost use Rattle.cj_track.specs.Tracks.{plain_matrix, plain_track};
-ghost use Rattle.cj_hermite.specs.Problems.{plain_problem};
+ghost use Rattle.cj_case.specs.Problems.{plain_problem};
 ghost use Rattle.cj_cdm.specs.Building.{message_of, object_side, side_of};
 ghost use Rattle.cj_cdm.specs.Covariances.{covariance_at};
 ghost use Rattle.cj_cdm.specs.Fields.{AreShort, message_of_fields, side_of_fields, stamp_of};
@@ -10,8 +10,9 @@ use crate::covariance_index::CovarianceIndex;
 use crate::fields::{MessageFields, SideFields};
 use crate::stamp::Stamp;
 use crate::states::{place_at, rate_at};
-use cj_hermite::{Pair, piece, piece_at};
-use cj_ticks::Tick;
+use cj_base::Tick;
+use cj_case::Pair;
+use cj_hermite::{piece, piece_at};
 use cj_track::{Matrix, Track};
 
 /// The fields of the message of a pair whose closest approach this is, or none where an object has no covariance.

@@ -1,7 +1,6 @@
 use crate::vector::Vector;
-use cj_ticks::Tick;
+use cj_base::{Decimal, Text, Tick};
 use cj_track::Frame;
-use cj_values::{Decimal, Text};
 
 /// A conjunction data message, as it is read.
 #[derive(Debug, Drop, PartialEq, Eq)]

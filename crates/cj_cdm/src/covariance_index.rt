@@ -2,8 +2,8 @@
 use crate::covariances::object_covariance;
 use crate::indexing::indexed;
 use crate::track_covariances::TrackCovariances;
-use cj_hermite::Problem;
-use cj_ticks::Tick;
+use cj_base::Tick;
+use cj_case::Problem;
 use cj_track::Matrix;
 use std::alloc::{AllocError, Global};
 use std::marker::Model;
@@ -17,7 +17,7 @@ pub struct CovarianceIndex<'p> {
 }
 
 impl<'p> Model for CovarianceIndex<'p> {
-    ghost use Rattle.cj_hermite.specs.declared.problem.Problem.{Problem};
+    ghost use Rattle.cj_case.specs.declared.problem.Problem.{Problem};
     ghost use Rattle.cj_cdm.specs.Indexed.{AreOfTracks};
 
     ghost Value = { Problem };
@@ -30,7 +30,7 @@ impl<'p> Model for CovarianceIndex<'p> {
 impl<'p> CovarianceIndex<'p> {
     ghost use Rattle.std.specs.Prelude.{◌≡◌, IfOk, IfSome, Some, option_map, slice_get};
     ghost use Rattle.cj_track.specs.Tracks.{plain_matrix};
-    ghost use Rattle.cj_hermite.specs.Problems.{plain_problem};
+    ghost use Rattle.cj_case.specs.Problems.{plain_problem};
     ghost use Rattle.cj_cdm.specs.Building as spec;
 
     /// An index of the objects that are marked.

@@ -2,13 +2,14 @@
 ghost use Rattle.std.specs.Prelude.{◌≡◌, ◌<◌, length, map, option_map};
 ghost use Rattle.cj_track.specs.Tracks.{plain_matrix, plain_track};
 ghost use Rattle.cj_hermite.specs.Pieces.{pieces_of};
-ghost use Rattle.cj_hermite.specs.Problems.{plain_problem};
+ghost use Rattle.cj_case.specs.Problems.{plain_problem};
 ghost use Rattle.cj_cdm.specs.Building as building;
 ghost use Rattle.cj_cdm.specs.Covariances as spec;
 ghost use Rattle.cj_cdm.specs.Covariances.{not_after, segment_with};
 
-use cj_hermite::{Problem, piece_at, segment_of};
-use cj_ticks::Tick;
+use cj_base::Tick;
+use cj_case::Problem;
+use cj_hermite::{piece_at, segment_of};
 use cj_track::{Matrix, Track};
 
 /// The covariance of an object for a tick, or none where it has no state there or its segment has no covariance.

@@ -6,7 +6,7 @@ ghost use Rattle.cj_cdm.specs.Covariances.{not_after};
 ghost use Rattle.cj_cdm.specs.Dated.{AreDated, AreInOrder, AreReached, dated_from};
 
 use crate::dated::Dated;
-use cj_ticks::Tick;
+use cj_base::Tick;
 use cj_track::Matrix;
 use std::alloc::{AllocError, Global};
 

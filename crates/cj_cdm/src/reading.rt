@@ -18,8 +18,8 @@ mod values;
 
 use crate::cdm::{Cdm, Side};
 use crate::fault::{CdmCause, CdmFault};
+use cj_base::Text;
 use cj_kvn::LineFault;
-use cj_values::Text;
 use heading::read_heading;
 use object::read_side;
 use rest::Rest;

@@ -1,7 +1,7 @@
 //! The covariances of a segment.
 use crate::dated::Dated;
 use crate::dating::{in_order, latest};
-use cj_ticks::Tick;
+use cj_base::Tick;
 use cj_track::Matrix;
 use std::alloc::{AllocError, Global};
 use std::marker::Model;

@@ -1,4 +1,4 @@
-use cj_ticks::Tick;
+use cj_base::Tick;
 
 /// When a message is made, by whom, and its number.
 #[derive(Clone, Copy, Debug)]

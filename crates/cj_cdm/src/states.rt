@@ -8,9 +8,9 @@ ghost use Rattle.cj_cdm.specs.States as spec;
 ghost use Rattle.cj_cdm.specs.Values.{is_short};
 
 use crate::vector::Vector;
+use cj_base::Tick;
 use cj_hermite::{Box3, Piece, point, rate};
 use cj_interval::Span;
-use cj_ticks::Tick;
 
 /// The place of a piece at one of its ticks, in nm.
 #[tactic(auto, unfolding(crate::specs::States::place_at))]

@@ -1,7 +1,7 @@
 //! The covariances of a track.
 use crate::segment_covariances::SegmentCovariances;
+use cj_base::Tick;
 use cj_hermite::{piece_at, segment_of};
-use cj_ticks::Tick;
 use cj_track::{Matrix, Track};
 use std::alloc::{AllocError, Global};
 use std::marker::Model;

@@ -4,13 +4,13 @@ use crate::covariance_index::CovarianceIndex;
 use crate::fields::MessageFields;
 use crate::printing::push_message;
 use crate::stamp::Stamp;
-use cj_hermite::Pair;
-use cj_ticks::Tick;
+use cj_base::Tick;
+use cj_case::Pair;
 use std::alloc::{AllocError, Global};
 
 impl<'p> CovarianceIndex<'p> {
     ghost use Rattle.std.specs.Prelude.{◌≡◌, IfOk, IfSome, Ok, Some, is_some, option_map};
-    ghost use Rattle.cj_hermite.specs.Problems.{plain_problem};
+    ghost use Rattle.cj_case.specs.Problems.{plain_problem};
     ghost use Rattle.cj_cdm.specs.Building.{have_covariances, message_of, object_covariance};
     ghost use Rattle.cj_cdm.specs.Fields.{stamp_of};
     ghost use Rattle.cj_cdm.specs.Fits.{HasNames};

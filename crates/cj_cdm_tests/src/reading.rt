@@ -3,9 +3,9 @@ ghost use Rattle.std.specs.Prelude.{◌<◌, ◌%◌, ◌^◌};
 
 use crate::expected::crossing;
 use crate::writing::tick;
+use cj_base::{Decimal, Text};
 use cj_cdm::{Cdm, CdmCause, CdmFault, Side, Vector, read_cdm};
 use cj_track::Frame;
-use cj_values::{Decimal, Text};
 use std::alloc::{AllocError, Global};
 use std::panic::Expect;
 

@@ -1,17 +1,16 @@
 ghost use Rattle.std.specs.Prelude.{◌≡◌, ◌+◌, ◌<◌, IfOk};
-ghost use Rattle.cj_values.specs.Decimals.{IsReadable, number_of};
+ghost use Rattle.cj_base.specs.Decimals.{IsReadable, number_of};
 ghost use Rattle.cj_track.specs.Limits.{MAX_COORDINATE, MAX_RATE, IsWithin};
 ghost use Rattle.cj_track.specs.Labels.{is_file_name, is_label};
 ghost use Rattle.cj_track.specs.Segments.{node_count};
 
 use crate::expected::crossing;
+use cj_base::{Decimal, Text, Tick, Window};
+use cj_case::{Pair, Problem, Sizes, Tracks};
 use cj_cdm::{CovarianceIndex, Stamp};
 use cj_epoch::leap_between;
-use cj_hermite::{Pair, Problem, Sizes, Tracks};
 use cj_kvn::read_decimal;
-use cj_ticks::{Tick, Window};
 use cj_track::{Frame, Matrices, Matrix, Node, Nodes, Segment, Segments, Track, Vec3};
-use cj_values::{Decimal, Text};
 use std::alloc::{AllocError, Global};
 use std::panic::Expect;
 use std::process::Abort;

@@ -3,15 +3,17 @@ use Rattle.std.proofs.Common.{◌≡◌, ℕ, ◌+◌, ◌-◌, Bool, true, List
 use Rattle.std.specs.Prelude.{All, Any, AllPairs}
 use Rattle.std.specs.List.{flat_map, sum_by}
 use Rattle.std.proofs.lemmas.List.Sums.{sum_by-cons}
-use Rattle.cj_hermite.specs.PlainProblems.{PlainProblem, number_at, curve_at, threshold_of, IsCommonOf}
+use Rattle.cj_case.specs.PlainProblems.{PlainProblem, threshold_of}
+use Rattle.cj_hermite.specs.ObjectsAtTicks.{number_at, curve_at, IsCommonOf}
 use Rattle.cj_bezier.specs.Halving.{leaves_between}
-use Rattle.cj_hermite.specs.Slots.{slot_of}
+use Rattle.cj_case.specs.Slots.{slot_of}
 use Rattle.cj_bezier.specs.Candidates.{is_candidate}
-use Rattle.cj_hermite.specs.Roots.{PlainCell, KeepPieces, roots_of, IsRootBefore}
-use Rattle.cj_bezier.specs.Order.{IsBefore}
+use Rattle.cj_case.specs.Cells.{PlainCell, IsRootBefore}
+use Rattle.cj_hermite.specs.Roots.{KeepPieces, roots_of}
+use Rattle.cj_case.specs.Order.{IsBefore}
 use Rattle.cj_bezier.specs.RootLeaves.{kind_between, leaves_of_curves, leaves_of_root, leaves_of_roots, IsTrueThroughout, IsPartOf, Describe}
 use Rattle.cj_cells.specs.Lists.{list_of, list_candidates, splits_of_curves, splits_of_root, splits_of, IsSound}
-use Rattle.cj_bezier.specs.Leaves.{IsTickOf}
+use Rattle.cj_case.specs.Leaves.{IsTickOf}
 use Rattle.cj_interval.proofs.ListLemmas.{Each, Exists, Ordered, Each-weaker, Each-both, Each-flat_map, Each-exists, Exists-weaker, Exists-flat_map, Ordered-flat_map, All-from_each, Any-from_exists, AllPairs-from_ordered, each_from_All, exists_from_Any, ordered_from_AllPairs}
 use Rattle.cj_hermite.proofs.RootLemmas.{IsRootOf, Each-roots, Ordered-roots, Exists-roots}
 use Rattle.cj_hermite.proofs.RootLemmas.{Holds as HasRootTick}

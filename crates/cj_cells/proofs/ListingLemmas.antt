@@ -5,14 +5,15 @@ use Rattle.std.specs.List.{flat_map, range_with_len}
 use Rattle.std.proofs.lemmas.List.{take_more, map_push, map-append, take-append-drop, drop_more}
 use Rattle.std.proofs.lemmas.List.Concat.{flat_map-append}
 use Rattle.std.proofs.lemmas.List.Elements.{All-push, All-same}
-use Rattle.cj_hermite.specs.PlainProblems.{PlainProblem}
-use Rattle.cj_bezier.specs.declared.cell.Cell.{Cell}
-use Rattle.cj_bezier.specs.declared.leaf.Leaf.{Leaf}
-use Rattle.cj_bezier.specs.Leaves.{PlainLeaf, plain_leaf, plain_leaves}
-use Rattle.cj_hermite.specs.Slots.{slot_count}
-use Rattle.cj_hermite.specs.Roots.{PlainCell, KeepPieces, roots_in_slot, roots_of, roots_by_slot}
+use Rattle.cj_case.specs.PlainProblems.{PlainProblem}
+use Rattle.cj_case.specs.declared.cell.Cell.{Cell}
+use Rattle.cj_case.specs.declared.leaf.Leaf.{Leaf}
+use Rattle.cj_case.specs.Leaves.{PlainLeaf, plain_leaf, plain_leaves}
+use Rattle.cj_case.specs.Slots.{slot_count}
+use Rattle.cj_case.specs.Cells.{PlainCell}
+use Rattle.cj_hermite.specs.Roots.{KeepPieces, roots_in_slot, roots_of, roots_by_slot}
 use Rattle.cj_bezier.specs.Candidates.{is_candidate, candidate_pairs}
-use Rattle.cj_bezier.specs.Cells.{plain_cell, plain_cells}
+use Rattle.cj_case.specs.Cells.{plain_cell, plain_cells}
 use Rattle.cj_cells.specs.Cells.{added_roots, added_leaves}
 use Rattle.cj_bezier.specs.RootLeaves.{leaves_of_root, leaves_of_roots}
 use Rattle.cj_interval.proofs.ListLemmas.{Each, Each-weaker, All-from_each, each_from_map}

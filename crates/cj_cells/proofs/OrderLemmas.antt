@@ -3,13 +3,14 @@ use Rattle.std.proofs.Common.{◌≡◌, ℕ, zero, suc, ◌+◌, ◌<◌, ◌�
 use Rattle.std.specs.List.{AllPairs, range_with_len}
 use Rattle.std.specs.List.Sorted.{IsPermutation}
 use Rattle.std.proofs.lemmas.List.{take_more_set, map_push}
-use Rattle.cj_bezier.specs.declared.cell.Cell.{Cell}
-use Rattle.cj_hermite.specs.PlainProblems.{PlainProblem}
-use Rattle.cj_bezier.specs.Cells.{plain_cell, plain_cells}
-use Rattle.cj_hermite.specs.PairOrder.{AreInOrderBy}
-use Rattle.cj_hermite.proofs.PairOrderLemmas.{before, sorted}
+use Rattle.cj_case.specs.declared.cell.Cell.{Cell}
+use Rattle.cj_case.specs.PlainProblems.{PlainProblem}
+use Rattle.cj_case.specs.Cells.{plain_cell, plain_cells}
+use Rattle.cj_case.specs.PairOrder.{AreInOrderBy}
+use Rattle.cj_case.proofs.PairOrderLemmas.{before, sorted}
 use Rattle.cj_cells.specs.Cells.{root_numbers}
-use Rattle.cj_hermite.specs.Roots.{PlainCell, IsRootUpTo, roots_of, roots_by_slot}
+use Rattle.cj_case.specs.Cells.{PlainCell, IsRootUpTo}
+use Rattle.cj_hermite.specs.Roots.{roots_of, roots_by_slot}
 use Rattle.cj_interval.proofs.ListLemmas.{Each-weaker, Ordered-map, AllPairs-from_ordered, ordered_from_AllPairs}
 use Rattle.cj_interval.proofs.RangeLemmas.{range_more}
 use Rattle.cj_hermite.proofs.RootLemmas.{Each-roots, Ordered-roots, IsRootOf}

@@ -1,12 +1,13 @@
 -- What pieces made ready are for a cell that lies within their ticks.
 use Rattle.std.proofs.Common.{◌≡◌, ℕ, ◌≤◌, Some, sym, ap, ◌∙◌, arith}
-use Rattle.cj_ticks.specs.declared.tick.Tick.{Tick}
+use Rattle.cj_base.specs.declared.tick.Tick.{Tick}
 use Rattle.cj_hermite.specs.Interpolant.{IsOver}
-use Rattle.cj_hermite.specs.PlainProblems.{PlainProblem, curve_at}
+use Rattle.cj_case.specs.PlainProblems.{PlainProblem}
+use Rattle.cj_hermite.specs.ObjectsAtTicks.{curve_at}
 use Rattle.cj_hermite.specs.Ready.{curve_ready}
-use Rattle.cj_hermite.specs.declared.pair.Pair.{Pair}
+use Rattle.cj_case.specs.declared.pair.Pair.{Pair}
 use Rattle.cj_hermite.proofs.TrackLemmas.{over_part}
-use Rattle.cj_bezier.specs.declared.cell.Cell.{Cell}
+use Rattle.cj_case.specs.declared.cell.Cell.{Cell}
 use Rattle.cj_cells.specs.declared.ready_pair.ReadyPair.{ReadyPair}
 use Rattle.cj_cells.specs.ReadyPairs.{IsReadyPair}
 

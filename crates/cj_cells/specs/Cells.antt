@@ -1,10 +1,10 @@
 -- Lists of cells and of leaves as they grow.
 use Rattle.std.specs.Prelude.{ℕ, List, map, length, drop}
-use Rattle.cj_bezier.specs.declared.cell.Cell.{Cell}
-use Rattle.cj_bezier.specs.declared.leaf.Leaf.{Leaf}
-use Rattle.cj_bezier.specs.Leaves.{PlainLeaf, plain_leaves}
-use Rattle.cj_bezier.specs.Cells.{plain_cells}
-use Rattle.cj_hermite.specs.Roots.{PlainCell}
+use Rattle.cj_case.specs.declared.cell.Cell.{Cell}
+use Rattle.cj_case.specs.declared.leaf.Leaf.{Leaf}
+use Rattle.cj_case.specs.Leaves.{PlainLeaf, plain_leaves}
+use Rattle.cj_case.specs.Cells.{plain_cells}
+use Rattle.cj_case.specs.Cells.{PlainCell}
 
 -- the number of each cell's root
 abbrev pub root_numbers : List Cell → List ℕ

@@ -2,9 +2,11 @@
 use Rattle.std.specs.Prelude.{ℕ, ◌<◌, ◌≤◌, Bool, List, Option, Some, None}
 use Rattle.std.specs.List.{sum_by}
 use Rattle.cj_hermite.specs.Interpolant.{Curve}
-use Rattle.cj_hermite.specs.PlainProblems.{PlainProblem, threshold_of, curve_at}
-use Rattle.cj_hermite.specs.Roots.{PlainCell, roots_of}
-use Rattle.cj_bezier.specs.Leaves.{PlainLeaf}
+use Rattle.cj_case.specs.PlainProblems.{PlainProblem, threshold_of}
+use Rattle.cj_hermite.specs.ObjectsAtTicks.{curve_at}
+use Rattle.cj_case.specs.Cells.{PlainCell}
+use Rattle.cj_hermite.specs.Roots.{roots_of}
+use Rattle.cj_case.specs.Leaves.{PlainLeaf}
 use Rattle.cj_bezier.specs.Halving.{splits_between}
 use Rattle.cj_bezier.specs.Candidates.{is_candidate}
 use Rattle.cj_bezier.specs.RootLeaves.{kind_between, leaves_of_roots, IsTrueThroughout}

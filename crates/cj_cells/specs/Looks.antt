@@ -1,8 +1,8 @@
 -- Looks: what becomes of a cell.
 use Rattle.std.specs.Prelude.{Option, Some, None}
-use Rattle.cj_bezier.specs.declared.kind.Kind.{Kind}
-use Rattle.cj_bezier.specs.declared.cell.Cell.{Cell}
-use Rattle.cj_bezier.specs.declared.leaf.Leaf.{Leaf}
+use Rattle.cj_case.specs.declared.kind.Kind.{Kind}
+use Rattle.cj_case.specs.declared.cell.Cell.{Cell}
+use Rattle.cj_case.specs.declared.leaf.Leaf.{Leaf}
 use Rattle.cj_cells.specs.declared.outcome.Look.{Look}
 use Rattle.cj_cells.specs.declared.outcome.Look.TheVariants.{Closed, Halves}
 

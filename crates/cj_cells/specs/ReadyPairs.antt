@@ -1,6 +1,7 @@
 -- Ready pairs: what two pieces made ready stand for.
 use Rattle.cj_hermite.specs.Interpolant.{IsOver}
-use Rattle.cj_hermite.specs.PlainProblems.{PlainProblem, HaveCurves}
+use Rattle.cj_case.specs.PlainProblems.{PlainProblem}
+use Rattle.cj_hermite.specs.ObjectsAtTicks.{HaveCurves}
 use Rattle.cj_hermite.specs.Ready.{curve_ready}
 use Rattle.cj_cells.specs.declared.ready_pair.ReadyPair.{ReadyPair}
 

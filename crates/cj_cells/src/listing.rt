@@ -1,21 +1,20 @@
 //! The one-thread list of a problem.
 ghost use Rattle.std.specs.Prelude.{◌≡◌, ℕ, ◌+◌, ◌<◌, ◌≤◌, true, length, vec_len, All, Any, IfOk, OnOk, IsErrOf};
-ghost use Rattle.cj_hermite.specs.PlainProblems.{IsCommonOf};
-ghost use Rattle.cj_hermite.specs.Problems.{plain_problem};
-ghost use Rattle.cj_hermite.specs.Slots.{slot_of};
-ghost use Rattle.cj_bezier.specs.Leaves.{plain_leaves};
-ghost use Rattle.cj_bezier.specs.Order.{AreInOrder};
+ghost use Rattle.cj_hermite.specs.ObjectsAtTicks.{IsCommonOf};
+ghost use Rattle.cj_case.specs.Problems.{plain_problem};
+ghost use Rattle.cj_case.specs.Slots.{slot_of};
+ghost use Rattle.cj_case.specs.Leaves.{plain_leaves};
+ghost use Rattle.cj_case.specs.Order.{AreInOrder};
 ghost use Rattle.cj_bezier.specs.Candidates.{is_candidate};
 ghost use Rattle.cj_hermite.specs.Roots.{KeepPieces, roots_of};
-ghost use Rattle.cj_bezier.specs.Cells.{plain_cells};
+ghost use Rattle.cj_case.specs.Cells.{plain_cells};
 ghost use Rattle.cj_bezier.specs.RootLeaves.{leaves_of_root, leaves_of_roots, Describe};
 ghost use Rattle.cj_cells.specs.Lists.{list_candidates, splits_of, IsSound};
-ghost use Rattle.cj_bezier.specs.Leaves.{IsTickOf};
+ghost use Rattle.cj_case.specs.Leaves.{IsTickOf};
 
 use crate::refine_error::RefineError;
 use crate::refining::refine;
-use cj_bezier::{Cell, Leaf};
-use cj_hermite::Problem;
+use cj_case::{Cell, Leaf, Problem};
 use std::alloc::Global;
 
 /// The leaves of several roots, in order.

@@ -1,5 +1,5 @@
 use crate::ready_pair::ReadyPair;
-use cj_hermite::Problem;
+use cj_case::Problem;
 use std::marker::Model;
 
 /// Looks at many cells of a problem in turn, for less where they have the same two pieces as the one before. Its type keeps that
@@ -12,8 +12,8 @@ pub struct Looker<'p> {
 
 impl<'p> Model for Looker<'p> {
     ghost use Rattle.std.specs.Prelude.{IfSome};
-    ghost use Rattle.cj_hermite.specs.declared.problem.Problem.{Problem};
-    ghost use Rattle.cj_hermite.specs.Problems.{plain_problem};
+    ghost use Rattle.cj_case.specs.declared.problem.Problem.{Problem};
+    ghost use Rattle.cj_case.specs.Problems.{plain_problem};
     ghost use Rattle.cj_cells.specs.ReadyPairs.{IsReadyPair};
 
     ghost Value = { Problem };

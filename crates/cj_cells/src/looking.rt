@@ -1,7 +1,8 @@
 //! The look at a cell of a problem.
 ghost use Rattle.std.specs.Prelude.{◌≡◌};
-ghost use Rattle.cj_hermite.specs.Problems.{plain_problem};
-ghost use Rattle.cj_bezier.specs.Cells.{AreHalves, plain_cell};
+ghost use Rattle.cj_case.specs.Problems.{plain_problem};
+ghost use Rattle.cj_bezier.specs.Halves.{AreHalves};
+ghost use Rattle.cj_case.specs.Cells.{plain_cell};
 ghost use Rattle.cj_bezier.specs.RootLeaves.{kind_of_cell};
 ghost use Rattle.cj_cells.specs.Looks.{kind_found, IfClosed, IfHalves};
 ghost use Rattle.cj_hermite.specs.Roots.{KeepPieces};
@@ -10,8 +11,7 @@ use crate::looker::Looker;
 use crate::outcome::Look;
 use crate::preparing::prepare;
 use crate::ready_look::look_at;
-use cj_bezier::Cell;
-use cj_hermite::Problem;
+use cj_case::{Cell, Problem};
 use cj_interval::Divisor;
 
 /// How long the pieces of most ephemerides are: a minute of ticks.

@@ -2,13 +2,14 @@
 ghost use Rattle.std.specs.Prelude.{◌≡◌, ℕ, ◌≤◌, Bool, length, vec_len, AllPairs};
 ghost use Rattle.std.specs.List.{range_with_len};
 ghost use Rattle.std.specs.List.Sorted.{IsPermutation};
-ghost use Rattle.cj_values.specs.Bounds.{MOST_LEAVES};
-ghost use Rattle.cj_hermite.specs.PlainProblems.{PlainProblem};
-ghost use Rattle.cj_hermite.specs.Roots.{IsRootUpTo, roots_of, roots_by_slot};
-ghost use Rattle.cj_bezier.specs.Cells.{plain_cells};
+ghost use Rattle.cj_base.specs.Bounds.{MOST_LEAVES};
+ghost use Rattle.cj_case.specs.PlainProblems.{PlainProblem};
+ghost use Rattle.cj_case.specs.Cells.{IsRootUpTo};
+ghost use Rattle.cj_hermite.specs.Roots.{roots_of, roots_by_slot};
+ghost use Rattle.cj_case.specs.Cells.{plain_cells};
 ghost use Rattle.cj_cells.specs.Cells.{root_numbers};
 
-use cj_bezier::Cell;
+use cj_case::Cell;
 
 /// Sorts roots by pair and first tick. They come as runs in order, which a stable sort merges; it wants memory, and does without
 /// where there is none.

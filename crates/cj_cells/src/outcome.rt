@@ -1,4 +1,4 @@
-use cj_bezier::{Cell, Leaf};
+use cj_case::{Cell, Leaf};
 
 /// What becomes of a cell.
 #[derive(Clone, Copy, Debug, PartialEq, Eq)]

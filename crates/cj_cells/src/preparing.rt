@@ -1,12 +1,12 @@
 //! The pieces of a cell, made ready.
 ghost use Rattle.std.specs.Prelude.{◌≡◌};
-ghost use Rattle.cj_hermite.specs.Problems.{plain_problem};
+ghost use Rattle.cj_case.specs.Problems.{plain_problem};
 ghost use Rattle.cj_hermite.specs.Roots.{KeepPieces};
 ghost use Rattle.cj_cells.specs.ReadyPairs.{IsReadyPair};
 
 use crate::ready_pair::ReadyPair;
-use cj_bezier::Cell;
-use cj_hermite::{Problem, piece_of, ready};
+use cj_case::{Cell, Problem};
+use cj_hermite::{piece_of, ready};
 use cj_interval::Divisor;
 
 /// The pieces of both objects over a cell whose ticks have the same two pieces, made ready: for less where they are as long as one

@@ -5,12 +5,13 @@ ghost use Rattle.cj_hermite.specs.Ready.{curve_ready};
 ghost use Rattle.cj_bezier.specs.Verdicts.{cell_verdict};
 ghost use Rattle.cj_bezier.specs.RootLeaves.{kind_between};
 ghost use Rattle.cj_cells.specs.Looks.{kind_found, IfClosed, IfHalves};
-ghost use Rattle.cj_bezier.specs.Cells.{AreHalves};
+ghost use Rattle.cj_bezier.specs.Halves.{AreHalves};
 
 use crate::outcome::Look;
-use cj_bezier::{Cell, Kind, Leaf, Verdict, gap, hull_ready, verdict};
+use cj_base::Tick;
+use cj_bezier::{Verdict, gap, hull_ready, verdict};
+use cj_case::{Cell, Kind, Leaf};
 use cj_hermite::Ready;
-use cj_ticks::Tick;
 
 #[tactic(auto, unfolding(cj_bezier::specs::Verdicts::cell_verdict))]
 /// The verdict on two pieces over the ticks from `first` to `last`, against a threshold in nm.

@@ -1,9 +1,9 @@
 //! Two pieces made ready.
 ghost use Rattle.std.specs.Prelude.{◌≡◌, ◌≤◌, IsTrue};
 
-use cj_bezier::Cell;
-use cj_hermite::{Pair, Ready};
-use cj_ticks::Tick;
+use cj_base::Tick;
+use cj_case::{Cell, Pair};
+use cj_hermite::Ready;
 
 /// The pieces of a pair's objects over the ticks from `first` to `last`, made ready.
 #[derive(Clone, Copy)]

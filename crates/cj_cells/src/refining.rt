@@ -1,12 +1,12 @@
 //! The halving of a cell, until each part is of one kind.
 ghost use Rattle.std.specs.Prelude.{◌≡◌, ◌+◌, ◌^◌, ◌<◌, ◌≤◌, length, take, drop, vec_len, All, OnOk, OnErr, IsErrOf};
 ghost use Rattle.cj_hermite.specs.Interpolant.{IsOver};
-ghost use Rattle.cj_hermite.specs.Problems.{plain_problem};
+ghost use Rattle.cj_case.specs.Problems.{plain_problem};
 ghost use Rattle.cj_hermite.specs.Ready.{curve_ready};
 ghost use Rattle.cj_hermite.specs.Roots.{KeepPieces};
 ghost use Rattle.cj_bezier.specs.RootLeaves.{kind_between, leaves_of_root, Describe};
 ghost use Rattle.cj_bezier.specs.Halving.{leaves_between};
-ghost use Rattle.cj_bezier.specs.Cells.{plain_cell};
+ghost use Rattle.cj_case.specs.Cells.{plain_cell};
 ghost use Rattle.cj_cells.specs.Cells.{added_leaves};
 
 use crate::looking::USUAL_SPAN;
@@ -14,10 +14,10 @@ use crate::outcome::Look;
 use crate::preparing::prepare;
 use crate::ready_look::look_at;
 use crate::refine_error::RefineError;
-use cj_bezier::{Cell, Leaf};
-use cj_hermite::{Problem, Ready};
+use cj_base::Tick;
+use cj_case::{Cell, Leaf, Problem};
+use cj_hermite::Ready;
 use cj_interval::Divisor;
-use cj_ticks::Tick;
 use std::alloc::Global;
 
 /// How many parts of a cell wait at most: one more than the halvings of 2^32 ticks, and a piece is shorter than that.

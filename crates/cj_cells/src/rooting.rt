@@ -1,16 +1,16 @@
 //! The roots of a slot.
 ghost use Rattle.std.specs.Prelude.{◌≡◌, ◌+◌, ◌<◌, ◌≤◌, map, length, take, drop, vec_len, [], ◌∷◌, All, OnOk, OnErr, IsErrOf};
 ghost use Rattle.cj_track.specs.Tracks.{plain_track};
-ghost use Rattle.cj_hermite.specs.Problems.{plain_problem};
+ghost use Rattle.cj_case.specs.Problems.{plain_problem};
 ghost use Rattle.cj_hermite.specs.CommonRuns.{runs_between, run_of, both_numbers};
-ghost use Rattle.cj_hermite.specs.Pairs.{objects_of};
+ghost use Rattle.cj_case.specs.Pairs.{objects_of};
 ghost use Rattle.cj_hermite.specs.Roots.{KeepPieces, root_of_run, roots_in_slot};
 ghost use Rattle.cj_cells.specs.Cells.{added_roots};
 
 use crate::refine_error::RefineError;
-use cj_bezier::Cell;
-use cj_hermite::{Hints, Pair, PairHint, Problem, next_common, slot_window};
-use cj_ticks::Window;
+use cj_base::Window;
+use cj_case::{Cell, Pair, Problem, slot_window};
+use cj_hermite::{Hints, PairHint, next_common};
 use cj_track::Track;
 use std::alloc::Global;
 

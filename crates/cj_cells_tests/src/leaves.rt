@@ -1,13 +1,10 @@
 ghost use Rattle.std.specs.Prelude.{◌≡◌, ◌≤◌, length};
-ghost use Rattle.cj_hermite.specs.Limits.{MAX_SIZE};
+ghost use Rattle.cj_case.specs.CaseLimits.{MAX_SIZE};
 
-use cj_bezier::{Cell, Kind, Leaf};
+use cj_case::{Cell, Kind, Leaf, Pair, Problem};
 use cj_cells::{Look, RefineError, look, order_roots, refine_all, roots_of_slot};
-use cj_hermite::{Hints, Pair, Problem};
-use cj_samples::{
-    AT_7000, AT_7005, AT_7100, REST, node, rest, tick, track_of, track_of_two, useable,
-};
-use cj_scenes::{crossing, problem_of, sized};
+use cj_hermite::Hints;
+use cj_samples::{AT_7000, AT_7005, AT_7100, REST, crossing, node, problem_of, rest, sized, tick, track_of, track_of_two, useable};
 use cj_track::Vec3;
 use std::alloc::Global;
 use std::panic::Expect;

@@ -2,15 +2,17 @@
 use Rattle.std.proofs.Common.{◌≡◌, ℕ, ◌^◌, ◌≤◌, true, arith}
 use Rattle.std.specs.Prelude.{All, Any}
 use Rattle.cj_interval.proofs.ListLemmas.{All-from_each, Any-from_exists}
-use Rattle.cj_hermite.specs.PlainProblems.{PlainProblem, number_at, IsCommonOf}
-use Rattle.cj_hermite.specs.Roots.{PlainCell, roots_of}
-use Rattle.cj_hermite.specs.Slots.{slot_of}
+use Rattle.cj_case.specs.PlainProblems.{PlainProblem}
+use Rattle.cj_hermite.specs.ObjectsAtTicks.{number_at, IsCommonOf}
+use Rattle.cj_case.specs.Cells.{PlainCell}
+use Rattle.cj_hermite.specs.Roots.{roots_of}
+use Rattle.cj_case.specs.Slots.{slot_of}
 use Rattle.cj_hermite.proofs.CurveLemmas.{some_both}
 use Rattle.cj_hermite.proofs.ObjectLemmas.{numbers_exist, second_exists}
 use Rattle.cj_hermite.proofs.RootLemmas.{IsRootOf, Each-roots, Exists-roots}
-use Rattle.cj_bezier.specs.declared.kind.Kind.TheVariants.{Near, Undecided}
+use Rattle.cj_case.specs.declared.kind.Kind.TheVariants.{Near, Undecided}
 use Rattle.cj_bezier.specs.Enclosed.{OthersAreFar}
-use Rattle.cj_bezier.specs.Leaves.{PlainLeaf, IsTickOf}
+use Rattle.cj_case.specs.Leaves.{PlainLeaf, IsTickOf}
 use Rattle.cj_bezier.specs.Tiles.{IsLeaf}
 use Rattle.cj_bezier.proofs.FarLemmas.{others_far}
 use Rattle.cj_bezier.proofs.TrueLeafLemmas.{IsTrueLeaf, tells_of, outside_of}

@@ -10,17 +10,18 @@ use Rattle.cj_interval.proofs.ListLemmas.{Each, Exists, Each-weaker, Each-map, E
 use Rattle.cj_interval.proofs.ListLemmas.{Exists-filter, Exists-flat_map, Exists-map, Exists-weaker, Exists-range, each_at, each_from_All}
 use Rattle.cj_interval.proofs.RangeLemmas.{Exists-enumerated}
 use Rattle.cj_track.specs.PlainTracks.{PlainTrack}
-use Rattle.cj_hermite.specs.PlainProblems.{PlainProblem}
+use Rattle.cj_case.specs.PlainProblems.{PlainProblem}
 use Rattle.cj_hermite.specs.Pieces.{piece_holding, piece_at, curve_of_piece}
 use Rattle.cj_hermite.specs.Roots.{slots_of}
-use Rattle.cj_hermite.specs.Slots.{slot_first, slot_last, slot_count}
+use Rattle.cj_case.specs.Slots.{slot_first, slot_last, slot_count}
 use Rattle.cj_hermite.specs.Walks.{HasNone}
-use Rattle.cj_bezier.specs.declared.shells.Shell.{Shell}
+use Rattle.cj_case.specs.declared.shells.Shell.{Shell}
 use Rattle.cj_bezier.specs.Enclosed.{IsInShell, IsInBox, AreInShells, AreInBoxes}
 use Rattle.cj_bezier.specs.Gaps.{gap_terms}
 use Rattle.cj_bezier.specs.Parts.{AreInTime, hulls_of}
 use Rattle.cj_bezier.specs.Shells.{IsInner, IsOuter, IsRadiusWithin, shell_in}
-use Rattle.cj_bezier.specs.SlotBoxes.{PlainBox, IsPlaceIn, reaches_in}
+use Rattle.cj_case.specs.Boxes.{PlainBox}
+use Rattle.cj_bezier.specs.SlotBoxes.{IsPlaceIn, reaches_in}
 use Rattle.cj_bezier.proofs.BoxRoundLemmas.{IsWithinReaches, places_lie}
 use Rattle.cj_bezier.proofs.ShellRoundLemmas.{inner_test, outer_test, radii_hold}
 use Rattle.cj_cert.specs.declared.cert_lines.ShellLine.{ShellLine}

@@ -11,23 +11,25 @@ use Rattle.std.proofs.lemmas.List.FromFn.{length-range_with_len}
 use Rattle.std.proofs.lemmas.Option.{slice_get-map, slice_get_within}
 use Rattle.cj_interval.proofs.ListLemmas.{Each, Each-weaker, Each-both, Each-map, Each-flat_map, Each-range, All-from_each, each_from_All, each_from_flat_map, each_from_map, Each-filter, flat_map_alike}
 use Rattle.cj_interval.proofs.RangeLemmas.{each_in_range}
-use Rattle.cj_causes.specs.declared.cert_version.CertVersion.{CertVersion}
-use Rattle.cj_causes.specs.declared.cert_version.CertVersion.TheVariants.{One, Two}
+use Rattle.cj_formats.specs.declared.cert_version.CertVersion.{CertVersion}
+use Rattle.cj_formats.specs.declared.cert_version.CertVersion.TheVariants.{One, Two}
 use Rattle.cj_track.specs.PlainTracks.{PlainTrack}
 use Rattle.cj_hermite.specs.Interpolant.{Four}
-use Rattle.cj_hermite.specs.Pairs.{pairs_of}
+use Rattle.cj_case.specs.Pairs.{pairs_of}
 use Rattle.cj_hermite.specs.Pieces.{piece_at}
-use Rattle.cj_hermite.specs.PlainProblems.{PlainProblem, threshold_between}
-use Rattle.cj_hermite.specs.Roots.{PlainCell, roots_in, roots_of, slots_of}
-use Rattle.cj_hermite.specs.Slots.{slot_first, slot_last, slot_count}
+use Rattle.cj_case.specs.PlainProblems.{PlainProblem, threshold_between}
+use Rattle.cj_case.specs.Cells.{PlainCell}
+use Rattle.cj_hermite.specs.Roots.{roots_in, roots_of, slots_of}
+use Rattle.cj_case.specs.Slots.{slot_first, slot_last, slot_count}
 use Rattle.cj_hermite.specs.Walks.{HasNone}
-use Rattle.cj_hermite.proofs.PairLemmas.{IsPair, Each-pairs}
-use Rattle.cj_bezier.specs.declared.shells.Shell.{Shell}
+use Rattle.cj_case.proofs.PairLemmas.{IsPair, Each-pairs}
+use Rattle.cj_case.specs.declared.shells.Shell.{Shell}
 use Rattle.cj_bezier.specs.Hulls.{PlainHull}
 use Rattle.cj_bezier.specs.Candidates.{pairs_kept}
 use Rattle.cj_bezier.specs.Parts.{hulls_of}
 use Rattle.cj_bezier.specs.Shells.{keeps_between}
-use Rattle.cj_bezier.specs.SlotBoxes.{IsAtMostEach, IsAtLeastEach, PlainBox, reaches_in, both_touch, touch_between}
+use Rattle.cj_bezier.specs.SlotBoxes.{IsAtMostEach, IsAtLeastEach, reaches_in, both_touch, touch_between}
+use Rattle.cj_case.specs.Boxes.{PlainBox}
 use Rattle.cj_blocks.specs.Blocks as blocks
 use Rattle.cj_blocks.specs.Blocks.{PlainBlock, Given, box_given, blocks_of, is_block_of, pair_touches}
 use Rattle.cj_blocks.proofs.CurrentLemmas.{filtered_each}

@@ -6,13 +6,14 @@ use Rattle.cj_interval.proofs.ListLemmas.{Each, Exists, Each-weaker, Each-append
 use Rattle.cj_track.specs.PlainTracks.{PlainTrack}
 use Rattle.cj_hermite.specs.Interpolant.{Curve, IsOver}
 use Rattle.cj_hermite.specs.Pieces.{PlainPiece, piece_holding, curve_of_piece, OfBothAt}
-use Rattle.cj_hermite.specs.PlainProblems.{PlainProblem, threshold_of, curve_at, OfObjectsAt}
-use Rattle.cj_hermite.specs.Roots.{PlainCell}
+use Rattle.cj_case.specs.PlainProblems.{PlainProblem, threshold_of}
+use Rattle.cj_hermite.specs.ObjectsAtTicks.{curve_at, OfObjectsAt}
+use Rattle.cj_case.specs.Cells.{PlainCell}
 use Rattle.cj_hermite.proofs.CurveLemmas.{Curves, curves, curves_of, root_pieces}
 use Rattle.cj_hermite.proofs.ObjectLemmas.{of_objects, within_at}
 use Rattle.cj_hermite.proofs.RootLemmas.{IsRootOf, Holds as HasTickOf}
 use Rattle.cj_bezier.specs.Gaps.{gap_terms, hull_gap}
-use Rattle.cj_bezier.specs.Leaves.{PlainLeaf, IsTickOf}
+use Rattle.cj_case.specs.Leaves.{PlainLeaf, IsTickOf}
 use Rattle.cj_bezier.specs.RootLeaves.{IsTrueThroughout}
 use Rattle.cj_bezier.specs.Tiles.{IsLeaf, Tile}
 use Rattle.cj_bezier.specs.Verdicts.{Supports, Holds, HoldsThroughout}

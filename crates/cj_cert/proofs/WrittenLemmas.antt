@@ -9,25 +9,28 @@ use Rattle.cj_interval.proofs.ListLemmas.{Each, Each-weaker, Each-both, Each-map
 use Rattle.cj_interval.proofs.RangeLemmas.{Each-numbered}
 use Rattle.cj_track.specs.PlainTracks.{PlainTrack}
 use Rattle.cj_hermite.specs.Interpolant.{Curve}
-use Rattle.cj_hermite.specs.Pairs.{pairs_of}
+use Rattle.cj_case.specs.Pairs.{pairs_of}
 use Rattle.cj_hermite.specs.Pieces.{piece_at}
-use Rattle.cj_hermite.specs.PlainProblems.{PlainProblem, threshold_of, curve_at, HaveCurves}
-use Rattle.cj_hermite.specs.Roots.{PlainCell, roots_in, roots_of, slots_of}
-use Rattle.cj_hermite.specs.Slots.{slot_first, slot_last, slot_count}
+use Rattle.cj_case.specs.PlainProblems.{PlainProblem, threshold_of}
+use Rattle.cj_hermite.specs.ObjectsAtTicks.{curve_at, HaveCurves}
+use Rattle.cj_case.specs.Cells.{PlainCell}
+use Rattle.cj_hermite.specs.Roots.{roots_in, roots_of, slots_of}
+use Rattle.cj_case.specs.Slots.{slot_first, slot_last, slot_count}
 use Rattle.cj_hermite.proofs.CurveLemmas.{Curves, curves, curves_of, root_pieces}
 use Rattle.cj_hermite.proofs.ObjectLemmas.{of_objects}
 use Rattle.cj_hermite.proofs.RootLemmas.{IsRootOf, Each-roots}
-use Rattle.cj_bezier.specs.declared.kind.Kind.{Kind}
-use Rattle.cj_bezier.specs.declared.shells.Shell.{Shell}
+use Rattle.cj_case.specs.declared.kind.Kind.{Kind}
+use Rattle.cj_case.specs.declared.shells.Shell.{Shell}
 use Rattle.cj_bezier.specs.Gaps.{gap_terms, hull_gap}
 use Rattle.cj_bezier.specs.Halving.{leaves_between}
 use Rattle.cj_bezier.specs.Hulls.{PlainHull}
-use Rattle.cj_bezier.specs.Leaves.{PlainLeaf}
+use Rattle.cj_case.specs.Leaves.{PlainLeaf}
 use Rattle.cj_bezier.specs.Candidates.{shells_of, boxes_in, is_candidate, candidate_by}
 use Rattle.cj_bezier.specs.Parts.{hulls_of}
 use Rattle.cj_bezier.specs.RootLeaves.{kind_between, leaves_of_root, leaves_of_roots}
 use Rattle.cj_bezier.specs.Shells.{IsInner, IsOuter, MAX_RADIUS, greatest_to, least_from, is_inner, is_outer, shell_round, shell_of}
-use Rattle.cj_bezier.specs.SlotBoxes.{PlainBox, box_of}
+use Rattle.cj_case.specs.Boxes.{PlainBox}
+use Rattle.cj_bezier.specs.SlotBoxes.{box_of}
 use Rattle.cj_bezier.specs.Tiles.{IsLeaf, Tile}
 use Rattle.cj_bezier.specs.Verdicts.{Supports, cell_verdict}
 use Rattle.cj_bezier.proofs.BoxRoundLemmas.{IsWithinReaches, box_none, none_without, some_with, within_box}

@@ -1,21 +1,24 @@
 -- Which certificates are accepted for a problem.
 use Rattle.std.specs.Prelude.{◌≡◌, ℕ, ◌+◌, ◌-◌, ◌≤◌, Bool, List, map, filter, length, Option, Some, None, is_some, slice_get, IsSomeAnd}
 use Rattle.std.specs.List.{All, AllZip, flat_map, range_with_len, enumerate_from, list_any}
-use Rattle.cj_causes.specs.declared.cert_version.CertVersion.{CertVersion}
-use Rattle.cj_causes.specs.declared.cert_version.CertVersion.TheVariants.{One, Two}
+use Rattle.cj_formats.specs.declared.cert_version.CertVersion.{CertVersion}
+use Rattle.cj_formats.specs.declared.cert_version.CertVersion.TheVariants.{One, Two}
 use Rattle.cj_track.specs.PlainTracks.{PlainTrack}
 use Rattle.cj_hermite.specs.Pieces.{piece_at}
-use Rattle.cj_hermite.specs.PlainProblems.{PlainProblem, threshold_of, OfObjectsAt}
-use Rattle.cj_hermite.specs.Roots.{PlainCell, slots_of, roots_of}
-use Rattle.cj_hermite.specs.Slots.{slot_first, slot_last}
+use Rattle.cj_case.specs.PlainProblems.{PlainProblem, threshold_of}
+use Rattle.cj_hermite.specs.ObjectsAtTicks.{OfObjectsAt}
+use Rattle.cj_case.specs.Cells.{PlainCell}
+use Rattle.cj_hermite.specs.Roots.{slots_of, roots_of}
+use Rattle.cj_case.specs.Slots.{slot_first, slot_last}
 use Rattle.cj_hermite.specs.Walks.{HasNone}
-use Rattle.cj_bezier.specs.declared.shells.Shell.{Shell}
+use Rattle.cj_case.specs.declared.shells.Shell.{Shell}
 use Rattle.cj_bezier.specs.Gaps.{gap_terms, hull_gap}
 use Rattle.cj_bezier.specs.Hulls.{PlainHull}
-use Rattle.cj_bezier.specs.Leaves.{PlainLeaf}
+use Rattle.cj_case.specs.Leaves.{PlainLeaf}
 use Rattle.cj_bezier.specs.Parts.{hulls_of}
 use Rattle.cj_bezier.specs.Shells.{IsInner, IsOuter}
-use Rattle.cj_bezier.specs.SlotBoxes.{PlainBox, IsAtMostEach, IsAtLeastEach}
+use Rattle.cj_case.specs.Boxes.{PlainBox}
+use Rattle.cj_bezier.specs.SlotBoxes.{IsAtMostEach, IsAtLeastEach}
 use Rattle.cj_bezier.specs.Tiles.{Tile}
 use Rattle.cj_bezier.specs.Verdicts.{Supports}
 use Rattle.cj_cert.specs.declared.cert_lines.ShellLine.{ShellLine}

@@ -1,8 +1,8 @@
 -- Certificates as plain facts. Objects are numbered from 0.
 use Rattle.std.specs.Prelude.{ℕ, ◌+◌, List, length, map}
-use Rattle.cj_causes.specs.declared.cert_version.CertVersion.{CertVersion}
-use Rattle.cj_bezier.specs.Leaves.{PlainLeaf}
-use Rattle.cj_bezier.specs.SlotBoxes.{PlainBox, plain_box}
+use Rattle.cj_formats.specs.declared.cert_version.CertVersion.{CertVersion}
+use Rattle.cj_case.specs.Leaves.{PlainLeaf}
+use Rattle.cj_case.specs.Boxes.{PlainBox, plain_box}
 use Rattle.cj_cert.specs.declared.cert_lines.BoxLine.{BoxLine}
 use Rattle.cj_cert.specs.declared.cert_lines.CellLine.{CellLine}
 use Rattle.cj_cert.specs.declared.cert_lines.ShellLine.{ShellLine}

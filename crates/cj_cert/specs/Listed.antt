@@ -1,10 +1,10 @@
 -- What a certificate lists of the objects: their shells, the box of each in a slot, and which pairs are candidates by these.
 use Rattle.std.specs.Prelude.{ℕ, ◌+◌, ◌-◌, ◌==◌, ◌&&◌, nat_le, Bool, List, map, Option, option_map}
 use Rattle.std.specs.List.{find, range_with_len}
-use Rattle.cj_hermite.specs.PlainProblems.{PlainProblem}
-use Rattle.cj_bezier.specs.declared.shells.Shell.{Shell}
+use Rattle.cj_case.specs.PlainProblems.{PlainProblem}
+use Rattle.cj_case.specs.declared.shells.Shell.{Shell}
 use Rattle.cj_bezier.specs.Candidates.{candidate_by}
-use Rattle.cj_bezier.specs.SlotBoxes.{PlainBox}
+use Rattle.cj_case.specs.Boxes.{PlainBox}
 use Rattle.cj_cert.specs.Certificates.{PlainBoxLine, PlainCertificate}
 
 -- the slots of a box line, each with its object

@@ -2,7 +2,7 @@
 use Rattle.std.specs.Prelude.{ℕ, pos, neg_ℤ, ◌≤ℤ◌}
 use Rattle.std.specs.List.{All}
 use Rattle.cj_track.specs.PlainTracks.{PlainTrack}
-use Rattle.cj_hermite.specs.PlainProblems.{PlainProblem}
+use Rattle.cj_case.specs.PlainProblems.{PlainProblem}
 use Rattle.cj_bezier.specs.Hulls.{Ends, PlainHull}
 use Rattle.cj_bezier.specs.Parts.{AreInTime, hulls_of}
 use Rattle.cj_bezier.specs.Shells.{MAX_RADIUS}

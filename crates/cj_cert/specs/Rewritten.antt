@@ -1,15 +1,15 @@
 -- Certificates of version 2: one box for a block of slots, where the object then touches nothing more.
 use Rattle.std.specs.Prelude.{ℕ, List, map, filter, length, Option}
 use Rattle.std.specs.List.{enumerate_from, flat_map, range_with_len}
-use Rattle.cj_causes.specs.declared.cert_version.CertVersion.{CertVersion}
-use Rattle.cj_causes.specs.declared.cert_version.CertVersion.TheVariants.{One, Two}
-use Rattle.cj_hermite.specs.Pairs.{pairs_of}
-use Rattle.cj_hermite.specs.PlainProblems.{PlainProblem}
+use Rattle.cj_formats.specs.declared.cert_version.CertVersion.{CertVersion}
+use Rattle.cj_formats.specs.declared.cert_version.CertVersion.TheVariants.{One, Two}
+use Rattle.cj_case.specs.Pairs.{pairs_of}
+use Rattle.cj_case.specs.PlainProblems.{PlainProblem}
 use Rattle.cj_hermite.specs.Roots.{slots_of}
-use Rattle.cj_hermite.specs.Slots.{slot_count}
+use Rattle.cj_case.specs.Slots.{slot_count}
 use Rattle.cj_bezier.specs.Candidates.{pairs_kept}
 use Rattle.cj_bezier.specs.Shells.{keeps_between}
-use Rattle.cj_bezier.specs.SlotBoxes.{PlainBox}
+use Rattle.cj_case.specs.Boxes.{PlainBox}
 use Rattle.cj_blocks.specs.Blocks.{PlainBlock, Given, blocks_of}
 use Rattle.cj_cert.specs.declared.cert_lines.SizeOfLine.{SizeOfLine}
 use Rattle.cj_cert.specs.Certificates.{PlainBoxLine, PlainCertificate}

@@ -1,9 +1,10 @@
 -- What the cells of an accepted certificate say of each common tick of each pair.
 use Rattle.std.specs.Prelude.{ℕ, List, Any}
 use Rattle.cj_hermite.specs.Distance.{IsNear, IsFar, IsInBand}
-use Rattle.cj_hermite.specs.PlainProblems.{PlainProblem, threshold_of, IsCommonOf, OfObjectsAt}
-use Rattle.cj_bezier.specs.declared.kind.Kind.TheVariants.{Near, Undecided}
-use Rattle.cj_bezier.specs.Leaves.{PlainLeaf, LiesIn}
+use Rattle.cj_case.specs.PlainProblems.{PlainProblem, threshold_of}
+use Rattle.cj_hermite.specs.ObjectsAtTicks.{IsCommonOf, OfObjectsAt}
+use Rattle.cj_case.specs.declared.kind.Kind.TheVariants.{Near, Undecided}
+use Rattle.cj_case.specs.Leaves.{PlainLeaf, LiesIn}
 use Rattle.cj_cert.specs.Accepted.{Accepted}
 use Rattle.cj_cert.specs.Certificates.{PlainCertificate}
 

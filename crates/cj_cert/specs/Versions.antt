@@ -1,8 +1,8 @@
 -- What a version of certificates allows.
 use Rattle.std.specs.Prelude.{◌==◌, Bool, true, ◌&&◌, List, length}
 use Rattle.std.specs.List.{list_all}
-use Rattle.cj_causes.specs.declared.cert_version.CertVersion.{CertVersion}
-use Rattle.cj_causes.specs.declared.cert_version.CertVersion.TheVariants.{One, Two}
+use Rattle.cj_formats.specs.declared.cert_version.CertVersion.{CertVersion}
+use Rattle.cj_formats.specs.declared.cert_version.CertVersion.TheVariants.{One, Two}
 use Rattle.cj_cert.specs.declared.cert_lines.BoxLine.{BoxLine}
 use Rattle.cj_cert.specs.declared.cert_lines.SizeOfLine.{SizeOfLine}
 

@@ -1,17 +1,18 @@
 -- The certificate that a run writes for a problem: exact shells and boxes, and the one-thread list.
 use Rattle.std.specs.Prelude.{ℕ, ◌+◌, ◌*◌, List, [], map, length, Option, option_map}
 use Rattle.std.specs.List.{enumerate_from, filter_map, flat_map, range_with_len}
-use Rattle.cj_causes.specs.declared.cert_version.CertVersion.TheVariants.{One}
+use Rattle.cj_formats.specs.declared.cert_version.CertVersion.TheVariants.{One}
 use Rattle.cj_track.specs.PlainTracks.{PlainTrack}
-use Rattle.cj_hermite.specs.PlainProblems.{PlainProblem}
+use Rattle.cj_case.specs.PlainProblems.{PlainProblem}
 use Rattle.cj_hermite.specs.Roots.{roots_of, slots_of}
-use Rattle.cj_hermite.specs.Slots.{slot_first, slot_last}
-use Rattle.cj_bezier.specs.Leaves.{PlainLeaf}
+use Rattle.cj_case.specs.Slots.{slot_first, slot_last}
+use Rattle.cj_case.specs.Leaves.{PlainLeaf}
 use Rattle.cj_bezier.specs.Candidates.{is_candidate}
 use Rattle.cj_bezier.specs.RootLeaves.{leaves_of_roots}
-use Rattle.cj_bezier.specs.declared.shells.Shell.{Shell}
+use Rattle.cj_case.specs.declared.shells.Shell.{Shell}
 use Rattle.cj_bezier.specs.Shells.{shell_in, shell_of}
-use Rattle.cj_bezier.specs.SlotBoxes.{PlainBox, box_of, reaches_in}
+use Rattle.cj_case.specs.Boxes.{PlainBox}
+use Rattle.cj_bezier.specs.SlotBoxes.{box_of, reaches_in}
 use Rattle.cj_cert.specs.declared.cert_lines.ShellLine.{ShellLine}
 use Rattle.cj_cert.specs.Certificates.{PlainBoxLine, PlainCertificate}
 

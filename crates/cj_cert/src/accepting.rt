@@ -1,9 +1,9 @@
 //! What an accepted certificate says, and that the one a run writes is accepted: laws, which cost next to nothing to call.
 ghost use Rattle.std.specs.Prelude.{◌^◌, ℕ};
 ghost use Rattle.std.specs.List.{All};
-ghost use Rattle.cj_causes.specs.declared.cert_version.CertVersion.{CertVersion};
+ghost use Rattle.cj_formats.specs.declared.cert_version.CertVersion.{CertVersion};
 ghost use Rattle.cj_track.specs.Tracks.{plain_track};
-ghost use Rattle.cj_hermite.specs.Problems.{plain_problem};
+ghost use Rattle.cj_case.specs.Problems.{plain_problem};
 ghost use Rattle.cj_bezier.specs.Gaps.{gap_terms};
 ghost use Rattle.cj_bezier.specs.Parts.{AreInTime, hulls_of};
 ghost use Rattle.cj_bezier.specs.Shells.{IsOuter};
@@ -14,7 +14,7 @@ ghost use Rattle.cj_cert.specs.Rewritten.{in_version_2, written_in};
 ghost use Rattle.cj_cert.specs.Splits.{AcceptedSplits};
 ghost use Rattle.cj_cert.specs.Written.{written};
 
-use cj_hermite::Problem;
+use cj_case::Problem;
 use cj_track::Track;
 
 /// The cells of a certificate that is accepted for a problem split the common ticks: at each tick of a near cell its pair is near, at

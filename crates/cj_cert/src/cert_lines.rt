@@ -1,9 +1,8 @@
 //! What the lines of a certificate say. Objects are numbered from 0.
 ghost use Rattle.std.specs.Prelude.{◌≤◌};
 
-use cj_bezier::{AxisBox, Kind, Shell};
-use cj_hermite::Pair;
-use cj_ticks::Tick;
+use cj_base::Tick;
+use cj_case::{AxisBox, Kind, Pair, Shell};
 
 /// The size of an object in nm.
 #[derive(Clone, Copy, Debug, PartialEq, Eq)]

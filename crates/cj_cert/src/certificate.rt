@@ -2,8 +2,8 @@ ghost use Rattle.std.specs.Prelude.{◌≡◌, true};
 ghost use Rattle.cj_cert.specs.Versions.{is_of_version};
 
 use crate::cert_lines::{BoxLine, CellLine, ShellLine, SizeOfLine};
-use cj_causes::CertVersion;
-use cj_ticks::Window;
+use cj_base::Window;
+use cj_formats::CertVersion;
 
 /// A certificate: what a run was asked, and for each object and pair what stands behind its report.
 #[derive(Debug, Drop, PartialEq, Eq)]

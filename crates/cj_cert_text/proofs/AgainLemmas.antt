@@ -3,23 +3,23 @@ use Rattle.std.proofs.Common.{◌≡◌, ℕ, ◌-◌, ◌^◌, ◌<◌, ◌≤�
 use Rattle.std.specs.Prelude.{◌&&◌, codes, int_le, int_lt}
 use Rattle.std.proofs.lemmas.Bool.{and_from}
 use Rattle.std.proofs.lemmas.Int.{ints}
-use Rattle.cj_ticks.specs.Ticks.{FIRST_TICK, LAST_TICK}
-use Rattle.cj_bezier.specs.declared.kind.Kind.{Kind}
-use Rattle.cj_bezier.specs.declared.kind.Kind.TheVariants as kinds
-use Rattle.cj_bezier.specs.declared.shells.Shell.{Shell as Radii}
-use Rattle.cj_bezier.specs.Leaves.{PlainLeaf}
+use Rattle.cj_base.specs.Ticks.{FIRST_TICK, LAST_TICK}
+use Rattle.cj_case.specs.declared.kind.Kind.{Kind}
+use Rattle.cj_case.specs.declared.kind.Kind.TheVariants as kinds
+use Rattle.cj_case.specs.declared.shells.Shell.{Shell as Radii}
+use Rattle.cj_case.specs.Leaves.{PlainLeaf}
 use Rattle.cj_bezier.specs.Shells.{MAX_RADIUS}
 use Rattle.cj_cert.specs.declared.cert_lines.SizeOfLine.{SizeOfLine}
-use Rattle.cj_causes.specs.declared.cert_version.CertVersion.{CertVersion}
-use Rattle.cj_causes.specs.declared.cert_version.CertVersion.TheVariants.{One, Two}
-use Rattle.cj_causes.specs.Versions.{most_objects, number_of_version}
+use Rattle.cj_formats.specs.declared.cert_version.CertVersion.{CertVersion}
+use Rattle.cj_formats.specs.declared.cert_version.CertVersion.TheVariants.{One, Two}
+use Rattle.cj_formats.specs.Versions.{most_objects, number_of_version}
 use Rattle.cj_cert_text.specs.declared.rank.Rank.{Rank}
 use Rattle.cj_cert_text.specs.declared.rank.Rank.TheVariants as rank
 use Rattle.cj_cert.specs.Certificates.{PlainBoxLine}
 use Rattle.cj_cert_text.specs.Fits.{FitsShell, FitsBox, FitsCell}
 use Rattle.cj_cert_text.specs.Lines as spec
 use Rattle.cj_cert_text.specs.Lines.{PlainLine, Heading, Window, Threshold, Objects, Size, Shell, Box, Cell, End, rank_of, said_by, in_range, is_from, is_tick, is_object}
-use Rattle.cj_hermite.specs.Limits.{MAX_SIZE}
+use Rattle.cj_case.specs.CaseLimits.{MAX_SIZE}
 use Rattle.cj_cert_text.specs.Lines.{is_radius, MAX_THRESHOLD}
 use Rattle.cj_cert_text.specs.Readers.{HasNoNumber}
 use Rattle.cj_cert_text.specs.Texts.{number, slots, ends, kind_word}

@@ -6,13 +6,13 @@ use Rattle.std.specs.Prelude.{◌&&◌, int_le, int_lt, unsigned_abs}
 use Rattle.std.proofs.lemmas.Bool.{and_from, and_left, and_right}
 use Rattle.std.proofs.lemmas.Int.{ints}
 use Rattle.std.proofs.lemmas.List.{take_all}
-use Rattle.cj_ticks.specs.Ticks.{FIRST_TICK, LAST_TICK}
-use Rattle.cj_bezier.specs.declared.kind.Kind.{Kind}
-use Rattle.cj_causes.specs.declared.cert_cause.CertCause.{CertCause}
-use Rattle.cj_causes.specs.declared.cert_cause.CertCause.TheVariants as causes
-use Rattle.cj_causes.specs.declared.cert_version.CertVersion.{CertVersion}
-use Rattle.cj_causes.specs.declared.cert_version.CertVersion.TheVariants.{One, Two}
-use Rattle.cj_causes.specs.Versions.{most_objects}
+use Rattle.cj_base.specs.Ticks.{FIRST_TICK, LAST_TICK}
+use Rattle.cj_case.specs.declared.kind.Kind.{Kind}
+use Rattle.cj_formats.specs.declared.cert_cause.CertCause.{CertCause}
+use Rattle.cj_formats.specs.declared.cert_cause.CertCause.TheVariants as causes
+use Rattle.cj_formats.specs.declared.cert_version.CertVersion.{CertVersion}
+use Rattle.cj_formats.specs.declared.cert_version.CertVersion.TheVariants.{One, Two}
+use Rattle.cj_formats.specs.Versions.{most_objects}
 use Rattle.cj_cert.specs.Certificates.{PlainBoxLine}
 use Rattle.cj_cert_text.specs.Lines as spec
 use Rattle.cj_cert_text.specs.Lines.{Box, Cell, PlainLine, in_range, is_from, is_object, is_reach, is_slot, is_tick, object_of}

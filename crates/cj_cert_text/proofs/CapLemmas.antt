@@ -7,18 +7,18 @@ use Rattle.std.proofs.lemmas.Bool.{and_parts}
 use Rattle.std.proofs.lemmas.Bool.Decides.{leb_tells}
 use Rattle.std.proofs.lemmas.Int.{ints, clamps}
 use Rattle.std.proofs.lemmas.List.{length-map, take_all}
-use Rattle.cj_ticks.specs.Ticks.{FIRST_TICK, LAST_TICK}
-use Rattle.cj_bezier.specs.declared.kind.Kind.{Kind}
+use Rattle.cj_base.specs.Ticks.{FIRST_TICK, LAST_TICK}
+use Rattle.cj_case.specs.declared.kind.Kind.{Kind}
 use Rattle.cj_bezier.specs.Shells.{MAX_RADIUS}
-use Rattle.cj_causes.specs.declared.cert_cause.CertCause.{CertCause}
-use Rattle.cj_causes.specs.declared.cert_cause.CertCause.TheVariants as causes
-use Rattle.cj_causes.specs.declared.cert_version.CertVersion.{CertVersion}
-use Rattle.cj_causes.specs.declared.cert_version.CertVersion.TheVariants.{One, Two}
-use Rattle.cj_causes.specs.Versions.{most_objects, number_of_version}
+use Rattle.cj_formats.specs.declared.cert_cause.CertCause.{CertCause}
+use Rattle.cj_formats.specs.declared.cert_cause.CertCause.TheVariants as causes
+use Rattle.cj_formats.specs.declared.cert_version.CertVersion.{CertVersion}
+use Rattle.cj_formats.specs.declared.cert_version.CertVersion.TheVariants.{One, Two}
+use Rattle.cj_formats.specs.Versions.{most_objects, number_of_version}
 use Rattle.cj_cert_text.specs.declared.rank.Rank.{Rank}
 use Rattle.cj_cert_text.specs.declared.rank.Rank.TheVariants as rank
 use Rattle.cj_cert_text.specs.Lines as spec
-use Rattle.cj_hermite.specs.Limits.{MAX_SIZE}
+use Rattle.cj_case.specs.CaseLimits.{MAX_SIZE}
 use Rattle.cj_cert_text.specs.Lines.{PlainLine, Heading, said_by, in_range, is_from, is_tick, is_object, is_radius, is_coordinate, MAX_THRESHOLD}
 use Rattle.cj_cert_text.specs.Readers.{capped}
 use Rattle.cj_cert_text.proofs.LineLemmas.{box_test, box_tests, equal_by, from_range, reach_parts, small_coordinate, small_objects, small_version}

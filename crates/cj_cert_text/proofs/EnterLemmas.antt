@@ -9,8 +9,9 @@ use Rattle.std.proofs.lemmas.Bool.Decides.{nat_tests}
 use Rattle.std.proofs.lemmas.List.{ext_get_or, length-take-le, map-append, take_more}
 use Rattle.std.proofs.lemmas.List.Folds.{find-append}
 use Rattle.std.proofs.lemmas.Option.{get_or_from_slice_get}
-use Rattle.cj_bezier.specs.declared.axis_box.AxisBox.{AxisBox}
-use Rattle.cj_bezier.specs.SlotBoxes.{PlainBox, plain_box, plain_boxes, reaches_in}
+use Rattle.cj_case.specs.declared.axis_box.AxisBox.{AxisBox}
+use Rattle.cj_case.specs.Boxes.{PlainBox, plain_box, plain_boxes}
+use Rattle.cj_bezier.specs.SlotBoxes.{reaches_in}
 use Rattle.cj_blocks.specs.BoxRows.{box_at}
 use Rattle.cj_blocks.proofs.CurrentLemmas.{other_number}
 use Rattle.cj_blocks.proofs.FillLemmas.{ends_later, is_behind, is_inside, is_of_other, set_elsewhere, set_here}

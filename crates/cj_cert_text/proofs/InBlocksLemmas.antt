@@ -4,15 +4,15 @@ use Rattle.std.specs.Prelude.{All}
 use Rattle.std.specs.List.{enumerate_from, flat_map, range_with_len}
 use Rattle.std.proofs.lemmas.List.{map_push, take_more}
 use Rattle.cj_interval.proofs.ListLemmas.{Each, Each-weaker, All-from_each, each_from_map, Each-filter}
-use Rattle.cj_causes.specs.declared.cert_version.CertVersion.TheVariants.{Two}
-use Rattle.cj_hermite.specs.declared.pair.Pair.{Pair}
-use Rattle.cj_hermite.specs.Pairs.{objects_of, pairs_of}
-use Rattle.cj_hermite.specs.PlainProblems.{PlainProblem}
-use Rattle.cj_hermite.specs.Slots.{slot_count}
-use Rattle.cj_hermite.proofs.PairLemmas.{IsPair, Each-pairs}
-use Rattle.cj_bezier.specs.Leaves.{PlainLeaf}
+use Rattle.cj_formats.specs.declared.cert_version.CertVersion.TheVariants.{Two}
+use Rattle.cj_case.specs.declared.pair.Pair.{Pair}
+use Rattle.cj_case.specs.Pairs.{objects_of, pairs_of}
+use Rattle.cj_case.specs.PlainProblems.{PlainProblem}
+use Rattle.cj_case.specs.Slots.{slot_count}
+use Rattle.cj_case.proofs.PairLemmas.{IsPair, Each-pairs}
+use Rattle.cj_case.specs.Leaves.{PlainLeaf}
 use Rattle.cj_bezier.specs.Candidates.{pairs_kept}
-use Rattle.cj_bezier.specs.SlotBoxes.{PlainBox}
+use Rattle.cj_case.specs.Boxes.{PlainBox}
 use Rattle.cj_blocks.specs.Blocks.{blocks_of}
 use Rattle.cj_cert.specs.declared.cert_lines.ShellLine.{ShellLine}
 use Rattle.cj_cert.specs.declared.cert_lines.SizeOfLine.{SizeOfLine}

@@ -15,24 +15,26 @@ use Rattle.cj_interval.proofs.IntegerLemmas.{le_trans_ℤ}
 use Rattle.cj_interval.proofs.ListLemmas.{Each, Each-weaker, Each-always, Each-both, Each-map, Each-flat_map, Each-range, All-from_each, each_at, each_from_All, each_from_map}
 use Rattle.cj_interval.proofs.RangeLemmas.{Each-numbered}
 use Rattle.cj_interval.proofs.RoundingLemmas.{le-greatest, least-le}
-use Rattle.cj_ticks.specs.Ticks.{IsTick}
-use Rattle.cj_causes.specs.declared.cert_version.CertVersion.{CertVersion}
-use Rattle.cj_causes.specs.declared.cert_version.CertVersion.TheVariants.{One, Two}
-use Rattle.cj_causes.specs.Versions.{most_objects}
+use Rattle.cj_base.specs.Ticks.{IsTick}
+use Rattle.cj_formats.specs.declared.cert_version.CertVersion.{CertVersion}
+use Rattle.cj_formats.specs.declared.cert_version.CertVersion.TheVariants.{One, Two}
+use Rattle.cj_formats.specs.Versions.{most_objects}
 use Rattle.cj_track.specs.PlainTracks.{PlainTrack}
-use Rattle.cj_hermite.specs.Limits.{MAX_SIZE}
-use Rattle.cj_hermite.specs.PlainProblems.{PlainProblem}
-use Rattle.cj_hermite.specs.Roots.{PlainCell, roots_of, slots_of}
-use Rattle.cj_hermite.specs.Slots.{slot_first, slot_last, slot_count}
+use Rattle.cj_case.specs.CaseLimits.{MAX_SIZE}
+use Rattle.cj_case.specs.PlainProblems.{PlainProblem}
+use Rattle.cj_case.specs.Cells.{PlainCell}
+use Rattle.cj_hermite.specs.Roots.{roots_of, slots_of}
+use Rattle.cj_case.specs.Slots.{slot_first, slot_last, slot_count}
 use Rattle.cj_hermite.proofs.RootLemmas.{IsRootOf, Each-roots}
-use Rattle.cj_bezier.specs.declared.axis_box.AxisBox.{AxisBox}
-use Rattle.cj_bezier.specs.declared.shells.Shell.{Shell}
+use Rattle.cj_case.specs.declared.axis_box.AxisBox.{AxisBox}
+use Rattle.cj_case.specs.declared.shells.Shell.{Shell}
 use Rattle.cj_bezier.specs.Gaps.{gap_terms, product_high, product_low, value_at}
 use Rattle.cj_bezier.specs.Hulls.{Ends, PlainHull}
-use Rattle.cj_bezier.specs.Leaves.{PlainLeaf}
+use Rattle.cj_case.specs.Leaves.{PlainLeaf}
 use Rattle.cj_bezier.specs.Parts.{hulls_of}
 use Rattle.cj_bezier.specs.Shells.{MAX_RADIUS, is_outer, least_from, shell_of, shell_round}
-use Rattle.cj_bezier.specs.SlotBoxes.{IsAtMostEach, IsAtLeastEach, PlainBox, Reach, box_of, reaches_in, reaches_round}
+use Rattle.cj_bezier.specs.SlotBoxes.{IsAtMostEach, IsAtLeastEach, box_of, reaches_in, reaches_round}
+use Rattle.cj_case.specs.Boxes.{PlainBox, Reach}
 use Rattle.cj_bezier.specs.Tiles.{IsLeaf}
 use Rattle.cj_bezier.proofs.BoxRoundLemmas.{IsWithinReaches, box_of_parts, within_box}
 use Rattle.cj_bezier.proofs.HullListLemmas.{have_parts, no_state, of_each_hull}

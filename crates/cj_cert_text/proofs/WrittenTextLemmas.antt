@@ -5,13 +5,14 @@ use Rattle.std.specs.List.{enumerate_from, range_with_len}
 use Rattle.std.proofs.Math.Nat.{mul-le-mul_right}
 use Rattle.std.proofs.lemmas.Grind.{flat_map-append}
 use Rattle.std.proofs.lemmas.List.Folds.{flat_map-map}
-use Rattle.cj_causes.specs.declared.cert_version.CertVersion.{CertVersion}
-use Rattle.cj_causes.specs.declared.cert_version.CertVersion.TheVariants.{One}
+use Rattle.cj_formats.specs.declared.cert_version.CertVersion.{CertVersion}
+use Rattle.cj_formats.specs.declared.cert_version.CertVersion.TheVariants.{One}
 use Rattle.cj_interval.proofs.RangeLemmas.{flat_map-range_more}
-use Rattle.cj_hermite.specs.PlainProblems.{PlainProblem}
-use Rattle.cj_bezier.specs.declared.leaf.Leaf.{Leaf}
-use Rattle.cj_bezier.specs.Leaves.{plain_leaf, plain_leaves}
-use Rattle.cj_bezier.specs.SlotBoxes.{PlainBox, reaches_in}
+use Rattle.cj_case.specs.PlainProblems.{PlainProblem}
+use Rattle.cj_case.specs.declared.leaf.Leaf.{Leaf}
+use Rattle.cj_case.specs.Leaves.{plain_leaf, plain_leaves}
+use Rattle.cj_case.specs.Boxes.{PlainBox}
+use Rattle.cj_bezier.specs.SlotBoxes.{reaches_in}
 use Rattle.cj_cert.specs.declared.cert_lines.ShellLine.{ShellLine}
 use Rattle.cj_cert_text.specs.declared.object_boxes.ObjectBoxes.{ObjectBoxes}
 use Rattle.cj_cert.specs.Certificates.{PlainBoxLine}

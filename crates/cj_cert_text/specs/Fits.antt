@@ -1,15 +1,15 @@
 -- Certificates whose numbers are in the ranges of the text.
 use Rattle.std.specs.Prelude.{◌≡◌, ℕ, ◌^◌, ◌<◌, ◌≤◌, true, List, All, [], IfSome}
-use Rattle.cj_causes.specs.declared.cert_version.CertVersion.{CertVersion}
-use Rattle.cj_causes.specs.declared.cert_version.CertVersion.TheVariants.{One, Two}
-use Rattle.cj_causes.specs.Versions.{most_objects}
-use Rattle.cj_ticks.specs.Ticks.{IsTick}
-use Rattle.cj_bezier.specs.Leaves.{PlainLeaf}
+use Rattle.cj_formats.specs.declared.cert_version.CertVersion.{CertVersion}
+use Rattle.cj_formats.specs.declared.cert_version.CertVersion.TheVariants.{One, Two}
+use Rattle.cj_formats.specs.Versions.{most_objects}
+use Rattle.cj_base.specs.Ticks.{IsTick}
+use Rattle.cj_case.specs.Leaves.{PlainLeaf}
 use Rattle.cj_bezier.specs.Shells.{MAX_RADIUS}
 use Rattle.cj_cert.specs.declared.cert_lines.ShellLine.{ShellLine}
 use Rattle.cj_cert.specs.declared.cert_lines.SizeOfLine.{SizeOfLine}
 use Rattle.cj_cert.specs.Certificates.{PlainBoxLine, PlainCertificate}
-use Rattle.cj_hermite.specs.Limits.{MAX_SIZE}
+use Rattle.cj_case.specs.CaseLimits.{MAX_SIZE}
 use Rattle.cj_cert_text.specs.Lines.{MAX_THRESHOLD, is_reach}
 
 -- lines of one of so many objects

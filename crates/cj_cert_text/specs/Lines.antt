@@ -2,19 +2,19 @@
 use Rattle.std.specs.Prelude.{ℕ, ◌-◌, ◌^◌, ◌==◌, Bool, true, false, ◌&&◌, if◌then◌else◌, ℤ, pos, neg_ℤ, int_le, int_lt, unsigned_abs, List, [], ◌∷◌, codes, Option, Some, None, Result, Ok, Err}
 use Rattle.std.specs.List.{slice_split}
 use Rattle.std.specs.Str.{bytes_eq}
-use Rattle.cj_ticks.specs.Ticks.{FIRST_TICK, LAST_TICK}
-use Rattle.cj_hermite.specs.Limits.{MAX_SIZE}
-use Rattle.cj_bezier.specs.declared.kind.Kind.{Kind}
-use Rattle.cj_bezier.specs.declared.kind.Kind.TheVariants as kinds
-use Rattle.cj_bezier.specs.Leaves.{PlainLeaf}
+use Rattle.cj_base.specs.Ticks.{FIRST_TICK, LAST_TICK}
+use Rattle.cj_case.specs.CaseLimits.{MAX_SIZE}
+use Rattle.cj_case.specs.declared.kind.Kind.{Kind}
+use Rattle.cj_case.specs.declared.kind.Kind.TheVariants as kinds
+use Rattle.cj_case.specs.Leaves.{PlainLeaf}
 use Rattle.cj_bezier.specs.Shells.{MAX_RADIUS}
 use Rattle.cj_cert.specs.declared.cert_lines.ShellLine.{ShellLine}
 use Rattle.cj_cert.specs.declared.cert_lines.SizeOfLine.{SizeOfLine}
-use Rattle.cj_causes.specs.declared.cert_cause.CertCause.{CertCause}
-use Rattle.cj_causes.specs.declared.cert_cause.CertCause.TheVariants as causes
-use Rattle.cj_causes.specs.declared.cert_version.CertVersion.{CertVersion}
-use Rattle.cj_causes.specs.declared.cert_version.CertVersion.TheVariants.{One, Two}
-use Rattle.cj_causes.specs.Versions.{most_objects, number_of_version}
+use Rattle.cj_formats.specs.declared.cert_cause.CertCause.{CertCause}
+use Rattle.cj_formats.specs.declared.cert_cause.CertCause.TheVariants as causes
+use Rattle.cj_formats.specs.declared.cert_version.CertVersion.{CertVersion}
+use Rattle.cj_formats.specs.declared.cert_version.CertVersion.TheVariants.{One, Two}
+use Rattle.cj_formats.specs.Versions.{most_objects, number_of_version}
 use Rattle.cj_cert_text.specs.declared.rank.Rank.{Rank}
 use Rattle.cj_cert_text.specs.declared.rank.Rank.TheVariants as rank
 use Rattle.cj_cert.specs.Certificates.{PlainBoxLine}

@@ -1,7 +1,7 @@
 -- The text of the boxes of one object.
 use Rattle.std.specs.Prelude.{ℕ, List, flat_map}
-use Rattle.cj_causes.specs.declared.cert_version.CertVersion.{CertVersion}
-use Rattle.cj_bezier.specs.SlotBoxes.{plain_boxes}
+use Rattle.cj_formats.specs.declared.cert_version.CertVersion.{CertVersion}
+use Rattle.cj_case.specs.Boxes.{plain_boxes}
 use Rattle.cj_cert_text.specs.declared.object_boxes.ObjectBoxes.{ObjectBoxes}
 use Rattle.cj_cert_text.specs.Texts.{box_text}
 use Rattle.cj_cert.specs.Written.{lines_by_boxes}

@@ -7,8 +7,8 @@ pub use Rattle.cj_kvn.specs.Faults.{Gives, Tells}
 use Rattle.cj_cert_text.specs.declared.cert_line.CertLine.{CertLine}
 use Rattle.cj_cert_text.specs.declared.cert_line.CertLine.TheVariants as lines
 use Rattle.cj_cert_text.specs.declared.draft.CertificateDraft.{CertificateDraft}
-use Rattle.cj_causes.specs.declared.cert_cause.CertCause.{CertCause}
-use Rattle.cj_causes.specs.declared.cert_cause.CertCause.TheVariants as causes
+use Rattle.cj_formats.specs.declared.cert_cause.CertCause.{CertCause}
+use Rattle.cj_formats.specs.declared.cert_cause.CertCause.TheVariants as causes
 use Rattle.cj_cert.specs.Certificates.{PlainCertificate, plain_box_line, plain_cell_line}
 use Rattle.cj_cert_text.specs.Lines.{PlainLine, Heading, Window, Threshold, Objects, Size, Shell, Box, Cell, End}
 use Rattle.cj_cert_text.specs.Numbers.{numbers_in, others_in}

@@ -1,13 +1,13 @@
 -- What a text says as a certificate, or its first fault.
 use Rattle.std.specs.Prelude.{ℕ, ◌+◌, ◌==◌, if◌then◌else◌, List, [], ◌∷◌, ◌++◌, codes, Option, Some, None, Result, Ok, Err}
 use Rattle.std.specs.List.{slice_split, starts_with}
-use Rattle.cj_ticks.specs.Ticks.{FIRST_TICK}
+use Rattle.cj_base.specs.Ticks.{FIRST_TICK}
 pub use Rattle.cj_kvn.specs.Faults.{at_line, ◌>>=◌ as and_then}
 use Rattle.cj_kvn.specs.declared.text_fault.LineFault.{LineFault}
-use Rattle.cj_causes.specs.declared.cert_cause.CertCause.{CertCause}
-use Rattle.cj_causes.specs.declared.cert_cause.CertCause.TheVariants as causes
-use Rattle.cj_causes.specs.declared.cert_version.CertVersion.{CertVersion}
-use Rattle.cj_causes.specs.declared.cert_version.CertVersion.TheVariants.{One, Two}
+use Rattle.cj_formats.specs.declared.cert_cause.CertCause.{CertCause}
+use Rattle.cj_formats.specs.declared.cert_cause.CertCause.TheVariants as causes
+use Rattle.cj_formats.specs.declared.cert_version.CertVersion.{CertVersion}
+use Rattle.cj_formats.specs.declared.cert_version.CertVersion.TheVariants.{One, Two}
 use Rattle.cj_cert_text.specs.declared.rank.Rank.{Rank}
 use Rattle.cj_cert.specs.Certificates.{PlainCertificate}
 use Rattle.cj_cert_text.specs.Lines.{PlainLine, Heading, Window, Threshold, Objects, Size, Shell, Box, Cell, End, line_said, rank_of}

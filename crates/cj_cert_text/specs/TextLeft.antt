@@ -1,7 +1,7 @@
 -- What is left of a text of a certificate that is made batch by batch.
 use Rattle.std.specs.Prelude.{ℕ, ◌+◌, ◌-◌, List, ◌++◌, drop, flat_map, length}
-use Rattle.cj_causes.specs.declared.cert_version.CertVersion.TheVariants.{One}
-use Rattle.cj_bezier.specs.Leaves.{plain_leaf}
+use Rattle.cj_formats.specs.declared.cert_version.CertVersion.TheVariants.{One}
+use Rattle.cj_case.specs.Leaves.{plain_leaf}
 use Rattle.cj_cert_text.specs.declared.certificate_text.CertificateText.{CertificateText}
 use Rattle.cj_cert_text.specs.ObjectTexts.{object_text}
 use Rattle.cj_cert_text.specs.Texts.{cell_text, shell_text}

@@ -1,19 +1,18 @@
 //! The lines of a certificate of version 2: sizes, and boxes for blocks of slots.
 ghost use Rattle.std.specs.Prelude.{◌≡◌, ◌*◌, ◌^◌, ◌<◌, All, length, map, IfOk};
-ghost use Rattle.cj_hermite.specs.Pairs.{objects_of};
-ghost use Rattle.cj_hermite.specs.Problems.{plain_problem};
-ghost use Rattle.cj_hermite.specs.Slots as slots;
-ghost use Rattle.cj_bezier.specs.SlotBoxes.{plain_boxes};
+ghost use Rattle.cj_case.specs.Pairs.{objects_of};
+ghost use Rattle.cj_case.specs.Problems.{plain_problem};
+ghost use Rattle.cj_case.specs.Slots as slots;
+ghost use Rattle.cj_case.specs.Boxes.{plain_boxes};
 ghost use Rattle.cj_blocks.specs.Blocks.{blocks_of};
 ghost use Rattle.cj_blocks.specs.Listed.{plain_block};
 ghost use Rattle.cj_cert.specs.Certificates.{plain_box_line};
 ghost use Rattle.cj_cert.specs.Rewritten as spec;
 ghost use Rattle.cj_cert.specs.Rewritten.{given_of, line_of_block};
 
-use cj_bezier::AxisBox;
 use cj_blocks::{Block, blocks};
+use cj_case::{AxisBox, Pair, Problem, slot_count};
 use cj_cert::{BoxLine, SizeOfLine};
-use cj_hermite::{Pair, Problem, slot_count};
 use std::alloc::{AllocError, Global};
 
 /// A line for each object with its size.

@@ -1,6 +1,6 @@
 use crate::rank::Rank;
+use cj_base::Window;
 use cj_cert::{BoxLine, CellLine, ShellLine, SizeOfLine};
-use cj_ticks::Window;
 
 /// What a line says.
 #[derive(Clone, Copy)]

@@ -1,16 +1,16 @@
 //! The text of a run's certificate, batch by batch.
 ghost use Rattle.std.specs.Prelude.{◌≡◌, ◌<◌, ◌≤◌, ◌++◌, [], IfOk, OnOk, drop, flat_map, length};
-ghost use Rattle.cj_causes.specs.declared.cert_version.CertVersion.TheVariants.{One};
+ghost use Rattle.cj_formats.specs.declared.cert_version.CertVersion.TheVariants.{One};
 ghost use Rattle.cj_io.specs.Parts.{joined};
 ghost use Rattle.cj_cert_text.specs.TextLeft.{count_left, text_left};
 
 use crate::object_boxes::ObjectBoxes;
 use crate::printed_line::PrintedLine;
 use crate::printed_parts::{PARTS_A_WORKER, push_parted};
-use cj_bezier::Leaf;
-use cj_causes::CertVersion;
+use cj_case::Leaf;
 use cj_cert::ShellLine;
-use cj_stream::PartSource;
+use cj_formats::CertVersion;
+use cj_io::PartSource;
 use std::alloc::{AllocError, Global};
 use std::mem::replace;
 use std::thread::Threads;

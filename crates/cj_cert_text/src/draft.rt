@@ -1,7 +1,7 @@
 use crate::cert_line::CertLine;
-use cj_causes::CertVersion;
+use cj_base::{Tick, Window};
 use cj_cert::{BoxLine, CellLine, Certificate, ShellLine, SizeOfLine};
-use cj_ticks::{Tick, Window};
+use cj_formats::CertVersion;
 use std::alloc::{AllocError, Global};
 
 /// What the lines so far say. What is not told yet is as in the certificate of an empty folder.

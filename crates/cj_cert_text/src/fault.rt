@@ -1,5 +1,5 @@
 //! Why a text is not read as a certificate.
-use cj_causes::CertCause;
+use cj_formats::CertCause;
 use cj_kvn::TextFault;
 
 /// Why a text is not read as a certificate.

@@ -1,11 +1,11 @@
 //! Certificates of version 2, which have one box for a block of slots where the object then touches nothing more.
 ghost use Rattle.std.specs.Prelude.{◌≡◌, map, IfOk};
-ghost use Rattle.cj_causes.specs.declared.cert_version.CertVersion.TheVariants.{Two};
-ghost use Rattle.cj_hermite.specs.Pairs.{objects_of};
-ghost use Rattle.cj_hermite.specs.Problems.{plain_problem};
-ghost use Rattle.cj_bezier.specs.Leaves.{plain_leaves};
+ghost use Rattle.cj_formats.specs.declared.cert_version.CertVersion.TheVariants.{Two};
+ghost use Rattle.cj_case.specs.Pairs.{objects_of};
+ghost use Rattle.cj_case.specs.Problems.{plain_problem};
+ghost use Rattle.cj_case.specs.Leaves.{plain_leaves};
 ghost use Rattle.cj_bezier.specs.Candidates.{pairs_kept, shells_of};
-ghost use Rattle.cj_bezier.specs.SlotBoxes.{plain_boxes};
+ghost use Rattle.cj_case.specs.Boxes.{plain_boxes};
 ghost use Rattle.cj_cert.specs.Accepted.{Accepted};
 ghost use Rattle.cj_cert.specs.Certificates.{plain_certificate};
 ghost use Rattle.cj_cert.specs.Listed.{shells_listed};
@@ -17,10 +17,9 @@ ghost use Rattle.cj_cert.specs.Written.{leaves_in_order};
 use crate::block_lines::{block_lines, size_lines};
 use crate::listed_boxes::listed_boxes;
 use crate::written::{cell_lines, shell_lines};
-use cj_bezier::{AxisBox, Leaf, Shell};
-use cj_causes::CertVersion;
+use cj_case::{AxisBox, Leaf, Pair, Problem, Shell, slot_count};
 use cj_cert::{Certificate, acceptance};
-use cj_hermite::{Pair, Problem, slot_count};
+use cj_formats::CertVersion;
 use std::alloc::{AllocError, Global};
 
 /// The certificate of a problem in version 2, from the shells of its objects in the window, their boxes in each slot, in order of

@@ -24,7 +24,7 @@ mod written;
 mod written_text;
 
 pub use certificate_text::CertificateText;
-pub use cj_causes::CertCause;
+pub use cj_formats::CertCause;
 pub use fault::CertFault;
 pub use in_blocks::{certificate_in_blocks, in_version_2, listed_shells};
 pub use printing::{cert_parts, cert_text};

@@ -8,7 +8,7 @@ use crate::cert_line::CertLine;
 use crate::line_text::said;
 use crate::rank::Rank;
 use crate::words::Words;
-use cj_causes::{CertCause, CertVersion};
+use cj_formats::{CertCause, CertVersion};
 
 /// What a line says behind a line of that kind, or first of all.
 ///

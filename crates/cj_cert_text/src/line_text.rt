@@ -9,11 +9,10 @@ use crate::number::{object, reach, read_number, slot, tick, within};
 use crate::rank::Rank;
 use crate::words::Words;
 use arrayvec::ArrayVec;
-use cj_bezier::{AxisBox, Kind, Shell};
-use cj_causes::{CertCause, CertVersion};
+use cj_base::Window;
+use cj_case::{AxisBox, Kind, Pair, Shell};
 use cj_cert::{BoxLine, CellLine, ShellLine, SizeOfLine};
-use cj_hermite::Pair;
-use cj_ticks::Window;
+use cj_formats::{CertCause, CertVersion};
 use cj_track::Vec3;
 
 /// The greatest threshold in nm.

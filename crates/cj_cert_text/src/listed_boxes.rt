@@ -2,12 +2,13 @@
 ghost use Rattle.std.specs.Prelude.{◌≡◌, ℕ, ◌*◌, ◌<◌, ◌==◌, Some, None, map, vec_len, if◌then◌else◌, IfOk};
 ghost use Rattle.std.specs.List.{flat_map, range_with_len};
 ghost use Rattle.std.specs.Option.{option_or};
-ghost use Rattle.cj_bezier.specs.SlotBoxes.{plain_box, plain_boxes, reaches_in};
+ghost use Rattle.cj_case.specs.Boxes.{plain_box, plain_boxes};
+ghost use Rattle.cj_bezier.specs.SlotBoxes.{reaches_in};
 ghost use Rattle.cj_blocks.specs.BoxRows.{box_at};
 ghost use Rattle.cj_cert.specs.Certificates.{plain_box_line};
 ghost use Rattle.cj_cert.specs.Listed.{box_listed, is_line_of};
 
-use cj_bezier::AxisBox;
+use cj_case::AxisBox;
 use cj_cert::BoxLine;
 use std::alloc::{AllocError, Global};
 

@@ -8,8 +8,8 @@ ghost use Rattle.cj_cert_text.specs.Lines.{is_coordinate, is_from, is_object, is
 ghost use Rattle.cj_cert_text.specs.Numbers as spec;
 ghost use Rattle.cj_cert_text.specs.Readers.{Takes, capped};
 
-use cj_causes::{CertCause, CertVersion};
-use cj_ticks::Tick;
+use cj_base::Tick;
+use cj_formats::{CertCause, CertVersion};
 
 /// The number that a text says. The greatest u64 stands for all that is greater too, and its negative for all that is less.
 #[tactic(auto, unfolding(crate::specs::Numbers::number_of))]

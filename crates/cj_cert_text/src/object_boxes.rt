@@ -1,6 +1,6 @@
 ghost use Rattle.std.specs.Prelude.{◌+◌, ◌*◌, ◌≤◌, length};
 
-use cj_bezier::AxisBox;
+use cj_case::AxisBox;
 
 /// The boxes of one object, of those of all objects in so many slots, in order of object and slot.
 #[derive(Drop)]

@@ -1,17 +1,17 @@
 //! The boxes of all objects as text, object by object.
 ghost use Rattle.std.specs.Prelude.{◌≡◌, ◌*◌, IfOk, flat_map, length};
 ghost use Rattle.std.specs.List.{range_with_len};
-ghost use Rattle.cj_causes.specs.declared.cert_version.CertVersion.{CertVersion};
-ghost use Rattle.cj_bezier.specs.SlotBoxes.{plain_boxes};
+ghost use Rattle.cj_formats.specs.declared.cert_version.CertVersion.{CertVersion};
+ghost use Rattle.cj_case.specs.Boxes.{plain_boxes};
 ghost use Rattle.cj_cert_text.specs.ObjectTexts.{object_text};
 ghost use Rattle.cj_cert_text.specs.Texts.{box_text};
 ghost use Rattle.cj_cert.specs.Written.{lines_by_boxes};
 
 use crate::object_boxes::ObjectBoxes;
 use crate::printed_line::{BOX_ROOM, PrintedLine};
-use cj_bezier::AxisBox;
-use cj_causes::CertVersion;
+use cj_case::AxisBox;
 use cj_cert::BoxLine;
+use cj_formats::CertVersion;
 use std::alloc::{AllocError, Global};
 
 impl PrintedLine for ObjectBoxes<'_> {

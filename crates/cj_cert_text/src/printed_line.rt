@@ -1,16 +1,15 @@
 //! The lines of a certificate as text.
 ghost use Rattle.std.specs.Prelude.{◌≡◌, ℕ, ◌+◌, ◌++◌, ◌∷◌, [], List, OnOk, codes, pos};
-ghost use Rattle.cj_causes.specs.declared.cert_version.CertVersion.{CertVersion};
-ghost use Rattle.cj_bezier.specs.Leaves.{plain_leaf};
+ghost use Rattle.cj_formats.specs.declared.cert_version.CertVersion.{CertVersion};
+ghost use Rattle.cj_case.specs.Leaves.{plain_leaf};
 ghost use Rattle.cj_cert.specs.Certificates.{plain_box_line, plain_cell_line};
 ghost use Rattle.cj_cert_text.specs.Texts.{box_text, cell_text, kind_word as the_word, number, row_ended, shell_text, size_text};
 
 use crate::rows::{push_row, push_row_ended};
-use cj_bezier::{Kind, Leaf};
-use cj_causes::CertVersion;
+use cj_base::Tick;
+use cj_case::{Kind, Leaf, Pair};
 use cj_cert::{BoxLine, CellLine, ShellLine, SizeOfLine};
-use cj_hermite::Pair;
-use cj_ticks::Tick;
+use cj_formats::CertVersion;
 use std::alloc::AllocError;
 
 /// How long the line of a box can be, and that of a cell.

@@ -4,8 +4,8 @@ ghost use Rattle.cj_io.specs.Parts.{joined};
 ghost use Rattle.cj_cert_text.specs.Parts.{AreTexts};
 
 use crate::printed_line::PrintedLine;
-use cj_causes::CertVersion;
-use cj_jobs::{Jobs, run_jobs};
+use cj_formats::CertVersion;
+use cj_threads::{Jobs, run_jobs};
 use std::alloc::{AllocError, Global};
 use std::thread::Threads;
 

@@ -6,10 +6,10 @@ ghost use Rattle.cj_cert_text.specs.Texts.{first_lines, row, text_of};
 
 use crate::printed_parts::push_lines;
 use crate::rows::push_row;
-use cj_causes::CertVersion;
+use cj_base::Window;
 use cj_cert::Certificate;
+use cj_formats::CertVersion;
 use cj_io::join_parts;
-use cj_ticks::Window;
 use std::alloc::{AllocError, Global};
 use std::thread::Threads;
 

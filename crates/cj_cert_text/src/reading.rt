@@ -12,8 +12,8 @@ use crate::fault::CertFault;
 use crate::line_said::{has_ended, line_said};
 use crate::rank::Rank;
 use crate::words::split_at_byte;
-use cj_causes::{CertCause, CertVersion};
 use cj_cert::Certificate;
+use cj_formats::{CertCause, CertVersion};
 use std::alloc::Global;
 
 /// The certificate that a text says, of the first version or of the second.

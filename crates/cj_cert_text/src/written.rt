@@ -1,21 +1,20 @@
 //! The certificate that a run writes.
 ghost use Rattle.std.specs.Prelude.{◌≡◌, ◌+◌, ◌*◌, ◌++◌, ◌<◌, ◌≤◌, ◌^◌, true, [], map, length, IfOk, OnOk};
 ghost use Rattle.std.specs.List.{flat_map, range_with_len};
-ghost use Rattle.cj_causes.specs.declared.cert_version.CertVersion.TheVariants.{One};
-ghost use Rattle.cj_hermite.specs.Problems.{plain_problem};
-ghost use Rattle.cj_bezier.specs.Leaves.{plain_leaves};
+ghost use Rattle.cj_formats.specs.declared.cert_version.CertVersion.TheVariants.{One};
+ghost use Rattle.cj_case.specs.Problems.{plain_problem};
+ghost use Rattle.cj_case.specs.Leaves.{plain_leaves};
 ghost use Rattle.cj_bezier.specs.Candidates.{shells_of};
-ghost use Rattle.cj_bezier.specs.SlotBoxes.{plain_boxes};
+ghost use Rattle.cj_case.specs.Boxes.{plain_boxes};
 ghost use Rattle.cj_cert.specs.Accepted.{Accepted};
 ghost use Rattle.cj_cert.specs.Certificates.{plain_box_line, plain_cell_line, plain_certificate};
 ghost use Rattle.cj_cert.specs.Versions.{is_of_version};
 ghost use Rattle.cj_bezier.specs.AllBoxes.{boxes_of};
 ghost use Rattle.cj_cert.specs.Written.{leaves_in_order, line_by_shells, lines_by_boxes, written};
 
-use cj_bezier::{AxisBox, Leaf, Shell};
-use cj_causes::CertVersion;
+use cj_case::{AxisBox, Leaf, Problem, Shell, slot_count};
 use cj_cert::{BoxLine, CellLine, Certificate, ShellLine, acceptance};
-use cj_hermite::{Problem, slot_count};
+use cj_formats::CertVersion;
 use std::alloc::{AllocError, Global};
 
 /// The certificate of a problem in version 1, from the shells of its objects in the window, their boxes in each slot, in order of

@@ -1,10 +1,10 @@
 //! The text of the certificate that a run writes, of which nothing is made yet.
 ghost use Rattle.std.specs.Prelude.{◌≡◌, IfOk};
-ghost use Rattle.cj_hermite.specs.Problems.{plain_problem};
+ghost use Rattle.cj_case.specs.Problems.{plain_problem};
 ghost use Rattle.cj_bezier.specs.AllBoxes.{boxes_of};
-ghost use Rattle.cj_bezier.specs.Leaves.{plain_leaves};
+ghost use Rattle.cj_case.specs.Leaves.{plain_leaves};
 ghost use Rattle.cj_bezier.specs.Candidates.{shells_of};
-ghost use Rattle.cj_bezier.specs.SlotBoxes.{plain_boxes};
+ghost use Rattle.cj_case.specs.Boxes.{plain_boxes};
 ghost use Rattle.cj_cert.specs.Accepted.{Accepted};
 ghost use Rattle.cj_cert_text.specs.TextLeft.{text_left};
 ghost use Rattle.cj_cert_text.specs.Texts.{text_of};
@@ -14,10 +14,9 @@ use crate::certificate_text::CertificateText;
 use crate::printed_boxes::boxes_by_object;
 use crate::printing::{end, head};
 use crate::written::shell_lines;
-use cj_bezier::{AxisBox, Leaf, Shell};
-use cj_causes::CertVersion;
+use cj_case::{AxisBox, Leaf, Problem, Shell, slot_count};
 use cj_cert::acceptance;
-use cj_hermite::{Problem, slot_count};
+use cj_formats::CertVersion;
 use std::alloc::{AllocError, Global};
 
 impl<'a> CertificateText<'a> {

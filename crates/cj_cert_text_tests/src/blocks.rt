@@ -4,10 +4,10 @@ ghost use Rattle.cj_cert.specs.Certificates.{plain_certificate};
 ghost use Rattle.cj_cert.specs.Listed.{shells_listed};
 
 use crate::certificates::{AT_REST_2, at_rest_1, at_rest_2};
+use cj_case::{Pair, Problem};
 use cj_cert::Certificate;
 use cj_cert_text::{cert_text, in_version_2, listed_shells};
-use cj_hermite::{Pair, Problem};
-use cj_scenes::resting;
+use cj_samples::resting;
 use std::alloc::{AllocError, Global};
 use std::panic::Expect;
 

@@ -4,12 +4,11 @@ ghost use Rattle.cj_cert.specs.Certificates.{plain_certificate};
 ghost use Rattle.cj_cert.specs.Listed.{shells_listed};
 ghost use Rattle.cj_cert.specs.Versions.{is_of_version};
 
-use cj_bezier::{AxisBox, Kind, Shell};
-use cj_causes::CertVersion;
+use cj_base::{Tick, Window};
+use cj_case::{AxisBox, Kind, Pair, Shell};
 use cj_cert::{BoxLine, CellLine, Certificate, ShellLine, SizeOfLine};
 use cj_cert_text::{cert_text, read_cert};
-use cj_hermite::Pair;
-use cj_ticks::{Tick, Window};
+use cj_formats::CertVersion;
 use cj_track::Vec3;
 use std::alloc::{AllocError, Global};
 use std::panic::Expect;

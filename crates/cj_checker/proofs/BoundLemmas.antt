@@ -7,11 +7,11 @@ use Rattle.std.proofs.lemmas.Bool.Decides.{Decides-and, Decides-by_and, same_fro
 use Rattle.cj_interval.proofs.IntegerLemmas.{decides_le}
 use Rattle.cj_track.specs.declared.vec3.Vec3.{Vec3}
 use Rattle.cj_hermite.specs.declared.box3.Box3.{Box3}
-use Rattle.cj_bezier.specs.declared.axis_box.AxisBox.{AxisBox}
-use Rattle.cj_bezier.specs.declared.shells.Shell.{Shell}
+use Rattle.cj_case.specs.declared.axis_box.AxisBox.{AxisBox}
+use Rattle.cj_case.specs.declared.shells.Shell.{Shell}
 use Rattle.cj_bezier.specs.Gaps.{gap_terms}
 use Rattle.cj_bezier.specs.Hulls.{PlainHull, axes_of}
-use Rattle.cj_bezier.specs.SlotBoxes.{plain_box}
+use Rattle.cj_case.specs.Boxes.{plain_box}
 use Rattle.cj_bezier.specs.Squares.{least_square, greatest_square}
 use Rattle.cj_bezier.proofs.BoxLemmas.{all_four}
 use Rattle.cj_bezier.proofs.ShellLemmas.{square_of_inner, inner_of_square, square_of_outer, outer_of_square}

@@ -6,12 +6,12 @@ use Rattle.std.proofs.lemmas.Bool.{and_left, and_parts, and_right, cases_lt, leb
 use Rattle.std.proofs.lemmas.List.FromFn.{length-map-range_with_len}
 use Rattle.cj_interval.proofs.RangeLemmas.{one_in_range_fails}
 use Rattle.cj_track.specs.PlainTracks.{PlainTrack}
-use Rattle.cj_hermite.specs.PlainProblems.{PlainProblem}
-use Rattle.cj_hermite.specs.Slots.{slot_count}
-use Rattle.cj_bezier.specs.SlotBoxes.{PlainBox}
+use Rattle.cj_case.specs.PlainProblems.{PlainProblem}
+use Rattle.cj_case.specs.Slots.{slot_count}
+use Rattle.cj_case.specs.Boxes.{PlainBox}
 use Rattle.cj_cert.specs.Certificates.{PlainBoxLine}
 use Rattle.cj_cert.specs.Listed.{slots_of_line}
-use Rattle.cj_causes.specs.declared.check_cause.CheckCause.TheVariants.{BoxOf}
+use Rattle.cj_formats.specs.declared.check_cause.CheckCause.TheVariants.{BoxOf}
 use Rattle.cj_checker.specs.First.{failed, unlisted, boxes_from}
 use Rattle.cj_checker.specs.Places.{places_from}
 use Rattle.cj_checker.specs.Tests.{are_in_front, holds_hulls, is_box_line, is_in_box}

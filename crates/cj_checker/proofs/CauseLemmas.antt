@@ -6,15 +6,16 @@ use Rattle.std.proofs.lemmas.Bool.{eq-eqb, eqb-true, false_from_ne_true, and_par
 use Rattle.cj_track.specs.PlainTracks.{PlainTrack}
 use Rattle.cj_hermite.specs.Interpolant.{Curve}
 use Rattle.cj_hermite.specs.Pieces.{PlainPiece, piece_holding, curve_of_piece}
-use Rattle.cj_hermite.specs.PlainProblems.{PlainProblem, threshold_of, curve_at}
-use Rattle.cj_hermite.specs.Roots.{PlainCell}
+use Rattle.cj_case.specs.PlainProblems.{PlainProblem, threshold_of}
+use Rattle.cj_hermite.specs.ObjectsAtTicks.{curve_at}
+use Rattle.cj_case.specs.Cells.{PlainCell}
 use Rattle.cj_bezier.specs.Gaps.{gap_terms, hull_gap}
-use Rattle.cj_bezier.specs.Leaves.{PlainLeaf}
+use Rattle.cj_case.specs.Leaves.{PlainLeaf}
 use Rattle.cj_bezier.specs.Verdicts.{supported}
 use Rattle.cj_cert.specs.declared.cert_lines.CellLine.{CellLine}
 use Rattle.cj_cert.specs.Certificates.{plain_cell_line}
-use Rattle.cj_causes.specs.declared.check_cause.CheckCause.{CheckCause}
-use Rattle.cj_causes.specs.declared.check_cause.CheckCause.TheVariants.{Untiled, Stranger}
+use Rattle.cj_formats.specs.declared.check_cause.CheckCause.{CheckCause}
+use Rattle.cj_formats.specs.declared.check_cause.CheckCause.TheVariants.{Untiled, Stranger}
 use Rattle.cj_checker.specs.Tests.{is_supported}
 use Rattle.cj_checker.specs.First.{failed, begins, comes_after, behind, unsupported, cells_from, Failure}
 use Rattle.cj_checker.specs.Tiling.{cause_at}

@@ -4,7 +4,7 @@ use Rattle.std.specs.Prelude.{is_some}
 use Rattle.std.specs.Option.{option_or}
 use Rattle.std.proofs.lemmas.List.{length-map}
 use Rattle.std.proofs.lemmas.List.FromFn.{length-range_with_len}
-use Rattle.cj_hermite.specs.PlainProblems.{PlainProblem}
+use Rattle.cj_case.specs.PlainProblems.{PlainProblem}
 use Rattle.cj_cert.specs.declared.cert_lines.ShellLine.{ShellLine}
 use Rattle.cj_cert.specs.Certificates.{PlainCertificate}
 use Rattle.cj_checker.specs.declared.answer.Answer.{Answer}

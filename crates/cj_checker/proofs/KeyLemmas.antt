@@ -4,11 +4,11 @@ use Rattle.std.specs.List.{flat_map, range_with_len}
 use Rattle.std.proofs.lemmas.List.Concat.{flat_map-append}
 use Rattle.cj_interval.proofs.ListLemmas.{Each, Exists, Ordered, Each-weaker, Each-map, Each-flat_map, Each-range, Each-taken, Exists-weaker, Exists-map, Exists-flat_map, Exists-range, Exists-taken, Ordered-flat_map, Ordered-range, Ordered-taken, All-from_each, each_from_All, each_from_map, ordered_from_AllPairs, Contains-from_exists, each_from_append, each_member, exists_from_Contains, flat_map-flat_map, ordered_same}
 use Rattle.cj_interval.proofs.RangeLemmas.{range_cut}
-use Rattle.cj_hermite.specs.Pairs.{pairs_of}
-use Rattle.cj_hermite.specs.PlainProblems.{PlainProblem}
+use Rattle.cj_case.specs.Pairs.{pairs_of}
+use Rattle.cj_case.specs.PlainProblems.{PlainProblem}
 use Rattle.cj_hermite.specs.Roots.{roots_in, slots_of, roots_of}
-use Rattle.cj_hermite.specs.Slots.{slot_count}
-use Rattle.cj_hermite.proofs.PairLemmas.{IsPair, PairBefore, pairs_from, Each-pairs, Ordered-pairs}
+use Rattle.cj_case.specs.Slots.{slot_count}
+use Rattle.cj_case.proofs.PairLemmas.{IsPair, PairBefore, pairs_from, Each-pairs, Ordered-pairs}
 use Rattle.cj_checker.specs.declared.keys.Key.{Key}
 use Rattle.cj_checker.specs.Keys.{PlainKey, plain_key, pairs_in_rows, keys_of_pair, keys_in_rows, roots_of_keys, roots_in_rows, IsKeyIn, AreKeysIn, HasKey, IsKeyBefore, AreInOrder}
 

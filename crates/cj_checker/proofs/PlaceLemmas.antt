@@ -6,15 +6,15 @@ use Rattle.std.specs.Option.{option_map_or}
 use Rattle.std.proofs.lemmas.Bool.{and_from, and_left, and_parts, cases_eq, cases_lt, eq-eqb, eqb-true, false_from_ne_true}
 use Rattle.cj_interval.proofs.ListLemmas.{Each, Each-always, Each-append, Each-flat_map, Each-map, Each-weaker}
 use Rattle.cj_interval.proofs.RangeLemmas.{none_in_range_passes}
-use Rattle.cj_ticks.specs.declared.tick.Window.{Window}
+use Rattle.cj_base.specs.declared.tick.Window.{Window}
 use Rattle.cj_track.specs.PlainTracks.{PlainTrack}
 use Rattle.cj_hermite.specs.Pieces.{piece_at}
-use Rattle.cj_hermite.specs.PlainProblems.{PlainProblem}
-use Rattle.cj_hermite.specs.Slots.{slot_first, slot_last, slot_count, slot_of}
+use Rattle.cj_case.specs.PlainProblems.{PlainProblem}
+use Rattle.cj_case.specs.Slots.{slot_first, slot_last, slot_count, slot_of}
 use Rattle.cj_hermite.specs.Walks.{HasNone, IsNextRun}
-use Rattle.cj_hermite.proofs.SlotLemmas.{slot_exists, slot_begins, slot_ends, slots_follow}
+use Rattle.cj_case.proofs.SlotLemmas.{slot_exists, slot_begins, slot_ends, slots_follow}
 use Rattle.cj_bezier.specs.Parts.{hulls_of}
-use Rattle.cj_bezier.specs.SlotBoxes.{PlainBox}
+use Rattle.cj_case.specs.Boxes.{PlainBox}
 use Rattle.cj_cert.specs.Accepted.{has_state_in}
 use Rattle.cj_cert.specs.Certificates.{PlainBoxLine}
 use Rattle.cj_checker.specs.Places.{slots_from, places_of, places_in, places_from}

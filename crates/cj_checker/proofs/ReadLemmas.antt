@@ -2,11 +2,11 @@
 use Rattle.std.proofs.Common.{◌≡◌, ℕ, ◌+◌, ◌<◌, true, false, List, [], ◌∷◌, length, drop, Option, Some, None, refl, ap, ◌∙◌, arith}
 use Rattle.std.specs.Prelude.{IfNone, IfSome, is_some, slice_get}
 use Rattle.cj_track.specs.PlainTracks.{PlainTrack}
-use Rattle.cj_hermite.specs.PlainProblems.{PlainProblem}
+use Rattle.cj_case.specs.PlainProblems.{PlainProblem}
 use Rattle.cj_cert.specs.Certificates.{PlainBoxLine}
 use Rattle.cj_checker.specs.BoxesRead.{fails_behind}
 use Rattle.cj_checker.specs.declared.boxes_read.BoxesRead.{BoxesRead}
-use Rattle.cj_causes.specs.declared.check_cause.CheckCause.TheVariants.{BoxOf}
+use Rattle.cj_formats.specs.declared.check_cause.CheckCause.TheVariants.{BoxOf}
 use Rattle.cj_checker.specs.First.{failed, boxes_from, Failure}
 use Rattle.cj_checker.specs.Places.{slots_from, places_from}
 use Rattle.cj_checker.proofs.BoxLemmas.{boxes_missing, boxes_done, boxes_left}

@@ -17,13 +17,14 @@ use Rattle.std.proofs.lemmas.Option.{slice_get-get_or, slice_get-map}
 use Rattle.std.proofs.lemmas.List.Elements.{Contains-append_left}
 use Rattle.cj_interval.proofs.ListLemmas.{Each, Exists, Ordered, All-from_each, AllPairs-from_ordered, Contains-from_exists, each_from_All, exists_from_Contains, member_passes}
 use Rattle.cj_interval.proofs.RangeLemmas.{range_more}
-use Rattle.cj_hermite.specs.declared.pair.Pair.{Pair}
-use Rattle.cj_hermite.specs.Pairs.{objects_of}
-use Rattle.cj_bezier.specs.declared.axis_box.AxisBox.{AxisBox}
-use Rattle.cj_bezier.specs.declared.shells.Shell.{Shell}
+use Rattle.cj_case.specs.declared.pair.Pair.{Pair}
+use Rattle.cj_case.specs.Pairs.{objects_of}
+use Rattle.cj_case.specs.declared.axis_box.AxisBox.{AxisBox}
+use Rattle.cj_case.specs.declared.shells.Shell.{Shell}
 use Rattle.cj_bezier.specs.Shells.{are_kept, shell_in}
-use Rattle.cj_bezier.specs.SlotBoxes.{PlainBox, both_touch, plain_box, plain_boxes, reaches_in, touch_between}
-use Rattle.cj_hermite.specs.PlainProblems.{PlainProblem, threshold_of}
+use Rattle.cj_case.specs.Boxes.{PlainBox, plain_box, plain_boxes}
+use Rattle.cj_bezier.specs.SlotBoxes.{both_touch, reaches_in, touch_between}
+use Rattle.cj_case.specs.PlainProblems.{PlainProblem, threshold_of}
 use Rattle.cj_cert.specs.declared.cert_lines.ShellLine.{ShellLine}
 use Rattle.cj_cert.specs.Certificates.{PlainCertificate}
 use Rattle.cj_cert.specs.Listed.{boxes_listed, is_candidate_listed}

@@ -11,10 +11,10 @@ use borrow.Rule.Slice.PartMut.{put_mid}
 use Rattle.cj_interval.proofs.ListLemmas.{Each, Each-both, Each-flat_map, Each-map, Each-range, Each-weaker, each_from_All, each_from_map, Each-filter, each_at, each_from_flat_map, none_found}
 use Rattle.cj_interval.proofs.RangeLemmas.{Each-enumerated, each_in_range}
 use Rattle.cj_track.specs.PlainTracks.{PlainTrack}
-use Rattle.cj_hermite.specs.PlainProblems.{PlainProblem}
+use Rattle.cj_case.specs.PlainProblems.{PlainProblem}
 use Rattle.cj_hermite.specs.Roots.{slots_of}
-use Rattle.cj_hermite.specs.Slots.{slot_count}
-use Rattle.cj_bezier.specs.SlotBoxes.{plain_box}
+use Rattle.cj_case.specs.Slots.{slot_count}
+use Rattle.cj_case.specs.Boxes.{plain_box}
 use Rattle.cj_blocks.proofs.RowLemmas.{rows_before}
 use Rattle.cj_cert.specs.declared.cert_lines.BoxLine.{BoxLine}
 use Rattle.cj_cert.specs.Accepted.{has_state_in, slots_with_states, AreBoxes}

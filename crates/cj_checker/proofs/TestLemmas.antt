@@ -10,15 +10,16 @@ use Rattle.cj_interval.proofs.IntegerLemmas.{decides_le}
 use Rattle.cj_track.specs.PlainTracks.{PlainTrack}
 use Rattle.cj_hermite.specs.Interpolant.{Four}
 use Rattle.cj_hermite.specs.Pieces.{piece_holding, piece_at, curve_of_piece}
-use Rattle.cj_hermite.specs.PlainProblems.{PlainProblem, threshold_of}
-use Rattle.cj_hermite.specs.Slots.{slot_first, slot_last}
+use Rattle.cj_case.specs.PlainProblems.{PlainProblem, threshold_of}
+use Rattle.cj_case.specs.Slots.{slot_first, slot_last}
 use Rattle.cj_hermite.specs.Walks.{HasNone}
-use Rattle.cj_bezier.specs.declared.shells.Shell.{Shell}
+use Rattle.cj_case.specs.declared.shells.Shell.{Shell}
 use Rattle.cj_bezier.specs.Gaps.{gap_terms, hull_gap}
 use Rattle.cj_bezier.specs.Hulls.{PlainHull}
-use Rattle.cj_bezier.specs.Leaves.{PlainLeaf}
+use Rattle.cj_case.specs.Leaves.{PlainLeaf}
 use Rattle.cj_bezier.specs.Parts.{hulls_of}
-use Rattle.cj_bezier.specs.SlotBoxes.{PlainBox, IsAtMostEach, IsAtLeastEach}
+use Rattle.cj_case.specs.Boxes.{PlainBox}
+use Rattle.cj_bezier.specs.SlotBoxes.{IsAtMostEach, IsAtLeastEach}
 use Rattle.cj_bezier.specs.Verdicts.{are_at_least}
 use Rattle.cj_bezier.proofs.TestLemmas.{decides_at_least, decides_at_most as decides_at_most_ends, decides_supports}
 use Rattle.cj_cert.specs.Accepted.{ShowsRadii, IsShellOver, IsHullIn, HoldsHulls, IsSupported}

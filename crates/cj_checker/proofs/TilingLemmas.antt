@@ -1,29 +1,31 @@
 -- Roots that cells tile, cell by cell, run by run and key by key.
 use Rattle.std.proofs.Common.{◌≡◌, ℕ, zero, suc, ◌+◌, ◌<◌, ◌≤◌, true, List, [], ◌∷◌, map, drop, length, get_or, Option, Some, None, refl, sym, ap, ◌∙◌, subst, arith}
 use Rattle.std.specs.Prelude.{option_map}
-use Rattle.cj_ticks.specs.declared.tick.Window.{Window}
+use Rattle.cj_base.specs.declared.tick.Window.{Window}
 use Rattle.cj_track.specs.declared.track.Track.{Track}
 use Rattle.cj_track.specs.Tracks.{plain_track}
-use Rattle.cj_hermite.specs.declared.pair.Pair.{Pair}
-use Rattle.cj_hermite.specs.declared.problem.Problem.{Problem}
+use Rattle.cj_case.specs.declared.pair.Pair.{Pair}
+use Rattle.cj_case.specs.declared.problem.Problem.{Problem}
 use Rattle.cj_hermite.specs.declared.common_run.CommonRun.{CommonRun}
 use Rattle.cj_hermite.specs.CommonRuns.{both, both_numbers, runs_between, run_of, IsNextCommon}
 use Rattle.cj_hermite.specs.Interpolant.{Curve, curve_of, IsOver}
 use Rattle.cj_hermite.specs.Pieces.{piece_holding, curve_of_piece}
-use Rattle.cj_hermite.specs.PlainProblems.{PlainProblem, threshold_of, curve_at}
-use Rattle.cj_hermite.specs.Problems.{plain_problem}
+use Rattle.cj_case.specs.PlainProblems.{PlainProblem, threshold_of}
+use Rattle.cj_hermite.specs.ObjectsAtTicks.{curve_at}
+use Rattle.cj_case.specs.Problems.{plain_problem}
 use Rattle.cj_hermite.specs.Ready.{curve_ready}
-use Rattle.cj_hermite.specs.Roots.{PlainCell, KeepPieces, numbers_at, root_of_run, roots_between}
+use Rattle.cj_case.specs.Cells.{PlainCell}
+use Rattle.cj_hermite.specs.Roots.{KeepPieces, numbers_at, root_of_run, roots_between}
 use Rattle.cj_hermite.proofs.CurveLemmas.{have_curves}
 use Rattle.cj_hermite.proofs.RootLemmas.{IsRoot, Each-between}
 use Rattle.cj_hermite.proofs.TrackLemmas.{number_of_track, curve_of_track, first_is_over, second_is_over}
 use Rattle.cj_interval.proofs.ListLemmas.{Each}
 use Rattle.cj_bezier.specs.Gaps.{gap_terms, hull_gap}
-use Rattle.cj_bezier.specs.Leaves.{PlainLeaf}
+use Rattle.cj_case.specs.Leaves.{PlainLeaf}
 use Rattle.cj_bezier.specs.Verdicts.{supported}
 use Rattle.cj_cert.specs.declared.cert_lines.CellLine.{CellLine}
 use Rattle.cj_cert.specs.Certificates.{plain_cell_line}
-use Rattle.cj_causes.specs.declared.check_cause.CheckCause.{CheckCause}
+use Rattle.cj_formats.specs.declared.check_cause.CheckCause.{CheckCause}
 use Rattle.cj_checker.specs.declared.root.Root.{Root}
 use Rattle.cj_checker.specs.Tests.{is_supported}
 use Rattle.cj_checker.specs.First.{failed, cells_from, begins, behind}

@@ -1,9 +1,9 @@
 -- How far the lines of boxes were read.
 use Rattle.std.specs.Prelude.{◌≡◌, ℕ, ◌+◌, if◌then◌else◌, List, drop, Option}
-use Rattle.cj_hermite.specs.PlainProblems.{PlainProblem}
+use Rattle.cj_case.specs.PlainProblems.{PlainProblem}
 use Rattle.cj_cert.specs.Certificates.{PlainBoxLine}
 use Rattle.cj_checker.specs.declared.boxes_read.BoxesRead.{BoxesRead}
-use Rattle.cj_causes.specs.declared.check_cause.CheckCause.TheVariants.{BoxOf}
+use Rattle.cj_formats.specs.declared.check_cause.CheckCause.TheVariants.{BoxOf}
 use Rattle.cj_checker.specs.First.{failed, boxes_from, Failure}
 use Rattle.cj_checker.specs.Places.{places_from}
 

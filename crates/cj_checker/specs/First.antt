@@ -2,20 +2,21 @@
 use Rattle.std.specs.Prelude.{ℕ, ◌+◌, ◌==◌, Bool, false, ◌&&◌, ◌||◌, nat_le, nat_lt, if◌then◌else◌, List, [], ◌∷◌, length, drop, Option, Some, None, slice_get}
 use Rattle.std.specs.List.{enumerate_from}
 use Rattle.std.specs.Option.{option_map_or, option_or}
-use Rattle.cj_hermite.specs.PlainProblems.{PlainProblem}
-use Rattle.cj_hermite.specs.Roots.{PlainCell, roots_of}
-use Rattle.cj_bezier.specs.declared.kind.Kind.{Kind}
-use Rattle.cj_bezier.specs.declared.kind.Kind.TheVariants as kinds
-use Rattle.cj_bezier.specs.Leaves.{PlainLeaf}
+use Rattle.cj_case.specs.PlainProblems.{PlainProblem}
+use Rattle.cj_case.specs.Cells.{PlainCell}
+use Rattle.cj_hermite.specs.Roots.{roots_of}
+use Rattle.cj_case.specs.declared.kind.Kind.{Kind}
+use Rattle.cj_case.specs.declared.kind.Kind.TheVariants as kinds
+use Rattle.cj_case.specs.Leaves.{PlainLeaf}
 use Rattle.cj_cert.specs.declared.cert_lines.SizeOfLine.{SizeOfLine}
 use Rattle.cj_cert.specs.Accepted.{slots_with_states}
 use Rattle.cj_cert.specs.Certificates.{PlainBoxLine, PlainCertificate}
 use Rattle.cj_cert.specs.Listed.{slots_of_line, is_candidate_listed}
 use Rattle.cj_kvn.specs.declared.text_fault.LineFault.{LineFault}
-use Rattle.cj_causes.specs.declared.check_cause.CheckCause.{CheckCause}
-use Rattle.cj_causes.specs.declared.check_cause.CheckCause.TheVariants.{Header, SizeOf, ShellOf, BoxOf, Untiled, Stranger, NotFar, NotNear, NotBand}
-use Rattle.cj_causes.specs.declared.cert_version.CertVersion.{CertVersion}
-use Rattle.cj_causes.specs.declared.cert_version.CertVersion.TheVariants.{One, Two}
+use Rattle.cj_formats.specs.declared.check_cause.CheckCause.{CheckCause}
+use Rattle.cj_formats.specs.declared.check_cause.CheckCause.TheVariants.{Header, SizeOf, ShellOf, BoxOf, Untiled, Stranger, NotFar, NotNear, NotBand}
+use Rattle.cj_formats.specs.declared.cert_version.CertVersion.{CertVersion}
+use Rattle.cj_formats.specs.declared.cert_version.CertVersion.TheVariants.{One, Two}
 use Rattle.cj_checker.specs.Tests.{is_size_line, is_shell_line, is_box_line, is_supported}
 
 -- a line at which a certificate is not accepted, and why

@@ -1,15 +1,17 @@
 -- Keys: pairs that are looked at, each with the slot. A row is the pairs with one first object.
 use Rattle.std.specs.Prelude.{◌≡◌, ℕ, ◌+◌, ◌-◌, ◌<◌, ◌≤◌, true, Bool, if◌then◌else◌, ◌&&◌, List, [], ◌∷◌, map, length, All, Option}
 use Rattle.std.specs.List.{AllPairs, Contains, flat_map, range_with_len}
-use Rattle.cj_hermite.specs.declared.problem.Problem.{Problem}
-use Rattle.cj_hermite.specs.PlainProblems.{PlainProblem}
-use Rattle.cj_hermite.specs.Problems.{plain_problem}
-use Rattle.cj_hermite.specs.Roots.{PlainCell, roots_in, slots_of}
-use Rattle.cj_hermite.specs.Slots.{slot_count}
-use Rattle.cj_bezier.specs.declared.axis_box.AxisBox.{AxisBox}
-use Rattle.cj_bezier.specs.declared.shells.Shell.{Shell}
+use Rattle.cj_case.specs.declared.problem.Problem.{Problem}
+use Rattle.cj_case.specs.PlainProblems.{PlainProblem}
+use Rattle.cj_case.specs.Problems.{plain_problem}
+use Rattle.cj_case.specs.Cells.{PlainCell}
+use Rattle.cj_hermite.specs.Roots.{roots_in, slots_of}
+use Rattle.cj_case.specs.Slots.{slot_count}
+use Rattle.cj_case.specs.declared.axis_box.AxisBox.{AxisBox}
+use Rattle.cj_case.specs.declared.shells.Shell.{Shell}
 use Rattle.cj_bezier.specs.Shells.{keeps_between}
-use Rattle.cj_bezier.specs.SlotBoxes.{PlainBox, plain_boxes, touch_between}
+use Rattle.cj_case.specs.Boxes.{PlainBox, plain_boxes}
+use Rattle.cj_bezier.specs.SlotBoxes.{touch_between}
 use Rattle.cj_cert.specs.declared.cert_lines.ShellLine.{ShellLine}
 use Rattle.cj_cert.specs.declared.certificate.Certificate.{Certificate}
 use Rattle.cj_cert.specs.Certificates.{plain_certificate}

@@ -1,6 +1,6 @@
 -- The listed boxes as a program keeps them.
 use Rattle.std.specs.Prelude.{ℕ, Option}
-use Rattle.cj_bezier.specs.SlotBoxes.{PlainBox}
+use Rattle.cj_case.specs.Boxes.{PlainBox}
 use Rattle.cj_checker.specs.declared.listed.Listed.{Listed}
 use Rattle.cj_checker.specs.Tables.{box_in_table}
 

@@ -2,8 +2,8 @@
 use Rattle.std.specs.Prelude.{ℕ, ◌-◌, List, [], ◌∷◌, ◌++◌, map, filter, drop}
 use Rattle.std.specs.List.{enumerate_from, flat_map, range_with_len}
 use Rattle.cj_track.specs.PlainTracks.{PlainTrack}
-use Rattle.cj_hermite.specs.PlainProblems.{PlainProblem}
-use Rattle.cj_hermite.specs.Slots.{slot_count}
+use Rattle.cj_case.specs.PlainProblems.{PlainProblem}
+use Rattle.cj_case.specs.Slots.{slot_count}
 use Rattle.cj_cert.specs.Accepted.{has_state_in}
 
 -- the slots in which an ephemeris has a state, from one on

@@ -1,16 +1,17 @@
 -- A sweep along an axis over the boxes of a slot.
 use Rattle.std.specs.Prelude.{◌≡◌, ◌⊎◌, ℕ, ◌+◌, ◌<◌, ◌≤◌, true, pos, ◌+ℤ◌, ◌-ℤ◌, ◌≤ℤ◌, List, All, map, length, Option, Some, slice_index}
 use Rattle.std.specs.List.{AllPairs, Contains}
-use Rattle.cj_hermite.specs.declared.pair.Pair.{Pair}
-use Rattle.cj_hermite.specs.declared.problem.Problem.{Problem}
-use Rattle.cj_hermite.specs.Pairs.{AreBoth, HasPair, objects_of}
-use Rattle.cj_hermite.specs.PlainProblems.{PlainProblem}
-use Rattle.cj_hermite.specs.Problems.{plain_problem}
-use Rattle.cj_bezier.specs.declared.axis_box.AxisBox.{AxisBox}
-use Rattle.cj_bezier.specs.declared.shells.Shell.{Shell}
+use Rattle.cj_case.specs.declared.pair.Pair.{Pair}
+use Rattle.cj_case.specs.declared.problem.Problem.{Problem}
+use Rattle.cj_case.specs.Pairs.{AreBoth, HasPair, objects_of}
+use Rattle.cj_case.specs.PlainProblems.{PlainProblem}
+use Rattle.cj_case.specs.Problems.{plain_problem}
+use Rattle.cj_case.specs.declared.axis_box.AxisBox.{AxisBox}
+use Rattle.cj_case.specs.declared.shells.Shell.{Shell}
 use Rattle.cj_bezier.specs.Shells.{shell_in}
-use Rattle.cj_bezier.specs.SlotBoxes.{PlainBox, plain_boxes, reaches_in}
-use Rattle.cj_bezier.specs.SlotBoxes as boxes
+use Rattle.cj_case.specs.Boxes.{PlainBox, plain_boxes}
+use Rattle.cj_bezier.specs.SlotBoxes.{reaches_in}
+use Rattle.cj_case.specs.Boxes as boxes
 use Rattle.cj_cert.specs.declared.cert_lines.ShellLine.{ShellLine}
 use Rattle.cj_checker.specs.declared.axis.Axis.{Axis}
 use Rattle.cj_checker.specs.declared.axis.Axis.TheVariants as axes

@@ -1,6 +1,6 @@
 -- The table of listed boxes: for each object a row of its slots, with the number of the line that has the box, counted from 1, or 0.
 use Rattle.std.specs.Prelude.{ℕ, zero, suc, ◌+◌, ◌*◌, nat_lt, if◌then◌else◌, List, Option, None, option_map, option_and_then, slice_get}
-use Rattle.cj_bezier.specs.SlotBoxes.{PlainBox, plain_box}
+use Rattle.cj_case.specs.Boxes.{PlainBox, plain_box}
 use Rattle.cj_cert.specs.declared.cert_lines.BoxLine.{BoxLine}
 
 -- the line with a number

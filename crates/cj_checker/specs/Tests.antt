@@ -5,14 +5,14 @@ use Rattle.std.specs.Option.{option_map_or}
 use Rattle.cj_track.specs.PlainTracks.{PlainTrack}
 use Rattle.cj_hermite.specs.Interpolant.{Four}
 use Rattle.cj_hermite.specs.Pieces.{piece_holding, piece_at, curve_of_piece}
-use Rattle.cj_hermite.specs.PlainProblems.{PlainProblem, threshold_of}
-use Rattle.cj_hermite.specs.Slots.{slot_first, slot_last}
-use Rattle.cj_bezier.specs.declared.shells.Shell.{Shell}
+use Rattle.cj_case.specs.PlainProblems.{PlainProblem, threshold_of}
+use Rattle.cj_case.specs.Slots.{slot_first, slot_last}
+use Rattle.cj_case.specs.declared.shells.Shell.{Shell}
 use Rattle.cj_bezier.specs.Gaps.{gap_terms, hull_gap}
 use Rattle.cj_bezier.specs.Hulls.{Ends, PlainHull}
-use Rattle.cj_bezier.specs.Leaves.{PlainLeaf}
+use Rattle.cj_case.specs.Leaves.{PlainLeaf}
 use Rattle.cj_bezier.specs.Parts.{hulls_of}
-use Rattle.cj_bezier.specs.SlotBoxes.{Reach, PlainBox}
+use Rattle.cj_case.specs.Boxes.{Reach, PlainBox}
 use Rattle.cj_bezier.specs.Verdicts.{are_at_least, are_at_most, supported}
 use Rattle.cj_cert.specs.declared.cert_lines.ShellLine.{ShellLine}
 use Rattle.cj_cert.specs.declared.cert_lines.SizeOfLine.{SizeOfLine}

@@ -1,16 +1,17 @@
 -- The cells of a certificate against roots, one after another.
 use Rattle.std.specs.Prelude.{◌≡◌, ℕ, ◌+◌, ◌≤◌, Bool, if◌then◌else◌, List, ◌++◌, drop, map, Option, Some, None, Result, Ok, Err}
 use Rattle.cj_hermite.specs.Interpolant.{IsOver}
-use Rattle.cj_hermite.specs.PlainProblems.{PlainProblem, threshold_of, curve_at}
+use Rattle.cj_case.specs.PlainProblems.{PlainProblem, threshold_of}
+use Rattle.cj_hermite.specs.ObjectsAtTicks.{curve_at}
 use Rattle.cj_hermite.specs.Ready.{curve_ready}
-use Rattle.cj_hermite.specs.Roots.{PlainCell}
+use Rattle.cj_case.specs.Cells.{PlainCell}
 use Rattle.cj_bezier.specs.Gaps.{gap_terms, hull_gap}
-use Rattle.cj_bezier.specs.Leaves.{PlainLeaf}
+use Rattle.cj_case.specs.Leaves.{PlainLeaf}
 use Rattle.cj_bezier.specs.Verdicts.{supported}
 use Rattle.cj_cert.specs.declared.cert_lines.CellLine.{CellLine}
 use Rattle.cj_cert.specs.Certificates.{plain_cell_line}
-use Rattle.cj_causes.specs.declared.check_cause.CheckCause.{CheckCause}
-use Rattle.cj_causes.specs.declared.check_cause.CheckCause.TheVariants.{Untiled, Stranger}
+use Rattle.cj_formats.specs.declared.check_cause.CheckCause.{CheckCause}
+use Rattle.cj_formats.specs.declared.check_cause.CheckCause.TheVariants.{Untiled, Stranger}
 use Rattle.cj_checker.specs.declared.cell_fault.CellFault.{CellFault}
 use Rattle.cj_checker.specs.declared.root.Root.{Root}
 use Rattle.cj_checker.specs.First.{failed, begins, comes_after, unsupported, cells_from, Failure}

@@ -1,11 +1,12 @@
 //! What the hulls of an object are to meet: the radii of its shell, and its boxes.
 ghost use Rattle.std.specs.Prelude.{◌≡◌, ◌*◌};
 ghost use Rattle.cj_bezier.specs.Hulls.{axes_of};
-ghost use Rattle.cj_bezier.specs.SlotBoxes.{plain_box};
+ghost use Rattle.cj_case.specs.Boxes.{plain_box};
 ghost use Rattle.cj_checker.specs.Bounds.{is_point_in, is_above, is_below};
 ghost use Rattle.cj_checker.specs.Tests.{is_hull_in as lies_in, shows_radii as shows};
 
-use cj_bezier::{AxisBox, Hull, Shell, gap_origin, greatest_square, least_square};
+use cj_bezier::{Hull, gap_origin, greatest_square, least_square};
+use cj_case::{AxisBox, Shell};
 use cj_hermite::Box3;
 use cj_track::Vec3;
 

@@ -2,8 +2,8 @@
 ghost use Rattle.std.specs.Prelude.{◌≡◌, ◌+◌, ◌-◌, ◌^◌, ◌<◌, ◌≤◌, ◌∷◌, ◌==◌, ◌&&◌, IsTrue, Some, drop, length, map, nat_le, slice_get};
 ghost use Rattle.std.specs.List.{list_all, range_with_len};
 ghost use Rattle.cj_track.specs.Tracks.{plain_track};
-ghost use Rattle.cj_hermite.specs.Problems.{plain_problem};
-ghost use Rattle.cj_bezier.specs.SlotBoxes.{plain_box};
+ghost use Rattle.cj_case.specs.Problems.{plain_problem};
+ghost use Rattle.cj_case.specs.Boxes.{plain_box};
 ghost use Rattle.cj_cert.specs.Certificates.{plain_box_line};
 ghost use Rattle.cj_cert.specs.Listed.{slots_of_line};
 ghost use Rattle.cj_checker.specs.BoxesRead.{IsReadOf};
@@ -16,8 +16,9 @@ use crate::course::Course;
 use crate::hulls_inside::are_hulls_in;
 use crate::places::{Place, next_slot};
 use crate::walk::Walk;
+use cj_case::{slot_count, slot_window};
 use cj_cert::BoxLine;
-use cj_hermite::{Hint, slot_count, slot_window};
+use cj_hermite::Hint;
 
 /// Reads the lines of an object's boxes, the first of which is at a place. The next one that is read fails where it does not have the
 /// next slots in which the object has a state, or lets one of its hulls out. Lines that are missing are found at the line behind.

@@ -1,14 +1,14 @@
 //! Whether a pair is a candidate: its listed shells are not parted, and its boxes in a slot touch.
 ghost use Rattle.std.specs.Prelude.{◌≡◌, ◌+◌, ◌<◌, ◌&&◌, pos, ◌+ℤ◌, int_le, map, length, option_map};
-ghost use Rattle.cj_hermite.specs.Pairs.{objects_of};
-ghost use Rattle.cj_hermite.specs.Problems.{plain_problem};
+ghost use Rattle.cj_case.specs.Pairs.{objects_of};
+ghost use Rattle.cj_case.specs.Problems.{plain_problem};
 ghost use Rattle.cj_bezier.specs.Shells.{are_kept as not_parted};
-ghost use Rattle.cj_bezier.specs.SlotBoxes.{are_touching, both_touch as they_touch, plain_box, plain_boxes};
+ghost use Rattle.cj_bezier.specs.SlotBoxes.{are_touching, both_touch as they_touch};
+ghost use Rattle.cj_case.specs.Boxes.{plain_box, plain_boxes};
 ghost use Rattle.cj_checker.specs.Keys.{candidate_with};
 
-use cj_bezier::{AxisBox, Shell};
+use cj_case::{AxisBox, Pair, Problem, Shell};
 use cj_cert::ShellLine;
-use cj_hermite::{Pair, Problem};
 
 /// Whether a reach on an axis begins at most a threshold behind the end of another.
 fn begins_within(least: i64, most: i64, thr: u64) -> bool

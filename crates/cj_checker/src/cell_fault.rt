@@ -1,4 +1,4 @@
-use cj_causes::CheckCause;
+use cj_formats::CheckCause;
 
 /// A cell that fails, by its place in the list, and why.
 #[derive(Clone, Copy)]

@@ -1,6 +1,6 @@
 //! The lines of cells.
 ghost use Rattle.std.specs.Prelude.{◌≡◌, ◌+◌, ◌-◌, ◌^◌, ◌<◌, ◌≤◌, None, length, vec_len, IfOk};
-ghost use Rattle.cj_hermite.specs.Problems.{plain_problem};
+ghost use Rattle.cj_case.specs.Problems.{plain_problem};
 ghost use Rattle.cj_cert.specs.Certificates.{line_count, plain_certificate};
 ghost use Rattle.cj_cert.specs.Listed.{box_listed};
 ghost use Rattle.cj_checker.specs.ListedBoxes.{table_of};
@@ -11,9 +11,9 @@ use crate::failure::{FIRST_LINE, Failure};
 use crate::listed::Listed;
 use crate::rounds::round_from;
 use crate::tiling::tile_keys;
-use cj_causes::CheckCause;
+use cj_case::Problem;
 use cj_cert::Certificate;
-use cj_hermite::Problem;
+use cj_formats::CheckCause;
 use std::alloc::{AllocError, Global};
 
 /// A fault of a cell at its line.

@@ -1,7 +1,7 @@
 //! The checker.
 ghost use Rattle.std.specs.Prelude.{◌≡◌, ◌↔◌, ◌+◌, ◌-◌, ◌^◌, ◌<◌, IfOk};
 ghost use Rattle.std.specs.Option.{option_or};
-ghost use Rattle.cj_hermite.specs.Problems.{plain_problem};
+ghost use Rattle.cj_case.specs.Problems.{plain_problem};
 ghost use Rattle.cj_cert.specs.Accepted.{Accepted};
 ghost use Rattle.cj_cert.specs.Certificates.{line_count, plain_certificate};
 ghost use Rattle.cj_cert.specs.Splits.{AcceptedSplits};
@@ -14,8 +14,8 @@ use crate::failure::Failure;
 use crate::header::header_failure;
 use crate::shells::hull_failure;
 use crate::sizes::size_failure;
+use cj_case::Problem;
 use cj_cert::{Certificate, acceptance};
-use cj_hermite::Problem;
 use std::alloc::{AllocError, Global};
 
 /// The first failure of what is said of the run and of each object.

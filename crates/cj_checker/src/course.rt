@@ -1,5 +1,4 @@
-use cj_bezier::Shell;
-use cj_hermite::Problem;
+use cj_case::{Problem, Shell};
 use cj_track::Track;
 
 /// The track of an object of a problem, and the shell that is listed for the object.

@@ -1,7 +1,7 @@
 ghost use Rattle.std.specs.Prelude.{◌≡◌};
 ghost use Rattle.cj_checker.specs.First.{failed as a_failure};
 
-use cj_causes::CheckCause;
+use cj_formats::CheckCause;
 use cj_kvn::LineFault;
 
 /// The first line at which a certificate is not accepted, counted from 1, and why.

@@ -1,13 +1,13 @@
 //! What a certificate was made for.
 ghost use Rattle.std.specs.Prelude.{◌≡◌};
-ghost use Rattle.cj_hermite.specs.Problems.{plain_problem};
+ghost use Rattle.cj_case.specs.Problems.{plain_problem};
 ghost use Rattle.cj_cert.specs.Certificates.{plain_certificate};
 ghost use Rattle.cj_checker.specs.First.{header_failure as the_failure};
 
 use crate::failure::{Failure, failed};
-use cj_causes::CheckCause;
+use cj_case::Problem;
 use cj_cert::Certificate;
-use cj_hermite::Problem;
+use cj_formats::CheckCause;
 
 /// The line of the header with another window, threshold or number of objects than the problem's.
 #[tactic(auto, unfolding(crate::specs::First::header_failure))]

@@ -4,15 +4,15 @@ ghost use Rattle.std.specs.List.{list_all};
 ghost use Rattle.cj_track.specs.Tracks.{plain_track};
 ghost use Rattle.cj_hermite.specs.Walks.{HasNone};
 ghost use Rattle.cj_bezier.specs.Parts.{hulls_of};
-ghost use Rattle.cj_bezier.specs.SlotBoxes.{plain_box};
+ghost use Rattle.cj_case.specs.Boxes.{plain_box};
 ghost use Rattle.cj_checker.specs.Tests.{is_hull_in as lies_in};
 ghost use Rattle.cj_checker.specs.Walks.{IsWalk};
 
 use crate::bound::is_hull_in;
 use crate::course::Course;
 use crate::walk::Walk;
-use cj_bezier::AxisBox;
-use cj_ticks::{Tick, Window};
+use cj_base::{Tick, Window};
+use cj_case::AxisBox;
 
 /// Whether the hulls of all parts of a track at some ticks of the window lie in a box. None where the track has no state there.
 pub(crate) fn are_hulls_in(

@@ -1,7 +1,7 @@
 ghost use Rattle.std.specs.Prelude.{◌≡◌, ◌<◌, ◌≤◌};
-ghost use Rattle.cj_values.specs.Bounds.{MOST_OBJECTS};
+ghost use Rattle.cj_base.specs.Bounds.{MOST_OBJECTS};
 
-use cj_hermite::Pair;
+use cj_case::Pair;
 
 /// A pair that is looked at in a slot, in eight bytes. The numbers of objects fit 16 bits.
 #[derive(Clone, Copy, PartialEq, Eq, PartialOrd, Ord)]

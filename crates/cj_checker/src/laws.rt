@@ -1,6 +1,6 @@
 //! What the first failure of a certificate is: a law, which costs nothing to call.
 ghost use Rattle.std.specs.Prelude.{◌≡◌, ◌↔◌, None};
-ghost use Rattle.cj_hermite.specs.PlainProblems.{PlainProblem};
+ghost use Rattle.cj_case.specs.PlainProblems.{PlainProblem};
 ghost use Rattle.cj_cert.specs.Accepted.{Accepted};
 ghost use Rattle.cj_cert.specs.Certificates.{PlainCertificate};
 ghost use Rattle.cj_checker.specs.First.{first_failure};

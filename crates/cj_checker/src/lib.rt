@@ -31,7 +31,7 @@ mod walk;
 
 pub use answer::Answer;
 pub use checking::check;
-pub use cj_causes::CheckCause;
+pub use cj_formats::CheckCause;
 pub use failure::Failure;
 pub use header::header_failure;
 pub use laws::acceptance;

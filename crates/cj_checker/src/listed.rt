@@ -1,16 +1,15 @@
 //! The boxes that a certificate lists, by slot and object.
 ghost use Rattle.std.specs.Prelude.{◌≡◌, ℕ, ◌+◌, ◌-◌, ◌*◌, ◌^◌, ◌<◌, ◌≤◌, if◌then◌else◌, IfOk, None, Some, length, option_map, slice_get, vec_len};
-ghost use Rattle.cj_hermite.specs.Problems.{plain_problem};
-ghost use Rattle.cj_bezier.specs.SlotBoxes.{plain_box};
+ghost use Rattle.cj_case.specs.Problems.{plain_problem};
+ghost use Rattle.cj_case.specs.Boxes.{plain_box};
 ghost use Rattle.cj_cert.specs.Certificates.{plain_box_line, plain_certificate};
 ghost use Rattle.cj_cert.specs.Listed.{box_listed, is_line_of};
 ghost use Rattle.cj_checker.specs.First.{box_failure};
 ghost use Rattle.cj_checker.specs.ListedBoxes.{table_of};
 ghost use Rattle.cj_checker.specs.Tables.{place_in_table};
 
-use cj_bezier::AxisBox;
+use cj_case::{AxisBox, Problem, slot_count};
 use cj_cert::{BoxLine, Certificate};
-use cj_hermite::{Problem, slot_count};
 use std::alloc::{AllocError, Global};
 
 /// The box of each object in each slot, by the number of the line that has it.

@@ -1,10 +1,11 @@
 //! The places of box lines: the slots in which each object has a state, in order.
 ghost use Rattle.std.specs.Prelude.{◌≡◌, ◌+◌, [], ◌∷◌, IfNone, IfSome};
 ghost use Rattle.cj_track.specs.Tracks.{plain_track};
-ghost use Rattle.cj_hermite.specs.Problems.{plain_problem};
+ghost use Rattle.cj_case.specs.Problems.{plain_problem};
 ghost use Rattle.cj_checker.specs.Places.{slots_from};
 
-use cj_hermite::{Hint, Problem, SLOT, run_from, slot_window};
+use cj_case::{Problem, SLOT, slot_window};
+use cj_hermite::{Hint, run_from};
 use cj_track::Track;
 
 /// A slot of an object.

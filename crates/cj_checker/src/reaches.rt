@@ -2,15 +2,14 @@
 ghost use Rattle.std.specs.Prelude.{◌≡◌, ℕ, ◌<◌, ◌≤◌, pos, ◌+ℤ◌, ◌-ℤ◌, ◌≤ℤ◌, length, option_map, Some, OnOk};
 ghost use Rattle.std.specs.List.{Contains};
 ghost use Rattle.std.specs.List.Sorted.{IsPermutation};
-ghost use Rattle.cj_hermite.specs.Problems.{plain_problem};
-ghost use Rattle.cj_bezier.specs.SlotBoxes.{PlainBox, plain_box};
+ghost use Rattle.cj_case.specs.Problems.{plain_problem};
+ghost use Rattle.cj_case.specs.Boxes.{PlainBox, plain_box};
 ghost use Rattle.cj_checker.specs.Sweeps.{AreLaidOut, Exist, HasReachBy, IsInOrder, reach_of, side};
 
 use crate::axis::Axis;
 use crate::reach::Reach;
-use cj_bezier::{AxisBox, Shell};
+use cj_case::{AxisBox, Problem, Shell};
 use cj_cert::ShellLine;
-use cj_hermite::Problem;
 use std::alloc::{AllocError, Global};
 
 /// The reaches of the objects of some rows along an axis, and those of the objects behind them, each in order of where they begin.

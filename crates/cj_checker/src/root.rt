@@ -1,17 +1,18 @@
 //! Roots, made ready for the hulls of their cells.
 ghost use Rattle.std.specs.Prelude.{◌≡◌, ◌*◌, ◌^◌, ◌<◌, ◌≤◌, length};
 ghost use Rattle.cj_hermite.specs.Interpolant.{curve_of, IsOver};
-ghost use Rattle.cj_hermite.specs.PlainProblems.{threshold_of};
-ghost use Rattle.cj_hermite.specs.Problems.{plain_problem};
+ghost use Rattle.cj_case.specs.PlainProblems.{threshold_of};
+ghost use Rattle.cj_case.specs.Problems.{plain_problem};
 ghost use Rattle.cj_hermite.specs.Ready.{curve_ready};
 ghost use Rattle.cj_bezier.specs.Gaps.{gap_terms, hull_gap};
 ghost use Rattle.cj_bezier.specs.Verdicts.{supported};
 
+use cj_base::Window;
 use cj_bezier::{gap, hull_ready, supports};
+use cj_case::{Pair, Problem};
 use cj_cert::CellLine;
-use cj_hermite::{CommonRun, Pair, Problem, Ready, ready};
+use cj_hermite::{CommonRun, Ready, ready};
 use cj_interval::Divisor;
-use cj_ticks::Window;
 
 /// A root: ticks of a pair at which both are at one piece each, made ready.
 #[derive(Clone, Copy)]

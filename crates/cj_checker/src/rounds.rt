@@ -2,21 +2,20 @@
 //! to be had for.
 ghost use Rattle.std.specs.Prelude.{◌≡◌, ℕ, ◌+◌, ◌<◌, ◌≤◌, Bool, All, true, map, length, IfOk, OnOk};
 ghost use Rattle.std.specs.List.{range_with_len};
-ghost use Rattle.cj_values.specs.Bounds.{MOST_OBJECTS};
-ghost use Rattle.cj_bezier.specs.SlotBoxes.{plain_boxes};
+ghost use Rattle.cj_base.specs.Bounds.{MOST_OBJECTS};
+ghost use Rattle.cj_case.specs.Boxes.{plain_boxes};
 ghost use Rattle.cj_cert.specs.Certificates.{plain_certificate};
 ghost use Rattle.cj_cert.specs.Listed.{box_listed};
 ghost use Rattle.cj_checker.specs.ListedBoxes.{table_of};
-ghost use Rattle.cj_hermite.specs.Pairs.{HasPair};
+ghost use Rattle.cj_case.specs.Pairs.{HasPair};
 ghost use Rattle.cj_checker.specs.Keys.{AreInOrder, AreKeysIn, AreKeysKept, HasKey, IsKeyOf, is_listed, keys_listed, plain_key};
 
 use crate::enough::{enough_keys, leave_enough};
 use crate::keys::Key;
 use crate::listed::Listed;
 use crate::sweep::Sweep;
-use cj_bezier::AxisBox;
+use cj_case::{AxisBox, Pair, Problem, slot_count};
 use cj_cert::Certificate;
-use cj_hermite::{Pair, Problem, slot_count};
 use std::alloc::{AllocError, Global};
 
 /// The keys of some rows.

@@ -3,8 +3,8 @@ ghost use Rattle.std.specs.Prelude.{◌≡◌, ◌+◌, ◌-◌, ◌^◌, ◌<�
 ghost use Rattle.std.specs.List.{enumerate_from};
 ghost use Rattle.std.specs.Option.{option_or};
 ghost use Rattle.cj_track.specs.Tracks.{plain_track};
-ghost use Rattle.cj_hermite.specs.PlainProblems.{PlainProblem};
-ghost use Rattle.cj_hermite.specs.Problems.{plain_problem};
+ghost use Rattle.cj_case.specs.PlainProblems.{PlainProblem};
+ghost use Rattle.cj_case.specs.Problems.{plain_problem};
 ghost use Rattle.cj_cert.specs.Certificates.{plain_box_line, plain_certificate};
 ghost use Rattle.cj_checker.specs.BoxesRead.{IsReadOn, fails_behind};
 ghost use Rattle.cj_checker.specs.First.{box_failure, first_box_line, fits_at, shell_failure};
@@ -16,10 +16,11 @@ use crate::boxes_read::BoxesRead;
 use crate::course::Course;
 use crate::failure::{FIRST_LINE, Failure, failed};
 use crate::walk::Walk;
-use cj_causes::CheckCause;
+use cj_base::Window;
+use cj_case::Problem;
 use cj_cert::{BoxLine, Certificate, ShellLine};
-use cj_hermite::{Problem, next_run};
-use cj_ticks::Window;
+use cj_formats::CheckCause;
+use cj_hermite::next_run;
 use cj_track::Track;
 
 /// The first line of shells that is not the shell of the object in its place, or else the first line of boxes that does not have the

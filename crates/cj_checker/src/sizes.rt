@@ -1,16 +1,16 @@
 //! The lines of sizes.
 ghost use Rattle.std.specs.Prelude.{◌≡◌, ◌+◌, ◌-◌, ◌^◌, ◌<◌, length, vec_len};
 ghost use Rattle.std.specs.List.{enumerate_from};
-ghost use Rattle.cj_hermite.specs.Problems.{plain_problem};
+ghost use Rattle.cj_case.specs.Problems.{plain_problem};
 ghost use Rattle.cj_cert.specs.Certificates.{plain_certificate};
-ghost use Rattle.cj_causes.specs.declared.check_cause.CheckCause.TheVariants.{SizeOf};
+ghost use Rattle.cj_formats.specs.declared.check_cause.CheckCause.TheVariants.{SizeOf};
 ghost use Rattle.cj_checker.specs.First.{first_line, first_unfit, fits_at, size_failure as the_failure};
 ghost use Rattle.cj_checker.specs.Tests.{is_size_line as the_test};
 
 use crate::failure::{FIRST_LINE, Failure, failed};
-use cj_causes::{CertVersion, CheckCause};
+use cj_case::Problem;
 use cj_cert::{Certificate, SizeOfLine};
-use cj_hermite::Problem;
+use cj_formats::{CertVersion, CheckCause};
 
 /// In version 2, the first line that is not the size of the object in its place. Lines that are missing or left are found at the
 /// line behind.

@@ -1,7 +1,7 @@
 //! The candidates of a slot, by a sweep along an axis.
 ghost use Rattle.std.specs.Prelude.{◌≡◌, ℕ, ◌<◌, ◌≤◌, true, length, option_map, Some, IfSome, OnOk};
 ghost use Rattle.std.specs.List.{Contains};
-ghost use Rattle.cj_hermite.specs.Pairs.{AreBoth, ArePairsKept, HasPair, objects_of};
+ghost use Rattle.cj_case.specs.Pairs.{AreBoth, ArePairsKept, HasPair, objects_of};
 ghost use Rattle.cj_checker.specs.Keys.{looks};
 ghost use Rattle.cj_checker.specs.Sweeps.{AreCandidatesBy, AreMetBy, Exist, IsInOrder, StayCandidates};
 
@@ -9,9 +9,8 @@ use crate::axis::Axis;
 use crate::candidate::is_candidate;
 use crate::reach::Reach;
 use crate::reaches::{Reaches, begun_within, lay_out};
-use cj_bezier::AxisBox;
+use cj_case::{AxisBox, Pair, Problem};
 use cj_cert::ShellLine;
-use cj_hermite::{Pair, Problem};
 use std::alloc::{AllocError, Global};
 
 /// The pair of two objects, or none where they are one.

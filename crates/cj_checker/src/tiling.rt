@@ -1,7 +1,7 @@
 //! The cells of a certificate against the roots, one after another.
 ghost use Rattle.std.specs.Prelude.{◌≡◌, ◌≤◌, ◌<◌, [], ◌∷◌, length, map, All, IfOk, IfErr};
-ghost use Rattle.cj_hermite.specs.PlainProblems.{PlainProblem};
-ghost use Rattle.cj_hermite.specs.Problems.{plain_problem};
+ghost use Rattle.cj_case.specs.PlainProblems.{PlainProblem};
+ghost use Rattle.cj_case.specs.Problems.{plain_problem};
 ghost use Rattle.cj_hermite.specs.Roots.{roots_between, roots_in};
 ghost use Rattle.cj_cert.specs.Certificates.{plain_cell_line};
 ghost use Rattle.cj_checker.specs.First.{begins, comes_after, unsupported as what_fails};
@@ -11,11 +11,11 @@ ghost use Rattle.cj_checker.specs.Tiling.{AreOver, IsOf, Tiles, cause_at, is_sho
 use crate::cell_fault::CellFault;
 use crate::keys::Key;
 use crate::root::Root;
-use cj_bezier::Kind;
-use cj_causes::CheckCause;
+use cj_base::{Tick, Window};
+use cj_case::{Kind, Pair, Problem, slot_window};
 use cj_cert::CellLine;
-use cj_hermite::{Pair, PairHint, Problem, next_common_pieces, slot_window};
-use cj_ticks::{Tick, Window};
+use cj_formats::CheckCause;
+use cj_hermite::{PairHint, next_common_pieces};
 
 /// What is wrong with a cell of a kind that is not supported.
 fn unsupported(kind: Kind) -> CheckCause

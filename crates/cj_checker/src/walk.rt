@@ -10,8 +10,8 @@ ghost use Rattle.cj_checker.specs.Walks.{IsWalk};
 
 use crate::bound::shows_radii;
 use crate::course::Course;
+use cj_base::Tick;
 use cj_bezier::{Guide, Part, next_part};
-use cj_ticks::Tick;
 
 /// Where a walk is: at a part of the track in the window, which is the first one from a tick on.
 #[derive(Clone, Copy)]

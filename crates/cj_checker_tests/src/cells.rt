@@ -1,13 +1,11 @@
 //! Whole certificates of two objects at rest exactly at the threshold, for a minute and a tick.
 ghost use Rattle.std.specs.Prelude.{◌≤◌, length};
 
-use cj_bezier::{AxisBox, Kind, Shell};
-use cj_causes::CertVersion;
+use cj_case::{AxisBox, Kind, Pair, Shell};
 use cj_cert::{BoxLine, CellLine, Certificate, ShellLine, SizeOfLine};
 use cj_checker::{Answer, CheckCause, check};
-use cj_hermite::Pair;
-use cj_samples::{seconds, tick};
-use cj_scenes::resting;
+use cj_formats::CertVersion;
+use cj_samples::{resting, seconds, tick};
 use cj_track::Vec3;
 use std::alloc::{AllocError, Global};
 use std::panic::Expect;

@@ -4,11 +4,10 @@ ghost use Rattle.std.specs.Prelude.{◌≡◌, ◌*◌, ◌^◌, ◌<◌, ◌≤
 ghost use Rattle.cj_track.specs.declared.frame.Frame.TheVariants.{Eme2000};
 ghost use Rattle.cj_track.specs.Segments.{node_count};
 
-use cj_bezier::{AxisBox, Kind, Shell};
-use cj_causes::CertVersion;
+use cj_case::{AxisBox, Kind, Pair, Problem, Shell, Sizes, Tracks};
 use cj_cert::{BoxLine, CellLine, Certificate, ShellLine, SizeOfLine};
 use cj_checker::{Answer, CheckCause, check};
-use cj_hermite::{Pair, Problem, Sizes, Tracks};
+use cj_formats::CertVersion;
 use cj_samples::{rest, seconds, tick, track_of};
 use cj_track::{Track, Vec3};
 use std::alloc::Global;

@@ -1,11 +1,10 @@
 //! The failures of lines, one kind of them at a time.
 ghost use Rattle.std.specs.Prelude.{◌≡◌, ◌≤◌, ◌≤ℤ◌, IfOk, vec_len};
 
-use cj_bezier::{AxisBox, Shell};
-use cj_causes::CertVersion;
+use cj_case::{AxisBox, Problem, Shell, Sizes, Tracks};
 use cj_cert::{BoxLine, Certificate, ShellLine, SizeOfLine};
 use cj_checker::{CheckCause, Failure, header_failure, hull_failure, size_failure};
-use cj_hermite::{Problem, Sizes, Tracks};
+use cj_formats::CertVersion;
 use cj_samples::{AT_7000, AT_7005, rest, seconds, track_of, track_of_two};
 use cj_track::Vec3;
 use std::alloc::{AllocError, Global};

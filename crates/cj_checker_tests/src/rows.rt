@@ -1,12 +1,11 @@
 //! Whole certificates of four objects at rest in a row, each 4 km behind the one before, for two minutes and a tick.
 ghost use Rattle.std.specs.Prelude.{◌≡◌, ◌^◌, ◌<◌, ◌≤◌, pos, vec_len, IfOk};
-ghost use Rattle.cj_hermite.specs.Limits.{MAX_SIZE};
+ghost use Rattle.cj_case.specs.CaseLimits.{MAX_SIZE};
 
-use cj_bezier::{AxisBox, Kind, Shell};
-use cj_causes::CertVersion;
+use cj_case::{AxisBox, Kind, Pair, Problem, Shell, Sizes, Tracks};
 use cj_cert::{BoxLine, CellLine, Certificate, ShellLine, SizeOfLine};
 use cj_checker::{Answer, CheckCause, check};
-use cj_hermite::{Pair, Problem, Sizes, Tracks};
+use cj_formats::CertVersion;
 use cj_samples::{rest, seconds, tick, track_of};
 use cj_track::Vec3;
 use std::alloc::{AllocError, Global};

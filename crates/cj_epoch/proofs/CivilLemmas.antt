@@ -6,7 +6,7 @@ use Rattle.jiff_core.specs.Calendar.{day_count, days_in_month, IsCivilDate}
 use Rattle.jiff_core.proofs.SignedLemmas.{signed_arith}
 use Rattle.jiff_core.proofs.CalendarLemmas.{day_count-epoch, day_count-next_year, day_count-next_month, day_count-day, day_count-last_of_year, day_count-lt_year, day_count-lt_month, days_in_month_bounds}
 use Rattle.jiff_core.specs.declared.civil.date.Date.{Date}
-use Rattle.cj_ticks.specs.Calendar.{Civil, civil_of, day_after}
+use Rattle.cj_base.specs.Calendar.{Civil, civil_of, day_after}
 
 -- the calendar has this day, and so many days lie between 1 January 1970 and it
 pub record IsAt (n : ℕ) (c : Civil) : Type 0 where

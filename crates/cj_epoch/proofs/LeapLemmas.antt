@@ -9,8 +9,8 @@ use Rattle.std.proofs.lemmas.List.{get_or_default}
 use Rattle.std.proofs.lemmas.List.Sorted.{IsNonDecreasingBy-from_all_adjacent}
 use Rattle.std.proofs.lemmas.List.Folds.{list_any_at, list_any_none}
 use Rattle.cj_epoch.proofs.DigitLemmas.{and_is}
-use Rattle.cj_ticks.specs.Calendar.{days_of_years}
-use Rattle.cj_ticks.specs.LeapSeconds.{leap_days, leap_lies_between, tick_after}
+use Rattle.cj_base.specs.Calendar.{days_of_years}
+use Rattle.cj_base.specs.LeapSeconds.{leap_days, leap_lies_between, tick_after}
 use Rattle.jiff_core.specs.Calendar.{days_of_months}
 
 -- a number lies above low, and not above high

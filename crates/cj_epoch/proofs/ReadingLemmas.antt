@@ -2,8 +2,8 @@
 use Rattle.std.proofs.Common.{◌≡◌, ℕ, List, take, drop, Option, Result, subst, ap, ◌∙◌}
 use Rattle.std.specs.Str.Parse.{digits_value}
 use Rattle.cj_epoch.specs.declared.fault.EpochFault.{EpochFault}
-use Rattle.cj_ticks.specs.declared.tick.Tick.{Tick}
-use Rattle.cj_ticks.specs.Calendar.{day_at_date, day_at_ordinal}
+use Rattle.cj_base.specs.declared.tick.Tick.{Tick}
+use Rattle.cj_base.specs.Calendar.{day_at_date, day_at_ordinal}
 use Rattle.cj_epoch.specs.Picture.{number_at}
 use Rattle.cj_epoch.specs.Reading.{CALENDAR, ORDINAL, Gives, second_at, clock_at, moment_of, calendar_reading, ordinal_reading}
 use Rattle.cj_epoch.proofs.PictureLemmas.{IsNumber, CalendarNumbers, OrdinalNumbers}

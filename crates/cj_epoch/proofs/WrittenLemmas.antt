@@ -10,10 +10,10 @@ use Rattle.jiff_core.specs.Calendar.{IsCivilDate}
 use Rattle.jiff_core.proofs.SignedLemmas.{signed_arith}
 use Rattle.jiff_core.proofs.CalendarLemmas.{days_in_month_bounds}
 use Rattle.cj_epoch.specs.declared.fault.EpochFault.{EpochFault}
-use Rattle.cj_ticks.specs.Calendar.{civil_of, day_at_date}
+use Rattle.cj_base.specs.Calendar.{civil_of, day_at_date}
 use Rattle.cj_epoch.specs.Picture.{begins_like}
 use Rattle.cj_epoch.specs.Reading.{CALENDAR, fraction_of, decimals_of, micros_of, second_at, moment_of, calendar_reading, reading_of}
-use Rattle.cj_ticks.specs.Ticks.{IsTick, IsTickDay, DAY, HOUR, MINUTE, SECOND}
+use Rattle.cj_base.specs.Ticks.{IsTick, IsTickDay, DAY, HOUR, MINUTE, SECOND}
 use Rattle.cj_epoch.specs.Written.{two, four, six, epoch_of}
 use Rattle.cj_epoch.proofs.CivilLemmas.{civil_of-at}
 use Rattle.cj_epoch.proofs.DigitLemmas.{both, okay}

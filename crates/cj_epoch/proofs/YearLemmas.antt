@@ -8,8 +8,8 @@ use Rattle.jiff_core.specs.Calendar.{day_count, day_of_year, days_in_month, days
 use Rattle.jiff_core.proofs.SignedLemmas.{signed_arith}
 use Rattle.jiff_core.proofs.CalendarLemmas.{day_count-epoch, day_count-next_year, day_count-day_of_year, day_of_year_bound}
 use Rattle.jiff_core.specs.declared.civil.date.Date.{Date}
-use Rattle.cj_ticks.specs.Calendar.{days_of_years, day_of_date, day_of_ordinal, is_year, is_date, is_ordinal, day_at_date, day_at_ordinal}
-use Rattle.cj_ticks.specs.Ticks.{IsTickDay}
+use Rattle.cj_base.specs.Calendar.{days_of_years, day_of_date, day_of_ordinal, is_year, is_date, is_ordinal, day_at_date, day_at_ordinal}
+use Rattle.cj_base.specs.Ticks.{IsTickDay}
 
 pub january : (n : ℕ) → day_count (pos (1970 + n)) 1 1 ≡ 4_371_953 + days_of_years n
 unfolding days_of_years

@@ -4,10 +4,10 @@ use Rattle.std.specs.Char.{is_ascii_digit}
 use Rattle.std.specs.Io.BufRead.{strip_last}
 use Rattle.std.specs.List.{list_all}
 use Rattle.std.specs.Str.Parse.{digits_value}
-use Rattle.cj_ticks.specs.Calendar.{day_at_date, day_at_ordinal}
+use Rattle.cj_base.specs.Calendar.{day_at_date, day_at_ordinal}
 use Rattle.cj_epoch.specs.Picture.{begins_like, number_at}
-use Rattle.cj_ticks.specs.Ticks.{DAY, SECOND}
-use Rattle.cj_ticks.specs.declared.tick.Tick.{Tick}
+use Rattle.cj_base.specs.Ticks.{DAY, SECOND}
+use Rattle.cj_base.specs.declared.tick.Tick.{Tick}
 use Rattle.cj_epoch.specs.declared.fault.EpochFault.{EpochFault}
 use Rattle.cj_epoch.specs.declared.fault.EpochFault.TheVariants.{Form, Range, SecondSixty, TooFine}
 

@@ -1,7 +1,7 @@
 -- How an epoch is written.
 use Rattle.std.specs.Prelude.{ℕ, ◌+◌, ◌/◌, ◌%◌, List, [], ◌∷◌, ◌++◌, codes}
-use Rattle.cj_ticks.specs.Ticks.{DAY, HOUR, MINUTE, SECOND}
-use Rattle.cj_ticks.specs.Calendar.{Civil, civil_of}
+use Rattle.cj_base.specs.Ticks.{DAY, HOUR, MINUTE, SECOND}
+use Rattle.cj_base.specs.Calendar.{Civil, civil_of}
 
 -- the last two digits of a number
 abbrev pub two : ℕ → List ℕ

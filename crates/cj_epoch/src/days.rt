@@ -1,8 +1,8 @@
 ghost use Rattle.std.specs.Prelude.{◌≡◌, ◌+◌, ◌≤◌, pos, ◌≤ℤ◌, IfSome};
 ghost use Rattle.jiff_core.specs.Calendar.{day_count};
-ghost use Rattle.cj_ticks.specs.Calendar as spec;
-ghost use Rattle.cj_ticks.specs.Calendar.{civil_of};
-ghost use Rattle.cj_ticks.specs.Ticks.{IsTickDay};
+ghost use Rattle.cj_base.specs.Calendar as spec;
+ghost use Rattle.cj_base.specs.Calendar.{civil_of};
+ghost use Rattle.cj_base.specs.Ticks.{IsTickDay};
 
 use jiff_core::civil::Date;
 

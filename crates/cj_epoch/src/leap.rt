@@ -1,9 +1,9 @@
 ghost use Rattle.std.specs.Prelude.{◌≡◌, ◌<◌, ◌≤◌, ◌&&◌, nat_lt, nat_le, length};
 ghost use Rattle.std.specs.List.{list_any, AllWithin};
 ghost use Rattle.std.specs.List.Sorted.{IsNonDecreasing};
-ghost use Rattle.cj_ticks.specs.LeapSeconds.{leap_lies_between};
+ghost use Rattle.cj_base.specs.LeapSeconds.{leap_lies_between};
 
-use cj_ticks::{DAY, Tick};
+use cj_base::{DAY, Tick};
 
 /// The first ticks of the days that follow a leap second, in order.
 const AFTER_LEAP_SECONDS: [u64; 27] = [

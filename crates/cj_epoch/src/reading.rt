@@ -5,14 +5,14 @@ ghost use Rattle.std.specs.List.{list_all};
 ghost use Rattle.cj_epoch.specs.Picture as pictures;
 ghost use Rattle.cj_epoch.specs.Reading as spec;
 ghost use Rattle.cj_epoch.specs.Reading.{CALENDAR, ORDINAL, Gives, reading_of, calendar_reading, ordinal_reading, moment_of, second_at};
-ghost use Rattle.cj_ticks.specs.Ticks.{IsTickDay};
+ghost use Rattle.cj_base.specs.Ticks.{IsTickDay};
 
 use crate::days::{day_at_date, day_at_ordinal};
 use crate::digits::{are_zeros, raised};
 use crate::fault::EpochFault;
 use crate::picture::begins_like;
+use cj_base::{DAY, SECOND, Tick};
 use cj_kvn::{has_digits_alone, number_from_digits};
-use cj_ticks::{DAY, SECOND, Tick};
 
 /// The tick that an epoch text says, in one of the forms `YYYY-MM-DDThh:mm:ss` and `YYYY-DDDThh:mm:ss`, with decimals of the
 /// second and `Z` behind it or not.

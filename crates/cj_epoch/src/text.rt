@@ -1,11 +1,11 @@
 ghost use Rattle.std.specs.Prelude.{◌≡◌, ◌<◌};
-ghost use Rattle.cj_ticks.specs.Calendar.{civil_of};
+ghost use Rattle.cj_base.specs.Calendar.{civil_of};
 ghost use Rattle.cj_epoch.specs.Reading.{reading_of};
 ghost use Rattle.cj_epoch.specs.Written as spec;
 ghost use Rattle.cj_epoch.specs.Written.{epoch_of};
 
 use crate::days::date_after;
-use cj_ticks::{DAY, HOUR, MINUTE, SECOND, Tick};
+use cj_base::{DAY, HOUR, MINUTE, SECOND, Tick};
 
 /// A tick as text, in the form `YYYY-MM-DDThh:mm:ss.ffffff`.
 pub fn epoch_text(at: Tick) -> [u8; 26]

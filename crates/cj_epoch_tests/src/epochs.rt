@@ -1,5 +1,5 @@
+use cj_base::{Tick, Window};
 use cj_epoch::{EpochFault, epoch_text, leap_between, read_epoch};
-use cj_ticks::{Tick, Window};
 use std::panic::Expect;
 
 #[test]

@@ -1,5 +1,12 @@
+mod BoundLemmas
 mod DrawLemmas
+mod FigureLemmas
+mod LengthLemmas
+mod LineLemmas
+mod NodeLemmas
 mod OrbitLemmas
-pub mod PlaneLemmas
 mod RoundingLemmas
+mod StampLemmas
 mod TextLemmas
+pub mod PlaneLemmas
+pub mod TrackLemmas

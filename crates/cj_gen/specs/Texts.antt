@@ -1,7 +1,7 @@
 -- The ephemeris of an orbit, as text.
 use Rattle.std.specs.Prelude.{ℕ, ◌+◌, ◌*◌, ◌/◌, ◌%◌, if◌then◌else◌, List, [], ◌∷◌, ◌++◌, take, ℤ, pos, unsigned_abs, int_lt, decimal, codes, flat_map}
 use Rattle.std.specs.List.{range_with_len}
-use Rattle.cj_ticks.specs.Ticks.{MINUTE}
+use Rattle.cj_base.specs.Ticks.{MINUTE}
 use Rattle.cj_epoch.specs.Written.{epoch_of, two, six}
 use Rattle.cj_gen.specs.declared.orbit.Orbit.{Orbit}
 use Rattle.cj_gen.specs.declared.tilt.Vector.{Vector}

@@ -1,5 +1,5 @@
 ghost use Rattle.std.specs.Prelude.{◌≡◌, ◌≤◌, IfOk};
-ghost use Rattle.cj_values.specs.Bounds.{MOST_MADE_OBJECTS};
+ghost use Rattle.cj_base.specs.Bounds.{MOST_MADE_OBJECTS};
 ghost use Rattle.cj_gen.specs.Catalogues as spec;
 ghost use Rattle.cj_gen.specs.Catalogues.{catalogue_of};
 ghost use Rattle.cj_gen.specs.Orbits.{IsOrbit};

@@ -7,8 +7,8 @@ ghost use Rattle.cj_gen.specs.Texts.{covariance_text, ending_text, head_text, na
 use crate::figures::{five, push_place, push_rate};
 use crate::orbit::Orbit;
 use crate::plane::Point;
+use cj_base::Tick;
 use cj_epoch::epoch_text;
-use cj_ticks::Tick;
 use std::alloc::{AllocError, Global};
 
 /// The tick 2025-01-01T00:00:00.

@@ -8,13 +8,14 @@ use Rattle.std.proofs.Math.Nat.{div-mul-le_self}
 use Rattle.std.specs.Prelude.{ℤ, pos, ◌+ℤ◌, ◌-ℤ◌, ◌≤ℤ◌, option_map, option_and_then, slice_get, slice_index}
 use Rattle.std.specs.List.{range_with_len}
 use Rattle.std.proofs.lemmas.Option.{slice_get-map}
-use Rattle.cj_values.proofs.LogicLemmas.{all_three}
+use Rattle.cj_base.proofs.LogicLemmas.{all_three}
 use Rattle.cj_interval.proofs.ListLemmas.{Each, Exists, Each-always, Each-map, Each-flat_map, Each-range, Exists-weaker, Exists-map, Exists-flat_map, Exists-range, Each-filter, member_passes}
-use Rattle.cj_hermite.specs.PlainProblems.{threshold_between}
-use Rattle.cj_bezier.specs.declared.axis_box.AxisBox.{AxisBox}
+use Rattle.cj_case.specs.PlainProblems.{threshold_between}
+use Rattle.cj_case.specs.declared.axis_box.AxisBox.{AxisBox}
 use Rattle.cj_bezier.specs.Squares.{from_zero}
 use Rattle.cj_bezier.proofs.ShellLemmas.{from_zero-mono}
-use Rattle.cj_bezier.specs.SlotBoxes.{Reach, plain_box, plain_boxes, reaches_in, reach_touches, reaches_touch, both_touch, touch_between}
+use Rattle.cj_case.specs.Boxes.{Reach, plain_box, plain_boxes}
+use Rattle.cj_bezier.specs.SlotBoxes.{reaches_in, reach_touches, reaches_touch, both_touch, touch_between}
 use Rattle.cj_grid.specs.declared.entries.Entry.{Entry}
 use Rattle.cj_grid.specs.Buckets.{BUCKET_SIDE, FIRST_CORNER, bucket_on, Numbers, numbers_of, PlainBlock, block_of, is_wide, each_number, bucket_number, in_column, in_layer, in_block, block_in, entered_by, is_wide_one, entries_of, wide_of}
 

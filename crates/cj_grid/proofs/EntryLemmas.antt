@@ -10,7 +10,7 @@ use Rattle.std.proofs.lemmas.List.FromFn.{map-range_with_len_more}
 use Rattle.std.proofs.lemmas.List.Sorted.{sum_by-IsPermutation}
 use Rattle.std.proofs.lemmas.List.Sums.{count_by_more_yes, sum_by-take-le}
 use Rattle.cj_interval.proofs.RangeLemmas.{range_more, flat_map-range_more}
-use Rattle.cj_bezier.specs.declared.axis_box.AxisBox.{AxisBox}
+use Rattle.cj_case.specs.declared.axis_box.AxisBox.{AxisBox}
 use Rattle.cj_grid.specs.declared.entries.Entry.{Entry}
 use Rattle.cj_grid.specs.Buckets.{entered_in, bucket_squares, entries_of, wide_of, step_bound}
 use Rattle.cj_grid.specs.Found.{entry_at}

@@ -9,11 +9,12 @@ use Rattle.std.proofs.lemmas.Bool.Decides.{nat_tests}
 use Rattle.std.proofs.lemmas.Cmp.{then_total, on_total, nat_cmp_total}
 use Rattle.std.proofs.lemmas.List.Sorted.{sorted_far, ranks_by, All-permutation, Contains-permutation, IsPermutation-map}
 use Rattle.cj_interval.proofs.ListLemmas.{Each, Exists, Ordered, Each-weaker, each_from_All, AreWithin, Each-filter, each_member, exists_from_Contains, member_passes, ordered_same}
-use Rattle.cj_hermite.specs.declared.pair.Pair.{Pair}
-use Rattle.cj_hermite.specs.Pairs.{HasPair, objects_of, pairs_of}
-use Rattle.cj_hermite.proofs.PairLemmas.{IsPair, PairBefore, Each-pairs, Ordered-pairs, Exists-pairs}
-use Rattle.cj_bezier.specs.declared.axis_box.AxisBox.{AxisBox}
-use Rattle.cj_bezier.specs.SlotBoxes.{plain_boxes, touch_between}
+use Rattle.cj_case.specs.declared.pair.Pair.{Pair}
+use Rattle.cj_case.specs.Pairs.{HasPair, objects_of, pairs_of}
+use Rattle.cj_case.proofs.PairLemmas.{IsPair, PairBefore, Each-pairs, Ordered-pairs, Exists-pairs}
+use Rattle.cj_case.specs.declared.axis_box.AxisBox.{AxisBox}
+use Rattle.cj_case.specs.Boxes.{plain_boxes}
+use Rattle.cj_bezier.specs.SlotBoxes.{touch_between}
 use Rattle.cj_grid.specs.declared.entries.Entry.{Entry}
 use Rattle.cj_grid.specs.Found.{AreTouching, AreInOrder, entry_at, is_again, unrepeated}
 use Rattle.cj_grid.proofs.BucketLemmas.{touching_near}

@@ -10,7 +10,8 @@ use Rattle.cj_interval.specs.Spans.{least, greatest}
 use Rattle.cj_hermite.specs.declared.box3.Box3.{Box3}
 use Rattle.cj_hermite.specs.Boxes.{IsSpanWithin, IsBoxWithin}
 use Rattle.cj_bezier.specs.Hulls.{axes_of, ends_of}
-use Rattle.cj_bezier.specs.SlotBoxes.{Reach, round_reaches, round_two}
+use Rattle.cj_case.specs.Boxes.{Reach}
+use Rattle.cj_bezier.specs.SlotBoxes.{round_reaches, round_two}
 use Rattle.cj_bezier.proofs.BoxLemmas.{read_end}
 use Rattle.cj_grid.specs.JoinedBoxes.{reaches_of_spans, reach_of_hull, reaches_of_hull}
 

@@ -17,10 +17,11 @@ use Rattle.std.proofs.lemmas.List.FromFn.{get_or-range_with_len, length-range_wi
 use Rattle.std.proofs.lemmas.List.Sums.{sum_by_more}
 use Rattle.std.proofs.Math.Nat.{mul-le-mul_left, mul-le-mul_right}
 use Rattle.cj_interval.proofs.ListLemmas.{Exists-range, Each-range, Each-filter, member_passes, All-from_each, Contains-from_exists}
-use Rattle.cj_hermite.specs.Pairs.{AreBoth}
-use Rattle.cj_hermite.specs.PlainProblems.{threshold_between}
-use Rattle.cj_bezier.specs.declared.axis_box.AxisBox.{AxisBox}
-use Rattle.cj_bezier.specs.SlotBoxes.{PlainBox, plain_box, both_touch, reaches_touch}
+use Rattle.cj_case.specs.Pairs.{AreBoth}
+use Rattle.cj_case.specs.PlainProblems.{threshold_between}
+use Rattle.cj_case.specs.declared.axis_box.AxisBox.{AxisBox}
+use Rattle.cj_case.specs.Boxes.{PlainBox, plain_box}
+use Rattle.cj_bezier.specs.SlotBoxes.{both_touch, reaches_touch}
 use Rattle.cj_grid.specs.declared.axis.Axis.{Axis}
 use Rattle.cj_grid.specs.declared.axis.Axis.TheVariants as axes
 use Rattle.cj_grid.specs.declared.reach.Reach.{Reach}

@@ -7,7 +7,8 @@ use Rattle.cj_hermite.specs.Walks.{HasNone}
 use Rattle.cj_bezier.specs.Hulls.{PlainHull}
 use Rattle.cj_bezier.specs.Parts.{hulls_of, AreInTime}
 use Rattle.cj_bezier.specs.Sizes.{HULL_REACH}
-use Rattle.cj_bezier.specs.SlotBoxes.{PlainBox, box_of, reaches_round, round_two}
+use Rattle.cj_case.specs.Boxes.{PlainBox}
+use Rattle.cj_bezier.specs.SlotBoxes.{box_of, reaches_round, round_two}
 use Rattle.cj_bezier.proofs.HullListLemmas.{no_hulls}
 use Rattle.cj_bezier.proofs.NextPartLemmas.{none_in_time, join_time}
 use Rattle.cj_grid.specs.JoinedBoxes.{reaches_of_spans, reaches_of_hull, reaches_with}

@@ -1,11 +1,12 @@
 -- The objects among which pairs are looked for in a slot: what is defined by threshold, sizes and boxes, of all three together.
 use Rattle.std.specs.Prelude.{◌≡◌, ℕ, ◌<◌, Bool, true, List, Option}
-use Rattle.cj_hermite.specs.declared.pair.Pair.{Pair}
-use Rattle.cj_bezier.specs.SlotBoxes.{plain_boxes, touch_between}
+use Rattle.cj_case.specs.declared.pair.Pair.{Pair}
+use Rattle.cj_case.specs.Boxes.{plain_boxes}
+use Rattle.cj_bezier.specs.SlotBoxes.{touch_between}
 use Rattle.cj_grid.specs.declared.entries.Entry.{Entry}
 use Rattle.cj_grid.specs.declared.slot_objects.SlotObjects.{SlotObjects}
 use Rattle.cj_grid.specs.Buckets.{PlainBlock, block_in, entries_of, wide_of, step_bound}
-use Rattle.cj_hermite.specs.Pairs.{HasPair}
+use Rattle.cj_case.specs.Pairs.{HasPair}
 use Rattle.cj_grid.specs.Found.{AreTouching, entry_at}
 
 -- the boxes of two of them touch, by the threshold between them

@@ -2,9 +2,9 @@
 -- axis, and not its greatest.
 use Rattle.std.specs.Prelude.{ℕ, ◌+◌, ◌-◌, ◌*◌, ◌/◌, Bool, false, ◌||◌, if◌then◌else◌, ℤ, pos, negsuc, ◌+ℤ◌, ◌-ℤ◌, nat_eq, nat_lt, List, [], map, filter, length, Option, None, Some, option_map, is_some, count_by, slice_index, slice_index_or}
 use Rattle.std.specs.List.{flat_map, range_with_len, sum_by}
-use Rattle.cj_bezier.specs.declared.axis_box.AxisBox.{AxisBox}
+use Rattle.cj_case.specs.declared.axis_box.AxisBox.{AxisBox}
 use Rattle.cj_bezier.specs.Squares.{from_zero}
-use Rattle.cj_bezier.specs.SlotBoxes.{Reach, plain_box}
+use Rattle.cj_case.specs.Boxes.{Reach, plain_box}
 use Rattle.cj_grid.specs.declared.entries.Entry.{Entry}
 use Rattle.cj_grid.specs.declared.bucket_ranges.BucketRange.{BucketRange}
 use Rattle.cj_grid.specs.declared.bucket_ranges.BucketSpan.{BucketSpan}

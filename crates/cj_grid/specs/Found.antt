@@ -1,9 +1,10 @@
 -- Pairs that are found bucket by bucket.
 use Rattle.std.specs.Prelude.{◌≡◌, ℕ, ◌<◌, ◌≤◌, Bool, true, false, ◌&&◌, if◌then◌else◌, nat_eq, List, [], ◌∷◌, length, Option, None, Some, All, slice_index_or}
-use Rattle.cj_hermite.specs.declared.pair.Pair.{Pair}
-use Rattle.cj_hermite.specs.Pairs.{objects_of}
-use Rattle.cj_bezier.specs.declared.axis_box.AxisBox.{AxisBox}
-use Rattle.cj_bezier.specs.SlotBoxes.{plain_boxes, touch_between}
+use Rattle.cj_case.specs.declared.pair.Pair.{Pair}
+use Rattle.cj_case.specs.Pairs.{objects_of}
+use Rattle.cj_case.specs.declared.axis_box.AxisBox.{AxisBox}
+use Rattle.cj_case.specs.Boxes.{plain_boxes}
+use Rattle.cj_bezier.specs.SlotBoxes.{touch_between}
 use Rattle.cj_grid.specs.declared.entries.Entry.{Entry}
 
 -- the boxes of each pair touch

@@ -4,7 +4,8 @@ use Rattle.std.specs.Int.{int_min, int_max}
 use Rattle.std.specs.List.{fold}
 use Rattle.cj_hermite.specs.declared.box3.Box3.{Box3}
 use Rattle.cj_bezier.specs.Hulls.{PlainHull, Ends}
-use Rattle.cj_bezier.specs.SlotBoxes.{Reach, PlainBox, least_four, greatest_four}
+use Rattle.cj_case.specs.Boxes.{Reach, PlainBox}
+use Rattle.cj_bezier.specs.SlotBoxes.{least_four, greatest_four}
 
 -- how far a box of spans reaches
 abbrev pub reaches_of_spans : Box3 → PlainBox

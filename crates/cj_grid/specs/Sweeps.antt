@@ -1,10 +1,10 @@
 -- A sweep along an axis, by which the pairs are found of which one has a wide box.
 use Rattle.std.specs.Prelude.{◌≡◌, ◌⊎◌, ℕ, ◌+◌, ◌<◌, ◌≤◌, Bool, true, false, not, pos, ◌+ℤ◌, ◌-ℤ◌, ◌≤ℤ◌, List, All, filter, length, Option, Some, None, is_some, count_by, slice_index, slice_index_or}
 use Rattle.std.specs.List.{AllPairs, Contains, range_with_len}
-use Rattle.cj_hermite.specs.Pairs.{AreBoth}
-use Rattle.cj_bezier.specs.declared.axis_box.AxisBox.{AxisBox}
-use Rattle.cj_bezier.specs.SlotBoxes.{PlainBox, plain_box}
-use Rattle.cj_bezier.specs.SlotBoxes as boxes
+use Rattle.cj_case.specs.Pairs.{AreBoth}
+use Rattle.cj_case.specs.declared.axis_box.AxisBox.{AxisBox}
+use Rattle.cj_case.specs.Boxes.{PlainBox, plain_box}
+use Rattle.cj_case.specs.Boxes as boxes
 use Rattle.cj_grid.specs.declared.axis.Axis.{Axis}
 use Rattle.cj_grid.specs.declared.axis.Axis.TheVariants as axes
 use Rattle.cj_grid.specs.declared.reach.Reach.{Reach}

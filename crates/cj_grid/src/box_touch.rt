@@ -2,10 +2,12 @@
 ghost use Rattle.std.specs.Prelude.{◌≡◌, ℕ, ◌+◌, ◌^◌, ◌<◌, ◌≤◌, IsFalse};
 ghost use Rattle.cj_hermite.specs.Interpolant.{Curve};
 ghost use Rattle.cj_hermite.specs.Distance.{IsFar};
-ghost use Rattle.cj_bezier.specs.SlotBoxes.{IsPlaceIn, are_touching, plain_box};
+ghost use Rattle.cj_bezier.specs.SlotBoxes.{IsPlaceIn, are_touching};
+ghost use Rattle.cj_case.specs.Boxes.{plain_box};
 
 use crate::steps::Steps;
-use cj_bezier::{AxisBox, box_touches};
+use cj_bezier::box_touches;
+use cj_case::AxisBox;
 use std::sync::ledger::Ledger;
 
 /// Whether two boxes are apart by at most a threshold in nm on each axis. It is one step.

@@ -1,6 +1,6 @@
 //! The pairs of objects that share a bucket.
 ghost use Rattle.std.specs.Prelude.{◌≡◌, ℕ, ◌+◌, ◌<◌, ◌≤◌, true, ◌&&◌, nat_eq, nat_lt, option_map, length, All, Some, IfSome, OnOk};
-ghost use Rattle.cj_hermite.specs.Pairs.{AreBoth, ArePairsKept, HasPair, objects_of};
+ghost use Rattle.cj_case.specs.Pairs.{AreBoth, ArePairsKept, HasPair, objects_of};
 ghost use Rattle.cj_grid.specs.Buckets.{entered_in, bucket_squares};
 ghost use Rattle.cj_grid.specs.Among.{touch_among, StillTouchAmong, AreFound, AreFoundAt};
 ghost use Rattle.cj_grid.specs.Found.{ShareBucket, AreInOrder, entry_at};
@@ -9,7 +9,7 @@ use crate::box_touch::touches;
 use crate::entries::Entry;
 use crate::slot_objects::SlotObjects;
 use crate::steps::Steps;
-use cj_hermite::{Pair, threshold_between};
+use cj_case::{Pair, threshold_between};
 use std::alloc::AllocError;
 use std::sync::ledger::Ledger;
 

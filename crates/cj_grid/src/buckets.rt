@@ -1,13 +1,13 @@
 //! The buckets that a box meets: cubes with a side of 2,000 km, whose corners are multiples of the side.
 ghost use Rattle.std.specs.Prelude.{◌≡◌, ◌+◌, ◌*◌, ◌^◌, ◌<◌, ◌≤◌, ℤ, pos, negsuc, ◌+ℤ◌, ◌-ℤ◌, ◌≤ℤ◌, length, option_map};
-ghost use Rattle.cj_hermite.specs.Limits.{MAX_SIZE};
-ghost use Rattle.cj_bezier.specs.SlotBoxes.{Reach};
+ghost use Rattle.cj_case.specs.CaseLimits.{MAX_SIZE};
+ghost use Rattle.cj_case.specs.Boxes.{Reach};
 ghost use Rattle.cj_grid.specs.Among.{block_among};
 ghost use Rattle.cj_grid.specs.Buckets.{bucket_on, numbers_of, numbers_in, plain_block, block_of, is_long, is_wide};
 
-use crate::bucket_ranges::{BucketSpan, BucketRange};
+use crate::bucket_ranges::{BucketRange, BucketSpan};
 use crate::slot_objects::SlotObjects;
-use cj_bezier::AxisBox;
+use cj_case::AxisBox;
 
 /// The side of a bucket is so many units of 2^16 nm, so that one division of 64 bits finds it.
 const UNITS_IN_SIDE: u64 = 30_517_578_125;

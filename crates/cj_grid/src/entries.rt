@@ -4,7 +4,7 @@ ghost use Rattle.cj_grid.specs.Among.{entries_among, wide_among};
 ghost use Rattle.cj_grid.specs.Sweeps.{is_narrow_one, narrow_among};
 ghost use Rattle.cj_grid.specs.Buckets.{bucket_number, numbers_in, plain_block, in_column, in_layer, in_block, entered_by, is_wide_one};
 
-use crate::bucket_ranges::{BucketSpan, BucketRange};
+use crate::bucket_ranges::{BucketRange, BucketSpan};
 use crate::buckets::{block_of_object, is_wide_block};
 use crate::slot_objects::SlotObjects;
 use std::alloc::{AllocError, Global};

@@ -18,7 +18,7 @@ mod touching_pairs;
 mod track_box;
 
 pub use box_touch::touches;
-pub use cj_bezier::AxisBox;
+pub use cj_case::AxisBox;
 pub use steps::Steps;
 pub use touching_pairs::{find_touching, touching};
 pub use track_box::slot_box;

@@ -1,14 +1,14 @@
 //! How far the objects of a slot reach along an axis, and along which axis the fewest meet those with wide boxes.
 ghost use Rattle.std.specs.Prelude.{◌≡◌, ℕ, ◌+◌, ◌^◌, ◌<◌, ◌≤◌, pos, ◌+ℤ◌, ◌-ℤ◌, ◌≤ℤ◌, length, All, IfOk, OnOk, slice_index};
 ghost use Rattle.std.specs.List.{Contains};
-ghost use Rattle.cj_bezier.specs.SlotBoxes.{plain_box};
+ghost use Rattle.cj_case.specs.Boxes.{plain_box};
 ghost use Rattle.cj_grid.specs.Among.{wide_among};
 ghost use Rattle.cj_grid.specs.Sweeps.{AreLaidOut, Exist, HasReach, IsInOrder, IsNoLonger, narrow_among, reach_of, side};
 
 use crate::axis::Axis;
 use crate::reach::Reach;
 use crate::slot_objects::SlotObjects;
-use cj_bezier::AxisBox;
+use cj_case::AxisBox;
 use std::alloc::{AllocError, Global};
 
 /// The reaches of the objects with wide boxes along an axis, and those of the other objects with boxes, each in order of where they begin.

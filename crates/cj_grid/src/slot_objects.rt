@@ -1,8 +1,8 @@
 ghost use Rattle.std.specs.Prelude.{◌≡◌, ◌^◌, ◌≤◌, length, All};
-ghost use Rattle.cj_values.specs.Bounds.{MOST_OBJECTS};
-ghost use Rattle.cj_hermite.specs.Limits.{MAX_SIZE};
+ghost use Rattle.cj_base.specs.Bounds.{MOST_OBJECTS};
+ghost use Rattle.cj_case.specs.CaseLimits.{MAX_SIZE};
 
-use cj_bezier::AxisBox;
+use cj_case::AxisBox;
 
 /// The objects among which pairs are looked for in a slot.
 #[derive(Clone, Copy)]

@@ -1,7 +1,7 @@
 //! The pairs of objects of which one has a wide box, found by a sweep along an axis.
 ghost use Rattle.std.specs.Prelude.{◌≡◌, ◌⊎◌, ℕ, ◌+◌, ◌*◌, ◌<◌, ◌≤◌, is_some, length, count_by, OnOk};
 ghost use Rattle.std.specs.List.{Contains};
-ghost use Rattle.cj_hermite.specs.Pairs.{AreBoth, ArePairsKept};
+ghost use Rattle.cj_case.specs.Pairs.{AreBoth, ArePairsKept};
 ghost use Rattle.cj_grid.specs.Among.{wide_among, StillTouchAmong, AreFound};
 ghost use Rattle.cj_grid.specs.Sweeps.{AreLaidOut, AreMet, Exist, IsInOrder, IsMetBy};
 
@@ -11,7 +11,7 @@ use crate::reach::Reach;
 use crate::reaches::{Reaches, begun_about, begun_within, lay_out};
 use crate::slot_objects::SlotObjects;
 use crate::steps::Steps;
-use cj_hermite::Pair;
+use cj_case::Pair;
 use std::alloc::{AllocError, Global};
 use std::sync::ledger::Ledger;
 

@@ -1,10 +1,11 @@
 //! The pairs of objects whose boxes touch.
 ghost use Rattle.std.specs.Prelude.{◌≡◌, ℕ, ◌+◌, ◌^◌, ◌<◌, ◌≤◌, map, filter, length, option_map, All, true, None, IfOk};
 ghost use Rattle.std.specs.List.Sorted.{IsPermutation};
-ghost use Rattle.cj_values.specs.Bounds.{MOST_OBJECTS};
-ghost use Rattle.cj_hermite.specs.Limits.{MAX_SIZE};
-ghost use Rattle.cj_hermite.specs.Pairs.{HasPair, objects_of, pairs_of};
-ghost use Rattle.cj_bezier.specs.SlotBoxes.{plain_boxes, touch_between};
+ghost use Rattle.cj_base.specs.Bounds.{MOST_OBJECTS};
+ghost use Rattle.cj_case.specs.CaseLimits.{MAX_SIZE};
+ghost use Rattle.cj_case.specs.Pairs.{HasPair, objects_of, pairs_of};
+ghost use Rattle.cj_case.specs.Boxes.{plain_boxes};
+ghost use Rattle.cj_bezier.specs.SlotBoxes.{touch_between};
 ghost use Rattle.cj_grid.specs.Among.{touch_among, entries_among, bound_among, TouchAmong};
 ghost use Rattle.cj_grid.specs.Buckets.{step_bound};
 ghost use Rattle.cj_grid.specs.Found.{AreInOrder, is_again, unrepeated};
@@ -14,8 +15,7 @@ use crate::entries::{Entry, enter_objects, wide_objects};
 use crate::slot_objects::SlotObjects;
 use crate::steps::Steps;
 use crate::sweep::append_wide;
-use cj_bezier::AxisBox;
-use cj_hermite::Pair;
+use cj_case::{AxisBox, Pair};
 use std::alloc::{AllocError, Global};
 use std::marker::Brand;
 use std::sync::ledger::{Blank, Ledger};

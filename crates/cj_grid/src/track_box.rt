@@ -4,18 +4,19 @@ ghost use Rattle.cj_track.specs.Tracks.{plain_track};
 ghost use Rattle.cj_interval.specs.Sizes.{IsWithin};
 ghost use Rattle.cj_hermite.specs.Boxes.{IsBoxWithin};
 ghost use Rattle.cj_hermite.specs.Pieces.{piece_holding, curve_of_piece};
-ghost use Rattle.cj_hermite.specs.Slots.{slot_first, slot_last};
+ghost use Rattle.cj_case.specs.Slots.{slot_first, slot_last};
 ghost use Rattle.cj_hermite.specs.Walks.{HasNone};
 ghost use Rattle.cj_bezier.specs.Parts.{AreInTime};
 ghost use Rattle.cj_bezier.specs.Sizes.{HULL_REACH};
-ghost use Rattle.cj_bezier.specs.SlotBoxes.{IsBoxOf, IsPlaceIn, box_of, plain_box};
+ghost use Rattle.cj_bezier.specs.SlotBoxes.{IsBoxOf, IsPlaceIn, box_of};
+ghost use Rattle.cj_case.specs.Boxes.{plain_box};
 ghost use Rattle.cj_walk.specs.TrackWalks.{IsWalk};
 ghost use Rattle.cj_grid.specs.JoinedBoxes.{reaches_of_spans};
 
 use crate::joined_boxes::{box_of_hull, join_boxes};
-use cj_bezier::AxisBox;
-use cj_hermite::{Box3, slot_window};
-use cj_ticks::{Tick, Window};
+use cj_base::{Tick, Window};
+use cj_case::{AxisBox, slot_window};
+use cj_hermite::Box3;
 use cj_track::Vec3;
 use cj_walk::TrackWalk;
 

@@ -7,8 +7,8 @@ use Rattle.std.proofs.lemmas.Bool.Decides.{nat_tests}
 use Rattle.std.proofs.lemmas.List.{length-map, map_push}
 use Rattle.std.proofs.lemmas.List.Sums.{sum_by-cons, sum_by-le}
 use Rattle.cj_interval.proofs.RangeLemmas.{range_more}
-use Rattle.cj_bezier.specs.declared.axis_box.AxisBox.{AxisBox}
-use Rattle.cj_bezier.specs.SlotBoxes.{PlainBox, plain_box, plain_boxes}
+use Rattle.cj_case.specs.declared.axis_box.AxisBox.{AxisBox}
+use Rattle.cj_case.specs.Boxes.{PlainBox, plain_box, plain_boxes}
 use Rattle.cj_grid.specs.declared.entries.Entry.{Entry}
 use Rattle.cj_grid.specs.Buckets.{PlainBlock, numbers_of, block_of, block_in, entered_by, is_wide_one, entries_of, wide_of, entered_in, bucket_squares, step_bound}
 use Rattle.cj_grid_tests.specs.Rows.{box_in_row, boxes_in_row}

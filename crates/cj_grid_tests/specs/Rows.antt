@@ -1,7 +1,7 @@
 -- Boxes in a row: so many boxes of one point each, 10,000 km apart along x.
 use Rattle.std.specs.Prelude.{ℕ, ◌*◌, pos, List, map, Option, Some}
 use Rattle.std.specs.List.{range_with_len}
-use Rattle.cj_bezier.specs.SlotBoxes.{Reach, PlainBox}
+use Rattle.cj_case.specs.Boxes.{Reach, PlainBox}
 
 -- a reach of one coordinate
 abbrev pub reach_at : ℕ → Reach

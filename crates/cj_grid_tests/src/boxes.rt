@@ -1,12 +1,12 @@
 ghost use Rattle.std.specs.Prelude.{◌≡◌, ◌+◌, ◌<◌, ◌≤◌, ◌≤ℤ◌, ◌*◌, ◌^◌, ◌-ℤ◌, pos, length, replicate, IfOk};
-ghost use Rattle.cj_values.specs.Bounds.{MOST_OBJECTS};
-ghost use Rattle.cj_bezier.specs.SlotBoxes.{plain_box, plain_boxes};
+ghost use Rattle.cj_base.specs.Bounds.{MOST_OBJECTS};
+ghost use Rattle.cj_case.specs.Boxes.{plain_box, plain_boxes};
 ghost use Rattle.cj_grid_tests.specs.Rows.{box_in_row, boxes_in_row};
 
+use cj_base::Window;
+use cj_case::Pair;
 use cj_grid::{AxisBox, Steps, find_touching, slot_box, touches, touching};
-use cj_hermite::Pair;
 use cj_samples::{REST, moving, rest, track_of, track_of_two, window};
-use cj_ticks::Window;
 use cj_track::{Track, Vec3};
 use cj_walk::TrackWalk;
 use std::alloc::{AllocError, Global};

@@ -2,9 +2,11 @@
 use Rattle.std.proofs.Common.{◌≡◌, ℕ, ◌≤◌, true, Option, Some, None, refl, sym, ap, ◌∙◌, arith}
 use Rattle.std.specs.Prelude.{is_some}
 use Rattle.cj_hermite.specs.Interpolant.{Curve}
-use Rattle.cj_hermite.specs.PlainProblems.{PlainProblem, number_at, curve_at, HaveCurves}
+use Rattle.cj_case.specs.PlainProblems.{PlainProblem}
+use Rattle.cj_hermite.specs.ObjectsAtTicks.{number_at, curve_at, HaveCurves}
 use Rattle.cj_hermite.specs.CommonRuns.{both}
-use Rattle.cj_hermite.specs.Roots.{PlainCell, KeepPieces}
+use Rattle.cj_case.specs.Cells.{PlainCell}
+use Rattle.cj_hermite.specs.Roots.{KeepPieces}
 use Rattle.cj_hermite.proofs.RootLemmas.{IsRootOf}
 use Rattle.cj_hermite.proofs.ObjectLemmas.{same_curve, curve_exists}
 

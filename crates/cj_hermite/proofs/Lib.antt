@@ -8,8 +8,6 @@ pub mod LengthLemmas
 pub mod LevelLemmas
 pub mod NextRunLemmas
 pub mod ObjectLemmas
-pub mod PairLemmas
-pub mod PairOrderLemmas
 pub mod PieceLemmas
 pub mod PlaceLemmas
 pub mod RateLemmas
@@ -19,7 +17,6 @@ pub mod RootLemmas
 pub mod RootSumLemmas
 pub mod RunLemmas
 pub mod SearchLemmas
-pub mod SlotLemmas
 pub mod SlotRootLemmas
 pub mod SpanLemmas
 pub mod StateLemmas

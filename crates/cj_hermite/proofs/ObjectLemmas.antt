@@ -5,7 +5,8 @@ use Rattle.cj_track.specs.PlainTracks.{PlainTrack}
 use Rattle.cj_hermite.specs.Interpolant.{Curve}
 use Rattle.cj_hermite.specs.Pieces.{PlainPiece, pieces_of, piece_holding, piece_at, curve_of_piece, OfBothAt}
 use Rattle.cj_hermite.proofs.StateLemmas.{IsState, HasState, has, lacks, state}
-use Rattle.cj_hermite.specs.PlainProblems.{PlainProblem, number_at, curve_at, OfObjectsAt}
+use Rattle.cj_case.specs.PlainProblems.{PlainProblem}
+use Rattle.cj_hermite.specs.ObjectsAtTicks.{number_at, curve_at, OfObjectsAt}
 
 -- ---- an object at a tick
 

@@ -2,15 +2,16 @@
 use Rattle.std.proofs.Common.{◌≡◌, ℕ, ◌+◌, ◌-◌, ◌<◌, ◌≤◌, Bool, true, cond, List, [], ◌∷◌, map, length, Option, refl, sym, subst, arith}
 use Rattle.std.specs.Prelude.{is_some}
 use Rattle.std.specs.List.{flat_map, range_with_len}
-use Rattle.cj_hermite.specs.PlainProblems.{PlainProblem}
-use Rattle.cj_hermite.specs.Pairs.{pairs_of}
-use Rattle.cj_hermite.specs.Slots.{slot_first, slot_last, slot_count, slot_of}
+use Rattle.cj_case.specs.PlainProblems.{PlainProblem}
+use Rattle.cj_case.specs.Pairs.{pairs_of}
+use Rattle.cj_case.specs.Slots.{slot_first, slot_last, slot_count, slot_of}
 use Rattle.cj_hermite.specs.CommonRuns.{Run, runs_over, runs_between}
-use Rattle.cj_hermite.specs.Roots.{PlainCell, numbers_at, root_of_run, roots_between, roots_in, slots_of, roots_of, IsRootBefore}
+use Rattle.cj_case.specs.Cells.{PlainCell, IsRootBefore}
+use Rattle.cj_hermite.specs.Roots.{numbers_at, root_of_run, roots_between, roots_in, slots_of, roots_of}
 use Rattle.cj_interval.proofs.ListLemmas.{Each, Exists, Ordered, Each-weaker, Each-map, Each-flat_map, Each-range, Each-taken, Exists-weaker, Exists-map, Exists-flat_map, Exists-range, Exists-taken, Ordered-flat_map, Ordered-range, Ordered-taken}
 use Rattle.cj_hermite.proofs.CommonRunLemmas.{IsRun, AreRuns, Has, runs_are, runs_have}
-use Rattle.cj_hermite.proofs.PairLemmas.{IsPair, PairBefore, Each-pairs, Ordered-pairs, Exists-pairs}
-use Rattle.cj_hermite.proofs.SlotLemmas.{slot_exists, slot_begins, slot_ends, slots_follow, slot_within}
+use Rattle.cj_case.proofs.PairLemmas.{IsPair, PairBefore, Each-pairs, Ordered-pairs, Exists-pairs}
+use Rattle.cj_case.proofs.SlotLemmas.{slot_exists, slot_begins, slot_ends, slots_follow, slot_within}
 
 -- ---- runs in order
 

@@ -3,9 +3,10 @@ use Rattle.std.proofs.Common.{◌≡◌, ℕ, ◌≤◌, Bool, true, cond, eqb, 
 use Rattle.std.specs.Prelude.{filter}
 use Rattle.std.specs.List.{flat_map}
 use Rattle.std.proofs.lemmas.Bool.{eqb-true, eq-eqb, and_parts, and_from}
-use Rattle.cj_hermite.specs.PlainProblems.{PlainProblem}
-use Rattle.cj_hermite.specs.Pairs.{pairs_of}
-use Rattle.cj_hermite.specs.Roots.{PlainCell, IsRootBefore, IsRootUpTo, roots_in, slots_of, roots_of, roots_by_slot}
+use Rattle.cj_case.specs.PlainProblems.{PlainProblem}
+use Rattle.cj_case.specs.Pairs.{pairs_of}
+use Rattle.cj_case.specs.Cells.{PlainCell, IsRootBefore, IsRootUpTo}
+use Rattle.cj_hermite.specs.Roots.{roots_in, slots_of, roots_of, roots_by_slot}
 use Rattle.cj_interval.proofs.ListLemmas.{Each, Ordered}
 use Rattle.cj_interval.proofs.SumLemmas.{total, total_same, total-swap, total-flat_map, total-filter, total-taken, same_list}
 

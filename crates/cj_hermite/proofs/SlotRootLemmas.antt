@@ -5,14 +5,15 @@ use Rattle.std.proofs.lemmas.List.{take_more, map_push, map-append, take-append-
 use Rattle.std.proofs.lemmas.List.Concat.{flat_map-append}
 use Rattle.cj_track.specs.declared.track.Track.{Track}
 use Rattle.cj_track.specs.Tracks.{plain_track}
-use Rattle.cj_hermite.specs.declared.problem.Problem.{Problem}
-use Rattle.cj_hermite.specs.declared.pair.Pair.{Pair}
-use Rattle.cj_hermite.specs.PlainProblems.{PlainProblem}
-use Rattle.cj_hermite.specs.Problems.{plain_problem}
-use Rattle.cj_hermite.specs.Slots.{slot_first, slot_last}
+use Rattle.cj_case.specs.declared.problem.Problem.{Problem}
+use Rattle.cj_case.specs.declared.pair.Pair.{Pair}
+use Rattle.cj_case.specs.PlainProblems.{PlainProblem}
+use Rattle.cj_case.specs.Problems.{plain_problem}
+use Rattle.cj_case.specs.Slots.{slot_first, slot_last}
 use Rattle.cj_hermite.specs.CommonRuns.{runs_over, runs_between, both, both_numbers}
-use Rattle.cj_hermite.specs.Pairs.{objects_of}
-use Rattle.cj_hermite.specs.Roots.{PlainCell, KeepPieces, numbers_at, root_of_run, roots_between, roots_in, roots_in_slot}
+use Rattle.cj_case.specs.Pairs.{objects_of}
+use Rattle.cj_case.specs.Cells.{PlainCell}
+use Rattle.cj_hermite.specs.Roots.{KeepPieces, numbers_at, root_of_run, roots_between, roots_in, roots_in_slot}
 use Rattle.cj_interval.proofs.ListLemmas.{Each, Each-weaker, Each-always, Each-flat_map}
 use Rattle.cj_hermite.proofs.RootLemmas.{IsRoot, Each-between}
 use Rattle.cj_hermite.proofs.TrackLemmas.{number_of_track}

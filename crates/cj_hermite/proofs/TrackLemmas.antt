@@ -6,12 +6,13 @@ use Rattle.std.specs.Prelude.{is_some, slice_get, option_map, option_and_then, I
 use Rattle.cj_track.specs.declared.track.Track.{Track}
 use Rattle.cj_track.specs.PlainTracks.{PlainTrack}
 use Rattle.cj_track.specs.Tracks.{plain_track}
-use Rattle.cj_hermite.specs.declared.problem.Problem.{Problem}
+use Rattle.cj_case.specs.declared.problem.Problem.{Problem}
 use Rattle.cj_hermite.specs.declared.pieces.Piece.{Piece}
 use Rattle.cj_hermite.specs.Interpolant.{Curve, curve_of, IsOver}
 use Rattle.cj_hermite.specs.Pieces.{PlainPiece, piece_holding, piece_at, curve_of_piece}
-use Rattle.cj_hermite.specs.PlainProblems.{PlainProblem, number_at, curve_at}
-use Rattle.cj_hermite.specs.Problems.{plain_problem}
+use Rattle.cj_case.specs.PlainProblems.{PlainProblem}
+use Rattle.cj_hermite.specs.ObjectsAtTicks.{number_at, curve_at}
+use Rattle.cj_case.specs.Problems.{plain_problem}
 use Rattle.cj_hermite.specs.Roots.{KeepPieces}
 use Rattle.cj_hermite.proofs.CurveLemmas.{Curves, curves, curves_of, numbers_of}
 use Rattle.cj_hermite.proofs.ObjectLemmas.{within_at}

@@ -2,7 +2,8 @@
 use Rattle.std.specs.Prelude.{ℕ, ◌<◌, All, IfSome}
 use Rattle.cj_track.specs.PlainTracks.{PlainTrack}
 use Rattle.cj_hermite.specs.Pieces.{PlainPiece, pieces_of}
-use Rattle.cj_hermite.specs.PlainProblems.{PlainProblem, curve_at}
+use Rattle.cj_case.specs.PlainProblems.{PlainProblem}
+use Rattle.cj_hermite.specs.ObjectsAtTicks.{curve_at}
 
 -- the second state comes after the first
 abbrev pub Rises : PlainPiece → Type 0

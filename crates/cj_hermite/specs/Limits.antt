@@ -1,5 +1,5 @@
--- Limits: how far two nodes are apart, how far and how fast their interpolant goes, and how large an object is.
-use Rattle.std.specs.Prelude.{ℕ, ◌^◌}
+-- Limits: how far two nodes are apart, and how far and how fast their interpolant goes.
+use Rattle.std.specs.Prelude.{ℕ}
 
 -- the greatest time between two nodes: an hour in microseconds
 abbrev pub MAX_SPAN : ℕ
@@ -16,7 +16,3 @@ CONTROL_REACH = 1_572_000_000_000_000_000_000_000
 -- the greatest rate of a piece in nm/s, where its nodes are one microsecond apart
 abbrev pub RATE_REACH : ℕ
 RATE_REACH = 3_144_000_000_000_000_000_000_000
-
--- the greatest size of an object: a radius of a kilometre in nm
-abbrev pub MAX_SIZE : ℕ
-MAX_SIZE = 10 ^ 12

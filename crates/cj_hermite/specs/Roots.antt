@@ -1,29 +1,12 @@
 -- Roots: for each pair of objects, the runs of ticks of a slot at which each of both is in one piece.
-use Rattle.std.specs.Prelude.{ℕ, ◌≡◌, ◌<◌, ◌≤◌, Bool, true, is_some, if◌then◌else◌, List, [], map, filter, length, Option}
+use Rattle.std.specs.Prelude.{ℕ, ◌≡◌, ◌≤◌, Bool, true, is_some, if◌then◌else◌, List, [], map, filter, length, Option}
 use Rattle.std.specs.List.{flat_map, range_with_len}
-use Rattle.cj_hermite.specs.Pairs.{pairs_of}
-use Rattle.cj_hermite.specs.PlainProblems.{PlainProblem, number_at}
-use Rattle.cj_hermite.specs.Slots.{slot_first, slot_last, slot_count}
+use Rattle.cj_case.specs.Pairs.{pairs_of}
+use Rattle.cj_case.specs.PlainProblems.{PlainProblem}
+use Rattle.cj_hermite.specs.ObjectsAtTicks.{number_at}
+use Rattle.cj_case.specs.Slots.{slot_first, slot_last, slot_count}
 use Rattle.cj_hermite.specs.CommonRuns.{Run, runs_between, both}
-
--- the ticks from first to last of the objects a and b, numbered from 0
-pub record PlainCell : Type 0 where
-  pub a : ℕ
-  pub b : ℕ
-  pub first : ℕ
-  pub last : ℕ
-
--- r lies before s: in an earlier pair, or in the same pair at earlier ticks
-pub record IsRootBefore (r s : PlainCell) : Type 0 where
-  pub first_object : r.a ≤ s.a
-  pub second_object : r.a ≡ s.a → r.b ≤ s.b
-  pub ticks : r.a ≡ s.a → r.b ≡ s.b → r.last < s.first
-
--- r begins no later than s, in the order of pair and tick
-pub record IsRootUpTo (r s : PlainCell) : Type 0 where
-  pub first_object : r.a ≤ s.a
-  pub second_object : r.a ≡ s.a → r.b ≤ s.b
-  pub ticks : r.a ≡ s.a → r.b ≡ s.b → r.first ≤ s.first
+use Rattle.cj_case.specs.Cells.{PlainCell}
 
 -- the numbers of the pieces in which the objects a and b are at a tick, where both have a state
 abbrev pub numbers_at : PlainProblem → ℕ → ℕ → ℕ → Option (ℕ × ℕ)

@@ -1,6 +1,6 @@
 -- The ticks of a range at which a piece is the one to be used.
 use Rattle.std.specs.Prelude.{◌≡◌, ℕ, ◌≤◌, ◌↔◌, Some}
-use Rattle.cj_ticks.specs.declared.tick.Window.{Window}
+use Rattle.cj_base.specs.declared.tick.Window.{Window}
 use Rattle.cj_track.specs.PlainTracks.{PlainTrack}
 use Rattle.cj_hermite.specs.Pieces.{piece_at}
 

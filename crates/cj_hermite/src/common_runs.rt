@@ -8,7 +8,7 @@ ghost use Rattle.cj_hermite.specs.Pieces.{piece_holding, curve_of_piece};
 use crate::common_run::CommonRun;
 use crate::hints::PairHint;
 use crate::walking::run_from;
-use cj_ticks::{Tick, Window};
+use cj_base::{Tick, Window};
 use cj_track::Track;
 
 /// The first run of ticks at which each of two tracks is at one piece, of those from `from` to `last`.

@@ -8,7 +8,7 @@ ghost use Rattle.cj_hermite.specs.Searches.{IsPlace};
 
 use crate::finding::{by_number, find, found_segment, piece_of};
 use crate::found_pieces::FoundPiece;
-use cj_ticks::{Tick, Window};
+use cj_base::{Tick, Window};
 use cj_track::Track;
 
 /// The ticks of the range at which this is the piece: one run, or none.

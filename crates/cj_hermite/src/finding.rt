@@ -12,7 +12,7 @@ use crate::found_pieces::FoundPiece;
 use crate::hints::Hint;
 use crate::pieces::Piece;
 use crate::searches::{last_begun_from, last_reached_from, last_started};
-use cj_ticks::Tick;
+use cj_base::Tick;
 use cj_track::{Node, Segment, Track};
 
 /// The piece in which a track is at a tick, or none where it has no state. The hint and what follows it are looked at first.

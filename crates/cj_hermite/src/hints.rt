@@ -1,4 +1,4 @@
-use crate::pair::Pair;
+use cj_case::Pair;
 use std::alloc::{AllocError, Global};
 
 /// Where a track was looked at last: a segment, and a node of it. It says where to look first, and need not be right.

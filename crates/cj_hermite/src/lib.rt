@@ -1,4 +1,4 @@
-//! The problem of a run, the pieces of its tracks, and the interpolant of each: its control values, and its place and rate,
+//! The pieces of tracks, and the interpolant of each: its control values, and its place and rate,
 //! enclosed at a tick.
 #![tactic(auto)]
 
@@ -14,20 +14,14 @@ mod found_pieces;
 mod hints;
 mod level_spans;
 mod levels;
-mod pair;
 mod piece_lookup;
 mod pieces;
 mod places;
-mod problem;
 mod rates;
 mod ready_axis;
 mod readying;
 mod runs;
 mod searches;
-mod sizes;
-mod slots;
-mod thresholds;
-mod tracks;
 mod walking;
 
 pub use box3::Box3;
@@ -40,17 +34,11 @@ pub use finding::{piece, piece_at, segment_of};
 pub use hints::{Hint, Hints, PairHint};
 pub use level_spans::{Bounds, FirstLevel, SecondLevel};
 pub use levels::{first_level, polar, second_level, third_level};
-pub use pair::Pair;
 pub use piece_lookup::piece_of;
 pub use pieces::Piece;
 pub use places::point;
-pub use problem::Problem;
 pub use rates::rate;
 pub use ready_axis::{Ready, ReadyAxis, Speed};
 pub use readying::ready;
 pub use runs::PieceRun;
-pub use sizes::Sizes;
-pub use slots::{SLOT, slot_count, slot_window};
-pub use thresholds::threshold_between;
-pub use tracks::Tracks;
 pub use walking::{next_run, run_from};

@@ -3,14 +3,14 @@ ghost use Rattle.std.specs.Prelude.{◌≡◌, is_some, true, option_map};
 ghost use Rattle.cj_track.specs.Tracks.{plain_track};
 ghost use Rattle.cj_hermite.specs.Interpolant.{curve_of};
 ghost use Rattle.cj_hermite.specs.Pieces.{piece_holding, piece_at, curve_of_piece};
-ghost use Rattle.cj_hermite.specs.PlainProblems.{number_at, curve_at};
-ghost use Rattle.cj_hermite.specs.Problems.{plain_problem};
+ghost use Rattle.cj_hermite.specs.ObjectsAtTicks.{number_at, curve_at};
+ghost use Rattle.cj_case.specs.Problems.{plain_problem};
 
 use crate::finding::{find, found_piece};
 use crate::hints::Hint;
 use crate::pieces::Piece;
-use crate::problem::Problem;
-use cj_ticks::Tick;
+use cj_base::Tick;
+use cj_case::Problem;
 use cj_track::Track;
 
 /// The piece of a track at a tick at which it has a state.

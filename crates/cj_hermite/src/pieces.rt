@@ -2,7 +2,7 @@ ghost use Rattle.std.specs.Prelude.{◌+◌, ◌<◌, ◌≤◌};
 ghost use Rattle.cj_track.specs.Limits.{MAX_COORDINATE, MAX_RATE, IsWithin};
 ghost use Rattle.cj_hermite.specs.Limits.{MAX_SPAN};
 
-use cj_ticks::Tick;
+use cj_base::Tick;
 use cj_track::Vec3;
 
 /// Two neighbouring nodes of a segment: places in nm, rates in nm/s, at most an hour apart.

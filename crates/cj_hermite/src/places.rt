@@ -10,8 +10,8 @@ use crate::levels::polar;
 use crate::pieces::Piece;
 use crate::ready_axis::ReadyAxis;
 use crate::readying::ready;
+use cj_base::Tick;
 use cj_interval::{Divisor, Fraction, Span};
-use cj_ticks::Tick;
 
 /// The place of an axis, in nm.
 fn coordinate(axis: &ReadyAxis, at: &Fraction) -> Span

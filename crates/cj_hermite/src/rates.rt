@@ -11,8 +11,8 @@ ghost use Rattle.cj_hermite.specs.Limits.{MAX_SPAN, CONTROL_REACH, RATE_REACH};
 use crate::box3::Box3;
 use crate::controlling::controls;
 use crate::pieces::Piece;
+use cj_base::Tick;
 use cj_interval::Span;
-use cj_ticks::Tick;
 
 /// From one control value to the next.
 fn difference(first: i128, second: i128) -> i128

@@ -4,8 +4,8 @@ ghost use Rattle.cj_interval.specs.Sizes.{IsWithin};
 ghost use Rattle.cj_track.specs.Limits.{MAX_COORDINATE, MAX_RATE};
 ghost use Rattle.cj_hermite.specs.Limits.{MAX_SPAN};
 
+use cj_base::Tick;
 use cj_interval::Divisor;
-use cj_ticks::Tick;
 
 /// A rate, by what it covers in a third of a tick: whole nanometres, and parts of 3,000,000 of one.
 #[derive(Clone, Copy, Debug, PartialEq, Eq)]

@@ -1,5 +1,5 @@
 use crate::pieces::Piece;
-use cj_ticks::Window;
+use cj_base::Window;
 
 /// A run of ticks at which a track is at one piece, with the piece and its number.
 #[derive(Clone, Copy, Debug, PartialEq, Eq)]

@@ -7,7 +7,7 @@ ghost use Rattle.cj_track.specs.Segments.{AreInOrder};
 ghost use Rattle.cj_track.specs.Useable.{LiesWithin};
 ghost use Rattle.cj_hermite.specs.Searches.{IsLastBegun, AllLater, AreReached, HasBegun, IsFromNode, IsLastStarted, IsReached};
 
-use cj_ticks::Tick;
+use cj_base::Tick;
 use cj_track::{Node, Segment};
 
 /// The last segment that begins at the tick or before.

@@ -13,7 +13,7 @@ use crate::finding::{find, found_piece};
 use crate::found_pieces::FoundPiece;
 use crate::hints::Hint;
 use crate::runs::PieceRun;
-use cj_ticks::{Tick, Window};
+use cj_base::{Tick, Window};
 use cj_track::{Segment, Track};
 
 /// How many segments end before a tick.

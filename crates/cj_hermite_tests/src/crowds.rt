@@ -1,11 +1,11 @@
 //! As many objects as a case may have, whatever limits a run is given.
 ghost use Rattle.std.specs.Prelude.{◌≡◌, ◌*◌, ◌≤◌, All, IfOk, length};
-ghost use Rattle.cj_values.specs.Bounds.{MOST_OBJECTS};
-ghost use Rattle.cj_hermite.specs.CaseLimits.{node_total};
+ghost use Rattle.cj_base.specs.Bounds.{MOST_OBJECTS};
+ghost use Rattle.cj_case.specs.CaseLimits.{node_total};
 ghost use Rattle.cj_track.specs.declared.frame.Frame.TheVariants.{Eme2000};
 ghost use Rattle.cj_track.specs.Segments.{node_count};
 
-use cj_hermite::{Problem, Sizes, Tracks};
+use cj_case::{Problem, Sizes, Tracks};
 use cj_samples::{rest, seconds, track_of};
 use cj_track::{Track, Vec3};
 use std::alloc::{AllocError, Global};

@@ -1,9 +1,10 @@
 //! Places, rates and control values of a piece, and the slots of a window.
 ghost use Rattle.std.specs.Prelude.{◌≡◌, ◌≤◌};
 
-use cj_hermite::{Piece, controls, point, rate, slot_count};
+use cj_base::{Tick, Window};
+use cj_case::slot_count;
+use cj_hermite::{Piece, controls, point, rate};
 use cj_interval::Span;
-use cj_ticks::{Tick, Window};
 use cj_track::Vec3;
 
 fn exactly(value: i128) -> Span {

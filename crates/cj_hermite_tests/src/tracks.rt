@@ -3,11 +3,10 @@ ghost use Rattle.std.specs.Prelude.{◌≡◌, ◌+◌, ◌*◌, ◌<◌, ◌≤
 ghost use Rattle.cj_track.specs.Tracks.{plain_track};
 ghost use Rattle.cj_hermite.specs.Pieces.{pieces_of};
 
+use cj_base::{Text, Tick, Window};
 use cj_epoch::leap_between;
 use cj_hermite::{Hint, cut, piece, piece_at, run_from, segment_of};
-use cj_ticks::{Tick, Window};
 use cj_track::{Frame, Matrices, Node, Nodes, Segment, Segments, Track, Vec3};
-use cj_values::Text;
 use std::alloc::{AllocError, Global};
 use std::panic::Expect;
 use std::process::Abort;

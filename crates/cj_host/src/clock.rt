@@ -1,4 +1,4 @@
-use cj_ticks::Tick;
+use cj_base::Tick;
 use std::time::{SystemTime, UNIX_EPOCH};
 
 /// The clock's microsecond: the nearest tick, or the first one where the clock cannot be read.

@@ -2,7 +2,7 @@
 use crate::failure::{Failure, done_at};
 use crate::holding::is_at;
 use crate::streaming::{MakeError, write_while_made};
-use cj_stream::PartSource;
+use cj_io::PartSource;
 use std::alloc::Global;
 use std::fs::{File, OpenOptions};
 use std::io::Write;

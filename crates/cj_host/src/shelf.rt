@@ -7,8 +7,7 @@ use crate::new_directory::NewDirectory;
 use crate::standing::StandingDirectory;
 use crate::system_fault::SystemFault;
 use crate::target::{Host, Target};
-use cj_io::{PutError, Shelf};
-use cj_stream::{PartSource, StreamShelf};
+use cj_io::{PartSource, PutError, Shelf, StreamShelf};
 use std::alloc::{AllocError, Global};
 use std::thread::Threads;
 

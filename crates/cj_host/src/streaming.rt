@@ -3,7 +3,7 @@ ghost use Rattle.std.specs.Prelude.{◌<◌, length, IfOk};
 ghost use Rattle.std.specs.Thread.{IsSync};
 
 use crate::failure::Failure;
-use cj_stream::{PartSource, all_parts};
+use cj_io::{PartSource, all_parts};
 use std::alloc::{AllocError, AllocFailed, Global};
 use std::io;
 use std::io::Write;

@@ -3,7 +3,7 @@ use crate::new_directory::NewDirectory;
 use crate::new_file::{NewFile, write_slices};
 use crate::standing::{Part, StandingDirectory};
 use crate::streaming::write_all_made;
-use cj_stream::PartSource;
+use cj_io::PartSource;
 use std::alloc::Global;
 use std::io;
 use std::io::ErrorKind;

@@ -2,8 +2,7 @@ ghost use Rattle.std.specs.Prelude.{[], ◌∷◌, if◌then◌else◌};
 
 use crate::telling::is_told;
 use cj_host::{DirFolder, DirShelf};
-use cj_io::{Folder, FolderError, PutError, Shelf, read_whole};
-use cj_stream::{MemSource, PartSource, StreamShelf};
+use cj_io::{Folder, FolderError, MemSource, PartSource, PutError, Shelf, StreamShelf, read_whole};
 use std::alloc::{AllocError, Global};
 use std::fs;
 use std::panic::Expect;

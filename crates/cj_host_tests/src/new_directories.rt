@@ -1,8 +1,7 @@
 //! Directories that a run makes for its outputs.
 use crate::telling::{holds, is_free, is_told};
 use cj_host::DirShelf;
-use cj_io::{PutError, Shelf};
-use cj_stream::{MemSource, StreamShelf};
+use cj_io::{MemSource, PutError, Shelf, StreamShelf};
 use std::fs;
 use std::os::unix::fs::symlink;
 use std::panic::Expect;

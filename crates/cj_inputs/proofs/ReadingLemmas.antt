@@ -14,8 +14,8 @@ use Rattle.cj_oem.proofs.CountLemmas.{nodes_said}
 use Rattle.cj_track.specs.declared.frame.Frame.{Frame}
 use Rattle.cj_track.specs.declared.frame.Frame.TheVariants as frames
 use Rattle.cj_track.specs.declared.track.Track.{Track}
-use Rattle.cj_hermite.specs.CaseLimits.{node_total}
-use Rattle.cj_hermite.specs.Frames.{HaveOneFrame}
+use Rattle.cj_case.specs.CaseLimits.{node_total}
+use Rattle.cj_case.specs.Frames.{HaveOneFrame}
 use Rattle.cj_words.specs.Settings.{PlainSettings}
 use Rattle.cj_status.specs.declared.status.Status.{Status}
 use Rattle.cj_status.specs.declared.status.Status.TheVariants.{Limit}

@@ -7,7 +7,7 @@ use Rattle.cj_io.specs.declared.folder.FolderError.{FolderError}
 use Rattle.cj_io.specs.declared.folder.FolderError.TheVariants as folder
 use Rattle.cj_io.specs.declared.name.Name.{Name}
 use Rattle.cj_io.specs.Files.{names_of}
-use Rattle.cj_hermite.specs.PlainProblems.{PlainProblem}
+use Rattle.cj_case.specs.PlainProblems.{PlainProblem}
 use Rattle.cj_track.specs.PlainTracks.{PlainTrack}
 use Rattle.cj_sizes.specs.Sizes.{Size}
 use Rattle.cj_words.specs.Settings.{PlainSettings}

@@ -5,8 +5,8 @@ use Rattle.cj_io.specs.Files.{names_of}
 use Rattle.cj_sizes.specs.Sizes.{Size}
 use Rattle.cj_words.specs.Settings.{PlainSettings}
 use Rattle.cj_track.specs.PlainTracks.{PlainTrack}
-use Rattle.cj_hermite.specs.PlainProblems.{PlainProblem}
-use Rattle.cj_hermite.specs.Slots.{slot_count}
+use Rattle.cj_case.specs.PlainProblems.{PlainProblem}
+use Rattle.cj_case.specs.Slots.{slot_count}
 use Rattle.cj_status.specs.declared.status.Status.{Status}
 use Rattle.cj_status.specs.declared.status.Status.TheVariants as status
 use Rattle.cj_status.specs.declared.status.LimitFault.TheVariants.{Objects, Window, Slots}

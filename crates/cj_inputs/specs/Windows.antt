@@ -1,6 +1,6 @@
 -- The window of a run: its ends as they are asked for, else the useable spans' own.
 use Rattle.std.specs.Prelude.{ℕ, min, max, List, [], ◌∷◌, map, fold, unwrap_or}
-use Rattle.cj_ticks.specs.Ticks.{FIRST_TICK}
+use Rattle.cj_base.specs.Ticks.{FIRST_TICK}
 use Rattle.cj_track.specs.PlainTracks.{PlainSegment, PlainTrack}
 use Rattle.cj_words.specs.Settings.{PlainSettings}
 

@@ -1,4 +1,4 @@
-use cj_hermite::Problem;
+use cj_case::Problem;
 
 /// A certificate, the problem for which it is to be checked, and the report that is to be checked beside it.
 #[derive(Debug, Drop)]

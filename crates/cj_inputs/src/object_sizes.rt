@@ -10,7 +10,7 @@ ghost use Rattle.cj_inputs.specs.ObjectSizes as spec;
 ghost use Rattle.cj_inputs.specs.Readings.{Reads};
 
 use crate::reading::{InputError, read_file};
-use cj_hermite::Sizes;
+use cj_case::Sizes;
 use cj_io::{Folder, Name};
 use cj_sizes::{SizeLine, SizesFault, radii_of, read_sizes};
 use cj_status::FileCause;

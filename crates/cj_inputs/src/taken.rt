@@ -1,18 +1,18 @@
 //! Tracks that are taken together.
 ghost use Rattle.std.specs.Prelude.{◌≡◌, ◌<◌, ◌≤◌, ◌+◌, ◌++◌, ◌∷◌, ◌^◌, [], map, IfOk, OnOk, true};
-ghost use Rattle.cj_values.specs.Bounds.{MOST_NODES};
-ghost use Rattle.cj_hermite.specs.CaseLimits.{node_total};
-ghost use Rattle.cj_hermite.specs.Frames.{HaveOneFrame};
+ghost use Rattle.cj_base.specs.Bounds.{MOST_NODES};
+ghost use Rattle.cj_case.specs.CaseLimits.{node_total};
+ghost use Rattle.cj_case.specs.Frames.{HaveOneFrame};
 ghost use Rattle.cj_track.specs.Segments.{node_count as the_count};
 ghost use Rattle.cj_track.specs.Tracks.{plain_track};
 ghost use Rattle.cj_inputs.specs.Readings as spec;
 ghost use Rattle.cj_inputs.specs.Readings.{Reads};
 
 use crate::reading::InputError;
+use cj_base::Limits;
 use cj_io::Name;
 use cj_status::{FileCause, LimitFault};
 use cj_track::Track;
-use cj_values::Limits;
 use std::alloc::{AllocError, Global};
 
 /// Tracks that are taken, of one frame.

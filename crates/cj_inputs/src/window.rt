@@ -4,7 +4,7 @@ ghost use Rattle.cj_track.specs.Tracks.{plain_track};
 ghost use Rattle.cj_inputs.specs.Windows as spec;
 ghost use Rattle.cj_words.specs.Settings.{plain_settings};
 
-use cj_ticks::{Tick, Window};
+use cj_base::{Tick, Window};
 use cj_track::Track;
 use cj_words::Settings;
 

@@ -1,6 +1,6 @@
-//! The outside of the screener as traits: a folder that is read, a shelf that outputs are put on, and a gate that each turn of
-//! a worker passes. A folder and a shelf may tell what they contain, and count their own faults. Beside the traits stand
-//! folders and shelves in memory, which tell all, and the reading of a whole file.
+//! The outside of the screener as traits: a folder that is read, a shelf that outputs are put on, whole or while they are made, and a gate
+//! that each turn of a worker passes. A folder and a shelf may tell what they contain, and count their own faults. Beside the traits stand
+//! folders, shelves and sources in memory, which tell all, and the reading of a whole file.
 #![tactic(auto)]
 
 mod bytes;
@@ -10,11 +10,15 @@ mod calm_shelf;
 mod file;
 mod folder;
 mod gate;
+mod gathering;
 mod mem_folder;
 mod mem_shelf;
+mod mem_source;
 mod name;
+mod part_source;
 mod parts;
 mod shelf;
+mod stream_shelf;
 mod whole;
 
 pub use bytes::Bytes;
@@ -23,9 +27,13 @@ pub use calm_shelf::CalmShelf;
 pub use file::FileBytes;
 pub use folder::{Failed, Folder, FolderError};
 pub use gate::{Gate, OpenGate};
+pub use gathering::all_parts;
 pub use mem_folder::MemFolder;
 pub use mem_shelf::MemShelf;
+pub use mem_source::MemSource;
 pub use name::Name;
+pub use part_source::PartSource;
 pub use parts::join_parts;
 pub use shelf::{PutError, Shelf};
+pub use stream_shelf::StreamShelf;
 pub use whole::{ReadError, read_whole};

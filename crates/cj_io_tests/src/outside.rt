@@ -1,9 +1,6 @@
 ghost use Rattle.std.specs.Prelude.{◌≡◌, length, IfOk};
 
-use cj_io::{
-    Bytes, CalmFolder, CalmShelf, Failed, FileBytes, Folder, FolderError, MemFolder, MemShelf,
-    Name, PutError, ReadError, Shelf, read_whole,
-};
+use cj_io::{Bytes, CalmFolder, CalmShelf, Failed, FileBytes, Folder, FolderError, MemFolder, MemShelf, Name, PutError, ReadError, Shelf, read_whole};
 use std::alloc::{AllocError, Global};
 use std::panic::Expect;
 

@@ -1,6 +1,6 @@
 ghost use Rattle.std.specs.Prelude.{◌≡◌, ◌++◌};
 
-use cj_jobs::{Jobs, run_jobs};
+use cj_threads::{Jobs, run_jobs};
 use std::alloc::{AllocError, Global};
 use std::panic::Expect;
 

@@ -11,9 +11,9 @@ use Rattle.std.proofs.lemmas.Int.{ints}
 use Rattle.std.proofs.lemmas.List.{append_assoc, length-drop, length-map, take-append-drop}
 use Rattle.std.proofs.lemmas.Str.{digit_value_digit}
 use Rattle.std.specs.Int.Digits.{digits_of}
-use Rattle.cj_values.specs.Decimals.{IsReadable, is_huge, is_tiny}
+use Rattle.cj_base.specs.Decimals.{IsReadable, is_huge, is_tiny}
 use Rattle.cj_kvn.specs.Decimals.{decimal_form, decimal_of, decimal_text_of, digit_count, exponent_text, leading_power, minus_if, rounded, significand_text, trailing_zeros, without_trailing_zeros, zero_number}
-use Rattle.cj_values.specs.Numbers.{Number}
+use Rattle.cj_base.specs.Numbers.{Number}
 use Rattle.cj_kvn.specs.Numbers.{are_digits, is_exponent, nearest, number, parts_of}
 use Rattle.cj_kvn.specs.Scanning.{exponent_said}
 use Rattle.cj_kvn.proofs.CountLemmas.{count_most, count_is, tiny_same, huge_same, tiny_zero}

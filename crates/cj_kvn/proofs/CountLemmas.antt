@@ -7,9 +7,9 @@ use Rattle.std.proofs.lemmas.Bool.Decides.{leb_tells}
 use Rattle.std.proofs.lemmas.Int.{by_lt_z, ints}
 use Rattle.std.proofs.lemmas.Int.Digits.{length-digits_of-le, number_digits_of, number_lt, all_below_base_digits_of}
 use Rattle.std.proofs.lemmas.Nat.{pow-add}
-use Rattle.cj_values.specs.Decimals.{is_tiny, is_huge}
+use Rattle.cj_base.specs.Decimals.{is_tiny, is_huge}
 use Rattle.cj_kvn.specs.Decimals.{digit_count}
-use Rattle.cj_values.specs.Numbers.{Number, ten_above, ten_below}
+use Rattle.cj_base.specs.Numbers.{Number, ten_above, ten_below}
 use Rattle.cj_kvn.specs.Numbers.{nearest}
 use Rattle.cj_kvn.proofs.PowerLemmas.{ten_pos, ten_grows, nearest_ge, nearest_one}
 

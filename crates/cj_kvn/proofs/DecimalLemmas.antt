@@ -6,12 +6,12 @@ use Rattle.std.proofs.lemmas.Int.{ints}
 use Rattle.std.proofs.lemmas.List.{map-append, take_more_set}
 use Rattle.std.proofs.lemmas.Nat.{pow-add}
 use lib.Signed.{le_z, lt_z}
-use Rattle.cj_values.specs.declared.decimals.Decimal.{Decimal}
+use Rattle.cj_base.specs.declared.decimals.Decimal.{Decimal}
 use Rattle.cj_kvn.specs.declared.leading.Scanned.{Scanned}
-use Rattle.cj_values.specs.Decimals.{IsReadable, is_tiny, is_huge, number_of}
+use Rattle.cj_base.specs.Decimals.{IsReadable, is_tiny, is_huge, number_of}
 use Rattle.cj_kvn.specs.Decimals.{zero_number, digit_count, rounded, rounded_number, trailing_zeros, without_trailing_zeros}
 use Rattle.cj_kvn.specs.declared.rounded.Rounded.{Rounded}
-use Rattle.cj_values.specs.Numbers.{Number}
+use Rattle.cj_base.specs.Numbers.{Number}
 use Rattle.cj_kvn.specs.Numbers.{nearest}
 use Rattle.cj_kvn.specs.Scanning.{Begins}
 use Rattle.cj_kvn.proofs.CountLemmas.{count_zero, count_first, count_least, rounded_count, tiny_same, huge_same, tiny_zero, tiny_yes, tiny_no, huge_yes, huge_no}

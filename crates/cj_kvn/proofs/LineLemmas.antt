@@ -7,7 +7,7 @@ use Rattle.std.proofs.lemmas.Bool.Decides.{nat_tests, leb_tells, eqb_tells}
 use Rattle.std.proofs.lemmas.List.{drop-drop, drop_all, length-drop, length-take, take-take, take_all, take_rest}
 use Rattle.std.proofs.lemmas.List.Splits.{slice_split_first, slice_split_none, length-slice_split}
 use Rattle.std.proofs.lemmas.List.Sums.{fails_before_first}
-use Rattle.cj_values.specs.Bytes.{is_feed}
+use Rattle.cj_base.specs.Bytes.{is_feed}
 use Rattle.cj_kvn.specs.Lines.{Row, Comment, is_comment, is_printable, is_equals, form_of, line_form, pair_of, pair_or_row, trimmed}
 use Rattle.cj_kvn.specs.declared.lines.KvnCause.TheVariants.{NotPrintable}
 use Rattle.cj_kvn.proofs.ListLemmas.{any_yes, any_no, at_yes, at_no}

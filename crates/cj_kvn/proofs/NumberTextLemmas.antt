@@ -8,7 +8,7 @@ use Rattle.std.proofs.lemmas.Bool.Decides.{nat_tests}
 use Rattle.std.proofs.lemmas.Fmt.{decimal_is_IsNumeral_wide}
 use Rattle.std.proofs.lemmas.Int.{ints}
 use Rattle.cj_kvn.specs.Decimals.{minus_if}
-use Rattle.cj_values.specs.Numbers.{Number}
+use Rattle.cj_base.specs.Numbers.{Number}
 use Rattle.cj_kvn.specs.Numbers.{Parts, are_digits, digits, exponent_value, is_number, nearest, number, parts_of, scaled, scaled_of, scaled_size, signed}
 use Rattle.cj_kvn.specs.Scanning.{after_fraction, after_run, exponent_said, fraction_run, run}
 use Rattle.cj_kvn.proofs.ListLemmas.{HeadFails, behind_no, behind_yes, take_while_no, take_while_yes}

@@ -5,7 +5,7 @@ use Rattle.std.proofs.lemmas.Bool.Decides.{leb_tells, nat_tests}
 use Rattle.std.proofs.lemmas.Fmt.{decimal_digit, decimal_step, decimal_nonempty}
 use Rattle.std.proofs.lemmas.List.{append_assoc, append-nil, length-append}
 use Rattle.cj_kvn.specs.Decimals.{digit_count, leading_power, significand_text, exponent_text, minus_if, decimal_text_of}
-use Rattle.cj_values.specs.Numbers.{Number}
+use Rattle.cj_base.specs.Numbers.{Number}
 use Rattle.cj_kvn.proofs.CountLemmas.{count_is}
 use Rattle.cj_kvn.proofs.PowerLemmas.{ten_grows}
 

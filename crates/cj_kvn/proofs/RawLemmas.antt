@@ -14,7 +14,7 @@ use Rattle.std.proofs.lemmas.List.Splits.{slice_split_at, slice_split_none, leng
 use Rattle.std.proofs.lemmas.List.Sums.{fails_before_first, list_all-from_AllPass, position_or_len_is, prefix_len-le-length, prefix_len_is, prefix_len_passes, prefix_len_stops}
 use Rattle.std.proofs.Math.Seq.{get_or-append_seam, take-append_seam}
 use Rattle.cj_kvn.specs.declared.range.Range32.{Range32}
-use Rattle.cj_values.specs.Bytes.{is_feed}
+use Rattle.cj_base.specs.Bytes.{is_feed}
 use Rattle.cj_kvn.specs.Lines.{is_blank, is_equals, is_printable, pair_of, pair_or_row, trimmed, without_leading_blanks}
 use Rattle.cj_kvn.specs.RawLines.{begins_with_feed, end_len, equals_at, is_plain}
 use Rattle.cj_kvn.specs.Ranges.{IsWithin, text_at}

@@ -5,10 +5,10 @@ use Rattle.cj_kvn.specs.declared.numbers.NumFault.{NumFault}
 use Rattle.std.specs.Prelude.{◌==◌}
 use Rattle.std.proofs.lemmas.Bool.Decides.{leb_tells, nat_tests}
 use Rattle.std.proofs.lemmas.Int.{by_lt_z, ints}
-use Rattle.cj_values.specs.Decimals.{IsReadable, is_huge, is_tiny, number_of}
+use Rattle.cj_base.specs.Decimals.{IsReadable, is_huge, is_tiny, number_of}
 use Rattle.cj_kvn.specs.Decimals.{decimal_form, decimal_of, digit_count, number_read}
-use Rattle.cj_values.specs.declared.decimals.Decimal.{Decimal}
-use Rattle.cj_values.specs.Numbers.{Number}
+use Rattle.cj_base.specs.declared.decimals.Decimal.{Decimal}
+use Rattle.cj_base.specs.Numbers.{Number}
 use Rattle.cj_kvn.specs.Numbers.{is_number, number, parts_of}
 use Rattle.cj_kvn.proofs.CountLemmas.{count_most, count_pos, tiny_yes, huge_yes}
 

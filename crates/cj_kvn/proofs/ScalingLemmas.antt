@@ -5,7 +5,7 @@ use Rattle.std.proofs.lemmas.Int.{ints}
 use Rattle.std.proofs.lemmas.Nat.{pow-add}
 use Rattle.std.specs.Option.{SomeIff}
 use Rattle.cj_kvn.specs.declared.leading.Scanned.{Scanned}
-use Rattle.cj_values.specs.Numbers.{Number, ten_above, ten_below}
+use Rattle.cj_base.specs.Numbers.{Number, ten_above, ten_below}
 use Rattle.cj_kvn.specs.Numbers.{nearest, scaled_size}
 use Rattle.cj_kvn.specs.Scanning.{Begins}
 use Rattle.cj_kvn.proofs.PowerLemmas.{ten_pos, ten_grows, nearest_one, nearest_times, nearest_cancel, nearest_ge, nearest_first}

@@ -3,7 +3,7 @@ use Rattle.std.specs.Prelude.{◌≡◌, ℕ, ◌/◌, ◌^◌, ◌<◌, ◌≤�
 use Rattle.std.specs.Char.{is_ascii_digit}
 use Rattle.std.specs.List.{prefix_len, take_while}
 use Rattle.std.specs.Str.Parse.{signed_digits_value}
-use Rattle.cj_values.specs.Numbers.{Number}
+use Rattle.cj_base.specs.Numbers.{Number}
 use Rattle.cj_kvn.specs.Numbers.{is_exponent, is_exponent_mark, is_point}
 use Rattle.cj_kvn.specs.declared.leading.Leading.{Leading}
 use Rattle.cj_kvn.specs.declared.leading.Scanned.{Scanned}

@@ -1,11 +1,11 @@
 //! The text of a decimal number.
 ghost use Rattle.std.specs.Prelude.{◌≡◌, ◌+◌, [], ◌∷◌, ◌++◌, if◌then◌else◌, ◌^◌, ◌<◌, ◌≤◌, length, pos, neg_ℤ, ◌≤ℤ◌, Ok, decimal, int_lt};
 ghost use Rattle.arrayvec.specs.ArrayVec.{array_vec_len};
-ghost use Rattle.cj_values.specs.Decimals.{IsReadable, number_of};
+ghost use Rattle.cj_base.specs.Decimals.{IsReadable, number_of};
 ghost use Rattle.cj_kvn.specs.Decimals.{decimal_of, decimal_text_of, exponent_text, leading_power as the_power, significand_text};
 
 use arrayvec::ArrayVec;
-use cj_values::Decimal;
+use cj_base::Decimal;
 
 /// The number in scientific notation, as `-1.25E+02`.
 pub fn decimal_text(value: Decimal) -> ArrayVec<u8, 32>

@@ -1,10 +1,10 @@
 //! Reading decimal numbers.
 ghost use Rattle.std.specs.Prelude.{◌≡◌, ◌≢◌, ◌+◌, ◌-◌, ◌/◌, ◌%◌, ◌^◌, ◌<◌, ◌≤◌, length, IfOk, Ok, false, pos, neg_ℤ, ◌+ℤ◌, ◌≤ℤ◌};
-ghost use Rattle.cj_values.specs.declared.decimals.Decimal.{Decimal};
-ghost use Rattle.cj_values.specs.Numbers.{Number};
+ghost use Rattle.cj_base.specs.declared.decimals.Decimal.{Decimal};
+ghost use Rattle.cj_base.specs.Numbers.{Number};
 ghost use Rattle.cj_kvn.specs.Numbers.{nearest};
 ghost use Rattle.cj_kvn.specs.Scanning.{Begins};
-ghost use Rattle.cj_values.specs.Decimals.{IsReadable, is_huge, is_tiny, number_of};
+ghost use Rattle.cj_base.specs.Decimals.{IsReadable, is_huge, is_tiny, number_of};
 ghost use Rattle.cj_kvn.specs.Decimals.{decimal_form, decimal_of, digit_count as the_count, number_read, rounded, rounded_number, trailing_zeros, without_trailing_zeros};
 
 use crate::leading::Scanned;
@@ -12,7 +12,7 @@ use crate::numbers::NumFault;
 use crate::rounded::Rounded;
 use crate::scaling::lowered;
 use crate::scanning::scan;
-use cj_values::Decimal;
+use cj_base::Decimal;
 
 /// The number to 18 significant digits, halves away from zero. A number below 10^-99 in size is zero. It is too large
 /// where its rounded size is 10^100 or more.

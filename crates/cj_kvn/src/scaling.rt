@@ -1,7 +1,7 @@
 //! Rounding a number that was read.
 ghost use Rattle.std.specs.Prelude.{◌≡◌, ◌*◌, ◌^◌, ◌<◌, ◌≤◌, IfSome};
 ghost use Rattle.std.specs.Option.{SomeIff};
-ghost use Rattle.cj_values.specs.Numbers.{Number};
+ghost use Rattle.cj_base.specs.Numbers.{Number};
 ghost use Rattle.cj_kvn.specs.Numbers.{nearest, scaled, scaled_size, signed};
 ghost use Rattle.cj_kvn.specs.Scanning.{Begins};
 

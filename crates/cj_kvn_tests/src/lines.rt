@@ -1,8 +1,5 @@
-use cj_kvn::{
-    KvnCause, KvnFault, Line, LineCursor, LineFault, LineKind, MarkKind, Range32, field,
-    read_lines, row_fields,
-};
-use cj_values::Text;
+use cj_base::Text;
+use cj_kvn::{KvnCause, KvnFault, Line, LineCursor, LineFault, LineKind, MarkKind, Range32, field, read_lines, row_fields};
 use std::panic::Expect;
 
 #[test]

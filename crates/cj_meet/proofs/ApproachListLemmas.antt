@@ -5,12 +5,12 @@ use Rattle.std.proofs.lemmas.List.{append_assoc, map-append, map_more, map_push,
 use Rattle.std.proofs.lemmas.List.Concat.{flat_map-append}
 use Rattle.std.proofs.lemmas.List.Elements.{All-append, All-cons, All-nil, All-pop, All-same, All-push, All-take, All-drop}
 use Rattle.std.proofs.lemmas.Slice.{between_is}
-use Rattle.cj_hermite.specs.PlainProblems.{PlainProblem}
-use Rattle.cj_hermite.specs.Problems.{plain_problem}
+use Rattle.cj_case.specs.PlainProblems.{PlainProblem}
+use Rattle.cj_case.specs.Problems.{plain_problem}
 use Rattle.cj_hermite.specs.Roots.{KeepPieces}
-use Rattle.cj_bezier.specs.declared.encounter.Closest.{Closest}
-use Rattle.cj_bezier.specs.declared.encounter.Encounter.{Encounter}
-use Rattle.cj_bezier.specs.Leaves.{PlainLeaf, plain_leaves}
+use Rattle.cj_case.specs.declared.encounter.Closest.{Closest}
+use Rattle.cj_case.specs.declared.encounter.Encounter.{Encounter}
+use Rattle.cj_case.specs.Leaves.{PlainLeaf, plain_leaves}
 use Rattle.cj_meet.specs.declared.portion.Portion.{Portion}
 use Rattle.cj_meet.specs.ApproachLists.{AreClosest, AreClosestAt, HaveNearest, closest_in}
 use Rattle.cj_meet.specs.Closest.{PlainClosest, plain_closest, some_closest, closest_of, KeepTheirPieces, HasNearest, IsNearest}

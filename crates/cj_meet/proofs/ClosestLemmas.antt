@@ -15,16 +15,17 @@ use Rattle.cj_track.specs.PlainTracks.{PlainTrack}
 use Rattle.cj_hermite.specs.Distance.{BAND, IsWithinAt, square_bound, square_distance}
 use Rattle.cj_hermite.specs.Interpolant.{Curve, IsOver}
 use Rattle.cj_hermite.specs.Pieces.{PlainPiece, piece_holding, curve_of_piece, OfBothAt}
-use Rattle.cj_hermite.specs.PlainProblems.{PlainProblem, curve_at, OfObjectsAt, HaveCurves}
+use Rattle.cj_case.specs.PlainProblems.{PlainProblem}
+use Rattle.cj_hermite.specs.ObjectsAtTicks.{curve_at, OfObjectsAt, HaveCurves}
 use Rattle.cj_hermite.specs.Roots.{KeepPieces}
 use Rattle.cj_hermite.proofs.CurveLemmas.{have_curves}
 use Rattle.cj_hermite.proofs.ObjectLemmas.{of_objects}
 use Rattle.cj_hermite.proofs.TrackLemmas.{over_part}
-use Rattle.cj_bezier.specs.declared.encounter.Closest.{Closest}
-use Rattle.cj_bezier.specs.declared.encounter.Encounter.{Encounter}
-use Rattle.cj_bezier.specs.declared.leaf.Leaf.{Leaf}
+use Rattle.cj_case.specs.declared.encounter.Closest.{Closest}
+use Rattle.cj_case.specs.declared.encounter.Encounter.{Encounter}
+use Rattle.cj_case.specs.declared.leaf.Leaf.{Leaf}
 use Rattle.cj_bezier.specs.Gaps.{gap_terms, hull_gap}
-use Rattle.cj_bezier.specs.Leaves.{PlainLeaf, IsTickOf, plain_leaf, plain_leaves}
+use Rattle.cj_case.specs.Leaves.{PlainLeaf, IsTickOf, plain_leaf, plain_leaves}
 use Rattle.cj_bezier.specs.Squares.{least_square, greatest_square}
 use Rattle.cj_meet.specs.Closest.{PlainApproach, PlainClosest, upper, approach_at, ends_between, ends_within, ends_in, closest_by, closest_of, plain_closest, nearer, nearest, KeepTheirPieces, IsClosest, IsFlatAt, IsNearest}
 use Rattle.cj_meet.specs.Encounters.{leaves_in}

@@ -9,12 +9,12 @@ use Rattle.std.proofs.lemmas.Option.{slice_get_within, get_or_from_slice_get}
 use Rattle.std.proofs.lemmas.Slice.{between_is}
 use Rattle.std.specs.Prelude.{All, slice_range}
 use Rattle.std.specs.List.{list_any}
-use Rattle.cj_bezier.specs.declared.encounter.Encounter.{Encounter}
-use Rattle.cj_bezier.specs.declared.encounter.Mark.TheVariants as mark
-use Rattle.cj_bezier.specs.Leaves.{PlainLeaf, plain_leaf, plain_leaves}
-use Rattle.cj_bezier.specs.declared.leaf.Leaf.{Leaf}
+use Rattle.cj_case.specs.declared.encounter.Encounter.{Encounter}
+use Rattle.cj_case.specs.declared.encounter.Mark.TheVariants as mark
+use Rattle.cj_case.specs.Leaves.{PlainLeaf, plain_leaf, plain_leaves}
+use Rattle.cj_case.specs.declared.leaf.Leaf.{Leaf}
 use Rattle.cj_meet.proofs.SpanLemmas.{leaves_have_ticks}
-use Rattle.cj_bezier.specs.Order.{AreInOrder, HaveTicks, IsBefore}
+use Rattle.cj_case.specs.Order.{AreInOrder, HaveTicks, IsBefore}
 use Rattle.cj_meet.specs.Encounters.{is_far, is_near, follows, with_front, encounters_of, first_object, second_object, first_tick, last_tick, mark_of, is_near_mark, leaves_in, groups_in, Describes, AreEncounters}
 
 -- whether a leaf goes on where these end

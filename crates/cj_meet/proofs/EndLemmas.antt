@@ -7,10 +7,10 @@ use Rattle.std.proofs.lemmas.List.Concat.{flat_map-append}
 use Rattle.cj_interval.proofs.ListLemmas.{Each, Exists, Each-weaker, Each-exists, Each-flat_map, Exists-weaker, Exists-flat_map}
 use Rattle.cj_hermite.specs.Interpolant.{Curve, IsOver}
 use Rattle.cj_hermite.proofs.TrackLemmas.{over_part}
-use Rattle.cj_bezier.specs.declared.kind.Kind.{Kind}
+use Rattle.cj_case.specs.declared.kind.Kind.{Kind}
 use Rattle.cj_bezier.specs.Gaps.{gap_terms, hull_gap}
 use Rattle.cj_bezier.specs.Halving.{middle, leaves_between}
-use Rattle.cj_bezier.specs.Leaves.{PlainLeaf}
+use Rattle.cj_case.specs.Leaves.{PlainLeaf}
 use Rattle.cj_bezier.specs.Tiles.{IsLeaf, Tile}
 use Rattle.cj_bezier.proofs.HalvingLemmas.{HasKind, HasTick, IsSettled, tiles, leaves-closed, leaves-halved, Each-tile, Exists-tile}
 use Rattle.cj_meet.specs.Closest.{PlainApproach, approach_at, ends_of, ends_between}

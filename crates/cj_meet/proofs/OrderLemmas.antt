@@ -3,8 +3,8 @@ use Rattle.std.proofs.Common.{◌≡◌, ◌≤◌, List, [], ◌∷◌, sym, �
 use Rattle.std.proofs.lemmas.List.Elements.{All-nil, All-cons, All-head, All-tail, All-weaker}
 use Rattle.std.proofs.lemmas.List.Kept.{AllPairs-cons}
 use Rattle.std.specs.Prelude.{All}
-use Rattle.cj_bezier.specs.Leaves.{PlainLeaf}
-use Rattle.cj_bezier.specs.Order.{IsBefore, AreInOrder, HaveTicks}
+use Rattle.cj_case.specs.Leaves.{PlainLeaf}
+use Rattle.cj_case.specs.Order.{IsBefore, AreInOrder, HaveTicks}
 
 -- each leaf lies before the next
 abbrev pub AreNeighbours : List PlainLeaf → Type 0

@@ -6,7 +6,7 @@ use Rattle.cj_interval.proofs.ListLemmas.{Each, Exists, Each-append, Exists-left
 use Rattle.cj_hermite.specs.Interpolant.{Curve, IsOver}
 use Rattle.cj_hermite.proofs.TrackLemmas.{over_part}
 use Rattle.cj_bezier.specs.Gaps.{gap_terms, hull_gap}
-use Rattle.cj_bezier.specs.Leaves.{PlainLeaf}
+use Rattle.cj_case.specs.Leaves.{PlainLeaf}
 use Rattle.cj_bezier.specs.Squares.{least_square}
 use Rattle.cj_meet.specs.declared.approaches.Approach.{Approach}
 use Rattle.cj_meet.specs.declared.runs.Waiting.{Waiting}

@@ -4,11 +4,11 @@ use Rattle.std.proofs.lemmas.Bool.{and_parts, cases_lt, cond_both, cond-true, co
 use Rattle.std.proofs.lemmas.List.Elements.{All-nil, All-cons, All-head, All-tail, All-weaker, All-map}
 use Rattle.std.specs.Prelude.{All, Any}
 use Rattle.cj_interval.proofs.ListLemmas.{Exists, Any-from_exists, exists_from_Any}
-use Rattle.cj_bezier.specs.declared.kind.Kind.{Kind}
-use Rattle.cj_bezier.specs.declared.kind.Kind.TheVariants.{Far, Near, Undecided}
-use Rattle.cj_bezier.specs.Leaves.{PlainLeaf, plain_leaf, plain_leaves, Covers, LiesIn, same_kind}
-use Rattle.cj_bezier.specs.declared.leaf.Leaf.{Leaf}
-use Rattle.cj_bezier.specs.Order.{HaveTicks}
+use Rattle.cj_case.specs.declared.kind.Kind.{Kind}
+use Rattle.cj_case.specs.declared.kind.Kind.TheVariants.{Far, Near, Undecided}
+use Rattle.cj_case.specs.Leaves.{PlainLeaf, plain_leaf, plain_leaves, Covers, LiesIn, same_kind}
+use Rattle.cj_case.specs.declared.leaf.Leaf.{Leaf}
+use Rattle.cj_case.specs.Order.{HaveTicks}
 use Rattle.cj_meet.specs.Encounters.{is_far, follows, with_front, encounters_of, first_object, second_object}
 use Rattle.cj_meet.specs.Spans.{with_span, spans_of, LiesInSpan, HaveExactSpans}
 use Rattle.cj_bezier.proofs.KindLemmas.{from_same_kind}

@@ -1,11 +1,11 @@
 -- The closest approaches of some encounters, in order.
 use Rattle.std.specs.Prelude.{◌≡◌, List, map, All, Option}
 use Rattle.std.specs.List.{flat_map}
-use Rattle.cj_hermite.specs.PlainProblems.{PlainProblem}
-use Rattle.cj_hermite.specs.Problems.{plain_problem}
-use Rattle.cj_bezier.specs.declared.encounter.Closest.{Closest}
-use Rattle.cj_bezier.specs.declared.encounter.Encounter.{Encounter}
-use Rattle.cj_bezier.specs.Leaves.{PlainLeaf, plain_leaves}
+use Rattle.cj_case.specs.PlainProblems.{PlainProblem}
+use Rattle.cj_case.specs.Problems.{plain_problem}
+use Rattle.cj_case.specs.declared.encounter.Closest.{Closest}
+use Rattle.cj_case.specs.declared.encounter.Encounter.{Encounter}
+use Rattle.cj_case.specs.Leaves.{PlainLeaf, plain_leaves}
 use Rattle.cj_meet.specs.Closest.{PlainClosest, HasNearest, closest_of, some_closest}
 use Rattle.cj_meet.specs.Encounters.{groups_in}
 use Rattle.cj_meet.specs.declared.portion.Portion.{Portion}

@@ -3,11 +3,12 @@ use Rattle.std.specs.Prelude.{◌≡◌, ℕ, ◌+◌, ◌-◌, ◌*◌, ◌≤�
 use Rattle.std.specs.List.{flat_map, fold}
 use Rattle.cj_hermite.specs.Interpolant.{Curve}
 use Rattle.cj_hermite.specs.Distance.{BAND, IsWithinAt, square_bound, square_distance}
-use Rattle.cj_hermite.specs.PlainProblems.{PlainProblem, curve_at, OfObjectsAt}
+use Rattle.cj_case.specs.PlainProblems.{PlainProblem}
+use Rattle.cj_hermite.specs.ObjectsAtTicks.{curve_at, OfObjectsAt}
 use Rattle.cj_hermite.specs.Roots.{KeepPieces}
-use Rattle.cj_bezier.specs.declared.encounter.Closest.{Closest}
+use Rattle.cj_case.specs.declared.encounter.Closest.{Closest}
 use Rattle.cj_bezier.specs.Gaps.{gap_high, gap_terms, hull_gap}
-use Rattle.cj_bezier.specs.Leaves.{PlainLeaf, IsTickOf}
+use Rattle.cj_case.specs.Leaves.{PlainLeaf, IsTickOf}
 use Rattle.cj_bezier.specs.Squares.{from_zero}
 use Rattle.cj_meet.specs.Encounters.{first_object, second_object}
 use Rattle.cj_meet.specs.Flat.{ceil_root, flats_between, is_flat}

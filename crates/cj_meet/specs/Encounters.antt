@@ -1,12 +1,12 @@
 -- Encounters of a list of leaves, which are in order of pair and time and do not overlap.
 use Rattle.std.specs.Prelude.{◌≡◌, ℕ, ◌+◌, ◌≤◌, ◌==◌, Bool, true, false, ◌&&◌, if◌then◌else◌, List, [], ◌∷◌, length, map, All, slice_range}
 use Rattle.std.specs.List.{list_any}
-use Rattle.cj_bezier.specs.declared.kind.Kind.{Kind}
-use Rattle.cj_bezier.specs.declared.kind.Kind.TheVariants.{Far, Near, Undecided}
-use Rattle.cj_bezier.specs.declared.encounter.Encounter.{Encounter}
-use Rattle.cj_bezier.specs.declared.encounter.Mark.{Mark}
-use Rattle.cj_bezier.specs.declared.encounter.Mark.TheVariants as mark
-use Rattle.cj_bezier.specs.Leaves.{PlainLeaf}
+use Rattle.cj_case.specs.declared.kind.Kind.{Kind}
+use Rattle.cj_case.specs.declared.kind.Kind.TheVariants.{Far, Near, Undecided}
+use Rattle.cj_case.specs.declared.encounter.Encounter.{Encounter}
+use Rattle.cj_case.specs.declared.encounter.Mark.{Mark}
+use Rattle.cj_case.specs.declared.encounter.Mark.TheVariants as mark
+use Rattle.cj_case.specs.Leaves.{PlainLeaf}
 
 abbrev pub is_far : PlainLeaf → Bool
 is_far s = far_kind s.kind

@@ -2,10 +2,10 @@
 use Rattle.std.specs.Prelude.{ℕ, ◌+◌, ◌*◌, Bool, nat_le, if◌then◌else◌, List, Option, Some, None}
 use Rattle.cj_hermite.specs.Interpolant.{Curve}
 use Rattle.cj_hermite.specs.Distance.{BAND}
-use Rattle.cj_bezier.specs.declared.kind.Kind.{Kind}
+use Rattle.cj_case.specs.declared.kind.Kind.{Kind}
 use Rattle.cj_bezier.specs.Gaps.{PlainGap, gap_terms, hull_gap}
 use Rattle.cj_bezier.specs.Halving.{leaves_between}
-use Rattle.cj_bezier.specs.Leaves.{PlainLeaf}
+use Rattle.cj_case.specs.Leaves.{PlainLeaf}
 use Rattle.cj_bezier.specs.Shells.{greatest_to, least_from}
 use Rattle.cj_bezier.specs.Squares.{least_square, greatest_square}
 

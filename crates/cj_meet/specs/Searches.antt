@@ -1,10 +1,11 @@
 -- Searches: what is found of the closest approach so far, and what becomes of a part.
 use Rattle.std.specs.Prelude.{◌≡◌, ◌⊎◌, ℕ, ◌+◌, ◌≤◌, true, false, Some}
 use Rattle.cj_hermite.specs.Interpolant.{Curve, IsOver}
-use Rattle.cj_hermite.specs.PlainProblems.{PlainProblem, curve_at}
+use Rattle.cj_case.specs.PlainProblems.{PlainProblem}
+use Rattle.cj_hermite.specs.ObjectsAtTicks.{curve_at}
 use Rattle.cj_bezier.specs.Gaps.{gap_terms, hull_gap}
 use Rattle.cj_bezier.specs.Halving.{middle}
-use Rattle.cj_bezier.specs.Leaves.{PlainLeaf}
+use Rattle.cj_case.specs.Leaves.{PlainLeaf}
 use Rattle.cj_meet.specs.declared.approaches.Approach.{Approach}
 use Rattle.cj_meet.specs.declared.looking.Seen.{Seen}
 use Rattle.cj_meet.specs.declared.looking.Seen.TheVariants.{Settled, Halved}

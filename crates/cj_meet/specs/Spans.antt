@@ -1,8 +1,8 @@
 -- Spans of encounters, and the ticks that lie in them.
 use Rattle.std.specs.Prelude.{◌≡◌, ◌≢◌, ◌↔◌, ℕ, ◌&&◌, if◌then◌else◌, List, [], ◌∷◌, All, Any}
-use Rattle.cj_bezier.specs.declared.kind.Kind.{Kind}
-use Rattle.cj_bezier.specs.declared.kind.Kind.TheVariants.{Far, Near, Undecided}
-use Rattle.cj_bezier.specs.Leaves.{PlainLeaf, Covers, LiesIn, same_kind}
+use Rattle.cj_case.specs.declared.kind.Kind.{Kind}
+use Rattle.cj_case.specs.declared.kind.Kind.TheVariants.{Far, Near, Undecided}
+use Rattle.cj_case.specs.Leaves.{PlainLeaf, Covers, LiesIn, same_kind}
 use Rattle.cj_meet.specs.Encounters.{follows, encounters_of, first_object, second_object}
 
 -- a leaf in front of spans: the first of them begins with it where that follows and is of the same kind

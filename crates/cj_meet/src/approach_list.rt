@@ -1,8 +1,8 @@
 //! The closest approaches of several encounters: one after another, or by several threads that take the next few encounters each.
 ghost use Rattle.std.specs.Prelude.{◌≡◌, ◌<◌, ◌++◌, List, map, All, IfOk, OnOk};
-ghost use Rattle.cj_hermite.specs.Problems.{plain_problem};
-ghost use Rattle.cj_bezier.specs.declared.encounter.Closest.{Closest};
-ghost use Rattle.cj_bezier.specs.Leaves.{plain_leaves};
+ghost use Rattle.cj_case.specs.Problems.{plain_problem};
+ghost use Rattle.cj_case.specs.declared.encounter.Closest.{Closest};
+ghost use Rattle.cj_case.specs.Leaves.{plain_leaves};
 ghost use Rattle.cj_meet.specs.ApproachLists.{AreClosest, AreClosestAt};
 ghost use Rattle.cj_meet.specs.Closest.{KeepTheirPieces, HasNearest, closest_of, some_closest};
 ghost use Rattle.cj_meet.specs.Encounters.{Describes, groups_in};
@@ -10,9 +10,8 @@ ghost use Rattle.cj_meet.specs.declared.portion.Portion.{Portion};
 
 use crate::approaching::closest;
 use crate::portion::Portion;
-use cj_bezier::{Closest, Encounter, Leaf};
-use cj_hermite::Problem;
-use cj_jobs::{Jobs, run_jobs};
+use cj_case::{Closest, Encounter, Leaf, Problem};
+use cj_threads::{Jobs, run_jobs};
 use std::alloc::{AllocError, Global};
 use std::thread::Threads;
 

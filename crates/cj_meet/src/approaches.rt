@@ -1,7 +1,7 @@
 //! Ticks with bounds on the squared distance there.
 ghost use Rattle.std.specs.Prelude.{◌≡◌, ◌≤◌, ◌^◌};
 
-use cj_ticks::Tick;
+use cj_base::Tick;
 
 /// A tick, and a bound on the squared distance there in nm².
 #[derive(Clone, Copy, Debug, PartialEq, Eq)]

@@ -1,11 +1,11 @@
 //! The closest approach of an encounter.
 ghost use Rattle.std.specs.Prelude.{◌≡◌, ◌⊎◌, ◌<◌, Some, length, All, Any};
 ghost use Rattle.cj_hermite.specs.Interpolant.{IsOver};
-ghost use Rattle.cj_hermite.specs.PlainProblems.{curve_at};
-ghost use Rattle.cj_hermite.specs.Problems.{plain_problem};
+ghost use Rattle.cj_hermite.specs.ObjectsAtTicks.{curve_at};
+ghost use Rattle.cj_case.specs.Problems.{plain_problem};
 ghost use Rattle.cj_hermite.specs.Ready.{curve_ready};
 ghost use Rattle.cj_hermite.specs.Roots.{KeepPieces};
-ghost use Rattle.cj_bezier.specs.Leaves.{plain_leaf, plain_leaves};
+ghost use Rattle.cj_case.specs.Leaves.{plain_leaf, plain_leaves};
 ghost use Rattle.cj_meet.specs.Closest.{KeepTheirPieces, ends_within, ends_in, closest_of, plain_closest, IsClosest, IsNearest};
 ghost use Rattle.cj_meet.specs.Encounters.{Describes, leaves_in};
 ghost use Rattle.cj_meet.specs.Searches.{plain_approach, NoWorse, HasInterpolants};
@@ -14,8 +14,8 @@ use crate::approaches::Approach;
 use crate::flatness::{ends, gap_over};
 use crate::runs::whole_of;
 use crate::searching::search;
-use cj_bezier::{Closest, Encounter, Leaf};
-use cj_hermite::{Problem, Ready, piece_of, ready};
+use cj_case::{Closest, Encounter, Leaf, Problem};
+use cj_hermite::{Ready, piece_of, ready};
 use cj_interval::{Divisor, isqrt_up};
 
 /// The pieces of both objects over a leaf whose ticks have the same two pieces, made ready.

@@ -13,5 +13,5 @@ mod searching;
 
 pub use approach_list::closest_approaches;
 pub use approaching::closest;
-pub use cj_bezier::{Closest, Encounter, Mark};
+pub use cj_case::{Closest, Encounter, Mark};
 pub use meeting::encounters;

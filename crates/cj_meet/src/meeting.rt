@@ -1,12 +1,12 @@
 ghost use Rattle.std.specs.Prelude.{◌≡◌, ◌+◌, ◌<◌, ◌≤◌, ◌==◌, ◌&&◌, false, List, [], ◌∷◌, ◌++◌, length, if◌then◌else◌, IfOk, OnOk, All};
-ghost use Rattle.cj_values.specs.Bounds.{MOST_LEAVES};
-ghost use Rattle.cj_bezier.specs.Leaves.{PlainLeaf, plain_leaf, plain_leaves};
-ghost use Rattle.cj_bezier.specs.declared.encounter.Mark.TheVariants as Mark;
-ghost use Rattle.cj_bezier.specs.Order.{AreInOrder, HaveTicks};
+ghost use Rattle.cj_base.specs.Bounds.{MOST_LEAVES};
+ghost use Rattle.cj_case.specs.Leaves.{PlainLeaf, plain_leaf, plain_leaves};
+ghost use Rattle.cj_case.specs.declared.encounter.Mark.TheVariants as Mark;
+ghost use Rattle.cj_case.specs.Order.{AreInOrder, HaveTicks};
 ghost use Rattle.cj_meet.specs.Encounters.{AreEncounters, encounters_of, groups_in, Describes, is_far, is_near_mark, mark_of};
 ghost use Rattle.cj_meet.specs.Spans.{HaveExactSpans};
 
-use cj_bezier::{Encounter, Kind, Leaf, Mark};
+use cj_case::{Encounter, Kind, Leaf, Mark};
 use std::alloc::{AllocError, Global};
 
 /// The encounters of the leaves of a run, in order of pair and time. The only error is want of memory.

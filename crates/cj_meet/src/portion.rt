@@ -1,11 +1,10 @@
 ghost use Rattle.std.specs.Prelude.{All};
-ghost use Rattle.cj_hermite.specs.Problems.{plain_problem};
-ghost use Rattle.cj_bezier.specs.Leaves.{plain_leaves};
+ghost use Rattle.cj_case.specs.Problems.{plain_problem};
+ghost use Rattle.cj_case.specs.Leaves.{plain_leaves};
 ghost use Rattle.cj_meet.specs.Closest.{KeepTheirPieces};
 ghost use Rattle.cj_meet.specs.Encounters.{Describes};
 
-use cj_bezier::{Encounter, Leaf};
-use cj_hermite::Problem;
+use cj_case::{Encounter, Leaf, Problem};
 
 /// Some encounters of the leaves of a problem, whose closest approaches are to be found.
 #[derive(Clone, Copy)]

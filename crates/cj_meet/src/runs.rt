@@ -1,7 +1,7 @@
 ghost use Rattle.std.specs.Prelude.{◌≡◌, ◌⊎◌, ◌<◌, ◌≤◌};
 
-use cj_bezier::Leaf;
-use cj_ticks::Tick;
+use cj_base::Tick;
+use cj_case::Leaf;
 
 /// A run of one tick or more.
 #[derive(Clone, Copy, Debug, PartialEq, Eq)]

@@ -2,14 +2,14 @@
 ghost use Rattle.std.specs.Prelude.{◌≡◌, ◌⊎◌, All, Any};
 ghost use Rattle.cj_hermite.specs.Interpolant.{IsOver};
 ghost use Rattle.cj_hermite.specs.Ready.{curve_ready};
-ghost use Rattle.cj_bezier.specs.Leaves.{plain_leaf};
+ghost use Rattle.cj_case.specs.Leaves.{plain_leaf};
 ghost use Rattle.cj_meet.specs.Closest.{ends_between};
 ghost use Rattle.cj_meet.specs.Searches.{plain_approach, NoWorse};
 
 use crate::approaches::Approach;
 use crate::looking::{Seen, look};
 use crate::runs::whole_of;
-use cj_bezier::Leaf;
+use cj_case::Leaf;
 use cj_hermite::Ready;
 
 /// How many parts of a leaf wait at most: one more than the halvings of 2^32 ticks, and a piece is shorter than that.

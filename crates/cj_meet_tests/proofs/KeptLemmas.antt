@@ -1,14 +1,14 @@
 -- A common run of two tracks keeps the pieces of both.
 use Rattle.std.proofs.Common.{◌≡◌, ℕ, ◌+◌, List, ◌∷◌, map, length, get_or, sym, ap, subst, ◌∙◌, arith}
 use Rattle.cj_interval.proofs.ListLemmas.{Each}
-use Rattle.cj_ticks.specs.declared.tick.Window.{Window}
+use Rattle.cj_base.specs.declared.tick.Window.{Window}
 use Rattle.cj_track.specs.declared.track.Track.{Track}
 use Rattle.cj_track.specs.Tracks.{plain_track}
-use Rattle.cj_hermite.specs.declared.problem.Problem.{Problem}
+use Rattle.cj_case.specs.declared.problem.Problem.{Problem}
 use Rattle.cj_hermite.specs.CommonRuns.{Run, both, both_numbers, run_of, runs_between, IsNextCommon}
 use Rattle.cj_hermite.specs.Pieces.{piece_at}
-use Rattle.cj_hermite.specs.PlainProblems.{PlainProblem}
-use Rattle.cj_hermite.specs.Problems.{plain_problem}
+use Rattle.cj_case.specs.PlainProblems.{PlainProblem}
+use Rattle.cj_case.specs.Problems.{plain_problem}
 use Rattle.cj_hermite.specs.Roots.{KeepPieces, numbers_at, root_of_run, roots_between}
 use Rattle.cj_hermite.proofs.RootLemmas.{IsRoot, Each-between}
 use Rattle.cj_hermite.proofs.TrackLemmas.{number_of_track}

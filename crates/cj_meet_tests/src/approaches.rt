@@ -1,15 +1,14 @@
 //! Closest approaches of two tracks.
 ghost use Rattle.std.specs.Prelude.{◌≡◌, ◌<◌, ◌≤◌, List, length, All, IfOk, IfSome};
-ghost use Rattle.cj_hermite.specs.Problems.{plain_problem};
+ghost use Rattle.cj_case.specs.Problems.{plain_problem};
 ghost use Rattle.cj_hermite.specs.Roots.{KeepPieces};
-ghost use Rattle.cj_bezier.specs.Leaves.{PlainLeaf};
+ghost use Rattle.cj_case.specs.Leaves.{PlainLeaf};
 ghost use Rattle.cj_meet.specs.Encounters.{Describes};
 
-use cj_bezier::{Cell, Closest, Encounter, Kind, Leaf};
-use cj_hermite::{Pair, PairHint, Problem, next_common};
+use cj_case::{Cell, Closest, Encounter, Kind, Leaf, Pair, Problem};
+use cj_hermite::{PairHint, next_common};
 use cj_meet::{closest, closest_approaches, encounters};
-use cj_samples::{AT_7000, AT_7005, AT_7100, moving, rest, tick, track_of, track_of_two};
-use cj_scenes::{crossing, problem_of, resting};
+use cj_samples::{AT_7000, AT_7005, AT_7100, crossing, moving, problem_of, rest, resting, tick, track_of, track_of_two};
 use cj_track::Vec3;
 use std::alloc::{AllocError, Global};
 use std::panic::Expect;

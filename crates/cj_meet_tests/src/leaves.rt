@@ -1,10 +1,9 @@
 //! Which leaves are one encounter.
 ghost use Rattle.std.specs.Prelude.{◌≡◌, ◌+◌, ◌<◌, ◌≤◌};
 
-use cj_bezier::{Cell, Encounter, Kind, Leaf, Mark};
-use cj_hermite::Pair;
+use cj_base::Tick;
+use cj_case::{Cell, Encounter, Kind, Leaf, Mark, Pair};
 use cj_meet::encounters;
-use cj_ticks::Tick;
 use std::panic::Expect;
 
 const START: u64 = 1_735_689_600_000_000;

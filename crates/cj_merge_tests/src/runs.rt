@@ -1,7 +1,6 @@
-use cj_bezier::Cell;
-use cj_hermite::Pair;
-use cj_merge::merge_runs;
-use cj_ticks::Tick;
+use cj_base::Tick;
+use cj_case::{Cell, Pair};
+use cj_threads::merge_runs;
 use std::alloc::{AllocError, Global};
 use std::panic::Expect;
 use std::process::Abort;

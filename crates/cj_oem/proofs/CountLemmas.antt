@@ -13,7 +13,7 @@ use Rattle.cj_kvn.specs.declared.lines.KvnCause.{KvnCause}
 use Rattle.cj_kvn.specs.declared.text_fault.LineFault.{LineFault}
 use Rattle.cj_kvn.specs.declared.lines.MarkKind.TheVariants.{MetaStart, MetaStop, CovarianceStart, CovarianceStop}
 use Rattle.cj_track.specs.declared.segment.Segment.{Segment}
-use Rattle.cj_causes.specs.declared.oem_cause.OemCause.{OemCause}
+use Rattle.cj_formats.specs.declared.oem_cause.OemCause.{OemCause}
 use Rattle.cj_track.specs.PlainTracks.{PlainSegment, PlainMatrix}
 use Rattle.cj_oem.specs.Words.{is_text}
 use Rattle.cj_oem.specs.Metadata.{MetadataDraft, metadata_of, with_pair}

@@ -8,8 +8,8 @@ use Rattle.std.proofs.lemmas.List.Elements.{All-drop, All-head, All-tail, All-ta
 use Rattle.cj_kvn.specs.Decimals.{decimal_of, decimal_text_of, leading_power}
 use Rattle.cj_kvn.specs.Fields.{fields}
 use Rattle.cj_kvn.specs.Lines.{Form, Pair, Row}
-use Rattle.cj_values.specs.Numbers.{Number}
-use Rattle.cj_ticks.specs.Ticks.{IsTick}
+use Rattle.cj_base.specs.Numbers.{Number}
+use Rattle.cj_base.specs.Ticks.{IsTick}
 use Rattle.cj_epoch.specs.Written.{epoch_of}
 use Rattle.cj_oem.specs.Canonical.{covariance_text, matrix_row, numbers_text}
 use Rattle.cj_oem.specs.CovarianceRows.{Covariances, CovarianceDraft, closed, numbers_said, with_fields, with_matrix_pair, with_matrix_row}

@@ -2,10 +2,10 @@
 use Rattle.std.proofs.Common.{◌≡◌, ℕ, ◌+◌, ◌-◌, ◌<◌, List, get_or, [], ◌∷◌, ◌++◌, length, map, take, drop, ap, sym, ◌∙◌, append-nil, append_assoc, refl, arith}
 use Rattle.std.specs.Prelude.{flat_map, codes}
 use Rattle.std.proofs.lemmas.List.{drop-map, take-map}
-use Rattle.cj_values.specs.Decimals.{number_of}
+use Rattle.cj_base.specs.Decimals.{number_of}
 use Rattle.cj_kvn.specs.Decimals.{decimal_text_of}
-use Rattle.cj_values.specs.Numbers.{Number}
-use Rattle.cj_values.specs.declared.decimals.Decimal.{Decimal}
+use Rattle.cj_base.specs.Numbers.{Number}
+use Rattle.cj_base.specs.declared.decimals.Decimal.{Decimal}
 use Rattle.cj_kvn.proofs.ListLemmas.{tail_of, tail_of-cons}
 use Rattle.cj_track.specs.declared.matrix.Matrix.{Matrix}
 use Rattle.cj_kvn.specs.Entries.{line}

@@ -5,12 +5,12 @@ use Rattle.std.proofs.Math.Nat.{mul-le-mul_left}
 use Rattle.std.proofs.lemmas.Slice.{take-put_mid}
 use Rattle.std.proofs.lemmas.List.{append-nil, drop_all, drop_more, map-append}
 use Rattle.std.proofs.lemmas.List.Elements.{All-append, All-drop, All-take}
-use Rattle.cj_values.specs.Numbers.{Number}
-use Rattle.cj_values.specs.Decimals.{IsReadable, number_of}
+use Rattle.cj_base.specs.Numbers.{Number}
+use Rattle.cj_base.specs.Decimals.{IsReadable, number_of}
 use Rattle.cj_kvn.specs.Decimals.{decimal_of}
-use Rattle.cj_values.specs.declared.decimals.Decimal.{Decimal}
+use Rattle.cj_base.specs.declared.decimals.Decimal.{Decimal}
 pub use Rattle.cj_kvn.proofs.DecimalLemmas.{written_more}
-use Rattle.cj_causes.specs.declared.oem_cause.OemCause.{OemCause}
+use Rattle.cj_formats.specs.declared.oem_cause.OemCause.{OemCause}
 use Rattle.std.specs.Prelude.{◌==◌, ◌||◌, not, false, Some}
 use Rattle.cj_oem.specs.CovarianceRows.{CovarianceDraft, number_or, numbers_said, with_fields}
 use Rattle.cj_oem.specs.Drafts.{value_count}

@@ -12,8 +12,8 @@ use Rattle.cj_track.specs.Segments.{node_count}
 use Rattle.cj_oem.specs.Stages.{Body, Start}
 use Rattle.cj_track.specs.Tracks.{plain_segment, plain_track}
 use Rattle.cj_oem.specs.declared.body.Body as program
-use Rattle.cj_causes.specs.declared.oem_cause.OemCause.{OemCause}
-use Rattle.cj_causes.specs.declared.oem_cause.OemCause.TheVariants as causes
+use Rattle.cj_formats.specs.declared.oem_cause.OemCause.{OemCause}
+use Rattle.cj_formats.specs.declared.oem_cause.OemCause.TheVariants as causes
 use Rattle.cj_kvn.specs.declared.text_fault.TextFault.{TextFault}
 use Rattle.cj_kvn.specs.declared.text_fault.TextFault.TheVariants.{Memory, At}
 use Rattle.cj_track.specs.declared.track.Track.{Track}

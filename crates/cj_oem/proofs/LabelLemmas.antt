@@ -7,7 +7,7 @@ use Rattle.std.proofs.lemmas.Bool.Decides.{nat_tests, leb_tells}
 use Rattle.std.proofs.lemmas.List.{length-map, length-take, length-reverse, get_or-map, get_or-reverse, get_or-take}
 use Rattle.std.proofs.lemmas.List.Elements.{All-cons, All-drop, All-map, All-nil, All-take, All-weaker}
 use Rattle.std.proofs.lemmas.List.Sums.{AllPass-from_list_all, list_all-from_AllPass, prefix_len_stops, suffix_len-le-length}
-use Rattle.cj_values.specs.Bytes.{spaced}
+use Rattle.cj_base.specs.Bytes.{spaced}
 use Rattle.cj_kvn.specs.Lines.{Form, Blank, Comment, Pair, Row, Numbered, is_blank, is_comment, is_equals, is_key, is_printable, trimmed, without_leading_blanks, mark_of, mark_or, pair_of, pair_or_row, form_of, form_at, line_at, line_form, lines_at, lines_said, reading}
 use Rattle.cj_kvn.specs.Faults.{◌>>=◌}
 use Rattle.cj_kvn.specs.declared.lines.KvnCause.{KvnCause}

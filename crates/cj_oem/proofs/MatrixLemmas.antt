@@ -7,11 +7,11 @@ use Rattle.std.proofs.lemmas.List.{append_assoc, append-nil, map-append}
 use Rattle.cj_kvn.specs.Lines.{Form, Blank, Comment, Mark, Pair, Row}
 use Rattle.cj_kvn.specs.Decimals.{decimal_of}
 use Rattle.cj_kvn.specs.Fields.{fields}
-use Rattle.cj_values.specs.Numbers.{Number}
+use Rattle.cj_base.specs.Numbers.{Number}
 use Rattle.cj_kvn.specs.declared.numbers.NumFault.{NumFault}
 use Rattle.cj_epoch.specs.Reading.{reading_of}
-use Rattle.cj_causes.specs.declared.oem_cause.OemCause.{OemCause}
-use Rattle.cj_causes.specs.declared.oem_cause.OemCause.TheVariants as causes
+use Rattle.cj_formats.specs.declared.oem_cause.OemCause.{OemCause}
+use Rattle.cj_formats.specs.declared.oem_cause.OemCause.TheVariants as causes
 use Rattle.cj_oem.specs.CovarianceRows.{Covariances, CovarianceDraft, NO_COVARIANCES, closed, closed_with, number_or, numbers_said, with_epoch, with_fields, with_frame, with_matrix_pair, with_matrix_row}
 use Rattle.cj_oem.specs.Drafts.{begun}
 use Rattle.cj_track.specs.PlainTracks.{PlainMatrix}

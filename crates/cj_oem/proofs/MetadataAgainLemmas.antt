@@ -7,7 +7,7 @@ use Rattle.std.proofs.lemmas.Bool.{and_parts}
 use Rattle.std.proofs.lemmas.Bool.Decides.{nat_tests}
 use Rattle.cj_kvn.specs.Lines.{Form, Mark, Pair, is_blank, is_comment, is_key}
 use Rattle.cj_kvn.specs.declared.lines.MarkKind.TheVariants.{MetaStart, MetaStop}
-use Rattle.cj_ticks.specs.Ticks.{IsTick}
+use Rattle.cj_base.specs.Ticks.{IsTick}
 use Rattle.cj_epoch.specs.Written.{epoch_of}
 use Rattle.cj_kvn.specs.Entries.{entry}
 use Rattle.cj_track.specs.Frames.{frame_text}

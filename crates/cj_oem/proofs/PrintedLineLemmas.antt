@@ -7,7 +7,7 @@ use Rattle.std.proofs.lemmas.Bool.{and_parts}
 use Rattle.std.proofs.lemmas.Bool.Decides.{nat_tests}
 use Rattle.std.proofs.lemmas.List.Elements.{All-head, All-tail}
 use Rattle.std.proofs.lemmas.List.Splits.{length-slice_split, slice_split_at}
-use Rattle.cj_values.specs.Bytes.{is_feed}
+use Rattle.cj_base.specs.Bytes.{is_feed}
 use Rattle.cj_kvn.specs.Lines.{Form, Numbered, line_form, lines_said}
 use Rattle.cj_kvn.specs.Lines as kvn
 use Rattle.cj_kvn.proofs.LineLemmas.{first_part}

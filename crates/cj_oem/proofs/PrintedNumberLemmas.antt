@@ -7,12 +7,12 @@ use Rattle.std.proofs.lemmas.Bool.{and_parts}
 use Rattle.std.proofs.lemmas.Bool.Decides.{nat_tests}
 use Rattle.std.proofs.lemmas.List.{length-append}
 use Rattle.cj_kvn.specs.Decimals.{decimal_text_of, exponent_text, leading_power, significand_text, minus_if}
-use Rattle.cj_values.specs.Numbers.{Number}
+use Rattle.cj_base.specs.Numbers.{Number}
 use Rattle.cj_kvn.specs.Numbers.{are_digits}
 use Rattle.cj_kvn.proofs.ListLemmas.{all_append}
 use Rattle.cj_kvn.proofs.NumberTextLemmas.{decimal_digits, decimals_shape}
-use Rattle.cj_ticks.specs.Ticks.{DAY, HOUR, MINUTE, SECOND}
-use Rattle.cj_ticks.specs.Calendar.{civil_of}
+use Rattle.cj_base.specs.Ticks.{DAY, HOUR, MINUTE, SECOND}
+use Rattle.cj_base.specs.Calendar.{civil_of}
 use Rattle.cj_epoch.specs.Written.{clock_text, date_text, epoch_of, four, six, two}
 use Rattle.cj_oem.specs.Canonical.{figure_text, twelve}
 use Rattle.cj_oem.proofs.FigureLemmas.{padded, zeros}

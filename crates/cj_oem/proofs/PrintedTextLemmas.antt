@@ -5,7 +5,7 @@ use Rattle.std.proofs.lemmas.Bool.{and_parts}
 use Rattle.std.proofs.lemmas.Bool.Decides.{nat_tests}
 use Rattle.std.proofs.lemmas.List.Sums.{AllPass-from_list_all}
 use Rattle.std.proofs.lemmas.List.{get_or-append_right, length-append, reverse-append, take_all, take_at, take_more}
-use Rattle.cj_values.specs.Bytes.{spaced}
+use Rattle.cj_base.specs.Bytes.{spaced}
 use Rattle.cj_kvn.specs.Lines.{is_blank, is_printable, trimmed, without_leading_blanks, without_trailing_blanks}
 use Rattle.cj_kvn.proofs.ListLemmas.{behind_no, behind_yes}
 use Rattle.cj_track.specs.Labels.{is_visible}

@@ -12,8 +12,8 @@ use Rattle.cj_kvn.specs.Faults.{Follows, Gives, IsToldAs, refused_at, at_line, l
 use Rattle.cj_oem.specs.Readers.{body_of, stage_of}
 use Rattle.cj_oem.specs.Reading.{Fault, read_on}
 use Rattle.cj_oem.specs.Stages.{Body, Stage, follows}
-use Rattle.cj_causes.specs.declared.oem_cause.OemCause.{OemCause}
-use Rattle.cj_causes.specs.declared.oem_cause.OemCause.TheVariants.{Kvn}
+use Rattle.cj_formats.specs.declared.oem_cause.OemCause.{OemCause}
+use Rattle.cj_formats.specs.declared.oem_cause.OemCause.TheVariants.{Kvn}
 use Rattle.cj_oem.specs.declared.body.Body as program
 use Rattle.cj_kvn.specs.declared.text_fault.TextFault.{TextFault}
 use Rattle.cj_kvn.specs.declared.text_fault.Refused.{Refused}

@@ -3,7 +3,7 @@ use Rattle.std.proofs.Common.{◌≡◌, ℕ, ◌+◌, List, [], ◌∷◌, ◌+
 use Rattle.std.proofs.lemmas.List.{append_assoc, append-nil, map-append}
 use Rattle.cj_kvn.specs.Lines.{Form, Blank, Comment, Mark, Pair, Row, Numbered, telling}
 use Rattle.cj_kvn.proofs.ListLemmas.{last_push}
-use Rattle.cj_causes.specs.declared.oem_cause.OemCause.{OemCause}
+use Rattle.cj_formats.specs.declared.oem_cause.OemCause.{OemCause}
 use Rattle.cj_oem.specs.CovarianceRows.{Covariances}
 use Rattle.cj_track.specs.PlainTracks.{PlainSegment, PlainNode}
 use Rattle.cj_oem.specs.Grammar.{Entry, pair_lines, row_lines}

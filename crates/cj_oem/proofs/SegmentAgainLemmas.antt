@@ -5,7 +5,7 @@ use Rattle.std.proofs.lemmas.Bool.{le-ltb}
 use Rattle.std.proofs.lemmas.List.Elements.{All-head, All-tail}
 use Rattle.cj_kvn.specs.Lines.{Form, Mark}
 use Rattle.cj_kvn.specs.declared.lines.MarkKind.TheVariants.{MetaStart, CovarianceStart, CovarianceStop}
-use Rattle.cj_ticks.specs.Ticks.{IsTick}
+use Rattle.cj_base.specs.Ticks.{IsTick}
 use Rattle.cj_oem.specs.Canonical.{covariance_text, covariances_text, row_text, segment_text}
 use Rattle.cj_oem.specs.CovarianceRows.{NO_COVARIANCES, closed}
 use Rattle.cj_track.specs.PlainTracks.{PlainSegment, PlainMatrix, PlainTrack, PlainNode}

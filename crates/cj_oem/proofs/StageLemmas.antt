@@ -3,7 +3,7 @@ use Rattle.std.proofs.Common.{◌≡◌, Bool, Err, refl}
 use Rattle.cj_kvn.specs.Lines.{Mark}
 use Rattle.cj_kvn.specs.declared.lines.MarkKind.{MarkKind}
 use Rattle.cj_kvn.specs.declared.lines.MarkKind.TheVariants.{MetaStart, MetaStop, CovarianceStart, CovarianceStop}
-use Rattle.cj_causes.specs.declared.oem_cause.OemCause.TheVariants.{Order}
+use Rattle.cj_formats.specs.declared.oem_cause.OemCause.TheVariants.{Order}
 use Rattle.cj_oem.specs.CovarianceRows.{Covariances}
 use Rattle.cj_oem.specs.Metadata.{MetadataDraft}
 use Rattle.cj_oem.specs.Stages.{Body, Head, OpenSegment, in_after, in_cov, in_data, in_header, in_meta}

@@ -8,13 +8,13 @@ use Rattle.std.proofs.lemmas.List.Elements.{All-head, All-tail}
 use Rattle.cj_kvn.specs.Fields.{fields}
 use Rattle.cj_kvn.specs.Lines.{Form, Pair, Row, is_comment, is_key}
 use Rattle.cj_kvn.proofs.ListLemmas.{last_push}
-use Rattle.cj_ticks.specs.Ticks.{IsTick}
+use Rattle.cj_base.specs.Ticks.{IsTick}
 use Rattle.cj_epoch.specs.Written.{epoch_of}
 use Rattle.cj_epoch.proofs.WrittenLemmas.{epoch_of-read}
 use Rattle.cj_kvn.specs.Entries.{line}
 use Rattle.cj_oem.specs.Canonical.{figure_text, row_text, vector_text}
-use Rattle.cj_causes.specs.declared.oem_cause.OemCause.{OemCause}
-use Rattle.cj_causes.specs.declared.oem_cause.OemCause.TheVariants as causes
+use Rattle.cj_formats.specs.declared.oem_cause.OemCause.{OemCause}
+use Rattle.cj_formats.specs.declared.oem_cause.OemCause.TheVariants as causes
 use Rattle.cj_track.specs.declared.vec3.Vec3.{Vec3}
 use Rattle.cj_track.specs.PlainTracks.{PlainNode}
 use Rattle.cj_track.specs.Limits.{IsWithin, MAX_COORDINATE, MAX_RATE}

@@ -3,7 +3,7 @@ use Rattle.std.proofs.Common.{◌≡◌, ℕ, List, Bool, true, false, IfOk, ◌
 use Rattle.std.specs.Prelude.{if◌then◌else◌, not}
 use Rattle.std.proofs.lemmas.Bool.{not-false}
 use Rattle.std.specs.Cmp.Lexicographic.{bytes_decides}
-use Rattle.cj_causes.specs.declared.oem_cause.OemCause.{OemCause}
+use Rattle.cj_formats.specs.declared.oem_cause.OemCause.{OemCause}
 use Rattle.cj_oem.specs.Words.{is_text}
 use Rattle.cj_kvn.specs.Faults.{◌>>=◌}
 use Rattle.cj_oem.specs.Metadata.{unless}

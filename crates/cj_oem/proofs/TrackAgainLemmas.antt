@@ -7,9 +7,9 @@ use Rattle.std.proofs.lemmas.Bool.Decides.{leb_tells, nat_tests}
 use Rattle.std.proofs.lemmas.Int.{ints}
 use Rattle.std.proofs.lemmas.List.{length-map}
 use Rattle.std.proofs.lemmas.List.Elements.{All-cons, All-head, All-tail}
-use Rattle.cj_values.specs.Decimals.{IsReadable, number_of}
+use Rattle.cj_base.specs.Decimals.{IsReadable, number_of}
 use Rattle.cj_kvn.specs.Decimals.{leading_power}
-use Rattle.cj_values.specs.declared.decimals.Decimal.{Decimal}
+use Rattle.cj_base.specs.declared.decimals.Decimal.{Decimal}
 use Rattle.cj_kvn.proofs.AgainLemmas.{IsNormal, again, zero_is}
 use Rattle.cj_kvn.proofs.CountLemmas.{count_most}
 use Rattle.cj_kvn.proofs.PrintLemmas.{power_of_zero}

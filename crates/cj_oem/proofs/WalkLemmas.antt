@@ -1,7 +1,7 @@
 -- Where the lines of a file lead, line after line.
 use Rattle.std.proofs.Common.{◌≡◌, ℕ, ◌+◌, List, [], ◌∷◌, ◌++◌, false, ap, ◌∙◌, refl, Result, Ok, Err}
 use Rattle.cj_kvn.specs.Lines.{Form}
-use Rattle.cj_causes.specs.declared.oem_cause.OemCause.{OemCause}
+use Rattle.cj_formats.specs.declared.oem_cause.OemCause.{OemCause}
 use Rattle.cj_kvn.specs.Faults.{◌>>=◌, at_line}
 use Rattle.cj_oem.specs.Reading.{read_on}
 use Rattle.cj_oem.specs.Stages.{Body, Stage, finished, follows}

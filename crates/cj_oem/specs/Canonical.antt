@@ -1,7 +1,7 @@
 -- The canonical text of an ephemeris.
 use Rattle.std.specs.Prelude.{ℕ, ◌-◌, ◌/◌, ◌%◌, ◌^◌, if◌then◌else◌, List, [], ◌∷◌, ◌++◌, length, take, drop, ℤ, pos, unsigned_abs, int_lt, decimal, codes}
 use Rattle.std.specs.List.{flat_map, repeat}
-use Rattle.cj_values.specs.Numbers.{Number}
+use Rattle.cj_base.specs.Numbers.{Number}
 use Rattle.cj_kvn.specs.Decimals.{decimal_text_of}
 use Rattle.cj_kvn.specs.Entries.{entry, line}
 use Rattle.cj_epoch.specs.Written.{epoch_of}

@@ -1,7 +1,7 @@
 -- How the program keeps the covariances that are being read.
 use Rattle.std.specs.Prelude.{ℕ, ◌+◌, ◌*◌, ◌/◌, false, [], map, take, option_map, Some, Result, Ok}
-use Rattle.cj_values.specs.Decimals.{number_of}
-use Rattle.cj_causes.specs.declared.oem_cause.OemCause.{OemCause}
+use Rattle.cj_base.specs.Decimals.{number_of}
+use Rattle.cj_formats.specs.declared.oem_cause.OemCause.{OemCause}
 use Rattle.cj_oem.specs.declared.draft.CovarianceDraft as kept_draft
 use Rattle.cj_oem.specs.declared.covariances.Covariances as kept_covariances
 use Rattle.cj_oem.specs.CovarianceRows.{CovarianceDraft, Covariances}

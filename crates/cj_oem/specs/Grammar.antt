@@ -1,7 +1,7 @@
 -- A file as a whole: a header, then blocks of metadata, nodes and covariances. Segment k is what block k says.
 use Rattle.std.specs.Prelude.{◌≡◌, ◌≢◌, ℕ, ◌+◌, ◌<◌, ◌≤◌, ◌⊎◌, Bool, true, false, List, [], ◌∷◌, ◌++◌}
 use Rattle.std.specs.Prelude.{map, flat_map, drop, length, All, AllPairs, Any, Contains, ℤ, Option, Some, None, Ok, IsSomeAnd, IsOk, codes}
-use Rattle.cj_values.specs.Bytes.{spaced}
+use Rattle.cj_base.specs.Bytes.{spaced}
 use Rattle.cj_kvn.specs.Lines.{Form, Mark, Pair, Row, Numbered, telling}
 use Rattle.cj_kvn.specs.Lines as kvn
 use Rattle.cj_kvn.specs.declared.lines.MarkKind.TheVariants.{MetaStart, MetaStop, CovarianceStart, CovarianceStop}
@@ -9,7 +9,7 @@ use Rattle.cj_kvn.specs.Fields.{fields}
 use Rattle.cj_kvn.specs.Numbers.{scaled_of}
 use Rattle.cj_kvn.specs.Decimals.{decimal_of}
 use Rattle.cj_epoch.specs.Reading.{reading_of}
-use Rattle.cj_ticks.specs.LeapSeconds.{leap_lies_between}
+use Rattle.cj_base.specs.LeapSeconds.{leap_lies_between}
 use Rattle.cj_track.specs.PlainTracks.{PlainNode, PlainMatrix, PlainSegment, PlainTrack, first_state, last_state}
 use Rattle.cj_track.specs.Labels.{is_file_name}
 use Rattle.cj_oem.specs.Words.{is_word}

@@ -1,6 +1,6 @@
 -- The metadata of a segment, key by key.
 use Rattle.std.specs.Prelude.{ℕ, Bool, true, false, ◌&&◌, ◌||◌, not, ◌==◌, if◌then◌else◌, List, length, map, Option, Some, None, is_some, unwrap_or, Result, Ok, Err, codes}
-use Rattle.cj_values.specs.Bytes.{spaced}
+use Rattle.cj_base.specs.Bytes.{spaced}
 use Rattle.cj_kvn.specs.Faults.{◌>>=◌}
 use Rattle.cj_epoch.specs.Reading.{reading_of}
 use Rattle.cj_epoch.specs.declared.fault.EpochFault.{EpochFault}
@@ -8,8 +8,8 @@ use Rattle.cj_track.specs.declared.frame.Frame.{Frame}
 use Rattle.cj_track.specs.declared.frame.Frame.TheVariants as frames
 use Rattle.cj_oem.specs.declared.key.Key.{Key}
 use Rattle.cj_oem.specs.declared.key.Key.TheVariants as keys
-use Rattle.cj_causes.specs.declared.oem_cause.OemCause.{OemCause}
-use Rattle.cj_causes.specs.declared.oem_cause.OemCause.TheVariants as causes
+use Rattle.cj_formats.specs.declared.oem_cause.OemCause.{OemCause}
+use Rattle.cj_formats.specs.declared.oem_cause.OemCause.TheVariants as causes
 use Rattle.cj_oem.specs.Words.{is_text, is_word}
 
 -- only where the test holds

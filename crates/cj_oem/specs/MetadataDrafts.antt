@@ -1,9 +1,9 @@
 -- What the draft of a program says.
 use Rattle.std.specs.Prelude.{◌≡◌, ◌⊎◌, ℕ, true, List, [], length, map, unwrap_or}
 use Rattle.std.specs.Option.{option_map}
-use Rattle.cj_values.specs.Bytes.{spaced}
+use Rattle.cj_base.specs.Bytes.{spaced}
 use Rattle.cj_kvn.specs.Lines.{Form, Blank, Comment, Mark, Pair, Row}
-use Rattle.cj_ticks.specs.declared.tick.Tick.{Tick}
+use Rattle.cj_base.specs.declared.tick.Tick.{Tick}
 use Rattle.cj_track.specs.declared.frame.Frame.{Frame}
 use Rattle.cj_track.specs.Labels.{is_label}
 use Rattle.cj_oem.specs.Metadata as spec

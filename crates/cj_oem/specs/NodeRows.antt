@@ -2,15 +2,15 @@
 use Rattle.std.specs.Prelude.{ℕ, ◌+◌, Bool, true, false, ◌||◌, not, ◌==◌, nat_lt, nat_le, if◌then◌else◌, List, [], length, drop, slice_index_or, Option, Some, None, Result, Ok, Err, ℤ, unsigned_abs}
 use Rattle.std.specs.List.{list_all}
 use Rattle.cj_kvn.specs.Fields.{fields}
-use Rattle.cj_values.specs.Numbers.{Number}
+use Rattle.cj_base.specs.Numbers.{Number}
 use Rattle.cj_kvn.specs.Numbers.{scaled_of}
 use Rattle.cj_kvn.specs.Decimals.{decimal_of}
 use Rattle.cj_kvn.specs.declared.numbers.NumFault.{NumFault}
 use Rattle.cj_kvn.specs.declared.numbers.NumFault.TheVariants.{NotNumber, TooLarge}
-use Rattle.cj_ticks.specs.LeapSeconds.{leap_lies_between}
+use Rattle.cj_base.specs.LeapSeconds.{leap_lies_between}
 use Rattle.cj_track.specs.declared.vec3.Vec3.{Vec3}
-use Rattle.cj_causes.specs.declared.oem_cause.OemCause.{OemCause}
-use Rattle.cj_causes.specs.declared.oem_cause.OemCause.TheVariants as causes
+use Rattle.cj_formats.specs.declared.oem_cause.OemCause.{OemCause}
+use Rattle.cj_formats.specs.declared.oem_cause.OemCause.TheVariants as causes
 use Rattle.cj_oem.specs.declared.figures.Figures.{Figures}
 use Rattle.cj_track.specs.Limits.{MAX_COORDINATE, MAX_RATE, MAX_STEP}
 use Rattle.cj_track.specs.PlainTracks.{PlainNode}

@@ -9,8 +9,8 @@ use Rattle.cj_kvn.specs.declared.text_fault.LineFault.{LineFault}
 use Rattle.cj_kvn.specs.declared.text_fault.TextFault.{TextFault}
 use Rattle.cj_kvn.specs.declared.text_fault.TextFault.TheVariants.{Memory, At}
 use Rattle.cj_track.specs.declared.track.Track.{Track}
-use Rattle.cj_causes.specs.declared.oem_cause.OemCause.{OemCause}
-use Rattle.cj_causes.specs.declared.oem_cause.OemCause.TheVariants as causes
+use Rattle.cj_formats.specs.declared.oem_cause.OemCause.{OemCause}
+use Rattle.cj_formats.specs.declared.oem_cause.OemCause.TheVariants as causes
 use Rattle.cj_track.specs.PlainTracks.{PlainTrack}
 use Rattle.cj_track.specs.Labels.{is_file_name}
 use Rattle.cj_oem.specs.Metadata.{Object}

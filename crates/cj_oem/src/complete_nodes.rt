@@ -6,7 +6,7 @@ ghost use Rattle.cj_track.specs.Useable.{LiesWithin};
 use crate::body::{Body, OpenSegment};
 use crate::node_checks::check_nodes;
 use crate::segment_metadata::Metadata;
-use cj_causes::OemCause;
+use cj_formats::OemCause;
 use cj_track::{Matrices, Matrix, Segment};
 use std::alloc::AllocError;
 

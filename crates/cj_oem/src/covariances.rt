@@ -5,7 +5,7 @@ ghost use Rattle.cj_kvn.specs.Faults.{Follows, Tells};
 
 use crate::draft::CovarianceDraft;
 use crate::word::parse_epoch;
-use cj_causes::OemCause;
+use cj_formats::OemCause;
 use cj_kvn::{Range32, Refused};
 use cj_track::Matrix;
 use std::alloc::Global;

@@ -1,16 +1,15 @@
 //! A matrix that is being read.
 ghost use Rattle.std.specs.Prelude.{◌≡◌, ◌≤◌};
 ghost use Rattle.std.specs.List.{All};
-ghost use Rattle.cj_values.specs.Decimals.{IsReadable, number_of};
+ghost use Rattle.cj_base.specs.Decimals.{IsReadable, number_of};
 
 use crate::figures::decimal_said;
 use crate::row_fields::{field_text, has_fields};
 use crate::word::is_word;
-use cj_causes::OemCause;
+use cj_base::{Decimal, Tick};
+use cj_formats::OemCause;
 use cj_kvn::Range32;
-use cj_ticks::Tick;
 use cj_track::Matrix;
-use cj_values::Decimal;
 
 /// A matrix that is being read: its epoch, whether its frame was given and is RTN, how many of its six rows were read, and their
 /// values, row by row.

@@ -1,5 +1,5 @@
 //! Why an ephemeris is not read.
-use cj_causes::OemCause;
+use cj_formats::OemCause;
 use cj_kvn::TextFault;
 
 /// Why an ephemeris is not read.

@@ -1,16 +1,16 @@
 //! The numbers of rows.
 ghost use Rattle.std.specs.Prelude.{◌≡◌, ◌^◌, ◌<◌, ◌≤◌, length, IfOk};
-ghost use Rattle.cj_values.specs.Decimals.{IsReadable, number_of};
+ghost use Rattle.cj_base.specs.Decimals.{IsReadable, number_of};
 ghost use Rattle.cj_kvn.specs.Decimals.{decimal_of};
 ghost use Rattle.cj_kvn.specs.Faults.{Tells};
 ghost use Rattle.cj_oem.specs.CovarianceRows.{number_or};
 ghost use Rattle.cj_track.specs.Limits.{IsWithin};
 ghost use Rattle.cj_oem.specs.NodeRows as spec;
 
-use cj_causes::OemCause;
+use cj_base::Decimal;
+use cj_formats::OemCause;
 use cj_kvn::{NumFault, read_decimal, read_scaled};
 use cj_track::Vec3;
-use cj_values::Decimal;
 
 /// Three numbers in units of 10^-12, each none where it is past every range.
 #[derive(Clone, Copy)]

@@ -4,7 +4,7 @@ ghost use Rattle.cj_kvn.specs.Faults.{Tells};
 ghost use Rattle.cj_oem.specs.Readers.{head_of};
 ghost use Rattle.cj_oem.specs.Stages as spec;
 
-use cj_causes::OemCause;
+use cj_formats::OemCause;
 
 /// Which keys the header has given.
 #[derive(Clone, Copy)]

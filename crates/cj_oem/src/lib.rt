@@ -24,7 +24,7 @@ mod stage;
 mod values;
 mod word;
 
-pub use cj_causes::OemCause;
+pub use cj_formats::OemCause;
 pub use cj_track::{Frame, Matrices, Matrix, Node, Nodes, Segment, Segments, Track, Vec3};
 pub use fault::OemFault;
 pub use printing::oem_text;

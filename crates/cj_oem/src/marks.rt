@@ -12,7 +12,7 @@ use crate::covariances::Covariances;
 use crate::head::Head;
 use crate::metadata_draft::MetadataDraft;
 use crate::stage::Stage;
-use cj_causes::OemCause;
+use cj_formats::OemCause;
 use cj_kvn::{MarkKind, Refused};
 use std::alloc::Global;
 

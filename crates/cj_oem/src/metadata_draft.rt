@@ -8,11 +8,10 @@ use crate::object::Object;
 use crate::segment_metadata::Metadata;
 use crate::values::{frame_of, id_of, name_of, parse_frame, parse_label};
 use crate::word::{is_word, parse_epoch};
-use cj_causes::OemCause;
+use cj_base::{Text, Tick};
+use cj_formats::OemCause;
 use cj_kvn::Refused;
-use cj_ticks::Tick;
 use cj_track::Frame;
-use cj_values::Text;
 use std::alloc::Global;
 
 /// What the keys of a block have said so far.

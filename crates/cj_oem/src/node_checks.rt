@@ -7,8 +7,8 @@ ghost use Rattle.cj_track.specs.Tracks.{plain_segment, plain_node};
 ghost use Rattle.cj_track.specs.Useable.{LiesWithin};
 
 use crate::body::{Body, OpenSegment};
-use cj_causes::OemCause;
-use cj_ticks::Tick;
+use cj_base::Tick;
+use cj_formats::OemCause;
 use cj_track::Node;
 
 /// The segments so far may take a segment with these nodes.

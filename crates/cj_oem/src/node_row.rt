@@ -12,8 +12,8 @@ ghost use Rattle.cj_track.specs.Tracks.{plain_node};
 
 use crate::figures::{Figures, is_decimal, parse_figure, within_or};
 use crate::word::parse_epoch;
-use cj_causes::OemCause;
 use cj_epoch::leap_between;
+use cj_formats::OemCause;
 use cj_kvn::{Range32, RowFields, row_fields};
 use cj_track::{Node, Vec3};
 

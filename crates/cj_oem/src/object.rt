@@ -1,8 +1,8 @@
 ghost use Rattle.std.specs.Prelude.{◌≡◌, true};
 ghost use Rattle.cj_track.specs.Labels.{is_label};
 
+use cj_base::Text;
 use cj_track::Frame;
-use cj_values::Text;
 
 /// The object of a file.
 #[derive(Drop)]

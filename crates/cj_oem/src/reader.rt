@@ -14,10 +14,10 @@ ghost use Rattle.cj_track.specs.Tracks.{plain_track};
 use crate::body::Body;
 use crate::fault::OemFault;
 use crate::stage::Stage;
-use cj_causes::OemCause;
+use cj_base::Text;
+use cj_formats::OemCause;
 use cj_kvn::LineCursor;
 use cj_track::Track;
-use cj_values::Text;
 use std::alloc::Global;
 
 /// The ephemeris that the bytes of the file with this name say.

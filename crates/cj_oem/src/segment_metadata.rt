@@ -1,5 +1,5 @@
 use crate::object::Object;
-use cj_ticks::Tick;
+use cj_base::Tick;
 
 /// What the metadata of a segment says: its object and its useable span.
 #[derive(Drop)]

@@ -14,7 +14,7 @@ use crate::head::Head;
 use crate::marks::{after_covariances, after_header, after_metadata, after_nodes, after_segment};
 use crate::metadata_draft::MetadataDraft;
 use crate::node_row::node_of_row;
-use cj_causes::OemCause;
+use cj_formats::OemCause;
 use cj_kvn::{LineKind, MarkKind, Range32, Refused};
 use std::alloc::Global;
 use std::mem;

@@ -8,10 +8,10 @@ ghost use Rattle.cj_oem.specs.MetadataDrafts.{IsLabelled, object_of};
 
 use crate::object::Object;
 use crate::word::is_word;
-use cj_causes::OemCause;
+use cj_base::Text;
+use cj_formats::OemCause;
 use cj_kvn::Refused;
 use cj_track::Frame;
-use cj_values::Text;
 use std::alloc::Global;
 
 /// What a name or a designator says: the first segment's, if there is one.

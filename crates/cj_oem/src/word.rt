@@ -4,9 +4,9 @@ ghost use Rattle.cj_kvn.specs.Faults.{Tells};
 ghost use Rattle.cj_oem.specs.Words as words;
 ghost use Rattle.cj_oem.specs.Metadata as spec;
 
-use cj_causes::OemCause;
+use cj_base::Tick;
 use cj_epoch::read_epoch;
-use cj_ticks::Tick;
+use cj_formats::OemCause;
 
 /// Whether a text is this word, without regard to the case of letters.
 #[tactic(auto, unfolding(crate::specs::Words::is_word))]

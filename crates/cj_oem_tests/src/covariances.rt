@@ -1,9 +1,6 @@
 ghost use Rattle.std.specs.Prelude.{◌<◌};
 
-use crate::texts::{
-    Changed, Fault, Valued, base_with, counts_of, fault_in, has_values, matrix_tick, read,
-    two_with, wrong_with,
-};
+use crate::texts::{Changed, Fault, Valued, base_with, counts_of, fault_in, has_values, matrix_tick, read, two_with, wrong_with};
 use cj_epoch::EpochFault;
 use cj_kvn::KvnCause;
 use cj_oem::{OemCause, OemFault};

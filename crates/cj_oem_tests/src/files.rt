@@ -1,7 +1,4 @@
-use crate::texts::{
-    Changed, Fault, Stated, Useable, base_with, begins_with, counts_of, fault_in, fault_of,
-    has_useable, has_values, is_of, matrix_tick, read, wrong_with,
-};
+use crate::texts::{Changed, Fault, Stated, Useable, base_with, begins_with, counts_of, fault_in, fault_of, has_useable, has_values, is_of, matrix_tick, read, wrong_with};
 use cj_kvn::KvnCause;
 use cj_oem::{Frame, OemCause, OemFault, read_oem};
 use cj_samples::Change;

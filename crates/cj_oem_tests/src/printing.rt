@@ -1,6 +1,4 @@
-use crate::texts::{
-    Stated, Useable, base_with, begins_with, has_useable, has_values, matrix_tick, read,
-};
+use crate::texts::{Stated, Useable, base_with, begins_with, has_useable, has_values, matrix_tick, read};
 use cj_oem::{OemFault, Track, oem_text};
 use cj_samples::Change;
 use std::alloc::Global;

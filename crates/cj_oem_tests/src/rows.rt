@@ -1,6 +1,4 @@
-use crate::texts::{
-    Case, Changed, Stated, base_with, begins_with, read, wrong_in_base, wrong_with,
-};
+use crate::texts::{Case, Changed, Stated, base_with, begins_with, read, wrong_in_base, wrong_with};
 use cj_epoch::EpochFault;
 use cj_oem::OemCause;
 use cj_samples::Change;

@@ -1,7 +1,4 @@
-use crate::texts::{
-    Case, Changed, Stated, begins_with, counts_of, has_useable, read, two_with, wrong_in_base,
-    wrong_in_two, wrong_with,
-};
+use crate::texts::{Case, Changed, Stated, begins_with, counts_of, has_useable, read, two_with, wrong_in_base, wrong_in_two, wrong_with};
 use cj_oem::OemCause;
 use cj_samples::Change;
 use std::panic::Expect;

@@ -1,7 +1,7 @@
 -- A run that asks for an accepted certificate: how it ends, of how its parts do.
 use Rattle.std.proofs.Common.{◌≡◌, ℕ, List, Some, None, Result, Ok, Err, refl, ap, sym, subst, ◌∙◌}
 use Rattle.cj_io.specs.declared.file.FileBytes.{FileBytes}
-use Rattle.cj_hermite.specs.PlainProblems.{PlainProblem}
+use Rattle.cj_case.specs.PlainProblems.{PlainProblem}
 use Rattle.cj_cert.specs.Certificates.{PlainCertificate}
 use Rattle.cj_cert_text.specs.Reading.{reading}
 use Rattle.cj_checker.specs.First.{first_failure, Failure}

@@ -2,12 +2,13 @@
 use Rattle.std.proofs.Common.{ℕ, ◌+◌, List, [], ◌∷◌, sym, subst, arith}
 use Rattle.std.specs.List.{AllZip, flat_map}
 use Rattle.cj_interval.proofs.ListLemmas.{Each, Ordered, Each-weaker, Each-append, Ordered-append, All-from_each, AllPairs-from_ordered}
-use Rattle.cj_hermite.specs.PlainProblems.{PlainProblem}
-use Rattle.cj_hermite.specs.Roots.{PlainCell, KeepPieces, IsRootBefore, roots_of}
+use Rattle.cj_case.specs.PlainProblems.{PlainProblem}
+use Rattle.cj_case.specs.Cells.{PlainCell, IsRootBefore}
+use Rattle.cj_hermite.specs.Roots.{KeepPieces, roots_of}
 use Rattle.cj_hermite.proofs.CurveLemmas.{keep_part, root_pieces}
 use Rattle.cj_hermite.proofs.RootLemmas.{IsRootOf, Each-roots, Ordered-roots}
-use Rattle.cj_bezier.specs.Leaves.{PlainLeaf}
-use Rattle.cj_bezier.specs.Order.{IsBefore, AreInOrder}
+use Rattle.cj_case.specs.Leaves.{PlainLeaf}
+use Rattle.cj_case.specs.Order.{IsBefore, AreInOrder}
 use Rattle.cj_bezier.specs.Tiles.{IsLeaf, Tile}
 use Rattle.cj_bezier.proofs.HalvingLemmas.{Each-tile}
 use Rattle.cj_meet.specs.Closest.{KeepTheirPieces}

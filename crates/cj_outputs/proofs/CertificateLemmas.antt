@@ -1,6 +1,6 @@
 -- What is found in a case is what its certificate is made of.
 use Rattle.std.proofs.Common.{◌≡◌, refl}
-use Rattle.cj_hermite.specs.PlainProblems.{PlainProblem}
+use Rattle.cj_case.specs.PlainProblems.{PlainProblem}
 use Rattle.cj_cells.specs.Lists.{list_candidates, list_of}
 use Rattle.cj_cert.specs.Written.{leaves_in_order}
 

@@ -4,15 +4,15 @@ use Rattle.std.specs.Prelude.{IfSome}
 use Rattle.std.specs.List.{enumerate_from, cons_option, filter_map, flat_map}
 use Rattle.std.proofs.lemmas.List.{length-append, length-map}
 use Rattle.std.proofs.lemmas.List.FromFn.{length-enumerate_from, length-range_with_len}
-use Rattle.cj_values.specs.Bounds.{MOST_LEAVES, MOST_OBJECTS, MOST_OBJECT_SLOTS}
+use Rattle.cj_base.specs.Bounds.{MOST_LEAVES, MOST_OBJECTS, MOST_OBJECT_SLOTS}
 use Rattle.cj_track.specs.PlainTracks.{PlainTrack}
 use Rattle.cj_io.specs.declared.file.FileBytes.{FileBytes}
 use Rattle.cj_track.specs.Tracks.{plain_track}
-use Rattle.cj_hermite.specs.PlainProblems.{PlainProblem}
+use Rattle.cj_case.specs.PlainProblems.{PlainProblem}
 use Rattle.cj_hermite.specs.Roots.{slots_of}
-use Rattle.cj_hermite.specs.Slots.{slot_count}
+use Rattle.cj_case.specs.Slots.{slot_count}
 use Rattle.cj_words.specs.Commands.{PlainChecking}
-use Rattle.cj_bezier.specs.Leaves.{PlainLeaf, plain_leaf}
+use Rattle.cj_case.specs.Leaves.{PlainLeaf, plain_leaf}
 use Rattle.cj_cells.specs.Lists.{list_candidates}
 use Rattle.cj_cert.specs.Certificates.{PlainCertificate, line_count}
 use Rattle.cj_cert_text.specs.Texts.{text_of}

@@ -2,19 +2,19 @@
 use Rattle.std.proofs.Common.{◌≡◌, ℕ, ◌*◌, ◌^◌, ◌<◌, ◌≤◌, List, [], ◌∷◌, length, None, Ok, refl, sym, ap, ◌∙◌, subst, arith}
 use Rattle.std.specs.Prelude.{All}
 use Rattle.std.proofs.lemmas.List.{length-map}
-use Rattle.cj_values.specs.Limits.{PlainLimits, USUAL}
+use Rattle.cj_base.specs.Limits.{PlainLimits, USUAL}
 use Rattle.cj_io.specs.declared.file.FileBytes.{FileBytes}
-use Rattle.cj_causes.specs.declared.cert_version.CertVersion.{CertVersion}
-use Rattle.cj_causes.specs.declared.cert_version.CertVersion.TheVariants.{One, Two}
-use Rattle.cj_causes.specs.Versions.{most_objects}
-use Rattle.cj_ticks.specs.Ticks.{LAST_TICK}
+use Rattle.cj_formats.specs.declared.cert_version.CertVersion.{CertVersion}
+use Rattle.cj_formats.specs.declared.cert_version.CertVersion.TheVariants.{One, Two}
+use Rattle.cj_formats.specs.Versions.{most_objects}
+use Rattle.cj_base.specs.Ticks.{LAST_TICK}
 use Rattle.cj_track.specs.Tracks.{plain_track}
-use Rattle.cj_hermite.specs.declared.problem.Problem.{Problem}
-use Rattle.cj_hermite.specs.Limits.{MAX_SIZE}
-use Rattle.cj_hermite.specs.PlainProblems.{PlainProblem}
-use Rattle.cj_hermite.specs.Problems.{plain_problem}
-use Rattle.cj_hermite.specs.Slots.{slot_count}
-use Rattle.cj_bezier.specs.Leaves.{PlainLeaf}
+use Rattle.cj_case.specs.declared.problem.Problem.{Problem}
+use Rattle.cj_case.specs.CaseLimits.{MAX_SIZE}
+use Rattle.cj_case.specs.PlainProblems.{PlainProblem}
+use Rattle.cj_case.specs.Problems.{plain_problem}
+use Rattle.cj_case.specs.Slots.{slot_count}
+use Rattle.cj_case.specs.Leaves.{PlainLeaf}
 use Rattle.cj_cells.specs.Lists.{list_candidates}
 use Rattle.cj_cert.specs.declared.cert_lines.SizeOfLine.{SizeOfLine}
 use Rattle.cj_cert.specs.Accepted.{Accepted, AreSizesIn}

@@ -1,9 +1,9 @@
 -- What the report that is made of findings says.
 use Rattle.std.proofs.Common.{◌≡◌, ℕ, Option, map, List, Bool, sym, ap, ◌∙◌}
-use Rattle.cj_bezier.specs.declared.encounter.Closest.{Closest}
-use Rattle.cj_bezier.specs.declared.encounter.Encounter.{Encounter}
-use Rattle.cj_bezier.specs.declared.leaf.Leaf.{Leaf}
-use Rattle.cj_bezier.specs.Leaves.{PlainLeaf, plain_leaves}
+use Rattle.cj_case.specs.declared.encounter.Closest.{Closest}
+use Rattle.cj_case.specs.declared.encounter.Encounter.{Encounter}
+use Rattle.cj_case.specs.declared.leaf.Leaf.{Leaf}
+use Rattle.cj_case.specs.Leaves.{PlainLeaf, plain_leaves}
 use Rattle.cj_meet.specs.Closest.{PlainClosest, closest_of, some_closest}
 use Rattle.cj_meet.specs.Encounters.{encounters_of, groups_in}
 use Rattle.cj_report.specs.Report.{report_of, told}

@@ -1,11 +1,11 @@
 -- What is found in a problem, and what is put of it.
 use Rattle.std.specs.Prelude.{◌≡◌, ◌≤◌, List, length, map, Result, Ok, Err}
-use Rattle.cj_values.specs.Bounds.{MOST_LEAVES}
+use Rattle.cj_base.specs.Bounds.{MOST_LEAVES}
 use Rattle.cj_io.specs.declared.file.FileBytes.{FileBytes}
-use Rattle.cj_hermite.specs.PlainProblems.{PlainProblem}
-use Rattle.cj_hermite.specs.Problems.{plain_problem}
-use Rattle.cj_bezier.specs.Leaves.{plain_leaves}
-use Rattle.cj_bezier.specs.SlotBoxes.{plain_boxes}
+use Rattle.cj_case.specs.PlainProblems.{PlainProblem}
+use Rattle.cj_case.specs.Problems.{plain_problem}
+use Rattle.cj_case.specs.Leaves.{plain_leaves}
+use Rattle.cj_case.specs.Boxes.{plain_boxes}
 use Rattle.cj_cells.specs.Lists.{list_candidates}
 use Rattle.cj_bezier.specs.Candidates.{shells_of}
 use Rattle.cj_bezier.specs.AllBoxes.{boxes_of}

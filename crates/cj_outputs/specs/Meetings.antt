@@ -1,7 +1,7 @@
 -- What is told of the encounters of a problem.
 use Rattle.std.specs.Prelude.{◌≡◌, List, map}
-use Rattle.cj_hermite.specs.PlainProblems.{PlainProblem}
-use Rattle.cj_bezier.specs.Leaves.{PlainLeaf}
+use Rattle.cj_case.specs.PlainProblems.{PlainProblem}
+use Rattle.cj_case.specs.Leaves.{PlainLeaf}
 use Rattle.cj_meet.specs.Closest.{closest_of, some_closest}
 use Rattle.cj_meet.specs.Encounters.{AreEncounters, groups_in}
 use Rattle.cj_outputs.specs.Messages.{has_message}

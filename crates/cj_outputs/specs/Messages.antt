@@ -2,8 +2,8 @@
 use Rattle.std.specs.Prelude.{ℕ, Bool, false, List, Option, option_map, option_and_then, option_to_list}
 use Rattle.std.specs.Option.{option_map_or}
 use Rattle.cj_io.specs.declared.file.FileBytes.{FileBytes}
-use Rattle.cj_hermite.specs.PlainProblems.{PlainProblem}
-use Rattle.cj_bezier.specs.Leaves.{PlainLeaf}
+use Rattle.cj_case.specs.PlainProblems.{PlainProblem}
+use Rattle.cj_case.specs.Leaves.{PlainLeaf}
 use Rattle.cj_meet.specs.Closest.{closest_of}
 use Rattle.cj_meet.specs.Encounters.{first_object, second_object}
 use Rattle.cj_cdm.specs.Building.{have_covariances, message_of}

@@ -2,7 +2,7 @@
 use Rattle.std.specs.Prelude.{◌≡◌, ℕ, ◌≤◌, List, ◌++◌, length, Option, Some, Ok}
 use Rattle.cj_io.specs.declared.file.FileBytes.{FileBytes}
 use Rattle.cj_words.specs.Commands.{PlainChecking}
-use Rattle.cj_hermite.specs.PlainProblems.{PlainProblem}
+use Rattle.cj_case.specs.PlainProblems.{PlainProblem}
 use Rattle.cj_cert.specs.Accepted.{Accepted}
 use Rattle.cj_cert.specs.Certificates.{PlainCertificate}
 use Rattle.cj_cert_text.specs.Fits.{Fits}

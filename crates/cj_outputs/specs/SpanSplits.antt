@@ -1,9 +1,10 @@
 -- Encounters whose spans split the common ticks of every pair.
 use Rattle.std.specs.Prelude.{ℕ, List, Any}
 use Rattle.cj_hermite.specs.Distance.{IsNear, IsFar, IsInBand}
-use Rattle.cj_hermite.specs.PlainProblems.{PlainProblem, threshold_of, IsCommonOf, OfObjectsAt}
-use Rattle.cj_bezier.specs.declared.kind.Kind.TheVariants.{Near, Undecided}
-use Rattle.cj_bezier.specs.Leaves.{PlainLeaf}
+use Rattle.cj_case.specs.PlainProblems.{PlainProblem, threshold_of}
+use Rattle.cj_hermite.specs.ObjectsAtTicks.{IsCommonOf, OfObjectsAt}
+use Rattle.cj_case.specs.declared.kind.Kind.TheVariants.{Near, Undecided}
+use Rattle.cj_case.specs.Leaves.{PlainLeaf}
 use Rattle.cj_meet.specs.Spans.{LiesInSpan}
 
 -- The spans of these encounters split the common ticks of every pair of objects a and b. A span holds common ticks only.

@@ -1,10 +1,10 @@
 -- What is counted in a case.
 use Rattle.std.specs.Prelude.{ℕ, ◌-◌, Bool, List, length, count_by}
-use Rattle.cj_hermite.specs.PlainProblems.{PlainProblem}
-use Rattle.cj_hermite.specs.Pairs.{pairs_of}
-use Rattle.cj_bezier.specs.declared.kind.Kind.{Kind}
-use Rattle.cj_bezier.specs.declared.kind.Kind.TheVariants.{Far, Near, Undecided}
-use Rattle.cj_bezier.specs.Leaves.{PlainLeaf, same_kind}
+use Rattle.cj_case.specs.PlainProblems.{PlainProblem}
+use Rattle.cj_case.specs.Pairs.{pairs_of}
+use Rattle.cj_case.specs.declared.kind.Kind.{Kind}
+use Rattle.cj_case.specs.declared.kind.Kind.TheVariants.{Far, Near, Undecided}
+use Rattle.cj_case.specs.Leaves.{PlainLeaf, same_kind}
 use Rattle.cj_bezier.specs.Candidates.{is_candidate, pairs_kept}
 use Rattle.cj_hermite.specs.Roots.{roots_of}
 use Rattle.cj_cells.specs.Lists.{splits_of}

@@ -2,7 +2,7 @@
 ghost use Rattle.std.specs.Prelude.{◌≡◌, ◌≢◌, [], ◌∷◌, ◌-◌, ◌<◌, ◌≤◌, ◌^◌, List, Some, Ok, Err, IfOk, IfErr, OnOk, length};
 ghost use Rattle.cj_io.specs.Faults.{Rose};
 ghost use Rattle.cj_io.specs.declared.file.FileBytes.{FileBytes};
-ghost use Rattle.cj_hermite.specs.Problems.{plain_problem};
+ghost use Rattle.cj_case.specs.Problems.{plain_problem};
 ghost use Rattle.cj_cert.specs.Accepted.{Accepted};
 ghost use Rattle.cj_cert.specs.Certificates.{line_count, plain_certificate};
 ghost use Rattle.cj_cert.specs.Splits.{CellsSplit};
@@ -16,10 +16,10 @@ ghost use Rattle.cj_status.specs.Steps.{Gives, ComesBetween};
 
 use crate::reporting::tells_sizes;
 use crate::vouching::accept_report;
+use cj_case::Problem;
 use cj_cert::Certificate;
 use cj_cert_text::{CertFault, read_cert};
 use cj_checker::{Answer, check};
-use cj_hermite::Problem;
 use cj_inputs::{CheckInputs, prepare_check};
 use cj_io::Folder;
 use cj_status::{CertificateCause, Status};

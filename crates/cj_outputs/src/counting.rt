@@ -1,20 +1,19 @@
 //! What the summary of a problem counts.
 ghost use Rattle.std.specs.Prelude.{◌≡◌, ◌+◌, ◌≤◌, length, map, count_by};
-ghost use Rattle.cj_values.specs.Bounds.{MOST_LEAVES, MOST_OBJECTS};
-ghost use Rattle.cj_bezier.specs.Leaves.{plain_leaves};
+ghost use Rattle.cj_base.specs.Bounds.{MOST_LEAVES, MOST_OBJECTS};
+ghost use Rattle.cj_case.specs.Leaves.{plain_leaves};
 ghost use Rattle.cj_candidates.specs.Counts.{candidate_count};
 ghost use Rattle.cj_cells.specs.Lists.{splits_of};
 ghost use Rattle.cj_bezier.specs.Candidates.{is_candidate};
 ghost use Rattle.cj_hermite.specs.Roots.{roots_of};
-ghost use Rattle.cj_hermite.specs.Pairs.{pairs_of};
-ghost use Rattle.cj_hermite.specs.Problems.{plain_problem};
+ghost use Rattle.cj_case.specs.Pairs.{pairs_of};
+ghost use Rattle.cj_case.specs.Problems.{plain_problem};
 ghost use Rattle.cj_meet.specs.Encounters.{encounters_of};
 ghost use Rattle.cj_report.specs.Counts.{tally_of};
 ghost use Rattle.cj_outputs.specs.Messages.{has_message};
 ghost use Rattle.cj_outputs.specs.Summaries as spec;
 
-use cj_bezier::{Kind, Leaf};
-use cj_hermite::Problem;
+use cj_case::{Kind, Leaf, Problem};
 use cj_report::Counts;
 
 /// What is counted before any cell is halved.

@@ -1,6 +1,5 @@
-use cj_bezier::{AxisBox, Closest, Encounter, Leaf, Shell};
-use cj_causes::CertVersion;
-use cj_hermite::Problem;
+use cj_case::{AxisBox, Closest, Encounter, Leaf, Problem, Shell};
+use cj_formats::CertVersion;
 use cj_report::Counts;
 
 /// All that is found in a problem. After it a run can fail only for want of memory or in a write.

@@ -1,9 +1,9 @@
 //! That a check accepts what a run put: a law, which costs next to nothing to call.
 ghost use Rattle.std.specs.Prelude.{◌≡◌, ◌≤◌, List, Ok, length};
-ghost use Rattle.cj_values.specs.Limits.{USUAL};
+ghost use Rattle.cj_base.specs.Limits.{USUAL};
 ghost use Rattle.cj_io.specs.declared.file.FileBytes.{FileBytes};
-ghost use Rattle.cj_causes.specs.declared.cert_version.CertVersion.{CertVersion};
-ghost use Rattle.cj_hermite.specs.Problems.{plain_problem};
+ghost use Rattle.cj_formats.specs.declared.cert_version.CertVersion.{CertVersion};
+ghost use Rattle.cj_case.specs.Problems.{plain_problem};
 ghost use Rattle.cj_cells.specs.Lists.{list_candidates};
 ghost use Rattle.cj_cert.specs.Accepted.{Accepted};
 ghost use Rattle.cj_cert.specs.Certificates.{PlainCertificate};
@@ -15,9 +15,9 @@ ghost use Rattle.cj_inputs.specs.Cases.{case_asked};
 ghost use Rattle.cj_outputs.specs.Again.{IsAcceptedLater};
 ghost use Rattle.cj_outputs.specs.Outcome.{cert_bytes};
 
+use cj_case::Problem;
 use cj_cert::acceptance;
 use cj_checker::acceptance as first_failures;
-use cj_hermite::Problem;
 
 /// What is written as the certificate of a problem that is asked of files within the usual limits, a check of these files accepts, once it is
 /// among them.

@@ -1,17 +1,16 @@
 //! From the leaves of a problem to its encounters and what is told of them.
 ghost use Rattle.std.specs.Prelude.{◌≤◌, length, All, IfOk, OnOk};
-ghost use Rattle.cj_values.specs.Bounds.{MOST_LEAVES};
-ghost use Rattle.cj_hermite.specs.Problems.{plain_problem};
-ghost use Rattle.cj_bezier.specs.Leaves.{plain_leaves};
-ghost use Rattle.cj_bezier.specs.Order.{AreInOrder};
+ghost use Rattle.cj_base.specs.Bounds.{MOST_LEAVES};
+ghost use Rattle.cj_case.specs.Problems.{plain_problem};
+ghost use Rattle.cj_case.specs.Leaves.{plain_leaves};
+ghost use Rattle.cj_case.specs.Order.{AreInOrder};
 ghost use Rattle.cj_meet.specs.Closest.{HasNearest, KeepTheirPieces};
 ghost use Rattle.cj_meet.specs.Encounters.{encounters_of};
 ghost use Rattle.cj_meet.specs.Spans.{HaveExactSpans};
 ghost use Rattle.cj_outputs.specs.Meetings.{AreMeetings};
 
 use crate::messages::note_messages;
-use cj_bezier::{Closest, Encounter, Leaf};
-use cj_hermite::Problem;
+use cj_case::{Closest, Encounter, Leaf, Problem};
 use cj_meet::{closest_approaches, encounters};
 use std::alloc::{AllocError, Global};
 use std::thread::Threads;

@@ -1,5 +1,5 @@
+use cj_base::Tick;
 use cj_cdm::Stamp;
-use cj_ticks::Tick;
 use cj_words::Screening;
 
 /// When the messages of a run are made, and by whom.

@@ -6,9 +6,8 @@ ghost use Rattle.cj_io.specs.declared.file.FileBytes.{FileBytes};
 ghost use Rattle.cj_outputs.specs.Findings.{ended};
 ghost use Rattle.cj_outputs.specs.Outcome.{ComesOfPuts, Leaves, output};
 
-use cj_io::Shelf;
+use cj_io::{PartSource, Shelf, StreamShelf};
 use cj_status::Status;
-use cj_stream::{PartSource, StreamShelf};
 use std::alloc::Global;
 use std::thread::Threads;
 

@@ -1,9 +1,9 @@
 //! Whether a report is that of the cells of an accepted certificate.
 ghost use Rattle.std.specs.Prelude.{◌≡◌, ◌≢◌, ◌≤◌, Err, All, IfOk, IfErr, IfSome, OnOk, count_by, length, map, option_map};
-ghost use Rattle.cj_values.specs.Bounds.{MOST_LEAVES};
-ghost use Rattle.cj_hermite.specs.Problems.{plain_problem};
-ghost use Rattle.cj_bezier.specs.Leaves.{plain_leaf, plain_leaves};
-ghost use Rattle.cj_bezier.specs.Order.{AreInOrder};
+ghost use Rattle.cj_base.specs.Bounds.{MOST_LEAVES};
+ghost use Rattle.cj_case.specs.Problems.{plain_problem};
+ghost use Rattle.cj_case.specs.Leaves.{plain_leaf, plain_leaves};
+ghost use Rattle.cj_case.specs.Order.{AreInOrder};
 ghost use Rattle.cj_cert.specs.Certificates.{plain_cell_line};
 ghost use Rattle.cj_cert.specs.Splits.{CellsSplit};
 ghost use Rattle.cj_meet.specs.Closest.{HasNearest, KeepTheirPieces};
@@ -16,9 +16,8 @@ ghost use Rattle.cj_status.specs.Steps.{Gives, ComesBetween};
 
 use crate::checking::WORKERS;
 use crate::meetings::find_meetings;
-use cj_bezier::{Cell, Leaf};
+use cj_case::{Cell, Leaf, Problem};
 use cj_cert::CellLine;
-use cj_hermite::Problem;
 use cj_report::report_text;
 use cj_status::{CertificateCause, LimitFault, Status};
 use std::alloc::{AllocError, Global};

@@ -8,16 +8,16 @@ use Rattle.std.proofs.lemmas.List.{length-map}
 use Rattle.std.proofs.lemmas.List.Elements.{All-map, All-weaker}
 use Rattle.std.proofs.lemmas.List.FromFn.{length-range_with_len}
 use Rattle.std.proofs.lemmas.List.Sorted.{IsPermutation-append_left, IsPermutation-map, IsPermutation-trans, length_permutation}
-use Rattle.cj_values.specs.Bounds.{MOST_LEAVES}
+use Rattle.cj_base.specs.Bounds.{MOST_LEAVES}
 use Rattle.atomic_blocks.specs.Lent.{RowsId}
 use Rattle.cj_interval.proofs.ListLemmas.{each_from_All, All-from_each}
-use Rattle.cj_hermite.specs.Problems.{plain_problem}
-use Rattle.cj_hermite.specs.Roots.{IsRootUpTo}
-use Rattle.cj_hermite.specs.declared.problem.Problem.{Problem}
-use Rattle.cj_bezier.specs.declared.cell.Cell.{Cell}
-use Rattle.cj_bezier.specs.declared.leaf.Leaf.{Leaf}
-use Rattle.cj_bezier.specs.Cells.{plain_cells}
-use Rattle.cj_bezier.specs.Leaves.{plain_leaf, plain_leaves}
+use Rattle.cj_case.specs.Problems.{plain_problem}
+use Rattle.cj_case.specs.Cells.{IsRootUpTo}
+use Rattle.cj_case.specs.declared.problem.Problem.{Problem}
+use Rattle.cj_case.specs.declared.cell.Cell.{Cell}
+use Rattle.cj_case.specs.declared.leaf.Leaf.{Leaf}
+use Rattle.cj_case.specs.Cells.{plain_cells}
+use Rattle.cj_case.specs.Leaves.{plain_leaf, plain_leaves}
 use Rattle.cj_bezier.specs.RootLeaves.{leaves_of_root, leaves_of_roots, Describe}
 use Rattle.cj_ledger.specs.Shares.{LedgerSeen, ShareSeen, IsOf}
 use Rattle.cj_ledger.specs.declared.totals.Totals.{Totals}

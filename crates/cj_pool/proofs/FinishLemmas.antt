@@ -9,13 +9,13 @@ use Rattle.std.proofs.lemmas.List.Elements.{All-weaker, All-contains, All-contai
 use Rattle.std.proofs.lemmas.List.Sorted.{Contains-permutation}
 use Rattle.cj_interval.proofs.ListLemmas.{Each, Exists, Ordered, Each-append, each_from_All, ordered_from_AllPairs, All-from_each}
 use Rattle.cj_interval.proofs.SumLemmas.{total, same_totals, same_list}
-use Rattle.cj_hermite.specs.PlainProblems.{PlainProblem}
-use Rattle.cj_hermite.specs.Roots.{IsRootBefore, IsRootUpTo}
-use Rattle.cj_bezier.specs.declared.cell.Cell.{Cell}
-use Rattle.cj_bezier.specs.declared.leaf.Leaf.{Leaf}
-use Rattle.cj_bezier.specs.Cells.{plain_cell, plain_cells}
-use Rattle.cj_bezier.specs.Leaves.{PlainLeaf, plain_leaf, plain_leaves, same_kind}
-use Rattle.cj_bezier.specs.Order.{IsBefore}
+use Rattle.cj_case.specs.PlainProblems.{PlainProblem}
+use Rattle.cj_case.specs.Cells.{IsRootBefore, IsRootUpTo}
+use Rattle.cj_case.specs.declared.cell.Cell.{Cell}
+use Rattle.cj_case.specs.declared.leaf.Leaf.{Leaf}
+use Rattle.cj_case.specs.Cells.{plain_cell, plain_cells}
+use Rattle.cj_case.specs.Leaves.{PlainLeaf, plain_leaf, plain_leaves, same_kind}
+use Rattle.cj_case.specs.Order.{IsBefore}
 use Rattle.cj_bezier.proofs.KindLemmas.{from_same_kind, same_kind-self}
 use Rattle.cj_bezier.specs.RootLeaves.{leaves_of_root, leaves_of_roots, Describe}
 use Rattle.cj_pool.specs.Hands.{HandSeen, Accounts, cells_of}

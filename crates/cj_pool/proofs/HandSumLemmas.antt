@@ -3,9 +3,9 @@ use Rattle.std.proofs.Common.{◌≡◌, ℕ, ◌+◌, ◌<◌, List, [], ◌∷
 use Rattle.std.specs.List.{flat_map, range_with_len}
 use Rattle.std.proofs.lemmas.List.{take-append-drop, map-append}
 use Rattle.cj_interval.proofs.ListLemmas.{Each}
-use Rattle.cj_hermite.specs.PlainProblems.{PlainProblem}
-use Rattle.cj_bezier.specs.declared.cell.Cell.{Cell}
-use Rattle.cj_bezier.specs.declared.leaf.Leaf.{Leaf}
+use Rattle.cj_case.specs.PlainProblems.{PlainProblem}
+use Rattle.cj_case.specs.declared.cell.Cell.{Cell}
+use Rattle.cj_case.specs.declared.leaf.Leaf.{Leaf}
 use Rattle.cj_pool.specs.Hands.{RefinerySeen, HandSeen, Accounts, cells_of, roots_dealt}
 use Rattle.cj_pool.specs.Refined.{AreLeft, AreOpen, kept_in, leaves_in, numbers_of}
 use Rattle.cj_pool.specs.Tree.{IsShared}

@@ -3,16 +3,18 @@ use Rattle.std.proofs.Common.{◌≡◌, ℕ, ◌+◌, ◌^◌, ◌<◌, ◌≤�
 use Rattle.std.specs.List.{flat_map}
 use Rattle.cj_interval.proofs.ListLemmas.{Each, Each-weaker, Each-flat_map, Ordered, Ordered-flat_map, each_from_All, ordered_from_AllPairs, exists_from_Any, Exists}
 use Rattle.cj_hermite.specs.Interpolant.{Curve}
-use Rattle.cj_hermite.specs.PlainProblems.{PlainProblem, threshold_of, HaveCurves}
-use Rattle.cj_hermite.specs.Roots.{PlainCell, KeepPieces, IsRootBefore}
+use Rattle.cj_case.specs.PlainProblems.{PlainProblem, threshold_of}
+use Rattle.cj_hermite.specs.ObjectsAtTicks.{HaveCurves}
+use Rattle.cj_case.specs.Cells.{PlainCell, IsRootBefore}
+use Rattle.cj_hermite.specs.Roots.{KeepPieces}
 use Rattle.cj_hermite.proofs.CurveLemmas.{Curves, curves, curves_of}
-use Rattle.cj_bezier.specs.declared.cell.Cell.{Cell}
-use Rattle.cj_bezier.specs.declared.kind.Kind.{Kind}
-use Rattle.cj_bezier.specs.declared.leaf.Leaf.{Leaf}
-use Rattle.cj_bezier.specs.Cells.{plain_cell, plain_cells}
+use Rattle.cj_case.specs.declared.cell.Cell.{Cell}
+use Rattle.cj_case.specs.declared.kind.Kind.{Kind}
+use Rattle.cj_case.specs.declared.leaf.Leaf.{Leaf}
+use Rattle.cj_case.specs.Cells.{plain_cell, plain_cells}
 use Rattle.cj_bezier.specs.Halving.{middle, closed, leaves_between}
-use Rattle.cj_bezier.specs.Leaves.{PlainLeaf, plain_leaves, IsTickOf}
-use Rattle.cj_bezier.specs.Order.{IsBefore}
+use Rattle.cj_case.specs.Leaves.{PlainLeaf, plain_leaves, IsTickOf}
+use Rattle.cj_case.specs.Order.{IsBefore}
 use Rattle.cj_bezier.specs.RootLeaves.{kind_between, kind_of_cell, leaves_of_root, leaves_of_roots, IsPartOf, Describe}
 use Rattle.cj_bezier.proofs.HalvingLemmas.{leaves-closed, leaves-halved}
 use Rattle.cj_bezier.proofs.JudgeLemmas.{settled_over}

@@ -3,16 +3,16 @@ use Rattle.std.proofs.Common.{◌≡◌, ℕ, zero, suc, ◌+◌, ◌-◌, ◌^�
 use Rattle.std.specs.Prelude.{All, unwrap_or, slice_get}
 use Rattle.std.proofs.Math.Bridge.{le_prop}
 use Rattle.cj_interval.proofs.ListLemmas.{Each, Each-append, each_from_map, All-from_each, each_from_All}
-use Rattle.cj_hermite.specs.declared.pair.Pair.{Pair}
-use Rattle.cj_hermite.specs.PlainProblems.{PlainProblem, threshold_of}
+use Rattle.cj_case.specs.declared.pair.Pair.{Pair}
+use Rattle.cj_case.specs.PlainProblems.{PlainProblem, threshold_of}
 use Rattle.cj_hermite.proofs.CurveLemmas.{Curves, curves, curves_of}
-use Rattle.cj_bezier.specs.declared.cell.Cell.{Cell}
-use Rattle.cj_bezier.specs.declared.kind.Kind.{Kind}
-use Rattle.cj_bezier.specs.declared.kind.Kind.TheVariants.{Undecided}
-use Rattle.cj_bezier.specs.declared.leaf.Leaf.{Leaf}
-use Rattle.cj_bezier.specs.Cells.{plain_cell}
+use Rattle.cj_case.specs.declared.cell.Cell.{Cell}
+use Rattle.cj_case.specs.declared.kind.Kind.{Kind}
+use Rattle.cj_case.specs.declared.kind.Kind.TheVariants.{Undecided}
+use Rattle.cj_case.specs.declared.leaf.Leaf.{Leaf}
+use Rattle.cj_case.specs.Cells.{plain_cell}
 use Rattle.cj_bezier.specs.Halving.{InHalving, middle, closed, closed_or, leaves_within, leaves_between, left, right}
-use Rattle.cj_bezier.specs.Leaves.{PlainLeaf, plain_leaf, plain_leaves}
+use Rattle.cj_case.specs.Leaves.{PlainLeaf, plain_leaf, plain_leaves}
 use Rattle.cj_bezier.specs.RootLeaves.{kind_between, leaves_of_root}
 use Rattle.cj_bezier.proofs.HalvingLemmas.{IsSettled, two_ticks}
 use Rattle.cj_bezier.proofs.JudgeLemmas.{settled_over}

@@ -5,7 +5,8 @@ use Rattle.cj_interval.proofs.ListLemmas.{each_from_All, each_at}
 use Rattle.cj_track.specs.PlainTracks.{PlainTrack}
 use Rattle.cj_hermite.specs.Interpolant.{Curve, IsOver}
 use Rattle.cj_hermite.specs.Pieces.{pieces_of, piece_holding, curve_of_piece}
-use Rattle.cj_hermite.specs.PlainProblems.{PlainProblem, curve_at, HaveCurves}
+use Rattle.cj_case.specs.PlainProblems.{PlainProblem}
+use Rattle.cj_hermite.specs.ObjectsAtTicks.{curve_at, HaveCurves}
 use Rattle.cj_hermite.proofs.ObjectLemmas.{within_at}
 use Rattle.cj_hermite.proofs.StateLemmas.{has, lacks, state}
 use Rattle.cj_hermite.specs.Lengths.{Rises, IsRising, HaveLengths}

@@ -1,7 +1,7 @@
 -- The cells that a hand keeps are few, since each is at most half as long as the one before.
 use Rattle.std.proofs.Common.{◌≡◌, ℕ, zero, suc, ◌+◌, ◌≤◌, List, [], ◌∷◌, ◌++◌, length, refl, ap, arith}
-use Rattle.cj_bezier.specs.declared.cell.Cell.{Cell}
-use Rattle.cj_bezier.specs.Cells.{AreHalves}
+use Rattle.cj_case.specs.declared.cell.Cell.{Cell}
+use Rattle.cj_bezier.specs.Halves.{AreHalves}
 use Rattle.cj_pool.specs.Narrow.{Narrow}
 
 pub narrow_length : (h : ℕ) (cells : List Cell) → Narrow h cells → length cells ≤ h + 1

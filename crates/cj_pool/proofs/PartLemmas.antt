@@ -6,7 +6,7 @@ use Rattle.std.proofs.lemmas.List.{length-map, length-set, map_push, get_or-set_
 use Rattle.std.proofs.lemmas.Bool.{cases_eq}
 use Rattle.atomic_blocks.specs.Lent.{RowsId}
 use Rattle.crossbeam_deque.specs.Handles.{Pass, view, worker_deque, worker_flavor, worker_view, IsPassOf}
-use Rattle.cj_bezier.specs.declared.cell.Cell.{Cell}
+use Rattle.cj_case.specs.declared.cell.Cell.{Cell}
 use Rattle.cj_pool.specs.declared.account.Account.{Account}
 use Rattle.cj_pool.specs.declared.station.Station.{Station}
 use Rattle.cj_pool.specs.declared.work.Work.{Work}

@@ -5,8 +5,8 @@ use Rattle.std.specs.Prelude.{Option, Some, None, MatchOption, IfSome, IfNone}
 use Rattle.std.proofs.lemmas.List.{length-take, nil_from_length}
 use Rattle.crossbeam_deque.specs.Handles.{worker_view, SameWorker}
 use Rattle.crossbeam_deque.specs.declared.handles.Worker.{Worker}
-use Rattle.cj_hermite.specs.PlainProblems.{PlainProblem}
-use Rattle.cj_bezier.specs.declared.cell.Cell.{Cell}
+use Rattle.cj_case.specs.PlainProblems.{PlainProblem}
+use Rattle.cj_case.specs.declared.cell.Cell.{Cell}
 use Rattle.cj_pool.specs.declared.account.Account.{Account}
 use Rattle.cj_pool.specs.Narrow.{Narrow}
 use Rattle.cj_pool.specs.Passes.{TookOne, IsSeated, around}

@@ -2,14 +2,15 @@
 use Rattle.std.proofs.Common.{◌≡◌, ℕ, ◌+◌, ◌<◌, Bool, cond, List, [], length, sym, subst, arith}
 use Rattle.std.specs.List.{AllPairs, range_with_len}
 use Rattle.cj_interval.proofs.ListLemmas.{Each, Each-weaker, Each-always, Each-flat_map, Each-taken, each_from_map, All-from_each, AllPairs-from_ordered}
-use Rattle.cj_hermite.specs.PlainProblems.{PlainProblem}
-use Rattle.cj_hermite.specs.Pairs.{pairs_of}
-use Rattle.cj_hermite.specs.Slots.{slot_first, slot_last}
-use Rattle.cj_hermite.specs.Roots.{PlainCell, KeepPieces, IsRootBefore, roots_in, slots_of, roots_of}
+use Rattle.cj_case.specs.PlainProblems.{PlainProblem}
+use Rattle.cj_case.specs.Pairs.{pairs_of}
+use Rattle.cj_case.specs.Slots.{slot_first, slot_last}
+use Rattle.cj_case.specs.Cells.{PlainCell, IsRootBefore}
+use Rattle.cj_hermite.specs.Roots.{KeepPieces, roots_in, slots_of, roots_of}
 use Rattle.cj_hermite.proofs.RootLemmas.{IsRoot, IsRootOf, roots_of_pair, Each-between, Each-roots, Ordered-roots}
 use Rattle.cj_hermite.proofs.CurveLemmas.{root_pieces}
-use Rattle.cj_bezier.specs.declared.cell.Cell.{Cell}
-use Rattle.cj_bezier.specs.Cells.{plain_cell, plain_cells}
+use Rattle.cj_case.specs.declared.cell.Cell.{Cell}
+use Rattle.cj_case.specs.Cells.{plain_cell, plain_cells}
 use Rattle.cj_cells.specs.Cells.{root_numbers}
 use Rattle.cj_pool.specs.RootLists.{IsKept, IsShortCell, AreRoots}
 

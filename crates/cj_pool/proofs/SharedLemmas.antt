@@ -1,6 +1,6 @@
 -- Weights that a cell has as its two halves together.
 use Rattle.std.proofs.Common.{◌≡◌, ℕ, ◌+◌, ◌<◌, ◌≤◌, Bool, true, false, cond, leb, eqb, refl, ap, arith}
-use Rattle.cj_hermite.specs.PlainProblems.{PlainProblem}
+use Rattle.cj_case.specs.PlainProblems.{PlainProblem}
 use Rattle.cj_pool.specs.Tree.{IsShared}
 use Rattle.cj_pool.specs.Weights.{has}
 

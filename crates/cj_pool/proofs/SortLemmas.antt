@@ -2,11 +2,11 @@
 use Rattle.std.proofs.Common.{◌≡◌, ℕ, ◌+◌, ◌<◌, ◌≤◌, false, List, length, get_or}
 use Rattle.std.specs.Prelude.{AllPairs}
 use Rattle.cj_interval.proofs.ListLemmas.{Ordered-map, AllPairs-from_ordered, ordered_from_AllPairs}
-use Rattle.cj_hermite.specs.Roots.{IsRootUpTo}
-use Rattle.cj_bezier.specs.declared.leaf.Leaf.{Leaf}
-use Rattle.cj_bezier.specs.Cells.{plain_cells}
-use Rattle.cj_hermite.specs.PairOrder.{IsUpTo, AreInOrderBy}
-use Rattle.cj_hermite.proofs.PairOrderLemmas.{before, sorted}
+use Rattle.cj_case.specs.Cells.{IsRootUpTo}
+use Rattle.cj_case.specs.declared.leaf.Leaf.{Leaf}
+use Rattle.cj_case.specs.Cells.{plain_cells}
+use Rattle.cj_case.specs.PairOrder.{IsUpTo, AreInOrderBy}
+use Rattle.cj_case.proofs.PairOrderLemmas.{before, sorted}
 use Rattle.cj_cells.proofs.OrderLemmas.{roots_in_order}
 use Rattle.cj_pool.specs.Hands.{cells_of}
 

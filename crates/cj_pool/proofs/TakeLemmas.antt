@@ -8,10 +8,10 @@ use Rattle.std.proofs.lemmas.List.FromFn.{length-range_with_len}
 use Rattle.std.proofs.lemmas.List.Elements.{All-cons, All-head, All-tail}
 use Rattle.atomic_blocks.specs.Lent.{RowsId}
 use Rattle.crossbeam_deque.specs.Handles.{worker_deque, worker_view}
-use Rattle.cj_hermite.specs.PlainProblems.{PlainProblem}
-use Rattle.cj_hermite.specs.declared.problem.Problem.{Problem}
-use Rattle.cj_bezier.specs.declared.cell.Cell.{Cell}
-use Rattle.cj_bezier.specs.declared.leaf.Leaf.{Leaf}
+use Rattle.cj_case.specs.PlainProblems.{PlainProblem}
+use Rattle.cj_case.specs.declared.problem.Problem.{Problem}
+use Rattle.cj_case.specs.declared.cell.Cell.{Cell}
+use Rattle.cj_case.specs.declared.leaf.Leaf.{Leaf}
 use Rattle.cj_ledger.specs.Shares.{ShareSeen}
 use Rattle.cj_pool.specs.declared.station.Station.{Station}
 use Rattle.cj_pool.specs.Hands.{RefinerySeen, HandSeen, Accounts, IsHandOf, hand_seen, settled_share}

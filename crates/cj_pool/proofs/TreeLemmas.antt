@@ -1,11 +1,11 @@
 -- Cells of the halving trees lie in their roots.
 use Rattle.std.proofs.Common.{◌≡◌, ℕ, ◌+◌, ◌^◌, ◌<◌, ◌≤◌, List, ap, ◌∙◌, arith}
 use Rattle.std.specs.Prelude.{None, Option, slice_get}
-use Rattle.cj_hermite.specs.PlainProblems.{PlainProblem}
+use Rattle.cj_case.specs.PlainProblems.{PlainProblem}
 use Rattle.cj_hermite.specs.Roots.{KeepPieces}
 use Rattle.cj_hermite.proofs.CurveLemmas.{keep_part}
-use Rattle.cj_bezier.specs.declared.cell.Cell.{Cell}
-use Rattle.cj_bezier.specs.declared.kind.Kind.{Kind}
+use Rattle.cj_case.specs.declared.cell.Cell.{Cell}
+use Rattle.cj_case.specs.declared.kind.Kind.{Kind}
 use Rattle.cj_bezier.specs.Halving.{InHalving, whole, left, right}
 use Rattle.cj_interval.proofs.ListLemmas.{each_from_All, each_at}
 use Rattle.cj_pool.specs.RootLists.{IsKept, IsShortCell, AreRoots}

@@ -2,10 +2,10 @@
 use Rattle.std.specs.Prelude.{◌≡◌, ℕ, ◌+◌, ◌%◌, ◌<◌, ◌≤◌, List, [], map, filter, length, All, nat_eq}
 use Rattle.std.specs.declared.alloc.Global.{Global}
 use Rattle.atomic_blocks.specs.Lent.{RowsId}
-use Rattle.cj_hermite.specs.PlainProblems.{PlainProblem}
-use Rattle.cj_hermite.specs.declared.problem.Problem.{Problem}
-use Rattle.cj_bezier.specs.declared.cell.Cell.{Cell}
-use Rattle.cj_bezier.specs.declared.leaf.Leaf.{Leaf}
+use Rattle.cj_case.specs.PlainProblems.{PlainProblem}
+use Rattle.cj_case.specs.declared.problem.Problem.{Problem}
+use Rattle.cj_case.specs.declared.cell.Cell.{Cell}
+use Rattle.cj_case.specs.declared.leaf.Leaf.{Leaf}
 use Rattle.cj_ledger.specs.Counts.{after_closes}
 use Rattle.cj_ledger.specs.Shares.{LedgerSeen, ShareSeen, IsOf, IsNew}
 use Rattle.cj_pool.specs.declared.account.Account.{Account}

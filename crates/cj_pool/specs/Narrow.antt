@@ -1,6 +1,6 @@
 -- How short the cells are that a hand keeps.
 use Rattle.std.specs.Prelude.{◌≡◌, ℕ, zero, suc, ◌+◌, ◌^◌, ◌<◌, List, [], ◌∷◌}
-use Rattle.cj_bezier.specs.declared.cell.Cell.{Cell}
+use Rattle.cj_case.specs.declared.cell.Cell.{Cell}
 
 -- from the oldest on: at place h at most 2 ^ h ticks, and nothing stands above place 0
 abbrev pub Narrow : ℕ → List Cell → Type 0

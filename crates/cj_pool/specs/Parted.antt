@@ -1,6 +1,6 @@
 -- What becomes of the two halves of a cell.
 use Rattle.std.specs.Prelude.{◌≡◌, ℕ, ◌+◌, ◌≤◌, List, [], ◌∷◌, ◌++◌, length}
-use Rattle.cj_bezier.specs.declared.cell.Cell.{Cell}
+use Rattle.cj_case.specs.declared.cell.Cell.{Cell}
 use Rattle.cj_pool.specs.declared.account.Account.{Account}
 use Rattle.cj_pool.specs.declared.turn.Turn.{Turn}
 use Rattle.cj_pool.specs.declared.turn.Turn.TheVariants.{Split, Kept}

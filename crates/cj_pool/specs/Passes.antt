@@ -4,7 +4,7 @@ use Rattle.atomic_blocks.specs.Lent.{RowsId}
 use Rattle.crossbeam_deque.specs.Handles.{Pass, view, stealer_deque, worker_flavor, worker_view}
 use Rattle.crossbeam_deque.specs.declared.handles.Stealer.{Stealer}
 use Rattle.crossbeam_deque.specs.declared.handles.Worker.{Worker}
-use Rattle.cj_bezier.specs.declared.cell.Cell.{Cell}
+use Rattle.cj_case.specs.declared.cell.Cell.{Cell}
 use Rattle.cj_pool.specs.declared.account.Account.{Account}
 
 module _ {T A : Type 0} where

@@ -2,14 +2,14 @@
 use Rattle.std.specs.Prelude.{◌≡◌, ℕ, ◌+◌, ◌<◌, ◌≤◌, List, map, take, length, All}
 use Rattle.std.specs.Global.{Vec}
 use Rattle.std.specs.List.{flat_map, range_with_len}
-use Rattle.cj_values.specs.Bounds.{MOST_LEAVES}
+use Rattle.cj_base.specs.Bounds.{MOST_LEAVES}
 use Rattle.cj_hermite.specs.Lengths.{HaveLengths}
-use Rattle.cj_hermite.specs.Problems.{plain_problem}
-use Rattle.cj_hermite.specs.declared.problem.Problem.{Problem}
-use Rattle.cj_bezier.specs.declared.cell.Cell.{Cell}
-use Rattle.cj_bezier.specs.declared.leaf.Leaf.{Leaf}
-use Rattle.cj_bezier.specs.Cells.{plain_cells}
-use Rattle.cj_bezier.specs.Leaves.{PlainLeaf}
+use Rattle.cj_case.specs.Problems.{plain_problem}
+use Rattle.cj_case.specs.declared.problem.Problem.{Problem}
+use Rattle.cj_case.specs.declared.cell.Cell.{Cell}
+use Rattle.cj_case.specs.declared.leaf.Leaf.{Leaf}
+use Rattle.cj_case.specs.Cells.{plain_cells}
+use Rattle.cj_case.specs.Leaves.{PlainLeaf}
 use Rattle.cj_bezier.specs.RootLeaves.{leaves_of_roots}
 use Rattle.cj_ledger.specs.declared.totals.Totals.{Totals}
 use Rattle.cj_pool.specs.declared.refined.FinishError.{FinishError}

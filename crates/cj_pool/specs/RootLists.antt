@@ -1,10 +1,11 @@
 -- The roots of a run.
 use Rattle.std.specs.Prelude.{◌≡◌, ◌+◌, ◌<◌, List, All, AllPairs, length}
 use Rattle.std.specs.List.{range_with_len}
-use Rattle.cj_hermite.specs.PlainProblems.{PlainProblem}
-use Rattle.cj_hermite.specs.Roots.{KeepPieces, IsRootBefore}
-use Rattle.cj_bezier.specs.declared.cell.Cell.{Cell}
-use Rattle.cj_bezier.specs.Cells.{plain_cells}
+use Rattle.cj_case.specs.PlainProblems.{PlainProblem}
+use Rattle.cj_hermite.specs.Roots.{KeepPieces}
+use Rattle.cj_case.specs.Cells.{IsRootBefore}
+use Rattle.cj_case.specs.declared.cell.Cell.{Cell}
+use Rattle.cj_case.specs.Cells.{plain_cells}
 use Rattle.cj_cells.specs.Cells.{root_numbers}
 
 -- each of its objects is in one piece over the ticks of the cell

@@ -1,11 +1,11 @@
 -- What names a run, and values of a run that nobody has.
 use Rattle.std.specs.Prelude.{◌≡◌, ℕ, ◌≤◌, List, [], length}
 use Rattle.std.proofs.Common.{arith, refl}
-use Rattle.cj_ticks.specs.declared.tick.Tick.{Tick}
-use Rattle.cj_ticks.specs.declared.tick.Window.{Window}
-use Rattle.cj_hermite.specs.declared.problem.Problem.{Problem}
-use Rattle.cj_hermite.specs.Problems.{plain_problem}
-use Rattle.cj_bezier.specs.declared.cell.Cell.{Cell}
+use Rattle.cj_base.specs.declared.tick.Tick.{Tick}
+use Rattle.cj_base.specs.declared.tick.Window.{Window}
+use Rattle.cj_case.specs.declared.problem.Problem.{Problem}
+use Rattle.cj_case.specs.Problems.{plain_problem}
+use Rattle.cj_case.specs.declared.cell.Cell.{Cell}
 use Rattle.cj_pool.specs.RootLists.{AreRoots}
 
 -- a run of this problem, from these roots, by so many workers and within this limit, where the three that name it are these

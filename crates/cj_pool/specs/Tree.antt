@@ -1,10 +1,11 @@
 -- The halving trees of the roots, over cells.
 use Rattle.std.specs.Prelude.{◌≡◌, ℕ, ◌+◌, List, Option, Some, None, slice_get}
-use Rattle.cj_hermite.specs.PlainProblems.{PlainProblem}
-use Rattle.cj_bezier.specs.declared.cell.Cell.{Cell}
-use Rattle.cj_bezier.specs.declared.leaf.Leaf.{Leaf}
-use Rattle.cj_bezier.specs.declared.kind.Kind.{Kind}
-use Rattle.cj_bezier.specs.Cells.{plain_cell, AreHalves}
+use Rattle.cj_case.specs.PlainProblems.{PlainProblem}
+use Rattle.cj_case.specs.declared.cell.Cell.{Cell}
+use Rattle.cj_case.specs.declared.leaf.Leaf.{Leaf}
+use Rattle.cj_case.specs.declared.kind.Kind.{Kind}
+use Rattle.cj_case.specs.Cells.{plain_cell}
+use Rattle.cj_bezier.specs.Halves.{AreHalves}
 use Rattle.cj_bezier.specs.Halving.{InHalving}
 use Rattle.cj_bezier.specs.RootLeaves.{kind_of_cell}
 use Rattle.cj_pool.specs.RootLists.{IsKept}

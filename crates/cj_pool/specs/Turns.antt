@@ -1,9 +1,9 @@
 -- What a turn does to its hand.
 use Rattle.std.specs.Prelude.{◌≡◌, ◌⊎◌, ℕ, ◌+◌, ◌-◌, ◌^◌, ◌<◌, ◌≤◌, List, [], ◌∷◌, ◌++◌, Some, length, min, slice_index_or}
-use Rattle.cj_hermite.specs.PlainProblems.{PlainProblem}
-use Rattle.cj_bezier.specs.declared.cell.Cell.{Cell}
-use Rattle.cj_bezier.specs.declared.leaf.Leaf.{Leaf}
-use Rattle.cj_bezier.specs.Cells.{plain_cell}
+use Rattle.cj_case.specs.PlainProblems.{PlainProblem}
+use Rattle.cj_case.specs.declared.cell.Cell.{Cell}
+use Rattle.cj_case.specs.declared.leaf.Leaf.{Leaf}
+use Rattle.cj_case.specs.Cells.{plain_cell}
 use Rattle.cj_bezier.specs.RootLeaves.{kind_of_cell}
 use Rattle.cj_ledger.specs.declared.count.Count.{Count}
 use Rattle.cj_ledger.specs.declared.why.Why.{Why}

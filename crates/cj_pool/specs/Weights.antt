@@ -1,7 +1,7 @@
 -- Weights: what each item of a list counts for.
 use Rattle.std.specs.Prelude.{ℕ, ◌+◌, List, [], ◌∷◌}
 use Rattle.std.proofs.Common.{cond, eqb, leb}
-use Rattle.cj_bezier.specs.declared.cell.Cell.{Cell}
+use Rattle.cj_case.specs.declared.cell.Cell.{Cell}
 
 -- what all items weigh together
 abbrev pub weigh : {X : Type 0} → (X → ℕ) → List X → ℕ

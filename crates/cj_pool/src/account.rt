@@ -1,4 +1,4 @@
-use cj_bezier::Cell;
+use cj_case::Cell;
 use std::collections::LinkedList;
 
 /// What a pass of a deque did. Contracts see it, and no value of it is ever made.

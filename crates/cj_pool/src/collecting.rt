@@ -2,8 +2,8 @@
 ghost use Rattle.std.specs.Prelude.{◌≡◌, map, All, AllPairs, IfOk};
 ghost use Rattle.std.specs.List.{range_with_len};
 ghost use Rattle.std.specs.List.Sorted.{IsPermutation};
-ghost use Rattle.cj_hermite.specs.Roots.{IsRootUpTo};
-ghost use Rattle.cj_bezier.specs.Cells.{plain_cells};
+ghost use Rattle.cj_case.specs.Cells.{IsRootUpTo};
+ghost use Rattle.cj_case.specs.Cells.{plain_cells};
 ghost use Rattle.cj_pool.specs.Hands.{IsHandOf, cells_of, settled_share};
 ghost use Rattle.cj_pool.specs.Refined.{AreAll, IsOfRun, IsSoundRun, leaves_in, numbers_of};
 
@@ -12,9 +12,9 @@ use crate::joining::gather;
 use crate::refinery::Refinery;
 use crate::run::Run;
 use crate::taking::take_apart;
-use cj_bezier::{Cell, Leaf};
+use cj_case::{Cell, Leaf};
 use cj_ledger::Share;
-use cj_merge::merge_runs;
+use cj_threads::merge_runs;
 use std::alloc::{AllocError, Global};
 use std::thread::Threads;
 

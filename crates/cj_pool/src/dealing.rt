@@ -1,7 +1,7 @@
 //! The roots on the deques.
 ghost use Rattle.std.specs.Prelude.{◌≡◌, ℕ, ◌<◌, [], ◌∷◌, ◌++◌, Ok, length, map, vec_len, slice_index_or, All, IfOk, OnOk};
 ghost use Rattle.crossbeam_deque.specs.Handles.{worker_view};
-ghost use Rattle.cj_hermite.specs.Problems.{plain_problem};
+ghost use Rattle.cj_case.specs.Problems.{plain_problem};
 ghost use Rattle.cj_pool.specs.Hands.{roots_dealt};
 ghost use Rattle.cj_pool.specs.RootLists.{AreRoots};
 ghost use Rattle.cj_pool.specs.Stations.{AreDealt, AreStations, IsLike, IsUnopened, IsUnused, OwnsDeque, own_deques};
@@ -11,7 +11,7 @@ use crate::run::Run;
 use crate::station::Station;
 use crate::steps::open;
 use crate::work::Work;
-use cj_bezier::Cell;
+use cj_case::Cell;
 use std::alloc::{AllocError, Global};
 use std::marker::PhantomData;
 use std::thread;

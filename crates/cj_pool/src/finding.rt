@@ -1,7 +1,7 @@
 //! A cell from the deques.
 ghost use Rattle.std.specs.Prelude.{◌≡◌, ◌<◌, [], length, MatchOption, IfSome, IfNone};
 ghost use Rattle.crossbeam_deque.specs.Handles.{worker_deque, worker_view};
-ghost use Rattle.cj_hermite.specs.Problems.{plain_problem};
+ghost use Rattle.cj_case.specs.Problems.{plain_problem};
 ghost use Rattle.cj_pool.specs.Accounts.{Settled};
 ghost use Rattle.cj_pool.specs.Passes.{deques, takens, deques_of, around, AreReady, IsSeated, TookOne};
 ghost use Rattle.cj_pool.specs.Tree.{InTree};
@@ -11,7 +11,7 @@ use crate::run::Run;
 use crate::station::Station;
 use crate::stealing::steal_next;
 use crate::steps::pop;
-use cj_bezier::Cell;
+use cj_case::Cell;
 
 /// Pops the station's own deque, and if that is empty tries to steal once from each other.
 pub fn find<K: Run>(station: &mut Station<K>, thieves: &[Thief<K>]) -> Option<Cell>

@@ -1,5 +1,5 @@
 ghost use Rattle.std.specs.Prelude.{◌≡◌, ℕ, ◌+◌, ◌≤◌, length, All};
-ghost use Rattle.cj_hermite.specs.Problems.{plain_problem};
+ghost use Rattle.cj_case.specs.Problems.{plain_problem};
 ghost use Rattle.cj_pool.specs.Hands.{cells_of};
 ghost use Rattle.cj_pool.specs.Tree.{InTree, IsLeafOf};
 ghost use Rattle.cj_pool.specs.Weights.{weigh, has};
@@ -7,7 +7,7 @@ ghost use Rattle.cj_pool.specs.Weights.{weigh, has};
 use crate::run::Run;
 use crate::station::Station;
 use arrayvec::ArrayVec;
-use cj_bezier::{Cell, Leaf};
+use cj_case::{Cell, Leaf};
 use cj_cells::Looker;
 use cj_ledger::Share;
 use std::marker::{Model, PhantomData};
@@ -30,7 +30,7 @@ pub struct Hand<'p, K: Run> {
 impl<'p, K: Run> Model for Hand<'p, K> {
     ghost use Rattle.std.specs.Prelude.{◌≡◌, length};
     ghost use Rattle.crossbeam_deque.specs.Handles.{worker_deque, worker_view};
-    ghost use Rattle.cj_hermite.specs.Problems.{plain_problem};
+    ghost use Rattle.cj_case.specs.Problems.{plain_problem};
     ghost use Rattle.cj_pool.specs.Hands.{HandSeen, Accounts, hand_seen};
     ghost use Rattle.cj_pool.specs.Passes.{deques, takens, AreReady, IsSeated};
 

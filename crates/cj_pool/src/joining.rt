@@ -1,8 +1,8 @@
 //! Deques whose passes are in one thread again.
 ghost use Rattle.std.specs.Prelude.{◌≡◌, ℕ, ◌+◌, ◌<◌, ◌≤◌, [], ◌∷◌, ◌++◌, OnOk, All, length, take, vec_len};
 ghost use Rattle.crossbeam_deque.specs.Handles.{view, worker_deque, worker_flavor, worker_view, IsPassOf};
-ghost use Rattle.cj_bezier.specs.declared.cell.Cell.{Cell};
-ghost use Rattle.cj_hermite.specs.Problems.{plain_problem};
+ghost use Rattle.cj_case.specs.declared.cell.Cell.{Cell};
+ghost use Rattle.cj_case.specs.Problems.{plain_problem};
 ghost use Rattle.cj_pool.specs.Accounts.{Owns};
 ghost use Rattle.cj_pool.specs.Passes.{deques, AreReady, IsReady};
 ghost use Rattle.cj_pool.specs.Stations.{AreStations, IsPartUp, without_last, station_taken, weigh_all_taken, weigh_given};
@@ -13,7 +13,7 @@ use crate::rule::{DequePass, Owner};
 use crate::run::Run;
 use crate::station::Station;
 use crate::steps::{absorb, pop, queue_len};
-use cj_bezier::Cell;
+use cj_case::Cell;
 use std::alloc::{AllocError, Global};
 
 /// Appends the cells that are left in a deque. With those that were taken, they are what was opened and pushed.

@@ -1,9 +1,9 @@
 //! The interpolants of a problem have lengths.
-ghost use Rattle.cj_hermite.specs.Problems.{plain_problem};
+ghost use Rattle.cj_case.specs.Problems.{plain_problem};
 ghost use Rattle.cj_hermite.specs.Lengths.{HaveLengths, IsRising};
 ghost use Rattle.cj_track.specs.Tracks.{plain_track};
 
-use cj_hermite::Problem;
+use cj_case::Problem;
 use cj_track::Track;
 
 /// The times of a track's nodes rise: it does nothing else than to look at its segments.

@@ -1,7 +1,7 @@
 //! The cell of a turn.
 ghost use Rattle.std.specs.Prelude.{◌≡◌, ◌<◌, [], ◌∷◌, ◌++◌, length, All, MatchOption, IfSome, IfNone};
 ghost use Rattle.crossbeam_deque.specs.Handles.{worker_deque, worker_view};
-ghost use Rattle.cj_hermite.specs.Problems.{plain_problem};
+ghost use Rattle.cj_case.specs.Problems.{plain_problem};
 ghost use Rattle.cj_pool.specs.Accounts.{Settled};
 ghost use Rattle.cj_pool.specs.Narrow.{Narrow};
 ghost use Rattle.cj_pool.specs.Passes.{deques, takens, deques_of, around, AreReady, IsSeated};
@@ -14,7 +14,7 @@ use crate::rule::Thief;
 use crate::run::Run;
 use crate::station::Station;
 use arrayvec::ArrayVec;
-use cj_bezier::Cell;
+use cj_case::Cell;
 
 /// The cell that was kept last, or else one that is found.
 pub fn pick<K: Run>(

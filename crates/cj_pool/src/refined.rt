@@ -1,7 +1,7 @@
 ghost use Rattle.std.specs.Prelude.{◌≡◌};
 ghost use Rattle.cj_pool.specs.declared.refined.FinishError.TheVariants.{Memory};
 
-use cj_bezier::Leaf;
+use cj_case::Leaf;
 use cj_ledger::Totals;
 use std::alloc::{AllocError, AllocFailed};
 

@@ -1,6 +1,6 @@
 use crate::rule::Thief;
 use crate::run::Run;
-use cj_hermite::Problem;
+use cj_case::Problem;
 use cj_ledger::Ledger;
 use std::marker::{Model, PhantomData};
 
@@ -17,8 +17,8 @@ pub struct Refinery<'p, K: Run> {
 
 impl<'p, K: Run> Model for Refinery<'p, K> {
     ghost use Rattle.std.specs.Prelude.{◌≡◌, ◌≤◌, length};
-    ghost use Rattle.cj_values.specs.Bounds.{MOST_LEAVES};
-    ghost use Rattle.cj_hermite.specs.Problems.{plain_problem};
+    ghost use Rattle.cj_base.specs.Bounds.{MOST_LEAVES};
+    ghost use Rattle.cj_case.specs.Problems.{plain_problem};
     ghost use Rattle.cj_pool.specs.Hands.{RefinerySeen};
     ghost use Rattle.cj_pool.specs.Passes.{deques_of};
     ghost use Rattle.cj_pool.specs.RootLists.{AreRoots};

@@ -4,8 +4,8 @@ use std::marker::Brand;
 /// a function that is generic over it picks the three.
 pub trait Run {
     ghost use Rattle.std.specs.Prelude.{ℕ, List};
-    ghost use Rattle.cj_hermite.specs.declared.problem.Problem.{Problem};
-    ghost use Rattle.cj_bezier.specs.declared.cell.Cell.{Cell};
+    ghost use Rattle.cj_case.specs.declared.problem.Problem.{Problem};
+    ghost use Rattle.cj_case.specs.declared.cell.Cell.{Cell};
 
     ghost problem: { Problem };
 

@@ -1,7 +1,7 @@
 //! Hands on their stations.
 ghost use Rattle.std.specs.Prelude.{◌≡◌, length, map, All, IfOk};
 ghost use Rattle.std.specs.List.{range_with_len};
-ghost use Rattle.cj_hermite.specs.Problems.{plain_problem};
+ghost use Rattle.cj_case.specs.Problems.{plain_problem};
 ghost use Rattle.cj_ledger.specs.Counts.{fresh};
 ghost use Rattle.cj_pool.specs.Hands.{IsUnstarted, roots_dealt};
 ghost use Rattle.cj_pool.specs.Refined.{numbers_of};
@@ -12,8 +12,8 @@ use crate::hand::Hand;
 use crate::run::Run;
 use crate::station::Station;
 use arrayvec::ArrayVec;
+use cj_case::Problem;
 use cj_cells::Looker;
-use cj_hermite::Problem;
 use cj_ledger::Share;
 use std::alloc::{AllocError, Global};
 use std::marker::PhantomData;

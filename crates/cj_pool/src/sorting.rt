@@ -1,11 +1,11 @@
 //! Leaves in order of pair and tick.
 ghost use Rattle.std.specs.Prelude.{take, AllPairs, OnOk};
 ghost use Rattle.std.specs.List.Sorted.{IsPermutation};
-ghost use Rattle.cj_hermite.specs.Roots.{IsRootUpTo};
-ghost use Rattle.cj_bezier.specs.Cells.{plain_cells};
+ghost use Rattle.cj_case.specs.Cells.{IsRootUpTo};
+ghost use Rattle.cj_case.specs.Cells.{plain_cells};
 ghost use Rattle.cj_pool.specs.Hands.{cells_of};
 
-use cj_bezier::Leaf;
+use cj_case::Leaf;
 use std::alloc::AllocError;
 
 /// Puts leaves in order. They are runs in order, which a stable sort merges; it wants memory, and does without where there is none.

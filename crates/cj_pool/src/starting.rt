@@ -1,8 +1,8 @@
 //! A refinery and its hands.
 ghost use Rattle.std.specs.Prelude.{◌≡◌, ◌<◌, ◌≤◌, length, All, IfOk};
 ghost use Rattle.std.specs.List.{range_with_len};
-ghost use Rattle.cj_values.specs.Bounds.{MOST_LEAVES};
-ghost use Rattle.cj_hermite.specs.Problems.{plain_problem};
+ghost use Rattle.cj_base.specs.Bounds.{MOST_LEAVES};
+ghost use Rattle.cj_case.specs.Problems.{plain_problem};
 ghost use Rattle.cj_pool.specs.Hands.{IsHandOf, IsFresh};
 ghost use Rattle.cj_pool.specs.Refined.{numbers_of};
 ghost use Rattle.cj_pool.specs.RootLists.{AreRoots};
@@ -16,8 +16,7 @@ use crate::refinery::Refinery;
 use crate::run::Run;
 use crate::seating::seat;
 use crate::station::Station;
-use cj_bezier::Cell;
-use cj_hermite::Problem;
+use cj_case::{Cell, Problem};
 use cj_ledger::Ledger;
 use std::alloc::{AllocError, Global};
 use std::marker::PhantomData;

@@ -1,13 +1,13 @@
 //! Stealing from the deques of others.
 ghost use Rattle.std.specs.Prelude.{◌≡◌, ◌⊎◌, ◌+◌, ◌<◌, length, take, drop, MatchOption, IfSome};
-ghost use Rattle.cj_hermite.specs.Problems.{plain_problem};
+ghost use Rattle.cj_case.specs.Problems.{plain_problem};
 ghost use Rattle.cj_pool.specs.Passes.{deques, takens, deques_of, taken_at, AreReady, TookOne};
 ghost use Rattle.cj_pool.specs.Tree.{InTree};
 
 use crate::rule::{DequePass, Thief};
 use crate::run::Run;
 use crate::steps::steal;
-use cj_bezier::Cell;
+use cj_case::Cell;
 use crossbeam_deque::Steal;
 
 /// Selfruns once to steal from the deque at a place.

@@ -2,7 +2,7 @@
 ghost use Rattle.std.specs.Prelude.{◌≡◌, ◌<◌, List, [], ◌∷◌, length, MatchResult, MatchOption, IfOk};
 ghost use Rattle.crossbeam_deque.specs.Handles.{view, IsPassOf, SamePass, SameWorker, worker_deque, worker_flavor, worker_view, stealer_deque};
 ghost use Rattle.crossbeam_deque.specs.Steals.{MatchSteal};
-ghost use Rattle.cj_bezier.specs.declared.cell.Cell.{Cell};
+ghost use Rattle.cj_case.specs.declared.cell.Cell.{Cell};
 ghost use Rattle.cj_pool.specs.Accounts.{whole, with_opening, with_pushed, with_taken, less_a_part, new_pass, both, AreLeft, Owns, Settled};
 
 use crate::rule::{Counts, CutsOff, DequePass, Opens, Owner, Puts, Steals, Takes, Thief};

@@ -2,8 +2,8 @@
 ghost use Rattle.cj_pool.specs.declared.station.Station.{Station};
 ghost use Rattle.std.specs.Prelude.{◌≡◌, ℕ, ◌+◌, [], ◌∷◌, ◌++◌, length, map, All, IfOk, OnOk};
 ghost use Rattle.std.specs.List.{range_with_len};
-ghost use Rattle.cj_bezier.specs.declared.cell.Cell.{Cell};
-ghost use Rattle.cj_hermite.specs.Problems.{plain_problem};
+ghost use Rattle.cj_case.specs.declared.cell.Cell.{Cell};
+ghost use Rattle.cj_case.specs.Problems.{plain_problem};
 ghost use Rattle.cj_ledger.specs.Shares.{IsOf};
 ghost use Rattle.cj_pool.specs.Hands.{Accounts, IsHandOf, settled_share};
 ghost use Rattle.cj_pool.specs.Refined.{in_runs, kept_in, leaves_in, numbers_of};
@@ -14,7 +14,7 @@ use crate::hand::Hand;
 use crate::refinery::Refinery;
 use crate::run::Run;
 use crate::station::Station;
-use cj_bezier::{Cell, Leaf};
+use cj_case::{Cell, Leaf};
 use cj_ledger::{Ledger, Share};
 use std::alloc::{AllocError, Global};
 

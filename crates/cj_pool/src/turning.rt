@@ -1,7 +1,7 @@
 //! One turn of a hand.
 ghost use Rattle.std.specs.Prelude.{◌≡◌, ◌+◌, ◌-◌, ◌<◌, ◌≤◌, length, MatchResult, Ok};
 ghost use Rattle.crossbeam_deque.specs.Handles.{SameWorker, worker_view};
-ghost use Rattle.cj_hermite.specs.Problems.{plain_problem};
+ghost use Rattle.cj_case.specs.Problems.{plain_problem};
 ghost use Rattle.cj_ledger.specs.declared.why.Why.{Why};
 ghost use Rattle.cj_ledger.specs.Counts.{after_closes, told, told_live};
 ghost use Rattle.cj_ledger.specs.Shares.{IsOf};
@@ -21,7 +21,7 @@ use crate::steps::{put, queue_len};
 use crate::turn::Turn;
 use crate::work::Work;
 use arrayvec::ArrayVec;
-use cj_bezier::Cell;
+use cj_case::Cell;
 use cj_cells::Look;
 use cj_ledger::{Ledger, Share, Why};
 use std::alloc::{AllocError, Global};

@@ -1,9 +1,9 @@
 ghost use Rattle.std.specs.Prelude.{◌≡◌};
-ghost use Rattle.cj_hermite.specs.Problems.{plain_problem};
+ghost use Rattle.cj_case.specs.Problems.{plain_problem};
 ghost use Rattle.cj_pool.specs.Tree.{InTree};
 
 use crate::run::Run;
-use cj_bezier::Cell;
+use cj_case::Cell;
 use std::marker::{Model, PhantomData};
 
 /// What stands in a deque: a cell in the halving tree of a root of the run. Contracts see the cell.
@@ -14,8 +14,8 @@ pub struct Work<K: Run> {
 }
 
 impl<K: Run> Model for Work<K> {
-    ghost use Rattle.cj_bezier.specs.declared.cell.Cell.{Cell};
-    ghost use Rattle.cj_hermite.specs.Problems.{plain_problem};
+    ghost use Rattle.cj_case.specs.declared.cell.Cell.{Cell};
+    ghost use Rattle.cj_case.specs.Problems.{plain_problem};
     ghost use Rattle.cj_pool.specs.Tree.{InTree};
 
     ghost Value = { Cell };

@@ -3,10 +3,11 @@ use Rattle.std.proofs.Common.{◌≡◌, ℕ, zero, suc, ◌+◌, ◌<◌, Bool,
 use Rattle.std.specs.Prelude.{filter}
 use Rattle.std.proofs.lemmas.List.{append-nil}
 use Rattle.std.specs.List.{flat_map, range_with_len}
-use Rattle.cj_hermite.specs.PlainProblems.{PlainProblem}
-use Rattle.cj_hermite.specs.Pairs.{pairs_of}
-use Rattle.cj_hermite.specs.Slots.{slot_count}
-use Rattle.cj_hermite.specs.Roots.{PlainCell, roots_in_slot, roots_by_slot}
+use Rattle.cj_case.specs.PlainProblems.{PlainProblem}
+use Rattle.cj_case.specs.Pairs.{pairs_of}
+use Rattle.cj_case.specs.Slots.{slot_count}
+use Rattle.cj_case.specs.Cells.{PlainCell}
+use Rattle.cj_hermite.specs.Roots.{roots_in_slot, roots_by_slot}
 
 abbrev pub first_slot : ℕ → ℕ → ℕ → Bool
 first_slot a b zero = true

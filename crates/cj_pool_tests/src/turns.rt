@@ -1,20 +1,20 @@
 //! Hands on the cells of one crossing: on one thread by scripted turns, and on threads with several gates.
 ghost use Rattle.std.specs.Prelude.{◌≡◌, ◌≤◌, length, All, IfOk};
 ghost use Rattle.std.specs.List.{range_with_len};
-ghost use Rattle.cj_hermite.specs.Problems.{plain_problem};
-ghost use Rattle.cj_hermite.specs.Slots.{slot_count};
+ghost use Rattle.cj_case.specs.Problems.{plain_problem};
+ghost use Rattle.cj_case.specs.Slots.{slot_count};
 ghost use Rattle.cj_pool.specs.Hands.{IsHandOf};
 ghost use Rattle.cj_pool.specs.Refined.{numbers_of};
 ghost use Rattle.cj_pool.specs.RootLists.{AreRoots};
 ghost use Rattle.cj_pool.specs.Runs.{IsRunOf};
 
-use cj_bezier::{Cell, Leaf};
+use cj_case::{Cell, Leaf, Pair, Problem};
 use cj_cells::{RefineError, order_roots, refine_all, roots_of_slot};
-use cj_hermite::{Hints, Pair, Problem};
+use cj_hermite::Hints;
 use cj_io::{Gate, OpenGate};
 use cj_ledger::Totals;
 use cj_pool::{FinishError, Hand, Refined, Refinery, Run, Turn, leaves_by_hands};
-use cj_scenes::crossing;
+use cj_samples::crossing;
 use std::alloc::{AllocError, Global};
 use std::marker::Brand;
 use std::panic::Expect;

@@ -2,10 +2,10 @@
 use Rattle.std.proofs.Common.{◌≡◌, ℕ, Bool, false, ◌+◌, ◌<◌, List, ◌++◌, length, map, take, get_or, Option, None, ap, sym, ◌∙◌, append_assoc, arith}
 use Rattle.std.proofs.lemmas.List.{get_or-map, length-map}
 use Rattle.std.specs.Prelude.{flat_map, slice_range}
-use Rattle.cj_bezier.specs.declared.encounter.Encounter.{Encounter}
-use Rattle.cj_bezier.specs.declared.leaf.Leaf.{Leaf}
-use Rattle.cj_bezier.specs.Leaves.{PlainLeaf, plain_leaves}
-use Rattle.cj_bezier.specs.declared.encounter.Closest.{Closest}
+use Rattle.cj_case.specs.declared.encounter.Encounter.{Encounter}
+use Rattle.cj_case.specs.declared.leaf.Leaf.{Leaf}
+use Rattle.cj_case.specs.Leaves.{PlainLeaf, plain_leaves}
+use Rattle.cj_case.specs.declared.encounter.Closest.{Closest}
 use Rattle.cj_meet.specs.Closest.{PlainClosest, some_closest}
 use Rattle.cj_meet.specs.Encounters.{first_object, second_object, mark_of, leaves_in, groups_in, Describes}
 use Rattle.cj_meet.specs.Spans.{spans_of}

@@ -1,11 +1,11 @@
 -- The text of a report.
 use Rattle.std.specs.Prelude.{ℕ, ◌+◌, ◌-◌, Bool, true, false, if◌then◌else◌, List, [], ◌∷◌, ◌++◌, Option, Some, None, codes, decimal, flat_map, slice_get}
 use Rattle.std.specs.List.{join_with_byte}
-use Rattle.cj_bezier.specs.declared.kind.Kind.{Kind}
-use Rattle.cj_bezier.specs.declared.kind.Kind.TheVariants as kind
-use Rattle.cj_bezier.specs.declared.encounter.Mark.{Mark}
-use Rattle.cj_bezier.specs.declared.encounter.Mark.TheVariants as mark
-use Rattle.cj_bezier.specs.Leaves.{PlainLeaf}
+use Rattle.cj_case.specs.declared.kind.Kind.{Kind}
+use Rattle.cj_case.specs.declared.kind.Kind.TheVariants as kind
+use Rattle.cj_case.specs.declared.encounter.Mark.{Mark}
+use Rattle.cj_case.specs.declared.encounter.Mark.TheVariants as mark
+use Rattle.cj_case.specs.Leaves.{PlainLeaf}
 use Rattle.cj_epoch.specs.Written.{epoch_of}
 use Rattle.cj_meet.specs.Closest.{PlainClosest}
 use Rattle.cj_meet.specs.Encounters.{first_object, second_object, mark_of}

@@ -1,5 +1,5 @@
 -- What a line SPAN tells, as a leaf.
-use Rattle.cj_bezier.specs.Leaves.{PlainLeaf}
+use Rattle.cj_case.specs.Leaves.{PlainLeaf}
 use Rattle.cj_report.specs.declared.span_line.SpanLine.{SpanLine}
 
 abbrev pub leaf_of_line : SpanLine → PlainLeaf

@@ -1,5 +1,5 @@
 ghost use Rattle.std.specs.Prelude.{◌≡◌, ◌+◌, ◌++◌, Bool, List, Option, length, map, flat_map, All, OnOk};
-ghost use Rattle.cj_bezier.specs.Leaves.{PlainLeaf, plain_leaves};
+ghost use Rattle.cj_case.specs.Leaves.{PlainLeaf, plain_leaves};
 ghost use Rattle.cj_meet.specs.Closest.{PlainClosest, some_closest};
 ghost use Rattle.cj_meet.specs.Encounters.{Describes, groups_in, leaves_in};
 ghost use Rattle.cj_meet.specs.Spans.{spans_of};
@@ -9,7 +9,7 @@ ghost use Rattle.cj_report.specs.SpanLines.{leaf_of_line};
 
 use crate::lines::push_line;
 use crate::span_line::SpanLine;
-use cj_bezier::{Closest, Encounter, Kind, Leaf, Mark};
+use cj_case::{Closest, Encounter, Kind, Leaf, Mark};
 use cj_epoch::epoch_text;
 use itoa::Buffer;
 use std::alloc::AllocError;

@@ -1,16 +1,15 @@
 ghost use Rattle.std.specs.Prelude.{◌≡◌, Bool, List, Option, length, map, All, IfOk};
-ghost use Rattle.cj_bezier.specs.Leaves.{PlainLeaf, plain_leaves};
+ghost use Rattle.cj_case.specs.Leaves.{PlainLeaf, plain_leaves};
 ghost use Rattle.cj_meet.specs.Closest.{PlainClosest, some_closest};
 ghost use Rattle.cj_meet.specs.Encounters.{Describes, groups_in};
-ghost use Rattle.cj_hermite.specs.Problems.{plain_problem};
+ghost use Rattle.cj_case.specs.Problems.{plain_problem};
 ghost use Rattle.cj_report.specs.Report.{report_of, told};
 
 use crate::encounters::push_encounters;
 use crate::lines::push_line;
 use crate::objects::push_objects;
-use cj_bezier::{Closest, Encounter, Leaf};
+use cj_case::{Closest, Encounter, Leaf, Problem};
 use cj_epoch::epoch_text;
-use cj_hermite::Problem;
 use itoa::Buffer;
 use std::alloc::{AllocError, Global};
 

@@ -1,10 +1,9 @@
 ghost use Rattle.std.specs.Prelude.{◌≡◌, ◌&&◌};
-ghost use Rattle.cj_bezier.specs.Leaves.{plain_leaf, same_kind};
+ghost use Rattle.cj_case.specs.Leaves.{plain_leaf, same_kind};
 ghost use Rattle.cj_meet.specs.Encounters.{follows};
 
-use cj_bezier::{Kind, Leaf};
-use cj_hermite::Pair;
-use cj_ticks::Tick;
+use cj_base::Tick;
+use cj_case::{Kind, Leaf, Pair};
 
 /// What a line SPAN tells: leaves of one pair and one kind, of consecutive ticks.
 #[derive(Clone, Copy, Debug)]

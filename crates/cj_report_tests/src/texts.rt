@@ -2,14 +2,12 @@ ghost use Rattle.std.specs.Prelude.{◌≡◌, ◌+◌, ◌<◌, ◌≤◌, true
 ghost use Rattle.cj_track.specs.Labels.{is_file_name};
 ghost use Rattle.cj_track.specs.Segments.{node_count};
 
-use cj_bezier::{Cell, Closest, Kind, Leaf};
+use cj_base::{Text, Tick, Window};
+use cj_case::{Cell, Closest, Kind, Leaf, Pair, Problem, Sizes, Tracks};
 use cj_epoch::leap_between;
-use cj_hermite::{Pair, Problem, Sizes, Tracks};
 use cj_meet::encounters;
 use cj_report::report_text;
-use cj_ticks::{Tick, Window};
 use cj_track::{Frame, Matrices, Node, Nodes, Segment, Segments, Track, Vec3};
-use cj_values::Text;
 use std::alloc::{AllocError, Global};
 use std::panic::Expect;
 use std::process::Abort;

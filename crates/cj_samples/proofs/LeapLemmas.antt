@@ -1,6 +1,6 @@
 -- No leap second lies in the first hour of 2025: all known ones lie before it.
 use Rattle.std.proofs.Common.{◌≡◌, ℕ, ◌≤◌, false, arith}
-use Rattle.cj_ticks.specs.LeapSeconds.{leap_lies_between}
+use Rattle.cj_base.specs.LeapSeconds.{leap_lies_between}
 use Rattle.cj_epoch.proofs.LeapLemmas as epoch
 use Rattle.cj_samples.specs.Moments.{tick_of}
 

@@ -1,2 +1,3 @@
 pub mod Moments
 pub mod Samples
+pub mod Scenes

@@ -2,7 +2,7 @@
 ghost use Rattle.std.specs.Prelude.{◌≡◌, ◌*◌};
 ghost use Rattle.cj_samples.specs.Moments.{tick_of};
 
-use cj_ticks::{Tick, Window};
+use cj_base::{Tick, Window};
 
 /// The tick 2025-01-01T00:00:00.
 const START: u64 = 1_735_689_600_000_000;

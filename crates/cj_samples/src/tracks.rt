@@ -4,8 +4,8 @@ ghost use Rattle.cj_track.specs.Segments.{AreSegments, node_count};
 ghost use Rattle.cj_track.specs.Tracks.{plain_segment, plain_track};
 ghost use Rattle.cj_samples.specs.Samples.{sat_a};
 
+use cj_base::Text;
 use cj_track::{Frame, Segment, Segments, Track};
-use cj_values::Text;
 use std::alloc::{AllocError, Global};
 
 /// The track of an object `SAT A` in a file `a.oem` with these segments.

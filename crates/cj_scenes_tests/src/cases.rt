@@ -1,5 +1,4 @@
-use cj_samples::second;
-use cj_scenes::crossing;
+use cj_samples::{crossing, second};
 use std::panic::Expect;
 use std::process::Abort;
 

@@ -2,11 +2,11 @@
 use Rattle.std.proofs.Common.{◌≡◌, ℕ, zero, suc, ◌+◌, ◌-◌, ◌<◌, ◌≤◌, Bool, true, false, cond, List, [], ◌∷◌, ◌++◌, length, get_or, Some, None, Result, Ok, Err, refl, sym, ap, ap₂, subst, ◌∙◌, arith}
 use Rattle.std.specs.Prelude.{IfErr, IfOk, nat_le, slice_get}
 use Rattle.std.specs.List.{AllByRecursion}
-use Rattle.cj_values.specs.Limits.{USUAL}
+use Rattle.cj_base.specs.Limits.{USUAL}
 use Rattle.cj_io.specs.declared.file.FileBytes.{FileBytes}
 use Rattle.cj_io.specs.Faults.{Rose}
 use Rattle.cj_io.specs.Files.{bytes_of, names_of}
-use Rattle.cj_causes.specs.declared.cert_version.CertVersion.{CertVersion}
+use Rattle.cj_formats.specs.declared.cert_version.CertVersion.{CertVersion}
 use Rattle.cj_track.specs.declared.frame.Frame.{Frame}
 use Rattle.cj_track.specs.declared.frame.Frame.TheVariants as frames
 use Rattle.cj_track.specs.PlainTracks.{PlainTrack}
@@ -14,9 +14,9 @@ use Rattle.cj_oem.specs.Metadata.{same_frame}
 use Rattle.cj_oem.specs.Reading.{Fault, reading}
 use Rattle.cj_oem.proofs.MetadataLemmas.{frame_itself}
 use Rattle.cj_gen.specs.Catalogues.{catalogue_of, file_of}
-use Rattle.cj_catalogue.specs.MadeTracks.{track_of, track_on}
-use Rattle.cj_catalogue.proofs.TrackLemmas.{file_at, file_count, made_read}
-use Rattle.cj_hermite.specs.PlainProblems.{PlainProblem}
+use Rattle.cj_gen.specs.MadeTracks.{track_of, track_on}
+use Rattle.cj_gen.proofs.TrackLemmas.{file_at, file_count, made_read}
+use Rattle.cj_case.specs.PlainProblems.{PlainProblem}
 use Rattle.cj_words.specs.Commands.{PlainSelfrun}
 use Rattle.cj_status.specs.declared.status.Status.{Status}
 use Rattle.cj_status.specs.declared.status.Status.TheVariants as status
@@ -30,8 +30,8 @@ use Rattle.cj_inputs.specs.InputFiles.{inputs_of}
 use Rattle.cj_inputs.specs.ObjectSizes.{sizes_asked}
 use Rattle.cj_inputs.specs.Readings.{checked_after, has_frame_of, nodes_in, reading_after, reading_of, readings_after, readings_of, refused_of, within_nodes}
 use Rattle.cj_inputs.proofs.InputFileLemmas.{Stands, inputs_stand}
-use Rattle.cj_hermite.specs.Problems.{plain_problem}
-use Rattle.cj_bezier.specs.Leaves.{PlainLeaf}
+use Rattle.cj_case.specs.Problems.{plain_problem}
+use Rattle.cj_case.specs.Leaves.{PlainLeaf}
 use Rattle.cj_cells.specs.Lists.{list_candidates}
 use Rattle.cj_outputs.specs.declared.findings.Findings.{Findings}
 use Rattle.cj_outputs.specs.Findings.{AreFound, case_in, outputs_in, selfrun_in}

@@ -2,10 +2,10 @@
 use Rattle.std.proofs.Common.{◌≡◌, List, subst}
 use Rattle.std.specs.Prelude.{All}
 use Rattle.cj_interval.proofs.ListLemmas.{Each-weaker, All-from_each, each_from_All}
-use Rattle.cj_hermite.specs.PlainProblems.{PlainProblem}
-use Rattle.cj_hermite.specs.Slots.{slot_of}
-use Rattle.cj_bezier.specs.declared.kind.Kind.TheVariants.{Near, Undecided}
-use Rattle.cj_bezier.specs.Leaves.{PlainLeaf}
+use Rattle.cj_case.specs.PlainProblems.{PlainProblem}
+use Rattle.cj_case.specs.Slots.{slot_of}
+use Rattle.cj_case.specs.declared.kind.Kind.TheVariants.{Near, Undecided}
+use Rattle.cj_case.specs.Leaves.{PlainLeaf}
 use Rattle.cj_bezier.specs.Candidates.{is_candidate}
 use Rattle.cj_bezier.proofs.TrueLeafLemmas.{IsTrueLeaf, tells_of, outside_of}
 use Rattle.cj_cells.specs.Lists.{IsSound, list_candidates}

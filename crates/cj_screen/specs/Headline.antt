@@ -1,7 +1,7 @@
 -- The headline: what the report of a run says of each common tick of each pair.
 use Rattle.std.specs.Prelude.{◌≡◌, ℕ, List, ◌∷◌, ◌++◌, Option, Some, Ok, All}
 use Rattle.cj_io.specs.declared.file.FileBytes.{FileBytes}
-use Rattle.cj_hermite.specs.PlainProblems.{PlainProblem}
+use Rattle.cj_case.specs.PlainProblems.{PlainProblem}
 use Rattle.cj_meet.specs.Closest.{HasNearest, closest_of}
 use Rattle.cj_report.specs.Report.{report_of, told}
 use Rattle.cj_cert.specs.Accepted.{Accepted}

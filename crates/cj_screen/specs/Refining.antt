@@ -1,15 +1,16 @@
 -- What comes of the refining of a problem.
 use Rattle.std.specs.Prelude.{◌≡◌, ℕ, ◌+◌, ◌≤◌, true, length, All, Any}
-use Rattle.cj_values.specs.Bounds.{MOST_LEAVES}
-use Rattle.cj_hermite.specs.PlainProblems.{PlainProblem, IsCommonOf}
+use Rattle.cj_base.specs.Bounds.{MOST_LEAVES}
+use Rattle.cj_case.specs.PlainProblems.{PlainProblem}
+use Rattle.cj_hermite.specs.ObjectsAtTicks.{IsCommonOf}
 use Rattle.cj_hermite.specs.Roots.{roots_of}
-use Rattle.cj_hermite.specs.Slots.{slot_of}
+use Rattle.cj_case.specs.Slots.{slot_of}
 use Rattle.cj_bezier.specs.AllBoxes.{boxes_of}
 use Rattle.cj_bezier.specs.Enclosed.{OthersAreFar}
-use Rattle.cj_bezier.specs.Leaves.{IsTickOf, plain_leaves}
+use Rattle.cj_case.specs.Leaves.{IsTickOf, plain_leaves}
 use Rattle.cj_bezier.specs.Candidates.{is_candidate, shells_of}
-use Rattle.cj_bezier.specs.Order.{AreInOrder}
-use Rattle.cj_bezier.specs.SlotBoxes.{plain_boxes}
+use Rattle.cj_case.specs.Order.{AreInOrder}
+use Rattle.cj_case.specs.Boxes.{plain_boxes}
 use Rattle.cj_candidates.specs.Counts.{candidate_count}
 use Rattle.cj_cells.specs.Lists.{IsSound, list_candidates, splits_of}
 use Rattle.cj_meet.specs.Closest.{KeepTheirPieces}

@@ -1,6 +1,6 @@
 //! From a task to what is to be put.
 ghost use Rattle.std.specs.Prelude.{◌≡◌, ℕ, List, Ok, IfOk, IfErr};
-ghost use Rattle.cj_hermite.specs.Problems.{plain_problem};
+ghost use Rattle.cj_case.specs.Problems.{plain_problem};
 ghost use Rattle.cj_io.specs.declared.file.FileBytes.{FileBytes};
 ghost use Rattle.cj_words.specs.Commands.{PlainCommand, plain_screening};
 ghost use Rattle.cj_words.specs.Settings.{plain_settings};
@@ -17,12 +17,12 @@ use crate::results::Results;
 use crate::screening::screen;
 use crate::task::Task;
 use crate::selfruns::try_catalogue;
+use cj_base::Tick;
+use cj_case::Problem;
 use cj_gen::catalogue;
-use cj_hermite::Problem;
 use cj_io::Gate;
 use cj_outputs::{Findings, Origin, tells_sizes};
 use cj_status::Status;
-use cj_ticks::Tick;
 use cj_words::Screening;
 use std::alloc::Global;
 use std::sync::Wait;

@@ -1,18 +1,17 @@
 //! From a problem to its leaves.
 ghost use Rattle.std.specs.Prelude.{◌≡◌, ◌≤◌, length, IfOk, IfErr, OnOk};
-ghost use Rattle.cj_values.specs.Bounds.{MOST_LEAVES};
-ghost use Rattle.cj_hermite.specs.Problems.{plain_problem};
-ghost use Rattle.cj_bezier.specs.Leaves.{plain_leaves};
+ghost use Rattle.cj_base.specs.Bounds.{MOST_LEAVES};
+ghost use Rattle.cj_case.specs.Problems.{plain_problem};
+ghost use Rattle.cj_case.specs.Leaves.{plain_leaves};
 ghost use Rattle.cj_cells.specs.Lists.{list_candidates};
 ghost use Rattle.cj_outputs.specs.Outcome.{within_cells};
 ghost use Rattle.cj_screen.specs.Errors.{refined_status};
 ghost use Rattle.cj_screen.specs.Refining.{AreFoundLeaves, HoldsAllTicks};
 ghost use Rattle.cj_status.specs.Steps.{Gives, ComesBetween};
 
-use cj_bezier::{AxisBox, Leaf, Shell};
 use cj_candidates::{Candidates, find_candidates};
+use cj_case::{AxisBox, Leaf, Problem, Shell};
 use cj_cells::RefineError;
-use cj_hermite::Problem;
 use cj_io::Gate;
 use cj_outputs::CandidateCounts;
 use cj_pool::leaves_by_workers;

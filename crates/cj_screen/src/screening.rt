@@ -1,8 +1,8 @@
 //! From a problem to all that is found in it.
 ghost use Rattle.std.specs.Prelude.{◌≡◌, ◌≢◌, ◌≤◌, List, Ok, Err, All, IfOk, IfErr, OnOk};
-ghost use Rattle.cj_values.specs.Bounds.{MOST_LEAVES};
-ghost use Rattle.cj_values.specs.Limits.{USUAL};
-ghost use Rattle.cj_hermite.specs.Problems.{plain_problem};
+ghost use Rattle.cj_base.specs.Bounds.{MOST_LEAVES};
+ghost use Rattle.cj_base.specs.Limits.{USUAL};
+ghost use Rattle.cj_case.specs.Problems.{plain_problem};
 ghost use Rattle.cj_meet.specs.Closest.{HasNearest};
 ghost use Rattle.cj_io.specs.declared.file.FileBytes.{FileBytes};
 ghost use Rattle.cj_words.specs.Settings.{PlainSettings};
@@ -17,9 +17,9 @@ ghost use Rattle.cj_outputs.specs.SpanSplits.{SplitsTicks};
 ghost use Rattle.cj_status.specs.Steps.{Gives, ComesBetween};
 
 use crate::refining::refine;
-use cj_causes::CertVersion;
+use cj_case::Problem;
 use cj_cert::acceptance;
-use cj_hermite::Problem;
+use cj_formats::CertVersion;
 use cj_io::Gate;
 use cj_outputs::{Findings, accepted_later, count, find_meetings};
 use cj_status::Status;

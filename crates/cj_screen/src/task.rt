@@ -1,8 +1,8 @@
 ghost use Rattle.std.specs.Prelude.{◌≡◌};
 ghost use Rattle.cj_screen.specs.Tasks.{puts_files};
 
+use cj_case::Problem;
 use cj_cert::Certificate;
-use cj_hermite::Problem;
 use cj_words::{Recipe, Screening, Selfrun};
 
 /// What a command line asks for, once all that it reads is accepted.

@@ -1,7 +1,7 @@
 //! Catalogues that are written.
 use crate::runs::{are_named, end_alone, file, output_of, run_at};
+use cj_base::Tick;
 use cj_io::{CalmShelf, FileBytes, MemShelf};
-use cj_ticks::Tick;
 use std::alloc::{AllocError, Global};
 use std::panic::Expect;
 use std::sync::Wait;

@@ -1,8 +1,7 @@
 //! Folders and shelves that fail.
 use crate::runs::{End, end_failing};
 use crate::scenes::{COVERED, CROSSING, Content, Scene, base_text, copies, files_of};
-use cj_io::{CalmShelf, FileBytes, MemShelf};
-use cj_stream::StreamShelf;
+use cj_io::{CalmShelf, FileBytes, MemShelf, StreamShelf};
 use std::alloc::{AllocError, Global};
 use std::panic::Expect;
 use std::sync::Wait;

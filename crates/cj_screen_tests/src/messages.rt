@@ -1,8 +1,8 @@
 //! The messages of runs.
 use crate::runs::{are_named, output_of, run_at};
 use crate::scenes::{COVARIANCE, COVERED, CROSSING, Content, OF_ONE_ELEMENT, Scene, files_of};
+use cj_base::Tick;
 use cj_io::{CalmShelf, FileBytes};
-use cj_ticks::Tick;
 use std::alloc::{AllocError, Global};
 use std::panic::Expect;
 use std::sync::Wait;

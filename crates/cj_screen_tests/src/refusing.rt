@@ -3,8 +3,7 @@ ghost use Rattle.std.specs.Prelude.{Some};
 
 use crate::runs::{End, certificate_of, end_failing, with_certificate};
 use crate::scenes::{COVERED, Content, Scene, files_of};
-use cj_io::{CalmShelf, FileBytes, PutError, Shelf};
-use cj_stream::StreamShelf;
+use cj_io::{CalmShelf, FileBytes, PutError, Shelf, StreamShelf};
 use std::alloc::{AllocError, Global};
 use std::panic::Expect;
 use std::sync::Wait;

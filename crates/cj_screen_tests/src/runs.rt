@@ -1,10 +1,8 @@
 //! Runs of the top call.
-use cj_io::{Bytes, CalmFolder, CalmShelf, FileBytes, Folder, Gate, MemFolder, Name, OpenGate};
+use cj_base::{Text, Tick};
+use cj_io::{Bytes, CalmFolder, CalmShelf, FileBytes, Folder, Gate, MemFolder, Name, OpenGate, StreamShelf};
 use cj_screen::conj;
 use cj_status::{Status, fault_text};
-use cj_stream::StreamShelf;
-use cj_ticks::Tick;
-use cj_values::Text;
 use cj_words::Word;
 use std::alloc::{AllocError, Global};
 use std::sync::Wait;

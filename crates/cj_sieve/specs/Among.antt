@@ -1,7 +1,7 @@
 -- The objects whose pairs are filtered: which pairs of them are kept.
 use Rattle.std.specs.Prelude.{ℕ, ◌+◌, ◌-◌, Bool, List, map, filter, length}
 use Rattle.std.specs.List.{range_with_len}
-use Rattle.cj_hermite.specs.Pairs.{pairs_of}
+use Rattle.cj_case.specs.Pairs.{pairs_of}
 use Rattle.cj_bezier.specs.Shells.{keeps_between}
 use Rattle.cj_sieve.specs.declared.shelled_objects.ShelledObjects.{ShelledObjects}
 

@@ -1,15 +1,14 @@
 //! The pairs that the filter keeps.
 ghost use Rattle.std.specs.Prelude.{◌≡◌, ◌^◌, ◌<◌, ◌≤◌, ◌++◌, map, filter, length, All, IfOk, OnOk};
-ghost use Rattle.cj_values.specs.Bounds.{MOST_OBJECTS};
-ghost use Rattle.cj_hermite.specs.Limits.{MAX_SIZE};
-ghost use Rattle.cj_hermite.specs.Pairs.{objects_of, pairs_of};
+ghost use Rattle.cj_base.specs.Bounds.{MOST_OBJECTS};
+ghost use Rattle.cj_case.specs.CaseLimits.{MAX_SIZE};
+ghost use Rattle.cj_case.specs.Pairs.{objects_of, pairs_of};
 ghost use Rattle.cj_bezier.specs.Shells.{keeps_between, shell_in};
 ghost use Rattle.cj_sieve.specs.Among.{keeps_among, kept_among, row_among};
 
 use crate::parted_shells::parted;
 use crate::shelled_objects::ShelledObjects;
-use cj_bezier::Shell;
-use cj_hermite::{Pair, threshold_between};
+use cj_case::{Pair, Shell, threshold_between};
 use std::alloc::{AllocError, Global};
 
 /// The shell of an object, where it has one.

@@ -4,7 +4,7 @@ ghost use Rattle.cj_hermite.specs.Interpolant.{Curve};
 ghost use Rattle.cj_hermite.specs.Distance.{IsFar};
 ghost use Rattle.cj_bezier.specs.Shells.{IsRadiusWithin, are_parted};
 
-use cj_bezier::Shell;
+use cj_case::Shell;
 
 /// Whether two shells are more than a threshold in nm apart: the greater inner radius exceeds the smaller outer one by more.
 pub fn parted(a: Shell, b: Shell, thr: u64) -> bool

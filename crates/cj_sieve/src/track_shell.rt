@@ -7,7 +7,8 @@ ghost use Rattle.cj_bezier.specs.Parts.{AreInTime};
 ghost use Rattle.cj_bezier.specs.Shells.{IsInner, IsOuter, IsRadiusWithin, IsShellOf, shell_of};
 ghost use Rattle.cj_walk.specs.TrackWalks.{IsWalk};
 
-use cj_bezier::{Gap, Shell, greatest_square, least_square};
+use cj_bezier::{Gap, greatest_square, least_square};
+use cj_case::Shell;
 use cj_interval::{isqrt_down, isqrt_up};
 use cj_walk::TrackWalk;
 

@@ -1,12 +1,10 @@
 ghost use Rattle.std.specs.Prelude.{◌≤◌, All};
-ghost use Rattle.cj_hermite.specs.Limits.{MAX_SIZE};
+ghost use Rattle.cj_case.specs.CaseLimits.{MAX_SIZE};
 
-use cj_bezier::Shell;
-use cj_hermite::Pair;
-use cj_samples::{AT_7000, AT_7100, rest, seconds, track_of_two};
-use cj_scenes::along_y;
+use cj_base::Window;
+use cj_case::{Pair, Shell};
+use cj_samples::{AT_7000, AT_7100, along_y, rest, seconds, track_of_two};
 use cj_sieve::{kept_pairs, parted, shell};
-use cj_ticks::Window;
 use cj_track::Track;
 use cj_walk::TrackWalk;
 use std::alloc::{AllocError, Global};

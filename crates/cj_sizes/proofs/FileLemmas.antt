@@ -1,7 +1,7 @@
 -- What a reader answers for a file as a whole.
 use Rattle.std.proofs.Common.{◌≡◌, ℕ, List, [], Result, Ok, Err, Vec, Global, IfOk, MatchResult, refl}
 use Rattle.cj_kvn.specs.Lines as kvn
-use Rattle.cj_causes.specs.declared.sizes_cause.SizesCause.{SizesCause}
+use Rattle.cj_formats.specs.declared.sizes_cause.SizesCause.{SizesCause}
 use Rattle.cj_sizes.specs.Grammar.{Says}
 use Rattle.cj_sizes.specs.Reading.{reading, sizes_said}
 use Rattle.cj_kvn.specs.Faults.{Gives}

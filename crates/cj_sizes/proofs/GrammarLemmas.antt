@@ -17,8 +17,8 @@ use Rattle.cj_kvn.specs.Faults.{◌>>=◌, at_line, lines_or}
 use Rattle.cj_sizes.specs.Reading.{is_named, reading, with_line, with_lines, with_size}
 use Rattle.cj_sizes.specs.Rows.{radius_or, radius_said, size_of_fields, size_of_row}
 use Rattle.cj_sizes.specs.Sizes.{Size, ids_of}
-use Rattle.cj_causes.specs.declared.sizes_cause.SizesCause.{SizesCause}
-use Rattle.cj_causes.specs.declared.sizes_cause.SizesCause.TheVariants.{Kvn, Range, Twice}
+use Rattle.cj_formats.specs.declared.sizes_cause.SizesCause.{SizesCause}
+use Rattle.cj_formats.specs.declared.sizes_cause.SizesCause.TheVariants.{Kvn, Range, Twice}
 use Rattle.cj_sizes.proofs.DraftLemmas.{distinct_more, not_named}
 
 -- ---- rows

@@ -11,8 +11,8 @@ use Rattle.cj_kvn.proofs.FaultLemmas.{told_gives}
 use Rattle.cj_kvn.specs.Faults.{at_line, ◌>>=◌, Follows, Gives, IsToldAs, refused_at}
 use Rattle.cj_sizes.specs.Reading.{Fault, sizes_said, with_line, with_lines}
 use Rattle.cj_sizes.specs.Sizes.{Size}
-use Rattle.cj_causes.specs.declared.sizes_cause.SizesCause.{SizesCause}
-use Rattle.cj_causes.specs.declared.sizes_cause.SizesCause.TheVariants.{Kvn}
+use Rattle.cj_formats.specs.declared.sizes_cause.SizesCause.{SizesCause}
+use Rattle.cj_formats.specs.declared.sizes_cause.SizesCause.TheVariants.{Kvn}
 use Rattle.cj_kvn.specs.declared.text_fault.TextFault.{TextFault}
 use Rattle.cj_kvn.specs.declared.text_fault.Refused.{Refused}
 use Rattle.cj_kvn.specs.declared.text_fault.Refused.TheVariants.{Memory, Because}

@@ -7,8 +7,8 @@ use Rattle.cj_kvn.specs.Lines.{Blank, Comment, Mark, Pair, Row, Numbered}
 use Rattle.cj_kvn.specs.Faults.{at_line, lines_or, ◌>>=◌}
 use Rattle.cj_kvn.specs.declared.lines.KvnCause.{KvnCause}
 use Rattle.cj_kvn.specs.declared.text_fault.LineFault.{LineFault}
-use Rattle.cj_causes.specs.declared.sizes_cause.SizesCause.{SizesCause}
-use Rattle.cj_causes.specs.declared.sizes_cause.SizesCause.TheVariants as causes
+use Rattle.cj_formats.specs.declared.sizes_cause.SizesCause.{SizesCause}
+use Rattle.cj_formats.specs.declared.sizes_cause.SizesCause.TheVariants as causes
 use Rattle.cj_sizes.specs.Rows.{size_of_row}
 use Rattle.cj_sizes.specs.Sizes.{Size, ids_of}
 

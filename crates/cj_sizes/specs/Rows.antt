@@ -5,8 +5,8 @@ use Rattle.cj_kvn.specs.Fields.{fields}
 use Rattle.cj_kvn.specs.Numbers.{scaled_of}
 use Rattle.cj_kvn.specs.declared.numbers.NumFault.{NumFault}
 use Rattle.cj_kvn.specs.declared.numbers.NumFault.TheVariants.{NotNumber, TooLarge}
-use Rattle.cj_causes.specs.declared.sizes_cause.SizesCause.{SizesCause}
-use Rattle.cj_causes.specs.declared.sizes_cause.SizesCause.TheVariants.{Form, Number, Range}
+use Rattle.cj_formats.specs.declared.sizes_cause.SizesCause.{SizesCause}
+use Rattle.cj_formats.specs.declared.sizes_cause.SizesCause.TheVariants.{Form, Number, Range}
 use Rattle.cj_sizes.specs.Limits.{MAX_RADIUS}
 use Rattle.cj_sizes.specs.Sizes.{Size}
 

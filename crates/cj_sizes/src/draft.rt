@@ -1,9 +1,9 @@
 use crate::row::Row;
 use crate::rows::row_said;
 use crate::size_line::SizeLine;
-use cj_causes::SizesCause;
+use cj_base::Text;
+use cj_formats::SizesCause;
 use cj_kvn::{LineKind, Refused};
-use cj_values::Text;
 use std::alloc::Global;
 use std::collections::BTreeSet;
 use std::marker::Model;

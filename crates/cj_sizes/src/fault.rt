@@ -1,5 +1,5 @@
 //! Why a file of sizes is not read.
-use cj_causes::SizesCause;
+use cj_formats::SizesCause;
 use cj_kvn::TextFault;
 
 /// Why a file of sizes is not read.

@@ -9,7 +9,7 @@ mod row;
 mod rows;
 mod size_line;
 
-pub use cj_causes::SizesCause;
+pub use cj_formats::SizesCause;
 pub use fault::SizesFault;
 pub use radii::{radii_of, radius_of};
 pub use reader::read_sizes;

@@ -8,7 +8,7 @@ ghost use Rattle.cj_sizes.specs.Readers.{row_of};
 ghost use Rattle.cj_sizes.specs.Rows as spec;
 
 use crate::row::Row;
-use cj_causes::SizesCause;
+use cj_formats::SizesCause;
 use cj_kvn::{NumFault, Range32, field, read_scaled};
 
 /// A kilometre in nm: the greatest radius.

@@ -1,7 +1,7 @@
 ghost use Rattle.std.specs.Prelude.{◌≤◌};
 ghost use Rattle.cj_sizes.specs.Limits.{MAX_RADIUS};
 
-use cj_values::Text;
+use cj_base::Text;
 
 /// The size of the objects with a designator.
 #[derive(Debug, Drop, PartialEq, Eq)]

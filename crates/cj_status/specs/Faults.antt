@@ -5,14 +5,14 @@ use Rattle.cj_epoch.specs.declared.fault.EpochFault.{EpochFault}
 use Rattle.cj_epoch.specs.declared.fault.EpochFault.TheVariants as epoch
 use Rattle.cj_kvn.specs.declared.lines.KvnCause.{KvnCause}
 use Rattle.cj_kvn.specs.declared.lines.KvnCause.TheVariants as kvn
-use Rattle.cj_causes.specs.declared.oem_cause.OemCause.{OemCause}
-use Rattle.cj_causes.specs.declared.oem_cause.OemCause.TheVariants as oem
-use Rattle.cj_causes.specs.declared.sizes_cause.SizesCause.{SizesCause}
-use Rattle.cj_causes.specs.declared.sizes_cause.SizesCause.TheVariants as sizes
-use Rattle.cj_causes.specs.declared.cert_cause.CertCause.{CertCause}
-use Rattle.cj_causes.specs.declared.cert_cause.CertCause.TheVariants as certs
-use Rattle.cj_causes.specs.declared.check_cause.CheckCause.{CheckCause}
-use Rattle.cj_causes.specs.declared.check_cause.CheckCause.TheVariants as checks
+use Rattle.cj_formats.specs.declared.oem_cause.OemCause.{OemCause}
+use Rattle.cj_formats.specs.declared.oem_cause.OemCause.TheVariants as oem
+use Rattle.cj_formats.specs.declared.sizes_cause.SizesCause.{SizesCause}
+use Rattle.cj_formats.specs.declared.sizes_cause.SizesCause.TheVariants as sizes
+use Rattle.cj_formats.specs.declared.cert_cause.CertCause.{CertCause}
+use Rattle.cj_formats.specs.declared.cert_cause.CertCause.TheVariants as certs
+use Rattle.cj_formats.specs.declared.check_cause.CheckCause.{CheckCause}
+use Rattle.cj_formats.specs.declared.check_cause.CheckCause.TheVariants as checks
 use Rattle.cj_words.specs.declared.option.UsageFault.{UsageFault}
 use Rattle.cj_words.specs.declared.option.UsageFault.TheVariants.{Words, Value}
 use Rattle.cj_words.specs.Options.{name_of}

@@ -5,8 +5,8 @@ ghost use Rattle.cj_status.specs.Faults.{line_of, fault_body, usage_text, limit_
 ghost use Rattle.cj_status.specs.Faults.{cause_text, certificate_text, cert_text, check_text, oem_text, kvn_text, epoch_text, sizes_text};
 
 use crate::status::{CertificateCause, FileCause, LimitFault, Status};
-use cj_causes::{CertCause, CheckCause, OemCause, SizesCause};
 use cj_epoch::EpochFault;
+use cj_formats::{CertCause, CheckCause, OemCause, SizesCause};
 use cj_kvn::KvnCause;
 use cj_words::{UsageFault, option_name};
 use std::alloc::{AllocError, Global};

@@ -1,7 +1,7 @@
 ghost use Rattle.std.specs.Prelude.{◌≡◌};
 ghost use Rattle.cj_status.specs.Statuses.{number_of};
 
-use cj_causes::{CertCause, CheckCause, OemCause, SizesCause};
+use cj_formats::{CertCause, CheckCause, OemCause, SizesCause};
 use cj_io::Name;
 use cj_words::UsageFault;
 

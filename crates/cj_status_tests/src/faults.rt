@@ -1,6 +1,6 @@
 //! The lines that say why a run failed.
-use cj_causes::{CertCause, CheckCause, OemCause, SizesCause};
 use cj_epoch::EpochFault;
+use cj_formats::{CertCause, CheckCause, OemCause, SizesCause};
 use cj_io::Name;
 use cj_kvn::KvnCause;
 use cj_status::{CertificateCause, FileCause, LimitFault, Status, fault_text};

@@ -1,5 +1,4 @@
-use cj_io::{CalmShelf, MemShelf, PutError, join_parts};
-use cj_stream::{MemSource, PartSource, StreamShelf, all_parts};
+use cj_io::{CalmShelf, MemShelf, MemSource, PartSource, PutError, StreamShelf, all_parts, join_parts};
 use std::alloc::Global;
 use std::panic::Expect;
 use std::thread::Threads;

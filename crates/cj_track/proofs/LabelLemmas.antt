@@ -1,7 +1,7 @@
 -- The bytes of labels.
 use Rattle.std.proofs.Common.{◌≡◌, ℕ, true, false, arith}
 use Rattle.std.proofs.lemmas.Bool.Decides.{nat_tests}
-use Rattle.cj_values.specs.Bytes.{is_feed}
+use Rattle.cj_base.specs.Bytes.{is_feed}
 use Rattle.cj_track.specs.Labels.{is_visible}
 
 -- no line ends within a label

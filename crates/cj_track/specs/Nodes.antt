@@ -1,6 +1,6 @@
 -- The rule of a list of nodes.
 use Rattle.std.specs.Prelude.{◌≡◌, ◌+◌, ◌<◌, ◌≤◌, false, List, [], ◌∷◌, length}
-use Rattle.cj_ticks.specs.LeapSeconds.{leap_lies_between}
+use Rattle.cj_base.specs.LeapSeconds.{leap_lies_between}
 use Rattle.cj_track.specs.declared.node.Node.{Node}
 use Rattle.cj_track.specs.Limits.{MAX_STEP}
 

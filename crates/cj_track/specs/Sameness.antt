@@ -4,7 +4,7 @@ use Rattle.std.specs.Bool.{beq}
 use Rattle.std.specs.Cmp.{IsEquivalence, and_equiv, bool_eq_equiv, int_eq_equiv, nat_eq_equiv, on_equiv}
 use Rattle.std.specs.Cmp.Lexicographic.{lists_equiv, pointwise}
 use Rattle.std.specs.Ordering.{eq_of_both, int_eq, on}
-use Rattle.cj_values.specs.declared.decimals.Decimal.{Decimal}
+use Rattle.cj_base.specs.declared.decimals.Decimal.{Decimal}
 use Rattle.cj_track.specs.declared.matrix.Matrix.{Matrix}
 use Rattle.cj_track.specs.declared.node.Node.{Node}
 use Rattle.cj_track.specs.declared.segment.Segment.{Segment}

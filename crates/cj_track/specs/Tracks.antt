@@ -1,6 +1,6 @@
 -- What a track says.
 use Rattle.std.specs.Prelude.{map}
-use Rattle.cj_values.specs.Decimals.{number_of}
+use Rattle.cj_base.specs.Decimals.{number_of}
 use Rattle.cj_track.specs.declared.node.Node.{Node}
 use Rattle.cj_track.specs.declared.matrix.Matrix.{Matrix}
 use Rattle.cj_track.specs.declared.segment.Segment.{Segment}

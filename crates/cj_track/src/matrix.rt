@@ -1,9 +1,8 @@
 ghost use Rattle.std.specs.Prelude.{◌≡◌, length};
 ghost use Rattle.std.specs.List.{All};
-ghost use Rattle.cj_values.specs.Decimals.{IsReadable, number_of};
+ghost use Rattle.cj_base.specs.Decimals.{IsReadable, number_of};
 
-use cj_ticks::Tick;
-use cj_values::Decimal;
+use cj_base::{Decimal, Tick};
 
 /// A covariance in the frame RTN at a tick: the lower triangle of a symmetric matrix of 6 rows, row by row, in km and km/s.
 #[derive(Clone, Copy, Debug, PartialEq, Eq)]

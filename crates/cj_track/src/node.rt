@@ -1,7 +1,7 @@
 ghost use Rattle.cj_track.specs.Limits.{MAX_COORDINATE, MAX_RATE, IsWithin};
 
 use crate::vec3::Vec3;
-use cj_ticks::Tick;
+use cj_base::Tick;
 
 /// Where an object is at a tick, and how fast it goes.
 #[derive(Clone, Copy, Debug, PartialEq, Eq)]

@@ -3,7 +3,7 @@ ghost use Rattle.cj_track.specs.Useable.{LiesWithin};
 
 use crate::matrices::Matrices;
 use crate::nodes::Nodes;
-use cj_ticks::Tick;
+use cj_base::Tick;
 
 /// A segment of an ephemeris: its useable span, its nodes, its covariances. Interpolation stays within it.
 #[derive(Debug, Drop, PartialEq, Eq)]

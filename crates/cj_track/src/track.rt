@@ -3,7 +3,7 @@ ghost use Rattle.cj_track.specs.Labels.{is_file_name, is_label};
 
 use crate::frame::Frame;
 use crate::segments::Segments;
-use cj_values::Text;
+use cj_base::Text;
 
 /// The ephemeris of one object, as one file gives it.
 #[derive(Debug, Drop, PartialEq, Eq)]

@@ -10,8 +10,8 @@ ghost use Rattle.cj_walk.specs.JoinedGaps.{IsGapRound};
 ghost use Rattle.cj_walk.specs.TrackWalks.{IsWalk};
 
 use crate::joined_gaps::join_gaps;
+use cj_base::{Tick, Window};
 use cj_bezier::{Gap, Guide, Part, gap_origin, next_part};
-use cj_ticks::{Tick, Window};
 use cj_track::Track;
 
 /// A walk along a track in a window, from part to part. It is at a part, which is the first one from a tick on.

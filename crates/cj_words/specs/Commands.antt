@@ -1,10 +1,10 @@
 -- The commands of the program, and what the words of a command line ask for.
 use Rattle.std.specs.Prelude.{ℕ, ◌-◌, ◌^◌, if◌then◌else◌, List, Option, Some, None, Result, Ok, Err, codes}
 use Rattle.std.specs.Option.{option_copied}
-use Rattle.cj_values.specs.Bounds.{MOST_MADE_OBJECTS}
-use Rattle.cj_values.specs.Limits.{USUAL}
-use Rattle.cj_causes.specs.declared.cert_version.CertVersion.{CertVersion as Version}
-use Rattle.cj_causes.specs.declared.cert_version.CertVersion.TheVariants.{One}
+use Rattle.cj_base.specs.Bounds.{MOST_MADE_OBJECTS}
+use Rattle.cj_base.specs.Limits.{USUAL}
+use Rattle.cj_formats.specs.declared.cert_version.CertVersion.{CertVersion as Version}
+use Rattle.cj_formats.specs.declared.cert_version.CertVersion.TheVariants.{One}
 use Rattle.cj_words.specs.declared.command.Checking as kept_checking
 use Rattle.cj_words.specs.declared.command.Command.{Command}
 use Rattle.cj_words.specs.declared.command.Command.TheVariants as commands

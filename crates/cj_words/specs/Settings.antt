@@ -4,11 +4,11 @@ use Rattle.std.specs.List.{list_all}
 use Rattle.std.specs.Option.{option_and_then, option_map, option_copied}
 use Rattle.std.specs.Char.{is_ascii_digit}
 use Rattle.std.specs.Str.Parse.{digits_value}
-use Rattle.cj_values.specs.Limits.{PlainLimits, USUAL, plain_limits}
-use Rattle.cj_causes.specs.declared.cert_version.CertVersion.{CertVersion}
-use Rattle.cj_causes.specs.Versions.{version_of_number}
+use Rattle.cj_base.specs.Limits.{PlainLimits, USUAL, plain_limits}
+use Rattle.cj_formats.specs.declared.cert_version.CertVersion.{CertVersion}
+use Rattle.cj_formats.specs.Versions.{version_of_number}
 use Rattle.cj_kvn.specs.Originators.{is_originator}
-use Rattle.cj_ticks.specs.declared.tick.Tick.{Tick}
+use Rattle.cj_base.specs.declared.tick.Tick.{Tick}
 use Rattle.cj_epoch.specs.Reading.{reading_of}
 use Rattle.cj_epoch.specs.declared.fault.EpochFault.{EpochFault}
 use Rattle.cj_words.specs.declared.option.Opt.{Opt}

@@ -1,8 +1,8 @@
 ghost use Rattle.std.specs.Prelude.{◌≤◌};
-ghost use Rattle.cj_values.specs.Bounds.{MOST_LEAVES, MOST_MADE_OBJECTS};
+ghost use Rattle.cj_base.specs.Bounds.{MOST_LEAVES, MOST_MADE_OBJECTS};
 
 use crate::settings::Settings;
-use cj_causes::CertVersion;
+use cj_formats::CertVersion;
 
 /// The command that the first word of a command line names.
 #[derive(Clone, Copy, Debug, PartialEq, Eq)]

@@ -15,8 +15,8 @@ use crate::option::{Opt, UsageFault};
 use crate::reading::{sized_of, threshold_of, unsized_of};
 use crate::settings::Word;
 use crate::texts::{file_text_or, is_path_or_none, name_or, originator_or};
-use cj_values::{Limits, MOST_MADE_OBJECTS};
-use cj_causes::CertVersion;
+use cj_base::{Limits, MOST_MADE_OBJECTS};
+use cj_formats::CertVersion;
 
 /// Reads the words of a command line, without the program's name.
 ///

@@ -5,7 +5,7 @@ ghost use Rattle.cj_words.specs.Settings as spec;
 
 use crate::digits::read_number;
 use crate::option::{Opt, UsageFault};
-use cj_causes::CertVersion;
+use cj_formats::CertVersion;
 
 /// What is wrong where the value of the option is out of its range.
 pub fn out_of_range(option: Opt) -> UsageFault

@@ -11,9 +11,8 @@ use crate::numbers::{number_or, out_of_range};
 use crate::option::{Opt, UsageFault};
 use crate::settings::{Settings, Word};
 use crate::texts::{file_text_or, name_or};
+use cj_base::{Limits, Tick};
 use cj_epoch::read_epoch;
-use cj_ticks::Tick;
-use cj_values::Limits;
 
 /// The greatest miss distance that is reported, in metres.
 pub fn threshold_of(words: &[Word]) -> Result<u64, UsageFault>

@@ -1,9 +1,8 @@
 ghost use Rattle.std.specs.Prelude.{◌≤◌, ◌≡◌, Option, Some};
-ghost use Rattle.cj_values.specs.Limits.{USUAL, plain_limits};
-ghost use Rattle.cj_ticks.specs.declared.tick.Tick.{Tick};
+ghost use Rattle.cj_base.specs.Limits.{USUAL, plain_limits};
+ghost use Rattle.cj_base.specs.declared.tick.Tick.{Tick};
 
-use cj_ticks::Tick;
-use cj_values::{Limits, Text};
+use cj_base::{Limits, Text, Tick};
 
 /// A word of the command line.
 pub type Word = Text;

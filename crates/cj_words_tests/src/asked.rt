@@ -1,12 +1,9 @@
 //! What command lines ask for.
 use crate::lines::words;
-use cj_causes::CertVersion;
+use cj_base::{Limits, Tick};
 use cj_epoch::read_epoch;
-use cj_ticks::Tick;
-use cj_values::Limits;
-use cj_words::{
-    Checking, Command, Opt, Recipe, Screening, Settings, Selfrun, option_name, read_command,
-};
+use cj_formats::CertVersion;
+use cj_words::{Checking, Command, Opt, Recipe, Screening, Selfrun, Settings, option_name, read_command};
 use std::alloc::{AllocError, Global};
 use std::panic::Expect;
 

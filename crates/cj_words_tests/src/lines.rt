@@ -1,5 +1,5 @@
 //! Command lines, and what is wrong with them.
-use cj_values::Text;
+use cj_base::Text;
 use cj_words::{UsageFault, Word, read_command};
 use std::alloc::{AllocError, Global};
 

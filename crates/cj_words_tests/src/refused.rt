@@ -1,8 +1,5 @@
 //! Command lines that are refused, and why, beside those that are just taken.
-use crate::faults::{
-    BAD_CELLS, BAD_CERT, BAD_FROM, BAD_MINUTES, BAD_OBJECTS, BAD_ORIGINATOR, BAD_REPORT, BAD_SEED,
-    BAD_SIZES, BAD_SUFFIX, BAD_THRESHOLD, BAD_TO, BAD_VERSION, BAD_WORKERS, WORDS,
-};
+use crate::faults::{BAD_CELLS, BAD_CERT, BAD_FROM, BAD_MINUTES, BAD_OBJECTS, BAD_ORIGINATOR, BAD_REPORT, BAD_SEED, BAD_SIZES, BAD_SUFFIX, BAD_THRESHOLD, BAD_TO, BAD_VERSION, BAD_WORKERS, WORDS};
 use crate::lines::{Case, fault_of, first_wrong, name_of};
 use std::panic::Expect;
 

@@ -1,5 +1,5 @@
 //! The versions of a certificate, by their numbers.
-use cj_causes::CertVersion;
+use cj_formats::CertVersion;
 
 #[test]
 fn two_numbers_are_those_of_versions(rt: HostRuntime) {

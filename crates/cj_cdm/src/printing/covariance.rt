@@ -1,18 +1,17 @@
 //! The covariance of an object.
 ghost use Rattle.std.specs.Prelude.{◌≡◌, ◌++◌, codes, length, map, All, OnOk};
 ghost use Rattle.cj_epoch.specs.Written.{epoch_of};
-ghost use Rattle.cj_values.specs.Decimals.{IsReadable, number_of};
+ghost use Rattle.cj_base.specs.Decimals.{IsReadable, number_of};
 ghost use Rattle.cj_cdm.specs.Building.{in_square_metres};
 ghost use Rattle.cj_kvn.specs.Entries.{line};
 ghost use Rattle.cj_cdm.specs.Texts.{covariance_text, elements, elements_text};
 
 use crate::elements::element_at;
 use crate::printing::numbers::push_element;
+use cj_base::{Decimal, Tick};
 use cj_epoch::epoch_text;
 use cj_kvn::push_line;
-use cj_ticks::Tick;
 use cj_track::Matrix;
-use cj_values::Decimal;
 use std::alloc::AllocError;
 
 /// Adds a covariance in km and km/s, in m and m/s.

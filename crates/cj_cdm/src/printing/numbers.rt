@@ -1,6 +1,6 @@
 //! Numbers with their keys and units.
 ghost use Rattle.std.specs.Prelude.{◌≡◌, ◌+◌, ◌≤◌, ◌<◌, decimal, length, [], ◌∷◌, ◌++◌, if◌then◌else◌, int_lt, pos, codes, OnOk};
-ghost use Rattle.cj_values.specs.Decimals.{IsReadable, number_of};
+ghost use Rattle.cj_base.specs.Decimals.{IsReadable, number_of};
 ghost use Rattle.cj_kvn.specs.Decimals.{decimal_text_of};
 ghost use Rattle.cj_cdm.specs.Building.{in_square_metres};
 ghost use Rattle.arrayvec.specs.ArrayVec.{array_vec_len};
@@ -8,8 +8,8 @@ ghost use Rattle.cj_cdm.specs.Texts as spec;
 ghost use Rattle.cj_cdm.specs.Texts.{kilometres, last_digits, metres, quantity};
 
 use arrayvec::ArrayVec;
+use cj_base::Decimal;
 use cj_kvn::decimal_text;
-use cj_values::Decimal;
 use std::alloc::AllocError;
 
 /// Adds a number of nm in metres, all its digits.

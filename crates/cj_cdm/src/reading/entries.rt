@@ -1,6 +1,6 @@
 //! The lines of a message, by what their values are.
 ghost use Rattle.std.specs.Prelude.{◌≡◌, ◌≤◌, ◌<◌, ◌^◌, ◌++◌, codes, length, IfOk};
-ghost use Rattle.cj_values.specs.Decimals.{number_of};
+ghost use Rattle.cj_base.specs.Decimals.{number_of};
 ghost use Rattle.cj_cdm.specs.Read.{bytes_of, plain, plain_rest, told};
 ghost use Rattle.cj_cdm.specs.Reading.{entry_said, line_said, value_in};
 ghost use Rattle.cj_cdm.specs.Values.{constant_said, designator_said, element_said, epoch_said, frame_said, id_said, kilometres_said, label_said, miss_said, originator_said};
@@ -9,10 +9,9 @@ use crate::fault::CdmCause;
 use crate::reading::figures::{element, id, kilometres, miss};
 use crate::reading::rest::Rest;
 use crate::reading::values::{behind_front, constant, designator, epoch, frame, label, originator};
+use cj_base::{Decimal, Tick};
 use cj_kvn::LineFault;
-use cj_ticks::Tick;
 use cj_track::Frame;
-use cj_values::Decimal;
 
 impl<'a> Rest<'a> {
     /// The value of the next line, which has this key.

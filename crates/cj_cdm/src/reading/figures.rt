@@ -2,7 +2,7 @@
 ghost use Rattle.std.specs.Prelude.{◌≡◌, ◌+◌, ◌≤◌, ◌<◌, ◌^◌, length, neg_ℤ, pos, ◌≤ℤ◌, unsigned_abs, option_map, IfSome, true};
 ghost use Rattle.std.specs.Result.{result_ok};
 ghost use Rattle.std.specs.List.{after_first, before_first};
-ghost use Rattle.cj_values.specs.Decimals.{number_of, shifted};
+ghost use Rattle.cj_base.specs.Decimals.{number_of, shifted};
 ghost use Rattle.cj_kvn.specs.Numbers.{scaled_of};
 ghost use Rattle.cj_cdm.specs.Read.{bytes_of};
 ghost use Rattle.cj_cdm.specs.Values as spec;
@@ -10,8 +10,8 @@ ghost use Rattle.cj_cdm.specs.Values.{decimal_said, element_said, fixed_said, id
 
 use crate::printing::{fixed_text, number_text};
 use crate::reading::values::{before_ending, behind_front, place_of};
+use cj_base::Decimal;
 use cj_kvn::{decimal_text, read_decimal, read_scaled};
-use cj_values::Decimal;
 
 /// What stands before this unit.
 pub(crate) fn before_unit<'a>(unit: &[u8], value: &'a [u8]) -> Option<&'a [u8]>

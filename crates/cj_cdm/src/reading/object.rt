@@ -1,6 +1,6 @@
 //! The lines of one object.
 ghost use Rattle.std.specs.Prelude.{◌≡◌, map};
-ghost use Rattle.cj_values.specs.Decimals.{number_of};
+ghost use Rattle.cj_base.specs.Decimals.{number_of};
 ghost use Rattle.cj_cdm.specs.Read.{plain_object, plain_rest, side_of_said, told};
 ghost use Rattle.cj_cdm.specs.Reading.{elements_said, object_said, place_said, rate_said, side_said, source_said, vector_said};
 ghost use Rattle.cj_cdm.specs.Texts.{elements};
@@ -10,8 +10,8 @@ use crate::fault::CdmCause;
 use crate::reading::rest::Rest;
 use crate::reading::said::{ObjectSaid, SideSaid};
 use crate::vector::Vector;
+use cj_base::Decimal;
 use cj_kvn::LineFault;
-use cj_values::Decimal;
 
 /// The lines of an object that is called by this word.
 #[tactic(auto, unfolding(crate::specs::Reading::side_said))]

@@ -1,9 +1,8 @@
 //! What the parts of a message say, lent by its text.
 use crate::stamp::Stamp;
 use crate::vector::Vector;
-use cj_ticks::Tick;
+use cj_base::{Decimal, Tick};
 use cj_track::Frame;
-use cj_values::Decimal;
 
 /// What the lines before the objects say.
 #[derive(Clone, Copy)]

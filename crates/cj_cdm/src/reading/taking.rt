@@ -3,7 +3,7 @@ ghost use Rattle.std.specs.Prelude.{◌≡◌, ◌+◌, ◌<◌, ◌≤◌, ◌^
 ghost use Rattle.std.specs.List.{before_first};
 ghost use Rattle.cj_cdm.specs.Read.{bytes_of, plain, plain_rest, told};
 ghost use Rattle.cj_cdm.specs.Reading as spec;
-ghost use Rattle.cj_values.specs.Bytes.{is_feed};
+ghost use Rattle.cj_base.specs.Bytes.{is_feed};
 ghost use Rattle.cj_cdm.specs.Reading.{behind_feed};
 
 use crate::fault::CdmCause;

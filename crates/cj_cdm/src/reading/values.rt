@@ -8,9 +8,9 @@ ghost use Rattle.cj_cdm.specs.Values as spec;
 ghost use Rattle.cj_cdm.specs.Values.{constant_said, designator_said, epoch_said, frame_said, label_said, originator_said};
 
 use crate::designators::is_designator;
+use cj_base::Tick;
 use cj_epoch::{epoch_text, read_epoch};
 use cj_kvn::is_originator;
-use cj_ticks::Tick;
 use cj_track::Frame;
 
 /// The place of the first such byte.

@@ -1,14 +1,14 @@
 //! The covariances of a segment.
 ghost use Rattle.std.specs.Prelude.{◌≡◌, ◌+◌, ◌≤◌, ◌∷◌, ◌++◌, length, map, flat_map, All, OnOk};
-ghost use Rattle.cj_values.specs.Decimals.{IsReadable, number_of};
+ghost use Rattle.cj_base.specs.Decimals.{IsReadable, number_of};
 ghost use Rattle.cj_kvn.specs.Decimals.{decimal_text_of};
 ghost use Rattle.cj_oem.specs.Canonical.{covariance_text, covariances_text, matrix_row, numbers_text};
 ghost use Rattle.cj_track.specs.Tracks.{plain_matrix};
 
+use cj_base::Decimal;
 use cj_epoch::epoch_text;
 use cj_kvn::{decimal_text, push_entry, push_line};
 use cj_track::Matrix;
-use cj_values::Decimal;
 use std::alloc::AllocError;
 
 /// Adds the covariances between their marks, where there are any.

@@ -1,7 +1,7 @@
 use Rattle.std.proofs.Common.{◌≡◌, ◌∙◌, ◌+◌, ◌-◌, ℕ, Bool, true, false, option_map, sym, subst, arith}
 use Rattle.std.specs.List.{list_all, range_with_len}
 use Rattle.cj_interval.proofs.RangeLemmas.{one_in_range_fails}
-use Rattle.cj_bezier.specs.SlotBoxes.{plain_box, plain_boxes}
+use Rattle.cj_case.specs.Boxes.{plain_box, plain_boxes}
 use Rattle.cj_blocks.specs.Blocks.{touches_only_as}
 use Rattle.cj_blocks.specs.BoxRows.{box_at}
 use Rattle.cj_blocks.proofs.JoinLemmas.{one_passes}

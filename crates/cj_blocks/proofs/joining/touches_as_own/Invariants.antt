@@ -1,6 +1,6 @@
 use Rattle.std.proofs.Common.{◌≡◌, ◌-◌, ◌≤◌, true, option_map}
 use Rattle.std.specs.List.{list_all, range_with_len}
-use Rattle.cj_bezier.specs.SlotBoxes.{plain_box, plain_boxes}
+use Rattle.cj_case.specs.Boxes.{plain_box, plain_boxes}
 use Rattle.cj_blocks.specs.Blocks.{touches_only_as}
 use Rattle.cj_blocks.specs.BoxRows.{box_at}
 use Rattle.cj_blocks.proofs.joining.touches_as_own.Given as goal

@@ -2,7 +2,7 @@ use Rattle.std.proofs.Common.{◌≡◌, ◌∙◌, ◌+◌, ◌-◌, ◌<◌, �
 use Rattle.std.specs.List.{cons_option, filter_map, range_with_len}
 use Rattle.std.proofs.lemmas.List.{map-append}
 use Rattle.cj_interval.proofs.RangeLemmas.{filter_map-range_more}
-use Rattle.cj_bezier.specs.SlotBoxes.{PlainBox, plain_box, plain_boxes}
+use Rattle.cj_case.specs.Boxes.{PlainBox, plain_box, plain_boxes}
 use Rattle.cj_blocks.specs.declared.block.Block.{Block}
 use Rattle.cj_blocks.specs.Blocks.{PlainBlock, single_in}
 use Rattle.cj_blocks.specs.BoxRows.{box_at}

@@ -1,6 +1,6 @@
 use Rattle.std.proofs.Common.{◌≡◌, ◌-◌, ◌≤◌, ◌++◌, map}
 use Rattle.std.specs.List.{filter_map, range_with_len}
-use Rattle.cj_bezier.specs.SlotBoxes.{plain_boxes}
+use Rattle.cj_case.specs.Boxes.{plain_boxes}
 use Rattle.cj_blocks.specs.Blocks.{single_in}
 use Rattle.cj_blocks.specs.BoxRows.{box_at}
 use Rattle.cj_blocks.specs.Listed.{plain_block}

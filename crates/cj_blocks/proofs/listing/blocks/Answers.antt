@@ -1,9 +1,9 @@
 use Rattle.std.proofs.Common.{◌≡◌, ◌∙◌, ◌+◌, ◌<◌, ◌++◌, ℕ, suc, List, filter, get_or, length, map, ap, sym, subst, arith}
 use Rattle.std.specs.List.{flat_map, range_with_len}
 use Rattle.cj_interval.proofs.RangeLemmas.{flat_map-range_more}
-use Rattle.cj_hermite.specs.declared.pair.Pair.{Pair}
-use Rattle.cj_hermite.specs.Pairs.{objects_of}
-use Rattle.cj_bezier.specs.SlotBoxes.{plain_boxes}
+use Rattle.cj_case.specs.declared.pair.Pair.{Pair}
+use Rattle.cj_case.specs.Pairs.{objects_of}
+use Rattle.cj_case.specs.Boxes.{plain_boxes}
 use Rattle.cj_blocks.specs.Blocks.{PlainBlock, TouchAsGiven, block_count, blocks_in, is_pair_of}
 use Rattle.cj_blocks.specs.BoxRows.{box_at}
 use Rattle.cj_blocks.specs.Listed.{block_of, given, plain_block}

@@ -1,5 +1,5 @@
 use Rattle.std.proofs.Common.{◌≡◌, ◌+◌, ◌-◌, ℕ, Some, slice_set, subst, arith}
-use Rattle.cj_bezier.specs.SlotBoxes.{plain_box}
+use Rattle.cj_case.specs.Boxes.{plain_box}
 use Rattle.cj_blocks.specs.Listed.{IsFilled}
 use Rattle.cj_blocks.proofs.FillLemmas.{filled_more}
 use Rattle.cj_blocks.proofs.listing.fill.Goals as goal

@@ -1,5 +1,5 @@
 use Rattle.std.proofs.Common.{◌≡◌, ◌-◌, ◌≤◌, Some, vec_len}
-use Rattle.cj_bezier.specs.SlotBoxes.{plain_box}
+use Rattle.cj_case.specs.Boxes.{plain_box}
 use Rattle.cj_blocks.specs.Listed.{IsFilled}
 use Rattle.cj_blocks.proofs.listing.fill.Given as goal
 

@@ -1,5 +1,5 @@
 use Rattle.std.proofs.Common.{◌≡◌, [], List, Vec, Global, map, subst, sym, arith}
-use Rattle.cj_hermite.specs.declared.pair.Pair.{Pair}
+use Rattle.cj_case.specs.declared.pair.Pair.{Pair}
 use Rattle.cj_blocks.specs.PairsByObject.{pairs_at}
 use Rattle.cj_blocks.proofs.EnteredLemmas.{one_empty_more}
 use Rattle.cj_blocks.proofs.pairs_by_object.empty_lists.Goals as goal

@@ -1,5 +1,5 @@
 use Rattle.std.proofs.Common.{◌∙◌, ◌++◌, ◌∷◌, [], Vec, Global, ap, arith}
-use Rattle.cj_hermite.specs.declared.pair.Pair.{Pair}
+use Rattle.cj_case.specs.declared.pair.Pair.{Pair}
 use Rattle.cj_blocks.proofs.EnteredLemmas.{entered}
 use Rattle.cj_blocks.proofs.pairs_by_object.enter.Goals as goal
 

@@ -1,7 +1,7 @@
 use Rattle.std.proofs.Common.{◌∙◌, ◌++◌, ◌∷◌, [], List, ap, map, filter, sym, arith, take}
 use Rattle.std.proofs.lemmas.List.{take_more}
-use Rattle.cj_hermite.specs.declared.pair.Pair.{Pair}
-use Rattle.cj_hermite.specs.Pairs.{objects_of}
+use Rattle.cj_case.specs.declared.pair.Pair.{Pair}
+use Rattle.cj_case.specs.Pairs.{objects_of}
 use Rattle.cj_blocks.specs.Blocks.{is_pair_of}
 use Rattle.cj_blocks.specs.PairsByObject.{pairs_at}
 use Rattle.cj_blocks.proofs.EnteredLemmas.{both_entered}

@@ -1,5 +1,5 @@
 use Rattle.std.proofs.Common.{◌≡◌, ℕ, map, filter, take, vec_len}
-use Rattle.cj_hermite.specs.Pairs.{objects_of}
+use Rattle.cj_case.specs.Pairs.{objects_of}
 use Rattle.cj_blocks.specs.Blocks.{is_pair_of}
 use Rattle.cj_blocks.specs.PairsByObject.{pairs_at}
 use Rattle.cj_blocks.proofs.pairs_by_object.pairs_by_object.Given as goal

@@ -1,6 +1,6 @@
 use Rattle.std.proofs.Common.{◌+◌, ◌-◌, ◌≡◌, ℕ, suc, None, Some, Option, map, option_map, sym, ap, ◌∙◌, arith}
 use Rattle.std.specs.List.{range_with_len}
-use Rattle.cj_bezier.specs.SlotBoxes.{PlainBox, plain_box, plain_boxes}
+use Rattle.cj_case.specs.Boxes.{PlainBox, plain_box, plain_boxes}
 use Rattle.cj_blocks.specs.BoxRows.{box_at, round_all, round_both}
 use Rattle.cj_blocks.proofs.RoundLemmas.{round_one, round_more, round_missing}
 use Rattle.cj_blocks.proofs.RowLemmas.{box_found}

@@ -1,6 +1,6 @@
 use Rattle.std.proofs.Common.{◌≡◌, ◌-◌, ◌<◌, map, Some}
 use Rattle.std.specs.List.{range_with_len}
-use Rattle.cj_bezier.specs.SlotBoxes.{plain_box, plain_boxes}
+use Rattle.cj_case.specs.Boxes.{plain_box, plain_boxes}
 use Rattle.cj_blocks.specs.BoxRows.{box_at, round_all}
 use Rattle.cj_blocks.proofs.round_boxes.box_round.Given as goal
 

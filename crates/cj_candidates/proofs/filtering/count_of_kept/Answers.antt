@@ -1,8 +1,8 @@
 use Rattle.std.proofs.Common.{◌≤◌, ℕ, List, All, length, sym, ap, subst, ◌∙◌, arith}
 use Rattle.std.proofs.lemmas.List.{length-map}
 use Rattle.cj_track.specs.Tracks.{plain_track}
-use Rattle.cj_hermite.specs.Limits.{MAX_SIZE}
-use Rattle.cj_hermite.specs.Problems.{plain_problem}
+use Rattle.cj_case.specs.CaseLimits.{MAX_SIZE}
+use Rattle.cj_case.specs.Problems.{plain_problem}
 use Rattle.cj_candidates.proofs.ObjectLemmas.{as_many_shells, kept_is}
 use Rattle.cj_candidates.proofs.filtering.count_of_kept.Goals as goal
 

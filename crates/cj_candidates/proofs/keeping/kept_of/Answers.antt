@@ -1,8 +1,8 @@
 use Rattle.std.proofs.Common.{◌<◌, List, Vec, Global, filter, map, length, sym, ap, subst, ◌∙◌, arith}
 use Rattle.std.proofs.lemmas.List.{take_all}
 use Rattle.std.proofs.lemmas.Result.{err_from_is_err_and}
-use Rattle.cj_hermite.specs.declared.pair.Pair.{Pair}
-use Rattle.cj_hermite.specs.Pairs.{objects_of}
+use Rattle.cj_case.specs.declared.pair.Pair.{Pair}
+use Rattle.cj_case.specs.Pairs.{objects_of}
 use Rattle.cj_sieve.specs.Among.{keeps_among}
 use Rattle.cj_candidates.proofs.KeepingLemmas.{pair_found, pair_passed}
 use Rattle.cj_candidates.proofs.keeping.kept_of.Goals as goal

@@ -1,5 +1,5 @@
 use Rattle.std.proofs.Common.{◌≡◌, map, filter, take}
-use Rattle.cj_hermite.specs.Pairs.{objects_of}
+use Rattle.cj_case.specs.Pairs.{objects_of}
 use Rattle.cj_sieve.specs.Among.{keeps_among}
 use Rattle.cj_candidates.proofs.keeping.kept_of.Given as goal
 

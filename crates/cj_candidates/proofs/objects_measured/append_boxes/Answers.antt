@@ -1,11 +1,12 @@
 use Rattle.std.proofs.Common.{◌≡◌, ◌++◌, ◌∙◌, ℕ, List, [], ◌∷◌, refl, sym, ap, subst, arith, append-nil}
 use Rattle.std.specs.Prelude.{Option, option_map}
 use Rattle.std.proofs.lemmas.List.{map-append}
-use Rattle.cj_ticks.specs.declared.tick.Window.{Window}
+use Rattle.cj_base.specs.declared.tick.Window.{Window}
 use Rattle.cj_track.specs.declared.track.Track.{Track}
 use Rattle.cj_track.specs.Tracks.{plain_track}
-use Rattle.cj_hermite.specs.Slots.{slot_first, slot_last}
-use Rattle.cj_bezier.specs.SlotBoxes.{PlainBox, plain_boxes, plain_box, box_of}
+use Rattle.cj_case.specs.Slots.{slot_first, slot_last}
+use Rattle.cj_case.specs.Boxes.{PlainBox, plain_boxes, plain_box}
+use Rattle.cj_bezier.specs.SlotBoxes.{box_of}
 use Rattle.cj_bezier.specs.AllBoxes.{boxes_over}
 use Rattle.cj_candidates.specs.ObjectRuns.{IsInOwnBox, IsInOwnBoxes}
 use Rattle.cj_candidates.proofs.ObjectLemmas.{in_own_box}

@@ -1,6 +1,6 @@
 use Rattle.std.proofs.Common.{◌≡◌, ◌++◌}
 use Rattle.cj_track.specs.Tracks.{plain_track}
-use Rattle.cj_bezier.specs.SlotBoxes.{plain_boxes}
+use Rattle.cj_case.specs.Boxes.{plain_boxes}
 use Rattle.cj_bezier.specs.AllBoxes.{boxes_over}
 use Rattle.cj_walk.specs.TrackWalks.{IsWalk}
 use Rattle.cj_candidates.specs.ObjectRuns.{IsInOwnBoxes}

@@ -3,7 +3,7 @@ use Rattle.std.specs.Vec.{vec_len}
 use Rattle.std.proofs.lemmas.Result.{err_from_is_err_and}
 use Rattle.cj_track.specs.Tracks.{plain_track}
 use Rattle.cj_bezier.specs.Shells.{shell_of}
-use Rattle.cj_bezier.specs.SlotBoxes.{plain_boxes}
+use Rattle.cj_case.specs.Boxes.{plain_boxes}
 use Rattle.cj_bezier.specs.AllBoxes.{boxes_over}
 use Rattle.cj_bezier.proofs.BoxRoundLemmas.{box_none}
 use Rattle.cj_bezier.proofs.ShellRoundLemmas.{shell_none}

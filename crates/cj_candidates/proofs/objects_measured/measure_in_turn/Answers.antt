@@ -4,7 +4,7 @@ use Rattle.std.proofs.lemmas.List.{take_all}
 use Rattle.cj_track.specs.PlainTracks.{PlainTrack}
 use Rattle.cj_track.specs.Tracks.{plain_track}
 use Rattle.cj_bezier.specs.Shells.{shell_of}
-use Rattle.cj_bezier.specs.SlotBoxes.{PlainBox, plain_boxes}
+use Rattle.cj_case.specs.Boxes.{PlainBox, plain_boxes}
 use Rattle.cj_bezier.specs.AllBoxes.{boxes_over}
 use Rattle.cj_candidates.specs.ObjectRuns.{IsInOwnShell, IsInOwnBoxes}
 use Rattle.cj_candidates.proofs.ObjectLemmas.{made_more, held_more}

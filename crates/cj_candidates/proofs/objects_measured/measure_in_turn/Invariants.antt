@@ -1,7 +1,7 @@
 use Rattle.std.proofs.Common.{◌≡◌, map, All}
 use Rattle.std.specs.List.{flat_map}
 use Rattle.cj_bezier.specs.Shells.{shell_of}
-use Rattle.cj_bezier.specs.SlotBoxes.{plain_boxes}
+use Rattle.cj_case.specs.Boxes.{plain_boxes}
 use Rattle.cj_bezier.specs.AllBoxes.{boxes_over}
 use Rattle.cj_candidates.specs.ObjectRuns.{IsInOwnShell, IsInOwnBoxes}
 use Rattle.cj_candidates.proofs.ObjectLemmas.{objects_to}

@@ -3,9 +3,9 @@ use Rattle.std.specs.Prelude.{Option, option_map}
 use Rattle.std.proofs.lemmas.List.{take_all, map-append, length-map}
 use Rattle.cj_track.specs.declared.track.Track.{Track}
 use Rattle.cj_track.specs.Tracks.{plain_track}
-use Rattle.cj_hermite.specs.Problems.{plain_problem}
-use Rattle.cj_hermite.specs.Slots.{slot_count}
-use Rattle.cj_bezier.specs.SlotBoxes.{PlainBox, plain_boxes, plain_box}
+use Rattle.cj_case.specs.Problems.{plain_problem}
+use Rattle.cj_case.specs.Slots.{slot_count}
+use Rattle.cj_case.specs.Boxes.{PlainBox, plain_boxes, plain_box}
 use Rattle.cj_bezier.specs.Candidates.{boxes_in}
 use Rattle.cj_bezier.proofs.AllBoxLemmas.{boxes_count}
 use Rattle.cj_candidates.proofs.BoxLemmas.{place_within, slot_more, objects_in_slot}

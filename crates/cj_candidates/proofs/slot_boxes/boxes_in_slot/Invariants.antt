@@ -1,6 +1,6 @@
 use Rattle.std.proofs.Common.{◌≡◌, take}
-use Rattle.cj_hermite.specs.Problems.{plain_problem}
-use Rattle.cj_bezier.specs.SlotBoxes.{plain_boxes}
+use Rattle.cj_case.specs.Problems.{plain_problem}
+use Rattle.cj_case.specs.Boxes.{plain_boxes}
 use Rattle.cj_bezier.specs.Candidates.{boxes_in}
 use Rattle.cj_candidates.proofs.slot_boxes.boxes_in_slot.Given as goal
 

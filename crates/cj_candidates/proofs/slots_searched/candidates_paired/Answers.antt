@@ -1,5 +1,5 @@
 use Rattle.std.proofs.Common.{ap, ◌∙◌}
-use Rattle.cj_bezier.specs.SlotBoxes.{plain_boxes}
+use Rattle.cj_case.specs.Boxes.{plain_boxes}
 use Rattle.cj_candidates.proofs.slots_searched.candidates_paired.Goals as goal
 
 pub candidates_among-requires : goal.candidates_among-requires

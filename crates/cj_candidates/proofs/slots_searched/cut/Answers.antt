@@ -1,6 +1,6 @@
 use Rattle.std.proofs.Common.{ℕ, ◌+◌, List, ◌++◌, sym, ap, ◌∙◌, arith}
-use Rattle.cj_hermite.specs.Problems.{plain_problem}
-use Rattle.cj_hermite.specs.Roots.{PlainCell}
+use Rattle.cj_case.specs.Problems.{plain_problem}
+use Rattle.cj_case.specs.Cells.{PlainCell}
 use Rattle.cj_candidates.specs.SlotRuns.{candidates_over, roots_over}
 use Rattle.cj_candidates.proofs.SlotRunLemmas.{candidates_after, candidates_both, roots_after, roots_both}
 use Rattle.cj_candidates.proofs.slots_searched.cut.Goals as goal

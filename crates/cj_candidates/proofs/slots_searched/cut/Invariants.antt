@@ -1,5 +1,5 @@
 use Rattle.std.proofs.Common.{◌≡◌, ◌-◌, ◌≤◌}
-use Rattle.cj_hermite.specs.Problems.{plain_problem}
+use Rattle.cj_case.specs.Problems.{plain_problem}
 use Rattle.cj_candidates.specs.SlotRuns.{candidates_at, candidates_over, roots_at, roots_over}
 use Rattle.cj_candidates.proofs.slots_searched.cut.Given as goal
 

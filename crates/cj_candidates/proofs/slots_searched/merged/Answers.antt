@@ -1,7 +1,7 @@
 use Rattle.std.proofs.Common.{List, Vec, Global, subst}
 use Rattle.std.specs.List.{flat_map}
 use Rattle.std.specs.List.Sorted.{IsPermutation}
-use Rattle.cj_bezier.specs.declared.cell.Cell.{Cell}
+use Rattle.cj_case.specs.declared.cell.Cell.{Cell}
 use Rattle.cj_candidates.proofs.slots_searched.merged.Goals as goal
 
 pub returns-clause-roots : goal.returns-clause-roots

@@ -3,8 +3,8 @@ use Rattle.std.specs.List.{flat_map}
 use Rattle.std.proofs.lemmas.List.{length-map}
 use Rattle.std.proofs.lemmas.Result.{err_from_is_err_and}
 use Rattle.cj_track.specs.Tracks.{plain_track}
-use Rattle.cj_hermite.specs.Problems.{plain_problem}
-use Rattle.cj_bezier.specs.declared.cell.Cell.{Cell}
+use Rattle.cj_case.specs.Problems.{plain_problem}
+use Rattle.cj_case.specs.declared.cell.Cell.{Cell}
 use Rattle.cj_candidates.specs.SlotRuns.{candidates_at, candidates_over, roots_at, roots_over}
 use Rattle.cj_candidates.proofs.SlotRunLemmas.{all_found}
 use Rattle.cj_candidates.proofs.slots_searched.search_slots.Goals as goal

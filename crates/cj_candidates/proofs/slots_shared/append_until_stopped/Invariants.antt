@@ -1,6 +1,6 @@
 use Rattle.std.proofs.Common.{◌≡◌, ◌+◌, ◌<◌, ◌≤◌, ◌++◌, length, take, vec_len}
 use Rattle.std.specs.Prelude.{All}
-use Rattle.cj_hermite.specs.Problems.{plain_problem}
+use Rattle.cj_case.specs.Problems.{plain_problem}
 use Rattle.cj_cells.specs.Cells.{added_roots}
 use Rattle.cj_candidates.proofs.SlotRunLemmas.{roots_with}
 use Rattle.cj_candidates.proofs.slots_shared.append_until_stopped.Given as goal

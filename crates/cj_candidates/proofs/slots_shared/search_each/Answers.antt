@@ -2,7 +2,7 @@ use Rattle.std.proofs.Common.{List, min, length, ap, subst, ◌∙◌, ◌≤◌
 use Rattle.std.specs.List.{flat_map}
 use Rattle.std.specs.List.Sorted.{IsPermutation}
 use Rattle.std.proofs.lemmas.List.{take_all}
-use Rattle.cj_bezier.specs.Cells.{plain_cells}
+use Rattle.cj_case.specs.Cells.{plain_cells}
 use Rattle.cj_candidates.specs.declared.stretch.Stretch.{Stretch}
 use Rattle.cj_candidates.specs.SlotRuns.{candidates_at, roots_at}
 use Rattle.cj_candidates.proofs.SlotRunLemmas.{few_more, found_more, candidates_more_at}

@@ -1,7 +1,7 @@
 use Rattle.std.proofs.Common.{◌≡◌, ◌≤◌, length, min, take, true}
 use Rattle.std.specs.List.{flat_map}
 use Rattle.std.specs.List.Sorted.{IsPermutation}
-use Rattle.cj_bezier.specs.Cells.{plain_cells}
+use Rattle.cj_case.specs.Cells.{plain_cells}
 use Rattle.cj_candidates.specs.SlotRuns.{candidates_at, roots_at}
 use Rattle.cj_candidates.proofs.slots_shared.search_each.Given as goal
 

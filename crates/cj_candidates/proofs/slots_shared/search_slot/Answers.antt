@@ -2,12 +2,12 @@ use Rattle.std.proofs.Common.{◌≡◌, ◌<◌, ℕ, List, length, map, sym, a
 use Rattle.std.specs.Prelude.{All}
 use Rattle.std.proofs.lemmas.List.{length-map, take_all}
 use Rattle.cj_track.specs.Tracks.{plain_track}
-use Rattle.cj_hermite.specs.declared.pair.Pair.{Pair}
-use Rattle.cj_hermite.specs.Pairs.{objects_of}
-use Rattle.cj_hermite.specs.Problems.{plain_problem}
+use Rattle.cj_case.specs.declared.pair.Pair.{Pair}
+use Rattle.cj_case.specs.Pairs.{objects_of}
+use Rattle.cj_case.specs.Problems.{plain_problem}
 use Rattle.cj_hermite.specs.Roots.{roots_in_slot}
 use Rattle.cj_bezier.specs.Candidates.{is_candidate}
-use Rattle.cj_bezier.specs.SlotBoxes.{plain_boxes}
+use Rattle.cj_case.specs.Boxes.{plain_boxes}
 use Rattle.cj_candidates.proofs.ObjectLemmas.{pairs_within}
 use Rattle.cj_candidates.proofs.slots_shared.search_slot.Goals as goal
 

@@ -2,9 +2,9 @@ use Rattle.std.proofs.Common.{◌≡◌, ◌-◌, ◌++◌, ℕ, List, min, leng
 use Rattle.std.specs.List.Sorted.{IsPermutation}
 use Rattle.std.proofs.lemmas.List.{length-map}
 use Rattle.std.proofs.lemmas.List.Sorted.{IsPermutation-map, length_permutation}
-use Rattle.cj_hermite.specs.Problems.{plain_problem}
-use Rattle.cj_hermite.specs.Roots.{PlainCell}
-use Rattle.cj_bezier.specs.Cells.{plain_cell, plain_cells}
+use Rattle.cj_case.specs.Problems.{plain_problem}
+use Rattle.cj_case.specs.Cells.{PlainCell}
+use Rattle.cj_case.specs.Cells.{plain_cell, plain_cells}
 use Rattle.cj_cells.specs.Cells.{added_roots}
 use Rattle.cj_cells.proofs.ListingLemmas.{cells_more}
 use Rattle.cj_candidates.specs.SlotRuns.{roots_over, candidates_over}

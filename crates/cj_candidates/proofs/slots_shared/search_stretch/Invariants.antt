@@ -1,6 +1,6 @@
 use Rattle.std.proofs.Common.{◌≡◌, ◌+◌, ◌-◌, ◌≤◌, false, min, vec_len}
-use Rattle.cj_hermite.specs.Problems.{plain_problem}
-use Rattle.cj_bezier.specs.Cells.{plain_cells}
+use Rattle.cj_case.specs.Problems.{plain_problem}
+use Rattle.cj_case.specs.Cells.{plain_cells}
 use Rattle.cj_candidates.specs.SlotRuns.{roots_over, candidates_over}
 use Rattle.cj_candidates.proofs.slots_shared.search_stretch.Given as goal
 

@@ -1,5 +1,5 @@
 use Rattle.std.proofs.Common.{refl}
-use Rattle.cj_values.specs.Decimals.{is_huge, is_tiny}
+use Rattle.cj_base.specs.Decimals.{is_huge, is_tiny}
 use Rattle.cj_cdm_tests.proofs.choosing.covariance.Goals as goal
 
 pub matrix-requires-clause-second : goal.matrix-requires-clause-second

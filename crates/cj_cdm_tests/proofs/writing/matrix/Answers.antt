@@ -1,7 +1,7 @@
 use Rattle.std.proofs.Common.{List, [], ◌∷◌, All, arith, refl}
 use Rattle.std.proofs.lemmas.List.Elements.{All-cons}
-use Rattle.cj_values.specs.declared.decimals.Decimal.{Decimal}
-use Rattle.cj_values.specs.Decimals.{IsReadable, is_huge, is_tiny, number_of}
+use Rattle.cj_base.specs.declared.decimals.Decimal.{Decimal}
+use Rattle.cj_base.specs.Decimals.{IsReadable, is_huge, is_tiny, number_of}
 use Rattle.cj_cdm_tests.proofs.writing.matrix.Goals as goal
 
 abbrev R : Decimal → Type 0

@@ -1,5 +1,5 @@
 use Rattle.std.proofs.Common.{refl}
-use Rattle.cj_values.specs.Decimals.{is_huge, is_tiny}
+use Rattle.cj_base.specs.Decimals.{is_huge, is_tiny}
 use Rattle.cj_cdm_tests.proofs.writing.no_message_without_both_covariances.Goals as goal
 
 pub matrix-a-requires-clause-first : goal.matrix-a-requires-clause-first

@@ -1,5 +1,5 @@
 use Rattle.std.proofs.Common.{refl}
-use Rattle.cj_values.specs.Decimals.{is_huge, is_tiny}
+use Rattle.cj_base.specs.Decimals.{is_huge, is_tiny}
 use Rattle.cj_cdm_tests.proofs.writing.two_tracks_cross_at_one_kilometre.Goals as goal
 
 pub matrix-b-requires-clause-second : goal.matrix-b-requires-clause-second

@@ -1,6 +1,6 @@
 use Rattle.std.proofs.Common.{◌≡◌, take}
 use Rattle.std.specs.List.{range_with_len}
-use Rattle.cj_bezier.specs.Cells.{plain_cells}
+use Rattle.cj_case.specs.Cells.{plain_cells}
 use Rattle.cj_cells.specs.Cells.{root_numbers}
 use Rattle.cj_cells.proofs.ordering.number.Given as goal
 

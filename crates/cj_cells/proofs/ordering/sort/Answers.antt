@@ -1,7 +1,7 @@
 use Rattle.std.proofs.Common.{rules}
 use Rattle.std.proofs.lemmas.Fn.{always_returns_same}
 use Rattle.std.proofs.lemmas.List.Sorted.{IsPermutation-map, IsPermutation-trans}
-use Rattle.cj_bezier.specs.Cells.{plain_cell}
+use Rattle.cj_case.specs.Cells.{plain_cell}
 use Rattle.cj_cells.proofs.OrderLemmas.{sorted_up_to}
 use Rattle.cj_cells.proofs.ordering.sort.Goals as goal
 

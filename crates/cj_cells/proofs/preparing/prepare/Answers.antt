@@ -1,6 +1,6 @@
 use Rattle.std.proofs.Common.{Some, ap, ◌∙◌, sym, subst}
 use Rattle.cj_hermite.specs.Interpolant.{Curve, IsOver}
-use Rattle.cj_hermite.specs.Problems.{plain_problem}
+use Rattle.cj_case.specs.Problems.{plain_problem}
 use Rattle.cj_hermite.specs.Ready.{curve_ready}
 use Rattle.cj_hermite.proofs.CurveLemmas.{have_curves}
 use Rattle.cj_hermite.proofs.TrackLemmas.{first_is_over, second_is_over}

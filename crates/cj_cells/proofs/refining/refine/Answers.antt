@@ -1,6 +1,6 @@
-use Rattle.cj_hermite.specs.Problems.{plain_problem}
+use Rattle.cj_case.specs.Problems.{plain_problem}
 use Rattle.cj_hermite.specs.Ready.{curve_ready}
-use Rattle.cj_bezier.specs.Cells.{plain_cell}
+use Rattle.cj_case.specs.Cells.{plain_cell}
 use Rattle.cj_bezier.proofs.LeafLemmas.{described}
 use Rattle.cj_hermite.proofs.CurveLemmas.{have_curves}
 use Rattle.cj_hermite.proofs.TrackLemmas.{object_exists, second_state}

@@ -3,13 +3,14 @@ use Rattle.std.proofs.lemmas.Result.{IfOk-from_err, err_from_is_err_and}
 use Rattle.std.proofs.lemmas.List.{take_all, drop_all}
 use Rattle.std.proofs.lemmas.List.Elements.{All-nil, All-same}
 use Rattle.cj_track.specs.Tracks.{plain_track}
-use Rattle.cj_hermite.specs.declared.pair.Pair.{Pair}
+use Rattle.cj_case.specs.declared.pair.Pair.{Pair}
 use Rattle.cj_hermite.specs.CommonRuns.{runs_between, both_numbers}
-use Rattle.cj_hermite.specs.Pairs.{objects_of}
-use Rattle.cj_hermite.specs.Problems.{plain_problem}
-use Rattle.cj_hermite.specs.Roots.{PlainCell, root_of_run, roots_in}
+use Rattle.cj_case.specs.Pairs.{objects_of}
+use Rattle.cj_case.specs.Problems.{plain_problem}
+use Rattle.cj_case.specs.Cells.{PlainCell}
+use Rattle.cj_hermite.specs.Roots.{root_of_run, roots_in}
 use Rattle.cj_hermite.proofs.SlotRootLemmas.{walked, empty_slot, roots_of_pairs, pair_more, pairs_apart}
-use Rattle.cj_bezier.specs.Cells.{plain_cells}
+use Rattle.cj_case.specs.Cells.{plain_cells}
 use Rattle.cj_cells.specs.Cells.{added_roots}
 use Rattle.cj_cells.proofs.WalkLemmas.{no_refusal, added_nothing, added_twice, added_count, kept_twice, root_twice}
 use Rattle.cj_cells.proofs.SlotRootLemmas.{prefix_added, count_of, cells_keep, both_exist}

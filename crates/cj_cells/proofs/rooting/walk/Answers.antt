@@ -5,7 +5,7 @@ use Rattle.std.proofs.lemmas.List.Elements.{All-nil, All-same}
 use Rattle.cj_track.specs.Tracks.{plain_track}
 use Rattle.cj_hermite.specs.CommonRuns.{runs_between, both_numbers}
 use Rattle.cj_hermite.specs.Roots.{root_of_run}
-use Rattle.cj_bezier.specs.declared.cell.Cell.{Cell}
+use Rattle.cj_case.specs.declared.cell.Cell.{Cell}
 use Rattle.cj_cells.specs.Cells.{added_roots}
 use Rattle.cj_cells.proofs.WalkLemmas.{no_refusal, prefix_done, roots_left, no_more, walk_done, whole_step, count_step, kept_twice, root_twice, added_count, added_nothing}
 use Rattle.cj_cells.proofs.rooting.walk.Goals as goal

@@ -1,8 +1,8 @@
 use Rattle.std.proofs.Common.{◌≡◌, ◌∙◌, ℕ, List, ◌++◌, All, vec_len, take, drop, sym, ap, subst}
 use Rattle.std.proofs.lemmas.List.{take-append-drop}
 use Rattle.std.proofs.lemmas.List.Elements.{All-nil, All-append}
-use Rattle.cj_hermite.specs.Problems.{plain_problem}
-use Rattle.cj_bezier.specs.declared.cell.Cell.{Cell}
+use Rattle.cj_case.specs.Problems.{plain_problem}
+use Rattle.cj_case.specs.declared.cell.Cell.{Cell}
 use Rattle.cj_hermite.specs.Roots.{KeepPieces}
 use Rattle.cj_cells_tests.proofs.leaves.all_leaves.Goals as goal
 

@@ -2,7 +2,7 @@ use Rattle.std.proofs.Common.{List, All, subst, ◌∙◌, arith}
 use Rattle.std.proofs.lemmas.List.{take_all}
 use Rattle.cj_interval.proofs.ListLemmas.{Each, each_from_All}
 use Rattle.cj_track.specs.declared.track.Track.{Track}
-use Rattle.cj_hermite.specs.Problems.{plain_problem}
+use Rattle.cj_case.specs.Problems.{plain_problem}
 use Rattle.cj_cert.proofs.AcceptedLemmas.{splits}
 use Rattle.cj_cert.proofs.RewrittenLemmas.{in_version_2_accepted, written_in_accepted}
 use Rattle.cj_cert.proofs.TimesLemmas.{one_more}

@@ -1,5 +1,5 @@
 use Rattle.std.proofs.Common.{◌≤◌, ap, arith}
-use Rattle.cj_causes.specs.declared.cert_version.CertVersion.TheVariants.{One}
+use Rattle.cj_formats.specs.declared.cert_version.CertVersion.TheVariants.{One}
 use Rattle.cj_io.specs.Parts.{joined}
 use Rattle.cj_cert_text.proofs.PartLemmas.{batch_printed}
 use Rattle.cj_cert_text.proofs.certificate_text.next_texts.Goals as goal

@@ -2,11 +2,11 @@ use Rattle.std.proofs.Common.{◌∙◌, List, length, map, ap}
 use Rattle.std.specs.List.{flat_map, range_with_len}
 use Rattle.std.proofs.lemmas.List.{length-map}
 use Rattle.cj_track.specs.Tracks.{plain_track}
-use Rattle.cj_hermite.specs.Pairs.{objects_of}
-use Rattle.cj_hermite.specs.Problems.{plain_problem}
+use Rattle.cj_case.specs.Pairs.{objects_of}
+use Rattle.cj_case.specs.Problems.{plain_problem}
 use Rattle.cj_hermite.proofs.TrackLemmas.{objects_are}
 use Rattle.cj_bezier.specs.Shells.{keeps_between}
-use Rattle.cj_bezier.specs.SlotBoxes.{plain_boxes}
+use Rattle.cj_case.specs.Boxes.{plain_boxes}
 use Rattle.cj_cert.specs.declared.cert_lines.BoxLine.{BoxLine}
 use Rattle.cj_cert.specs.Certificates.{plain_box_line, plain_certificate}
 use Rattle.cj_cert.specs.Listed.{box_listed, shells_listed}

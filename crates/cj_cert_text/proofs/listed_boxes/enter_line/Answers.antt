@@ -1,5 +1,5 @@
 use Rattle.std.proofs.Common.{◌∙◌, ◌+◌, ◌*◌, refl, arith}
-use Rattle.cj_bezier.specs.SlotBoxes.{plain_box}
+use Rattle.cj_case.specs.Boxes.{plain_box}
 use Rattle.cj_cert.specs.Certificates.{plain_box_line}
 use Rattle.cj_cert_text.proofs.EnterLemmas.{ends_as, line_entered, one_slot_entered}
 use Rattle.cj_cert_text.proofs.listed_boxes.enter_line.Goals as goal

@@ -1,5 +1,5 @@
 use Rattle.std.proofs.Common.{◌≡◌, ◌+◌, ◌≤◌, max, min, vec_len}
-use Rattle.cj_bezier.specs.SlotBoxes.{plain_box}
+use Rattle.cj_case.specs.Boxes.{plain_box}
 use Rattle.cj_cert_text.proofs.EnterLemmas.{IsEntered}
 use Rattle.cj_cert_text.proofs.listed_boxes.enter_line.Given as goal
 

@@ -1,6 +1,7 @@
 use Rattle.std.proofs.Common.{◌≡◌, None, List, Option, sym, subst, arith}
-use Rattle.cj_bezier.specs.declared.axis_box.AxisBox.{AxisBox}
-use Rattle.cj_bezier.specs.SlotBoxes.{plain_boxes, reaches_in}
+use Rattle.cj_case.specs.declared.axis_box.AxisBox.{AxisBox}
+use Rattle.cj_case.specs.Boxes.{plain_boxes}
+use Rattle.cj_bezier.specs.SlotBoxes.{reaches_in}
 use Rattle.cj_cert_text.proofs.EnterLemmas.{one_none_more}
 use Rattle.cj_cert_text.proofs.listed_boxes.no_boxes.Goals as goal
 

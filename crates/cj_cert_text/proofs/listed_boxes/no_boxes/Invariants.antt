@@ -1,5 +1,6 @@
 use Rattle.std.proofs.Common.{◌≡◌, ℕ, None, vec_len}
-use Rattle.cj_bezier.specs.SlotBoxes.{plain_boxes, reaches_in}
+use Rattle.cj_case.specs.Boxes.{plain_boxes}
+use Rattle.cj_bezier.specs.SlotBoxes.{reaches_in}
 use Rattle.cj_cert_text.proofs.listed_boxes.no_boxes.Given as goal
 
 abbrev pub invariant-loop : goal.invariant-loop

@@ -1,7 +1,7 @@
 use Rattle.std.proofs.Common.{◌≡◌, ◌+◌, ◌*◌, ◌≤◌, ℕ, ap, arith, refl, subst, sym}
 use Rattle.std.specs.Prelude.{flat_map}
 use Rattle.std.specs.List.{range_with_len}
-use Rattle.cj_bezier.specs.SlotBoxes.{plain_boxes}
+use Rattle.cj_case.specs.Boxes.{plain_boxes}
 use Rattle.cj_cert_text.specs.ObjectTexts.{object_text}
 use Rattle.cj_cert_text.specs.Texts.{box_text}
 use Rattle.cj_cert.specs.Written.{lines_by_boxes}

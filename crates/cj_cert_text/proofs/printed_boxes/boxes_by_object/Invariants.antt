@@ -1,8 +1,8 @@
 use Rattle.std.proofs.Common.{◌≡◌}
 use Rattle.std.specs.Prelude.{flat_map}
 use Rattle.std.specs.List.{range_with_len}
-use Rattle.cj_causes.specs.declared.cert_version.CertVersion.{CertVersion}
-use Rattle.cj_bezier.specs.SlotBoxes.{plain_boxes}
+use Rattle.cj_formats.specs.declared.cert_version.CertVersion.{CertVersion}
+use Rattle.cj_case.specs.Boxes.{plain_boxes}
 use Rattle.cj_cert_text.specs.ObjectTexts.{object_text}
 use Rattle.cj_cert_text.specs.Texts.{box_text}
 use Rattle.cj_cert.specs.Written.{lines_by_boxes}

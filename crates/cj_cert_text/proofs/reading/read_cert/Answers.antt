@@ -2,7 +2,7 @@ use Rattle.std.proofs.Common.{Err, Ok, Some, arith, ap, sym, subst, ◌+◌, ◌
 use Rattle.std.specs.Prelude.{◌==◌}
 use Rattle.std.specs.List.{slice_split}
 use Rattle.cj_kvn.specs.declared.text_fault.TextFault.TheVariants.{At}
-use Rattle.cj_causes.specs.declared.cert_version.CertVersion.{CertVersion}
+use Rattle.cj_formats.specs.declared.cert_version.CertVersion.{CertVersion}
 use Rattle.cj_cert_text.specs.declared.rank.Rank.{Rank}
 use Rattle.cj_cert.specs.Certificates.{PlainCertificate, plain_certificate}
 use Rattle.cj_cert_text.specs.Lines.{line_said, rank_of}

@@ -1,6 +1,6 @@
 use Rattle.std.proofs.Common.{◌≡◌, ◌++◌, true, [], map}
-use Rattle.cj_causes.specs.declared.cert_version.CertVersion.TheVariants.{One}
-use Rattle.cj_bezier.specs.SlotBoxes.{plain_boxes}
+use Rattle.cj_formats.specs.declared.cert_version.CertVersion.TheVariants.{One}
+use Rattle.cj_case.specs.Boxes.{plain_boxes}
 use Rattle.cj_cert.specs.Certificates.{plain_box_line}
 use Rattle.cj_cert.specs.Versions.{is_of_version}
 use Rattle.cj_cert.specs.Written.{lines_by_boxes}

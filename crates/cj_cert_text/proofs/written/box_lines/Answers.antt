@@ -1,8 +1,8 @@
 use Rattle.std.proofs.Common.{◌≡◌, ◌∙◌, ◌++◌, [], List, ℕ, map, true, ap, refl, sym, subst, arith}
 use Rattle.std.specs.List.{flat_map, range_with_len}
-use Rattle.cj_causes.specs.declared.cert_version.CertVersion.TheVariants.{One}
+use Rattle.cj_formats.specs.declared.cert_version.CertVersion.TheVariants.{One}
 use Rattle.cj_interval.proofs.RangeLemmas.{flat_map-range_more}
-use Rattle.cj_bezier.specs.SlotBoxes.{plain_boxes}
+use Rattle.cj_case.specs.Boxes.{plain_boxes}
 use Rattle.cj_cert.specs.declared.cert_lines.BoxLine.{BoxLine}
 use Rattle.cj_cert.specs.Certificates.{PlainBoxLine, plain_box_line}
 use Rattle.cj_cert.specs.Versions.{is_of_version}

@@ -3,11 +3,11 @@ use Rattle.std.specs.Prelude.{Option}
 use Rattle.std.specs.List.{flat_map, range_with_len}
 use Rattle.std.proofs.lemmas.List.{length-map}
 use Rattle.cj_track.specs.Tracks.{plain_track}
-use Rattle.cj_hermite.specs.Problems.{plain_problem}
-use Rattle.cj_hermite.specs.Slots.{slot_count}
+use Rattle.cj_case.specs.Problems.{plain_problem}
+use Rattle.cj_case.specs.Slots.{slot_count}
 use Rattle.cj_hermite.proofs.TrackLemmas.{objects_are}
-use Rattle.cj_bezier.specs.declared.shells.Shell.{Shell}
-use Rattle.cj_bezier.specs.SlotBoxes.{plain_boxes}
+use Rattle.cj_case.specs.declared.shells.Shell.{Shell}
+use Rattle.cj_case.specs.Boxes.{plain_boxes}
 use Rattle.cj_cert.specs.Accepted.{Accepted}
 use Rattle.cj_cert.specs.Certificates.{PlainCertificate}
 use Rattle.cj_cert.specs.Written.{lines_by_boxes}

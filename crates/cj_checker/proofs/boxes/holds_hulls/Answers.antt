@@ -1,7 +1,7 @@
 use Rattle.std.proofs.Common.{◌∙◌, sym, arith}
 use Rattle.cj_track.specs.Tracks.{plain_track}
-use Rattle.cj_hermite.specs.Problems.{plain_problem}
-use Rattle.cj_bezier.specs.SlotBoxes.{plain_box}
+use Rattle.cj_case.specs.Problems.{plain_problem}
+use Rattle.cj_case.specs.Boxes.{plain_box}
 use Rattle.cj_checker.specs.Tests.{is_in_box}
 use Rattle.cj_checker.proofs.BoxLemmas.{no_slots, beyond, all_more, one_fails}
 use Rattle.cj_checker.proofs.boxes.holds_hulls.Goals.{then-line-via-then-line, then-line-via-else-line+then-slot_count-line}

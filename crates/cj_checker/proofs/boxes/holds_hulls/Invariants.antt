@@ -1,8 +1,8 @@
 use Rattle.std.proofs.Common.{◌≡◌, ◌+◌, ◌-◌}
 use Rattle.std.specs.List.{list_all, range_with_len}
 use Rattle.cj_track.specs.Tracks.{plain_track}
-use Rattle.cj_hermite.specs.Problems.{plain_problem}
-use Rattle.cj_bezier.specs.SlotBoxes.{plain_box}
+use Rattle.cj_case.specs.Problems.{plain_problem}
+use Rattle.cj_case.specs.Boxes.{plain_box}
 use Rattle.cj_checker.specs.Tests.{is_in_box}
 use Rattle.cj_checker.specs.Walks.{IsWalk}
 use Rattle.cj_checker.proofs.boxes.holds_hulls.Given as goal

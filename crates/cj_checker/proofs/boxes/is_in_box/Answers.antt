@@ -2,7 +2,7 @@ use Rattle.std.proofs.Common.{◌∙◌, ◌&&◌, arith}
 use Rattle.std.specs.List.{list_all}
 use Rattle.cj_track.specs.Tracks.{plain_track}
 use Rattle.cj_bezier.specs.Parts.{hulls_of}
-use Rattle.cj_bezier.specs.SlotBoxes.{plain_box}
+use Rattle.cj_case.specs.Boxes.{plain_box}
 use Rattle.cj_checker.specs.Tests.{has_state_between, is_hull_in}
 use Rattle.cj_checker.proofs.HullLemmas.{met_there}
 use Rattle.cj_checker.proofs.boxes.is_in_box.Goals as goal

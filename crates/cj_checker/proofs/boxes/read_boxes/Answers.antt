@@ -1,6 +1,6 @@
 use Rattle.std.proofs.Common.{◌∙◌, ◌+◌, Bool, map, refl, sym, ap, arith}
 use Rattle.cj_track.specs.Tracks.{plain_track}
-use Rattle.cj_hermite.specs.Problems.{plain_problem}
+use Rattle.cj_case.specs.Problems.{plain_problem}
 use Rattle.cj_cert.specs.Certificates.{plain_box_line}
 use Rattle.cj_checker.specs.BoxesRead.{fails_behind}
 use Rattle.cj_checker.specs.Places.{places_from}

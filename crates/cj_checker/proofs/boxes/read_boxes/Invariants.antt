@@ -1,5 +1,5 @@
 use Rattle.std.proofs.Common.{◌≡◌, ◌≤◌, ◌-◌, ℕ, length, map}
-use Rattle.cj_hermite.specs.Problems.{plain_problem}
+use Rattle.cj_case.specs.Problems.{plain_problem}
 use Rattle.cj_cert.specs.Certificates.{plain_box_line}
 use Rattle.cj_checker.specs.Walks.{IsWalk}
 use Rattle.cj_checker.proofs.ReadLemmas.{from_slot}

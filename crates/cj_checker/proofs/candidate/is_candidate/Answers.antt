@@ -1,7 +1,8 @@
 use Rattle.std.proofs.Common.{arith, sym, ◌∙◌}
-use Rattle.cj_bezier.specs.SlotBoxes.{both_touch, plain_box}
+use Rattle.cj_bezier.specs.SlotBoxes.{both_touch}
+use Rattle.cj_case.specs.Boxes.{plain_box}
 use Rattle.std.specs.Prelude.{option_map, ◌&&◌}
-use Rattle.cj_hermite.specs.Problems.{plain_problem}
+use Rattle.cj_case.specs.Problems.{plain_problem}
 use Rattle.cj_checker.proofs.RoundLemmas.{box_in, candidate_by, not_kept, shell_on}
 use Rattle.cj_checker.proofs.candidate.is_candidate.Goals as goal
 

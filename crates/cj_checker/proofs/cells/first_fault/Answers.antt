@@ -1,9 +1,9 @@
 use Rattle.std.proofs.Common.{◌≡◌, ◌+◌, ◌≤◌, List, [], ◌++◌, drop, map, length, sym, ap, ◌∙◌, subst, arith}
 use Rattle.std.proofs.lemmas.List.{length-map}
 use Rattle.cj_track.specs.Tracks.{plain_track}
-use Rattle.cj_hermite.specs.Problems.{plain_problem}
-use Rattle.cj_hermite.specs.Roots.{PlainCell}
-use Rattle.cj_hermite.specs.Slots.{slot_count}
+use Rattle.cj_case.specs.Problems.{plain_problem}
+use Rattle.cj_case.specs.Cells.{PlainCell}
+use Rattle.cj_case.specs.Slots.{slot_count}
 use Rattle.cj_cert.specs.declared.cert_lines.CellLine.{CellLine}
 use Rattle.cj_cert.specs.Certificates.{plain_cell_line, plain_certificate}
 use Rattle.cj_cert.specs.Listed.{is_candidate_listed}

@@ -1,5 +1,5 @@
 use Rattle.std.proofs.Common.{◌≡◌, ◌+◌, ◌-◌, ◌≤◌, drop, length, map}
-use Rattle.cj_hermite.specs.Problems.{plain_problem}
+use Rattle.cj_case.specs.Problems.{plain_problem}
 use Rattle.cj_cert.specs.Certificates.{plain_cell_line, plain_certificate}
 use Rattle.cj_cert.specs.Listed.{is_candidate_listed}
 use Rattle.cj_checker.specs.First.{cell_failure, cells_from, first_cell_line}

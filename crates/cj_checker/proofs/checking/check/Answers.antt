@@ -1,5 +1,5 @@
 use Rattle.std.proofs.Common.{sym, ap, ◌∙◌}
-use Rattle.cj_hermite.specs.Problems.{plain_problem}
+use Rattle.cj_case.specs.Problems.{plain_problem}
 use Rattle.cj_cert.specs.Certificates.{plain_certificate}
 use Rattle.cj_checker.specs.Answers.{failure_of}
 use Rattle.cj_checker.proofs.CheckLemmas.{none_accepted}

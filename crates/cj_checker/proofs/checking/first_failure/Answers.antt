@@ -3,7 +3,7 @@ use Rattle.std.specs.Prelude.{is_some, IfOk}
 use Rattle.std.specs.declared.alloc.AllocError.{AllocError}
 use Rattle.std.proofs.lemmas.List.{length-map}
 use Rattle.cj_track.specs.Tracks.{plain_track}
-use Rattle.cj_hermite.specs.Problems.{plain_problem}
+use Rattle.cj_case.specs.Problems.{plain_problem}
 use Rattle.cj_cert.specs.Certificates.{plain_certificate}
 use Rattle.cj_checker.specs.First.{cell_failure, first_failure, Failure}
 use Rattle.cj_checker.proofs.CheckLemmas.{fails_before, fails_in_cells, same_count, same_shells}

@@ -3,7 +3,7 @@ use Rattle.std.specs.List.{list_all}
 use Rattle.cj_track.specs.Tracks.{plain_track}
 use Rattle.cj_bezier.specs.Hulls.{axes_of}
 use Rattle.cj_bezier.specs.Parts.{hulls_of}
-use Rattle.cj_bezier.specs.SlotBoxes.{plain_box}
+use Rattle.cj_case.specs.Boxes.{plain_box}
 use Rattle.cj_checker.specs.Tests.{is_hull_in}
 use Rattle.cj_checker.proofs.HullLemmas.{first_met, next_met, all_met, last_met}
 use Rattle.cj_checker.proofs.hulls_inside.are_hulls_in.Goals as goal

@@ -1,7 +1,7 @@
 use Rattle.std.proofs.Common.{◌-◌}
 use Rattle.cj_track.specs.Tracks.{plain_track}
 use Rattle.cj_bezier.specs.Hulls.{axes_of}
-use Rattle.cj_bezier.specs.SlotBoxes.{plain_box}
+use Rattle.cj_case.specs.Boxes.{plain_box}
 use Rattle.cj_checker.specs.Tests.{is_hull_in}
 use Rattle.cj_checker.specs.Walks.{IsWalk}
 use Rattle.cj_checker.proofs.HullLemmas.{IsMetUpTo}

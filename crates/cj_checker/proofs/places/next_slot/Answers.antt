@@ -1,6 +1,6 @@
 use Rattle.std.proofs.Common.{◌≡◌, ◌∙◌, ◌-◌, ◌≤◌, ◌/◌, ℕ, true, ap, arith, subst}
 use Rattle.cj_track.specs.Tracks.{plain_track}
-use Rattle.cj_hermite.specs.Problems.{plain_problem}
+use Rattle.cj_case.specs.Problems.{plain_problem}
 use Rattle.cj_hermite.specs.Walks.{HasNone, IsNextRun}
 use Rattle.cj_cert.specs.Accepted.{has_state_in}
 use Rattle.cj_checker.specs.Places.{slots_from}

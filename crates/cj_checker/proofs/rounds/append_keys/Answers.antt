@@ -1,7 +1,7 @@
 use Rattle.std.proofs.Common.{◌≡◌, ℕ, ◌<◌, ◌≤◌, true, map, length, get_or, subst, sym, arith, below_more}
 use Rattle.std.proofs.lemmas.List.{length-map}
-use Rattle.cj_hermite.specs.declared.pair.Pair.{Pair}
-use Rattle.cj_hermite.specs.Pairs.{objects_of}
+use Rattle.cj_case.specs.declared.pair.Pair.{Pair}
+use Rattle.cj_case.specs.Pairs.{objects_of}
 use Rattle.cj_checker.specs.Keys.{HasKey}
 use Rattle.cj_checker.proofs.RoundLemmas.{pair_read}
 use Rattle.cj_checker.proofs.rounds.append_keys.Goals as goal

@@ -1,6 +1,6 @@
 use Rattle.std.proofs.Common.{◌≡◌, ℕ, ◌<◌, ◌≤◌, Bool, true, map, get_or}
 use Rattle.std.specs.Prelude.{All}
-use Rattle.cj_hermite.specs.Pairs.{objects_of}
+use Rattle.cj_case.specs.Pairs.{objects_of}
 use Rattle.cj_checker.specs.Keys.{AreKeysIn, AreKeysKept, HasKey}
 use Rattle.cj_checker.proofs.rounds.append_keys.Given as goal
 

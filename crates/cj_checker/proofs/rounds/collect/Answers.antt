@@ -1,12 +1,12 @@
 use Rattle.std.proofs.Common.{◌≡◌, ℕ, ◌<◌, ◌≤◌, List, true, length, sym, ap, subst, arith, below_more}
 use Rattle.std.specs.Prelude.{All}
 use Rattle.std.proofs.lemmas.Result.{IfOk-from_err}
-use Rattle.cj_hermite.specs.declared.pair.Pair.{Pair}
-use Rattle.cj_hermite.specs.Problems.{plain_problem}
-use Rattle.cj_hermite.specs.Slots.{slot_count}
+use Rattle.cj_case.specs.declared.pair.Pair.{Pair}
+use Rattle.cj_case.specs.Problems.{plain_problem}
+use Rattle.cj_case.specs.Slots.{slot_count}
 use Rattle.cj_cert.specs.Certificates.{plain_certificate}
 use Rattle.cj_cert.specs.Listed.{is_candidate_listed}
-use Rattle.cj_hermite.specs.Pairs.{HasPair}
+use Rattle.cj_case.specs.Pairs.{HasPair}
 use Rattle.cj_checker.specs.Keys.{AreKeysIn, HasKey, IsKeyIn}
 use Rattle.cj_checker.proofs.RoundLemmas.{wider_rows}
 use Rattle.cj_checker.proofs.rounds.collect.Goals as goal

@@ -1,5 +1,5 @@
 use Rattle.std.proofs.Common.{ap, ◌∙◌}
-use Rattle.cj_bezier.specs.SlotBoxes.{plain_boxes}
+use Rattle.cj_case.specs.Boxes.{plain_boxes}
 use Rattle.cj_checker.specs.ListedBoxes.{table_of}
 use Rattle.cj_checker.proofs.RoundLemmas.{boxes_more}
 use Rattle.cj_checker.proofs.rounds.fill.Goals as goal

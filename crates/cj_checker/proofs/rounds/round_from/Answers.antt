@@ -1,8 +1,8 @@
 use Rattle.std.proofs.Common.{ℕ, sym, subst, arith}
 use Rattle.std.proofs.lemmas.List.{length-map}
 use Rattle.cj_track.specs.Tracks.{plain_track}
-use Rattle.cj_hermite.specs.Problems.{plain_problem}
-use Rattle.cj_hermite.specs.Slots.{slot_count}
+use Rattle.cj_case.specs.Problems.{plain_problem}
+use Rattle.cj_case.specs.Slots.{slot_count}
 use Rattle.cj_cert.specs.Certificates.{plain_certificate}
 use Rattle.cj_cert.specs.Listed.{is_candidate_listed}
 use Rattle.cj_checker.specs.Keys.{AreKeysIn, IsKeyIn}

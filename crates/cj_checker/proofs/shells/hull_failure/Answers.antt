@@ -7,10 +7,10 @@ use Rattle.std.proofs.lemmas.List.FromFn.{length-enumerate_from}
 use Rattle.std.proofs.lemmas.Option.{slice_get-get_or, slice_get_past}
 use Rattle.cj_track.specs.declared.track.Track.{Track}
 use Rattle.cj_track.specs.Tracks.{plain_track}
-use Rattle.cj_hermite.specs.Problems.{plain_problem}
+use Rattle.cj_case.specs.Problems.{plain_problem}
 use Rattle.cj_cert.specs.declared.cert_lines.BoxLine.{BoxLine}
 use Rattle.cj_cert.specs.Certificates.{plain_box_line, plain_certificate}
-use Rattle.cj_causes.specs.declared.check_cause.CheckCause.TheVariants.{ShellOf}
+use Rattle.cj_formats.specs.declared.check_cause.CheckCause.TheVariants.{ShellOf}
 use Rattle.cj_checker.specs.BoxesRead.{IsReadOn, fails_behind}
 use Rattle.cj_checker.specs.First.{box_failure, failed, first_box_line, first_line, Failure}
 use Rattle.cj_checker.specs.Places.{places_from}

@@ -1,8 +1,8 @@
 use Rattle.std.proofs.Common.{◌≡◌, ◌≤◌, ◌+◌, length, map}
 use Rattle.std.specs.List.{enumerate_from}
-use Rattle.cj_hermite.specs.Problems.{plain_problem}
+use Rattle.cj_case.specs.Problems.{plain_problem}
 use Rattle.cj_cert.specs.Certificates.{plain_box_line, plain_certificate}
-use Rattle.cj_causes.specs.declared.check_cause.CheckCause.TheVariants.{ShellOf}
+use Rattle.cj_formats.specs.declared.check_cause.CheckCause.TheVariants.{ShellOf}
 use Rattle.cj_checker.specs.BoxesRead.{fails_behind}
 use Rattle.cj_checker.specs.First.{box_failure, first_box_line, first_line, first_unfit}
 use Rattle.cj_checker.specs.Places.{places_from}

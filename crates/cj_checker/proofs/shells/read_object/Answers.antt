@@ -3,9 +3,9 @@ use Rattle.std.specs.Prelude.{◌==◌, IfNone, IfSome, not, slice_get}
 use Rattle.std.specs.List.{enumerate_from}
 use Rattle.std.proofs.lemmas.Bool.{eq-eqb, ne_eqb}
 use Rattle.cj_track.specs.Tracks.{plain_track}
-use Rattle.cj_hermite.specs.Problems.{plain_problem}
+use Rattle.cj_case.specs.Problems.{plain_problem}
 use Rattle.cj_hermite.specs.Walks.{HasNone}
-use Rattle.cj_bezier.specs.declared.shells.Shell.{Shell}
+use Rattle.cj_case.specs.declared.shells.Shell.{Shell}
 use Rattle.cj_cert.specs.Certificates.{plain_box_line}
 use Rattle.cj_checker.specs.declared.boxes_read.BoxesRead.{BoxesRead}
 use Rattle.cj_checker.specs.BoxesRead.{fails_behind}

@@ -3,7 +3,7 @@ use Rattle.std.specs.List.{enumerate_from}
 use Rattle.std.specs.Prelude.{slice_get}
 use Rattle.std.proofs.lemmas.List.FromFn.{length-enumerate_from}
 use Rattle.std.proofs.lemmas.Option.{slice_get-get_or, slice_get_past}
-use Rattle.cj_causes.specs.declared.check_cause.CheckCause.TheVariants.{SizeOf}
+use Rattle.cj_formats.specs.declared.check_cause.CheckCause.TheVariants.{SizeOf}
 use Rattle.cj_checker.specs.First.{first_line}
 use Rattle.cj_checker.specs.Tests.{is_size_line}
 use Rattle.cj_checker.proofs.UnfitLemmas.{unfit_more, unfit_now, unfit_short, unfit_done, unnumbered}

@@ -1,6 +1,6 @@
 use Rattle.std.proofs.Common.{◌≡◌}
 use Rattle.std.specs.List.{enumerate_from}
-use Rattle.cj_causes.specs.declared.check_cause.CheckCause.TheVariants.{SizeOf}
+use Rattle.cj_formats.specs.declared.check_cause.CheckCause.TheVariants.{SizeOf}
 use Rattle.cj_checker.specs.First.{first_line, first_unfit}
 use Rattle.cj_checker.specs.Tests.{is_size_line}
 use Rattle.cj_checker.proofs.UnfitLemmas.{unfit_from}

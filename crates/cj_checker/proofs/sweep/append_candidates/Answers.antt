@@ -1,9 +1,9 @@
 use Rattle.std.proofs.Common.{List, map, sym, subst, ◌∙◌}
 use Rattle.cj_interval.proofs.ListLemmas.{Contains-map_longer, Contains-map_push}
-use Rattle.cj_hermite.specs.declared.pair.Pair.{Pair}
-use Rattle.cj_hermite.specs.Pairs.{ArePairsKept, HasPair, objects_of}
-use Rattle.cj_hermite.specs.Problems.{plain_problem}
-use Rattle.cj_bezier.specs.SlotBoxes.{plain_boxes}
+use Rattle.cj_case.specs.declared.pair.Pair.{Pair}
+use Rattle.cj_case.specs.Pairs.{ArePairsKept, HasPair, objects_of}
+use Rattle.cj_case.specs.Problems.{plain_problem}
+use Rattle.cj_case.specs.Boxes.{plain_boxes}
 use Rattle.cj_cert.specs.declared.cert_lines.ShellLine.{ShellLine}
 use Rattle.cj_checker.specs.Sweeps.{AreCandidates}
 use Rattle.cj_checker.proofs.SweepLemmas.{candidates_more}

@@ -2,11 +2,11 @@ use Rattle.std.proofs.Common.{◌≡◌, ℕ, ◌<◌, true, map, get_or, sym, s
 use Rattle.std.specs.Prelude.{◌≤ℤ◌}
 use Rattle.std.specs.List.{Contains}
 use Rattle.std.proofs.lemmas.List.{get_or_default}
-use Rattle.cj_hermite.specs.Problems.{plain_problem}
-use Rattle.cj_bezier.specs.SlotBoxes.{plain_boxes}
+use Rattle.cj_case.specs.Problems.{plain_problem}
+use Rattle.cj_case.specs.Boxes.{plain_boxes}
 use Rattle.cj_cert.specs.declared.cert_lines.ShellLine.{ShellLine}
 use Rattle.cj_checker.specs.declared.reach.Reach.{Reach}
-use Rattle.cj_hermite.specs.Pairs.{AreBoth, HasPair}
+use Rattle.cj_case.specs.Pairs.{AreBoth, HasPair}
 use Rattle.cj_checker.specs.Keys.{candidate_with}
 use Rattle.cj_checker.proofs.sweep.append_met.Goals as goal
 

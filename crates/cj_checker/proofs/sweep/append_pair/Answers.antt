@@ -1,7 +1,7 @@
 use Rattle.std.proofs.Common.{◌≡◌, ℕ, true, subst, arith}
 use Rattle.std.proofs.lemmas.Option.{same_Some}
 use Rattle.std.proofs.lemmas.Result.{on_ok_weaker}
-use Rattle.cj_hermite.specs.Pairs.{HasPair, objects_of}
+use Rattle.cj_case.specs.Pairs.{HasPair, objects_of}
 use Rattle.cj_checker.specs.Keys.{looks}
 use Rattle.cj_checker.proofs.sweep.append_pair.Goals as goal
 

@@ -1,9 +1,9 @@
 use Rattle.std.proofs.Common.{◌≡◌, ℕ, ◌<◌, true, map, get_or}
-use Rattle.cj_hermite.specs.Problems.{plain_problem}
-use Rattle.cj_bezier.specs.SlotBoxes.{plain_boxes}
+use Rattle.cj_case.specs.Problems.{plain_problem}
+use Rattle.cj_case.specs.Boxes.{plain_boxes}
 use Rattle.cj_cert.specs.declared.cert_lines.ShellLine.{ShellLine}
 use Rattle.cj_checker.specs.declared.reach.Reach.{Reach}
-use Rattle.cj_hermite.specs.Pairs.{AreBoth, ArePairsKept, HasPair}
+use Rattle.cj_case.specs.Pairs.{AreBoth, ArePairsKept, HasPair}
 use Rattle.cj_checker.specs.Keys.{candidate_with}
 use Rattle.cj_checker.specs.Sweeps.{AreCandidates}
 use Rattle.cj_checker.proofs.sweep.append_row.Given as goal

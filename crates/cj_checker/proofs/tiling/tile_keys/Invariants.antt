@@ -1,6 +1,6 @@
 use Rattle.std.proofs.Common.{◌≡◌, ℕ, ◌+◌, ◌≤◌, List, ◌++◌, drop, length, map}
-use Rattle.cj_hermite.specs.Problems.{plain_problem}
-use Rattle.cj_hermite.specs.Roots.{PlainCell}
+use Rattle.cj_case.specs.Problems.{plain_problem}
+use Rattle.cj_case.specs.Cells.{PlainCell}
 use Rattle.cj_cert.specs.Certificates.{plain_cell_line}
 use Rattle.cj_checker.specs.First.{cells_from}
 use Rattle.cj_checker.specs.Keys.{plain_key, roots_of_keys}

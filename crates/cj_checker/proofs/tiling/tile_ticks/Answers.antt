@@ -2,8 +2,9 @@ use Rattle.std.proofs.Common.{◌≡◌, ℕ, ◌+◌, List, ◌∷◌, ◌++◌
 use Rattle.std.proofs.lemmas.Result.{err_from_is_err_and}
 use Rattle.cj_track.specs.declared.track.Track.{Track}
 use Rattle.cj_hermite.specs.CommonRuns.{run_of}
-use Rattle.cj_hermite.specs.Problems.{plain_problem}
-use Rattle.cj_hermite.specs.Roots.{PlainCell, root_of_run, roots_between}
+use Rattle.cj_case.specs.Problems.{plain_problem}
+use Rattle.cj_case.specs.Cells.{PlainCell}
+use Rattle.cj_hermite.specs.Roots.{root_of_run, roots_between}
 use Rattle.cj_cert.specs.Certificates.{plain_cell_line}
 use Rattle.cj_checker.specs.First.{cells_from}
 use Rattle.cj_checker.specs.Tiling.{IsOf, goes_on, root_from}

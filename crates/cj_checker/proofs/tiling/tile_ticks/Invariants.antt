@@ -1,6 +1,7 @@
 use Rattle.std.proofs.Common.{◌≡◌, ℕ, ◌+◌, ◌-◌, ◌≤◌, List, ◌++◌, drop, length, map}
-use Rattle.cj_hermite.specs.Problems.{plain_problem}
-use Rattle.cj_hermite.specs.Roots.{PlainCell, roots_between}
+use Rattle.cj_case.specs.Problems.{plain_problem}
+use Rattle.cj_case.specs.Cells.{PlainCell}
+use Rattle.cj_hermite.specs.Roots.{roots_between}
 use Rattle.cj_cert.specs.Certificates.{plain_cell_line}
 use Rattle.cj_checker.specs.First.{cells_from}
 use Rattle.cj_checker.proofs.tiling.tile_ticks.Given as goal

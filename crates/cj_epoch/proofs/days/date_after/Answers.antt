@@ -2,7 +2,7 @@ use Rattle.std.proofs.Common.{arith, ◌≡◌, ◌+◌}
 use Rattle.jiff_core.specs.Calendar.{day_count}
 use Rattle.jiff_core.proofs.CalendarLemmas.{days_from_civil-day_count}
 use Rattle.jiff_core.proofs.SignedLemmas.{signed_arith}
-use Rattle.cj_ticks.specs.Calendar.{civil_of}
+use Rattle.cj_base.specs.Calendar.{civil_of}
 use Rattle.cj_epoch.proofs.CivilLemmas.{IsParts, civil_of-at, same_parts}
 use Rattle.cj_epoch.proofs.days.date_after.Goals as goal
 

@@ -1,7 +1,7 @@
 use Rattle.std.proofs.Common.{arith, ◌≡◌, ◌/◌, ◌∙◌, ap, refl, ℕ, w16, to_z, of_z}
 use Rattle.std.specs.Prelude.{unsigned_abs}
 use Rattle.std.proofs.lemmas.Int.{ints}
-use Rattle.cj_ticks.specs.Calendar.{civil_of}
+use Rattle.cj_base.specs.Calendar.{civil_of}
 use Rattle.cj_epoch.specs.Written.{two}
 use Rattle.cj_epoch.proofs.text.date_text.Goals as goal
 

@@ -1,5 +1,5 @@
 use Rattle.std.proofs.Common.{sym, ◌∙◌}
-use Rattle.cj_bezier.specs.SlotBoxes.{plain_box}
+use Rattle.cj_case.specs.Boxes.{plain_box}
 use Rattle.cj_bezier.proofs.TouchLemmas.{far_apart}
 use Rattle.cj_grid.proofs.box_touch.touches.Goals as goal
 

@@ -2,7 +2,7 @@ use Rattle.std.proofs.Common.{◌≡◌, ℕ, Result, Ok, Err, true, map, sym, s
 use Rattle.std.specs.Prelude.{OnOk}
 use Rattle.std.specs.List.{Contains}
 use Rattle.std.specs.declared.alloc.AllocError.{AllocError}
-use Rattle.cj_hermite.specs.Pairs.{objects_of}
+use Rattle.cj_case.specs.Pairs.{objects_of}
 use Rattle.cj_grid.specs.Among.{touch_among}
 use Rattle.cj_grid.proofs.bucket_pairs.append_pair.Goals as goal
 

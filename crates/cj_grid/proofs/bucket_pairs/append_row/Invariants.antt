@@ -1,7 +1,7 @@
 use Rattle.std.proofs.Common.{ℕ, ◌+◌, ◌-◌, ◌<◌, ◌≤◌, length, take}
 use Rattle.cj_grid.specs.Among.{StillTouchAmong, AreFoundAt}
 use Rattle.cj_grid.specs.Buckets.{entered_in}
-use Rattle.cj_hermite.specs.Pairs.{ArePairsKept}
+use Rattle.cj_case.specs.Pairs.{ArePairsKept}
 use Rattle.cj_grid.specs.Found.{entry_at}
 use Rattle.cj_grid.proofs.bucket_pairs.append_row.Given as goal
 

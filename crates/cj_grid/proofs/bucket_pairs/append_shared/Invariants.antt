@@ -2,7 +2,7 @@ use Rattle.std.proofs.Common.{ℕ, ◌+◌, ◌<◌, ◌≤◌, take}
 use Rattle.std.specs.List.{sum_by}
 use Rattle.cj_grid.specs.Among.{StillTouchAmong, AreFoundAt}
 use Rattle.cj_grid.specs.Buckets.{entered_in}
-use Rattle.cj_hermite.specs.Pairs.{ArePairsKept}
+use Rattle.cj_case.specs.Pairs.{ArePairsKept}
 use Rattle.cj_grid.specs.Found.{ShareBucket}
 use Rattle.cj_grid.proofs.bucket_pairs.append_shared.Given as goal
 

@@ -1,7 +1,7 @@
 use Rattle.std.proofs.Common.{◌≡◌, List, [], ◌∷◌, ◌++◌, sym, subst, ◌∙◌}
 use Rattle.cj_interval.proofs.ListLemmas.{Contains-map_longer, Contains-map_push}
-use Rattle.cj_hermite.specs.declared.pair.Pair.{Pair}
-use Rattle.cj_hermite.specs.Pairs.{ArePairsKept, HasPair, objects_of}
+use Rattle.cj_case.specs.declared.pair.Pair.{Pair}
+use Rattle.cj_case.specs.Pairs.{ArePairsKept, HasPair, objects_of}
 use Rattle.cj_grid.specs.Among.{TouchAmong}
 use Rattle.cj_grid.proofs.PairingLemmas.{touching_more}
 use Rattle.cj_grid.proofs.bucket_pairs.append_touching.Goals as goal

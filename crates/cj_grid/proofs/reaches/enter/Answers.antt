@@ -2,7 +2,7 @@ use Rattle.std.proofs.Common.{◌<◌, ℕ, length, subst, ◌∙◌, arith, bel
 use Rattle.std.specs.Prelude.{slice_index}
 use Rattle.std.proofs.lemmas.List.{get_or_default}
 use Rattle.std.proofs.lemmas.List.Sorted.{All-permutation, Contains-permutation, length_permutation}
-use Rattle.cj_bezier.specs.SlotBoxes.{plain_box}
+use Rattle.cj_case.specs.Boxes.{plain_box}
 use Rattle.cj_grid.specs.Sweeps.{HasReach, reach_of, side}
 use Rattle.cj_grid.proofs.SweepLemmas.{sorted_in_order}
 use Rattle.cj_grid.proofs.reaches.enter.Goals as goal

@@ -1,7 +1,7 @@
 use Rattle.std.proofs.Common.{ℕ, ◌+◌, ◌^◌, subst, ◌∙◌, arith, below_more}
 use Rattle.std.specs.Prelude.{pos, ◌+ℤ◌, ◌-ℤ◌, slice_index}
 use Rattle.std.proofs.lemmas.List.{get_or_default}
-use Rattle.cj_bezier.specs.SlotBoxes.{plain_box}
+use Rattle.cj_case.specs.Boxes.{plain_box}
 use Rattle.cj_grid.specs.Sweeps.{IsNoLonger, side}
 use Rattle.cj_grid.proofs.SweepLemmas.{greater_few, greater_first, greater_second, longer_still}
 use Rattle.cj_grid.proofs.reaches.longest_along.Goals as goal

@@ -1,5 +1,5 @@
 use Rattle.std.proofs.Common.{◌≡◌, ℕ, List, ◌+◌, ◌*◌, ◌≤◌, get_or, length, subst, ap, arith, below_more}
-use Rattle.cj_hermite.specs.Pairs.{AreBoth}
+use Rattle.cj_case.specs.Pairs.{AreBoth}
 use Rattle.cj_grid.specs.declared.reach.Reach.{Reach}
 use Rattle.cj_grid.specs.Among.{AreFound}
 use Rattle.cj_grid.specs.Sweeps.{IsMetBy}

@@ -1,5 +1,5 @@
 use Rattle.std.proofs.Common.{◌≡◌, ℕ, ◌+◌, ◌*◌, ◌<◌, ◌≤◌, get_or, length}
-use Rattle.cj_hermite.specs.Pairs.{AreBoth, ArePairsKept}
+use Rattle.cj_case.specs.Pairs.{AreBoth, ArePairsKept}
 use Rattle.cj_grid.specs.declared.reach.Reach.{Reach}
 use Rattle.cj_grid.specs.Among.{StillTouchAmong, AreFound}
 use Rattle.cj_grid.specs.Sweeps.{IsMetBy}

@@ -1,6 +1,6 @@
 use Rattle.std.proofs.Common.{◌≡◌, get_or, sym, subst, ◌∙◌, arith, below_more}
 use Rattle.std.proofs.lemmas.List.{get_or_default}
-use Rattle.cj_hermite.specs.Pairs.{AreBoth}
+use Rattle.cj_case.specs.Pairs.{AreBoth}
 use Rattle.cj_grid.specs.declared.reach.Reach.{Reach}
 use Rattle.cj_grid.specs.Among.{AreFound}
 use Rattle.cj_grid.proofs.sweep.append_met.Goals as goal

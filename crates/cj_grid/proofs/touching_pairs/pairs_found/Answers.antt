@@ -5,7 +5,7 @@ use Rattle.std.specs.List.Sorted.{IsPermutation}
 use Rattle.std.proofs.lemmas.List.Elements.{All-nil}
 use Rattle.std.proofs.lemmas.List.Sorted.{All-permutation}
 use Rattle.cj_interval.proofs.ListLemmas.{All-from_each, Contains-from_exists}
-use Rattle.cj_hermite.specs.declared.pair.Pair.{Pair}
+use Rattle.cj_case.specs.declared.pair.Pair.{Pair}
 use Rattle.cj_grid.specs.declared.entries.Entry.{Entry}
 use Rattle.cj_grid.specs.declared.slot_objects.SlotObjects.{SlotObjects}
 use Rattle.cj_grid.specs.Among.{entries_among, wide_among, bound_among, TouchAmong}

@@ -1,8 +1,8 @@
 use Rattle.std.proofs.Common.{◌≡◌, List, Result, Ok, Err, Vec, Global, map, filter, length, ap, ◌∙◌}
 use Rattle.std.specs.Prelude.{IfOk, None}
 use Rattle.std.specs.declared.alloc.AllocError.{AllocError}
-use Rattle.cj_hermite.specs.declared.pair.Pair.{Pair}
-use Rattle.cj_hermite.specs.Pairs.{objects_of, pairs_of}
+use Rattle.cj_case.specs.declared.pair.Pair.{Pair}
+use Rattle.cj_case.specs.Pairs.{objects_of, pairs_of}
 use Rattle.cj_grid.specs.declared.slot_objects.SlotObjects.{SlotObjects}
 use Rattle.cj_grid.specs.Among.{touch_among}
 use Rattle.cj_grid.specs.Found.{unrepeated}

@@ -1,8 +1,8 @@
 use Rattle.std.proofs.Common.{◌+◌, ◌++◌, List, Some, Vec, Global, None, map, drop, sym, ap, append-nil, ◌∙◌}
 use Rattle.std.specs.Prelude.{option_map}
 use Rattle.std.proofs.lemmas.List.{drop_all}
-use Rattle.cj_hermite.specs.declared.pair.Pair.{Pair}
-use Rattle.cj_hermite.specs.Pairs.{objects_of}
+use Rattle.cj_case.specs.declared.pair.Pair.{Pair}
+use Rattle.cj_case.specs.Pairs.{objects_of}
 use Rattle.cj_grid.specs.Found.{unrepeated}
 use Rattle.cj_grid.proofs.FoundLemmas.{turn_again, turn_new}
 use Rattle.cj_grid.proofs.touching_pairs.without_repeats.Goals.{then-not-is_last+in_ok-push, else-not-is_last}

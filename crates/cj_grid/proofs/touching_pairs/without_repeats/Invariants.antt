@@ -1,6 +1,6 @@
 use Rattle.std.proofs.Common.{◌≡◌, ◌++◌, None, map, drop}
 use Rattle.std.specs.Prelude.{option_map}
-use Rattle.cj_hermite.specs.Pairs.{objects_of}
+use Rattle.cj_case.specs.Pairs.{objects_of}
 use Rattle.cj_grid.specs.Found.{unrepeated}
 use Rattle.cj_grid.proofs.touching_pairs.without_repeats.Given as goal
 

@@ -3,7 +3,8 @@ use Rattle.std.specs.Prelude.{option_map}
 use Rattle.cj_track.specs.Tracks.{plain_track}
 use Rattle.cj_hermite.specs.Walks.{HasNone}
 use Rattle.cj_bezier.specs.Parts.{AreInTime}
-use Rattle.cj_bezier.specs.SlotBoxes.{box_of, plain_box}
+use Rattle.cj_bezier.specs.SlotBoxes.{box_of}
+use Rattle.cj_case.specs.Boxes.{plain_box}
 use Rattle.cj_bezier.proofs.BoxRoundLemmas.{box_none, none_without, some_with, box_of_parts, box_holds}
 use Rattle.cj_bezier.proofs.HullListLemmas.{have_parts}
 use Rattle.cj_grid.specs.JoinedBoxes.{reaches_of_spans}

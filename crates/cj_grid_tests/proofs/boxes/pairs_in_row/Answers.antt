@@ -1,7 +1,7 @@
 use Rattle.std.proofs.Common.{◌+◌, ◌≤◌, ℕ, List, length, ap, sym, subst, ◌∙◌, arith}
 use Rattle.std.specs.Prelude.{All}
 use Rattle.std.proofs.lemmas.List.Elements.{All-replicate}
-use Rattle.cj_hermite.specs.Limits.{MAX_SIZE}
+use Rattle.cj_case.specs.CaseLimits.{MAX_SIZE}
 use Rattle.cj_grid.specs.Buckets.{step_bound}
 use Rattle.cj_grid_tests.proofs.RowLemmas.{row_bound, row_few}
 use Rattle.cj_grid_tests.proofs.boxes.pairs_in_row.Goals as goal

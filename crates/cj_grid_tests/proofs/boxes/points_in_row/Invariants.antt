@@ -1,5 +1,5 @@
 use Rattle.std.proofs.Common.{◌≡◌}
-use Rattle.cj_bezier.specs.SlotBoxes.{plain_boxes}
+use Rattle.cj_case.specs.Boxes.{plain_boxes}
 use Rattle.cj_grid_tests.specs.Rows.{boxes_in_row}
 use Rattle.cj_grid_tests.proofs.boxes.points_in_row.Given as goal
 

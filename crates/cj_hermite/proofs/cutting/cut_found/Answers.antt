@@ -1,5 +1,5 @@
 use Rattle.std.proofs.Common.{◌≡◌, ◌≢◌, ◌-◌, Some, refl, arith}
-use Rattle.cj_ticks.specs.declared.tick.Window.{Window}
+use Rattle.cj_base.specs.declared.tick.Window.{Window}
 use Rattle.cj_track.specs.Tracks.{plain_track}
 use Rattle.cj_hermite.specs.Pieces.{piece_at}
 use Rattle.cj_hermite.proofs.RunLemmas.{run_whole, run_less, run_none, run_other, ended_whole, ended_less, ends_covered, holds_cut, not_at}

@@ -6,7 +6,7 @@ use Rattle.std.proofs.lemmas.List.Sums.{sum_by_push}
 use Rattle.cj_track.specs.Segments.{node_count}
 use Rattle.cj_track.specs.declared.frame.Frame.TheVariants.{Eme2000}
 use Rattle.cj_track.specs.declared.track.Track.{Track}
-use Rattle.cj_hermite.specs.CaseLimits.{node_total}
+use Rattle.cj_case.specs.CaseLimits.{node_total}
 use Rattle.cj_hermite_tests.proofs.crowds.objects.Goals as goal
 
 pub loop-preserved : goal.loop-preserved

@@ -1,6 +1,6 @@
 use Rattle.std.proofs.Common.{◌≡◌, ◌*◌, length}
 use Rattle.std.specs.Prelude.{All}
-use Rattle.cj_hermite.specs.CaseLimits.{node_total}
+use Rattle.cj_case.specs.CaseLimits.{node_total}
 use Rattle.cj_track.specs.declared.frame.Frame.TheVariants.{Eme2000}
 use Rattle.cj_hermite_tests.proofs.crowds.objects.Given as goal
 

@@ -2,7 +2,7 @@ use Rattle.std.proofs.Common.{◌≡◌, ◌∙◌, ◌*◌, ℕ, List, Ok, map,
 use Rattle.std.proofs.lemmas.List.{length-map}
 use Rattle.cj_track.specs.Tracks.{plain_track}
 use Rattle.cj_track.specs.declared.track.Track.{Track}
-use Rattle.cj_hermite.specs.PlainProblems.{PlainProblem}
+use Rattle.cj_case.specs.PlainProblems.{PlainProblem}
 use Rattle.cj_inputs.specs.Cases.{case_with}
 use Rattle.cj_inputs.proofs.StepLemmas.{no_limit, too_long, too_many_slots}
 use Rattle.cj_inputs.proofs.preparing.make_problem.Goals as goal

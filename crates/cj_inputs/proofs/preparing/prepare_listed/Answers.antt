@@ -9,7 +9,7 @@ use Rattle.cj_track.specs.PlainTracks.{PlainTrack}
 use Rattle.cj_track.specs.Tracks.{plain_track}
 use Rattle.cj_track.specs.declared.track.Track.{Track}
 use Rattle.cj_words.specs.Settings.{plain_settings}
-use Rattle.cj_hermite.specs.Problems.{plain_problem}
+use Rattle.cj_case.specs.Problems.{plain_problem}
 use Rattle.cj_status.specs.Steps.{Gives}
 use Rattle.cj_inputs.specs.Cases.{case_asked, case_of_run, within_limits, within_objects}
 use Rattle.cj_inputs.specs.InputFiles.{inputs_of}

@@ -1,6 +1,6 @@
 use Rattle.std.proofs.Common.{arith, ◌≡◌, ap, ◌∙◌, ℕ, ℤ, List, ◌++◌, w32, to_z, of_z}
 use Rattle.std.proofs.lemmas.Int.{ints}
-use Rattle.cj_values.specs.Decimals.{number_of}
+use Rattle.cj_base.specs.Decimals.{number_of}
 use Rattle.cj_kvn.specs.Decimals.{decimal_of, exponent_text, minus_if}
 use Rattle.cj_kvn.proofs.AgainLemmas.{IsNormal, again, zero_is}
 use Rattle.cj_kvn.proofs.PrintLemmas.{text_pushed}

@@ -1,6 +1,6 @@
 use Rattle.std.proofs.Common.{arith, sym}
 use Rattle.std.proofs.lemmas.Int.{ints}
-use Rattle.cj_values.specs.Decimals.{number_of}
+use Rattle.cj_base.specs.Decimals.{number_of}
 use Rattle.cj_kvn.proofs.PowerLemmas.{ten_more}
 use Rattle.cj_kvn.proofs.PrintLemmas.{power_of_zero, power_of_first, few_digits}
 use Rattle.cj_kvn.proofs.printing.leading_power.Goals as goal

@@ -1,8 +1,8 @@
 use Rattle.std.proofs.Common.{All, List, subst}
 use Rattle.std.specs.Prelude.{IfOk}
 use Rattle.std.proofs.lemmas.Result.{IfOk-weaker}
-use Rattle.cj_hermite.specs.Problems.{plain_problem}
-use Rattle.cj_bezier.specs.Leaves.{plain_leaves}
+use Rattle.cj_case.specs.Problems.{plain_problem}
+use Rattle.cj_case.specs.Leaves.{plain_leaves}
 use Rattle.cj_meet.specs.Closest.{HasNearest}
 use Rattle.cj_meet.specs.Encounters.{groups_in}
 use Rattle.cj_meet.specs.ApproachLists.{AreClosestAt}

@@ -2,8 +2,8 @@ use Rattle.std.proofs.Common.{List, All, arith, sym, subst}
 use Rattle.std.proofs.lemmas.Bool.Decides.{nat_tests}
 use Rattle.std.proofs.lemmas.List.{nil_from_length}
 use Rattle.std.proofs.lemmas.List.Elements.{All-drop}
-use Rattle.cj_hermite.specs.Problems.{plain_problem}
-use Rattle.cj_bezier.specs.Leaves.{plain_leaves}
+use Rattle.cj_case.specs.Problems.{plain_problem}
+use Rattle.cj_case.specs.Leaves.{plain_leaves}
 use Rattle.cj_meet.specs.declared.portion.Portion.{Portion}
 use Rattle.cj_meet.specs.Encounters.{Describes}
 use Rattle.cj_meet.proofs.ApproachListLemmas.{ComeTo, all_closest, cut_more}

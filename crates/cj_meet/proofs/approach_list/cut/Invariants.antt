@@ -1,6 +1,6 @@
 use Rattle.std.proofs.Common.{All, length}
-use Rattle.cj_hermite.specs.Problems.{plain_problem}
-use Rattle.cj_bezier.specs.Leaves.{plain_leaves}
+use Rattle.cj_case.specs.Problems.{plain_problem}
+use Rattle.cj_case.specs.Leaves.{plain_leaves}
 use Rattle.cj_meet.specs.Encounters.{Describes}
 use Rattle.cj_meet.proofs.ApproachListLemmas.{ComeTo}
 use Rattle.cj_meet.proofs.approach_list.cut.Given as goal

@@ -1,7 +1,7 @@
 use Rattle.std.proofs.Common.{refl, sym, subst, All}
-use Rattle.cj_hermite.specs.Problems.{plain_problem}
-use Rattle.cj_bezier.specs.declared.encounter.Closest.{Closest}
-use Rattle.cj_bezier.specs.Leaves.{plain_leaves}
+use Rattle.cj_case.specs.Problems.{plain_problem}
+use Rattle.cj_case.specs.declared.encounter.Closest.{Closest}
+use Rattle.cj_case.specs.Leaves.{plain_leaves}
 use Rattle.cj_meet.specs.Closest.{KeepTheirPieces}
 use Rattle.cj_meet.specs.Encounters.{leaves_in}
 use Rattle.cj_meet.specs.Searches.{plain_approach, HasInterpolants}

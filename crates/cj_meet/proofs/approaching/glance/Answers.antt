@@ -1,7 +1,7 @@
 use Rattle.std.proofs.Common.{◌≡◌, ℕ, ap, ◌∙◌}
-use Rattle.cj_hermite.specs.Problems.{plain_problem}
+use Rattle.cj_case.specs.Problems.{plain_problem}
 use Rattle.cj_hermite.specs.Ready.{curve_ready}
-use Rattle.cj_bezier.specs.Leaves.{plain_leaf}
+use Rattle.cj_case.specs.Leaves.{plain_leaf}
 use Rattle.cj_meet.specs.Closest.{approach_at}
 use Rattle.cj_meet.specs.Searches.{plain_approach}
 use Rattle.cj_meet.proofs.ClosestLemmas.{ends_are, glanced}

@@ -1,5 +1,5 @@
 use Rattle.std.proofs.Common.{◌+◌, ◌-◌, ◌/◌, arith}
-use Rattle.cj_hermite.specs.Problems.{plain_problem}
+use Rattle.cj_case.specs.Problems.{plain_problem}
 use Rattle.cj_meet.specs.Searches.{plain_approach}
 use Rattle.cj_meet.proofs.ClosestLemmas.{keeps_at, end_of_all}
 use Rattle.cj_meet.proofs.approaching.near_end.Goals as goal

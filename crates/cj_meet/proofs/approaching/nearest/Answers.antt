@@ -1,9 +1,9 @@
 use Rattle.std.proofs.Common.{◌<◌, List, All, length, subst, arith}
 use Rattle.std.proofs.lemmas.List.{take_all}
 use Rattle.std.proofs.lemmas.List.Elements.{All-nil}
-use Rattle.cj_bezier.specs.declared.leaf.Leaf.{Leaf}
-use Rattle.cj_hermite.specs.Problems.{plain_problem}
-use Rattle.cj_bezier.specs.Leaves.{plain_leaves}
+use Rattle.cj_case.specs.declared.leaf.Leaf.{Leaf}
+use Rattle.cj_case.specs.Problems.{plain_problem}
+use Rattle.cj_case.specs.Leaves.{plain_leaves}
 use Rattle.cj_meet.specs.Closest.{ends_in}
 use Rattle.cj_meet.specs.Searches.{plain_approach, NoWorse, HasInterpolants}
 use Rattle.cj_meet.proofs.ClosestLemmas.{keeps_at, nearest_begun, nearest_more, end_more, leaf_more}

@@ -1,6 +1,6 @@
 use Rattle.std.proofs.Common.{◌≡◌, All, Any, take}
-use Rattle.cj_hermite.specs.Problems.{plain_problem}
-use Rattle.cj_bezier.specs.Leaves.{plain_leaves}
+use Rattle.cj_case.specs.Problems.{plain_problem}
+use Rattle.cj_case.specs.Leaves.{plain_leaves}
 use Rattle.cj_meet.specs.Closest.{ends_in}
 use Rattle.cj_meet.specs.Searches.{plain_approach, NoWorse, HasInterpolants}
 use Rattle.cj_meet.proofs.approaching.nearest.Given as goal

@@ -1,7 +1,7 @@
 use Rattle.std.proofs.Common.{◌≡◌, ◌⊎◌, List, All, Any, sym, subst}
-use Rattle.cj_hermite.specs.Problems.{plain_problem}
+use Rattle.cj_case.specs.Problems.{plain_problem}
 use Rattle.cj_hermite.specs.Ready.{curve_ready}
-use Rattle.cj_bezier.specs.Leaves.{plain_leaf}
+use Rattle.cj_case.specs.Leaves.{plain_leaf}
 use Rattle.cj_meet.specs.Closest.{PlainApproach}
 use Rattle.cj_meet.specs.Searches.{plain_approach, NoWorse}
 use Rattle.cj_meet.proofs.ClosestLemmas.{ends_are}

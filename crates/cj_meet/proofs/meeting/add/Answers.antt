@@ -1,4 +1,4 @@
-use Rattle.cj_bezier.specs.Leaves.{plain_leaf}
+use Rattle.cj_case.specs.Leaves.{plain_leaf}
 use Rattle.cj_meet.proofs.EncounterLemmas.{encounters_past_far, past_later}
 use Rattle.std.proofs.Common.{refl}
 use Rattle.cj_meet.proofs.meeting.add.Goals as goal

@@ -1,6 +1,6 @@
 use Rattle.std.proofs.Common.{arith, ◌≡◌, ◌+◌, ◌-◌, ◌≤◌, length, slice_get, refl, sym, ◌∙◌, subst, ap, [], ◌∷◌, ◌++◌, cond}
-use Rattle.cj_bezier.specs.declared.encounter.Mark.TheVariants as Mark
-use Rattle.cj_bezier.specs.Leaves.{plain_leaf}
+use Rattle.cj_case.specs.declared.encounter.Mark.TheVariants as Mark
+use Rattle.cj_case.specs.Leaves.{plain_leaf}
 use Rattle.cj_meet.specs.Encounters.{AreEncounters, is_near_mark}
 use Rattle.cj_meet.proofs.EncounterLemmas.{Begins, encounters_extended, encounters_first, encounters_added, told_there, told_none, told_some, told_past, past_later, goes_on_later}
 use Rattle.std.proofs.lemmas.List.{nil_from_length}

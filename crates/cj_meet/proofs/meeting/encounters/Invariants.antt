@@ -1,5 +1,5 @@
 use Rattle.std.proofs.Common.{take, All, ◌≤◌}
-use Rattle.cj_bezier.specs.Leaves.{plain_leaves}
+use Rattle.cj_case.specs.Leaves.{plain_leaves}
 use Rattle.cj_meet.specs.Encounters.{AreEncounters}
 use Rattle.cj_meet.proofs.meeting.encounters.Given as goal
 

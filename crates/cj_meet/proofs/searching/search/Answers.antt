@@ -4,7 +4,7 @@ use Rattle.cj_interval.proofs.ListLemmas.{All-from_each, Any-from_exists}
 use Rattle.cj_hermite.specs.Interpolant.{IsOver}
 use Rattle.cj_hermite.specs.Ready.{curve_ready}
 use Rattle.cj_hermite.proofs.TrackLemmas.{over_part}
-use Rattle.cj_bezier.specs.Leaves.{plain_leaf}
+use Rattle.cj_case.specs.Leaves.{plain_leaf}
 use Rattle.cj_meet.specs.declared.approaches.Approach.{Approach}
 use Rattle.cj_meet.specs.declared.runs.Waiting.{Waiting}
 use Rattle.cj_meet.specs.Closest.{PlainApproach, ends_between}

@@ -1,6 +1,6 @@
 use Rattle.std.proofs.Common.{◌≡◌, ◌≤◌, length, drop}
 use Rattle.cj_hermite.specs.Ready.{curve_ready}
-use Rattle.cj_bezier.specs.Leaves.{plain_leaf}
+use Rattle.cj_case.specs.Leaves.{plain_leaf}
 use Rattle.cj_meet.specs.Searches.{plain_approach}
 use Rattle.cj_meet.proofs.SearchLemmas.{Fit, work, Searched}
 use Rattle.cj_meet.proofs.searching.search.Given as goal

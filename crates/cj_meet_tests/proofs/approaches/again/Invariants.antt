@@ -1,5 +1,5 @@
 use Rattle.std.proofs.Common.{List, All}
-use Rattle.cj_bezier.specs.Leaves.{PlainLeaf}
+use Rattle.cj_case.specs.Leaves.{PlainLeaf}
 use Rattle.cj_meet.specs.Encounters.{Describes}
 use Rattle.cj_meet_tests.proofs.approaches.again.Given as goal
 

@@ -1,7 +1,7 @@
 use Rattle.std.proofs.Common.{◌∙◌, sym, Err}
 use Rattle.std.proofs.lemmas.Result.{err_from_is_err_and}
 use Rattle.cj_oem.specs.Readers.{body_of}
-use Rattle.cj_causes.specs.declared.oem_cause.OemCause.TheVariants.{Name}
+use Rattle.cj_formats.specs.declared.oem_cause.OemCause.TheVariants.{Name}
 use Rattle.cj_kvn.specs.declared.text_fault.TextFault.TheVariants.{At}
 use Rattle.cj_oem.proofs.FileLemmas.{body_read, body_refused, few_nodes, name_refused, some_segment}
 use Rattle.cj_oem.proofs.GrammarLemmas.{gives_accepts, gives_refuses, gives_says}

@@ -1,6 +1,6 @@
 use Rattle.std.proofs.Common.{◌∙◌, ap, sym}
 use Rattle.std.proofs.lemmas.Result.{err_from_is_err_and}
-use Rattle.cj_hermite.specs.Problems.{plain_problem}
+use Rattle.cj_case.specs.Problems.{plain_problem}
 use Rattle.cj_cert.specs.Certificates.{plain_certificate}
 use Rattle.cj_checker.specs.Answers.{failure_of}
 use Rattle.cj_outputs.proofs.AcceptingLemmas.{accepted_so, refused_so, unreadable}

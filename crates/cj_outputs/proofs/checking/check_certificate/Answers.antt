@@ -3,9 +3,9 @@ use Rattle.std.specs.Prelude.{IfSome, OnOk}
 use Rattle.std.proofs.lemmas.Result.{err_from_is_err_and}
 use Rattle.cj_io.specs.Faults.{Rose}
 use Rattle.cj_io.specs.declared.file.FileBytes.{FileBytes}
-use Rattle.cj_hermite.specs.Problems.{plain_problem}
+use Rattle.cj_case.specs.Problems.{plain_problem}
 use Rattle.cj_words.specs.Commands.{plain_checking}
-use Rattle.cj_bezier.specs.Order.{AreInOrder}
+use Rattle.cj_case.specs.Order.{AreInOrder}
 use Rattle.cj_meet.specs.Closest.{KeepTheirPieces}
 use Rattle.cj_cert.specs.declared.cert_lines.CellLine.{CellLine}
 use Rattle.cj_cert.specs.Splits.{CellsSplit}

@@ -1,5 +1,5 @@
 use Rattle.std.proofs.Common.{◌≡◌, length, arith}
-use Rattle.cj_hermite.specs.Problems.{plain_problem}
+use Rattle.cj_case.specs.Problems.{plain_problem}
 use Rattle.cj_hermite.proofs.TrackLemmas.{objects_are}
 use Rattle.cj_candidates.proofs.CountLemmas.{kept_le}
 use Rattle.cj_outputs.proofs.counting.count.Goals as goal

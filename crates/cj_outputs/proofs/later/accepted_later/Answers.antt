@@ -1,5 +1,5 @@
 use Rattle.std.proofs.Common.{ℕ, ◌≤◌, length, subst}
-use Rattle.cj_hermite.specs.Problems.{plain_problem}
+use Rattle.cj_case.specs.Problems.{plain_problem}
 use Rattle.cj_cert.specs.Rewritten.{in_version_2, written_in}
 use Rattle.cj_cert_text.proofs.WrittenFitsLemmas.{IsOfRun}
 use Rattle.cj_outputs.proofs.LaterLemmas.{of_run, rewritten_later, written_later, usual_few}

@@ -1,7 +1,7 @@
 use Rattle.std.proofs.Common.{◌≡◌, ◌<◌, length, get_or, sym, ap, subst, ◌∙◌, arith, rules}
-use Rattle.cj_hermite.specs.declared.problem.Problem.{Problem}
-use Rattle.cj_hermite.specs.Problems.{plain_problem}
-use Rattle.cj_bezier.specs.declared.encounter.Closest.{Closest}
+use Rattle.cj_case.specs.declared.problem.Problem.{Problem}
+use Rattle.cj_case.specs.Problems.{plain_problem}
+use Rattle.cj_case.specs.declared.encounter.Closest.{Closest}
 use Rattle.cj_cdm.specs.Building.{have_covariances}
 use Rattle.cj_meet.specs.Closest.{closest_of}
 use Rattle.cj_meet.specs.Encounters.{Describes}

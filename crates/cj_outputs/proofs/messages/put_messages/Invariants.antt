@@ -1,6 +1,6 @@
 use Rattle.std.proofs.Common.{◌≡◌, ◌≤◌, ◌++◌, List, Some, take}
 use Rattle.cj_io.specs.declared.file.FileBytes.{FileBytes}
-use Rattle.cj_bezier.specs.Leaves.{plain_leaves}
+use Rattle.cj_case.specs.Leaves.{plain_leaves}
 use Rattle.cj_meet.specs.Encounters.{groups_in}
 use Rattle.cj_outputs.specs.Findings.{case_in}
 use Rattle.cj_outputs.specs.Messages.{message_outputs}

@@ -1,9 +1,9 @@
 use Rattle.std.proofs.Common.{◌∙◌, length, map, List, ℕ, ap, arith}
 use Rattle.std.proofs.lemmas.List.{length-map}
 use Rattle.cj_track.specs.Tracks.{plain_track}
-use Rattle.cj_hermite.specs.Pairs.{objects_of}
-use Rattle.cj_bezier.specs.Leaves.{plain_leaves}
-use Rattle.cj_bezier.specs.SlotBoxes.{plain_boxes}
+use Rattle.cj_case.specs.Pairs.{objects_of}
+use Rattle.cj_case.specs.Leaves.{plain_leaves}
+use Rattle.cj_case.specs.Boxes.{plain_boxes}
 use Rattle.cj_candidates.proofs.ObjectLemmas.{as_many_shells, kept_is}
 use Rattle.cj_outputs.specs.Findings.{case_in}
 use Rattle.cj_outputs.proofs.CertificateLemmas.{leaves_alike}

@@ -1,5 +1,5 @@
 use Rattle.std.proofs.Common.{ℕ, List, [], ◌∷◌, Ok, ap, sym, subst, ◌∙◌}
-use Rattle.cj_causes.specs.declared.cert_version.CertVersion.{CertVersion}
+use Rattle.cj_formats.specs.declared.cert_version.CertVersion.{CertVersion}
 use Rattle.cj_io.specs.Parts.{joined}
 use Rattle.cj_outputs.specs.Findings.{case_in, ended}
 use Rattle.cj_outputs.specs.Outcome.{Leaves, cert_bytes, cert_output}

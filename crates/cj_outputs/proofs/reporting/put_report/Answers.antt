@@ -1,8 +1,8 @@
 use Rattle.std.proofs.Common.{ℕ, ◌∙◌, All, Bool, List, [], ◌∷◌, length, Ok, ap, sym, subst}
-use Rattle.cj_bezier.specs.Leaves.{plain_leaves}
-use Rattle.cj_bezier.specs.declared.encounter.Closest.{Closest}
-use Rattle.cj_bezier.specs.declared.encounter.Encounter.{Encounter}
-use Rattle.cj_bezier.specs.declared.leaf.Leaf.{Leaf}
+use Rattle.cj_case.specs.Leaves.{plain_leaves}
+use Rattle.cj_case.specs.declared.encounter.Closest.{Closest}
+use Rattle.cj_case.specs.declared.encounter.Encounter.{Encounter}
+use Rattle.cj_case.specs.declared.leaf.Leaf.{Leaf}
 use Rattle.cj_meet.specs.Encounters.{Describes}
 use Rattle.cj_outputs.specs.Findings.{case_in, ended}
 use Rattle.cj_outputs.specs.Outcome.{Leaves, report_output}

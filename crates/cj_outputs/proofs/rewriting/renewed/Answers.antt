@@ -3,11 +3,11 @@ use Rattle.std.specs.Prelude.{Option}
 use Rattle.std.proofs.lemmas.List.{length-map}
 use Rattle.std.proofs.lemmas.List.FromFn.{length-range_with_len}
 use Rattle.cj_track.specs.Tracks.{plain_track}
-use Rattle.cj_hermite.specs.declared.pair.Pair.{Pair}
-use Rattle.cj_hermite.specs.Pairs.{objects_of, pairs_of}
-use Rattle.cj_hermite.specs.PlainProblems.{PlainProblem}
-use Rattle.cj_hermite.specs.Problems.{plain_problem}
-use Rattle.cj_bezier.specs.declared.shells.Shell.{Shell}
+use Rattle.cj_case.specs.declared.pair.Pair.{Pair}
+use Rattle.cj_case.specs.Pairs.{objects_of, pairs_of}
+use Rattle.cj_case.specs.PlainProblems.{PlainProblem}
+use Rattle.cj_case.specs.Problems.{plain_problem}
+use Rattle.cj_case.specs.declared.shells.Shell.{Shell}
 use Rattle.cj_bezier.specs.Shells.{keeps_between}
 use Rattle.cj_cert.specs.Accepted.{AreShells}
 use Rattle.cj_cert.specs.Certificates.{PlainCertificate, plain_certificate}

@@ -1,10 +1,10 @@
 use Rattle.std.proofs.Common.{◌≡◌, ◌∙◌, ◌≤◌, List, length, map, ap, sym, subst, arith}
 use Rattle.std.specs.Prelude.{All}
 use Rattle.std.proofs.lemmas.List.{length-map}
-use Rattle.cj_hermite.specs.Problems.{plain_problem}
-use Rattle.cj_bezier.specs.declared.leaf.Leaf.{Leaf}
-use Rattle.cj_bezier.specs.Leaves.{PlainLeaf, plain_leaf, plain_leaves}
-use Rattle.cj_bezier.specs.Order.{AreInOrder}
+use Rattle.cj_case.specs.Problems.{plain_problem}
+use Rattle.cj_case.specs.declared.leaf.Leaf.{Leaf}
+use Rattle.cj_case.specs.Leaves.{PlainLeaf, plain_leaf, plain_leaves}
+use Rattle.cj_case.specs.Order.{AreInOrder}
 use Rattle.cj_meet.specs.Closest.{HasNearest, KeepTheirPieces}
 use Rattle.cj_meet.specs.Encounters.{encounters_of}
 use Rattle.cj_meet.specs.Spans.{HaveExactSpans}

@@ -1,6 +1,6 @@
 use Rattle.std.proofs.Common.{ℕ, List, map, refl, subst}
 use Rattle.std.specs.Prelude.{OnOk}
-use Rattle.cj_hermite.specs.Problems.{plain_problem}
+use Rattle.cj_case.specs.Problems.{plain_problem}
 use Rattle.cj_cert.specs.Certificates.{plain_cell_line}
 use Rattle.cj_status.specs.Steps.{Gives}
 use Rattle.cj_outputs.specs.Checks.{AcceptedReport}

@@ -1,6 +1,6 @@
 use Rattle.std.proofs.Common.{◌∙◌, ◌++◌, [], ◌∷◌, List, map, take, ap, sym, arith}
 use Rattle.std.proofs.lemmas.List.{map_more, map_push, take_all}
-use Rattle.cj_bezier.specs.Leaves.{PlainLeaf, plain_leaf, plain_leaves}
+use Rattle.cj_case.specs.Leaves.{PlainLeaf, plain_leaf, plain_leaves}
 use Rattle.cj_cert.specs.Certificates.{plain_cell_line}
 use Rattle.cj_outputs.proofs.vouching.leaves_of.Goals as goal
 

@@ -1,5 +1,5 @@
 use Rattle.std.proofs.Common.{◌≡◌, map, take}
-use Rattle.cj_bezier.specs.Leaves.{plain_leaves}
+use Rattle.cj_case.specs.Leaves.{plain_leaves}
 use Rattle.cj_cert.specs.Certificates.{plain_cell_line}
 use Rattle.cj_outputs.proofs.vouching.leaves_of.Given as goal
 

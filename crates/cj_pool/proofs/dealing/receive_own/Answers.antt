@@ -1,6 +1,6 @@
 use Rattle.std.proofs.Common.{List, subst, arith, ◌∙◌, sym, ◌<◌, length}
-use Rattle.cj_bezier.specs.declared.cell.Cell.{Cell}
-use Rattle.cj_hermite.specs.Problems.{plain_problem}
+use Rattle.cj_case.specs.declared.cell.Cell.{Cell}
+use Rattle.cj_case.specs.Problems.{plain_problem}
 use Rattle.cj_pool.specs.Tree.{InTree}
 use Rattle.cj_pool.proofs.DealLemmas.{root_tree, dealt_more, dealt_same, like_after}
 use Rattle.cj_pool.proofs.dealing.receive_own.Goals.{then-root-count+in_ok-receive, else-root-count}

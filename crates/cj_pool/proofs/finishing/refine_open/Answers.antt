@@ -1,5 +1,5 @@
 use Rattle.std.proofs.Common.{◌≡◌, ◌<◌, ℕ, Err, length, take, take_all, drop, vec_len, All, sym, ap, subst, arith}
-use Rattle.cj_hermite.specs.Problems.{plain_problem}
+use Rattle.cj_case.specs.Problems.{plain_problem}
 use Rattle.cj_pool.specs.RootLists.{IsKept}
 use Rattle.cj_pool.proofs.RefineLemmas.{refined_begins, refined_step, refined_many, refused_as}
 use Rattle.cj_pool.proofs.finishing.refine_open.Goals as goal

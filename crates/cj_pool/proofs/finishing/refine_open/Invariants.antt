@@ -1,4 +1,4 @@
-use Rattle.cj_hermite.specs.Problems.{plain_problem}
+use Rattle.cj_case.specs.Problems.{plain_problem}
 use Rattle.cj_pool.proofs.RefineLemmas.{AreRefined}
 use Rattle.cj_pool.proofs.finishing.refine_open.Given as goal
 

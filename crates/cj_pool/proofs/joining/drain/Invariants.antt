@@ -1,7 +1,7 @@
 use Rattle.std.proofs.Common.{◌≡◌, ◌+◌, ◌<◌, length, take}
 use Rattle.std.specs.Prelude.{All}
 use Rattle.crossbeam_deque.specs.Handles.{worker_flavor, worker_view}
-use Rattle.cj_hermite.specs.Problems.{plain_problem}
+use Rattle.cj_case.specs.Problems.{plain_problem}
 use Rattle.cj_pool.specs.Tree.{InTree}
 use Rattle.cj_pool.proofs.PartLemmas.{Drains}
 use Rattle.cj_pool.proofs.joining.drain.Given as goal

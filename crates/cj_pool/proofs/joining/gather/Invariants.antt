@@ -1,7 +1,7 @@
 use Rattle.std.proofs.Common.{◌≡◌, ◌+◌, ◌≤◌, ℕ, length, take, vec_len}
 use Rattle.std.specs.Prelude.{All}
-use Rattle.cj_bezier.specs.declared.cell.Cell.{Cell}
-use Rattle.cj_hermite.specs.Problems.{plain_problem}
+use Rattle.cj_case.specs.declared.cell.Cell.{Cell}
+use Rattle.cj_case.specs.Problems.{plain_problem}
 use Rattle.cj_pool.specs.Stations.{AreStations, weigh_all_taken, weigh_given}
 use Rattle.cj_pool.specs.Tree.{InTree}
 use Rattle.cj_pool.specs.Weights.{weigh}

@@ -3,12 +3,12 @@ use Rattle.std.specs.Prelude.{IfOk}
 use Rattle.std.specs.List.{range_with_len}
 use Rattle.std.proofs.lemmas.List.{length-map}
 use Rattle.std.proofs.lemmas.Result.{on_ok_weaker}
-use Rattle.cj_hermite.specs.PlainProblems.{PlainProblem}
-use Rattle.cj_hermite.specs.Problems.{plain_problem}
+use Rattle.cj_case.specs.PlainProblems.{PlainProblem}
+use Rattle.cj_case.specs.Problems.{plain_problem}
 use Rattle.cj_hermite.specs.Roots.{roots_of}
-use Rattle.cj_bezier.specs.declared.leaf.Leaf.{Leaf}
-use Rattle.cj_bezier.specs.Cells.{plain_cell, plain_cells}
-use Rattle.cj_bezier.specs.Leaves.{plain_leaf, plain_leaves}
+use Rattle.cj_case.specs.declared.leaf.Leaf.{Leaf}
+use Rattle.cj_case.specs.Cells.{plain_cell, plain_cells}
+use Rattle.cj_case.specs.Leaves.{plain_leaf, plain_leaves}
 use Rattle.cj_bezier.specs.Candidates.{is_candidate}
 use Rattle.cj_bezier.specs.RootLeaves.{leaves_of_roots}
 use Rattle.cj_cells.specs.declared.refine_error.RefineError.{RefineError}

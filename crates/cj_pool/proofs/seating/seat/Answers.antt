@@ -3,7 +3,7 @@ use Rattle.std.specs.Prelude.{All}
 use Rattle.std.specs.List.{range_with_len}
 use Rattle.std.proofs.lemmas.List.{length-map}
 use Rattle.std.proofs.lemmas.Result.{err_from_is_err_and}
-use Rattle.cj_hermite.specs.Problems.{plain_problem}
+use Rattle.cj_case.specs.Problems.{plain_problem}
 use Rattle.cj_pool.specs.Hands.{HandSeen, IsUnstarted, roots_dealt}
 use Rattle.cj_pool.specs.Refined.{numbers_of}
 use Rattle.cj_pool.specs.Stations.{own_deque, own_deques}

@@ -1,9 +1,9 @@
 use Rattle.std.proofs.Common.{List, subst, arith}
 use Rattle.std.specs.Prelude.{AllPairs}
 use Rattle.std.proofs.lemmas.List.{take_all}
-use Rattle.cj_hermite.specs.Roots.{IsRootUpTo}
-use Rattle.cj_bezier.specs.declared.leaf.Leaf.{Leaf}
-use Rattle.cj_bezier.specs.Cells.{plain_cells}
+use Rattle.cj_case.specs.Cells.{IsRootUpTo}
+use Rattle.cj_case.specs.declared.leaf.Leaf.{Leaf}
+use Rattle.cj_case.specs.Cells.{plain_cells}
 use Rattle.cj_pool.specs.Hands.{cells_of}
 use Rattle.cj_pool.proofs.sorting.merge_from.Goals as goal
 

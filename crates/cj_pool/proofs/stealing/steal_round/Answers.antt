@@ -1,7 +1,7 @@
 use Rattle.std.proofs.Common.{◌∙◌, refl, ap, List, arith}
 use Rattle.std.proofs.lemmas.List.{length-map}
 use Rattle.crossbeam_deque.specs.Handles.{view}
-use Rattle.cj_bezier.specs.declared.cell.Cell.{Cell}
+use Rattle.cj_case.specs.declared.cell.Cell.{Cell}
 use Rattle.cj_pool.specs.declared.account.Account.{Account}
 use Rattle.cj_pool.specs.Passes.{taken_at}
 use Rattle.cj_pool.proofs.stealing.steal_round.Goals as goal

@@ -1,7 +1,7 @@
 use Rattle.std.proofs.Common.{◌≡◌, ◌<◌, List, ◌∷◌, rules, vec_len, ap, ◌∙◌, sym, subst, arith, [], refl, append-nil}
 use Rattle.std.proofs.lemmas.List.{nil_from_length}
 use Rattle.std.proofs.lemmas.Result.{err_from_is_err_and}
-use Rattle.cj_hermite.specs.Problems.{plain_problem}
+use Rattle.cj_case.specs.Problems.{plain_problem}
 use Rattle.cj_pool.specs.Hands.{HandSeen}
 use Rattle.cj_pool.specs.Refined.{in_runs}
 use Rattle.cj_pool.proofs.TakeLemmas.{AreTaken, first_of, sum_ends, taken_begins, taken_step, taken_stations}

@@ -1,5 +1,5 @@
 use Rattle.std.proofs.Common.{vec_len}
-use Rattle.cj_hermite.specs.Problems.{plain_problem}
+use Rattle.cj_case.specs.Problems.{plain_problem}
 use Rattle.cj_pool.specs.Refined.{in_runs}
 use Rattle.cj_pool.proofs.TakeLemmas.{AreTaken}
 use Rattle.cj_pool.proofs.taking.take_apart.Given as goal

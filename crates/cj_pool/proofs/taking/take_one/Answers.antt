@@ -4,8 +4,8 @@ use Rattle.std.proofs.lemmas.Result.{on_ok_weaker}
 use Rattle.cj_pool.specs.Hands.{HandSeen, Accounts, settled_share}
 use Rattle.cj_pool.specs.Stations.{IsStationOf}
 use Rattle.cj_pool.proofs.TakeLemmas.{station_of}
-use Rattle.cj_bezier.specs.declared.cell.Cell.{Cell}
-use Rattle.cj_hermite.specs.Problems.{plain_problem}
+use Rattle.cj_case.specs.declared.cell.Cell.{Cell}
+use Rattle.cj_case.specs.Problems.{plain_problem}
 use Rattle.cj_ledger.specs.Shares.{ShareSeen, IsOf}
 use Rattle.cj_pool.specs.Refined.{in_runs}
 use Rattle.cj_pool.proofs.taking.take_one.Goals as goal

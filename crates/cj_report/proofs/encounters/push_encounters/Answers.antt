@@ -1,5 +1,5 @@
 use Rattle.std.proofs.Common.{arith, rules}
-use Rattle.cj_bezier.specs.Leaves.{plain_leaves}
+use Rattle.cj_case.specs.Leaves.{plain_leaves}
 use Rattle.cj_report.proofs.EncounterTextLemmas.{encounters_step}
 use Rattle.cj_report.proofs.encounters.push_encounters.Goals as goal
 

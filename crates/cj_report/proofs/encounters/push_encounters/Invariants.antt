@@ -1,5 +1,5 @@
 use Rattle.std.proofs.Common.{◌≡◌, ◌++◌, Bool, List, Option, map, take}
-use Rattle.cj_bezier.specs.Leaves.{PlainLeaf, plain_leaves}
+use Rattle.cj_case.specs.Leaves.{PlainLeaf, plain_leaves}
 use Rattle.cj_meet.specs.Closest.{PlainClosest, some_closest}
 use Rattle.cj_meet.specs.Encounters.{groups_in}
 use Rattle.cj_report.specs.Report.{encounter_lines, numbered}

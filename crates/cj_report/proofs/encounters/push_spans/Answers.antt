@@ -1,7 +1,7 @@
 use Rattle.std.proofs.Common.{arith, rules, ◌≡◌, ◌-◌, ◌++◌, length, take, drop, ap, sym, ◌∙◌}
 use Rattle.std.specs.Prelude.{flat_map}
 use Rattle.std.proofs.lemmas.Result.{IfOk-weaker, err_from_is_err_and}
-use Rattle.cj_bezier.specs.Leaves.{plain_leaves}
+use Rattle.cj_case.specs.Leaves.{plain_leaves}
 use Rattle.cj_meet.specs.Spans.{spans_of}
 use Rattle.cj_report.specs.Report.{span_line}
 use Rattle.cj_report.specs.SpanLines.{leaf_of_line}

@@ -1,6 +1,6 @@
 use Rattle.std.proofs.Common.{◌≡◌, ◌++◌}
 use Rattle.std.specs.Prelude.{flat_map}
-use Rattle.cj_bezier.specs.Leaves.{plain_leaves}
+use Rattle.cj_case.specs.Leaves.{plain_leaves}
 use Rattle.cj_meet.specs.Spans.{spans_of}
 use Rattle.cj_report.specs.Report.{span_line}
 use Rattle.cj_report.specs.SpanLines.{leaf_of_line}

@@ -1,6 +1,6 @@
 use Rattle.std.proofs.Common.{◌≡◌, Bool, Result, Ok, Err, subst, ◌∙◌, arith}
 use Rattle.std.specs.Prelude.{IfOk}
-use Rattle.cj_hermite.specs.Problems.{plain_problem}
+use Rattle.cj_case.specs.Problems.{plain_problem}
 use Rattle.cj_words.specs.Commands.{plain_screening}
 use Rattle.cj_words.specs.Settings.{plain_settings}
 use Rattle.cj_outputs.specs.declared.findings.Findings.{Findings}

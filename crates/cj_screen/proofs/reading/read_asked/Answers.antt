@@ -1,7 +1,7 @@
 use Rattle.std.proofs.Common.{refl}
 use Rattle.std.proofs.lemmas.Result.{err_from_is_err_and}
 use Rattle.cj_words.specs.Commands.{plain_screening}
-use Rattle.cj_hermite.specs.Problems.{plain_problem}
+use Rattle.cj_case.specs.Problems.{plain_problem}
 use Rattle.cj_io.specs.Faults.{Rose}
 use Rattle.cj_outputs.proofs.AcceptingLemmas.{same_error}
 use Rattle.cj_screen.proofs.ResultLemmas.{count_stays, no_error}

@@ -1,8 +1,8 @@
 use Rattle.std.proofs.Common.{◌≤◌, ◌∙◌, Ok, Err, length, ap, sym, arith}
 use Rattle.std.proofs.lemmas.List.{length-map}
-use Rattle.cj_hermite.specs.Problems.{plain_problem}
-use Rattle.cj_bezier.specs.Cells.{plain_cell}
-use Rattle.cj_bezier.specs.Leaves.{plain_leaf}
+use Rattle.cj_case.specs.Problems.{plain_problem}
+use Rattle.cj_case.specs.Cells.{plain_cell}
+use Rattle.cj_case.specs.Leaves.{plain_leaf}
 use Rattle.cj_cells.specs.Lists.{list_candidates}
 use Rattle.cj_cells.proofs.LeafLemmas.{list_split}
 use Rattle.cj_screen.proofs.ReportLemmas.{between_refined, few_leaves, stops_refined}

@@ -2,9 +2,9 @@ use Rattle.std.proofs.Common.{◌≡◌, ◌∙◌, List, Result, length, refl, 
 use Rattle.std.specs.Prelude.{IfErr}
 use Rattle.cj_io.specs.Faults.{Rose}
 use Rattle.cj_io.specs.declared.file.FileBytes.{FileBytes}
-use Rattle.cj_catalogue.proofs.TrackLemmas.{file_count}
-use Rattle.cj_hermite.specs.PlainProblems.{PlainProblem}
-use Rattle.cj_hermite.specs.Problems.{plain_problem}
+use Rattle.cj_gen.proofs.TrackLemmas.{file_count}
+use Rattle.cj_case.specs.PlainProblems.{PlainProblem}
+use Rattle.cj_case.specs.Problems.{plain_problem}
 use Rattle.cj_words.specs.Commands.{plain_selfrun}
 use Rattle.cj_words.specs.Settings.{plain_settings}
 use Rattle.cj_status.specs.declared.status.Status.{Status}

@@ -1,8 +1,8 @@
 use Rattle.std.proofs.Common.{◌∙◌, List, Result, Ok, Err, [], false, sym, subst}
 use Rattle.std.proofs.lemmas.Result.{err_from_is_err_and}
 use Rattle.cj_io.specs.declared.file.FileBytes.{FileBytes}
-use Rattle.cj_causes.specs.declared.cert_version.CertVersion.TheVariants.{One}
-use Rattle.cj_hermite.specs.Problems.{plain_problem}
+use Rattle.cj_formats.specs.declared.cert_version.CertVersion.TheVariants.{One}
+use Rattle.cj_case.specs.Problems.{plain_problem}
 use Rattle.cj_words.specs.Commands.{plain_selfrun}
 use Rattle.cj_status.specs.declared.status.Status.{Status}
 use Rattle.cj_status.specs.Steps.{Stops}

@@ -2,9 +2,9 @@ use Rattle.std.proofs.Common.{◌≡◌, ℕ, ◌+◌, ◌-◌, ◌<◌, ◌++�
 use Rattle.std.specs.List.{range_with_len}
 use Rattle.std.proofs.lemmas.Result.{IfOk-from_err}
 use Rattle.std.proofs.lemmas.List.{map_push}
-use Rattle.cj_hermite.specs.declared.pair.Pair.{Pair}
-use Rattle.cj_hermite.specs.Pairs.{objects_of}
-use Rattle.cj_hermite.proofs.PairLemmas.{pair_taken, pair_left, row_to}
+use Rattle.cj_case.specs.declared.pair.Pair.{Pair}
+use Rattle.cj_case.specs.Pairs.{objects_of}
+use Rattle.cj_case.proofs.PairLemmas.{pair_taken, pair_left, row_to}
 use Rattle.cj_sieve.specs.Among.{keeps_among}
 use Rattle.cj_sieve.proofs.pair_filter.append_row.Goals as goal
 use Rattle.cj_sieve.proofs.pair_filter.append_row.Goals.{then-keeps+in_ok-push, else-keeps}

@@ -1,6 +1,6 @@
 use Rattle.std.proofs.Common.{◌≡◌, ◌++◌, map, filter}
-use Rattle.cj_hermite.specs.Pairs.{objects_of}
-use Rattle.cj_hermite.proofs.PairLemmas.{row_to}
+use Rattle.cj_case.specs.Pairs.{objects_of}
+use Rattle.cj_case.proofs.PairLemmas.{row_to}
 use Rattle.cj_sieve.specs.Among.{keeps_among}
 use Rattle.cj_sieve.proofs.pair_filter.append_row.Given as goal
 

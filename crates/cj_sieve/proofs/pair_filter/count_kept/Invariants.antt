@@ -1,6 +1,6 @@
 use Rattle.std.proofs.Common.{◌≡◌, ◌*◌, ◌≤◌, filter, length}
 use Rattle.std.specs.List.{flat_map, range_with_len}
-use Rattle.cj_hermite.proofs.PairLemmas.{pairs_from}
+use Rattle.cj_case.proofs.PairLemmas.{pairs_from}
 use Rattle.cj_sieve.specs.Among.{keeps_among}
 use Rattle.cj_sieve.proofs.pair_filter.count_kept.Given as goal
 

@@ -1,5 +1,5 @@
 use Rattle.std.proofs.Common.{◌≡◌, ◌<◌, ◌≤◌, ◌+◌, filter, length, sym, ◌∙◌, arith}
-use Rattle.cj_hermite.proofs.PairLemmas.{row_to}
+use Rattle.cj_case.proofs.PairLemmas.{row_to}
 use Rattle.cj_sieve.specs.Among.{keeps_among}
 use Rattle.cj_sieve.proofs.KeptLemmas.{counted_more, counted_same}
 use Rattle.cj_sieve.proofs.pair_filter.count_row.Goals as goal

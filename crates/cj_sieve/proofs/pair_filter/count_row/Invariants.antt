@@ -1,5 +1,5 @@
 use Rattle.std.proofs.Common.{◌≡◌, ◌≤◌, filter, length}
-use Rattle.cj_hermite.proofs.PairLemmas.{row_to}
+use Rattle.cj_case.proofs.PairLemmas.{row_to}
 use Rattle.cj_sieve.specs.Among.{keeps_among}
 use Rattle.cj_sieve.proofs.pair_filter.count_row.Given as goal
 

@@ -1,8 +1,8 @@
 use Rattle.std.proofs.Common.{◌≡◌, ℕ, map, filter, length, ap, ◌∙◌, arith}
 use Rattle.std.specs.List.{flat_map, range_with_len}
 use Rattle.std.proofs.lemmas.Result.{IfOk-from_err}
-use Rattle.cj_hermite.specs.Pairs.{objects_of}
-use Rattle.cj_hermite.proofs.PairLemmas.{pairs_from, row_taken}
+use Rattle.cj_case.specs.Pairs.{objects_of}
+use Rattle.cj_case.proofs.PairLemmas.{pairs_from, row_taken}
 use Rattle.cj_sieve.specs.Among.{keeps_among}
 use Rattle.cj_sieve.proofs.pair_filter.list_kept.Goals as goal
 

@@ -1,5 +1,5 @@
 use Rattle.std.proofs.Common.{◌-◌, ◌^◌, refl, sym, ap, ◌∙◌, Err}
-use Rattle.cj_values.specs.Bounds.{MOST_MADE_OBJECTS}
+use Rattle.cj_base.specs.Bounds.{MOST_MADE_OBJECTS}
 use Rattle.cj_words.specs.Commands.{recipe_of}
 use Rattle.cj_words.specs.Settings.{number_or}
 use Rattle.cj_words.proofs.commands.recipe_of.Goals as goal

@@ -1,6 +1,6 @@
 use Rattle.std.proofs.Common.{refl, sym, ap, ◌∙◌}
 use Rattle.std.specs.Prelude.{codes}
-use Rattle.cj_causes.specs.declared.cert_version.CertVersion.TheVariants.{One}
+use Rattle.cj_formats.specs.declared.cert_version.CertVersion.TheVariants.{One}
 use Rattle.cj_words.specs.Commands.{screening_of}
 use Rattle.cj_words.specs.Settings.{number_or, originator_or, version_or}
 use Rattle.cj_words.proofs.commands.screening_of.Goals as goal

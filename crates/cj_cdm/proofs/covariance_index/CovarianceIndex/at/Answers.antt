@@ -1,6 +1,6 @@
 use Rattle.std.proofs.Common.{ap, ◌∙◌}
-use Rattle.cj_hermite.specs.declared.problem.Problem.{Problem}
-use Rattle.cj_hermite.specs.Problems.{plain_problem}
+use Rattle.cj_case.specs.declared.problem.Problem.{Problem}
+use Rattle.cj_case.specs.Problems.{plain_problem}
 use Rattle.cj_cdm.specs.Building.{object_covariance}
 use Rattle.cj_cdm.proofs.SideLemmas.{covariance_there}
 use Rattle.cj_cdm.proofs.covariance_index.CovarianceIndex.at.Goals as goal

@@ -1,5 +1,5 @@
 use Rattle.std.proofs.Common.{ap, arith, is_some, ◌++◌, ◌≡◌, ◌∙◌, List, subst, sym, ℕ}
-use Rattle.cj_hermite.specs.Problems.{plain_problem}
+use Rattle.cj_case.specs.Problems.{plain_problem}
 use Rattle.cj_cdm.specs.Fields.{message_of_fields, stamp_of}
 use Rattle.cj_cdm.proofs.MessageLemmas.{message_some}
 use Rattle.cj_cdm.specs.Fits.{Fits, HasNames}

@@ -1,8 +1,8 @@
 use Rattle.std.proofs.Common.{◌≡◌, ◌<◌, List, ℕ, ◌++◌, map, length, ap, subst, sym, ◌∙◌, arith}
 use Rattle.std.proofs.Math.ListN.{get_or-map}
 use Rattle.std.proofs.lemmas.List.{length-map}
-use Rattle.cj_values.specs.Decimals.{IsReadable, number_of}
-use Rattle.cj_values.specs.declared.decimals.Decimal.{Decimal}
+use Rattle.cj_base.specs.Decimals.{IsReadable, number_of}
+use Rattle.cj_base.specs.declared.decimals.Decimal.{Decimal}
 use Rattle.cj_cdm.specs.Building.{in_square_metres}
 use Rattle.cj_cdm.specs.Elements.{element_of}
 use Rattle.cj_cdm.proofs.ElementLemmas.{written_all, written_more}

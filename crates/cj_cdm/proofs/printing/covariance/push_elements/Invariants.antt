@@ -1,5 +1,5 @@
 use Rattle.std.proofs.Common.{◌≡◌, ◌++◌, map}
-use Rattle.cj_values.specs.Decimals.{number_of}
+use Rattle.cj_base.specs.Decimals.{number_of}
 use Rattle.cj_cdm.specs.Building.{in_square_metres}
 use Rattle.cj_cdm.proofs.ElementLemmas.{written}
 use Rattle.cj_cdm.proofs.printing.covariance.push_elements.Given as goal

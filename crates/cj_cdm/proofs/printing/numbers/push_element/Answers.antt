@@ -2,7 +2,7 @@ use Rattle.std.proofs.Common.{List, ◌++◌, ap, ◌∙◌, arith, ℕ}
 use Rattle.std.proofs.lemmas.Int.{ints}
 use Rattle.cj_kvn.proofs.ReadableLemmas.{exponent_bounds}
 use Rattle.cj_kvn.specs.Decimals.{decimal_text_of}
-use Rattle.cj_values.specs.Decimals.{number_of}
+use Rattle.cj_base.specs.Decimals.{number_of}
 use Rattle.cj_cdm.specs.Building.{in_square_metres}
 use Rattle.cj_cdm.proofs.NumberLemmas.{shifted_within}
 use Rattle.cj_cdm.proofs.TextLemmas.{quantity_ok}

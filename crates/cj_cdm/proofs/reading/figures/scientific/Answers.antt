@@ -1,7 +1,7 @@
 use Rattle.std.proofs.Common.{◌≡◌, ◌∙◌, ap, arith, of_z, sym, to_z}
 use Rattle.std.proofs.lemmas.Int.{ints}
 use mir.Syntax.{w32}
-use Rattle.cj_values.specs.Decimals.{number_of, shifted}
+use Rattle.cj_base.specs.Decimals.{number_of, shifted}
 use Rattle.cj_kvn.specs.Decimals.{number_read}
 use Rattle.cj_cdm.proofs.FigureLemmas.{scientific_told, scientific_unread, scientific_unraised}
 use Rattle.cj_cdm.proofs.ValueLemmas.{result_is}

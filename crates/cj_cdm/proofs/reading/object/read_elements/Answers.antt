@@ -1,8 +1,8 @@
 use Rattle.std.proofs.Common.{arith, ◌+◌, ◌<◌, ◌∙◌, List, ap, drop, map, refl, sym, take}
 use Rattle.std.proofs.lemmas.List.{length-set, take_all}
 use Rattle.std.proofs.lemmas.Result.{err_from_is_err_and}
-use Rattle.cj_values.specs.Decimals.{number_of}
-use Rattle.cj_values.specs.Numbers.{Number}
+use Rattle.cj_base.specs.Decimals.{number_of}
+use Rattle.cj_base.specs.Numbers.{Number}
 use Rattle.cj_cdm.specs.Elements.{element_of}
 use Rattle.cj_cdm.specs.Read.{plain_rest}
 use Rattle.cj_cdm.specs.Reading.{elements_said}

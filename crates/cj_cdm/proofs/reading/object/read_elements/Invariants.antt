@@ -1,5 +1,5 @@
 use Rattle.std.proofs.Common.{◌≡◌, drop, length, map, take}
-use Rattle.cj_values.specs.Decimals.{number_of}
+use Rattle.cj_base.specs.Decimals.{number_of}
 use Rattle.cj_cdm.specs.Read.{plain_rest}
 use Rattle.cj_cdm.specs.Reading.{elements_said}
 use Rattle.cj_cdm.specs.Texts.{elements}

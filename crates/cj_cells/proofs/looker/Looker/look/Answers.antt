@@ -1,11 +1,11 @@
 use Rattle.std.proofs.Common.{Option, refl, ap, ◌∙◌, sym, subst}
 use Rattle.std.specs.Prelude.{IfSome}
-use Rattle.cj_hermite.specs.declared.problem.Problem.{Problem}
-use Rattle.cj_hermite.specs.Problems.{plain_problem}
+use Rattle.cj_case.specs.declared.problem.Problem.{Problem}
+use Rattle.cj_case.specs.Problems.{plain_problem}
 use Rattle.cj_hermite.specs.Roots.{KeepPieces}
 use Rattle.cj_hermite.specs.Ready.{curve_ready}
 use Rattle.cj_hermite.proofs.TrackLemmas.{object_exists, second_state}
-use Rattle.cj_bezier.specs.Cells.{plain_cell}
+use Rattle.cj_case.specs.Cells.{plain_cell}
 use Rattle.cj_bezier.specs.RootLeaves.{kind_of_cell}
 use Rattle.cj_bezier.proofs.LeafLemmas.{kind_of}
 use Rattle.cj_cells.specs.declared.ready_pair.ReadyPair.{ReadyPair}

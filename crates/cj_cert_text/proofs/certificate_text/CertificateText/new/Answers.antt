@@ -2,13 +2,13 @@ use Rattle.std.proofs.Common.{ℕ, ◌*◌, List, length, sym, ap, ◌∙◌, ar
 use Rattle.std.specs.Prelude.{Option, flat_map}
 use Rattle.std.specs.List.{range_with_len}
 use Rattle.std.proofs.lemmas.List.{length-map}
-use Rattle.cj_causes.specs.declared.cert_version.CertVersion.TheVariants.{One}
+use Rattle.cj_formats.specs.declared.cert_version.CertVersion.TheVariants.{One}
 use Rattle.cj_track.specs.Tracks.{plain_track}
-use Rattle.cj_hermite.specs.Problems.{plain_problem}
-use Rattle.cj_hermite.specs.Slots.{slot_count}
+use Rattle.cj_case.specs.Problems.{plain_problem}
+use Rattle.cj_case.specs.Slots.{slot_count}
 use Rattle.cj_hermite.proofs.TrackLemmas.{objects_are}
-use Rattle.cj_bezier.specs.declared.shells.Shell.{Shell}
-use Rattle.cj_bezier.specs.SlotBoxes.{plain_boxes}
+use Rattle.cj_case.specs.declared.shells.Shell.{Shell}
+use Rattle.cj_case.specs.Boxes.{plain_boxes}
 use Rattle.cj_bezier.proofs.AllBoxLemmas.{boxes_count}
 use Rattle.cj_cert_text.specs.Texts.{box_text}
 use Rattle.cj_cert.specs.Written.{lines_by_boxes}

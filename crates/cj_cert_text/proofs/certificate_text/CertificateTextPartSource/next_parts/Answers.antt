@@ -3,10 +3,10 @@ use Rattle.std.specs.Prelude.{◌==◌, flat_map}
 use Rattle.std.specs.Global.{Vec}
 use Rattle.std.proofs.lemmas.Bool.{eqb-true}
 use Rattle.std.proofs.lemmas.List.{nil_from_length}
-use Rattle.cj_causes.specs.declared.cert_version.CertVersion.TheVariants.{One}
+use Rattle.cj_formats.specs.declared.cert_version.CertVersion.TheVariants.{One}
 use Rattle.cj_io.specs.Parts.{joined}
-use Rattle.cj_bezier.specs.Leaves.{plain_leaf}
-use Rattle.cj_bezier.specs.declared.leaf.Leaf.{Leaf}
+use Rattle.cj_case.specs.Leaves.{plain_leaf}
+use Rattle.cj_case.specs.declared.leaf.Leaf.{Leaf}
 use Rattle.cj_cert.specs.declared.cert_lines.ShellLine.{ShellLine}
 use Rattle.cj_cert_text.specs.declared.certificate_text.CertificateText.{CertificateText}
 use Rattle.cj_cert_text.specs.declared.object_boxes.ObjectBoxes.{ObjectBoxes}

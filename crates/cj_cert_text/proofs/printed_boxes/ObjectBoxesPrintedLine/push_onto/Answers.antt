@@ -1,6 +1,6 @@
 use Rattle.std.proofs.Common.{◌≡◌, ◌∙◌, ◌++◌, ℕ, ap, append-nil, sym, ◌+◌, ◌*◌, ◌<◌, Some, None, length, arith}
 use Rattle.std.specs.Prelude.{flat_map}
-use Rattle.cj_bezier.specs.SlotBoxes.{plain_box, plain_boxes}
+use Rattle.cj_case.specs.Boxes.{plain_box, plain_boxes}
 use Rattle.cj_cert.specs.Written.{lines_by_boxes}
 use Rattle.cj_cert_text.specs.Texts.{box_text}
 use Rattle.cj_cert.proofs.WrittenLineLemmas.{box_at}

@@ -1,6 +1,6 @@
 use Rattle.std.proofs.Common.{◌≡◌, ◌++◌}
 use Rattle.std.specs.Prelude.{flat_map}
-use Rattle.cj_bezier.specs.SlotBoxes.{plain_boxes}
+use Rattle.cj_case.specs.Boxes.{plain_boxes}
 use Rattle.cj_cert_text.specs.Texts.{box_text}
 use Rattle.cj_cert.specs.Written.{lines_by_boxes}
 use Rattle.cj_cert_text.proofs.printed_boxes.ObjectBoxesPrintedLine.push_onto.Given as goal

@@ -1,6 +1,6 @@
 use Rattle.std.proofs.Common.{List, map, sym, subst, arith}
-use Rattle.cj_hermite.specs.Problems.{plain_problem}
-use Rattle.cj_bezier.specs.SlotBoxes.{plain_boxes}
+use Rattle.cj_case.specs.Problems.{plain_problem}
+use Rattle.cj_case.specs.Boxes.{plain_boxes}
 use Rattle.cj_cert.specs.declared.cert_lines.ShellLine.{ShellLine}
 use Rattle.cj_checker.specs.declared.reach.Reach.{Reach}
 use Rattle.cj_checker.specs.Sweeps.{AreCandidates, Meet}

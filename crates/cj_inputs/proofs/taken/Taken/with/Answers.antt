@@ -1,8 +1,8 @@
 use Rattle.std.proofs.Common.{◌≡◌, ◌∙◌, List, map, true, sym, ap, subst, arith}
 use Rattle.cj_track.specs.Tracks.{plain_track}
 use Rattle.cj_track.specs.declared.track.Track.{Track}
-use Rattle.cj_hermite.specs.CaseLimits.{node_total}
-use Rattle.cj_hermite.specs.Frames.{HaveOneFrame}
+use Rattle.cj_case.specs.CaseLimits.{node_total}
+use Rattle.cj_case.specs.Frames.{HaveOneFrame}
 use Rattle.cj_inputs.specs.Readings.{has_frame_of}
 use Rattle.cj_inputs.proofs.ReadingLemmas.{nodes_behind, one_frame_more}
 use Rattle.cj_inputs.proofs.taken.Taken.with.Goals as goal

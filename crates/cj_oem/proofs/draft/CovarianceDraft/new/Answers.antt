@@ -1,6 +1,6 @@
 use Rattle.std.proofs.lemmas.List.Elements.{All-replicate}
-use Rattle.cj_values.specs.Decimals.{IsReadable, number_of}
-use Rattle.cj_values.specs.declared.decimals.Decimal.{Decimal}
+use Rattle.cj_base.specs.Decimals.{IsReadable, number_of}
+use Rattle.cj_base.specs.declared.decimals.Decimal.{Decimal}
 use Rattle.cj_kvn.proofs.DecimalLemmas.{zero_readable}
 use Rattle.cj_oem.proofs.draft.CovarianceDraft.new.Goals as goal
 

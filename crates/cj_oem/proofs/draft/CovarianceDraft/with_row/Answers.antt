@@ -1,8 +1,8 @@
 use Rattle.std.proofs.Common.{◌≡◌, ◌+◌, ◌≤◌, List, length, map, true, false, Ok, arith, rules, ap, refl, sym, ◌∙◌}
 use Rattle.std.specs.Prelude.{◌==◌, ◌||◌, not}
 use Rattle.std.proofs.lemmas.Bool.Decides.{nat_tests}
-use Rattle.cj_values.specs.Numbers.{Number}
-use Rattle.cj_values.specs.Decimals.{number_of}
+use Rattle.cj_base.specs.Numbers.{Number}
+use Rattle.cj_base.specs.Decimals.{number_of}
 use Rattle.cj_kvn.specs.Fields.{fields}
 use Rattle.cj_kvn.specs.Ranges.{text_at}
 use Rattle.cj_oem.specs.Drafts.{draft_of}

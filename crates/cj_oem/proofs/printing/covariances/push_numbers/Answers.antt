@@ -1,7 +1,7 @@
 use Rattle.std.proofs.Common.{◌++◌, ap, ◌∙◌, subst, sym, arith, rules}
 use Rattle.std.proofs.lemmas.Result.{IfOk-from_err, on_ok_weaker}
 use Rattle.std.proofs.lemmas.List.Elements.{All-drop, All-take}
-use Rattle.cj_values.specs.Decimals.{IsReadable, number_of}
+use Rattle.cj_base.specs.Decimals.{IsReadable, number_of}
 use Rattle.cj_oem.proofs.CovarianceTextLemmas.{numbers_cut}
 use Rattle.cj_oem.proofs.TextLemmas.{joined_ok}
 use Rattle.cj_oem.proofs.printing.covariances.push_numbers.Goals as goal

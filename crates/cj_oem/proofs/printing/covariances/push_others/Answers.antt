@@ -1,7 +1,7 @@
 use Rattle.std.proofs.Common.{◌∷◌, ◌++◌, ◌∙◌, ap, map, subst, sym, take_all, arith, rules}
 use Rattle.std.specs.Prelude.{flat_map}
 use Rattle.std.proofs.lemmas.Result.{IfOk-from_err}
-use Rattle.cj_values.specs.Decimals.{IsReadable, number_of}
+use Rattle.cj_base.specs.Decimals.{IsReadable, number_of}
 use Rattle.cj_kvn.specs.Decimals.{decimal_text_of}
 use Rattle.cj_oem.proofs.TextLemmas.{joined, part_more}
 use Rattle.cj_oem.proofs.printing.covariances.push_others.Goals as goal

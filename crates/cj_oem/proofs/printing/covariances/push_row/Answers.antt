@@ -1,5 +1,5 @@
 use Rattle.std.proofs.lemmas.List.Elements.{All-drop, All-take}
-use Rattle.cj_values.specs.Decimals.{IsReadable, number_of}
+use Rattle.cj_base.specs.Decimals.{IsReadable, number_of}
 use Rattle.cj_oem.proofs.CovarianceTextLemmas.{row_more}
 use Rattle.cj_oem.proofs.TextLemmas.{joined}
 use Rattle.cj_oem.proofs.printing.covariances.push_row.Goals as goal

@@ -1,5 +1,5 @@
 use Rattle.std.proofs.Common.{subst, rules}
-use Rattle.cj_hermite.specs.Problems.{plain_problem}
+use Rattle.cj_case.specs.Problems.{plain_problem}
 use Rattle.cj_pool.specs.Hands.{HandSeen, Accounts}
 use Rattle.cj_pool.specs.Weights.{has}
 use Rattle.cj_pool.proofs.NarrowLemmas.{narrow_length}

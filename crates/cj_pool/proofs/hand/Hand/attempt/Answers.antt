@@ -2,8 +2,8 @@ use Rattle.std.proofs.Common.{◌≡◌, ℕ, ◌+◌, ◌<◌, List, [], ◌∷
 use Rattle.std.specs.Prelude.{All}
 use Rattle.std.proofs.lemmas.List.{length-map}
 use Rattle.crossbeam_deque.specs.Handles.{worker_view}
-use Rattle.cj_hermite.specs.Problems.{plain_problem}
-use Rattle.cj_bezier.specs.declared.cell.Cell.{Cell}
+use Rattle.cj_case.specs.Problems.{plain_problem}
+use Rattle.cj_case.specs.declared.cell.Cell.{Cell}
 use Rattle.cj_ledger.specs.declared.count.Count.{Count}
 use Rattle.cj_ledger.specs.Shares.{LedgerSeen, IsOf}
 use Rattle.cj_pool.specs.declared.account.Account.{Account}

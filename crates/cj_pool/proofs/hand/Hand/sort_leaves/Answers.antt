@@ -1,5 +1,5 @@
 use Rattle.std.proofs.Common.{refl}
-use Rattle.cj_hermite.specs.Problems.{plain_problem}
+use Rattle.cj_case.specs.Problems.{plain_problem}
 use Rattle.cj_pool.proofs.AccountLemmas.{sorted_accounts}
 use Rattle.cj_pool.proofs.hand.Hand.sort_leaves.Goals as goal
 

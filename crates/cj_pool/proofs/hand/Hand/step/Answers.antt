@@ -1,5 +1,5 @@
 use Rattle.std.proofs.Common.{inl, ◌≡◌, inr, refl, sym, ap, ◌∙◌, arith}
-use Rattle.cj_hermite.specs.Problems.{plain_problem}
+use Rattle.cj_case.specs.Problems.{plain_problem}
 use Rattle.cj_pool.proofs.TurnLemmas.{last_ended, last_or_not, told_to_stop, still_after}
 use Rattle.cj_pool.specs.declared.turn.Turn.TheVariants.{Halted}
 use Rattle.cj_ledger.specs.declared.count.Count.{Count}

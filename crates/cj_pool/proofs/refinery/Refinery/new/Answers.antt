@@ -1,8 +1,8 @@
 use Rattle.std.proofs.Common.{◌≡◌, length, sym, ap, ◌∙◌, subst, arith}
 use Rattle.std.proofs.lemmas.List.{length-map}
 use Rattle.std.proofs.lemmas.Result.{err_from_is_err_and}
-use Rattle.cj_hermite.specs.Problems.{plain_problem}
-use Rattle.cj_hermite.specs.declared.problem.Problem.{Problem}
+use Rattle.cj_case.specs.Problems.{plain_problem}
+use Rattle.cj_case.specs.declared.problem.Problem.{Problem}
 use Rattle.cj_ledger.specs.Shares.{ShareSeen, IsOf, IsNew}
 use Rattle.cj_pool.specs.Hands.{HandSeen}
 use Rattle.cj_pool.specs.RootLists.{AreRoots}
@@ -10,7 +10,7 @@ use Rattle.cj_pool.specs.Stations.{own_deque, own_deques}
 use Rattle.cj_pool.proofs.SeatLemmas.{all_of_map, share_sum}
 use Rattle.std.proofs.Common.{List, get_or, refl}
 use Rattle.std.specs.List.{range_with_len}
-use Rattle.cj_bezier.specs.declared.cell.Cell.{Cell}
+use Rattle.cj_case.specs.declared.cell.Cell.{Cell}
 use Rattle.cj_ledger.specs.Counts.{fresh}
 use Rattle.cj_pool.specs.Stations.{AreDealt}
 use Rattle.cj_pool.proofs.refinery.Refinery.new.Goals as goal

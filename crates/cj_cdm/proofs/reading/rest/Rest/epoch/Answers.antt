@@ -1,7 +1,7 @@
 use Rattle.std.proofs.Common.{◌++◌}
 use Rattle.std.specs.Prelude.{codes}
 use Rattle.std.proofs.lemmas.Result.{err_from_is_err_and}
-use Rattle.cj_ticks.specs.declared.tick.Tick.{Tick}
+use Rattle.cj_base.specs.declared.tick.Tick.{Tick}
 use Rattle.cj_cdm.specs.Read.{plain_rest}
 use Rattle.cj_cdm.specs.Values.{epoch_said}
 use Rattle.cj_cdm.proofs.ReaderLemmas.{line_failed, line_told}

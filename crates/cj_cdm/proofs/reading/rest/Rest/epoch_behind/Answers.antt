@@ -1,5 +1,5 @@
 use Rattle.std.proofs.lemmas.Result.{err_from_is_err_and}
-use Rattle.cj_ticks.specs.declared.tick.Tick.{Tick}
+use Rattle.cj_base.specs.declared.tick.Tick.{Tick}
 use Rattle.cj_cdm.specs.Read.{plain_rest}
 use Rattle.cj_cdm.specs.Values.{epoch_said}
 use Rattle.cj_cdm.proofs.ReaderLemmas.{line_failed, line_told}

@@ -1,0 +1,11 @@
+pub mod Boxes
+pub mod CaseLimits
+pub mod Cells
+pub mod Frames
+pub mod Leaves
+pub mod Order
+pub mod PairOrder
+pub mod Pairs
+pub mod PlainProblems
+pub mod Problems
+pub mod Slots

@@ -1,5 +1,0 @@
-use Rattle.std.proofs.Common.{arith}
-use Rattle.cj_hermite.proofs.slots.slot_window.Goals as goal
-
-pub returns-clause-last : goal.returns-clause-last
-returns-clause-last c = omega (arith, c.min-last.ensures, c.from.ensures)

@@ -1,5 +1,0 @@
-use Rattle.std.proofs.Common.{refl}
-use Rattle.cj_hermite.proofs.thresholds.threshold_between.Goals as goal
-
-pub returns-clause-value : goal.returns-clause-value
-returns-clause-value c = refl

@@ -1,5 +1,0 @@
-use Rattle.cj_merge.proofs.RunLemmas.{whole}
-use Rattle.cj_merge.proofs.ranges.halves.Goals as goal
-
-pub returns : goal.returns
-returns g c = whole c.partition_point-at.result c.args.run.now c.split_at.result.0.now c.split_at.result.1.now c.split_at.ensures.front c.split_at.ensures.back

@@ -1,0 +1,18 @@
+//! A list that several threads go over together, and lists merged by them into one in order of pair and first tick. Each thread asks a
+//! counter for the number of its next part, and nothing is proved of that counter: an output is put at the place of its part.
+#![tactic(auto)]
+
+mod jobs;
+mod joining;
+mod merging;
+mod placed;
+mod ranges;
+mod running;
+mod sorting;
+mod taking;
+
+pub use jobs::Jobs;
+pub use joining::ready_list;
+pub use merging::merge_runs;
+pub use placed::Placed;
+pub use running::run_jobs;

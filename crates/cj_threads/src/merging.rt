@@ -1,0 +1,135 @@
+//! Runs merged into one list: ranges of them are merged by threads, and what comes of them is put behind one another.
+ghost use Rattle.std.specs.Prelude.{◌≡◌, ◌++◌, [], map, flat_map, IfOk};
+ghost use Rattle.std.specs.List.Sorted.{IsPermutation};
+ghost use Rattle.std.specs.Thread.{IsSync};
+ghost use Rattle.cj_case.specs.PairOrder.{AreInOrderBy};
+ghost use Rattle.cj_threads.specs.Runs.{elements_of, AreMerged};
+
+use crate::joining::{put_together, ready_list};
+use crate::placed::Placed;
+use crate::ranges::{count_of, cut_into_ranges};
+use crate::sorting::put_in_order;
+use crate::jobs::Jobs;
+use crate::running::run_jobs;
+use std::alloc::{AllocError, Global};
+use std::thread::{Threads, join};
+
+/// From so many elements on a merge is worth a second thread.
+const MANY: usize = 16_384;
+
+/// So many ranges for each worker.
+const RANGES_A_WORKER: usize = 4;
+
+/// The elements of some runs, by one thread: they are sorted, and so come out in order whatever came.
+fn merge_in_turn<T: Placed + Copy>(alloc: Global, runs: &[&[T]]) -> Result<Vec<T>, AllocError>
+    ensures elements { IfOk result (λ all. IsPermutation (elements_of runs.now) all.items) }
+    ensures ordered { IfOk result (λ all. AreInOrderBy T.place_of all.items) }
+{
+    let mut all = Vec::with_capacity(alloc, count_of(runs))?;
+    for run in runs {
+        all.extend_from_slice(run)?;
+    }
+    put_in_order(&mut all)?;
+    Ok(all)
+}
+
+/// Ranges merged each into a list of its own.
+fn merge_each<T: Placed + Copy>(
+    alloc: Global,
+    ranges: &[Vec<&[T]>],
+) -> Result<Vec<Vec<T>>, AllocError>
+    ensures { IfOk result (λ lists. AreMerged T.place_of ranges.now lists.items) }
+{
+    let mut lists = Vec::with_capacity(alloc, ranges.len())?;
+    for range in ranges {
+        lists.push(merge_in_turn(alloc, range)?)?;
+    }
+    Ok(lists)
+}
+
+/// One list behind another.
+fn joined<T: Drop>(mut front: Vec<T>, mut back: Vec<T>) -> Result<Vec<T>, AllocError>
+    ensures { IfOk result (λ all. all.items ≡ front.items ++ back.items) }
+{
+    front.append(&mut back)?;
+    Ok(front)
+}
+
+/// What is done with ranges: each is merged into a list of its own.
+struct Merging;
+
+impl<'r, T: Placed + Copy + Send + Sync> Jobs<Vec<&'r [T]>> for Merging {
+    type Output = Vec<Vec<T>>;
+
+    ghost comes_of = { λ merging ranges lists. AreMerged T.place_of ranges lists.items };
+
+    fn run(&self, alloc: Global, part: &[Vec<&'r [T]>]) -> Result<Vec<Vec<T>>, AllocError> {
+        merge_each(alloc, part)
+    }
+
+    fn join(&self, front: Vec<Vec<T>>, back: Vec<Vec<T>>) -> Result<Vec<Vec<T>>, AllocError> {
+        joined(front, back)
+    }
+}
+
+/// Some element of runs, if they have any.
+fn some_element<T: Copy>(runs: &[&[T]]) -> Option<T> {
+    runs.iter().find_map(|run| run.first().copied())
+}
+
+/// The elements of some runs, so many as are counted: their ranges are merged by as many threads as there are workers, and beside that the list is
+/// made that takes all of them.
+fn merge_by_threads<T: Placed + Copy + Send + Sync, R: Threads + Sync>(
+    rt: &R,
+    alloc: Global,
+    runs: Vec<&[T]>,
+    count: usize,
+    workers: usize,
+) -> Result<Vec<T>, AllocError>
+    ensures elements { IfOk result (λ all. IsPermutation (elements_of runs.entry.items) all.items) }
+    ensures ordered { IfOk result (λ all. AreInOrderBy T.place_of all.items) }
+{
+    let filler = some_element(&runs);
+    let ranges = cut_into_ranges(alloc, runs, workers.saturating_mul(RANGES_A_WORKER))?;
+    let parts = ranges.as_slice();
+    let merge = || -> Result<Vec<Vec<T>>, AllocError>
+        requires { IsSync R.row }
+        ensures { IfOk result (λ lists. AreMerged T.place_of parts.entry.now lists.items) }
+    { run_jobs(rt, alloc, &Merging, parts, 1, workers) };
+    let make = || -> Result<Vec<T>, AllocError>
+        ensures { IfOk result (λ all. all.items ≡ []) }
+    { ready_list(alloc, filler, count) };
+    let (lists, all) = join(rt, merge, make);
+    let lists = lists?;
+    let all = all?;
+    put_together(&lists, all)
+}
+
+/// Runs as slices.
+fn slices<T>(alloc: Global, runs: &[Vec<T>]) -> Result<Vec<&[T]>, AllocError>
+    ensures { IfOk result (λ all. map (λ run. run.now) all.items ≡ map (λ run. run.items) runs.now) }
+{
+    let mut all = Vec::with_capacity(alloc, runs.len())?;
+    for run in runs {
+        all.push(run.as_slice())?;
+    }
+    Ok(all)
+}
+
+/// The elements of some runs, in order whatever came, by as many threads as there are workers.
+pub fn merge_runs<T: Placed + Copy + Send + Sync, R: Threads + Sync>(
+    rt: &R,
+    alloc: Global,
+    runs: &[Vec<T>],
+    workers: usize,
+) -> Result<Vec<T>, AllocError>
+    ensures elements { IfOk result (λ all. IsPermutation (flat_map (λ run. run.items) runs.now) all.items) }
+    ensures ordered { IfOk result (λ all. AreInOrderBy T.place_of all.items) }
+{
+    let runs = slices(alloc, runs)?;
+    let count = count_of(&runs);
+    if workers < 2 || count < MANY {
+        return merge_in_turn(alloc, &runs);
+    }
+    merge_by_threads(rt, alloc, runs, count, workers)
+}
