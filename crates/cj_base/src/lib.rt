@@ -8,6 +8,8 @@ mod text;
 mod tick;
 
 pub use decimals::Decimal;
-pub use limits::{Limits, MOST_LEAVES, MOST_MADE_OBJECTS, MOST_NODES, MOST_OBJECT_SLOTS, MOST_OBJECTS};
+pub use limits::{
+    Limits, MOST_LEAVES, MOST_MADE_OBJECTS, MOST_NODES, MOST_OBJECT_SLOTS, MOST_OBJECTS,
+};
 pub use text::Text;
 pub use tick::{DAY, HOUR, MINUTE, SECOND, Tick, Window};

@@ -7,9 +7,9 @@ ghost use Rattle.cj_bezier.specs.Shells.{IsInner, IsOuter, IsRadiusWithin};
 
 use crate::gap_of_hulls::gap_origin;
 use crate::hulls::Hull;
+use crate::squares::{greatest_square, least_square};
 use cj_case::Shell;
 use cj_interval::{isqrt_down, isqrt_up};
-use crate::squares::{greatest_square, least_square};
 
 /// The shell of a hull: the greatest inner and the least outer radius that its gap against the origin shows.
 pub fn radius(hull: &Hull) -> Shell

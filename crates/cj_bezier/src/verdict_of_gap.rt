@@ -7,9 +7,9 @@ ghost use Rattle.cj_bezier.specs.Verdicts.{are_above, are_at_least, are_at_most}
 ghost use Rattle.cj_bezier.specs.Verdicts.{supported, verdict_of, kind_of, Supports, HoldsThroughout};
 
 use crate::gaps::Gap;
+use crate::verdicts::Verdict;
 use cj_case::Kind;
 use cj_interval::Span;
-use crate::verdicts::Verdict;
 
 /// One millimetre, in nm.
 const BAND: u64 = 1_000_000;

@@ -5,10 +5,10 @@ ghost use Rattle.cj_io.specs.Calls.{fails_next, after_call};
 ghost use Rattle.cj_io.specs.Files.{Puts, Told};
 ghost use Rattle.cj_io.specs.declared.shelf.PutError.{PutError};
 
-use crate::gathering::all_parts;
-use crate::part_source::PartSource;
 use crate::calm_shelf::CalmShelf;
+use crate::gathering::all_parts;
 use crate::mem_shelf::MemShelf;
+use crate::part_source::PartSource;
 use crate::shelf::{PutError, Shelf};
 use std::alloc::Global;
 use std::thread::Threads;

@@ -4,7 +4,9 @@ ghost use Rattle.cj_ledger.specs.Shares.{IsOf};
 ghost use Rattle.cj_ledger.specs.Words.{why_of};
 
 use crate::count::{Count, Opening};
-use crate::plays::{AddsLeaf, AddsLive, Closes, ClosesAndSplits, LoadsHalts, LoadsLive, SetsCells, SetsMemory};
+use crate::plays::{
+    AddsLeaf, AddsLive, Closes, ClosesAndSplits, LoadsHalts, LoadsLive, SetsCells, SetsMemory,
+};
 use crate::rule::WordsAreSums;
 use crate::words::{CELLS, HALTS, LEAVES, LIVE, MEMORY};
 use crate::{Share, Why};

@@ -15,8 +15,8 @@ ghost use Rattle.cj_status.specs.Steps.{Gives};
 
 use crate::results::Results;
 use crate::screening::screen;
-use crate::task::Task;
 use crate::selfruns::try_catalogue;
+use crate::task::Task;
 use cj_base::Tick;
 use cj_case::Problem;
 use cj_gen::catalogue;

@@ -6,8 +6,8 @@ mod reading;
 mod refining;
 mod results;
 mod screening;
+mod selfruns;
 mod task;
 mod top;
-mod selfruns;
 
 pub use top::conj;

@@ -67,7 +67,13 @@ fn prepare_catalogue<R: Threads + Sync>(
     let recipe = selfrun.recipe;
     let files = catalogue(alloc, recipe.seed, recipe.objects, recipe.minutes)?;
     let mut folder = CalmFolder::new(files);
-    prepare(rt, alloc, &mut folder, &settings_of(selfrun), selfrun.workers)
+    prepare(
+        rt,
+        alloc,
+        &mut folder,
+        &settings_of(selfrun),
+        selfrun.workers,
+    )
 }
 
 /// The settings of a made-up catalogue.

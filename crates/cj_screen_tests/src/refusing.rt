@@ -98,7 +98,9 @@ fn too_many_leaves_are_found_behind_a_refusal(rt: HostRuntime) {
 fn what_puts_no_file_is_not_refused(rt: HostRuntime) {
     let alloc = rt.alloc();
     let files = certified(&rt, alloc).expect(&rt, "no fault");
-    let (end, refusals, outputs) = end_refused(&rt, alloc, "check .", files).expect(&rt, "no fault");
+    let (end, refusals, outputs) = end_refused(&rt, alloc, "check .", files).expect(
+        &rt, "no fault",
+    );
     assert_eq!(rt; (end.number, refusals, outputs), (0, 0, 1));
     let line = "selfrun --objects 2 --minutes 1";
     let (end, refusals, outputs) = end_refused(&rt, alloc, line, Vec::new(alloc)).expect(

@@ -237,7 +237,12 @@ fn told_beside<R: Threads + Wait + Sync>(
 ) -> Result<Vec<u8>, AllocError> {
     let certificate = screened(rt, alloc, certified)?.certificate;
     let report = screened(rt, alloc, reported)?.report;
-    told(rt, alloc, check, with_outputs(alloc, &certificate, &report)?)
+    told(
+        rt,
+        alloc,
+        check,
+        with_outputs(alloc, &certificate, &report)?,
+    )
 }
 
 /// Two screenings, a check of the certificate of the first and the report of the second, and what is told.

@@ -1,6 +1,8 @@
 //! Runs of the top call.
 use cj_base::{Text, Tick};
-use cj_io::{Bytes, CalmFolder, CalmShelf, FileBytes, Folder, Gate, MemFolder, Name, OpenGate, StreamShelf};
+use cj_io::{
+    Bytes, CalmFolder, CalmShelf, FileBytes, Folder, Gate, MemFolder, Name, OpenGate, StreamShelf,
+};
 use cj_screen::conj;
 use cj_status::{Status, fault_text};
 use cj_words::Word;

@@ -5,12 +5,12 @@ ghost use Rattle.std.specs.Thread.{IsSync};
 ghost use Rattle.cj_case.specs.PairOrder.{AreInOrderBy};
 ghost use Rattle.cj_threads.specs.Runs.{elements_of, AreMerged};
 
+use crate::jobs::Jobs;
 use crate::joining::{put_together, ready_list};
 use crate::placed::Placed;
 use crate::ranges::{count_of, cut_into_ranges};
-use crate::sorting::put_in_order;
-use crate::jobs::Jobs;
 use crate::running::run_jobs;
+use crate::sorting::put_in_order;
 use std::alloc::{AllocError, Global};
 use std::thread::{Threads, join};
 

@@ -93,7 +93,7 @@ returns-in_err-met g c =
       split = tt;
       certified = tt;
       nearest = tt;
-      later = λ settings files read. tt;
+      later = λ settings files read usual few. tt;
     })
 
 pub returns-in_err-refined : goal.returns-in_err-refined
@@ -112,5 +112,5 @@ returns-in_err-refined g c =
       split = tt;
       certified = tt;
       nearest = tt;
-      later = λ settings files read. tt;
+      later = λ settings files read usual few. tt;
     })

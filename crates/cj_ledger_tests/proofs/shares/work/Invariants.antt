@@ -1,5 +1,0 @@
-use Rattle.cj_ledger.specs.Shares.{IsOf}
-use Rattle.cj_ledger_tests.proofs.shares.work.Given as goal
-
-abbrev pub invariant-loop : goal.invariant-loop
-invariant-loop l = IsOf l.ledger l.share

@@ -1,0 +1,209 @@
+//! What command lines ask for.
+use crate::lines::words;
+use cj_base::{Limits, Tick};
+use cj_epoch::read_epoch;
+use cj_formats::CertVersion;
+use cj_words::{
+    Checking, Command, Opt, Recipe, Screening, Selfrun, Settings, option_name, read_command,
+};
+use std::alloc::{AllocError, Global};
+use std::panic::Expect;
+
+/// The tick that an epoch says.
+fn tick(text: &[u8]) -> Tick {
+    read_epoch(text).unwrap_or(Tick::FIRST)
+}
+
+/// Whether a command line asks for files whose names end with this suffix.
+fn asks_for(alloc: Global, line: &str, suffix: &[u8]) -> Result<bool, AllocError> {
+    let words = words(alloc, line)?;
+    match read_command(&words) {
+        Ok(Command::Screen(screening)) => Ok(screening.settings.suffix == suffix),
+        _ => Ok(false),
+    }
+}
+
+/// The settings where all options are left out.
+const USUAL: Settings = Settings {
+    threshold: 5000,
+    from: None,
+    to: None,
+    suffix: b".oem",
+    as_hermite3: false,
+    sizes: None,
+    limits: Limits::USUAL,
+};
+
+const USUAL_RECIPE: Recipe = Recipe {
+    seed: 1,
+    objects: 50,
+    minutes: 120,
+};
+
+#[test]
+fn what_is_left_out(rt: HostRuntime) {
+    let cases = [
+        (
+            "screen .",
+            Command::Screen(Screening {
+                settings: USUAL,
+                workers: 1,
+                originator: b"CONJ",
+                cells: 4_000_000,
+                version: CertVersion::One,
+            }),
+        ),
+        (
+            "check .",
+            Command::Check(Checking {
+                settings: USUAL,
+                certificate: b"screen.cert",
+                report: None,
+            }),
+        ),
+        (
+            "rewrite .",
+            Command::Rewrite(Checking {
+                settings: USUAL,
+                certificate: b"screen.cert",
+                report: None,
+            }),
+        ),
+        ("generate .", Command::Generate(USUAL_RECIPE)),
+        (
+            "selfrun",
+            Command::Selfrun(Selfrun {
+                threshold: 5000,
+                workers: 1,
+                cells: 4_000_000,
+                recipe: USUAL_RECIPE,
+            }),
+        ),
+    ];
+    for (line, expected) in cases {
+        let words = words(rt.alloc(), line).expect(&rt, "no fault");
+        assert_eq!(rt; read_command(&words), Ok(expected), "{line}");
+    }
+}
+
+#[test]
+fn all_that_can_be_asked_of_a_screening(rt: HostRuntime) {
+    let line =
+        "screen . --cert-version 2 --cells 9 --sizes r.txt --originator=MY_site-1 --workers 16 --as-hermite3 \
+        --to 2025-01-01T00:00:01 --from=2025-001T00:00:00Z --suffix .txt --threshold=7";
+    let words = words(rt.alloc(), line).expect(&rt, "no fault");
+    let screening = Screening {
+        settings: Settings {
+            threshold: 7,
+            from: Some(tick(b"2025-01-01T00:00:00")),
+            to: Some(tick(b"2025-01-01T00:00:01")),
+            suffix: b".txt",
+            as_hermite3: true,
+            sizes: Some(b"r.txt"),
+            limits: Limits::USUAL,
+        },
+        workers: 16,
+        originator: b"MY_site-1",
+        cells: 9,
+        version: CertVersion::Two,
+    };
+    assert_eq!(rt; read_command(&words), Ok(Command::Screen(screening)));
+}
+
+#[test]
+fn all_that_can_be_asked_of_a_check(rt: HostRuntime) {
+    let line =
+        "check . --report=other.report --sizes=r.txt --cert other.cert --suffix .txt --as-hermite3 --threshold 1000000";
+    let words = words(rt.alloc(), line).expect(&rt, "no fault");
+    let checking = Checking {
+        settings: Settings {
+            threshold: 1_000_000,
+            from: None,
+            to: None,
+            suffix: b".txt",
+            as_hermite3: true,
+            sizes: Some(b"r.txt"),
+            limits: Limits::USUAL,
+        },
+        certificate: b"other.cert",
+        report: Some(b"other.report"),
+    };
+    assert_eq!(rt; read_command(&words), Ok(Command::Check(checking)));
+}
+
+/// Command lines, and the suffix for which each asks.
+const SUFFIXES: [(&str, &[u8]); 9] = [
+    // In one word and in two.
+    ("screen . --suffix=.txt", b".txt"),
+    ("screen . --suffix .txt", b".txt"),
+    ("screen . --suffix=a=b", b"a=b"),
+    ("screen . --suffix a=b", b"a=b"),
+    // One that looks like an option.
+    ("screen . --suffix=-x", b"-x"),
+    ("screen . --suffix=--as-hermite3", b"--as-hermite3"),
+    // From one byte to twenty, each printable.
+    ("screen . --suffix m", b"m"),
+    (
+        "screen . --suffix abcdefghijklmnopqrst",
+        b"abcdefghijklmnopqrst",
+    ),
+    ("screen . --suffix=!.0~", b"!.0~"),
+];
+
+#[test]
+fn suffixes_that_are_taken(rt: HostRuntime) {
+    for (line, suffix) in &SUFFIXES {
+        assert!(rt;
+            asks_for(rt.alloc(), line, suffix).expect(&rt, "no fault"),
+            "{line}"
+        );
+    }
+}
+
+#[test]
+fn the_names_of_fault_lines(rt: HostRuntime) {
+    assert_eq!(rt; option_name(Opt::Suffix), b"--suffix".as_slice());
+    assert_eq!(rt; option_name(Opt::AsHermite3), b"--as-hermite3".as_slice());
+    assert_eq!(rt; option_name(Opt::Sizes), b"--sizes".as_slice());
+    assert_eq!(rt; option_name(Opt::Cert), b"--cert".as_slice());
+    assert_eq!(rt; option_name(Opt::Originator), b"--originator".as_slice());
+    assert_eq!(rt; option_name(Opt::Seed), b"--seed".as_slice());
+    assert_eq!(rt; option_name(Opt::Objects), b"--objects".as_slice());
+    assert_eq!(rt; option_name(Opt::Minutes), b"--minutes".as_slice());
+    assert_eq!(rt; option_name(Opt::Report), b"--report".as_slice());
+    assert_eq!(rt; option_name(Opt::Out), b"--out".as_slice());
+    assert_eq!(rt; option_name(Opt::CertDir), b"--cert-dir".as_slice());
+}
+
+#[test]
+fn what_a_catalogue_is_made_of(rt: HostRuntime) {
+    let line = "generate . --minutes 1 --seed=18446744073709551615 --objects 02000";
+    let given = words(rt.alloc(), line).expect(&rt, "no fault");
+    let asked = Recipe {
+        seed: u64::MAX,
+        objects: 2000,
+        minutes: 1,
+    };
+    assert_eq!(rt; read_command(&given), Ok(Command::Generate(asked)));
+}
+
+#[test]
+fn how_a_catalogue_is_screened(rt: HostRuntime) {
+    let words = words(
+        rt.alloc(),
+        "selfrun --cells 9 --minutes 1440 --threshold=7 --seed 0 --workers=4",
+    )
+    .expect(&rt, "no fault");
+    let recipe = Recipe {
+        seed: 0,
+        objects: 50,
+        minutes: 1440,
+    };
+    let selfrun = Selfrun {
+        threshold: 7,
+        workers: 4,
+        cells: 9,
+        recipe,
+    };
+    assert_eq!(rt; read_command(&words), Ok(Command::Selfrun(selfrun)));
+}
