@@ -19,6 +19,7 @@ need_numpy()
 from conjtools.faults import RunFault  # noqa: E402
 from conjtools.parts.doing import check, confirm, read_record, screen  # noqa: E402
 from conjtools.parts.plan import PARTS, Part, Plan, read_plan, read_stamps  # noqa: E402
+from conjtools.parts.program import program_checksum  # noqa: E402
 from conjtools.parts.publish import publish  # noqa: E402
 from conjtools.parts.settings import read_settings  # noqa: E402
 from conjtools.parts.stamps import Stamp, check_same, settled, stamps_of  # noqa: E402
@@ -122,6 +123,23 @@ class Survey(PartsCase):
         launcher = self.folder / "conj"
         shutil.copy(PROGRAM, launcher)
         self.refused("not built yet", lambda: self.surveyed(program=str(launcher)))
+
+    def test_a_launcher_has_built_a_program_with_its_proof_and_one_without(self) -> None:
+        (self.folder / "crates.txt").touch()
+        launcher = self.folder / "conj"
+        shutil.copy(PROGRAM, launcher)
+        built = {name: self.folder / ".conj" / name for name in ("program", "unproved/program")}
+        for name, path in built.items():
+            path.parent.mkdir(exist_ok=True)
+            path.write_text(name, "ascii")
+        proved = program_checksum(str(launcher))
+        self.assertEqual(proved, " ".join(hashlib.sha256(path.read_bytes()).hexdigest() for path in (launcher, built["program"])))
+        with unittest.mock.patch.dict(os.environ, {"CONJ_UNPROVED": "1"}):
+            unproved = program_checksum(str(launcher))
+            self.assertEqual(unproved, " ".join(hashlib.sha256(path.read_bytes()).hexdigest() for path in (launcher, built["unproved/program"])))
+            built["unproved/program"].unlink()
+            self.refused("not built yet", lambda: program_checksum(str(launcher)))
+        self.assertEqual(program_checksum(str(launcher)), proved)
 
 
 class Stamps(PartsCase):

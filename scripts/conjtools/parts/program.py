@@ -12,8 +12,9 @@ from pathlib import Path
 
 from conjtools.faults import RunFault
 
-# The launcher of a checkout, beside which the first of these stands, starts the program that it has built as the second.
-LISTING, BUILT = "crates.txt", Path(".conj") / "program"
+# The launcher of a checkout, beside which this stands, starts the program that it has built, or the one without proof where that is set.
+LISTING = "crates.txt"
+BUILT, BUILT_UNPROVED = Path(".conj", "program"), Path(".conj", "unproved", "program")
 UNPROVED = "CONJ_UNPROVED"
 SIGNAL_STATUS = 128
 
@@ -35,8 +36,8 @@ def program_checksum(program: str) -> str:
     if found is None:
         raise RunFault(f"{program}: no such program")
     path = Path(found).resolve()
-    built = path.parent / BUILT
-    if (path.parent / LISTING).exists() and not built.exists() and os.environ.get(UNPROVED, "0") == "0":
+    built = path.parent / (BUILT if os.environ.get(UNPROVED, "0") == "0" else BUILT_UNPROVED)
+    if (path.parent / LISTING).exists() and not built.exists():
         raise RunFault(f"{program}: not built yet, and each part would build it: run {program} --version once")
     try:
         return " ".join(checksum_of(one) for one in (path, built) if one.exists())
