@@ -1,4 +1,4 @@
--- Pairs that are not looked at in a slot, by shells and boxes that hold their objects, are far at each of its common ticks.
+-- Pairs that are no candidates in a slot, by shells and boxes that hold their objects, are far at each of its common ticks.
 use Rattle.std.proofs.Common.{◌≡◌, ℕ, ◌<◌, ◌≤◌, Bool, true, false, ◌&&◌, not, List, Option, Some, None, refl, subst}
 use Rattle.std.specs.Prelude.{IfSome, IsSomeAnd, slice_get}
 use Rattle.cj_track.specs.PlainTracks.{PlainTrack}

@@ -1,4 +1,4 @@
--- Leaves of a leaf: they tile it in order, each with its own kind.
+-- Leaves of a cell: they tile it in order, each with its own kind.
 use Rattle.std.proofs.Common.{◌≡◌, ℕ, zero, suc, ◌+◌, ◌-◌, ◌<◌, ◌≤◌, List, [], ◌∷◌, ◌++◌, Option, Some, None, refl, ap, ◌∙◌, inl, inr, arith}
 use Rattle.std.specs.Prelude.{is_some, unwrap_or, true}
 use Rattle.std.proofs.lemmas.Bool.{cases_lt}
@@ -40,7 +40,7 @@ one_leaf : (judge : ℕ → ℕ → Option Kind) (a b first last : ℕ) (kind : 
 one_leaf judge a b first last kind le is =
     (refl, (record { first_object = refl; second_object = refl; from = omega arith; some = le; to = omega arith; judged = is }, refl))
 
--- a leaf that is not closed has two ticks or more
+-- a cell that is not closed has two ticks or more
 pub two_ticks : (judge : ℕ → ℕ → Option Kind) (first last : ℕ) → first ≤ last → IsSettled judge first last → judge first last ≡ None → first < last
 two_ticks judge first last le settled none = elim (cases_lt first last) [
   | inl lt ↦ lt
@@ -108,7 +108,7 @@ enough_is_enough judge a b (suc n) (suc k) first last le n_enough k_enough settl
         let r = right more in
         rw (l, r)
 
--- ---- a leaf that has a kind, and one that has none
+-- ---- a cell that has a kind, and one that has none
 
 pub leaves-closed : (judge : ℕ → ℕ → Option Kind) (a b first last : ℕ) (kind : Kind) → judge first last ≡ Some kind → leaves_between judge a b first last ≡ closed a b first last kind ∷ []
 unfolding leaves_between leaves_within

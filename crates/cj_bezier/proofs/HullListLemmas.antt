@@ -1,4 +1,4 @@
--- The hulls of the parts of an ephemeris as a list, and what holds of each of them.
+-- The hulls of the parts of a track as a list, and what holds of each of them.
 use Rattle.std.proofs.Common.{◌≡◌, ℕ, zero, suc, ◌+◌, ◌-◌, ◌<◌, ◌≤◌, Bool, true, false, cond, List, [], ◌∷◌, ◌++◌, filter, Option, Some, None, refl, sym, ap, subst, ◌∙◌, inl, inr, arith}
 use Rattle.std.specs.Prelude.{slice_get, IfSome}
 use Rattle.std.specs.List.{enumerate_from, flat_map, range_with_len}
@@ -186,7 +186,7 @@ of_number e m index x is here = elim (state e m) [
       subst (λ (z : PlainPiece). IsState e m index z) same (subst (λ (k : ℕ). IsState e m k y) one found)
 ]
 
--- where the states of a piece rise, its hull is in the list at each tick at which it is used
+-- where the nodes of a piece rise, its hull is in the list at each tick at which it is used
 pub hull_at : (e : PlainTrack) (from to m index : ℕ) (x : PlainPiece) → IsState e m index x → x.from.at < x.to.at → from ≤ m → m ≤ to → Exists (IsHullRound (curve_of_piece x) m) (hulls_of e from to)
 unfolding hulls_of
 hull_at e from to m index x is rises low high =
@@ -214,7 +214,7 @@ hull_at e from to m index x is rises low high =
           before = within.1;
         })
 
--- an ephemeris with no hull has no state
+-- a track with no hull has no state
 pub no_state : (e : PlainTrack) (from to : ℕ) → hulls_of e from to ≡ [] → HasNone e from to
 unfolding hulls_of
 no_state e from to empty m low high = elim (state e m) [

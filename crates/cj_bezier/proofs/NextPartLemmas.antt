@@ -1,4 +1,4 @@
--- The first part of an ephemeris from a tick on: its hull stands in front of those from the tick behind it on.
+-- The first part of a track from a tick on: its hull stands in front of those from the tick behind it on.
 use Rattle.std.proofs.Common.{◌≡◌, ◌≢◌, ℕ, zero, suc, ◌+◌, ◌-◌, ◌<◌, ◌≤◌, List, [], ◌∷◌, ◌++◌, filter, inl, inr, Option, Some, None, refl, sym, ap, ◌∙◌, subst, arith}
 use Rattle.std.specs.Prelude.{slice_get, IfSome, IsSomeAnd}
 use Rattle.std.specs.List.{enumerate_from, flat_map, range_with_len}

@@ -1,4 +1,4 @@
--- The first part of an ephemeris from a tick on.
+-- The first part of a track from a tick on.
 use Rattle.std.specs.Prelude.{◌≡◌, ℕ, ◌+◌, ◌≤◌, ◌∷◌}
 use Rattle.cj_track.specs.PlainTracks.{PlainTrack}
 use Rattle.cj_bezier.specs.declared.part.Part.{Part}

@@ -1,4 +1,4 @@
--- Halving: a stretch of ticks is closed as one kind, or is halved until each part can be.
+-- Halving: a run of ticks is closed as one kind, or is halved until each part can be.
 use Rattle.std.specs.Prelude.{◌≡◌, ℕ, zero, suc, ◌+◌, ◌-◌, ◌/◌, ◌<◌, List, [], ◌∷◌, ◌++◌, Option, Some, None, unwrap_or}
 use Rattle.cj_case.specs.declared.kind.Kind.{Kind}
 use Rattle.cj_case.specs.declared.kind.Kind.TheVariants.{Undecided}
@@ -16,7 +16,7 @@ abbrev pub closed_or : ℕ → ℕ → ℕ → ℕ → Option Kind → List Plai
 closed_or a b first last (Some kind) halves = closed a b first last kind ∷ []
 closed_or a b first last None halves = halves
 
--- the leaves of the ticks from first to last of the objects a and b, where a leaf of at most n + 1 ticks is judged
+-- the leaves of the ticks from first to last of the objects a and b, where a cell of at most n + 1 ticks is judged
 unfoldable pub leaves_within : (ℕ → ℕ → Option Kind) → ℕ → ℕ → ℕ → ℕ → ℕ → List PlainLeaf
 leaves_within judge a b zero first last = closed a b first last (unwrap_or (judge first last) Undecided) ∷ []
 leaves_within judge a b (suc n) first last =
@@ -32,7 +32,7 @@ abbrev pub halved_or : Option Kind → ℕ → ℕ
 halved_or (Some kind) halves = 0
 halved_or None halves = 1 + halves
 
--- how often the ticks from first to last are halved, where a leaf of at most n + 1 ticks is judged
+-- how often the ticks from first to last are halved, where a cell of at most n + 1 ticks is judged
 unfoldable pub splits_within : (ℕ → ℕ → Option Kind) → ℕ → ℕ → ℕ → ℕ
 splits_within judge zero first last = 0
 splits_within judge (suc n) first last =
@@ -42,7 +42,7 @@ splits_within judge (suc n) first last =
 abbrev pub splits_between : (ℕ → ℕ → Option Kind) → ℕ → ℕ → ℕ
 splits_between judge first last = splits_within judge (last - first) first last
 
--- a stretch of the halving tree over the ticks from first to last: those ticks, or a half of a leaf of the tree that is not closed
+-- a cell of the halving tree over the ticks from first to last: those ticks, or a half of a cell of the tree that is not closed
 pub data InHalving (judge : ℕ → ℕ → Option Kind) (first last : ℕ) : ℕ → ℕ → Type 0 where
   whole : InHalving judge first last first last
   left : (lo hi : ℕ) → InHalving judge first last lo hi → lo < hi → judge lo hi ≡ None → InHalving judge first last lo (middle lo hi)

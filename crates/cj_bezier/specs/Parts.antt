@@ -1,4 +1,4 @@
--- Parts: the runs of ticks, from one tick to another, in which each piece of an ephemeris is used, and their hulls.
+-- Parts: the runs of ticks, from one tick to another, in which each piece of a track is used, and their hulls.
 use Rattle.std.specs.Prelude.{◌≡◌, ℕ, ◌+◌, ◌-◌, ◌<◌, ◌≤◌, ◌↔◌, ◌==◌, Bool, false, List, [], ◌∷◌, filter, Option, Some, None, slice_get, IfSome}
 use Rattle.std.specs.List.{enumerate_from, flat_map, range_with_len}
 use Rattle.cj_track.specs.PlainTracks.{PlainTrack}
@@ -61,7 +61,7 @@ HaveParts e from to after upto = (m index : ℕ) → after ≤ m → m ≤ upto 
 
 -- ---- in time
 
--- the states of the piece at tick m rise in time, and no later tick has an earlier piece
+-- the nodes of the piece at tick m rise in time, and no later tick has an earlier piece
 pub record IsInTime (e : PlainTrack) (m : ℕ) : Type 0 where
   pub rises : IfSome (piece_holding e m) (λ x. x.from.at < x.to.at)
   pub later : (n i j : ℕ) → m ≤ n → piece_at e m ≡ Some i → piece_at e n ≡ Some j → i ≤ j

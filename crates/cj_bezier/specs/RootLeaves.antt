@@ -1,4 +1,4 @@
--- The leaves of roots, each of which is a stretch of the root's ticks.
+-- The leaves of roots: what the ticks of a root are closed as, and how its leaves describe it.
 use Rattle.std.specs.Prelude.{ℕ, ◌≡◌, ◌≤◌, List, [], All, Any, Option, Some, None}
 use Rattle.std.specs.List.{flat_map}
 use Rattle.cj_hermite.specs.Interpolant.{Curve}
@@ -43,7 +43,7 @@ leaves_of_roots case rs = flat_map (leaves_of_root case) rs
 abbrev pub IsTrueThroughout : PlainProblem → PlainLeaf → Type 0
 IsTrueThroughout case s = (m : ℕ) → s.first ≤ m → m ≤ s.last → OfObjectsAt case s.a s.b m (λ c d. Holds s.kind c d (threshold_of case s.a s.b) m)
 
--- a stretch of the root's ticks
+-- a leaf of the root's pair, whose ticks are the root's
 pub record IsPartOf (r : PlainCell) (s : PlainLeaf) : Type 0 where
   pub first_object : s.a ≡ r.a
   pub second_object : s.b ≡ r.b
@@ -51,7 +51,7 @@ pub record IsPartOf (r : PlainCell) (s : PlainLeaf) : Type 0 where
   pub some : s.first ≤ s.last
   pub to : s.last ≤ r.last
 
--- stretches of the root's ticks, in order, which hold each of its ticks and are true throughout
+-- such leaves in order, which hold each tick of the root and are true throughout
 pub record Describe (case : PlainProblem) (r : PlainCell) (ss : List PlainLeaf) : Type 0 where
   pub parts : All (IsPartOf r) ss
   pub holds : All (IsTrueThroughout case) ss

@@ -1,4 +1,4 @@
--- Shells: between which distances from the origin an interpolant stays.
+-- Shells: between which distances from the origin a track stays, and which pairs are kept by their shells.
 use Rattle.std.specs.Prelude.{◌≡◌, ℕ, zero, suc, ◌+◌, ◌-◌, ◌*◌, ◌<◌, ◌≤◌, ◌⊎◌, ◌==◌, min, max, nat_lt, Bool, false, ◌||◌, not, if◌then◌else◌}
 use Rattle.std.specs.Prelude.{ℤ, pos, ◌+ℤ◌, ◌*ℤ◌, ◌≤ℤ◌, List, [], ◌∷◌, Option, Some, None, option_and_then, slice_get}
 use Rattle.std.specs.List.{list_all}
@@ -33,7 +33,7 @@ pub record IsRadiusWithin (c : Curve) (m lo hi : ℕ) : Type 0 where
   pub least : pos (lo * lo * (place_denominator c.span * place_denominator c.span)) ≤ℤ square_radius c m
   pub most : square_radius c m ≤ℤ pos (hi * hi * (place_denominator c.span * place_denominator c.span))
 
--- the shell of an ephemeris from one tick to another: the greatest inner and the least outer radius that the hulls of its parts show
+-- the shell of a track from one tick to another: the greatest inner and the least outer radius that the hulls of its parts show
 pub record IsShellOf (e : PlainTrack) (from to : ℕ) (shell : Shell) : Type 0 where
   pub inner : OfEachHull e from to (λ h. IsInner (gap_terms h) shell.lo)
   pub greatest : (r : ℕ) → OfEachHull e from to (λ h. IsInner (gap_terms h) r) → r ≤ shell.lo
@@ -67,7 +67,7 @@ unfoldable pub shell_round : List PlainHull → Option Shell
 shell_round [] = None
 shell_round (h ∷ hs) = Some (record { lo = greatest_to MAX_RADIUS (is_inner (h ∷ hs)); hi = least_from MAX_RADIUS 0 (is_outer (h ∷ hs)) })
 
--- the shell of an ephemeris from one tick to another, where it has a state
+-- the shell of a track from one tick to another, where it has a state
 abbrev pub shell_of : PlainTrack → ℕ → ℕ → Option Shell
 shell_of e from to = shell_round (hulls_of e from to)
 

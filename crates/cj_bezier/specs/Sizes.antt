@@ -1,4 +1,4 @@
--- Sizes: bounds on the ends and the widths of spans.
+-- Sizes: how far hulls and their differences reach, and bounds on the ends and the widths of spans.
 use Rattle.std.specs.Prelude.{ℕ, pos, ◌+ℤ◌, ◌≤ℤ◌}
 use Rattle.cj_interval.specs.declared.span.Span.{Span}
 use Rattle.cj_hermite.specs.Boxes.{IsSpanWithin}

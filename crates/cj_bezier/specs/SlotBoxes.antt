@@ -1,4 +1,4 @@
--- Slot boxes: the smallest boxes along the axes round the hulls of an ephemeris, and whether two of them touch.
+-- Slot boxes: the smallest boxes along the axes round the hulls of a track, the places that lie in them, and whether two of them touch.
 use Rattle.std.specs.Prelude.{ℕ, ◌-◌, Bool, false, ◌&&◌, ℤ, pos, ◌+ℤ◌, ◌*ℤ◌, ◌≤ℤ◌, int_le, List, [], ◌∷◌, map, Option, Some, None, option_and_then, slice_get}
 use Rattle.std.specs.Int.{int_min, int_max}
 use Rattle.std.specs.List.{fold}
@@ -25,14 +25,14 @@ pub record IsAtLeastEach (v : ℤ) (k : Four) : Type 0 where
   pub k2 : k.k2 ≤ℤ v
   pub k3 : k.k3 ≤ℤ v
 
--- how far the hulls of the parts of an ephemeris reach on an axis, from one tick to another
+-- how far the hulls of the parts of a track reach on an axis, from one tick to another
 pub record IsExtent (e : PlainTrack) (from to : ℕ) (axis : PlainHull → Ends) (least most : ℤ) : Type 0 where
   pub low : OfEachHull e from to (λ h. IsAtMostEach least (axis h).low)
   pub greatest : (v : ℤ) → OfEachHull e from to (λ h. IsAtMostEach v (axis h).low) → v ≤ℤ least
   pub high : OfEachHull e from to (λ h. IsAtLeastEach most (axis h).high)
   pub smallest : (v : ℤ) → OfEachHull e from to (λ h. IsAtLeastEach v (axis h).high) → most ≤ℤ v
 
--- the smallest box round the hulls of the parts of an ephemeris
+-- the smallest box round the hulls of the parts of a track
 pub record IsBoxOf (e : PlainTrack) (from to : ℕ) (box : AxisBox) : Type 0 where
   pub x : IsExtent e from to (λ h. h.x) box.least.x box.most.x
   pub y : IsExtent e from to (λ h. h.y) box.least.y box.most.y
@@ -66,7 +66,7 @@ unfoldable pub reaches_round : List PlainHull → Option PlainBox
 reaches_round [] = None
 reaches_round (h ∷ hs) = Some (record { x = reach_on (λ g. g.x) h hs; y = reach_on (λ g. g.y) h hs; z = reach_on (λ g. g.z) h hs })
 
--- the smallest box round the hulls of the parts of an ephemeris, where it has a state
+-- the smallest box round the hulls of the parts of a track, where it has a state
 abbrev pub box_of : PlainTrack → ℕ → ℕ → Option PlainBox
 box_of e from to = reaches_round (hulls_of e from to)
 

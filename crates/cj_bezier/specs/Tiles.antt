@@ -1,4 +1,4 @@
--- Stretches that tile ticks: they follow one another without a gap.
+-- Leaves that tile ticks: they follow one another without a gap.
 use Rattle.std.specs.Prelude.{◌≡◌, ℕ, ◌+◌, ◌≤◌, List, [], ◌∷◌}
 use Rattle.cj_case.specs.Leaves.{PlainLeaf}
 

@@ -1,4 +1,4 @@
-//! Hulls of interpolants, the gap of two hulls, and what it says of the distance at each tick.
+//! The parts of a track with their hulls, the gap of two hulls and what it says of the distance at each tick, shells, and boxes that touch.
 #![tactic(auto)]
 
 mod box_touch;

@@ -1,4 +1,4 @@
-//! Products of boxes.
+//! Products and differences of boxes.
 ghost use Rattle.std.specs.Prelude.{◌≡◌, ◌*◌, pos, ◌*ℤ◌};
 ghost use Rattle.cj_hermite.specs.Boxes.{IsSpanWithin, IsBoxWithin};
 ghost use Rattle.cj_bezier.specs.Gaps.{IsLess, dot_low, dot_high, span_product_low, span_product_high};

@@ -1,4 +1,4 @@
-//! The shell in which an interpolant stays.
+//! The shell of a hull, and the least shell round two.
 ghost use Rattle.std.specs.Prelude.{◌≡◌, ℕ, ◌≤◌, min, max};
 ghost use Rattle.cj_hermite.specs.Interpolant.{Curve, IsOver};
 ghost use Rattle.cj_bezier.specs.Hulls.{axes_of, hull_axes};

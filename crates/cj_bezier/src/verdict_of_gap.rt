@@ -1,4 +1,4 @@
-//! What a gap says of the distance.
+//! What a gap says of the distance: which kinds it supports, and its verdict.
 ghost use Rattle.std.specs.Prelude.{◌≡◌, ◌≢◌, ◌↔◌, IsTrue, IfSome, ℕ, ◌*◌, ◌+◌, ◌^◌, ◌≤◌, pos};
 ghost use Rattle.cj_hermite.specs.Interpolant.{Curve};
 ghost use Rattle.cj_bezier.specs.Hulls.{lows, highs};

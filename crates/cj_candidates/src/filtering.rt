@@ -1,5 +1,4 @@
-//! From a problem to its candidates: shells and boxes first, then slot by slot the candidates and their roots, and these
-//! in order at the end.
+//! The candidates of a problem, with their roots: shells and boxes first, then one slot after another; at the end the roots are put in order.
 ghost use Rattle.std.specs.Prelude.{◌≡◌, ◌<◌, ◌≤◌, length, vec_len, IfOk, OnOk, IsErrOf};
 ghost use Rattle.std.specs.List.{range_with_len};
 ghost use Rattle.cj_base.specs.Bounds.{MOST_LEAVES};

@@ -1,4 +1,4 @@
--- Bounds of a case.
+-- Bounds of a case: nodes, the window, objects times slots, and sizes.
 use Rattle.std.specs.Prelude.{ℕ, ◌^◌, ◌-◌, ◌*◌, ◌≤◌, List, sum_by}
 use Rattle.cj_base.specs.Bounds.{MOST_NODES, MOST_OBJECT_SLOTS}
 use Rattle.cj_track.specs.Segments.{node_count}

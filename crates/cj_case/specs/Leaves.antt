@@ -1,4 +1,4 @@
--- Leaves as plain facts: stretches of time of a pair, each with what it was found to be.
+-- Leaves as plain facts: consecutive ticks of a pair, with the kind that they were found to be of; and which ticks are a leaf's.
 use Rattle.std.specs.Prelude.{◌≡◌, ℕ, ◌≤◌, Bool, true, false, List, map}
 use Rattle.cj_case.specs.declared.kind.Kind.{Kind}
 use Rattle.cj_case.specs.declared.kind.Kind.TheVariants.{Far, Near, Undecided}

@@ -1,4 +1,4 @@
--- Stretches in order of pair and time.
+-- Leaves in order of pair and time.
 use Rattle.std.specs.Prelude.{◌≡◌, ◌<◌, ◌≤◌, List, All, AllPairs}
 use Rattle.cj_case.specs.Leaves.{PlainLeaf}
 

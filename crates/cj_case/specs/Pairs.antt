@@ -1,4 +1,4 @@
--- Pairs of objects, the lower number first.
+-- Pairs of objects, the lower number first, and what a list of pairs has.
 use Rattle.std.specs.Prelude.{◌≡◌, ◌⊎◌, ℕ, ◌+◌, ◌-◌, List, map}
 use Rattle.std.specs.List.{Contains, flat_map, range_with_len}
 use Rattle.cj_case.specs.declared.pair.Pair.{Pair}

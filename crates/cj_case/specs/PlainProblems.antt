@@ -1,8 +1,8 @@
--- Cases: what a run is asked, apart from how a program keeps it.
+-- Cases: what a run is asked, apart from how a program keeps it; and the threshold of a pair.
 use Rattle.std.specs.Prelude.{ℕ, ◌+◌, List, slice_index}
 use Rattle.cj_track.specs.PlainTracks.{PlainTrack}
 
--- The ephemerides of the objects, which are numbered from 0; the window from its first to its last tick; the threshold in nm; the size of
+-- The tracks of the objects, which are numbered from 0; the window from its first to its last tick; the threshold in nm; the size of
 -- each object, a radius in nm.
 pub record PlainProblem : Type 0 where
   pub tracks : List PlainTrack

@@ -1,4 +1,4 @@
--- What a problem asks.
+-- What a problem asks, as a case.
 use Rattle.std.specs.Prelude.{map}
 use Rattle.cj_track.specs.Tracks.{plain_track}
 use Rattle.cj_case.specs.declared.problem.Problem.{Problem}

@@ -3,7 +3,7 @@ ghost use Rattle.std.specs.Prelude.{◌≤◌};
 use crate::pair::Pair;
 use cj_base::Tick;
 
-/// A stretch of ticks of a pair in one of its roots.
+/// Consecutive ticks of a pair in one of its roots.
 #[derive(Clone, Copy, Debug, PartialEq, Eq)]
 pub struct Cell {
     pub pair: Pair,

@@ -1,4 +1,4 @@
-/// What a stretch of time of a pair was found to be.
+/// What a leaf was found to be.
 #[derive(Clone, Copy, Debug, PartialEq, Eq)]
 pub enum Kind {
     /// Beyond the threshold at each tick.

@@ -14,7 +14,7 @@ use crate::ready_look::look_at;
 use cj_case::{Cell, Problem};
 use cj_interval::Divisor;
 
-/// How long the pieces of most ephemerides are: a minute of ticks.
+/// How long the pieces of most tracks are: a minute of ticks.
 pub(crate) const USUAL_SPAN: u64 = 60_000_000;
 
 impl<'p> Looker<'p> {

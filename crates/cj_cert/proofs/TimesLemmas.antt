@@ -17,7 +17,7 @@ use Rattle.cj_hermite.proofs.PieceLemmas.{piece_between, pieces_in, pieces_throu
 use Rattle.cj_hermite.proofs.StateLemmas.{has, lacks, state}
 use Rattle.cj_bezier.specs.Parts.{AreInTime}
 
--- y ends before x begins, or as it does: in its states, or in its useable span
+-- y ends before x begins, or as it does: in its nodes, or in its useable span
 abbrev pub EndsBefore : PlainPiece → PlainPiece → Type 0
 EndsBefore y x = (y.to.at ≤ x.from.at) ⊎ (y.last ≤ x.first)
 

@@ -44,7 +44,7 @@ pub record ShowsRadii (shell : Shell) (h : PlainHull) : Type 0 where
   pub inner : IsInner (gap_terms h) shell.lo
   pub outer : IsOuter (gap_terms h) shell.hi
 
--- none where the ephemeris has no state from one tick to another, and else a shell whose radii each of its hulls shows
+-- none where the track has no state from one tick to another, and else a shell whose radii each of its hulls shows
 abbrev pub IsShellOver : PlainTrack → ℕ → ℕ → Option Shell → Type 0
 IsShellOver e from to None = HasNone e from to
 IsShellOver e from to (Some shell) = (¬ HasNone e from to) × All (ShowsRadii shell) (hulls_of e from to)
@@ -65,7 +65,7 @@ pub record IsHullIn (area : PlainBox) (h : PlainHull) : Type 0 where
   pub z_low : IsAtMostEach area.z.least h.z.low
   pub z_high : IsAtLeastEach area.z.most h.z.high
 
--- an ephemeris has a state at a tick of a slot
+-- a track has a state at a tick of a slot
 abbrev pub has_state_in : PlainProblem → PlainTrack → ℕ → Bool
 has_state_in case e slot =
     let from = slot_first case.first slot in

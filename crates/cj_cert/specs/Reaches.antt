@@ -19,7 +19,7 @@ pub record IsHullNear (h : PlainHull) : Type 0 where
   pub y : IsAxisNear h.y
   pub z : IsAxisNear h.z
 
--- from any tick to any other the pieces of an ephemeris come in order of time, and their hulls are near
+-- from any tick to any other the pieces of a track come in order of time, and their hulls are near
 pub record StaysNear (e : PlainTrack) : Type 0 where
   pub time : (from to : ℕ) → AreInTime e from to
   pub hulls : (from to : ℕ) → All IsHullNear (hulls_of e from to)

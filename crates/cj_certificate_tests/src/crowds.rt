@@ -235,7 +235,7 @@ fn refused(line: u32, cause: CheckCause) -> Answer {
 /// None at all, one that is not as its kind says, one twice, one left out, and the pairs of one object alone. Each pair is a candidate, and
 /// is near: the threshold is 200 km.
 #[test]
-fn the_first_failure_is_found_where_each_pair_is_looked_at(rt: HostRuntime) {
+fn the_first_failure_is_found_where_each_pair_is_a_candidate(rt: HostRuntime) {
     let alloc = rt.alloc();
     let scene = Scene {
         states: States::Together,

@@ -1,4 +1,4 @@
--- The hulls of an ephemeris against a bound, part by part.
+-- The hulls of a track against a bound, part by part.
 use Rattle.std.proofs.Common.{◌≡◌, ℕ, ◌+◌, ◌≤◌, Bool, true, false, ◌&&◌, List, ◌∷◌, Option, Some, None, refl, sym, ap, ◌∙◌, arith}
 use Rattle.std.specs.Bool.{beq}
 use Rattle.std.specs.Prelude.{IfNone, IfSome, MatchOption, is_some}

@@ -77,7 +77,7 @@ first_place case object slot s e is are =
 
 -- ---- slots with a state
 
--- an ephemeris with a state at a tick of a slot
+-- a track with a state at a tick of a slot
 pub state_in : (case : PlainProblem) (e : PlainTrack) (slot m : ℕ) → slot_first case.first slot ≤ m → m ≤ slot_last case.first case.last slot → is_some (piece_at e m) ≡ true
     → has_state_in case e slot ≡ true
 state_in case e slot m low high some =

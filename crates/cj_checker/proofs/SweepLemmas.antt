@@ -1,5 +1,5 @@
--- A sweep: pairs that are appended where they are looked at, and boxes that stay active as long as they may be reached.
-use Rattle.std.proofs.Common.{◌≡◌, ◌⊎◌, ℕ, zero, suc, ◌+◌, ◌-◌, ◌<◌, ◌≤◌, Bool, true, false, List, [], ◌∷◌, ◌++◌, drop, take, length, get_or, Option, Some, None, refl, sym, ap, ◌∙◌, subst, inl, inr, arith, is_lt, nat_cmp}
+-- A sweep: pairs that are appended where they are candidates, and boxes that stay active as long as they may be reached.
+use Rattle.std.proofs.Common.{◌≡◌, ◌⊎◌, ℕ, zero, suc, ◌+◌, ◌-◌, ◌<◌, ◌≤◌, true, false, List, [], ◌∷◌, ◌++◌, drop, take, length, get_or, Option, Some, None, refl, sym, ap, ◌∙◌, subst, inl, inr, arith, is_lt, nat_cmp}
 use Rattle.std.specs.Prelude.{ℤ, pos, ◌≤ℤ◌, ◌<ℤ◌, ◌+ℤ◌, ◌-ℤ◌, int_le, int_lt, option_map, option_and_then, slice_index}
 use Rattle.std.specs.declared.cmp.Ordering.{Ordering}
 use Rattle.std.specs.declared.cmp.Ordering.TheVariants.{Less, Equal, Greater}
@@ -35,9 +35,9 @@ pub candidates_more : (case : PlainProblem) (shells : List (Option Shell)) (area
     → AreCandidates case shells areas old → AreCandidates case shells areas (old ++ p ∷ [])
 candidates_more case shells areas old p is all = All-push (λ pair. candidate_with case shells areas (objects_of pair) ≡ true) old p all is
 
--- ---- pairs that are looked at
+-- ---- candidates
 
--- both objects of a pair that is looked at have a shell and a box, and along each axis each begins at most the threshold behind the other
+-- both objects of a candidate have a shell and a box, and along each axis each begins at most the threshold behind the other
 pub record AreBoxed (case : PlainProblem) (shells : List (Option Shell)) (areas : List (Option PlainBox)) (a b : ℕ) : Type 0 where
   pub own : Shell
   pub other : Shell
@@ -102,7 +102,7 @@ area_read (y ∷ areas) zero x lt is = joined y ∙ ap (option_map plain_box) (s
     joined y = refl
 area_read (y ∷ areas) (suc object) x lt is = area_read areas object x (omega arith) is
 
--- the entries along an axis of a pair that is looked at meet
+-- the entries of a candidate along an axis meet
 pub met : (case : PlainProblem) (shells : List (Option Shell)) (areas : List (Option PlainBox)) (axis : Axis) (rows others : List Reach) (first end objects a b : ℕ) → length areas ≡ objects
     → ((object : ℕ) → first ≤ object → object < end → HasReach case shells areas axis rows object)
     → ((object : ℕ) → end ≤ object → object < objects → HasReach case shells areas axis others object)
@@ -254,7 +254,7 @@ met_still : (case : PlainProblem) (shells : List (Option Shell)) (areas : List (
     → AreMet case shells areas some others old → AreMet case shells areas some others new
 met_still case shells areas some others old new kept are r s has has' up within a b lt both is = kept a b (are r s has has' up within a b lt both is)
 
--- all pairs of the rows that are looked at are found: those of two objects of the rows first, then those with an object behind
+-- all candidates of the rows are found: those of two objects of the rows first, then those with an object behind
 pub all_found : (case : PlainProblem) (shells : List (Option Shell)) (areas : List (Option PlainBox)) (rows others : List Reach) (old more all : List Pair) (a b : ℕ)
     → AreMet case shells areas rows rows old → AreMet case shells areas rows others more → AreMet case shells areas others rows all → ArePairsKept old more → ArePairsKept more all
     → Meet rows others a b → a < b → candidate_with case shells areas (a, b) ≡ true → HasPair all a b

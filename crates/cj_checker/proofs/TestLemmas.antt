@@ -93,7 +93,7 @@ decides_none e from to =
     (λ none m low high. let missing = none m low (omega arith) in rw missing refl)
     (decides_no (λ m. is_some (piece_at e m)) from (to + 1 - from))
 
--- an ephemeris with a state from one tick to another, or with none
+-- a track with a state from one tick to another, or with none
 pub state_none : (e : PlainTrack) (from to : ℕ) → HasNone e from to → has_state_between e from to ≡ false
 state_none e from to none = not-true (has_state_between e from to) ((decides_none e from to).1 none)
 

@@ -1,4 +1,4 @@
--- Whether the hulls of an ephemeris pass a test, part by part.
+-- Whether the hulls of a track pass a test, part by part.
 use Rattle.std.proofs.Common.{◌≡◌, ℕ, ◌+◌, ◌≤◌, Bool, true, false, ◌&&◌, ◌∷◌, Option, Some, None, IfSome, sym, ap, arith, ◌∙◌}
 use Rattle.std.specs.List.{list_all}
 use Rattle.cj_track.specs.PlainTracks.{PlainTrack}

@@ -1,4 +1,4 @@
--- Keys: pairs that are looked at, each with the slot. A row is the pairs with one first object.
+-- Keys: candidates, each with its slot. A row is those with one first object.
 use Rattle.std.specs.Prelude.{◌≡◌, ℕ, ◌+◌, ◌-◌, ◌<◌, ◌≤◌, true, Bool, if◌then◌else◌, ◌&&◌, List, [], ◌∷◌, map, length, All, Option}
 use Rattle.std.specs.List.{AllPairs, Contains, flat_map, range_with_len}
 use Rattle.cj_case.specs.declared.problem.Problem.{Problem}
@@ -48,7 +48,7 @@ roots_in_rows candidate case first end = roots_of_keys case (keys_in_rows candid
 
 -- ---- as they are found
 
--- a key of a pair of so many objects in these rows that is looked at in one of the slots
+-- a key of a pair of so many objects in these rows that is a candidate in one of the slots
 pub record IsKeyIn (candidate : ℕ → ℕ → ℕ → Bool) (first end objects slots : ℕ) (key : PlainKey) : Type 0 where
   pub ordered : key.a < key.b
   pub exists : key.b < objects

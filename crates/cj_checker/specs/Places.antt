@@ -6,7 +6,7 @@ use Rattle.cj_case.specs.PlainProblems.{PlainProblem}
 use Rattle.cj_case.specs.Slots.{slot_count}
 use Rattle.cj_cert.specs.Accepted.{has_state_in}
 
--- the slots in which an ephemeris has a state, from one on
+-- the slots in which a track has a state, from one on
 abbrev pub slots_from : PlainProblem → PlainTrack → ℕ → List ℕ
 slots_from case e slot = filter (has_state_in case e) (range_with_len slot (slot_count case.first case.last - slot))
 

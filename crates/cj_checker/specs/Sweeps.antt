@@ -19,7 +19,7 @@ use Rattle.cj_checker.specs.declared.reach.Reach.{Reach}
 use Rattle.cj_checker.specs.declared.reaches.Reaches.{Reaches}
 use Rattle.cj_checker.specs.Keys.{candidate_with, looks}
 
--- each pair of a list is looked at
+-- each pair of a list is a candidate
 abbrev pub AreCandidates : PlainProblem → List (Option Shell) → List (Option PlainBox) → List Pair → Type 0
 AreCandidates case shells boxes pairs = All (λ pair. candidate_with case shells boxes (objects_of pair) ≡ true) pairs
 
@@ -27,7 +27,7 @@ AreCandidates case shells boxes pairs = All (λ pair. candidate_with case shells
 abbrev pub AreCandidatesBy : Problem → List ShellLine → List (Option AxisBox) → List Pair → Type 0
 AreCandidatesBy problem shells boxes pairs = AreCandidates (plain_problem problem) (map (λ line. line.shell) shells) (plain_boxes boxes) pairs
 
--- a later list has only pairs that are looked at where an earlier one has
+-- a later list has only candidates where an earlier one has
 abbrev pub StayCandidates : Problem → List ShellLine → List (Option AxisBox) → List Pair → List Pair → Type 0
 StayCandidates problem shells boxes old new = AreCandidatesBy problem shells boxes old → AreCandidatesBy problem shells boxes new
 
@@ -59,7 +59,7 @@ HasReachBy problem shells boxes axis reaches object = HasReach (plain_problem pr
 abbrev pub IsInOrder : List Reach → Type 0
 IsInOrder reaches = AllPairs (λ r s. r.low ≤ℤ s.low) reaches
 
--- the objects of each two entries of which the second begins where the first is are found, where they are looked at
+-- the objects of each two entries of which the second begins where the first is are found, where they are a candidate
 abbrev pub AreMet : PlainProblem → List (Option Shell) → List (Option PlainBox) → List Reach → List Reach → List Pair → Type 0
 AreMet case shells areas some others pairs = (r s : Reach) → Contains some r → Contains others s → r.low ≤ℤ s.low → s.low ≤ℤ r.high
     → (a b : ℕ) → a < b → AreBoth r.object s.object a b → candidate_with case shells areas (a, b) ≡ true → HasPair pairs a b
@@ -83,7 +83,7 @@ pub record Meet (rows others : List Reach) (a b : ℕ) : Type 0 where
   pub there : first.low ≤ℤ second.high
   pub back : second.low ≤ℤ first.high
 
--- the entries of the objects of some rows, and of those behind, are in order, and those of each pair of the rows that is looked at meet
+-- the entries of the objects of some rows, and of those behind, are in order, and those of each candidate of the rows meet
 pub record AreLaidOut (problem : Problem) (shells : List ShellLine) (boxes : List (Option AxisBox)) (first end : ℕ) (reaches : Reaches) : Type 0 where
   pub rows_exist : Exist problem reaches.rows.items
   pub others_exist : Exist problem reaches.others.items

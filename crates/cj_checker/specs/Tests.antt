@@ -28,7 +28,7 @@ is_size_line object line = (line.object == object.0) && (line.size == object.1)
 
 -- ---- shells
 
--- an ephemeris has a state from one tick to another
+-- a track has a state from one tick to another
 abbrev pub has_state_between : PlainTrack → ℕ → ℕ → Bool
 has_state_between e from to = list_any (λ m. is_some (piece_at e m)) (range_with_len from (to + 1 - from))
 
@@ -36,12 +36,12 @@ has_state_between e from to = list_any (λ m. is_some (piece_at e m)) (range_wit
 abbrev pub shows_radii : Shell → PlainHull → Bool
 shows_radii shell h = ((shell.lo == 0) || are_at_least (gap_terms h).low shell.lo) && are_at_most (gap_terms h).high shell.hi
 
--- none where the ephemeris has no state, and else a shell whose radii each of its hulls shows
+-- none where the track has no state, and else a shell whose radii each of its hulls shows
 abbrev pub is_shell_over : PlainTrack → ℕ → ℕ → Option Shell → Bool
 is_shell_over e from to None = not (has_state_between e from to)
 is_shell_over e from to (Some shell) = has_state_between e from to && list_all (shows_radii shell) (hulls_of e from to)
 
--- the line of an object with its number and ephemeris
+-- the line of an object with its number and track
 abbrev pub is_shell_line : ℕ → ℕ → ℕ × PlainTrack → ShellLine → Bool
 is_shell_line from to object line = (line.object == object.0) && is_shell_over object.1 from to line.shell
 
@@ -63,7 +63,7 @@ is_axis_in reach e = is_at_most_each reach.least e.low && is_at_least_each reach
 abbrev pub is_hull_in : PlainBox → PlainHull → Bool
 is_hull_in area h = is_axis_in area.x h.x && (is_axis_in area.y h.y && is_axis_in area.z h.z)
 
--- an ephemeris has a state in a slot, and its hulls there lie in a box
+-- a track has a state in a slot, and its hulls there lie in a box
 abbrev pub is_in_box : PlainProblem → PlainTrack → PlainBox → ℕ → Bool
 is_in_box case e area slot = has_state_in case e slot && list_all (is_hull_in area) (hulls_of e (slot_first case.first slot) (slot_last case.first case.last slot))
 

@@ -20,7 +20,7 @@ use Rattle.cj_checker.specs.First.{failed, begins, comes_after, unsupported, cel
 abbrev pub cause_at : Bool → PlainCell → PlainLeaf → Option CheckCause
 cause_at supported r s = if begins r s then (if supported then None else Some (unsupported s.kind)) else Some (if comes_after r s then Untiled else Stranger)
 
--- where cells are looked at from a line on: the failure of those from a place on, against the roots that are left, or that of a fault
+-- of the cells from a line on: the failure of those from a place on, against the roots that are left, or that of a fault
 abbrev pub goes_on : PlainProblem → ℕ → List PlainCell → List PlainLeaf → Result ℕ CellFault → Option Failure
 goes_on case line left cells (Ok next) = cells_from case (line + next) left (drop next cells)
 goes_on case line left cells (Err fault) = failed (line + fault.at) fault.cause

@@ -3,7 +3,7 @@ ghost use Rattle.cj_base.specs.Bounds.{MOST_OBJECTS};
 
 use cj_case::Pair;
 
-/// A pair that is looked at in a slot, in eight bytes. The numbers of objects fit 16 bits.
+/// A candidate with its slot, in eight bytes. The numbers of objects fit 16 bits.
 #[derive(Clone, Copy, PartialEq, Eq, PartialOrd, Ord)]
 pub(crate) struct Key {
     pub a: u16,

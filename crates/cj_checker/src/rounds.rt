@@ -1,5 +1,4 @@
-//! The candidates, with their slots, in order: row by row of their first objects, so many rows at a time as memory is
-//! to be had for.
+//! The candidates with their slots, in order: row by row of their first objects, so many rows at a time as memory is to be had for.
 ghost use Rattle.std.specs.Prelude.{◌≡◌, ℕ, ◌+◌, ◌<◌, ◌≤◌, Bool, All, true, map, length, IfOk, OnOk};
 ghost use Rattle.std.specs.List.{range_with_len};
 ghost use Rattle.cj_base.specs.Bounds.{MOST_OBJECTS};
@@ -101,7 +100,7 @@ impl Work {
         }
     }
 
-    /// Finds the pairs of some rows that are candidates in a slot, in any order.
+    /// Finds the candidates of some rows in a slot, in any order.
     fn find_pairs(
         &mut self,
         problem: &Problem,

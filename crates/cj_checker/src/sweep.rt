@@ -74,7 +74,7 @@ fn append_pair(
     }
 }
 
-/// Appends the pairs of an object with others that are looked at.
+/// Appends the candidates among the pairs of an object with others.
 fn append_row(
     problem: &Problem,
     shells: &[ShellLine],
@@ -98,7 +98,7 @@ fn append_row(
     Ok(())
 }
 
-/// Appends the candidates, of some objects with others of which each begins where the first reaches.
+/// Appends the candidates among the pairs of some objects with others of which each begins where the first reaches.
 fn append_met(
     problem: &Problem,
     shells: &[ShellLine],
@@ -138,7 +138,7 @@ impl Sweep {
         }
     }
 
-    /// Finds the pairs of some rows that are looked at, by the listed shells and the boxes of a slot, in any order. A pair is found
+    /// Finds the candidates of some rows, by the listed shells and the boxes of a slot, in any order. A pair is found
     /// twice where both objects begin at one place.
     pub(crate) fn find(
         &mut self,

@@ -295,7 +295,7 @@ fn objects_on_both_sides_of_a_corner_are_found(rt: HostRuntime) {
     }
 }
 
-/// A box of 10,000 km on each side is wide. It is looked at with all others, wide or not.
+/// A box of 10,000 km on each side is wide. It is compared with all others, wide or not.
 #[test]
 fn wide_boxes_are_found(rt: HostRuntime) {
     let far = 10_000_000_000_000_000;
@@ -398,7 +398,7 @@ fn made_box(draw: u64) -> Option<AxisBox> {
     Some(corners(least, most))
 }
 
-/// The pairs of boxes that touch, each pair looked at.
+/// The pairs of boxes that touch, each pair compared.
 fn by_each_pair<L: Ledger>(
     blank: Blank,
     alloc: Global,
@@ -439,7 +439,7 @@ fn made_boxes(seed: u64) -> [Option<AxisBox>; 50] {
     boxes
 }
 
-/// By buckets the same pairs are found as by a look at each pair.
+/// By buckets the same pairs are found as where each pair is compared.
 #[test]
 fn buckets_give_the_pairs_that_touch(rt: HostRuntime) {
     for seed in 0..20 {

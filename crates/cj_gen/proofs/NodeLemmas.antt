@@ -61,7 +61,7 @@ row_fields o is n few =
       rate_field v.z (small v.z wv.2),
     ) refl
 
--- ---- the state that it says
+-- ---- the node that it says
 
 row_says : (before : Option PlainNode) (t a b c u v w : List ℕ) (s : PlainNode) → parse_epoch t ≡ Ok s.at
     → parse_figure a ≡ Ok (Some s.p.x) → parse_figure b ≡ Ok (Some s.p.y) → parse_figure c ≡ Ok (Some s.p.z)

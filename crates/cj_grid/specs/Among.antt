@@ -25,7 +25,7 @@ entries_among objects = entries_of objects.thr objects.sizes.now objects.boxes.n
 abbrev pub wide_among : SlotObjects → List ℕ
 wide_among objects = wide_of objects.thr objects.sizes.now objects.boxes.now
 
--- at most so many pairs of their boxes are looked at
+-- at most so many pairs of their boxes are compared
 abbrev pub bound_among : SlotObjects → ℕ
 bound_among objects = step_bound objects.thr objects.sizes.now objects.boxes.now
 

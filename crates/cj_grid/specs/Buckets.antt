@@ -110,6 +110,6 @@ entered_in bucket entries = count_by (λ e. nat_eq e.bucket bucket) entries
 abbrev pub bucket_squares : List Entry → ℕ
 bucket_squares entries = sum_by (λ e. entered_in e.bucket entries) entries
 
--- at most so many pairs of boxes are looked at
+-- at most so many pairs of boxes are compared
 unfoldable pub step_bound : ℕ → List ℕ → List (Option AxisBox) → ℕ
 step_bound thr sizes boxes = bucket_squares (entries_of thr sizes boxes) + length (wide_of thr sizes boxes) * count_by is_some boxes

@@ -90,7 +90,7 @@ fn touching_among<L: Ledger>(
 }
 
 /// The pairs of objects whose boxes are apart by at most a threshold in nm between objects of these sizes on each axis, in order.
-/// A step is a pair of boxes that is looked at.
+/// A step is a pair of boxes that is compared.
 pub fn touching<L: Ledger>(
     alloc: Global,
     boxes: &[Option<AxisBox>],

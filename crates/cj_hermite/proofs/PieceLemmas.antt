@@ -341,7 +341,7 @@ step_between i nodes a b steps below first second =
     let are = read i nodes a b below first second in
     subst (λ (x : Node). IsStep x b) are.first (subst (λ (y : Node). IsStep (get_or nodes i a) y) are.second (step_at i nodes a steps (omega arith)))
 
--- the piece between them is that of the piece
+-- the plain piece between them is that of the piece
 pub piece_read : (s : Segment) (i : ℕ) (nodes : List Node) (a b : Node) (piece : Piece) → nodes ≡ s.nodes → i + 1 < length nodes → a ≡ get_or nodes i a → b ≡ get_or nodes (i + 1) b
     → first_state piece ≡ plain_node a → last_state piece ≡ plain_node b → slice_get (pieces_of_segment (plain_segment s)) i ≡ Some (piece_with s.first.micros s.last.micros piece)
 piece_read s i nodes a b piece e below first second from to =

@@ -1,4 +1,4 @@
--- An ephemeris has a state exactly in the useable spans of its segments.
+-- A track has a state exactly in the useable spans of its segments.
 use Rattle.std.proofs.Common.{◌≡◌, ℕ, suc, ◌+◌, ◌<◌, ◌≤◌, ◌⊎◌, max, Bool, true, false, cond, List, [], ◌∷◌, map, length, get_or, Option, Some, None, refl, sym, ap, subst, inl, inr, ltb, arith}
 use Rattle.std.specs.Prelude.{is_some, option_map, filter}
 use Rattle.std.specs.List.{enumerate_from, last_or}

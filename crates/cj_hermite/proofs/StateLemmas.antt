@@ -1,4 +1,4 @@
--- The state of an ephemeris at a tick: the piece there and its number.
+-- The state of a track at a tick: the piece there and its number.
 use Rattle.std.proofs.Common.{◌≡◌, ◌≢◌, ℕ, zero, suc, ◌+◌, true, List, [], ◌∷◌, inl, inr, Option, Some, None, refl, ap, ◌∙◌, subst, arith}
 use Rattle.std.specs.Prelude.{slice_get, option_map}
 use Rattle.std.specs.List.{last_or}
@@ -15,7 +15,7 @@ pub record IsState (e : PlainTrack) (m : ℕ) (number : ℕ) (x : PlainPiece) : 
   pub place : slice_get (pieces_of e) number ≡ Some x
   pub covers : Covers m x
 
--- an ephemeris has a state at a tick, or has not
+-- a track has a state at a tick, or has not
 pub data HasState (e : PlainTrack) (m : ℕ) : Type 0 where
   has : (number : ℕ) (x : PlainPiece) → IsState e m number x → HasState e m
   lacks : piece_at e m ≡ None → piece_holding e m ≡ None → HasState e m

@@ -1,4 +1,4 @@
--- Boxes: what is said of the spans of three axes.
+-- Boxes: spans on three axes. How far they reach and how wide they are, the polar values that they bound, and the exact place that they hold.
 use Rattle.std.specs.Prelude.{◌≡◌, ℕ, ◌-◌, ℤ, pos, ◌+ℤ◌, ◌*ℤ◌, ◌≤ℤ◌}
 use Rattle.cj_interval.specs.declared.span.Span.{Span}
 use Rattle.cj_interval.specs.Rounding.{floor_div, ceil_div}

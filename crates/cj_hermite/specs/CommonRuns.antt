@@ -1,4 +1,4 @@
--- Runs: consecutive ticks with one label, as long as it lasts; those of two ephemerides have the pieces of both as label.
+-- Runs: consecutive ticks with one label, as long as it lasts; those of two tracks have the pieces of both as label.
 use Rattle.std.specs.Prelude.{◌≡◌, ℕ, ◌+◌, ◌-◌, ◌==◌, ◌&&◌, Bool, false, if◌then◌else◌, List, [], ◌∷◌, Option, Some, None, is_some}
 use Rattle.std.specs.List.{range_with_len}
 use Rattle.cj_base.specs.declared.tick.Window.{Window}
@@ -38,7 +38,7 @@ both None j = None
 both (Some i) None = None
 both (Some i) (Some j) = Some (i, j)
 
--- the numbers of the pieces in which two ephemerides are at a tick, where both have a state
+-- the numbers of the pieces in which two tracks are at a tick, where both have a state
 abbrev pub both_numbers : PlainTrack → PlainTrack → ℕ → Option (ℕ × ℕ)
 both_numbers e f m = both (piece_at e m) (piece_at f m)
 

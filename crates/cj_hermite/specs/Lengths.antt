@@ -1,15 +1,15 @@
--- The lengths of interpolants.
+-- Lengths: pieces whose nodes rise in time, and cases whose interpolants have lengths.
 use Rattle.std.specs.Prelude.{ℕ, ◌<◌, All, IfSome}
 use Rattle.cj_track.specs.PlainTracks.{PlainTrack}
 use Rattle.cj_hermite.specs.Pieces.{PlainPiece, pieces_of}
 use Rattle.cj_case.specs.PlainProblems.{PlainProblem}
 use Rattle.cj_hermite.specs.ObjectsAtTicks.{curve_at}
 
--- the second state comes after the first
+-- the second node comes after the first
 abbrev pub Rises : PlainPiece → Type 0
 Rises x = x.from.at < x.to.at
 
--- each piece of an ephemeris has a length
+-- each piece of a track has a length
 abbrev pub IsRising : PlainTrack → Type 0
 IsRising e = All Rises (pieces_of e)
 

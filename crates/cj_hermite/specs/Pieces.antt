@@ -1,17 +1,17 @@
--- Pieces: the piece of an ephemeris at a tick. Interpolation stays within a segment.
+-- Pieces: those of a track, the one at a tick with its number, and its interpolant. Interpolation stays within a segment.
 use Rattle.std.specs.Prelude.{ℕ, ◌-◌, Bool, ◌&&◌, nat_le, List, [], ◌∷◌, filter, Option, None, option_map, IsSomeAnd}
 use Rattle.std.specs.List.{enumerate_from, flat_map, last_or}
 use Rattle.cj_track.specs.PlainTracks.{PlainNode, PlainSegment, PlainTrack}
 use Rattle.cj_hermite.specs.Interpolant.{Curve, controls_of}
 
--- two neighbouring states, and the useable span of their segment
+-- two neighbouring nodes, and the useable span of their segment
 pub record PlainPiece : Type 0 where
   pub from : PlainNode
   pub to : PlainNode
   pub first : ℕ
   pub last : ℕ
 
--- between each two neighbours of these states
+-- between each two neighbours of these nodes
 abbrev pub pieces_between : ℕ → ℕ → List PlainNode → List PlainPiece
 pieces_between first last [] = []
 pieces_between first last (a ∷ []) = []
@@ -25,7 +25,7 @@ pieces_of_segment segment = pieces_between segment.first segment.last segment.no
 abbrev pub pieces_of : PlainTrack → List PlainPiece
 pieces_of e = flat_map pieces_of_segment e.segments
 
--- the tick lies between the states, and in the useable span
+-- the tick lies between the nodes, and in the useable span
 abbrev pub covers : ℕ → PlainPiece → Bool
 covers m x = nat_le x.from.at m && nat_le m x.to.at && nat_le x.first m && nat_le m x.last
 
@@ -41,7 +41,7 @@ piece_holding e m = option_map (λ x. x.1) (last_covering m 0 (pieces_of e))
 unfoldable pub piece_at : PlainTrack → ℕ → Option ℕ
 piece_at e m = option_map (λ x. x.0) (last_covering m 0 (pieces_of e))
 
--- the interpolant between the two states
+-- the interpolant between the two nodes
 abbrev pub curve_of_piece : PlainPiece → Curve
 curve_of_piece x =
     let t = x.to.at - x.from.at in

@@ -1,11 +1,11 @@
--- How a piece and its number stand for a piece of an ephemeris.
+-- Pieces as a program keeps them: the plain piece that each stands for, the ticks that this covers, and the segment in which a number lies.
 use Rattle.std.specs.Prelude.{◌≡◌, ℕ, ◌+◌, ◌<◌, ◌≤◌, length, take}
 use Rattle.std.specs.List.{flat_map}
 use Rattle.cj_track.specs.PlainTracks.{PlainNode, PlainTrack}
 use Rattle.cj_hermite.specs.declared.pieces.Piece.{Piece}
 use Rattle.cj_hermite.specs.Pieces.{PlainPiece, pieces_of_segment}
 
--- the tick lies between the states of the piece, and in its useable span
+-- the tick lies between the nodes of the piece, and in its useable span
 pub record Covers (m : ℕ) (x : PlainPiece) : Type 0 where
   pub from : x.from.at ≤ m
   pub to : m ≤ x.to.at
@@ -17,14 +17,14 @@ pub record CoversBoth (m n : ℕ) (x : PlainPiece) : Type 0 where
   pub first : Covers m x
   pub second : Covers n x
 
--- the states at the ends of a piece
+-- the nodes at the ends of a piece
 abbrev pub first_state : Piece → PlainNode
 first_state piece = record { at = piece.t0.micros; p = piece.p0; v = piece.v0 }
 
 abbrev pub last_state : Piece → PlainNode
 last_state piece = record { at = piece.t1.micros; p = piece.p1; v = piece.v1 }
 
--- the piece has the states of the piece
+-- the piece has the nodes of this plain piece
 pub record Spans (piece : Piece) (x : PlainPiece) : Type 0 where
   pub from : first_state piece ≡ x.from
   pub to : last_state piece ≡ x.to

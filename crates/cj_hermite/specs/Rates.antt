@@ -1,4 +1,4 @@
--- Rates: what is said of a box in nm/s.
+-- Rates: boxes in nm/s. The rates that they bound, and the exact rate that they hold.
 use Rattle.std.specs.Prelude.{◌≡◌, ℕ, ◌-◌, pos, ◌*ℤ◌}
 use Rattle.cj_interval.specs.declared.span.Span.{Span}
 use Rattle.cj_interval.specs.Rounding.{floor_div, ceil_div}

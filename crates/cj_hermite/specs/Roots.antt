@@ -1,4 +1,4 @@
--- Roots: for each pair of objects, the runs of ticks of a slot at which each of both is in one piece.
+-- Roots: for each pair of objects, the runs of ticks of a slot at which each of both is in one piece; and those of all candidates.
 use Rattle.std.specs.Prelude.{ℕ, ◌≡◌, ◌≤◌, Bool, true, is_some, if◌then◌else◌, List, [], map, filter, length, Option}
 use Rattle.std.specs.List.{flat_map, range_with_len}
 use Rattle.cj_case.specs.Pairs.{pairs_of}
@@ -36,7 +36,7 @@ roots_in_slot case slot pairs = flat_map (λ pair. roots_in case slot pair.0 pai
 abbrev pub slots_of : PlainProblem → List ℕ
 slots_of case = range_with_len 0 (slot_count case.first case.last)
 
--- all roots, of those pairs and slots that are looked at, in order of pair and time
+-- the roots of all candidates, in order of pair and time
 unfoldable pub roots_of : (ℕ → ℕ → ℕ → Bool) → PlainProblem → List PlainCell
 roots_of candidate case =
     flat_map (λ pair. flat_map (λ slot. if candidate pair.0 pair.1 slot then roots_in case slot pair.0 pair.1 else []) (slots_of case))

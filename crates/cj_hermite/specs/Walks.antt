@@ -1,4 +1,4 @@
--- Walks: an ephemeris from one run of ticks in one piece to the next.
+-- Walks: a track from one run of ticks in one piece to the next.
 use Rattle.std.specs.Prelude.{◌≡◌, ◌≢◌, ℕ, ◌+◌, ◌<◌, ◌≤◌, true, List, length, slice_index_or, None, is_some}
 use Rattle.cj_base.specs.declared.tick.Window.{Window}
 use Rattle.cj_track.specs.declared.segment.Segment.{Segment}

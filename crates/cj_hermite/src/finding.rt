@@ -1,4 +1,4 @@
-//! The pieces of a track: which one a tick falls into, and what it is.
+//! The pieces of a track: which one a tick falls into, the one with a number, and the segment in which it lies.
 ghost use Rattle.std.specs.Prelude.{◌≡◌, ℕ, ◌+◌, ◌^◌, ◌<◌, ◌≤◌, length, Some, IfSome, IsSomeAnd, option_map, slice_get, slice_index_or};
 ghost use Rattle.cj_track.specs.Nodes.{IsStep, AreNodes};
 ghost use Rattle.cj_track.specs.Segments.{AreSegments, starts_from};

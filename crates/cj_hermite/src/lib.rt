@@ -1,5 +1,5 @@
-//! The pieces of tracks, and the interpolant of each: its control values, and its place and rate,
-//! enclosed at a tick.
+//! The pieces of tracks, the runs of ticks at which they are used, and the interpolant of each: its control values, its levels by de
+//! Casteljau's algorithm, and its place and rate, enclosed at a tick.
 #![tactic(auto)]
 
 mod box3;

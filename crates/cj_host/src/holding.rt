@@ -18,7 +18,7 @@ pub fn hidden_name(alloc: Global, name: &str) -> Result<String, AllocError> {
     format!(in alloc; ".{name}.part")
 }
 
-/// What came of command for a lock on a directory.
+/// What came of asking for a lock on a directory.
 #[derive(Clone, Copy, Debug, PartialEq, Eq)]
 pub enum Hold {
     /// This run holds it until the file is dropped, or the run ends.

@@ -206,7 +206,7 @@ no_limit most case length count is short same few =
 
 -- ---- the certificate and the report
 
--- a piece is that of the first file with the name, once the names are known
+-- an input is that of the first file with the name, once the names are known
 pub input_found : (missing : CertificateCause) (files : List FileBytes) (name : List ℕ) (names : List Name) (number : Option ℕ) → names ≡ names_of files
     → number ≡ first_named name names
     → input_named missing files name ≡ input_at missing files name number

@@ -364,6 +364,6 @@ first-of_all a b (s ∷ g) some all = let here = All-head (λ s. (s.a ≡ a) × 
 pub described_objects : (ss : List PlainLeaf) (e : Encounter) → Describes ss e → (first_object (leaves_in ss e) ≡ e.pair.a) × (second_object (leaves_in ss e) ≡ e.pair.b)
 described_objects ss e d = first-of_all e.pair.a e.pair.b (leaves_in ss e) (leaves_in-some ss e d.within) d.objects
 
--- the leaves of an encounter are those of its leaves
+-- the leaves of an encounter as plain facts are those of the plain list
 pub leaves_in_encounter : (leaves : List Leaf) (e : Encounter) → plain_leaves (slice_range leaves e.leaf e.past) ≡ leaves_in (plain_leaves leaves) e
 leaves_in_encounter leaves e = sym (take-map plain_leaf (e.past - e.leaf) (drop e.leaf leaves)) ∙ ap (take (e.past - e.leaf)) (sym (drop-map plain_leaf e.leaf leaves))

@@ -2,7 +2,6 @@
 use Rattle.std.proofs.Common.{◌≡◌, ℕ, ◌+◌, ◌^◌, ◌<◌, ◌≤◌, List, Bool, true, false, length, Result, Ok, Err, arith, ap, sym, subst, ◌∙◌, refl}
 use Rattle.std.proofs.lemmas.List.{length-map}
 use Rattle.cj_kvn.specs.Lines as kvn
-use Rattle.cj_track.specs.PlainTracks.{PlainTrack}
 use Rattle.cj_track.specs.Labels.{is_file_name}
 use Rattle.cj_kvn.specs.Faults as faults
 use Rattle.cj_oem.specs.Readers.{body_of}

@@ -1,18 +1,16 @@
 -- What a reader of lines takes as the value of a pair is empty or a label.
-use Rattle.std.proofs.Common.{◌≡◌, ℕ, ◌+◌, ◌-◌, ◌<◌, ◌≤◌, inl, inr, List, [], ◌∷◌, Bool, true, false, All, take, map, reverse, length, get_or, Option, Some, None, Result, Ok, Err, arith, ap, sym, ◌∙◌, refl, subst}
+use Rattle.std.proofs.Common.{◌≡◌, ℕ, ◌+◌, ◌-◌, ◌<◌, ◌≤◌, inl, inr, List, [], ◌∷◌, Bool, true, false, take, map, reverse, length, get_or, Option, Some, None, Result, Ok, Err, arith, ap, sym, ◌∙◌, refl, subst}
 use Rattle.std.specs.Prelude.{◌&&◌, ◌==◌, not, nat_le, if◌then◌else◌}
 use Rattle.std.specs.List.{list_all, list_any, before_first, after_first, prefix_len, suffix_len, position_or_len}
-use Rattle.std.specs.Str.Lines.{lines}
 use Rattle.std.proofs.lemmas.Bool.Decides.{nat_tests, leb_tells}
 use Rattle.std.proofs.lemmas.List.{length-map, length-take, length-reverse, get_or-map, get_or-reverse, get_or-take}
-use Rattle.std.proofs.lemmas.List.Elements.{All-cons, All-drop, All-map, All-nil, All-take, All-weaker}
+use Rattle.std.proofs.lemmas.List.Elements.{All-drop, All-map, All-take, All-weaker}
 use Rattle.std.proofs.lemmas.List.Sums.{AllPass-from_list_all, list_all-from_AllPass, prefix_len_stops, suffix_len-le-length}
 use Rattle.cj_base.specs.Bytes.{spaced}
-use Rattle.cj_kvn.specs.Lines.{Form, Blank, Comment, Pair, Row, Numbered, is_blank, is_comment, is_equals, is_key, is_printable, trimmed, without_leading_blanks, mark_of, mark_or, pair_of, pair_or_row, form_of, form_at, line_at, line_form, lines_at, lines_said, reading}
+use Rattle.cj_kvn.specs.Lines.{Form, Blank, Comment, Pair, Row, is_blank, is_comment, is_equals, is_key, is_printable, trimmed, without_leading_blanks, mark_of, mark_or, pair_of, pair_or_row, form_of, line_form}
 use Rattle.cj_kvn.specs.Faults.{◌>>=◌}
 use Rattle.cj_kvn.specs.declared.lines.KvnCause.{KvnCause}
 use Rattle.cj_kvn.specs.declared.text_fault.LineFault.{LineFault}
-use Rattle.cj_kvn.specs.declared.lines.Line.{Line}
 use Rattle.cj_kvn.specs.declared.lines.MarkKind.{MarkKind}
 use Rattle.cj_kvn.proofs.ListLemmas.{HeadFails, behind_fails}
 use Rattle.cj_kvn.proofs.RawLemmas.{ArePrintable}

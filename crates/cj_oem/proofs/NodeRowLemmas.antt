@@ -194,7 +194,7 @@ nodes_from before (row ∷ rows) = do
   nodes ← nodes_from (Some state) rows
   Ok (state ∷ nodes)
 
--- each state is a step from the one before, the first from the given one
+-- each node is a step from the one before, the first from the given one
 abbrev Follow : Option PlainNode → List PlainNode → Type 0
 Follow before [] = Unit {0}
 Follow before (s ∷ nodes) = Steps before s × Follow (Some s) nodes
@@ -231,7 +231,7 @@ rows_again (row ∷ rows) before [] said follow = absurd said
 rows_again (row ∷ rows) before (s ∷ nodes) said follow =
     rw (fields_again before (fields row) s said.0 follow.0, rows_again rows (Some s) nodes said.1 follow.1) refl
 
--- rows that are read from the start say their states, each a step from the one before
+-- rows that are read from the start say their nodes, each a step from the one before
 pub nodes_are : (rows : List (List ℕ)) (nodes : List PlainNode) → nodes_from None rows ≡ Ok nodes → SayNodes rows nodes × AreNodeSteps nodes
 nodes_are rows nodes e = let each = rows_are rows None nodes e in (each.0, steps_are nodes each.1)
 
@@ -242,7 +242,7 @@ nodes_again rows nodes said steps = rows_again rows None nodes said (steps_again
 pub above_if_not_le : (a b : ℕ) → is_le (nat_cmp a b) ≡ false → b < a
 above_if_not_le a b h = grind (arith, nat_tests)
 
--- where one state comes after another, at most the longest step later, a leap second between them decides
+-- where one node comes after another, at most the longest step later, a leap second between them decides
 pub leap_decides : (before state : PlainNode) (leap : Bool) → before.at < state.at → state.at ≤ before.at + MAX_STEP →
     leap_lies_between before.at state.at ≡ leap → following (Some before) state ≡ (if leap then Err causes.LeapSecond else Ok state)
 leap_decides before state leap later near is = grind (arith, nat_tests)

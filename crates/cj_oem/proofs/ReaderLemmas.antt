@@ -1,7 +1,7 @@
 -- The lines of a file, one after another.
 use Rattle.std.proofs.Common.{◌≡◌, ℕ, ◌+◌, List, [], ◌∷◌, Bool, Result, Ok, Err, IsOk, ap, sym, subst, ◌∙◌, refl}
 use Rattle.cj_kvn.specs.Cursors.{IsFirst, LinesLeft, said_by}
-use Rattle.cj_kvn.specs.Lines.{Form, Numbered, form_at, line_at}
+use Rattle.cj_kvn.specs.Lines.{Numbered, form_at, line_at}
 use Rattle.cj_kvn.specs.Lines as kvn
 use Rattle.cj_kvn.specs.declared.lines.KvnCause.{KvnCause}
 use Rattle.cj_kvn.specs.declared.text_fault.LineFault.{LineFault}

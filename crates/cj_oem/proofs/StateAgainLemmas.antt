@@ -1,4 +1,4 @@
--- The rows of states are read again.
+-- The rows of nodes are read again.
 use Rattle.std.proofs.Common.{◌≡◌, ℕ, ◌<◌, ◌≤◌, ◌^◌, List, [], ◌∷◌, ◌++◌, true, false, ℤ, pos, negsuc, ap, sym, ◌∙◌, refl, arith, append_assoc, append-nil, Option, Some, None, Ok, All, subst}
 use Rattle.std.specs.Prelude.{unsigned_abs, flat_map}
 use Rattle.std.specs.List.{list_all}
@@ -35,13 +35,13 @@ pub record IsVector (limit : ℕ) (v : Vec3) : Type 0 where
   pub y : IsWithin limit v.y
   pub z : IsWithin limit v.z
 
--- a state that can be read
+-- a node that can be read
 pub record IsState (s : PlainNode) : Type 0 where
   pub tick : IsTick s.at
   pub place : IsVector MAX_COORDINATE s.p
   pub rate : IsVector MAX_RATE s.v
 
--- each state follows the one before
+-- each node follows the one before
 abbrev pub Follow : Option PlainNode → List PlainNode → Type 0
 Follow before [] = Unit {0}
 Follow before (s ∷ nodes) = (following before s ≡ Ok s) × Follow (Some s) nodes
@@ -131,7 +131,7 @@ state_told s is =
     subst (λ text. Tells (line text) (Row text ∷ [])) (sym (row_shape s))
     (told_line (row_of (epoch_of s.at) (state_fields s)) (Row (row_of (epoch_of s.at) (state_fields s))) (row_line (epoch_of s.at) (state_fields s) (state_are_fields s is)))
 
--- an open segment with its states
+-- an open segment with its nodes
 abbrev pub open_segment : Metadata → List PlainNode → OpenSegment
 open_segment metadata nodes = record { metadata = metadata; nodes = nodes }
 

@@ -71,7 +71,7 @@ matrix_read m long = record {
   printed = all_seen (λ d. IsReadable (number_of d)) IsPrinted number_of decimal_printed m.values m.readable;
 }
 
--- ---- states
+-- ---- nodes
 
 node_read : (n : Node) → IsState (plain_node n)
 node_read n = record {

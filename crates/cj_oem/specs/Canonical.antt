@@ -22,7 +22,7 @@ figure_text z =
 abbrev pub vector_text : Vec3 → List ℕ
 vector_text v = figure_text v.x ++ 32 ∷ [] ++ figure_text v.y ++ 32 ∷ [] ++ figure_text v.z
 
--- the row of a state, one space between its fields
+-- the row of a node, one space between its fields
 unfoldable pub row_text : PlainNode → List ℕ
 row_text s = line (epoch_of s.at ++ 32 ∷ [] ++ vector_text s.p ++ 32 ∷ [] ++ vector_text s.v)
 

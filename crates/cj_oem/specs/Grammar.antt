@@ -108,7 +108,7 @@ pub record IsMetadata (as_hermite3 : Bool) (entries : List Entry) (object : Obje
 abbrev pub IsFigure : List (List ℕ) → ℕ → ℕ → ℤ → Type 0
 IsFigure row i limit z = (scaled_of 12 (field_in row i) ≡ Ok z) × IsWithin limit z
 
--- the fields of a row say a state: an epoch, a place in km, a rate in km/s; three accelerations may follow
+-- the fields of a row say a node: an epoch, a place in km, a rate in km/s; three accelerations may follow
 pub record IsNodeRow (row : List (List ℕ)) (state : PlainNode) : Type 0 where
   pub count : (length row ≡ 7) ⊎ (length row ≡ 10)
   pub epoch : reading_of (field_in row 0) ≡ Ok state.at
@@ -120,26 +120,26 @@ pub record IsNodeRow (row : List (List ℕ)) (state : PlainNode) : Type 0 where
   pub z_dot : IsFigure row 6 MAX_RATE state.v.z
   pub accelerations : All (λ text. IsOk (decimal_of text)) (drop 7 row)
 
--- each row says its state
+-- each row says its node
 abbrev pub SayNodes : List (List ℕ) → List PlainNode → Type 0
 SayNodes [] [] = Unit {0}
 SayNodes [] (state ∷ nodes) = ⊥
 SayNodes (row ∷ rows) [] = ⊥
 SayNodes (row ∷ rows) (state ∷ nodes) = IsNodeRow (fields row) state × SayNodes rows nodes
 
--- the second state comes after the first, at most an hour later, with no leap second between
+-- the second node comes after the first, at most an hour later, with no leap second between
 pub record IsNodeStep (a b : PlainNode) : Type 0 where
   pub rises : a.at < b.at
   pub short : b.at ≤ a.at + MAX_STEP
   pub steady : leap_lies_between a.at b.at ≡ false
 
--- each state is a step from the one before
+-- each node is a step from the one before
 abbrev pub AreNodeSteps : List PlainNode → Type 0
 AreNodeSteps [] = Unit {0}
 AreNodeSteps (a ∷ []) = Unit {0}
 AreNodeSteps (a ∷ b ∷ nodes) = IsNodeStep a b × AreNodeSteps (b ∷ nodes)
 
--- the useable span is not empty, and lies from the first state to the last
+-- the useable span is not empty, and lies from the first node to the last
 pub record IsUseable (first last : ℕ) (nodes : List PlainNode) : Type 0 where
   pub some : first ≤ last
   pub after : IsSomeAnd (first_state nodes) (λ state. state.at ≤ first)

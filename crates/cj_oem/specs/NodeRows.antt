@@ -58,7 +58,7 @@ figures_in row first = do
   z ← parse_figure (field_in row (first + 2))
   Ok (record { x = x; y = y; z = z })
 
--- the state that a row of seven fields says, or one of ten with accelerations
+-- the node that a row of seven fields says, or one of ten with accelerations
 unfoldable pub state_said : List (List ℕ) → Result PlainNode OemCause
 state_said row = do
   _ ← unless (not ((length row == 7) || (length row == 10))) causes.Fields
@@ -79,7 +79,7 @@ following (Some before) s = do
   _ ← unless (leap_lies_between before.at s.at) causes.LeapSecond
   Ok s
 
--- the state of a row that follows the state before
+-- the node of a row that follows the node before
 unfoldable pub state_of_fields : Option PlainNode → List (List ℕ) → Result PlainNode OemCause
 state_of_fields before row = do
   state ← state_said row

@@ -31,7 +31,7 @@ pub record Body : Type 0 where
 abbrev pub NO_BODY : Body
 NO_BODY = record { object = None; segments = [] }
 
--- a segment so far: what its metadata says, and its states
+-- a segment so far: what its metadata says, and its nodes
 pub record OpenSegment : Type 0 where
   pub metadata : Metadata
   pub nodes : List PlainNode

@@ -10,7 +10,7 @@ use crate::steps::steal;
 use cj_case::Cell;
 use crossbeam_deque::Steal;
 
-/// Selfruns once to steal from the deque at a place.
+/// Tries once to steal from the deque at a place.
 pub fn steal_one<K: Run>(
     thieves: &[Thief<K>],
     passes: &mut Vec<DequePass<K>>,
@@ -32,7 +32,7 @@ pub fn steal_one<K: Run>(
     }
 }
 
-/// Selfruns once to steal from each of these deques in turn.
+/// Tries once to steal from each of these deques in turn.
 pub fn steal_round<K: Run>(thieves: &[Thief<K>], passes: &mut Vec<DequePass<K>>) -> Option<Cell>
     requires deques { deques passes.old.items ≡ deques_of thieves.now }
     requires ready { AreReady passes.old.items }
@@ -50,7 +50,7 @@ pub fn steal_round<K: Run>(thieves: &[Thief<K>], passes: &mut Vec<DequePass<K>>)
     None
 }
 
-/// Selfruns once to steal from each other deque, from the next number on and round.
+/// Tries once to steal from each other deque, from the next number on and round.
 pub fn steal_next<K: Run>(
     thieves: &[Thief<K>],
     number: usize,

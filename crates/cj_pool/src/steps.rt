@@ -51,7 +51,7 @@ pub fn pop<K: Run>(own: &mut Owner<K>) -> Option<Work<K>>
     own.pop_as::<Takes>()
 }
 
-/// Selfruns once to take the first cell of another's queue.
+/// Tries once to take the first cell of another's queue.
 pub fn steal<K: Run>(thief: &Thief<K>, pass: &mut DequePass<K>) -> Steal<Work<K>>
     requires { (0 < (view pass.old).parts) × IsPassOf (stealer_deque thief.now) pass.old }
     ensures same { SamePass pass.old pass.new }

@@ -13,7 +13,7 @@ tick_at seconds = tick_of (seconds * 1_000_000)
 abbrev pub state : ℕ → Vec3 → Vec3 → PlainNode
 state second p v = record { at = tick_at second; p = p; v = v }
 
--- useable from one second to another, with two states and no covariance
+-- useable from one second to another, with two nodes and no covariance
 abbrev pub between : ℕ → ℕ → PlainNode → PlainNode → PlainSegment
 between first last from to = record { first = tick_at first; last = tick_at last; nodes = from ∷ to ∷ []; covariances = [] }
 

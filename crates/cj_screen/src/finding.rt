@@ -15,7 +15,7 @@ ghost use Rattle.cj_status.specs.Steps.{Gives};
 
 use crate::results::Results;
 use crate::screening::screen;
-use crate::selfruns::try_catalogue;
+use crate::selfruns::selfrun_catalogue;
 use crate::task::Task;
 use cj_base::Tick;
 use cj_case::Problem;
@@ -53,7 +53,9 @@ pub fn find<'w, R: Threads + Wait + Sync, G: Gate + Sync>(
             recipe.objects,
             recipe.minutes,
         )?)),
-        Task::Selfrun(selfrun) => Ok(Results::Selfrun(try_catalogue(rt, alloc, gate, &selfrun)?)),
+        Task::Selfrun(selfrun) => Ok(Results::Selfrun(selfrun_catalogue(
+            rt, alloc, gate, &selfrun,
+        )?)),
         Task::Renew(certificate) => Ok(Results::Rewritten(certificate)),
     }
 }

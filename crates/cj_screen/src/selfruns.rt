@@ -29,7 +29,7 @@ use std::thread::Threads;
 
 /// Screens a made-up catalogue over its whole span, and checks the certificate of what is found.
 #[tactic(auto, unfolding(cj_outputs::specs::Outcome::outputs_of_selfrun))]
-pub fn try_catalogue<R: Threads + Wait + Sync, G: Gate + Sync>(
+pub fn selfrun_catalogue<R: Threads + Wait + Sync, G: Gate + Sync>(
     rt: &R,
     alloc: Global,
     gate: &G,

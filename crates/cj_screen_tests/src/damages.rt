@@ -563,7 +563,7 @@ enum Tried {
     Other(usize),
 }
 
-/// Selfruns a damage at some lines.
+/// Tries a damage at some lines.
 fn try_row<R: Threads + Wait + Sync>(
     rt: &R,
     alloc: Global,

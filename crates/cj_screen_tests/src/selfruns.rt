@@ -46,7 +46,7 @@ fn a_catalogue_in_memory_gives_the_summary_of_its_files(rt: HostRuntime) {
 }
 
 /// What a selfrun of fifty objects over two hours tells, which the program's stored run with four workers tells too.
-const TRIAL: &[u8] = b"OBJECTS 50
+const SELFRUN: &[u8] = b"OBJECTS 50
 PAIRS 1225
 PARTED 924
 TOUCHING 54
@@ -67,7 +67,7 @@ fn one_worker_tells_of_a_selfrun_what_four_do(rt: HostRuntime) {
     let line = "selfrun --objects 50 --minutes 120";
     let end = end_alone(&rt, rt.alloc(), line, &mut shelf).expect(&rt, "no fault");
     assert_eq!(rt; end.number, 0);
-    assert!(rt; output_of(shelf.written(), b"-") == TRIAL);
+    assert!(rt; output_of(shelf.written(), b"-") == SELFRUN);
 }
 
 #[test]

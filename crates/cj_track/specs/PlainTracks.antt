@@ -11,7 +11,7 @@ pub record PlainNode : Type 0 where
   pub p : Vec3
   pub v : Vec3
 
--- the first of these states
+-- the first of these nodes
 abbrev pub first_state : List PlainNode → Option PlainNode
 first_state [] = None
 first_state (s ∷ nodes) = Some s
@@ -25,7 +25,7 @@ pub record PlainMatrix : Type 0 where
   pub at : ℕ
   pub values : List Number
 
--- a segment: its states in order of time, its useable span from the first to the last tick, its covariances as they stand in the file
+-- a segment: its nodes in order of time, its useable span from the first to the last tick, its covariances as they stand in the file
 pub record PlainSegment : Type 0 where
   pub first : ℕ
   pub last : ℕ

@@ -12,7 +12,7 @@ AreInOrder (a ∷ b ∷ segments) = (a.last.micros ≤ b.first.micros) × AreInO
 abbrev pub node_count : List Segment → ℕ
 node_count segments = sum_by (λ segment. length segment.nodes) segments
 
--- the segments of an ephemeris: one or more, in order of time, with fewer than 2 ^ 32 nodes in all
+-- the segments of a track: one or more, in order of time, with fewer than 2 ^ 32 nodes in all
 pub record AreSegments (segments : List Segment) : Type 0 where
   pub some : 1 ≤ length segments
   pub order : AreInOrder segments

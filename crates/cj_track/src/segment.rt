@@ -5,7 +5,7 @@ use crate::matrices::Matrices;
 use crate::nodes::Nodes;
 use cj_base::Tick;
 
-/// A segment of an ephemeris: its useable span, its nodes, its covariances. Interpolation stays within it.
+/// A segment of a track: its useable span, its nodes, its covariances. Interpolation stays within it.
 #[derive(Debug, Drop, PartialEq, Eq)]
 pub struct Segment {
     pub first: Tick,

@@ -7,7 +7,7 @@ use crate::segment::Segment;
 use std::alloc::{AllocError, Global};
 use std::marker::Model;
 
-/// The segments of an ephemeris: one or more, whose useable spans share at most one tick with the next.
+/// The segments of a track: one or more, whose useable spans share at most one tick with the next.
 #[derive(Debug, Drop)]
 pub struct Segments {
     items: Vec<Segment>,

@@ -1,4 +1,4 @@
-use Rattle.std.proofs.Common.{◌≡◌, ◌≤◌, ℕ, take, subst, arith}
+use Rattle.std.proofs.Common.{◌≡◌, ℕ, take, subst, arith}
 use Rattle.cj_case.specs.Problems.{plain_problem}
 use Rattle.cj_candidates.proofs.SlotRunLemmas.{grown, grown_by, not_whole, on_ok, roots_with}
 use Rattle.cj_candidates.proofs.slots_shared.append_some.Goals as goal

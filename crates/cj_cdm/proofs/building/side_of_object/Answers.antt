@@ -1,7 +1,6 @@
-use Rattle.std.proofs.Common.{◌≡◌, Option, Some, ap, map, sym, ◌∙◌}
-use Rattle.std.specs.Prelude.{option_and_then, slice_get}
+use Rattle.std.proofs.Common.{Option, ap, sym, ◌∙◌}
+use Rattle.std.specs.Prelude.{option_and_then}
 use Rattle.cj_track.specs.PlainTracks.{PlainTrack}
-use Rattle.cj_track.specs.Tracks.{plain_track}
 use Rattle.cj_case.specs.declared.problem.Problem.{Problem}
 use Rattle.cj_case.specs.Problems.{plain_problem}
 use Rattle.cj_cdm.specs.Building.{side_of}

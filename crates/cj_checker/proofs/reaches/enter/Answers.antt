@@ -1,7 +1,6 @@
 use Rattle.std.proofs.Common.{◌≤◌, map, sym, ◌∙◌, arith, below_more}
-use Rattle.std.specs.Prelude.{option_map}
 use Rattle.cj_case.specs.Problems.{plain_problem}
-use Rattle.cj_case.specs.Boxes.{plain_box, plain_boxes}
+use Rattle.cj_case.specs.Boxes.{plain_boxes}
 use Rattle.cj_cert.specs.declared.cert_lines.ShellLine.{ShellLine}
 use Rattle.cj_checker.specs.Sweeps.{HasReach, reach_of, side}
 use Rattle.cj_checker.proofs.RoundLemmas.{shell_on}

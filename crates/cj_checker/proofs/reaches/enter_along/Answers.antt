@@ -1,5 +1,5 @@
 use Rattle.std.proofs.Common.{◌<◌, map, length, ◌∙◌, arith}
-use Rattle.std.specs.Prelude.{All, option_map}
+use Rattle.std.specs.Prelude.{option_map}
 use Rattle.std.proofs.lemmas.List.{length-map}
 use Rattle.std.proofs.lemmas.List.Sorted.{All-permutation, Contains-permutation}
 use Rattle.cj_case.specs.Problems.{plain_problem}

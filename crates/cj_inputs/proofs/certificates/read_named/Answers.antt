@@ -9,7 +9,7 @@ use Rattle.cj_inputs.proofs.EndLemmas.{ok_not_err}
 use Rattle.cj_inputs.proofs.StepLemmas.{input_found, comes_between, folder_failed, input_ends}
 use Rattle.cj_inputs.proofs.certificates.read_named.Goals as goal
 
--- a piece that is not there is no fault of the folder
+-- an input that is not there is no fault of the folder
 no_file : {X P : Type 0} {line : ℕ} {cause : CertificateCause} → ◌≡◌ {A = Result X Status} (Err (status.NotAccepted line cause)) (Err status.ReadFault) → P
 no_file is = absurd cc
 

@@ -1,4 +1,4 @@
-use Rattle.std.proofs.Common.{◌≡◌, List, ℕ, Option, Ok, subst}
+use Rattle.std.proofs.Common.{List, ℕ, Option, Ok, subst}
 use Rattle.cj_kvn.specs.Cursors.{Follows}
 use Rattle.cj_kvn.specs.Lines.{form_at}
 use Rattle.cj_kvn.specs.declared.lines.Line.{Line}

@@ -47,16 +47,16 @@ returns-in_err-catalogue-in-Make g c =
     let p = err_from_is_err_and c.from_residual-in_err-catalogue-in-Make.result c.from_residual-in_err-catalogue-in-Make.ensures.1 in
     rw (p.1, p.2, c.in-Make.is) (record { ends = tt; told = tt; due = tt; shows = λ files command readies. tt })
 
-pub returns-in_ok-try_catalogue-in-Selfrun : goal.returns-in_ok-try_catalogue-in-Selfrun
-returns-in_ok-try_catalogue-in-Selfrun g c =
-    let selfrun = c.in_ok-try_catalogue-in-Selfrun.ensures in
+pub returns-in_ok-selfrun_catalogue-in-Selfrun : goal.returns-in_ok-selfrun_catalogue-in-Selfrun
+returns-in_ok-selfrun_catalogue-in-Selfrun g c =
+    let selfrun = c.in_ok-selfrun_catalogue-in-Selfrun.ensures in
     rw c.in-Selfrun.is (record { ends = tt; told = selfrun.told; due = selfrun.found; shows = λ files command readies. shows_made command files _ _ (inr tt) readies })
 
-pub returns-in_err-try_catalogue-in-Selfrun : goal.returns-in_err-try_catalogue-in-Selfrun
-returns-in_err-try_catalogue-in-Selfrun g c =
-    let s = c.in_err-try_catalogue-in-Selfrun.field-0.0 in
-    let selfrun = c.in_err-try_catalogue-in-Selfrun.ensures in
-    let p = err_from_is_err_and c.from_residual-in_err-try_catalogue-in-Selfrun.result c.from_residual-in_err-try_catalogue-in-Selfrun.ensures.1 in
+pub returns-in_err-selfrun_catalogue-in-Selfrun : goal.returns-in_err-selfrun_catalogue-in-Selfrun
+returns-in_err-selfrun_catalogue-in-Selfrun g c =
+    let s = c.in_err-selfrun_catalogue-in-Selfrun.field-0.0 in
+    let selfrun = c.in_err-selfrun_catalogue-in-Selfrun.ensures in
+    let p = err_from_is_err_and c.from_residual-in_err-selfrun_catalogue-in-Selfrun.result c.from_residual-in_err-selfrun_catalogue-in-Selfrun.ensures.1 in
     rw (p.1, p.2, c.in-Selfrun.is) (record {
       ends = comes_of_search (Selfrun c.in-Selfrun.selfrun) s (λ none. none) selfrun.ends;
       told = selfrun.told;

@@ -21,7 +21,7 @@ find-requires-clause-boxes c =
 count : (c : After-find) → length c.deref-2.result.now ≡ length c.args.problem.now.tracks
 count c = ap length c.deref-2.ensures.value ∙ filled_length (table_of c.args.listed.now c.args.slot) _ c.fill.new.boxes.items c.in_ok-fill.ensures ∙ ap length c.as_slice.ensures.value
 
--- what the sweep looks at is what is listed
+-- the candidates of the sweep are those by what is listed
 same : (c : After-find) (a b : ℕ) → candidate_with (plain_problem c.args.problem.now) (map (λ (line : ShellLine). line.shell) c.deref.result.now) (plain_boxes c.deref-2.result.now) (a, b)
     ≡ is_candidate_listed (plain_problem c.args.problem.now) (plain_certificate c.args.cert.now) a b c.args.slot
 same c a b =

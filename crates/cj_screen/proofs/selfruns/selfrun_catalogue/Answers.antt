@@ -10,7 +10,7 @@ use Rattle.cj_outputs.specs.Findings.{outputs_in}
 use Rattle.cj_outputs.specs.Messages.{PlainOrigin}
 use Rattle.cj_outputs.specs.Outcome.{outputs_within}
 use Rattle.cj_screen.proofs.SelfrunLemmas.{comes_of_selfrun, selfrun_after, selfrun_told, within_limits_of}
-use Rattle.cj_screen.proofs.selfruns.try_catalogue.Goals as goal
+use Rattle.cj_screen.proofs.selfruns.selfrun_catalogue.Goals as goal
 
 -- nothing is made of it here
 nobody : PlainOrigin
