@@ -1,11 +1,11 @@
 -- Runs of objects: all of a list, and a run with the one behind it.
-use Rattle.std.proofs.Common.{◌≡◌, ℕ, ◌+◌, ◌<◌, ◌++◌, List, [], ◌∷◌, length, get_or, map, take, All, sym, ap, subst, ◌∙◌}
+use Rattle.std.proofs.Common.{◌≡◌, ℕ, ◌+◌, ◌<◌, ◌++◌, List, [], ◌∷◌, length, get_or, map, take, All, refl, sym, ap, subst, ◌∙◌}
 use Rattle.std.specs.Prelude.{Option, Result, Ok, Err, IfOk, option_map}
 use Rattle.std.specs.declared.alloc.AllocError.{AllocError}
 use Rattle.std.specs.List.{flat_map}
 use Rattle.std.proofs.lemmas.List.{append-nil, map-append, take_more}
 use Rattle.std.proofs.lemmas.List.Concat.{flat_map-append}
-use Rattle.std.proofs.lemmas.List.Elements.{All-append, All-same}
+use Rattle.std.proofs.lemmas.List.Elements.{All-append, All-nil, All-same}
 use Rattle.cj_track.specs.declared.track.Track.{Track}
 use Rattle.cj_track.specs.PlainTracks.{PlainTrack}
 use Rattle.cj_track.specs.Tracks.{plain_track}
@@ -33,31 +33,30 @@ measured_to k tracks first last n found_shells found_boxes all shells boxes in_s
   in_boxes = subst (λ (ts : List Track). All (IsInOwnBoxes first last n) (map plain_track ts)) all in_boxes;
 }
 
--- one run is a list of runs
-pub one_run : (tracks : List Track) (first last n : ℕ) (run : ObjectRun) → AreMeasured tracks first last n run → AreMeasuredIn tracks first last n (run ∷ [])
-one_run tracks first last n run one = record {
-  shells = append-nil run.shells.items ∙ one.shells;
-  boxes = ap plain_boxes (append-nil run.boxes.items) ∙ one.boxes;
-  in_shells = one.in_shells;
-  in_boxes = one.in_boxes;
+-- of no objects
+pub none_measured : (first last n : ℕ) → AreMeasuredIn [] first last n []
+none_measured first last n = record {
+  shells = refl;
+  boxes = refl;
+  in_shells = All-nil (IsInOwnShell first last);
+  in_boxes = All-nil (IsInOwnBoxes first last n);
 }
 
--- the runs of some objects and of others behind them
-pub both_measured : (some others : List Track) (first last n : ℕ) (front back : List ObjectRun) → AreMeasuredIn some first last n front → AreMeasuredIn others first last n back
-    → AreMeasuredIn (some ++ others) first last n (front ++ back)
-both_measured some others first last n front back one two =
+-- a run of some objects, and the runs of others behind them
+pub both_measured : (some others : List Track) (first last n : ℕ) (run : ObjectRun) (more : List ObjectRun) → AreMeasured some first last n run
+    → AreMeasuredIn others first last n more → AreMeasuredIn (some ++ others) first last n (run ∷ more)
+both_measured some others first last n run more one two =
     let tracks : map plain_track (some ++ others) ≡ map plain_track some ++ map plain_track others = map-append plain_track some others in
     let shell : PlainTrack → Option Shell = λ e. shell_of e first last in
     let row : PlainTrack → List (Option PlainBox) = λ e. boxes_over e first last n in
     let shells_in : List ObjectRun → List (Option Shell) = flat_map (λ run. run.shells.items) in
     let boxes_in : List ObjectRun → List (Option AxisBox) = flat_map (λ run. run.boxes.items) in
     record {
-      shells = flat_map-append (λ (run : ObjectRun). run.shells.items) front back
-          ∙ ap (λ (xs : List (Option Shell)). xs ++ shells_in back) one.shells ∙ ap (λ (xs : List (Option Shell)). map shell (map plain_track some) ++ xs) two.shells
+      shells = ap (λ (xs : List (Option Shell)). xs ++ shells_in more) one.shells
+          ∙ ap (λ (xs : List (Option Shell)). map shell (map plain_track some) ++ xs) two.shells
           ∙ sym (ap (map shell) tracks ∙ map-append shell (map plain_track some) (map plain_track others));
-      boxes = ap plain_boxes (flat_map-append (λ (run : ObjectRun). run.boxes.items) front back)
-          ∙ map-append (option_map plain_box) (boxes_in front) (boxes_in back)
-          ∙ ap (λ (xs : List (Option PlainBox)). xs ++ plain_boxes (boxes_in back)) one.boxes
+      boxes = map-append (option_map plain_box) run.boxes.items (boxes_in more)
+          ∙ ap (λ (xs : List (Option PlainBox)). xs ++ plain_boxes (boxes_in more)) one.boxes
           ∙ ap (λ (xs : List (Option PlainBox)). flat_map row (map plain_track some) ++ xs) two.boxes
           ∙ sym (ap (flat_map row) tracks ∙ flat_map-append row (map plain_track some) (map plain_track others));
       in_shells = All-same (IsInOwnShell first last) (map plain_track (some ++ others)) (map plain_track some ++ map plain_track others) tracks

@@ -1,14 +1,16 @@
--- Runs of slots: one slot more, one run more, and runs with those behind them.
-use Rattle.std.proofs.Common.{◌≡◌, ℕ, ◌+◌, ◌-◌, ◌*◌, ◌<◌, ◌≤◌, ◌++◌, List, [], ◌∷◌, Vec, Global, length, map, min, take, drop, Bool, true, false, get_or, vec_len, sym, ap, subst, ◌∙◌, arith, append-nil, append_assoc, length-append}
-use Rattle.std.specs.Prelude.{Result, Ok, Err, IfOk, OnOk}
-use Rattle.std.specs.List.{flat_map, range_with_len, sum_by}
+-- Runs of slots: one slot more, and runs with those behind them.
+use Rattle.std.proofs.Common.{◌≡◌, ℕ, ◌+◌, ◌-◌, ◌*◌, ◌<◌, ◌≤◌, ◌++◌, List, [], ◌∷◌, Vec, Global, length, map, take, drop, Bool, true, false, get_or, vec_len, ◌&&◌, refl, sym, ap, subst, ◌∙◌, arith, append-nil, append_assoc, length-append}
+use Rattle.std.specs.Prelude.{All, Result, Ok, Err, IfOk, OnOk}
+use Rattle.std.specs.List.{flat_map, list_all, range_with_len, sum_by}
 use Rattle.std.specs.List.Sorted.{IsPermutation}
-use Rattle.std.proofs.lemmas.List.{length-map, length-take, map-append, take-append-drop, take_more}
+use Rattle.std.proofs.lemmas.List.{length-take, map-append, take-append-drop, take_more}
 use Rattle.std.proofs.lemmas.List.Concat.{flat_map-append}
-use Rattle.std.proofs.lemmas.List.FromFn.{length-range_with_len}
-use Rattle.std.proofs.lemmas.List.Sorted.{IsPermutation-append, IsPermutation-map, IsPermutation-trans, length_permutation}
-use Rattle.std.proofs.lemmas.List.Sums.{sum_by-append, sum_by-cons, sum_by-le, sum_by_more, sum_by_push}
+use Rattle.std.proofs.lemmas.List.Folds.{length-flat_map-take}
+use Rattle.std.proofs.lemmas.List.FromFn.{get_or-range_with_len, length-range_with_len}
+use Rattle.std.proofs.lemmas.List.Sorted.{IsPermutation-append, IsPermutation-map, IsPermutation-refl, IsPermutation-trans, length_permutation}
+use Rattle.std.proofs.lemmas.List.Sums.{sum_by-append, sum_by-cons, sum_by-le, sum_by_more}
 use Rattle.cj_interval.proofs.RangeLemmas.{range_cut}
+use Rattle.cj_threads.proofs.RunLemmas.{pushed}
 use Rattle.cj_case.specs.PlainProblems.{PlainProblem}
 use Rattle.cj_case.specs.declared.pair.Pair.{Pair}
 use Rattle.cj_case.specs.Pairs.{objects_of}
@@ -20,9 +22,8 @@ use Rattle.cj_bezier.specs.Candidates.{candidate_pairs}
 use Rattle.cj_cells.specs.Cells.{added_roots}
 use Rattle.cj_cells.proofs.WalkLemmas.{added_count, added_twice}
 use Rattle.cj_candidates.specs.declared.slot_run.SlotRun.{SlotRun}
-use Rattle.cj_candidates.specs.declared.slot_run.SlotRuns.{SlotRuns}
-use Rattle.cj_candidates.specs.declared.stretch.Stretch.{Stretch}
-use Rattle.cj_candidates.specs.SlotRuns.{roots_over, candidates_over, roots_of_stretch, looked_of_stretch, roots_at, roots_listed, candidates_at, IsFound, IsFoundAt}
+use Rattle.cj_candidates.specs.declared.slot_run.ThreadRun.{ThreadRun}
+use Rattle.cj_candidates.specs.SlotRuns.{roots_at, roots_over, roots_listed, candidates_at, candidates_over, candidates_counted, AreFoundIn, AreWhole, IsFound, IsFoundIn}
 use Rattle.cj_candidates.proofs.CountLemmas.{candidates_few}
 
 pub roots_both : (case : PlainProblem) (from a b : ℕ) → roots_over case from (a + b) ≡ roots_over case from a ++ roots_over case (from + a) b
@@ -74,108 +75,79 @@ roots_upto case from slot count le lt =
       length-append (roots_over case from (slot - from)) (roots_in_slot case slot (candidate_pairs case slot)),
     )
 
--- ---- several runs
+-- so many slots from one on are below the end
+pub below : (from count slots : ℕ) → from + count ≤ slots → All (λ slot. slot < slots) (range_with_len from count)
+below from count slots le = λ k d lt.
+    let size = length-range_with_len from count in
+    omega (arith, le, lt, size, get_or-range_with_len from count k d (omega (arith, lt, size)))
 
--- of one run more
-pub roots_after : (old new : List Stretch) (stretch : Stretch) → new ≡ old ++ stretch ∷ [] → roots_at new ≡ roots_at old ++ roots_of_stretch stretch
-roots_after old new stretch more =
-    ap roots_at more ∙ flat_map-append roots_of_stretch old (stretch ∷ []) ∙ ap (λ (rs : List PlainCell). roots_at old ++ rs) (append-nil (roots_of_stretch stretch))
+-- ---- the first of some slots, and the next
 
-pub candidates_after : (old new : List Stretch) (stretch : Stretch) → new ≡ old ++ stretch ∷ [] → candidates_at new ≡ candidates_at old + looked_of_stretch stretch
-candidates_after old new stretch more = ap candidates_at more ∙ sum_by_push looked_of_stretch old stretch
+pub roots_more : (case : PlainProblem) (slots : List ℕ) (i d : ℕ) → i < length slots
+    → roots_at case (take (i + 1) slots) ≡ roots_at case (take i slots) ++ roots_in_slot case (get_or slots i d) (candidate_pairs case (get_or slots i d))
+roots_more case slots i d lt =
+    ap (roots_at case) (take_more slots i d lt) ∙ pushed (λ (k : ℕ). roots_in_slot case k (candidate_pairs case k)) (take i slots) (get_or slots i d)
 
--- of the first runs, and the next
-pub roots_more : (stretches : List Stretch) (i : ℕ) (stretch : Stretch) → i < length stretches → stretch ≡ get_or stretches i stretch
-    → roots_at (take (i + 1) stretches) ≡ roots_at (take i stretches) ++ roots_of_stretch stretch
-roots_more stretches i stretch lt is =
-    roots_after (take i stretches) (take (i + 1) stretches) stretch (take_more stretches i stretch lt ∙ ap (λ (s : Stretch). take i stretches ++ s ∷ []) (sym is))
+pub candidates_more : (case : PlainProblem) (slots : List ℕ) (i d : ℕ) → i < length slots
+    → candidates_at case (take (i + 1) slots) ≡ candidates_at case (take i slots) + length (candidate_pairs case (get_or slots i d))
+candidates_more case slots i d lt = sum_by_more (λ (k : ℕ). length (candidate_pairs case k)) slots i d lt
 
-pub candidates_more_at : (stretches : List Stretch) (i : ℕ) (stretch : Stretch) → i < length stretches → stretch ≡ get_or stretches i stretch
-    → candidates_at (take (i + 1) stretches) ≡ candidates_at (take i stretches) + looked_of_stretch stretch
-candidates_more_at stretches i stretch lt is =
-    sum_by_more looked_of_stretch stretches i stretch lt ∙ ap (λ (s : Stretch). candidates_at (take i stretches) + looked_of_stretch s) (sym is)
+-- there they have no more roots than all
+pub roots_within : (case : PlainProblem) (slots : List ℕ) (i d : ℕ) → i < length slots
+    → length (roots_at case (take i slots)) + length (roots_in_slot case (get_or slots i d) (candidate_pairs case (get_or slots i d)))
+    ≤ length (roots_at case slots)
+roots_within case slots i d lt = length-flat_map-take (λ (k : ℕ). roots_in_slot case k (candidate_pairs case k)) slots i d lt
 
--- one run has no more roots than all
-pub one_within : (stretches : List Stretch) (i : ℕ) (stretch : Stretch) → i < length stretches → stretch ≡ get_or stretches i stretch
-    → length (roots_of_stretch stretch) ≤ length (roots_at stretches)
-one_within stretches i stretch lt is =
-    let upto = ap length (roots_more stretches i stretch lt is) in
-    let all = ap length (ap roots_at (sym (take-append-drop (i + 1) stretches)) ∙ flat_map-append roots_of_stretch (take (i + 1) stretches) (drop (i + 1) stretches)) in
-    omega (
-      arith,
-      upto,
-      all,
-      length-append (roots_at (take i stretches)) (roots_of_stretch stretch),
-      length-append (roots_at (take (i + 1) stretches)) (roots_at (drop (i + 1) stretches)),
-    )
+-- ---- what threads have found in some slots
 
--- the cells of lists
-abbrev cells_at : List (Vec Cell Global) → List PlainCell
-cells_at lists = plain_cells (flat_map (λ list. list.items) lists)
+-- in none
+pub none_found : (case : PlainProblem) → AreFoundIn case [] []
+none_found case = record { few = omega arith; roots = λ _. IsPermutation-refl []; touching = λ _. refl }
 
-cells_both : (front back : List (Vec Cell Global)) → cells_at (front ++ back) ≡ cells_at front ++ cells_at back
-cells_both front back =
-    let items = λ (list : Vec Cell Global). list.items in
-    ap plain_cells (flat_map-append items front back) ∙ map-append plain_cell (flat_map items front) (flat_map items back)
+both_are : (a b : Bool) → (a && b) ≡ true → (a ≡ true) × (b ≡ true)
+both_are true b is = (refl, is)
+both_are false b is = let e : false ≡ true = is in absurd cc
 
--- one run more is found
-pub found_more : (stretches : List Stretch) (i : ℕ) (stretch : Stretch) (lists : List (Vec Cell Global)) (list : Vec Cell Global) → i < length stretches
-    → stretch ≡ get_or stretches i stretch → IsPermutation (roots_at (take i stretches)) (cells_at lists)
-    → IsPermutation (roots_of_stretch stretch) (plain_cells list.items) → IsPermutation (roots_at (take (i + 1) stretches)) (cells_at (lists ++ list ∷ []))
-found_more stretches i stretch lists list lt is before here =
-    let new : cells_at (lists ++ list ∷ []) ≡ cells_at lists ++ plain_cells list.items =
-    cells_both lists (list ∷ []) ∙ ap (λ (cs : List Cell). cells_at lists ++ plain_cells cs) (append-nil list.items) in
-    subst (λ (rs : List PlainCell). IsPermutation rs (cells_at (lists ++ list ∷ []))) (sym (roots_more stretches i stretch lt is))
-    (subst (λ (rs : List PlainCell). IsPermutation (roots_at (take i stretches) ++ roots_of_stretch stretch) rs) (sym new)
-    (IsPermutation-append (roots_at (take i stretches)) (cells_at lists) (roots_of_stretch stretch) (plain_cells list.items) before here))
-
--- or some of its roots
-pub few_more : (stretches : List Stretch) (i : ℕ) (stretch : Stretch) (lists : List (Vec Cell Global)) (list : Vec Cell Global) → i < length stretches
-    → stretch ≡ get_or stretches i stretch → length (flat_map (λ l. l.items) lists) ≤ length (roots_at (take i stretches))
-    → length list.items ≤ length (roots_of_stretch stretch) → length (flat_map (λ l. l.items) (lists ++ list ∷ [])) ≤ length (roots_at (take (i + 1) stretches))
-few_more stretches i stretch lists list lt is before here =
-    let items = λ (l : Vec Cell Global). l.items in
-    let new : flat_map items (lists ++ list ∷ []) ≡ flat_map items lists ++ list.items =
-    flat_map-append items lists (list ∷ []) ∙ ap (λ (cs : List Cell). flat_map items lists ++ cs) (append-nil list.items) in
-    omega (
-      arith,
-      before,
-      here,
-      ap length new,
-      length-append (flat_map items lists) list.items,
-      ap length (roots_more stretches i stretch lt is),
-      length-append (roots_at (take i stretches)) (roots_of_stretch stretch),
-    )
-
--- ---- runs with those behind them
-
--- what is found in both, one behind the other
-pub both_found : (some others : List Stretch) (front back all : SlotRuns) → IsFoundAt some front → IsFoundAt others back → all.roots.items ≡ front.roots.items ++ back.roots.items
-    → all.touching ≡ min (front.touching + back.touching) 18_446_744_073_709_551_615 → (all.whole ≡ true → (front.whole ≡ true) × (back.whole ≡ true))
-    → IsFoundAt (some ++ others) all
-both_found some others front back all one two roots touching whole =
-    let lists = λ (l : Vec Cell Global). l.items in
-    let both = flat_map-append roots_of_stretch some others in
-    let listed = ap (flat_map lists) roots ∙ flat_map-append lists front.roots.items back.roots.items in
+-- one of them in some slots, and others in those behind them
+pub both_found : (case : PlainProblem) (some others : List ℕ) (run : ThreadRun) (runs : List ThreadRun) → IsFoundIn case some run → AreFoundIn case others runs
+    → AreFoundIn case (some ++ others) (run ∷ runs)
+both_found case some others run runs one rest =
+    let f = λ (slot : ℕ). roots_in_slot case slot (candidate_pairs case slot) in
+    let g = λ (slot : ℕ). length (candidate_pairs case slot) in
+    let first = run.roots.items in
+    let behind = roots_listed runs in
+    let both : roots_at case (some ++ others) ≡ roots_at case some ++ roots_at case others = flat_map-append f some others in
     record {
       few = omega (
         arith,
         one.few,
-        two.few,
+        rest.few,
         ap length both,
-        length-append (roots_at some) (roots_at others),
-        ap length listed,
-        length-append (flat_map lists front.roots.items) (flat_map lists back.roots.items),
+        length-append (roots_at case some) (roots_at case others),
+        length-append first behind,
       );
-      roots = λ is.
-          subst (λ (rs : List PlainCell). IsPermutation rs (cells_at all.roots.items)) (sym both)
-          (subst (λ (rs : List PlainCell). IsPermutation (roots_at some ++ roots_at others) rs) (sym (ap cells_at roots ∙ cells_both front.roots.items back.roots.items))
-          (IsPermutation-append (roots_at some) (cells_at front.roots.items) (roots_at others) (cells_at back.roots.items) (one.roots (whole is).0) (two.roots (whole is).1)));
-      touching = λ is.
-          let first = one.touching (whole is).0 in
-          let second = two.touching (whole is).1 in
-          omega (arith, touching, first, second, sum_by-append looked_of_stretch some others);
+      roots = λ whole.
+          let each = both_are run.whole (list_all (λ (r : ThreadRun). r.whole) runs) whole in
+          subst (λ (rs : List PlainCell). IsPermutation rs (plain_cells (first ++ behind))) (sym both)
+          (subst (λ (rs : List PlainCell). IsPermutation (roots_at case some ++ roots_at case others) rs) (sym (map-append plain_cell first behind))
+          (IsPermutation-append (roots_at case some) (plain_cells first) (roots_at case others) (plain_cells behind) (one.roots each.0) (rest.roots each.1)));
+      touching = λ whole.
+          let each = both_are run.whole (list_all (λ (r : ThreadRun). r.whole) runs) whole in
+          let here = one.touching each.0 in
+          let there = rest.touching each.1 in
+          omega (arith, here, there, sum_by-cons (λ (r : ThreadRun). r.touching) run runs, sum_by-append g some others);
     }
+
+-- the lists so far and the roots of the runs that are left, when one list more is made
+pub list_more : (lists new : List (Vec Cell Global)) (run : ThreadRun) (left rest : List ThreadRun) (all : List Cell)
+    → new ≡ lists ++ run.roots ∷ [] → left ≡ run ∷ rest
+    → flat_map (λ list. list.items) lists ++ roots_listed left ≡ all → flat_map (λ list. list.items) new ++ roots_listed rest ≡ all
+list_more lists new run left rest all grown first so_far =
+    let items = λ (list : Vec Cell Global). list.items in
+    ap (λ (ls : List (Vec Cell Global)). flat_map items ls ++ roots_listed rest) grown
+    ∙ ap (λ (cs : List Cell). cs ++ roots_listed rest) (pushed items lists run.roots)
+    ∙ append_assoc (flat_map items lists) run.roots.items (roots_listed rest)
+    ∙ ap (λ (rs : List ThreadRun). flat_map items lists ++ roots_listed rs) (sym first) ∙ so_far
 
 -- ---- some pairs of a slot, and those behind them
 
@@ -234,17 +206,16 @@ candidates_over_few case from count few =
     subst (λ (n : ℕ). candidates_over case from count ≤ n * 4_294_836_225) (length-range_with_len from count)
     (sum_by-le (λ slot. length (candidate_pairs case slot)) 4_294_836_225 (range_with_len from count) (λ k d lt. candidates_few case (get_or (range_with_len from count) k d) few))
 
--- what is found in runs that are all slots, merged
-pub all_found : (case : PlainProblem) (from count limit : ℕ) (stretches : List Stretch) (runs : SlotRuns) (run : SlotRun) → roots_at stretches ≡ roots_over case from count
-    → candidates_at stretches ≡ candidates_over case from count → length case.tracks ≤ 65_535 → count < 4_294_967_296 → IsFoundAt stretches runs → runs.whole ≡ true
-    → length (roots_listed runs) ≤ limit → IsPermutation (roots_listed runs) run.roots.items → vec_len run.roots ≡ length run.roots.items → run.touching ≡ runs.touching
+-- what is found in runs of all slots, merged
+pub all_found : (case : PlainProblem) (from count limit : ℕ) (runs : List ThreadRun) (run : SlotRun) → length case.tracks ≤ 65_535 → count < 4_294_967_296
+    → AreFoundIn case (range_with_len from count) runs → AreWhole runs → length (roots_listed runs) ≤ limit
+    → IsPermutation (roots_listed runs) run.roots.items → vec_len run.roots ≡ length run.roots.items → run.touching ≡ candidates_counted runs
     → IsFound case from count limit run
-all_found case from count limit stretches runs run same candidate objects slots found whole few merged len touching =
+all_found case from count limit runs run objects slots found whole few merged len touching =
     let all = found.touching whole in
     record {
-      roots = subst (λ (rs : List PlainCell). IsPermutation rs (plain_cells run.roots.items)) same
-          (IsPermutation-trans (roots_at stretches) (cells_at runs.roots.items) (plain_cells run.roots.items) (found.roots whole)
-          (IsPermutation-map plain_cell (roots_listed runs) run.roots.items merged));
+      roots = IsPermutation-trans (roots_over case from count) (plain_cells (roots_listed runs)) (plain_cells run.roots.items) (found.roots whole)
+          (IsPermutation-map plain_cell (roots_listed runs) run.roots.items merged);
       few = omega (arith, few, len, length_permutation _ _ merged);
-      touching = omega (arith, touching, all, candidate, candidates_over_few case from count objects, slots);
+      touching = omega (arith, touching, all, candidates_over_few case from count objects, slots);
     }

@@ -1,9 +1,8 @@
--- What is found in a run of slots.
+-- What is found in some slots.
 use Rattle.std.specs.Prelude.{◌≡◌, ℕ, ◌<◌, ◌≤◌, List, length, min, true, vec_len, Result, IfOk, IsErrOf}
-use Rattle.std.specs.List.{flat_map, range_with_len, sum_by}
+use Rattle.std.specs.List.{flat_map, list_all, range_with_len, sum_by}
 use Rattle.std.specs.List.Sorted.{IsPermutation}
 use Rattle.cj_case.specs.PlainProblems.{PlainProblem}
-use Rattle.cj_case.specs.Problems.{plain_problem}
 use Rattle.cj_case.specs.Cells.{PlainCell}
 use Rattle.cj_hermite.specs.Roots.{roots_in_slot}
 use Rattle.cj_case.specs.declared.cell.Cell.{Cell}
@@ -12,31 +11,22 @@ use Rattle.cj_bezier.specs.Candidates.{candidate_pairs}
 use Rattle.cj_cells.specs.declared.refine_error.RefineError.{RefineError}
 use Rattle.cj_cells.specs.declared.refine_error.RefineError.TheVariants.{TooMany}
 use Rattle.cj_candidates.specs.declared.slot_run.SlotRun.{SlotRun}
-use Rattle.cj_candidates.specs.declared.slot_run.SlotRuns.{SlotRuns}
 use Rattle.cj_candidates.specs.declared.slot_run.ThreadRun.{ThreadRun}
-use Rattle.cj_candidates.specs.declared.stretch.Stretch.{Stretch}
 
--- the roots of the candidates in so many slots from one on, slot by slot
-abbrev pub roots_over : PlainProblem → ℕ → ℕ → List PlainCell
-roots_over case from count = flat_map (λ slot. roots_in_slot case slot (candidate_pairs case slot)) (range_with_len from count)
+-- the roots of the candidates in some slots, slot by slot
+abbrev pub roots_at : PlainProblem → List ℕ → List PlainCell
+roots_at case slots = flat_map (λ slot. roots_in_slot case slot (candidate_pairs case slot)) slots
 
 -- how many candidates there are there, summed over the slots
+abbrev pub candidates_at : PlainProblem → List ℕ → ℕ
+candidates_at case slots = sum_by (λ slot. length (candidate_pairs case slot)) slots
+
+-- those in so many slots from one on
+abbrev pub roots_over : PlainProblem → ℕ → ℕ → List PlainCell
+roots_over case from count = roots_at case (range_with_len from count)
+
 abbrev pub candidates_over : PlainProblem → ℕ → ℕ → ℕ
-candidates_over case from count = sum_by (λ slot. length (candidate_pairs case slot)) (range_with_len from count)
-
--- a run's
-abbrev pub roots_of_stretch : Stretch → List PlainCell
-roots_of_stretch stretch = roots_over (plain_problem stretch.ground.problem.now) stretch.from stretch.count
-
-abbrev pub looked_of_stretch : Stretch → ℕ
-looked_of_stretch stretch = candidates_over (plain_problem stretch.ground.problem.now) stretch.from stretch.count
-
--- those of several runs, one run behind another
-abbrev pub roots_at : List Stretch → List PlainCell
-roots_at stretches = flat_map roots_of_stretch stretches
-
-abbrev pub candidates_at : List Stretch → ℕ
-candidates_at stretches = sum_by looked_of_stretch stretches
+candidates_over case from count = candidates_at case (range_with_len from count)
 
 -- these are found, in whatever order, at most so many
 pub record IsFound (case : PlainProblem) (from count limit : ℕ) (run : SlotRun) : Type 0 where
@@ -49,18 +39,26 @@ pub record AreSought (case : PlainProblem) (from count limit : ℕ) (result : Re
   pub too_many : IsErrOf result TooMany → limit < length (roots_over case from count)
   pub found : IfOk result (IsFound case from count limit)
 
--- a thread has found these in a run: all of them, in whatever order, or no more than there are
-pub record IsFoundIn (stretch : Stretch) (run : ThreadRun) : Type 0 where
-  pub few : length run.roots.items ≤ length (roots_of_stretch stretch)
-  pub roots : run.whole ≡ true → IsPermutation (roots_of_stretch stretch) (plain_cells run.roots.items)
-  pub touching : run.whole ≡ true → run.touching ≡ min (looked_of_stretch stretch) 18_446_744_073_709_551_615
+-- a thread has found these in some slots: all of them, in whatever order, or no more than there are
+pub record IsFoundIn (case : PlainProblem) (slots : List ℕ) (run : ThreadRun) : Type 0 where
+  pub few : length run.roots.items ≤ length (roots_at case slots)
+  pub roots : run.whole ≡ true → IsPermutation (roots_at case slots) (plain_cells run.roots.items)
+  pub touching : run.whole ≡ true → run.touching ≡ min (candidates_at case slots) 18_446_744_073_709_551_615
 
 -- the roots of several runs, one run behind another
-abbrev pub roots_listed : SlotRuns → List Cell
-roots_listed runs = flat_map (λ list. list.items) runs.roots.items
+abbrev pub roots_listed : List ThreadRun → List Cell
+roots_listed runs = flat_map (λ run. run.roots.items) runs
 
--- threads have found these in several runs
-pub record IsFoundAt (stretches : List Stretch) (runs : SlotRuns) : Type 0 where
-  pub few : length (roots_listed runs) ≤ length (roots_at stretches)
-  pub roots : runs.whole ≡ true → IsPermutation (roots_at stretches) (plain_cells (roots_listed runs))
-  pub touching : runs.whole ≡ true → runs.touching ≡ min (candidates_at stretches) 18_446_744_073_709_551_615
+-- how many candidates they have counted together, or the greatest number that there is
+abbrev pub candidates_counted : List ThreadRun → ℕ
+candidates_counted runs = min (sum_by (λ run. run.touching) runs) 18_446_744_073_709_551_615
+
+-- none of them was stopped
+abbrev pub AreWhole : List ThreadRun → Type 0
+AreWhole runs = list_all (λ run. run.whole) runs ≡ true
+
+-- threads have found these in some slots
+pub record AreFoundIn (case : PlainProblem) (slots : List ℕ) (runs : List ThreadRun) : Type 0 where
+  pub few : length (roots_listed runs) ≤ length (roots_at case slots)
+  pub roots : AreWhole runs → IsPermutation (roots_at case slots) (plain_cells (roots_listed runs))
+  pub touching : AreWhole runs → candidates_counted runs ≡ min (candidates_at case slots) 18_446_744_073_709_551_615

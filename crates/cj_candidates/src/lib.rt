@@ -13,7 +13,6 @@ mod slot_boxes;
 mod slot_run;
 mod slots_searched;
 mod slots_shared;
-mod stretch;
 mod together;
 
 pub use candidates::Candidates;

@@ -13,7 +13,7 @@ use cj_base::Window;
 use cj_case::{AxisBox, Shell};
 use cj_grid::slot_box;
 use cj_sieve::shell;
-use cj_threads::{Jobs, ready_list, run_jobs};
+use cj_threads::{Nobody, map_parts, ready_list};
 use cj_track::Track;
 use cj_walk::TrackWalk;
 use std::alloc::{AllocError, Global};
@@ -79,51 +79,32 @@ fn measure_in_turn(
     Ok(ObjectRun { shells, boxes })
 }
 
-/// Some objects, as a list of one run.
-fn measure_part(
+/// So many objects a thread takes at once.
+const OBJECTS_A_PART: usize = 4;
+
+/// Some objects in runs, by as many threads as there are workers: each takes the next few objects that no other has taken.
+fn measure_runs<R: Threads + Sync>(
+    rt: &R,
     alloc: Global,
     tracks: &[Track],
     window: Window,
     slots: u32,
+    workers: usize,
 ) -> Result<Vec<ObjectRun>, AllocError>
     ensures { IfOk result (λ runs. AreMeasuredIn tracks.now window.first.micros window.last.micros slots runs.items) }
 {
-    let mut runs = Vec::with_capacity(alloc, 1)?;
-    runs.push(measure_in_turn(alloc, tracks, window, slots)?)?;
-    Ok(runs)
-}
-
-/// The runs of some objects and of those behind them.
-fn joined(mut front: Vec<ObjectRun>, mut back: Vec<ObjectRun>) -> Result<Vec<ObjectRun>, AllocError>
-    ensures { IfOk result (λ runs. runs.items ≡ front.items ++ back.items) }
-{
-    front.append(&mut back)?;
-    Ok(front)
-}
-
-/// What is done with objects: each is measured in a window and so many of its slots.
-#[derive(Clone, Copy)]
-struct Measuring {
-    window: Window,
-    slots: u32,
-}
-
-impl Jobs<Track> for Measuring {
-    type Output = Vec<ObjectRun>;
-
-    ghost comes_of = { λ measuring tracks runs. AreMeasuredIn tracks measuring.window.first.micros measuring.window.last.micros measuring.slots runs.items };
-
-    fn run(&self, alloc: Global, part: &[Track]) -> Result<Vec<ObjectRun>, AllocError> {
-        measure_part(alloc, part, self.window, self.slots)
-    }
-
-    fn join(
-        &self,
-        front: Vec<ObjectRun>,
-        back: Vec<ObjectRun>,
-    ) -> Result<Vec<ObjectRun>, AllocError> {
-        joined(front, back)
-    }
+    let measure = |some: &[Track]| -> Result<ObjectRun, AllocError>
+        ensures { IfOk result (AreMeasured some.now window.first.micros window.last.micros slots) }
+    { measure_in_turn(alloc, some, window, slots) };
+    map_parts(
+        rt,
+        alloc,
+        tracks,
+        OBJECTS_A_PART,
+        workers,
+        &Nobody,
+        &measure,
+    )
 }
 
 /// The shells and boxes of some runs, one run behind another: shells into a list with room for so many, boxes into an empty list that is given.
@@ -145,9 +126,6 @@ fn put_together(
     Ok(ObjectRun { shells, boxes })
 }
 
-/// So many objects a thread takes at once.
-const OBJECTS_A_PART: usize = 4;
-
 /// Some objects, by as many threads as there are workers, and beside that the list is made that takes all boxes.
 fn measure_by_threads<R: Threads + Sync>(
     rt: &R,
@@ -159,12 +137,11 @@ fn measure_by_threads<R: Threads + Sync>(
 ) -> Result<ObjectRun, AllocError>
     ensures { IfOk result (AreMeasured tracks.now window.first.micros window.last.micros slots) }
 {
-    let measuring = &Measuring { window, slots };
     let count = tracks.len().saturating_mul(slots as usize);
     let measure = || -> Result<Vec<ObjectRun>, AllocError>
         requires { IsSync R.row }
-        ensures { IfOk result (λ runs. AreMeasuredIn tracks.entry.now measuring.entry.now.window.first.micros measuring.entry.now.window.last.micros measuring.entry.now.slots runs.items) }
-    { run_jobs(rt, alloc, measuring, tracks, OBJECTS_A_PART, workers) };
+        ensures { IfOk result (λ runs. AreMeasuredIn tracks.entry.now window.first.micros window.last.micros slots runs.items) }
+    { measure_runs(rt, alloc, tracks, window, slots, workers) };
     let make = || -> Result<Vec<Option<AxisBox>>, AllocError>
         ensures { IfOk result (λ boxes. boxes.items ≡ []) }
     { ready_list(alloc, Some(None), count) };

@@ -1,19 +1,19 @@
 //! The roots of a run of slots: slot by slot, or by several threads.
 ghost use Rattle.std.specs.Prelude.{◌≡◌, ◌+◌, ◌<◌, ◌≤◌, length, map, min, flat_map, IfOk};
+ghost use Rattle.std.specs.List.{list_all, range_with_len};
 ghost use Rattle.std.specs.List.Sorted.{IsPermutation};
 ghost use Rattle.cj_base.specs.Bounds.{MOST_LEAVES};
 ghost use Rattle.cj_case.specs.Pairs.{objects_of};
 ghost use Rattle.cj_case.specs.Problems.{plain_problem};
 ghost use Rattle.cj_bezier.specs.Candidates.{boxes_in, candidate_pairs};
 ghost use Rattle.cj_case.specs.Boxes.{plain_boxes};
-ghost use Rattle.cj_candidates.specs.SlotRuns.{AreSought, candidates_at, candidates_over, roots_at, roots_over};
+ghost use Rattle.cj_candidates.specs.SlotRuns.{AreSought, candidates_counted, roots_listed};
 
 use crate::ground::Ground;
 use crate::keeping::kept_of;
 use crate::slot_boxes::boxes_in_slot;
-use crate::slot_run::{SlotRun, SlotRuns};
+use crate::slot_run::{SlotRun, ThreadRun};
 use crate::slots_shared::search_together;
-use crate::stretch::Stretch;
 use cj_case::{AxisBox, Cell, Pair};
 use cj_cells::{RefineError, roots_of_slot};
 use cj_grid::find_touching;
@@ -79,59 +79,72 @@ fn search_in_turn(
     Ok(SlotRun { roots, touching })
 }
 
-/// So many slots from one on, in runs of so many, the last of which may have fewer.
-fn cut<'g>(
-    alloc: Global,
-    ground: &Ground<'g>,
-    from: u32,
-    count: u32,
-    size: u32,
-) -> Result<Vec<Stretch<'g>>, AllocError>
-    requires within { from + count ≤ ground.now.slots }
-    requires some { 0 < size }
-    ensures roots { IfOk result (λ stretches. roots_at stretches.items ≡ roots_over (plain_problem ground.now.problem.now) from count) }
-    ensures touching { IfOk result (λ stretches. candidates_at stretches.items ≡ candidates_over (plain_problem ground.now.problem.now) from count) }
+/// So many slots from one on, as a list.
+fn slots_from(alloc: Global, from: u32, count: u32) -> Result<Vec<u32>, AllocError>
+    requires { from + count ≤ u32.MAX }
+    ensures { IfOk result (λ slots. slots.items ≡ range_with_len from count) }
 {
-    let mut stretches = Vec::new(alloc);
-    let mut done = 0;
-    while done < count {
-        let next = size.min(count - done);
-        stretches.push(Stretch {
-            ground: *ground,
-            from: from + done,
-            count: next,
-        })?;
-        done += next;
+    let mut slots = Vec::with_capacity(alloc, count as usize)?;
+    for slot in from..from + count {
+        slots.push(slot)?;
     }
-    Ok(stretches)
+    Ok(slots)
 }
 
-/// How many roots there are in some lists, or the greatest number that there is.
-fn count_of(lists: &[Vec<Cell>]) -> usize
-    ensures { result ≡ min (length (flat_map (λ list. list.items) lists.now)) usize.MAX }
+/// How many roots there are in some runs, or the greatest number that there is.
+fn count_of(runs: &[ThreadRun]) -> usize
+    ensures { result ≡ min (length (roots_listed runs.now)) usize.MAX }
 {
     let mut count = 0usize;
-    for list in lists {
-        count = count.saturating_add(list.len());
+    for run in runs {
+        count = count.saturating_add(run.roots.len());
     }
     count
 }
 
-/// The roots of some runs of slots merged by as many threads as there are workers.
+/// How many candidates some runs have counted together, or the greatest number that there is.
+fn touching_in(runs: &[ThreadRun]) -> u64
+    ensures { result ≡ candidates_counted runs.now }
+{
+    let mut touching = 0u64;
+    for run in runs {
+        touching = touching.saturating_add(run.touching);
+    }
+    touching
+}
+
+/// Whether no run was stopped.
+fn are_whole(runs: &[ThreadRun]) -> bool
+    ensures { result ≡ list_all (λ run. run.whole) runs.now }
+{
+    runs.iter().all(|run| run.whole)
+}
+
+/// The roots of some runs, a list for each.
+fn roots_in(alloc: Global, runs: Vec<ThreadRun>) -> Result<Vec<Vec<Cell>>, AllocError>
+    ensures { IfOk result (λ lists. flat_map (λ list. list.items) lists.items ≡ roots_listed runs.items) }
+{
+    let mut lists = Vec::with_capacity(alloc, runs.len())?;
+    for run in runs {
+        lists.push(run.roots)?;
+    }
+    Ok(lists)
+}
+
+/// Some runs in one, their roots merged by as many threads as there are workers.
 fn merged<R: Threads + Sync>(
     rt: &R,
     alloc: Global,
-    runs: &SlotRuns,
+    runs: Vec<ThreadRun>,
     workers: u32,
 ) -> Result<SlotRun, AllocError>
-    ensures roots { IfOk result (λ run. IsPermutation (flat_map (λ list. list.items) runs.now.roots.items) run.roots.items) }
-    ensures touching { IfOk result (λ run. run.touching ≡ runs.now.touching) }
+    ensures roots { IfOk result (λ run. IsPermutation (roots_listed runs.items) run.roots.items) }
+    ensures touching { IfOk result (λ run. run.touching ≡ candidates_counted runs.items) }
 {
-    let roots = merge_runs(rt, alloc, &runs.roots, workers as usize)?;
-    Ok(SlotRun {
-        roots,
-        touching: runs.touching,
-    })
+    let touching = touching_in(&runs);
+    let lists = roots_in(alloc, runs)?;
+    let roots = merge_runs(rt, alloc, &lists, workers as usize)?;
+    Ok(SlotRun { roots, touching })
 }
 
 /// Slots are cut into so many runs for each worker, or fewer.
@@ -156,13 +169,21 @@ pub fn search_slots<R: Threads + Sync>(
         return search_in_turn(alloc, ground, from, count, limit);
     }
     let size = count.div_ceil(workers.saturating_mul(RUNS_A_WORKER));
-    let stretches = cut(alloc, ground, from, count, size.max(1))?;
-    let runs = search_together(rt, alloc, &stretches, workers, limit)?;
-    if count_of(&runs.roots) as u64 > limit {
+    let slots = slots_from(alloc, from, count)?;
+    let runs = search_together(
+        rt,
+        alloc,
+        ground,
+        &slots,
+        size.max(1) as usize,
+        workers,
+        limit,
+    )?;
+    if count_of(&runs) as u64 > limit {
         return Err(RefineError::TooMany);
     }
-    if !runs.whole {
+    if !are_whole(&runs) {
         return search_in_turn(alloc, ground, from, count, limit);
     }
-    Ok(merged(rt, alloc, &runs, workers)?)
+    Ok(merged(rt, alloc, runs, workers)?)
 }

@@ -1,25 +1,23 @@
-//! Runs of slots that several threads search, until all of them together have found too many roots.
-ghost use Rattle.std.specs.Prelude.{◌≡◌, ◌+◌, ◌<◌, ◌≤◌, ◌++◌, List, length, map, min, take, vec_len, true, false, All, IfOk, OnOk};
+//! Slots that several threads search, until all of them together have found too many roots.
+ghost use Rattle.std.specs.Prelude.{◌≡◌, ◌+◌, ◌<◌, ◌≤◌, length, map, min, take, vec_len, true, false, All, IfOk, OnOk};
 ghost use Rattle.cj_base.specs.Bounds.{MOST_LEAVES};
 ghost use Rattle.cj_case.specs.Pairs.{objects_of};
 ghost use Rattle.cj_case.specs.Problems.{plain_problem};
 ghost use Rattle.cj_hermite.specs.Roots.{roots_in_slot};
 ghost use Rattle.cj_bezier.specs.Candidates.{candidate_pairs};
 ghost use Rattle.cj_cells.specs.Cells.{added_roots};
-ghost use Rattle.cj_candidates.specs.declared.stretch.Stretch.{Stretch};
-ghost use Rattle.cj_candidates.specs.SlotRuns.{IsFoundAt, IsFoundIn};
+ghost use Rattle.cj_candidates.specs.SlotRuns.{AreFoundIn, IsFoundIn};
 
 use crate::crowding::is_crowd;
 use crate::ground::Ground;
 use crate::slot_boxes::boxes_in_slot;
-use crate::slot_run::{SlotRuns, ThreadRun};
+use crate::slot_run::ThreadRun;
 use crate::slots_searched::candidates_among;
-use crate::stretch::Stretch;
 use crate::together::Together;
 use cj_case::{Cell, Pair, Problem};
 use cj_cells::{RefineError, roots_of_slot};
 use cj_hermite::Hints;
-use cj_threads::{Jobs, Placed, run_jobs};
+use cj_threads::{Nobody, Placed, map_parts};
 use std::alloc::{AllocError, Global};
 use std::thread::Threads;
 
@@ -141,33 +139,27 @@ fn search_slot(
     Ok(whole)
 }
 
-/// A run of slots, one after another, until the threads are to stop. The roots are sorted, so that merging them takes one pass; no clause
+/// Some slots, one after another, until the threads are to stop. The roots are sorted, so that merging them takes one pass; no clause
 /// hangs on their order.
-fn search_stretch(
+fn search_some(
     alloc: Global,
-    stretch: &Stretch<'_>,
+    ground: &Ground<'_>,
+    slots: &[u32],
     limit: u64,
     together: &Together,
 ) -> Result<ThreadRun, AllocError>
+    requires exist { All (λ slot. slot < ground.now.slots) slots.now }
     requires limit { limit ≤ MOST_LEAVES }
-    ensures { IfOk result (IsFoundIn stretch.now) }
+    ensures { IfOk result (IsFoundIn (plain_problem ground.now.problem.now) slots.now) }
 {
-    let mut hints = Hints::new(alloc, stretch.ground.problem.tracks.as_slice().len())?;
+    let mut hints = Hints::new(alloc, ground.problem.tracks.as_slice().len())?;
     let mut run = ThreadRun {
         roots: Vec::new(alloc),
         touching: 0,
         whole: false,
     };
-    for slot in stretch.from..stretch.from + stretch.count {
-        if !search_slot(
-            alloc,
-            &stretch.ground,
-            slot,
-            limit,
-            together,
-            &mut hints,
-            &mut run,
-        )? {
+    for slot in slots {
+        if !search_slot(alloc, ground, *slot, limit, together, &mut hints, &mut run)? {
             return Ok(run);
         }
     }
@@ -176,93 +168,26 @@ fn search_stretch(
     Ok(run)
 }
 
-/// Whether two things hold.
-fn are_both(one: bool, other: bool) -> bool
-    ensures { result ≡ true → (one ≡ true) × (other ≡ true) }
-{
-    one && other
-}
-
-/// Some runs of slots, one after another, until the threads are to stop.
-fn search_each(
-    alloc: Global,
-    stretches: &[Stretch<'_>],
-    limit: u64,
-    together: &Together,
-) -> Result<SlotRuns, AllocError>
-    requires { limit ≤ MOST_LEAVES }
-    ensures { IfOk result (IsFoundAt stretches.now) }
-{
-    let mut all = Vec::with_capacity(alloc, stretches.len())?;
-    let mut sum = 0u64;
-    let mut every = true;
-    for stretch in stretches {
-        let ThreadRun {
-            roots,
-            touching,
-            whole,
-        } = search_stretch(alloc, stretch, limit, together)?;
-        all.push(roots)?;
-        sum = sum.saturating_add(touching);
-        every = are_both(every, whole);
-    }
-    Ok(SlotRuns {
-        roots: all,
-        touching: sum,
-        whole: every,
-    })
-}
-
-/// What is found in some runs of slots and in others behind them.
-fn joined(mut front: SlotRuns, mut back: SlotRuns) -> Result<SlotRuns, AllocError>
-    ensures { (some others : List Stretch) → IsFoundAt some front → IsFoundAt others back → IfOk result (IsFoundAt (some ++ others)) }
-{
-    front.roots.append(&mut back.roots)?;
-    front.touching = front.touching.saturating_add(back.touching);
-    front.whole = are_both(front.whole, back.whole);
-    Ok(front)
-}
-
-/// What is done with runs of slots: each is searched, until the threads are to stop.
-#[derive(Clone, Copy)]
-struct Searching<'c> {
-    limit: u64,
-    together: &'c Together,
-    ghost few: { limit ≤ MOST_LEAVES },
-}
-
-impl<'c, 'g> Jobs<Stretch<'g>> for Searching<'c> {
-    type Output = SlotRuns;
-
-    ghost comes_of = { λ searching stretches found. IsFoundAt stretches found };
-
-    fn run(&self, alloc: Global, part: &[Stretch<'g>]) -> Result<SlotRuns, AllocError> {
-        search_each(alloc, part, self.limit, self.together)
-    }
-
-    fn join(&self, front: SlotRuns, back: SlotRuns) -> Result<SlotRuns, AllocError>
-        ensures { (some others : List Stretch) → IsFoundAt some front → IsFoundAt others back → IfOk result (IsFoundAt (some ++ others)) }
-    {
-        joined(front, back)
-    }
-}
-
-/// What as many threads as there are workers find in some runs of slots, until they have found more roots than the limit, or slots
-/// are so crowded that several of them at once take too much.
+/// What as many threads as there are workers find in some slots, so many slots a run, until they have found more roots than the limit, or
+/// slots are so crowded that several of them at once take too much. Each thread takes the next run that no other has taken.
 pub fn search_together<R: Threads + Sync>(
     rt: &R,
     alloc: Global,
-    stretches: &[Stretch<'_>],
+    ground: &Ground<'_>,
+    slots: &[u32],
+    size: usize,
     workers: u32,
     limit: u64,
-) -> Result<SlotRuns, AllocError>
-    requires { limit ≤ MOST_LEAVES }
-    ensures { IfOk result (IsFoundAt stretches.now) }
+) -> Result<Vec<ThreadRun>, AllocError>
+    requires exist { All (λ slot. slot < ground.now.slots) slots.now }
+    requires size { 0 < size }
+    requires limit { limit ≤ MOST_LEAVES }
+    ensures { IfOk result (λ runs. AreFoundIn (plain_problem ground.now.problem.now) slots.now runs.items) }
 {
     let together = Together::new();
-    let searching = Searching {
-        limit,
-        together: &together,
-    };
-    run_jobs(rt, alloc, &searching, stretches, 1, workers as usize)
+    let search = |some: &[u32]| -> Result<ThreadRun, AllocError>
+        requires { All (λ slot. slot < ground.now.slots) some.now × (limit ≤ MOST_LEAVES) }
+        ensures { IfOk result (IsFoundIn (plain_problem ground.entry.now.problem.now) some.now) }
+    { search_some(alloc, ground, some, limit, &together) };
+    map_parts(rt, alloc, slots, size, workers as usize, &Nobody, &search)
 }

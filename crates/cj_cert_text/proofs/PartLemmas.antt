@@ -12,6 +12,12 @@ pub joined_more : (parts new : List (Vec ℕ)) (made : Vec ℕ) → new ≡ part
 joined_more parts new made is =
     ap joined is ∙ flat_map-append (λ part. part.items) parts (made ∷ []) ∙ ap (λ (t : List ℕ). joined parts ++ t) (append-nil made.items)
 
+-- the text of some lines, and those of the lines behind them
+pub part_printed : {L : Type 0} (text : L → List ℕ) (some others : List L) (made : Vec ℕ) (behind : List (Vec ℕ)) → made.items ≡ flat_map text some
+    → joined behind ≡ flat_map text others → joined (made ∷ behind) ≡ flat_map text (some ++ others)
+part_printed text some others made behind here rest =
+    ap (λ (t : List ℕ). t ++ joined behind) here ∙ ap (λ (t : List ℕ). flat_map text some ++ t) rest ∙ sym (flat_map-append text some others)
+
 -- ---- a list is printed line by line
 
 -- the texts of the lines before place i, and then of the one there

@@ -1,5 +1,4 @@
 pub mod Texts
-pub mod Parts
 pub mod Numbers
 pub mod Ranks
 pub mod Lines

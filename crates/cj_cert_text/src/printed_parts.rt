@@ -1,11 +1,10 @@
 //! Lists of lines as text, by parts that several threads take.
 ghost use Rattle.std.specs.Prelude.{◌≡◌, ◌<◌, ◌++◌, IfOk, OnOk, flat_map, length};
 ghost use Rattle.cj_io.specs.Parts.{joined};
-ghost use Rattle.cj_cert_text.specs.Parts.{AreTexts};
 
 use crate::printed_line::PrintedLine;
 use cj_formats::CertVersion;
-use cj_threads::{Jobs, run_jobs};
+use cj_threads::{Nobody, map_parts};
 use std::alloc::{AllocError, Global};
 use std::thread::Threads;
 
@@ -14,37 +13,6 @@ const LEAST_PART: usize = 4_096;
 
 /// So many parts for each worker.
 pub(crate) const PARTS_A_WORKER: usize = 4;
-
-/// What is done with lines: their text is made in a version.
-#[derive(Clone, Copy)]
-struct Printing {
-    version: CertVersion,
-}
-
-impl<L: PrintedLine + Sync> Jobs<L> for Printing {
-    type Output = Vec<Vec<u8>>;
-
-    ghost comes_of = { λ printing lines texts. AreTexts (L.text_by printing.version) lines texts.items };
-
-    fn run(&self, alloc: Global, part: &[L]) -> Result<Vec<Vec<u8>>, AllocError> {
-        let text = part_text(alloc, self.version, part)?;
-        let mut texts = Vec::new(alloc);
-        texts.push(text)?;
-        Ok(texts)
-    }
-
-    fn join(&self, front: Vec<Vec<u8>>, back: Vec<Vec<u8>>) -> Result<Vec<Vec<u8>>, AllocError> {
-        put_behind(front, back)
-    }
-}
-
-/// Texts, and others behind them.
-fn put_behind(mut front: Vec<Vec<u8>>, mut back: Vec<Vec<u8>>) -> Result<Vec<Vec<u8>>, AllocError>
-    ensures { IfOk result (λ all. all.items ≡ front.items ++ back.items) }
-{
-    front.append(&mut back)?;
-    Ok(front)
-}
 
 /// Adds the text of lines in order, in parts that as many threads as there are workers take.
 pub(crate) fn push_lines<R: Threads + Sync, L: PrintedLine + Sync>(
@@ -74,8 +42,18 @@ pub(crate) fn push_parted<R: Threads + Sync, L: PrintedLine + Sync>(
     ensures value { OnOk result (joined parts.new.items ≡ joined parts.old.items ++ flat_map (L.text_by version) lines.now) }
     ensures some { OnOk result (0 < length parts.new.items) }
 {
-    let printing = Printing { version };
-    let mut texts = run_jobs(rt, alloc, &printing, lines, size, workers as usize)?;
+    let print = |part: &[L]| -> Result<Vec<u8>, AllocError>
+        ensures { IfOk result (λ text. text.items ≡ flat_map (L.text_by version) part.now) }
+    { part_text(alloc, version, part) };
+    let mut texts = map_parts(
+        rt,
+        alloc,
+        lines,
+        size.max(1),
+        workers as usize,
+        &Nobody,
+        &print,
+    )?;
     parts.append(&mut texts)?;
     Ok(())
 }

@@ -1,9 +1,8 @@
 -- Files that are read one after another and parsed side by side, and the reading of all.
-use Rattle.std.proofs.Common.{◌≡◌, ℕ, suc, ◌+◌, ◌-◌, ◌<◌, ◌≤◌, List, [], ◌∷◌, ◌++◌, length, map, take, drop, get_or, Ok, Err, Result, Bool, Vec, Global, refl, sym, ap, subst, ◌∙◌, arith}
+use Rattle.std.proofs.Common.{◌≡◌, ℕ, suc, ◌+◌, ◌-◌, ◌<◌, ◌≤◌, List, [], ◌∷◌, ◌++◌, length, map, take, drop, get_or, Ok, Err, Result, Bool, refl, sym, ap, subst, ◌∙◌, arith}
 use Rattle.std.specs.List.{AllZip}
 use Rattle.std.specs.Prelude.{IfOk, IfSome, Option, Some, None, ⊤}
-use Rattle.std.specs.declared.alloc.AllocError.{AllocError}
-use Rattle.std.proofs.lemmas.List.{drop-drop, length-append, length-drop, length-map, map-append, map_more, nil_from_length, take_all, take_more}
+use Rattle.std.proofs.lemmas.List.{drop-drop, length-append, length-drop, length-map, map-append, nil_from_length, take_all, take_more}
 use Rattle.std.proofs.lemmas.Slice.Zip.{all_zipped_more}
 use Rattle.cj_io.specs.declared.file.FileBytes.{FileBytes}
 use Rattle.cj_io.specs.Files.{bytes_of}
@@ -183,35 +182,15 @@ none_left {most} {readings} {before} {end} none to =
 
 -- ---- side by side
 
-all_zipped_append : {X Y : Type 0} (R : X → Y → Type 0) (xs : List X) (ys : List Y) (us : List X) (vs : List Y) → AllZip R xs ys → AllZip R us vs → AllZip R (xs ++ us) (ys ++ vs)
-all_zipped_append R [] [] us vs front back = back
-all_zipped_append R [] (y ∷ ys) us vs front back = absurd front
-all_zipped_append R (x ∷ xs) [] us vs front back = absurd front
-all_zipped_append R (x ∷ xs) (y ∷ ys) us vs front back = (front.0, all_zipped_append R xs ys us vs front.1 back)
-
--- what some files say, and what those behind them say
-both_parsed : (as_hermite3 : Bool) (some others all : List FileRead) (front back readings : List (Result Track InputError)) → all ≡ some ++ others → readings ≡ front ++ back
-    → AreParsed as_hermite3 some front → AreParsed as_hermite3 others back → AreParsed as_hermite3 all readings
-both_parsed as_hermite3 some others all front back readings whole joined one two =
-    let said : List FileRead → List (Result PlainTrack Status) = map (said_by as_hermite3) in
-    subst (λ (rs : List (Result Track InputError)). AllZip (Reads ⊥ plain_track) rs (said all)) (sym joined)
-    (subst (AllZip (Reads ⊥ plain_track) (front ++ back)) (sym (ap said whole ∙ map-append (said_by as_hermite3) some others))
-    (all_zipped_append (Reads ⊥ plain_track) front (said some) back (said others) one two))
-
--- one more file
-pub parsed_more : (as_hermite3 : Bool) (files : List FileRead) (i : ℕ) (file : FileRead) (readings : List (Result Track InputError)) (reading : Result Track InputError) → i < length files
-    → file ≡ get_or files i file → AreParsed as_hermite3 (take i files) readings → Reads ⊥ plain_track reading (said_by as_hermite3 file) → AreParsed as_hermite3 (take (i + 1) files) (readings ++ reading ∷ [])
-parsed_more as_hermite3 files i file readings reading below is front here =
-    let said : List FileRead → List (Result PlainTrack Status) = map (said_by as_hermite3) in
-    subst (AllZip (Reads ⊥ plain_track) (readings ++ reading ∷ []))
-    (sym (map_more (said_by as_hermite3) files i file below ∙ ap (λ (f : FileRead). said (take i files) ++ said_by as_hermite3 f ∷ []) (sym is)))
-    (all_zipped_more (Reads ⊥ plain_track) readings (said (take i files)) reading (said_by as_hermite3 file) front here)
-
--- where both halves were parsed
-pub halves_parsed : (as_hermite3 : Bool) (some others all : List FileRead) (front back : List (Result Track InputError)) (r : Result (Vec (Result Track InputError) Global) AllocError) → all ≡ some ++ others
-    → IfOk r (λ readings. readings.items ≡ front ++ back) → AreParsed as_hermite3 some front → AreParsed as_hermite3 others back → IfOk r (λ readings. AreParsed as_hermite3 all readings.items)
-halves_parsed as_hermite3 some others all front back (Err why) whole joined one two = tt
-halves_parsed as_hermite3 some others all front back (Ok readings) whole joined one two = both_parsed as_hermite3 some others all front back readings.items whole joined one two
+-- where each says what its file says
+pub parsed_each : (as_hermite3 : Bool) (files : List FileRead) (readings : List (Result Track InputError)) → length readings ≡ length files
+    → ((i : ℕ) (d : Result Track InputError) (file : FileRead) → i < length files → Reads ⊥ plain_track (get_or readings i d) (said_by as_hermite3 (get_or files i file)))
+    → AreParsed as_hermite3 files readings
+parsed_each as_hermite3 [] [] many each = tt
+parsed_each as_hermite3 [] (r ∷ rs) many each = absurd (omega (arith, many))
+parsed_each as_hermite3 (f ∷ fs) [] many each = absurd (omega (arith, many))
+parsed_each as_hermite3 (f ∷ fs) (r ∷ rs) many each =
+    (each 0 r f (omega arith), parsed_each as_hermite3 fs rs (omega (arith, many)) (λ i d file lt. each (suc i) d file (omega (arith, lt))))
 
 -- ---- read one after another
 

@@ -1,17 +1,14 @@
 //! The closest approaches of several encounters: one after another, or by several threads that take the next few encounters each.
-ghost use Rattle.std.specs.Prelude.{◌≡◌, ◌<◌, ◌++◌, List, map, All, IfOk, OnOk};
+ghost use Rattle.std.specs.Prelude.{◌≡◌, map, flat_map, All, IfOk, OnOk};
 ghost use Rattle.cj_case.specs.Problems.{plain_problem};
-ghost use Rattle.cj_case.specs.declared.encounter.Closest.{Closest};
 ghost use Rattle.cj_case.specs.Leaves.{plain_leaves};
-ghost use Rattle.cj_meet.specs.ApproachLists.{AreClosest, AreClosestAt};
+ghost use Rattle.cj_meet.specs.ApproachLists.{AreClosest};
 ghost use Rattle.cj_meet.specs.Closest.{KeepTheirPieces, HasNearest, closest_of, some_closest};
 ghost use Rattle.cj_meet.specs.Encounters.{Describes, groups_in};
-ghost use Rattle.cj_meet.specs.declared.portion.Portion.{Portion};
 
 use crate::approaching::closest;
-use crate::portion::Portion;
 use cj_case::{Closest, Encounter, Leaf, Problem};
-use cj_threads::{Jobs, run_jobs};
+use cj_threads::{Nobody, map_parts};
 use std::alloc::{AllocError, Global};
 use std::thread::Threads;
 
@@ -33,82 +30,44 @@ fn search_in_turn(
     Ok(found)
 }
 
-/// The closest approaches of some portions of encounters, one portion after another.
-fn search_each(alloc: Global, portions: &[Portion<'_>]) -> Result<Vec<Closest>, AllocError>
-    ensures { IfOk result (λ found. AreClosestAt portions.now found.items) }
+/// Some lists in one, one list behind another.
+fn in_one(alloc: Global, lists: &[Vec<Closest>]) -> Result<Vec<Closest>, AllocError>
+    ensures { IfOk result (λ all. all.items ≡ flat_map (λ list. list.items) lists.now) }
 {
     let mut all = Vec::new(alloc);
-    for portion in portions {
-        let mut found = search_in_turn(alloc, portion.problem, portion.leaves, portion.encounters)?;
-        all.append(&mut found)?;
+    for list in lists {
+        all.extend_from_slice(list)?;
     }
     Ok(all)
-}
-
-/// What is found of some portions and of those behind them.
-fn joined(mut front: Vec<Closest>, mut back: Vec<Closest>) -> Result<Vec<Closest>, AllocError>
-    ensures { IfOk result (λ found. found.items ≡ front.items ++ back.items) }
-{
-    front.append(&mut back)?;
-    Ok(front)
-}
-
-/// What is done with portions of encounters: the closest approaches of each are searched.
-#[derive(Clone, Copy)]
-struct Searching;
-
-impl<'a> Jobs<Portion<'a>> for Searching {
-    type Output = Vec<Closest>;
-
-    ghost comes_of = { λ searching portions found. AreClosestAt portions found.items };
-
-    fn run(&self, alloc: Global, part: &[Portion<'a>]) -> Result<Vec<Closest>, AllocError>
-        ensures { IfOk result (λ found. AreClosestAt part.now found.items) }
-    {
-        search_each(alloc, part)
-    }
-
-    fn join(&self, front: Vec<Closest>, back: Vec<Closest>) -> Result<Vec<Closest>, AllocError>
-        ensures { (some others : List Portion) → AreClosestAt some front.items → AreClosestAt others back.items
-            → IfOk result (λ found. AreClosestAt (some ++ others) found.items) }
-    {
-        joined(front, back)
-    }
-}
-
-/// The encounters in portions of so many, the last of which may have fewer.
-fn cut<'a>(
-    alloc: Global,
-    problem: &'a Problem,
-    leaves: &'a [Leaf],
-    encounters: &'a [Encounter],
-    size: usize,
-) -> Result<Vec<Portion<'a>>, AllocError>
-    requires described { All (Describes (plain_leaves leaves.now)) encounters.now }
-    requires pieces { KeepTheirPieces (plain_problem problem.now) (plain_leaves leaves.now) }
-    requires some { 0 < size }
-    ensures { IfOk result (λ portions. (found : List Closest) → AreClosestAt portions.items found
-        → AreClosest (plain_problem problem.now) (plain_leaves leaves.now) encounters.now found) }
-{
-    let mut portions = Vec::new(alloc);
-    let mut rest = encounters;
-    while !rest.is_empty() {
-        let (next, others) = rest.split_at(size.min(rest.len()));
-        portions.push(Portion {
-            problem,
-            leaves,
-            encounters: next,
-        })?;
-        rest = others;
-    }
-    Ok(portions)
 }
 
 /// So many encounters a thread takes at once, or more where there would be more portions than `PORTIONS`.
 const ENCOUNTERS_A_PORTION: usize = 64;
 
-/// About so many portions there are at most: the outputs of all are looked through for that of each.
+/// About so many portions there are at most.
 const PORTIONS: usize = 1000;
+
+/// The closest approaches of some encounters, by as many threads as there are workers: each takes the next portion of them.
+fn search_by_threads<R: Threads + Sync>(
+    rt: &R,
+    alloc: Global,
+    problem: &Problem,
+    leaves: &[Leaf],
+    encounters: &[Encounter],
+    workers: usize,
+) -> Result<Vec<Closest>, AllocError>
+    requires described { All (Describes (plain_leaves leaves.now)) encounters.now }
+    requires pieces { KeepTheirPieces (plain_problem problem.now) (plain_leaves leaves.now) }
+    ensures { IfOk result (λ found. AreClosest (plain_problem problem.now) (plain_leaves leaves.now) encounters.now found.items) }
+{
+    let size = ENCOUNTERS_A_PORTION.max(encounters.len() / PORTIONS);
+    let search = |portion: &[Encounter]| -> Result<Vec<Closest>, AllocError>
+        requires { All (Describes (plain_leaves leaves.now)) portion.now × KeepTheirPieces (plain_problem problem.now) (plain_leaves leaves.now) }
+        ensures { IfOk result (λ found. AreClosest (plain_problem problem.entry.now) (plain_leaves leaves.entry.now) portion.now found.items) }
+    { search_in_turn(alloc, problem, leaves, portion) };
+    let found = map_parts(rt, alloc, encounters, size, workers, &Nobody, &search)?;
+    in_one(alloc, &found)
+}
 
 /// The closest approaches of these encounters of these leaves, in order, searched by so many workers. The only error is want of memory.
 ///
@@ -133,7 +92,5 @@ pub fn closest_approaches<R: Threads + Sync>(
     if workers < 2 || encounters.len() <= ENCOUNTERS_A_PORTION {
         return search_in_turn(alloc, problem, leaves, encounters);
     }
-    let size = ENCOUNTERS_A_PORTION.max(encounters.len() / PORTIONS);
-    let portions = cut(alloc, problem, leaves, encounters, size)?;
-    run_jobs(rt, alloc, &Searching, &portions, 1, workers as usize)
+    search_by_threads(rt, alloc, problem, leaves, encounters, workers as usize)
 }

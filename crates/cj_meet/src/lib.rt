@@ -7,7 +7,6 @@ mod approaching;
 mod flatness;
 mod looking;
 mod meeting;
-mod portion;
 mod runs;
 mod searching;
 

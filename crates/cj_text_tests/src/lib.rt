@@ -4,6 +4,8 @@
 #[cfg(test)]
 mod arithmetic;
 #[cfg(test)]
+mod dealing;
+#[cfg(test)]
 mod decimals;
 #[cfg(test)]
 mod digits;

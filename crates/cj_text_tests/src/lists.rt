@@ -1,27 +1,12 @@
-ghost use Rattle.std.specs.Prelude.{◌≡◌, ◌++◌};
-
-use cj_threads::{Jobs, run_jobs};
+use cj_threads::{Nobody, map_parts};
 use std::alloc::{AllocError, Global};
 use std::panic::Expect;
 
-/// Copies.
-struct Copies;
-
-impl Jobs<u64> for Copies {
-    type Output = Vec<u64>;
-
-    ghost comes_of = { λ jobs part output. output.items ≡ part };
-
-    fn run(&self, alloc: Global, part: &[u64]) -> Result<Vec<u64>, AllocError> {
-        let mut copy = Vec::with_capacity(alloc, part.len())?;
-        copy.extend_from_slice(part)?;
-        Ok(copy)
-    }
-
-    fn join(&self, mut front: Vec<u64>, mut back: Vec<u64>) -> Result<Vec<u64>, AllocError> {
-        front.append(&mut back)?;
-        Ok(front)
-    }
+/// A copy of some elements.
+fn copy_of(alloc: Global, part: &[u64]) -> Result<Vec<u64>, AllocError> {
+    let mut copy = Vec::with_capacity(alloc, part.len())?;
+    copy.extend_from_slice(part)?;
+    Ok(copy)
 }
 
 #[test]
@@ -31,10 +16,23 @@ fn parts_come_in_order_whoever_takes_them(rt: HostRuntime) {
     for element in 0..1000 {
         list.push(element).expect(&rt, "no fault");
     }
-    for size in [0usize, 1, 7, 999, 1000, 2000] {
+    for size in [1usize, 7, 999, 1000, 2000] {
         for workers in [0usize, 1, 2, 4, 16] {
-            let copy = run_jobs(&rt, alloc, &Copies, &list, size, workers).expect(&rt, "no fault");
-            assert!(rt; copy.as_slice() == list.as_slice());
+            let copies = map_parts(
+                &rt,
+                alloc,
+                &list,
+                size.max(1),
+                workers,
+                &Nobody,
+                &|part| copy_of(alloc, part),
+            )
+            .expect(&rt, "no fault");
+            let mut all = Vec::new(alloc);
+            for copy in &copies {
+                all.extend_from_slice(copy).expect(&rt, "no fault");
+            }
+            assert!(rt; all.as_slice() == list.as_slice());
         }
     }
 }

@@ -1,2 +1,2 @@
-pub mod PartLemmas
+pub mod DealingLemmas
 pub mod RunLemmas

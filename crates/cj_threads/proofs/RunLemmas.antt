@@ -1,19 +1,19 @@
 -- Runs and ranges: one more, one that is cut in two, and what comes of them.
-use Rattle.std.proofs.Common.{◌≡◌, ℕ, ◌+◌, ◌-◌, ◌<◌, ◌≤◌, inl, inr, None, List, [], ◌∷◌, ◌++◌, length, map, take, drop, get_or, refl, sym, ap, subst, ◌∙◌, arith}
+use Rattle.std.proofs.Common.{◌≡◌, ℕ, suc, ◌+◌, ◌-◌, ◌<◌, ◌≤◌, inl, inr, None, List, [], ◌∷◌, ◌++◌, length, map, take, drop, get_or, refl, sym, ap, subst, ◌∙◌, arith}
 use Rattle.std.specs.Borrow.{Bor}
 use Rattle.std.specs.Global.{Vec}
 use Rattle.std.specs.List.{flat_map, slice_get}
 use Rattle.std.specs.List.Sorted.{IsPermutation}
 use Rattle.std.proofs.lemmas.List.{append-nil, append_assoc, map-append, take-append-drop, take_all, take_more}
 use Rattle.std.proofs.lemmas.List.Concat.{flat_map-append}
-use Rattle.std.proofs.lemmas.List.Elements.{All-append}
+use Rattle.std.proofs.lemmas.List.Elements.{All-append, All-nil}
 use Rattle.std.proofs.lemmas.Option.{slice_get_cases}
 use Rattle.std.proofs.lemmas.List.Sorted.{IsPermutation-append, IsPermutation-append_comm, IsPermutation-append_left, IsPermutation-append_right, IsPermutation-refl, IsPermutation-trans}
 use Rattle.cj_interval.proofs.ListLemmas.{All-from_each}
 use Rattle.cj_base.specs.declared.tick.Tick.{Tick}
 use Rattle.cj_case.specs.declared.pair.Pair.{Pair}
 use Rattle.cj_case.specs.PairOrder.{AreInOrderBy}
-use Rattle.cj_threads.specs.Runs.{elements_of, elements_in, AreMerged}
+use Rattle.cj_threads.specs.Runs.{elements_of, elements_in, AreMerged, IsMerged}
 
 module _ {X : Type 0} where
   -- of some lists, and of one more
@@ -135,10 +135,13 @@ module _ {X : Type 0} (place : X → Pair × Tick) where
     ordered = All-from_each (λ (l : Vec X). AreInOrderBy place l.items) (list ∷ []) (ordered, tt);
   }
 
-  -- of the first ranges, and of one more
-  pub merged_more : (ranges : List (Vec (Bor (List X)))) (i : ℕ) (range : Vec (Bor (List X))) (lists : List (Vec X)) (list : Vec X) → i < length ranges → range ≡ get_or ranges i range
-      → AreMerged place (take i ranges) lists → IsPermutation (elements_of range.items) list.items → AreInOrderBy place list.items
-      → AreMerged place (take (i + 1) ranges) (lists ++ list ∷ [])
-  merged_more ranges i range lists list lt is so_far elements ordered =
-      subst (λ (rs : List (Vec (Bor (List X)))). AreMerged place rs (lists ++ list ∷ [])) (sym (take_more ranges i range lt ∙ ap (λ (r : Vec (Bor (List X))). take i ranges ++ r ∷ []) (sym is)))
-      (merged_append (take i ranges) (range ∷ []) lists (list ∷ []) so_far (one_merged range list elements ordered))
+  -- of ranges that are merged each
+  pub merged_each : (ranges : List (Vec (Bor (List X)))) (lists : List (Vec X)) → length lists ≡ length ranges
+      → ((i : ℕ) (list : Vec X) (range : Vec (Bor (List X))) → i < length ranges → IsMerged place (get_or ranges i range) (get_or lists i list)) → AreMerged place ranges lists
+  merged_each [] [] many each = record { elements = IsPermutation-refl []; ordered = All-nil (λ (list : Vec X). AreInOrderBy place list.items) }
+  merged_each [] (list ∷ lists) many each = absurd (omega (arith, many))
+  merged_each (range ∷ ranges) [] many each = absurd (omega (arith, many))
+  merged_each (range ∷ ranges) (list ∷ lists) many each =
+      let first = each 0 list range (omega arith) in
+      merged_append (range ∷ []) ranges (list ∷ []) lists (one_merged range list first.elements first.ordered)
+      (merged_each ranges lists (omega (arith, many)) (λ i l r lt. each (suc i) l r (omega (arith, lt))))

@@ -2,17 +2,18 @@
 //! counter for the number of its next part, and nothing is proved of that counter: an output is put at the place of its part.
 #![tactic(auto)]
 
-mod jobs;
+mod dealing;
+mod dealt_parts;
 mod joining;
 mod merging;
 mod placed;
 mod ranges;
-mod running;
 mod sorting;
-mod taking;
+mod told;
 
-pub use jobs::Jobs;
+pub use dealing::map_dealt;
+pub use dealt_parts::{all_made, map_parts};
 pub use joining::ready_list;
 pub use merging::merge_runs;
 pub use placed::Placed;
-pub use running::run_jobs;
+pub use told::{Nobody, Told};

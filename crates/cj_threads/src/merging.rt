@@ -1,16 +1,17 @@
 //! Runs merged into one list: ranges of them are merged by threads, and what comes of them is put behind one another.
-ghost use Rattle.std.specs.Prelude.{◌≡◌, ◌++◌, [], map, flat_map, IfOk};
+ghost use Rattle.std.specs.Prelude.{◌≡◌, ◌<◌, [], get_or, length, map, flat_map, IfOk};
 ghost use Rattle.std.specs.List.Sorted.{IsPermutation};
 ghost use Rattle.std.specs.Thread.{IsSync};
 ghost use Rattle.cj_case.specs.PairOrder.{AreInOrderBy};
-ghost use Rattle.cj_threads.specs.Runs.{elements_of, AreMerged};
+ghost use Rattle.cj_threads.specs.Runs.{elements_of, AreMerged, IsMerged};
 
-use crate::jobs::Jobs;
+use crate::dealing::map_dealt;
+use crate::dealt_parts::all_made;
 use crate::joining::{put_together, ready_list};
 use crate::placed::Placed;
 use crate::ranges::{count_of, cut_into_ranges};
-use crate::running::run_jobs;
 use crate::sorting::put_in_order;
+use crate::told::Nobody;
 use std::alloc::{AllocError, Global};
 use std::thread::{Threads, join};
 
@@ -33,43 +34,21 @@ fn merge_in_turn<T: Placed + Copy>(alloc: Global, runs: &[&[T]]) -> Result<Vec<T
     Ok(all)
 }
 
-/// Ranges merged each into a list of its own.
-fn merge_each<T: Placed + Copy>(
+/// Ranges merged each into a list of its own, by as many threads as there are workers: each takes the next range.
+fn merge_each<T: Placed + Copy + Send + Sync, R: Threads + Sync>(
+    rt: &R,
     alloc: Global,
     ranges: &[Vec<&[T]>],
+    workers: usize,
 ) -> Result<Vec<Vec<T>>, AllocError>
     ensures { IfOk result (λ lists. AreMerged T.place_of ranges.now lists.items) }
 {
-    let mut lists = Vec::with_capacity(alloc, ranges.len())?;
-    for range in ranges {
-        lists.push(merge_in_turn(alloc, range)?)?;
-    }
-    Ok(lists)
-}
-
-/// One list behind another.
-fn joined<T: Drop>(mut front: Vec<T>, mut back: Vec<T>) -> Result<Vec<T>, AllocError>
-    ensures { IfOk result (λ all. all.items ≡ front.items ++ back.items) }
-{
-    front.append(&mut back)?;
-    Ok(front)
-}
-
-/// What is done with ranges: each is merged into a list of its own.
-struct Merging;
-
-impl<'r, T: Placed + Copy + Send + Sync> Jobs<Vec<&'r [T]>> for Merging {
-    type Output = Vec<Vec<T>>;
-
-    ghost comes_of = { λ merging ranges lists. AreMerged T.place_of ranges lists.items };
-
-    fn run(&self, alloc: Global, part: &[Vec<&'r [T]>]) -> Result<Vec<Vec<T>>, AllocError> {
-        merge_each(alloc, part)
-    }
-
-    fn join(&self, front: Vec<Vec<T>>, back: Vec<Vec<T>>) -> Result<Vec<Vec<T>>, AllocError> {
-        joined(front, back)
-    }
+    let merge = |number: usize| -> Result<Vec<T>, AllocError>
+        requires { number < length ranges.now }
+        ensures { (d : _) → IfOk result (IsMerged T.place_of (get_or ranges.entry.now number d)) }
+    { merge_in_turn(alloc, &ranges[number]) };
+    let lists = map_dealt(rt, alloc, ranges.len(), workers, &Nobody, &merge)?;
+    all_made(alloc, lists)
 }
 
 /// Some element of runs, if they have any.
@@ -95,7 +74,7 @@ fn merge_by_threads<T: Placed + Copy + Send + Sync, R: Threads + Sync>(
     let merge = || -> Result<Vec<Vec<T>>, AllocError>
         requires { IsSync R.row }
         ensures { IfOk result (λ lists. AreMerged T.place_of parts.entry.now lists.items) }
-    { run_jobs(rt, alloc, &Merging, parts, 1, workers) };
+    { merge_each(rt, alloc, parts, workers) };
     let make = || -> Result<Vec<T>, AllocError>
         ensures { IfOk result (λ all. all.items ≡ []) }
     { ready_list(alloc, filler, count) };

@@ -1,10 +1,15 @@
-use Rattle.std.proofs.Common.{List, Vec, Global, subst}
+use Rattle.std.proofs.Common.{List, Vec, Global, ◌∙◌, ap, subst}
 use Rattle.std.specs.List.{flat_map}
 use Rattle.std.specs.List.Sorted.{IsPermutation}
 use Rattle.cj_case.specs.declared.cell.Cell.{Cell}
+use Rattle.cj_candidates.specs.SlotRuns.{candidates_counted}
 use Rattle.cj_candidates.proofs.slots_searched.merged.Goals as goal
 
 pub returns-clause-roots : goal.returns-clause-roots
 returns-clause-roots g c =
-    subst (λ (lists : List (Vec Cell Global)). IsPermutation (flat_map (λ list. list.items) lists) c.in_ok-roots.roots.items)
-    c.deref.ensures.value c.in_ok-roots.ensures.elements
+    let all = λ (lists : List (Vec Cell Global)). flat_map (λ list. list.items) lists in
+    subst (λ (cells : List Cell). IsPermutation cells c.in_ok-roots.roots.items)
+    (ap all c.deref-2.ensures.value ∙ c.in_ok-lists.ensures) c.in_ok-roots.ensures.elements
+
+pub returns-clause-touching : goal.returns-clause-touching
+returns-clause-touching g c = c.touching_in-touching.ensures ∙ ap candidates_counted c.deref.ensures.value

@@ -1,15 +1,21 @@
-use Rattle.std.proofs.Common.{List, subst}
-use Rattle.std.specs.Borrow.{Bor}
-use Rattle.std.specs.List.Sorted.{IsPermutation}
-use Rattle.cj_threads.specs.Runs.{elements_of}
-use Rattle.cj_threads.proofs.RunLemmas.{merged_more}
+use Rattle.std.proofs.Common.{◌≡◌, ◌∙◌, Ok, ap, arith, get_or, length, subst, sym}
+use Rattle.std.specs.Prelude.{IfOk}
+use Rattle.std.proofs.lemmas.List.{get_or-map, length-map}
+use Rattle.std.proofs.lemmas.Result.{IfOk-weaker}
+use Rattle.cj_threads.specs.Runs.{IsMerged}
+use Rattle.cj_threads.proofs.RunLemmas.{merged_each}
 use Rattle.cj_threads.proofs.merging.merge_each.Goals as goal
 
-pub loop-range-preserved : goal.loop-range-preserved
-loop-range-preserved g c =
-    let list = c.in_ok-merge_in_turn.field-0 in
-    rw c.in_ok-push.ensures.items
-    (merged_more g.T.Placed.place_of c.args.ranges.now c.loop-range.range-index c.range-item.result c.loop-range.lists.items list c.loop-range-test.true c.range-item.is
-    c.loop-range.invariant
-    (subst (λ (runs : List (Bor (List g.row.T.Denot))). IsPermutation (elements_of runs) list.items) c.deref.ensures.value c.in_ok-merge_in_turn.ensures.elements)
-    c.in_ok-merge_in_turn.ensures.ordered)
+pub returns : goal.returns
+returns g c =
+    let place = g.T.Placed.place_of in
+    let ranges = c.args.ranges.now in
+    let outputs = c.in_ok-lists.lists in
+    let done = c.in_ok-lists.ensures in
+    IfOk-weaker c.all_made.result _ _
+    (λ lists same.
+    let many : length lists.items ≡ length ranges = sym (length-map lists.items Ok) ∙ ap length same ∙ sym outputs.ok.0 ∙ done.len in
+    merged_each place ranges lists.items many (λ i list range lt.
+    let is = ap (λ rs. get_or rs i (Ok list)) (sym same) ∙ get_or-map Ok lists.items i list (Ok list) (omega (arith, many, lt)) in
+    subst (λ r. IfOk r (IsMerged place (get_or ranges i range))) is ((done.each i (Ok list) lt).1.met range)))
+    c.all_made.ensures
