@@ -1,0 +1,5 @@
+pub mod NearLemmas
+pub mod StepLemmas
+pub mod KeptLemmas
+pub mod CoveredLemmas
+pub mod ThinLemmas

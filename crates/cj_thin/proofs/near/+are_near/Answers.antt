@@ -1,0 +1,79 @@
+use Rattle.std.proofs.Common.{arith, ap, ◌∙◌}
+use Rattle.cj_hermite.proofs.TrackLemmas.{over_part}
+use Rattle.cj_hermite.specs.Ready.{curve_ready}
+use Rattle.cj_bezier.specs.Halving.{middle}
+use Rattle.cj_bezier.proofs.JudgeLemmas.{split_has_two}
+use Rattle.cj_thin.specs.Thinned.{are_near as the_are_near}
+use Rattle.cj_thin.proofs.NearLemmas.{verdict_near, verdict_far, verdict_undecided, verdict_split, both_halves, first_half}
+use Rattle.cj_thin.proofs.near.+are_near.Goals as goal
+
+pub are_near-requires : goal.are_near-requires
+are_near-requires t c =
+    let a = curve_ready c.args.a.now in
+    let b = curve_ready c.args.b.now in
+    let first = c.args.first.micros in
+    let last = c.args.last.micros in
+    let more = split_has_two a b c.args.e first last c.requires.least c.requires.order c.requires.first_over c.requires.second_over c.in-Split.ensures in (
+      omega (arith, c.decreases, more),
+      (
+        omega (arith, more),
+        (
+          over_part a first last first (middle first last) c.requires.first_over (omega arith) (omega (arith, more)),
+          (over_part b first last first (middle first last) c.requires.second_over (omega arith) (omega (arith, more)), (c.requires.least, c.requires.most)),
+        ),
+      ),
+    )
+
+pub next-requires : goal.next-requires
+next-requires t c =
+    let more = split_has_two (curve_ready c.args.a.now) (curve_ready c.args.b.now) c.args.e c.args.first.micros c.args.last.micros
+    c.requires.least c.requires.order c.requires.first_over c.requires.second_over c.in-Split.ensures in
+    let range = c.args.last.in_range in
+    omega (arith, more, range.1)
+
+pub are_near-requires-then-are_near : goal.are_near-requires-then-are_near
+are_near-requires-then-are_near t c =
+    let a = curve_ready c.args.a.now in
+    let b = curve_ready c.args.b.now in
+    let first = c.args.first.micros in
+    let last = c.args.last.micros in
+    let next = c.next.ensures in
+    let more = split_has_two a b c.args.e first last c.requires.least c.requires.order c.requires.first_over c.requires.second_over c.in-Split.ensures in (
+      omega (arith, c.decreases, more, next),
+      (
+        omega (arith, more, next),
+        (
+          over_part a first last c.next.result.micros last c.requires.first_over (omega (arith, more, next)) (omega arith),
+          (over_part b first last c.next.result.micros last c.requires.second_over (omega (arith, more, next)) (omega arith), (c.requires.least, c.requires.most)),
+        ),
+      ),
+    )
+
+pub returns-in-Near : goal.returns-in-Near
+returns-in-Near t c = verdict_near c.args.e (curve_ready c.args.a.now) (curve_ready c.args.b.now) c.args.first.micros c.args.last.micros c.in-Near.ensures
+
+pub returns-in-Far : goal.returns-in-Far
+returns-in-Far t c = verdict_far c.args.e (curve_ready c.args.a.now) (curve_ready c.args.b.now) c.args.first.micros c.args.last.micros c.in-Far.ensures
+
+pub returns-in-Undecided : goal.returns-in-Undecided
+returns-in-Undecided t c = verdict_undecided c.args.e (curve_ready c.args.a.now) (curve_ready c.args.b.now) c.args.first.micros c.args.last.micros c.in-Undecided.ensures
+
+pub returns-then-are_near : goal.returns-then-are_near
+returns-then-are_near t c =
+    let e = c.args.e in
+    let a = curve_ready c.args.a.now in
+    let b = curve_ready c.args.b.now in
+    let first = c.args.first.micros in
+    let last = c.args.last.micros in
+    both_halves (the_are_near e a b first last) _ _ _ _ (verdict_split e a b first last c.requires.least c.requires.order c.requires.first_over c.requires.second_over c.in-Split.ensures)
+    c.are_near.ensures c.if-are_near.true (c.are_near-then-are_near.ensures ∙ ap (λ m. the_are_near e a b m last) c.next.ensures)
+
+pub returns-else-are_near : goal.returns-else-are_near
+returns-else-are_near t c =
+    let e = c.args.e in
+    let a = curve_ready c.args.a.now in
+    let b = curve_ready c.args.b.now in
+    let first = c.args.first.micros in
+    let last = c.args.last.micros in
+    first_half (the_are_near e a b first last) _ _ _ (verdict_split e a b first last c.requires.least c.requires.order c.requires.first_over c.requires.second_over c.in-Split.ensures)
+    c.are_near.ensures c.if-are_near.false
