@@ -1,0 +1,5 @@
+pub mod States
+pub mod Vectors
+pub mod Axes
+pub mod Relative
+pub mod Exact
