@@ -13,7 +13,7 @@ from conjtools.faults import RunFault
 from conjtools.manual import roff
 from conjtools.manual.constants import text_constants
 from conjtools.manual.help import Block, Item, blocks
-from conjtools.manual.page import FORMATS, HELP, NOTICE, PAGE, VERSION, page
+from conjtools.manual.page import FORMATS, HELP, NOTICE, PAGE, page, told_version
 from conjtools.manual.tables import paragraphs, rows, section
 from tests.support import ROOT, FolderCase
 
@@ -133,6 +133,12 @@ class OtherSources(FolderCase):
         self.change("conj 0.1.0 - made-up", "conj - made-up")
         self.assertIn('"conj 0.1.0"', page(self.folder).splitlines()[1])
 
+    def test_formats_behind_a_number(self) -> None:
+        self.change('"conj 0.1.0\\n";', '"0.1.0";\nconst FORMATS: &str = "reads:\\n  OEM 2.0\\n";')
+        shown = self.shown()
+        self.assertIn("VERSION\n       conj 0.1.0\n       reads:\n         OEM 2.0\n", shown)
+        self.assertNotIn("COMMANDS", shown)
+
     def test_what_is_not_there(self) -> None:
         self.change("const HELP", "const OTHER")
         self.assertRaisesRegex(RunFault, "notice.rt: no constant HELP", page, self.folder)
@@ -168,8 +174,8 @@ class Constants(unittest.TestCase):
     @unittest.skipUnless(PROGRAM, "CONJ_PROGRAM names no program: set it to a built one, as .conj/program is")
     def test_the_program_prints_them(self) -> None:
         texts = text_constants((ROOT / NOTICE).read_text("utf-8"))
-        for name, word in ((HELP, "--help"), (VERSION, "--version")):
-            self.assertEqual(subprocess.run([os.path.abspath(PROGRAM), word], capture_output=True, text=True, check=True).stdout, texts[name])
+        for word, told in (("--help", texts[HELP]), ("--version", told_version(texts))):
+            self.assertEqual(subprocess.run([os.path.abspath(PROGRAM), word], capture_output=True, text=True, check=True).stdout, told)
 
 
 class Blocks(unittest.TestCase):

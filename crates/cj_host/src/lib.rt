@@ -3,8 +3,10 @@
 #![tactic(auto)]
 
 mod clock;
+mod command_help;
 mod failure;
 mod folder;
+mod hint;
 mod holding;
 mod inputs;
 mod listing;
@@ -22,8 +24,9 @@ mod target;
 
 pub use clock::now;
 pub use folder::DirFolder;
+pub use hint::{print_hint, print_known_causes};
 pub use inputs::Inputs;
-pub use notice::{Notice, print_notice};
+pub use notice::{Notice, asked_notice, notice_text, print_notice};
 pub use paths::Paths;
 pub use request::{Request, read_request};
 pub use shelf::DirShelf;

@@ -1,44 +1,174 @@
 ghost use Rattle.std.specs.Prelude.{◌≡◌};
-ghost use Rattle.cj_host.specs.CommandLine.{notice_of};
+ghost use Rattle.cj_advice.specs.Causes as causes;
+ghost use Rattle.cj_host.specs.CommandLine as spec;
+ghost use Rattle.cj_words.specs.Lines as lines;
 
+use crate::command_help::command_help;
+use cj_advice::{Cause, cause_named, explanation, known_causes_text, list_of_causes};
 use cj_status::Status;
-use cj_words::Word;
+use cj_words::{UsageFault, Verb, Word, verb_of};
+use std::alloc::{AllocError, Global};
 use std::io::Write;
 
 /// What the program shows in place of a run.
 #[derive(Clone, Copy, Debug, PartialEq, Eq)]
 pub enum Notice {
+    /// All commands and their options.
     Help,
+    /// One command and its options.
+    CommandHelp(Verb),
+    /// The version, and the formats that are read and written.
     Version,
+    /// All causes that a fault line tells.
+    Causes,
+    /// One of them at length.
+    Explanation(Cause),
+    /// A cause was asked for that there is not.
+    NoCause,
 }
 
-/// The notice that the words ask for, where they are that one word alone.
+/// The notice that the words ask for in place of a run.
 pub fn asked_notice(words: &[Word]) -> Option<Notice>
-    ensures { result ≡ notice_of words.now }
+    ensures { result ≡ spec.notice_of words.now }
 {
-    match words {
-        [word] if word.as_slice() == b"--help".as_slice() => Some(Notice::Help),
-        [word] if word.as_slice() == b"--version".as_slice() => Some(Notice::Version),
-        _ => None,
+    let [word, rest @ ..] = words else {
+        return None;
+    };
+    notice_before(word.as_slice(), rest)
+}
+
+/// The notice that a word asks for before these.
+fn notice_before(word: &[u8], rest: &[Word]) -> Option<Notice>
+    ensures { result ≡ spec.notice_before word.now rest.now }
+{
+    match rest {
+        [] => notice_alone(word),
+        [next, others @ ..] => notice_beside(word, next.as_slice(), others),
     }
 }
 
-/// Prints a notice to standard output. That it cannot be printed is a write fault.
+/// The notice that two words ask for beside these.
+fn notice_beside(word: &[u8], next: &[u8], others: &[Word]) -> Option<Notice>
+    ensures { result ≡ spec.notice_beside word.now next.now others.now }
+{
+    match others {
+        [] => notice_of_two(word, next),
+        [_, ..] => None,
+    }
+}
+
+fn notice_alone(word: &[u8]) -> Option<Notice>
+    ensures { result ≡ spec.notice_alone word.now }
+{
+    if asks_help(word) {
+        Some(Notice::Help)
+    } else if word == b"--version".as_slice() {
+        Some(Notice::Version)
+    } else if word == b"--explain".as_slice() {
+        Some(Notice::Causes)
+    } else {
+        None
+    }
+}
+
+fn notice_of_two(word: &[u8], next: &[u8]) -> Option<Notice>
+    ensures { result ≡ spec.notice_of_two word.now next.now }
+{
+    if word == b"--explain".as_slice() {
+        Some(notice_of_cause(next))
+    } else {
+        notice_behind_verb(word, next)
+    }
+}
+
+fn notice_behind_verb(word: &[u8], next: &[u8]) -> Option<Notice>
+    ensures { result ≡ spec.notice_behind_verb (lines.verb_of word.now) next.now }
+{
+    match verb_of(word) {
+        Some(verb) => notice_behind(verb, next),
+        None => None,
+    }
+}
+
+fn notice_of_cause(word: &[u8]) -> Notice
+    ensures { result ≡ spec.notice_of_cause (causes.cause_named word.now) }
+{
+    match cause_named(word) {
+        Some(cause) => Notice::Explanation(cause),
+        None => Notice::NoCause,
+    }
+}
+
+fn notice_behind(verb: Verb, word: &[u8]) -> Option<Notice>
+    ensures { result ≡ spec.notice_behind verb word.now }
+{
+    if asks_help(word) {
+        Some(Notice::CommandHelp(verb))
+    } else if word == b"--version".as_slice() {
+        Some(Notice::Version)
+    } else {
+        None
+    }
+}
+
+fn asks_help(word: &[u8]) -> bool
+    ensures { result ≡ spec.asks_help word.now }
+{
+    word == b"--help".as_slice() || word == b"-h".as_slice()
+}
+
+/// Prints a notice to standard output. That it cannot be printed is a write fault, and a cause that there is not one of the words.
 pub fn print_notice(rt: &HostRuntime, notice: Notice) -> Status {
-    let text = match notice {
-        Notice::Help => HELP,
-        Notice::Version => VERSION,
-    };
-    match rt.stdout().write_all(text.as_bytes()) {
+    if notice == Notice::NoCause {
+        return Status::Usage(UsageFault::Words);
+    }
+    match notice_text(rt.alloc(), notice) {
+        Ok(text) => print(rt, &text),
+        Err(_) => Status::OutOfMemory,
+    }
+}
+
+fn print(rt: &HostRuntime, text: &[u8]) -> Status {
+    match rt.stdout().write_all(text) {
         Ok(()) => Status::Ok,
         Err(_) => Status::WriteFault,
     }
 }
 
-const VERSION: &str = "conj 0.1.0\n";
+/// What is shown, on standard output but for the causes that are told to one who asked for another.
+pub fn notice_text(alloc: Global, notice: Notice) -> Result<Vec<u8>, AllocError> {
+    match notice {
+        Notice::Help => Vec::from_slice(alloc, HELP.as_bytes()),
+        Notice::CommandHelp(verb) => command_help(alloc, HELP, verb),
+        Notice::Version => version_text(alloc),
+        Notice::Causes => list_of_causes(alloc),
+        Notice::Explanation(cause) => explanation(alloc, cause),
+        Notice::NoCause => known_causes_text(alloc),
+    }
+}
+
+fn version_text(alloc: Global) -> Result<Vec<u8>, AllocError> {
+    let text = format!(in alloc; "conj {VERSION}\n{FORMATS}")?;
+    Ok(text.into_bytes())
+}
+
+/// The version of the program, which stands nowhere else.
+const VERSION: &str = "0.1.0";
+
+const FORMATS: &str = "\
+reads:
+  ephemerides   OEM of CCSDS 502.0-B-2, KVN, CCSDS_OEM_VERS 1.0, 2.0 and 3.0
+  certificates  CONJ-CERT 1 and 2
+  reports       CONJ-REPORT 1
+writes:
+  reports       CONJ-REPORT 1
+  certificates  CONJ-CERT 1 and 2
+  messages      CDM of CCSDS 508.0-B-1, KVN, CCSDS_CDM_VERS 1.0
+  catalogues    OEM of CCSDS 502.0-B-2, KVN, CCSDS_OEM_VERS 2.0
+";
 
 const HELP: &str = "\
-conj 0.1.0 - certified all-on-all conjunction screening of ephemerides
+conj - certified all-on-all conjunction screening of ephemerides
 
 Usage:
   conj screen DIR [OPTIONS]
@@ -46,11 +176,14 @@ Usage:
   conj generate DIR [OPTIONS]
   conj selfrun [OPTIONS]
   conj rewrite DIR [OPTIONS]
-  conj --help
-  conj --version
+  conj COMMAND --help    the options of one command
+  conj --explain         what a fault line may tell, a line each
+  conj --explain CAUSE   one of these at length, as conj --explain Frame
+  conj --help            this
+  conj --version         the version, and what formats are read and written
 
-screen reads the ephemerides in the directory DIR, one object in each file whose
-name has the suffix (CCSDS 502.0-B-2 OEM in KVN form, UTC, cubic Hermite
+screen reads the ephemerides in the directory DIR, one object in each file
+whose name has the suffix (CCSDS 502.0-B-2 OEM in KVN form, UTC, cubic Hermite
 states), finds every approach of every pair of objects that comes within the
 threshold at a microsecond of the window, writes the report DIR/screen.report
 and its reasons, the certificate DIR/screen.cert, and prints a summary. Where
@@ -61,50 +194,67 @@ and keeps those that it is given.
 
 check reads the same ephemerides and the certificate, and decides anew whether
 it is accepted for them, and with --report NAME whether the report is that of
-the certificate and the ephemerides. generate writes a made-up catalogue into DIR, which
-has to be there, one ephemeris for each object. selfrun screens such a
-catalogue in memory, has the certificate checked, and prints the summary.
-rewrite does what check does, and writes an accepted certificate in version 2,
-which has fewer lines, as DIR/screen.cert2. With --out NEW all that a run
-writes is in NEW and not in DIR, and is there together or not at all.
+the certificate and the ephemerides.
 
-Options of screen, check and rewrite, in any order after DIR, each at most once:
-  --threshold METRES  miss distance to report, 1 to 1000000 (default 5000)
-  --workers N         of screen: how many threads share the work, 1 to 16
-                      (default 1)
-  --from EPOCH        first instant of the window (default: where the first
-                      ephemeris begins to be useable)
-  --to EPOCH          last instant of the window (default: where the last
-                      ephemeris ends to be useable)
-  --suffix TEXT       how names of ephemerides end, 1 to 20 bytes (default .oem)
-  --cells N           of screen: greatest number of stretches of time that are
-                      told apart, 1 to 4000000 (default 4000000)
-  --as-hermite3       take a file that declares another interpolation, or none,
-                      by the cubic through its nodes
-  --sizes NAME        file of DIR with the radius of each object in metres; the
-                      miss distance of a pair is then measured from surface to
-                      surface (default: all objects are points)
-  --cert NAME         of check and rewrite: the certificate's file (default
-                      screen.cert)
-  --originator TEXT   of screen: who makes messages, 1 to 40 letters, digits, _
-                      and - (default CONJ)
-  --cert-version N    of screen: the version of the certificate, 1 or 2
-                      (default 1)
-  --report NAME       of check: the report's file, in the directory of the
-                      certificate (default: no report is checked)
-  --out NEW           of screen and rewrite: the directory that is made for the
-                      results; nothing may have its name yet (default: they are
-                      put into DIR, in place of those of an earlier run)
-  --cert-dir DIR      of check and rewrite: the directory in which the
-                      certificate is, and the report (default: that of the
-                      ephemerides)
-Options of generate and selfrun; selfrun has --threshold, --workers, --cells
-too, and generate has --out:
+generate writes a made-up catalogue into DIR, which has to be there, one
+ephemeris for each object.
+
+selfrun screens such a catalogue in memory, has the certificate checked, and
+prints the summary. It has no directory.
+
+rewrite does what check does, and writes an accepted certificate in version 2,
+which has fewer lines, as DIR/screen.cert2.
+
+The miss distance of an encounter is that between the centers of its objects,
+with and without --sizes. The threshold is measured between the centers too.
+With --sizes it is measured between the surfaces: an approach is reported
+where the centers come within the threshold and both radii.
+
+Options stand in any order, each at most once. One with a value is two words
+or one, as --threshold 1000 or --threshold=1000.
+
+Options of screen, check, rewrite and selfrun:
+  --threshold METRES  greatest distance that is reported, 1 to 1000000
+                      (default 5000)
+Options of screen, check and rewrite:
+  --from EPOCH        first instant of the window in UTC, as
+                      2025-01-01T00:00:00.000000 or 2025-001T00:00:00Z
+                      (default: where the first ephemeris begins to be
+                      useable)
+  --to EPOCH          last instant of the window, not before the first
+                      (default: where the last ephemeris ends to be useable)
+  --suffix TEXT       how names of ephemerides end, 1 to 20 bytes (default
+                      .oem)
+  --as-hermite3       take a file that declares another interpolation, or
+                      none, by the cubic through its nodes: the result is of
+                      these cubics, not of the curves that the files mean
+  --sizes NAME        file of DIR with the radius of each object in metres:
+                      the threshold is then measured from surface to surface
+                      (default: all objects are points)
+Options of screen and selfrun:
+  --workers N         how many threads share the work, 1 to 16 (default 1)
+  --cells N           greatest number of stretches of time that are told
+                      apart, 1 to 4000000 (default 4000000)
+Options of screen:
+  --originator TEXT   who makes messages, 1 to 40 letters, digits, _ and -
+                      (default CONJ)
+  --cert-version N    the version of the certificate, 1 or 2 (default 1)
+Options of check and rewrite:
+  --cert NAME         the certificate's file (default screen.cert)
+  --cert-dir DIR      the directory of the certificate, and of the report
+                      (default: that of the ephemerides)
+Options of check:
+  --report NAME       the report's file, in the directory of the certificate
+                      (default: no report is checked)
+Options of screen, generate and rewrite:
+  --out NEW           the directory that is made for the results, which are
+                      there together or not at all; nothing may have its name
+                      yet (default: they are put into DIR, in place of those
+                      of an earlier run)
+Options of generate and selfrun:
   --seed N            what the objects are drawn from (default 1)
-  --objects N         how many, 1 to 2000 (default 50)
-  --minutes N         the time that they cover, 1 to 1440 (default 120)
-An EPOCH is UTC, as 2025-01-01T00:00:00.000000 or 2025-001T00:00:00Z. An option
-with a value may also be one word, as --threshold=1000.
+  --objects N         how many objects, 1 to 2000 (default 50)
+  --minutes N         how many minutes they cover, 1 to 1440 (default 120)
 
 Exit status:
   0  done

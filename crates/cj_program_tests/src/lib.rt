@@ -2,9 +2,13 @@
 #![tactic(auto)]
 
 #[cfg(test)]
+mod advised;
+#[cfg(test)]
 mod asked;
 #[cfg(test)]
 mod directories;
+#[cfg(test)]
+mod examples;
 #[cfg(test)]
 mod fault_lines;
 #[cfg(test)]

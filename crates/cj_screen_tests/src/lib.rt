@@ -2,6 +2,8 @@
 #![tactic(auto)]
 
 #[cfg(test)]
+mod advised;
+#[cfg(test)]
 mod catalogues;
 #[cfg(test)]
 mod certificates;

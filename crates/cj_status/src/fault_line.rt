@@ -66,7 +66,8 @@ fn push_place(
     text.extend_from_slice(cause)
 }
 
-fn certificate_cause_name(cause: CertificateCause) -> &'static [u8]
+/// The words that a fault line prints for a certificate or a report that is not accepted.
+pub fn certificate_cause_name(cause: CertificateCause) -> &'static [u8]
     ensures { result.now ≡ certificate_text cause }
 {
     match cause {
@@ -105,7 +106,8 @@ fn check_name(cause: CheckCause) -> &'static [u8]
     }
 }
 
-fn cause_name(cause: FileCause) -> &'static [u8]
+/// The words that a fault line prints for a file that was refused.
+pub fn cause_name(cause: FileCause) -> &'static [u8]
     ensures { result.now ≡ cause_text cause }
 {
     match cause {

@@ -74,7 +74,8 @@ fn alone<'w>(name: &'w [u8], value: &'w [u8], rest: &'w [Word]) -> Option<Front<
     }
 }
 
-fn split_at_equals(word: &[u8]) -> Option<(&[u8], &[u8])>
+/// What stands before and behind the first `=` of a word, where there is one.
+pub fn split_at_equals(word: &[u8]) -> Option<(&[u8], &[u8])>
     ensures none { IfNone result (has_equals word.now ≡ false) }
     ensures some { IfSome result (λ parts. has_equals word.now ≡ true) }
     ensures parts { IfSome result (λ parts. (parts.0.now ≡ before_first is_equals word.now) × (parts.1.now ≡ after_first is_equals word.now)) }

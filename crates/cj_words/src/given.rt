@@ -76,7 +76,8 @@ fn are_known(words: &[Word], verb: Verb) -> bool
     rest.is_empty()
 }
 
-fn is_known(name: &[u8], verb: Verb) -> bool
+/// Whether it is the name of an option of the command.
+pub fn is_known(name: &[u8], verb: Verb) -> bool
     ensures { result ≡ spec.is_name verb name.now }
 {
     match verb {

@@ -14,8 +14,11 @@ mod reading;
 mod settings;
 mod texts;
 
-pub use command::{Checking, Command, Recipe, Screening, Selfrun};
+pub use command::{Checking, Command, Recipe, Screening, Selfrun, Verb};
 pub use commands::read_command;
+pub use front::{Front, front_of, split_at_equals};
+pub use given::is_known;
+pub use line::{Line, line_of, verb_of};
 pub use option::{Opt, UsageFault, option_name};
 pub use places::{Places, places_of};
 pub use settings::{Settings, Word};

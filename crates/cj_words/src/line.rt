@@ -26,7 +26,7 @@ pub fn line_of(words: &[Word]) -> Option<Line<'_>>
 }
 
 /// The command that a word names.
-fn verb_of(word: &[u8]) -> Option<Verb>
+pub fn verb_of(word: &[u8]) -> Option<Verb>
     ensures { result ≡ spec.verb_of word.now }
 {
     if word == b"screen".as_slice() {

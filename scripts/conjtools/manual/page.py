@@ -15,7 +15,7 @@ from conjtools.manual.tables import paragraphs, rows, section
 NOTICE = Path("crates", "cj_host", "src", "notice.rt")
 FORMATS = Path("docs", "FORMATS.md")
 PAGE = Path("docs", "conj.1")
-HELP, VERSION = "HELP", "VERSION"
+HELP, VERSION, TOLD_FORMATS = "HELP", "VERSION", "FORMATS"
 # The day of the page's form and examples, which stand here; what it tells is of the version that it names.
 DAY = "2026-11-30"
 TITLE = re.compile(r"conj(?: (?P<version>\d\S*))? - (?P<what>.*)")
@@ -82,8 +82,9 @@ def head(texts: Mapping[str, str], told: list[Block]) -> list[str]:
 
 
 def synopsis(told: list[Block]) -> list[str]:
-    """The lines of the usage."""
-    lines = [roff.usage(item.term) for block in told if block.text == USAGE for item in block.items]
+    """The lines of the usage, each with what is said of it."""
+    items = [item for block in told if block.text == USAGE for item in block.items]
+    lines = [f"{roff.usage(item.term)}   {roff.escaped(item.meaning)}".rstrip() for item in items]
     return [".SH SYNOPSIS", ".nf", *lines, ".fi"]
 
 
@@ -117,7 +118,7 @@ def separated(lines: list[str]) -> list[str]:
 
 def commands(texts: Mapping[str, str]) -> list[str]:
     """Each other text of several lines, as what `--help` says of one command alone. What `--help` holds is not told twice."""
-    others = {name: text for name, text in texts.items() if name != VERSION and text not in texts[HELP] and "\n" in text.strip("\n")}
+    others = {name: text for name, text in texts.items() if name not in (VERSION, TOLD_FORMATS) and text not in texts[HELP] and "\n" in text.strip("\n")}
     lines = [".SH COMMANDS"] if others else []
     for name, text in others.items():
         told = list(blocks(text))
@@ -168,7 +169,13 @@ def examples() -> Iterable[str]:
         yield from (".PP", ".in +4n", ".nf", roff.bold(command), ".fi", ".in")
 
 
+def told_version(texts: Mapping[str, str]) -> str:
+    """What `--version` prints: the program and its version, and behind it the formats."""
+    told = texts.get(VERSION, "")
+    return (f"conj {told}\n" if told[:1].isdigit() else told) + texts.get(TOLD_FORMATS, "")
+
+
 def version(texts: Mapping[str, str]) -> list[str]:
     """What `--version` prints, where it is more than a line."""
-    lines = texts.get(VERSION, "").strip("\n").splitlines()
+    lines = told_version(texts).strip("\n").splitlines()
     return [".SH VERSION", ".nf", *(roff.guarded(roff.escaped(line)) for line in lines), ".fi"] if len(lines) > 1 else []

@@ -1,0 +1,4 @@
+mod CauseLemmas
+mod FindLemmas
+mod HintLemmas
+mod TellLemmas

@@ -1,0 +1,29 @@
+-- The fault line of a status prints the words of its cause.
+use Rattle.std.proofs.Common.{◌≡◌, Option, refl}
+use Rattle.std.specs.Prelude.{IfSome}
+use Rattle.cj_words.specs.declared.option.UsageFault.TheVariants as usage
+use Rattle.cj_status.specs.declared.status.LimitFault.TheVariants as faults
+use Rattle.cj_status.specs.declared.status.Status.{Status}
+use Rattle.cj_status.specs.declared.status.Status.TheVariants as status
+use Rattle.cj_advice.specs.declared.cause.Cause.{Cause}
+use Rattle.cj_advice.specs.Causes.{Tells, cause_of}
+
+told_cause : (s : Status) → IfSome (cause_of s) (λ cause. Tells cause s)
+told_cause status.Ok = tt
+told_cause (status.NotAccepted line cause) = refl
+told_cause (status.Usage usage.Words) = refl
+told_cause (status.Usage (usage.Value option)) = refl
+told_cause (status.BadFile file line cause) = refl
+told_cause status.ReadFault = refl
+told_cause status.WriteFault = refl
+told_cause (status.Limit (faults.Objects count)) = refl
+told_cause (status.Limit (faults.FileBytes file)) = refl
+told_cause (status.Limit (faults.Nodes count)) = refl
+told_cause (status.Limit (faults.Window length)) = refl
+told_cause (status.Limit (faults.Slots count)) = refl
+told_cause (status.Limit (faults.Cells limit)) = refl
+told_cause status.OutOfMemory = refl
+
+-- so it is of whatever cause is the status's
+pub tells : (s : Status) (found : Option Cause) → found ≡ cause_of s → IfSome found (λ cause. Tells cause s)
+tells s found is = rw is (told_cause s)

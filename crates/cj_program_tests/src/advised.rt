@@ -1,0 +1,437 @@
+//! What a person is told behind a fault line.
+use crate::lines::words;
+use cj_advice::{
+    Advice, Cause, EVERY, LimitCause, OPTIONS, VERBS, advice_on, cause_named, cause_of, cause_word,
+    explanation, hint_text, known_causes_text, list_of_causes, nearest_option, range_of,
+};
+use cj_base::Limits;
+use cj_epoch::EpochFault;
+use cj_formats::{CheckCause, OemCause, SizesCause};
+use cj_host::{Notice, asked_notice, notice_text};
+use cj_io::Name;
+use cj_kvn::KvnCause;
+use cj_status::{CertificateCause, FileCause, LimitFault, Status};
+use cj_words::{Opt, UsageFault, Verb, is_known, option_name};
+use std::alloc::{AllocError, Global};
+use std::panic::Expect;
+
+/// Whether no line is longer than 78 bytes, and each is of printable ASCII.
+fn fits(text: &[u8]) -> bool {
+    text.split(|b| *b == b'\n').all(|line| {
+        line.len() <= 78 && line.iter().all(|b| 32 <= *b && *b <= 126)
+    })
+}
+
+/// Whether a text is not empty and ends with a line feed.
+fn is_of_lines(text: &[u8]) -> bool {
+    match text {
+        [.., last] => *last == b'\n',
+        [] => false,
+    }
+}
+
+/// Whether a text has another in it.
+fn has(text: &[u8], part: &[u8]) -> bool {
+    text.windows(part.len()).any(|found| found == part)
+}
+
+fn is_told_fitly(advice: &Advice) -> bool {
+    !advice.means.is_empty()
+        && advice.means.len() <= 54
+        && !advice.helps.is_empty()
+        && advice.helps.len() <= 72
+        && is_of_lines(advice.more.as_bytes())
+        && is_of_lines(advice.wrong.as_bytes())
+        && is_of_lines(advice.right.as_bytes())
+        && advice.wrong != advice.right
+}
+
+#[test]
+fn each_cause_has_a_text_of_its_own(rt: HostRuntime) {
+    for (place, cause) in EVERY.iter().enumerate() {
+        let advice = advice_on(*cause);
+        assert!(rt; is_told_fitly(&advice), "{cause:?}");
+        let text = explanation(rt.alloc(), *cause).expect(&rt, "no fault");
+        assert!(rt; is_of_lines(&text) && fits(&text), "{cause:?}");
+        assert!(rt; text.starts_with(cause_word(*cause)), "{cause:?}");
+        for other in EVERY.iter().skip(place + 1) {
+            assert!(rt; advice_on(*other) != advice, "{cause:?} {other:?}");
+            assert!(rt;
+                advice_on(*other).more != advice.more,
+                "{cause:?} {other:?}"
+            );
+        }
+    }
+}
+
+#[test]
+fn a_cause_is_found_by_what_a_fault_line_prints(rt: HostRuntime) {
+    for cause in &EVERY {
+        assert_eq!(rt; cause_named(cause_word(*cause)), Some(*cause));
+    }
+    let found: [(&[u8], Cause); 5] = [
+        (b"Words", Cause::Words),
+        (b"Value", Cause::Value),
+        (
+            b"Epoch SecondSixty",
+            Cause::File(FileCause::Oem(OemCause::Epoch(EpochFault::SecondSixty))),
+        ),
+        (
+            b"Sizes Kvn NoLineForm",
+            Cause::File(FileCause::Sizes(SizesCause::Kvn(KvnCause::NoLineForm))),
+        ),
+        (b"Window", Cause::Limit(LimitCause::Window)),
+    ];
+    for (word, cause) in &found {
+        assert_eq!(rt; cause_named(word), Some(*cause));
+    }
+    let unknown: [&[u8]; 7] = [
+        b"",
+        b"words",
+        b"Epoch",
+        b"Value --to",
+        b"Form",
+        b"Frames",
+        b"Frame ",
+    ];
+    for word in &unknown {
+        assert_eq!(rt; cause_named(word), None);
+    }
+}
+
+#[test]
+fn all_causes_are_listed(rt: HostRuntime) {
+    let text = list_of_causes(rt.alloc()).expect(&rt, "no fault");
+    assert!(rt; is_of_lines(&text) && fits(&text));
+    assert_eq!(rt; text.split(|b| *b == b'\n').count(), EVERY.len() + 1);
+    let known = known_causes_text(rt.alloc()).expect(&rt, "no fault");
+    assert!(rt; is_of_lines(&known) && fits(&known));
+    for cause in &EVERY {
+        assert!(rt; has(&text, cause_word(*cause)));
+        assert!(rt; has(&known, cause_word(*cause)));
+    }
+}
+
+/// The hint behind the fault line of these words.
+fn hint_of(alloc: Global, line: &str) -> Result<Vec<u8>, AllocError> {
+    let words = words(alloc, line)?;
+    hint_text(alloc, &Status::Usage(UsageFault::Words), Some(&words))
+}
+
+const SLIPS: [(&str, &[u8]); 22] = [
+    (
+        "screen . --treshold 1000",
+        b"hint: --treshold is no option of screen; nearest: --threshold\nhint: conj screen --help lists its options\n",
+    ),
+    (
+        "screen . --threshold=5 --sufix=.txt",
+        b"hint: --sufix is no option of screen; nearest: --suffix\nhint: conj screen --help lists its options\n",
+    ),
+    (
+        "check . --certdir results",
+        b"hint: --certdir is no option of check; nearest: --cert-dir\nhint: conj check --help lists its options\n",
+    ),
+    (
+        "check . --reports x",
+        b"hint: --reports is no option of check; nearest: --report\nhint: conj check --help lists its options\n",
+    ),
+    (
+        "screen . --as-hermite",
+        b"hint: --as-hermite is no option of screen; nearest: --as-hermite3\nhint: conj screen --help lists its options\n",
+    ),
+    (
+        "generate . --object 5",
+        b"hint: --object is no option of generate; nearest: --objects\nhint: conj generate --help lists its options\n",
+    ),
+    (
+        "screen . --cert x",
+        b"hint: --cert is no option of screen; nearest: --cells\nhint: it is an option of check, rewrite\n",
+    ),
+    (
+        "selfrun -seed 5",
+        b"hint: -seed is no option of selfrun; nearest: --seed\nhint: conj selfrun --help lists its options\n",
+    ),
+    (
+        "screen . --suffix x --suffix y",
+        b"hint: --suffix stands twice\nhint: leave one of the two out\n",
+    ),
+    (
+        "screen . --as-hermite3 --cells 1 --as-hermite3",
+        b"hint: --as-hermite3 stands twice\nhint: leave one of the two out\n",
+    ),
+    (
+        "screen . --threshold",
+        b"hint: --threshold lacks its value: one that begins with - is joined by =\nhint: --threshold is a whole number of metres from 1 to 1000000\n",
+    ),
+    (
+        "screen . --originator --as-hermite3",
+        b"hint: --originator lacks its value: one that begins with - is joined by =\nhint: --originator is 1 to 40 letters, digits, _ and -\n",
+    ),
+    (
+        "check . --cert=",
+        b"hint: --cert lacks its value: one that begins with - is joined by =\nhint: --cert is a name of 1 to 200 bytes: printable ASCII, no blank, no /\n",
+    ),
+    (
+        "screen . --as-hermite3=1",
+        b"hint: --as-hermite3 has no value\nhint: write it alone\n",
+    ),
+    (
+        "screen my files",
+        b"hint: files stands where an option should, which begins with --\nhint: a name or a time with a blank in it is one word in quotes\n",
+    ),
+    (
+        "selfrun . --seed 1",
+        b"hint: . stands where an option should, which begins with --\nhint: selfrun has no directory: it works in memory\n",
+    ),
+    (
+        "screen --threshold 5",
+        b"hint: screen wants a directory behind it, before its options\nhint: as in conj screen samples/crossing\n",
+    ),
+    (
+        "rewrite",
+        b"hint: rewrite wants a directory behind it, before its options\nhint: as in conj rewrite samples/crossing\n",
+    ),
+    (
+        "scren .",
+        b"hint: scren is no command\nhint: it is screen, check, generate, selfrun or rewrite; see conj --help\n",
+    ),
+    (
+        "screen . --help",
+        b"hint: --help stands alone, or behind a command alone\nhint: as in conj --help and conj screen --help\n",
+    ),
+    (
+        "--explain Epoch Form",
+        b"hint: --explain stands alone, or before one cause\nhint: two words are one in quotes: conj --explain \"Epoch Form\"\n",
+    ),
+    (
+        "screen . --a-very-long-option-without-meaning\x07 1",
+        b"hint: --a-very-long-opti.. is no option of screen; nearest: --originator\nhint: conj screen --help lists its options\n",
+    ),
+];
+
+#[test]
+fn what_is_wrong_with_words_is_told(rt: HostRuntime) {
+    for (line, due) in &SLIPS {
+        let hint = hint_of(rt.alloc(), line).expect(&rt, "no fault");
+        assert_eq!(rt; hint.as_slice(), *due, "{line}");
+        assert!(rt; fits(&hint), "{line}");
+    }
+}
+
+#[test]
+fn words_that_are_not_there_or_not_text_are_told(rt: HostRuntime) {
+    let alloc = rt.alloc();
+    let status = Status::Usage(UsageFault::Words);
+    let none = hint_text(alloc, &status, Some(&[])).expect(&rt, "no fault");
+    assert!(rt; none.starts_with(b"hint: a command is wanted\n"));
+    let unread = hint_text(alloc, &status, None).expect(&rt, "no fault");
+    assert!(rt; unread.starts_with(b"hint: a word of the command line is not UTF-8\n"));
+}
+
+#[test]
+fn limits_are_told_as_they_are(rt: HostRuntime) {
+    let usual = Limits::USUAL;
+    let told: [(&str, u64); 4] = [
+        (
+            advice_on(Cause::Limit(LimitCause::Objects)).means,
+            u64::from(usual.objects),
+        ),
+        (
+            advice_on(Cause::Limit(LimitCause::Nodes)).means,
+            usual.nodes,
+        ),
+        (
+            advice_on(Cause::Limit(LimitCause::Slots)).means,
+            usual.object_slots,
+        ),
+        (range_of(Opt::Cells).means, usual.leaves),
+    ];
+    for (text, limit) in &told {
+        let number = format!(in rt.alloc(); " {limit}").expect(&rt, "no fault");
+        assert!(rt; has(text.as_bytes(), number.as_bytes()), "{text}");
+    }
+}
+
+#[test]
+fn each_option_has_its_range(rt: HostRuntime) {
+    for option in &OPTIONS {
+        let range = range_of(*option);
+        assert!(rt; range.means.as_bytes().starts_with(option_name(*option)));
+        let status = Status::Usage(UsageFault::Value { option: *option });
+        let hint = hint_text(rt.alloc(), &status, None).expect(&rt, "no fault");
+        assert!(rt; is_of_lines(&hint) && fits(&hint), "{option:?}");
+        assert!(rt; has(&hint, range.means.as_bytes()), "{option:?}");
+        for verb in &VERBS {
+            let nearest = nearest_option(option_name(*option), *verb);
+            if is_known(option_name(*option), *verb) {
+                assert_eq!(rt; nearest, *option);
+            }
+            assert!(rt; is_known(option_name(nearest), *verb));
+        }
+    }
+}
+
+/// Statuses of each kind, and the front of the hint of each.
+fn statuses(alloc: Global) -> Result<Vec<(Status, &'static [u8])>, AllocError> {
+    let file = Name::copy_of(alloc, b"a.oem")?;
+    let large = Name::copy_of(alloc, b"a.oem")?;
+    let header = CertificateCause::Refused(CheckCause::Header);
+    let mut statuses: Vec<(Status, &'static [u8])> = Vec::new(alloc);
+    statuses.push((
+        Status::BadFile {
+            file,
+            line: 14,
+            cause: FileCause::Oem(OemCause::Interpolation),
+        },
+        b"hint: the file does not declare HERMITE of degree 3\nhint: --as-hermite3 takes it by the cubic: another curve than the file means\n",
+    ))?;
+    for (line, front) in HEADERS {
+        statuses.push((
+            Status::NotAccepted {
+                line,
+                cause: header,
+            },
+            front,
+        ))?;
+    }
+    statuses.push((
+        Status::NotAccepted {
+            line: 12,
+            cause: CertificateCause::Report,
+        },
+        b"hint: the report is not that of",
+    ))?;
+    statuses.push((Status::ReadFault, b"hint: a folder or a file"))?;
+    statuses.push((Status::WriteFault, b"hint: a result could not"))?;
+    statuses.push((Status::OutOfMemory, b"hint: memory ran out\n"))?;
+    statuses.push((
+        Status::Limit(LimitFault::FileBytes { file: large }),
+        b"hint: a file has more bytes",
+    ))?;
+    statuses.push((
+        Status::Limit(LimitFault::Window { length: 1 }),
+        b"hint: the window is longer than fourteen days\n",
+    ))?;
+    Ok(statuses)
+}
+
+const HEADERS: [(u32, &[u8]); 3] = [
+    (2, b"hint: the window is not that"),
+    (3, b"hint: the threshold is not that"),
+    (4, b"hint: the number of objects is not that"),
+];
+
+#[test]
+fn each_end_of_a_run_has_two_lines(rt: HostRuntime) {
+    let alloc = rt.alloc();
+    let statuses = statuses(alloc).expect(&rt, "no fault");
+    for (status, front) in &statuses {
+        let hint = hint_text(alloc, status, None).expect(&rt, "no fault");
+        assert!(rt; hint.starts_with(front), "{status:?}");
+        assert!(rt; is_of_lines(&hint) && fits(&hint), "{status:?}");
+        assert_eq!(rt; hint.split(|b| *b == b'\n').count(), 3, "{status:?}");
+        let cause = cause_of(status);
+        assert!(rt; cause.is_some(), "{status:?}");
+    }
+    assert_eq!(rt; cause_of(&Status::Ok), None);
+}
+
+const NOTICES: [(&str, Option<Notice>); 20] = [
+    ("--help", Some(Notice::Help)),
+    ("-h", Some(Notice::Help)),
+    ("--version", Some(Notice::Version)),
+    ("--explain", Some(Notice::Causes)),
+    ("screen --help", Some(Notice::CommandHelp(Verb::Screen))),
+    ("check -h", Some(Notice::CommandHelp(Verb::Check))),
+    ("generate --help", Some(Notice::CommandHelp(Verb::Generate))),
+    ("selfrun -h", Some(Notice::CommandHelp(Verb::Selfrun))),
+    ("rewrite --help", Some(Notice::CommandHelp(Verb::Rewrite))),
+    ("rewrite --version", Some(Notice::Version)),
+    ("--explain Words", Some(Notice::Explanation(Cause::Words))),
+    ("--explain words", Some(Notice::NoCause)),
+    ("--explain --help", Some(Notice::NoCause)),
+    ("--explain Epoch Form", None),
+    ("--help screen", None),
+    ("screen . --help", None),
+    ("screen --help .", None),
+    ("--help --help", None),
+    ("fly --help", None),
+    ("-v", None),
+];
+
+#[test]
+fn what_is_shown_in_place_of_a_run(rt: HostRuntime) {
+    for (line, due) in &NOTICES {
+        let words = words(rt.alloc(), line).expect(&rt, "no fault");
+        assert_eq!(rt; asked_notice(&words), *due, "{line}");
+    }
+    assert_eq!(rt; asked_notice(&[]), None);
+}
+
+/// How often a text has a line that begins to tell of this option.
+fn entries_of(text: &[u8], option: Opt) -> usize {
+    let name = option_name(option);
+    text.split(|b| *b == b'\n')
+        .filter(|line| match line.strip_prefix(b"  ".as_slice()) {
+            Some(told) => match told.strip_prefix(name) {
+                Some([next, ..]) => *next == b' ',
+                _ => false,
+            },
+            None => false,
+        })
+        .count()
+}
+
+#[test]
+fn the_help_of_a_command_has_its_options_alone(rt: HostRuntime) {
+    let all = notice_text(rt.alloc(), Notice::Help).expect(&rt, "no fault");
+    assert!(rt; is_of_lines(&all) && fits(&all));
+    for option in &OPTIONS {
+        assert_eq!(rt; entries_of(&all, *option), 1, "{option:?}");
+    }
+    for verb in &VERBS {
+        let text = notice_text(rt.alloc(), Notice::CommandHelp(*verb)).expect(&rt, "no fault");
+        assert!(rt; is_of_lines(&text) && fits(&text), "{verb:?}");
+        for option in &OPTIONS {
+            let due = if is_known(option_name(*option), *verb) {
+                1
+            } else {
+                0
+            };
+            assert_eq!(rt; entries_of(&text, *option), due, "{verb:?} {option:?}");
+        }
+    }
+}
+
+const GENERATE_HELP: &[u8] = b"\
+Usage: conj generate DIR [OPTIONS]
+
+generate writes a made-up catalogue into DIR, which has to be there, one
+ephemeris for each object.
+
+Options, in any order, each at most once:
+  --out NEW           the directory that is made for the results, which are
+                      there together or not at all; nothing may have its name
+                      yet (default: they are put into DIR, in place of those
+                      of an earlier run)
+  --seed N            what the objects are drawn from (default 1)
+  --objects N         how many objects, 1 to 2000 (default 50)
+  --minutes N         how many minutes they cover, 1 to 1440 (default 120)
+";
+
+#[test]
+fn the_help_of_a_command_and_the_version_as_they_are_shown(rt: HostRuntime) {
+    let text = notice_text(rt.alloc(), Notice::CommandHelp(Verb::Generate)).expect(&rt, "no fault");
+    assert_eq!(rt; text.as_slice(), GENERATE_HELP);
+    let text = notice_text(rt.alloc(), Notice::Version).expect(&rt, "no fault");
+    assert!(rt; text.starts_with(b"conj 0.1.0\n"));
+    for name in [
+        b"502.0-B-2".as_slice(),
+        b"508.0-B-1".as_slice(),
+        b"KVN".as_slice(),
+        b"CONJ-CERT 1 and 2".as_slice(),
+        b"CONJ-REPORT 1".as_slice(),
+    ] {
+        assert!(rt; has(&text, name));
+    }
+}
