@@ -73,5 +73,13 @@ pub fn range_of(option: Opt) -> Hint {
             means: "--cert-dir is a path of 1 to 1000 bytes without control characters",
             helps: "left out certificate and report lie in DIR",
         },
+        Opt::Rtn => Hint {
+            means: "--rtn has no value",
+            helps: "left out messages do not tell the relative state",
+        },
+        Opt::Within => Hint {
+            means: "--within is a whole number of metres from 1 to 1000",
+            helps: "left out it is 1",
+        },
     }
 }

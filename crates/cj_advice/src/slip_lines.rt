@@ -53,7 +53,7 @@ pub fn push_slip(text: &mut Vec<u8>, slip: Slip<'_>) -> Result<(), AllocError> {
 
 fn push_commands(text: &mut Vec<u8>) -> Result<(), AllocError> {
     text.extend_from_slice(
-        b"\nhint: it is screen, check, generate, selfrun or rewrite; see conj --help",
+        b"\nhint: it is screen, check, generate, selfrun, rewrite or thin; see conj --help",
     )
 }
 
@@ -109,7 +109,7 @@ fn push_stray(text: &mut Vec<u8>, word: &[u8], verb: Verb) -> Result<(), AllocEr
     text.extend_from_slice(b" stands where an option should, which begins with --\nhint: ")?;
     match verb {
         Verb::Selfrun => text.extend_from_slice(b"selfrun has no directory: it works in memory"),
-        Verb::Screen | Verb::Check | Verb::Generate | Verb::Rewrite => {
+        Verb::Screen | Verb::Check | Verb::Generate | Verb::Rewrite | Verb::Thin => {
             text.extend_from_slice(b"a name or a time with a blank in it is one word in quotes")
         }
     }

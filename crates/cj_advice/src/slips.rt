@@ -50,12 +50,13 @@ pub enum Slip<'w> {
 }
 
 /// Each command once.
-pub const VERBS: [Verb; 5] = [
+pub const VERBS: [Verb; 6] = [
     Verb::Screen,
     Verb::Check,
     Verb::Generate,
     Verb::Selfrun,
     Verb::Rewrite,
+    Verb::Thin,
 ];
 
 /// A command as it stands on the command line.
@@ -66,6 +67,7 @@ pub fn verb_name(verb: Verb) -> &'static str {
         Verb::Generate => "generate",
         Verb::Selfrun => "selfrun",
         Verb::Rewrite => "rewrite",
+        Verb::Thin => "thin",
     }
 }
 
@@ -143,9 +145,7 @@ fn slip_of_word(word: &[u8], verb: Verb) -> Slip<'_>
         return slip_of_name(name, verb);
     }
     match option_named(name) {
-        Some(Opt::AsHermite3) => Slip::ValueOfFlag {
-            option: Opt::AsHermite3,
-        },
+        Some(option @ (Opt::AsHermite3 | Opt::Rtn)) => Slip::ValueOfFlag { option },
         Some(option) => Slip::NoValue { option },
         None => Slip::Stray { word, verb },
     }

@@ -4,7 +4,7 @@ use Rattle.std.specs.List.{ends_with}
 use Rattle.std.specs.Option.{option_copied}
 use Rattle.std.specs.Str.{bytes_eq}
 use Rattle.cj_host.specs.declared.inputs.Inputs as kept
-use Rattle.cj_words.specs.Commands.{PlainCommand, Screens, Checks, Generates, Selfruns, Rewrites}
+use Rattle.cj_words.specs.Commands.{PlainCommand, Screens, Checks, Generates, Selfruns, Rewrites, Thins}
 use Rattle.cj_words.specs.Settings.{PlainSettings}
 use Rattle.cj_words.specs.declared.option.UsageFault.{UsageFault}
 
@@ -30,6 +30,7 @@ abbrev pub reads_of : Result PlainCommand UsageFault → Reads
 reads_of (Ok (Screens screening)) = reads_asked screening.settings None
 reads_of (Ok (Checks checking)) = reads_asked checking.settings checking.report
 reads_of (Ok (Rewrites checking)) = reads_asked checking.settings None
+reads_of (Ok (Thins thinning)) = record { suffix = Some thinning.suffix; sizes = None; report = None }
 reads_of (Ok (Generates recipe)) = nothing
 reads_of (Ok (Selfruns selfrun)) = nothing
 reads_of (Err fault) = nothing

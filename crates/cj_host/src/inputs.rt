@@ -35,6 +35,10 @@ impl<'w> Inputs<'w> {
             Ok(Command::Screen(screening)) => Inputs::of_settings(screening.settings, None),
             Ok(Command::Check(checking)) => Inputs::of_settings(checking.settings, checking.report),
             Ok(Command::Rewrite(checking)) => Inputs::of_settings(checking.settings, None),
+            Ok(Command::Thin(thinning)) => Inputs {
+                suffix: Some(thinning.suffix),
+                ..Inputs::none()
+            },
             _ => Inputs::none(),
         }
     }

@@ -165,6 +165,7 @@ writes:
   certificates  CONJ-CERT 1 and 2
   messages      CDM of CCSDS 508.0-B-1, KVN, CCSDS_CDM_VERS 1.0
   catalogues    OEM of CCSDS 502.0-B-2, KVN, CCSDS_OEM_VERS 2.0
+  ephemerides   OEM of CCSDS 502.0-B-2, KVN, CCSDS_OEM_VERS 2.0
 ";
 
 const HELP: &str = "\
@@ -176,6 +177,7 @@ Usage:
   conj generate DIR [OPTIONS]
   conj selfrun [OPTIONS]
   conj rewrite DIR [OPTIONS]
+  conj thin DIR [OPTIONS]
   conj COMMAND --help    the options of one command
   conj --explain         what a fault line may tell, a line each
   conj --explain CAUSE   one of these at length, as conj --explain Frame
@@ -205,6 +207,11 @@ prints the summary. It has no directory.
 rewrite does what check does, and writes an accepted certificate in version 2,
 which has fewer lines, as DIR/screen.cert2.
 
+thin writes each ephemeris of DIR with fewer nodes, a.oem as DIR/a.oem.thin.
+At each microsecond the object has a place where it had one, and that is
+within a stated length of where it was. It prints the numbers of files, of
+nodes read and of nodes kept.
+
 The miss distance of an encounter is that between the centers of its objects,
 with and without --sizes. The threshold is measured between the centers too.
 With --sizes it is measured between the surfaces: an approach is reported
@@ -223,14 +230,15 @@ Options of screen, check and rewrite:
                       useable)
   --to EPOCH          last instant of the window, not before the first
                       (default: where the last ephemeris ends to be useable)
+  --sizes NAME        file of DIR with the radius of each object in metres:
+                      the threshold is then measured from surface to surface
+                      (default: all objects are points)
+Options of screen, check, rewrite and thin:
   --suffix TEXT       how names of ephemerides end, 1 to 20 bytes (default
                       .oem)
   --as-hermite3       take a file that declares another interpolation, or
                       none, by the cubic through its nodes: the result is of
                       these cubics, not of the curves that the files mean
-  --sizes NAME        file of DIR with the radius of each object in metres:
-                      the threshold is then measured from surface to surface
-                      (default: all objects are points)
 Options of screen and selfrun:
   --workers N         how many threads share the work, 1 to 16 (default 1)
   --cells N           greatest number of stretches of time that are told
@@ -239,6 +247,9 @@ Options of screen:
   --originator TEXT   who makes messages, 1 to 40 letters, digits, _ and -
                       (default CONJ)
   --cert-version N    the version of the certificate, 1 or 2 (default 1)
+  --rtn               add six lines to each message: place and velocity of the
+                      second object less those of the first, along the radial,
+                      transverse and normal axes of the first
 Options of check and rewrite:
   --cert NAME         the certificate's file (default screen.cert)
   --cert-dir DIR      the directory of the certificate, and of the report
@@ -246,7 +257,7 @@ Options of check and rewrite:
 Options of check:
   --report NAME       the report's file, in the directory of the certificate
                       (default: no report is checked)
-Options of screen, generate and rewrite:
+Options of screen, generate, rewrite and thin:
   --out NEW           the directory that is made for the results, which are
                       there together or not at all; nothing may have its name
                       yet (default: they are put into DIR, in place of those
@@ -255,6 +266,9 @@ Options of generate and selfrun:
   --seed N            what the objects are drawn from (default 1)
   --objects N         how many objects, 1 to 2000 (default 50)
   --minutes N         how many minutes they cover, 1 to 1440 (default 120)
+Options of thin:
+  --within METRES     how far an object may be from where it was, 1 to 1000
+                      (default 1)
 
 Exit status:
   0  done

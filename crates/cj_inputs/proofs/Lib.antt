@@ -1,3 +1,4 @@
+pub mod AloneLemmas
 pub mod BatchLemmas
 pub mod EndLemmas
 pub mod InputFileLemmas

@@ -24,7 +24,7 @@ use Rattle.cj_inputs.specs.declared.reading.InputError.{InputError}
 use Rattle.cj_inputs.specs.declared.reading.InputError.TheVariants as input
 use Rattle.cj_inputs.specs.declared.input_files.Entry.{Entry}
 use Rattle.cj_status.specs.Steps.{◌>>=◌}
-use Rattle.cj_inputs.specs.Readings.{reading_after, readings_after, checked_after, has_frame_of, nodes_of, nodes_in, within, Reads}
+use Rattle.cj_inputs.specs.Readings.{reading_after, readings_after, checked_after, has_frame_of, nodes_of, nodes_in, within, within_nodes, Reads}
 
 -- a reading that was given up, as one that goes on from it
 pub reads_on : {X Y A B : Type 0} (P : Type 0) (view : X → A) (seen : Y → B) (why : InputError) (read : Result A Status) (f : A → Result B Status)
@@ -62,23 +62,33 @@ nodes_with : (tracks : List Track) (track : Track) → nodes_in (map plain_track
 nodes_with tracks track =
     ap nodes_in (sym (map-append plain_track tracks (track ∷ []))) ∙ same_nodes (tracks ++ track ∷ []) ∙ nodes_behind tracks track
 
+-- a track that has few nodes with those before it
+pub few_nodes : (most : ℕ) (tracks : List Track) (track : Track) (nodes : ℕ) → nodes ≡ node_total tracks + node_count track.segments → nodes ≤ most
+    → within_nodes most (map plain_track tracks) (plain_track track) ≡ Ok (plain_track track)
+few_nodes most tracks track nodes is few =
+    let small : nat_le nodes most ≡ true = grind (arith, nat_tests) in
+    let all : nodes_in (map plain_track tracks ++ plain_track track ∷ []) ≡ nodes = nodes_with tracks track ∙ sym is in
+    rw (all, small) refl
+
+-- a track that has too many
+pub many_nodes : (most : ℕ) (tracks : List Track) (track : Track) (nodes : ℕ) → nodes ≡ node_total tracks + node_count track.segments → most < nodes
+    → within_nodes most (map plain_track tracks) (plain_track track) ≡ Err (Limit (limit.Nodes nodes))
+many_nodes most tracks track nodes is many =
+    let large : nat_le nodes most ≡ false = grind (arith, nat_tests) in
+    let all : nodes_in (map plain_track tracks ++ plain_track track ∷ []) ≡ nodes = nodes_with tracks track ∙ sym is in
+    rw (all, large) refl
+
 -- a track of the same frame, which has few nodes with those before it
 pub fits : (most : ℕ) (tracks : List Track) (name : List ℕ) (track : Track) (nodes : ℕ) → has_frame_of (map plain_track tracks) (plain_track track) ≡ true
     → nodes ≡ node_total tracks + node_count track.segments → nodes ≤ most
     → checked_after most (map plain_track tracks) name (plain_track track) ≡ Ok (plain_track track)
-fits most tracks name track nodes frame is few =
-    let small : nat_le nodes most ≡ true = grind (arith, nat_tests) in
-    let all : nodes_in (map plain_track tracks ++ plain_track track ∷ []) ≡ nodes = nodes_with tracks track ∙ sym is in
-    rw (frame, all, small) refl
+fits most tracks name track nodes frame is few = rw frame (few_nodes most tracks track nodes is few)
 
 -- a track of the same frame, which has too many
 pub overflows : (most : ℕ) (tracks : List Track) (name : List ℕ) (track : Track) (nodes : ℕ) → has_frame_of (map plain_track tracks) (plain_track track) ≡ true
     → nodes ≡ node_total tracks + node_count track.segments → most < nodes
     → checked_after most (map plain_track tracks) name (plain_track track) ≡ Err (Limit (limit.Nodes nodes))
-overflows most tracks name track nodes frame is many =
-    let large : nat_le nodes most ≡ false = grind (arith, nat_tests) in
-    let all : nodes_in (map plain_track tracks ++ plain_track track ∷ []) ≡ nodes = nodes_with tracks track ∙ sym is in
-    rw (frame, all, large) refl
+overflows most tracks name track nodes frame is many = rw frame (many_nodes most tracks track nodes is many)
 
 frames_tied : (f g : Frame) → same_frame f g ≡ true → f ≡ g
 frames_tied frames.Eme2000 frames.Eme2000 e = refl

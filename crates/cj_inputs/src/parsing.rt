@@ -16,7 +16,11 @@ use std::alloc::{AllocError, Global};
 use std::thread::Threads;
 
 /// The track that a file says.
-fn parse_file(alloc: Global, file: &FileRead<'_>, as_hermite3: bool) -> Result<Track, InputError>
+pub fn parse_file(
+    alloc: Global,
+    file: &FileRead<'_>,
+    as_hermite3: bool,
+) -> Result<Track, InputError>
     ensures value { Reads ⊥ plain_track result (said_by as_hermite3 file.now) }
 {
     match read_oem(alloc, file.name, &file.bytes, as_hermite3) {

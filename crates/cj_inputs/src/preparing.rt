@@ -75,23 +75,35 @@ pub fn prepare_listed<R: Threads + Sync, F: Folder>(
     ensures files { F.files folder.new ≡ F.files folder.old }
     ensures later { F.faults folder.old ≤ F.faults folder.new }
 {
-    let entries = list_few_inputs(alloc, names, settings)?;
+    let entries = list_few_inputs(
+        alloc,
+        names,
+        settings.suffix,
+        settings.sizes,
+        settings.limits,
+    )?;
     let tracks = read_tracks(rt, alloc, folder, &entries, settings, workers)?;
     let lines = read_size_lines(alloc, folder, names, settings.sizes)?;
     problem_of(alloc, settings, tracks, &lines)
 }
 
 /// The files that are taken of those with these names, where there are not too many.
-fn list_few_inputs(alloc: Global, names: &[Name], settings: &Settings) -> Result<Vec<Entry>, Status>
+pub fn list_few_inputs(
+    alloc: Global,
+    names: &[Name],
+    suffix: &[u8],
+    sizes: Option<&[u8]>,
+    limits: Limits,
+) -> Result<Vec<Entry>, Status>
     requires { length names.now < 2 ^ 32 }
     ensures between { IfErr result ComesBetween }
     ensures told { Gives ⊥ (λ entries. entries.items) result
-        (spec.within_objects settings.now.limits.objects (inputs_of settings.now.suffix.now (option_copied settings.now.sizes) names.now)) }
+        (spec.within_objects limits.objects (inputs_of suffix.now (option_copied sizes.entry) names.now)) }
     ensures few { IfOk result (λ entries. length entries.items ≤ MOST_OBJECTS) }
     ensures numbers { IfOk result (λ entries. All (λ entry. entry.number < length names.now) entries.items) }
 {
-    let entries = list_inputs(alloc, names, settings.suffix, settings.sizes)?;
-    if entries.len() > settings.limits.objects as usize {
+    let entries = list_inputs(alloc, names, suffix, sizes)?;
+    if entries.len() > limits.objects as usize {
         return Err(too_many_objects(entries.len() as u32));
     }
     Ok(entries)

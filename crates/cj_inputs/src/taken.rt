@@ -52,7 +52,7 @@ impl Taken {
 }
 
 /// How many nodes a track has.
-fn node_count(track: &Track) -> u64
+pub fn node_count(track: &Track) -> u64
     ensures value { result ≡ the_count track.now.segments }
     ensures small { result < 2 ^ 32 }
 {

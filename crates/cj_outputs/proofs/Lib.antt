@@ -8,4 +8,5 @@ pub mod LaterLemmas
 pub mod MessageLemmas
 pub mod PutLemmas
 pub mod ReportTextLemmas
+pub mod ThinnedLemmas
 pub mod VouchLemmas

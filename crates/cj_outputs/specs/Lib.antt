@@ -9,3 +9,5 @@ pub mod Outcome
 pub mod Rewrites
 pub mod SpanSplits
 pub mod Summaries
+pub mod Thinned
+pub mod Thinnings

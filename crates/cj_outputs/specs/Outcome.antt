@@ -6,7 +6,7 @@ use Rattle.cj_io.specs.declared.file.FileBytes.{FileBytes}
 use Rattle.cj_io.specs.Files.{IsPrefix}
 use Rattle.cj_base.specs.Limits.{USUAL}
 use Rattle.cj_words.specs.declared.option.UsageFault.{UsageFault}
-use Rattle.cj_words.specs.Commands.{PlainCommand, Screens, Checks, Generates, Selfruns, Rewrites, PlainChecking, PlainScreening, PlainSelfrun, command_of}
+use Rattle.cj_words.specs.Commands.{PlainCommand, Screens, Checks, Generates, Selfruns, Rewrites, Thins, PlainChecking, PlainScreening, PlainSelfrun, command_of}
 use Rattle.cj_words.specs.Settings.{PlainSettings}
 use Rattle.cj_gen.specs.Catalogues.{catalogue_of}
 use Rattle.cj_case.specs.PlainProblems.{PlainProblem}
@@ -32,6 +32,7 @@ use Rattle.cj_status.specs.Steps.{◌>>=◌}
 use Rattle.cj_outputs.specs.Differences.{differing_line}
 use Rattle.cj_outputs.specs.Messages.{PlainOrigin, has_message, message_outputs}
 use Rattle.cj_outputs.specs.Summaries.{tally_with}
+use Rattle.cj_outputs.specs.Thinned.{outputs_thinned}
 
 abbrev pub asked : Result PlainCommand UsageFault → Result PlainCommand Status
 asked (Ok command) = Ok command
@@ -188,6 +189,7 @@ outputs_asked files now (Checks checking) = outputs_checked files checking
 outputs_asked files now (Generates recipe) = Ok (outputs_made (catalogue_of recipe.seed recipe.objects recipe.minutes))
 outputs_asked files now (Selfruns selfrun) = outputs_of_selfrun selfrun
 outputs_asked files now (Rewrites checking) = outputs_rewritten files checking
+outputs_asked files now (Thins thinning) = outputs_thinned files thinning
 
 -- the outputs that the words ask of the files at this tick, or the first cause for which there is none
 unfoldable pub outputs_of : List (List ℕ) → List FileBytes → ℕ → Result (List FileBytes) Status

@@ -13,6 +13,7 @@ mod origin;
 mod putting;
 mod reporting;
 mod rewriting;
+mod thinning;
 mod vouching;
 
 pub use catalogues::put_catalogue;
@@ -26,3 +27,4 @@ pub use origin::Origin;
 pub use putting::{begin, put};
 pub use reporting::{put_outputs, tells_sizes};
 pub use rewriting::{put_rewritten, rewrite_certificate};
+pub use thinning::{put_thinned, stays_within};

@@ -32,7 +32,7 @@ fn is_of_lines(text: &[u8]) -> bool {
 
 /// Whether a text has another in it.
 fn has(text: &[u8], part: &[u8]) -> bool {
-    text.windows(part.len()).any(|found| found == part)
+    text.windows(part.len().max(1)).any(|found| found == part)
 }
 
 fn is_told_fitly(advice: &Advice) -> bool {
@@ -118,7 +118,7 @@ fn hint_of(alloc: Global, line: &str) -> Result<Vec<u8>, AllocError> {
     hint_text(alloc, &Status::Usage(UsageFault::Words), Some(&words))
 }
 
-const SLIPS: [(&str, &[u8]); 22] = [
+const SLIPS: [(&str, &[u8]); 27] = [
     (
         "screen . --treshold 1000",
         b"hint: --treshold is no option of screen; nearest: --threshold\nhint: conj screen --help lists its options\n",
@@ -176,6 +176,22 @@ const SLIPS: [(&str, &[u8]); 22] = [
         b"hint: --as-hermite3 has no value\nhint: write it alone\n",
     ),
     (
+        "screen . --rtn=1",
+        b"hint: --rtn has no value\nhint: write it alone\n",
+    ),
+    (
+        "check . --rtn",
+        b"hint: --rtn is no option of check; nearest: --to\nhint: it is an option of screen\n",
+    ),
+    (
+        "thin . --sizes x",
+        b"hint: --sizes is no option of thin; nearest: --suffix\nhint: it is an option of screen, check, rewrite\n",
+    ),
+    (
+        "thin . --within",
+        b"hint: --within lacks its value: one that begins with - is joined by =\nhint: --within is a whole number of metres from 1 to 1000\n",
+    ),
+    (
         "screen my files",
         b"hint: files stands where an option should, which begins with --\nhint: a name or a time with a blank in it is one word in quotes\n",
     ),
@@ -188,12 +204,16 @@ const SLIPS: [(&str, &[u8]); 22] = [
         b"hint: screen wants a directory behind it, before its options\nhint: as in conj screen samples/crossing\n",
     ),
     (
+        "thin --within 5",
+        b"hint: thin wants a directory behind it, before its options\nhint: as in conj thin samples/crossing\n",
+    ),
+    (
         "rewrite",
         b"hint: rewrite wants a directory behind it, before its options\nhint: as in conj rewrite samples/crossing\n",
     ),
     (
         "scren .",
-        b"hint: scren is no command\nhint: it is screen, check, generate, selfrun or rewrite; see conj --help\n",
+        b"hint: scren is no command\nhint: it is screen, check, generate, selfrun, rewrite or thin; see conj --help\n",
     ),
     (
         "screen . --help",
@@ -336,7 +356,7 @@ fn each_end_of_a_run_has_two_lines(rt: HostRuntime) {
     assert_eq!(rt; cause_of(&Status::Ok), None);
 }
 
-const NOTICES: [(&str, Option<Notice>); 20] = [
+const NOTICES: [(&str, Option<Notice>); 21] = [
     ("--help", Some(Notice::Help)),
     ("-h", Some(Notice::Help)),
     ("--version", Some(Notice::Version)),
@@ -347,6 +367,7 @@ const NOTICES: [(&str, Option<Notice>); 20] = [
     ("selfrun -h", Some(Notice::CommandHelp(Verb::Selfrun))),
     ("rewrite --help", Some(Notice::CommandHelp(Verb::Rewrite))),
     ("rewrite --version", Some(Notice::Version)),
+    ("thin --help", Some(Notice::CommandHelp(Verb::Thin))),
     ("--explain Words", Some(Notice::Explanation(Cause::Words))),
     ("--explain words", Some(Notice::NoCause)),
     ("--explain --help", Some(Notice::NoCause)),
@@ -419,10 +440,34 @@ Options, in any order, each at most once:
   --minutes N         how many minutes they cover, 1 to 1440 (default 120)
 ";
 
+const THIN_HELP: &[u8] = b"\
+Usage: conj thin DIR [OPTIONS]
+
+thin writes each ephemeris of DIR with fewer nodes, a.oem as DIR/a.oem.thin.
+At each microsecond the object has a place where it had one, and that is
+within a stated length of where it was. It prints the numbers of files, of
+nodes read and of nodes kept.
+
+Options, in any order, each at most once:
+  --suffix TEXT       how names of ephemerides end, 1 to 20 bytes (default
+                      .oem)
+  --as-hermite3       take a file that declares another interpolation, or
+                      none, by the cubic through its nodes: the result is of
+                      these cubics, not of the curves that the files mean
+  --out NEW           the directory that is made for the results, which are
+                      there together or not at all; nothing may have its name
+                      yet (default: they are put into DIR, in place of those
+                      of an earlier run)
+  --within METRES     how far an object may be from where it was, 1 to 1000
+                      (default 1)
+";
+
 #[test]
 fn the_help_of_a_command_and_the_version_as_they_are_shown(rt: HostRuntime) {
-    let text = notice_text(rt.alloc(), Notice::CommandHelp(Verb::Generate)).expect(&rt, "no fault");
-    assert_eq!(rt; text.as_slice(), GENERATE_HELP);
+    for (verb, help) in [(Verb::Generate, GENERATE_HELP), (Verb::Thin, THIN_HELP)] {
+        let text = notice_text(rt.alloc(), Notice::CommandHelp(verb)).expect(&rt, "no fault");
+        assert_eq!(rt; text.as_slice(), help);
+    }
     let text = notice_text(rt.alloc(), Notice::Version).expect(&rt, "no fault");
     assert!(rt; text.starts_with(b"conj 0.1.0\n"));
     for name in [

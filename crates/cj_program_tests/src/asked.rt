@@ -4,7 +4,8 @@ use cj_base::{Limits, Tick};
 use cj_epoch::read_epoch;
 use cj_formats::CertVersion;
 use cj_words::{
-    Checking, Command, Opt, Recipe, Screening, Selfrun, Settings, option_name, read_command,
+    Checking, Command, Opt, Recipe, Screening, Selfrun, Settings, Thinning, option_name,
+    read_command,
 };
 use std::alloc::{AllocError, Global};
 use std::panic::Expect;
@@ -51,6 +52,7 @@ fn what_is_left_out(rt: HostRuntime) {
                 originator: b"CONJ",
                 cells: 4_000_000,
                 version: CertVersion::One,
+                rtn: false,
             }),
         ),
         (
@@ -71,6 +73,14 @@ fn what_is_left_out(rt: HostRuntime) {
         ),
         ("generate .", Command::Generate(USUAL_RECIPE)),
         (
+            "thin .",
+            Command::Thin(Thinning {
+                suffix: b".oem",
+                as_hermite3: false,
+                within: 1,
+            }),
+        ),
+        (
             "selfrun",
             Command::Selfrun(Selfrun {
                 threshold: 5000,
@@ -89,7 +99,7 @@ fn what_is_left_out(rt: HostRuntime) {
 #[test]
 fn all_that_can_be_asked_of_a_screening(rt: HostRuntime) {
     let line =
-        "screen . --cert-version 2 --cells 9 --sizes r.txt --originator=MY_site-1 --workers 16 --as-hermite3 \
+        "screen . --cert-version 2 --rtn --cells 9 --sizes r.txt --originator=MY_site-1 --workers 16 --as-hermite3 \
         --to 2025-01-01T00:00:01 --from=2025-001T00:00:00Z --suffix .txt --threshold=7";
     let words = words(rt.alloc(), line).expect(&rt, "no fault");
     let screening = Screening {
@@ -106,6 +116,7 @@ fn all_that_can_be_asked_of_a_screening(rt: HostRuntime) {
         originator: b"MY_site-1",
         cells: 9,
         version: CertVersion::Two,
+        rtn: true,
     };
     assert_eq!(rt; read_command(&words), Ok(Command::Screen(screening)));
 }
@@ -129,6 +140,40 @@ fn all_that_can_be_asked_of_a_check(rt: HostRuntime) {
         report: Some(b"other.report"),
     };
     assert_eq!(rt; read_command(&words), Ok(Command::Check(checking)));
+}
+
+#[test]
+fn all_that_can_be_asked_of_a_thinning(rt: HostRuntime) {
+    let cases = [
+        (
+            "thin . --within 1000 --as-hermite3 --out r --suffix=.txt",
+            Thinning {
+                suffix: b".txt",
+                as_hermite3: true,
+                within: 1000,
+            },
+        ),
+        (
+            "thin . --within=01",
+            Thinning {
+                suffix: b".oem",
+                as_hermite3: false,
+                within: 1,
+            },
+        ),
+        (
+            "thin . --suffix .thin --within 00000000000000000070",
+            Thinning {
+                suffix: b".thin",
+                as_hermite3: false,
+                within: 70,
+            },
+        ),
+    ];
+    for (line, thinning) in cases {
+        let words = words(rt.alloc(), line).expect(&rt, "no fault");
+        assert_eq!(rt; read_command(&words), Ok(Command::Thin(thinning)), "{line}");
+    }
 }
 
 /// Command lines, and the suffix for which each asks.
@@ -173,6 +218,8 @@ fn the_names_of_fault_lines(rt: HostRuntime) {
     assert_eq!(rt; option_name(Opt::Report), b"--report".as_slice());
     assert_eq!(rt; option_name(Opt::Out), b"--out".as_slice());
     assert_eq!(rt; option_name(Opt::CertDir), b"--cert-dir".as_slice());
+    assert_eq!(rt; option_name(Opt::Rtn), b"--rtn".as_slice());
+    assert_eq!(rt; option_name(Opt::Within), b"--within".as_slice());
 }
 
 #[test]

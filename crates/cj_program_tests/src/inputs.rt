@@ -31,6 +31,11 @@ fn a_run_reads_the_files_with_its_suffix_and_that_of_sizes(rt: HostRuntime) {
     assert!(rt; inputs.have(b"a.oem"));
     assert!(rt; !inputs.have(b"oem"));
     assert!(rt; !inputs.have(b"screen.cert2"));
+    let words = words_of(rt.alloc(), "thin d --suffix .thin").expect(&rt, "memory");
+    let inputs = Inputs::of(&words);
+    assert!(rt; inputs.have(b"a.oem.thin"));
+    assert!(rt; !inputs.have(b"a.oem"));
+    assert!(rt; !inputs.have(b"screen.report"));
     let words = words_of(rt.alloc(), "generate d --seed 3").expect(&rt, "memory");
     assert!(rt; !Inputs::of(&words).have(b"GEN00001.oem"));
     let words = words_of(rt.alloc(), "screen d --sizes").expect(&rt, "memory");

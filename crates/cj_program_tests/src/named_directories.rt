@@ -1,7 +1,7 @@
 //! The directories that command lines name, and options that name none.
 use crate::lines::{Case, fault_of, first_wrong, name_of, words};
 use crate::usage_faults::{
-    BAD_CERT, BAD_CERT_DIR, BAD_MINUTES, BAD_OUT, BAD_SIZES, BAD_VERSION, WORDS,
+    BAD_CERT, BAD_CERT_DIR, BAD_MINUTES, BAD_OUT, BAD_SIZES, BAD_VERSION, BAD_WITHIN, WORDS,
 };
 use cj_words::{Places, UsageFault, places_of, read_command};
 use std::alloc::{AllocError, Global};
@@ -26,7 +26,7 @@ fn first_misplaced(alloc: Global, cases: &[Named]) -> Result<Option<usize>, Allo
     Ok(None)
 }
 
-const NAMED: [Named; 15] = [
+const NAMED: [Named; 17] = [
     ("screen d", b"d", None, None),
     ("screen d --out r", b"d", None, Some(b"r")),
     (
@@ -60,6 +60,8 @@ const NAMED: [Named; 15] = [
     ),
     ("generate d --out r --seed 2", b"d", None, Some(b"r")),
     ("generate out --seed 2", b"out", None, None),
+    ("thin d --within 2", b"d", None, None),
+    ("thin d --within 2 --out=r", b"d", None, Some(b"r")),
     ("selfrun", b".", None, None),
     ("selfrun --seed 3", b".", None, None),
 ];
@@ -72,7 +74,7 @@ fn directories_that_are_named(rt: HostRuntime) {
     );
 }
 
-const REFUSED: [Named; 14] = [
+const REFUSED: [Named; 15] = [
     // With a directory, but not accepted.
     ("screen d --out r --threshold 0", b"d", None, None),
     ("screen d --out r --cert-dir c", b"d", None, None),
@@ -82,6 +84,7 @@ const REFUSED: [Named; 14] = [
     ("check d --cert-dir c --out r", b"d", None, None),
     ("rewrite d --cert-dir c --out=\t", b"d", None, None),
     ("generate d r", b"d", None, None),
+    ("thin d --out r --within 0", b"d", None, None),
     // Without one.
     ("screen --out r", b".", None, None),
     ("screen", b".", None, None),
@@ -124,10 +127,11 @@ fn what_is_asked_of_files_does_not_depend_on_them(rt: HostRuntime) {
     assert!(rt; ask_the_same(alloc, one, other).expect(&rt, "no fault"));
 }
 
-const COMMANDS: [Case; 12] = [
+const COMMANDS: [Case; 14] = [
     ("screen . --out r", None),
     ("rewrite . --out=r", None),
     ("generate . --out r", None),
+    ("thin . --out r", None),
     ("check . --out r", WORDS),
     ("selfrun --out r", WORDS),
     ("selfrun --out=r --seed 1", WORDS),
@@ -135,6 +139,7 @@ const COMMANDS: [Case; 12] = [
     ("rewrite . --cert-dir c", None),
     ("screen . --cert-dir c", WORDS),
     ("generate . --cert-dir=c", WORDS),
+    ("thin . --cert-dir c", WORDS),
     ("selfrun --cert-dir c", WORDS),
     ("screen . --cert-dir=\t", WORDS),
 ];
@@ -185,7 +190,7 @@ fn forms_of_the_options(rt: HostRuntime) {
     );
 }
 
-const ORDER: [Case; 13] = [
+const ORDER: [Case; 15] = [
     // Behind all other values, and the directory of the results first.
     ("screen . --out \x7f", BAD_OUT),
     ("generate . --out \x7f", BAD_OUT),
@@ -197,6 +202,8 @@ const ORDER: [Case; 13] = [
     ("check . --cert-dir \x7f --sizes /", BAD_SIZES),
     ("rewrite . --out \x7f --cert-dir \x7f --cert /", BAD_CERT),
     ("generate . --out \x7f --minutes 0", BAD_MINUTES),
+    ("thin . --out \x7f", BAD_OUT),
+    ("thin . --out \x7f --within 0", BAD_WITHIN),
     // The words before every value.
     ("screen . --out \x7f --unknown 1", WORDS),
     ("check . --out \x7f", WORDS),

@@ -2,7 +2,7 @@
 use crate::lines::{Case, fault_of, first_wrong, name_of};
 use crate::usage_faults::{
     BAD_CELLS, BAD_CERT, BAD_FROM, BAD_MINUTES, BAD_OBJECTS, BAD_ORIGINATOR, BAD_REPORT, BAD_SEED,
-    BAD_SIZES, BAD_SUFFIX, BAD_THRESHOLD, BAD_TO, BAD_VERSION, BAD_WORKERS, WORDS,
+    BAD_SIZES, BAD_SUFFIX, BAD_THRESHOLD, BAD_TO, BAD_VERSION, BAD_WITHIN, BAD_WORKERS, WORDS,
 };
 use std::panic::Expect;
 
@@ -272,6 +272,79 @@ const COMMANDS: [Case; 39] = [
 fn each_command_has_its_own_options(rt: HostRuntime) {
     assert_eq!(rt;
         first_wrong(rt.alloc(), COMMANDS.as_slice()).expect(&rt, "no fault"),
+        None
+    );
+}
+
+const RELATIVE: [Case; 15] = [
+    ("screen . --rtn", None),
+    ("screen . --rtn --threshold 1", None),
+    ("screen . --threshold=1 --rtn --as-hermite3", None),
+    ("screen . --rtn=1", WORDS),
+    ("screen . --rtn=", WORDS),
+    ("screen . --rtn 1", WORDS),
+    ("screen . --cells --rtn", WORDS),
+    ("screen . --rtn --rtn", WORDS),
+    ("screen . --rtn --cells 0", BAD_CELLS),
+    // Of a screening alone.
+    ("check . --rtn", WORDS),
+    ("rewrite . --rtn", WORDS),
+    ("generate . --rtn", WORDS),
+    ("selfrun --rtn", WORDS),
+    ("thin . --rtn", WORDS),
+    ("screen . --RTN", WORDS),
+];
+
+#[test]
+fn the_relative_state(rt: HostRuntime) {
+    assert_eq!(rt;
+        first_wrong(rt.alloc(), RELATIVE.as_slice()).expect(&rt, "no fault"),
+        None
+    );
+}
+
+const THINNING: [Case; 31] = [
+    ("thin . --within 1", None),
+    ("thin . --within=1000", None),
+    ("thin . --within 01", None),
+    ("thin . --within 0", BAD_WITHIN),
+    ("thin . --within 1001", BAD_WITHIN),
+    ("thin . --within 18446744073709551617", BAD_WITHIN),
+    ("thin . --within 1.5", BAD_WITHIN),
+    ("thin . --within=", WORDS),
+    ("thin . --within 1 --within 1", WORDS),
+    ("thin . --suffix / --within 0", BAD_SUFFIX),
+    ("thin . --within 0 --suffix x", BAD_WITHIN),
+    ("thin . --suffix x --suffix x", WORDS),
+    ("thin . --as-hermite3 --as-hermite3", WORDS),
+    (
+        "thin . --as-hermite3 --within 3 --suffix=.txt --out r",
+        None,
+    ),
+    ("thin", WORDS),
+    ("thin --within 1", WORDS),
+    // Options of others.
+    ("thin . --threshold 5", WORDS),
+    ("thin . --from 2025-01-01T00:00:00", WORDS),
+    ("thin . --to 2025-01-01T00:00:00", WORDS),
+    ("thin . --sizes x", WORDS),
+    ("thin . --workers 1", WORDS),
+    ("thin . --cells 1", WORDS),
+    ("thin . --originator x", WORDS),
+    ("thin . --cert x", WORDS),
+    ("thin . --cert-version 1", WORDS),
+    ("thin . --seed 1", WORDS),
+    ("screen . --within 1", WORDS),
+    ("check . --within 1", WORDS),
+    ("rewrite . --within 1", WORDS),
+    ("generate . --within 1", WORDS),
+    ("selfrun --within 1", WORDS),
+];
+
+#[test]
+fn fewer_nodes(rt: HostRuntime) {
+    assert_eq!(rt;
+        first_wrong(rt.alloc(), THINNING.as_slice()).expect(&rt, "no fault"),
         None
     );
 }

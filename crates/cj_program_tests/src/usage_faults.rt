@@ -49,6 +49,10 @@ pub const BAD_MINUTES: Option<UsageFault> = Some(UsageFault::Value {
 
 pub const BAD_OUT: Option<UsageFault> = Some(UsageFault::Value { option: Opt::Out });
 
+pub const BAD_WITHIN: Option<UsageFault> = Some(UsageFault::Value {
+    option: Opt::Within,
+});
+
 pub const BAD_CERT_DIR: Option<UsageFault> = Some(UsageFault::Value {
     option: Opt::CertDir,
 });

@@ -1,6 +1,6 @@
 -- A task: what its command has of it, what it comes to, and how it ends.
-use Rattle.std.proofs.Common.{◌≡◌, ◌⊎◌, inl, inr, ℕ, Bool, true, false, List, ◌∷◌, [], ◌++◌, length, Option, Some, Result, Ok, Err, refl, ap, sym, subst}
-use Rattle.std.specs.Prelude.{IfErr, IsTrue, nat_le, if◌then◌else◌}
+use Rattle.std.proofs.Common.{◌≡◌, ◌⊎◌, inl, inr, ℕ, Bool, true, false, List, ◌∷◌, [], ◌++◌, length, Option, Some, Result, Ok, Err, refl, ap, sym, subst, ◌∙◌}
+use Rattle.std.specs.Prelude.{All, IfErr, IsTrue, nat_le, if◌then◌else◌}
 use Rattle.cj_io.specs.declared.file.FileBytes.{FileBytes}
 use Rattle.cj_formats.specs.declared.cert_version.CertVersion.{CertVersion}
 use Rattle.cj_case.specs.Leaves.{PlainLeaf}
@@ -13,8 +13,12 @@ use Rattle.cj_case.specs.PlainProblems.{PlainProblem}
 use Rattle.cj_case.specs.Problems.{plain_problem}
 use Rattle.cj_words.specs.declared.option.UsageFault.{UsageFault}
 use Rattle.cj_words.specs.declared.command.Screening as kept_screening
-use Rattle.cj_words.specs.Commands.{PlainCommand, Screens, Checks, Generates, Selfruns, Rewrites, PlainChecking, PlainScreening, plain_screening}
+use Rattle.cj_words.specs.declared.command.Thinning as kept_thinning
+use Rattle.cj_words.specs.Commands.{PlainCommand, Screens, Checks, Generates, Selfruns, Rewrites, Thins, PlainChecking, PlainScreening, PlainThinning, plain_screening, plain_thinning}
 use Rattle.cj_words.specs.Settings.{PlainSettings, plain_settings}
+use Rattle.cj_base.specs.Limits.{USUAL}
+use Rattle.cj_inputs.specs.declared.lone_tracks.LoneTracks.{LoneTracks}
+use Rattle.cj_inputs.specs.Alone.{plain_tracks, tracks_asked}
 use Rattle.cj_inputs.specs.Cases.{case_asked}
 use Rattle.cj_status.specs.declared.status.Status.{Status}
 use Rattle.cj_status.specs.declared.status.Status.TheVariants as status
@@ -28,13 +32,18 @@ use Rattle.cj_outputs.specs.Messages.{PlainOrigin}
 use Rattle.cj_outputs.specs.Origins.{plain_origin}
 use Rattle.cj_outputs.specs.Outcome.{AreOutputs, AreTooManyCells, ComesOfPuts, ComesOfSelfrun, EndsMaking, EndsSelfrun, origin_of, outputs_made, outputs_renewed, outputs_screened, outputs_with, outputs_within, tells_sizes}
 use Rattle.cj_outputs.specs.Rewrites.{IsRewritten}
+use Rattle.cj_outputs.specs.Thinned.{length_of, outputs_thinned, outputs_with_fewer}
+use Rattle.cj_outputs.specs.Thinnings.{IsThinned}
+use Rattle.cj_thin.specs.Thinned.{thinned}
+use Rattle.cj_thin.specs.Within.{IsThinnerWithin}
+use Rattle.cj_track.specs.PlainTracks.{PlainTrack}
 use Rattle.cj_outputs.proofs.AcceptingLemmas.{stops_then}
 use Rattle.cj_screen.specs.Headline.{IsScreened, Reports}
 use Rattle.cj_screen.specs.declared.results.Results.{Results}
-use Rattle.cj_screen.specs.declared.results.Results.TheVariants.{Screened, Checked, Made, Selfrun as SelfrunFound, Rewritten}
-use Rattle.cj_screen.specs.Results.{RenewsDue, ReportsDue, ShowsDue, VouchesDue, outputs_due}
+use Rattle.cj_screen.specs.declared.results.Results.TheVariants.{Screened, Checked, Made, Selfrun as SelfrunFound, Rewritten, Thinned}
+use Rattle.cj_screen.specs.Results.{RenewsDue, ReportsDue, ShowsDue, ThinsDue, VouchesDue, outputs_due}
 use Rattle.cj_screen.specs.declared.task.Task.{Task}
-use Rattle.cj_screen.specs.declared.task.Task.TheVariants.{Screen, Accept, Make, Selfrun, Renew}
+use Rattle.cj_screen.specs.declared.task.Task.TheVariants.{Screen, Accept, Make, Selfrun, Renew, Thin}
 use Rattle.cj_screen.specs.Tasks.{ComesOfSearch, ComesToTask, EndsTask, IsDone, IsMaking, IsSelfrun, Readies, ReadsNothing, outputs_of_task, puts_files}
 
 -- ---- what is read
@@ -59,6 +68,17 @@ no_case read files now screening s stops =
     stops_then read s (case_asked files screening.settings)
     (λ case. outputs_within screening.cells (tells_sizes screening.settings) screening.version (origin_of now screening) case) stops
 
+-- the outputs of a thinning are those of its tracks
+pub thinned_tracks : (files : List FileBytes) (thinning : PlainThinning) (tracks : List PlainTrack) → tracks_asked USUAL files thinning ≡ Ok tracks
+    → outputs_thinned files thinning ≡ Ok (outputs_with_fewer (length_of thinning) tracks)
+unfolding outputs_thinned
+thinned_tracks files thinning tracks read = ap (λ (r : Result (List PlainTrack) Status). r >>= λ ts. Ok (outputs_with_fewer (length_of thinning) ts)) read
+
+-- where there are no tracks there are none
+pub no_tracks : (read : Type 0) (files : List FileBytes) (thinning : PlainThinning) (s : Status) → Stops read s (tracks_asked USUAL files thinning) → Stops read s (outputs_thinned files thinning)
+unfolding outputs_thinned
+no_tracks read files thinning s stops = stops_then read s (tracks_asked USUAL files thinning) (λ tracks. Ok (outputs_with_fewer (length_of thinning) tracks)) stops
+
 -- where no read counts, none failed
 pub calm_read : (asked : Result PlainCommand UsageFault) (s : Status) (rose : Type 0) → (¬ rose) ⊎ ReadsNothing asked
     → ((command : PlainCommand) → asked ≡ Ok command → ComesToTask command (Err s)) → ((fault : UsageFault) → asked ≡ Err fault → s ≡ status.Usage fault)
@@ -69,6 +89,7 @@ calm_read (Ok (Checks checking)) s rose (inr none) unread usage is = absurd none
 calm_read (Ok (Generates recipe)) s rose (inr none) unread usage is = absurd (unread (Generates recipe) refl)
 calm_read (Ok (Selfruns selfrun)) s rose (inr none) unread usage is = absurd (unread (Selfruns selfrun) refl)
 calm_read (Ok (Rewrites checking)) s rose (inr none) unread usage is = absurd none
+calm_read (Ok (Thins thinning)) s rose (inr none) unread usage is = absurd none
 calm_read (Err fault) s rose (inr none) unread usage is = let wrong = usage fault refl in absurd cc
 
 -- ---- what a task comes to
@@ -94,6 +115,7 @@ due_or_many now Accept files = absurd cc
 due_or_many now (Make recipe) files = inl (outputs_made (catalogue_of recipe.seed recipe.objects recipe.minutes), refl)
 due_or_many now (Selfrun selfrun) files = absurd cc
 due_or_many now (Renew certificate) files = inl (outputs_renewed (plain_certificate certificate), refl)
+due_or_many now (Thin lone thinning) files = inl (outputs_with_fewer (length_of (plain_thinning thinning)) (plain_tracks lone), refl)
 
 -- what ends a search whose leaves are counted so
 counted_ends : (b : Bool) (limit : ℕ) (leaves : List PlainLeaf) (outputs : List PlainLeaf → List FileBytes) (s : Status)
@@ -151,6 +173,7 @@ shows_screened (Checks checking) files problem screening found origin readies re
 shows_screened (Generates recipe) files problem screening found origin readies reports = tt
 shows_screened (Selfruns selfrun) files problem screening found origin readies reports = tt
 shows_screened (Rewrites checking) files problem screening found origin readies reports = absurd readies
+shows_screened (Thins thinning) files problem screening found origin readies reports = absurd readies
 
 pub shows_accepted : (command : PlainCommand) (files : List FileBytes) → Readies command files Accept → ShowsDue command files Checked
 shows_accepted (Screens asked) files readies = absurd readies
@@ -158,6 +181,7 @@ shows_accepted (Checks checking) files readies = readies
 shows_accepted (Generates recipe) files readies = tt
 shows_accepted (Selfruns selfrun) files readies = tt
 shows_accepted (Rewrites checking) files readies = absurd readies
+shows_accepted (Thins thinning) files readies = absurd readies
 
 pub shows_renewed : (command : PlainCommand) (files : List FileBytes) (certificate : Certificate) → Readies command files (Renew certificate)
     → ShowsDue command files (Rewritten certificate)
@@ -166,6 +190,30 @@ shows_renewed (Checks checking) files certificate readies = absurd readies
 shows_renewed (Generates recipe) files certificate readies = tt
 shows_renewed (Selfruns selfrun) files certificate readies = tt
 shows_renewed (Rewrites checking) files certificate readies = readies
+shows_renewed (Thins thinning) files certificate readies = absurd readies
+
+-- the tracks are those that are asked, by the length that is
+pub asked_tracks : (thinning : kept_thinning.Thinning) (asked : PlainThinning) (files : List FileBytes) (lone : LoneTracks)
+    → (tracks_asked USUAL files asked ≡ Ok (plain_tracks lone)) × (plain_thinning thinning ≡ asked)
+    → All (λ t. IsThinnerWithin (length_of (plain_thinning thinning)) t (thinned (length_of (plain_thinning thinning)) t)) (plain_tracks lone)
+    → ThinsDue asked files (Thinned lone thinning)
+asked_tracks thinning asked files lone readies near = (
+  record {
+    read = readies.0;
+    near = subst (λ (t : PlainThinning). All (λ u. IsThinnerWithin (length_of t) u (thinned (length_of t) u)) (plain_tracks lone)) readies.1 near;
+  },
+  readies.1,
+)
+
+pub shows_thinned : (command : PlainCommand) (files : List FileBytes) (lone : LoneTracks) (thinning : kept_thinning.Thinning) → Readies command files (Thin lone thinning)
+    → All (λ t. IsThinnerWithin (length_of (plain_thinning thinning)) t (thinned (length_of (plain_thinning thinning)) t)) (plain_tracks lone)
+    → ShowsDue command files (Thinned lone thinning)
+shows_thinned (Screens screening) files lone thinning readies near = absurd readies
+shows_thinned (Checks checking) files lone thinning readies near = absurd readies
+shows_thinned (Generates recipe) files lone thinning readies near = tt
+shows_thinned (Selfruns selfrun) files lone thinning readies near = tt
+shows_thinned (Rewrites checking) files lone thinning readies near = absurd readies
+shows_thinned (Thins asked) files lone thinning readies near = asked_tracks thinning asked files lone readies near
 
 -- a task of no file is of no command that reads one
 pub shows_made : (command : PlainCommand) (files : List FileBytes) (task : Task) (results : Results) → IsMaking task ⊎ IsSelfrun task → Readies command files task
@@ -176,12 +224,14 @@ shows_made (Screens asked) files (Screen problem screening) results (inl none) r
 shows_made (Screens asked) files (Screen problem screening) results (inr none) readies = absurd none
 shows_made (Screens asked) files Accept results free readies = absurd readies
 shows_made (Screens asked) files (Renew certificate) results free readies = absurd readies
+shows_made (Screens asked) files (Thin lone thinning) results free readies = absurd readies
 shows_made (Checks checking) files (Make recipe) results free readies = absurd readies
 shows_made (Checks checking) files (Selfrun selfrun) results free readies = absurd readies
 shows_made (Checks checking) files (Screen problem screening) results free readies = absurd readies
 shows_made (Checks checking) files Accept results (inl none) readies = absurd none
 shows_made (Checks checking) files Accept results (inr none) readies = absurd none
 shows_made (Checks checking) files (Renew certificate) results free readies = absurd readies
+shows_made (Checks checking) files (Thin lone thinning) results free readies = absurd readies
 shows_made (Generates recipe) files task results free readies = tt
 shows_made (Selfruns selfrun) files task results free readies = tt
 shows_made (Rewrites checking) files (Make recipe) results free readies = absurd readies
@@ -190,6 +240,14 @@ shows_made (Rewrites checking) files (Screen problem screening) results free rea
 shows_made (Rewrites checking) files Accept results free readies = absurd readies
 shows_made (Rewrites checking) files (Renew certificate) results (inl none) readies = absurd none
 shows_made (Rewrites checking) files (Renew certificate) results (inr none) readies = absurd none
+shows_made (Rewrites checking) files (Thin lone thinning) results free readies = absurd readies
+shows_made (Thins asked) files (Make recipe) results free readies = absurd readies
+shows_made (Thins asked) files (Selfrun selfrun) results free readies = absurd readies
+shows_made (Thins asked) files (Screen problem screening) results free readies = absurd readies
+shows_made (Thins asked) files Accept results free readies = absurd readies
+shows_made (Thins asked) files (Renew certificate) results free readies = absurd readies
+shows_made (Thins asked) files (Thin lone thinning) results (inl none) readies = absurd none
+shows_made (Thins asked) files (Thin lone thinning) results (inr none) readies = absurd none
 
 -- ---- what is put says it
 
@@ -207,6 +265,7 @@ screened settings files old new Checked reports put = absurd reports
 screened settings files old new (Made catalogue) reports put = absurd reports
 screened settings files old new (SelfrunFound found) reports put = absurd reports
 screened settings files old new (Rewritten certificate) reports put = absurd reports
+screened settings files old new (Thinned lone thinning) reports put = absurd reports
 
 -- the one output of a check
 pub checked : (checking : PlainChecking) (files old : List FileBytes) (new : Option (List FileBytes)) (results : Results)
@@ -216,6 +275,7 @@ checked checking files old new Checked vouches put = record { vouched = vouches;
 checked checking files old new (Made catalogue) vouches put = absurd vouches
 checked checking files old new (SelfrunFound found) vouches put = absurd vouches
 checked checking files old new (Rewritten certificate) vouches put = absurd vouches
+checked checking files old new (Thinned lone thinning) vouches put = absurd vouches
 
 -- the outputs of a rewriting
 pub renewed : (checking : PlainChecking) (files old : List FileBytes) (new : Option (List FileBytes)) (results : Results)
@@ -225,6 +285,21 @@ renewed checking files old new Checked renews put = absurd renews
 renewed checking files old new (Made catalogue) renews put = absurd renews
 renewed checking files old new (SelfrunFound found) renews put = absurd renews
 renewed checking files old new (Rewritten certificate) renews put = record { renewed = plain_certificate certificate; renews = renews; put = put }
+renewed checking files old new (Thinned lone thinning) renews put = absurd renews
+
+-- the outputs of a thinning
+pub thinner : (asked : PlainThinning) (files old : List FileBytes) (new : Option (List FileBytes)) (results : Results)
+    → ThinsDue asked files results → new ≡ Some (old ++ outputs_due results) → IsThinned asked files old new
+thinner asked files old new (Screened found origin) thins put = absurd thins
+thinner asked files old new Checked thins put = absurd thins
+thinner asked files old new (Made catalogue) thins put = absurd thins
+thinner asked files old new (SelfrunFound found) thins put = absurd thins
+thinner asked files old new (Rewritten certificate) thins put = absurd thins
+thinner asked files old new (Thinned lone thinning) thins put = record {
+  tracks = plain_tracks lone;
+  thinned = thins.0;
+  put = put ∙ ap (λ (t : PlainThinning). Some (old ++ outputs_with_fewer (length_of t) (plain_tracks lone))) thins.1;
+}
 
 pub done_by : (command : PlainCommand) (files old : List FileBytes) (new : Option (List FileBytes)) (results : Results)
     → ShowsDue command files results → new ≡ Some (old ++ outputs_due results) → IsDone command files old new
@@ -233,6 +308,7 @@ done_by (Checks checking) files old new results shows put = checked checking fil
 done_by (Generates recipe) files old new results shows put = tt
 done_by (Selfruns selfrun) files old new results shows put = tt
 done_by (Rewrites checking) files old new results shows put = renewed checking files old new results shows put
+done_by (Thins thinning) files old new results shows put = thinner thinning files old new results shows put
 
 -- ---- how it ends
 

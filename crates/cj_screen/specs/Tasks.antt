@@ -5,8 +5,10 @@ use Rattle.cj_cert.specs.Certificates.{plain_certificate}
 use Rattle.cj_gen.specs.Catalogues.{catalogue_of}
 use Rattle.cj_case.specs.Problems.{plain_problem}
 use Rattle.cj_words.specs.declared.option.UsageFault.{UsageFault}
-use Rattle.cj_words.specs.Commands.{PlainCommand, Screens, Checks, Generates, Selfruns, Rewrites, PlainChecking, PlainScreening, command_of, plain_screening, plain_selfrun}
+use Rattle.cj_words.specs.Commands.{PlainCommand, Screens, Checks, Generates, Selfruns, Rewrites, Thins, PlainChecking, PlainScreening, PlainThinning, command_of, plain_screening, plain_selfrun, plain_thinning}
 use Rattle.cj_words.specs.Settings.{plain_settings}
+use Rattle.cj_base.specs.Limits.{USUAL}
+use Rattle.cj_inputs.specs.Alone.{plain_tracks, tracks_asked}
 use Rattle.cj_inputs.specs.Cases.{case_asked}
 use Rattle.cj_status.specs.declared.status.Status.{Status}
 use Rattle.cj_status.specs.declared.status.Status.TheVariants as status
@@ -14,9 +16,11 @@ use Rattle.cj_status.specs.Steps.{Stops}
 use Rattle.cj_outputs.specs.Checks.{IsChecked, Vouches}
 use Rattle.cj_outputs.specs.Outcome.{accepted_output, origin_of, outputs_made, outputs_renewed, outputs_of_selfrun, outputs_within, tells_sizes}
 use Rattle.cj_outputs.specs.Rewrites.{IsRewritten, Renews}
+use Rattle.cj_outputs.specs.Thinned.{length_of, outputs_with_fewer}
+use Rattle.cj_outputs.specs.Thinnings.{IsThinned}
 use Rattle.cj_screen.specs.Headline.{IsScreened}
 use Rattle.cj_screen.specs.declared.task.Task.{Task}
-use Rattle.cj_screen.specs.declared.task.Task.TheVariants.{Screen, Accept, Make, Selfrun, Renew}
+use Rattle.cj_screen.specs.declared.task.Task.TheVariants.{Screen, Accept, Make, Selfrun, Renew, Thin}
 
 -- files are put, and not only what goes to standard output
 abbrev pub puts_files : Task → Bool
@@ -25,6 +29,7 @@ puts_files Accept = false
 puts_files (Make recipe) = true
 puts_files (Selfrun selfrun) = false
 puts_files (Renew certificate) = true
+puts_files (Thin lone thinning) = true
 
 -- the outputs of a task at this tick, or the cause for which there are none
 abbrev pub outputs_of_task : ℕ → Task → Result (List FileBytes) Status
@@ -34,6 +39,7 @@ outputs_of_task now Accept = Ok (accepted_output ∷ [])
 outputs_of_task now (Make recipe) = Ok (outputs_made (catalogue_of recipe.seed recipe.objects recipe.minutes))
 outputs_of_task now (Selfrun selfrun) = outputs_of_selfrun (plain_selfrun selfrun)
 outputs_of_task now (Renew certificate) = Ok (outputs_renewed (plain_certificate certificate))
+outputs_of_task now (Thin lone thinning) = Ok (outputs_with_fewer (length_of (plain_thinning thinning)) (plain_tracks lone))
 
 -- what was read leads to what is due
 abbrev pub Leads : Type 0 → ℕ → Result Task Status → Result (List FileBytes) Status → Type 0
@@ -49,6 +55,7 @@ ReadsNothing (Ok (Checks checking)) = ⊥
 ReadsNothing (Ok (Generates recipe)) = Unit {0}
 ReadsNothing (Ok (Selfruns selfrun)) = Unit {0}
 ReadsNothing (Ok (Rewrites checking)) = ⊥
+ReadsNothing (Ok (Thins thinning)) = ⊥
 ReadsNothing (Err fault) = Unit {0}
 
 -- the files that words are about: those that a folder tells, and any where nothing is read
@@ -67,6 +74,7 @@ IsScreening screening files Accept = ⊥
 IsScreening screening files (Make recipe) = ⊥
 IsScreening screening files (Selfrun selfrun) = ⊥
 IsScreening screening files (Renew certificate) = ⊥
+IsScreening screening files (Thin lone thinning) = ⊥
 
 abbrev pub IsAccepting : PlainChecking → List FileBytes → Task → Type 0
 IsAccepting checking files (Screen problem asked) = ⊥
@@ -74,6 +82,7 @@ IsAccepting checking files Accept = Vouches checking files
 IsAccepting checking files (Make recipe) = ⊥
 IsAccepting checking files (Selfrun selfrun) = ⊥
 IsAccepting checking files (Renew certificate) = ⊥
+IsAccepting checking files (Thin lone thinning) = ⊥
 
 abbrev pub IsRenewal : PlainChecking → List FileBytes → Task → Type 0
 IsRenewal checking files (Screen problem asked) = ⊥
@@ -81,6 +90,15 @@ IsRenewal checking files Accept = ⊥
 IsRenewal checking files (Make recipe) = ⊥
 IsRenewal checking files (Selfrun selfrun) = ⊥
 IsRenewal checking files (Renew certificate) = Renews checking files (plain_certificate certificate)
+IsRenewal checking files (Thin lone thinning) = ⊥
+
+abbrev pub IsThinning : PlainThinning → List FileBytes → Task → Type 0
+IsThinning asked files (Screen problem screening) = ⊥
+IsThinning asked files Accept = ⊥
+IsThinning asked files (Make recipe) = ⊥
+IsThinning asked files (Selfrun selfrun) = ⊥
+IsThinning asked files (Renew certificate) = ⊥
+IsThinning asked files (Thin lone thinning) = (tracks_asked USUAL files asked ≡ Ok (plain_tracks lone)) × (plain_thinning thinning ≡ asked)
 
 -- what was read of the files is what the command asks
 abbrev pub Readies : PlainCommand → List FileBytes → Task → Type 0
@@ -89,6 +107,7 @@ Readies (Checks checking) files task = IsAccepting checking files task
 Readies (Generates recipe) files task = Unit {0}
 Readies (Selfruns selfrun) files task = Unit {0}
 Readies (Rewrites checking) files task = IsRenewal checking files task
+Readies (Thins thinning) files task = IsThinning thinning files task
 
 abbrev pub IsMaking : Task → Type 0
 IsMaking (Screen problem asked) = ⊥
@@ -96,6 +115,7 @@ IsMaking Accept = ⊥
 IsMaking (Make recipe) = Unit {0}
 IsMaking (Selfrun selfrun) = ⊥
 IsMaking (Renew certificate) = ⊥
+IsMaking (Thin lone thinning) = ⊥
 
 abbrev pub IsSelfrun : Task → Type 0
 IsSelfrun (Screen problem asked) = ⊥
@@ -103,6 +123,7 @@ IsSelfrun Accept = ⊥
 IsSelfrun (Make recipe) = ⊥
 IsSelfrun (Selfrun selfrun) = Unit {0}
 IsSelfrun (Renew certificate) = ⊥
+IsSelfrun (Thin lone thinning) = ⊥
 
 -- a command that reads nothing comes to its task, whatever the folder does
 abbrev pub ComesToTask : PlainCommand → Result Task Status → Type 0
@@ -113,6 +134,7 @@ ComesToTask (Generates recipe) (Err s) = ⊥
 ComesToTask (Selfruns selfrun) (Ok task) = IsSelfrun task
 ComesToTask (Selfruns selfrun) (Err s) = ⊥
 ComesToTask (Rewrites checking) r = Unit {0}
+ComesToTask (Thins thinning) r = Unit {0}
 
 -- ---- how a task ends
 
@@ -145,3 +167,4 @@ IsDone (Checks checking) files old new = IsChecked checking files old new
 IsDone (Generates recipe) files old new = Unit {0}
 IsDone (Selfruns selfrun) files old new = Unit {0}
 IsDone (Rewrites checking) files old new = IsRewritten checking files old new
+IsDone (Thins thinning) files old new = IsThinned thinning files old new

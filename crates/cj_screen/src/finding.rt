@@ -21,7 +21,7 @@ use cj_base::Tick;
 use cj_case::Problem;
 use cj_gen::catalogue;
 use cj_io::Gate;
-use cj_outputs::{Findings, Origin, tells_sizes};
+use cj_outputs::{Findings, Origin, stays_within, tells_sizes};
 use cj_status::Status;
 use cj_words::Screening;
 use std::alloc::Global;
@@ -57,6 +57,10 @@ pub fn find<'w, R: Threads + Wait + Sync, G: Gate + Sync>(
             rt, alloc, gate, &selfrun,
         )?)),
         Task::Renew(certificate) => Ok(Results::Rewritten(certificate)),
+        Task::Thin(lone, thinning) => {
+            stays_within(&lone, &thinning);
+            Ok(Results::Thinned(lone, thinning))
+        }
     }
 }
 

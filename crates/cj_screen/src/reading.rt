@@ -9,7 +9,8 @@ ghost use Rattle.cj_screen.specs.Tasks.{AreRead, ComesToTask, Leads, Readies, Re
 ghost use Rattle.cj_status.specs.Steps.{ComesBefore, ComesBetween};
 
 use crate::task::Task;
-use cj_inputs::prepare;
+use cj_base::Limits;
+use cj_inputs::{prepare, read_alone};
 use cj_io::Folder;
 use cj_outputs::{check_certificate, rewrite_certificate};
 use cj_status::Status;
@@ -74,6 +75,10 @@ fn read_asked<'w, R: Threads + Sync, F: Folder>(
         Command::Rewrite(checking) => {
             let certificate = rewrite_certificate(rt, alloc, folder, &checking)?;
             Ok(Task::Renew(certificate))
+        }
+        Command::Thin(thinning) => {
+            let lone = read_alone(alloc, folder, &thinning, Limits::USUAL)?;
+            Ok(Task::Thin(lone, thinning))
         }
     }
 }

@@ -1,6 +1,8 @@
 use cj_cert::Certificate;
+use cj_inputs::LoneTracks;
 use cj_io::FileBytes;
 use cj_outputs::{Findings, Origin};
+use cj_words::Thinning;
 
 /// What a run is to put. From here on it can fail only for want of memory or in a write.
 #[derive(Drop)]
@@ -15,4 +17,6 @@ pub enum Results<'w> {
     Selfrun(Findings),
     /// A certificate that was accepted, in version 2.
     Rewritten(Certificate),
+    /// The tracks that are to be put with fewer nodes.
+    Thinned(LoneTracks, Thinning<'w>),
 }

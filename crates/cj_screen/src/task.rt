@@ -3,7 +3,8 @@ ghost use Rattle.cj_screen.specs.Tasks.{puts_files};
 
 use cj_case::Problem;
 use cj_cert::Certificate;
-use cj_words::{Recipe, Screening, Selfrun};
+use cj_inputs::LoneTracks;
+use cj_words::{Recipe, Screening, Selfrun, Thinning};
 
 /// What a command line asks for, once all that it reads is accepted.
 #[derive(Drop)]
@@ -18,6 +19,8 @@ pub enum Task<'w> {
     Selfrun(Selfrun),
     /// A certificate that is accepted is put, as it is rewritten.
     Renew(Certificate),
+    /// Tracks are put with fewer nodes.
+    Thin(LoneTracks, Thinning<'w>),
 }
 
 impl Task<'_> {
@@ -26,7 +29,7 @@ impl Task<'_> {
         ensures { result ≡ puts_files self.now }
     {
         match self {
-            Task::Screen(..) | Task::Make(_) | Task::Renew(_) => true,
+            Task::Screen(..) | Task::Make(_) | Task::Renew(_) | Task::Thin(..) => true,
             Task::Accept | Task::Selfrun(_) => false,
         }
     }

@@ -4,7 +4,7 @@ ghost use Rattle.cj_io.specs.Faults.{Rose};
 ghost use Rattle.cj_io.specs.declared.file.FileBytes.{FileBytes};
 ghost use Rattle.cj_words.specs.declared.option.UsageFault.{UsageFault};
 ghost use Rattle.cj_words.specs.Commands as asks;
-ghost use Rattle.cj_words.specs.Commands.{Checks, Generates, Rewrites, Screens, Selfruns, command_of};
+ghost use Rattle.cj_words.specs.Commands.{Checks, Generates, Rewrites, Screens, Selfruns, Thins, command_of};
 ghost use Rattle.cj_status.specs.declared.status.Status.{Status as Ends};
 ghost use Rattle.cj_outputs.specs.Checks.{IsChecked};
 ghost use Rattle.cj_outputs.specs.Findings.{ended};
@@ -14,6 +14,7 @@ ghost use Rattle.cj_outputs.specs.Outcome.{Answers, ComesOfPuts, Extends, Leaves
 ghost use Rattle.cj_screen.specs.Results.{AreDue, outputs_due};
 ghost use Rattle.cj_screen.specs.Tasks.{AreRead, EndsTask, IsCalm, IsDone, Readies, outputs_of_task, puts_files};
 ghost use Rattle.cj_outputs.specs.Rewrites.{IsRewritten};
+ghost use Rattle.cj_outputs.specs.Thinnings.{IsThinned};
 
 use crate::finding::find;
 use crate::reading::read_task;
@@ -22,7 +23,7 @@ use crate::selfruns::put_selfrun;
 use crate::task::Task;
 use cj_base::Tick;
 use cj_io::{Folder, Gate, StreamShelf};
-use cj_outputs::{begin, put, put_catalogue, put_outputs, put_rewritten};
+use cj_outputs::{begin, put, put_catalogue, put_outputs, put_rewritten, put_thinned};
 use cj_status::Status;
 use cj_words::Word;
 use std::alloc::Global;
@@ -72,6 +73,10 @@ pub fn conj<R: Threads + Wait + Sync, F: Folder, S: StreamShelf, G: Gate + Sync>
     // Status 0 of a rewriting says that the named file is an accepted certificate, and that its text in version 2 is put, which is one too.
     ensures rewritten { (files outputs : List FileBytes) (checking : asks.PlainChecking) → F.files folder.old ≡ Some files → S.outputs shelf.old ≡ Some outputs
         → command_of words.now ≡ Ok (Rewrites checking) → result ≡ Status.Ok → IsRewritten checking files outputs (S.outputs shelf.new) }
+
+    // Status 0 of a thinning says that the tracks that were asked are put with fewer nodes, and that each stays within the length of where it was.
+    ensures thinned { (files outputs : List FileBytes) (thinning : asks.PlainThinning) → F.files folder.old ≡ Some files → S.outputs shelf.old ≡ Some outputs
+        → command_of words.now ≡ Ok (Thins thinning) → result ≡ Status.Ok → IsThinned thinning files outputs (S.outputs shelf.new) }
 
     // A catalogue that is made up ends so whatever the folder does, and so does one that is screened.
     ensures made { (recipe : asks.PlainRecipe) → command_of words.now ≡ Ok (Generates recipe) → EndsMaking result }
@@ -167,5 +172,6 @@ fn put_results<R: Threads + Sync, S: StreamShelf>(
         Results::Made(files) => put_catalogue(alloc, shelf, files),
         Results::Selfrun(found) => put_selfrun(alloc, shelf, found),
         Results::Rewritten(certificate) => put_rewritten(rt, alloc, shelf, certificate),
+        Results::Thinned(lone, thinning) => put_thinned(alloc, shelf, lone, thinning),
     }
 }

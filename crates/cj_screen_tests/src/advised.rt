@@ -77,7 +77,8 @@ fn exchanged(
     right: &[u8],
     wrong: &[u8],
 ) -> Result<(Vec<u8>, bool), AllocError> {
-    let Some(at) = text.windows(right.len()).position(|part| part == right) else {
+    let length = right.len().max(1);
+    let Some(at) = text.windows(length).position(|part| part == right) else {
         return Ok((Vec::from_slice(alloc, text)?, false));
     };
     let end = at.saturating_add(right.len());

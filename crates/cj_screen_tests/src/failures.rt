@@ -90,7 +90,7 @@ fn what_fails_while_files_are_parsed_is_told_behind_them(rt: HostRuntime) {
 }
 
 /// Whether these are the first so many outputs, and then nothing or a front of the next one.
-fn is_front(outputs: &[FileBytes], due: &[FileBytes], count: usize) -> bool {
+pub fn is_front(outputs: &[FileBytes], due: &[FileBytes], count: usize) -> bool {
     if outputs.len() < count || outputs.len() - count > 1 {
         return false;
     }

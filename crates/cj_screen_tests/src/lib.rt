@@ -34,6 +34,8 @@ mod scenes;
 #[cfg(test)]
 mod selfruns;
 #[cfg(test)]
+mod thinnings;
+#[cfg(test)]
 mod versions;
 #[cfg(test)]
 mod workers;

@@ -46,6 +46,8 @@ pub enum Content {
     Two(&'static [Change]),
     /// An object that goes from one place and rate to another in one minute, some lines changed, with these lines behind.
     Covered(&'static str, &'static str, &'static [Change], &'static str),
+    /// The head of a file, some lines changed, and these nodes.
+    Nodes(&'static [Change], &'static str),
     /// This text.
     Text(&'static str),
 }
@@ -174,6 +176,10 @@ fn append(alloc: Global, text: &mut Vec<u8>, content: Content) -> Result<(), All
         Content::Two(changes) => {
             append_one(text, changes)?;
             append_lines(text, 16, NEXT.as_slice(), changes)
+        }
+        Content::Nodes(changes, nodes) => {
+            append_lines(text, 0, HEAD.as_slice(), changes)?;
+            text.extend_from_slice(nodes.as_bytes())
         }
         Content::Text(whole) => text.extend_from_slice(whole.as_bytes()),
     }

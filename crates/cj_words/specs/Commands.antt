@@ -1,5 +1,5 @@
 -- The commands of the program, and what the words of a command line ask for.
-use Rattle.std.specs.Prelude.{ℕ, ◌-◌, ◌^◌, if◌then◌else◌, List, Option, Some, None, Result, Ok, Err, codes}
+use Rattle.std.specs.Prelude.{ℕ, ◌-◌, ◌^◌, if◌then◌else◌, Bool, List, Option, Some, None, Result, Ok, Err, codes}
 use Rattle.std.specs.Option.{option_copied}
 use Rattle.cj_base.specs.Bounds.{MOST_MADE_OBJECTS}
 use Rattle.cj_base.specs.Limits.{USUAL}
@@ -11,24 +11,26 @@ use Rattle.cj_words.specs.declared.command.Command.TheVariants as commands
 use Rattle.cj_words.specs.declared.command.Recipe as kept_recipe
 use Rattle.cj_words.specs.declared.command.Screening as kept_screening
 use Rattle.cj_words.specs.declared.command.Selfrun as kept_selfrun
+use Rattle.cj_words.specs.declared.command.Thinning as kept_thinning
 use Rattle.cj_words.specs.declared.command.Verb.{Verb}
-use Rattle.cj_words.specs.declared.command.Verb.TheVariants.{Screen, Check, Generate, Selfrun, Rewrite}
+use Rattle.cj_words.specs.declared.command.Verb.TheVariants.{Screen, Check, Generate, Selfrun, Rewrite, Thin}
 use Rattle.cj_words.specs.declared.option.Opt.{Opt}
-use Rattle.cj_words.specs.declared.option.Opt.TheVariants.{Workers, Cert, Originator, Cells, Seed, Objects, Minutes, CertVersion, Report, Out, CertDir}
+use Rattle.cj_words.specs.declared.option.Opt.TheVariants.{Workers, Cert, Originator, Cells, Seed, Objects, Minutes, AsHermite3, CertVersion, Report, Out, CertDir, Rtn, Within}
 use Rattle.cj_words.specs.declared.option.UsageFault.{UsageFault}
 use Rattle.cj_words.specs.declared.option.UsageFault.TheVariants.{Words, Value}
 use Rattle.cj_words.specs.Lines.{Line, line_of}
-use Rattle.cj_words.specs.Options.{Given, given_of, are_accepted, listed, value_of}
-use Rattle.cj_words.specs.Settings.{◌>>=◌, PlainSettings, plain_settings, file_text_or, in_range, is_path_or_none, name_or, number_or, originator_or, sized_of, threshold_of, unsized_of, version_or}
+use Rattle.cj_words.specs.Options.{Given, given_of, are_accepted, is_given, listed, value_of}
+use Rattle.cj_words.specs.Settings.{◌>>=◌, PlainSettings, plain_settings, file_text_or, in_range, is_path_or_none, name_or, number_or, originator_or, sized_of, suffix_of, threshold_of, unsized_of, version_or}
 
 -- how files are screened: how many workers share the work, who makes the messages, the greatest number of leaves, the version of the
--- certificate
+-- certificate, whether messages tell the relative state along the axes of the first object
 pub record PlainScreening : Type 0 where
   pub settings : PlainSettings
   pub workers : ℕ
   pub originator : List ℕ
   pub cells : ℕ
   pub version : Version
+  pub rtn : Bool
 
 -- what is checked against files, or rewritten: the certificate in the file with this name, and beside it the report in the file with that
 -- name, where one is named
@@ -50,19 +52,27 @@ pub record PlainSelfrun : Type 0 where
   pub cells : ℕ
   pub recipe : PlainRecipe
 
--- what a command line asks for: files are screened, a certificate is checked, a catalogue is written, or one is screened, or a
--- certificate is rewritten
+-- how files are written with fewer nodes: what the names of those that are taken end with, whether each is taken as if it declared the
+-- cubic, how many metres an object may be from where it was
+pub record PlainThinning : Type 0 where
+  pub suffix : List ℕ
+  pub as_hermite3 : Bool
+  pub within : ℕ
+
+-- what a command line asks for: files are screened, a certificate is checked, a catalogue is written, or one is screened, a certificate is
+-- rewritten, or files are written with fewer nodes
 pub data PlainCommand : Type 0 where
   Screens : PlainScreening → PlainCommand
   Checks : PlainChecking → PlainCommand
   Generates : PlainRecipe → PlainCommand
   Selfruns : PlainSelfrun → PlainCommand
   Rewrites : PlainChecking → PlainCommand
+  Thins : PlainThinning → PlainCommand
 
 -- ---- what a command says
 
 abbrev pub plain_screening : kept_screening.Screening → PlainScreening
-plain_screening s = record { settings = plain_settings s.settings; workers = s.workers; originator = s.originator.now; cells = s.cells; version = s.version }
+plain_screening s = record { settings = plain_settings s.settings; workers = s.workers; originator = s.originator.now; cells = s.cells; version = s.version; rtn = s.rtn }
 
 abbrev pub plain_checking : kept_checking.Checking → PlainChecking
 plain_checking c = record { settings = plain_settings c.settings; certificate = c.certificate.now; report = option_copied c.report }
@@ -73,12 +83,16 @@ plain_recipe r = record { seed = r.seed; objects = r.objects; minutes = r.minute
 abbrev pub plain_selfrun : kept_selfrun.Selfrun → PlainSelfrun
 plain_selfrun t = record { threshold = t.threshold; workers = t.workers; cells = t.cells; recipe = plain_recipe t.recipe }
 
+abbrev pub plain_thinning : kept_thinning.Thinning → PlainThinning
+plain_thinning t = record { suffix = t.suffix.now; as_hermite3 = t.as_hermite3; within = t.within }
+
 abbrev pub plain_command : Command → PlainCommand
 plain_command (commands.Screen screening) = Screens (plain_screening screening)
 plain_command (commands.Check checking) = Checks (plain_checking checking)
 plain_command (commands.Generate recipe) = Generates (plain_recipe recipe)
 plain_command (commands.Selfrun selfrun) = Selfruns (plain_selfrun selfrun)
 plain_command (commands.Rewrite checking) = Rewrites (plain_checking checking)
+plain_command (commands.Thin thinning) = Thins (plain_thinning thinning)
 
 -- ---- what words ask for
 
@@ -96,7 +110,7 @@ screening_of givens = do
   cells ← in_range Cells (number_or 1 unsized.limits.leaves unsized.limits.leaves (value_of Cells givens))
   settings ← sized_of unsized givens
   version ← in_range CertVersion (version_or One (value_of CertVersion givens))
-  Ok (record { settings = settings; workers = workers; originator = originator; cells = cells; version = version })
+  Ok (record { settings = settings; workers = workers; originator = originator; cells = cells; version = version; rtn = is_given Rtn givens })
 
 -- the same of a check, and of a certificate that is rewritten, which has no option for a report
 unfoldable pub checking_of : List Given → Result PlainChecking UsageFault
@@ -125,6 +139,13 @@ selfrun_of givens = do
   recipe ← recipe_of givens
   Ok (record { threshold = threshold; workers = workers; cells = cells; recipe = recipe })
 
+-- the same of files that are written with fewer nodes
+unfoldable pub thinning_of : List Given → Result PlainThinning UsageFault
+thinning_of givens = do
+  suffix ← suffix_of givens
+  within ← in_range Within (number_or 1 1000 1 (value_of Within givens))
+  Ok (record { suffix = suffix; as_hermite3 = is_given AsHermite3 givens; within = within })
+
 -- what the options of a command ask for
 abbrev pub command_with : Verb → List Given → Result PlainCommand UsageFault
 command_with Screen givens = screening_of givens >>= λ screening. Ok (Screens screening)
@@ -132,6 +153,7 @@ command_with Check givens = checking_of givens >>= λ checking. Ok (Checks check
 command_with Generate givens = recipe_of givens >>= λ recipe. Ok (Generates recipe)
 command_with Selfrun givens = selfrun_of givens >>= λ selfrun. Ok (Selfruns selfrun)
 command_with Rewrite givens = checking_of givens >>= λ checking. Ok (Rewrites checking)
+command_with Thin givens = thinning_of givens >>= λ thinning. Ok (Thins thinning)
 
 -- an option that names a directory has a path as its value, where it stands. What is asked of files does not depend on it
 abbrev pub place_judged : Opt → List Given → Result (Unit {0}) UsageFault

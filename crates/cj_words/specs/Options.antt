@@ -4,9 +4,9 @@ use Rattle.std.specs.List.{list_all, before_first, after_first}
 use Rattle.std.specs.Str.{bytes_eq}
 use Rattle.cj_kvn.specs.Lines.{is_equals}
 use Rattle.cj_words.specs.declared.option.Opt.{Opt}
-use Rattle.cj_words.specs.declared.option.Opt.TheVariants.{Threshold, Workers, From, To, Suffix, Cert, Originator, Cells, Seed, Objects, Minutes, AsHermite3, Sizes, CertVersion, Report, Out, CertDir}
+use Rattle.cj_words.specs.declared.option.Opt.TheVariants.{Threshold, Workers, From, To, Suffix, Cert, Originator, Cells, Seed, Objects, Minutes, AsHermite3, Sizes, CertVersion, Report, Out, CertDir, Rtn, Within}
 use Rattle.cj_words.specs.declared.command.Verb.{Verb}
-use Rattle.cj_words.specs.declared.command.Verb.TheVariants.{Screen, Check, Generate, Selfrun, Rewrite}
+use Rattle.cj_words.specs.declared.command.Verb.TheVariants.{Screen, Check, Generate, Selfrun, Rewrite, Thin}
 
 abbrev pub name_of : Opt → List ℕ
 name_of Threshold = codes "--threshold"
@@ -26,6 +26,8 @@ name_of CertVersion = codes "--cert-version"
 name_of Report = codes "--report"
 name_of Out = codes "--out"
 name_of CertDir = codes "--cert-dir"
+name_of Rtn = codes "--rtn"
+name_of Within = codes "--within"
 
 -- an option on the command line: its name and its value, empty for a flag
 pub record Given : Type 0 where
@@ -52,15 +54,19 @@ is_name Screen name =
     is_directory_name name
     || (bytes_eq name (name_of Workers)
     || (bytes_eq name (name_of Originator)
-    || (bytes_eq name (name_of Cells) || (bytes_eq name (name_of CertVersion) || bytes_eq name (name_of Out)))))
+    || (bytes_eq name (name_of Cells)
+    || (bytes_eq name (name_of CertVersion) || (bytes_eq name (name_of Out) || bytes_eq name (name_of Rtn))))))
 is_name Check name = is_directory_name name || (bytes_eq name (name_of Cert) || (bytes_eq name (name_of Report) || bytes_eq name (name_of CertDir)))
 is_name Generate name = is_catalogue_name name || bytes_eq name (name_of Out)
 is_name Selfrun name = bytes_eq name (name_of Threshold) || (bytes_eq name (name_of Workers) || (bytes_eq name (name_of Cells) || is_catalogue_name name))
 is_name Rewrite name = is_directory_name name || (bytes_eq name (name_of Cert) || (bytes_eq name (name_of Out) || bytes_eq name (name_of CertDir)))
+is_name Thin name =
+    bytes_eq name (name_of Suffix)
+    || (bytes_eq name (name_of AsHermite3) || (bytes_eq name (name_of Out) || bytes_eq name (name_of Within)))
 
 -- the name of a flag: an option that has no value
 abbrev pub is_flag : List ℕ → Bool
-is_flag name = bytes_eq name (name_of AsHermite3)
+is_flag name = bytes_eq name (name_of AsHermite3) || bytes_eq name (name_of Rtn)
 
 -- a word that may stand on its own as a directory or as a value: not empty, and no option
 abbrev pub is_value : List ℕ → Bool
@@ -146,6 +152,10 @@ are_directory_single givens =
     && (is_single AsHermite3 givens
     && is_single Sizes givens))))
 
+-- so does each option of the commands that make up a catalogue
+abbrev pub are_catalogue_single : List Given → Bool
+are_catalogue_single givens = is_single Seed givens && (is_single Objects givens && is_single Minutes givens)
+
 -- so does each other option
 abbrev pub are_others_single : List Given → Bool
 are_others_single givens =
@@ -153,17 +163,16 @@ are_others_single givens =
     && (is_single Cert givens
     && (is_single Originator givens
     && (is_single Cells givens
-    && (is_single Seed givens
-    && (is_single Objects givens
-    && (is_single Minutes givens
     && (is_single CertVersion givens
     && (is_single Report givens
     && (is_single Out givens
-    && is_single CertDir givens)))))))))
+    && (is_single CertDir givens
+    && (is_single Rtn givens
+    && is_single Within givens))))))))
 
 -- so does each
 abbrev pub are_single : List Given → Bool
-are_single givens = are_directory_single givens && are_others_single givens
+are_single givens = are_directory_single givens && (are_catalogue_single givens && are_others_single givens)
 
 -- each is known and stands at most once
 abbrev pub are_options : Verb → List Given → Bool

@@ -1,5 +1,6 @@
 -- What the words of a command line ask for.
 use Rattle.std.specs.Prelude.{ℕ, ◌-◌, ◌^◌, Bool, true, not, ◌&&◌, ◌==◌, nat_le, length, if◌then◌else◌, List, Option, Some, None, Result, Ok, Err, codes}
+use Rattle.std.specs.Borrow.{Bor}
 use Rattle.std.specs.List.{list_all}
 use Rattle.std.specs.Option.{option_and_then, option_map, option_copied}
 use Rattle.std.specs.Char.{is_ascii_digit}
@@ -32,6 +33,10 @@ pub record PlainSettings : Type 0 where
 
 abbrev pub micros_of : Tick → ℕ
 micros_of tick = tick.micros
+
+-- the bytes of a text that is lent
+abbrev pub lent_bytes : Bor (List ℕ) → List ℕ
+lent_bytes text = text.now
 
 -- what settings say
 abbrev pub plain_settings : Settings → PlainSettings
@@ -140,12 +145,16 @@ abbrev pub ◌>>=◌ : {A B : Type 0} → Result A UsageFault → (A → Result 
 abbrev pub threshold_of : List Given → Result ℕ UsageFault
 threshold_of givens = in_range Threshold (number_or 1 1_000_000 5000 (value_of Threshold givens))
 
+-- what the names of the files that are taken end with
+abbrev pub suffix_of : List Given → Result (List ℕ) UsageFault
+suffix_of givens = in_range Suffix (file_text_or 20 (codes ".oem") (value_of Suffix givens))
+
 -- the settings with this threshold that options give but for the file of sizes, or the first of these options whose value is out of its range
 unfoldable pub unsized_of : ℕ → List Given → Result PlainSettings UsageFault
 unsized_of threshold givens = do
   from ← in_range From (epoch_or (value_of From givens))
   to ← in_range To (not_before from (epoch_or (value_of To givens)))
-  suffix ← in_range Suffix (file_text_or 20 (codes ".oem") (value_of Suffix givens))
+  suffix ← suffix_of givens
   Ok (record { threshold = threshold; from = from; to = to; suffix = suffix; as_hermite3 = is_given AsHermite3 givens; sizes = None; limits = USUAL })
 
 -- these settings with the file of sizes that options name, where they name one

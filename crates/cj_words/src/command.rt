@@ -12,6 +12,7 @@ pub enum Verb {
     Generate,
     Selfrun,
     Rewrite,
+    Thin,
 }
 
 /// What a command line asks for.
@@ -27,6 +28,8 @@ pub enum Command<'w> {
     Selfrun(Selfrun),
     /// The certificate in a directory is checked and put in version 2.
     Rewrite(Checking<'w>),
+    /// The ephemerides of a directory are put with fewer nodes.
+    Thin(Thinning<'w>),
 }
 
 /// How the files of a directory are screened. The originator is lent by the words.
@@ -41,6 +44,8 @@ pub struct Screening<'w> {
     pub cells: u64,
     /// The version of the certificate.
     pub version: CertVersion,
+    /// Whether messages tell the state of the second object along the radial, transverse and normal axes of the first.
+    pub rtn: bool,
     pub ghost some_workers: { 1 ≤ workers },
     pub ghost most_workers: { workers ≤ 16 },
     pub ghost some_cells: { 1 ≤ cells },
@@ -88,4 +93,17 @@ pub struct Selfrun {
     pub ghost most: { threshold ≤ 1_000_000 },
     pub ghost some_cells: { 1 ≤ cells },
     pub ghost most_cells: { cells ≤ MOST_LEAVES },
+}
+
+/// How the ephemerides of a directory are put with fewer nodes. The suffix is lent by the words.
+#[derive(Clone, Copy, Debug, PartialEq, Eq)]
+pub struct Thinning<'w> {
+    /// What the names of the files that are taken end with: 1 to 20 bytes from 33 to 126, none of them `/`.
+    pub suffix: &'w [u8],
+    /// Whether a file that does not declare the cubic is taken as if it did.
+    pub as_hermite3: bool,
+    /// How far an object may be at any microsecond from where it was, in metres, from 1 to 1,000.
+    pub within: u64,
+    pub ghost some: { 1 ≤ within },
+    pub ghost most: { within ≤ 1000 },
 }

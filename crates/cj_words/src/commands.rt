@@ -1,18 +1,18 @@
 //! From the words of a command line to its command.
 ghost use Rattle.std.specs.Prelude.{◌≡◌, ◌≤◌, IfOk, IsTrue, Some};
 ghost use Rattle.cj_words.specs.Commands as spec;
-ghost use Rattle.cj_words.specs.Commands.{plain_checking, plain_command, plain_recipe, plain_screening, plain_selfrun};
+ghost use Rattle.cj_words.specs.Commands.{plain_checking, plain_command, plain_recipe, plain_screening, plain_selfrun, plain_thinning};
 ghost use Rattle.cj_words.specs.Lines.{plain_line};
 ghost use Rattle.cj_words.specs.Options as options;
 ghost use Rattle.cj_words.specs.Options.{given_of, listed};
 ghost use Rattle.cj_words.specs.Settings.{said};
 
-use crate::command::{Checking, Command, Recipe, Screening, Selfrun, Verb};
-use crate::given::{are_options, value_of};
+use crate::command::{Checking, Command, Recipe, Screening, Selfrun, Thinning, Verb};
+use crate::given::{are_options, is_given, value_of};
 use crate::line::{Line, line_of};
 use crate::numbers::{number_or, out_of_range, version_or};
 use crate::option::{Opt, UsageFault};
-use crate::reading::{sized_of, threshold_of, unsized_of};
+use crate::reading::{sized_of, suffix_of, threshold_of, unsized_of};
 use crate::settings::Word;
 use crate::texts::{file_text_or, is_path_or_none, name_or, originator_or};
 use cj_base::{Limits, MOST_MADE_OBJECTS};
@@ -80,6 +80,7 @@ fn command_of(words: &[Word], verb: Verb) -> Result<Command<'_>, UsageFault>
         Verb::Generate => Ok(Command::Generate(recipe_of(words)?)),
         Verb::Selfrun => Ok(Command::Selfrun(selfrun_of(words)?)),
         Verb::Rewrite => Ok(Command::Rewrite(checking_of(words)?)),
+        Verb::Thin => Ok(Command::Thin(thinning_of(words)?)),
     }
 }
 
@@ -121,6 +122,7 @@ fn screening_of(words: &[Word]) -> Result<Screening<'_>, UsageFault>
         originator,
         cells,
         version,
+        rtn: is_given(words, Opt::Rtn),
     })
 }
 
@@ -184,5 +186,21 @@ fn selfrun_of(words: &[Word]) -> Result<Selfrun, UsageFault>
         workers,
         cells,
         recipe,
+    })
+}
+
+#[tactic(auto, unfolding(crate::specs::Commands::thinning_of))]
+fn thinning_of(words: &[Word]) -> Result<Thinning<'_>, UsageFault>
+    requires { IsTrue (options.are_listed (given_of words.now)) }
+    ensures { said plain_thinning result ≡ spec.thinning_of (listed (given_of words.now)) }
+{
+    let suffix = suffix_of(words)?;
+    let Some(within) = number_or(value_of(words, Opt::Within), 1, 1000, 1) else {
+        return Err(out_of_range(Opt::Within));
+    };
+    Ok(Thinning {
+        suffix,
+        as_hermite3: is_given(words, Opt::AsHermite3),
+        within,
     })
 }

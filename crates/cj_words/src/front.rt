@@ -43,7 +43,7 @@ pub fn front_of(words: &[Word]) -> Option<Front<'_>>
 fn is_flag(name: &[u8]) -> bool
     ensures { result ≡ spec.is_flag name.now }
 {
-    name == option_name(Opt::AsHermite3)
+    name == option_name(Opt::AsHermite3) || name == option_name(Opt::Rtn)
 }
 
 fn with_next<'w>(name: &'w [u8], words: &'w [Word]) -> Option<Front<'w>>

@@ -22,7 +22,7 @@ fn are_single(words: &[Word]) -> bool
     requires { IsTrue (spec.are_listed (given_of words.now)) }
     ensures { result ≡ spec.are_single (listed (given_of words.now)) }
 {
-    are_directory_single(words) && are_others_single(words)
+    are_directory_single(words) && are_catalogue_single(words) && are_others_single(words)
 }
 
 /// Whether each option of the commands that read the files of a directory stands at most once.
@@ -38,6 +38,14 @@ fn are_directory_single(words: &[Word]) -> bool
         && is_single(words, Opt::Sizes)
 }
 
+/// Whether each option of the commands that make up a catalogue does.
+fn are_catalogue_single(words: &[Word]) -> bool
+    requires { IsTrue (spec.are_listed (given_of words.now)) }
+    ensures { result ≡ spec.are_catalogue_single (listed (given_of words.now)) }
+{
+    is_single(words, Opt::Seed) && is_single(words, Opt::Objects) && is_single(words, Opt::Minutes)
+}
+
 /// Whether each other option does.
 fn are_others_single(words: &[Word]) -> bool
     requires { IsTrue (spec.are_listed (given_of words.now)) }
@@ -47,13 +55,12 @@ fn are_others_single(words: &[Word]) -> bool
         && is_single(words, Opt::Cert)
         && is_single(words, Opt::Originator)
         && is_single(words, Opt::Cells)
-        && is_single(words, Opt::Seed)
-        && is_single(words, Opt::Objects)
-        && is_single(words, Opt::Minutes)
         && is_single(words, Opt::CertVersion)
         && is_single(words, Opt::Report)
         && is_single(words, Opt::Out)
         && is_single(words, Opt::CertDir)
+        && is_single(words, Opt::Rtn)
+        && is_single(words, Opt::Within)
 }
 
 fn is_single(words: &[Word], option: Opt) -> bool
@@ -88,6 +95,7 @@ pub fn is_known(name: &[u8], verb: Verb) -> bool
                 || is_named(name, Opt::Cells)
                 || is_named(name, Opt::CertVersion)
                 || is_named(name, Opt::Out)
+                || is_named(name, Opt::Rtn)
         }
         Verb::Check => {
             is_of_directory(name)
@@ -107,6 +115,12 @@ pub fn is_known(name: &[u8], verb: Verb) -> bool
                 || is_named(name, Opt::Cert)
                 || is_named(name, Opt::Out)
                 || is_named(name, Opt::CertDir)
+        }
+        Verb::Thin => {
+            is_named(name, Opt::Suffix)
+                || is_named(name, Opt::AsHermite3)
+                || is_named(name, Opt::Out)
+                || is_named(name, Opt::Within)
         }
     }
 }

@@ -14,7 +14,7 @@ mod reading;
 mod settings;
 mod texts;
 
-pub use command::{Checking, Command, Recipe, Screening, Selfrun, Verb};
+pub use command::{Checking, Command, Recipe, Screening, Selfrun, Thinning, Verb};
 pub use commands::read_command;
 pub use front::{Front, front_of, split_at_equals};
 pub use given::is_known;

@@ -39,6 +39,8 @@ pub fn verb_of(word: &[u8]) -> Option<Verb>
         Some(Verb::Selfrun)
     } else if word == b"rewrite".as_slice() {
         Some(Verb::Rewrite)
+    } else if word == b"thin".as_slice() {
+        Some(Verb::Thin)
     } else {
         None
     }
@@ -48,7 +50,9 @@ fn line_behind(verb: Verb, words: &[Word]) -> Option<Line<'_>>
     ensures { option_map plain_line result ≡ spec.line_behind (Some verb) words.now }
 {
     match verb {
-        Verb::Screen | Verb::Check | Verb::Generate | Verb::Rewrite => with_directory(verb, words),
+        Verb::Screen | Verb::Check | Verb::Generate | Verb::Rewrite | Verb::Thin => {
+            with_directory(verb, words)
+        }
         Verb::Selfrun => Some(Line {
             verb,
             directory: b".",

@@ -38,6 +38,10 @@ pub enum Opt {
     Out,
     /// The directory in which the certificate lies.
     CertDir,
+    /// Whether messages tell the state of the second object along the axes of the first; a flag.
+    Rtn,
+    /// How far an object with fewer nodes may be from where it was, in metres.
+    Within,
 }
 
 /// What is wrong with a command line.
@@ -71,5 +75,7 @@ pub fn option_name(option: Opt) -> &'static [u8]
         Opt::Report => b"--report",
         Opt::Out => b"--out",
         Opt::CertDir => b"--cert-dir",
+        Opt::Rtn => b"--rtn",
+        Opt::Within => b"--within",
     }
 }

@@ -4,7 +4,7 @@ ghost use Rattle.std.specs.Option.{option_copied};
 ghost use Rattle.cj_words.specs.Options as options;
 ghost use Rattle.cj_words.specs.Options.{given_of, listed};
 ghost use Rattle.cj_words.specs.Settings as spec;
-ghost use Rattle.cj_words.specs.Settings.{plain_settings, micros_of, said};
+ghost use Rattle.cj_words.specs.Settings.{lent_bytes, plain_settings, micros_of, said};
 
 use crate::given::{is_given, value_of};
 use crate::numbers::{number_or, out_of_range};
@@ -27,6 +27,17 @@ pub fn threshold_of(words: &[Word]) -> Result<u64, UsageFault>
     }
 }
 
+/// What the names of the files that are taken end with.
+pub fn suffix_of(words: &[Word]) -> Result<&[u8], UsageFault>
+    requires { IsTrue (options.are_listed (given_of words.now)) }
+    ensures { said lent_bytes result ≡ spec.suffix_of (listed (given_of words.now)) }
+{
+    match file_text_or(value_of(words, Opt::Suffix), 20, b".oem") {
+        Some(suffix) => Ok(suffix),
+        None => Err(out_of_range(Opt::Suffix)),
+    }
+}
+
 /// The settings with this threshold but for the file of sizes, which stands behind the other options.
 #[tactic(auto, unfolding(crate::specs::Settings::unsized_of))]
 pub fn unsized_of(words: &[Word], threshold: u64) -> Result<Settings<'_>, UsageFault>
@@ -44,9 +55,7 @@ pub fn unsized_of(words: &[Word], threshold: u64) -> Result<Settings<'_>, UsageF
     if !are_in_order(from, to) {
         return Err(out_of_range(Opt::To));
     }
-    let Some(suffix) = file_text_or(value_of(words, Opt::Suffix), 20, b".oem") else {
-        return Err(out_of_range(Opt::Suffix));
-    };
+    let suffix = suffix_of(words)?;
     Ok(Settings {
         threshold,
         from,

@@ -4,7 +4,7 @@ use Rattle.cj_outputs.specs.Findings.{outputs_in}
 use Rattle.cj_outputs.specs.Messages.{PlainOrigin}
 use Rattle.cj_outputs.specs.Outcome.{outputs_made}
 use Rattle.cj_screen.specs.declared.task.Task.TheVariants.{Screen, Selfrun}
-use Rattle.cj_screen.proofs.TaskLemmas.{comes_of_search, shows_accepted, shows_made, shows_renewed, shows_screened}
+use Rattle.cj_screen.proofs.TaskLemmas.{comes_of_search, shows_accepted, shows_made, shows_renewed, shows_screened, shows_thinned}
 use Rattle.cj_screen.proofs.finding.find.Goals as goal
 
 pub returns-in_ok-found-in-Screen : goal.returns-in_ok-found-in-Screen
@@ -67,3 +67,12 @@ returns-in_err-selfrun_catalogue-in-Selfrun g c =
 pub returns-in-Renew : goal.returns-in-Renew
 returns-in-Renew g c =
     rw c.in-Renew.is (record { ends = tt; told = refl; due = tt; shows = λ files command readies. shows_renewed command files c.in-Renew.certificate readies })
+
+pub returns-in-Thin : goal.returns-in-Thin
+returns-in-Thin g c =
+    rw c.in-Thin.is (record {
+      ends = tt;
+      told = refl;
+      due = tt;
+      shows = λ files command readies. shows_thinned command files c.in-Thin.lone c.in-Thin.thinning readies c.stays_within.ensures.law;
+    })

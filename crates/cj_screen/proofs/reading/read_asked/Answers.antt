@@ -1,11 +1,12 @@
 use Rattle.std.proofs.Common.{refl}
 use Rattle.std.proofs.lemmas.Result.{err_from_is_err_and}
-use Rattle.cj_words.specs.Commands.{plain_screening}
+use Rattle.cj_words.specs.Commands.{plain_screening, plain_thinning}
 use Rattle.cj_case.specs.Problems.{plain_problem}
+use Rattle.cj_inputs.specs.Alone.{plain_tracks}
 use Rattle.cj_io.specs.Faults.{Rose}
 use Rattle.cj_outputs.proofs.AcceptingLemmas.{same_error}
 use Rattle.cj_screen.proofs.ResultLemmas.{count_stays, no_error}
-use Rattle.cj_screen.proofs.TaskLemmas.{no_case, screened_case, the_first}
+use Rattle.cj_screen.proofs.TaskLemmas.{no_case, no_tracks, screened_case, the_first, thinned_tracks}
 use Rattle.cj_screen.proofs.reading.read_asked.Goals as goal
 
 pub returns-in_ok-problem-in-Screen : goal.returns-in_ok-problem-in-Screen
@@ -115,4 +116,35 @@ returns-in_err-certificate-in-Rewrite g c =
       unread = tt;
       files = rewritten.files;
       later = rewritten.later;
+    })
+
+pub returns-in_ok-lone-in-Thin : goal.returns-in_ok-lone-in-Thin
+returns-in_ok-lone-in-Thin g c =
+    let read = c.in_ok-lone-in-Thin.ensures in
+    let thinning = plain_thinning c.in-Thin.thinning in
+    let tracks = plain_tracks c.in_ok-lone-in-Thin.lone in
+    rw c.in-Thin.is (record {
+      between = tt;
+      read = no_error;
+      told = λ files now either. thinned_tracks files thinning tracks (read.told files (the_first either (λ none. none)));
+      readies = λ files told. (read.told files told, refl);
+      unread = tt;
+      files = read.files;
+      later = read.later;
+    })
+
+pub returns-in_err-lone-in-Thin : goal.returns-in_err-lone-in-Thin
+returns-in_err-lone-in-Thin g c =
+    let read = c.in_err-lone-in-Thin.ensures in
+    let thinning = plain_thinning c.in-Thin.thinning in
+    let rose = Rose (g.F.Folder.faults c.args.folder.now) (g.F.Folder.faults c.read_alone.new.folder) in
+    let p = err_from_is_err_and c.from_residual-in_err-lone-in-Thin.result c.from_residual-in_err-lone-in-Thin.ensures.1 in
+    rw (p.1, p.2, c.in-Thin.is) (record {
+      between = read.between;
+      read = λ is. read.read (same_error is);
+      told = λ files now either. no_tracks rose files thinning c.in_err-lone-in-Thin.field-0.0 (read.told files (the_first either (λ none. none)));
+      readies = λ files told. tt;
+      unread = tt;
+      files = read.files;
+      later = read.later;
     })

@@ -1,7 +1,7 @@
 use Rattle.std.proofs.Common.{◌≡◌, ◌⊎◌, inr, Err, List, Result, refl, ap, sym, subst, ◌∙◌}
 use Rattle.cj_io.specs.Faults.{Rose}
 use Rattle.cj_io.specs.declared.file.FileBytes.{FileBytes}
-use Rattle.cj_words.specs.Commands.{Checks, Generates, Rewrites, Screens, Selfruns, command_of}
+use Rattle.cj_words.specs.Commands.{Checks, Generates, Rewrites, Screens, Selfruns, Thins, command_of}
 use Rattle.cj_status.specs.declared.status.Status.{Status}
 use Rattle.cj_status.specs.declared.status.Status.TheVariants as status
 use Rattle.cj_status.specs.Steps.{ComesBefore}
@@ -52,6 +52,10 @@ returns-in-Ok-clause-checked g c = λ files outputs checking told stood asked ok
 pub returns-in-Ok-clause-rewritten : goal.returns-in-Ok-clause-rewritten
 returns-in-Ok-clause-rewritten g c = λ files outputs checking told stood asked ok.
     c.run.ensures.done files outputs (Rewrites checking) (c.in-Ok.ensures.readies files (Rewrites checking) told asked) stood (sym c.end.ensures ∙ ok)
+
+pub returns-in-Ok-clause-thinned : goal.returns-in-Ok-clause-thinned
+returns-in-Ok-clause-thinned g c = λ files outputs thinning told stood asked ok.
+    c.run.ensures.done files outputs (Thins thinning) (c.in-Ok.ensures.readies files (Thins thinning) told asked) stood (sym c.end.ensures ∙ ok)
 
 pub returns-in-Ok-clause-refused : goal.returns-in-Ok-clause-refused
 returns-in-Ok-clause-refused g c = λ files cause are is calm free.
@@ -147,6 +151,9 @@ returns-in-Err-clause-checked g c = λ files outputs checking told stood asked o
 
 pub returns-in-Err-clause-rewritten : goal.returns-in-Err-clause-rewritten
 returns-in-Err-clause-rewritten g c = λ files outputs checking told stood asked ok. absurd (subst ComesBefore ok c.in-Err.ensures.before)
+
+pub returns-in-Err-clause-thinned : goal.returns-in-Err-clause-thinned
+returns-in-Err-clause-thinned g c = λ files outputs thinning told stood asked ok. absurd (subst ComesBefore ok c.in-Err.ensures.before)
 
 pub returns-in-Err-clause-untouched : goal.returns-in-Err-clause-untouched
 returns-in-Err-clause-untouched g c = λ none. refl

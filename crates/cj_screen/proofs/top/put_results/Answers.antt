@@ -24,3 +24,8 @@ pub returns-in-Rewritten : goal.returns-in-Rewritten
 returns-in-Rewritten g c =
     let done = c.put_rewritten.ensures in
     rw c.in-Rewritten.is (record { comes = done.comes; write = done.write; leaves = done.leaves; later = done.later })
+
+pub returns-in-Thinned : goal.returns-in-Thinned
+returns-in-Thinned g c =
+    let done = c.put_thinned.ensures in
+    rw c.in-Thinned.is (record { comes = done.comes; write = done.write; leaves = done.leaves; later = done.later })

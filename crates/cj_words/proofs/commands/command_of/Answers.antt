@@ -41,3 +41,11 @@ pub returns-in_err-checking_of-in-Rewrite : goal.returns-in_err-checking_of-in-R
 returns-in_err-checking_of-in-Rewrite c =
     let p = err_from_is_err_and c.from_residual-in_err-checking_of-in-Rewrite.result c.from_residual-in_err-checking_of-in-Rewrite.ensures.1 in
     rw (p.1, p.2, c.in-Rewrite.is, sym c.in_err-checking_of-in-Rewrite.ensures) refl
+
+pub returns-in_ok-thinning_of-in-Thin : goal.returns-in_ok-thinning_of-in-Thin
+returns-in_ok-thinning_of-in-Thin c = rw (c.in-Thin.is, sym c.in_ok-thinning_of-in-Thin.ensures) refl
+
+pub returns-in_err-thinning_of-in-Thin : goal.returns-in_err-thinning_of-in-Thin
+returns-in_err-thinning_of-in-Thin c =
+    let p = err_from_is_err_and c.from_residual-in_err-thinning_of-in-Thin.result c.from_residual-in_err-thinning_of-in-Thin.ensures.1 in
+    rw (p.1, p.2, c.in-Thin.is, sym c.in_err-thinning_of-in-Thin.ensures) refl

@@ -1,8 +1,9 @@
-use Rattle.std.proofs.Common.{refl, sym, ap, ◌∙◌}
+use Rattle.std.proofs.Common.{Bool, Ok, Result, sym, ap, ◌∙◌}
 use Rattle.std.specs.Prelude.{codes}
 use Rattle.cj_formats.specs.declared.cert_version.CertVersion.TheVariants.{One}
-use Rattle.cj_words.specs.Commands.{screening_of}
-use Rattle.cj_words.specs.Settings.{number_or, originator_or, version_or}
+use Rattle.cj_words.specs.Commands.{PlainScreening, screening_of}
+use Rattle.cj_words.specs.Settings.{number_or, originator_or, plain_settings, version_or}
+use Rattle.cj_words.specs.declared.option.UsageFault.{UsageFault}
 use Rattle.cj_words.proofs.commands.screening_of.Goals as goal
 
 pub returns : goal.returns
@@ -14,4 +15,13 @@ returns c =
     let version = c.in-Some-version_or.ensures ∙ ap (version_or One) c.value_of-3.ensures in
     let some = sym c.in_ok-unsized_settings.ensures in
     let all = sym c.in_ok-settings.ensures.value in
-    rw (sym c.in_ok-threshold.ensures.value, sym c.in_ok-workers.ensures.value, some, sym originator, sym cells, all, sym version) refl
+    let screening : Bool → Result PlainScreening UsageFault = λ (rtn : Bool). Ok (record {
+      settings = plain_settings c.in_ok-settings.settings;
+      workers = c.in_ok-workers.workers;
+      originator = c.in-Some.originator.now;
+      cells = c.in-Some-number_or.cells;
+      version = c.in-Some-version_or.version;
+      rtn = rtn;
+    }) in
+    rw (sym c.in_ok-threshold.ensures.value, sym c.in_ok-workers.ensures.value, some, sym originator, sym cells, all, sym version)
+    (ap screening c.is_given.ensures)
