@@ -10,6 +10,7 @@ import subprocess
 import time
 import unittest
 import unittest.mock
+from collections.abc import Callable, Sequence
 from pathlib import Path
 
 from tests.support import SAMPLES, FolderCase, need_numpy
@@ -19,7 +20,7 @@ need_numpy()
 from conjtools.faults import RunFault  # noqa: E402
 from conjtools.parts.doing import check, confirm, read_record, screen  # noqa: E402
 from conjtools.parts.plan import PARTS, Part, Plan, read_plan, read_stamps  # noqa: E402
-from conjtools.parts.program import program_checksum  # noqa: E402
+from conjtools.parts.program import program_checksum, run_program  # noqa: E402
 from conjtools.parts.publish import publish  # noqa: E402
 from conjtools.parts.settings import read_settings  # noqa: E402
 from conjtools.parts.stamps import Stamp, check_same, settled, stamps_of  # noqa: E402
@@ -224,6 +225,68 @@ class Doing(PartsCase):
         (result / "screen.cert").unlink()
         self.refused("screen.cert is not what was screened", check, self.plan, self.stamps(), self.part)
         self.checked()
+
+    def test_a_result_without_its_record_is_put_aside(self) -> None:
+        """As where the job of a lost attempt fails late, and takes away what it was to make."""
+        for act in (lambda: check(self.plan, self.stamps(), self.part), lambda: confirm(self.plan, self.stamps())):
+            for text in (None, "# screened\n"):
+                record = self.checked() / "screened"
+                if text is None:
+                    record.unlink()
+                else:
+                    record.write_text(text, "ascii")
+                self.refused("the next run screens the part anew", act)
+                self.assertEqual(self.left(), ["refused"])
+        self.refused("no record of what was screened", check, self.plan, self.stamps(), self.part)
+
+    def test_the_survey_puts_aside_what_has_no_record(self) -> None:
+        stands = self.plan.parts[0]
+        screen(self.plan, self.stamps(), stands, 1)
+        (self.checked() / "screened").unlink()
+        self.result(self.plan.parts[2]).mkdir(parents=True)
+        self.surveyed()
+        self.assertEqual(self.left(), ["refused"])
+        self.assertTrue((self.result(stands) / "screened").exists())
+        self.assertFalse((self.results / PARTS / self.plan.parts[2].name / "refused").exists())
+
+    def late(self, meanwhile: Callable[[], object]) -> bool:
+        """An attempt in which something happens while the program runs; whether its result took its place."""
+
+        def slow(words: Sequence[str], out: Path, errors: Path) -> int:
+            meanwhile()
+            return run_program(words, out, errors)
+
+        with unittest.mock.patch("conjtools.parts.doing.run_program", slow):
+            return screen(self.plan, self.stamps(), self.part, 1)
+
+    def test_an_attempt_that_is_late_changes_nothing(self) -> None:
+        """It was lost, and goes on when another has screened the part, which is checked too."""
+        result = self.result(self.part)
+        stood: list[dict[str, int]] = []
+
+        def files() -> dict[str, int]:
+            return {path.name: path.stat().st_ino for path in result.iterdir()}
+
+        def meanwhile() -> None:
+            with unittest.mock.patch("conjtools.parts.doing.run_program", run_program):
+                self.checked()
+            stood.append(files())
+
+        self.assertFalse(self.late(meanwhile))
+        self.assertIn("checked", stood[0])
+        self.assertEqual(files(), stood[0])
+        self.assertEqual(self.left(), ["result"])
+
+    def test_a_part_that_is_screened_again_by_hand(self) -> None:
+        """What stood before takes no place from it; nor does what has no record."""
+        result = self.checked()
+        stood = (result / "screened").stat().st_ino
+        self.assertTrue(self.late(lambda: None))
+        self.assertNotEqual((result / "screened").stat().st_ino, stood)
+        self.assertFalse((result / "checked").exists())
+        (result / "screened").unlink()
+        self.assertTrue(self.late(lambda: None))
+        self.assertEqual(self.left(), ["result"])
 
     def test_a_certificate_that_is_not_accepted_is_put_aside(self) -> None:
         """Its record fits it, so that the program alone sees it."""

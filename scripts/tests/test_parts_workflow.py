@@ -17,6 +17,12 @@ from conjtools.parts.plan import PARTS, WHOLE, Plan, read_plan  # noqa: E402
 
 PROGRAM = Path(__file__).with_name("made_up_program.py")
 SNAKEMAKE = Path("/usr/bin/snakemake")
+# Notes the rule of a job, does it, and says its number.
+SUBMIT = r"""#!/bin/sh
+sed -n 's/^# properties = .*"rule": "\([a-z]*\)".*/\1/p' "$1" >>submitted
+sh "$1" >/dev/null 2>&1
+echo 1
+"""
 
 
 class Workflow(FolderCase):
@@ -31,9 +37,13 @@ class Workflow(FolderCase):
         for number in (1, 2):
             shutil.copy(SAMPLES / "catalogue" / f"demo-0{number}.oem", self.files)
         (self.folder / "faults").mkdir()
+        self.configure()
+
+    def configure(self, **more: object) -> None:
+        """Writes the configuration."""
         told = {
             "folder": "files", "from": "2025-01-01T00:00:00", "to": "2025-01-01T00:30:00", "part_minutes": 15, "options": {"threshold": 5000},
-            "results": "results", "threads": 1, "retries": 0, "program": str(PROGRAM),
+            "results": "results", "threads": 1, "retries": 0, "program": str(PROGRAM), **more,
         }  # fmt: skip
         (self.folder / "config.yaml").write_text(json.dumps(told), "utf-8")
 
@@ -42,7 +52,7 @@ class Workflow(FolderCase):
         words = [str(SNAKEMAKE), "--snakefile", str(ROOT / "workflow" / "Snakefile"), "--profile", str(ROOT / "workflow" / "profiles" / "local")]
         return subprocess.run(
             [*words, "--configfile", "config.yaml", "--cores", "2", "--nocolor", *more], cwd=self.folder, stdin=subprocess.DEVNULL, capture_output=True,
-            text=True, env={**os.environ, "FAULTS": str(self.folder / "faults")},
+            text=True, env={**os.environ, "FAULTS": str(self.folder / "faults"), "CI": "true"},
         )  # fmt: skip
 
     def plan(self) -> Plan:
@@ -72,6 +82,12 @@ class Workflow(FolderCase):
         self.assertIn("WINDOW 2025-01-01T00:00:00.000000 2025-01-01T00:30:00.000000\n", (whole / "joined" / "screen.report").read_text("ascii"))
         self.assertIn("<html", (whole / "screen.html").read_text("utf-8"))
 
+        (results / PARTS / second.name / "result" / "screened").unlink()
+        shutil.rmtree(results / WHOLE)
+        run = self.run_workflow()
+        self.assertEqual(run.returncode, 0, run.stderr)
+        self.assertEqual(self.made(run), ["check", "join", "screen", "show", "survey"], "a record that was taken away")
+
         path = self.files / "demo-01.oem"
         path.write_text(path.read_text("ascii").replace("2025-01-01T00:03:00 ", "2025-01-01T00:03:00 0"), "ascii")
         run = self.run_workflow()
@@ -79,6 +95,18 @@ class Workflow(FolderCase):
         self.assertEqual(self.made(run), ["check", "join", "screen", "show", "survey"])
         self.assertEqual((self.plan().parts[0].name == first.name, self.plan().parts[1].name == second.name), (False, True))
         self.assertEqual(sorted(path.name for path in (results / PARTS).iterdir()), sorted(part.name for part in self.plan().parts))
+
+    def test_a_job_of_a_cluster_is_tried_again_by_another_job(self) -> None:
+        """It is the run that tries again, so that another node can be taken, and not the job by itself."""
+        self.configure(part_minutes=60, retries=1, page=False)
+        (self.folder / "faults" / "screen-2025-01-01T00:00:00.000000").write_text("conj: write fault", "ascii")
+        submit = self.folder / "submit"
+        submit.write_text(SUBMIT, "ascii")
+        submit.chmod(0o755)
+        run = self.run_workflow("--cluster", str(submit), "--jobs", "1", "--latency-wait", "5")
+        self.assertEqual(run.returncode, 0, run.stderr)
+        self.assertIn("Error in rule screen", run.stderr)
+        self.assertEqual((self.folder / "submitted").read_text("ascii").split(), ["survey", "screen", "screen", "check", "join"])
 
 
 if __name__ == "__main__":

@@ -69,7 +69,8 @@ def run_part(words: argparse.Namespace) -> None:
     part = plan.part(words.part)
     try:
         if words.step == "screen":
-            screen(plan, stamps, part, words.threads)
+            if not screen(plan, stamps, part, words.threads):
+                tell(f"the result of another attempt stands, and stays: {part.name}")
         else:
             check(plan, stamps, part)
     except RunFault as fault:

@@ -6,7 +6,7 @@ from __future__ import annotations
 import os
 import re
 import shutil
-from collections.abc import Mapping
+from collections.abc import Mapping, Sequence
 from dataclasses import dataclass
 from pathlib import Path
 
@@ -64,12 +64,14 @@ def check_stamps(plan: Plan, stamps: Mapping[str, Stamp], when: str) -> None:
     check_same(stamps, stamps_of(Path(settings.folder), settings.suffix, settings.sizes), when)
 
 
-def screen(plan: Plan, stamps: Mapping[str, Stamp], part: Part, threads: int) -> None:
-    """Screens a part, and lets the result take its place when it is whole and the ephemerides stayed as they are."""
+def screen(plan: Plan, stamps: Mapping[str, Stamp], part: Part, threads: int) -> bool:
+    """Screens a part, and lets the result take its place when it is whole and the ephemerides stayed as they are. Whether it did: one that
+    another attempt placed meanwhile stays, since it may be checked already."""
     settings, folder = plan.settings, folder_of(plan.results, part.name)
     check_stamps(plan, stamps, "since the survey")
     folder.mkdir(parents=True, exist_ok=True)
     clear_attempts(folder)
+    before = placed_at(folder / RESULT)
     attempt = folder / f"attempt-{node_name()}-{os.getpid()}"
     out, errors = folder / f"{attempt.name}.out", folder / f"{attempt.name}.err"
     words = [settings.program, "screen", settings.folder, *settings.screen_words(), *window_words(part), f"--workers={threads}", f"--out={attempt}"]
@@ -82,7 +84,7 @@ def screen(plan: Plan, stamps: Mapping[str, Stamp], part: Part, threads: int) ->
         errors.rename(attempt / SCREEN_ERRORS)
         sums = {path.name: checksum_of(path) for path in sorted(attempt.iterdir())}
         write_synced(attempt / SCREENED, record_text(node_name(), sums))
-        take_place(attempt, folder / RESULT)
+        return take_place(attempt, folder / RESULT, before)
     except OSError as error:
         raise RunFault(f"{error.filename or attempt}: {error.strerror}") from None
     finally:
@@ -109,11 +111,29 @@ def write_synced(path: Path, text: str) -> None:
         os.fsync(file.fileno())
 
 
-def take_place(attempt: Path, result: Path) -> None:
-    """Gives a whole result its name. An empty directory may stand there; what else stands there is taken away."""
+def placed_at(result: Path) -> tuple[int, int] | None:
+    """Which record a result has, by its number and time; nothing where it has none."""
+    try:
+        found = (result / SCREENED).stat()
+    except OSError:
+        return None
+    return found.st_ino, found.st_mtime_ns
+
+
+def take_place(attempt: Path, result: Path, before: tuple[int, int] | None) -> bool:
+    """Gives a whole result its name, unless another took it that has not the record `before`; whether it did. An empty directory may stand
+    there; what else stands there is taken away."""
+    if placed_at(result) not in (None, before):
+        return False
     if result.exists() and any(result.iterdir()):
         shutil.rmtree(result)
-    os.rename(attempt, result)
+    try:
+        os.rename(attempt, result)
+    except OSError:
+        if placed_at(result) is None:
+            raise
+        return False
+    return True
 
 
 def put_aside(folder: Path) -> None:
@@ -123,8 +143,26 @@ def put_aside(folder: Path) -> None:
     os.rename(folder / RESULT, refused)
 
 
-def check_sums(folder: Path, record: Record) -> None:
-    """RunFault where a file of a result is not what was screened; the result is then put aside."""
+def put_aside_unrecorded(results: Path, parts: Sequence[Part]) -> None:
+    """Puts aside the results of parts that stand without their record, as where an attempt that was lost began late."""
+    for part in parts:
+        folder = folder_of(results, part.name)
+        if (folder / RESULT).exists() and any((folder / RESULT).iterdir()):
+            try:
+                read_record(folder / RESULT)
+            except RunFault:
+                put_aside(folder)
+
+
+def checked_record(folder: Path) -> Record:
+    """The record of a result whose files are what was screened; else RunFault, and the result is put aside."""
+    try:
+        record = read_record(folder / RESULT)
+    except RunFault as fault:
+        if not (folder / RESULT).exists():
+            raise
+        put_aside(folder)
+        raise RunFault(f"{fault}; it is put aside as {folder / REFUSED}, and the next run screens the part anew") from None
     for name, checksum in record.sums.items():
         try:
             same = checksum_of(folder / RESULT / name) == checksum
@@ -133,6 +171,7 @@ def check_sums(folder: Path, record: Record) -> None:
         if not same:
             put_aside(folder)
             raise RunFault(f"{name} is not what was screened; it is put aside as {folder / REFUSED}, and the next run screens the part anew")
+    return record
 
 
 def check(plan: Plan, stamps: Mapping[str, Stamp], part: Part) -> None:
@@ -142,8 +181,7 @@ def check(plan: Plan, stamps: Mapping[str, Stamp], part: Part) -> None:
     certificate = result / CERTIFICATE
     check_stamps(plan, stamps, "since the survey")
     try:
-        record = read_record(result)
-        check_sums(folder, record)
+        record = checked_record(folder)
         before = checksum_of(certificate)
         said, errors = folder / CHECK_OUT, folder / CHECK_ERRORS
         beside = [f"--cert-dir={result}", f"--report={REPORT}"]
@@ -174,8 +212,7 @@ def confirm(plan: Plan, stamps: Mapping[str, Stamp]) -> None:
     for part in plan.parts:
         folder = folder_of(plan.results, part.name)
         try:
-            record = read_record(folder / RESULT)
-            check_sums(folder, record)
+            record = checked_record(folder)
             if (folder / RESULT / CHECK_SUM).read_text("ascii") != f"{record.sums[CERTIFICATE]}  {CERTIFICATE}\n":
                 raise RunFault(f"{CHECK_SUM} is of another certificate")
         except (OSError, KeyError):

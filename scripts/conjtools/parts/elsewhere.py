@@ -8,7 +8,7 @@ from pathlib import Path
 from conjtools.faults import RunFault
 from conjtools.parts.doing import read_record
 
-UP = ("sinfo", "--noheader", "--Node", "--states=idle,mixed,allocated", "--format=%N")
+UP = ("sinfo", "--noheader", "--Node", "--responding", "--states=idle,mixed,allocated", "--format=%N")
 
 
 def nodes_up() -> set[str]:

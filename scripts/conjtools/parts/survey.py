@@ -14,6 +14,7 @@ from conjtools.epochs import epoch_text
 from conjtools.faults import RunFault
 from conjtools.oem import prepared_within
 from conjtools.output import write_all
+from conjtools.parts.doing import put_aside_unrecorded
 from conjtools.parts.plan import KEY_DIGITS, PLAN, STAMPS, Part, plan_text, stamps_text
 from conjtools.parts.program import program_checksum, run_program, told_by
 from conjtools.parts.settings import Settings
@@ -44,6 +45,7 @@ def survey(settings: Settings, told: Mapping[str, object], threads: int) -> None
     digits = max(4, len(str(len(windows))))
     parts = tuple(Part(f"{place:0{digits}}-{key}", window) for place, (key, window) in enumerate(zip(keys, windows), 1))
     whole = digest_of(*(part.name.encode() for part in parts), prepared.encode()).hex()[:KEY_DIGITS]
+    put_aside_unrecorded(results, parts)
     write_all({results / STAMPS: stamps_text(stamps), results / PLAN: plan_text(told, parts, whole)})
 
 

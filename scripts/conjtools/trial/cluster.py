@@ -6,6 +6,7 @@ import os
 import pwd
 import secrets
 import shutil
+import signal
 import socket
 import subprocess
 from collections.abc import Sequence
@@ -13,13 +14,16 @@ from dataclasses import dataclass
 from pathlib import Path
 
 from conjtools.faults import RunFault
-from conjtools.trial.daemons import WORD, end_all, start, wait_until
+from conjtools.trial.daemons import PID_SUFFIX, WORD, end, end_all, send, start, wait_until
 
 PROGRAMS = ("munged", "slurmctld", "slurmd", "sbatch", "sinfo", "scontrol", "snakemake")
 KEY_BYTES = 1024
-READY_SECONDS = 30.0
-# A node that does not answer for so long is taken for lost.
+READY_SECONDS = 120.0
+# A node that does not answer for so long is taken for lost; the cluster is asked whether it is for so long.
 SLURMD_TIMEOUT = 10
+LOST_SECONDS = 300.0
+# MB that each node says it has.
+NODE_MEMORY = 100_000
 SYSTEM_PATHS = ("/usr/sbin", "/sbin")
 
 
@@ -69,7 +73,7 @@ def configuration(folder: Path, nodes: Sequence[str], processors: int) -> str:
         "MinJobAge=900", "KillWait=5",
     ]  # fmt: skip
     for node, port in zip(nodes, ports):
-        lines.append(f"NodeName={node} NodeHostname={host} NodeAddr=127.0.0.1 Port={port} CPUs={processors} RealMemory=100000 State=UNKNOWN")
+        lines.append(f"NodeName={node} NodeHostname={host} NodeAddr=127.0.0.1 Port={port} CPUs={processors} RealMemory={NODE_MEMORY} State=UNKNOWN")
     lines.append(f"PartitionName=all Nodes={','.join(nodes)} Default=YES MaxTime=INFINITE State=UP")
     return "\n".join(lines) + "\n"
 
@@ -83,7 +87,9 @@ def bring_up(folder: Path, count: int, processors: int, token: str) -> Cluster:
     key.write_bytes(secrets.token_bytes(KEY_BYTES))
     key.chmod(0o400)
     (folder / "slurm.conf").write_text(configuration(folder, nodes, processors), "ascii")
-    environment = {**with_system_paths(), "SLURM_CONF": str(folder / "slurm.conf"), WORD: token}
+    # Snakemake's own way wants USER.
+    user = pwd.getpwuid(os.getuid()).pw_name
+    environment = {**with_system_paths(), "SLURM_CONF": str(folder / "slurm.conf"), "USER": user, WORD: token}
     munged = [
         "munged", "--foreground", "--force", f"--socket={folder}/munge.socket", f"--key-file={key}", f"--pid-file={folder}/munged.number",
         f"--log-file={folder}/munged.told", f"--seed-file={folder}/munge.seed",
@@ -99,9 +105,35 @@ def bring_up(folder: Path, count: int, processors: int, token: str) -> Cluster:
     return cluster
 
 
+def daemon_of(node: str) -> str:
+    """The name of the daemon of a node."""
+    return f"slurmd-{node}"
+
+
 def start_node(cluster: Cluster, node: str) -> None:
     """Starts the daemon of a node."""
-    start(f"slurmd-{node}", ["slurmd", "-D", "-N", node, "-f", str(cluster.folder / "slurm.conf")], cluster.folder, cluster.environment)
+    start(daemon_of(node), ["slurmd", "-D", "-N", node, "-f", str(cluster.folder / "slurm.conf")], cluster.folder, cluster.environment)
+
+
+def silence(cluster: Cluster, node: str, how: signal.Signals) -> None:
+    """Lets a node answer no more: its daemon is killed (SIGKILL), or hangs (SIGSTOP). What runs on the node runs on."""
+    send(cluster.folder / f"{daemon_of(node)}{PID_SUFFIX}", how)
+
+
+def need_lost(cluster: Cluster, node: str) -> None:
+    """Waits until the cluster takes a node for lost."""
+    if not wait_until(lambda: asked(cluster, "sinfo", "--noheader", "--Node", f"--nodes={node}", "--format=%t").startswith("down"), LOST_SECONDS):
+        raise RunFault(f"{node} does not answer, and the cluster does not take it for lost: {cluster.folder}/slurmctld.told")
+
+
+def wake(cluster: Cluster, node: str, how: signal.Signals) -> None:
+    """Lets a node answer again that was silenced so, and waits until it is up and has nothing to do."""
+    if how == signal.SIGSTOP:
+        silence(cluster, node, signal.SIGCONT)
+    else:
+        end(cluster.folder / f"{daemon_of(node)}{PID_SUFFIX}")
+        start_node(cluster, node)
+    wait_for_nodes(cluster, (node,))
 
 
 def asked(cluster: Cluster, *words: str) -> str:

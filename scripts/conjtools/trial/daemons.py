@@ -9,7 +9,10 @@ import signal
 import subprocess
 import time
 from collections.abc import Callable, Mapping, Sequence
+from dataclasses import dataclass
 from pathlib import Path
+
+from conjtools.faults import RunFault
 
 PID_SUFFIX = ".pid"
 # All that a trial starts has this word of the environment, with the trial's own token behind it, and so has what is started from there.
@@ -19,16 +22,47 @@ TOKEN_FILE = "token"
 PATIENCE_SECONDS = 10.0
 # What this process started itself, by numbers.
 STARTED: dict[int, subprocess.Popen[bytes]] = {}
-START_FIELD = 19  # of /proc/PID/stat behind the name in parentheses, counted from 0
+PARENT_FIELD, START_FIELD = 1, 19  # of /proc/PID/stat behind the name in parentheses, counted from 0
+
+
+@dataclass(frozen=True)
+class Process:
+    """A process: its number and the time at which it began, as the system counts it."""
+
+    pid: int
+    begun: str
+
+    def runs(self) -> bool:
+        """Whether it still runs."""
+        return begun_at(self.pid) == self.begun
+
+
+def stat_of(pid: int) -> tuple[str, list[str]]:
+    """The name of a process and the fields behind it; OSError where there is none."""
+    front, _, behind = Path(f"/proc/{pid}/stat").read_text("ascii", "replace").rpartition(")")
+    return front.partition("(")[2], behind.split()
 
 
 def begun_at(pid: int) -> str | None:
     """When a process began, as the system counts it, or nothing where there is none that still runs."""
     try:
-        fields = Path(f"/proc/{pid}/stat").read_text("ascii", "replace").rpartition(")")[2].split()
+        fields = stat_of(pid)[1]
     except OSError:
         return None
     return None if fields[0] in "ZX" else fields[START_FIELD]
+
+
+def up_to(pid: int, name: str) -> list[Process]:
+    """A process and those from which it descends, up to the one of a name, which is not among them, or to the first of the system."""
+    found: list[Process] = []
+    with contextlib.suppress(OSError):
+        while pid > 1:
+            told, fields = stat_of(pid)
+            if told == name:
+                break
+            found.append(Process(pid, fields[START_FIELD]))
+            pid = int(fields[PARENT_FIELD])
+    return found
 
 
 def token_of(folder: Path) -> str:
@@ -55,6 +89,14 @@ def start(name: str, words: Sequence[str], folder: Path, environment: Mapping[st
     STARTED[process.pid] = process
     (folder / f"{name}{PID_SUFFIX}").write_text(f"{process.pid} {begun_at(process.pid)}\n", "ascii")
     return process.pid
+
+
+def send(path: Path, how: signal.Signals) -> None:
+    """Sends a signal to the process of a file NAME.pid; RunFault where it does not run."""
+    number, begun = path.read_text("ascii").split()
+    if not Process(int(number), begun).runs():
+        raise RunFault(f"{path}: it does not run any more")
+    os.kill(int(number), how)
 
 
 def end(path: Path) -> None:

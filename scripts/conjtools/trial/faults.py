@@ -3,25 +3,30 @@
 from __future__ import annotations
 
 import os
+import re
 import shutil
 import signal
 import subprocess
 import time
-from collections.abc import Callable, Iterable, Iterator
+from collections.abc import Callable, Iterable, Iterator, Sequence
 from contextlib import contextmanager
 from dataclasses import dataclass
 from pathlib import Path
 
 from conjtools.epochs import epoch_text
 from conjtools.faults import RunFault
-from conjtools.parts.plan import CHECKED, PARTS, PLAN, RESULT, WHOLE, Part
-from conjtools.trial.cluster import Cluster, set_state, wait_for_nodes
-from conjtools.trial.daemons import wait_until
-from conjtools.trial.runs import TOP, Run, Workflow, ended, need_equal, need_success
+from conjtools.parts.plan import CHECKED, PARTS, PLAN, RESULT, SCREENED, WHOLE, Part
+from conjtools.parts.program import checksum_of
+from conjtools.trial.cluster import Cluster, need_lost, set_state, silence, wait_for_nodes, wake
+from conjtools.trial.daemons import Process, up_to, wait_until
+from conjtools.trial.runs import TOP, Run, Workflow, ended, need_equal, need_success, nodes_of
 
 HOLD_SECONDS = 900.0
-SMALL_DISK = "64k"
+# A disk has whole pages.
+PAGE = 4096
 VICTIM, OTHER = 1, 2
+# What runs a job of Slurm, above all of its processes.
+JOB_KEEPER = "slurmstepd"
 
 # Stands for the program: it notes each call, and waits where it is asked to. FOLDER and PROGRAM are put in.
 HELD_PROGRAM = """#!/bin/sh
@@ -80,9 +85,13 @@ class Trial:
             shutil.rmtree(self.flow.results / PARTS / self.part(place).name, ignore_errors=True)
         shutil.rmtree(self.flow.results / WHOLE, ignore_errors=True)
 
+    def has(self, record: str, place: int) -> bool:
+        """Whether a part has a record of the result."""
+        return (self.flow.results / PARTS / self.part(place).name / RESULT / record).exists()
+
     def is_checked(self, place: int) -> bool:
         """Whether a part is screened and checked."""
-        return (self.flow.results / PARTS / self.part(place).name / RESULT / CHECKED).exists()
+        return self.has(CHECKED, place)
 
     def by_hand(self, step: str, place: int) -> None:
         """Does a step of a part outside of the workflow."""
@@ -103,6 +112,21 @@ class Trial:
         path.unlink(missing_ok=True)
         wanted = {self.call(command, place) for command in ("screen", "check") for place in range(len(self.flow.plan().parts))}
         return sorted(line for line in lines if line in wanted)
+
+    def size(self, place: int) -> int:
+        """How many bytes the files of a part's result have."""
+        return sum(path.stat().st_size for path in (self.flow.results / PARTS / self.part(place).name / RESULT).iterdir())
+
+    def owed(self) -> list[str]:
+        """The runs of the program for parts that the next run has to make."""
+        places = range(len(self.flow.plan().parts))
+        screens = [self.call("screen", place) for place in places if not self.has(SCREENED, place)]
+        return screens + [self.call("check", place) for place in places if not self.has(SCREENED, place) or not self.is_checked(place)]
+
+    def standing(self) -> dict[str, str]:
+        """The checksums of all that stands: of results of parts, and joined."""
+        folders = [*self.flow.results.glob(f"{PARTS}/*/{RESULT}"), self.flow.joined()]
+        return {str(path.relative_to(self.flow.results)): checksum_of(path) for folder in folders for path in sorted(folder.rglob("*")) if path.is_file()}
 
     def hold(self, command: str, place: int) -> Callable[[], Held]:
         """Lets the next run of the program for a part wait; what is given waits for it in turn."""
@@ -130,6 +154,16 @@ class Trial:
         if not self.is_checked(OTHER):
             raise RunFault("the other part was not made")
 
+    def need_lost(self, run: Run, place: int) -> None:
+        """RunFault unless a run told that the job which screened a part was lost."""
+        if not re.search(rf"Error in rule screen:\n(?: .*\n)*? .*{self.part(place).name}/", run.said):
+            raise RunFault(f"not told as lost: {self.part(place).name}\n{run.said[-3000:]}")
+
+    def need_elsewhere(self, place: int, node: str) -> None:
+        """RunFault where the node that was lost screened or checked a part after all."""
+        if node in nodes_of(self.flow)[place]:
+            raise RunFault(f"{self.part(place).name} is of {node}, which was lost")
+
     def need_mended(self, wanted: Iterable[str]) -> float:
         """RunFault unless the next run ends well, with the right results, by just these runs of the program for parts."""
         self.calls()
@@ -140,6 +174,15 @@ class Trial:
         if made != right:
             raise RunFault(f"the next run made {made}, and {right} is wanted")
         return run.seconds
+
+
+@dataclass(frozen=True)
+class Fault:
+    """What is made to fail: its name, what it is in words, and what makes it and says how it went."""
+
+    name: str
+    what: str
+    make: Callable[[Trial], str]
 
 
 def both(trial: Trial) -> list[str]:
@@ -191,11 +234,68 @@ def node_down(trial: Trial) -> str:
     return f"{told(seconds)}, on the nodes that are left"
 
 
+def node_silent(trial: Trial, how: signal.Signals, *more: str) -> tuple[Held, list[Process], Run]:
+    """A run of the workflow, with more words, in which a node stops answering while it screens a part: what is held there, the processes of
+    the job, which run on, and the run."""
+    trial.forget((VICTIM, OTHER))
+    held = trial.hold("screen", VICTIM)
+    trial.calls()
+    begun, process = time.monotonic(), trial.flow.start(*more)
+    program = held()
+    job = up_to(program.pid, JOB_KEEPER)
+    silence(trial.nodes(), program.node, how)
+    run = ended(process, begun)
+    need_lost(trial.nodes(), program.node)
+    trial.need_lost(run, VICTIM)
+    return program, job, run
+
+
+def goes_on(trial: Trial, program: Held, job: Sequence[Process], well: bool) -> None:
+    """Lets the attempt that was lost go on to its end, well or by a fault, on its node, which still does not answer; nothing that stands may
+    change by it."""
+    before = trial.standing()
+    if not well:
+        os.kill(program.pid, signal.SIGKILL)
+    program.release()
+    if not wait_until(lambda: not any(one.runs() for one in job), HOLD_SECONDS):
+        raise RunFault("the attempt that was lost does not come to its end")
+    after = trial.standing()
+    if after != before:
+        names = sorted(name for name in before.keys() | after.keys() if before.get(name) != after.get(name))
+        raise RunFault(f"the attempt that was lost changed what stands: {', '.join(names)}")
+
+
+def node_killed(trial: Trial) -> str:
+    """The daemon of a node is killed while the node screens a part, and nothing is tried again within the run."""
+    program, job, run = node_silent(trial, signal.SIGKILL)
+    if run.status == 0 or trial.flow.joined().exists():
+        raise RunFault("the run did not fail, or something was joined")
+    seconds = trial.need_mended(trial.owed())
+    trial.need_elsewhere(VICTIM, program.node)
+    goes_on(trial, program, job, True)
+    wake(trial.nodes(), program.node, signal.SIGKILL)
+    return f"{told(seconds)}, on another node, while the lost attempt still ran; it came to its end and changed nothing"
+
+
+def node_hangs(trial: Trial) -> str:
+    """The daemon of a node hangs while the node screens a part, which is tried again within the run."""
+    program, job, run = node_silent(trial, signal.SIGSTOP, "--config", "retries=1")
+    need_success(run, "the run that tries again")
+    need_equal(trial.flow.joined(), trial.right)
+    trial.need_elsewhere(VICTIM, program.node)
+    if trial.calls().count(trial.call("screen", VICTIM)) != 2:
+        raise RunFault("the part was not screened twice")
+    goes_on(trial, program, job, False)
+    trial.need_mended([])
+    wake(trial.nodes(), program.node, signal.SIGSTOP)
+    return f"told by its part, tried again on another node within the run, in {run.seconds:.0f} s; the lost attempt failed late and changed nothing"
+
+
 @contextmanager
-def small_disk(folder: Path) -> Iterator[None]:
-    """A file system of its own with little room at a folder."""
+def small_disk(folder: Path, size: int) -> Iterator[None]:
+    """A file system of its own with so many bytes of room at a folder."""
     folder.mkdir(parents=True, exist_ok=True)
-    run = subprocess.run(["mount", "-t", "tmpfs", "-o", f"size={SMALL_DISK}", "trial", str(folder)], capture_output=True, text=True)
+    run = subprocess.run(["mount", "-t", "tmpfs", "-o", f"size={size}", "trial", str(folder)], capture_output=True, text=True)
     if run.returncode:
         raise RunFault(f"a small disk cannot be mounted, which root alone may: {run.stderr.strip()}")
     try:
@@ -205,9 +305,10 @@ def small_disk(folder: Path) -> Iterator[None]:
 
 
 def disk_full(trial: Trial) -> str:
-    """The disk of one part is full."""
+    """The disk of one part has room for half of its result."""
+    size = max(trial.size(VICTIM) // 2, PAGE)
     trial.forget((VICTIM, OTHER))
-    with small_disk(trial.flow.results / PARTS / trial.part(VICTIM).name):
+    with small_disk(trial.flow.results / PARTS / trial.part(VICTIM).name, size):
         run = trial.flow.run()
         trial.need_told(run, VICTIM, "ended with status 5", "No space left on device")
     return told(trial.need_mended(both(trial)))
@@ -239,7 +340,8 @@ def ephemerides_changed(trial: Trial) -> str:
     begun, process = time.monotonic(), trial.flow.start()
     program = held()
     wait_until(lambda: trial.is_checked(OTHER), HOLD_SECONDS)
-    path = min(Path(trial.flow.plan().settings.folder).glob("*.oem"))
+    settings = trial.flow.plan().settings
+    path = min(path for path in Path(settings.folder).iterdir() if path.name.endswith(settings.suffix))
     path.write_bytes(path.read_bytes())
     program.release()
     trial.need_told(ended(process, begun), VICTIM, f"ephemerides changed while the part was checked: {path.name}")
@@ -259,16 +361,18 @@ def told(seconds: float) -> str:
 
 
 # What becomes of files does not depend on how parts are run: this is tried on the processors of this machine, and the rest through Slurm.
-FAULTS: tuple[tuple[str, Callable[[Trial], str]], ...] = (
-    ("a part is killed in the middle", part_killed),
-    ("the disk of a part is full", disk_full),
-    ("a certificate is damaged between screening and checking", certificate_damaged),
-    ("a certificate is damaged between checking and joining", certificate_damaged_later),
-    ("an ephemeris is written while a part is checked", ephemerides_changed),
+FAULTS = (
+    Fault("killed", "a part is killed in the middle", part_killed),
+    Fault("disk-full", "the disk of a part is full", disk_full),
+    Fault("damaged", "a certificate is damaged between screening and checking", certificate_damaged),
+    Fault("damaged-later", "a certificate is damaged between checking and joining", certificate_damaged_later),
+    Fault("changed", "an ephemeris is written while a part is checked", ephemerides_changed),
 )
-NODE_FAULTS: tuple[tuple[str, Callable[[Trial], str]], ...] = (
-    ("a part is killed in the middle, through Slurm", part_killed),
-    ("a node is taken away", node_down),
+NODE_FAULTS = (
+    Fault("killed-job", "a part is killed in the middle, through Slurm", part_killed),
+    Fault("node-down", "a node is taken away", node_down),
+    Fault("node-killed", "a node stops answering, killed", node_killed),
+    Fault("node-hangs", "a node stops answering, and hangs", node_hangs),
 )
 
 

@@ -87,6 +87,12 @@ def slurm_words() -> tuple[str, ...]:
     return "--profile", str(PROFILES / "slurm"), "--latency-wait", "20"
 
 
+def own_slurm_words() -> tuple[str, ...]:
+    """The words for a Slurm cluster by Snakemake's own way, which looks after jobs each second here."""
+    going = ("--keep-going", "--rerun-incomplete", "--show-failed-logs")
+    return "--slurm", "--jobs", "200", *going, "--latency-wait", "20", "--max-status-checks-per-second", "1"
+
+
 def need_success(run: Run, what: str) -> None:
     """RunFault, with the last lines of what it said, where a run failed."""
     if run.status:
