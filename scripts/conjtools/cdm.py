@@ -3,19 +3,22 @@
 from __future__ import annotations
 
 import re
+from collections.abc import Sequence
 from dataclasses import dataclass
 
 from conjtools.epochs import EpochFault, read_written_epoch
 from conjtools.faults import InputFault
 from conjtools.report import Report, ReportObject
 
-LINES = 82
 HEADING = (
     "CCSDS_CDM_VERS", "CREATION_DATE", "ORIGINATOR", "MESSAGE_ID", "TCA", "MISS_DISTANCE", "START_SCREEN_PERIOD", "STOP_SCREEN_PERIOD",
 )  # fmt: skip
+RELATIVE = tuple(f"RELATIVE_{what}_{axis}" for what in ("POSITION", "VELOCITY") for axis in "RTN")
+RELATIVE_AT = HEADING.index("MISS_DISTANCE") + 1
 SIDE_LINES = 37
 SIDE = ("OBJECT", "OBJECT_DESIGNATOR", "CATALOG_NAME", "OBJECT_NAME", "INTERNATIONAL_DESIGNATOR", "EPHEMERIS_NAME")
 METRES = re.compile(r"(0|[1-9]\d*)\.(\d{9}) \[m\]", re.ASCII)
+RELATIVE_VALUE = re.compile(r"-?(0|[1-9]\d*)\.\d{9} \[m(/s)?\]", re.ASCII)
 
 
 @dataclass(frozen=True)
@@ -60,15 +63,24 @@ def check_message(file: str, content: bytes, expected: Message) -> None:
         raise InputFault(file, 0, f"the message is not of encounter {expected.number} of the report")
 
 
+def heading_of(lines: Sequence[str]) -> tuple[str, ...]:
+    """The keys of the heading of a message, with those of the relative state where it tells that."""
+    if len(lines) > RELATIVE_AT and lines[RELATIVE_AT].startswith(f"{RELATIVE[0]} = "):
+        return (*HEADING[:RELATIVE_AT], *RELATIVE, *HEADING[RELATIVE_AT:])
+    return HEADING
+
+
 def read_message(file: str, content: bytes) -> Message:
     """What a message says; InputFault, by the name of the file, where it is none."""
     text = content.decode("ascii", "replace")
     lines = text.split("\n")
-    if len(lines) != LINES + 1 or lines[LINES]:
-        raise InputFault(file, min(len(lines), LINES), "the message is cut, or goes on behind its last line")
-    keys = (*HEADING, *SIDE)
+    heading = heading_of(lines)
+    count = len(heading) + 2 * SIDE_LINES
+    if len(lines) != count + 1 or lines[count]:
+        raise InputFault(file, min(len(lines), count), "the message is cut, or goes on behind its last line")
+    keys = (*heading, *SIDE)
     values = [value_of(file, place + 1, lines[place], key) for place, key in enumerate(keys)]
-    second_at = len(HEADING) + SIDE_LINES
+    second_at = len(heading) + SIDE_LINES
     second = [value_of(file, second_at + place + 1, lines[second_at + place], key) for place, key in enumerate(SIDE)]
     try:
         closest = read_written_epoch(values[4])
@@ -77,10 +89,13 @@ def read_message(file: str, content: bytes) -> Message:
     metres = METRES.fullmatch(values[5])
     if not metres:
         raise InputFault(file, 6, f"not a distance in metres: {values[5]}")
+    for place in range(RELATIVE_AT, RELATIVE_AT + len(heading) - len(HEADING)):
+        if not RELATIVE_VALUE.fullmatch(values[place]):
+            raise InputFault(file, place + 1, f"not in metres, or metres per second: {values[place]}")
     number = values[3].rpartition("_")[2]
     if not number.isdigit() or len(number) > 10:
         raise InputFault(file, 4, f"not the name of a message: {values[3]}")
-    return Message(int(number), closest, int(metres[1] + metres[2]), (side_of(values[len(HEADING) :]), side_of(second)))
+    return Message(int(number), closest, int(metres[1] + metres[2]), (side_of(values[len(heading) :]), side_of(second)))
 
 
 def value_of(file: str, number: int, line: str, key: str) -> str:

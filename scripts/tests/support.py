@@ -121,6 +121,14 @@ def message(number: int, closest: str, metres: str, first: tuple[str, str, str],
 
 SAT_A, SAT_B = ("2025-001A", "SAT A", "a.oem"), ("2025-002A", "SAT B", "b.oem")
 CROSSING_MESSAGE = message(1, "2025-01-01T00:00:30.000000", "1000.000000000", SAT_A, SAT_B)
+# What a message of the crossing tells behind its miss distance of the relative state.
+RELATIVE_STATE = """RELATIVE_POSITION_R = 1000.000000000 [m]
+RELATIVE_POSITION_T = 0.000000000 [m]
+RELATIVE_POSITION_N = 0.000000000 [m]
+RELATIVE_VELOCITY_R = 0.000000000 [m/s]
+RELATIVE_VELOCITY_T = -7500.000000000 [m/s]
+RELATIVE_VELOCITY_N = 7500.000000000 [m/s]
+"""
 USUAL_MESSAGE = message(
     1, "2025-02-14T12:05:12.500039", "1800.000355034", ("2099-031A", "LAND IMAGER 3", "imager.oem"), ("2099-052B", "RELAY 7", "relay.oem")
 )

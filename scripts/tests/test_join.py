@@ -16,7 +16,7 @@ from dataclasses import dataclass
 from pathlib import Path
 
 from tests.parts import OBJECTS, Told, at, certificate, checksum, report, summary, when, write_drifting, write_files, write_part
-from tests.support import ROOT, FolderCase, need_numpy, oem
+from tests.support import RELATIVE_STATE, ROOT, FolderCase, need_numpy, oem
 
 need_numpy()
 
@@ -128,6 +128,17 @@ class Whole(JoinCase):
         self.assertEqual(self.join("p1").returncode, 0)
         self.assertEqual(Path("whole/screen.report").read_bytes(), Path("p1/screen.report").read_bytes())
         self.assertEqual(Path("whole/summary.txt").read_bytes(), Path("p1/screen.out").read_bytes())
+
+    def test_the_relative_state_of_a_message(self) -> None:
+        write_part(Path("p1"), *FIRST, FIRST_TOLD)
+        self.change("p1/000001.cdm", "START_SCREEN_PERIOD", f"{RELATIVE_STATE}START_SCREEN_PERIOD")
+        self.assertEqual(self.join("p1", more=("--created", CREATED)).returncode, 0)
+        wanted = Path("p1/000001.cdm").read_text("ascii").replace("CREATION_DATE = 2025-01-02T00:00:00.000000", f"CREATION_DATE = {CREATED}")
+        self.assertEqual(Path("whole/000001.cdm").read_text("ascii"), wanted)
+        self.assertEqual(wanted.count("\n"), 88)
+        shutil.rmtree("whole")
+        self.change("p1/000001.cdm", f"START_SCREEN_PERIOD = {when(0)}", f"START_SCREEN_PERIOD = {when(1)}")
+        self.refused("p1", line=f"p1/000001.cdm: line 13: START_SCREEN_PERIOD is {when(1)}, and {when(0)} is wanted")
 
     def test_one_creation_date_that_is_the_time_of_the_run(self) -> None:
         self.write_three()

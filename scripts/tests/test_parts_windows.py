@@ -70,7 +70,7 @@ class Configuration(unittest.TestCase):
     def test_options_are_those_of_the_documents(self) -> None:
         """Each option of docs/FORMATS.md that screen has and a configuration does not set otherwise; those to come are known too."""
         self.assertEqual(
-            set(OPTIONS), {"threshold", "sizes", "suffix", "as-hermite3", "originator", "cells", "cert-version"} | {"large", "brief"}
+            set(OPTIONS), {"threshold", "sizes", "suffix", "as-hermite3", "originator", "cells", "cert-version", "rtn"} | {"large", "brief"}
         )
 
     def test_epochs_without_quotes(self) -> None:

@@ -1,12 +1,12 @@
 -- Numbers are read from what is written of them, and from nothing else.
 use Rattle.std.proofs.Common.{◌≡◌, ℕ, suc, ◌-◌, ◌/◌, ◌%◌, ◌^◌, ◌<◌, ◌≤◌, Bool, true, false, List, [], ◌∷◌, ◌++◌, length, ap, sym, ◌∙◌, refl, subst, inl, inr, arith, append_assoc, append-nil, None, Some, Result, Err, Ok, ℤ, pos, negsuc, ◌+ℤ◌, ◌-ℤ◌, decimal}
-use Rattle.std.specs.Prelude.{◌&&◌, ◌||◌, ◌==◌, not, nat_le, nat_lt, int_lt, if◌then◌else◌, codes, option_and_then, unsigned_abs}
+use Rattle.std.specs.Prelude.{◌&&◌, ◌||◌, ◌==◌, not, nat_le, nat_lt, int_le, int_lt, neg_ℤ, ◌≤ℤ◌, ◌<ℤ◌, if◌then◌else◌, codes, option_and_then, unsigned_abs}
 use Rattle.std.specs.Char.{is_ascii_digit}
 use Rattle.std.specs.List.{after_first, before_first, list_any}
 use Rattle.std.specs.Result.{result_ok}
 use Rattle.std.specs.Str.Parse.{digits_value, digits_value_after, starts_with_minus, without_leading_sign}
 use Rattle.std.proofs.Math.Nat.{div-le_self}
-use Rattle.std.proofs.lemmas.Bool.{and_parts, eqb-true, not-true}
+use Rattle.std.proofs.lemmas.Bool.{and_parts, eqb-true, lt-ltb, not-true}
 use Rattle.std.proofs.lemmas.Bool.Decides.{leb_tells, nat_tests}
 use Rattle.std.proofs.lemmas.Fmt.{decimal_digit}
 use Rattle.std.proofs.lemmas.Int.{ints}
@@ -26,7 +26,7 @@ use Rattle.cj_kvn.specs.declared.numbers.NumFault.{NumFault}
 use Rattle.cj_kvn.proofs.ListLemmas.{HeadFails}
 use Rattle.cj_base.specs.Bytes.{is_feed}
 use Rattle.cj_cdm.specs.Texts.{fixed_text, kilometres, last_digits, metres, number_text}
-use Rattle.cj_cdm.specs.Values.{behind_front, decimal_said, element_said, fixed_said, id_said, is_decimal, is_mark, is_miss, is_number, is_power, is_short, is_zero, kept, kilometres_said, miss_said, natural, number_said, scientific}
+use Rattle.cj_cdm.specs.Values.{axis_value_said, behind_front, decimal_said, element_said, fixed_said, id_said, is_axis_value, is_decimal, is_mark, is_miss, is_number, is_power, is_short, is_zero, kept, kilometres_said, miss_said, natural, number_said, scientific}
 use Rattle.cj_cdm.proofs.DigitLemmas.{last_are_digits, last_length, last_value}
 use Rattle.cj_cdm.proofs.LineLemmas.{IsSaid, and_then_is, cut_at, front_found, front_is}
 use Rattle.cj_cdm.proofs.ValueLemmas.{digit_apart, free_joined, kept_found, kept_is, none_among, none_joined, unit_law, written_again, written_only, digits_free}
@@ -102,6 +102,33 @@ metres_law = record {
 
 pub miss_law : IsSaid miss_said (λ n. metres (pos n) ++ codes " [" ++ codes "m" ++ codes "]") (λ n. is_miss n ≡ true)
 miss_law = unit_law (λ t. kept is_miss (option_and_then natural (fixed_said 9 t))) (λ n. metres (pos n)) (λ n. is_miss n ≡ true) (codes "m") refl metres_law
+
+-- ---- values along axes
+le_is : (x y : ℤ) → int_le x y ≡ true → x ≤ℤ y
+le_is x y h = grind (arith, ints)
+
+lt_is : (x y : ℤ) → int_lt x y ≡ true → x <ℤ y
+lt_is x y h = grind (arith, ints)
+
+axis_short : (z : ℤ) → is_axis_value z ≡ true → is_short z ≡ true
+axis_short z is =
+    let parts = and_parts (int_le (neg_ℤ (pos (2 ^ 63))) z) (int_lt z (pos (2 ^ 63))) is in
+    let low = le_is (neg_ℤ (pos (2 ^ 63))) z parts.0 in
+    let high = lt_is z (pos (2 ^ 63)) parts.1 in
+    let small : unsigned_abs z < 10 ^ 36 = omega (arith, ints, low, high) in
+    lt-ltb (unsigned_abs z) (10 ^ 36) small
+
+axis_metres_law : IsSaid (λ t. kept is_axis_value (fixed_said 9 t)) (λ z. metres z) (λ z. is_axis_value z ≡ true)
+axis_metres_law = record {
+  only = λ t z h.
+      let fit = kept_is is_axis_value (fixed_said 9 t) z h in
+      (((fixed_law 9).only t z fit.0).0, fit.1);
+  again = λ z fit. kept_found is_axis_value (fixed_said 9 (metres z)) z ((fixed_law 9).again z (axis_short z fit)) fit;
+  lone = λ z fit. (fixed_law 9).lone z (axis_short z fit);
+}
+
+pub axis_value_law : (unit : List ℕ) → list_any is_feed unit ≡ false → IsSaid (axis_value_said unit) (λ z. metres z ++ codes " [" ++ unit ++ codes "]") (λ z. is_axis_value z ≡ true)
+axis_value_law unit free = unit_law (λ t. kept is_axis_value (fixed_said 9 t)) (λ z. metres z) (λ z. is_axis_value z ≡ true) unit free axis_metres_law
 
 -- ---- the numbers of messages
 record IsFigures (text : List ℕ) (n : ℕ) : Type 0 where

@@ -9,15 +9,15 @@ use Rattle.cj_kvn.specs.Decimals.{decimal_text_of}
 use Rattle.cj_track.specs.Labels.{is_label}
 use Rattle.cj_track.specs.declared.frame.Frame.{Frame}
 use Rattle.cj_cdm.specs.declared.fault.CdmCause.TheVariants as causes
-use Rattle.cj_cdm.specs.declared.vector.Vector.{Vector}
+use Rattle.cj_rtn.specs.declared.vector.Vector.{Vector}
 use Rattle.cj_cdm.specs.Fits.{Fits, IsShort, IsSide, IsStamp}
 use Rattle.cj_cdm.specs.Messages.{PlainMessage, PlainSide, PlainStamp}
 use Rattle.cj_base.specs.Bytes.{is_feed}
 use Rattle.cj_kvn.specs.Faults.{◌>>=◌ as and_then}
-use Rattle.cj_cdm.specs.Reading.{Fault, Heading, Object, Rest, elements_said, ended, entry_said, fault_at, give, heading_said, is_none_left, line_said, message_said, object_said, place_said, rate_said, reading, side_said, stamp_said, vector_said, ◌>>=◌, source_said}
+use Rattle.cj_cdm.specs.Reading.{Fault, Front, Heading, Object, Period, Rest, elements_said, ended, entry_said, fault_at, front_said, give, heading_by, heading_said, is_none_left, line_said, message_said, object_said, period_said, place_said, rate_said, reading, side_said, stamp_said, vector_said, ◌>>=◌, source_said}
 use Rattle.cj_kvn.specs.Entries.{entry, line}
 use Rattle.cj_track.specs.Frames.{frame_text}
-use Rattle.cj_cdm.specs.Texts.{covariance_text, element_text, elements, elements_text, heading_text, kilometres, metres, number_text, object_text, quantity, side_text, state_text, text_of}
+use Rattle.cj_cdm.specs.Texts.{covariance_text, element_text, elements, elements_text, front_text, heading_text, kilometres, metres, number_text, object_text, period_text, quantity, side_text, state_text, text_of}
 use Rattle.cj_kvn.specs.Originators.{is_originator}
 use Rattle.cj_cdm.specs.Values.{constant_said, designator_said, element_said, epoch_said, frame_said, id_said, is_decimal, is_international, is_miss, is_number, is_short, is_tick, kilometres_said, label_said, miss_said, originator_said}
 use Rattle.cj_cdm.proofs.ExactLemmas.{Anything, IsExact, behind, given, in_order, ok_is, refitted, retold, stepped}
@@ -26,7 +26,7 @@ use Rattle.cj_cdm.proofs.ValueLemmas.{constant_law, designator_law, epoch_law, f
 use Rattle.cj_cdm.proofs.FigureLemmas.{element_law, id_law, kilometres_law, miss_law}
 
 -- a key with its value
-entry_exact : {A : Type 0} (key : List ℕ) (said : List ℕ → Option A) (write : A → List ℕ) (Fit : A → Type 0) → list_any is_feed key ≡ false → IsSaid said write Fit
+pub entry_exact : {A : Type 0} (key : List ℕ) (said : List ℕ → Option A) (write : A → List ℕ) (Fit : A → Type 0) → list_any is_feed key ≡ false → IsSaid said write Fit
     → IsExact (entry_said key said) (λ x. entry key (write x)) Anything Fit
 entry_exact key said write Fit free law = line_exact (key ++ codes " = ") said write Fit (free_joined key (codes " = ") free refl) law
 
@@ -112,39 +112,79 @@ stamp_exact =
     from : (s : PlainStamp) → IsStamp s → StampFits s
     from s f = (f.made, (f.by, (f.numbered, tt)))
 
--- ---- the heading
-abbrev make_heading : PlainStamp → ℕ → ℕ → ℕ → ℕ → Heading
-make_heading stamp tca miss start stop = record { stamp = stamp; tca = tca; miss = miss; start = start; stop = stop }
+-- ---- the front
+abbrev make_front : PlainStamp → ℕ → ℕ → Front
+make_front stamp tca miss = record { stamp = stamp; tca = tca; miss = miss }
 
-abbrev pub heading_lines : Heading → List ℕ
-heading_lines h =
-    stamp_text h.stamp ++ (entry (codes "TCA") (epoch_of h.tca) ++ (quantity (codes "MISS_DISTANCE") (metres (pos h.miss)) (codes "m")
-    ++ (entry (codes "START_SCREEN_PERIOD") (epoch_of h.start) ++ (entry (codes "STOP_SCREEN_PERIOD") (epoch_of h.stop) ++ []))))
+abbrev pub front_parts : Front → List ℕ
+front_parts f = stamp_text f.stamp ++ (entry (codes "TCA") (epoch_of f.tca) ++ (quantity (codes "MISS_DISTANCE") (metres (pos f.miss)) (codes "m") ++ []))
 
-abbrev pub HeadingFits : Heading → Type 0
-HeadingFits h = IsStamp h.stamp × ((is_tick h.tca ≡ true) × ((is_miss h.miss ≡ true) × ((is_tick h.start ≡ true) × ((is_tick h.stop ≡ true) × Anything h))))
+abbrev pub FrontFits : Front → Type 0
+FrontFits f = IsStamp f.stamp × ((is_tick f.tca ≡ true) × ((is_miss f.miss ≡ true) × Anything f))
 
-abbrev IsHeading : PlainStamp → ℕ → ℕ → ℕ → ℕ → Heading → Type 0
-IsHeading s t m b e h = (h.stop ≡ e) × ((h.start ≡ b) × ((h.miss ≡ m) × ((h.tca ≡ t) × ((h.stamp ≡ s) × Anything h))))
+abbrev IsFront : PlainStamp → ℕ → ℕ → Front → Type 0
+IsFront s t m f = (f.miss ≡ m) × ((f.tca ≡ t) × ((f.stamp ≡ s) × Anything f))
 
-pub heading_exact : IsExact heading_said heading_lines Anything HeadingFits
-unfolding heading_said
-heading_exact =
-    in_order _ _ stamp_text _ (λ h. h.stamp) IsStamp Anything _ stamp_exact (λ s sf.
-    in_order _ _ _ _ (λ h. h.tca) _ (λ h. (h.stamp ≡ s) × Anything h) _ (epoch_exact (codes "TCA") refl) (λ t tf.
-    in_order _ _ (λ n. quantity (codes "MISS_DISTANCE") (metres (pos n)) (codes "m")) _ (λ h. h.miss) (λ n. is_miss n ≡ true) (λ h. (h.tca ≡ t) × ((h.stamp ≡ s) × Anything h)) _ miss_exact (λ m mf.
-    in_order _ _ _ _ (λ h. h.start) _ (λ h. (h.miss ≡ m) × ((h.tca ≡ t) × ((h.stamp ≡ s) × Anything h))) _ (epoch_exact (codes "START_SCREEN_PERIOD") refl) (λ b bf.
-    in_order _ _ _ _ (λ h. h.stop) _ (λ h. (h.start ≡ b) × ((h.miss ≡ m) × ((h.tca ≡ t) × ((h.stamp ≡ s) × Anything h)))) _ (epoch_exact (codes "STOP_SCREEN_PERIOD") refl) (λ e ef.
-    given (make_heading s t m b e) (IsHeading s t m b e) (refl, (refl, (refl, (refl, (refl, tt))))) (alone s t m b e))))))
+pub front_exact : IsExact front_said front_parts Anything FrontFits
+unfolding front_said
+front_exact =
+    in_order _ _ stamp_text _ (λ f. f.stamp) IsStamp Anything _ stamp_exact (λ s sf.
+    in_order _ _ _ _ (λ f. f.tca) _ (λ f. (f.stamp ≡ s) × Anything f) _ (epoch_exact (codes "TCA") refl) (λ t tf.
+    in_order _ _ (λ n. quantity (codes "MISS_DISTANCE") (metres (pos n)) (codes "m")) _ (λ f. f.miss) (λ n. is_miss n ≡ true) (λ f. (f.tca ≡ t) × ((f.stamp ≡ s) × Anything f)) _ miss_exact (λ m mf.
+    given (make_front s t m) (IsFront s t m) (refl, (refl, (refl, tt))) (alone s t m))))
   where
     miss_exact : IsExact (entry_said (codes "MISS_DISTANCE") miss_said) (λ n. quantity (codes "MISS_DISTANCE") (metres (pos n)) (codes "m")) Anything (λ n. is_miss n ≡ true)
     miss_exact = entry_exact (codes "MISS_DISTANCE") miss_said (λ n. metres (pos n) ++ codes " [" ++ codes "m" ++ codes "]") (λ n. is_miss n ≡ true) refl miss_law
 
-    alone : (s : PlainStamp) (t m b e : ℕ) (h : Heading) → IsHeading s t m b e h → make_heading s t m b e ≡ h
-    alone s t m b e h is =
-        ap (λ (k : PlainStamp). make_heading k t m b e) (sym is.1.1.1.1.0) ∙ ap (λ (k : ℕ). make_heading h.stamp k m b e) (sym is.1.1.1.0)
-        ∙ ap (λ (k : ℕ). make_heading h.stamp h.tca k b e) (sym is.1.1.0) ∙ ap (λ (k : ℕ). make_heading h.stamp h.tca h.miss k e) (sym is.1.0)
-        ∙ ap (λ (k : ℕ). make_heading h.stamp h.tca h.miss h.start k) (sym is.0)
+    alone : (s : PlainStamp) (t m : ℕ) (f : Front) → IsFront s t m f → make_front s t m ≡ f
+    alone s t m f is =
+        ap (λ (k : PlainStamp). make_front k t m) (sym is.1.1.0) ∙ ap (λ (k : ℕ). make_front f.stamp k m) (sym is.1.0) ∙ ap (λ (k : ℕ). make_front f.stamp f.tca k) (sym is.0)
+
+-- ---- the screened window
+abbrev make_period : ℕ → ℕ → Period
+make_period start stop = record { start = start; stop = stop }
+
+abbrev pub period_parts : Period → List ℕ
+period_parts p = entry (codes "START_SCREEN_PERIOD") (epoch_of p.start) ++ (entry (codes "STOP_SCREEN_PERIOD") (epoch_of p.stop) ++ [])
+
+abbrev pub PeriodFits : Period → Type 0
+PeriodFits p = (is_tick p.start ≡ true) × ((is_tick p.stop ≡ true) × Anything p)
+
+pub period_exact : IsExact period_said period_parts Anything PeriodFits
+unfolding period_said
+period_exact =
+    in_order _ _ _ _ (λ p. p.start) _ Anything _ (epoch_exact (codes "START_SCREEN_PERIOD") refl) (λ b bf.
+    in_order _ _ _ _ (λ p. p.stop) _ (λ p. (p.start ≡ b) × Anything p) _ (epoch_exact (codes "STOP_SCREEN_PERIOD") refl) (λ e ef.
+    given (make_period b e) (λ p. (p.stop ≡ e) × ((p.start ≡ b) × Anything p)) (refl, (refl, tt)) (alone b e)))
+  where
+    alone : (b e : ℕ) (p : Period) → (p.stop ≡ e) × ((p.start ≡ b) × Anything p) → make_period b e ≡ p
+    alone b e p is = ap (λ (k : ℕ). make_period k e) (sym is.1.0) ∙ ap (λ (k : ℕ). make_period p.start k) (sym is.0)
+
+-- ---- the heading
+abbrev front_of_heading : Heading → Front
+front_of_heading h = make_front h.stamp h.tca h.miss
+
+abbrev period_of_heading : Heading → Period
+period_of_heading h = make_period h.start h.stop
+
+abbrev heading_parts : Heading → List ℕ
+heading_parts h = front_parts (front_of_heading h) ++ (period_parts (period_of_heading h) ++ [])
+
+abbrev HeadingFits : Heading → Type 0
+HeadingFits h = FrontFits (front_of_heading h) × (PeriodFits (period_of_heading h) × Anything h)
+
+abbrev IsHeading : Front → Period → Heading → Type 0
+IsHeading f p h = (period_of_heading h ≡ p) × ((front_of_heading h ≡ f) × Anything h)
+
+heading_exact : IsExact heading_said heading_parts Anything HeadingFits
+unfolding heading_said
+heading_exact =
+    in_order _ _ front_parts _ front_of_heading FrontFits Anything _ front_exact (λ f ff.
+    in_order _ _ period_parts _ period_of_heading PeriodFits (λ h. (front_of_heading h ≡ f) × Anything h) _ period_exact (λ p pf.
+    given (heading_by f p) (IsHeading f p) (refl, (refl, tt)) (alone f p)))
+  where
+    alone : (f : Front) (p : Period) (h : Heading) → IsHeading f p h → heading_by f p ≡ h
+    alone f p h is = ap (λ (k : Front). heading_by k p) (sym is.1.0) ∙ ap (λ (k : Period). heading_by (front_of_heading h) k) (sym is.0)
 
 -- ---- what an object is
 abbrev make_object : List ℕ → List ℕ → List ℕ → List ℕ → Frame → Object
@@ -350,14 +390,20 @@ side_exact called free =
     from s f = ((f.designated, (f.named, (f.international, (f.from, (tt, tt))))), (f.placed, (f.moved, (f.at, ((f.whole, f.elements), tt)))))
 
 -- ---- the whole message
+abbrev pub front_of : PlainMessage → Front
+front_of m = make_front m.stamp m.tca m.miss
+
+abbrev pub period_of : PlainMessage → Period
+period_of m = make_period m.start m.stop
+
 abbrev heading_of : PlainMessage → Heading
-heading_of m = make_heading m.stamp m.tca m.miss m.start m.stop
+heading_of m = heading_by (front_of m) (period_of m)
 
 abbrev make_message : Heading → PlainSide → PlainSide → PlainMessage
 make_message h first second = record { stamp = h.stamp; tca = h.tca; miss = h.miss; start = h.start; stop = h.stop; object1 = first; object2 = second }
 
 abbrev message_lines : PlainMessage → List ℕ
-message_lines m = heading_lines (heading_of m) ++ (side_text (codes "OBJECT1") m.object1 ++ (side_text (codes "OBJECT2") m.object2 ++ []))
+message_lines m = heading_parts (heading_of m) ++ (side_text (codes "OBJECT1") m.object1 ++ (side_text (codes "OBJECT2") m.object2 ++ []))
 
 abbrev MessageFits : PlainMessage → Type 0
 MessageFits m = HeadingFits (heading_of m) × (IsSide m.object1 × (IsSide m.object2 × Anything m))
@@ -365,18 +411,39 @@ MessageFits m = HeadingFits (heading_of m) × (IsSide m.object1 × (IsSide m.obj
 abbrev IsMessageOf : Heading → PlainSide → PlainSide → PlainMessage → Type 0
 IsMessageOf h a b m = (m.object2 ≡ b) × ((m.object1 ≡ a) × ((heading_of m ≡ h) × Anything m))
 
-ten : (a b c d e f g h x y : List ℕ)
-    → ((a ++ (b ++ (c ++ (d ++ [])))) ++ (e ++ (f ++ (g ++ (h ++ []))))) ++ (x ++ (y ++ []))
-    ≡ (a ++ b ++ c ++ d ++ e ++ f ++ g ++ h) ++ x ++ y
-ten a b c d e f g h x y = simp (append_assoc, append-nil)
+six : (a b c d e f : List ℕ) → (a ++ (b ++ (c ++ (d ++ [])))) ++ (e ++ (f ++ [])) ≡ a ++ b ++ c ++ d ++ e ++ f
+six a b c d e f = simp (append_assoc, append-nil)
+
+pub front_told : (m : PlainMessage) → front_parts (front_of m) ≡ front_text m
+unfolding front_text
+front_told m =
+    six (entry (codes "CCSDS_CDM_VERS") (codes "1.0")) (entry (codes "CREATION_DATE") (epoch_of m.stamp.created)) (entry (codes "ORIGINATOR") m.stamp.originator) (id_text m.stamp)
+    (entry (codes "TCA") (epoch_of m.tca)) (quantity (codes "MISS_DISTANCE") (metres (pos m.miss)) (codes "m"))
+
+pub period_told : (m : PlainMessage) → period_parts (period_of m) ≡ period_text m
+unfolding period_text
+period_told m = ap (λ (t : List ℕ). entry (codes "START_SCREEN_PERIOD") (epoch_of m.start) ++ t) (append-nil (entry (codes "STOP_SCREEN_PERIOD") (epoch_of m.stop)))
+
+four : (f p x y : List ℕ) → (f ++ (p ++ [])) ++ (x ++ (y ++ [])) ≡ (f ++ p) ++ x ++ y
+four f p x y = simp (append_assoc, append-nil)
 
 message_told : (m : PlainMessage) → message_lines m ≡ text_of m
 unfolding text_of heading_text
 message_told m =
-    ten (entry (codes "CCSDS_CDM_VERS") (codes "1.0")) (entry (codes "CREATION_DATE") (epoch_of m.stamp.created)) (entry (codes "ORIGINATOR") m.stamp.originator) (id_text m.stamp)
-    (entry (codes "TCA") (epoch_of m.tca)) (quantity (codes "MISS_DISTANCE") (metres (pos m.miss)) (codes "m"))
-    (entry (codes "START_SCREEN_PERIOD") (epoch_of m.start)) (entry (codes "STOP_SCREEN_PERIOD") (epoch_of m.stop))
-    (side_text (codes "OBJECT1") m.object1) (side_text (codes "OBJECT2") m.object2)
+    let x = side_text (codes "OBJECT1") m.object1 in
+    let y = side_text (codes "OBJECT2") m.object2 in
+    four (front_parts (front_of m)) (period_parts (period_of m)) x y
+    ∙ ap (λ (t : List ℕ). (t ++ period_parts (period_of m)) ++ x ++ y) (front_told m)
+    ∙ ap (λ (t : List ℕ). (front_text m ++ t) ++ x ++ y) (period_told m)
+
+pub message_fits : (m : PlainMessage) → FrontFits (front_of m) → PeriodFits (period_of m) → IsSide m.object1 → IsSide m.object2 → Fits m
+message_fits m f p first second = record { stamp_fits = f.0; near = f.1.0; missed = f.1.1.0; begun = p.0; ended = p.1.0; first = first; second = second }
+
+pub front_fits : (m : PlainMessage) → Fits m → FrontFits (front_of m)
+front_fits m f = (f.stamp_fits, (f.near, (f.missed, tt)))
+
+pub period_fits : (m : PlainMessage) → Fits m → PeriodFits (period_of m)
+period_fits m f = (f.begun, (f.ended, tt))
 
 message_exact : IsExact message_said text_of Anything Fits
 unfolding message_said
@@ -394,18 +461,18 @@ message_exact =
         ∙ ap (λ (k : PlainSide). make_message (heading_of m) m.object1 k) (sym is.0)
 
     to : (m : PlainMessage) → MessageFits m → Fits m
-    to m f = record { stamp_fits = f.0.0; near = f.0.1.0; missed = f.0.1.1.0; begun = f.0.1.1.1.0; ended = f.0.1.1.1.1.0; first = f.1.0; second = f.1.1.0 }
+    to m f = message_fits m f.0.0 f.0.1.0 f.1.0 f.1.1.0
 
     from : (m : PlainMessage) → Fits m → MessageFits m
-    from m f = ((f.stamp_fits, (f.near, (f.missed, (f.begun, (f.ended, tt))))), (f.first, (f.second, tt)))
+    from m f = ((front_fits m f, (period_fits m f, tt)), (f.first, (f.second, tt)))
 
 -- ---- a text that is read
 none_left : (text : List ℕ) → is_none_left text ≡ true → text ≡ []
 none_left [] h = refl
 none_left (c ∷ text) h = absurd cc
 
-ended_is : (x : PlainMessage × Rest) (m : PlainMessage) → ended x ≡ Ok m → (x.0 ≡ m) × (x.1.text ≡ [])
-ended_is x m h = by_text (is_none_left x.1.text) refl h
+pub ended_is : {A : Type 0} (x : A × Rest) (m : A) → ended x ≡ Ok m → (x.0 ≡ m) × (x.1.text ≡ [])
+ended_is {A} x m h = by_text (is_none_left x.1.text) refl h
   where
     by_text : (b : Bool) → is_none_left x.1.text ≡ b → (if b then Ok x.0 else fault_at x.1.line causes.End) ≡ Ok m → (x.0 ≡ m) × (x.1.text ≡ [])
     by_text true e h = (ok_is x.0 m (Ok x.0) refl h, none_left x.1.text e)

@@ -1,3 +1,4 @@
+pub mod AddedLemmas
 pub mod DatedLemmas
 pub mod DigitLemmas
 pub mod ElementLemmas
@@ -10,6 +11,7 @@ pub mod LineLemmas
 pub mod MessageLemmas
 pub mod NumberLemmas
 pub mod ReaderLemmas
+pub mod RelativeLemmas
 pub mod SegmentLemmas
 pub mod SideLemmas
 pub mod TextLemmas

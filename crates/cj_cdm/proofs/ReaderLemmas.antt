@@ -1,16 +1,17 @@
 -- How the readers of lines answer, in the words of the definitions.
-use Rattle.std.proofs.Common.{◌≡◌, ℕ, ◌+◌, ◌<◌, ◌≤◌, true, false, List, [], ◌∷◌, ◌++◌, drop, get_or, length, ap, sym, ◌∙◌, refl, arith, append_assoc, append-nil, Option, Some, None, option_map, Result, Ok, Err}
+use Rattle.std.proofs.Common.{◌≡◌, ℕ, ◌+◌, ◌<◌, ◌≤◌, Bool, true, false, List, [], ◌∷◌, ◌++◌, drop, get_or, length, ap, sym, ◌∙◌, refl, arith, append_assoc, append-nil, Option, Some, None, option_map, Result, Ok, Err}
 use Rattle.std.proofs.lemmas.Bool.{eqb-true}
 use Rattle.std.proofs.lemmas.List.{drop_more, length-drop, nil_from_length}
-use Rattle.std.specs.Prelude.{◌==◌}
+use Rattle.std.specs.Prelude.{◌==◌, if◌then◌else◌}
 use Rattle.cj_base.specs.Numbers.{Number}
 pub use Rattle.cj_kvn.proofs.DecimalLemmas.{written_more as values_more}
 use Rattle.cj_cdm.specs.Fits.{Fits}
 use Rattle.cj_cdm.specs.Messages.{PlainMessage}
+use Rattle.cj_cdm.specs.declared.fault.CdmCause.TheVariants as causes
 use Rattle.cj_cdm.specs.declared.reading.rest.Rest.{Rest as Left}
 use Rattle.cj_cdm.specs.Read.{told}
 use Rattle.cj_kvn.specs.Faults.{◌>>=◌ as and_then}
-use Rattle.cj_cdm.specs.Reading.{Fault, Reading, Rest, behind_line, elements_said, entry_said, give, is_none_left, line_said, reading, taken, value_in, ◌>>=◌}
+use Rattle.cj_cdm.specs.Reading.{Fault, Reading, Rest, behind_line, elements_said, ended, entry_said, fault_at, give, is_none_left, line_said, reading, taken, value_in, ◌>>=◌}
 use Rattle.cj_cdm.specs.Texts.{elements, text_of}
 use Rattle.cj_cdm.specs.Values.{element_said}
 use Rattle.cj_cdm.proofs.GrammarLemmas.{reading_again}
@@ -110,6 +111,24 @@ some_left (c ∷ text) some = refl
 pub none_left : (text : List ℕ) → (length text == 0) ≡ true → is_none_left text ≡ true
 none_left [] none = refl
 none_left (c ∷ text) none = let zero_long : length (c ∷ text) ≡ 0 = eqb-true (length (c ∷ text)) 0 none in absurd (omega (arith, zero_long))
+
+abbrev nothing : Unit {0}
+nothing = tt
+
+-- whatever was read before it
+pub well_ended : {A : Type 0} (x : A) (r : Rest) → Ok nothing ≡ ended (nothing, r) → Ok x ≡ ended (x, r)
+well_ended {A} x r h = by_left (is_none_left r.text) h
+  where
+    by_left : (b : Bool) → Ok nothing ≡ (if b then Ok nothing else fault_at r.line causes.End) → Ok x ≡ (if b then Ok x else fault_at r.line causes.End)
+    by_left true h = refl
+    by_left false h = absurd cc
+
+pub ill_ended : {A : Type 0} (x : A) (r : Rest) (e : Fault) → Err e ≡ ended (nothing, r) → Err e ≡ ended (x, r)
+ill_ended {A} x r e h = by_left (is_none_left r.text) h
+  where
+    by_left : (b : Bool) → Err e ≡ (if b then Ok nothing else fault_at r.line causes.End) → Err e ≡ (if b then Ok x else fault_at r.line causes.End)
+    by_left true h = absurd cc
+    by_left false h = let same : e ≡ record { line = r.line; cause = causes.End } = cc in ap (λ (f : Fault). Err f) same
 
 -- a text that is read, as it was told
 pub told_again : (text : List ℕ) (q : Result PlainMessage Fault) → q ≡ reading text → (m : PlainMessage) → Fits m → text ≡ text_of m → q ≡ Ok m

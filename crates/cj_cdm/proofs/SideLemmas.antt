@@ -1,6 +1,7 @@
 -- What a message says of an object at a tick.
-use Rattle.std.proofs.Common.{◌≡◌, ◌∙◌, ◌⊎◌, inl, inr, ℕ, zero, suc, ◌<◌, ◌≤◌, List, [], ◌∷◌, ◌++◌, map, length, get_or, ap, sym, subst, refl, Option, Some, None, option_map}
-use Rattle.std.specs.Prelude.{IfSome, IsSomeAnd, option_and_then, slice_get}
+use Rattle.std.proofs.Common.{◌≡◌, ◌∙◌, ◌⊎◌, inl, inr, ℕ, zero, suc, ◌^◌, ◌<◌, ◌≤◌, arith, true, List, [], ◌∷◌, ◌++◌, map, length, get_or, ap, sym, subst, refl, Option, Some, None, option_map}
+use Rattle.std.specs.Prelude.{IfSome, IsSomeAnd, nat_lt, option_and_then, slice_get, unsigned_abs}
+use Rattle.std.proofs.lemmas.Bool.{lt-ltb}
 use Rattle.std.proofs.lemmas.Option.{slice_get-map, slice_get_past, slice_get_read}
 use Rattle.cj_track.specs.declared.track.Track.{Track}
 use Rattle.cj_track.specs.Tracks.{plain_track}
@@ -9,7 +10,10 @@ use Rattle.cj_hermite.specs.Interpolant.{Curve}
 use Rattle.cj_hermite.specs.Pieces.{PlainPiece, curve_of_piece, piece_holding, piece_at, pieces_of, last_covering}
 use Rattle.cj_cdm.specs.Building.{side_of, side_with}
 use Rattle.cj_cdm.specs.Covariances.{covariance_at}
+use Rattle.cj_cdm.specs.Fits.{IsShort}
 use Rattle.cj_cdm.specs.Indexed.{AreOfTracks}
+use Rattle.cj_rtn.specs.Vectors.{IsEachWithin}
+use Rattle.cj_rtn.specs.declared.vector.Vector.{Vector}
 
 no_piece : (l : Option (ℕ × PlainPiece)) → option_map (λ (x : ℕ × PlainPiece). x.0) l ≡ None → option_map (λ (x : ℕ × PlainPiece). x.1) l ≡ None
 no_piece None none = refl
@@ -65,3 +69,10 @@ of_tracks_more tracks indexed x track i before many below is here object t found
 pub covariance_there : (tracks : List Track) (object m : ℕ) (t : Track) → slice_get tracks object ≡ Some t
     → covariance_at (plain_track t) m ≡ option_and_then (λ e. covariance_at e m) (slice_get (map plain_track tracks) object)
 covariance_there tracks object m t found = sym (ap (option_and_then (λ e. covariance_at e m)) (slice_get-map plain_track tracks object ∙ ap (option_map plain_track) found))
+
+-- components of at most so much are short
+pub short_within : (m : ℕ) (v : Vector) → m < 10 ^ 36 → IsEachWithin m v → IsShort v
+short_within m v less h = record { of_x = below (unsigned_abs v.x) m h.x less; of_y = below (unsigned_abs v.y) m h.y less; of_z = below (unsigned_abs v.z) m h.z less }
+  where
+    below : (n m : ℕ) → n ≤ m → m < 10 ^ 36 → nat_lt n (10 ^ 36) ≡ true
+    below n m h k = lt-ltb n (10 ^ 36) (omega arith)

@@ -9,7 +9,7 @@ use Rattle.cj_case.specs.PlainProblems.{PlainProblem}
 use Rattle.cj_cdm.specs.Covariances.{covariance_at}
 use Rattle.cj_cdm.specs.Designators.{designator_of}
 use Rattle.cj_cdm.specs.Messages.{PlainSide, PlainStamp, PlainMessage}
-use Rattle.cj_cdm.specs.States.{place_at, rate_at}
+use Rattle.cj_rtn.specs.States.{place_at, rate_at}
 
 -- a number of square kilometres in square metres
 abbrev pub in_square_metres : Number → Number

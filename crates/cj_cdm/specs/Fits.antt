@@ -5,7 +5,7 @@ use Rattle.cj_track.specs.Labels.{is_label}
 use Rattle.cj_cdm.specs.Messages.{PlainSide, PlainStamp, PlainMessage}
 use Rattle.cj_kvn.specs.Originators.{is_originator}
 use Rattle.cj_cdm.specs.Values.{is_decimal, is_international, is_miss, is_number, is_short, is_tick}
-use Rattle.cj_cdm.specs.declared.vector.Vector.{Vector}
+use Rattle.cj_rtn.specs.declared.vector.Vector.{Vector}
 
 -- made at a tick, by an originator, with a number from 1 to 2^32 - 1
 pub record IsStamp (s : PlainStamp) : Type 0 where

@@ -4,12 +4,12 @@ pub mod Texts
 pub mod Covariances
 pub mod Dated
 pub mod Indexed
-pub mod States
 pub mod Building
 pub mod Fields
 pub mod Elements
 pub mod Names
 pub mod Values
 pub mod Reading
+pub mod Relative
 pub mod Fits
 pub mod Read

@@ -2,7 +2,7 @@
 use Rattle.std.specs.Prelude.{ℕ, List}
 use Rattle.cj_base.specs.Numbers.{Number}
 use Rattle.cj_track.specs.declared.frame.Frame.{Frame}
-use Rattle.cj_cdm.specs.declared.vector.Vector.{Vector}
+use Rattle.cj_rtn.specs.declared.vector.Vector.{Vector}
 
 -- One object: its designator, its name, its international designator, the file of its ephemeris and the frame of that; its state at
 -- the closest approach, in nm and nm/s; the epoch of its covariance, and the lower triangle of that in RTN, row by row, in m and m/s.

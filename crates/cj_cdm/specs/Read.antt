@@ -1,17 +1,20 @@
 -- How readers answer.
-use Rattle.std.specs.Prelude.{ℕ, List, map, Result, Ok, Err}
+use Rattle.std.specs.Prelude.{ℕ, List, map, Option, Result, Ok, Err}
 use Rattle.std.specs.Borrow.{Bor}
 use Rattle.cj_base.specs.Decimals.{number_of}
+use Rattle.cj_rtn.specs.declared.relative.Rtn.{Rtn}
 use Rattle.cj_cdm.specs.declared.cdm.Cdm.{Cdm}
 use Rattle.cj_cdm.specs.declared.cdm.Side.{Side}
 use Rattle.cj_cdm.specs.declared.reading.rest.Rest.{Rest as Left}
+use Rattle.cj_cdm.specs.declared.reading.said.FrontSaid.{FrontSaid}
 use Rattle.cj_cdm.specs.declared.reading.said.HeadingSaid.{HeadingSaid}
 use Rattle.cj_cdm.specs.declared.reading.said.MessageSaid.{MessageSaid}
 use Rattle.cj_cdm.specs.declared.reading.said.ObjectSaid.{ObjectSaid}
+use Rattle.cj_cdm.specs.declared.reading.said.PeriodSaid.{PeriodSaid}
 use Rattle.cj_cdm.specs.declared.reading.said.SideSaid.{SideSaid}
 use Rattle.cj_cdm.specs.Fields.{stamp_of}
 use Rattle.cj_cdm.specs.Messages.{PlainSide, PlainMessage}
-use Rattle.cj_cdm.specs.Reading.{Fault, Heading, Object, Rest}
+use Rattle.cj_cdm.specs.Reading.{Fault, Front, Heading, Object, Period, Rest}
 
 abbrev pub plain_side : Side → PlainSide
 plain_side s = record {
@@ -38,6 +41,10 @@ plain_cdm c = record {
   object2 = plain_side c.second;
 }
 
+-- what a message says that was read with a relative state, or without one
+abbrev pub plain_read : Cdm × Option Rtn → PlainMessage × Option Rtn
+plain_read read = (plain_cdm read.0, read.1)
+
 abbrev pub bytes_of : Bor (List ℕ) → List ℕ
 bytes_of text = text.now
 
@@ -46,6 +53,12 @@ plain_rest rest = record { text = rest.text.now; line = rest.line }
 
 abbrev pub plain_object : ObjectSaid → Object
 plain_object o = record { id = o.id.now; name = o.name.now; designator = o.designator.now; file = o.file.now; frame = o.frame }
+
+abbrev pub plain_front : FrontSaid → Front
+plain_front f = record { stamp = stamp_of f.stamp; tca = f.tca.micros; miss = f.miss }
+
+abbrev pub plain_period : PeriodSaid → Period
+plain_period p = record { start = p.start.micros; stop = p.stop.micros }
 
 abbrev pub plain_heading : HeadingSaid → Heading
 plain_heading h = record { stamp = stamp_of h.stamp; tca = h.tca.micros; miss = h.miss; start = h.start.micros; stop = h.stop.micros }
@@ -73,6 +86,9 @@ message_of_said m = record {
   object1 = side_of_said m.first;
   object2 = side_of_said m.second;
 }
+
+abbrev pub read_of_said : MessageSaid × Option Rtn → PlainMessage × Option Rtn
+read_of_said said = (message_of_said said.0, said.1)
 
 -- an answer in the words of the definitions
 abbrev pub plain : {X Y : Type 0} → (X → Y) → Result X Fault → Result Y Fault

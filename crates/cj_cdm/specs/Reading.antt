@@ -1,6 +1,6 @@
 -- How a message is read: line by line, each with the key in its place.
-use Rattle.std.specs.Prelude.{ℕ, ◌+◌, Bool, true, false, if◌then◌else◌, List, [], ◌∷◌, ◌++◌, codes, Option, Some, None, option_map, Result, Ok, Err}
-use Rattle.std.specs.List.{after_first, before_first, list_any}
+use Rattle.std.specs.Prelude.{ℕ, ◌+◌, Bool, true, false, nat_eq, if◌then◌else◌, List, [], ◌∷◌, ◌++◌, codes, Option, Some, None, option_map, Result, Ok, Err}
+use Rattle.std.specs.List.{after_first, before_first, list_any, starts_with}
 use Rattle.cj_base.specs.Bytes.{is_feed}
 use Rattle.cj_base.specs.Numbers.{Number}
 use Rattle.cj_kvn.specs.Faults.{◌>>=◌ as and_then}
@@ -8,10 +8,12 @@ use Rattle.cj_kvn.specs.declared.text_fault.LineFault.{LineFault}
 use Rattle.cj_track.specs.declared.frame.Frame.{Frame}
 use Rattle.cj_cdm.specs.declared.fault.CdmCause.{CdmCause}
 use Rattle.cj_cdm.specs.declared.fault.CdmCause.TheVariants as causes
-use Rattle.cj_cdm.specs.declared.vector.Vector.{Vector}
+use Rattle.cj_rtn.specs.declared.relative.AxisValues.{AxisValues}
+use Rattle.cj_rtn.specs.declared.relative.Rtn.{Rtn}
+use Rattle.cj_rtn.specs.declared.vector.Vector.{Vector}
 use Rattle.cj_cdm.specs.Messages.{PlainSide, PlainStamp, PlainMessage}
 use Rattle.cj_cdm.specs.Texts.{elements}
-use Rattle.cj_cdm.specs.Values.{behind_front, constant_said, designator_said, element_said, epoch_said, frame_said, id_said, kilometres_said, label_said, miss_said, only_if, originator_said}
+use Rattle.cj_cdm.specs.Values.{axis_value_said, behind_front, constant_said, designator_said, element_said, epoch_said, frame_said, id_said, kilometres_said, label_said, miss_said, only_if, originator_said}
 
 -- what is left of a message, and the number of its next line
 pub record Rest : Type 0 where
@@ -79,6 +81,30 @@ stamp_said = do
   number ← entry_said (codes "MESSAGE_ID") (id_said originator)
   give (record { created = created; originator = originator; number = number })
 
+-- what the lines up to the miss distance say
+pub record Front : Type 0 where
+  pub stamp : PlainStamp
+  pub tca : ℕ
+  pub miss : ℕ
+
+unfoldable pub front_said : Reading Front
+front_said = do
+  stamp ← stamp_said
+  tca ← entry_said (codes "TCA") epoch_said
+  miss ← entry_said (codes "MISS_DISTANCE") miss_said
+  give (record { stamp = stamp; tca = tca; miss = miss })
+
+-- the first tick of the screened window, and the last
+pub record Period : Type 0 where
+  pub start : ℕ
+  pub stop : ℕ
+
+unfoldable pub period_said : Reading Period
+period_said = do
+  start ← entry_said (codes "START_SCREEN_PERIOD") epoch_said
+  stop ← entry_said (codes "STOP_SCREEN_PERIOD") epoch_said
+  give (record { start = start; stop = stop })
+
 -- what the lines before the objects say
 pub record Heading : Type 0 where
   pub stamp : PlainStamp
@@ -87,14 +113,15 @@ pub record Heading : Type 0 where
   pub start : ℕ
   pub stop : ℕ
 
+-- what both say
+abbrev pub heading_by : Front → Period → Heading
+heading_by front period = record { stamp = front.stamp; tca = front.tca; miss = front.miss; start = period.start; stop = period.stop }
+
 unfoldable pub heading_said : Reading Heading
 heading_said = do
-  stamp ← stamp_said
-  tca ← entry_said (codes "TCA") epoch_said
-  miss ← entry_said (codes "MISS_DISTANCE") miss_said
-  start ← entry_said (codes "START_SCREEN_PERIOD") epoch_said
-  stop ← entry_said (codes "STOP_SCREEN_PERIOD") epoch_said
-  give (record { stamp = stamp; tca = tca; miss = miss; start = start; stop = stop })
+  front ← front_said
+  period ← period_said
+  give (heading_by front period)
 
 -- what an object is
 pub record Object : Type 0 where
@@ -190,3 +217,47 @@ ended x = if is_none_left x.1.text then Ok x.0 else fault_at x.1.line causes.End
 -- the message that a text is, or its first fault
 unfoldable pub reading : List ℕ → Result PlainMessage Fault
 reading text = and_then (message_said (record { text = text; line = 1 })) ended
+
+-- what p reads where the next line begins with this front, and else nothing, and nothing is taken
+unfoldable pub perhaps : {A : Type 0} → List ℕ → Reading A → Reading (Option A)
+perhaps front p rest = if starts_with nat_eq rest.text front then and_then (p rest) (λ x. Ok (Some x.0, x.1)) else Ok (None, rest)
+
+-- three values along axes in this unit, each with its key
+unfoldable pub axis_values_said : List ℕ → List ℕ → List ℕ → List ℕ → Reading AxisValues
+axis_values_said r_key t_key n_key unit = do
+  r ← entry_said r_key (axis_value_said unit)
+  t ← entry_said t_key (axis_value_said unit)
+  n ← entry_said n_key (axis_value_said unit)
+  give (record { r = r; t = t; n = n })
+
+-- the state of the second object relative to the first
+unfoldable pub relative_said : Reading Rtn
+relative_said = do
+  place ← axis_values_said (codes "RELATIVE_POSITION_R") (codes "RELATIVE_POSITION_T") (codes "RELATIVE_POSITION_N") (codes "m")
+  rate ← axis_values_said (codes "RELATIVE_VELOCITY_R") (codes "RELATIVE_VELOCITY_T") (codes "RELATIVE_VELOCITY_N") (codes "m/s")
+  give (record { place = place; rate = rate })
+
+-- all lines of a message, and those of the relative state behind the miss distance, where they are there
+unfoldable pub message_with_said : Reading (PlainMessage × Option Rtn)
+message_with_said = do
+  front ← front_said
+  relative ← perhaps (codes "RELATIVE_POSITION_R = ") relative_said
+  period ← period_said
+  object1 ← side_said (codes "OBJECT1")
+  object2 ← side_said (codes "OBJECT2")
+  give (
+    record {
+      stamp = front.stamp;
+      tca = front.tca;
+      miss = front.miss;
+      start = period.start;
+      stop = period.stop;
+      object1 = object1;
+      object2 = object2;
+    },
+    relative,
+  )
+
+-- the message and the relative state that a text is, or its first fault
+unfoldable pub reading_with : List ℕ → Result (PlainMessage × Option Rtn) Fault
+reading_with text = and_then (message_with_said (record { text = text; line = 1 })) ended

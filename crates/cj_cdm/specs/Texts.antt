@@ -7,7 +7,7 @@ use Rattle.cj_kvn.specs.Decimals.{decimal_text_of}
 use Rattle.cj_kvn.specs.Entries.{entry, line}
 use Rattle.cj_track.specs.Frames.{frame_text}
 use Rattle.cj_cdm.specs.Messages.{PlainSide, PlainMessage}
-use Rattle.cj_cdm.specs.declared.vector.Vector.{Vector}
+use Rattle.cj_rtn.specs.declared.vector.Vector.{Vector}
 
 -- a key with its value in this unit
 abbrev pub quantity : List ℕ → List ℕ → List ℕ → List ℕ
@@ -24,7 +24,7 @@ fixed_text places z =
     let size = unsigned_abs z in
     (if int_lt z (pos 0) then 45 ∷ [] else []) ++ decimal (size / 10 ^ places) ++ 46 ∷ [] ++ last_digits places size
 
--- nm in metres
+-- nm in metres, or nm/s in metres per second
 abbrev pub metres : ℤ → List ℕ
 metres nm = fixed_text 9 nm
 
@@ -36,17 +36,23 @@ kilometres nm = fixed_text 12 nm
 abbrev pub number_text : ℕ → List ℕ
 number_text n = if nat_lt n 1_000_000 then last_digits 6 n else decimal n
 
--- the lines of a message that stand before its objects
-unfoldable pub heading_text : PlainMessage → List ℕ
-heading_text m =
+-- the lines of a message up to its miss distance
+unfoldable pub front_text : PlainMessage → List ℕ
+front_text m =
     entry (codes "CCSDS_CDM_VERS") (codes "1.0")
     ++ entry (codes "CREATION_DATE") (epoch_of m.stamp.created)
     ++ entry (codes "ORIGINATOR") m.stamp.originator
     ++ entry (codes "MESSAGE_ID") (m.stamp.originator ++ codes "_" ++ number_text m.stamp.number)
     ++ entry (codes "TCA") (epoch_of m.tca)
     ++ quantity (codes "MISS_DISTANCE") (metres (pos m.miss)) (codes "m")
-    ++ entry (codes "START_SCREEN_PERIOD") (epoch_of m.start)
-    ++ entry (codes "STOP_SCREEN_PERIOD") (epoch_of m.stop)
+
+-- the lines of the screened window
+unfoldable pub period_text : PlainMessage → List ℕ
+period_text m = entry (codes "START_SCREEN_PERIOD") (epoch_of m.start) ++ entry (codes "STOP_SCREEN_PERIOD") (epoch_of m.stop)
+
+-- the lines of a message that stand before its objects
+unfoldable pub heading_text : PlainMessage → List ℕ
+heading_text m = front_text m ++ period_text m
 
 -- what an object is, and where its ephemeris comes from
 unfoldable pub object_text : List ℕ → PlainSide → List ℕ

@@ -1,5 +1,5 @@
 -- What the values of a message's lines say.
-use Rattle.std.specs.Prelude.{ℕ, ◌-◌, ◌%◌, ◌^◌, Bool, ◌&&◌, ◌||◌, not, ◌==◌, nat_eq, nat_le, nat_lt, if◌then◌else◌, List, ◌++◌, length, take, drop, codes, Option, Some, None, option_map, option_and_then, ℤ, pos, negsuc, unsigned_abs}
+use Rattle.std.specs.Prelude.{ℕ, ◌-◌, ◌%◌, ◌^◌, Bool, ◌&&◌, ◌||◌, not, ◌==◌, nat_eq, nat_le, nat_lt, if◌then◌else◌, List, ◌++◌, length, take, drop, codes, Option, Some, None, option_map, option_and_then, ℤ, pos, negsuc, neg_ℤ, int_le, int_lt, unsigned_abs}
 use Rattle.std.specs.Cmp.Lexicographic.{pointwise}
 use Rattle.std.specs.List.{before_first, after_first}
 use Rattle.std.specs.Result.{result_ok}
@@ -105,6 +105,14 @@ is_miss n = nat_lt n (2 ^ 64)
 
 abbrev pub miss_said : List ℕ → Option ℕ
 miss_said text = option_and_then (λ t. kept is_miss (option_and_then natural (fixed_said 9 t))) (before_unit (codes "m") text)
+
+-- a value along an axis: a number of 64 bits with a sign
+abbrev pub is_axis_value : ℤ → Bool
+is_axis_value z = int_le (neg_ℤ (pos (2 ^ 63))) z && int_lt z (pos (2 ^ 63))
+
+-- in nm from metres, or in nm/s from metres per second
+abbrev pub axis_value_said : List ℕ → List ℕ → Option ℤ
+axis_value_said unit text = option_and_then (λ t. kept is_axis_value (fixed_said 9 t)) (before_unit unit text)
 
 -- a coordinate in nm, from km, or a rate in nm/s, from km/s
 abbrev pub kilometres_said : List ℕ → List ℕ → Option ℤ

@@ -9,10 +9,10 @@ ghost use Rattle.cj_cdm.specs.Fields.{AreShort, message_of_fields, side_of_field
 use crate::covariance_index::CovarianceIndex;
 use crate::fields::{MessageFields, SideFields};
 use crate::stamp::Stamp;
-use crate::states::{place_at, rate_at};
 use cj_base::Tick;
 use cj_case::Pair;
 use cj_hermite::{piece, piece_at};
+use cj_rtn::{place_at, rate_at};
 use cj_track::{Matrix, Track};
 
 /// The fields of the message of a pair whose closest approach this is, or none where an object has no covariance.

@@ -1,5 +1,5 @@
-use crate::vector::Vector;
 use cj_base::{Decimal, Text, Tick};
+use cj_rtn::Vector;
 use cj_track::Frame;
 
 /// A conjunction data message, as it is read.

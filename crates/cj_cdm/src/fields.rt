@@ -1,7 +1,7 @@
 //! What is written into a message, lent by the problem.
 use crate::stamp::Stamp;
-use crate::vector::Vector;
 use cj_base::{Tick, Window};
+use cj_rtn::Vector;
 use cj_track::{Matrix, Track};
 
 /// What a message says of one object.

@@ -7,11 +7,13 @@ mod covariance;
 mod heading;
 mod numbers;
 mod object;
+mod relative;
 mod side;
 
 use crate::fields::MessageFields;
 use heading::push_heading;
 pub(crate) use numbers::{fixed_text, number_text};
+pub(crate) use relative::push_relative;
 use side::push_side;
 use std::alloc::AllocError;
 

@@ -1,16 +1,18 @@
 //! Reading a message.
-ghost use Rattle.std.specs.Prelude.{◌≡◌, ◌<◌, ◌^◌, length, IfOk, Ok};
+ghost use Rattle.std.specs.Prelude.{◌≡◌, ◌<◌, ◌^◌, length, IfOk, IfSome, Ok, Option};
 ghost use Rattle.cj_cdm.specs.Fits.{Fits};
 ghost use Rattle.cj_cdm.specs.Messages.{PlainMessage};
 ghost use Rattle.cj_kvn.specs.Faults.{Gives};
-ghost use Rattle.cj_cdm.specs.Read.{message_of_said, plain, plain_cdm, plain_side, side_of_said};
+ghost use Rattle.cj_cdm.specs.Read.{message_of_said, plain, plain_cdm, plain_read, plain_side, read_of_said, side_of_said};
 ghost use Rattle.cj_cdm.specs.Reading as spec;
+ghost use Rattle.cj_cdm.specs.Relative.{IsRelative, text_with};
 ghost use Rattle.cj_cdm.specs.Texts.{text_of};
 
 mod entries;
 mod figures;
 mod heading;
 mod object;
+mod relative;
 mod rest;
 mod said;
 mod taking;
@@ -20,11 +22,14 @@ use crate::cdm::{Cdm, Side};
 use crate::fault::{CdmCause, CdmFault};
 use cj_base::Text;
 use cj_kvn::LineFault;
-use heading::read_heading;
+use cj_rtn::Rtn;
+use heading::{heading_of, read_front, read_heading, read_period};
 use object::read_side;
+use relative::read_relative_if_there;
 use rest::Rest;
 use said::{MessageSaid, SideSaid};
 use std::alloc::{AllocError, Global};
+pub(crate) use values::place_of;
 
 /// The message that a text is, which has exactly the form in which messages are written.
 ///
@@ -43,6 +48,22 @@ pub fn read_cdm(alloc: Global, bytes: &[u8]) -> Result<Cdm, CdmFault>
     Ok(message_of(alloc, &said)?)
 }
 
+/// The message that a text is, and the relative state that it tells, where there are lines of one behind the miss distance.
+///
+/// # Errors
+///
+/// As those of `read_cdm`, where the lines of a relative state are in place exactly where line 7 begins with the key of their first.
+pub fn read_message(alloc: Global, bytes: &[u8]) -> Result<(Cdm, Option<Rtn>), CdmFault>
+    requires { length bytes.now < 2 ^ 32 }
+    ensures value { Gives plain_read result (spec.reading_with bytes.now) }
+    // What is read is the text of the message with the relative state, to the byte.
+    ensures only { IfOk result (λ read. (bytes.now ≡ text_with read.1 (plain_cdm read.0)) × Fits (plain_cdm read.0) × IfSome read.1 IsRelative) }
+    ensures again { (m : PlainMessage) (x : Option Rtn) → Fits m → IfSome x IsRelative → bytes.now ≡ text_with x m → Gives plain_read result (Ok (m, x)) }
+{
+    let (said, relative) = said_with(bytes)?;
+    Ok((message_of(alloc, &said)?, relative))
+}
+
 /// What a message says, lent by its text.
 #[tactic(auto, unfolding(crate::specs::Reading::reading, crate::specs::Reading::message_said))]
 fn said_by(bytes: &[u8]) -> Result<MessageSaid<'_>, LineFault<CdmCause>>
@@ -56,14 +77,36 @@ fn said_by(bytes: &[u8]) -> Result<MessageSaid<'_>, LineFault<CdmCause>>
     let heading = read_heading(&mut rest)?;
     let first = read_side(b"OBJECT1", &mut rest)?;
     let second = read_side(b"OBJECT2", &mut rest)?;
-    if !rest.text.is_empty() {
-        return Err(rest.fault(CdmCause::End));
-    }
+    rest.end()?;
     Ok(MessageSaid {
         heading,
         first,
         second,
     })
+}
+
+/// The same with the relative state that the message tells, where it tells one.
+#[tactic(auto, unfolding(crate::specs::Reading::reading_with, crate::specs::Reading::message_with_said))]
+fn said_with(bytes: &[u8]) -> Result<(MessageSaid<'_>, Option<Rtn>), LineFault<CdmCause>>
+    requires { length bytes.now < 2 ^ 32 }
+    ensures { plain read_of_said result ≡ spec.reading_with bytes.now }
+{
+    let mut rest = Rest {
+        text: bytes,
+        line: 1,
+    };
+    let front = read_front(&mut rest)?;
+    let relative = read_relative_if_there(&mut rest)?;
+    let period = read_period(&mut rest)?;
+    let first = read_side(b"OBJECT1", &mut rest)?;
+    let second = read_side(b"OBJECT2", &mut rest)?;
+    rest.end()?;
+    let said = MessageSaid {
+        heading: heading_of(front, period),
+        first,
+        second,
+    };
+    Ok((said, relative))
 }
 
 /// A message of its own.

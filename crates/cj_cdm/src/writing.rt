@@ -9,7 +9,9 @@ use cj_case::Pair;
 use std::alloc::{AllocError, Global};
 
 impl<'p> CovarianceIndex<'p> {
-    ghost use Rattle.std.specs.Prelude.{◌≡◌, IfOk, IfSome, Ok, Some, is_some, option_map};
+    ghost use Rattle.std.specs.Prelude.{◌≡◌, ◌≤◌, IfOk, IfSome, Ok, Some, is_some, option_map};
+    ghost use Rattle.std.specs.List.{count_by};
+    ghost use Rattle.cj_base.specs.Bytes.{is_feed};
     ghost use Rattle.cj_case.specs.Problems.{plain_problem};
     ghost use Rattle.cj_cdm.specs.Building.{have_covariances, message_of, object_covariance};
     ghost use Rattle.cj_cdm.specs.Fields.{stamp_of};
@@ -31,6 +33,8 @@ impl<'p> CovarianceIndex<'p> {
         ensures text { IfOk result (λ text. option_map (λ t. t.items) text
             ≡ option_map text_of (message_of (plain_problem self.now) pair.a pair.b tca.micros miss (stamp_of stamp.entry))) }
         ensures some { IfOk result (λ text. is_some text ≡ have_covariances (plain_problem self.now) pair.a pair.b tca.micros) }
+        // It has the lines up to the miss distance, and more.
+        ensures lines { IfOk result (λ text. IfSome text (λ t. 6 ≤ count_by is_feed t.items)) }
         // The text is read again as the message, where what the message has from outside is of its form.
         ensures again { IfOk result (λ text. IfSome text (λ t. (m : PlainMessage)
             → message_of (plain_problem self.now) pair.a pair.b tca.micros miss (stamp_of stamp.entry) ≡ Some m → HasNames m → reading t.items ≡ Ok m)) }

@@ -12,6 +12,8 @@ mod leaves;
 #[cfg(test)]
 mod reading_messages;
 #[cfg(test)]
+mod relative_messages;
+#[cfg(test)]
 mod relative_states;
 #[cfg(test)]
 mod reports;

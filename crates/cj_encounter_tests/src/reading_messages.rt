@@ -86,7 +86,12 @@ fn fault(alloc: Global, text: &[u8]) -> Option<(u32, CdmCause)> {
 }
 
 /// The text with this line in place of the one with this number.
-fn with_line(alloc: Global, text: &[u8], number: u32, line: &[u8]) -> Result<Vec<u8>, AllocError> {
+pub fn with_line(
+    alloc: Global,
+    text: &[u8],
+    number: u32,
+    line: &[u8],
+) -> Result<Vec<u8>, AllocError> {
     let mut changed = Vec::new(alloc);
     for (index, old) in text.split(|b| *b == b'\n').enumerate() {
         if index > 0 {
@@ -139,7 +144,7 @@ fn side(
 }
 
 /// What the message of two tracks that cross at one kilometre says.
-fn crossing_read(alloc: Global) -> Result<Cdm, AllocError> {
+pub fn crossing_read(alloc: Global) -> Result<Cdm, AllocError> {
     let x = 7_000_000_000_000_000;
     let speed = 7_500_000_000_000;
     Ok(Cdm {
@@ -195,7 +200,7 @@ fn the_message_is_read_again(rt: HostRuntime) {
 }
 
 /// A fault of this cause at a line, where there is a cause.
-fn fault_at(number: u32, cause: Option<CdmCause>) -> Option<(u32, CdmCause)> {
+pub fn fault_at(number: u32, cause: Option<CdmCause>) -> Option<(u32, CdmCause)> {
     Some((number, cause?))
 }
 

@@ -17,8 +17,11 @@ use Rattle.cj_case.specs.Leaves.{PlainLeaf, plain_leaf, plain_leaves}
 use Rattle.cj_meet.specs.Closest.{PlainClosest, closest_of, some_closest}
 use Rattle.cj_meet.specs.Encounters.{AreEncounters, Describes, encounters_of, first_object, follows, groups_in, is_far, second_object, leaves_in, with_front}
 use Rattle.cj_meet.proofs.EncounterLemmas.{described_objects}
+use Rattle.cj_rtn.specs.declared.relative.Rtn.{Rtn}
 use Rattle.cj_cdm.specs.Building.{have_covariances, message_of}
-use Rattle.cj_cdm.specs.Messages.{PlainStamp}
+use Rattle.cj_cdm.specs.Messages.{PlainMessage, PlainStamp}
+use Rattle.cj_cdm.specs.Names.{name_of}
+use Rattle.cj_cdm.specs.Texts.{text_of}
 use Rattle.cj_cdm.proofs.MessageLemmas.{message_some}
 use Rattle.cj_report.specs.Report.{numbered}
 use Rattle.cj_report.specs.Summary.{Tally}
@@ -27,8 +30,8 @@ use Rattle.cj_report.proofs.NumberLemmas.{numbered_parts, numbered_step}
 use Rattle.cj_status.specs.declared.status.Status.{Status}
 use Rattle.cj_outputs.specs.declared.findings.Findings.{Findings}
 use Rattle.cj_outputs.specs.Findings.{AreFound, case_in, messages_in}
-use Rattle.cj_outputs.specs.Messages.{PlainOrigin, has_message, message_output, message_outputs, outputs_at, stamp_from}
-use Rattle.cj_outputs.specs.Outcome.{ComesOfPuts, Leaves}
+use Rattle.cj_outputs.specs.Messages.{PlainOrigin, has_message, message_output, message_outputs, outputs_at, relative_in, relative_to_tell, stamp_from, told_with}
+use Rattle.cj_outputs.specs.Outcome.{ComesOfPuts, Leaves, output}
 use Rattle.cj_outputs.proofs.EndLemmas.{first_leaves, second_leaves}
 
 -- whether the objects of an encounter have covariances at this tick is whether the encounter has a message
@@ -66,19 +69,30 @@ noted_more case ss es i e bs b lt is before here =
     ∙ sym (ap (map (has_message case)) groups ∙ map_push (has_message case) (groups_in ss (take i es)) (f e))
 
 -- the output that is made of the fields of an encounter is that of its message
-pub output_made : (case : PlainProblem) (origin : PlainOrigin) (n k : ℕ) (stamp : PlainStamp) (ss : List PlainLeaf) (e : Encounter) (x : Closest) → Describes ss e →
-    some_closest x ≡ closest_of case (leaves_in ss e) → stamp ≡ stamp_from origin n → k ≡ n →
-    option_to_list (option_map (message_output k) (message_of case e.pair.a e.pair.b x.tick.micros x.high stamp)) ≡ outputs_at case origin n (leaves_in ss e)
-output_made case origin n k stamp ss e x d at stamped number =
+pub output_made : (case : PlainProblem) (origin : PlainOrigin) (n k : ℕ) (stamp : PlainStamp) (relative : Option Rtn) (ss : List PlainLeaf) (e : Encounter) (x : Closest) →
+    Describes ss e → some_closest x ≡ closest_of case (leaves_in ss e) → stamp ≡ stamp_from origin n → k ≡ n →
+    relative ≡ relative_to_tell origin.relative case e.pair.a e.pair.b x.tick.micros →
+    option_to_list (option_map (message_output k relative) (message_of case e.pair.a e.pair.b x.tick.micros x.high stamp)) ≡ outputs_at case origin n (leaves_in ss e)
+output_made case origin n k stamp relative ss e x d at stamped number tells =
     let group = leaves_in ss e in
     let objects = described_objects ss e d in
     let made : ℕ → ℕ → ℕ → PlainStamp → Option PlainClosest → List FileBytes =
-    λ k a b s at. option_to_list (option_map (message_output k) (option_and_then (λ (at : PlainClosest). message_of case a b at.tick at.high s) at)) in
-    ap (λ (k : ℕ). made k e.pair.a e.pair.b stamp (some_closest x)) number
+    λ k a b s at. option_to_list (option_map (message_output k (option_and_then (λ (at : PlainClosest). relative_to_tell origin.relative case a b at.tick) at))
+    (option_and_then (λ (at : PlainClosest). message_of case a b at.tick at.high s) at)) in
+    ap (λ (r : Option Rtn). option_to_list (option_map (message_output k r) (message_of case e.pair.a e.pair.b x.tick.micros x.high stamp))) tells
+    ∙ ap (λ (k : ℕ). made k e.pair.a e.pair.b stamp (some_closest x)) number
     ∙ ap (λ (a : ℕ). made n a e.pair.b stamp (some_closest x)) (sym objects.0)
     ∙ ap (λ (b : ℕ). made n (first_object group) b stamp (some_closest x)) (sym objects.1)
     ∙ ap (λ (s : PlainStamp). made n (first_object group) (second_object group) s (some_closest x)) stamped
     ∙ ap (λ (at : Option PlainClosest). made n (first_object group) (second_object group) (stamp_from origin n) at) at
+
+-- the output of a message by its name and its text, with the lines that are told
+pub message_put : (k : ℕ) (relative : Option Rtn) (o : Option PlainMessage) (text name told : List ℕ) → Some text ≡ option_map text_of o → name ≡ name_of k →
+    told ≡ told_with relative text → output name told ∷ [] ≡ option_to_list (option_map (message_output k relative) o)
+message_put k relative None text name told made named lines = absurd cc
+message_put k relative (Some m) text name told made named lines =
+    let same : text ≡ text_of m = cc in
+    ap (λ (n : List ℕ). output n told ∷ []) named ∙ ap (λ (t : List ℕ). output (name_of k) t ∷ []) (lines ∙ ap (told_with relative) same)
 
 -- how many notes are true
 pub count_noted : {A : Type 0} (f : A → Bool) (xs : List A) → count_by (λ (b : Bool). b) (map f xs) ≡ count_by f xs
@@ -113,13 +127,16 @@ one_or_none f (Some x) = refl
 output_counted : (case : PlainProblem) (origin : PlainOrigin) (n : ℕ) (e : List PlainLeaf) → length (outputs_at case origin n e) ≡ cond (has_message case e) 1 0
 output_counted case origin n e = by_closest (closest_of case e)
   where
+    relative : Option Rtn
+    relative = relative_in case origin e
+
     by_closest : (o : Option PlainClosest) →
-        length (option_to_list (option_map (message_output n) (option_and_then (λ at. message_of case (first_object e) (second_object e) at.tick at.high (stamp_from origin n)) o)))
+        length (option_to_list (option_map (message_output n relative) (option_and_then (λ at. message_of case (first_object e) (second_object e) at.tick at.high (stamp_from origin n)) o)))
         ≡ cond (option_map_or (λ at. have_covariances case (first_object e) (second_object e) at.tick) o false) 1 0
     by_closest None = refl
     by_closest (Some at) =
         let made = message_of case (first_object e) (second_object e) at.tick at.high (stamp_from origin n) in
-        one_or_none (message_output n) made ∙ ap (λ (b : Bool). cond b 1 0) (message_some case (first_object e) (second_object e) at.tick at.high (stamp_from origin n))
+        one_or_none (message_output n relative) made ∙ ap (λ (b : Bool). cond b 1 0) (message_some case (first_object e) (second_object e) at.tick at.high (stamp_from origin n))
 
 -- there are as many outputs as encounters that have a message
 pub outputs_counted : (case : PlainProblem) (origin : PlainOrigin) (n : ℕ) (es : List (List PlainLeaf)) → length (numbered (outputs_at case origin) n es) ≡ count_by (has_message case) es
@@ -157,11 +174,12 @@ encounters_within leaves es are few =
     omega (arith, ap (λ (gs : List (List PlainLeaf)). length gs) are.groups, encounters_few ss, length-map leaves plain_leaf, length-map es (leaves_in ss), few)
 
 -- what is made of the encounter at place i of findings is the output of its message
-made_of_found : (found : Findings) (origin : PlainOrigin) (i k : ℕ) (stamp : PlainStamp) (e : Encounter) (x : Closest) → AreFound found →
+made_of_found : (found : Findings) (origin : PlainOrigin) (i k : ℕ) (stamp : PlainStamp) (relative : Option Rtn) (e : Encounter) (x : Closest) → AreFound found →
     i < length found.encounters.items → e ≡ get_or found.encounters.items i e → x ≡ get_or found.closest.items i x → stamp ≡ stamp_from origin (i + 1) → k ≡ i + 1 →
-    option_to_list (option_map (message_output k) (message_of (case_in found) e.pair.a e.pair.b x.tick.micros x.high stamp))
+    relative ≡ relative_to_tell origin.relative (case_in found) e.pair.a e.pair.b x.tick.micros →
+    option_to_list (option_map (message_output k relative) (message_of (case_in found) e.pair.a e.pair.b x.tick.micros x.high stamp))
     ≡ outputs_at (case_in found) origin (i + 1) (leaves_in (plain_leaves found.leaves.items) e)
-made_of_found found origin i k stamp e x are lt e_is x_is stamped number =
+made_of_found found origin i k stamp relative e x are lt e_is x_is stamped number tells =
     let case = case_in found in
     let ss = plain_leaves found.leaves.items in
     let es = found.encounters.items in
@@ -169,16 +187,18 @@ made_of_found found origin i k stamp e x are lt e_is x_is stamped number =
     let d = subst (Describes ss) (sym e_is) (are.encounters.described i e lt) in
     let many : length xs ≡ length es =
     omega (arith, ap (λ (os : List (Option PlainClosest)). length os) are.closest, length-map xs some_closest, length-map (groups_in ss es) (closest_of case), length-map es (leaves_in ss)) in
-    output_made case origin (i + 1) k stamp ss e x d (approach_at (closest_of case) ss es xs i e x lt many e_is x_is are.closest) stamped number
+    output_made case origin (i + 1) k stamp relative ss e x d (approach_at (closest_of case) ss es xs i e x lt many e_is x_is are.closest) stamped number tells
 
 -- the same of a problem that is that of the findings
-pub made_of_index : (found : Findings) (problem : Problem) (origin : PlainOrigin) (i k : ℕ) (stamp : PlainStamp) (e : Encounter) (x : Closest) → problem ≡ found.problem → AreFound found →
+pub made_of_index : (found : Findings) (problem : Problem) (origin : PlainOrigin) (i k : ℕ) (stamp : PlainStamp) (relative : Option Rtn) (e : Encounter) (x : Closest) →
+    problem ≡ found.problem → AreFound found →
     i < length found.encounters.items → e ≡ get_or found.encounters.items i e → x ≡ get_or found.closest.items i x → stamp ≡ stamp_from origin (i + 1) → k ≡ i + 1 →
-    option_to_list (option_map (message_output k) (message_of (plain_problem problem) e.pair.a e.pair.b x.tick.micros x.high stamp))
+    relative ≡ relative_to_tell origin.relative (case_in found) e.pair.a e.pair.b x.tick.micros →
+    option_to_list (option_map (message_output k relative) (message_of (plain_problem problem) e.pair.a e.pair.b x.tick.micros x.high stamp))
     ≡ outputs_at (case_in found) origin (i + 1) (leaves_in (plain_leaves found.leaves.items) e)
-made_of_index found problem origin i k stamp e x same are lt e_is x_is stamped number =
-    ap (λ (p : Problem). option_to_list (option_map (message_output k) (message_of (plain_problem p) e.pair.a e.pair.b x.tick.micros x.high stamp))) same
-    ∙ made_of_found found origin i k stamp e x are lt e_is x_is stamped number
+made_of_index found problem origin i k stamp relative e x same are lt e_is x_is stamped number tells =
+    ap (λ (p : Problem). option_to_list (option_map (message_output k relative) (message_of (plain_problem p) e.pair.a e.pair.b x.tick.micros x.high stamp))) same
+    ∙ made_of_found found origin i k stamp relative e x are lt e_is x_is stamped number tells
 
 -- the summary counts the messages
 pub messages_tallied : (found : Findings) (origin : PlainOrigin) → AreFound found → length (messages_in origin found) ≡ found.counts.messages

@@ -89,9 +89,9 @@ outputs_within limit with_sizes version origin case =
 abbrev pub tells_sizes : PlainSettings → Bool
 tells_sizes settings = is_some settings.sizes
 
--- when the messages of a screening at this tick are made, and by whom
+-- when the messages of a screening at this tick are made, by whom, and whether they tell the relative state
 abbrev pub origin_of : ℕ → PlainScreening → PlainOrigin
-origin_of now screening = record { created = now; originator = screening.originator }
+origin_of now screening = record { created = now; originator = screening.originator; relative = screening.rtn }
 
 -- the outputs of a screening of files at this tick, or the first cause for which there is none
 unfoldable pub outputs_screened : List FileBytes → ℕ → PlainScreening → Result (List FileBytes) Status

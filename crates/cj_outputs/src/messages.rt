@@ -1,5 +1,7 @@
 //! The messages of a run: which encounters have one, and putting them.
 ghost use Rattle.std.specs.Prelude.{◌≡◌, ℕ, ◌<◌, ◌≤◌, List, length, map, option_map, option_to_list, All, Some, Ok, Err, IfErr, IfOk, false, true, slice_index_or};
+ghost use Rattle.std.specs.List.{count_by};
+ghost use Rattle.cj_base.specs.Bytes.{is_feed};
 ghost use Rattle.cj_io.specs.Faults.{Rose};
 ghost use Rattle.cj_io.specs.declared.file.FileBytes.{FileBytes};
 ghost use Rattle.cj_case.specs.Problems.{plain_problem};
@@ -10,16 +12,18 @@ ghost use Rattle.cj_cdm.specs.Building.{message_of};
 ghost use Rattle.cj_cdm.specs.Fields.{stamp_of};
 ghost use Rattle.cj_outputs.specs.Findings.{AreFound, ended, messages_in};
 ghost use Rattle.cj_outputs.specs.Messages as spec;
-ghost use Rattle.cj_outputs.specs.Messages.{message_output};
+ghost use Rattle.cj_outputs.specs.Messages.{message_output, told_with};
 ghost use Rattle.cj_outputs.specs.Origins.{plain_origin};
 ghost use Rattle.cj_outputs.specs.Outcome.{ComesOfPuts, Leaves};
 
 use crate::findings::Findings;
 use crate::origin::Origin;
 use crate::putting::put;
-use cj_case::{Closest, Encounter, Problem};
-use cj_cdm::{CovarianceIndex, Stamp, message_name};
+use cj_base::Tick;
+use cj_case::{Closest, Encounter, Pair, Problem};
+use cj_cdm::{CovarianceIndex, Stamp, add_lines, message_name};
 use cj_io::Shelf;
+use cj_rtn::{Rtn, relative_state};
 use cj_status::Status;
 use std::alloc::{AllocError, Global};
 
@@ -62,20 +66,39 @@ pub fn put_messages<S: Shelf>(
 {
     let covariances = covariances_of(alloc, &found.problem, &found.encounters)?;
     for (place, encounter) in found.encounters.iter().enumerate() {
+        let closest = &found.closest[place];
         let stamp = origin.stamp(place as u32 + 1);
+        let relative = relative_to_tell(
+            &found.problem,
+            origin.relative,
+            encounter.pair,
+            closest.tick,
+        );
         put_message(
             alloc,
             shelf,
             &covariances,
             encounter,
-            &found.closest[place],
+            closest,
             stamp,
+            relative,
         )?;
     }
     Ok(())
 }
 
-/// Makes and puts the message of an encounter, where it has one.
+/// What the second object of a pair is relative to the first, where it is to be told and there is such a state.
+fn relative_to_tell(problem: &Problem, tells: bool, pair: Pair, at: Tick) -> Option<Rtn>
+    ensures { result ≡ spec.relative_to_tell tells (plain_problem problem.now) pair.a pair.b at.micros }
+{
+    if tells {
+        relative_state(problem, pair, at)
+    } else {
+        None
+    }
+}
+
+/// Makes and puts the message of an encounter, where it has one, with the lines of the relative state where that is given.
 fn put_message<S: Shelf>(
     alloc: Global,
     shelf: &mut S,
@@ -83,11 +106,12 @@ fn put_message<S: Shelf>(
     encounter: &Encounter,
     closest: &Closest,
     stamp: Stamp,
+    relative: Option<Rtn>,
 ) -> Result<(), Status>
     ensures comes { IfErr result ComesOfPuts }
     ensures write { result ≡ Err Status.WriteFault → Rose (S.faults shelf.old) (S.faults shelf.new) }
     ensures leaves { (old : List FileBytes) → S.outputs shelf.old ≡ Some old → Leaves (ended result)
-        (Ok (option_to_list (option_map (message_output stamp.entry.number)
+        (Ok (option_to_list (option_map (message_output stamp.entry.number relative)
         (message_of (plain_problem covariances.now) encounter.now.pair.a encounter.now.pair.b closest.now.tick.micros closest.now.high (stamp_of stamp.entry)))))
         old (S.outputs shelf.new) }
     ensures later { S.faults shelf.old ≤ S.faults shelf.new }
@@ -96,8 +120,20 @@ fn put_message<S: Shelf>(
     let Some(text) = made else {
         return Ok(());
     };
+    let told = with_relative(alloc, text, relative)?;
     let name = message_name(alloc, stamp.number)?;
-    put(alloc, shelf, &name, &text)
+    put(alloc, shelf, &name, &told)
+}
+
+/// The text of a message with the lines of a relative state behind its miss distance, where there is one.
+fn with_relative(alloc: Global, text: Vec<u8>, relative: Option<Rtn>) -> Result<Vec<u8>, AllocError>
+    requires { 6 ≤ count_by is_feed text.items }
+    ensures { IfOk result (λ told. told.items ≡ told_with relative text.items) }
+{
+    match relative {
+        Some(relative) => add_lines(alloc, &text, &relative),
+        None => Ok(text),
+    }
 }
 
 /// The covariances of a problem, in order for the objects that have an encounter.

@@ -2,11 +2,12 @@ use cj_base::Tick;
 use cj_cdm::Stamp;
 use cj_words::Screening;
 
-/// When the messages of a run are made, and by whom.
+/// When the messages of a run are made, by whom, and whether they tell the relative state.
 #[derive(Clone, Copy, Debug)]
 pub struct Origin<'a> {
     pub created: Tick,
     pub originator: &'a [u8],
+    pub relative: bool,
 }
 
 impl<'a> Origin<'a> {
@@ -24,6 +25,7 @@ impl<'a> Origin<'a> {
         Origin {
             created: now,
             originator: screening.originator,
+            relative: screening.rtn,
         }
     }
 

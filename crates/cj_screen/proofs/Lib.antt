@@ -1,3 +1,4 @@
+pub mod RelativeLemmas
 pub mod ReportLemmas
 pub mod ResultLemmas
 pub mod SplitLemmas

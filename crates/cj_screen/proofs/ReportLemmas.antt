@@ -24,7 +24,7 @@ use Rattle.cj_outputs.specs.Outcome.{cert_bytes, encounters_in, outputs_with, ou
 use Rattle.cj_outputs.specs.Findings.{AreFound, case_in, cert_in, report_in}
 use Rattle.cj_outputs.proofs.AcceptingLemmas.{stops_then}
 use Rattle.cj_outputs.specs.SpanSplits.{SplitsTicks}
-use Rattle.cj_screen.specs.Headline.{Certifies, Reports}
+use Rattle.cj_screen.specs.Headline.{Certifies, HasExactRelative, Reports}
 
 -- what ends the search for leaves is no read
 pub never_read : {A B : Type 0} (s : Status) (r : Result A Status) → Stops ⊥ s r → ¬ ◌≡◌ {A = Result B Status} (Err s) (Err status.ReadFault)
@@ -67,9 +67,9 @@ outputs_stop limit with_sizes version origin case s =
 -- the report of findings is that of the case that was asked
 pub reports : (files : List FileBytes) (settings : PlainSettings) (version : CertVersion) (case : PlainProblem) → case_asked files settings ≡ Ok case
     → (r : Result Findings Status) → IfOk r (λ found. case_in found ≡ case) → IfOk r (λ found. found.with_sizes ≡ tells_sizes settings) → IfOk r (λ found. found.version ≡ version) → IfOk r AreFound → OnOk r (SplitsTicks case (encounters_in case))
-    → OnOk r (Certifies case (cert_bytes version case)) → OnOk r (All (HasNearest case) (encounters_in case)) → OnOk r (IsAcceptedLater settings files (cert_bytes version case))
+    → OnOk r (Certifies case (cert_bytes version case)) → OnOk r (All (HasNearest case) (encounters_in case)) → OnOk r (All (HasExactRelative case) (encounters_in case)) → OnOk r (IsAcceptedLater settings files (cert_bytes version case))
     → IfOk r (λ found. Reports settings files (report_in found).bytes (cert_in found).bytes)
-reports files settings version case read (Ok found) same tells told are split certified nearest later = record {
+reports files settings version case read (Ok found) same tells told are split certified nearest relative later = record {
   case = case;
   read = read;
   text = ap (report_bytes found.with_sizes (case_in found)) are.leaves ∙ ap (λ (c : PlainProblem). report_bytes found.with_sizes c (list_candidates c)) same
@@ -77,7 +77,8 @@ reports files settings version case read (Ok found) same tells told are split ce
   split = split;
   certified = subst (λ (n : CertVersion). Certifies case (cert_bytes n (case_in found))) (sym told) (subst (λ (c : PlainProblem). Certifies case (cert_bytes version c)) (sym same) certified);
   nearest = nearest;
+  relative = relative;
   later = subst (λ (n : CertVersion). IsAcceptedLater settings files (cert_bytes n (case_in found))) (sym told)
       (subst (λ (c : PlainProblem). IsAcceptedLater settings files (cert_bytes version c)) (sym same) later);
 }
-reports files settings version case read (Err s) same tells told are split certified nearest later = tt
+reports files settings version case read (Err s) same tells told are split certified nearest relative later = tt

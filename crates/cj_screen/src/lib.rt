@@ -4,6 +4,7 @@
 mod finding;
 mod reading;
 mod refining;
+mod relatives;
 mod results;
 mod screening;
 mod selfruns;

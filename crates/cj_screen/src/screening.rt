@@ -9,7 +9,7 @@ ghost use Rattle.cj_words.specs.Settings.{PlainSettings};
 ghost use Rattle.cj_inputs.specs.Cases.{case_asked};
 ghost use Rattle.cj_outputs.specs.Again.{IsAcceptedLater};
 ghost use Rattle.cj_outputs.specs.Findings.{AreFound, outputs_in};
-ghost use Rattle.cj_screen.specs.Headline.{Certifies};
+ghost use Rattle.cj_screen.specs.Headline.{Certifies, HasExactRelative};
 ghost use Rattle.cj_outputs.specs.Messages.{PlainOrigin};
 ghost use Rattle.cj_outputs.specs.Outcome as spec;
 ghost use Rattle.cj_outputs.specs.Outcome.{cert_bytes, encounters_in};
@@ -17,6 +17,7 @@ ghost use Rattle.cj_outputs.specs.SpanSplits.{SplitsTicks};
 ghost use Rattle.cj_status.specs.Steps.{Gives, ComesBetween};
 
 use crate::refining::refine;
+use crate::relatives::exact_relatives;
 use cj_case::Problem;
 use cj_cert::acceptance;
 use cj_formats::CertVersion;
@@ -55,6 +56,7 @@ pub fn screen<R: Threads + Wait + Sync, G: Gate + Sync>(
     ensures split { OnOk result (SplitsTicks (plain_problem problem) (encounters_in (plain_problem problem))) }
     ensures certified { OnOk result (Certifies (plain_problem problem) (cert_bytes version (plain_problem problem))) }
     ensures nearest { OnOk result (All (HasNearest (plain_problem problem)) (encounters_in (plain_problem problem))) }
+    ensures relative { OnOk result (All (HasExactRelative (plain_problem problem)) (encounters_in (plain_problem problem))) }
     // Whatever files the problem is that of, within the usual limits.
     ensures later { (settings : PlainSettings) (files : List FileBytes) → case_asked files settings ≡ Ok (plain_problem problem)
         → settings.limits ≡ USUAL → cells ≤ settings.limits.leaves
@@ -62,6 +64,7 @@ pub fn screen<R: Threads + Wait + Sync, G: Gate + Sync>(
 {
     acceptance(&problem);
     accepted_later(&problem);
+    exact_relatives(&problem);
     let refined = refine(rt, alloc, gate, &problem, workers, cells)?;
     let leaves = refined.leaves.as_slice();
     let met = find_meetings(rt, alloc, &problem, leaves, workers)?;

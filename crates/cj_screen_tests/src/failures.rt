@@ -7,16 +7,17 @@ use std::panic::Expect;
 use std::sync::Wait;
 use std::thread::Threads;
 
-/// How a run over these files ends where these calls of the folder fail.
+/// How a run of these words over these files ends where these calls of the folder fail.
 fn end_over<R: Threads + Wait + Sync, S: StreamShelf>(
     rt: &R,
     alloc: Global,
+    words: &str,
     scene: Scene,
     calls: Vec<u64>,
     shelf: &mut S,
 ) -> Result<End, AllocError> {
     let files = files_of(alloc, scene)?;
-    end_failing(rt, alloc, "screen .", files, calls, shelf)
+    end_failing(rt, alloc, words, files, calls, shelf)
 }
 
 /// How often a run goes to its folder: for the list, and for the bytes and the end of each of two files.
@@ -26,6 +27,7 @@ const CALLS: u64 = 5;
 fn put_where<R: Threads + Wait + Sync>(
     rt: &R,
     alloc: Global,
+    words: &str,
     scene: Scene,
     call: u64,
     number: u8,
@@ -33,7 +35,7 @@ fn put_where<R: Threads + Wait + Sync>(
 ) -> Result<Option<usize>, AllocError> {
     let mut shelf = CalmShelf::new(alloc);
     let calls = Vec::from_array(alloc, [call])?;
-    let end = end_over(rt, alloc, scene, calls, &mut shelf)?;
+    let end = end_over(rt, alloc, words, scene, calls, &mut shelf)?;
     if end.number == number && end.line.as_slice() == line {
         Ok(Some(shelf.written().len()))
     } else {
@@ -44,12 +46,16 @@ fn put_where<R: Threads + Wait + Sync>(
 #[test]
 fn nothing_is_put_where_the_folder_fails(rt: HostRuntime) {
     let alloc = rt.alloc();
-    for (scene, outputs) in [(CROSSING, 3), (COVERED, 4)] {
+    for (words, scene, outputs) in [
+        ("screen .", CROSSING, 3),
+        ("screen .", COVERED, 4),
+        ("screen . --rtn", COVERED, 4),
+    ] {
         for call in 1..CALLS + 1 {
-            let put = put_where(&rt, alloc, scene, call, 4, b"conj: read fault\n");
+            let put = put_where(&rt, alloc, words, scene, call, 4, b"conj: read fault\n");
             assert_eq!(rt; put.expect(&rt, "no fault"), Some(0));
         }
-        let put = put_where(&rt, alloc, scene, CALLS + 1, 0, b"");
+        let put = put_where(&rt, alloc, words, scene, CALLS + 1, 0, b"");
         assert_eq!(rt; put.expect(&rt, "no fault"), Some(outputs));
     }
 }
@@ -110,6 +116,7 @@ pub fn is_front(outputs: &[FileBytes], due: &[FileBytes], count: usize) -> bool 
 fn stand_whole<R: Threads + Wait + Sync>(
     rt: &R,
     alloc: Global,
+    words: &str,
     scene: Scene,
     due: &[FileBytes],
     whole: usize,
@@ -118,31 +125,46 @@ fn stand_whole<R: Threads + Wait + Sync>(
 ) -> Result<bool, AllocError> {
     let puts = Vec::from_array(alloc, [(whole as u64).saturating_add(1)])?;
     let mut shelf = MemShelf::new(alloc, puts);
-    let end = end_over(rt, alloc, scene, Vec::new(alloc), &mut shelf)?;
+    let end = end_over(rt, alloc, words, scene, Vec::new(alloc), &mut shelf)?;
     Ok(end.number == number && end.line.as_slice() == line && is_front(shelf.written(), due, whole))
 }
 
-/// Whether a run over these files puts so many outputs, and those before whichever put fails stand whole.
+/// Whether a run of these words over these files puts so many outputs, and those before whichever put fails stand whole.
 fn each_stands_whole<R: Threads + Wait + Sync>(
     rt: &R,
     alloc: Global,
+    words: &str,
     scene: Scene,
     outputs: usize,
 ) -> Result<bool, AllocError> {
     let mut calm = CalmShelf::new(alloc);
-    end_over(rt, alloc, scene, Vec::new(alloc), &mut calm)?;
+    end_over(rt, alloc, words, scene, Vec::new(alloc), &mut calm)?;
     let due = calm.written();
     for whole in 0..outputs {
-        if !stand_whole(rt, alloc, scene, due, whole, 5, b"conj: write fault\n")? {
+        if !stand_whole(
+            rt,
+            alloc,
+            words,
+            scene,
+            due,
+            whole,
+            5,
+            b"conj: write fault\n",
+        )? {
             return Ok(false);
         }
     }
-    Ok(due.len() == outputs && stand_whole(rt, alloc, scene, due, outputs, 0, b"")?)
+    Ok(due.len() == outputs && stand_whole(rt, alloc, words, scene, due, outputs, 0, b"")?)
 }
 
 #[test]
 fn the_outputs_before_a_put_that_fails_stand_whole(rt: HostRuntime) {
     let alloc = rt.alloc();
-    assert!(rt; each_stands_whole(&rt, alloc, CROSSING, 3).expect(&rt, "no fault"));
-    assert!(rt; each_stands_whole(&rt, alloc, COVERED, 4).expect(&rt, "no fault"));
+    for (words, scene, outputs) in [
+        ("screen .", CROSSING, 3),
+        ("screen .", COVERED, 4),
+        ("screen . --rtn", COVERED, 4),
+    ] {
+        assert!(rt; each_stands_whole(&rt, alloc, words, scene, outputs).expect(&rt, "no fault"));
+    }
 }

@@ -24,6 +24,8 @@ mod refusals;
 #[cfg(test)]
 mod refusing;
 #[cfg(test)]
+mod relative;
+#[cfg(test)]
 mod reports;
 #[cfg(test)]
 mod results;

@@ -9,7 +9,7 @@ use std::sync::Wait;
 use std::thread::Threads;
 
 /// 2025-01-02T00:00:00.
-const NOW: Tick = Tick {
+pub const NOW: Tick = Tick {
     micros: 1_735_776_000_000_000,
 };
 
@@ -143,7 +143,7 @@ COVARIANCE_STOP
 ];
 
 /// Three objects in a row, each near the next, of which the last two have a covariance.
-const TWO_OF_THREE: Scene = &[
+pub const TWO_OF_THREE: Scene = &[
     ("a.oem", Content::Rest("7000 0 0")),
     (
         "b.oem",

@@ -504,10 +504,11 @@ struct Met<'r> {
 impl Met<'_> {
     /// Whether it is of the same objects, and has all microseconds of another.
     fn covers(&self, other: &Met<'_>) -> bool {
-        self.first_object == other.first_object
-            && self.second_object == other.second_object
-            && self.first <= other.first
-            && other.last <= self.last
+        let is_first = self.first_object == other.first_object;
+        let is_second = self.second_object == other.second_object;
+        let begins = self.first <= other.first;
+        let ends = other.last <= self.last;
+        is_first && is_second && begins && ends
     }
 }
 
@@ -533,14 +534,26 @@ fn spans<'r>(alloc: Global, report: &'r [u8]) -> Result<Vec<Met<'r>>, AllocError
     Ok(met)
 }
 
+/// Whether a span stands within one of others.
+fn is_covered(one: &Met<'_>, others: &[Met<'_>]) -> bool {
+    for other in others {
+        if other.covers(one) {
+            return true;
+        }
+    }
+    false
+}
+
 /// Whether each span of a report stands within one of another report, and there is one.
 fn are_covered(alloc: Global, report: &[u8], other: &[u8]) -> Result<bool, AllocError> {
     let met = spans(alloc, report)?;
     let others = spans(alloc, other)?;
-    let covered = met
-        .iter()
-        .all(|one| others.iter().any(|other| other.covers(one)));
-    Ok(covered && !met.is_empty())
+    for one in &met {
+        if !is_covered(one, &others) {
+            return Ok(false);
+        }
+    }
+    Ok(!met.is_empty())
 }
 
 const CATALOGUE: &str = "generate . --seed 1 --objects 10 --minutes 20";

@@ -6,7 +6,7 @@ import re
 from collections.abc import Sequence
 from pathlib import Path
 
-from conjtools.cdm import HEADING, check_message, message_name, message_of
+from conjtools.cdm import check_message, heading_of, message_name, message_of
 from conjtools.epochs import epoch_text
 from conjtools.faults import InputFault
 from conjtools.join.encounters import Joined, Source
@@ -26,7 +26,7 @@ def write_messages(encounters: Sequence[Joined], window: Window, created: int, f
             lines = read_lines(told.source)
             name = value_of(lines, "ORIGINATOR")
             if originator and name != originator:
-                raise refuse(told.source, "ORIGINATOR", f"{name}, and {originator} in messages before")
+                raise refuse(told.source, lines, "ORIGINATOR", f"{name}, and {originator} in messages before")
             originator = name
             (folder / message_name(number)).write_bytes("\n".join(lines_of_run(lines, originator, number, window, created)).encode("ascii"))
         tell(number)
@@ -37,9 +37,9 @@ def path_of(source: Source) -> Path:
     return source.part.folder / message_name(source.number)
 
 
-def refuse(source: Source, key: str, cause: str) -> InputFault:
+def refuse(source: Source, lines: Sequence[str], key: str, cause: str) -> InputFault:
     """A fault of a line of the heading."""
-    return InputFault(str(path_of(source)), HEADING.index(key) + 1, f"{key} is {cause}")
+    return InputFault(str(path_of(source)), heading_of(lines).index(key) + 1, f"{key} is {cause}")
 
 
 def read_lines(source: Source) -> list[str]:
@@ -53,16 +53,16 @@ def read_lines(source: Source) -> list[str]:
         raise InputFault(str(path), 0, "a byte is not ASCII") from None
     originator = value_of(lines, "ORIGINATOR")
     if not ORIGINATOR.fullmatch(originator):
-        raise refuse(source, "ORIGINATOR", f"not of the form: {originator}")
+        raise refuse(source, lines, "ORIGINATOR", f"not of the form: {originator}")
     for key, value in run_values(originator, source.number, source.part.window).items():
         if value_of(lines, key) != value:
-            raise refuse(source, key, f"{value_of(lines, key)}, and {value} is wanted")
+            raise refuse(source, lines, key, f"{value_of(lines, key)}, and {value} is wanted")
     return lines
 
 
 def value_of(lines: Sequence[str], key: str) -> str:
     """The value of a line of the heading."""
-    return lines[HEADING.index(key)][len(key) + 3 :]
+    return lines[heading_of(lines).index(key)][len(key) + 3 :]
 
 
 def run_values(originator: str, number: int, window: Window) -> dict[str, str]:
@@ -78,5 +78,5 @@ def lines_of_run(lines: Sequence[str], originator: str, number: int, window: Win
     """The lines of a message as one run over the window writes them at this number, begun at this tick."""
     whole = list(lines)
     for key, value in {"CREATION_DATE": epoch_text(created), **run_values(originator, number, window)}.items():
-        whole[HEADING.index(key)] = f"{key} = {value}"
+        whole[heading_of(whole).index(key)] = f"{key} = {value}"
     return whole

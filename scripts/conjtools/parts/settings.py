@@ -40,6 +40,7 @@ OPTIONS = {
     "originator": Option.SCREEN_VALUE,
     "cells": Option.SCREEN_VALUE,
     "cert-version": Option.SCREEN_VALUE,
+    "rtn": Option.SCREEN_FLAG,
 }
 KEYS = ("folder", "from", "to", "part_minutes", "options", "results", "page", "threads", "memory_mb", "retries", "program")
 

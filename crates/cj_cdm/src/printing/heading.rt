@@ -3,7 +3,7 @@ ghost use Rattle.std.specs.Prelude.{◌≡◌, ◌++◌, codes, OnOk};
 ghost use Rattle.cj_cdm.specs.Fields.{message_of_fields};
 ghost use Rattle.cj_cdm.specs.Texts as spec;
 ghost use Rattle.cj_kvn.specs.Entries.{entry};
-ghost use Rattle.cj_cdm.specs.Texts.{heading_text};
+ghost use Rattle.cj_cdm.specs.Texts.{front_text, heading_text, period_text};
 
 use crate::fields::MessageFields;
 use crate::printing::numbers::{number_text, push_metres};
@@ -16,12 +16,28 @@ use std::alloc::AllocError;
 pub(crate) fn push_heading(text: &mut Vec<u8>, fields: &MessageFields) -> Result<(), AllocError>
     ensures { OnOk result (text.new.items ≡ text.old.items ++ heading_text (message_of_fields fields.now)) }
 {
+    push_front(text, fields)?;
+    push_period(text, fields)
+}
+
+/// Adds the lines up to the miss distance.
+#[tactic(auto, unfolding(crate::specs::Texts::front_text))]
+fn push_front(text: &mut Vec<u8>, fields: &MessageFields) -> Result<(), AllocError>
+    ensures { OnOk result (text.new.items ≡ text.old.items ++ front_text (message_of_fields fields.now)) }
+{
     push_entry(text, b"CCSDS_CDM_VERS", b"1.0")?;
     push_entry(text, b"CREATION_DATE", &epoch_text(fields.stamp.created))?;
     push_entry(text, b"ORIGINATOR", fields.stamp.originator)?;
     push_id(text, fields.stamp.originator, fields.stamp.number)?;
     push_entry(text, b"TCA", &epoch_text(fields.tca))?;
-    push_metres(text, b"MISS_DISTANCE", fields.miss)?;
+    push_metres(text, b"MISS_DISTANCE", i128::from(fields.miss), b"m")
+}
+
+/// Adds the lines of the screened window.
+#[tactic(auto, unfolding(crate::specs::Texts::period_text))]
+fn push_period(text: &mut Vec<u8>, fields: &MessageFields) -> Result<(), AllocError>
+    ensures { OnOk result (text.new.items ≡ text.old.items ++ period_text (message_of_fields fields.now)) }
+{
     push_entry(
         text,
         b"START_SCREEN_PERIOD",

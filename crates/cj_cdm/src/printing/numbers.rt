@@ -12,13 +12,18 @@ use cj_base::Decimal;
 use cj_kvn::decimal_text;
 use std::alloc::AllocError;
 
-/// Adds a number of nm in metres, all its digits.
-pub(crate) fn push_metres(text: &mut Vec<u8>, key: &[u8], nm: u64) -> Result<(), AllocError>
-    ensures { OnOk result (text.new.items ≡ text.old.items ++ quantity key.now (metres (pos nm)) (codes "m")) }
+/// Adds a number of nm in metres, or one of nm/s in metres per second, all its digits.
+pub(crate) fn push_metres(
+    text: &mut Vec<u8>,
+    key: &[u8],
+    nm: i128,
+    unit: &[u8],
+) -> Result<(), AllocError>
+    ensures { OnOk result (text.new.items ≡ text.old.items ++ quantity key.now (metres nm) unit.now) }
 {
     push_front(text, key)?;
-    text.extend_from_slice(&fixed_text(i128::from(nm), 9))?;
-    push_unit(text, b"m")
+    text.extend_from_slice(&fixed_text(nm, 9))?;
+    push_unit(text, unit)
 }
 
 /// Adds a number of nm in km, or one of nm/s in km/s, all its digits.

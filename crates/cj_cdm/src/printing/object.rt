@@ -6,8 +6,8 @@ ghost use Rattle.cj_cdm.specs.Texts.{object_text, state_text};
 use crate::designators::designator_of;
 use crate::fields::SideFields;
 use crate::printing::numbers::push_kilometres;
-use crate::vector::Vector;
 use cj_kvn::push_entry;
+use cj_rtn::Vector;
 use cj_track::frame_text;
 use std::alloc::AllocError;
 

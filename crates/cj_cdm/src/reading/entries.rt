@@ -3,10 +3,10 @@ ghost use Rattle.std.specs.Prelude.{◌≡◌, ◌≤◌, ◌<◌, ◌^◌, ◌+
 ghost use Rattle.cj_base.specs.Decimals.{number_of};
 ghost use Rattle.cj_cdm.specs.Read.{bytes_of, plain, plain_rest, told};
 ghost use Rattle.cj_cdm.specs.Reading.{entry_said, line_said, value_in};
-ghost use Rattle.cj_cdm.specs.Values.{constant_said, designator_said, element_said, epoch_said, frame_said, id_said, kilometres_said, label_said, miss_said, originator_said};
+ghost use Rattle.cj_cdm.specs.Values.{axis_value_said, constant_said, designator_said, element_said, epoch_said, frame_said, id_said, kilometres_said, label_said, miss_said, originator_said};
 
 use crate::fault::CdmCause;
-use crate::reading::figures::{element, id, kilometres, miss};
+use crate::reading::figures::{axis_value, element, id, kilometres, miss};
 use crate::reading::rest::Rest;
 use crate::reading::values::{behind_front, constant, designator, epoch, frame, label, originator};
 use cj_base::{Decimal, Tick};
@@ -106,6 +106,14 @@ impl<'a> Rest<'a> {
     {
         let value = self.value(key)?;
         self.taken(kilometres(unit, value))
+    }
+
+    /// A value along an axis.
+    pub(crate) fn axis_value(&mut self, key: &[u8], unit: &[u8]) -> Result<i64, LineFault<CdmCause>>
+        ensures { told (λ x. x) result self.new ≡ entry_said key.now (axis_value_said unit.now) (plain_rest self.old) }
+    {
+        let value = self.value(key)?;
+        self.taken(axis_value(unit, value))
     }
 
     /// An element of a covariance.

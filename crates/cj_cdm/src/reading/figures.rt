@@ -6,7 +6,7 @@ ghost use Rattle.cj_base.specs.Decimals.{number_of, shifted};
 ghost use Rattle.cj_kvn.specs.Numbers.{scaled_of};
 ghost use Rattle.cj_cdm.specs.Read.{bytes_of};
 ghost use Rattle.cj_cdm.specs.Values as spec;
-ghost use Rattle.cj_cdm.specs.Values.{decimal_said, element_said, fixed_said, id_said, is_decimal, is_mark, is_power, kept, kilometres_said, miss_said, number_said, scientific};
+ghost use Rattle.cj_cdm.specs.Values.{axis_value_said, decimal_said, element_said, fixed_said, id_said, is_decimal, is_mark, is_power, kept, kilometres_said, miss_said, number_said, scientific};
 
 use crate::printing::{fixed_text, number_text};
 use crate::reading::values::{before_ending, behind_front, place_of};
@@ -49,6 +49,14 @@ pub(crate) fn miss(value: &[u8]) -> Option<u64>
     ensures { result ≡ miss_said value.now }
 {
     u64::try_from(fixed(before_unit(b"m", value)?, 9)?).ok()
+}
+
+/// A value along an axis in nm, from metres, or in nm/s, from metres per second, with nine decimals.
+pub(crate) fn axis_value(unit: &[u8], value: &[u8]) -> Option<i64>
+    requires { length value.now < 2 ^ 32 }
+    ensures { result ≡ axis_value_said unit.now value.now }
+{
+    i64::try_from(fixed(before_unit(unit, value)?, 9)?).ok()
 }
 
 /// A coordinate in nm, or a rate in nm/s, with twelve decimals of its unit.

@@ -9,9 +9,9 @@ use crate::elements::element_at;
 use crate::fault::CdmCause;
 use crate::reading::rest::Rest;
 use crate::reading::said::{ObjectSaid, SideSaid};
-use crate::vector::Vector;
 use cj_base::Decimal;
 use cj_kvn::LineFault;
+use cj_rtn::Vector;
 
 /// The lines of an object that is called by this word.
 #[tactic(auto, unfolding(crate::specs::Reading::side_said))]

@@ -1,8 +1,23 @@
 //! What the parts of a message say, lent by its text.
 use crate::stamp::Stamp;
-use crate::vector::Vector;
 use cj_base::{Decimal, Tick};
+use cj_rtn::Vector;
 use cj_track::Frame;
+
+/// What the lines up to the miss distance say.
+#[derive(Clone, Copy)]
+pub(crate) struct FrontSaid<'a> {
+    pub(crate) stamp: Stamp<'a>,
+    pub(crate) tca: Tick,
+    pub(crate) miss: u64,
+}
+
+/// The screened window.
+#[derive(Clone, Copy)]
+pub(crate) struct PeriodSaid {
+    pub(crate) start: Tick,
+    pub(crate) stop: Tick,
+}
 
 /// What the lines before the objects say.
 #[derive(Clone, Copy)]

@@ -50,6 +50,16 @@ impl<'a> Rest<'a> {
         }
     }
 
+    /// Nothing, where nothing is left.
+    pub(crate) fn end(self) -> Result<(), LineFault<CdmCause>>
+        ensures { result ≡ spec.ended (tt, plain_rest self.entry) }
+    {
+        if !self.text.is_empty() {
+            return Err(self.fault(CdmCause::End));
+        }
+        Ok(())
+    }
+
     /// A fault of the next line.
     pub(crate) fn fault(self, cause: CdmCause) -> LineFault<CdmCause>
         ensures line { result.line ≡ self.entry.line }

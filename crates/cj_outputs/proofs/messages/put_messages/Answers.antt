@@ -44,7 +44,8 @@ returns-in_err-put_message g c =
     let now = g.S.Shelf.outputs c.put_message.new.shelf in
     let e_is : e ≡ get_or es i e = search rules in
     let lt : i < length es = omega arith in
-    let made = made_of_index found c.in_ok-covariances.covariances origin i c.stamp-stamp.result.number _ e c.index.result.now c.in_ok-covariances.ensures c.requires lt e_is c.index.ensures c.stamp-stamp.ensures (ap (λ s. s.number) c.stamp-stamp.ensures) in
+    let made = made_of_index found c.in_ok-covariances.covariances origin i c.stamp-stamp.result.number _ _ e c.index-closest.result.now c.in_ok-covariances.ensures c.requires lt e_is
+    c.index-closest.ensures c.stamp-stamp.ensures (ap (λ s. s.number) c.stamp-stamp.ensures) c.relative_to_tell-relative.ensures in
     let s = c.in_err-put_message.field-0.0 in
     let failed = c.in_err-put_message.ensures in
     let ends =
@@ -73,7 +74,8 @@ loop-place-preserved g c =
     let now = g.S.Shelf.outputs c.put_message.new.shelf in
     let e_is : e ≡ get_or es i e = search rules in
     let lt : i < length es = omega arith in
-    let made = made_of_index found c.in_ok-covariances.covariances origin i c.stamp-stamp.result.number _ e c.index.result.now c.in_ok-covariances.ensures c.requires lt e_is c.index.ensures c.stamp-stamp.ensures (ap (λ s. s.number) c.stamp-stamp.ensures) in
+    let made = made_of_index found c.in_ok-covariances.covariances origin i c.stamp-stamp.result.number _ _ e c.index-closest.result.now c.in_ok-covariances.ensures c.requires lt e_is
+    c.index-closest.ensures c.stamp-stamp.ensures (ap (λ s. s.number) c.stamp-stamp.ensures) c.relative_to_tell-relative.ensures in
     record {
       put = λ old stood. messages_more case origin ss es i e _ old now lt e_is made (first_stand _ _ now (c.in_ok-put_message.ensures.leaves _ (c.loop-place.invariant.put old stood)));
       later = omega (arith, c.loop-place.invariant.later, c.in_ok-put_message.ensures.later);

@@ -37,5 +37,5 @@ returns-clause-reports g c = λ files read.
     let asked = plain_settings c.args.screening.now.settings in
     reports files asked c.args.screening.now.version (plain_problem c.args.problem) read
     c.screen.result c.screen.ensures.same (tells c.tells_sizes.result (tells_sizes asked) c.tells_sizes.ensures c.screen.result c.screen.ensures.tells)
-    c.screen.ensures.version c.screen.ensures.found c.screen.ensures.split c.screen.ensures.certified c.screen.ensures.nearest
+    c.screen.ensures.version c.screen.ensures.found c.screen.ensures.split c.screen.ensures.certified c.screen.ensures.nearest c.screen.ensures.relative
     (c.screen.ensures.later asked files read c.args.screening.now.settings.usual c.args.screening.now.most_cells)

@@ -50,6 +50,7 @@ returns g c =
     ap plain_leaves c.as_slice-leaves.ensures.value in
     let same = lent ∙ refined.leaves in
     let met = subst (λ (ss : List PlainLeaf). AreMeetings case ss c.in_ok-met.met) lent c.in_ok-met.ensures.meetings in
+    let nearest = subst (λ (ss : List PlainLeaf). All (HasNearest case) (encounters_of ss)) same c.in_ok-met.ensures.nearest in
     record {
       between = tt;
       read = λ is. absurd cc;
@@ -74,7 +75,8 @@ returns g c =
         accepted = c.acceptance.ensures.in_version c.args.version;
         implies = c.acceptance.ensures.splits;
       };
-      nearest = subst (λ (ss : List PlainLeaf). All (HasNearest case) (encounters_of ss)) same c.in_ok-met.ensures.nearest;
+      nearest = nearest;
+      relative = c.exact_relatives.ensures c.in_ok-refined.ensures.ticks.sound nearest;
       later = λ settings files read usual few. c.accepted_later.ensures.written settings files c.args.version read usual
           (omega (arith, ap length refined.leaves, length-map c.in_ok-refined.refined.leaves.items plain_leaf, c.in_ok-refined.ensures.few, few));
     }
@@ -93,6 +95,7 @@ returns-in_err-met g c =
       split = tt;
       certified = tt;
       nearest = tt;
+      relative = tt;
       later = λ settings files read usual few. tt;
     })
 
@@ -112,5 +115,6 @@ returns-in_err-refined g c =
       split = tt;
       certified = tt;
       nearest = tt;
+      relative = tt;
       later = λ settings files read usual few. tt;
     })

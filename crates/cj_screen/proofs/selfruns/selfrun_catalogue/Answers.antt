@@ -14,7 +14,7 @@ use Rattle.cj_screen.proofs.selfruns.selfrun_catalogue.Goals as goal
 
 -- nothing is made of it here
 nobody : PlainOrigin
-nobody = record { created = 0; originator = [] }
+nobody = record { created = 0; originator = []; relative = false }
 
 pub returns-in_err-found-clause-ends : goal.returns-in_err-found-clause-ends
 returns-in_err-found-clause-ends g c =

@@ -1,38 +1,21 @@
-use Rattle.std.proofs.Common.{refl, sym}
+use Rattle.std.proofs.Common.{Ok, ap, refl, sym}
 use Rattle.std.proofs.lemmas.Result.{err_from_is_err_and}
-use Rattle.cj_cdm.specs.Reading.{heading_said}
+use Rattle.cj_cdm.specs.Read.{plain_rest}
+use Rattle.cj_cdm.specs.Reading.{Heading, heading_said}
 use Rattle.cj_cdm.proofs.reading.heading.read_heading.Goals as goal
 
-pub returns-in_err-stamp : goal.returns-in_err-stamp
+pub returns-in_err-front : goal.returns-in_err-front
 unfolding heading_said
-returns-in_err-stamp c =
+returns-in_err-front c =
     let p = err_from_is_err_and c.from_residual.result c.from_residual.ensures.1 in
-    rw (p.1, p.2) (rw (sym c.in_err-stamp.ensures) refl)
+    rw (p.1, p.2) (rw (sym c.in_err-front.ensures) refl)
 
-pub returns-in_err-tca : goal.returns-in_err-tca
+pub returns-in_err-period : goal.returns-in_err-period
 unfolding heading_said
-returns-in_err-tca c =
-    let p = err_from_is_err_and c.from_residual-in_err-tca.result c.from_residual-in_err-tca.ensures.1 in
-    rw (p.1, p.2) (rw (sym c.in_ok-stamp.ensures, sym c.in_err-tca.ensures) refl)
-
-pub returns-in_err-miss : goal.returns-in_err-miss
-unfolding heading_said
-returns-in_err-miss c =
-    let p = err_from_is_err_and c.from_residual-in_err-miss.result c.from_residual-in_err-miss.ensures.1 in
-    rw (p.1, p.2) (rw (sym c.in_ok-stamp.ensures, sym c.in_ok-tca.ensures, sym c.in_err-miss.ensures) refl)
-
-pub returns-in_err-start : goal.returns-in_err-start
-unfolding heading_said
-returns-in_err-start c =
-    let p = err_from_is_err_and c.from_residual-in_err-start.result c.from_residual-in_err-start.ensures.1 in
-    rw (p.1, p.2) (rw (sym c.in_ok-stamp.ensures, sym c.in_ok-tca.ensures, sym c.in_ok-miss.ensures, sym c.in_err-start.ensures) refl)
-
-pub returns-in_err-stop : goal.returns-in_err-stop
-unfolding heading_said
-returns-in_err-stop c =
-    let p = err_from_is_err_and c.from_residual-in_err-stop.result c.from_residual-in_err-stop.ensures.1 in
-    rw (p.1, p.2) (rw (sym c.in_ok-stamp.ensures, sym c.in_ok-tca.ensures, sym c.in_ok-miss.ensures, sym c.in_ok-start.ensures, sym c.in_err-stop.ensures) refl)
+returns-in_err-period c =
+    let p = err_from_is_err_and c.from_residual-in_err-period.result c.from_residual-in_err-period.ensures.1 in
+    rw (p.1, p.2) (rw (sym c.in_ok-front.ensures, sym c.in_err-period.ensures) refl)
 
 pub returns : goal.returns
 unfolding heading_said
-returns c = rw (sym c.in_ok-stamp.ensures, sym c.in_ok-tca.ensures, sym c.in_ok-miss.ensures, sym c.in_ok-start.ensures, sym c.in_ok-stop.ensures) refl
+returns c = rw (sym c.in_ok-front.ensures, sym c.in_ok-period.ensures) (ap (λ (h : Heading). Ok (h, plain_rest c.read_period.new.rest)) c.heading_of.ensures)
