@@ -5,4 +5,5 @@ pub mod Decimals
 pub mod LeapSeconds
 pub mod Limits
 pub mod Numbers
+pub mod PlainTicks
 pub mod Ticks

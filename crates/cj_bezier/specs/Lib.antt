@@ -4,6 +4,7 @@ pub mod Enclosed
 pub mod FirstParts
 pub mod Gaps
 pub mod Halving
+pub mod MeasuredObjects
 pub mod Hulls
 pub mod Candidates
 pub mod Parts

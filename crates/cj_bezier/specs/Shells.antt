@@ -1,7 +1,8 @@
 -- Shells: between which distances from the origin a track stays, and which pairs are kept by their shells.
-use Rattle.std.specs.Prelude.{◌≡◌, ℕ, zero, suc, ◌+◌, ◌-◌, ◌*◌, ◌<◌, ◌≤◌, ◌⊎◌, ◌==◌, min, max, nat_lt, Bool, false, ◌||◌, not, if◌then◌else◌}
+use Rattle.std.specs.Prelude.{◌≡◌, ℕ, ◌+◌, ◌-◌, ◌*◌, ◌<◌, ◌≤◌, ◌⊎◌, ◌==◌, min, max, nat_lt, Bool, false, ◌||◌, not}
 use Rattle.std.specs.Prelude.{ℤ, pos, ◌+ℤ◌, ◌*ℤ◌, ◌≤ℤ◌, List, [], ◌∷◌, Option, Some, None, option_and_then, slice_get}
 use Rattle.std.specs.List.{list_all}
+pub use Rattle.cj_interval.specs.Passing.{greatest_to, least_from}
 use Rattle.cj_track.specs.PlainTracks.{PlainTrack}
 use Rattle.cj_hermite.specs.Interpolant.{Curve, place_numerator, place_denominator}
 use Rattle.cj_case.specs.PlainProblems.{threshold_between}
@@ -45,16 +46,6 @@ pub record IsShellOf (e : PlainTrack) (from to : ℕ) (shell : Shell) : Type 0 w
 -- the greatest radius that a certificate may have, in nm
 abbrev pub MAX_RADIUS : ℕ
 MAX_RADIUS = 1_000_000_000_000_000_000
-
--- the greatest number up to n that passes a test, else 0
-unfoldable pub greatest_to : ℕ → (ℕ → Bool) → ℕ
-greatest_to zero test = 0
-greatest_to (suc n) test = if test (suc n) then suc n else greatest_to n test
-
--- the least of the n numbers from r on that passes a test, else the number behind them
-unfoldable pub least_from : ℕ → ℕ → (ℕ → Bool) → ℕ
-least_from zero r test = r
-least_from (suc n) r test = if test r then r else least_from n (r + 1) test
 
 abbrev pub is_inner : List PlainHull → ℕ → Bool
 is_inner hs r = (r == 0) || list_all (λ h. are_at_least (gap_terms h).low r) hs

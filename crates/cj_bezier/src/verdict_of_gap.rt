@@ -8,11 +8,8 @@ ghost use Rattle.cj_bezier.specs.Verdicts.{supported, verdict_of, kind_of, Suppo
 
 use crate::gaps::Gap;
 use crate::verdicts::Verdict;
-use cj_case::Kind;
+use cj_case::{BAND, Kind};
 use cj_interval::Span;
-
-/// One millimetre, in nm.
-const BAND: u64 = 1_000_000;
 
 /// C(6,k): the coefficients of the constant 1 in Bernstein form of degree 6.
 const CHOOSE: [u8; 7] = [1, 6, 15, 20, 15, 6, 1];

@@ -9,7 +9,7 @@ use Rattle.cj_interval.proofs.ListLemmas.{Each, Each-always, Each-map, Each-rang
 use Rattle.cj_case.specs.declared.pair.Pair.{Pair}
 use Rattle.cj_case.specs.Pairs.{objects_of}
 use Rattle.cj_case.specs.declared.axis_box.AxisBox.{AxisBox}
-use Rattle.cj_case.specs.Boxes.{PlainBox, plain_boxes}
+use Rattle.cj_case.specs.Boxes.{PlainBox, plain_rows}
 use Rattle.cj_blocks.specs.Blocks.{PlainBlock, Given, BLOCK, block_count, box_given, first_slot, slots_in, is_pair_of, partner_of, joined_box, joined_in, current_boxes, listed_in, blocks_in, blocks_of}
 use Rattle.cj_blocks.specs.BoxRows.{box_at}
 use Rattle.cj_blocks.specs.Listed.{Treated, IsFilled, IsTreated, block_of, given, joined_of, listed_of}
@@ -21,14 +21,14 @@ use Rattle.cj_blocks.proofs.JoinLemmas.{joined_same}
 -- ---- other current boxes
 
 -- the same object with other current boxes
-abbrev pub with_boxes : Treated → ℕ → List (Option AxisBox) → Treated
+abbrev pub with_boxes : Treated → ℕ → List (List (Option AxisBox)) → Treated
 with_boxes t slots current = record { pairs = t.pairs; slots = slots; boxes = t.boxes; current = current; sizes = t.sizes; threshold = t.threshold }
 
 -- after the first blocks of an object it has its listed boxes in their slots, and all else is as before
-abbrev pub IsTreatedTo : Treated → ℕ → ℕ → List (Option AxisBox) → Type 0
-IsTreatedTo t object blocks new = (other slot : ℕ) → slot < t.slots → box_at t.slots (plain_boxes new) other slot
-    ≡ cond (other == object && nat_lt slot (first_slot blocks)) (option_or (joined_of t object (first_slot (slot / BLOCK)) (slots_in t.slots (slot / BLOCK))) (box_at t.slots (plain_boxes t.current) other slot))
-    (box_at t.slots (plain_boxes t.current) other slot)
+abbrev pub IsTreatedTo : Treated → ℕ → ℕ → List (List (Option AxisBox)) → Type 0
+IsTreatedTo t object blocks new = (other slot : ℕ) → slot < t.slots → box_at (plain_rows new) other slot
+    ≡ cond (other == object && nat_lt slot (first_slot blocks)) (option_or (joined_of t object (first_slot (slot / BLOCK)) (slots_in t.slots (slot / BLOCK))) (box_at (plain_rows t.current) other slot))
+    (box_at (plain_rows t.current) other slot)
 
 -- the partner is another object
 partner_differs : (object : ℕ) (pair : Pair) → partner_of object (objects_of pair) ≡ object → ⊥
@@ -52,42 +52,31 @@ own_behind : (object n slot : ℕ) → n ≤ slot → (object == object && nat_l
 own_behind object n slot le = let own : eqb object object ≡ true = same_number object in grind (arith, nat_tests)
 
 -- what is joined does not change while the object itself is treated
-pub joined_still : (t : Treated) (object blocks q : ℕ) (now : List (Option AxisBox)) → IsTreatedTo t object blocks now → q < block_count t.slots
+pub joined_still : (t : Treated) (object blocks q : ℕ) (now : List (List (Option AxisBox))) → IsTreatedTo t object blocks now → q < block_count t.slots
     → joined_of (with_boxes t t.slots now) object (first_slot q) (slots_in t.slots q) ≡ joined_of t object (first_slot q) (slots_in t.slots q)
 joined_still t object blocks q now treated exists =
-    joined_same t.threshold t.sizes (map objects_of t.pairs) (box_at t.slots (plain_boxes t.boxes)) (box_at t.slots (plain_boxes now)) (box_at t.slots (plain_boxes t.current)) object (first_slot q) (slots_in t.slots q)
+    joined_same t.threshold t.sizes (map objects_of t.pairs) (box_at (plain_rows t.boxes)) (box_at (plain_rows now)) (box_at (plain_rows t.current)) object (first_slot q) (slots_in t.slots q)
     (Each-map (λ pair. (slot : ℕ) → first_slot q ≤ slot → slot < first_slot q + slots_in t.slots q
-    → box_at t.slots (plain_boxes now) (partner_of object pair) slot ≡ box_at t.slots (plain_boxes t.current) (partner_of object pair) slot) objects_of t.pairs
+    → box_at (plain_rows now) (partner_of object pair) slot ≡ box_at (plain_rows t.current) (partner_of object pair) slot) objects_of t.pairs
     (Each-always (λ pair. (slot : ℕ) → first_slot q ≤ slot → slot < first_slot q + slots_in t.slots q
-    → box_at t.slots (plain_boxes now) (partner_of object (objects_of pair)) slot ≡ box_at t.slots (plain_boxes t.current) (partner_of object (objects_of pair)) slot)
+    → box_at (plain_rows now) (partner_of object (objects_of pair)) slot ≡ box_at (plain_rows t.current) (partner_of object (objects_of pair)) slot)
     (λ pair slot low high.
     let other = partner_of object (objects_of pair) in
     treated other slot (omega arith)
-    ∙ ap (λ (b : Bool). cond b (option_or (joined_of t object (first_slot (slot / BLOCK)) (slots_in t.slots (slot / BLOCK))) (box_at t.slots (plain_boxes t.current) other slot)) (box_at t.slots (plain_boxes t.current) other slot))
+    ∙ ap (λ (b : Bool). cond b (option_or (joined_of t object (first_slot (slot / BLOCK)) (slots_in t.slots (slot / BLOCK))) (box_at (plain_rows t.current) other slot)) (box_at (plain_rows t.current) other slot))
     (not_own other object (first_slot blocks) slot (partner_differs object pair))) t.pairs))
 
 -- ---- one block more
 
--- before any block
-pub none_treated : (t : Treated) (object : ℕ) → IsTreatedTo t object 0 t.current
-none_treated t object other slot lt = ap (λ (b : Bool). cond b (option_or (joined_of t object (first_slot (slot / BLOCK)) (slots_in t.slots (slot / BLOCK))) (box_at t.slots (plain_boxes t.current) other slot)) (box_at t.slots (plain_boxes t.current) other slot)) (sym nothing)
-  where
-    nothing : (other == object && nat_lt slot (first_slot 0)) ≡ false
-    nothing = go (eqb other object)
-      where
-        go : (b : Bool) → (b && nat_lt slot (first_slot 0)) ≡ false
-        go true = grind (arith, nat_tests)
-        go false = refl
-
-block_filled : (t : Treated) (object q : ℕ) (now new : List (Option AxisBox)) → q < block_count t.slots → IsTreatedTo t object q now
+block_filled : (t : Treated) (object q : ℕ) (now new : List (List (Option AxisBox))) → q < block_count t.slots → IsTreatedTo t object q now
     → IsFilled t.slots object (first_slot q) (slots_in t.slots q) (joined_of (with_boxes t t.slots now) object (first_slot q) (slots_in t.slots q)) now new → IsTreatedTo t object (q + 1) new
 block_filled t object q now new exists treated filled other k lt = elim (cases_eq other object) [
   | inr apart ↦
       filled other k lt
-      ∙ ap (λ (b : Bool). cond b (option_or joined (box_at t.slots (plain_boxes now) other k)) (box_at t.slots (plain_boxes now) other k)) (is_of_other other object (first_slot q) (first_slot q + slots_in t.slots q) k apart)
+      ∙ ap (λ (b : Bool). cond b (option_or joined (box_at (plain_rows now) other k)) (box_at (plain_rows now) other k)) (is_of_other other object (first_slot q) (first_slot q + slots_in t.slots q) k apart)
       ∙ treated other k lt
       ∙ ap (choose other) (not_own other object (first_slot q) k apart ∙ sym (not_own other object (first_slot (q + 1)) k apart))
-  | inl same ↦ subst (λ (o : ℕ). box_at t.slots (plain_boxes new) o k ≡ choose o (o == object && nat_lt k (first_slot (q + 1)))) (sym same)
+  | inl same ↦ subst (λ (o : ℕ). box_at (plain_rows new) o k ≡ choose o (o == object && nat_lt k (first_slot (q + 1)))) (sym same)
       (elim (cases_lt k (first_slot q)) [
         | inl early ↦
             filled object k lt ∙ ap still (is_before object (first_slot q) (first_slot q + slots_in t.slots q) k early)
@@ -96,7 +85,7 @@ block_filled t object q now new exists treated filled other k lt = elim (cases_e
         | inr late ↦ elim (cases_lt k (first_slot q + slots_in t.slots q)) [
           | inl inside ↦
               let block : k / BLOCK ≡ q = block_of_slot t.slots q k (record { from = late; to = inside }) in
-              let before : box_at t.slots (plain_boxes now) object k ≡ box_at t.slots (plain_boxes t.current) object k = treated object k lt ∙ ap (choose object) (own_behind object (first_slot q) k late) in
+              let before : box_at (plain_rows now) object k ≡ box_at (plain_rows t.current) object k = treated object k lt ∙ ap (choose object) (own_behind object (first_slot q) k late) in
               let joined_here : joined ≡ joined_of t object (first_slot (k / BLOCK)) (slots_in t.slots (k / BLOCK)) =
               joined_still t object q q now treated exists ∙ ap (λ (p : ℕ). joined_of t object (first_slot p) (slots_in t.slots p)) (sym block) in
               filled object k lt ∙ ap still (is_inside object (first_slot q) (first_slot q + slots_in t.slots q) k late inside)
@@ -114,10 +103,10 @@ block_filled t object q now new exists treated filled other k lt = elim (cases_e
     joined = joined_of (with_boxes t t.slots now) object (first_slot q) (slots_in t.slots q)
 
     still : Bool → Option PlainBox
-    still b = cond b (option_or joined (box_at t.slots (plain_boxes now) object k)) (box_at t.slots (plain_boxes now) object k)
+    still b = cond b (option_or joined (box_at (plain_rows now) object k)) (box_at (plain_rows now) object k)
 
     choose : ℕ → Bool → Option PlainBox
-    choose o b = cond b (option_or (joined_of t object (first_slot (k / BLOCK)) (slots_in t.slots (k / BLOCK))) (box_at t.slots (plain_boxes t.current) o k)) (box_at t.slots (plain_boxes t.current) o k)
+    choose o b = cond b (option_or (joined_of t object (first_slot (k / BLOCK)) (slots_in t.slots (k / BLOCK))) (box_at (plain_rows t.current) o k)) (box_at (plain_rows t.current) o k)
 
 -- the slots of a block, as a program has them
 pub record AreSlotsOf (slots q all first count : ℕ) : Type 0 where
@@ -125,7 +114,7 @@ pub record AreSlotsOf (slots q all first count : ℕ) : Type 0 where
   pub from : first ≡ first_slot q
   pub many : count ≡ slots_in slots q
 
-pub one_block_more : (t : Treated) (object q all first count : ℕ) (now new : List (Option AxisBox)) → AreSlotsOf t.slots q all first count → q < block_count t.slots → IsTreatedTo t object q now
+pub one_block_more : (t : Treated) (object q all first count : ℕ) (now new : List (List (Option AxisBox))) → AreSlotsOf t.slots q all first count → q < block_count t.slots → IsTreatedTo t object q now
     → IsFilled all object first count (joined_of (with_boxes t all now) object first count) now new → IsTreatedTo t object (q + 1) new
 one_block_more t object q all first count now new are exists treated filled =
     block_filled t object q now new exists treated
@@ -134,18 +123,18 @@ one_block_more t object q all first count now new are exists treated filled =
     (subst (λ (a : ℕ). IsFilled a object first count (joined_of (with_boxes t a now) object first count) now new) are.same filled)))
 
 -- what is listed in it
-pub block_listed : (t : Treated) (object q all first count : ℕ) (now : List (Option AxisBox)) → AreSlotsOf t.slots q all first count → q < block_count t.slots → IsTreatedTo t object q now
+pub block_listed : (t : Treated) (object q all first count : ℕ) (now : List (List (Option AxisBox))) → AreSlotsOf t.slots q all first count → q < block_count t.slots → IsTreatedTo t object q now
     → listed_of (with_boxes t all now) object first count ≡ block_of t object q
 block_listed t object q all first count now are exists treated =
     (λ i. listed_of (with_boxes t (are.same i) now) object (are.from i) (are.many i))
-    ∙ ap (listed_in (box_at t.slots (plain_boxes t.boxes)) object (first_slot q) (slots_in t.slots q)) (joined_still t object q q now treated exists)
+    ∙ ap (listed_in (box_at (plain_rows t.boxes)) object (first_slot q) (slots_in t.slots q)) (joined_still t object q q now treated exists)
 
 -- after all blocks
-pub all_treated : (t : Treated) (object blocks : ℕ) (new : List (Option AxisBox)) → block_count t.slots ≤ blocks → IsTreatedTo t object blocks new → IsTreated t object new
+pub all_treated : (t : Treated) (object blocks : ℕ) (new : List (List (Option AxisBox))) → block_count t.slots ≤ blocks → IsTreatedTo t object blocks new → IsTreated t object new
 all_treated t object blocks new all treated other k lt = treated other k lt ∙ ap choose (whole (eqb other object))
   where
     choose : Bool → Option PlainBox
-    choose b = cond b (option_or (joined_of t object (first_slot (k / BLOCK)) (slots_in t.slots (k / BLOCK))) (box_at t.slots (plain_boxes t.current) other k)) (box_at t.slots (plain_boxes t.current) other k)
+    choose b = cond b (option_or (joined_of t object (first_slot (k / BLOCK)) (slots_in t.slots (k / BLOCK))) (box_at (plain_rows t.current) other k)) (box_at (plain_rows t.current) other k)
 
     whole : (b : Bool) → (b && nat_lt k (first_slot blocks)) ≡ b
     whole true = let within : k < first_slot blocks = omega arith in grind (arith, nat_tests)
@@ -154,26 +143,26 @@ all_treated t object blocks new all treated other k lt = treated other k lt ∙ 
 -- ---- one object more
 
 -- the current boxes of a program are those of what is given
-abbrev pub AreCurrent : Given → ℕ → List (Option AxisBox) → Type 0
-AreCurrent g n current = (other slot : ℕ) → slot < g.slots → box_at g.slots (plain_boxes current) other slot ≡ current_boxes g n other slot
+abbrev pub AreCurrent : Given → ℕ → List (List (Option AxisBox)) → Type 0
+AreCurrent g n current = (other slot : ℕ) → slot < g.slots → box_at (plain_rows current) other slot ≡ current_boxes g n other slot
 
 -- an object of what is given, with its pairs
-abbrev pub treated : List Pair → List Pair → ℕ → ℕ → List (Option AxisBox) → List (Option AxisBox) → List ℕ → ℕ → Treated
+abbrev pub treated : List Pair → List Pair → ℕ → ℕ → List (List (Option AxisBox)) → List (List (Option AxisBox)) → List ℕ → ℕ → Treated
 treated kept pairs objects slots boxes current sizes thr = record { pairs = pairs; slots = slots; boxes = boxes; current = current; sizes = sizes; threshold = thr }
 
-joined_as : (kept pairs : List Pair) (objects slots : ℕ) (boxes current : List (Option AxisBox)) (sizes : List ℕ) (thr n q : ℕ) → map objects_of pairs ≡ filter (is_pair_of n) (map objects_of kept)
+joined_as : (kept pairs : List Pair) (objects slots : ℕ) (boxes current : List (List (Option AxisBox))) (sizes : List ℕ) (thr n q : ℕ) → map objects_of pairs ≡ filter (is_pair_of n) (map objects_of kept)
     → AreCurrent (given kept objects slots boxes sizes thr) n current → q < block_count slots
     → joined_of (treated kept pairs objects slots boxes current sizes thr) n (first_slot q) (slots_in slots q)
     ≡ joined_in (given kept objects slots boxes sizes thr) (current_boxes (given kept objects slots boxes sizes thr) n) n q
 joined_as kept pairs objects slots boxes current sizes thr n q same are exists =
-    ap (λ (ps : List (ℕ × ℕ)). joined_box thr sizes ps (box_at slots (plain_boxes boxes)) (box_at slots (plain_boxes current)) n (range_with_len (first_slot q) (slots_in slots q))) same
-    ∙ joined_same thr sizes (filter (is_pair_of n) (map objects_of kept)) (box_at slots (plain_boxes boxes)) (box_at slots (plain_boxes current))
+    ap (λ (ps : List (ℕ × ℕ)). joined_box thr sizes ps (box_at (plain_rows boxes)) (box_at (plain_rows current)) n (range_with_len (first_slot q) (slots_in slots q))) same
+    ∙ joined_same thr sizes (filter (is_pair_of n) (map objects_of kept)) (box_at (plain_rows boxes)) (box_at (plain_rows current))
     (current_boxes (given kept objects slots boxes sizes thr) n) n (first_slot q) (slots_in slots q)
     (Each-always (λ pair. (slot : ℕ) → first_slot q ≤ slot → slot < first_slot q + slots_in slots q
-    → box_at slots (plain_boxes current) (partner_of n pair) slot ≡ current_boxes (given kept objects slots boxes sizes thr) n (partner_of n pair) slot)
+    → box_at (plain_rows current) (partner_of n pair) slot ≡ current_boxes (given kept objects slots boxes sizes thr) n (partner_of n pair) slot)
     (λ pair slot low high. are (partner_of n pair) slot (omega arith)) (filter (is_pair_of n) (map objects_of kept)))
 
-pub one_object_more : (kept pairs : List Pair) (objects slots : ℕ) (boxes current new : List (Option AxisBox)) (sizes : List ℕ) (thr n : ℕ) → map objects_of pairs ≡ filter (is_pair_of n) (map objects_of kept)
+pub one_object_more : (kept pairs : List Pair) (objects slots : ℕ) (boxes current new : List (List (Option AxisBox))) (sizes : List ℕ) (thr n : ℕ) → map objects_of pairs ≡ filter (is_pair_of n) (map objects_of kept)
     → AreCurrent (given kept objects slots boxes sizes thr) n current → IsTreated (treated kept pairs objects slots boxes current sizes thr) n new
     → AreCurrent (given kept objects slots boxes sizes thr) (suc n) new
 one_object_more kept pairs objects slots boxes current new sizes thr n same are is other k lt = is other k lt ∙ elim (cases_eq other n) [
@@ -181,7 +170,7 @@ one_object_more kept pairs objects slots boxes current new sizes thr n same are 
   | inl own ↦ subst (λ (o : ℕ). choose o (o == n) ≡ current_boxes g (suc n) o k) (sym own)
       (let joined : joined_of t n (first_slot (k / BLOCK)) (slots_in slots (k / BLOCK)) ≡ joined_in g (current_boxes g n) n (k / BLOCK) =
       joined_as kept pairs objects slots boxes current sizes thr n (k / BLOCK) same are (omega arith) in
-      let before : box_at slots (plain_boxes current) n k ≡ box_given g n k = are n k lt ∙ not_yet g n n k (omega arith) in
+      let before : box_at (plain_rows current) n k ≡ box_given g n k = are n k lt ∙ not_yet g n n k (omega arith) in
       ap (choose n) (same_number n) ∙ (λ i. option_or (joined i) (before i)) ∙ sym (just_now g n k))
 ]
   where
@@ -192,17 +181,17 @@ one_object_more kept pairs objects slots boxes current new sizes thr n same are 
     t = treated kept pairs objects slots boxes current sizes thr
 
     choose : ℕ → Bool → Option PlainBox
-    choose o b = cond b (option_or (joined_of t n (first_slot (k / BLOCK)) (slots_in slots (k / BLOCK))) (box_at slots (plain_boxes current) o k)) (box_at slots (plain_boxes current) o k)
+    choose o b = cond b (option_or (joined_of t n (first_slot (k / BLOCK)) (slots_in slots (k / BLOCK))) (box_at (plain_rows current) o k)) (box_at (plain_rows current) o k)
 
 -- what is listed of the object
-pub object_listed : (kept pairs : List Pair) (objects slots : ℕ) (boxes current : List (Option AxisBox)) (sizes : List ℕ) (thr n : ℕ) → map objects_of pairs ≡ filter (is_pair_of n) (map objects_of kept)
+pub object_listed : (kept pairs : List Pair) (objects slots : ℕ) (boxes current : List (List (Option AxisBox))) (sizes : List ℕ) (thr n : ℕ) → map objects_of pairs ≡ filter (is_pair_of n) (map objects_of kept)
     → AreCurrent (given kept objects slots boxes sizes thr) n current
     → flat_map (block_of (treated kept pairs objects slots boxes current sizes thr) n) (range_with_len 0 (block_count slots))
     ≡ flat_map (blocks_in (given kept objects slots boxes sizes thr) n) (range_with_len 0 (block_count slots))
 object_listed kept pairs objects slots boxes current sizes thr n same are =
     flat_map_alike (block_of (treated kept pairs objects slots boxes current sizes thr) n) (blocks_in (given kept objects slots boxes sizes thr) n) (range_with_len 0 (block_count slots))
     (Each-range (λ q. block_of (treated kept pairs objects slots boxes current sizes thr) n q ≡ blocks_in (given kept objects slots boxes sizes thr) n q) 0 (block_count slots)
-    (λ q low high. ap (listed_in (box_at slots (plain_boxes boxes)) n (first_slot q) (slots_in slots q)) (joined_as kept pairs objects slots boxes current sizes thr n q same are (omega arith))))
+    (λ q low high. ap (listed_in (box_at (plain_rows boxes)) n (first_slot q) (slots_in slots q)) (joined_as kept pairs objects slots boxes current sizes thr n q same are (omega arith))))
 
 -- the list of an object among those of all
 pub list_at : (lists : List (Vec Pair Global)) (object : ℕ) (list : Vec Pair Global) → object < length lists → list ≡ get_or lists object list → pairs_at (map (λ list. list.items) lists) object ≡ list.items

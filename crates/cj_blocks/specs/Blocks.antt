@@ -14,19 +14,19 @@ pub record PlainBlock : Type 0 where
   pub last : ℕ
   pub area : PlainBox
 
--- what is given: the box of each object in each slot, in order of object and slot; the pairs that are kept; the size of each object
--- and a threshold in nm
+-- what is given: the box of each object in each slot, a row for each object; the pairs that are kept; the size of each object and a
+-- threshold in nm
 pub record Given : Type 0 where
   pub objects : ℕ
   pub slots : ℕ
-  pub boxes : List (Option PlainBox)
+  pub boxes : List (List (Option PlainBox))
   pub kept : List (ℕ × ℕ)
   pub sizes : List ℕ
   pub threshold : ℕ
 
 -- the given box of an object in a slot
 abbrev pub box_given : Given → ℕ → ℕ → Option PlainBox
-box_given g = box_at g.slots g.boxes
+box_given g = box_at g.boxes
 
 -- ---- the slots of a block
 

@@ -1,14 +1,15 @@
--- Boxes of objects by slots, in one list in order of object and slot, and the smallest box round several.
-use Rattle.std.specs.Prelude.{ℕ, ◌+◌, ◌*◌, List, [], ◌∷◌, Option, Some, None}
+-- The boxes of objects by slots, a row for each object, and the smallest box round several.
+use Rattle.std.specs.Prelude.{ℕ, List, [], ◌∷◌, Option, Some, None, option_and_then}
 use Rattle.std.specs.List.{fold}
 use Rattle.cj_case.specs.Boxes.{PlainBox}
-use Rattle.cj_bezier.specs.SlotBoxes.{reaches_in, round_two}
+use Rattle.cj_case.specs.Tables.{value_at}
+use Rattle.cj_bezier.specs.SlotBoxes.{round_two}
 
--- the box of an object in one of so many slots
-abbrev pub box_at : ℕ → List (Option PlainBox) → ℕ → ℕ → Option PlainBox
-box_at slots boxes object slot = reaches_in boxes (object * slots + slot)
+-- the box of an object in a slot, where it has one
+abbrev pub box_at : List (List (Option PlainBox)) → ℕ → ℕ → Option PlainBox
+box_at rows object slot = option_and_then (λ box. box) (value_at rows object slot)
 
--- the same where both are there
+-- the smallest box round two, where both are there
 abbrev pub round_both : Option PlainBox → Option PlainBox → Option PlainBox
 round_both None b = None
 round_both (Some a) None = None

@@ -1,4 +1,4 @@
-ghost use Rattle.std.specs.Prelude.{◌≡◌, ◌+◌, ◌*◌, ◌<◌, ◌≤◌};
+ghost use Rattle.std.specs.Prelude.{◌≡◌, ◌+◌, ◌<◌, ◌≤◌};
 ghost use Rattle.cj_blocks.specs.Blocks.{block_count, first_slot, slots_in};
 
 /// How many slots a block has where the window does not end before.
@@ -28,12 +28,5 @@ impl BlockSlots {
             first,
             count: BLOCK.min(all - first),
         }
-    }
-
-    /// Where the box of an object in a slot stands in a list by object and slot.
-    pub fn place(self, object: u32, slot: u32) -> usize
-        ensures { result ≡ object * self.all + slot }
-    {
-        object as usize * self.all as usize + slot as usize
     }
 }

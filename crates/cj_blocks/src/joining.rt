@@ -1,18 +1,17 @@
 //! Whether the slots of an object are joined.
-ghost use Rattle.std.specs.Prelude.{◌≡◌, ℕ, ◌+◌, ◌*◌, ◌^◌, ◌<◌, ◌≤◌, All, length, option_map};
+ghost use Rattle.std.specs.Prelude.{◌≡◌, ◌^◌, ◌<◌, ◌≤◌, All, length, option_map};
 ghost use Rattle.std.specs.List.{list_all, range_with_len};
 ghost use Rattle.cj_case.specs.CaseLimits.{MAX_SIZE};
 ghost use Rattle.cj_case.specs.Pairs.{objects_of};
 ghost use Rattle.cj_bezier.specs.SlotBoxes as touch;
 ghost use Rattle.cj_case.specs.Boxes.{plain_box, plain_boxes};
 ghost use Rattle.cj_blocks.specs.Blocks as spec;
-ghost use Rattle.cj_blocks.specs.BoxRows.{box_at};
-ghost use Rattle.cj_blocks.specs.Listed.{Treated, joined_of};
+ghost use Rattle.cj_blocks.specs.Listed.{joined_of};
 
 use crate::block_slots::BlockSlots;
 use crate::round_boxes::box_round;
 use cj_bezier::box_touches;
-use cj_case::{AxisBox, Pair, threshold_between};
+use cj_case::{AxisBox, BySlot, Pair, threshold_between};
 
 /// Whether two boxes are there and apart by at most a threshold on each axis.
 fn both_touch(a: &Option<AxisBox>, b: &Option<AxisBox>, thr: u64) -> bool
@@ -44,25 +43,21 @@ fn partner_of(object: u32, pair: Pair) -> u32
     if pair.a == object { pair.b } else { pair.a }
 }
 
-/// Whether in each of these slots a box touches only such current boxes of a partner as the object's own one does.
+/// Whether in each of these slots a box touches only such current boxes of a partner as the object's own one does. Given are both rows.
 fn touches_as_own(
     round: &Option<AxisBox>,
-    object: u32,
-    partner: u32,
+    own: &[Option<AxisBox>],
+    other: &[Option<AxisBox>],
     slots: BlockSlots,
-    boxes: &[Option<AxisBox>],
-    current: &[Option<AxisBox>],
     thr: u64,
 ) -> bool
-    requires own { object * slots.all + slots.all ≤ length boxes.now }
-    requires other { partner * slots.all + slots.all ≤ length current.now }
+    requires own { length own.now ≡ slots.all }
+    requires other { length other.now ≡ slots.all }
     ensures { result ≡ list_all (λ slot. spec.touches_only_as thr (option_map plain_box round.now)
-        (box_at slots.all (plain_boxes boxes.now) object slot) (box_at slots.all (plain_boxes current.now) partner slot)) (range_with_len slots.first slots.count) }
+        (touch.reaches_in (plain_boxes own.now) slot) (touch.reaches_in (plain_boxes other.now) slot)) (range_with_len slots.first slots.count) }
 {
     for slot in slots.first..slots.first + slots.count {
-        let own = &boxes[slots.place(object, slot)];
-        let other = &current[slots.place(partner, slot)];
-        if !touches_only_as(round, own, other, thr) {
+        if !touches_only_as(round, &own[slot as usize], &other[slot as usize], thr) {
             return false;
         }
     }
@@ -75,25 +70,28 @@ pub fn joined_box(
     object: u32,
     pairs: &[Pair],
     slots: BlockSlots,
-    boxes: &[Option<AxisBox>],
-    current: &[Option<AxisBox>],
+    boxes: &BySlot<Option<AxisBox>>,
+    current: &BySlot<Option<AxisBox>>,
     sizes: &[u64],
     thr: u64,
 ) -> Option<AxisBox>
     requires exists { object < length sizes.now }
     requires exist { All (λ pair. pair.b < length sizes.now) pairs.now }
-    requires all { length boxes.now ≡ length sizes.now * slots.all }
-    requires same { length current.now ≡ length sizes.now * slots.all }
+    requires all { length boxes.now.rows ≡ length sizes.now }
+    requires wide { boxes.now.slots ≡ slots.all }
+    requires same { length current.now.rows ≡ length sizes.now }
+    requires same_wide { current.now.slots ≡ slots.all }
     requires small { All (λ size. size ≤ MAX_SIZE) sizes.now }
     requires most { thr ≤ 10 ^ 15 }
-    ensures { option_map plain_box result ≡ joined_of (record { pairs = pairs.now; slots = slots.all; boxes = boxes.now; current = current.now; sizes = sizes.now; threshold = thr })
+    ensures { option_map plain_box result ≡ joined_of (record { pairs = pairs.now; slots = slots.all; boxes = boxes.now.rows; current = current.now.rows; sizes = sizes.now; threshold = thr })
         object slots.first slots.count }
 {
-    let round = Some(box_round(boxes, object, slots)?);
+    let own = boxes.of_object(object);
+    let round = Some(box_round(own, slots)?);
     for pair in pairs {
         let between = threshold_between(sizes, thr, *pair);
-        let partner = partner_of(object, *pair);
-        if !touches_as_own(&round, object, partner, slots, boxes, current, between) {
+        let other = current.of_object(partner_of(object, *pair));
+        if !touches_as_own(&round, own, other, slots, between) {
             return None;
         }
     }

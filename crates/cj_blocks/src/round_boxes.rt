@@ -1,5 +1,5 @@
 //! The smallest box round several.
-ghost use Rattle.std.specs.Prelude.{◌≡◌, ◌+◌, ◌*◌, ◌≤◌, length, map, option_map};
+ghost use Rattle.std.specs.Prelude.{◌≡◌, length, map, option_map};
 ghost use Rattle.std.specs.Int.{int_min, int_max};
 ghost use Rattle.std.specs.List.{range_with_len};
 ghost use Rattle.cj_bezier.specs.SlotBoxes as slot_boxes;
@@ -46,14 +46,14 @@ fn round_two(a: AxisBox, b: AxisBox) -> AxisBox
     }
 }
 
-/// The smallest box round those of an object in some slots, if it has one in each.
-pub fn box_round(boxes: &[Option<AxisBox>], object: u32, slots: BlockSlots) -> Option<AxisBox>
-    requires { object * slots.all + slots.all ≤ length boxes.now }
-    ensures { option_map plain_box result ≡ spec.round_all (map (spec.box_at slots.all (plain_boxes boxes.now) object) (range_with_len slots.first slots.count)) }
+/// The smallest box round those of an object in some slots, if it has one in each. Given is its row.
+pub fn box_round(row: &[Option<AxisBox>], slots: BlockSlots) -> Option<AxisBox>
+    requires { length row.now ≡ slots.all }
+    ensures { option_map plain_box result ≡ spec.round_all (map (slot_boxes.reaches_in (plain_boxes row.now)) (range_with_len slots.first slots.count)) }
 {
-    let mut round = boxes[slots.place(object, slots.first)]?;
+    let mut round = row[slots.first as usize]?;
     for slot in slots.first + 1..slots.first + slots.count {
-        round = round_two(round, boxes[slots.place(object, slot)]?);
+        round = round_two(round, row[slot as usize]?);
     }
     Some(round)
 }

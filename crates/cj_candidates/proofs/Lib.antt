@@ -1,6 +1,6 @@
 mod BoxLemmas
 mod KeepingLemmas
-mod ObjectRunLemmas
+mod MeasuredLemmas
 mod SlotRunLemmas
 pub mod CountLemmas
 pub mod NoStateLemmas

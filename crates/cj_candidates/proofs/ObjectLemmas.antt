@@ -22,7 +22,7 @@ use Rattle.cj_case.specs.Boxes.{PlainBox, plain_boxes, plain_box}
 use Rattle.cj_bezier.specs.SlotBoxes.{IsPlaceIn, box_of, touch_between}
 use Rattle.cj_bezier.specs.Candidates.{boxes_in, is_kept, is_touching, is_candidate, pairs_kept, candidate_pairs, shells_of}
 use Rattle.cj_bezier.specs.Enclosed.{AreInBoxes, AreInShells, IsInBox, IsInShell}
-use Rattle.cj_candidates.specs.ObjectRuns.{IsInOwnShell, IsInOwnBox, IsInOwnBoxes}
+use Rattle.cj_candidates.specs.MeasuredObjects.{IsInOwnShell, IsInOwnBox, IsInOwnBoxes}
 
 -- the first so many objects
 abbrev pub objects_to : ℕ → List Track → List PlainTrack

@@ -1,7 +1,7 @@
 -- Runs of slots: one slot more, and runs with those behind them.
 use Rattle.std.proofs.Common.{◌≡◌, ℕ, ◌+◌, ◌-◌, ◌*◌, ◌<◌, ◌≤◌, ◌++◌, List, [], ◌∷◌, Vec, Global, length, map, take, drop, Bool, true, false, get_or, vec_len, ◌&&◌, refl, sym, ap, subst, ◌∙◌, arith, append-nil, append_assoc, length-append}
 use Rattle.std.specs.Prelude.{All, Result, Ok, Err, IfOk, OnOk}
-use Rattle.std.specs.List.{flat_map, list_all, range_with_len, sum_by}
+use Rattle.std.specs.List.{AllPairs, flat_map, list_all, range_with_len, sum_by}
 use Rattle.std.specs.List.Sorted.{IsPermutation}
 use Rattle.std.proofs.lemmas.List.{length-take, map-append, take-append-drop, take_more}
 use Rattle.std.proofs.lemmas.List.Concat.{flat_map-append}
@@ -14,7 +14,7 @@ use Rattle.cj_threads.proofs.RunLemmas.{pushed}
 use Rattle.cj_case.specs.PlainProblems.{PlainProblem}
 use Rattle.cj_case.specs.declared.pair.Pair.{Pair}
 use Rattle.cj_case.specs.Pairs.{objects_of}
-use Rattle.cj_case.specs.Cells.{PlainCell}
+use Rattle.cj_case.specs.Cells.{PlainCell, IsRootUpTo}
 use Rattle.cj_hermite.specs.Roots.{roots_in, roots_in_slot}
 use Rattle.cj_case.specs.declared.cell.Cell.{Cell}
 use Rattle.cj_case.specs.Cells.{plain_cell, plain_cells}
@@ -210,12 +210,13 @@ candidates_over_few case from count few =
 pub all_found : (case : PlainProblem) (from count limit : ℕ) (runs : List ThreadRun) (run : SlotRun) → length case.tracks ≤ 65_535 → count < 4_294_967_296
     → AreFoundIn case (range_with_len from count) runs → AreWhole runs → length (roots_listed runs) ≤ limit
     → IsPermutation (roots_listed runs) run.roots.items → vec_len run.roots ≡ length run.roots.items → run.touching ≡ candidates_counted runs
-    → IsFound case from count limit run
-all_found case from count limit runs run objects slots found whole few merged len touching =
+    → AllPairs IsRootUpTo (plain_cells run.roots.items) → IsFound case from count limit run
+all_found case from count limit runs run objects slots found whole few merged len touching ordered =
     let all = found.touching whole in
     record {
       roots = IsPermutation-trans (roots_over case from count) (plain_cells (roots_listed runs)) (plain_cells run.roots.items) (found.roots whole)
           (IsPermutation-map plain_cell (roots_listed runs) run.roots.items merged);
+      ordered = ordered;
       few = omega (arith, few, len, length_permutation _ _ merged);
       touching = omega (arith, touching, all, candidates_over_few case from count objects, slots);
     }

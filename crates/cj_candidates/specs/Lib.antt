@@ -1,3 +1,3 @@
 pub mod Counts
-pub mod ObjectRuns
+pub mod MeasuredObjects
 pub mod SlotRuns

@@ -1,9 +1,9 @@
 -- What is found in some slots.
 use Rattle.std.specs.Prelude.{◌≡◌, ℕ, ◌<◌, ◌≤◌, List, length, min, true, vec_len, Result, IfOk, IsErrOf}
-use Rattle.std.specs.List.{flat_map, list_all, range_with_len, sum_by}
+use Rattle.std.specs.List.{AllPairs, flat_map, list_all, range_with_len, sum_by}
 use Rattle.std.specs.List.Sorted.{IsPermutation}
 use Rattle.cj_case.specs.PlainProblems.{PlainProblem}
-use Rattle.cj_case.specs.Cells.{PlainCell}
+use Rattle.cj_case.specs.Cells.{PlainCell, IsRootUpTo}
 use Rattle.cj_hermite.specs.Roots.{roots_in_slot}
 use Rattle.cj_case.specs.declared.cell.Cell.{Cell}
 use Rattle.cj_case.specs.Cells.{plain_cells}
@@ -28,9 +28,10 @@ roots_over case from count = roots_at case (range_with_len from count)
 abbrev pub candidates_over : PlainProblem → ℕ → ℕ → ℕ
 candidates_over case from count = candidates_at case (range_with_len from count)
 
--- these are found, in whatever order, at most so many
+-- these are found, at most so many, and stand in order of pair and tick
 pub record IsFound (case : PlainProblem) (from count limit : ℕ) (run : SlotRun) : Type 0 where
   pub roots : IsPermutation (roots_over case from count) (plain_cells run.roots.items)
+  pub ordered : AllPairs IsRootUpTo (plain_cells run.roots.items)
   pub few : vec_len run.roots ≤ limit
   pub touching : run.touching ≡ candidates_over case from count
 

@@ -1,12 +1,10 @@
-use cj_case::{AxisBox, Cell, Shell};
+use cj_case::{Cell, Measured};
 
 /// What is found of a problem before any cell is halved.
 #[derive(Debug, Drop)]
 pub struct Candidates {
-    /// The shell of each object in the window.
-    pub shells: Vec<Option<Shell>>,
-    /// The box of each object in each slot, in order of object and slot.
-    pub boxes: Vec<Option<AxisBox>>,
+    /// The shells and boxes of its objects.
+    pub measured: Measured,
     /// How many pairs are kept: their shells are not parted.
     pub kept: u64,
     /// The roots of the candidates of each slot, in order of pair and time, each with its place as its number.

@@ -1,26 +1,23 @@
-//! The candidates of a problem, with their roots: shells and boxes first, then one slot after another; at the end the roots are put in order.
+//! The candidates of a problem, with their roots: shells and boxes first, then one slot after another; at the end the roots, which come in order, are numbered.
 ghost use Rattle.std.specs.Prelude.{◌≡◌, ◌<◌, ◌≤◌, length, vec_len, IfOk, OnOk, IsErrOf};
 ghost use Rattle.std.specs.List.{range_with_len};
 ghost use Rattle.cj_base.specs.Bounds.{MOST_LEAVES};
 ghost use Rattle.cj_case.specs.Problems.{plain_problem};
-ghost use Rattle.cj_case.specs.Slots.{slot_count};
-ghost use Rattle.cj_case.specs.Boxes.{plain_boxes};
 ghost use Rattle.cj_case.specs.Cells.{plain_cells};
-ghost use Rattle.cj_bezier.specs.Candidates.{shells_of, is_candidate, pairs_kept};
+ghost use Rattle.cj_bezier.specs.Candidates.{is_candidate, pairs_kept};
 ghost use Rattle.cj_hermite.specs.Roots.{roots_of};
-ghost use Rattle.cj_bezier.specs.AllBoxes.{boxes_of};
+ghost use Rattle.cj_bezier.specs.MeasuredObjects.{AreMeasured};
 ghost use Rattle.cj_cells.specs.Cells.{root_numbers};
 ghost use Rattle.cj_candidates.specs.Counts.{candidate_count};
 ghost use Rattle.cj_bezier.specs.Enclosed.{OthersAreFar};
 
 use crate::candidates::Candidates;
 use crate::ground::Ground;
-use crate::object_run::ObjectRun;
 use crate::objects_measured::measure_objects;
 use crate::slot_run::SlotRun;
 use crate::slots_searched::search_slots;
 use cj_case::{Problem, slot_count};
-use cj_cells::{RefineError, order_roots};
+use cj_cells::{RefineError, number_roots};
 use cj_sieve::{ShelledObjects, count_kept};
 use std::alloc::Global;
 use std::thread::Threads;
@@ -30,7 +27,7 @@ fn count_of_kept(ground: &Ground<'_>) -> u64
     ensures { result ≡ length (pairs_kept (plain_problem ground.now.problem.now)) }
 {
     let objects = ShelledObjects {
-        shells: ground.shells,
+        shells: &ground.measured.shells,
         sizes: ground.problem.sizes.as_slice(),
         thr: ground.problem.threshold,
     };
@@ -56,7 +53,7 @@ fn search_all<R: Threads + Sync>(
     ensures touching { IfOk result (λ run. run.touching ≡ candidate_count (plain_problem ground.now.problem.now)) }
 {
     let mut found = search_slots(rt, alloc, ground, 0, ground.slots, workers, limit)?;
-    order_roots(&mut found.roots);
+    number_roots(&mut found.roots);
     Ok(found)
 }
 
@@ -71,8 +68,7 @@ pub fn find_candidates<R: Threads + Sync>(
     requires { limit ≤ MOST_LEAVES }
     ensures too_many { IsErrOf result RefineError.TooMany → limit < length (roots_of (is_candidate (plain_problem problem.now)) (plain_problem problem.now)) }
 
-    ensures shells { IfOk result (λ found. found.shells.items ≡ shells_of (plain_problem problem.now)) }
-    ensures boxes { IfOk result (λ found. plain_boxes found.boxes.items ≡ boxes_of (plain_problem problem.now)) }
+    ensures measured { IfOk result (λ found. AreMeasured (plain_problem problem.now) found.measured) }
     ensures kept { IfOk result (λ found. found.kept ≡ length (pairs_kept (plain_problem problem.now))) }
     ensures roots { IfOk result (λ found. plain_cells found.roots.items ≡ roots_of (is_candidate (plain_problem problem.now)) (plain_problem problem.now)) }
     ensures numbered { IfOk result (λ found. root_numbers found.roots.items ≡ range_with_len 0 (vec_len found.roots)) }
@@ -84,25 +80,16 @@ pub fn find_candidates<R: Threads + Sync>(
 {
     let tracks = problem.tracks.as_slice();
     let slots = slot_count(problem.window);
-    let ObjectRun { shells, boxes } = measure_objects(
-        rt,
-        alloc,
-        tracks,
-        problem.window,
-        slots,
-        workers,
-    )?;
+    let measured = measure_objects(rt, alloc, tracks, problem.window, slots, workers)?;
     let ground = Ground {
         problem,
-        shells: &shells,
-        boxes: &boxes,
+        measured: &measured,
         slots,
     };
     let kept = count_of_kept(&ground);
     let SlotRun { roots, touching } = search_all(rt, alloc, &ground, workers, limit)?;
     Ok(Candidates {
-        shells,
-        boxes,
+        measured,
         kept,
         roots,
         touching,

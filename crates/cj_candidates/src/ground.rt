@@ -1,22 +1,21 @@
 ghost use Rattle.std.specs.Prelude.{◌≡◌};
 ghost use Rattle.cj_case.specs.Problems.{plain_problem};
 ghost use Rattle.cj_case.specs.Slots.{slot_count};
-ghost use Rattle.cj_case.specs.Boxes.{plain_boxes};
+ghost use Rattle.cj_case.specs.Boxes.{plain_rows};
 ghost use Rattle.cj_bezier.specs.Candidates.{shells_of};
 ghost use Rattle.cj_bezier.specs.AllBoxes.{boxes_of};
 
-use cj_case::{AxisBox, Problem, Shell};
+use cj_case::{Measured, Problem};
 
 /// What is known of the objects of a problem before their pairs are compared: their shells, and their boxes in all slots.
 #[derive(Clone, Copy)]
 pub struct Ground<'g> {
     pub problem: &'g Problem,
-    pub shells: &'g [Option<Shell>],
-    /// In order of object and slot.
-    pub boxes: &'g [Option<AxisBox>],
+    pub measured: &'g Measured,
     /// How many slots the window has.
     pub slots: u32,
-    pub ghost in_shells: { shells.now ≡ shells_of (plain_problem problem.now) },
-    pub ghost in_boxes: { plain_boxes boxes.now ≡ boxes_of (plain_problem problem.now) },
+    pub ghost in_shells: { measured.now.shells.items ≡ shells_of (plain_problem problem.now) },
+    pub ghost in_boxes: { plain_rows measured.now.boxes.rows ≡ boxes_of (plain_problem problem.now) },
+    pub ghost in_slots: { measured.now.boxes.slots ≡ slots },
     pub ghost counted: { slots ≡ slot_count problem.now.window.first.micros problem.now.window.last.micros },
 }

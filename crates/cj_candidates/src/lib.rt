@@ -7,7 +7,7 @@ mod crowding;
 mod filtering;
 mod ground;
 mod keeping;
-mod object_run;
+mod measured_object;
 mod objects_measured;
 mod slot_boxes;
 mod slot_run;

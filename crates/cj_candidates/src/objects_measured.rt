@@ -1,23 +1,23 @@
-//! The shells and boxes of some objects: one object after another, or by several threads that take the next few objects each.
-ghost use Rattle.std.specs.Prelude.{◌≡◌, ◌<◌, ◌++◌, [], flat_map, IfOk, OnOk};
-ghost use Rattle.std.specs.Thread.{IsSync};
+//! The shells and boxes of objects, by several threads that take the next object each.
+ghost use Rattle.std.specs.Prelude.{◌≡◌, ◌<◌, ◌++◌, All, IfOk, OnOk, get_or, length, map};
+ghost use Rattle.cj_track.specs.declared.track.Track.{Track};
 ghost use Rattle.cj_track.specs.Tracks.{plain_track};
 ghost use Rattle.cj_bezier.specs.Shells.{shell_of};
 ghost use Rattle.cj_case.specs.Boxes.{plain_boxes};
 ghost use Rattle.cj_bezier.specs.AllBoxes.{boxes_over};
 ghost use Rattle.cj_walk.specs.TrackWalks.{IsWalk};
-ghost use Rattle.cj_candidates.specs.ObjectRuns.{AreMeasured, AreMeasuredIn, IsInOwnBoxes, IsInOwnShell};
+ghost use Rattle.cj_candidates.specs.MeasuredObjects.{AreTheirs, IsInOwnBoxes, IsInOwnShell, IsMeasured};
 
-use crate::object_run::ObjectRun;
+use crate::measured_object::MeasuredObject;
 use cj_base::Window;
-use cj_case::{AxisBox, Shell};
+use cj_case::{AxisBox, BySlot, Measured, Shell};
 use cj_grid::slot_box;
 use cj_sieve::shell;
-use cj_threads::{Nobody, map_parts, ready_list};
+use cj_threads::{Nobody, all_made, map_dealt};
 use cj_track::Track;
 use cj_walk::TrackWalk;
 use std::alloc::{AllocError, Global};
-use std::thread::{Threads, join};
+use std::thread::Threads;
 
 /// Appends the boxes of a walk's track in so many slots.
 fn append_boxes(
@@ -61,96 +61,37 @@ fn measure(
     Ok(Some(shell(walk)))
 }
 
-/// Some objects, one after another.
-fn measure_in_turn(
+/// An object by itself.
+fn measure_object(
     alloc: Global,
-    tracks: &[Track],
+    track: &Track,
     window: Window,
     slots: u32,
-) -> Result<ObjectRun, AllocError>
-    ensures { IfOk result (AreMeasured tracks.now window.first.micros window.last.micros slots) }
+) -> Result<MeasuredObject, AllocError>
+    ensures { IfOk result (IsMeasured (plain_track track.now) window.first.micros window.last.micros slots) }
 {
-    let mut shells = Vec::with_capacity(alloc, tracks.len())?;
-    let mut boxes = Vec::with_capacity(alloc, tracks.len().saturating_mul(slots as usize))?;
-    for track in tracks {
-        let shell = measure(track, window, slots, &mut boxes)?;
-        shells.push(shell)?;
+    let mut boxes = Vec::with_capacity(alloc, slots as usize)?;
+    let shell = measure(track, window, slots, &mut boxes)?;
+    Ok(MeasuredObject { shell, boxes })
+}
+
+/// Objects in one, each with its row.
+fn in_one(alloc: Global, objects: Vec<MeasuredObject>, slots: u32) -> Result<Measured, AllocError>
+    requires { All (λ one. length one.boxes.items ≡ slots) objects.items }
+    ensures shells { IfOk result (λ all. all.shells.items ≡ map (λ one. one.shell) objects.items) }
+    ensures boxes { IfOk result (λ all. all.boxes ≡ record { rows = map (λ one. one.boxes.items) objects.items; slots = slots }) }
+{
+    let mut shells = Vec::with_capacity(alloc, objects.len())?;
+    let mut boxes = BySlot::new(alloc, slots);
+    for one in objects {
+        shells.push(one.shell)?;
+        boxes.push(one.boxes)?;
     }
-    Ok(ObjectRun { shells, boxes })
+    Ok(Measured { shells, boxes })
 }
 
-/// So many objects a thread takes at once.
-const OBJECTS_A_PART: usize = 4;
-
-/// Some objects in runs, by as many threads as there are workers: each takes the next few objects that no other has taken.
-fn measure_runs<R: Threads + Sync>(
-    rt: &R,
-    alloc: Global,
-    tracks: &[Track],
-    window: Window,
-    slots: u32,
-    workers: usize,
-) -> Result<Vec<ObjectRun>, AllocError>
-    ensures { IfOk result (λ runs. AreMeasuredIn tracks.now window.first.micros window.last.micros slots runs.items) }
-{
-    let measure = |some: &[Track]| -> Result<ObjectRun, AllocError>
-        ensures { IfOk result (AreMeasured some.now window.first.micros window.last.micros slots) }
-    { measure_in_turn(alloc, some, window, slots) };
-    map_parts(
-        rt,
-        alloc,
-        tracks,
-        OBJECTS_A_PART,
-        workers,
-        &Nobody,
-        &measure,
-    )
-}
-
-/// The shells and boxes of some runs, one run behind another: shells into a list with room for so many, boxes into an empty list that is given.
-fn put_together(
-    alloc: Global,
-    runs: &[ObjectRun],
-    count: usize,
-    mut boxes: Vec<Option<AxisBox>>,
-) -> Result<ObjectRun, AllocError>
-    requires empty { boxes.items ≡ [] }
-    ensures shells { IfOk result (λ all. all.shells.items ≡ flat_map (λ run. run.shells.items) runs.now) }
-    ensures boxes { IfOk result (λ all. all.boxes.items ≡ flat_map (λ run. run.boxes.items) runs.now) }
-{
-    let mut shells = Vec::with_capacity(alloc, count)?;
-    for run in runs {
-        shells.extend_from_slice(&run.shells)?;
-        boxes.extend_from_slice(&run.boxes)?;
-    }
-    Ok(ObjectRun { shells, boxes })
-}
-
-/// Some objects, by as many threads as there are workers, and beside that the list is made that takes all boxes.
-fn measure_by_threads<R: Threads + Sync>(
-    rt: &R,
-    alloc: Global,
-    tracks: &[Track],
-    window: Window,
-    slots: u32,
-    workers: usize,
-) -> Result<ObjectRun, AllocError>
-    ensures { IfOk result (AreMeasured tracks.now window.first.micros window.last.micros slots) }
-{
-    let count = tracks.len().saturating_mul(slots as usize);
-    let measure = || -> Result<Vec<ObjectRun>, AllocError>
-        requires { IsSync R.row }
-        ensures { IfOk result (λ runs. AreMeasuredIn tracks.entry.now window.first.micros window.last.micros slots runs.items) }
-    { measure_runs(rt, alloc, tracks, window, slots, workers) };
-    let make = || -> Result<Vec<Option<AxisBox>>, AllocError>
-        ensures { IfOk result (λ boxes. boxes.items ≡ []) }
-    { ready_list(alloc, Some(None), count) };
-    let (runs, boxes) = join(rt, measure, make);
-    let runs = runs?;
-    put_together(alloc, &runs, tracks.len(), boxes?)
-}
-
-/// The shells of some objects in a window, and their boxes in so many of its slots, by as many threads as there are workers.
+/// The shells of objects in a window, and their boxes in so many of its slots, by as many threads as there are workers: each takes the next
+/// object and makes its row.
 pub fn measure_objects<R: Threads + Sync>(
     rt: &R,
     alloc: Global,
@@ -158,11 +99,14 @@ pub fn measure_objects<R: Threads + Sync>(
     window: Window,
     slots: u32,
     workers: u32,
-) -> Result<ObjectRun, AllocError>
-    ensures { IfOk result (AreMeasured tracks.now window.first.micros window.last.micros slots) }
+) -> Result<Measured, AllocError>
+    ensures { IfOk result (λ all. AreTheirs tracks.now window.first.micros window.last.micros slots all.shells.items all.boxes) }
 {
-    if workers < 2 {
-        return measure_in_turn(alloc, tracks, window, slots);
-    }
-    measure_by_threads(rt, alloc, tracks, window, slots, workers as usize)
+    let measure = |object: usize| -> Result<MeasuredObject, AllocError>
+        requires { object < length tracks.now }
+        ensures { (d : Track) → IfOk result (IsMeasured (plain_track (get_or tracks.entry.now object d)) window.first.micros window.last.micros slots) }
+    { measure_object(alloc, &tracks[object], window, slots) };
+    let made = map_dealt(rt, alloc, tracks.len(), workers as usize, &Nobody, &measure)?;
+    let objects = all_made(alloc, made)?;
+    in_one(alloc, objects, slots)
 }

@@ -1,5 +1,5 @@
 //! The roots of a run of slots: slot by slot, or by several threads.
-ghost use Rattle.std.specs.Prelude.{◌≡◌, ◌+◌, ◌<◌, ◌≤◌, length, map, min, flat_map, IfOk};
+ghost use Rattle.std.specs.Prelude.{◌≡◌, ◌+◌, ◌<◌, ◌≤◌, AllPairs, length, map, min, flat_map, IfOk};
 ghost use Rattle.std.specs.List.{list_all, range_with_len};
 ghost use Rattle.std.specs.List.Sorted.{IsPermutation};
 ghost use Rattle.cj_base.specs.Bounds.{MOST_LEAVES};
@@ -7,6 +7,7 @@ ghost use Rattle.cj_case.specs.Pairs.{objects_of};
 ghost use Rattle.cj_case.specs.Problems.{plain_problem};
 ghost use Rattle.cj_bezier.specs.Candidates.{boxes_in, candidate_pairs};
 ghost use Rattle.cj_case.specs.Boxes.{plain_boxes};
+ghost use Rattle.cj_case.specs.Cells.{IsRootUpTo, plain_cells};
 ghost use Rattle.cj_candidates.specs.SlotRuns.{AreSought, candidates_counted, roots_listed};
 
 use crate::ground::Ground;
@@ -37,7 +38,7 @@ pub fn candidates_among(
     let sizes = problem.sizes.as_slice();
     let touching = find_touching(alloc, boxes, sizes, problem.threshold)?;
     let objects = ShelledObjects {
-        shells: ground.shells,
+        shells: &ground.measured.shells,
         sizes,
         thr: problem.threshold,
     };
@@ -49,12 +50,11 @@ fn candidates_paired(alloc: Global, ground: &Ground<'_>, slot: u32) -> Result<Ve
     requires exists { slot < ground.now.slots }
     ensures { IfOk result (λ pairs. map objects_of pairs.items ≡ candidate_pairs (plain_problem ground.now.problem.now) slot) }
 {
-    let here = boxes_in_slot(alloc, ground.problem, ground.boxes, ground.slots, slot)?;
+    let here = boxes_in_slot(alloc, ground, slot)?;
     candidates_among(alloc, ground, slot, &here)
 }
 
-/// So many slots from one on, one after another, with at most so many roots. They are sorted, so that merging them takes one pass;
-/// no clause hangs on their order.
+/// So many slots from one on, one after another, with at most so many roots.
 fn search_in_turn(
     alloc: Global,
     ground: &Ground<'_>,
@@ -139,6 +139,7 @@ fn merged<R: Threads + Sync>(
     workers: u32,
 ) -> Result<SlotRun, AllocError>
     ensures roots { IfOk result (λ run. IsPermutation (roots_listed runs.items) run.roots.items) }
+    ensures ordered { IfOk result (λ run. AllPairs IsRootUpTo (plain_cells run.roots.items)) }
     ensures touching { IfOk result (λ run. run.touching ≡ candidates_counted runs.items) }
 {
     let touching = touching_in(&runs);

@@ -117,7 +117,7 @@ fn search_slot(
     ensures kept { OnOk result (take (vec_len run.old.roots) run.new.roots.items ≡ run.old.roots.items) }
     ensures stays { run.new.whole ≡ run.old.whole }
 {
-    let here = boxes_in_slot(alloc, ground.problem, ground.boxes, ground.slots, slot)?;
+    let here = boxes_in_slot(alloc, ground, slot)?;
     let is_crowded = is_crowd(&here);
     if !together.begin(limit, is_crowded) {
         return Ok(false);

@@ -1,3 +1,4 @@
 pub mod PairLemmas
 pub mod PairOrderLemmas
 pub mod SlotLemmas
+pub mod TableLemmas

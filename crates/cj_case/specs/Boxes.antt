@@ -24,3 +24,7 @@ plain_box box = record {
 -- how far the boxes of a list reach
 abbrev pub plain_boxes : List (Option AxisBox) → List (Option PlainBox)
 plain_boxes boxes = map (option_map plain_box) boxes
+
+-- how far the boxes of objects reach, a row for each object
+abbrev pub plain_rows : List (List (Option AxisBox)) → List (List (Option PlainBox))
+plain_rows rows = map plain_boxes rows

@@ -9,3 +9,4 @@ pub mod Pairs
 pub mod PlainProblems
 pub mod Problems
 pub mod Slots
+pub mod Tables

@@ -1,12 +1,14 @@
 //! What a run is asked, and what is found: tracks, window, threshold and sizes as a problem, its slots, pairs and their order; shells, boxes,
-//! cells, leaves and encounters.
+//! cells, leaves and encounters; and values by object and slot.
 #![tactic(auto)]
 
 mod axis_box;
+mod by_slot;
 mod cell;
 mod encounter;
 mod kind;
 mod leaf;
+mod measured;
 mod pair;
 mod problem;
 mod shells;
@@ -16,14 +18,16 @@ mod thresholds;
 mod tracks;
 
 pub use axis_box::AxisBox;
+pub use by_slot::BySlot;
 pub use cell::Cell;
 pub use encounter::{Closest, Encounter, Mark};
 pub use kind::Kind;
 pub use leaf::Leaf;
+pub use measured::Measured;
 pub use pair::Pair;
 pub use problem::Problem;
 pub use shells::Shell;
 pub use sizes::Sizes;
 pub use slots::{SLOT, slot_count, slot_window};
-pub use thresholds::threshold_between;
+pub use thresholds::{BAND, threshold_between};
 pub use tracks::Tracks;

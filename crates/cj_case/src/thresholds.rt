@@ -1,9 +1,12 @@
-//! The threshold of a pair.
+//! The threshold of a pair, and how near to it a distance may be undecided.
 ghost use Rattle.std.specs.Prelude.{◌≡◌, ◌*◌, ◌^◌, ◌<◌, ◌≤◌, All, length};
 ghost use Rattle.cj_case.specs.CaseLimits.{MAX_SIZE};
 ghost use Rattle.cj_case.specs.PlainProblems as spec;
 
 use crate::pair::Pair;
+
+/// One millimetre, in nm: so near to its threshold a distance may be undecided.
+pub const BAND: u64 = 1_000_000;
 
 /// A threshold in nm between two objects with these sizes: so far beyond both radii.
 pub fn threshold_between(sizes: &[u64], thr: u64, pair: Pair) -> u64

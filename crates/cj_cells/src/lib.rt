@@ -16,7 +16,7 @@ mod rooting;
 pub use listing::{leaves_of, refine_all};
 pub use looker::Looker;
 pub use looking::look;
-pub use ordering::order_roots;
+pub use ordering::{number_roots, order_roots};
 pub use outcome::Look;
 pub use refine_error::RefineError;
 pub use refining::refine;

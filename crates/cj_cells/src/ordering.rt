@@ -35,6 +35,20 @@ fn number(roots: &mut [Cell])
     }
 }
 
+/// Gives each of the roots, which are in order of pair and tick, its place as its number.
+pub fn number_roots(roots: &mut Vec<Cell>)
+    requires few { vec_len roots.old ≤ MOST_LEAVES }
+    requires ordered { AllPairs IsRootUpTo (plain_cells roots.old.items) }
+
+    ensures kept { plain_cells roots.new.items ≡ plain_cells roots.old.items }
+    ensures numbered { root_numbers roots.new.items ≡ range_with_len 0 (vec_len roots.new) }
+
+    // The roots that were found slot by slot, in whatever order they came, are then all roots in order.
+    ensures all { (candidate : ℕ → ℕ → ℕ → Bool) (case : PlainProblem) → IsPermutation (roots_by_slot candidate case) (plain_cells roots.old.items) → plain_cells roots.new.items ≡ roots_of candidate case }
+{
+    number(roots);
+}
+
 /// Puts roots in order of pair and tick, and gives each its place as its number.
 pub fn order_roots(roots: &mut Vec<Cell>)
     requires { vec_len roots.old ≤ MOST_LEAVES }
@@ -47,5 +61,5 @@ pub fn order_roots(roots: &mut Vec<Cell>)
     ensures all { (candidate : ℕ → ℕ → ℕ → Bool) (case : PlainProblem) → IsPermutation (roots_by_slot candidate case) (plain_cells roots.old.items) → plain_cells roots.new.items ≡ roots_of candidate case }
 {
     sort(roots);
-    number(roots);
+    number_roots(roots);
 }

@@ -2,32 +2,15 @@
 ghost use Rattle.std.specs.Prelude.{◌≡◌, ◌^◌, ◌<◌, ◌≤◌};
 ghost use Rattle.cj_hermite.specs.Interpolant.{IsOver};
 ghost use Rattle.cj_hermite.specs.Ready.{curve_ready};
-ghost use Rattle.cj_bezier.specs.Verdicts.{cell_verdict};
 ghost use Rattle.cj_bezier.specs.RootLeaves.{kind_between};
 ghost use Rattle.cj_cells.specs.Looks.{kind_found, IfClosed, IfHalves};
 ghost use Rattle.cj_bezier.specs.Halves.{AreHalves};
 
 use crate::outcome::Look;
 use cj_base::Tick;
-use cj_bezier::{Verdict, gap, hull_ready, verdict};
+use cj_bezier::{Verdict, judge};
 use cj_case::{Cell, Kind, Leaf};
 use cj_hermite::Ready;
-
-#[tactic(auto, unfolding(cj_bezier::specs::Verdicts::cell_verdict))]
-/// The verdict on two pieces over the ticks from `first` to `last`, against a threshold in nm.
-fn judge(a: &Ready, b: &Ready, thr: u64, first: Tick, last: Tick) -> Verdict
-    requires order { first.micros ≤ last.micros }
-    requires first_over { IsOver (curve_ready a.now) first.micros last.micros }
-    requires second_over { IsOver (curve_ready b.now) first.micros last.micros }
-    requires least { 10 ^ 9 ≤ thr }
-    requires most { thr ≤ 10 ^ 16 }
-    ensures { result ≡ cell_verdict (curve_ready a.now) (curve_ready b.now) thr first.micros last.micros }
-{
-    verdict(
-        &gap(&hull_ready(a, first, last), &hull_ready(b, first, last)),
-        thr,
-    )
-}
 
 /// The halves of a cell of two ticks or more.
 fn halves(cell: Cell) -> (Cell, Cell)

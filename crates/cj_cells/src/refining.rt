@@ -15,13 +15,11 @@ use crate::preparing::prepare;
 use crate::ready_look::look_at;
 use crate::refine_error::RefineError;
 use cj_base::Tick;
+use cj_bezier::PLACES;
 use cj_case::{Cell, Leaf, Problem};
 use cj_hermite::Ready;
 use cj_interval::Divisor;
 use std::alloc::Global;
-
-/// How many parts of a cell wait at most: one more than the halvings of 2^32 ticks, and a piece is shorter than that.
-const PLACES: usize = 33;
 
 /// Appends the leaves of a cell of two pieces made ready. The parts that wait end at `lasts`, the innermost at `top`.
 fn refine_between(

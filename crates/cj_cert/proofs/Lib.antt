@@ -1,9 +1,8 @@
 mod AcceptedLemmas
 pub mod TiledLemmas
-mod WrittenLemmas
+pub mod WrittenLemmas
 mod BoundLemmas
 pub mod ListedLemmas
-pub mod RewrittenLemmas
 mod TimesLemmas
 mod TrackLemmas
 pub mod WrittenLineLemmas

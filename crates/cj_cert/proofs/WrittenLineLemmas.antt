@@ -1,13 +1,12 @@
 -- The lines of a written certificate, one by one.
-use Rattle.std.proofs.Common.{◌≡◌, ℕ, zero, suc, ◌+◌, ◌*◌, ◌<◌, true, eqb, List, [], ◌∷◌, ◌++◌, length}
+use Rattle.std.proofs.Common.{◌≡◌, ℕ, suc, ◌+◌, ◌<◌, true, eqb, List, [], ◌∷◌, ◌++◌, length}
 use Rattle.std.proofs.Common.{get_or, map, Option, Some, None, refl, sym, ap, ◌∙◌, subst, arith, append_assoc, append-nil}
 use Rattle.std.specs.Prelude.{◌==◌, option_map, option_and_then, slice_get}
 use Rattle.std.specs.List.{cons_option, enumerate_from, filter_map, flat_map, list_all, range_with_len}
-use Rattle.std.proofs.Math.Nat.{suc-mul}
 use Rattle.std.proofs.lemmas.Bool.{and_parts, eq-eqb}
 use Rattle.std.proofs.lemmas.List.{length-map}
 use Rattle.std.proofs.lemmas.List.FromFn.{map-range_with_len_more}
-use Rattle.std.proofs.lemmas.Option.{slice_get-get_or, slice_get-map}
+use Rattle.std.proofs.lemmas.Option.{get_or_from_slice_get, slice_get-get_or, slice_get-map}
 use Rattle.cj_interval.proofs.ListLemmas.{Each, Each-range}
 use Rattle.cj_interval.proofs.RangeLemmas.{filter_map-range_more}
 use Rattle.cj_formats.specs.declared.cert_version.CertVersion.{CertVersion}
@@ -16,21 +15,21 @@ use Rattle.cj_track.specs.PlainTracks.{PlainTrack}
 use Rattle.cj_case.specs.PlainProblems.{PlainProblem}
 use Rattle.cj_hermite.specs.Roots.{slots_of}
 use Rattle.cj_case.specs.Slots.{slot_count}
+use Rattle.cj_case.specs.Tables.{row_of}
+use Rattle.cj_case.proofs.TableLemmas.{made_in_slot}
 use Rattle.cj_case.specs.declared.axis_box.AxisBox.{AxisBox}
 use Rattle.cj_case.specs.declared.shells.Shell.{Shell}
 use Rattle.cj_case.specs.Leaves.{PlainLeaf}
 use Rattle.cj_bezier.specs.Candidates.{shells_of}
 use Rattle.cj_bezier.specs.Shells.{shell_in, shell_of}
-use Rattle.cj_case.specs.Boxes.{PlainBox, plain_box, plain_boxes}
+use Rattle.cj_case.specs.Boxes.{PlainBox, plain_box, plain_boxes, plain_rows}
 use Rattle.cj_bezier.specs.SlotBoxes.{reaches_in}
 use Rattle.cj_cert.specs.declared.cert_lines.ShellLine.{ShellLine}
 use Rattle.cj_cert.specs.declared.cert_lines.BoxLine.{BoxLine}
 use Rattle.cj_cert.specs.declared.cert_lines.SizeOfLine.{SizeOfLine}
 use Rattle.cj_cert.specs.Certificates.{PlainBoxLine, PlainCertificate}
 use Rattle.cj_bezier.specs.AllBoxes.{boxes_of}
-use Rattle.cj_bezier.proofs.AllBoxLemmas.{row_length}
-use Rattle.cj_cert.specs.Written.{shell_line, box_in, line_of_box, line_in_slot, box_lines, line_by_shells, line_by_boxes, lines_by_boxes, leaves_in_order, written}
-use Rattle.cj_cert.proofs.ListedLemmas.{range_at}
+use Rattle.cj_cert.specs.Written.{shell_line, box_in, line_of_box, line_in_slot, box_lines, line_by_shells, line_in_row, lines_in_row, lines_by_boxes, leaves_in_order, written}
 
 -- ---- one line more
 
@@ -42,29 +41,35 @@ shell_more shells i object lines lt number before =
     ∙ (λ j. map (line_by_shells shells) (range_with_len 0 i) ++ record { object = number j; shell = here j } ∷ [])
     ∙ sym (map-range_with_len_more (line_by_shells shells) 0 i i (omega arith))
 
--- the box at a place
-pub box_at : (boxes : List (Option AxisBox)) (place : ℕ) (d found : Option AxisBox) → place < length boxes → get_or boxes place d ≡ found
+-- the box that stands in a row
+pub box_found : (boxes : List (Option AxisBox)) (place : ℕ) (d found : Option AxisBox) → place < length boxes → get_or boxes place d ≡ found
     → reaches_in (plain_boxes boxes) place ≡ option_map plain_box found
-box_at boxes place d found lt is =
+box_found boxes place d found lt is =
     ap (λ (o : Option (Option PlainBox)). option_and_then (λ b. b) o)
     (slice_get-map (option_map plain_box) boxes place ∙ ap (λ (o : Option (Option AxisBox)). option_map (option_map plain_box) o) (slice_get-get_or boxes place d lt) ∙ ap
     (λ (b : Option AxisBox). Some (option_map plain_box b)) is)
 
-pub box_more : (boxes : List (Option PlainBox)) (slots object slot : ℕ) (area : PlainBox) (done : List PlainBoxLine) → reaches_in boxes (object * slots + slot) ≡ Some area
-    → (done ++ lines_by_boxes boxes slots slot object) ++ line_of_box object slot area ∷ [] ≡ done ++ lines_by_boxes boxes slots (slot + 1) object
-box_more boxes slots object slot area done is =
-    let here : line_by_boxes boxes slots object slot ≡ Some (line_of_box object slot area) = ap (λ (o : Option PlainBox). option_map (line_of_box object slot) o) is in
-    append_assoc done (lines_by_boxes boxes slots slot object) (line_of_box object slot area ∷ [])
-    ∙ ap (λ (o : Option PlainBoxLine). done ++ (lines_by_boxes boxes slots slot object ++ cons_option o [])) (sym here)
-    ∙ ap (λ (ls : List PlainBoxLine). done ++ ls) (sym (filter_map-range_more (line_by_boxes boxes slots object) 0 slot slot (omega arith)))
+pub box_more : (row : List (Option PlainBox)) (object slot : ℕ) (area : PlainBox) (done : List PlainBoxLine) → reaches_in row slot ≡ Some area
+    → (done ++ lines_in_row row slot object) ++ line_of_box object slot area ∷ [] ≡ done ++ lines_in_row row (slot + 1) object
+box_more row object slot area done is =
+    let here : line_in_row row object slot ≡ Some (line_of_box object slot area) = ap (λ (o : Option PlainBox). option_map (line_of_box object slot) o) is in
+    append_assoc done (lines_in_row row slot object) (line_of_box object slot area ∷ [])
+    ∙ ap (λ (o : Option PlainBoxLine). done ++ (lines_in_row row slot object ++ cons_option o [])) (sym here)
+    ∙ ap (λ (ls : List PlainBoxLine). done ++ ls) (sym (filter_map-range_more (line_in_row row object) 0 slot slot (omega arith)))
 
-pub box_missing : (boxes : List (Option PlainBox)) (slots object slot : ℕ) → reaches_in boxes (object * slots + slot) ≡ None
-    → lines_by_boxes boxes slots slot object ≡ lines_by_boxes boxes slots (slot + 1) object
-box_missing boxes slots object slot is =
-    let here : line_by_boxes boxes slots object slot ≡ None = ap (λ (o : Option PlainBox). option_map (line_of_box object slot) o) is in
-    sym (append-nil (lines_by_boxes boxes slots slot object))
-    ∙ ap (λ (o : Option PlainBoxLine). lines_by_boxes boxes slots slot object ++ cons_option o []) (sym here)
-    ∙ sym (filter_map-range_more (line_by_boxes boxes slots object) 0 slot slot (omega arith))
+pub box_missing : (row : List (Option PlainBox)) (object slot : ℕ) → reaches_in row slot ≡ None → lines_in_row row slot object ≡ lines_in_row row (slot + 1) object
+box_missing row object slot is =
+    let here : line_in_row row object slot ≡ None = ap (λ (o : Option PlainBox). option_map (line_of_box object slot) o) is in
+    sym (append-nil (lines_in_row row slot object))
+    ∙ ap (λ (o : Option PlainBoxLine). lines_in_row row slot object ++ cons_option o []) (sym here)
+    ∙ sym (filter_map-range_more (line_in_row row object) 0 slot slot (omega arith))
+
+-- the lines of an object by its own row are those by the rows of all
+pub row_lines : (rows : List (List (Option AxisBox))) (n object : ℕ) (row : List (Option AxisBox)) → slice_get rows object ≡ Some row
+    → lines_in_row (plain_boxes row) n object ≡ lines_by_boxes (plain_rows rows) n object
+row_lines rows n object row is =
+    ap (λ (r : List (Option PlainBox)). lines_in_row r n object)
+    (sym (get_or_from_slice_get (plain_rows rows) object (plain_boxes row) [] (slice_get-map plain_boxes rows object ∙ ap (option_map plain_boxes) is)))
 
 -- ---- all lines
 
@@ -104,63 +109,37 @@ shells_are case shells same =
     (slice_get-map (λ e. shell_of e case.first case.last) case.tracks (0 + i) ∙ ap (λ (o : Option PlainTrack). option_map (λ e. shell_of e case.first case.last) o) there) in
     ap (λ (s : Option Shell). let line : ShellLine = record { object = 0 + i; shell = s } in line) here)
 
--- the box of an object in a slot stands in its row
-pub get_left : {A : Type 0} (xs ys : List A) (i : ℕ) → i < length xs → slice_get (xs ++ ys) i ≡ slice_get xs i
-get_left [] ys i lt = absurd (omega arith)
-get_left (x ∷ xs) ys zero lt = refl
-get_left (x ∷ xs) ys (suc i) lt = get_left xs ys i (omega arith)
-
-pub get_right : {A : Type 0} (xs ys : List A) (i j : ℕ) → j ≡ length xs + i → slice_get (xs ++ ys) j ≡ slice_get ys i
-get_right [] ys i j e = ap (λ (k : ℕ). slice_get ys k) (omega arith)
-get_right (x ∷ xs) ys i zero e = absurd (omega arith)
-get_right (x ∷ xs) ys i (suc j) e = get_right xs ys i j (omega arith)
-
-in_row : (case : PlainProblem) (es : List PlainTrack) (i slot : ℕ) (e : PlainTrack) → slot < slot_count case.first case.last → slice_get es i ≡ Some e
-    → slice_get (flat_map (λ e. map (box_in case e) (slots_of case)) es) (i * slot_count case.first case.last + slot) ≡ Some (box_in case e slot)
-in_row case [] i slot e lt is = absurd cc
-in_row case (f ∷ es) zero slot e lt is =
-    let n = slot_count case.first case.last in
-    let same : f ≡ e = cc in
-    let at : 0 * n + slot ≡ slot = omega arith in
-    let first : 0 + slot ≡ slot = omega arith in
-    ap (λ (k : ℕ). slice_get (map (box_in case f) (slots_of case) ++ flat_map (λ e. map (box_in case e) (slots_of case)) es) k) at
-    ∙ get_left (map (box_in case f) (slots_of case)) (flat_map (λ e. map (box_in case e) (slots_of case)) es) slot (omega (arith, row_length f case.first case.last n))
-    ∙ slice_get-map (box_in case f) (slots_of case) slot
-    ∙ ap (λ (o : Option ℕ). option_map (box_in case f) o) (range_at 0 n slot lt)
-    ∙ ap (λ (k : ℕ). Some (box_in case f k)) first
-    ∙ ap (λ (d : PlainTrack). Some (box_in case d slot)) same
-in_row case (f ∷ es) (suc i) slot e lt is =
-    let n = slot_count case.first case.last in
-    let more : suc i * n ≡ i * n + n = suc-mul i n in
-    get_right (map (box_in case f) (slots_of case)) (flat_map (λ e. map (box_in case e) (slots_of case)) es) (i * n + slot) (suc i * n + slot) (omega (arith, row_length f case.first case.last n))
-    ∙ in_row case es i slot e lt is
-
 filter_map_same : {A : Type 0} (f g : ℕ → Option A) (ks : List ℕ) → Each (λ k. f k ≡ g k) ks → filter_map f ks ≡ filter_map g ks
 filter_map_same f g [] same = refl
 filter_map_same f g (k ∷ ks) same = let here = same.0 in let rest = filter_map_same f g ks same.1 in λ i. cons_option (here i) (rest i)
 
-pub boxes_are : (case : PlainProblem) (boxes : List (Option PlainBox)) (n : ℕ) → boxes ≡ boxes_of case → n ≡ slot_count case.first case.last
-    → flat_map (lines_by_boxes boxes n n) (range_with_len 0 (length case.tracks)) ≡ flat_map (box_lines case) (enumerate_from 0 case.tracks)
+pub boxes_are : (case : PlainProblem) (rows : List (List (Option PlainBox))) (n : ℕ) → rows ≡ boxes_of case → n ≡ slot_count case.first case.last
+    → flat_map (lines_by_boxes rows n) (range_with_len 0 (length case.tracks)) ≡ flat_map (box_lines case) (enumerate_from 0 case.tracks)
 unfolding boxes_of
-boxes_are case boxes n same count =
-    ap (λ (bs : List (Option PlainBox)). flat_map (lines_by_boxes bs n n) (range_with_len 0 (length case.tracks))) same
-    ∙ ap (λ (k : ℕ). flat_map (lines_by_boxes all k k) (range_with_len 0 (length case.tracks))) count
-    ∙ flat_map_numbered (lines_by_boxes all slots slots) (box_lines case) 0 case.tracks of_object
+boxes_are case rows n same count =
+    ap (λ (bs : List (List (Option PlainBox))). flat_map (lines_by_boxes bs n) (range_with_len 0 (length case.tracks))) same
+    ∙ ap (λ (k : ℕ). flat_map (lines_by_boxes all k) (range_with_len 0 (length case.tracks))) count
+    ∙ flat_map_numbered (lines_by_boxes all slots) (box_lines case) 0 case.tracks of_object
   where
     slots : ℕ
     slots = slot_count case.first case.last
 
-    all : List (Option PlainBox)
-    all = flat_map (λ e. map (box_in case e) (slots_of case)) case.tracks
+    all : List (List (Option PlainBox))
+    all = map (λ e. map (box_in case e) (slots_of case)) case.tracks
 
-    of_object : (i : ℕ) (e : PlainTrack) → slice_get case.tracks i ≡ Some e → lines_by_boxes all slots slots (0 + i) ≡ box_lines case (0 + i, e)
+    of_object : (i : ℕ) (e : PlainTrack) → slice_get case.tracks i ≡ Some e → lines_by_boxes all slots (0 + i) ≡ box_lines case (0 + i, e)
     of_object i e is =
         let at : 0 + i ≡ i = omega arith in
         let there : slice_get case.tracks (0 + i) ≡ Some e = subst (λ (k : ℕ). slice_get case.tracks k ≡ Some e) (sym at) is in
-        filter_map_same (line_by_boxes all slots (0 + i)) (line_in_slot case (0 + i, e)) (slots_of case)
-        (Each-range (λ k. line_by_boxes all slots (0 + i) k ≡ line_in_slot case (0 + i, e) k) 0 slots (λ k low high.
-        let here : reaches_in all ((0 + i) * slots + k) ≡ box_in case e k =
-        ap (λ (o : Option (Option PlainBox)). option_and_then (λ b. b) o) (in_row case case.tracks (0 + i) k e (omega arith) there) in
+        let own : List (Option PlainBox) = map (box_in case e) (slots_of case) in
+        let row : row_of all (0 + i) ≡ own =
+        get_or_from_slice_get all (0 + i) own []
+        (slice_get-map (λ e. map (box_in case e) (slots_of case)) case.tracks (0 + i) ∙ ap (λ (o : Option PlainTrack). option_map (λ e. map (box_in case e) (slots_of case)) o) there) in
+        ap (λ (r : List (Option PlainBox)). lines_in_row r slots (0 + i)) row
+        ∙ filter_map_same (line_in_row own (0 + i)) (line_in_slot case (0 + i, e)) (slots_of case)
+        (Each-range (λ k. line_in_row own (0 + i) k ≡ line_in_slot case (0 + i, e) k) 0 slots (λ k low high.
+        let here : reaches_in own k ≡ box_in case e k =
+        ap (λ (o : Option (Option PlainBox)). option_and_then (λ b. b) o) (made_in_slot (box_in case e) slots k (omega arith)) in
         ap (λ (o : Option PlainBox). option_map (line_of_box (0 + i) k) o) here))
 
 -- a certificate of a version with these lines

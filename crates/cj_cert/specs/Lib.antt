@@ -4,5 +4,4 @@ pub mod Listed
 pub mod Accepted
 pub mod Splits
 pub mod Written
-pub mod Rewritten
 pub mod Reaches

@@ -1,11 +1,12 @@
 -- The certificate that a run writes for a problem: exact shells and boxes, and the one-thread list.
-use Rattle.std.specs.Prelude.{ℕ, ◌+◌, ◌*◌, List, [], map, length, Option, option_map}
+use Rattle.std.specs.Prelude.{ℕ, List, [], map, length, Option, option_map}
 use Rattle.std.specs.List.{enumerate_from, filter_map, flat_map, range_with_len}
 use Rattle.cj_formats.specs.declared.cert_version.CertVersion.TheVariants.{One}
 use Rattle.cj_track.specs.PlainTracks.{PlainTrack}
 use Rattle.cj_case.specs.PlainProblems.{PlainProblem}
 use Rattle.cj_hermite.specs.Roots.{roots_of, slots_of}
 use Rattle.cj_case.specs.Slots.{slot_first, slot_last}
+use Rattle.cj_case.specs.Tables.{row_of}
 use Rattle.cj_case.specs.Leaves.{PlainLeaf}
 use Rattle.cj_bezier.specs.Candidates.{is_candidate}
 use Rattle.cj_bezier.specs.RootLeaves.{leaves_of_roots}
@@ -54,16 +55,20 @@ written case = record {
   cells = leaves_in_order case;
 }
 
--- ---- the same lines from lists of shells and boxes
+-- ---- the same lines from the shells and boxes of all objects
 
 -- the line of an object by the shells of all
 abbrev pub line_by_shells : List (Option Shell) → ℕ → ShellLine
 line_by_shells shells object = record { object = object; shell = shell_in shells object }
 
--- the line of an object in a slot by the boxes of all objects in so many slots, in order of object and slot
-abbrev pub line_by_boxes : List (Option PlainBox) → ℕ → ℕ → ℕ → Option PlainBoxLine
-line_by_boxes boxes slots object slot = option_map (line_of_box object slot) (reaches_in boxes (object * slots + slot))
+-- the line of an object in a slot by its row of boxes
+abbrev pub line_in_row : List (Option PlainBox) → ℕ → ℕ → Option PlainBoxLine
+line_in_row row object slot = option_map (line_of_box object slot) (reaches_in row slot)
 
--- the lines of an object in the first n of the slots
-abbrev pub lines_by_boxes : List (Option PlainBox) → ℕ → ℕ → ℕ → List PlainBoxLine
-lines_by_boxes boxes slots n object = filter_map (line_by_boxes boxes slots object) (range_with_len 0 n)
+-- the lines of an object in the first n of the slots, by its row of boxes
+abbrev pub lines_in_row : List (Option PlainBox) → ℕ → ℕ → List PlainBoxLine
+lines_in_row row n object = filter_map (line_in_row row object) (range_with_len 0 n)
+
+-- the same by the rows of all objects
+abbrev pub lines_by_boxes : List (List (Option PlainBox)) → ℕ → ℕ → List PlainBoxLine
+lines_by_boxes rows n object = lines_in_row (row_of rows object) n object

@@ -1,16 +1,13 @@
 //! What an accepted certificate says, and that the one a run writes is accepted: laws, which cost next to nothing to call.
 ghost use Rattle.std.specs.Prelude.{◌^◌, ℕ};
 ghost use Rattle.std.specs.List.{All};
-ghost use Rattle.cj_formats.specs.declared.cert_version.CertVersion.{CertVersion};
 ghost use Rattle.cj_track.specs.Tracks.{plain_track};
 ghost use Rattle.cj_case.specs.Problems.{plain_problem};
 ghost use Rattle.cj_bezier.specs.Gaps.{gap_terms};
 ghost use Rattle.cj_bezier.specs.Parts.{AreInTime, hulls_of};
 ghost use Rattle.cj_bezier.specs.Shells.{IsOuter};
 ghost use Rattle.cj_cert.specs.Accepted.{Accepted};
-ghost use Rattle.cj_cert.specs.Certificates.{PlainCertificate};
 ghost use Rattle.cj_cert.specs.Reaches.{AllStayNear, IsHullNear};
-ghost use Rattle.cj_cert.specs.Rewritten.{in_version_2, written_in};
 ghost use Rattle.cj_cert.specs.Splits.{AcceptedSplits};
 ghost use Rattle.cj_cert.specs.Written.{written};
 
@@ -24,12 +21,6 @@ pub fn acceptance(problem: &Problem)
 
     // Exact shells and boxes and the one-thread list make a certificate that is accepted.
     ensures written { Accepted (plain_problem problem.now) (written (plain_problem problem.now)) }
-
-    // So they do in either version.
-    ensures in_version { (version : CertVersion) → Accepted (plain_problem problem.now) (written_in version (plain_problem problem.now)) }
-
-    // An accepted certificate is accepted in version 2.
-    ensures rewritten { (c : PlainCertificate) → Accepted (plain_problem problem.now) c → Accepted (plain_problem problem.now) (in_version_2 (plain_problem problem.now) c) }
 
     // The hulls of each object lie within a million kilometres of the origin.
     ensures near { AllStayNear (plain_problem problem.now) }

@@ -7,10 +7,11 @@ use Rattle.cj_case.specs.declared.shells.Shell.{Shell}
 use Rattle.cj_cert_text.specs.declared.rank.Rank.{Rank}
 use Rattle.cj_cert_text.specs.declared.rank.Rank.TheVariants as rank
 use Rattle.cj_cert.specs.Certificates.{PlainCertificate, line_count}
-use Rattle.cj_cert_text.specs.Texts.{line, row, row_ended, size_text, shell_row, shell_text, box_text, cell_text, head_text, text_of}
+use Rattle.cj_kvn.specs.Entries.{line_of_words}
+use Rattle.cj_cert_text.specs.Texts.{row, row_ended, size_text, shell_row, shell_text, box_text, cell_text, head_text, text_of}
 use Rattle.cj_cert_text.proofs.LineLemmas.{word_of}
 
-line_some : (words : List (List ℕ)) → 1 ≤ length (line words)
+line_some : (words : List (List ℕ)) → 1 ≤ length (line_of_words words)
 line_some words = omega (arith, length-append (join_with_byte 32 words) (10 ∷ []))
 
 row_some : (word : List ℕ) (numbers : List ℤ) → 1 ≤ length (row word numbers)

@@ -21,7 +21,8 @@ use Rattle.cj_cert_text.specs.Fits.{Fits, FitsBox, FitsCell, FitsSize, IsOfVersi
 use Rattle.cj_cert_text.specs.Lines.{Box, Cell, Objects, Threshold, Window}
 use Rattle.cj_cert_text.specs.Texts.{box_text, cell_text, ends, head_text, kind_word, number, row, row_ended}
 use Rattle.cj_cert_text.specs.Texts.{shell_row, shell_text, size_text, slots, spaced_numbers, text_of}
-use Rattle.cj_cert_text.proofs.RowLemmas.{join-ended, join-spaced}
+use Rattle.cj_cert_text.proofs.RowLemmas.{join-ended}
+use Rattle.cj_kvn.proofs.TextLemmas.{join-spaced}
 use Rattle.cj_cert_text.proofs.AgainLemmas.{numbers_small}
 use Rattle.cj_cert_text.proofs.LineLemmas.{FitsSlots, small_version}
 use Rattle.cj_cert_text.proofs.WordLemmas.{AreSmall}
@@ -61,7 +62,7 @@ row_length word zs =
     omega (
       arith,
       length-append (join_with_byte 32 (word ∷ map signed_decimal zs)) (10 ∷ []),
-      ap (λ (t : List ℕ). length t) (join-spaced word zs),
+      ap (λ (t : List ℕ). length t) (join-spaced signed_decimal word zs),
       length-append word (spaced_numbers zs),
     )
 

@@ -3,8 +3,6 @@ mod BoxLemmas
 mod CapLemmas
 pub mod ChainLemmas
 mod CountLemmas
-mod EnterLemmas
-mod InBlocksLemmas
 pub mod LengthLemmas
 mod LineLemmas
 mod NumberLemmas

@@ -27,7 +27,7 @@ use Rattle.cj_cert_text.specs.Lines.{PlainLine, Heading, Window, Threshold, Obje
 use Rattle.cj_case.specs.CaseLimits.{MAX_SIZE}
 use Rattle.cj_cert_text.specs.Lines.{is_radius, is_coordinate, is_reach, object_of, MAX_THRESHOLD}
 use Rattle.cj_cert_text.specs.Ranks.{rank_of_word}
-use Rattle.cj_cert_text.specs.Texts.{line, number, slots, ends, kind_word}
+use Rattle.cj_cert_text.specs.Texts.{number, slots, ends, kind_word}
 use Rattle.cj_cert_text.proofs.WordLemmas.{texts}
 
 -- ---- first words

@@ -1,8 +1,8 @@
 -- Texts that are made part by part, and lists that are printed batch by batch.
-use Rattle.std.proofs.Common.{◌≡◌, ℕ, ◌+◌, ◌-◌, ◌<◌, ◌≤◌, List, [], ◌∷◌, ◌++◌, take, drop, get_or, length, sym, ap, ◌∙◌, arith, append_assoc, append-nil}
+use Rattle.std.proofs.Common.{◌≡◌, ℕ, ◌+◌, ◌-◌, ◌<◌, ◌≤◌, List, [], ◌∷◌, ◌++◌, take, drop, length, sym, ap, ◌∙◌, arith, append_assoc, append-nil}
 use Rattle.std.specs.Prelude.{flat_map, Result, Ok, Err, IfOk}
 use Rattle.std.specs.Global.{Vec}
-use Rattle.std.proofs.lemmas.List.{take-append-drop, take_more, drop-drop, flat_map_more, length-drop, nil_from_length}
+use Rattle.std.proofs.lemmas.List.{take-append-drop, drop-drop, length-drop, nil_from_length}
 use Rattle.std.proofs.lemmas.Grind.{flat_map-append}
 use Rattle.cj_io.specs.Parts.{joined}
 
@@ -17,15 +17,6 @@ pub part_printed : {L : Type 0} (text : L → List ℕ) (some others : List L) (
     → joined behind ≡ flat_map text others → joined (made ∷ behind) ≡ flat_map text (some ++ others)
 part_printed text some others made behind here rest =
     ap (λ (t : List ℕ). t ++ joined behind) here ∙ ap (λ (t : List ℕ). flat_map text some ++ t) rest ∙ sym (flat_map-append text some others)
-
--- ---- a list is printed line by line
-
--- the texts of the lines before place i, and then of the one there
-pub line_more : {L : Type 0} (text : L → List ℕ) (lines : List L) (i : ℕ) (d : L) (old was now : List ℕ) → i < length lines
-    → was ≡ old ++ flat_map text (take i lines) → now ≡ was ++ text (get_or lines i d) → now ≡ old ++ flat_map text (take (i + 1) lines)
-line_more text lines i d old was now short before step =
-    step ∙ ap (λ t. t ++ text (get_or lines i d)) before ∙ flat_map_more text old (take i lines) (get_or lines i d)
-    ∙ ap (λ ls. old ++ flat_map text ls) (sym (take_more lines i d short))
 
 -- ---- a list is printed batch by batch
 

@@ -26,7 +26,8 @@ use Rattle.cj_cert_text.specs.Lines.{PlainLine, Heading, Window, Threshold, Obje
 use Rattle.cj_cert_text.specs.Numbers.{numbers_in, others_in}
 use Rattle.cj_cert_text.specs.Ranks.{has_ended, may_follow, place, rank_of_word}
 use Rattle.cj_cert_text.specs.Reading.{and_then, at_line, behind_lines, ends_at, nothing_said, reading, reads_on, version_of, with_line}
-use Rattle.cj_cert_text.specs.Texts.{line, row, row_ended, number, size_text, shell_text, shell_row, box_text, cell_text, head_text, kind_word, text_of}
+use Rattle.cj_kvn.specs.Entries.{line_of_words}
+use Rattle.cj_cert_text.specs.Texts.{row, row_ended, number, size_text, shell_text, shell_row, box_text, cell_text, head_text, kind_word, text_of}
 use Rattle.cj_cert_text.proofs.AgainLemmas.{numbers_small}
 use Rattle.cj_cert_text.proofs.LineLemmas.{FitsLine, FitsSizeIn, FitsSlots, IsSaid, numbers_of, rank_word, tested, what_is_said, word_of, words_of}
 use Rattle.cj_cert_text.proofs.WordLemmas.{AreSmall, texts, words_written}
@@ -76,7 +77,7 @@ line_read v before text l h = ended_or v before text l (has_ended before) refl h
 
 -- the text of a line, by its kind
 abbrev pub line_text : CertVersion → PlainLine → List ℕ
-line_text v l = line (word_of (rank_of l) ∷ words_of v l)
+line_text v l = line_of_words (word_of (rank_of l) ∷ words_of v l)
 
 abbrev pub told : CertVersion → PlainLine → List ℕ
 told v Heading = row (codes "CONJ-CERT") (pos (number_of_version v) ∷ [])
@@ -89,11 +90,11 @@ told v (Box b) = box_text v b
 told v (Cell s) = cell_text s
 told v End = row (codes "END") []
 
-row_is : (word : List ℕ) (numbers : List ℤ) → line (word ∷ (texts numbers ++ [])) ≡ row word numbers
+row_is : (word : List ℕ) (numbers : List ℤ) → line_of_words (word ∷ (texts numbers ++ [])) ≡ row word numbers
 unfolding row
-row_is word numbers = ap (λ (ws : List (List ℕ)). line (word ∷ ws)) (append-nil (texts numbers))
+row_is word numbers = ap (λ (ws : List (List ℕ)). line_of_words (word ∷ ws)) (append-nil (texts numbers))
 
-ended_is : (word : List ℕ) (numbers : List ℤ) (last : List ℕ) → line (word ∷ (texts numbers ++ last ∷ [])) ≡ row_ended word numbers last
+ended_is : (word : List ℕ) (numbers : List ℤ) (last : List ℕ) → line_of_words (word ∷ (texts numbers ++ last ∷ [])) ≡ row_ended word numbers last
 unfolding row_ended
 ended_is word numbers last = refl
 

@@ -1,13 +1,10 @@
 -- Lines of a word and numbers, as they are written.
-use Rattle.std.proofs.Common.{◌≡◌, ℕ, List, [], ◌∷◌, ◌++◌, map, ap, append-nil, append_assoc, sym, ◌∙◌, refl}
+use Rattle.std.proofs.Common.{◌≡◌, ℕ, List, [], ◌∷◌, ◌++◌, map, ap, append_assoc, sym, ◌∙◌, refl}
 use Rattle.std.specs.Prelude.{ℤ}
 use Rattle.std.specs.Fmt.{signed_decimal}
 use Rattle.std.specs.List.{join_with_byte}
+use Rattle.cj_kvn.proofs.TextLemmas.{line-spaced}
 use Rattle.cj_cert_text.specs.Texts.{row, row_ended, spaced_numbers}
-
-pub join-spaced : (word : List ℕ) (numbers : List ℤ) → join_with_byte 32 (word ∷ map signed_decimal numbers) ≡ word ++ spaced_numbers numbers
-join-spaced word [] = sym (append-nil word)
-join-spaced word (z ∷ zs) = ap (λ t. word ++ (32 ∷ t)) (join-spaced (signed_decimal z) zs)
 
 pub join-ended : (word : List ℕ) (numbers : List ℤ) (last : List ℕ) →
     join_with_byte 32 (word ∷ (map signed_decimal numbers ++ last ∷ [])) ≡ word ++ (spaced_numbers numbers ++ 32 ∷ last)
@@ -19,8 +16,7 @@ join-ended word (z ∷ zs) last =
 pub row_written : (old was now word : List ℕ) (numbers : List ℤ) → was ≡ (old ++ word) ++ spaced_numbers numbers → now ≡ was ++ 10 ∷ [] → now ≡ old ++ row word numbers
 unfolding row
 row_written old was now word numbers before step =
-    step ∙ (ap (λ t. t ++ 10 ∷ []) (before ∙ append_assoc old word (spaced_numbers numbers) ∙ ap (λ t. old ++ t) (sym (join-spaced word numbers)))
-    ∙ append_assoc old (join_with_byte 32 (word ∷ map signed_decimal numbers)) (10 ∷ []))
+    step ∙ ap (λ t. t ++ 10 ∷ []) before ∙ line-spaced signed_decimal old word numbers
 
 -- the same with a last word
 pub row_ended_written : (old was now word last : List ℕ) (numbers : List ℤ) → was ≡ (old ++ word) ++ spaced_numbers numbers →

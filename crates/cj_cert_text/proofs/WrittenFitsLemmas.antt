@@ -1,8 +1,8 @@
--- The certificate that a run writes fits, in either version, and one that is rewritten fits where the given one does.
-use Rattle.std.proofs.Common.{◌≡◌, ℕ, zero, suc, ◌+◌, ◌-◌, ◌*◌, ◌^◌, ◌<◌, ◌≤◌, Bool, true, false, cond, List, [], ◌∷◌, length, map, filter, not, Option, Some, None, refl, sym, ap, ◌∙◌, subst, arith}
-use Rattle.std.specs.Prelude.{◌&&◌, ℤ, pos, neg_ℤ, ◌+ℤ◌, ◌*ℤ◌, ◌≤ℤ◌, ◌<ℤ◌, int_le, int_lt, All, IfSome, IsSomeAnd, option_and_then, option_map, slice_get, slice_index_or}
+-- The certificate that a run writes in version 1 fits.
+use Rattle.std.proofs.Common.{◌≡◌, ℕ, suc, ◌+◌, ◌-◌, ◌*◌, ◌^◌, ◌<◌, ◌≤◌, Bool, true, List, [], ◌∷◌, length, map, filter, not, Option, Some, None, refl, sym, ap, ◌∙◌, subst, arith}
+use Rattle.std.specs.Prelude.{◌&&◌, ℤ, pos, neg_ℤ, ◌+ℤ◌, ◌*ℤ◌, ◌≤ℤ◌, ◌<ℤ◌, int_le, int_lt, All, IfSome, IsSomeAnd, slice_get, slice_index_or}
 use Rattle.std.specs.Int.{int_min, int_max}
-use Rattle.std.specs.List.{enumerate_from, filter_map, find, flat_map, fold, list_all, range_with_len}
+use Rattle.std.specs.List.{enumerate_from, filter_map, flat_map, range_with_len}
 use Rattle.std.proofs.lemmas.Bool.{and_parts, and_from}
 use Rattle.std.proofs.lemmas.Int.{ints, clamps}
 use Rattle.std.proofs.Math.Nat.{suc-mul}
@@ -13,11 +13,12 @@ use Rattle.std.proofs.lemmas.Option.{slice_get_within}
 use Rattle.cj_interval.specs.Spans.{greatest, least}
 use Rattle.cj_interval.proofs.IntegerLemmas.{le_trans_ℤ}
 use Rattle.cj_interval.proofs.ListLemmas.{Each, Each-weaker, Each-always, Each-both, Each-map, Each-flat_map, Each-range, All-from_each, each_at, each_from_All, each_from_map}
+use Rattle.cj_interval.proofs.PassingLemmas.{least_upto}
 use Rattle.cj_interval.proofs.RangeLemmas.{Each-numbered}
 use Rattle.cj_interval.proofs.RoundingLemmas.{le-greatest, least-le}
 use Rattle.cj_base.specs.Ticks.{IsTick}
 use Rattle.cj_formats.specs.declared.cert_version.CertVersion.{CertVersion}
-use Rattle.cj_formats.specs.declared.cert_version.CertVersion.TheVariants.{One, Two}
+use Rattle.cj_formats.specs.declared.cert_version.CertVersion.TheVariants.{One}
 use Rattle.cj_formats.specs.Versions.{most_objects}
 use Rattle.cj_track.specs.PlainTracks.{PlainTrack}
 use Rattle.cj_case.specs.CaseLimits.{MAX_SIZE}
@@ -32,35 +33,29 @@ use Rattle.cj_bezier.specs.Gaps.{gap_terms, product_high, product_low, value_at}
 use Rattle.cj_bezier.specs.Hulls.{Ends, PlainHull}
 use Rattle.cj_case.specs.Leaves.{PlainLeaf}
 use Rattle.cj_bezier.specs.Parts.{hulls_of}
-use Rattle.cj_bezier.specs.Shells.{MAX_RADIUS, is_outer, least_from, shell_of, shell_round}
-use Rattle.cj_bezier.specs.SlotBoxes.{IsAtMostEach, IsAtLeastEach, box_of, reaches_in, reaches_round}
+use Rattle.cj_bezier.specs.Shells.{MAX_RADIUS, is_outer, shell_of, shell_round}
+use Rattle.cj_bezier.specs.SlotBoxes.{IsAtMostEach, IsAtLeastEach, box_of, reaches_round}
 use Rattle.cj_case.specs.Boxes.{PlainBox, Reach}
 use Rattle.cj_bezier.specs.Tiles.{IsLeaf}
 use Rattle.cj_bezier.proofs.BoxRoundLemmas.{IsWithinReaches, box_of_parts, within_box}
 use Rattle.cj_bezier.proofs.HullListLemmas.{have_parts, no_state, of_each_hull}
 use Rattle.cj_bezier.proofs.ShellLemmas.{inner-le_outer}
-use Rattle.cj_blocks.specs.BoxRows.{round_all, round_both}
-use Rattle.cj_blocks.specs.Blocks.{PlainBlock, Given, block_count, blocks_in, blocks_of, box_given, current_boxes, first_slot, is_pair_of, joined_box, joined_in, listed_in, single_in, slots_in, slots_of_block, touches_as_own}
-use Rattle.cj_blocks.proofs.RunLemmas.{IsRound, each_round}
 use Rattle.cj_cert.specs.declared.cert_lines.ShellLine.{ShellLine}
 use Rattle.cj_cert.specs.declared.cert_lines.SizeOfLine.{SizeOfLine}
 use Rattle.cj_cert.specs.Accepted.{Accepted, AreBoxes, AreShells, AreSizes, IsShellOver, IsSupported, ShowsRadii, TileRoots, has_state_in, slots_with_states}
-use Rattle.cj_cert.specs.Certificates.{PlainBoxLine, PlainCertificate}
-use Rattle.cj_cert.specs.Listed.{box_listed, is_line_of, is_candidate_listed, slots_of_line}
+use Rattle.cj_cert.specs.Certificates.{PlainBoxLine}
+use Rattle.cj_cert.specs.Listed.{is_candidate_listed, slots_of_line}
 use Rattle.cj_cert.specs.Reaches.{AllStayNear, IsAxisNear, IsHullNear, StaysNear}
-use Rattle.cj_cert.specs.Rewritten.{boxes_by_lines, from_version, given_of, in_version_2, line_of_block, pairs_by_shells, rewritten, size_line, size_lines, with_blocks, written_in, written_in_blocks}
 use Rattle.cj_cert.specs.Written.{box_in, box_lines, leaves_in_order, line_in_slot, line_of_box, shell_line, written}
-use Rattle.cj_cert.proofs.ListedLemmas.{AreAllInTime}
-use Rattle.cj_cert.proofs.RewrittenLemmas.{blocks_same}
 use Rattle.cj_cert.proofs.TiledLemmas.{each_tiled}
 use Rattle.cj_cert_text.specs.Fits.{Fits, FitsBox, FitsCell, FitsShell, FitsSize}
 use Rattle.cj_cert_text.specs.Lines.{is_coordinate, is_reach}
 
 -- ---- reaches
 
-record IsCoordinate (z : ℤ) : Type 0 where
-  low : neg_ℤ (pos (2 ^ 63)) ≤ℤ z
-  high : z <ℤ pos (2 ^ 63)
+pub record IsCoordinate (z : ℤ) : Type 0 where
+  pub low : neg_ℤ (pos (2 ^ 63)) ≤ℤ z
+  pub high : z <ℤ pos (2 ^ 63)
 
 coordinate_parts : (z : ℤ) → is_coordinate z ≡ true → IsCoordinate z
 coordinate_parts z is =
@@ -73,25 +68,25 @@ of_coordinate : (z : ℤ) → IsCoordinate z → is_coordinate z ≡ true
 of_coordinate z is =
     and_from (int_le (neg_ℤ (pos (2 ^ 63))) z) (int_lt z (pos (2 ^ 63))) (let low = is.low in grind (arith, ints)) (let high = is.high in grind (arith, ints))
 
-record IsTold (r : Reach) : Type 0 where
-  least : IsCoordinate r.least
-  most : IsCoordinate r.most
-  ordered : r.least ≤ℤ r.most
+pub record IsTold (r : Reach) : Type 0 where
+  pub least : IsCoordinate r.least
+  pub most : IsCoordinate r.most
+  pub ordered : r.least ≤ℤ r.most
 
-told_reach : (r : Reach) → is_reach r.least r.most ≡ true → IsTold r
+pub told_reach : (r : Reach) → is_reach r.least r.most ≡ true → IsTold r
 told_reach r is =
     let parts = and_parts (is_coordinate r.least && is_coordinate r.most) (int_le r.least r.most) is in
     let both = and_parts (is_coordinate r.least) (is_coordinate r.most) parts.0 in
     let ordered = parts.1 in
     record { least = coordinate_parts r.least both.0; most = coordinate_parts r.most both.1; ordered = grind (arith, ints) }
 
-of_told : (r : Reach) → IsTold r → is_reach r.least r.most ≡ true
+pub of_told : (r : Reach) → IsTold r → is_reach r.least r.most ≡ true
 of_told r is =
     and_from (is_coordinate r.least && is_coordinate r.most) (int_le r.least r.most)
     (and_from (is_coordinate r.least) (is_coordinate r.most) (of_coordinate r.least is.least) (of_coordinate r.most is.most))
     (let ordered = is.ordered in grind (arith, ints))
 
-round_told : (a b : Reach) → IsTold a → IsTold b → IsTold (record { least = int_min a.least b.least; most = int_max a.most b.most })
+pub round_told : (a b : Reach) → IsTold a → IsTold b → IsTold (record { least = int_min a.least b.least; most = int_max a.most b.most })
 round_told a b x y =
     let al = x.least.low in
     let ah = x.least.high in
@@ -110,134 +105,15 @@ round_told a b x y =
     }
 
 -- how far the box of a line reaches
-record IsToldBox (area : PlainBox) : Type 0 where
-  x : IsTold area.x
-  y : IsTold area.y
-  z : IsTold area.z
+pub record IsToldBox (area : PlainBox) : Type 0 where
+  pub x : IsTold area.x
+  pub y : IsTold area.y
+  pub z : IsTold area.z
 
-told_box : (most : ℕ) (b : PlainBoxLine) → FitsBox most b → IsToldBox b.area
+pub told_box : (most : ℕ) (b : PlainBoxLine) → FitsBox most b → IsToldBox b.area
 told_box most b fits = record { x = told_reach b.area.x fits.x; y = told_reach b.area.y fits.y; z = told_reach b.area.z fits.z }
 
--- ---- the box round several
-
-abbrev IsToldWhere : Option PlainBox → Type 0
-IsToldWhere o = IfSome o IsToldBox
-
-both_told : (a b : Option PlainBox) → IsToldWhere a → IsToldWhere b → IsToldWhere (round_both a b)
-both_told None b one two = tt
-both_told (Some a) None one two = tt
-both_told (Some a) (Some b) one two = record { x = round_told a.x b.x one.x two.x; y = round_told a.y b.y one.y two.y; z = round_told a.z b.z one.z two.z }
-
-fold_told : (a : Option PlainBox) (bs : List (Option PlainBox)) → IsToldWhere a → Each IsToldWhere bs → IsToldWhere (fold round_both a bs)
-fold_told a [] first each = first
-fold_told a (b ∷ bs) first each = fold_told (round_both a b) bs (both_told a b first each.0) each.1
-
-all_told : (bs : List (Option PlainBox)) → Each IsToldWhere bs → IsToldWhere (round_all bs)
-unfolding round_all
-all_told [] each = tt
-all_told (b ∷ bs) each = fold_told b bs each.0 each.1
-
--- ---- blocks
-
--- the boxes of objects in slots
-abbrev AreTold : (ℕ → ℕ → Option PlainBox) → Type 0
-AreTold own = (object slot : ℕ) → IsToldWhere (own object slot)
-
-joined_told : (thr : ℕ) (sizes : List ℕ) (pairs : List (ℕ × ℕ)) (own current : ℕ → ℕ → Option PlainBox) (object : ℕ) (slots : List ℕ) → AreTold own
-    → IsToldWhere (joined_box thr sizes pairs own current object slots)
-unfolding joined_box
-joined_told thr sizes pairs own current object slots told =
-    go (list_all (touches_as_own thr sizes own current object slots (round_all (map (own object) slots))) pairs)
-    (all_told (map (own object) slots) (Each-map IsToldWhere (own object) slots (Each-always (λ slot. IsToldWhere (own object slot)) (told object) slots)))
-  where
-    go : (b : Bool) → IsToldWhere (round_all (map (own object) slots)) → IsToldWhere (cond b (round_all (map (own object) slots)) None)
-    go true told = told
-    go false told = tt
-
-abbrev HasToldArea : PlainBlock → Type 0
-HasToldArea b = IsToldBox b.area
-
-singles_told : (own : ℕ → ℕ → Option PlainBox) → AreTold own → (object : ℕ) (slots : List ℕ) → Each HasToldArea (filter_map (single_in own object) slots)
-singles_told own told object [] = tt
-singles_told own told object (k ∷ slots) = go (own object k) refl (told object k) (singles_told own told object slots)
-  where
-    go : (o : Option PlainBox) → own object k ≡ o → IsToldWhere o → Each HasToldArea (filter_map (single_in own object) slots) → Each HasToldArea (filter_map (single_in own object) (k ∷ slots))
-    go None is here rest = rw is rest
-    go (Some area) is here rest =
-        let single : PlainBlock = record { object = object; first = k; last = k; area = area } in
-        let all : Each HasToldArea (single ∷ filter_map (single_in own object) slots) = (here, rest) in
-        rw is all
-
-listed_told : (own : ℕ → ℕ → Option PlainBox) → AreTold own → (object first count : ℕ) (joined : Option PlainBox) → IsToldWhere joined → Each HasToldArea (listed_in own object first count joined)
-listed_told own told object first count None all = singles_told own told object (range_with_len first count)
-listed_told own told object first count (Some area) all = (all, tt)
-
-blocks_told : (g : Given) → AreTold (box_given g) → Each HasToldArea (blocks_of g)
-unfolding blocks_of
-blocks_told g told =
-    Each-flat_map HasToldArea (λ object. flat_map (blocks_in g object) (range_with_len 0 (block_count g.slots))) (range_with_len 0 g.objects)
-    (Each-always (λ object. Each HasToldArea (flat_map (blocks_in g object) (range_with_len 0 (block_count g.slots)))) (λ object.
-    Each-flat_map HasToldArea (blocks_in g object) (range_with_len 0 (block_count g.slots))
-    (Each-always (λ block. Each HasToldArea (blocks_in g object block)) (λ block.
-    listed_told (box_given g) told object (first_slot block) (slots_in g.slots block) (joined_in g (current_boxes g object) object block)
-    (joined_told g.threshold g.sizes (filter (is_pair_of object) g.kept) (box_given g) (current_boxes g object) object (slots_of_block g.slots block) told))
-    (range_with_len 0 (block_count g.slots))))
-    (range_with_len 0 g.objects))
-
--- ---- the boxes that lines list
-
-abbrev HasToldBox : PlainBoxLine → Type 0
-HasToldBox b = IsToldBox b.area
-
-found_told : (lines : List PlainBoxLine) → Each HasToldBox lines → (slot object : ℕ) → IsToldWhere (box_listed lines slot object)
-found_told [] each slot object = tt
-found_told (b ∷ lines) each slot object = go (is_line_of object slot b) (found_told lines each.1 slot object)
-  where
-    go : (is : Bool) → IsToldWhere (box_listed lines slot object) → IsToldWhere (option_map (λ line. line.area) (cond is (Some b) (find (is_line_of object slot) lines)))
-    go true rest = each.0
-    go false rest = rest
-
-reaches_told : (boxes : List (Option PlainBox)) → Each IsToldWhere boxes → (k : ℕ) → IsToldWhere (reaches_in boxes k)
-reaches_told boxes each k = go (slice_get boxes k) refl
-  where
-    go : (o : Option (Option PlainBox)) → slice_get boxes k ≡ o → IsToldWhere (option_and_then (λ box. box) o)
-    go None is = tt
-    go (Some b) is = each_at IsToldWhere boxes k b each is
-
-by_lines_told : (case : PlainProblem) (lines : List PlainBoxLine) → Each HasToldBox lines → Each IsToldWhere (boxes_by_lines case lines)
-unfolding boxes_by_lines
-by_lines_told case lines each =
-    Each-flat_map IsToldWhere (λ object. map (λ slot. box_listed lines slot object) (slots_of case)) (range_with_len 0 (length case.tracks))
-    (Each-always (λ object. Each IsToldWhere (map (λ slot. box_listed lines slot object) (slots_of case)))
-    (λ object. Each-map IsToldWhere (λ slot. box_listed lines slot object) (slots_of case)
-    (Each-always (λ slot. IsToldWhere (box_listed lines slot object)) (λ slot. found_told lines each slot object) (slots_of case)))
-    (range_with_len 0 (length case.tracks)))
-
-blocks_fit : (most own : ℕ) (case : PlainProblem) (lines : List PlainBoxLine) (kept : List (ℕ × ℕ)) → length case.tracks ≤ most → slot_count case.first case.last < 2 ^ 32 → Each (FitsBox own) lines
-    → Each (FitsBox most) (map line_of_block (blocks_of (given_of case (boxes_by_lines case lines) kept)))
-blocks_fit most own case lines kept few short each =
-    let g = given_of case (boxes_by_lines case lines) kept in
-    let boxes = by_lines_told case lines (Each-weaker (FitsBox own) HasToldBox (told_box own) lines each) in
-    Each-map (FitsBox most) line_of_block (blocks_of g)
-    (Each-weaker (λ b. IsRound g b × HasToldArea b) (λ b. FitsBox most (line_of_block b)) (λ b both.
-    let exists = both.0.exists in
-    let within = both.0.within in
-    record {
-      object = omega arith;
-      some = both.0.some;
-      last = omega arith;
-      x = of_told b.area.x both.1.x;
-      y = of_told b.area.y both.1.y;
-      z = of_told b.area.z both.1.z;
-    }) (blocks_of g)
-    (Each-both (IsRound g) HasToldArea (blocks_of g) (each_round g)
-    (blocks_told g (λ object slot. reaches_told (boxes_by_lines case lines) boxes (object * slot_count case.first case.last + slot)))))
-
--- ---- a certificate that is rewritten
-
-sizes_fit : (most n : ℕ) (sizes : List ℕ) → Each (λ size. size ≤ MAX_SIZE) sizes → n + length sizes ≤ most → Each (FitsSize most) (map size_line (enumerate_from n sizes))
-sizes_fit most n [] each few = tt
-sizes_fit most n (size ∷ sizes) each few = (record { object = omega arith; size = each.0 }, sizes_fit most (n + 1) sizes each.1 (omega arith))
+-- ---- the problem of a run
 
 -- what is so of the problem of a run
 pub record IsOfRun (case : PlainProblem) : Type 0 where
@@ -250,31 +126,6 @@ pub record IsOfRun (case : PlainProblem) : Type 0 where
   pub sizes : All (λ size. size ≤ MAX_SIZE) case.sizes
   pub sized : length case.sizes ≡ length case.tracks
   pub near : AllStayNear case
-
-pub rewritten_fits : (case : PlainProblem) (c : PlainCertificate) → c.version ≡ One → IsOfRun case → Fits c → Fits (rewritten case c)
-unfolding with_blocks
-rewritten_fits case c first run fits = record {
-  version = tt;
-  first = fits.first;
-  last = fits.last;
-  some = fits.some;
-  threshold = fits.threshold;
-  objects = subst (λ (v : CertVersion). c.objects ≤ most_objects v) first fits.objects;
-  sizes = All-from_each (FitsSize (most_objects Two)) (size_lines case.sizes)
-      (sizes_fit (most_objects Two) 0 case.sizes (each_from_All (λ size. size ≤ MAX_SIZE) case.sizes run.sizes) (omega (arith, run.sized, run.few Two)));
-  shells = subst (λ (v : CertVersion). All (FitsShell (most_objects v)) c.shells) first fits.shells;
-  boxes = All-from_each (FitsBox (most_objects Two)) (map line_of_block (blocks_of (given_of case (boxes_by_lines case c.boxes) (pairs_by_shells case c))))
-      (blocks_fit (most_objects Two) (most_objects c.version) case c.boxes (pairs_by_shells case c) (run.few Two) run.short
-      (each_from_All (FitsBox (most_objects c.version)) c.boxes fits.boxes));
-  cells = subst (λ (v : CertVersion). All (FitsCell (most_objects v)) c.cells) first fits.cells;
-}
-
-pub in_version_2_fits : (case : PlainProblem) (c : PlainCertificate) → IsOfRun case → Fits c → Fits (in_version_2 case c)
-in_version_2_fits case c run fits = go c.version refl
-  where
-    go : (version : CertVersion) → c.version ≡ version → Fits (from_version version case c)
-    go One first = rewritten_fits case c first run fits
-    go Two second = fits
 
 -- ---- the shells that a run writes
 
@@ -299,15 +150,6 @@ radii_ordered e from to shell over = go (hulls_of e from to) refl (each_from_All
     go : (hs : List PlainHull) → hulls_of e from to ≡ hs → Each (ShowsRadii shell) hs → shell.lo ≤ shell.hi
     go [] empty shown = absurd (over.0 (no_state e from to empty))
     go (h ∷ hs) same shown = inner-le_outer (gap_terms h) shell.lo shell.hi (gap_ordered h) shown.0.inner shown.0.outer
-
-least_upto : (n r : ℕ) (test : ℕ → Bool) → least_from n r test ≤ r + n
-unfolding least_from
-least_upto zero r test = omega arith
-least_upto (suc n) r test = go (test r) (least_upto n (r + 1) test)
-  where
-    go : (b : Bool) → least_from n (r + 1) test ≤ r + 1 + n → cond b r (least_from n (r + 1) test) ≤ r + suc n
-    go true rest = omega arith
-    go false rest = omega arith
 
 -- its outer radius is in the range of radii
 abbrev HasLowTop : Option Shell → Type 0
@@ -478,18 +320,6 @@ written_fits case run accepted =
       boxes = All-from_each (FitsBox (most_objects One)) lines (Each-weaker FitsOwn (FitsBox (most_objects One)) (λ b own. own.0) lines boxes);
       cells = All-from_each (FitsCell (most_objects One)) (leaves_in_order case) (cells_fit case (is_candidate_listed case (written case)) (leaves_in_order case) run accepted.cells);
     }
-
-written_in_blocks_fits : (case : PlainProblem) → IsOfRun case → Accepted case (written case) → Fits (written_in_blocks case)
-unfolding written
-written_in_blocks_fits case run accepted =
-    subst (λ (c : PlainCertificate). Fits c) (blocks_same case time) (rewritten_fits case (written case) refl run (written_fits case run accepted))
-  where
-    time : AreAllInTime case
-    time i e is from to = (each_at StaysNear case.tracks i e (each_from_All StaysNear case.tracks run.near) is).time from to
-
-pub written_in_fits : (version : CertVersion) (case : PlainProblem) → IsOfRun case → Accepted case (written case) → Fits (written_in version case)
-written_in_fits One case run accepted = written_fits case run accepted
-written_in_fits Two case run accepted = written_in_blocks_fits case run accepted
 
 -- ---- how many lines there are
 

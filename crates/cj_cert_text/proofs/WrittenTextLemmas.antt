@@ -1,8 +1,7 @@
 -- The text of a written certificate, from its shells, its boxes object by object, and its leaves.
-use Rattle.std.proofs.Common.{◌≡◌, ℕ, suc, ◌+◌, ◌*◌, ◌<◌, ◌≤◌, List, [], ◌∷◌, ◌++◌, Option, Some, None, length, map, sym, ap, ◌∙◌, arith, append_assoc, append-nil}
+use Rattle.std.proofs.Common.{◌≡◌, ℕ, ◌+◌, List, [], ◌∷◌, ◌++◌, Option, Some, None, length, map, sym, ap, ◌∙◌, arith, append_assoc, append-nil}
 use Rattle.std.specs.Prelude.{codes, flat_map}
 use Rattle.std.specs.List.{enumerate_from, range_with_len}
-use Rattle.std.proofs.Math.Nat.{mul-le-mul_right}
 use Rattle.std.proofs.lemmas.Grind.{flat_map-append}
 use Rattle.std.proofs.lemmas.List.Folds.{flat_map-map}
 use Rattle.cj_formats.specs.declared.cert_version.CertVersion.{CertVersion}
@@ -18,34 +17,34 @@ use Rattle.cj_cert_text.specs.declared.object_boxes.ObjectBoxes.{ObjectBoxes}
 use Rattle.cj_cert.specs.Certificates.{PlainBoxLine}
 use Rattle.cj_cert_text.specs.ObjectTexts.{object_text}
 use Rattle.cj_cert_text.specs.Texts.{box_text, cell_text, first_lines, row, shell_text, text_of}
-use Rattle.cj_cert.specs.Written.{box_lines, leaves_in_order, line_of_box, lines_by_boxes, shell_line, written}
+use Rattle.cj_cert.specs.Written.{box_lines, leaves_in_order, line_of_box, lines_in_row, shell_line, written}
 use Rattle.cj_cert.proofs.WrittenLineLemmas.{box_missing, box_more}
 
 -- ---- one box more of an object
 
-pub box_added : (version : CertVersion) (boxes : List (Option PlainBox)) (slots object slot : ℕ) (area : PlainBox) (old text new : List ℕ)
-    → reaches_in boxes (object * slots + slot) ≡ Some area
-    → text ≡ old ++ flat_map (box_text version) (lines_by_boxes boxes slots slot object)
+pub box_added : (version : CertVersion) (row : List (Option PlainBox)) (object slot : ℕ) (area : PlainBox) (old text new : List ℕ)
+    → reaches_in row slot ≡ Some area
+    → text ≡ old ++ flat_map (box_text version) (lines_in_row row slot object)
     → new ≡ text ++ box_text version (line_of_box object slot area)
-    → new ≡ old ++ flat_map (box_text version) (lines_by_boxes boxes slots (slot + 1) object)
-box_added version boxes slots object slot area old text new is so_far added =
-    let lines = lines_by_boxes boxes slots slot object in
+    → new ≡ old ++ flat_map (box_text version) (lines_in_row row (slot + 1) object)
+box_added version row object slot area old text new is so_far added =
+    let lines = lines_in_row row slot object in
     let line = line_of_box object slot area in
-    let both : flat_map (box_text version) lines ++ box_text version line ≡ flat_map (box_text version) (lines_by_boxes boxes slots (slot + 1) object) =
+    let both : flat_map (box_text version) lines ++ box_text version line ≡ flat_map (box_text version) (lines_in_row row (slot + 1) object) =
     ap (λ (t : List ℕ). flat_map (box_text version) lines ++ t) (sym (append-nil (box_text version line)))
     ∙ sym (flat_map-append (box_text version) lines (line ∷ []))
-    ∙ ap (flat_map (box_text version)) (box_more boxes slots object slot area [] is) in
+    ∙ ap (flat_map (box_text version)) (box_more row object slot area [] is) in
     added
     ∙ ap (λ (t : List ℕ). t ++ box_text version line) so_far
     ∙ append_assoc old (flat_map (box_text version) lines) (box_text version line)
     ∙ ap (λ (t : List ℕ). old ++ t) both
 
-pub no_box : (version : CertVersion) (boxes : List (Option PlainBox)) (slots object slot : ℕ) (old text : List ℕ)
-    → reaches_in boxes (object * slots + slot) ≡ None
-    → text ≡ old ++ flat_map (box_text version) (lines_by_boxes boxes slots slot object)
-    → text ≡ old ++ flat_map (box_text version) (lines_by_boxes boxes slots (slot + 1) object)
-no_box version boxes slots object slot old text is so_far =
-    so_far ∙ ap (λ (ls : List PlainBoxLine). old ++ flat_map (box_text version) ls) (box_missing boxes slots object slot is)
+pub no_box : (version : CertVersion) (row : List (Option PlainBox)) (object slot : ℕ) (old text : List ℕ)
+    → reaches_in row slot ≡ None
+    → text ≡ old ++ flat_map (box_text version) (lines_in_row row slot object)
+    → text ≡ old ++ flat_map (box_text version) (lines_in_row row (slot + 1) object)
+no_box version row object slot old text is so_far =
+    so_far ∙ ap (λ (ls : List PlainBoxLine). old ++ flat_map (box_text version) ls) (box_missing row object slot is)
 
 -- ---- one object more
 
@@ -85,7 +84,3 @@ all_left case objects shells each leaves front back count of_shells of_boxes of_
     ∙ append_assoc ((head ++ []) ++ s) b (l ++ e)
     ∙ append_assoc (head ++ []) s (b ++ (l ++ e))
     ∙ ap (λ (t : List ℕ). t ++ (s ++ (b ++ (l ++ e)))) (append-nil head))
-
--- the places of one block of so many lie within those of all
-pub block_within : (k n slots : ℕ) → k < n → k * slots + slots ≤ n * slots
-block_within k n slots lt = let most : suc k * slots ≤ n * slots = mul-le-mul_right slots lt in omega (arith, most)

@@ -1,7 +1,6 @@
 -- The text of a certificate. Objects are numbered from 1 in it.
 use Rattle.std.specs.Prelude.{ℕ, ◌+◌, ℤ, pos, List, [], ◌∷◌, ◌++◌, codes, flat_map, map, Option, Some, None}
 use Rattle.std.specs.Fmt.{signed_decimal}
-use Rattle.std.specs.List.{join_with_byte}
 use Rattle.cj_formats.specs.declared.cert_version.CertVersion.{CertVersion}
 use Rattle.cj_formats.specs.declared.cert_version.CertVersion.TheVariants.{One, Two}
 use Rattle.cj_formats.specs.Versions.{number_of_version}
@@ -12,11 +11,8 @@ use Rattle.cj_case.specs.Leaves.{PlainLeaf}
 use Rattle.cj_case.specs.Boxes.{PlainBox}
 use Rattle.cj_cert.specs.declared.cert_lines.ShellLine.{ShellLine}
 use Rattle.cj_cert.specs.declared.cert_lines.SizeOfLine.{SizeOfLine}
+use Rattle.cj_kvn.specs.Entries.{line_of_words}
 use Rattle.cj_cert.specs.Certificates.{PlainBoxLine, PlainCertificate}
-
--- a line: words with a space between them, and LF
-abbrev pub line : List (List ℕ) → List ℕ
-line words = join_with_byte 32 words ++ 10 ∷ []
 
 -- numbers, each with a space before it
 abbrev pub spaced_numbers : List ℤ → List ℕ
@@ -24,11 +20,11 @@ spaced_numbers numbers = flat_map (λ z. 32 ∷ signed_decimal z) numbers
 
 -- a line of a word and numbers
 unfoldable pub row : List ℕ → List ℤ → List ℕ
-row word numbers = line (word ∷ map signed_decimal numbers)
+row word numbers = line_of_words (word ∷ map signed_decimal numbers)
 
 -- a line of a word, numbers and a last word
 unfoldable pub row_ended : List ℕ → List ℤ → List ℕ → List ℕ
-row_ended word numbers last = line (word ∷ (map signed_decimal numbers ++ last ∷ []))
+row_ended word numbers last = line_of_words (word ∷ (map signed_decimal numbers ++ last ∷ []))
 
 -- the number of an object in the text
 abbrev pub number : ℕ → ℤ

@@ -3,10 +3,11 @@ ghost use Rattle.std.specs.Prelude.{◌≡◌, [], ◌∷◌, Some, length};
 ghost use Rattle.cj_cert.specs.Certificates.{plain_certificate};
 ghost use Rattle.cj_cert.specs.Listed.{shells_listed};
 
-use crate::certificates::{AT_REST_2, at_rest_1, at_rest_2};
+use crate::certificates::{AT_REST_2, at_rest_1, at_rest_2, at_rest_with_more};
+use cj_blocks::{in_version_2, listed_shells};
 use cj_case::{Pair, Problem};
 use cj_cert::Certificate;
-use cj_cert_text::{cert_text, in_version_2, listed_shells};
+use cj_cert_text::cert_text;
 use cj_samples::resting;
 use std::alloc::{AllocError, Global};
 use std::panic::Expect;
@@ -40,6 +41,20 @@ fn objects_at_rest_have_one_box_each_in_version_2(rt: HostRuntime) {
     );
     assert_eq!(rt;
         cert_text(&rt, alloc, &same, 2)
+            .expect(&rt, "no fault")
+            .as_slice(),
+        AT_REST_2
+    );
+}
+
+#[test]
+fn the_first_box_of_a_place_is_listed(rt: HostRuntime) {
+    let alloc = rt.alloc();
+    let problem = resting(alloc).expect(&rt, "no fault");
+    let cert = at_rest_with_more(alloc).expect(&rt, "no fault");
+    let new = rewritten(alloc, &problem, cert).expect(&rt, "no fault");
+    assert_eq!(rt;
+        cert_text(&rt, alloc, &new, 2)
             .expect(&rt, "no fault")
             .as_slice(),
         AT_REST_2

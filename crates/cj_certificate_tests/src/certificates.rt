@@ -165,6 +165,23 @@ pub fn at_rest_1(alloc: Global) -> Result<Certificate, AllocError>
     at_rest(alloc, CertVersion::One, Vec::new(alloc), boxes)
 }
 
+/// `AT_REST` with more boxes behind its own: of a place that has one, of an object and of a slot that are not there.
+pub fn at_rest_with_more(alloc: Global) -> Result<Certificate, AllocError>
+    ensures shells { IfOk result (λ cert. shells_listed (plain_certificate cert)
+        ≡ Some (record { lo = 7000000000000000; hi = 7000000000000000 }) ∷ Some (record { lo = 7005000000000000; hi = 7005000000000000 }) ∷ []) }
+{
+    let boxes = vec![in alloc;
+        box_of(0, 0, 0, 7_000_000_000_000_000),
+        box_of(0, 1, 1, 7_000_000_000_000_000),
+        box_of(1, 0, 0, 7_005_000_000_000_000),
+        box_of(1, 1, 1, 7_005_000_000_000_000),
+        box_of(0, 1, 1, 1),
+        box_of(2, 0, 0, 2),
+        box_of(1, 2, 2, 3),
+    ]?;
+    at_rest(alloc, CertVersion::One, Vec::new(alloc), boxes)
+}
+
 pub fn at_rest_2(alloc: Global) -> Result<Certificate, AllocError>
     ensures shells { IfOk result (λ cert. shells_listed (plain_certificate cert)
         ≡ Some (record { lo = 7000000000000000; hi = 7000000000000000 }) ∷ Some (record { lo = 7005000000000000; hi = 7005000000000000 }) ∷ []) }

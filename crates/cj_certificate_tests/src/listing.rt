@@ -1,8 +1,9 @@
-ghost use Rattle.std.specs.Prelude.{◌≤◌, ◌≤ℤ◌};
+ghost use Rattle.std.specs.Prelude.{◌≡◌, ◌≤◌, ◌≤ℤ◌, IfOk, length};
 
 use cj_blocks::{Block, blocks};
-use cj_case::{AxisBox, Pair};
+use cj_case::{AxisBox, BySlot, Pair};
 use cj_track::Vec3;
+use std::alloc::{AllocError, Global};
 use std::panic::Expect;
 
 /// 5 km in nm.
@@ -74,12 +75,35 @@ fn block(object: u32, first: u32, last: u32, area: AxisBox) -> Block
     }
 }
 
+/// The boxes of two objects in two slots.
+fn of_two(
+    alloc: Global,
+    first: [Option<AxisBox>; 2],
+    second: [Option<AxisBox>; 2],
+) -> Result<BySlot<Option<AxisBox>>, AllocError>
+    ensures { IfOk result (λ boxes. length boxes.rows ≡ 2) }
+{
+    let mut boxes = BySlot::new(alloc, 2);
+    boxes.push(Vec::from_slice(alloc, &first)?)?;
+    boxes.push(Vec::from_slice(alloc, &second)?)?;
+    Ok(boxes)
+}
+
+/// The boxes of one object in ten slots.
+fn of_one(alloc: Global, row: [Option<AxisBox>; 10]) -> Result<BySlot<Option<AxisBox>>, AllocError>
+    ensures { IfOk result (λ boxes. length boxes.rows ≡ 1) }
+{
+    let mut boxes = BySlot::new(alloc, 10);
+    boxes.push(Vec::from_slice(alloc, &row)?)?;
+    Ok(boxes)
+}
+
 #[test]
 fn objects_at_rest_have_one_box(rt: HostRuntime) {
     let here = place(HERE);
     let there = place(THERE);
-    let boxes = [Some(here), Some(here), Some(there), Some(there)];
-    let found = blocks(rt.alloc(), &[FIRST_TWO], 2, 2, &boxes, &[0, 0], THRESHOLD).expect(
+    let boxes = of_two(rt.alloc(), [Some(here); 2], [Some(there); 2]).expect(&rt, "no fault");
+    let found = blocks(rt.alloc(), &[FIRST_TWO], 2, &boxes, &[0, 0], THRESHOLD).expect(
         &rt, "no fault",
     );
     assert_eq!(rt;
@@ -94,8 +118,13 @@ fn two_tracks_cross_at_one_kilometre(rt: HostRuntime) {
     let first = corners(SOUTH, NORTH);
     let second = corners(LOW, HIGH);
     let last = place(HIGH);
-    let boxes = [Some(first), Some(place(NORTH)), Some(second), Some(last)];
-    let found = blocks(rt.alloc(), &[FIRST_TWO], 2, 2, &boxes, &[0, 0], THRESHOLD).expect(
+    let boxes = of_two(
+        rt.alloc(),
+        [Some(first), Some(place(NORTH))],
+        [Some(second), Some(last)],
+    )
+    .expect(&rt, "no fault");
+    let found = blocks(rt.alloc(), &[FIRST_TWO], 2, &boxes, &[0, 0], THRESHOLD).expect(
         &rt, "no fault",
     );
     let expected = [
@@ -105,7 +134,7 @@ fn two_tracks_cross_at_one_kilometre(rt: HostRuntime) {
     ];
     assert_eq!(rt; found.as_slice(), expected.as_slice());
     // A pair that is not kept parts nothing.
-    let found = blocks(rt.alloc(), &[], 2, 2, &boxes, &[0, 0], THRESHOLD).expect(&rt, "no fault");
+    let found = blocks(rt.alloc(), &[], 2, &boxes, &[0, 0], THRESHOLD).expect(&rt, "no fault");
     let expected = [block(0, 0, 1, first), block(1, 0, 1, second)];
     assert_eq!(rt; found.as_slice(), expected.as_slice());
 }
@@ -114,8 +143,12 @@ fn two_tracks_cross_at_one_kilometre(rt: HostRuntime) {
 fn a_block_has_four_slots_with_boxes(rt: HostRuntime) {
     let here = place(HERE);
     let all = Some(here);
-    let boxes = [all, all, all, all, all, all, None, all, all, all];
-    let found = blocks(rt.alloc(), &[], 1, 10, &boxes, &[0], THRESHOLD).expect(&rt, "no fault");
+    let boxes = of_one(
+        rt.alloc(),
+        [all, all, all, all, all, all, None, all, all, all],
+    )
+    .expect(&rt, "no fault");
+    let found = blocks(rt.alloc(), &[], 1, &boxes, &[0], THRESHOLD).expect(&rt, "no fault");
     let expected = [
         block(0, 0, 3, here),
         block(0, 4, 4, here),
@@ -124,9 +157,11 @@ fn a_block_has_four_slots_with_boxes(rt: HostRuntime) {
         block(0, 8, 9, here),
     ];
     assert_eq!(rt; found.as_slice(), expected.as_slice());
-    let found = blocks(rt.alloc(), &[], 0, 10, &[], &[], THRESHOLD).expect(&rt, "no fault");
+    let none = BySlot::new(rt.alloc(), 10);
+    let found = blocks(rt.alloc(), &[], 0, &none, &[], THRESHOLD).expect(&rt, "no fault");
     assert!(rt; found.is_empty());
-    let found = blocks(rt.alloc(), &[], 2, 0, &[], &[0, 0], THRESHOLD).expect(&rt, "no fault");
+    let bare = BySlot::of_one(rt.alloc(), 2, 0, None).expect(&rt, "no fault");
+    let found = blocks(rt.alloc(), &[], 2, &bare, &[0, 0], THRESHOLD).expect(&rt, "no fault");
     assert!(rt; found.is_empty());
 }
 
@@ -141,15 +176,14 @@ fn sizes_part_blocks(rt: HostRuntime) {
     let far = corners(beside(10_000_000_000_000), beside(12_000_000_000_000));
     let near = corners(beside(6_000_000_000_000), beside(8_000_000_000_000));
     let here = Some(place(HERE));
-    let boxes = [here, here, Some(far), Some(near)];
-    let found = blocks(rt.alloc(), &[FIRST_TWO], 2, 2, &boxes, &[0, 0], THRESHOLD).expect(
+    let boxes = of_two(rt.alloc(), [here; 2], [Some(far), Some(near)]).expect(&rt, "no fault");
+    let found = blocks(rt.alloc(), &[FIRST_TWO], 2, &boxes, &[0, 0], THRESHOLD).expect(
         &rt, "no fault",
     );
     assert_eq!(rt; found.len(), 2);
     let found = blocks(
         rt.alloc(),
         &[FIRST_TWO],
-        2,
         2,
         &boxes,
         &[1_000_000_000_000, 0],

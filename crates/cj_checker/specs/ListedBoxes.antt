@@ -6,4 +6,4 @@ use Rattle.cj_checker.specs.Tables.{box_in_table}
 
 -- the box of an object in a slot, by a table
 abbrev pub table_of : Listed → ℕ → ℕ → Option PlainBox
-table_of t = box_in_table t.boxes.now t.slots t.numbers.items
+table_of t = box_in_table t.boxes.now t.numbers.rows

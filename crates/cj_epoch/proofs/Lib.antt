@@ -3,6 +3,5 @@ pub mod DigitLemmas
 pub mod LeapLemmas
 pub mod PictureLemmas
 pub mod ReadingLemmas
-pub mod TextLemmas
 pub mod WrittenLemmas
 pub mod YearLemmas

@@ -22,7 +22,8 @@ use Rattle.cj_oem.proofs.PrintedPairLemmas.{covariance_start, covariance_stop, m
 use Rattle.cj_oem.proofs.PrintedRowLemmas.{field_ends, field_starts, field_visible}
 use Rattle.cj_oem.proofs.PrintedTextLemmas.{Ends, Starts, all_kept}
 use Rattle.cj_oem.proofs.WalkLemmas.{walk, walk_append, walk_step}
-use Rattle.cj_gen.specs.Texts.{covariance_text, ending_text, five, head_text, line, naming_text, stamp}
+use Rattle.cj_kvn.specs.Entries.{line}
+use Rattle.cj_gen.specs.Texts.{covariance_text, ending_text, five, head_text, naming_text, stamp}
 use Rattle.cj_gen.specs.MadeTracks.{covariance, tick_at}
 use Rattle.cj_gen.proofs.StampLemmas.{stamp_field, stamp_read, start_read}
 

@@ -21,7 +21,8 @@ use Rattle.cj_oem.proofs.StateAgainLemmas.{IsVector, vector_again, open_segment}
 use Rattle.cj_oem.proofs.WalkLemmas.{walk, walk_step}
 use Rattle.cj_gen.specs.declared.orbit.Orbit.{Orbit}
 use Rattle.cj_gen.specs.declared.tilt.Vector.{Vector}
-use Rattle.cj_gen.specs.Texts.{kilometres, kilometres_a_second, line, node_line, place_text, rate_text, stamp}
+use Rattle.cj_kvn.specs.Entries.{line}
+use Rattle.cj_gen.specs.Texts.{kilometres, kilometres_a_second, node_line, place_text, rate_text, stamp}
 use Rattle.cj_gen.specs.MadeTracks.{node_at, tick_at}
 use Rattle.cj_gen.proofs.BoundLemmas.{IsMade, place_at, place_is, place_within, speed_at, speed_is, speed_within}
 use Rattle.cj_gen.proofs.FigureLemmas.{kilometres_field, kilometres_read, rate_field, rate_read}

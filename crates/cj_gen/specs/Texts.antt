@@ -3,12 +3,10 @@ use Rattle.std.specs.Prelude.{ℕ, ◌+◌, ◌*◌, ◌/◌, ◌%◌, if◌then
 use Rattle.std.specs.List.{range_with_len}
 use Rattle.cj_base.specs.Ticks.{MINUTE}
 use Rattle.cj_epoch.specs.Written.{epoch_of, two, six}
+use Rattle.cj_kvn.specs.Entries.{line}
 use Rattle.cj_gen.specs.declared.orbit.Orbit.{Orbit}
 use Rattle.cj_gen.specs.declared.tilt.Vector.{Vector}
 use Rattle.cj_gen.specs.Orbits.{after_turns, rate_at, lifted}
-
-abbrev pub line : List ℕ → List ℕ
-line text = text ++ 10 ∷ []
 
 -- the last three digits of a number
 abbrev pub three : ℕ → List ℕ

@@ -1,5 +1,6 @@
 ghost use Rattle.std.specs.Prelude.{◌≡◌, ◌<◌, ◌≤◌, ◌+◌, [], ◌++◌, flat_map, IfOk, OnOk};
 ghost use Rattle.std.specs.List.{range_with_len};
+ghost use Rattle.cj_kvn.specs.Entries.{line};
 ghost use Rattle.cj_gen.specs.Orbits.{IsInSquare, IsOrbit, after_turns};
 ghost use Rattle.cj_gen.specs.Texts as spec;
 ghost use Rattle.cj_gen.specs.Texts.{covariance_text, ending_text, head_text, naming_text, node_line, oem_of};
@@ -71,7 +72,7 @@ fn push_naming(text: &mut Vec<u8>, number: u32) -> Result<(), AllocError>
 
 /// Adds the end of the designator's line, the frame and the first epoch.
 fn push_frame(text: &mut Vec<u8>) -> Result<(), AllocError>
-    ensures { OnOk result (text.new.items ≡ text.old.items ++ (spec.line [] ++ spec.frame_text)) }
+    ensures { OnOk result (text.new.items ≡ text.old.items ++ (line [] ++ spec.frame_text)) }
 {
     text.extend_from_slice(
         b"\nCENTER_NAME = EARTH\nREF_FRAME = EME2000\nTIME_SYSTEM = UTC\nSTART_TIME = 2025-01-01T00:00:00\n",

@@ -3,8 +3,8 @@ ghost use Rattle.cj_track.specs.Limits.{MAX_COORDINATE, MAX_RATE, IsWithin};
 
 use cj_base::Tick;
 use cj_bezier::{
-    Gap, Hull, Verdict, gap, greatest_square, hull_ready, join, least_square, radius, supports,
-    verdict,
+    Gap, Hull, Verdict, gap, greatest_square, hull_ready, join, judge, least_square, radius,
+    supports, verdict,
 };
 use cj_case::{Kind, Shell};
 use cj_hermite::{Piece, ready};
@@ -122,6 +122,35 @@ fn gap_over(a: &Piece, b: &Piece, first: u64, last: u64) -> Gap
         &hull(a, into(first), into(last)),
         &hull(b, into(first), into(last)),
     )
+}
+
+/// What two pieces are judged to be over some of their minute.
+fn judged(a: &Piece, b: &Piece, first: u64, last: u64) -> Verdict
+    requires order { first ≤ last }
+    requires inside { last ≤ 60000000 }
+    requires a_first { a.now.t0.micros ≡ 1735689600000000 }
+    requires a_last { a.now.t1.micros ≡ 1735689660000000 }
+    requires b_first { b.now.t0.micros ≡ 1735689600000000 }
+    requires b_last { b.now.t1.micros ≡ 1735689660000000 }
+{
+    let one = Divisor::new(1);
+    judge(
+        &ready(a, &one),
+        &ready(b, &one),
+        THRESHOLD,
+        into(first),
+        into(last),
+    )
+}
+
+#[test]
+fn two_pieces_are_judged_over_all_their_ticks(rt: HostRuntime) {
+    let a = along_y();
+    let b = along_z();
+    assert_eq!(rt; judged(&a, &b, 0, 59_999_999), Verdict::Split);
+    assert_eq!(rt; judged(&a, &b, 0, 15_000_000), Verdict::Far);
+    assert_eq!(rt; judged(&a, &b, 29_600_000, 30_400_000), Verdict::Near);
+    assert_eq!(rt; judged(&a, &a, 0, 59_999_999), Verdict::Near);
 }
 
 #[test]

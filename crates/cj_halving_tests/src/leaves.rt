@@ -2,7 +2,7 @@ ghost use Rattle.std.specs.Prelude.{◌≡◌, ◌≤◌, length};
 ghost use Rattle.cj_case.specs.CaseLimits.{MAX_SIZE};
 
 use cj_case::{Cell, Kind, Leaf, Pair, Problem};
-use cj_cells::{Look, RefineError, look, order_roots, refine_all, roots_of_slot};
+use cj_cells::{Look, RefineError, look, number_roots, order_roots, refine_all, roots_of_slot};
 use cj_hermite::Hints;
 use cj_samples::{
     AT_7000, AT_7005, AT_7100, REST, crossing, node, problem_of, rest, sized, tick, track_of,
@@ -247,6 +247,14 @@ fn one_tick(pair: Pair, root: u32, micros: u32) -> Cell {
         first: tick(micros),
         last: tick(micros),
     }
+}
+
+#[test]
+fn a_root_is_numbered_by_its_place(rt: HostRuntime) {
+    let pair = Pair { a: 0, b: 1 };
+    let mut roots = vec![in rt.alloc(); one_tick(pair, 9, 60)].expect(&rt, "no fault");
+    number_roots(&mut roots);
+    assert_eq!(rt; roots.as_slice(), [one_tick(pair, 0, 60)].as_slice());
 }
 
 #[test]

@@ -7,7 +7,8 @@ use Rattle.cj_track.specs.Segments.{AreInOrder}
 use Rattle.cj_track.specs.PlainTracks.{PlainTrack}
 use Rattle.cj_track.specs.Tracks.{plain_segment, plain_track}
 use Rattle.cj_track.specs.declared.track.Track.{Track}
-use Rattle.cj_inputs.specs.Windows.{first_of, last_of, least, greatest}
+use Rattle.cj_track.specs.PlainTracks.{first_of, last_of}
+use Rattle.cj_inputs.specs.Windows.{least, greatest}
 
 least_from : (m : ℕ) (s : Segment) (ss : List Segment) → m ≤ s.first.micros → AreInOrder (s ∷ ss) → fold min m (map first_of (map plain_segment (s ∷ ss))) ≡ m
 least_from m s [] low order = omega (arith, clamps)

@@ -1,7 +1,7 @@
 -- The window of a run: its ends as they are asked for, else the useable spans' own.
 use Rattle.std.specs.Prelude.{ℕ, min, max, List, [], ◌∷◌, map, fold, unwrap_or}
 use Rattle.cj_base.specs.Ticks.{FIRST_TICK}
-use Rattle.cj_track.specs.PlainTracks.{PlainSegment, PlainTrack}
+use Rattle.cj_track.specs.PlainTracks.{PlainTrack, first_of, last_of}
 use Rattle.cj_words.specs.Settings.{PlainSettings}
 
 -- the least of ticks, and 1972 where there are none
@@ -13,12 +13,6 @@ least (m ∷ ms) = fold min m ms
 abbrev pub greatest : List ℕ → ℕ
 greatest [] = FIRST_TICK
 greatest (m ∷ ms) = fold max m ms
-
-abbrev pub first_of : PlainSegment → ℕ
-first_of segment = segment.first
-
-abbrev pub last_of : PlainSegment → ℕ
-last_of segment = segment.last
 
 -- the least useable tick of an ephemeris, and the greatest
 abbrev pub start_of : PlainTrack → ℕ

@@ -3,10 +3,12 @@ pub mod IntegerLemmas
 pub mod ListLemmas
 pub mod MachineLemmas
 pub mod OrderLemmas
+pub mod PassingLemmas
 pub mod RangeLemmas
 pub mod RingLemmas
 pub mod RoundingLemmas
 pub mod SignLemmas
 pub mod SizeLemmas
 pub mod SquareLemmas
+pub mod SquareRootLemmas
 pub mod SumLemmas

@@ -20,3 +20,4 @@ pub mod ScanLemmas
 pub mod ScanningLemmas
 pub mod ZeroLemmas
 pub mod PrintLemmas
+pub mod TextLemmas

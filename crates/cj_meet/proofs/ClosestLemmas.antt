@@ -29,12 +29,13 @@ use Rattle.cj_case.specs.Leaves.{PlainLeaf, IsTickOf, plain_leaf, plain_leaves}
 use Rattle.cj_bezier.specs.Squares.{least_square, greatest_square}
 use Rattle.cj_meet.specs.Closest.{PlainApproach, PlainClosest, upper, approach_at, ends_between, ends_within, ends_in, closest_by, closest_of, plain_closest, nearer, nearest, KeepTheirPieces, IsClosest, IsFlatAt, IsNearest}
 use Rattle.cj_meet.specs.Encounters.{leaves_in}
-use Rattle.cj_meet.specs.Flat.{floor_root, is_flat}
+use Rattle.cj_interval.specs.SquareRoots.{floor_root}
+use Rattle.cj_meet.specs.Flat.{is_flat}
 use Rattle.cj_meet.specs.Searches.{NoWorse, HasInterpolants}
 use Rattle.cj_meet.proofs.EndLemmas.{HasFlat, each_end, first_end, last_end, flat_at}
 use Rattle.cj_meet.proofs.EncounterLemmas.{leaves_in_encounter}
 use Rattle.cj_meet.proofs.NearerLemmas.{IsNearer, NoWorse-trans, nearer-is, nearest_is}
-use Rattle.cj_meet.proofs.RootLemmas.{floor_root-below, ceil_root-is}
+use Rattle.cj_interval.proofs.SquareRootLemmas.{floor_root-below, ceil_root-is}
 use Rattle.cj_meet.proofs.SquareBoundLemmas.{scale, scale-some, least_holds, first-le_greatest}
 use Rattle.cj_meet.proofs.TickLemmas.{upper_holds, first_upper, one_tick_flat}
 

@@ -4,7 +4,6 @@ pub mod ClosestLemmas
 pub mod EncounterLemmas
 pub mod NearerLemmas
 pub mod OrderLemmas
-pub mod RootLemmas
 pub mod SearchLemmas
 pub mod SpanLemmas
 pub mod SquareBoundLemmas

@@ -19,8 +19,9 @@ use Rattle.cj_bezier.proofs.ShellLemmas.{square_of_inner, square_of_outer}
 use Rattle.cj_bezier.proofs.SplitLemmas.{above, below, square_low, square_high, tick_low, tick_high, lows_of_tick, highs_of_tick, share-le, le-share, axis_ordered, axis_narrow}
 use Rattle.cj_bezier.proofs.VerdictLemmas.{are_at_least_from, are_at_most_from}
 use Rattle.cj_meet.specs.Closest.{upper}
-use Rattle.cj_meet.specs.Flat.{floor_root, is_flat}
-use Rattle.cj_meet.proofs.RootLemmas.{floor_root-next}
+use Rattle.cj_interval.specs.SquareRoots.{floor_root}
+use Rattle.cj_meet.specs.Flat.{is_flat}
+use Rattle.cj_interval.proofs.SquareRootLemmas.{floor_root-next}
 use Rattle.cj_meet.proofs.SquareBoundLemmas.{scale, scale-some, least_holds, greatest_holds, le_from_zero}
 
 -- ---- the seven coefficients of one tick

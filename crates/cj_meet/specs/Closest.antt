@@ -11,7 +11,8 @@ use Rattle.cj_bezier.specs.Gaps.{gap_high, gap_terms, hull_gap}
 use Rattle.cj_case.specs.Leaves.{PlainLeaf, IsTickOf}
 use Rattle.cj_bezier.specs.Squares.{from_zero}
 use Rattle.cj_meet.specs.Encounters.{first_object, second_object}
-use Rattle.cj_meet.specs.Flat.{ceil_root, flats_between, is_flat}
+use Rattle.cj_interval.specs.SquareRoots.{ceil_root}
+use Rattle.cj_meet.specs.Flat.{flats_between, is_flat}
 
 -- a tick, and a bound on the squared distance there, in nm²
 pub record PlainApproach : Type 0 where

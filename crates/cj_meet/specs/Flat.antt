@@ -6,16 +6,8 @@ use Rattle.cj_case.specs.declared.kind.Kind.{Kind}
 use Rattle.cj_bezier.specs.Gaps.{PlainGap, gap_terms, hull_gap}
 use Rattle.cj_bezier.specs.Halving.{leaves_between}
 use Rattle.cj_case.specs.Leaves.{PlainLeaf}
-use Rattle.cj_bezier.specs.Shells.{greatest_to, least_from}
+use Rattle.cj_interval.specs.SquareRoots.{floor_root}
 use Rattle.cj_bezier.specs.Squares.{least_square, greatest_square}
-
--- the greatest whole number whose square is at most n
-unfoldable pub floor_root : ℕ → ℕ
-floor_root n = greatest_to n (λ r. nat_le (r * r) n)
-
--- the least whole number whose square is at least n
-unfoldable pub ceil_root : ℕ → ℕ
-ceil_root n = least_from n 0 (λ r. nat_le n (r * r))
 
 -- the square of the whole root of n and one millimetre more
 abbrev pub raised : ℕ → ℕ

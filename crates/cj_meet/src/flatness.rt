@@ -13,11 +13,9 @@ ghost use Rattle.cj_meet.specs.Searches.{plain_approach};
 use crate::approaches::Approach;
 use crate::runs::Waiting;
 use cj_bezier::{Gap, gap, greatest_square, hull_ready};
+use cj_case::BAND;
 use cj_hermite::Ready;
 use cj_interval::isqrt_down;
-
-/// One millimetre in nm.
-const BAND: u64 = 1_000_000;
 
 /// The gap of two pieces made ready, over a run of ticks.
 pub fn gap_over(a: &Ready, b: &Ready, run: Waiting) -> Gap

@@ -9,11 +9,9 @@ ghost use Rattle.cj_meet.specs.Searches.{plain_approach, NoWorse};
 use crate::approaches::Approach;
 use crate::looking::{Seen, look};
 use crate::runs::whole_of;
+use cj_bezier::PLACES;
 use cj_case::Leaf;
 use cj_hermite::Ready;
-
-/// How many parts of a leaf wait at most: one more than the halvings of 2^32 ticks, and a piece is shorter than that.
-const PLACES: usize = 33;
 
 /// The nearest of an approach and the ends of a leaf of two pieces made ready. The parts that wait stand from `top` on.
 pub fn search(a: &Ready, b: &Ready, leaf: &Leaf, given: Approach) -> Approach

@@ -6,7 +6,7 @@ use Rattle.std.specs.List.{last_or}
 use Rattle.std.proofs.lemmas.Bool.Decides.{nat_tests}
 use Rattle.cj_track.specs.declared.node.Node.{Node}
 use Rattle.cj_track.specs.declared.segment.Segment.{Segment}
-use Rattle.cj_track.specs.PlainTracks.{PlainSegment, PlainNode}
+use Rattle.cj_track.specs.PlainTracks.{PlainNode, last_of}
 use Rattle.cj_track.specs.Nodes.{AreSteps, IsStep}
 use Rattle.cj_track.specs.Segments.{AreInOrder}
 use Rattle.cj_oem.specs.Stages.{end_of, first_state, is_useable, last_state}
@@ -54,9 +54,6 @@ pub order_push : (segments : List Segment) (segment : Segment) → AreInOrder se
 order_push [] segment order later = tt
 order_push (a ∷ []) segment order later = (later, tt)
 order_push (a ∷ b ∷ segments) segment order later = (order.0, order_push (b ∷ segments) segment order.1 later)
-
-abbrev last_of : PlainSegment → ℕ
-last_of segment = segment.last
 
 -- where the last segment ends
 pub end_is : (segments : List Segment) → end_of (map plain_segment segments) ≡ unwrap_or (option_map (λ (s : Segment). s.last.micros) (slice_get segments (length segments - 1))) 0

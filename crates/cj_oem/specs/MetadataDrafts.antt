@@ -3,6 +3,7 @@ use Rattle.std.specs.Prelude.{◌≡◌, ◌⊎◌, ℕ, true, List, [], length,
 use Rattle.std.specs.Option.{option_map}
 use Rattle.cj_base.specs.Bytes.{spaced}
 use Rattle.cj_kvn.specs.Lines.{Form, Blank, Comment, Mark, Pair, Row}
+use Rattle.cj_base.specs.PlainTicks.{micros_of}
 use Rattle.cj_base.specs.declared.tick.Tick.{Tick}
 use Rattle.cj_track.specs.declared.frame.Frame.{Frame}
 use Rattle.cj_track.specs.Labels.{is_label}
@@ -13,9 +14,6 @@ use Rattle.cj_oem.specs.declared.segment_metadata.Metadata.{Metadata}
 
 abbrev pub object_of : Object → spec.Object
 object_of object = record { name = object.name; id = object.id; frame = object.frame }
-
-abbrev pub micros_of : Tick → ℕ
-micros_of tick = tick.micros
 
 abbrev pub metadata_draft_of : MetadataDraft → spec.MetadataDraft
 metadata_draft_of s = record {

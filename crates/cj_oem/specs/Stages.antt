@@ -7,7 +7,7 @@ use Rattle.cj_formats.specs.declared.oem_cause.OemCause.{OemCause}
 use Rattle.cj_formats.specs.declared.oem_cause.OemCause.TheVariants as causes
 use Rattle.cj_oem.specs.Words.{is_text}
 use Rattle.cj_track.specs.PlainTracks.{PlainNode, PlainSegment, PlainMatrix}
-pub use Rattle.cj_track.specs.PlainTracks.{first_state, last_state}
+pub use Rattle.cj_track.specs.PlainTracks.{first_state, last_of, last_state}
 use Rattle.cj_kvn.specs.Faults.{◌>>=◌}
 use Rattle.cj_oem.specs.Metadata.{unless, Object, MetadataDraft, EMPTY, Metadata, with_pair, metadata_of}
 use Rattle.cj_oem.specs.NodeRows.{state_of_row}
@@ -94,7 +94,7 @@ is_useable first last (Some a) (Some z) = nat_le first last && nat_le a.at first
 
 -- the tick up to which the segments before are useable
 abbrev pub end_of : List PlainSegment → ℕ
-end_of segments = unwrap_or (last_or None (map (λ segment. segment.last) segments)) 0
+end_of segments = unwrap_or (last_or None (map last_of segments)) 0
 
 -- the nodes of a segment are closed
 unfoldable pub close_nodes : Body → OpenSegment → Result (Unit {0}) OemCause

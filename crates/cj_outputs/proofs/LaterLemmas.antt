@@ -20,13 +20,13 @@ use Rattle.cj_cert.specs.declared.cert_lines.SizeOfLine.{SizeOfLine}
 use Rattle.cj_cert.specs.Accepted.{Accepted, AreSizesIn}
 use Rattle.cj_cert.specs.Certificates.{PlainBoxLine, PlainCertificate}
 use Rattle.cj_cert.specs.Reaches.{AllStayNear}
-use Rattle.cj_cert.specs.Rewritten.{in_version_2, with_blocks, written_in}
+use Rattle.cj_blocks.specs.Rewritten.{in_version_2, with_blocks, written_in}
 use Rattle.cj_cert.specs.Written.{leaves_in_order, written}
 use Rattle.cj_cert_text.specs.Fits.{Fits, IsOfVersion}
 use Rattle.cj_cert_text.specs.Texts.{text_of}
 use Rattle.cj_cert_text.proofs.ChainLemmas.{reading_again}
 use Rattle.cj_cert_text.proofs.LengthLemmas.{text_short}
-use Rattle.cj_cert_text.proofs.WrittenFitsLemmas.{IsOfRun, few_boxes, few_shells, few_sizes, in_version_2_fits, written_in_fits}
+use Rattle.cj_cert_text.proofs.WrittenFitsLemmas.{IsOfRun, few_boxes, few_shells, few_sizes}
 use Rattle.cj_checker.specs.First.{first_failure}
 use Rattle.cj_words.specs.Commands.{PlainChecking}
 use Rattle.cj_words.specs.Settings.{PlainSettings}
@@ -37,6 +37,7 @@ use Rattle.cj_outputs.specs.Outcome.{accepted_output, cert_bytes, outputs_checke
 use Rattle.cj_status.specs.Steps.{◌>>=◌}
 use Rattle.cj_outputs.proofs.AcceptingLemmas.{accepted_so, outputs_made_from}
 use Rattle.cj_outputs.proofs.AgainLemmas.{asked_again, named_again}
+use Rattle.cj_outputs.proofs.BlocksFitLemmas.{in_version_2_fits, written_in_fits}
 use Rattle.cj_outputs.proofs.CertificateLemmas.{leaves_alike}
 use Rattle.cj_inputs.proofs.WithinLemmas.{usual_slots}
 

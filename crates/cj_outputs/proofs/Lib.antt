@@ -1,5 +1,6 @@
 pub mod AgainLemmas
 pub mod AcceptingLemmas
+pub mod BlocksFitLemmas
 pub mod CellLemmas
 pub mod CertificateLemmas
 pub mod CheckLemmas

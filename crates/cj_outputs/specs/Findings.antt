@@ -5,10 +5,8 @@ use Rattle.cj_io.specs.declared.file.FileBytes.{FileBytes}
 use Rattle.cj_case.specs.PlainProblems.{PlainProblem}
 use Rattle.cj_case.specs.Problems.{plain_problem}
 use Rattle.cj_case.specs.Leaves.{plain_leaves}
-use Rattle.cj_case.specs.Boxes.{plain_boxes}
 use Rattle.cj_cells.specs.Lists.{list_candidates}
-use Rattle.cj_bezier.specs.Candidates.{shells_of}
-use Rattle.cj_bezier.specs.AllBoxes.{boxes_of}
+use Rattle.cj_bezier.specs.MeasuredObjects.{AreMeasured}
 use Rattle.cj_meet.specs.Closest.{closest_of, some_closest}
 use Rattle.cj_meet.specs.Encounters.{AreEncounters, encounters_of, groups_in}
 use Rattle.cj_report.specs.Counts.{tally_of}
@@ -25,8 +23,7 @@ case_in found = plain_problem found.problem
 
 -- they are what the definitions give of that case
 pub record AreFound (found : Findings) : Type 0 where
-  pub shells : found.shells.items ≡ shells_of (case_in found)
-  pub boxes : plain_boxes found.boxes.items ≡ boxes_of (case_in found)
+  pub measured : AreMeasured (case_in found) found.measured
   pub leaves : plain_leaves found.leaves.items ≡ list_candidates (case_in found)
   pub few : length found.leaves.items ≤ MOST_LEAVES
   pub encounters : AreEncounters (plain_leaves found.leaves.items) found.encounters.items

@@ -21,7 +21,7 @@ use Rattle.cj_report.specs.Summary.{summary_of}
 use Rattle.cj_cert.specs.Certificates.{PlainCertificate}
 use Rattle.cj_cert_text.specs.Reading.{Fault, reading}
 use Rattle.cj_cert_text.specs.Texts.{text_of}
-use Rattle.cj_cert.specs.Rewritten.{in_version_2, written_in}
+use Rattle.cj_blocks.specs.Rewritten.{in_version_2, written_in}
 use Rattle.cj_formats.specs.declared.cert_version.CertVersion.{CertVersion}
 use Rattle.cj_checker.specs.First.{first_failure, Failure}
 use Rattle.cj_status.specs.declared.status.Status.{Status}

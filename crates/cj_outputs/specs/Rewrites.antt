@@ -6,7 +6,7 @@ use Rattle.cj_case.specs.PlainProblems.{PlainProblem}
 use Rattle.cj_cert.specs.Accepted.{Accepted}
 use Rattle.cj_cert.specs.Certificates.{PlainCertificate}
 use Rattle.cj_cert_text.specs.Fits.{Fits}
-use Rattle.cj_cert.specs.Rewritten.{in_version_2}
+use Rattle.cj_blocks.specs.Rewritten.{in_version_2}
 use Rattle.cj_cert_text.specs.Texts.{text_of}
 use Rattle.cj_inputs.specs.Cases.{case_asked}
 use Rattle.cj_inputs.specs.CheckInputs.{certificate_named}

@@ -1,4 +1,4 @@
-use cj_case::{AxisBox, Closest, Encounter, Leaf, Problem, Shell};
+use cj_case::{Closest, Encounter, Leaf, Measured, Problem};
 use cj_formats::CertVersion;
 use cj_report::Counts;
 
@@ -12,10 +12,8 @@ pub struct Findings {
     pub workers: u32,
     /// The version of its certificate.
     pub version: CertVersion,
-    /// The shell of each object in the window.
-    pub shells: Vec<Option<Shell>>,
-    /// The box of each object in each slot, in order of object and slot.
-    pub boxes: Vec<Option<AxisBox>>,
+    /// The shells and boxes of its objects.
+    pub measured: Measured,
     /// The leaves of all candidates, in order of pair and time.
     pub leaves: Vec<Leaf>,
     /// The encounters of the leaves.

@@ -7,7 +7,7 @@ ghost use Rattle.cj_case.specs.Problems.{plain_problem};
 ghost use Rattle.cj_cells.specs.Lists.{list_candidates};
 ghost use Rattle.cj_cert.specs.Accepted.{Accepted};
 ghost use Rattle.cj_cert.specs.Certificates.{PlainCertificate};
-ghost use Rattle.cj_cert.specs.Rewritten.{in_version_2};
+ghost use Rattle.cj_blocks.specs.Rewritten.{in_version_2};
 ghost use Rattle.cj_cert_text.specs.Fits.{Fits};
 ghost use Rattle.cj_cert_text.specs.Texts.{text_of};
 ghost use Rattle.cj_words.specs.Settings.{PlainSettings};
@@ -15,6 +15,7 @@ ghost use Rattle.cj_inputs.specs.Cases.{case_asked};
 ghost use Rattle.cj_outputs.specs.Again.{IsAcceptedLater};
 ghost use Rattle.cj_outputs.specs.Outcome.{cert_bytes};
 
+use cj_blocks::acceptance_in_blocks;
 use cj_case::Problem;
 use cj_cert::acceptance;
 use cj_checker::acceptance as first_failures;
@@ -33,6 +34,7 @@ pub fn accepted_later(problem: &Problem)
         → IsAcceptedLater settings files (text_of (in_version_2 (plain_problem problem.now) c)) }
 {
     acceptance(problem);
+    acceptance_in_blocks(problem);
     first_failures();
     let _sizes = problem.sizes.as_slice();
 }

@@ -5,7 +5,7 @@ ghost use Rattle.cj_io.specs.Parts.{joined};
 ghost use Rattle.cj_io.specs.declared.file.FileBytes.{FileBytes};
 ghost use Rattle.cj_formats.specs.declared.cert_version.CertVersion.TheVariants.{One, Two};
 ghost use Rattle.cj_cert.specs.Certificates.{plain_certificate};
-ghost use Rattle.cj_cert.specs.Rewritten.{written_in};
+ghost use Rattle.cj_blocks.specs.Rewritten.{written_in};
 ghost use Rattle.cj_cert_text.specs.TextLeft.{text_left};
 ghost use Rattle.cj_outputs.specs.Findings.{AreFound, case_in, cert_in, ended, outputs_in, report_in, summary_in};
 ghost use Rattle.cj_outputs.specs.Origins.{plain_origin};
@@ -17,8 +17,9 @@ use crate::findings::Findings;
 use crate::messages::put_messages;
 use crate::origin::Origin;
 use crate::putting::{put, put_made, put_parts};
+use cj_blocks::certificate_in_blocks;
 use cj_cert::Certificate;
-use cj_cert_text::{CertificateText, cert_parts, certificate_in_blocks};
+use cj_cert_text::{CertificateText, cert_parts};
 use cj_formats::CertVersion;
 use cj_io::{Shelf, StreamShelf};
 use cj_report::{report_text, summary_text};
@@ -102,12 +103,11 @@ fn certificate_text(alloc: Global, found: &Findings) -> Result<CertificateText<'
     let Findings {
         problem,
         workers,
-        shells,
-        boxes,
+        measured,
         leaves,
         ..
     } = found;
-    CertificateText::new(alloc, problem, shells, boxes, leaves, *workers)
+    CertificateText::new(alloc, problem, measured, leaves, *workers)
 }
 
 /// The text of the certificate in version 2, in parts.
@@ -130,13 +130,17 @@ fn certificate_by_blocks(alloc: Global, found: &Findings) -> Result<Certificate,
 {
     let Findings {
         problem,
-        shells,
-        boxes,
+        measured,
         leaves,
         ..
     } = found;
-    let kept = kept_pairs(alloc, shells, problem.sizes.as_slice(), problem.threshold)?;
-    certificate_in_blocks(alloc, problem, shells, boxes, &kept, leaves)
+    let kept = kept_pairs(
+        alloc,
+        &measured.shells,
+        problem.sizes.as_slice(),
+        problem.threshold,
+    )?;
+    certificate_in_blocks(alloc, problem, measured, &kept, leaves)
 }
 
 /// Puts the summary.

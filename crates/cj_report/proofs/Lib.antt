@@ -1,4 +1,3 @@
 pub mod EncounterTextLemmas
-mod LineLemmas
 pub mod NumberLemmas
 mod RunLemmas

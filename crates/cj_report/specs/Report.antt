@@ -1,20 +1,16 @@
 -- The text of a report.
 use Rattle.std.specs.Prelude.{ℕ, ◌+◌, ◌-◌, Bool, true, false, if◌then◌else◌, List, [], ◌∷◌, ◌++◌, Option, Some, None, codes, decimal, flat_map, slice_get}
-use Rattle.std.specs.List.{join_with_byte}
 use Rattle.cj_case.specs.declared.kind.Kind.{Kind}
 use Rattle.cj_case.specs.declared.kind.Kind.TheVariants as kind
 use Rattle.cj_case.specs.declared.encounter.Mark.{Mark}
 use Rattle.cj_case.specs.declared.encounter.Mark.TheVariants as mark
 use Rattle.cj_case.specs.Leaves.{PlainLeaf}
 use Rattle.cj_epoch.specs.Written.{epoch_of}
+use Rattle.cj_kvn.specs.Entries.{line_of_words}
 use Rattle.cj_meet.specs.Closest.{PlainClosest}
 use Rattle.cj_meet.specs.Encounters.{first_object, second_object, mark_of}
 use Rattle.cj_meet.specs.Spans.{spans_of}
 use Rattle.cj_track.specs.PlainTracks.{PlainTrack}
-
--- a line: words with a space between them, and LF
-abbrev pub line : List (List ℕ) → List ℕ
-line words = join_with_byte 32 words ++ 10 ∷ []
 
 -- what several things give, as texts, where they have the numbers from n on
 abbrev pub numbered : {A B : Type 0} → (ℕ → A → List B) → ℕ → List A → List B
@@ -24,15 +20,15 @@ numbered given n (x ∷ xs) = given n x ++ numbered given (n + 1) xs
 -- a size in nm, where it is told
 abbrev pub size_line : Option ℕ → List ℕ
 size_line None = []
-size_line (Some size) = line (codes "SIZE" ∷ decimal size ∷ [])
+size_line (Some size) = line_of_words (codes "SIZE" ∷ decimal size ∷ [])
 
 -- the object with this number
 abbrev pub name_lines : ℕ → PlainTrack → List ℕ
 name_lines n object =
-    line (codes "OBJECT" ∷ decimal n ∷ [])
-    ++ line (codes "FILE" ∷ object.file ∷ [])
-    ++ line (codes "ID" ∷ object.id ∷ [])
-    ++ line (codes "NAME" ∷ object.name ∷ [])
+    line_of_words (codes "OBJECT" ∷ decimal n ∷ [])
+    ++ line_of_words (codes "FILE" ∷ object.file ∷ [])
+    ++ line_of_words (codes "ID" ∷ object.id ∷ [])
+    ++ line_of_words (codes "NAME" ∷ object.name ∷ [])
 
 -- the same with its size, where these sizes are told; numbers count from 1
 abbrev pub object_lines : List ℕ → ℕ → PlainTrack → List ℕ
@@ -59,12 +55,12 @@ approach_words (Some closest) has_message = epoch_of closest.tick ∷ decimal cl
 
 -- a span with its first tick and its last
 abbrev pub span_line : PlainLeaf → List ℕ
-span_line span = line (codes "SPAN" ∷ kind_word span.kind ∷ epoch_of span.first ∷ epoch_of span.last ∷ [])
+span_line span = line_of_words (codes "SPAN" ∷ kind_word span.kind ∷ epoch_of span.first ∷ epoch_of span.last ∷ [])
 
 -- the encounter with this number, of the objects a and b, which are numbered from 1 in the text
 abbrev pub encounter_line : ℕ → ℕ → ℕ → Mark → List (List ℕ) → List ℕ
 encounter_line n a b mark approach =
-    line (codes "ENCOUNTER" ∷ decimal n ∷ decimal (a + 1) ∷ decimal (b + 1) ∷ mark_word mark ∷ approach)
+    line_of_words (codes "ENCOUNTER" ∷ decimal n ∷ decimal (a + 1) ∷ decimal (b + 1) ∷ mark_word mark ∷ approach)
 
 -- the encounter, with the closest approach that it has by the one function and the message that it has by the other, and its spans
 abbrev pub encounter_lines : (List PlainLeaf → Option PlainClosest) → (List PlainLeaf → Bool) → ℕ → List PlainLeaf → List ℕ
@@ -80,9 +76,9 @@ told with_sizes sizes = if with_sizes then sizes else []
 -- with the closest approaches that they have by the one function and the messages that they have by the other
 abbrev pub report_of : ℕ → ℕ → ℕ → List PlainTrack → List ℕ → (List PlainLeaf → Option PlainClosest) → (List PlainLeaf → Bool) → List (List PlainLeaf) → List ℕ
 report_of first last threshold objects sizes approach has_message encounters =
-    line (codes "CONJ-REPORT" ∷ codes "1" ∷ [])
-    ++ line (codes "WINDOW" ∷ epoch_of first ∷ epoch_of last ∷ [])
-    ++ line (codes "THRESHOLD" ∷ decimal threshold ∷ [])
+    line_of_words (codes "CONJ-REPORT" ∷ codes "1" ∷ [])
+    ++ line_of_words (codes "WINDOW" ∷ epoch_of first ∷ epoch_of last ∷ [])
+    ++ line_of_words (codes "THRESHOLD" ∷ decimal threshold ∷ [])
     ++ numbered (object_lines sizes) 1 objects
     ++ numbered (encounter_lines approach has_message) 1 encounters
-    ++ line (codes "END" ∷ [])
+    ++ line_of_words (codes "END" ∷ [])

@@ -1,6 +1,6 @@
 -- The text of a summary.
 use Rattle.std.specs.Prelude.{ℕ, List, [], ◌∷◌, ◌++◌, codes, decimal}
-use Rattle.cj_report.specs.Report.{line}
+use Rattle.cj_kvn.specs.Entries.{line_of_words}
 
 -- what is counted in a run
 pub record Tally : Type 0 where
@@ -23,7 +23,7 @@ pub record Tally : Type 0 where
 
 -- a word and a number
 abbrev pub count_line : List ℕ → ℕ → List ℕ
-count_line word count = line (word ∷ decimal count ∷ [])
+count_line word count = line_of_words (word ∷ decimal count ∷ [])
 
 -- the summary: twelve lines
 abbrev pub summary_of : Tally → List ℕ

@@ -11,7 +11,7 @@ use Rattle.cj_interval.proofs.RingLemmas.{ring, var, num, neg, ◌:+◌, ◌:-�
 use Rattle.cj_interval.proofs.RoundingLemmas.{floor_div-le, floor_div-gt}
 use Rattle.cj_interval.proofs.SizeLemmas.{mul_pos}
 use Rattle.cj_interval.proofs.SquareLemmas.{root-le}
-use Rattle.cj_meet.proofs.RootLemmas.{floor_root-below, floor_root-next}
+use Rattle.cj_interval.proofs.SquareRootLemmas.{floor_root-below, floor_root-next}
 use Rattle.cj_rtn.specs.declared.vector.Vector.{Vector}
 use Rattle.cj_rtn.specs.Exact.{IsTimesAtMost, IsNearly}
 use Rattle.cj_rtn.specs.Vectors.{dot, less, square, size, along}

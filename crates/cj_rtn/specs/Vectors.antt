@@ -2,7 +2,7 @@
 use Rattle.std.specs.Prelude.{ℕ, ℤ, ◌+ℤ◌, ◌-ℤ◌, ◌*ℤ◌, unsigned_abs}
 use Rattle.cj_interval.specs.Rounding.{floor_div}
 use Rattle.cj_interval.specs.Sizes.{IsWithin}
-use Rattle.cj_meet.specs.Flat.{floor_root}
+use Rattle.cj_interval.specs.SquareRoots.{floor_root}
 use Rattle.cj_rtn.specs.declared.vector.Vector.{Vector}
 
 -- each component is at most m in size

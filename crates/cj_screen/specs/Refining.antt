@@ -5,22 +5,20 @@ use Rattle.cj_case.specs.PlainProblems.{PlainProblem}
 use Rattle.cj_hermite.specs.ObjectsAtTicks.{IsCommonOf}
 use Rattle.cj_hermite.specs.Roots.{roots_of}
 use Rattle.cj_case.specs.Slots.{slot_of}
-use Rattle.cj_bezier.specs.AllBoxes.{boxes_of}
 use Rattle.cj_bezier.specs.Enclosed.{OthersAreFar}
 use Rattle.cj_case.specs.Leaves.{IsTickOf, plain_leaves}
-use Rattle.cj_bezier.specs.Candidates.{is_candidate, shells_of}
+use Rattle.cj_bezier.specs.Candidates.{is_candidate}
+use Rattle.cj_bezier.specs.MeasuredObjects.{AreMeasured}
 use Rattle.cj_case.specs.Order.{AreInOrder}
-use Rattle.cj_case.specs.Boxes.{plain_boxes}
 use Rattle.cj_candidates.specs.Counts.{candidate_count}
 use Rattle.cj_cells.specs.Lists.{IsSound, list_candidates, splits_of}
 use Rattle.cj_meet.specs.Closest.{KeepTheirPieces}
 use Rattle.cj_outputs.specs.Summaries.{kept_count}
 use Rattle.cj_screen.specs.declared.refining.FoundLeaves.{FoundLeaves}
 
--- the shells, boxes, leaves and counts of a case
+-- what is measured of the objects of a case, its leaves and counts
 pub record AreFoundLeaves (case : PlainProblem) (found : FoundLeaves) : Type 0 where
-  pub shells : found.shells.items ≡ shells_of case
-  pub boxes : plain_boxes found.boxes.items ≡ boxes_of case
+  pub measured : AreMeasured case found.measured
   pub leaves : plain_leaves found.leaves.items ≡ list_candidates case
   pub few : length found.leaves.items ≤ MOST_LEAVES
   pub kept : found.counted.kept ≡ kept_count case

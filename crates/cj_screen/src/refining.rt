@@ -10,7 +10,7 @@ ghost use Rattle.cj_screen.specs.Refining.{AreFoundLeaves, HoldsAllTicks};
 ghost use Rattle.cj_status.specs.Steps.{Gives, ComesBetween};
 
 use cj_candidates::{Candidates, find_candidates};
-use cj_case::{AxisBox, Leaf, Problem, Shell};
+use cj_case::{Leaf, Measured, Problem};
 use cj_cells::RefineError;
 use cj_io::Gate;
 use cj_outputs::CandidateCounts;
@@ -23,10 +23,8 @@ use std::thread::Threads;
 /// The leaves of a problem, and what they come from.
 #[derive(Drop)]
 pub struct FoundLeaves {
-    /// The shell of each object in the window.
-    pub shells: Vec<Option<Shell>>,
-    /// The box of each object in each slot, in order of object and slot.
-    pub boxes: Vec<Option<AxisBox>>,
+    /// The shells and boxes of its objects.
+    pub measured: Measured,
     /// What was counted before any cell was halved.
     pub counted: CandidateCounts,
     /// The leaves of all candidates, in order of pair and time.
@@ -56,8 +54,7 @@ pub fn refine<R: Threads + Wait + Sync, G: Gate + Sync>(
         Err(error) => return Err(refused(error, cells)),
     };
     let Candidates {
-        shells,
-        boxes,
+        measured,
         kept,
         roots,
         touching,
@@ -69,8 +66,7 @@ pub fn refine<R: Threads + Wait + Sync, G: Gate + Sync>(
     };
     match leaves_by_workers(rt, alloc, gate, problem, roots, workers, cells) {
         Ok(leaves) => Ok(FoundLeaves {
-            shells,
-            boxes,
+            measured,
             counted,
             leaves,
         }),

@@ -18,6 +18,7 @@ ghost use Rattle.cj_status.specs.Steps.{Gives, ComesBetween};
 
 use crate::refining::refine;
 use crate::relatives::exact_relatives;
+use cj_blocks::acceptance_in_blocks;
 use cj_case::Problem;
 use cj_cert::acceptance;
 use cj_formats::CertVersion;
@@ -63,6 +64,7 @@ pub fn screen<R: Threads + Wait + Sync, G: Gate + Sync>(
         → OnOk result (IsAcceptedLater settings files (cert_bytes version (plain_problem problem))) }
 {
     acceptance(&problem);
+    acceptance_in_blocks(&problem);
     accepted_later(&problem);
     exact_relatives(&problem);
     let refined = refine(rt, alloc, gate, &problem, workers, cells)?;
@@ -74,8 +76,7 @@ pub fn screen<R: Threads + Wait + Sync, G: Gate + Sync>(
         with_sizes,
         workers,
         version,
-        shells: refined.shells,
-        boxes: refined.boxes,
+        measured: refined.measured,
         leaves: refined.leaves,
         encounters: met.encounters,
         closest: met.closest,

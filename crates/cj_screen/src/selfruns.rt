@@ -13,7 +13,7 @@ ghost use Rattle.cj_status.specs.Steps.{Gives};
 use crate::screening::screen;
 use cj_base::Limits;
 use cj_case::Problem;
-use cj_cert_text::written_certificate;
+use cj_cert::written_certificate;
 use cj_checker::{Answer, check};
 use cj_formats::CertVersion;
 use cj_gen::catalogue;
@@ -95,13 +95,7 @@ fn settings_of(selfrun: &Selfrun) -> Settings<'static>
 fn confirm(alloc: Global, found: &Findings) -> Result<(), AllocError>
     requires { AreFound found.now }
 {
-    let certificate = written_certificate(
-        alloc,
-        &found.problem,
-        &found.shells,
-        &found.boxes,
-        &found.leaves,
-    )?;
+    let certificate = written_certificate(alloc, &found.problem, &found.measured, &found.leaves)?;
     match check(alloc, &found.problem, &certificate)? {
         Answer::Accepted => Ok(()),
         Answer::Refused { .. } => unreachable!(),

@@ -25,3 +25,5 @@ mod outside;
 mod runs;
 #[cfg(test)]
 mod scaled;
+#[cfg(test)]
+mod tables;

@@ -1,5 +1,5 @@
 -- Which states are kept: after each the one to which a step goes that is allowed.
-use Rattle.std.proofs.Common.{◌≡◌, ℕ, zero, suc, ◌+◌, ◌-◌, ◌<◌, ◌≤◌, Bool, true, false, cond, not, ◌&&◌, List, [], ◌∷◌, ◌++◌, map, length, get_or, take, drop, refl, ap, sym, ◌∙◌, subst, inl, inr, arith, length-drop, take-append-drop, append_assoc, append-nil, take_all}
+use Rattle.std.proofs.Common.{◌≡◌, ℕ, zero, suc, ◌+◌, ◌-◌, ◌<◌, ◌≤◌, Bool, true, false, not, ◌&&◌, List, [], ◌∷◌, ◌++◌, map, length, get_or, take, drop, refl, ap, sym, ◌∙◌, subst, inl, inr, arith, length-drop, take-append-drop, append_assoc, append-nil, take_all}
 use Rattle.std.specs.Prelude.{nat_le}
 use Rattle.std.proofs.lemmas.Bool.{cases_lt, not-false}
 use Rattle.std.proofs.lemmas.Bool.Decides.{nat_tests}
@@ -9,50 +9,10 @@ use Rattle.cj_track.specs.Limits.{MAX_STEP}
 use Rattle.cj_track.specs.PlainTracks.{PlainNode}
 use Rattle.cj_track.specs.Tracks.{plain_node}
 use Rattle.cj_hermite.specs.Interpolant.{Curve}
-use Rattle.cj_bezier.specs.Shells.{least_from}
+use Rattle.cj_interval.specs.Passing.{least_from}
+use Rattle.cj_interval.proofs.PassingLemmas.{least_fails_before, least_goes_on, least_here, least_upto}
 use Rattle.cj_thin.specs.Thinned.{MAX_PIECES, all_near, curve_between, last_of, stands_for, is_allowed, is_refused, left_out, kept_behind, kept}
 use Rattle.cj_thin.proofs.StepLemmas.{IsPlainStep, ArePlainSteps, steps_behind, later_behind, last_behind_out, IsEnd, drop_next}
-
--- ---- the least number that passes a test
-
-pub least_from_on : (n r : ℕ) (test : ℕ → Bool) → r ≤ least_from n r test
-unfolding least_from
-least_from_on zero r test = omega arith
-least_from_on (suc n) r test = go (test r) (least_from_on n (r + 1) test)
-  where
-    go : (b : Bool) → r + 1 ≤ least_from n (r + 1) test → r ≤ cond b r (least_from n (r + 1) test)
-    go true le = omega arith
-    go false le = omega (arith, le)
-
-pub least_upto : (n r : ℕ) (test : ℕ → Bool) → least_from n r test ≤ r + n
-unfolding least_from
-least_upto zero r test = omega arith
-least_upto (suc n) r test = go (test r) (least_upto n (r + 1) test)
-  where
-    go : (b : Bool) → least_from n (r + 1) test ≤ r + 1 + n → cond b r (least_from n (r + 1) test) ≤ r + suc n
-    go true le = omega arith
-    go false le = omega (arith, le)
-
-pub least_fails_before : (n r j : ℕ) (test : ℕ → Bool) → r ≤ j → j < least_from n r test → test j ≡ false
-unfolding least_from
-least_fails_before zero r j test low high = absurd (omega (arith, low, high))
-least_fails_before (suc n) r j test low high = go (test r) refl high (λ after lt. least_fails_before n (r + 1) j test (omega (arith, after)) lt)
-  where
-    go : (b : Bool) → test r ≡ b → j < cond b r (least_from n (r + 1) test) → (r < j → j < least_from n (r + 1) test → test j ≡ false) → test j ≡ false
-    go true e lt rest = absurd (omega (arith, low, lt))
-    go false e lt rest = elim (cases_lt r j) [
-      | inl after ↦ rest after lt
-      | inr upto ↦ let same : r ≡ j = omega (arith, low, upto) in ap test (sym same) ∙ e
-    ]
-
--- one that fails is left behind, and one that passes is the least
-pub least_goes_on : (n r : ℕ) (test : ℕ → Bool) → test r ≡ false → least_from (suc n) r test ≡ least_from n (r + 1) test
-unfolding least_from
-least_goes_on n r test fails = rw fails refl
-
-pub least_here : (n r : ℕ) (test : ℕ → Bool) → test r ≡ true → least_from (suc n) r test ≡ r
-unfolding least_from
-least_here n r test passes = rw passes refl
 
 -- ---- what is left out
 

@@ -9,7 +9,7 @@ use Rattle.cj_case.specs.Leaves.{same_kind}
 use Rattle.cj_case.specs.declared.kind.Kind.TheVariants.{Near}
 use Rattle.cj_bezier.specs.Halving.{leaves_between}
 use Rattle.cj_bezier.specs.RootLeaves.{kind_between}
-use Rattle.cj_bezier.specs.Shells.{least_from}
+use Rattle.cj_interval.specs.Passing.{least_from}
 
 -- two interpolants are within e over the ticks from first to last: these are halved until each part is of a kind, and each is near
 unfoldable pub are_near : ℕ → Curve → Curve → ℕ → ℕ → Bool

@@ -32,6 +32,12 @@ pub record PlainSegment : Type 0 where
   pub nodes : List PlainNode
   pub covariances : List PlainMatrix
 
+abbrev pub first_of : PlainSegment → ℕ
+first_of segment = segment.first
+
+abbrev pub last_of : PlainSegment → ℕ
+last_of segment = segment.last
+
 -- one object: the file that it comes from, its name, its designator, its frame, its segments
 pub record PlainTrack : Type 0 where
   pub file : List ℕ

@@ -9,7 +9,7 @@ use Rattle.cj_base.specs.Limits.{PlainLimits, USUAL, plain_limits}
 use Rattle.cj_formats.specs.declared.cert_version.CertVersion.{CertVersion}
 use Rattle.cj_formats.specs.Versions.{version_of_number}
 use Rattle.cj_kvn.specs.Originators.{is_originator}
-use Rattle.cj_base.specs.declared.tick.Tick.{Tick}
+use Rattle.cj_base.specs.PlainTicks.{micros_of}
 use Rattle.cj_epoch.specs.Reading.{reading_of}
 use Rattle.cj_epoch.specs.declared.fault.EpochFault.{EpochFault}
 use Rattle.cj_words.specs.declared.option.Opt.{Opt}
@@ -30,9 +30,6 @@ pub record PlainSettings : Type 0 where
   pub as_hermite3 : Bool
   pub sizes : Option (List ℕ)
   pub limits : PlainLimits
-
-abbrev pub micros_of : Tick → ℕ
-micros_of tick = tick.micros
 
 -- the bytes of a text that is lent
 abbrev pub lent_bytes : Bor (List ℕ) → List ℕ

@@ -1,10 +1,11 @@
 //! From options to the settings over the files of a directory.
 ghost use Rattle.std.specs.Prelude.{◌≡◌, ◌≤◌, IsTrue, Option, Some, None, IfOk, option_map};
 ghost use Rattle.std.specs.Option.{option_copied};
+ghost use Rattle.cj_base.specs.PlainTicks.{micros_of};
 ghost use Rattle.cj_words.specs.Options as options;
 ghost use Rattle.cj_words.specs.Options.{given_of, listed};
 ghost use Rattle.cj_words.specs.Settings as spec;
-ghost use Rattle.cj_words.specs.Settings.{lent_bytes, plain_settings, micros_of, said};
+ghost use Rattle.cj_words.specs.Settings.{lent_bytes, plain_settings, said};
 
 use crate::given::{is_given, value_of};
 use crate::numbers::{number_or, out_of_range};

@@ -3,18 +3,15 @@ use Rattle.std.specs.List.{list_all, range_with_len}
 use Rattle.cj_interval.proofs.RangeLemmas.{one_in_range_fails}
 use Rattle.cj_case.specs.Boxes.{plain_box, plain_boxes}
 use Rattle.cj_blocks.specs.Blocks.{touches_only_as}
-use Rattle.cj_blocks.specs.BoxRows.{box_at}
+use Rattle.cj_bezier.specs.SlotBoxes.{reaches_in}
 use Rattle.cj_blocks.proofs.JoinLemmas.{one_passes}
-use Rattle.cj_blocks.proofs.RowLemmas.{box_found}
+use Rattle.cj_cert.proofs.WrittenLineLemmas.{box_found}
 use Rattle.cj_blocks.proofs.joining.touches_as_own.Goals as goal
 use Rattle.cj_blocks.proofs.joining.touches_as_own.Goals.{After-touches_only_as}
 
 -- what is asked of a slot
 abbrev test : (c : After-touches_only_as) → ℕ → Bool
-test c slot =
-    let all = c.args.slots.all in
-    touches_only_as c.args.thr (option_map plain_box c.args.round.now)
-    (box_at all (plain_boxes c.args.boxes.now) c.args.object slot) (box_at all (plain_boxes c.args.current.now) c.args.partner slot)
+test c slot = touches_only_as c.args.thr (option_map plain_box c.args.round.now) (reaches_in (plain_boxes c.args.own.now) slot) (reaches_in (plain_boxes c.args.other.now) slot)
 
 -- it is what was found
 tested : (c : After-touches_only_as) → test c c.loop-slot.slot ≡ c.touches_only_as.result
@@ -25,11 +22,8 @@ tested c =
     let later = c.loop-slot.invariant.later in
     let all = c.requires.own in
     let all' = c.requires.other in
-    let place = c.place.ensures in
-    let place' = c.place-in-loop-slot.ensures in
-    let own = box_found s.all c.args.object slot c.place.result c.args.boxes.now c.index-boxes-place.result c.index-boxes-place.result place (omega arith) (sym c.index-boxes-place.is) in
-    let other =
-    box_found s.all c.args.partner slot c.place-in-loop-slot.result c.args.current.now c.index-current-place.result c.index-current-place.result place' (omega arith) (sym c.index-current-place.is) in
+    let own = box_found c.args.own.now slot c.index-own-slot.result c.index-own-slot.result (omega arith) (sym c.index-own-slot.is) in
+    let other = box_found c.args.other.now slot c.index-other-slot.result c.index-other-slot.result (omega arith) (sym c.index-other-slot.is) in
     (λ i. touches_only_as c.args.thr (option_map plain_box c.args.round.now) (own i) (other i)) ∙ sym c.touches_only_as.ensures
 
 pub returns-then-not-touches_only_as : goal.returns-then-not-touches_only_as

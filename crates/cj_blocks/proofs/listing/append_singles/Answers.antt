@@ -5,9 +5,9 @@ use Rattle.cj_interval.proofs.RangeLemmas.{filter_map-range_more}
 use Rattle.cj_case.specs.Boxes.{PlainBox, plain_box, plain_boxes}
 use Rattle.cj_blocks.specs.declared.block.Block.{Block}
 use Rattle.cj_blocks.specs.Blocks.{PlainBlock, single_in}
-use Rattle.cj_blocks.specs.BoxRows.{box_at}
+use Rattle.cj_bezier.specs.SlotBoxes.{reaches_in}
 use Rattle.cj_blocks.specs.Listed.{plain_block}
-use Rattle.cj_blocks.proofs.RowLemmas.{box_found}
+use Rattle.cj_cert.proofs.WrittenLineLemmas.{box_found}
 use Rattle.cj_blocks.proofs.listing.append_singles.Goals as goal
 use Rattle.cj_blocks.proofs.listing.append_singles.Goals.{in-Some+in_ok-push, in_default}
 
@@ -18,22 +18,21 @@ loop-slot-preserved c =
     let slot = c.loop-slot.slot in
     let within = s.within in
     let all = c.requires in
-    let place = c.place.ensures in
     let later = i.later in
-    let own = box_at s.all (plain_boxes c.args.boxes.now) in
+    let own : ℕ → ℕ → Option PlainBox = λ _. reaches_in (plain_boxes c.args.row.now) in
     let old = map plain_block c.args.blocks.now.items in
     let next : slot - s.first + 1 ≡ slot + 1 - s.first = omega arith in
     let more : filter_map (single_in own c.args.object) (range_with_len s.first (slot + 1 - s.first))
     ≡ filter_map (single_in own c.args.object) (range_with_len s.first (slot - s.first)) ++ cons_option (single_in own c.args.object slot) [] =
     ap (λ (n : ℕ). filter_map (single_in own c.args.object) (range_with_len s.first n)) (sym next) ∙ filter_map-range_more (single_in own c.args.object) s.first (slot - s.first) slot (omega arith) in
     let so_far = filter_map (single_in own c.args.object) (range_with_len s.first (slot - s.first)) in
-    elim c.match-boxes-place.branch [
+    elim c.match-row-slot.branch [
       | in-Some+in_ok-push w ↦
           let area = w.in-Some.area in
-          let within_list : c.place.result < length c.args.boxes.now = omega arith in
+          let within_list : slot < length c.args.row.now = omega arith in
           let later_now : s.first ≤ slot + 1 = omega arith in
           let block : Block = record { object = c.args.object; first = slot; last = slot; area = area; some = _ } in
-          let here : own c.args.object slot ≡ Some (plain_box area) = box_found s.all c.args.object slot c.place.result c.args.boxes.now _ (Some area) place within_list w.in-Some.is in
+          let here : own c.args.object slot ≡ Some (plain_box area) = box_found c.args.row.now slot _ (Some area) within_list w.in-Some.is in
           let single : single_in own c.args.object slot ≡ Some (plain_block block) = ap (λ (o : Option PlainBox). option_map (λ a. record { object = c.args.object; first = slot; last = slot; area = a }) o) here in
           rw w.blocks-is
           (record {
@@ -45,7 +44,7 @@ loop-slot-preserved c =
                 ∙ ap (λ (bs : List PlainBlock). old ++ bs) (sym more);
           })
       | in_default w ↦
-          let here : own c.args.object slot ≡ None = box_found s.all c.args.object slot c.place.result c.args.boxes.now _ None place (omega arith) w.in_default.is in
+          let here : own c.args.object slot ≡ None = box_found c.args.row.now slot _ None (omega arith) w.in_default.is in
           let single : single_in own c.args.object slot ≡ None = ap (λ (o : Option PlainBox). option_map (λ a. record { object = c.args.object; first = slot; last = slot; area = a }) o) here in
           rw w.blocks-is
           (record {

@@ -9,7 +9,7 @@ use Rattle.cj_candidates.proofs.filtering.count_of_kept.Goals as goal
 pub invariant_of-objects : goal.invariant_of-objects
 invariant_of-objects c =
     let problem = c.args.ground.now.problem.now in
-    let count = as_many_shells (plain_problem problem) c.args.ground.now.shells.now c.args.ground.now.in_shells in
+    let count = as_many_shells (plain_problem problem) c.deref.result.now (c.deref.ensures.value ∙ c.args.ground.now.in_shells) in
     record {
       few = omega (arith, count, problem.few, length-map problem.tracks plain_track);
       sized = omega (arith, count, problem.sized, ap (λ (xs : List ℕ). length xs) c.as_slice.ensures.value, length-map problem.tracks plain_track);
@@ -21,5 +21,5 @@ invariant_of-objects c =
 pub returns : goal.returns
 returns c =
     let ground = c.args.ground.now in
-    c.count_kept.ensures.value ∙ ap length (kept_is (plain_problem ground.problem.now) ground.shells.now c.as_slice.result.now ground.in_shells
+    c.count_kept.ensures.value ∙ ap length (kept_is (plain_problem ground.problem.now) c.deref.result.now c.as_slice.result.now (c.deref.ensures.value ∙ ground.in_shells)
     c.as_slice.ensures.value)

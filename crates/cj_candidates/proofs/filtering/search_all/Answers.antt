@@ -1,7 +1,6 @@
 use Rattle.std.proofs.Common.{ℕ, List, length, ap, subst, ◌∙◌, arith}
 use Rattle.std.specs.List.Sorted.{IsPermutation}
 use Rattle.std.proofs.lemmas.List.{length-map}
-use Rattle.std.proofs.lemmas.List.Sorted.{length_permutation}
 use Rattle.std.proofs.lemmas.Result.{err_from_is_err_and}
 use Rattle.cj_case.specs.Problems.{plain_problem}
 use Rattle.cj_case.specs.Cells.{PlainCell}
@@ -19,28 +18,31 @@ returns-in_err-found-clause-too_many g c =
     let slots = ap length (by_slot case) in
     rw (p.1, p.2) (λ is. let many = c.in_err-found.ensures.too_many (error_is _ _ is) in omega (arith, many, all, slots, same_count case))
 
-pub order_roots-requires : goal.order_roots-requires
-order_roots-requires g c = omega (arith, c.in_ok-found.ensures.found.few, c.requires)
+pub number_roots-requires-clause-few : goal.number_roots-requires-clause-few
+number_roots-requires-clause-few g c = omega (arith, c.in_ok-found.ensures.found.few, c.requires)
+
+pub number_roots-requires-clause-ordered : goal.number_roots-requires-clause-ordered
+number_roots-requires-clause-ordered g c = c.in_ok-found.ensures.found.ordered
 
 pub returns-clause-roots : goal.returns-clause-roots
 returns-clause-roots g c =
     let case = plain_problem c.args.ground.now.problem.now in
-    c.order_roots.ensures.all (is_candidate case) case
+    c.number_roots.ensures.all (is_candidate case) case
     (subst (λ (rs : List PlainCell). IsPermutation rs (plain_cells c.in_ok-found.found.roots.items))
     (ap (λ (n : ℕ). roots_over case 0 n) c.args.ground.now.counted ∙ by_slot case)
     c.in_ok-found.ensures.found.roots)
 
 pub returns-clause-numbered : goal.returns-clause-numbered
-returns-clause-numbered g c = c.order_roots.ensures.numbered
+returns-clause-numbered g c = c.number_roots.ensures.numbered
 
 pub returns-clause-few : goal.returns-clause-few
 returns-clause-few g c =
     let old = c.in_ok-found.found.roots in
-    let new = c.order_roots.new.roots in
+    let new = c.number_roots.new.roots in
     omega (
       arith,
       c.in_ok-found.ensures.found.few,
-      length_permutation _ _ c.order_roots.ensures.permutation,
+      ap (λ (cells : List PlainCell). length cells) c.number_roots.ensures.kept,
       length-map old.items plain_cell,
       length-map new.items plain_cell,
       old.ok.0,

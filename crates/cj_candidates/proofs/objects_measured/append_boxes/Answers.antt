@@ -8,7 +8,7 @@ use Rattle.cj_case.specs.Slots.{slot_first, slot_last}
 use Rattle.cj_case.specs.Boxes.{PlainBox, plain_boxes, plain_box}
 use Rattle.cj_bezier.specs.SlotBoxes.{box_of}
 use Rattle.cj_bezier.specs.AllBoxes.{boxes_over}
-use Rattle.cj_candidates.specs.ObjectRuns.{IsInOwnBox, IsInOwnBoxes}
+use Rattle.cj_candidates.specs.MeasuredObjects.{IsInOwnBox, IsInOwnBoxes}
 use Rattle.cj_candidates.proofs.ObjectLemmas.{in_own_box}
 use Rattle.cj_candidates.proofs.BoxLemmas.{boxes_more, in_boxes_more}
 use Rattle.cj_candidates.proofs.objects_measured.append_boxes.Goals as goal

@@ -3,7 +3,7 @@ use Rattle.cj_track.specs.Tracks.{plain_track}
 use Rattle.cj_case.specs.Boxes.{plain_boxes}
 use Rattle.cj_bezier.specs.AllBoxes.{boxes_over}
 use Rattle.cj_walk.specs.TrackWalks.{IsWalk}
-use Rattle.cj_candidates.specs.ObjectRuns.{IsInOwnBoxes}
+use Rattle.cj_candidates.specs.MeasuredObjects.{IsInOwnBoxes}
 use Rattle.cj_candidates.proofs.objects_measured.append_boxes.Given as goal
 
 abbrev pub invariant-loop-slot : goal.invariant-loop-slot

@@ -7,7 +7,7 @@ use Rattle.cj_case.specs.Boxes.{plain_boxes}
 use Rattle.cj_bezier.specs.AllBoxes.{boxes_over}
 use Rattle.cj_bezier.proofs.BoxRoundLemmas.{box_none}
 use Rattle.cj_bezier.proofs.ShellRoundLemmas.{shell_none}
-use Rattle.cj_candidates.specs.ObjectRuns.{IsInOwnShell, IsInOwnBoxes}
+use Rattle.cj_candidates.specs.MeasuredObjects.{IsInOwnShell, IsInOwnBoxes}
 use Rattle.cj_candidates.proofs.NoStateLemmas.{filled_up, none_in_slot}
 use Rattle.cj_candidates.proofs.ObjectLemmas.{in_own_box, in_own_shell, same_for}
 use Rattle.cj_candidates.proofs.objects_measured.measure.Goals as goal

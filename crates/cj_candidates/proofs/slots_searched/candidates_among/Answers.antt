@@ -32,7 +32,7 @@ find_touching-requires-clause-sized c =
 pub invariant_of-objects : goal.invariant_of-objects
 invariant_of-objects c =
     let problem = c.args.ground.now.problem.now in
-    let count = as_many_shells (plain_problem problem) c.args.ground.now.shells.now c.args.ground.now.in_shells in
+    let count = as_many_shells (plain_problem problem) c.deref.result.now (c.deref.ensures.value ∙ c.args.ground.now.in_shells) in
     record {
       few = omega (arith, count, problem.few, length-map problem.tracks plain_track);
       sized = omega (arith, count, problem.sized, ap (λ (xs : List ℕ). length xs) c.as_slice-sizes.ensures.value, length-map problem.tracks plain_track);
@@ -46,10 +46,10 @@ kept_of-requires c =
     let problem = c.args.ground.now.problem.now in
     let case = plain_problem problem in
     let boxes = as_many_boxes case c.args.slot c.args.boxes.now c.requires in
-    let shells = as_many_shells case c.args.ground.now.shells.now c.args.ground.now.in_shells in
-    let same : length c.args.boxes.now ≡ length c.args.ground.now.shells.now = boxes ∙ sym shells in
+    let shells = as_many_shells case c.deref.result.now (c.deref.ensures.value ∙ c.args.ground.now.in_shells) in
+    let same : length c.args.boxes.now ≡ length c.deref.result.now = boxes ∙ sym shells in
     let within = pairs_within (touch_between case.threshold c.as_slice-sizes.result.now (plain_boxes c.args.boxes.now)) (length c.args.boxes.now) c.in_ok-touching.touching.items c.in_ok-touching.ensures.value in
-    subst (λ (ps : List Pair). All (λ pair. pair.b < length c.args.ground.now.shells.now) ps) (sym c.deref.ensures.value)
+    subst (λ (ps : List Pair). All (λ pair. pair.b < length c.deref.result.now) ps) (sym c.deref-2.ensures.value)
     (subst (λ (n : ℕ). All (λ pair. pair.b < n) c.in_ok-touching.touching.items) same within)
 
 pub returns : goal.returns
@@ -64,12 +64,12 @@ returns c = go c.kept_of.result c.kept_of.ensures
     count : length c.args.boxes.now ≡ length case.tracks
     count = as_many_boxes case c.args.slot c.args.boxes.now here
 
-    near : map objects_of c.deref.result.now ≡ filter (touch_between case.threshold c.as_slice-sizes.result.now (plain_boxes c.args.boxes.now)) (pairs_of (length c.args.boxes.now))
-    near = ap (map objects_of) c.deref.ensures.value ∙ c.in_ok-touching.ensures.value
+    near : map objects_of c.deref-2.result.now ≡ filter (touch_between case.threshold c.as_slice-sizes.result.now (plain_boxes c.args.boxes.now)) (pairs_of (length c.args.boxes.now))
+    near = ap (map objects_of) c.deref-2.ensures.value ∙ c.in_ok-touching.ensures.value
 
-    go : (r : Result (Vec Pair Global) AllocError) → IfOk r (λ kept. map objects_of kept.items ≡ filter (keeps_between case.threshold c.as_slice-sizes.result.now c.args.ground.now.shells.now) (map objects_of c.deref.result.now))
+    go : (r : Result (Vec Pair Global) AllocError) → IfOk r (λ kept. map objects_of kept.items ≡ filter (keeps_between case.threshold c.as_slice-sizes.result.now c.deref.result.now) (map objects_of c.deref-2.result.now))
         → IfOk r (λ pairs. map objects_of pairs.items ≡ candidate_pairs case c.args.slot)
     go (Err e) h = tt
     go (Ok found) h =
-        candidate_pairs_is case c.args.slot (length c.args.boxes.now) (map objects_of found.items) (map objects_of c.deref.result.now) c.args.ground.now.shells.now (plain_boxes c.args.boxes.now) c.as_slice-sizes.result.now
-        count c.args.ground.now.in_shells here c.as_slice-sizes.ensures.value near h
+        candidate_pairs_is case c.args.slot (length c.args.boxes.now) (map objects_of found.items) (map objects_of c.deref-2.result.now) c.deref.result.now (plain_boxes c.args.boxes.now) c.as_slice-sizes.result.now
+        count (c.deref.ensures.value ∙ c.args.ground.now.in_shells) here c.as_slice-sizes.ensures.value near h

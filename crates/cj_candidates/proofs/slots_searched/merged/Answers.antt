@@ -2,6 +2,7 @@ use Rattle.std.proofs.Common.{List, Vec, Global, ◌∙◌, ap, subst}
 use Rattle.std.specs.List.{flat_map}
 use Rattle.std.specs.List.Sorted.{IsPermutation}
 use Rattle.cj_case.specs.declared.cell.Cell.{Cell}
+use Rattle.cj_cells.proofs.OrderLemmas.{roots_in_order}
 use Rattle.cj_candidates.specs.SlotRuns.{candidates_counted}
 use Rattle.cj_candidates.proofs.slots_searched.merged.Goals as goal
 
@@ -10,6 +11,9 @@ returns-clause-roots g c =
     let all = λ (lists : List (Vec Cell Global)). flat_map (λ list. list.items) lists in
     subst (λ (cells : List Cell). IsPermutation cells c.in_ok-roots.roots.items)
     (ap all c.deref-2.ensures.value ∙ c.in_ok-lists.ensures) c.in_ok-roots.ensures.elements
+
+pub returns-clause-ordered : goal.returns-clause-ordered
+returns-clause-ordered g c = roots_in_order c.in_ok-roots.roots.items c.in_ok-roots.ensures.ordered
 
 pub returns-clause-touching : goal.returns-clause-touching
 returns-clause-touching g c = c.touching_in-touching.ensures ∙ ap candidates_counted c.deref.ensures.value

@@ -1,5 +1,6 @@
-use Rattle.std.proofs.Common.{◌≡◌, ◌+◌, ◌-◌, ◌<◌, ◌++◌, ℕ, List, length, take, map, vec_len, All, sym, ap, subst, ◌∙◌, arith}
+use Rattle.std.proofs.Common.{◌≡◌, ◌+◌, ◌-◌, ◌<◌, ◌++◌, ℕ, List, length, take, map, vec_len, All, sym, ap, subst, ◌∙◌, arith, rules}
 use Rattle.std.specs.List.Sorted.{IsPermutation}
+use Rattle.std.proofs.lemmas.Fn.{always_returns_same}
 use Rattle.std.proofs.lemmas.Result.{err_from_is_err_and}
 use Rattle.std.proofs.lemmas.List.Sorted.{IsPermutation-map}
 use Rattle.std.proofs.lemmas.List.{length-map}
@@ -13,6 +14,7 @@ use Rattle.cj_case.specs.Cells.{plain_cell, plain_cells}
 use Rattle.cj_bezier.specs.Candidates.{is_candidate, candidate_pairs}
 use Rattle.cj_cells.specs.Cells.{added_roots}
 use Rattle.cj_cells.proofs.ListingLemmas.{error_is, cells_more}
+use Rattle.cj_cells.proofs.OrderLemmas.{sorted_up_to}
 use Rattle.cj_candidates.specs.SlotRuns.{roots_over, candidates_over}
 use Rattle.cj_candidates.proofs.CountLemmas.{candidates_few}
 use Rattle.cj_candidates.proofs.ObjectLemmas.{pairs_within}
@@ -80,6 +82,7 @@ returns c =
       too_many = λ is. absurd cc;
       found = record {
         roots = subst (λ (rs : List PlainCell). IsPermutation rs (plain_cells new.items)) (i.found ∙ ap (roots_over case from) all) moved;
+        ordered = sorted_up_to new.items (c.in_ok-sort_by_key.ensures.sorted (λ cell. (cell.pair, cell.first)) (always_returns_same _ _ _ (λ a r q k. search rules)));
         few = omega (arith, i.room, c.in_ok-sort_by_key.ensures.len);
         touching = i.counted ∙ ap (candidates_over case from) all;
       };

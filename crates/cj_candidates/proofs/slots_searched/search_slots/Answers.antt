@@ -30,7 +30,7 @@ returns g c =
           (omega (arith, objects, length-map problem.tracks plain_track)) (omega (arith, c.ranges.count.fits))
           (subst (λ (slots : List ℕ). AreFoundIn case slots runs) (c.deref.ensures.value ∙ c.in_ok-slots.ensures) c.in_ok-runs.ensures)
           (sym (ap (list_all (λ (r : ThreadRun). r.whole)) c.deref-3.ensures.value) ∙ sym c.are_whole.ensures ∙ c.if-not-are_whole.false)
-          (omega (arith, c.if-count_of-limit.false, c.count_of.ensures, ap size c.deref-2.ensures.value, c.requires.limit)) told.roots run.roots.ok.0 told.touching;
+          (omega (arith, c.if-count_of-limit.false, c.count_of.ensures, ap size c.deref-2.ensures.value, c.requires.limit)) told.roots run.roots.ok.0 told.touching told.ordered;
     }
 
 pub returns-then-count_of-limit : goal.returns-then-count_of-limit

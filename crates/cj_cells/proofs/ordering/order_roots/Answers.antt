@@ -1,7 +1,5 @@
-use Rattle.std.proofs.Common.{arith}
-use Rattle.std.proofs.lemmas.Grind.{common_steps}
-use Rattle.cj_cells.proofs.OrderLemmas.{sorted_roots}
+use Rattle.std.proofs.lemmas.List.Sorted.{IsPermutation-trans}
 use Rattle.cj_cells.proofs.ordering.order_roots.Goals as goal
 
 pub returns-clause-all : goal.returns-clause-all
-returns-clause-all c candidate case e = sorted_roots candidate case _ _ e (grind (arith, common_steps)) (grind (arith, common_steps))
+returns-clause-all c candidate case e = c.number_roots.ensures.all candidate case (IsPermutation-trans _ _ _ e c.sort.ensures.permutation)

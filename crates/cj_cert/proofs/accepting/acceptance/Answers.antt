@@ -4,7 +4,6 @@ use Rattle.cj_interval.proofs.ListLemmas.{Each, each_from_All}
 use Rattle.cj_track.specs.declared.track.Track.{Track}
 use Rattle.cj_case.specs.Problems.{plain_problem}
 use Rattle.cj_cert.proofs.AcceptedLemmas.{splits}
-use Rattle.cj_cert.proofs.RewrittenLemmas.{in_version_2_accepted, written_in_accepted}
 use Rattle.cj_cert.proofs.TimesLemmas.{one_more}
 use Rattle.cj_cert.proofs.TrackLemmas.{IsRuled, all_in_time, all_near, all_within}
 use Rattle.cj_cert.proofs.WrittenLemmas.{written_accepted}
@@ -35,17 +34,6 @@ returns-clause-written c =
     let problem = c.args.problem.now in
     written_accepted (plain_problem problem) (all_in_time problem.tracks (all_tracks c))
     (all_within problem.tracks (all_tracks c) problem.window.first.micros problem.window.last.micros) problem.least
-
-pub returns-clause-in_version : goal.returns-clause-in_version
-returns-clause-in_version c version =
-    let problem = c.args.problem.now in
-    written_in_accepted version (plain_problem problem) (all_in_time problem.tracks (all_tracks c))
-    (all_within problem.tracks (all_tracks c) problem.window.first.micros problem.window.last.micros) problem.least
-
-pub returns-clause-rewritten : goal.returns-clause-rewritten
-returns-clause-rewritten c certificate accepted =
-    let problem = c.args.problem.now in
-    in_version_2_accepted (plain_problem problem) certificate (all_in_time problem.tracks (all_tracks c)) accepted
 
 pub returns-clause-near : goal.returns-clause-near
 returns-clause-near c = all_near c.args.problem.now.tracks (all_tracks c)

@@ -1,7 +1,8 @@
 use Rattle.std.proofs.Common.{List, map, ap, ◌∙◌}
 use Rattle.cj_track.specs.declared.segment.Segment.{Segment}
 use Rattle.cj_track.specs.Tracks.{plain_segment}
-use Rattle.cj_inputs.specs.Windows.{first_of, last_of, least, greatest}
+use Rattle.cj_track.specs.PlainTracks.{first_of, last_of}
+use Rattle.cj_inputs.specs.Windows.{least, greatest}
 use Rattle.cj_inputs.proofs.WindowLemmas.{starts_at, stops_at}
 use Rattle.cj_inputs.proofs.window.useable_span.Goals as goal
 

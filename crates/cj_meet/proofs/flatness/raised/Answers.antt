@@ -1,6 +1,6 @@
 use Rattle.std.proofs.Common.{◌≡◌, ℕ, ◌+◌, ◌*◌, ap, arith}
-use Rattle.cj_meet.specs.Flat.{floor_root}
-use Rattle.cj_meet.proofs.RootLemmas.{floor_root-is}
+use Rattle.cj_interval.specs.SquareRoots.{floor_root}
+use Rattle.cj_interval.proofs.SquareRootLemmas.{floor_root-is}
 use Rattle.cj_meet.proofs.flatness.raised.Goals as goal
 
 pub returns : goal.returns

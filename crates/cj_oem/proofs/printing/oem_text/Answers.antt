@@ -5,7 +5,7 @@ use Rattle.cj_oem.specs.Reading.{reading}
 use Rattle.cj_track.specs.Segments.{AreSegments}
 use Rattle.cj_track.specs.Tracks.{plain_segment, plain_track}
 use Rattle.cj_oem.proofs.AgainLemmas.{text_again}
-use Rattle.cj_oem.proofs.TextLemmas.{all_more, part_more}
+use Rattle.cj_oem.proofs.TextLemmas.{all_more, part_more_of}
 use Rattle.cj_oem.proofs.TrackAgainLemmas.{Keeps, track_written}
 use Rattle.cj_oem.proofs.printing.oem_text.Goals as goal
 
@@ -16,7 +16,7 @@ loop-segment-preserved c =
     let segment = c.segment-item.result in
     record {
       text =
-          part_more (segment_text (plain_track c.args.track.now)) plain_segment segments i segment header_text c.loop-segment.text.items c.push_segment.new.text.items
+          part_more_of (segment_text (plain_track c.args.track.now)) plain_segment segments i segment header_text c.loop-segment.text.items c.push_segment.new.text.items
           (omega arith) (search rules) c.loop-segment.invariant.text c.in_ok-push_segment.ensures.text;
       kept = all_more Keeps segments i segment (omega arith) (search rules) c.loop-segment.invariant.kept (c.in_ok-push_segment.ensures.nodes, c.in_ok-push_segment.ensures.matrices);
     }

@@ -12,7 +12,7 @@ use Rattle.cj_bezier.specs.Shells.{keeps_between}
 use Rattle.cj_cert.specs.Accepted.{AreShells}
 use Rattle.cj_cert.specs.Certificates.{PlainCertificate, plain_certificate}
 use Rattle.cj_cert.specs.Listed.{shells_listed}
-use Rattle.cj_cert.specs.Rewritten.{pairs_by_shells}
+use Rattle.cj_blocks.specs.Rewritten.{pairs_by_shells}
 use Rattle.cj_outputs.proofs.rewriting.renewed.Goals as goal
 
 -- a certificate that is accepted lists one shell for each object

@@ -3,7 +3,7 @@ use Rattle.std.proofs.lemmas.Result.{err_from_is_err_and}
 use Rattle.cj_io.specs.declared.file.FileBytes.{FileBytes}
 use Rattle.cj_words.specs.Commands.{plain_checking}
 use Rattle.cj_cert.specs.Certificates.{PlainCertificate, plain_certificate}
-use Rattle.cj_cert.specs.Rewritten.{in_version_2}
+use Rattle.cj_blocks.specs.Rewritten.{in_version_2}
 use Rattle.cj_cert_text.specs.Texts.{text_of}
 use Rattle.cj_inputs.specs.CheckInputs.{PlainInputs, inputs_asked, plain_inputs}
 use Rattle.cj_outputs.specs.Again.{IsAcceptedLater}

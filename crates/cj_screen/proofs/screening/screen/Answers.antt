@@ -5,7 +5,7 @@ use Rattle.cj_case.specs.Problems.{plain_problem}
 use Rattle.cj_case.specs.Leaves.{PlainLeaf, plain_leaf, plain_leaves}
 use Rattle.cj_case.specs.Order.{AreInOrder}
 use Rattle.cj_case.specs.declared.leaf.Leaf.{Leaf}
-use Rattle.cj_cert.specs.Rewritten.{written_in}
+use Rattle.cj_blocks.specs.Rewritten.{written_in}
 use Rattle.cj_meet.specs.Closest.{HasNearest, KeepTheirPieces}
 use Rattle.cj_meet.specs.Encounters.{encounters_of}
 use Rattle.cj_outputs.specs.Meetings.{AreMeetings}
@@ -59,8 +59,7 @@ returns g c =
       tells = refl;
       version = refl;
       found = record {
-        shells = refined.shells;
-        boxes = refined.boxes;
+        measured = refined.measured;
         leaves = refined.leaves;
         few = refined.few;
         encounters = met.encounters;
@@ -72,7 +71,7 @@ returns g c =
       certified = record {
         certificate = written_in c.args.version case;
         text = refl;
-        accepted = c.acceptance.ensures.in_version c.args.version;
+        accepted = c.acceptance_in_blocks.ensures.in_version c.args.version;
         implies = c.acceptance.ensures.splits;
       };
       nearest = nearest;

@@ -1,4 +1,4 @@
-use Rattle.cj_epoch.proofs.TextLemmas.{joined_ok}
+use Rattle.cj_kvn.proofs.TextLemmas.{joined_ok}
 use Rattle.std.proofs.lemmas.Result.{IfOk-from_err}
 use Rattle.cj_status.proofs.fault_line.push_limit.Goals as goal
 

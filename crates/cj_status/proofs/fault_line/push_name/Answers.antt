@@ -1,7 +1,7 @@
 use Rattle.std.proofs.Common.{arith, ◌∙◌, ap, sym, ℕ, List, [], ◌∷◌, ◌++◌, map}
 use Rattle.std.proofs.lemmas.List.{append-nil, map_more, take_all}
 use Rattle.std.proofs.lemmas.Result.{IfOk-from_err}
-use Rattle.cj_epoch.proofs.TextLemmas.{joined}
+use Rattle.cj_kvn.proofs.TextLemmas.{joined}
 use Rattle.cj_status.specs.Faults.{shown_byte}
 use Rattle.cj_status.proofs.fault_line.push_name.Goals as goal
 

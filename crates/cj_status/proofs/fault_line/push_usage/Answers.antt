@@ -1,6 +1,6 @@
 use Rattle.std.proofs.Common.{refl}
 use Rattle.std.specs.Prelude.{codes}
-use Rattle.cj_epoch.proofs.TextLemmas.{joined_ok}
+use Rattle.cj_kvn.proofs.TextLemmas.{joined_ok}
 use Rattle.std.proofs.lemmas.Result.{IfOk-from_err}
 use Rattle.cj_status.proofs.AppendLemmas.{appended}
 use Rattle.cj_status.proofs.fault_line.push_usage.Goals as goal

@@ -1,6 +1,6 @@
 use Rattle.std.proofs.Common.{◌≡◌, ◌+◌, ◌-◌, ◌≤◌, length, map}
 use Rattle.cj_track.specs.Tracks.{plain_node}
-use Rattle.cj_bezier.specs.Shells.{least_from}
+use Rattle.cj_interval.specs.Passing.{least_from}
 use Rattle.cj_thin.specs.Thinned as spec
 use Rattle.cj_thin.proofs.steps.left_out.Given as goal
 

@@ -1,0 +1,6 @@
+use Rattle.std.proofs.Common.{◌∙◌, ◌++◌, ◌∷◌, [], ap}
+use Rattle.std.proofs.lemmas.List.{replicate_more}
+use Rattle.cj_case.proofs.by_slot.even_row.Goals as goal
+
+pub loop-preserved : goal.loop-preserved
+loop-preserved g c = c.in_ok-push.ensures.items ∙ ap (λ row. row ++ c.args.value ∷ []) c.loop.invariant ∙ replicate_more c.loop.counter c.args.value
