@@ -2,3 +2,4 @@ mod CauseLemmas
 mod FindLemmas
 mod HintLemmas
 mod TellLemmas
+mod WarningLemmas

@@ -1,3 +1,4 @@
 pub mod Causes
 pub mod Hints
 pub mod Options
+pub mod Warnings

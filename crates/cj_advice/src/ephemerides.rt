@@ -147,7 +147,7 @@ COMMENT MASS = 500
 
 const MISSING: Advice = Advice {
     means: "a key, a text or an end that has to be there is not",
-    helps: "the line told ends the part that lacks it: see --explain Missing",
+    helps: "the part that this line ends lacks it: conj --explain Missing lists all",
     more: "\
 At META_START the header lacks CREATION_DATE or ORIGINATOR. At META_STOP the
 metadata lack OBJECT_NAME, OBJECT_ID, CENTER_NAME, REF_FRAME, TIME_SYSTEM,
@@ -290,12 +290,12 @@ of a microsecond an object moves most of a millimetre.
 
 const FIELDS: Advice = Advice {
     means: "a state has neither 7 nor 10 fields",
-    helps: "a time, x y z in km, their rates in km/s, perhaps three accelerations",
+    helps: "a time without blank, x y z in km, rates in km/s, perhaps accelerations",
     more: "\
 A state is one line: its time, three coordinates in km, three rates in km/s,
 and perhaps three accelerations, which are not used. Blanks stand between
-them, and no commas. Files without rates cannot be screened: the cubic wants
-them.
+them, and no commas; between day and time stands T, and no blank. Files
+without rates cannot be screened: the cubic wants them.
 ",
     wrong: "2025-01-01T00:00:00 7000 -225 0\n",
     right: "2025-01-01T00:00:00 7000 -225 0 0 7.5 0\n",
@@ -408,7 +408,7 @@ COVARIANCE_START
 
 const USEABLE_SPAN: Advice = Advice {
     means: "the useable time is empty, or goes beyond the states",
-    helps: "let it lie from the first state to the last one",
+    helps: "let START_TIME, STOP_TIME or USEABLE_.. lie from first to last state",
     more: "\
 A segment is useable from USEABLE_START_TIME to USEABLE_STOP_TIME, or where
 these are not given from START_TIME to STOP_TIME. Outside its states there is

@@ -81,5 +81,13 @@ pub fn range_of(option: Opt) -> Hint {
             means: "--within is a whole number of metres from 1 to 1000",
             helps: "left out it is 1",
         },
+        Opt::Warnings => Hint {
+            means: "--warnings has no value",
+            helps: "left out warnings are told at a terminal alone",
+        },
+        Opt::AllFaults => Hint {
+            means: "--all-faults has no value",
+            helps: "left out a run ends with the first file that is refused",
+        },
     }
 }

@@ -94,7 +94,7 @@ The name is compared letter by letter with those of the files in DIR.
 
 pub const MIXED_FRAMES: Advice = Advice {
     means: "the file's frame is not that of the first file",
-    helps: "give all files of the folder in EME2000, or all in GCRF",
+    helps: "all in EME2000, or all in GCRF: scripts/prepare turns GCRF into EME2000",
     more: "\
 The two frames differ by less than a metre in a low orbit, which is more than
 is left open here. The first file is the first one in byte order of names.

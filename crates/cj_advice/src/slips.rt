@@ -145,7 +145,9 @@ fn slip_of_word(word: &[u8], verb: Verb) -> Slip<'_>
         return slip_of_name(name, verb);
     }
     match option_named(name) {
-        Some(option @ (Opt::AsHermite3 | Opt::Rtn)) => Slip::ValueOfFlag { option },
+        Some(option @ (Opt::AsHermite3 | Opt::Rtn | Opt::Warnings | Opt::AllFaults)) => {
+            Slip::ValueOfFlag { option }
+        }
         Some(option) => Slip::NoValue { option },
         None => Slip::Stray { word, verb },
     }

@@ -14,7 +14,7 @@ use Rattle.cj_case.specs.declared.axis_box.AxisBox.{AxisBox}
 use Rattle.cj_case.specs.declared.shells.Shell.{Shell}
 use Rattle.cj_case.specs.declared.measured.Measured.{Measured}
 use Rattle.cj_bezier.specs.Shells.{shell_of}
-use Rattle.cj_case.specs.Boxes.{PlainBox, plain_box, plain_boxes, plain_rows}
+use Rattle.cj_case.specs.Boxes.{PlainBox, plain_box, plain_rows}
 use Rattle.cj_bezier.specs.Enclosed.{AreInBoxes, AreInShells}
 use Rattle.cj_bezier.specs.Candidates.{boxes_in, shells_of}
 use Rattle.cj_bezier.specs.AllBoxes.{boxes_of, boxes_over}

@@ -18,6 +18,7 @@ use crate::slot_run::SlotRun;
 use crate::slots_searched::search_slots;
 use cj_case::{Problem, slot_count};
 use cj_cells::{RefineError, number_roots};
+use cj_io::Gate;
 use cj_sieve::{ShelledObjects, count_kept};
 use std::alloc::Global;
 use std::thread::Threads;
@@ -35,9 +36,10 @@ fn count_of_kept(ground: &Ground<'_>) -> u64
 }
 
 /// What is found in all slots, with at most so many roots: the roots are in order and numbered.
-fn search_all<R: Threads + Sync>(
+fn search_all<R: Threads + Sync, G: Gate + Sync>(
     rt: &R,
     alloc: Global,
+    gate: &G,
     ground: &Ground<'_>,
     workers: u32,
     limit: u64,
@@ -52,15 +54,16 @@ fn search_all<R: Threads + Sync>(
     ensures few { IfOk result (λ run. vec_len run.roots ≤ limit) }
     ensures touching { IfOk result (λ run. run.touching ≡ candidate_count (plain_problem ground.now.problem.now)) }
 {
-    let mut found = search_slots(rt, alloc, ground, 0, ground.slots, workers, limit)?;
+    let mut found = search_slots(rt, alloc, gate, ground, 0, ground.slots, workers, limit)?;
     number_roots(&mut found.roots);
     Ok(found)
 }
 
 /// The candidates of a problem, with at most so many roots.
-pub fn find_candidates<R: Threads + Sync>(
+pub fn find_candidates<R: Threads + Sync, G: Gate + Sync>(
     rt: &R,
     alloc: Global,
+    gate: &G,
     problem: &Problem,
     workers: u32,
     limit: u64,
@@ -80,14 +83,14 @@ pub fn find_candidates<R: Threads + Sync>(
 {
     let tracks = problem.tracks.as_slice();
     let slots = slot_count(problem.window);
-    let measured = measure_objects(rt, alloc, tracks, problem.window, slots, workers)?;
+    let measured = measure_objects(rt, alloc, gate, tracks, problem.window, slots, workers)?;
     let ground = Ground {
         problem,
         measured: &measured,
         slots,
     };
     let kept = count_of_kept(&ground);
-    let SlotRun { roots, touching } = search_all(rt, alloc, &ground, workers, limit)?;
+    let SlotRun { roots, touching } = search_all(rt, alloc, gate, &ground, workers, limit)?;
     Ok(Candidates {
         measured,
         kept,

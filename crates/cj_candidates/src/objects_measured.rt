@@ -12,6 +12,7 @@ use crate::measured_object::MeasuredObject;
 use cj_base::Window;
 use cj_case::{AxisBox, BySlot, Measured, Shell};
 use cj_grid::slot_box;
+use cj_io::{Gate, Stage};
 use cj_sieve::shell;
 use cj_threads::{Nobody, all_made, map_dealt};
 use cj_track::Track;
@@ -91,10 +92,11 @@ fn in_one(alloc: Global, objects: Vec<MeasuredObject>, slots: u32) -> Result<Mea
 }
 
 /// The shells of objects in a window, and their boxes in so many of its slots, by as many threads as there are workers: each takes the next
-/// object and makes its row.
-pub fn measure_objects<R: Threads + Sync>(
+/// object and makes its row. The gate is told of each.
+pub fn measure_objects<R: Threads + Sync, G: Gate + Sync>(
     rt: &R,
     alloc: Global,
+    gate: &G,
     tracks: &[Track],
     window: Window,
     slots: u32,
@@ -102,10 +104,15 @@ pub fn measure_objects<R: Threads + Sync>(
 ) -> Result<Measured, AllocError>
     ensures { IfOk result (λ all. AreTheirs tracks.now window.first.micros window.last.micros slots all.shells.items all.boxes) }
 {
+    gate.begin(Stage::Objects, tracks.len() as u64);
     let measure = |object: usize| -> Result<MeasuredObject, AllocError>
         requires { object < length tracks.now }
         ensures { (d : Track) → IfOk result (IsMeasured (plain_track (get_or tracks.entry.now object d)) window.first.micros window.last.micros slots) }
-    { measure_object(alloc, &tracks[object], window, slots) };
+    {
+        let made = measure_object(alloc, &tracks[object], window, slots)?;
+        gate.advance(Stage::Objects, 1);
+        Ok(made)
+    };
     let made = map_dealt(rt, alloc, tracks.len(), workers as usize, &Nobody, &measure)?;
     let objects = all_made(alloc, made)?;
     in_one(alloc, objects, slots)

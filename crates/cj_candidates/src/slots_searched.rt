@@ -19,6 +19,7 @@ use cj_case::{AxisBox, Cell, Pair};
 use cj_cells::{RefineError, roots_of_slot};
 use cj_grid::find_touching;
 use cj_hermite::Hints;
+use cj_io::{Gate, Stage};
 use cj_sieve::ShelledObjects;
 use cj_threads::{Placed, merge_runs};
 use std::alloc::{AllocError, Global};
@@ -54,9 +55,10 @@ fn candidates_paired(alloc: Global, ground: &Ground<'_>, slot: u32) -> Result<Ve
     candidates_among(alloc, ground, slot, &here)
 }
 
-/// So many slots from one on, one after another, with at most so many roots.
-fn search_in_turn(
+/// So many slots from one on, one after another, with at most so many roots. The gate is told of each slot.
+fn search_in_turn<G: Gate>(
     alloc: Global,
+    gate: &G,
     ground: &Ground<'_>,
     from: u32,
     count: u32,
@@ -67,6 +69,7 @@ fn search_in_turn(
     ensures { AreSought (plain_problem ground.now.problem.now) from count limit result }
 {
     let problem = ground.problem;
+    gate.begin(Stage::Minutes, u64::from(count));
     let mut hints = Hints::new(alloc, problem.tracks.as_slice().len())?;
     let mut roots = Vec::new(alloc);
     let mut touching = 0;
@@ -74,6 +77,7 @@ fn search_in_turn(
         let pairs = candidates_paired(alloc, ground, slot)?;
         touching += pairs.len() as u64;
         roots_of_slot(alloc, problem, slot, &pairs, limit, &mut hints, &mut roots)?;
+        gate.advance(Stage::Minutes, 1);
     }
     roots.sort_by_key(|root: &Cell| root.place())?;
     Ok(SlotRun { roots, touching })
@@ -153,9 +157,10 @@ const RUNS_A_WORKER: u32 = 8;
 
 /// So many slots from one on, by as many threads as there are workers, with at most so many roots. The threads stop where they have found
 /// too many together, which no clause says, or where slots are crowded: then one thread searches all.
-pub fn search_slots<R: Threads + Sync>(
+pub fn search_slots<R: Threads + Sync, G: Gate + Sync>(
     rt: &R,
     alloc: Global,
+    gate: &G,
     ground: &Ground<'_>,
     from: u32,
     count: u32,
@@ -167,13 +172,14 @@ pub fn search_slots<R: Threads + Sync>(
     ensures { AreSought (plain_problem ground.now.problem.now) from count limit result }
 {
     if workers < 2 {
-        return search_in_turn(alloc, ground, from, count, limit);
+        return search_in_turn(alloc, gate, ground, from, count, limit);
     }
     let size = count.div_ceil(workers.saturating_mul(RUNS_A_WORKER));
     let slots = slots_from(alloc, from, count)?;
     let runs = search_together(
         rt,
         alloc,
+        gate,
         ground,
         &slots,
         size.max(1) as usize,
@@ -184,7 +190,7 @@ pub fn search_slots<R: Threads + Sync>(
         return Err(RefineError::TooMany);
     }
     if !are_whole(&runs) {
-        return search_in_turn(alloc, ground, from, count, limit);
+        return search_in_turn(alloc, gate, ground, from, count, limit);
     }
     Ok(merged(rt, alloc, runs, workers)?)
 }

@@ -17,6 +17,7 @@ use crate::together::Together;
 use cj_case::{Cell, Pair, Problem};
 use cj_cells::{RefineError, roots_of_slot};
 use cj_hermite::Hints;
+use cj_io::{Gate, Stage};
 use cj_threads::{Nobody, Placed, map_parts};
 use std::alloc::{AllocError, Global};
 use std::thread::Threads;
@@ -140,9 +141,10 @@ fn search_slot(
 }
 
 /// Some slots, one after another, until the threads are to stop. The roots are sorted, so that merging them takes one pass; no clause
-/// hangs on their order.
-fn search_some(
+/// hangs on their order. The gate is told of each slot.
+fn search_some<G: Gate>(
     alloc: Global,
+    gate: &G,
     ground: &Ground<'_>,
     slots: &[u32],
     limit: u64,
@@ -162,6 +164,7 @@ fn search_some(
         if !search_slot(alloc, ground, *slot, limit, together, &mut hints, &mut run)? {
             return Ok(run);
         }
+        gate.advance(Stage::Minutes, 1);
     }
     run.roots.sort_by_key(|root: &Cell| root.place())?;
     run.whole = true;
@@ -170,9 +173,10 @@ fn search_some(
 
 /// What as many threads as there are workers find in some slots, so many slots a run, until they have found more roots than the limit, or
 /// slots are so crowded that several of them at once take too much. Each thread takes the next run that no other has taken.
-pub fn search_together<R: Threads + Sync>(
+pub fn search_together<R: Threads + Sync, G: Gate + Sync>(
     rt: &R,
     alloc: Global,
+    gate: &G,
     ground: &Ground<'_>,
     slots: &[u32],
     size: usize,
@@ -184,10 +188,11 @@ pub fn search_together<R: Threads + Sync>(
     requires limit { limit ≤ MOST_LEAVES }
     ensures { IfOk result (λ runs. AreFoundIn (plain_problem ground.now.problem.now) slots.now runs.items) }
 {
+    gate.begin(Stage::Minutes, slots.len() as u64);
     let together = Together::new();
     let search = |some: &[u32]| -> Result<ThreadRun, AllocError>
         requires { All (λ slot. slot < ground.now.slots) some.now × (limit ≤ MOST_LEAVES) }
         ensures { IfOk result (IsFoundIn (plain_problem ground.entry.now.problem.now) some.now) }
-    { search_some(alloc, ground, some, limit, &together) };
+    { search_some(alloc, gate, ground, some, limit, &together) };
     map_parts(rt, alloc, slots, size, workers as usize, &Nobody, &search)
 }

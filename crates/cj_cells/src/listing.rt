@@ -15,11 +15,13 @@ ghost use Rattle.cj_case.specs.Leaves.{IsTickOf};
 use crate::refine_error::RefineError;
 use crate::refining::refine;
 use cj_case::{Cell, Leaf, Problem};
+use cj_io::{Gate, Stage};
 use std::alloc::Global;
 
-/// The leaves of several roots, in order.
-pub fn refine_all(
+/// The leaves of several roots, in order. The gate is told of each root.
+pub fn refine_all<G: Gate>(
     alloc: Global,
+    gate: &G,
     problem: &Problem,
     roots: &[Cell],
     limit: u64,
@@ -35,14 +37,23 @@ pub fn refine_all(
 {
     let mut leaves = Vec::new(alloc);
     for root in roots {
+        let before = leaves.len();
         refine(alloc, problem, *root, limit, &mut leaves)?;
+        tell(gate, leaves.len().saturating_sub(before) as u64);
     }
     Ok(leaves)
 }
 
+/// Tells a gate of a root that is done. So many leaves take one halving less.
+fn tell<G: Gate>(gate: &G, leaves: u64) {
+    gate.looked(0, leaves.saturating_sub(1), leaves);
+    gate.advance(Stage::Cells, 1);
+}
+
 /// The one-thread list, of the roots of the candidates of each slot.
-pub fn leaves_of(
+pub fn leaves_of<G: Gate>(
     alloc: Global,
+    gate: &G,
     problem: &Problem,
     roots: &[Cell],
     limit: u64,
@@ -66,5 +77,5 @@ pub fn leaves_of(
     // Over each leaf both its objects are in one piece.
     ensures pieces { OnOk result (All (λ s. KeepPieces (plain_problem problem.now) s.a s.b s.first s.last) (list_candidates (plain_problem problem.now))) }
 {
-    refine_all(alloc, problem, roots, limit)
+    refine_all(alloc, gate, problem, roots, limit)
 }

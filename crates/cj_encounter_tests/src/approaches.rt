@@ -7,6 +7,7 @@ ghost use Rattle.cj_meet.specs.Encounters.{Describes};
 
 use cj_case::{Cell, Closest, Encounter, Kind, Leaf, Pair, Problem};
 use cj_hermite::{PairHint, next_common};
+use cj_io::OpenGate;
 use cj_meet::{closest, closest_approaches, encounters};
 use cj_samples::{
     AT_7000, AT_7005, AT_7100, crossing, moving, problem_of, rest, resting, tick, track_of,
@@ -218,7 +219,7 @@ fn approaches<R: Threads + Sync>(
     let leaves = [early, late];
     let found = encounters(alloc, &leaves)?;
     let many = again(alloc, &found, times)?;
-    closest_approaches(rt, alloc, problem, &leaves, &many, workers)
+    closest_approaches(rt, alloc, &OpenGate, problem, &leaves, &many, workers)
 }
 
 #[test]

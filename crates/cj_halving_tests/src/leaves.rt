@@ -4,6 +4,7 @@ ghost use Rattle.cj_case.specs.CaseLimits.{MAX_SIZE};
 use cj_case::{Cell, Kind, Leaf, Pair, Problem};
 use cj_cells::{Look, RefineError, look, number_roots, order_roots, refine_all, roots_of_slot};
 use cj_hermite::Hints;
+use cj_io::OpenGate;
 use cj_samples::{
     AT_7000, AT_7005, AT_7100, REST, crossing, node, problem_of, rest, sized, tick, track_of,
     track_of_two, useable,
@@ -38,7 +39,7 @@ fn first_leaves(alloc: Global, limit: u64) -> Result<Vec<Leaf>, RefineError> {
     let mut hints = Hints::new(alloc, 2)?;
     let mut roots = Vec::new(alloc);
     roots_of_slot(alloc, &problem, 0, &BOTH, 1, &mut hints, &mut roots)?;
-    refine_all(alloc, &problem, &roots, limit)
+    refine_all(alloc, &OpenGate, &problem, &roots, limit)
 }
 
 /// The leaves of the roots in the first two slots, those of the minute and of the tick behind it.
@@ -49,7 +50,7 @@ fn all_leaves(alloc: Global, problem: &Problem, limit: u64) -> Result<Vec<Leaf>,
     let mut roots = Vec::new(alloc);
     roots_of_slot(alloc, problem, 0, &BOTH, 10, &mut hints, &mut roots)?;
     roots_of_slot(alloc, problem, 1, &BOTH, 10, &mut hints, &mut roots)?;
-    refine_all(alloc, problem, &roots, limit)
+    refine_all(alloc, &OpenGate, problem, &roots, limit)
 }
 
 fn count(leaves: &[Leaf], kind: Kind) -> usize {

@@ -209,7 +209,7 @@ fn of_one_thread(alloc: Global, problem: &Problem) -> Result<Vec<Leaf>, RefineEr
     requires slots { slot_count problem.now.window.first.micros problem.now.window.last.micros ≡ 2 }
 {
     let roots = roots_of(alloc, problem)?;
-    refine_all(alloc, problem, &roots, LIMIT)
+    refine_all(alloc, &OpenGate, problem, &roots, LIMIT)
 }
 
 /// What the crossing comes to by a script is what one thread finds, with its totals.

@@ -1,4 +1,4 @@
-use cj_advice::{hint_text, known_causes_text};
+use cj_advice::{hint_on_files, hint_text, known_causes_text};
 use cj_status::Status;
 use cj_words::Word;
 use std::io::{IsTerminal, Write};
@@ -10,6 +10,16 @@ pub fn print_hint(rt: &HostRuntime, status: &Status, words: Option<&[Word]>) {
         return;
     }
     if let Ok(text) = hint_text(rt.alloc(), status, words) {
+        let _ = rt.stderr().write_all(&text);
+    }
+}
+
+/// The same behind the fault lines of several files, the first of which is that of the status.
+pub fn print_hint_on_files(rt: &HostRuntime, status: &Status) {
+    if !rt.stderr().is_terminal() {
+        return;
+    }
+    if let Ok(text) = hint_on_files(rt.alloc(), status) {
         let _ = rt.stderr().write_all(&text);
     }
 }

@@ -1,7 +1,8 @@
 //! Files that this run makes. None is written into that was there before.
 use crate::failure::{Failure, done_at};
 use crate::holding::is_at;
-use crate::streaming::{MakeError, write_while_made};
+use crate::streaming::{MakeError, write_and_tell, write_while_made};
+use crate::watch::Watch;
 use cj_io::PartSource;
 use std::alloc::Global;
 use std::fs::{File, OpenOptions};
@@ -40,21 +41,27 @@ impl NewFile {
         Ok(NewFile { path, file })
     }
 
-    /// Writes slices, one behind another.
-    pub fn write(&mut self, alloc: Global, slices: &[&[u8]]) -> Result<(), Failure> {
-        let written = write_slices(&mut self.file, slices);
+    /// Writes slices, one behind another. The watch is told of the bytes.
+    pub fn write(
+        &mut self,
+        alloc: Global,
+        slices: &[&[u8]],
+        watch: Option<&Watch<'_>>,
+    ) -> Result<(), Failure> {
+        let written = write_slices(&mut self.file, slices, watch);
         done_at(alloc, self.path.as_str(), written)
     }
 
-    /// Writes parts and what the source makes behind them.
+    /// Writes parts and what the source makes behind them. The watch is told of the bytes.
     pub fn write_made<R: Threads + Sync, M: PartSource>(
         &mut self,
         rt: &R,
         alloc: Global,
         first: Vec<Vec<u8>>,
         source: &mut M,
+        watch: Option<&Watch<'_>>,
     ) -> Result<(), Failure> {
-        let written = write_while_made(&mut self.file, rt, alloc, first, source);
+        let written = write_while_made(&mut self.file, rt, alloc, first, source, watch);
         written.map_err(|error| error.at(alloc, self.path.as_str()))
     }
 
@@ -83,10 +90,14 @@ fn create(rt: &HostRuntime, path: &PathBuf) -> io::Result<File> {
         .open(rt, path.as_path())
 }
 
-/// Writes slices, one behind another.
-pub fn write_slices<W: Write>(to: &mut W, slices: &[&[u8]]) -> io::Result<()> {
+/// Writes slices, one behind another. The watch is told of the bytes.
+pub fn write_slices<W: Write>(
+    to: &mut W,
+    slices: &[&[u8]],
+    watch: Option<&Watch<'_>>,
+) -> io::Result<()> {
     for slice in slices {
-        to.write_all(slice)?;
+        write_and_tell(to, slice, watch)?;
     }
     Ok(())
 }

@@ -269,6 +269,12 @@ Options of generate and selfrun:
 Options of thin:
   --within METRES     how far an object may be from where it was, 1 to 1000
                       (default 1)
+Options of screen, check and rewrite that change no result:
+  --warnings          say on standard error what may not be meant, as a
+                      directory without ephemerides (default: at a terminal
+                      alone)
+  --all-faults        where a file is refused, go on and tell the first fault
+                      of each file
 
 Exit status:
   0  done

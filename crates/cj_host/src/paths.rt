@@ -54,7 +54,7 @@ impl Paths {
         rt: &'a HostRuntime,
         threads: &'a R,
         words: &'a [Word],
-    ) -> DirShelf<'a, R> {
+    ) -> DirShelf<'a, 'a, R> {
         match &self.results {
             Some(path) => DirShelf::in_new(rt, threads, path.as_str()),
             None => DirShelf::beside(rt, threads, self.directory.as_str(), Inputs::of(words)),

@@ -7,6 +7,7 @@ use crate::new_directory::NewDirectory;
 use crate::standing::StandingDirectory;
 use crate::system_fault::SystemFault;
 use crate::target::{Host, Target};
+use crate::watch::Watch;
 use cj_io::{PartSource, PutError, Shelf, StreamShelf};
 use std::alloc::{AllocError, Global};
 use std::thread::Threads;
@@ -15,15 +16,15 @@ use std::thread::Threads;
 ///
 /// A file is made under another name beside its own, never into one that was there, and takes its own name when it is whole and on the disk.
 #[derive(Drop)]
-pub struct DirShelf<'a, R> {
-    host: Host<'a, R>,
+pub struct DirShelf<'a, 'w, R> {
+    host: Host<'a, 'w, R>,
     target: Target<'a>,
     faults: u64,
     refusals: u64,
     last_fault: Option<SystemFault>,
 }
 
-impl<'a, R: Threads> DirShelf<'a, R> {
+impl<'a, 'w, R: Threads> DirShelf<'a, 'w, R> {
     /// A shelf whose outputs become files of the directory with this path. Nothing is written yet.
     pub fn new(files: &'a HostRuntime, threads: &'a R, directory: &'a str) -> Self {
         DirShelf::beside(files, threads, directory, Inputs::none())
@@ -47,11 +48,34 @@ impl<'a, R: Threads> DirShelf<'a, R> {
 
     fn onto(files: &'a HostRuntime, threads: &'a R, target: Target<'a>) -> Self {
         DirShelf {
-            host: Host { files, threads },
+            host: Host {
+                files,
+                threads,
+                watch: None,
+            },
             target,
             faults: 0,
             refusals: 0,
             last_fault: None,
+        }
+    }
+
+    /// The same shelf, of which somebody is told what is written.
+    pub fn watched_by<'v>(self, watch: &'a Watch<'v>) -> DirShelf<'a, 'v, R>
+        ensures faults { result.faults ≡ self.entry.faults }
+        ensures refusals { result.refusals ≡ self.entry.refusals }
+    {
+        let Host { files, threads, .. } = self.host;
+        DirShelf {
+            host: Host {
+                files,
+                threads,
+                watch: Some(watch),
+            },
+            target: self.target,
+            faults: self.faults,
+            refusals: self.refusals,
+            last_fault: self.last_fault,
         }
     }
 
@@ -94,7 +118,7 @@ impl<'a, R: Threads> DirShelf<'a, R> {
     }
 }
 
-impl<R: Threads> Shelf for DirShelf<'_, R> {
+impl<R: Threads> Shelf for DirShelf<'_, '_, R> {
     ghost outputs = { λ s. None };
 
     ghost faults = { λ s. s.faults };
@@ -120,7 +144,7 @@ impl<R: Threads> Shelf for DirShelf<'_, R> {
     }
 }
 
-impl<R: Threads> StreamShelf for DirShelf<'_, R> {
+impl<R: Threads> StreamShelf for DirShelf<'_, '_, R> {
     fn put_made<W: Threads + Sync, M: PartSource>(
         &mut self,
         rt: &W,

@@ -3,6 +3,7 @@ use crate::new_directory::NewDirectory;
 use crate::new_file::{NewFile, write_slices};
 use crate::standing::{Part, StandingDirectory};
 use crate::streaming::write_all_made;
+use crate::watch::Watch;
 use cj_io::PartSource;
 use std::alloc::Global;
 use std::io;
@@ -11,9 +12,20 @@ use std::thread::Threads;
 
 /// The system: files by its runtime, and threads.
 #[derive(Drop)]
-pub struct Host<'a, R> {
+pub struct Host<'a, 'w, R> {
     pub files: &'a HostRuntime,
     pub threads: &'a R,
+    /// Who is told of the bytes that are written, where somebody is.
+    pub watch: Option<&'a Watch<'w>>,
+}
+
+impl<R> Host<'_, '_, R> {
+    /// Takes the line of progress away, which would stand among what is printed.
+    fn make_way(&self) {
+        if let Some(watch) = self.watch {
+            watch.wipe();
+        }
+    }
 }
 
 /// Where outputs go.
@@ -51,7 +63,7 @@ impl Target<'_> {
     /// Puts an output whose bytes come in slices, one behind another.
     pub fn put<R: Threads>(
         &mut self,
-        host: &Host<'_, R>,
+        host: &Host<'_, '_, R>,
         alloc: Global,
         name: &[u8],
         slices: &[&[u8]],
@@ -65,7 +77,7 @@ impl Target<'_> {
     /// Puts an output of these first parts and of what the source makes behind them.
     pub fn put_made<R: Threads, W: Threads + Sync, M: PartSource>(
         &mut self,
-        host: &Host<'_, R>,
+        host: &Host<'_, '_, R>,
         rt: &W,
         alloc: Global,
         name: &[u8],
@@ -89,7 +101,7 @@ impl Target<'_> {
     /// Begins an output. Standard output comes last: all outputs before it are then whole, and are brought to the disk.
     fn start<R: Threads>(
         &mut self,
-        host: &Host<'_, R>,
+        host: &Host<'_, '_, R>,
         alloc: Global,
         name: &str,
     ) -> Result<Begun, Failure> {
@@ -108,7 +120,7 @@ impl Target<'_> {
     /// Ends an output that was written so. What is not whole is taken away again.
     fn end<R: Threads>(
         &mut self,
-        host: &Host<'_, R>,
+        host: &Host<'_, '_, R>,
         alloc: Global,
         name: &str,
         output: Begun,
@@ -125,7 +137,7 @@ impl Target<'_> {
     /// Keeps an output that is written.
     fn keep<R: Threads>(
         &mut self,
-        host: &Host<'_, R>,
+        host: &Host<'_, '_, R>,
         alloc: Global,
         name: &str,
         output: Begun,
@@ -145,7 +157,7 @@ impl Target<'_> {
         }
     }
 
-    fn finish<R: Threads>(&mut self, host: &Host<'_, R>, alloc: Global) -> Result<(), Failure> {
+    fn finish<R: Threads>(&mut self, host: &Host<'_, '_, R>, alloc: Global) -> Result<(), Failure> {
         match self {
             Target::Standing(directory) => directory.finish(alloc),
             Target::Made(directory) => directory.finish(host.files, host.threads, alloc),
@@ -156,23 +168,24 @@ impl Target<'_> {
 impl Begun {
     fn write<R>(
         &mut self,
-        host: &Host<'_, R>,
+        host: &Host<'_, '_, R>,
         alloc: Global,
         slices: &[&[u8]],
     ) -> Result<(), Failure> {
         match self {
             Begun::Output => {
-                let written = write_slices(&mut host.files.stdout(), slices);
+                host.make_way();
+                let written = write_slices(&mut host.files.stdout(), slices, None);
                 done_at(alloc, OUTPUT, written)
             }
-            Begun::Part(output) => output.part.write(alloc, slices),
-            Begun::File(file) => file.write(alloc, slices),
+            Begun::Part(output) => output.part.write(alloc, slices, host.watch),
+            Begun::File(file) => file.write(alloc, slices, host.watch),
         }
     }
 
     fn write_made<R, W: Threads + Sync, M: PartSource>(
         &mut self,
-        host: &Host<'_, R>,
+        host: &Host<'_, '_, R>,
         rt: &W,
         alloc: Global,
         first: Vec<Vec<u8>>,
@@ -180,11 +193,12 @@ impl Begun {
     ) -> Result<(), Failure> {
         match self {
             Begun::Output => {
+                host.make_way();
                 let made = write_all_made(&mut host.files.stdout(), rt, alloc, &first, source);
                 made.map_err(|error| error.at(alloc, OUTPUT))
             }
-            Begun::Part(output) => output.part.write_made(rt, alloc, first, source),
-            Begun::File(file) => file.write_made(rt, alloc, first, source),
+            Begun::Part(output) => output.part.write_made(rt, alloc, first, source, host.watch),
+            Begun::File(file) => file.write_made(rt, alloc, first, source, host.watch),
         }
     }
 

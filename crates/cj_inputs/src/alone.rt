@@ -16,17 +16,20 @@ use crate::lone_tracks::LoneTracks;
 use crate::parsing::parse_file;
 use crate::preparing::list_few_inputs;
 use crate::reading::{InputError, read_file};
+use crate::warnings::warn_of_names;
 use cj_base::Limits;
-use cj_io::Folder;
+use cj_io::{Folder, Gate};
 use cj_status::Status;
 use cj_track::Track;
 use cj_words::Thinning;
 use std::alloc::Global;
 
-/// Reads the files that are taken one after another, up to the first that is refused or beyond a limit. Their frames are not compared.
+/// Reads the files that are taken one after another, up to the first that is refused or beyond a limit. Their frames are not compared. The gate is
+/// warned of those that are not taken.
 #[tactic(auto, unfolding(crate::specs::Alone::tracks_asked))]
-pub fn read_alone<F: Folder>(
+pub fn read_alone<F: Folder, G: Gate>(
     alloc: Global,
+    gate: &G,
     folder: &mut F,
     thinning: &Thinning,
     limits: Limits,
@@ -42,6 +45,7 @@ pub fn read_alone<F: Folder>(
 {
     let names = folder.names(alloc)?;
     let entries = list_few_inputs(alloc, &names, thinning.suffix, None, limits)?;
+    warn_of_names(gate, &names, &entries, thinning.suffix, None);
     let lone = read_each(alloc, folder, &entries, thinning.as_hermite3, limits)?;
     Ok(lone)
 }
@@ -74,7 +78,7 @@ fn read_each<F: Folder>(
 
 /// The track of a file.
 #[tactic(auto, unfolding(crate::specs::Readings::reading_of))]
-fn read_track<F: Folder>(
+pub fn read_track<F: Folder>(
     alloc: Global,
     folder: &mut F,
     entry: &Entry,

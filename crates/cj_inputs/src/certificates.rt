@@ -12,7 +12,7 @@ use crate::check_inputs::CheckInputs;
 use crate::object_sizes::first_named;
 use crate::preparing::prepare_listed;
 use crate::reading::read_within;
-use cj_io::{Folder, Name};
+use cj_io::{Folder, Gate, Name};
 use cj_status::{CertificateCause, Status};
 use cj_words::Checking;
 use std::alloc::Global;
@@ -24,9 +24,10 @@ const MAX_BYTES: u64 = 1_073_741_824;
 /// Prepares the problem that the settings ask for, then reads the first file with the certificate's name, and then the first with the
 /// report's, where one is named. The ephemerides are parsed by so many workers.
 #[tactic(auto, unfolding(crate::specs::CheckInputs::inputs_asked))]
-pub fn prepare_check<R: Threads + Sync, F: Folder>(
+pub fn prepare_check<R: Threads + Sync, F: Folder, G: Gate + Sync>(
     rt: &R,
     alloc: Global,
+    gate: &G,
     folder: &mut F,
     checking: &Checking,
     workers: u32,
@@ -42,7 +43,7 @@ pub fn prepare_check<R: Threads + Sync, F: Folder>(
     ensures later { F.faults folder.old ≤ F.faults folder.new }
 {
     let names = folder.names(alloc)?;
-    let problem = prepare_listed(rt, alloc, folder, &names, &checking.settings, workers)?;
+    let problem = prepare_listed(rt, alloc, gate, folder, &names, &checking.settings, workers)?;
     let certificate = read_named(
         alloc,
         folder,

@@ -60,7 +60,7 @@ fn is_taken(name: &[u8], suffix: &[u8], sizes: Option<&[u8]>) -> bool
 }
 
 /// Whether the file with this name is that of sizes.
-fn has_sizes(name: &[u8], sizes: Option<&[u8]>) -> bool
+pub fn has_sizes(name: &[u8], sizes: Option<&[u8]>) -> bool
     ensures { result ≡ spec.has_sizes (option_copied sizes.entry) name.now }
 {
     match sizes {

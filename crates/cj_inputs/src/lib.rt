@@ -1,6 +1,7 @@
 //! From the words and the files of a folder to the problem that is to be screened.
 #![tactic(auto)]
 
+mod all_faults;
 mod alone;
 mod batch;
 mod batching;
@@ -17,6 +18,7 @@ mod progress;
 mod reading;
 mod taken;
 mod taking;
+mod warnings;
 mod window;
 
 pub use alone::read_alone;

@@ -11,15 +11,16 @@ use crate::batching::read_batch;
 use crate::input_files::Entry;
 use crate::parsing::parse_files;
 use crate::reading::InputError;
-use cj_io::Folder;
+use cj_io::{Folder, Gate};
 use cj_track::Track;
 use std::alloc::{AllocError, Global};
 use std::thread::{Threads, join_mut};
 
 /// What the files say that were read, by as many threads as there are workers, and the first of these entries, which this thread reads meanwhile.
-pub fn parse_and_read<'a, R: Threads + Sync, F: Folder>(
+pub fn parse_and_read<'a, R: Threads + Sync, F: Folder, G: Gate + Sync>(
     rt: &R,
     alloc: Global,
+    gate: &G,
     folder: &mut F,
     read: &[FileRead<'_>],
     entries: &'a [Entry],
@@ -43,9 +44,9 @@ pub fn parse_and_read<'a, R: Threads + Sync, F: Folder>(
     ensures later { F.faults folder.old ≤ F.faults folder.new }
 {
     let mut parse = || -> Result<Vec<Result<Track, InputError>>, AllocError>
-        requires { IsSync R.row }
+        requires { IsSync R.row × IsSync G.row }
         ensures { IfOk result (λ readings. AreParsed as_hermite3 read.entry.now readings.items) }
-    { parse_files(rt, alloc, read, as_hermite3, workers) };
+    { parse_files(rt, alloc, gate, read, as_hermite3, workers) };
     let mut read_on = || read_batch(alloc, folder, entries, workers, read.len());
     join_mut(rt, &mut parse, &mut read_on)
 }

@@ -7,7 +7,7 @@ ghost use Rattle.cj_inputs.specs.declared.batch.FileRead.{FileRead};
 
 use crate::batch::FileRead;
 use crate::reading::InputError;
-use cj_io::Name;
+use cj_io::{Gate, Name, Stage};
 use cj_oem::{OemFault, read_oem};
 use cj_status::FileCause;
 use cj_threads::{Nobody, map_dealt};
@@ -34,10 +34,11 @@ pub fn parse_file(
     }
 }
 
-/// What the files say, each for itself, by as many threads as there are workers: each takes the next file.
-pub fn parse_files<R: Threads + Sync>(
+/// What the files say, each for itself, by as many threads as there are workers: each takes the next file. The gate is told of each.
+pub fn parse_files<R: Threads + Sync, G: Gate + Sync>(
     rt: &R,
     alloc: Global,
+    gate: &G,
     files: &[FileRead<'_>],
     as_hermite3: bool,
     workers: u32,
@@ -47,6 +48,10 @@ pub fn parse_files<R: Threads + Sync>(
     let parse = |number: usize| -> Result<Track, InputError>
         requires { number < length files.now }
         ensures { (d : FileRead) → Reads ⊥ plain_track result (said_by as_hermite3 (get_or files.entry.now number d)) }
-    { parse_file(alloc, &files[number], as_hermite3) };
+    {
+        let track = parse_file(alloc, &files[number], as_hermite3);
+        gate.advance(Stage::Files, 1);
+        track
+    };
     map_dealt(rt, alloc, files.len(), workers as usize, &Nobody, &parse)
 }

@@ -15,13 +15,15 @@ ghost use Rattle.cj_inputs.specs.Cases as spec;
 ghost use Rattle.cj_inputs.specs.InputFiles.{inputs_of};
 ghost use Rattle.cj_status.specs.Steps.{Gives, ComesBetween, IsLimit};
 
+use crate::all_faults::tell_all_faults;
 use crate::input_files::{Entry, list_inputs};
 use crate::object_sizes::{read_size_lines, sizes_of_tracks};
 use crate::taking::read_tracks;
+use crate::warnings::{warn_of_names, warn_of_tracks};
 use crate::window::window_of;
 use cj_base::{Limits, Window};
 use cj_case::{Problem, Sizes, Tracks, slot_count};
-use cj_io::{Folder, Name};
+use cj_io::{Folder, Gate, Name};
 use cj_sizes::SizeLine;
 use cj_status::{LimitFault, Status};
 use cj_track::Track;
@@ -34,9 +36,10 @@ const MAX_LENGTH: u64 = 1_209_600_000_000;
 
 /// Reads the files that are taken and the sizes of their objects, and puts them with the window and the threshold that are asked for.
 /// The files are parsed by so many workers.
-pub fn prepare<R: Threads + Sync, F: Folder>(
+pub fn prepare<R: Threads + Sync, F: Folder, G: Gate + Sync>(
     rt: &R,
     alloc: Global,
+    gate: &G,
     folder: &mut F,
     settings: &Settings,
     workers: u32,
@@ -50,14 +53,42 @@ pub fn prepare<R: Threads + Sync, F: Folder>(
     ensures later { F.faults folder.old ≤ F.faults folder.new }
 {
     let names = folder.names(alloc)?;
-    prepare_listed(rt, alloc, folder, &names, settings, workers)
+    prepare_listed(rt, alloc, gate, folder, &names, settings, workers)
 }
 
-/// The same of a folder with these names.
-#[tactic(auto, unfolding(crate::specs::Cases::case_asked))]
-pub fn prepare_listed<R: Threads + Sync, F: Folder>(
+/// The same of a folder with these names. Where a file is refused and somebody wants to be told all faults, the first of each file is told.
+pub fn prepare_listed<R: Threads + Sync, F: Folder, G: Gate + Sync>(
     rt: &R,
     alloc: Global,
+    gate: &G,
+    folder: &mut F,
+    names: &[Name],
+    settings: &Settings,
+    workers: u32,
+) -> Result<Problem, Status>
+    requires many { length names.now < 2 ^ 32 }
+    requires count { F.count folder.old ≡ length names.now }
+
+    ensures between { IfErr result ComesBetween }
+    ensures read { result ≡ Err Status.ReadFault → Rose (F.faults folder.old) (F.faults folder.new) }
+    ensures told { (files : List FileBytes) → F.files folder.old ≡ Some files → names.now ≡ names_of files
+        → Gives (Rose (F.faults folder.old) (F.faults folder.new)) plain_problem result (spec.case_asked files (plain_settings settings.now)) }
+
+    ensures count { F.count folder.new ≡ F.count folder.old }
+    ensures files { F.files folder.new ≡ F.files folder.old }
+    ensures later { F.faults folder.old ≤ F.faults folder.new }
+{
+    let read = read_problem(rt, alloc, gate, folder, names, settings, workers);
+    tell_all_faults(alloc, gate, folder, names, settings, &read);
+    read
+}
+
+/// The problem of a folder with these names, up to the first file that is refused.
+#[tactic(auto, unfolding(crate::specs::Cases::case_asked))]
+fn read_problem<R: Threads + Sync, F: Folder, G: Gate + Sync>(
+    rt: &R,
+    alloc: Global,
+    gate: &G,
     folder: &mut F,
     names: &[Name],
     settings: &Settings,
@@ -82,9 +113,10 @@ pub fn prepare_listed<R: Threads + Sync, F: Folder>(
         settings.sizes,
         settings.limits,
     )?;
-    let tracks = read_tracks(rt, alloc, folder, &entries, settings, workers)?;
+    warn_of_names(gate, names, &entries, settings.suffix, settings.sizes);
+    let tracks = read_tracks(rt, alloc, gate, folder, &entries, settings, workers)?;
     let lines = read_size_lines(alloc, folder, names, settings.sizes)?;
-    problem_of(alloc, settings, tracks, &lines)
+    problem_of(alloc, gate, settings, tracks, &lines)
 }
 
 /// The files that are taken of those with these names, where there are not too many.
@@ -116,8 +148,9 @@ fn too_many_objects(count: u32) -> Status
 }
 
 /// The problem that is asked of these tracks, where a file says this of the sizes of objects.
-fn problem_of(
+fn problem_of<G: Gate>(
     alloc: Global,
+    gate: &G,
     settings: &Settings,
     tracks: Vec<Track>,
     lines: &[SizeLine],
@@ -131,6 +164,7 @@ fn problem_of(
 {
     let sizes = sizes_of_tracks(alloc, lines, &tracks)?;
     let window = window_of(settings, &tracks);
+    warn_of_tracks(alloc, gate, &tracks, window, lines);
     let threshold = settings.threshold * 1_000_000_000;
     make_problem(tracks, sizes, window, threshold, settings.limits)
 }

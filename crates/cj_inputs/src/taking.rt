@@ -21,16 +21,17 @@ use crate::progress::Progress;
 use crate::reading::InputError;
 use crate::taken::Taken;
 use cj_base::Limits;
-use cj_io::Folder;
+use cj_io::{Folder, Gate, Stage};
 use cj_track::Track;
 use cj_words::Settings;
 use std::alloc::{AllocError, Global};
 use std::thread::Threads;
 
 /// Reads the files in order, up to the first that is refused or beyond a limit. They are parsed by so many workers.
-pub fn read_tracks<R: Threads + Sync, F: Folder>(
+pub fn read_tracks<R: Threads + Sync, F: Folder, G: Gate + Sync>(
     rt: &R,
     alloc: Global,
+    gate: &G,
     folder: &mut F,
     entries: &[Entry],
     settings: &Settings<'_>,
@@ -51,11 +52,14 @@ pub fn read_tracks<R: Threads + Sync, F: Folder>(
     ensures files { F.files folder.new ≡ F.files folder.old }
     ensures later { F.faults folder.old ≤ F.faults folder.new }
 {
+    gate.begin(Stage::Files, entries.len() as u64);
     let taken = Taken::with_capacity(alloc, entries.len())?;
     let batch = read_batch(alloc, folder, entries, workers, 0)?;
     let mut progress = Progress { taken, batch };
     while progress.taken.tracks.len() < entries.len() {
-        progress = go_on(rt, alloc, folder, progress, entries, settings, workers)?;
+        progress = go_on(
+            rt, alloc, gate, folder, progress, entries, settings, workers,
+        )?;
     }
     drop(progress.batch);
     Ok(progress.taken.tracks)
@@ -63,9 +67,10 @@ pub fn read_tracks<R: Threads + Sync, F: Folder>(
 
 /// Takes the files of the batch and reads the next batch. Several workers parse the one while this thread reads the other; one worker reads no
 /// file behind one that is refused. None is read behind one that could not be.
-fn go_on<'a, R: Threads + Sync, F: Folder>(
+fn go_on<'a, R: Threads + Sync, F: Folder, G: Gate + Sync>(
     rt: &R,
     alloc: Global,
+    gate: &G,
     folder: &mut F,
     progress: Progress<'a>,
     entries: &'a [Entry],
@@ -93,16 +98,19 @@ fn go_on<'a, R: Threads + Sync, F: Folder>(
         batch: Batch { files, stop },
     } = progress;
     if let Some(why) = stop {
-        return Err(first_cause(rt, alloc, taken, &files, why, settings, workers));
+        return Err(first_cause(rt, alloc, gate, taken, &files, why, settings, workers));
     }
     let rest = &entries[taken.tracks.len() + files.len()..];
-    take_and_read(rt, alloc, folder, taken, files, rest, settings, workers)
+    take_and_read(
+        rt, alloc, gate, folder, taken, files, rest, settings, workers,
+    )
 }
 
 /// Why one of these files is not taken, or else why the next was not read.
-fn first_cause<R: Threads + Sync>(
+fn first_cause<R: Threads + Sync, G: Gate + Sync>(
     rt: &R,
     alloc: Global,
+    gate: &G,
     taken: Taken,
     files: &[FileRead<'_>],
     why: InputError,
@@ -112,7 +120,7 @@ fn first_cause<R: Threads + Sync>(
     ensures failed { result ≡ InputError.Failed → why ≡ InputError.Failed }
     ensures told { IsFirstCause settings.now.limits.nodes why (map plain_track taken.tracks.items) (map (said_by settings.now.as_hermite3) files.now) result }
 {
-    match take_files(rt, alloc, taken, files, settings, workers) {
+    match take_files(rt, alloc, gate, taken, files, settings, workers) {
         Ok(all) => {
             drop(all);
             why
@@ -125,9 +133,10 @@ fn first_cause<R: Threads + Sync>(
 }
 
 /// Takes files that were read and reads the first of the rest, as a next batch. One worker lets a file go before it reads the next.
-fn take_and_read<'a, R: Threads + Sync, F: Folder>(
+fn take_and_read<'a, R: Threads + Sync, F: Folder, G: Gate + Sync>(
     rt: &R,
     alloc: Global,
+    gate: &G,
     folder: &mut F,
     taken: Taken,
     files: Vec<FileRead<'_>>,
@@ -151,13 +160,14 @@ fn take_and_read<'a, R: Threads + Sync, F: Folder>(
 {
     if workers < 2 {
         let before = files.len();
-        let taken = take_and_drop(rt, alloc, taken, files, settings, workers)?;
+        let taken = take_and_drop(rt, alloc, gate, taken, files, settings, workers)?;
         let batch = read_batch(alloc, folder, rest, workers, before)?;
         return Ok(Progress { taken, batch });
     }
     let (readings, batch) = parse_and_read(
         rt,
         alloc,
+        gate,
         folder,
         &files,
         rest,
@@ -190,9 +200,10 @@ fn with_batch<'a>(
 }
 
 /// These tracks and those that the files say, up to the first that is refused or beyond a limit. The files are let go.
-fn take_and_drop<R: Threads + Sync>(
+fn take_and_drop<R: Threads + Sync, G: Gate + Sync>(
     rt: &R,
     alloc: Global,
+    gate: &G,
     taken: Taken,
     files: Vec<FileRead<'_>>,
     settings: &Settings<'_>,
@@ -201,15 +212,16 @@ fn take_and_drop<R: Threads + Sync>(
     ensures { Reads ⊥ (λ all. map plain_track all.tracks.items) result
         (tracks_after settings.now.limits.nodes (map plain_track taken.tracks.items) (map (said_by settings.now.as_hermite3) files.entry.items)) }
 {
-    let all = take_files(rt, alloc, taken, &files, settings, workers);
+    let all = take_files(rt, alloc, gate, taken, &files, settings, workers);
     drop(files);
     all
 }
 
 /// These tracks and those that the files say, up to the first that is refused or beyond a limit. So many workers parse them.
-fn take_files<R: Threads + Sync>(
+fn take_files<R: Threads + Sync, G: Gate + Sync>(
     rt: &R,
     alloc: Global,
+    gate: &G,
     taken: Taken,
     files: &[FileRead<'_>],
     settings: &Settings<'_>,
@@ -221,7 +233,7 @@ fn take_files<R: Threads + Sync>(
     take_all(
         alloc,
         taken,
-        parse_files(rt, alloc, files, settings.as_hermite3, workers),
+        parse_files(rt, alloc, gate, files, settings.as_hermite3, workers),
         settings.limits,
     )
 }

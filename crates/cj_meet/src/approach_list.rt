@@ -8,13 +8,15 @@ ghost use Rattle.cj_meet.specs.Encounters.{Describes, groups_in};
 
 use crate::approaching::closest;
 use cj_case::{Closest, Encounter, Leaf, Problem};
+use cj_io::{Gate, Stage};
 use cj_threads::{Nobody, map_parts};
 use std::alloc::{AllocError, Global};
 use std::thread::Threads;
 
-/// The closest approaches of some encounters, one after another.
-fn search_in_turn(
+/// The closest approaches of some encounters, one after another. The gate is told of each.
+fn search_in_turn<G: Gate>(
     alloc: Global,
+    gate: &G,
     problem: &Problem,
     leaves: &[Leaf],
     encounters: &[Encounter],
@@ -26,6 +28,7 @@ fn search_in_turn(
     let mut found = Vec::with_capacity(alloc, encounters.len())?;
     for encounter in encounters {
         found.push(closest(problem, leaves, encounter))?;
+        gate.advance(Stage::Encounters, 1);
     }
     Ok(found)
 }
@@ -48,9 +51,10 @@ const ENCOUNTERS_A_PORTION: usize = 64;
 const PORTIONS: usize = 1000;
 
 /// The closest approaches of some encounters, by as many threads as there are workers: each takes the next portion of them.
-fn search_by_threads<R: Threads + Sync>(
+fn search_by_threads<R: Threads + Sync, G: Gate + Sync>(
     rt: &R,
     alloc: Global,
+    gate: &G,
     problem: &Problem,
     leaves: &[Leaf],
     encounters: &[Encounter],
@@ -64,7 +68,7 @@ fn search_by_threads<R: Threads + Sync>(
     let search = |portion: &[Encounter]| -> Result<Vec<Closest>, AllocError>
         requires { All (Describes (plain_leaves leaves.now)) portion.now × KeepTheirPieces (plain_problem problem.now) (plain_leaves leaves.now) }
         ensures { IfOk result (λ found. AreClosest (plain_problem problem.entry.now) (plain_leaves leaves.entry.now) portion.now found.items) }
-    { search_in_turn(alloc, problem, leaves, portion) };
+    { search_in_turn(alloc, gate, problem, leaves, portion) };
     let found = map_parts(rt, alloc, encounters, size, workers, &Nobody, &search)?;
     in_one(alloc, &found)
 }
@@ -72,9 +76,10 @@ fn search_by_threads<R: Threads + Sync>(
 /// The closest approaches of these encounters of these leaves, in order, searched by so many workers. The only error is want of memory.
 ///
 /// No clause names the workers: what is found is the same, however many there are.
-pub fn closest_approaches<R: Threads + Sync>(
+pub fn closest_approaches<R: Threads + Sync, G: Gate + Sync>(
     rt: &R,
     alloc: Global,
+    gate: &G,
     problem: &Problem,
     leaves: &[Leaf],
     encounters: &[Encounter],
@@ -89,8 +94,17 @@ pub fn closest_approaches<R: Threads + Sync>(
     // Each says what `closest` says of the distance.
     ensures law { OnOk result (All (HasNearest (plain_problem problem.now)) (groups_in (plain_leaves leaves.now) encounters.now)) }
 {
+    gate.begin(Stage::Encounters, encounters.len() as u64);
     if workers < 2 || encounters.len() <= ENCOUNTERS_A_PORTION {
-        return search_in_turn(alloc, problem, leaves, encounters);
+        return search_in_turn(alloc, gate, problem, leaves, encounters);
     }
-    search_by_threads(rt, alloc, problem, leaves, encounters, workers as usize)
+    search_by_threads(
+        rt,
+        alloc,
+        gate,
+        problem,
+        leaves,
+        encounters,
+        workers as usize,
+    )
 }

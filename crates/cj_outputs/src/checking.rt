@@ -14,6 +14,7 @@ ghost use Rattle.cj_outputs.specs.Checks.{AcceptedText, Vouches};
 ghost use Rattle.cj_outputs.specs.Outcome as spec;
 ghost use Rattle.cj_status.specs.Steps.{Gives, ComesBetween};
 
+use crate::differing::tell_differences;
 use crate::reporting::tells_sizes;
 use crate::vouching::accept_report;
 use cj_case::Problem;
@@ -21,7 +22,7 @@ use cj_cert::Certificate;
 use cj_cert_text::{CertFault, read_cert};
 use cj_checker::{Answer, check};
 use cj_inputs::{CheckInputs, prepare_check};
-use cj_io::Folder;
+use cj_io::{Folder, Gate};
 use cj_status::{CertificateCause, Status};
 use cj_words::Checking;
 use std::alloc::Global;
@@ -33,9 +34,10 @@ pub const WORKERS: u32 = 1;
 /// Checks the certificate that is named, and the report, where one is named. It answers an error where the certificate is not accepted for the
 /// files, and where the report is not that of its cells.
 #[tactic(auto, unfolding(crate::specs::Outcome::outputs_checked))]
-pub fn check_certificate<R: Threads + Sync, F: Folder>(
+pub fn check_certificate<R: Threads + Sync, F: Folder, G: Gate + Sync>(
     rt: &R,
     alloc: Global,
+    gate: &G,
     folder: &mut F,
     checking: &Checking,
 ) -> Result<(), Status>
@@ -53,11 +55,12 @@ pub fn check_certificate<R: Threads + Sync, F: Folder>(
         problem,
         certificate,
         report,
-    } = prepare_check(rt, alloc, folder, checking, WORKERS)?;
-    let accepted = accept(alloc, &problem, certificate)?;
+    } = prepare_check(rt, alloc, gate, folder, checking, WORKERS)?;
+    let accepted = accept(alloc, gate, &problem, certificate)?;
     accept_report(
         rt,
         alloc,
+        gate,
         &problem,
         tells_sizes(&checking.settings),
         &accepted.cells,
@@ -65,9 +68,14 @@ pub fn check_certificate<R: Threads + Sync, F: Folder>(
     )
 }
 
-/// Reads a certificate that is accepted for a problem.
+/// Reads a certificate that is accepted for a problem. Of one that is refused the gate is told in what it differs from the problem.
 #[tactic(auto, unfolding(crate::specs::Outcome::accepting))]
-pub fn accept(alloc: Global, problem: &Problem, bytes: Vec<u8>) -> Result<Certificate, Status>
+pub fn accept<G: Gate>(
+    alloc: Global,
+    gate: &G,
+    problem: &Problem,
+    bytes: Vec<u8>,
+) -> Result<Certificate, Status>
     requires { length bytes.items ≤ 1_073_741_824 }
     ensures between { IfErr result ComesBetween }
     ensures read { result ≢ Err Status.ReadFault }
@@ -80,10 +88,13 @@ pub fn accept(alloc: Global, problem: &Problem, bytes: Vec<u8>) -> Result<Certif
     let certificate = read(alloc, bytes)?;
     match check(alloc, problem, &certificate)? {
         Answer::Accepted => Ok(certificate),
-        Answer::Refused { line, cause } => Err(Status::NotAccepted {
-            line,
-            cause: CertificateCause::Refused(cause),
-        }),
+        Answer::Refused { line, cause } => {
+            tell_differences(gate, problem, &certificate, cause);
+            Err(Status::NotAccepted {
+                line,
+                cause: CertificateCause::Refused(cause),
+            })
+        }
     }
 }
 

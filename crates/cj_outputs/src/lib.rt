@@ -5,6 +5,7 @@
 mod catalogues;
 mod checking;
 mod counting;
+mod differing;
 mod findings;
 mod later;
 mod meetings;

@@ -11,6 +11,7 @@ ghost use Rattle.cj_outputs.specs.Meetings.{AreMeetings};
 
 use crate::messages::note_messages;
 use cj_case::{Closest, Encounter, Leaf, Problem};
+use cj_io::Gate;
 use cj_meet::{closest_approaches, encounters};
 use std::alloc::{AllocError, Global};
 use std::thread::Threads;
@@ -27,9 +28,10 @@ pub struct Meetings {
 }
 
 /// The encounters of these leaves of a problem, whose closest approaches so many workers search.
-pub fn find_meetings<R: Threads + Sync>(
+pub fn find_meetings<R: Threads + Sync, G: Gate + Sync>(
     rt: &R,
     alloc: Global,
+    gate: &G,
     problem: &Problem,
     leaves: &[Leaf],
     workers: u32,
@@ -42,7 +44,7 @@ pub fn find_meetings<R: Threads + Sync>(
     ensures nearest { OnOk result (All (HasNearest (plain_problem problem.now)) (encounters_of (plain_leaves leaves.now))) }
 {
     let encounters = encounters(alloc, leaves)?;
-    let closest = closest_approaches(rt, alloc, problem, leaves, &encounters, workers)?;
+    let closest = closest_approaches(rt, alloc, gate, problem, leaves, &encounters, workers)?;
     let messages = note_messages(alloc, problem, &encounters, &closest)?;
     Ok(Meetings {
         encounters,

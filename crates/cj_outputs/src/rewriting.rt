@@ -21,7 +21,7 @@ use cj_case::Problem;
 use cj_cert::Certificate;
 use cj_cert_text::cert_parts;
 use cj_inputs::{CheckInputs, prepare_check};
-use cj_io::{Folder, Shelf};
+use cj_io::{Folder, Gate, Shelf};
 use cj_sieve::kept_pairs;
 use cj_status::Status;
 use cj_words::Checking;
@@ -30,9 +30,10 @@ use std::thread::Threads;
 
 /// The certificate that is named in version 2. It answers an error where the certificate is not accepted for the files.
 #[tactic(auto, unfolding(crate::specs::Outcome::outputs_rewritten))]
-pub fn rewrite_certificate<R: Threads + Sync, F: Folder>(
+pub fn rewrite_certificate<R: Threads + Sync, F: Folder, G: Gate + Sync>(
     rt: &R,
     alloc: Global,
+    gate: &G,
     folder: &mut F,
     checking: &Checking,
 ) -> Result<Certificate, Status>
@@ -51,8 +52,8 @@ pub fn rewrite_certificate<R: Threads + Sync, F: Folder>(
         problem,
         certificate,
         ..
-    } = prepare_check(rt, alloc, folder, checking, WORKERS)?;
-    let accepted = accept(alloc, &problem, certificate)?;
+    } = prepare_check(rt, alloc, gate, folder, checking, WORKERS)?;
+    let accepted = accept(alloc, gate, &problem, certificate)?;
     accepted_later(&problem);
     Ok(renewed(alloc, &problem, accepted)?)
 }

@@ -18,6 +18,7 @@ use crate::checking::WORKERS;
 use crate::meetings::find_meetings;
 use cj_case::{Cell, Leaf, Problem};
 use cj_cert::CellLine;
+use cj_io::Gate;
 use cj_report::report_text;
 use cj_status::{CertificateCause, LimitFault, Status};
 use std::alloc::{AllocError, Global};
@@ -28,9 +29,10 @@ const MAX_CELLS: usize = 4_000_000;
 
 /// Accepts the bytes of a report, where there are any, that are the report of a problem with the encounters of these cells of an accepted
 /// certificate. The report is to tell the sizes, or not.
-pub fn accept_report<R: Threads + Sync>(
+pub fn accept_report<R: Threads + Sync, G: Gate + Sync>(
     rt: &R,
     alloc: Global,
+    gate: &G,
     problem: &Problem,
     with_sizes: bool,
     cells: &[CellLine],
@@ -49,15 +51,16 @@ pub fn accept_report<R: Threads + Sync>(
 {
     match report {
         None => Ok(()),
-        Some(bytes) => accept_bytes(rt, alloc, problem, with_sizes, cells, &bytes),
+        Some(bytes) => accept_bytes(rt, alloc, gate, problem, with_sizes, cells, &bytes),
     }
 }
 
 /// Accepts the bytes that are the report of a problem with the encounters of these cells.
 #[tactic(auto, unfolding(crate::specs::Outcome::report_accepting))]
-fn accept_bytes<R: Threads + Sync>(
+fn accept_bytes<R: Threads + Sync, G: Gate + Sync>(
     rt: &R,
     alloc: Global,
+    gate: &G,
     problem: &Problem,
     with_sizes: bool,
     cells: &[CellLine],
@@ -78,7 +81,7 @@ fn accept_bytes<R: Threads + Sync>(
         }));
     }
     let leaves = leaves_of(alloc, cells)?;
-    let due = report_due(rt, alloc, problem, with_sizes, &leaves)?;
+    let due = report_due(rt, alloc, gate, problem, with_sizes, &leaves)?;
     accept_as(bytes, &due)
 }
 
@@ -109,9 +112,10 @@ fn leaf_of(line: &CellLine) -> Leaf
 }
 
 /// The report of a problem with the encounters of these leaves.
-fn report_due<R: Threads + Sync>(
+fn report_due<R: Threads + Sync, G: Gate + Sync>(
     rt: &R,
     alloc: Global,
+    gate: &G,
     problem: &Problem,
     with_sizes: bool,
     leaves: &[Leaf],
@@ -123,7 +127,7 @@ fn report_due<R: Threads + Sync>(
     ensures spans { HaveExactSpans (plain_leaves leaves.now) }
     ensures nearest { OnOk result (All (HasNearest (plain_problem problem.now)) (encounters_of (plain_leaves leaves.now))) }
 {
-    let met = find_meetings(rt, alloc, problem, leaves, WORKERS)?;
+    let met = find_meetings(rt, alloc, gate, problem, leaves, WORKERS)?;
     report_text(
         alloc,
         problem,

@@ -22,7 +22,7 @@ use crate::refinery::Refinery;
 use crate::run::Run;
 use cj_case::{Cell, Leaf, Problem};
 use cj_cells::{RefineError, leaves_of};
-use cj_io::Gate;
+use cj_io::{Gate, Stage};
 use std::alloc::Global;
 use std::marker::Brand;
 use std::sync::Wait;
@@ -110,8 +110,9 @@ pub fn leaves_by_workers<R: Threads + Wait + Sync, G: Gate + Sync>(
     ensures pieces { OnOk result (All
         (λ s. KeepPieces (plain_problem problem.now) s.a s.b s.first s.last) (list_candidates (plain_problem problem.now))) }
 {
+    gate.begin(Stage::Cells, roots.len() as u64);
     if workers == 1 {
-        return leaves_of(alloc, problem, &roots, limit);
+        return leaves_of(alloc, gate, problem, &roots, limit);
     }
     leaves_by_hands::<Brand, R, G>(rt, alloc, gate, problem, roots, workers, limit)
 }

@@ -23,6 +23,15 @@ fn rest(turn: Turn) {
     }
 }
 
+/// Tells a gate what a turn of a worker came to.
+fn tell<G: Gate>(gate: &G, worker: u32, turn: Turn) {
+    match turn {
+        Turn::Closed => gate.looked(worker, 0, 1),
+        Turn::Split | Turn::Kept => gate.looked(worker, 1, 0),
+        Turn::Idle { live: _ } | Turn::Done | Turn::Halted { why: _ } => {}
+    }
+}
+
 /// Whether a hand takes no turn after one that came to this.
 fn is_last(turn: Turn) -> bool
     ensures done { turn ≡ Done → result ≡ true }
@@ -41,7 +50,7 @@ fn is_last(turn: Turn) -> bool
 
 impl<'p, K: Run> Hand<'p, K> {
     /// A turn, and whether it was the last one. Where it wants memory, it tells the others to stop.
-    fn step(&mut self, alloc: Global, refinery: &Refinery<'p, K>) -> bool
+    fn step<G: Gate>(&mut self, alloc: Global, gate: &G, refinery: &Refinery<'p, K>) -> bool
         requires { IsHandOf refinery.now self.old }
         ensures hand { IsHandOf refinery.now self.new × SameHand self.old self.new }
 
@@ -56,6 +65,7 @@ impl<'p, K: Run> Hand<'p, K> {
         match self.turn(alloc, refinery) {
             Ok(turn) => {
                 rest(turn);
+                tell(gate, self.number(), turn);
                 is_last(turn)
             }
             Err(_) => {
@@ -95,7 +105,7 @@ impl<'p, K: Run> Hand<'p, K> {
         for _ in rt.forever() {
             number = number.saturating_add(1);
             gate.enter(rt, worker, number);
-            if self.step(alloc, refinery) {
+            if self.step(alloc, gate, refinery) {
                 return;
             }
         }

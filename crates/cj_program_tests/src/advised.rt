@@ -2,7 +2,8 @@
 use crate::lines::words;
 use cj_advice::{
     Advice, Cause, EVERY, LimitCause, OPTIONS, VERBS, advice_on, cause_named, cause_of, cause_word,
-    explanation, hint_text, known_causes_text, list_of_causes, nearest_option, range_of,
+    explanation, hint_on_files, hint_text, known_causes_text, list_of_causes, nearest_option,
+    range_of,
 };
 use cj_base::Limits;
 use cj_epoch::EpochFault;
@@ -46,6 +47,7 @@ fn is_told_fitly(advice: &Advice) -> bool {
         && advice.wrong != advice.right
 }
 
+/// `EVERY` has every cause that there is: a clause of `cause_named` says so.
 #[test]
 fn each_cause_has_a_text_of_its_own(rt: HostRuntime) {
     for (place, cause) in EVERY.iter().enumerate() {
@@ -291,48 +293,84 @@ fn each_option_has_its_range(rt: HostRuntime) {
     }
 }
 
-/// Statuses of each kind, and the front of the hint of each.
-fn statuses(alloc: Global) -> Result<Vec<(Status, &'static [u8])>, AllocError> {
-    let file = Name::copy_of(alloc, b"a.oem")?;
-    let large = Name::copy_of(alloc, b"a.oem")?;
-    let header = CertificateCause::Refused(CheckCause::Header);
-    let mut statuses: Vec<(Status, &'static [u8])> = Vec::new(alloc);
-    statuses.push((
-        Status::BadFile {
-            file,
-            line: 14,
-            cause: FileCause::Oem(OemCause::Interpolation),
+/// A status whose fault line tells this cause.
+fn status_of(alloc: Global, cause: Cause) -> Result<Status, AllocError> {
+    let status = match cause {
+        Cause::Words => Status::Usage(UsageFault::Words),
+        Cause::Value => Status::Usage(UsageFault::Value {
+            option: Opt::Threshold,
+        }),
+        Cause::File(cause) => Status::BadFile {
+            file: Name::copy_of(alloc, b"a.oem")?,
+            line: 1,
+            cause,
         },
-        b"hint: the file does not declare HERMITE of degree 3\nhint: --as-hermite3 takes it by the cubic: another curve than the file means\n",
-    ))?;
-    for (line, front) in HEADERS {
-        statuses.push((
-            Status::NotAccepted {
-                line,
-                cause: header,
-            },
-            front,
-        ))?;
+        Cause::Certificate(cause) => Status::NotAccepted { line: 1, cause },
+        Cause::Limit(limit) => Status::Limit(fault_of(alloc, limit)?),
+        Cause::ReadFault => Status::ReadFault,
+        Cause::WriteFault => Status::WriteFault,
+        Cause::OutOfMemory => Status::OutOfMemory,
+    };
+    Ok(status)
+}
+
+fn fault_of(alloc: Global, limit: LimitCause) -> Result<LimitFault, AllocError> {
+    let fault = match limit {
+        LimitCause::Objects => LimitFault::Objects { count: 2001 },
+        LimitCause::FileBytes => LimitFault::FileBytes {
+            file: Name::copy_of(alloc, b"a.oem")?,
+        },
+        LimitCause::Nodes => LimitFault::Nodes { count: 2_000_001 },
+        LimitCause::Window => LimitFault::Window { length: 1 },
+        LimitCause::Slots => LimitFault::Slots { count: 4_000_001 },
+        LimitCause::Cells => LimitFault::Cells { limit: 1 },
+    };
+    Ok(fault)
+}
+
+/// The two lines that tell what is meant and what helps.
+fn lines_of(alloc: Global, means: &str, helps: &str) -> Result<String, AllocError> {
+    format!(in alloc; "hint: {means}\nhint: {helps}\n")
+}
+
+/// Where a value is out of its range, the hint is that of the option; where words are not, and are of the grammar, that of the cause.
+#[test]
+fn each_cause_has_its_hint(rt: HostRuntime) {
+    let alloc = rt.alloc();
+    let words = words(alloc, "screen .").expect(&rt, "no fault");
+    for cause in &EVERY {
+        let status = status_of(alloc, *cause).expect(&rt, "no fault");
+        assert_eq!(rt; cause_of(&status), Some(*cause));
+        let hint = hint_text(alloc, &status, Some(&words)).expect(&rt, "no fault");
+        assert!(rt; is_of_lines(&hint) && fits(&hint), "{cause:?}");
+        let advice = advice_on(*cause).hint();
+        let due = if *cause == Cause::Value {
+            range_of(Opt::Threshold)
+        } else {
+            advice
+        };
+        let due = lines_of(alloc, due.means, due.helps).expect(&rt, "no fault");
+        assert_eq!(rt; hint.as_slice(), due.as_bytes(), "{cause:?}");
     }
-    statuses.push((
-        Status::NotAccepted {
-            line: 12,
-            cause: CertificateCause::Report,
-        },
-        b"hint: the report is not that of",
-    ))?;
-    statuses.push((Status::ReadFault, b"hint: a folder or a file"))?;
-    statuses.push((Status::WriteFault, b"hint: a result could not"))?;
-    statuses.push((Status::OutOfMemory, b"hint: memory ran out\n"))?;
-    statuses.push((
-        Status::Limit(LimitFault::FileBytes { file: large }),
-        b"hint: a file has more bytes",
-    ))?;
-    statuses.push((
-        Status::Limit(LimitFault::Window { length: 1 }),
-        b"hint: the window is longer than fourteen days\n",
-    ))?;
-    Ok(statuses)
+    assert_eq!(rt; cause_of(&Status::Ok), None);
+}
+
+#[test]
+fn behind_several_files_each_cause_is_pointed_to(rt: HostRuntime) {
+    let alloc = rt.alloc();
+    for cause in &EVERY {
+        let status = status_of(alloc, *cause).expect(&rt, "no fault");
+        let hint = hint_on_files(alloc, &status).expect(&rt, "no fault");
+        assert!(rt; is_of_lines(&hint) && fits(&hint), "{cause:?}");
+        assert!(rt; has(&hint, cause_word(*cause)), "{cause:?}");
+    }
+    let cause = Cause::File(FileCause::Oem(OemCause::Epoch(EpochFault::Form)));
+    let status = status_of(alloc, cause).expect(&rt, "no fault");
+    let hint = hint_on_files(alloc, &status).expect(&rt, "no fault");
+    let due = b"hint: these are the first faults of their files; mending one may show another
+hint: conj --explain \"Epoch Form\" says what helps, and so for each
+";
+    assert_eq!(rt; hint.as_slice(), due.as_slice());
 }
 
 const HEADERS: [(u32, &[u8]); 3] = [
@@ -342,18 +380,72 @@ const HEADERS: [(u32, &[u8]); 3] = [
 ];
 
 #[test]
-fn each_end_of_a_run_has_two_lines(rt: HostRuntime) {
-    let alloc = rt.alloc();
-    let statuses = statuses(alloc).expect(&rt, "no fault");
-    for (status, front) in &statuses {
-        let hint = hint_text(alloc, status, None).expect(&rt, "no fault");
-        assert!(rt; hint.starts_with(front), "{status:?}");
-        assert!(rt; is_of_lines(&hint) && fits(&hint), "{status:?}");
-        assert_eq!(rt; hint.split(|b| *b == b'\n').count(), 3, "{status:?}");
-        let cause = cause_of(status);
-        assert!(rt; cause.is_some(), "{status:?}");
+fn a_header_is_told_by_its_line(rt: HostRuntime) {
+    for (line, front) in HEADERS {
+        let status = Status::NotAccepted {
+            line,
+            cause: CertificateCause::Refused(CheckCause::Header),
+        };
+        let hint = hint_text(rt.alloc(), &status, None).expect(&rt, "no fault");
+        assert!(rt; hint.starts_with(front), "{line}");
+        assert!(rt; is_of_lines(&hint) && fits(&hint), "{line}");
+        assert_eq!(rt; hint.split(|b| *b == b'\n').count(), 3, "{line}");
     }
-    assert_eq!(rt; cause_of(&Status::Ok), None);
+}
+
+/// The option behind this one where values are judged: a new option has to be given its place here, or nothing compiles.
+fn option_behind(option: Opt) -> Option<Opt> {
+    match option {
+        Opt::Threshold => Some(Opt::Workers),
+        Opt::Workers => Some(Opt::From),
+        Opt::From => Some(Opt::To),
+        Opt::To => Some(Opt::Suffix),
+        Opt::Suffix => Some(Opt::Cert),
+        Opt::Cert => Some(Opt::Originator),
+        Opt::Originator => Some(Opt::Cells),
+        Opt::Cells => Some(Opt::Seed),
+        Opt::Seed => Some(Opt::Objects),
+        Opt::Objects => Some(Opt::Minutes),
+        Opt::Minutes => Some(Opt::AsHermite3),
+        Opt::AsHermite3 => Some(Opt::Sizes),
+        Opt::Sizes => Some(Opt::CertVersion),
+        Opt::CertVersion => Some(Opt::Report),
+        Opt::Report => Some(Opt::Out),
+        Opt::Out => Some(Opt::CertDir),
+        Opt::CertDir => Some(Opt::Rtn),
+        Opt::Rtn => Some(Opt::Within),
+        Opt::Within => Some(Opt::Warnings),
+        Opt::Warnings => Some(Opt::AllFaults),
+        Opt::AllFaults => None,
+    }
+}
+
+/// The command behind this one; the same of a new command.
+fn verb_behind(verb: Verb) -> Option<Verb> {
+    match verb {
+        Verb::Screen => Some(Verb::Check),
+        Verb::Check => Some(Verb::Generate),
+        Verb::Generate => Some(Verb::Selfrun),
+        Verb::Selfrun => Some(Verb::Rewrite),
+        Verb::Rewrite => Some(Verb::Thin),
+        Verb::Thin => None,
+    }
+}
+
+#[test]
+fn no_option_and_no_command_is_left_out(rt: HostRuntime) {
+    let mut due = Some(Opt::Threshold);
+    for option in &OPTIONS {
+        assert_eq!(rt; due, Some(*option));
+        due = option_behind(*option);
+    }
+    assert_eq!(rt; due, None);
+    let mut due = Some(Verb::Screen);
+    for verb in &VERBS {
+        assert_eq!(rt; due, Some(*verb));
+        due = verb_behind(*verb);
+    }
+    assert_eq!(rt; due, None);
 }
 
 const NOTICES: [(&str, Option<Notice>); 21] = [

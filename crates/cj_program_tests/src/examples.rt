@@ -1,4 +1,6 @@
 //! What each cause shows as refused is refused with it, and what it shows as taken is taken.
+use crate::lines::first_wrong;
+use crate::usage_faults::{BAD_THRESHOLD, WORDS};
 use cj_advice::{Advice, Cause, EVERY, advice_on};
 use cj_formats::{OemCause, SizesCause};
 use cj_oem::{OemFault, read_oem};
@@ -188,5 +190,30 @@ fn what_is_shown_of_sizes_is_refused_with_the_cause(rt: HostRuntime) {
         let text = exchanged(alloc, RADII, &advice_on(*cause)).expect(&rt, "no fault");
         let found = text.and_then(|text| sizes_cause(alloc, &text));
         assert_eq!(rt; found, Some(due));
+    }
+}
+
+/// The command line that stands in an example, without its first word and its end; none where lines of a file stand there.
+fn shown_command(example: &str) -> Option<&str> {
+    example
+        .strip_prefix("conj ")
+        .and_then(|line| line.strip_suffix("\n"))
+}
+
+/// What no run does is refused for its words or a value; what a run refuses is a command line as the one beside it.
+#[test]
+fn command_lines_that_are_shown_are_of_the_grammar_or_not(rt: HostRuntime) {
+    for cause in &EVERY {
+        let advice = advice_on(*cause);
+        let due = match cause {
+            Cause::Words => WORDS,
+            Cause::Value => BAD_THRESHOLD,
+            _ => None,
+        };
+        let shown = (shown_command(advice.wrong), shown_command(advice.right));
+        if let (Some(wrong), Some(right)) = shown {
+            let found = first_wrong(rt.alloc(), &[(wrong, due), (right, None)]);
+            assert_eq!(rt; found.expect(&rt, "no fault"), None, "{cause:?}");
+        }
     }
 }

@@ -3,7 +3,7 @@ use cj_epoch::EpochFault;
 use cj_formats::{CertCause, CheckCause, OemCause, SizesCause};
 use cj_io::Name;
 use cj_kvn::KvnCause;
-use cj_status::{CertificateCause, FileCause, LimitFault, Status, fault_text};
+use cj_status::{CertificateCause, FileCause, LimitFault, Status, fault_text, push_name};
 use std::panic::Expect;
 
 #[test]
@@ -132,4 +132,12 @@ fn other_ends_are_told(rt: HostRuntime) {
         let text = fault_text(rt.alloc(), &status).expect(&rt, "no fault");
         assert_eq!(rt; text.as_slice(), told);
     }
+}
+
+/// A line feed, and the byte behind the last that is printable.
+#[test]
+fn a_name_is_shown_in_printable_bytes(rt: HostRuntime) {
+    let mut text = Vec::from_slice(rt.alloc(), b"of ").expect(&rt, "no fault");
+    push_name(&mut text, b"c\n d\x7f~.oem").expect(&rt, "no fault");
+    assert_eq!(rt; text.as_slice(), b"of c? d?~.oem".as_slice());
 }

@@ -24,10 +24,16 @@ mod other_runs;
 #[cfg(test)]
 mod parts;
 #[cfg(test)]
+mod progress_lines;
+#[cfg(test)]
 mod refused;
 #[cfg(test)]
 mod telling;
 #[cfg(test)]
+mod tellings;
+#[cfg(test)]
 mod usage_faults;
 #[cfg(test)]
 mod versions;
+#[cfg(test)]
+mod warning_lines;

@@ -17,6 +17,7 @@ use crate::results::Results;
 use crate::screening::screen;
 use crate::selfruns::selfrun_catalogue;
 use crate::task::Task;
+use crate::warnings::warn_of_messages;
 use cj_base::Tick;
 use cj_case::Problem;
 use cj_gen::catalogue;
@@ -44,6 +45,7 @@ pub fn find<'w, R: Threads + Wait + Sync, G: Gate + Sync>(
     match task {
         Task::Screen(problem, screening) => {
             let found = find_encounters(rt, alloc, gate, problem, &screening)?;
+            warn_of_messages(gate, &found);
             Ok(Results::Screened(found, Origin::of(&screening, now)))
         }
         Task::Accept => Ok(Results::Checked),

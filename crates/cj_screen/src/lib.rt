@@ -10,5 +10,6 @@ mod screening;
 mod selfruns;
 mod task;
 mod top;
+mod warnings;
 
 pub use top::conj;

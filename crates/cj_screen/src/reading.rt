@@ -11,7 +11,7 @@ ghost use Rattle.cj_status.specs.Steps.{ComesBefore, ComesBetween};
 use crate::task::Task;
 use cj_base::Limits;
 use cj_inputs::{prepare, read_alone};
-use cj_io::Folder;
+use cj_io::{Folder, Gate};
 use cj_outputs::{check_certificate, rewrite_certificate};
 use cj_status::Status;
 use cj_words::{Command, Word, read_command};
@@ -19,9 +19,10 @@ use std::alloc::Global;
 use std::thread::Threads;
 
 /// Reads the words, and the files that they ask for.
-pub fn read_task<'w, R: Threads + Sync, F: Folder>(
+pub fn read_task<'w, R: Threads + Sync, F: Folder, G: Gate + Sync>(
     rt: &R,
     alloc: Global,
+    gate: &G,
     words: &'w [Word],
     folder: &mut F,
 ) -> Result<Task<'w>, Status>
@@ -40,13 +41,14 @@ pub fn read_task<'w, R: Threads + Sync, F: Folder>(
     ensures later { F.faults folder.old ≤ F.faults folder.new }
 {
     let command = read_command(words)?;
-    read_asked(rt, alloc, folder, command)
+    read_asked(rt, alloc, gate, folder, command)
 }
 
 /// Reads the files that a command asks for.
-fn read_asked<'w, R: Threads + Sync, F: Folder>(
+fn read_asked<'w, R: Threads + Sync, F: Folder, G: Gate + Sync>(
     rt: &R,
     alloc: Global,
+    gate: &G,
     folder: &mut F,
     command: Command<'w>,
 ) -> Result<Task<'w>, Status>
@@ -63,21 +65,28 @@ fn read_asked<'w, R: Threads + Sync, F: Folder>(
 {
     match command {
         Command::Screen(screening) => {
-            let problem = prepare(rt, alloc, folder, &screening.settings, screening.workers)?;
+            let problem = prepare(
+                rt,
+                alloc,
+                gate,
+                folder,
+                &screening.settings,
+                screening.workers,
+            )?;
             Ok(Task::Screen(problem, screening))
         }
         Command::Check(checking) => {
-            check_certificate(rt, alloc, folder, &checking)?;
+            check_certificate(rt, alloc, gate, folder, &checking)?;
             Ok(Task::Accept)
         }
         Command::Generate(recipe) => Ok(Task::Make(recipe)),
         Command::Selfrun(selfrun) => Ok(Task::Selfrun(selfrun)),
         Command::Rewrite(checking) => {
-            let certificate = rewrite_certificate(rt, alloc, folder, &checking)?;
+            let certificate = rewrite_certificate(rt, alloc, gate, folder, &checking)?;
             Ok(Task::Renew(certificate))
         }
         Command::Thin(thinning) => {
-            let lone = read_alone(alloc, folder, &thinning, Limits::USUAL)?;
+            let lone = read_alone(alloc, gate, folder, &thinning, Limits::USUAL)?;
             Ok(Task::Thin(lone, thinning))
         }
     }

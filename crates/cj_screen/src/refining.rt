@@ -49,7 +49,7 @@ pub fn refine<R: Threads + Wait + Sync, G: Gate + Sync>(
     ensures refined { IfOk result (AreFoundLeaves (plain_problem problem.now)) }
     ensures ticks { OnOk result (HoldsAllTicks (plain_problem problem.now)) }
 {
-    let candidates = match find_candidates(rt, alloc, problem, workers, cells) {
+    let candidates = match find_candidates(rt, alloc, gate, problem, workers, cells) {
         Ok(candidates) => candidates,
         Err(error) => return Err(refused(error, cells)),
     };

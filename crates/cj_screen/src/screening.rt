@@ -69,7 +69,7 @@ pub fn screen<R: Threads + Wait + Sync, G: Gate + Sync>(
     exact_relatives(&problem);
     let refined = refine(rt, alloc, gate, &problem, workers, cells)?;
     let leaves = refined.leaves.as_slice();
-    let met = find_meetings(rt, alloc, &problem, leaves, workers)?;
+    let met = find_meetings(rt, alloc, gate, &problem, leaves, workers)?;
     let counts = count(&problem, leaves, &met.messages, refined.counted);
     Ok(Findings {
         problem,

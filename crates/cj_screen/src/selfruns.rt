@@ -39,7 +39,7 @@ pub fn selfrun_catalogue<R: Threads + Wait + Sync, G: Gate + Sync>(
     ensures told { Gives ⊥ (λ found. selfrun_in found ∷ []) result (spec.outputs_of_selfrun (plain_selfrun selfrun.now)) }
     ensures found { IfOk result AreFound }
 {
-    let problem = prepare_catalogue(rt, alloc, selfrun)?;
+    let problem = prepare_catalogue(rt, alloc, gate, selfrun)?;
     let found = screen(
         rt,
         alloc,
@@ -56,9 +56,10 @@ pub fn selfrun_catalogue<R: Threads + Wait + Sync, G: Gate + Sync>(
 
 /// The problem of a made-up catalogue: its files are read as those of a folder are.
 #[tactic(auto, unfolding(cj_outputs::specs::Outcome::case_of_selfrun))]
-fn prepare_catalogue<R: Threads + Sync>(
+fn prepare_catalogue<R: Threads + Sync, G: Gate + Sync>(
     rt: &R,
     alloc: Global,
+    gate: &G,
     selfrun: &Selfrun,
 ) -> Result<Problem, Status>
     ensures ends { IfErr result ComesOfSelfrun }
@@ -70,6 +71,7 @@ fn prepare_catalogue<R: Threads + Sync>(
     prepare(
         rt,
         alloc,
+        gate,
         &mut folder,
         &settings_of(selfrun),
         selfrun.workers,

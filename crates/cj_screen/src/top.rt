@@ -93,7 +93,7 @@ pub fn conj<R: Threads + Wait + Sync, F: Folder, S: StreamShelf, G: Gate + Sync>
     ensures folder_later { F.faults folder.old ≤ F.faults folder.new }
     ensures shelf_later { S.faults shelf.old ≤ S.faults shelf.new }
 {
-    match read_task(rt, alloc, words, folder) {
+    match read_task(rt, alloc, gate, words, folder) {
         Ok(task) => end(run(rt, alloc, gate, shelf, task, now)),
         Err(status) => status,
     }

@@ -4,6 +4,8 @@
 #[cfg(test)]
 mod advised;
 #[cfg(test)]
+mod all_faults;
+#[cfg(test)]
 mod catalogues;
 #[cfg(test)]
 mod certificates;
@@ -13,6 +15,8 @@ mod checks;
 mod cuts;
 #[cfg(test)]
 mod damages;
+#[cfg(test)]
+mod differing;
 #[cfg(test)]
 mod directories;
 #[cfg(test)]
@@ -38,6 +42,10 @@ mod selfruns;
 #[cfg(test)]
 mod thinnings;
 #[cfg(test)]
+mod told;
+#[cfg(test)]
 mod versions;
+#[cfg(test)]
+mod warned;
 #[cfg(test)]
 mod workers;

@@ -7,7 +7,7 @@ use crate::scenes::{
 };
 use cj_base::{Limits, Tick};
 use cj_inputs::read_alone;
-use cj_io::{CalmFolder, CalmShelf, FileBytes, MemShelf};
+use cj_io::{CalmFolder, CalmShelf, FileBytes, MemShelf, OpenGate};
 use cj_samples::{HEAD, append_lines};
 use cj_status::fault_text;
 use cj_words::Thinning;
@@ -613,7 +613,13 @@ fn nodes_within(alloc: Global, objects: u32, nodes: u64) -> Result<Vec<u8>, Allo
         as_hermite3: false,
         within: 1,
     };
-    match read_alone(alloc, &mut CalmFolder::new(files), &thinning, limits) {
+    match read_alone(
+        alloc,
+        &OpenGate,
+        &mut CalmFolder::new(files),
+        &thinning,
+        limits,
+    ) {
         Ok(lone) => Ok(format!(in alloc; "{}", lone.nodes)?.into_bytes()),
         Err(status) => fault_text(alloc, &status),
     }

@@ -11,7 +11,7 @@ use std::sync::Wait;
 use std::thread::Threads;
 
 /// The certificate of the two objects at rest in version 2.
-const AT_REST_2: &[u8] = b"CONJ-CERT 2
+pub const AT_REST_2: &[u8] = b"CONJ-CERT 2
 WINDOW 1735689600000000 1735689660000000
 THRESHOLD 5000000000000
 OBJECTS 2

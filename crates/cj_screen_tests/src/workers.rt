@@ -10,7 +10,7 @@ use std::thread;
 use std::thread::Threads;
 
 /// The outputs of the crossing by so many workers, who enter this gate. There is none where the run fails.
-fn outputs_by<R: Threads + Wait + Sync, G: Gate + Sync>(
+pub fn outputs_by<R: Threads + Wait + Sync, G: Gate + Sync>(
     rt: &R,
     alloc: Global,
     workers: u32,
@@ -26,7 +26,7 @@ fn outputs_by<R: Threads + Wait + Sync, G: Gate + Sync>(
 }
 
 /// Whether these are the same outputs in the same order.
-fn are_equal(outputs: &[FileBytes], others: &[FileBytes]) -> bool {
+pub fn are_equal(outputs: &[FileBytes], others: &[FileBytes]) -> bool {
     outputs.len() == others.len()
         && outputs.iter().zip(others).all(|(output, other)| output.name == other.name
             && output.bytes == other.bytes)

@@ -223,8 +223,8 @@ fn push_limit(alloc: Global, text: &mut Vec<u8>, fault: &LimitFault) -> Result<(
     }
 }
 
-/// The name of a file, of which each byte that is not printable is shown as `?`.
-fn push_name(text: &mut Vec<u8>, name: &[u8]) -> Result<(), AllocError>
+/// Appends the name of a file, of which each byte that is not printable is shown as `?`.
+pub fn push_name(text: &mut Vec<u8>, name: &[u8]) -> Result<(), AllocError>
     ensures { OnOk result (text.new.items ≡ text.old.items ++ shown_name name.now) }
 {
     for byte in name {

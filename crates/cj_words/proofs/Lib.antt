@@ -2,3 +2,4 @@ mod DigitLemmas
 mod FrontLemmas
 mod LineLemmas
 mod PlaceLemmas
+mod TellingLemmas

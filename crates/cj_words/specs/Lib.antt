@@ -3,3 +3,4 @@ pub mod Lines
 pub mod Options
 pub mod Places
 pub mod Settings
+pub mod Telling

@@ -4,7 +4,7 @@ use Rattle.std.specs.List.{list_all, before_first, after_first}
 use Rattle.std.specs.Str.{bytes_eq}
 use Rattle.cj_kvn.specs.Lines.{is_equals}
 use Rattle.cj_words.specs.declared.option.Opt.{Opt}
-use Rattle.cj_words.specs.declared.option.Opt.TheVariants.{Threshold, Workers, From, To, Suffix, Cert, Originator, Cells, Seed, Objects, Minutes, AsHermite3, Sizes, CertVersion, Report, Out, CertDir, Rtn, Within}
+use Rattle.cj_words.specs.declared.option.Opt.TheVariants.{Threshold, Workers, From, To, Suffix, Cert, Originator, Cells, Seed, Objects, Minutes, AsHermite3, Sizes, CertVersion, Report, Out, CertDir, Rtn, Within, Warnings, AllFaults}
 use Rattle.cj_words.specs.declared.command.Verb.{Verb}
 use Rattle.cj_words.specs.declared.command.Verb.TheVariants.{Screen, Check, Generate, Selfrun, Rewrite, Thin}
 
@@ -28,6 +28,8 @@ name_of Out = codes "--out"
 name_of CertDir = codes "--cert-dir"
 name_of Rtn = codes "--rtn"
 name_of Within = codes "--within"
+name_of Warnings = codes "--warnings"
+name_of AllFaults = codes "--all-faults"
 
 -- an option on the command line: its name and its value, empty for a flag
 pub record Given : Type 0 where
@@ -37,12 +39,17 @@ pub record Given : Type 0 where
 abbrev pub is_named : Opt → Given → Bool
 is_named option given = bytes_eq given.name (name_of option)
 
+-- the name of an option that says what else is told beside how the run ends; it is a flag
+abbrev pub is_telling_name : List ℕ → Bool
+is_telling_name name = bytes_eq name (name_of Warnings) || bytes_eq name (name_of AllFaults)
+
 -- the name of an option of each command that reads the files of a directory
 abbrev pub is_directory_name : List ℕ → Bool
 is_directory_name name =
     bytes_eq name (name_of Threshold)
     || (bytes_eq name (name_of From)
-    || (bytes_eq name (name_of To) || (bytes_eq name (name_of Suffix) || (bytes_eq name (name_of AsHermite3) || bytes_eq name (name_of Sizes)))))
+    || (bytes_eq name (name_of To) || (bytes_eq name (name_of Suffix) || (bytes_eq name (name_of AsHermite3)
+    || (bytes_eq name (name_of Sizes) || is_telling_name name)))))
 
 -- one of each command that makes up a catalogue
 abbrev pub is_catalogue_name : List ℕ → Bool
@@ -66,7 +73,7 @@ is_name Thin name =
 
 -- the name of a flag: an option that has no value
 abbrev pub is_flag : List ℕ → Bool
-is_flag name = bytes_eq name (name_of AsHermite3) || bytes_eq name (name_of Rtn)
+is_flag name = bytes_eq name (name_of AsHermite3) || (bytes_eq name (name_of Rtn) || is_telling_name name)
 
 -- a word that may stand on its own as a directory or as a value: not empty, and no option
 abbrev pub is_value : List ℕ → Bool
@@ -150,7 +157,9 @@ are_directory_single givens =
     && (is_single To givens
     && (is_single Suffix givens
     && (is_single AsHermite3 givens
-    && is_single Sizes givens))))
+    && (is_single Sizes givens
+    && (is_single Warnings givens
+    && is_single AllFaults givens))))))
 
 -- so does each option of the commands that make up a catalogue
 abbrev pub are_catalogue_single : List Given → Bool

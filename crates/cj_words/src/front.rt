@@ -43,7 +43,14 @@ pub fn front_of(words: &[Word]) -> Option<Front<'_>>
 fn is_flag(name: &[u8]) -> bool
     ensures { result ≡ spec.is_flag name.now }
 {
-    name == option_name(Opt::AsHermite3) || name == option_name(Opt::Rtn)
+    name == option_name(Opt::AsHermite3) || name == option_name(Opt::Rtn) || is_telling(name)
+}
+
+/// Whether it is the name of an option that says what else is told.
+pub fn is_telling(name: &[u8]) -> bool
+    ensures { result ≡ spec.is_telling_name name.now }
+{
+    name == option_name(Opt::Warnings) || name == option_name(Opt::AllFaults)
 }
 
 fn with_next<'w>(name: &'w [u8], words: &'w [Word]) -> Option<Front<'w>>

@@ -6,7 +6,7 @@ ghost use Rattle.cj_words.specs.Options as spec;
 ghost use Rattle.cj_words.specs.Options.{given_of, listed, name_of};
 
 use crate::command::Verb;
-use crate::front::front_of;
+use crate::front::{front_of, is_telling};
 use crate::option::{Opt, option_name};
 use crate::settings::Word;
 
@@ -36,6 +36,8 @@ fn are_directory_single(words: &[Word]) -> bool
         && is_single(words, Opt::Suffix)
         && is_single(words, Opt::AsHermite3)
         && is_single(words, Opt::Sizes)
+        && is_single(words, Opt::Warnings)
+        && is_single(words, Opt::AllFaults)
 }
 
 /// Whether each option of the commands that make up a catalogue does.
@@ -135,6 +137,7 @@ fn is_of_directory(name: &[u8]) -> bool
         || is_named(name, Opt::Suffix)
         || is_named(name, Opt::AsHermite3)
         || is_named(name, Opt::Sizes)
+        || is_telling(name)
 }
 
 /// Whether it is an option of each command that makes up a catalogue.

@@ -12,6 +12,7 @@ mod option;
 mod places;
 mod reading;
 mod settings;
+mod telling;
 mod texts;
 
 pub use command::{Checking, Command, Recipe, Screening, Selfrun, Thinning, Verb};
@@ -22,3 +23,4 @@ pub use line::{Line, line_of, verb_of};
 pub use option::{Opt, UsageFault, option_name};
 pub use places::{Places, places_of};
 pub use settings::{Settings, Word};
+pub use telling::{Telling, telling_of};

@@ -42,6 +42,10 @@ pub enum Opt {
     Rtn,
     /// How far an object with fewer nodes may be from where it was, in metres.
     Within,
+    /// Whether what a person may not have meant is told wherever standard error goes; a flag.
+    Warnings,
+    /// Whether the first fault of each file that is refused is told; a flag.
+    AllFaults,
 }
 
 /// What is wrong with a command line.
@@ -77,5 +81,7 @@ pub fn option_name(option: Opt) -> &'static [u8]
         Opt::CertDir => b"--cert-dir",
         Opt::Rtn => b"--rtn",
         Opt::Within => b"--within",
+        Opt::Warnings => b"--warnings",
+        Opt::AllFaults => b"--all-faults",
     }
 }

@@ -1,4 +1,4 @@
-use Rattle.std.proofs.Common.{◌∙◌, arith}
+use Rattle.std.proofs.Common.{arith}
 use Rattle.cj_case.specs.Problems.{plain_problem}
 use Rattle.cj_candidates.proofs.BoxLemmas.{boxes_there}
 use Rattle.cj_candidates.proofs.slot_boxes.boxes_in_slot.Goals as goal

@@ -22,7 +22,7 @@ use Rattle.cj_candidates.proofs.SlotRunLemmas.{slots_more, counts_more, roots_up
 use Rattle.cj_candidates.proofs.slots_searched.search_in_turn.Goals as goal
 
 pub roots_of_slot-requires-clause-exist : goal.roots_of_slot-requires-clause-exist
-roots_of_slot-requires-clause-exist c =
+roots_of_slot-requires-clause-exist g c =
     let problem = c.args.ground.now.problem.now in
     let case = plain_problem problem in
     let within = pairs_within (λ pair. is_candidate case pair.0 pair.1 c.loop-slot.slot) (length case.tracks) c.in_ok-pairs.pairs.items c.in_ok-pairs.ensures in
@@ -30,7 +30,7 @@ roots_of_slot-requires-clause-exist c =
     (subst (λ (n : ℕ). All (λ pair. pair.b < n) c.in_ok-pairs.pairs.items) (length-map problem.tracks plain_track) within)
 
 pub returns-in_err-roots_of_slot : goal.returns-in_err-roots_of_slot
-returns-in_err-roots_of_slot c =
+returns-in_err-roots_of_slot g c =
     let i = c.loop-slot.invariant in
     let p = err_from_is_err_and c.from_residual-in_err-roots_of_slot.result c.from_residual-in_err-roots_of_slot.ensures.1 in
     let case = plain_problem c.args.ground.now.problem.now in
@@ -46,7 +46,7 @@ returns-in_err-roots_of_slot c =
     })
 
 pub loop-slot-preserved : goal.loop-slot-preserved
-loop-slot-preserved c =
+loop-slot-preserved g c =
     let i = c.loop-slot.invariant in
     let problem = c.args.ground.now.problem.now in
     let case = plain_problem problem in
@@ -70,7 +70,7 @@ loop-slot-preserved c =
     }
 
 pub returns : goal.returns
-returns c =
+returns g c =
     let l = c.loop-slot in
     let i = l.invariant in
     let case = plain_problem c.args.ground.now.problem.now in
@@ -89,16 +89,16 @@ returns c =
     }
 
 pub returns-in_err-hints : goal.returns-in_err-hints
-returns-in_err-hints c =
+returns-in_err-hints g c =
     let p = err_from_is_err_and c.from_residual.result c.from_residual.ensures.1 in
     rw (p.1, p.2) (record { too_many = λ is. absurd cc; found = tt })
 
 pub returns-in_err-pairs : goal.returns-in_err-pairs
-returns-in_err-pairs c =
+returns-in_err-pairs g c =
     let p = err_from_is_err_and c.from_residual-in_err-pairs.result c.from_residual-in_err-pairs.ensures.1 in
     rw (p.1, p.2) (record { too_many = λ is. absurd cc; found = tt })
 
 pub returns-in_err-sort_by_key : goal.returns-in_err-sort_by_key
-returns-in_err-sort_by_key c =
+returns-in_err-sort_by_key g c =
     let p = err_from_is_err_and c.from_residual-in_err-sort_by_key.result c.from_residual-in_err-sort_by_key.ensures.1 in
     rw (p.1, p.2) (record { too_many = λ is. absurd cc; found = tt })

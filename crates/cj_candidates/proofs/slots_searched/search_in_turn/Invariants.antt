@@ -5,7 +5,7 @@ use Rattle.cj_candidates.specs.SlotRuns.{roots_over, candidates_over}
 use Rattle.cj_candidates.proofs.slots_searched.search_in_turn.Given as goal
 
 abbrev pub invariant-loop-slot : goal.invariant-loop-slot
-invariant-loop-slot l = record {
+invariant-loop-slot g l = record {
   room : vec_len l.roots ≤ l.limit;
   found : plain_cells l.roots.items ≡ roots_over (plain_problem l.ground.problem.now) l.from (l.slot - l.from);
   counted : l.touching ≡ candidates_over (plain_problem l.ground.problem.now) l.from (l.slot - l.from);

@@ -12,10 +12,10 @@ use Rattle.cj_candidates.proofs.SlotRunLemmas.{candidates_more, roots_more, root
 use Rattle.cj_candidates.proofs.slots_shared.search_some.Goals as goal
 
 pub search_slot-requires-clause-exists : goal.search_slot-requires-clause-exists
-search_slot-requires-clause-exists c = c.requires.exist c.loop-slot.slot-index 0 c.loop-slot-test.true
+search_slot-requires-clause-exists g c = c.requires.exist c.loop-slot.slot-index 0 c.loop-slot-test.true
 
 pub returns-then-not-branch : goal.returns-then-not-branch
-returns-then-not-branch c =
+returns-then-not-branch g c =
     let l = c.loop-slot in
     let new = c.search_slot.new.run in
     let upto = roots_within (plain_problem c.args.ground.now.problem.now) c.args.slots.now l.slot-index 0 c.loop-slot-test.true in
@@ -29,7 +29,7 @@ returns-then-not-branch c =
     }
 
 pub loop-slot-preserved : goal.loop-slot-preserved
-loop-slot-preserved c =
+loop-slot-preserved g c =
     let l = c.loop-slot in
     let i = l.invariant in
     let case = plain_problem c.args.ground.now.problem.now in
@@ -50,7 +50,7 @@ loop-slot-preserved c =
     }
 
 pub returns : goal.returns
-returns c =
+returns g c =
     let l = c.loop-slot in
     let i = l.invariant in
     let case = plain_problem c.args.ground.now.problem.now in

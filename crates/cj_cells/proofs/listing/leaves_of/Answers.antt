@@ -17,13 +17,13 @@ use Rattle.cj_cells.proofs.ListingLemmas.{cells_keep}
 use Rattle.cj_cells.proofs.listing.leaves_of.Goals as goal
 
 pub refine_all-requires : goal.refine_all-requires
-refine_all-requires c =
+refine_all-requires g c =
     let case = plain_problem c.args.problem.now in
     cells_keep (is_candidate case) case c.args.roots.now c.requires
 
 pub returns-clause-value : goal.returns-clause-value
 unfolding list_of
-returns-clause-value c =
+returns-clause-value g c =
     let case = plain_problem c.args.problem.now in
     let same : leaves_of_roots case (roots_of (is_candidate case) case) ≡ leaves_of_roots case (plain_cells c.args.roots.now) =
     ap (leaves_of_roots case) (sym c.requires) in
@@ -31,35 +31,35 @@ returns-clause-value c =
 
 pub returns-clause-too_many : goal.returns-clause-too_many
 unfolding list_of
-returns-clause-too_many c =
+returns-clause-too_many g c =
     let case = plain_problem c.args.problem.now in
     let same : leaves_of_roots case (roots_of (is_candidate case) case) ≡ leaves_of_roots case (plain_cells c.args.roots.now) =
     ap (leaves_of_roots case) (sym c.requires) in
     rw same c.refine_all.ensures.too_many
 
 pub returns-clause-sound : goal.returns-clause-sound
-returns-clause-sound c =
+returns-clause-sound g c =
     let case = plain_problem c.args.problem.now in
     on_ok_weaker c.refine_all.result (λ leaves. let list = list_described case (plain_cells c.args.roots.now) c.requires leaves in list.sound) c.refine_all.ensures.leaves
 
 pub returns-clause-complete : goal.returns-clause-complete
-returns-clause-complete c =
+returns-clause-complete g c =
     let case = plain_problem c.args.problem.now in
     on_ok_weaker c.refine_all.result (λ leaves. let list = list_described case (plain_cells c.args.roots.now) c.requires leaves in list.complete) c.refine_all.ensures.leaves
 
 pub returns-clause-ordered : goal.returns-clause-ordered
-returns-clause-ordered c =
+returns-clause-ordered g c =
     let case = plain_problem c.args.problem.now in
     on_ok_weaker c.refine_all.result (λ leaves. let list = list_described case (plain_cells c.args.roots.now) c.requires leaves in list.ordered) c.refine_all.ensures.leaves
 
 pub returns-clause-pieces : goal.returns-clause-pieces
-returns-clause-pieces c =
+returns-clause-pieces g c =
     let case = plain_problem c.args.problem.now in
     on_ok_weaker c.refine_all.result (λ leaves. let list = list_described case (plain_cells c.args.roots.now) c.requires leaves in list.pieces) c.refine_all.ensures.leaves
 
 pub returns-clause-splits : goal.returns-clause-splits
 unfolding list_of
-returns-clause-splits c = go c.refine_all.result (returns-clause-value c)
+returns-clause-splits g c = go c.refine_all.result (returns-clause-value g c)
   where
     case : PlainProblem
     case = plain_problem c.args.problem.now

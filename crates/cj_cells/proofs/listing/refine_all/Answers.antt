@@ -15,14 +15,14 @@ use Rattle.cj_cells.proofs.listing.refine_all.Goals as goal
 
 pub loop-root-init : goal.loop-root-init
 unfolding leaves_of_roots
-loop-root-init c = record {
+loop-root-init g c = record {
   room = omega (arith, c.new-leaves.ensures.len);
   found = ap plain_leaves c.new-leaves.ensures.items;
   leaves = λ k d lt. absurd (omega arith);
 }
 
 pub returns-in_err-refine-clause-too_many : goal.returns-in_err-refine-clause-too_many
-returns-in_err-refine-clause-too_many c =
+returns-in_err-refine-clause-too_many g c =
     let i = c.loop-root.invariant in
     let p = err_from_is_err_and c.from_residual.result c.from_residual.ensures.1 in
     let case = plain_problem c.args.problem.now in
@@ -35,7 +35,7 @@ returns-in_err-refine-clause-too_many c =
     rw (p.1, p.2) (λ is. let many = c.in_err-refine.ensures.too_many (error_is _ _ is) in omega (arith, many, count, found, length-map c.loop-root.leaves.items plain_leaf, c.loop-root.leaves.ok.0))
 
 pub loop-root-preserved : goal.loop-root-preserved
-loop-root-preserved c =
+loop-root-preserved g c =
     let i = c.loop-root.invariant in
     let case = plain_problem c.args.problem.now in
     let roots = c.args.roots.now in
@@ -54,13 +54,13 @@ loop-root-preserved c =
     }
 
 pub returns-clause-leaves : goal.returns-clause-leaves
-returns-clause-leaves c =
+returns-clause-leaves g c =
     let i = c.loop-root.invariant in
     let case = plain_problem c.args.problem.now in
     subst (λ (cells : List Cell). All (λ root. Describe case root (leaves_of_root case root)) (plain_cells cells)) (take_all c.loop-root.root-index c.args.roots.now (omega arith)) i.leaves
 
 pub refine-requires : goal.refine-requires
-refine-requires c =
+refine-requires g c =
     let case = plain_problem c.args.problem.now in
     let keep = c.requires c.loop-root.root-index c.root-item.result (omega arith) in
     record {
@@ -69,20 +69,20 @@ refine-requires c =
     }
 
 pub returns-in_err-refine-clause-value : goal.returns-in_err-refine-clause-value
-returns-in_err-refine-clause-value c = IfOk-from_err c.from_residual.result _ c.from_residual.ensures.0
+returns-in_err-refine-clause-value g c = IfOk-from_err c.from_residual.result _ c.from_residual.ensures.0
 
 pub returns-in_err-refine-clause-within : goal.returns-in_err-refine-clause-within
-returns-in_err-refine-clause-within c = IfOk-from_err c.from_residual.result _ c.from_residual.ensures.0
+returns-in_err-refine-clause-within g c = IfOk-from_err c.from_residual.result _ c.from_residual.ensures.0
 
 pub returns-in_err-refine-clause-leaves : goal.returns-in_err-refine-clause-leaves
-returns-in_err-refine-clause-leaves c = IfOk-from_err c.from_residual.result _ c.from_residual.ensures.0
+returns-in_err-refine-clause-leaves g c = IfOk-from_err c.from_residual.result _ c.from_residual.ensures.0
 
 pub returns-clause-value : goal.returns-clause-value
-returns-clause-value c =
+returns-clause-value g c =
     c.loop-root.invariant.found ∙ ap (leaves_of_cells (plain_problem c.args.problem.now)) (take_all c.loop-root.root-index c.args.roots.now (omega arith))
 
 pub returns-clause-within : goal.returns-clause-within
-returns-clause-within c = c.loop-root.invariant.room
+returns-clause-within g c = c.loop-root.invariant.room
 
 pub returns-clause-too_many : goal.returns-clause-too_many
-returns-clause-too_many c is = absurd (no_refusal _ _ is)
+returns-clause-too_many g c is = absurd (no_refusal _ _ is)

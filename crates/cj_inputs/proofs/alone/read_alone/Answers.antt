@@ -23,9 +23,9 @@ use Rattle.cj_inputs.proofs.alone.read_alone.Goals as goal
 
 pub read_each-requires : goal.read_each-requires
 read_each-requires g c = λ k d below.
-    let listed : k < length c.in_ok-entries.entries.items = subst (λ (es : List Entry). k < length es) c.deref-2.ensures.value below in
+    let listed : k < length c.in_ok-entries.entries.items = subst (λ (es : List Entry). k < length es) c.deref-4.ensures.value below in
     let here = c.in_ok-entries.ensures.numbers k d listed in
-    let same = ap (λ (es : List Entry). (get_or es k d).number) c.deref-2.ensures.value in
+    let same = ap (λ (es : List Entry). (get_or es k d).number) c.deref-4.ensures.value in
     let named = ap (λ (ns : List Name). length ns) c.deref.ensures.value in
     omega (arith, here, same, named, c.in_ok-names.ensures.count)
 
@@ -80,7 +80,7 @@ returns-in_err-lone g c =
           let asked = lone_entries limits files thinning c.deref.result.now entries (c.deref.ensures.value ∙ c.in_ok-names.ensures.told files told) c.in_ok-entries.ensures.told in
           let due = readings_alone thinning.as_hermite3 limits.nodes files [] entries in
           let read = subst (λ (some : List Entry). Reads (Rose last now) plain_tracks (Err why) (readings_alone thinning.as_hermite3 limits.nodes files [] some))
-          c.deref-2.ensures.value (c.in_err-lone.ensures.told files (c.names.ensures.files ∙ told)) in
+          c.deref-4.ensures.value (c.in_err-lone.ensures.told files (c.names.ensures.files ∙ told)) in
           subst (λ (d : Result (List PlainTrack) Status). Stops (Rose first now) (input_status why) d) (sym asked)
           (input_ends (Rose first now) plain_tracks why due (reads_wider (Rose last now) (Rose first now) plain_tracks plain_tracks why due since read));
       files = c.read_each.ensures.files ∙ c.names.ensures.files;
@@ -98,7 +98,7 @@ returns g c =
       told = λ files told.
           lone_entries limits files thinning c.deref.result.now entries (c.deref.ensures.value ∙ c.in_ok-names.ensures.told files told) c.in_ok-entries.ensures.told
           ∙ subst (λ (some : List Entry). readings_alone thinning.as_hermite3 limits.nodes files [] some ≡ Ok (plain_tracks c.in_ok-lone.lone))
-          c.deref-2.ensures.value (c.in_ok-lone.ensures.told files (c.names.ensures.files ∙ told));
+          c.deref-4.ensures.value (c.in_ok-lone.ensures.told files (c.names.ensures.files ∙ told));
       files = c.read_each.ensures.files ∙ c.names.ensures.files;
       later = omega (arith, c.read_each.ensures.later, c.names.ensures.later);
     }

@@ -10,12 +10,12 @@ use Rattle.cj_inputs.proofs.StepLemmas.{case_made}
 use Rattle.cj_inputs.proofs.preparing.problem_of.Goals as goal
 
 pub returns-in_err-sizes : goal.returns-in_err-sizes
-returns-in_err-sizes c =
+returns-in_err-sizes g c =
     let p = err_from_is_err_and c.from_residual.result c.from_residual.ensures.1 in
     rw (p.1, p.2) (record { between = tt; told = tt })
 
 pub returns-clause-told : goal.returns-clause-told
-returns-clause-told c =
+returns-clause-told g c =
     let asked = plain_settings c.args.settings.now in
     let window = c.window_of-window in
     let made = case_made asked (map plain_track c.args.tracks.items) (sizes_of c.args.lines.now)

@@ -11,18 +11,18 @@ use Rattle.cj_meet.proofs.ApproachListLemmas.{keep_in, approaches_more, has_near
 use Rattle.cj_meet.proofs.approach_list.search_in_turn.Goals as goal
 
 pub loop-encounter-init : goal.loop-encounter-init
-loop-encounter-init c = record { exact = ap (map some_closest) c.in_ok-found.ensures.items; law = All-nil (HasNearest (plain_problem c.args.problem.now)) }
+loop-encounter-init g c = record { exact = ap (map some_closest) c.in_ok-found.ensures.items; law = All-nil (HasNearest (plain_problem c.args.problem.now)) }
 
 pub closest-requires-clause-described : goal.closest-requires-clause-described
-closest-requires-clause-described c =
+closest-requires-clause-described g c =
     let lt : c.loop-encounter.encounter-index < length c.args.encounters.now = omega arith in
     subst (Describes (plain_leaves c.args.leaves.now)) (sym c.encounter-item.is) (c.requires.described c.loop-encounter.encounter-index c.encounter-item.result lt)
 
 pub closest-requires-clause-pieces : goal.closest-requires-clause-pieces
-closest-requires-clause-pieces c = keep_in (plain_problem c.args.problem.now) (plain_leaves c.args.leaves.now) c.encounter-item.result c.requires.pieces
+closest-requires-clause-pieces g c = keep_in (plain_problem c.args.problem.now) (plain_leaves c.args.leaves.now) c.encounter-item.result c.requires.pieces
 
 pub loop-encounter-preserved : goal.loop-encounter-preserved
-loop-encounter-preserved c =
+loop-encounter-preserved g c =
     let case = plain_problem c.args.problem.now in
     let ss = plain_leaves c.args.leaves.now in
     let es = c.args.encounters.now in
@@ -37,6 +37,6 @@ loop-encounter-preserved c =
     }
 
 pub returns : goal.returns
-returns c =
+returns g c =
     subst (λ (es : List Encounter). AreClosest (plain_problem c.args.problem.now) (plain_leaves c.args.leaves.now) es c.loop-encounter.found.items)
     (take_all c.loop-encounter.encounter-index c.args.encounters.now (omega arith)) c.loop-encounter.invariant

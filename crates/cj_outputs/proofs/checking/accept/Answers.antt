@@ -7,7 +7,7 @@ use Rattle.cj_outputs.proofs.AcceptingLemmas.{accepted_so, refused_so, unreadabl
 use Rattle.cj_outputs.proofs.checking.accept.Goals as goal
 
 pub returns-in-Accepted : goal.returns-in-Accepted
-returns-in-Accepted c =
+returns-in-Accepted g c =
     let certificate = plain_certificate c.in_ok-certificate.certificate in
     let read = c.in_ok-certificate.ensures in
     let checked = c.in_ok-check.ensures in
@@ -29,7 +29,7 @@ returns-in-Accepted c =
     }
 
 pub returns-in-Refused : goal.returns-in-Refused
-returns-in-Refused c = record {
+returns-in-Refused g c = record {
   between = tt;
   read = λ is. absurd cc;
   told = refused_so (plain_problem c.args.problem.now) c.args.bytes.items (plain_certificate c.in_ok-certificate.certificate) _ c.in_ok-certificate.ensures.told
@@ -41,7 +41,7 @@ returns-in-Refused c = record {
 }
 
 pub returns-in_err-certificate : goal.returns-in_err-certificate
-returns-in_err-certificate c =
+returns-in_err-certificate g c =
     let read = c.in_err-certificate.ensures in
     let p = err_from_is_err_and c.from_residual.result c.from_residual.ensures.1 in
     rw (p.1, p.2) (record {
@@ -55,7 +55,7 @@ returns-in_err-certificate c =
     })
 
 pub returns-in_err-check : goal.returns-in_err-check
-returns-in_err-check c =
+returns-in_err-check g c =
     let p = err_from_is_err_and c.from_residual-in_err-check.result c.from_residual-in_err-check.ensures.1 in
     rw (p.1, p.2) (record {
       between = tt;
