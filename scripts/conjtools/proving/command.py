@@ -21,7 +21,8 @@ USAGE = """Proves the programs and the crates that they stand on, and builds the
 
 It runs the gate (`rt ci`) over a copy of the programs' crates without their edits: edits and the crates of tests take most of the gate's
 time and are no part of a program. The gate proves each crate from nothing, as many at a time as there are processors and as memory holds, that one first
-behind which most waits, and takes over what an earlier run on this machine has proved of the same files. Then it builds each program.
+behind which most waits, and takes over what an earlier run on this machine has proved of the same files, where the kit keeps it. Then it builds each
+program.
 The copy stands in the folder for temporary files (TMPDIR).
 
 Each crate that is done is told by a line `done: NAME is proved, K of N crates`, among all that the gate says, with about how many minutes the rest takes
