@@ -1,7 +1,8 @@
 -- Candidates: in each slot the pairs of objects whose shells are not parted and whose boxes touch.
-use Rattle.std.specs.Prelude.{ℕ, Bool, ◌&&◌, List, map, filter, length, Option}
+use Rattle.std.specs.Prelude.{ℕ, Bool, ◌&&◌, not, List, map, filter, length, Option}
 use Rattle.cj_case.specs.PlainProblems.{PlainProblem}
 use Rattle.cj_case.specs.Pairs.{pairs_of}
+use Rattle.cj_case.specs.Unchanged.{is_unchanged}
 use Rattle.cj_case.specs.Slots.{slot_first, slot_last}
 use Rattle.cj_case.specs.declared.shells.Shell.{Shell}
 use Rattle.cj_bezier.specs.Shells.{shell_of, keeps_between}
@@ -31,6 +32,14 @@ candidate_by case shells boxes a b slot = keeps_between case.threshold case.size
 -- by the shells and boxes of its objects
 unfoldable pub is_candidate : PlainProblem → ℕ → ℕ → ℕ → Bool
 is_candidate case = candidate_by case (shells_of case) (boxes_in case)
+
+-- a pair is a candidate of the new case in a slot, and is not unchanged
+unfoldable pub is_candidate_anew : PlainProblem → PlainProblem → ℕ → ℕ → ℕ → Bool
+is_candidate_anew old new a b slot = not (is_unchanged old new (a, b)) && is_candidate new a b slot
+
+-- a pair of the new case is kept, and is unchanged
+abbrev pub is_kept_unchanged : PlainProblem → PlainProblem → ℕ × ℕ → Bool
+is_kept_unchanged old new pair = is_kept new pair && is_unchanged old new pair
 
 -- the pairs that are kept, in order
 abbrev pub pairs_kept : PlainProblem → List (ℕ × ℕ)

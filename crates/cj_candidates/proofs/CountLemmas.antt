@@ -1,5 +1,5 @@
 -- How many pairs there are, and how many of them are candidates.
-use Rattle.std.proofs.Common.{◌≡◌, ℕ, zero, suc, ◌+◌, ◌-◌, ◌*◌, ◌/◌, ◌≤◌, [], ◌∷◌, length, refl, ap, ◌∙◌, arith, length-append}
+use Rattle.std.proofs.Common.{◌≡◌, ℕ, zero, suc, ◌+◌, ◌-◌, ◌*◌, ◌/◌, ◌≤◌, List, [], ◌∷◌, length, refl, ap, ◌∙◌, arith, length-append}
 use Rattle.std.specs.List.{flat_map, range_with_len, sum_by}
 use Rattle.std.proofs.Math.Nat.{mul-suc, suc-mul}
 use Rattle.std.proofs.lemmas.Nat.{column_fits}
@@ -11,6 +11,7 @@ use Rattle.cj_case.specs.Pairs.{pairs_of}
 use Rattle.cj_interval.proofs.RangeLemmas.{range_more}
 use Rattle.cj_case.proofs.PairLemmas.{pairs_from}
 use Rattle.cj_bezier.specs.Candidates.{is_kept, is_candidate, pairs_kept, candidate_pairs}
+use Rattle.cj_candidates.specs.SoughtPairs.{candidates_of}
 
 -- the pairs of the last k of n objects
 rows : (n a k : ℕ) → a + k ≡ n → 2 * length (flat_map (pairs_from n) (range_with_len a k)) + k ≡ k * k
@@ -42,15 +43,16 @@ square_few (suc n) few =
     let square = mul-suc (suc n) n in
     omega arith
 
--- the candidates of a slot are few
-pub candidates_few : (case : PlainProblem) (slot : ℕ) → length case.tracks ≤ 65_535 → length (candidate_pairs case slot) ≤ 4_294_836_225
-candidates_few case slot few =
+-- the candidates of a slot are few, of pairs that are no more than there are
+pub candidates_few : (case : PlainProblem) (sought : List (ℕ × ℕ)) (slot : ℕ) → length sought ≤ length (pairs_of (length case.tracks)) → length case.tracks ≤ 65_535
+    → length (candidates_of case sought slot) ≤ 4_294_836_225
+candidates_few case sought slot fewer few =
     let n = length case.tracks in
-    let all = length-filter (λ pair. is_candidate case pair.0 pair.1 slot) (pairs_of n) in
-    let some = count_by-le-length (λ pair. is_candidate case pair.0 pair.1 slot) (pairs_of n) in
+    let all = length-filter (λ pair. is_candidate case pair.0 pair.1 slot) sought in
+    let some = count_by-le-length (λ pair. is_candidate case pair.0 pair.1 slot) sought in
     let twice = pair_twice n in
     let square = square_few n few in
-    omega arith
+    omega (arith, fewer, all, some, twice, square)
 
 -- one slot more
 pub candidates_more : (case : PlainProblem) (k : ℕ) → sum_by (λ slot. length (candidate_pairs case slot)) (range_with_len 0 (k + 1)) ≡ sum_by (λ slot. length (candidate_pairs case slot)) (range_with_len 0 k) + length (candidate_pairs case k)

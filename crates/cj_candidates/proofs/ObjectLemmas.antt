@@ -3,7 +3,7 @@ use Rattle.std.proofs.Common.{◌≡◌, ℕ, zero, suc, ◌+◌, ◌<◌, ◌�
 use Rattle.std.specs.Prelude.{All, IfSome, IfNone, option_map, option_and_then, slice_get}
 use Rattle.std.proofs.lemmas.List.{take_more, map-append, length-map}
 use Rattle.std.proofs.lemmas.List.Elements.{All-push, All-same, filter_agree}
-use Rattle.cj_interval.proofs.ListLemmas.{Each, Each-weaker, All-from_each, each_from_map}
+use Rattle.cj_interval.proofs.ListLemmas.{Each, Each-weaker, All-from_each, each_from_All, each_from_map}
 use Rattle.cj_base.specs.declared.tick.Window.{Window}
 use Rattle.cj_track.specs.declared.track.Track.{Track}
 use Rattle.cj_track.specs.PlainTracks.{PlainTrack}
@@ -20,8 +20,9 @@ use Rattle.cj_case.specs.declared.shells.Shell.{Shell}
 use Rattle.cj_bezier.specs.Shells.{IsRadiusWithin, keeps_between, shell_of}
 use Rattle.cj_case.specs.Boxes.{PlainBox, plain_boxes, plain_box}
 use Rattle.cj_bezier.specs.SlotBoxes.{IsPlaceIn, box_of, touch_between}
-use Rattle.cj_bezier.specs.Candidates.{boxes_in, is_kept, is_touching, is_candidate, pairs_kept, candidate_pairs, shells_of}
+use Rattle.cj_bezier.specs.Candidates.{boxes_in, is_kept, is_touching, is_candidate, pairs_kept, shells_of}
 use Rattle.cj_bezier.specs.Enclosed.{AreInBoxes, AreInShells, IsInBox, IsInShell}
+use Rattle.cj_candidates.specs.SoughtPairs.{candidates_of}
 use Rattle.cj_candidates.specs.MeasuredObjects.{IsInOwnShell, IsInOwnBox, IsInOwnBoxes}
 
 -- the first so many objects
@@ -110,7 +111,7 @@ in_boxes case all slot i e lt is =
 
 -- ---- pairs that pass two tests
 
-filter_both : (p q : ℕ × ℕ → Bool) (ps : List (ℕ × ℕ)) → filter q (filter p ps) ≡ filter (λ pair. p pair && q pair) ps
+pub filter_both : (p q : ℕ × ℕ → Bool) (ps : List (ℕ × ℕ)) → filter q (filter p ps) ≡ filter (λ pair. p pair && q pair) ps
 filter_both p q [] = refl
 filter_both p q (pair ∷ ps) = go (filter_both p q ps) (p pair)
   where
@@ -126,23 +127,42 @@ both_orders false true = refl
 both_orders false false = refl
 
 -- the candidates of a slot: of those that touch the ones that are kept
-pub candidate_pairs_is : (case : PlainProblem) (slot n : ℕ) (found touching : List (ℕ × ℕ)) (shells : List (Option Shell)) (boxes : List (Option PlainBox)) (sizes : List ℕ)
-    → n ≡ length case.tracks → shells ≡ shells_of case → boxes ≡ boxes_in case slot → sizes ≡ case.sizes
-    → touching ≡ filter (touch_between case.threshold sizes boxes) (pairs_of n) → found ≡ filter (keeps_between case.threshold sizes shells) touching → found ≡ candidate_pairs case slot
+pub candidates_are : (case : PlainProblem) (sought : List (ℕ × ℕ)) (slot : ℕ) (found touching : List (ℕ × ℕ)) (shells : List (Option Shell)) (sizes : List ℕ)
+    → shells ≡ shells_of case → sizes ≡ case.sizes
+    → touching ≡ filter (is_touching case slot) sought → found ≡ filter (keeps_between case.threshold sizes shells) touching → found ≡ candidates_of case sought slot
 unfolding is_candidate
-candidate_pairs_is case slot n found touching shells boxes sizes count in_shells in_boxes sized near kept =
+candidates_are case sought slot found touching shells sizes in_shells sized near kept =
     kept ∙ ap (filter (keeps_between case.threshold sizes shells)) near
-    ∙ (λ i. filter (keeps_between case.threshold (sized i) (in_shells i)) (filter (touch_between case.threshold (sized i) (in_boxes i)) (pairs_of (count i))))
-    ∙ filter_both (is_touching case slot) (is_kept case) (pairs_of (length case.tracks))
-    ∙ filter_agree (λ pair. is_touching case slot pair && is_kept case pair) (λ pair. is_kept case pair && is_touching case slot pair) (λ pair. both_orders (is_touching case slot pair) (is_kept case pair)) (pairs_of (length case.tracks))
+    ∙ (λ i. filter (keeps_between case.threshold (sized i) (in_shells i)) (filter (is_touching case slot) sought))
+    ∙ filter_both (is_touching case slot) (is_kept case) sought
+    ∙ filter_agree (λ pair. is_touching case slot pair && is_kept case pair) (λ pair. is_kept case pair && is_touching case slot pair) (λ pair. both_orders (is_touching case slot pair) (is_kept case pair)) sought
 
-each_filtered : (P : ℕ × ℕ → Type 0) (p : ℕ × ℕ → Bool) (ps : List (ℕ × ℕ)) → Each P ps → Each P (filter p ps)
+-- those that touch, by whatever stands for sizes and boxes
+pub touching_are : (case : PlainProblem) (slot : ℕ) (found sought some : List (ℕ × ℕ)) (boxes : List (Option PlainBox)) (sizes : List ℕ)
+    → some ≡ sought → boxes ≡ boxes_in case slot → sizes ≡ case.sizes
+    → found ≡ filter (touch_between case.threshold sizes boxes) some → found ≡ filter (is_touching case slot) sought
+touching_are case slot found sought some boxes sizes same in_boxes sized near =
+    near ∙ (λ i. filter (touch_between case.threshold (sized i) (in_boxes i)) (same i))
+
+pub each_filtered : (P : ℕ × ℕ → Type 0) (p : ℕ × ℕ → Bool) (ps : List (ℕ × ℕ)) → Each P ps → Each P (filter p ps)
 each_filtered P p [] e = tt
 each_filtered P p (pair ∷ ps) e = go (each_filtered P p ps e.1) (p pair)
   where
     go : Each P (filter p ps) → (b : Bool) → Each P (cond b (pair ∷ filter p ps) (filter p ps))
     go rest true = (e.0, rest)
     go rest false = rest
+
+-- of pairs of existing objects those that pass a test
+pub passing_exist : (p : ℕ × ℕ → Bool) (n : ℕ) (some : List (ℕ × ℕ)) (pairs : List Pair) → All (λ pair. pair.1 < n) some → map objects_of pairs ≡ filter p some → All (λ pair. pair.b < n) pairs
+passing_exist p n some pairs exist same =
+    All-from_each (λ pair. pair.b < n) pairs
+    (each_from_map (λ (q : ℕ × ℕ). q.1 < n) objects_of pairs
+    (subst (Each (λ (q : ℕ × ℕ). q.1 < n)) (sym same)
+    (each_filtered (λ (q : ℕ × ℕ). q.1 < n) p some (each_from_All (λ (q : ℕ × ℕ). q.1 < n) some exist))))
+
+-- the pairs of a list are of existing objects
+pub unlisted_exist : (n : ℕ) (pairs : List Pair) → All (λ pair. pair.1 < n) (map objects_of pairs) → All (λ pair. pair.b < n) pairs
+unlisted_exist n pairs exist = All-from_each (λ pair. pair.b < n) pairs (each_from_map (λ (q : ℕ × ℕ). q.1 < n) objects_of pairs (each_from_All (λ (q : ℕ × ℕ). q.1 < n) (map objects_of pairs) exist))
 
 -- the pairs that pass a test are of existing objects
 pub pairs_within : (p : ℕ × ℕ → Bool) (n : ℕ) (pairs : List Pair) → map objects_of pairs ≡ filter p (pairs_of n) → All (λ pair. pair.b < n) pairs

@@ -1,3 +1,4 @@
 pub mod Counts
 pub mod MeasuredObjects
 pub mod SlotRuns
+pub mod SoughtPairs

@@ -1,9 +1,11 @@
 -- What is measured of objects, one by one and of all of a list.
-use Rattle.std.specs.Prelude.{◌≡◌, ℕ, ◌<◌, List, Option, map, All}
+use Rattle.std.specs.Prelude.{◌≡◌, ℕ, ◌<◌, List, Option, Some, length, map, option_map, All, slice_get}
 use Rattle.cj_track.specs.declared.track.Track.{Track}
 use Rattle.cj_track.specs.PlainTracks.{PlainTrack}
 use Rattle.cj_track.specs.Tracks.{plain_track}
-use Rattle.cj_case.specs.Slots.{slot_first, slot_last}
+use Rattle.cj_case.specs.declared.measured.Measured.{Measured}
+use Rattle.cj_case.specs.declared.problem.Problem.{Problem}
+use Rattle.cj_case.specs.Slots.{slot_count, slot_first, slot_last}
 use Rattle.cj_case.specs.Tables.{Table}
 use Rattle.cj_case.specs.declared.axis_box.AxisBox.{AxisBox}
 use Rattle.cj_case.specs.declared.shells.Shell.{Shell}
@@ -40,3 +42,21 @@ pub record AreTheirs (tracks : List Track) (first last n : ℕ) (found_shells : 
   pub slots : found_boxes.slots ≡ n
   pub in_shells : All (IsInOwnShell first last) (map plain_track tracks)
   pub in_boxes : All (IsInOwnBoxes first last n) (map plain_track tracks)
+
+-- an object is measured among these at a place: there its shell and its boxes stand, and it is in them
+pub record IsMeasuredAt (e : PlainTrack) (first last n : ℕ) (found : Measured) (p : ℕ) : Type 0 where
+  pub shell : slice_get found.shells.items p ≡ Some (shell_of e first last)
+  pub boxes : option_map plain_boxes (slice_get found.boxes.rows p) ≡ Some (boxes_over e first last n)
+  pub in_shell : IsInOwnShell first last e
+  pub in_boxes : IsInOwnBoxes first last n e
+
+-- they are the shells and boxes of the objects of a problem, and each object is in its own
+abbrev pub AreOfProblem : Problem → Measured → Type 0
+AreOfProblem problem found =
+    AreTheirs problem.tracks problem.window.first.micros problem.window.last.micros (slot_count problem.window.first.micros problem.window.last.micros)
+    found.shells.items found.boxes
+
+-- For each new object the place that it has among old ones, where it has one: there the same stands.
+pub record ArePlaces (old new : List PlainTrack) (places : List (Option ℕ)) : Type 0 where
+  pub long : length places ≡ length new
+  pub same : (i p : ℕ) (e : PlainTrack) → slice_get places i ≡ Some (Some p) → slice_get new i ≡ Some e → slice_get old p ≡ Some e

@@ -7,44 +7,50 @@ use Rattle.cj_case.specs.Cells.{PlainCell, IsRootUpTo}
 use Rattle.cj_hermite.specs.Roots.{roots_in_slot}
 use Rattle.cj_case.specs.declared.cell.Cell.{Cell}
 use Rattle.cj_case.specs.Cells.{plain_cells}
-use Rattle.cj_bezier.specs.Candidates.{candidate_pairs}
 use Rattle.cj_cells.specs.declared.refine_error.RefineError.{RefineError}
 use Rattle.cj_cells.specs.declared.refine_error.RefineError.TheVariants.{TooMany}
 use Rattle.cj_candidates.specs.declared.slot_run.SlotRun.{SlotRun}
 use Rattle.cj_candidates.specs.declared.slot_run.ThreadRun.{ThreadRun}
+use Rattle.cj_candidates.specs.declared.ground.Ground.{Ground}
+use Rattle.cj_candidates.specs.SoughtPairs.{candidates_of, pairs_sought}
+use Rattle.cj_case.specs.Problems.{plain_problem}
 
--- the roots of the candidates in some slots, slot by slot
-abbrev pub roots_at : PlainProblem → List ℕ → List PlainCell
-roots_at case slots = flat_map (λ slot. roots_in_slot case slot (candidate_pairs case slot)) slots
+-- the pairs that are compared there
+abbrev pub sought_in : Ground → List (ℕ × ℕ)
+sought_in known = pairs_sought (plain_problem known.problem.now) known.sought
 
--- how many candidates there are there, summed over the slots
-abbrev pub candidates_at : PlainProblem → List ℕ → ℕ
-candidates_at case slots = sum_by (λ slot. length (candidate_pairs case slot)) slots
+-- the roots of those pairs that are candidates in some slots, slot by slot
+abbrev pub roots_at : PlainProblem → List (ℕ × ℕ) → List ℕ → List PlainCell
+roots_at case sought slots = flat_map (λ slot. roots_in_slot case slot (candidates_of case sought slot)) slots
+
+-- how many of the pairs are candidates there, summed over the slots
+abbrev pub candidates_at : PlainProblem → List (ℕ × ℕ) → List ℕ → ℕ
+candidates_at case sought slots = sum_by (λ slot. length (candidates_of case sought slot)) slots
 
 -- those in so many slots from one on
-abbrev pub roots_over : PlainProblem → ℕ → ℕ → List PlainCell
-roots_over case from count = roots_at case (range_with_len from count)
+abbrev pub roots_over : PlainProblem → List (ℕ × ℕ) → ℕ → ℕ → List PlainCell
+roots_over case sought from count = roots_at case sought (range_with_len from count)
 
-abbrev pub candidates_over : PlainProblem → ℕ → ℕ → ℕ
-candidates_over case from count = candidates_at case (range_with_len from count)
+abbrev pub candidates_over : PlainProblem → List (ℕ × ℕ) → ℕ → ℕ → ℕ
+candidates_over case sought from count = candidates_at case sought (range_with_len from count)
 
 -- these are found, at most so many, and stand in order of pair and tick
-pub record IsFound (case : PlainProblem) (from count limit : ℕ) (run : SlotRun) : Type 0 where
-  pub roots : IsPermutation (roots_over case from count) (plain_cells run.roots.items)
+pub record IsFound (case : PlainProblem) (sought : List (ℕ × ℕ)) (from count limit : ℕ) (run : SlotRun) : Type 0 where
+  pub roots : IsPermutation (roots_over case sought from count) (plain_cells run.roots.items)
   pub ordered : AllPairs IsRootUpTo (plain_cells run.roots.items)
   pub few : vec_len run.roots ≤ limit
-  pub touching : run.touching ≡ candidates_over case from count
+  pub touching : run.touching ≡ candidates_over case sought from count
 
 -- they are found, or there are more, or memory ran out
-pub record AreSought (case : PlainProblem) (from count limit : ℕ) (result : Result SlotRun RefineError) : Type 0 where
-  pub too_many : IsErrOf result TooMany → limit < length (roots_over case from count)
-  pub found : IfOk result (IsFound case from count limit)
+pub record AreSought (case : PlainProblem) (sought : List (ℕ × ℕ)) (from count limit : ℕ) (result : Result SlotRun RefineError) : Type 0 where
+  pub too_many : IsErrOf result TooMany → limit < length (roots_over case sought from count)
+  pub found : IfOk result (IsFound case sought from count limit)
 
 -- a thread has found these in some slots: all of them, in whatever order, or no more than there are
-pub record IsFoundIn (case : PlainProblem) (slots : List ℕ) (run : ThreadRun) : Type 0 where
-  pub few : length run.roots.items ≤ length (roots_at case slots)
-  pub roots : run.whole ≡ true → IsPermutation (roots_at case slots) (plain_cells run.roots.items)
-  pub touching : run.whole ≡ true → run.touching ≡ min (candidates_at case slots) 18_446_744_073_709_551_615
+pub record IsFoundIn (case : PlainProblem) (sought : List (ℕ × ℕ)) (slots : List ℕ) (run : ThreadRun) : Type 0 where
+  pub few : length run.roots.items ≤ length (roots_at case sought slots)
+  pub roots : run.whole ≡ true → IsPermutation (roots_at case sought slots) (plain_cells run.roots.items)
+  pub touching : run.whole ≡ true → run.touching ≡ min (candidates_at case sought slots) 18_446_744_073_709_551_615
 
 -- the roots of several runs, one run behind another
 abbrev pub roots_listed : List ThreadRun → List Cell
@@ -59,7 +65,7 @@ abbrev pub AreWhole : List ThreadRun → Type 0
 AreWhole runs = list_all (λ run. run.whole) runs ≡ true
 
 -- threads have found these in some slots
-pub record AreFoundIn (case : PlainProblem) (slots : List ℕ) (runs : List ThreadRun) : Type 0 where
-  pub few : length (roots_listed runs) ≤ length (roots_at case slots)
-  pub roots : AreWhole runs → IsPermutation (roots_at case slots) (plain_cells (roots_listed runs))
-  pub touching : AreWhole runs → candidates_counted runs ≡ min (candidates_at case slots) 18_446_744_073_709_551_615
+pub record AreFoundIn (case : PlainProblem) (sought : List (ℕ × ℕ)) (slots : List ℕ) (runs : List ThreadRun) : Type 0 where
+  pub few : length (roots_listed runs) ≤ length (roots_at case sought slots)
+  pub roots : AreWhole runs → IsPermutation (roots_at case sought slots) (plain_cells (roots_listed runs))
+  pub touching : AreWhole runs → candidates_counted runs ≡ min (candidates_at case sought slots) 18_446_744_073_709_551_615

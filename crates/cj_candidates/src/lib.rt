@@ -13,7 +13,11 @@ mod slot_boxes;
 mod slot_run;
 mod slots_searched;
 mod slots_shared;
+mod sought_pairs;
 mod together;
+mod touching;
 
 pub use candidates::Candidates;
-pub use filtering::find_candidates;
+pub use filtering::{
+    find_among, find_candidates, find_wanted, measure_again, measure_all, roots_in_turn,
+};

@@ -1,12 +1,12 @@
 //! The shells and boxes of objects, by several threads that take the next object each.
-ghost use Rattle.std.specs.Prelude.{◌≡◌, ◌<◌, ◌++◌, All, IfOk, OnOk, get_or, length, map};
+ghost use Rattle.std.specs.Prelude.{◌≡◌, ℕ, ◌<◌, ◌++◌, Some, None, All, IfOk, IfSome, OnOk, get_or, length, map, slice_get};
 ghost use Rattle.cj_track.specs.declared.track.Track.{Track};
 ghost use Rattle.cj_track.specs.Tracks.{plain_track};
 ghost use Rattle.cj_bezier.specs.Shells.{shell_of};
 ghost use Rattle.cj_case.specs.Boxes.{plain_boxes};
 ghost use Rattle.cj_bezier.specs.AllBoxes.{boxes_over};
 ghost use Rattle.cj_walk.specs.TrackWalks.{IsWalk};
-ghost use Rattle.cj_candidates.specs.MeasuredObjects.{AreTheirs, IsInOwnBoxes, IsInOwnShell, IsMeasured};
+ghost use Rattle.cj_candidates.specs.MeasuredObjects.{AreTheirs, IsInOwnBoxes, IsInOwnShell, IsMeasured, IsMeasuredAt};
 
 use crate::measured_object::MeasuredObject;
 use cj_base::Window;
@@ -115,5 +115,85 @@ pub fn measure_objects<R: Threads + Sync, G: Gate + Sync>(
     };
     let made = map_dealt(rt, alloc, tracks.len(), workers as usize, &Nobody, &measure)?;
     let objects = all_made(alloc, made)?;
+    in_one(alloc, objects, slots)
+}
+
+/// The shell and the boxes that an object has among those that were measured.
+fn copied(alloc: Global, from: &Measured, object: u32) -> Result<MeasuredObject, AllocError>
+    requires shells { object < length from.now.shells.items }
+    requires boxes { object < length from.now.boxes.rows }
+    ensures shell { IfOk result (λ one. slice_get from.now.shells.items object ≡ Some one.shell) }
+    ensures boxes { IfOk result (λ one. slice_get from.now.boxes.rows object ≡ Some one.boxes.items) }
+{
+    let shell = from.shells[object as usize];
+    let boxes = Vec::from_slice(alloc, from.boxes.of_object(object))?;
+    Ok(MeasuredObject { shell, boxes })
+}
+
+/// An object, which may have a place among those that were measured.
+fn measured_at(
+    alloc: Global,
+    track: &Track,
+    window: Window,
+    slots: u32,
+    from: &Measured,
+    place: Option<u32>,
+) -> Result<MeasuredObject, AllocError>
+    requires { IfSome place (λ p. IsMeasuredAt (plain_track track.now) window.first.micros window.last.micros slots from.now p) }
+    ensures { IfOk result (IsMeasured (plain_track track.now) window.first.micros window.last.micros slots) }
+{
+    match place {
+        Some(place) => copied(alloc, from, place),
+        None => measure_object(alloc, track, window, slots),
+    }
+}
+
+/// The shells of objects in a window, and their boxes in so many of its slots, by as many threads as there are workers. Those that have a place among
+/// objects that were measured are copied from there. The gate is told of each.
+pub fn measure_some<R: Threads + Sync, G: Gate + Sync>(
+    rt: &R,
+    alloc: Global,
+    gate: &G,
+    tracks: &[Track],
+    window: Window,
+    slots: u32,
+    from: &Measured,
+    places: &[Option<u32>],
+    workers: u32,
+) -> Result<Measured, AllocError>
+    requires long { length places.now ≡ length tracks.now }
+    requires measured { (i : ℕ) (d : Track) → i < length tracks.now → IfSome (get_or places.now i None)
+        (λ p. IsMeasuredAt (plain_track (get_or tracks.now i d)) window.first.micros window.last.micros slots from.now p) }
+    ensures { IfOk result (λ all. AreTheirs tracks.now window.first.micros window.last.micros slots all.shells.items all.boxes) }
+{
+    gate.begin(Stage::Objects, tracks.len() as u64);
+    let measure = |object: usize| -> Result<MeasuredObject, AllocError>
+        requires { (object < length tracks.now) × (object < length places.now)
+            × ((d : Track) → IfSome (get_or places.now object None)
+            (λ p. IsMeasuredAt (plain_track (get_or tracks.now object d)) window.first.micros window.last.micros slots from.now p)) }
+        ensures { (d : Track) → IfOk result (IsMeasured (plain_track (get_or tracks.entry.now object d)) window.first.micros window.last.micros slots) }
+    {
+        let made = measured_at(alloc, &tracks[object], window, slots, from, places[object])?;
+        gate.advance(Stage::Objects, 1);
+        Ok(made)
+    };
+    let made = map_dealt(rt, alloc, tracks.len(), workers as usize, &Nobody, &measure)?;
+    let objects = all_made(alloc, made)?;
+    in_one(alloc, objects, slots)
+}
+
+/// The shells of objects and their boxes by the thread that calls, which tells no gate.
+pub fn measure_in_turn(
+    alloc: Global,
+    tracks: &[Track],
+    window: Window,
+    slots: u32,
+) -> Result<Measured, AllocError>
+    ensures { IfOk result (λ all. AreTheirs tracks.now window.first.micros window.last.micros slots all.shells.items all.boxes) }
+{
+    let mut objects = Vec::with_capacity(alloc, tracks.len())?;
+    for track in tracks {
+        objects.push(measure_object(alloc, track, window, slots)?)?;
+    }
     in_one(alloc, objects, slots)
 }

@@ -11,7 +11,7 @@ use std::alloc::{AllocError, Global};
 /// Of the boxes of all objects those in a slot.
 pub fn boxes_in_slot(
     alloc: Global,
-    ground: &Ground<'_>,
+    ground: &Ground<'_, '_>,
     slot: u32,
 ) -> Result<Vec<Option<AxisBox>>, AllocError>
     requires { slot < ground.now.slots }

@@ -1,20 +1,23 @@
 //! The roots of a run of slots: slot by slot, or by several threads.
-ghost use Rattle.std.specs.Prelude.{◌≡◌, ◌+◌, ◌<◌, ◌≤◌, AllPairs, length, map, min, flat_map, IfOk};
+ghost use Rattle.std.specs.Prelude.{◌≡◌, ◌+◌, ◌<◌, ◌≤◌, AllPairs, length, map, min, filter, flat_map, IfOk};
 ghost use Rattle.std.specs.List.{list_all, range_with_len};
 ghost use Rattle.std.specs.List.Sorted.{IsPermutation};
 ghost use Rattle.cj_base.specs.Bounds.{MOST_LEAVES};
 ghost use Rattle.cj_case.specs.Pairs.{objects_of};
 ghost use Rattle.cj_case.specs.Problems.{plain_problem};
-ghost use Rattle.cj_bezier.specs.Candidates.{boxes_in, candidate_pairs};
+ghost use Rattle.cj_bezier.specs.Candidates.{boxes_in, is_touching};
 ghost use Rattle.cj_case.specs.Boxes.{plain_boxes};
 ghost use Rattle.cj_case.specs.Cells.{IsRootUpTo, plain_cells};
-ghost use Rattle.cj_candidates.specs.SlotRuns.{AreSought, candidates_counted, roots_listed};
+ghost use Rattle.cj_candidates.specs.SlotRuns.{AreSought, candidates_counted, roots_listed, sought_in};
+ghost use Rattle.cj_candidates.specs.SoughtPairs.{candidates_of};
 
 use crate::ground::Ground;
 use crate::keeping::kept_of;
 use crate::slot_boxes::boxes_in_slot;
 use crate::slot_run::{SlotRun, ThreadRun};
 use crate::slots_shared::search_together;
+use crate::sought_pairs::Sought;
+use crate::touching::touching_of;
 use cj_case::{AxisBox, Cell, Pair};
 use cj_cells::{RefineError, roots_of_slot};
 use cj_grid::find_touching;
@@ -25,48 +28,69 @@ use cj_threads::{Placed, merge_runs};
 use std::alloc::{AllocError, Global};
 use std::thread::Threads;
 
-/// The candidates of a slot, whose boxes are given: of those whose boxes touch the ones that are kept.
-pub fn candidates_among(
+/// Of the pairs that are sought those whose boxes touch in a slot, where its boxes are given.
+fn touching_among(
     alloc: Global,
-    ground: &Ground<'_>,
+    ground: &Ground<'_, '_>,
     slot: u32,
     boxes: &[Option<AxisBox>],
 ) -> Result<Vec<Pair>, AllocError>
     requires { plain_boxes boxes.now ≡ boxes_in (plain_problem ground.now.problem.now) slot }
-    ensures { IfOk result (λ pairs. map objects_of pairs.items ≡ candidate_pairs (plain_problem ground.now.problem.now) slot) }
+    ensures { IfOk result (λ pairs. map objects_of pairs.items ≡ filter (is_touching (plain_problem ground.now.problem.now) slot) (sought_in ground.now)) }
+{
+    let sizes = ground.problem.sizes.as_slice();
+    let thr = ground.problem.threshold;
+    match ground.sought {
+        Sought::All => find_touching(alloc, boxes, sizes, thr),
+        Sought::These(pairs) => touching_of(alloc, pairs, boxes, sizes, thr),
+    }
+}
+
+/// The candidates of a slot, whose boxes are given: of those whose boxes touch the ones that are kept.
+pub fn candidates_among(
+    alloc: Global,
+    ground: &Ground<'_, '_>,
+    slot: u32,
+    boxes: &[Option<AxisBox>],
+) -> Result<Vec<Pair>, AllocError>
+    requires { plain_boxes boxes.now ≡ boxes_in (plain_problem ground.now.problem.now) slot }
+    ensures { IfOk result (λ pairs. map objects_of pairs.items ≡ candidates_of (plain_problem ground.now.problem.now) (sought_in ground.now) slot) }
 {
     let problem = ground.problem;
-    let sizes = problem.sizes.as_slice();
-    let touching = find_touching(alloc, boxes, sizes, problem.threshold)?;
+    let touching = touching_among(alloc, ground, slot, boxes)?;
     let objects = ShelledObjects {
         shells: &ground.measured.shells,
-        sizes,
+        sizes: problem.sizes.as_slice(),
         thr: problem.threshold,
     };
     kept_of(alloc, &touching, &objects)
 }
 
 /// The candidates of a slot.
-fn candidates_paired(alloc: Global, ground: &Ground<'_>, slot: u32) -> Result<Vec<Pair>, AllocError>
+fn candidates_paired(
+    alloc: Global,
+    ground: &Ground<'_, '_>,
+    slot: u32,
+) -> Result<Vec<Pair>, AllocError>
     requires exists { slot < ground.now.slots }
-    ensures { IfOk result (λ pairs. map objects_of pairs.items ≡ candidate_pairs (plain_problem ground.now.problem.now) slot) }
+    ensures { IfOk result (λ pairs. map objects_of pairs.items ≡ candidates_of (plain_problem ground.now.problem.now) (sought_in ground.now) slot) }
 {
     let here = boxes_in_slot(alloc, ground, slot)?;
     candidates_among(alloc, ground, slot, &here)
 }
 
 /// So many slots from one on, one after another, with at most so many roots. The gate is told of each slot.
-fn search_in_turn<G: Gate>(
+pub fn search_in_turn<G: Gate>(
     alloc: Global,
     gate: &G,
-    ground: &Ground<'_>,
+    ground: &Ground<'_, '_>,
     from: u32,
     count: u32,
     limit: u64,
 ) -> Result<SlotRun, RefineError>
     requires within { from + count ≤ ground.now.slots }
     requires limit { limit ≤ MOST_LEAVES }
-    ensures { AreSought (plain_problem ground.now.problem.now) from count limit result }
+    ensures { AreSought (plain_problem ground.now.problem.now) (sought_in ground.now) from count limit result }
 {
     let problem = ground.problem;
     gate.begin(Stage::Minutes, u64::from(count));
@@ -161,7 +185,7 @@ pub fn search_slots<R: Threads + Sync, G: Gate + Sync>(
     rt: &R,
     alloc: Global,
     gate: &G,
-    ground: &Ground<'_>,
+    ground: &Ground<'_, '_>,
     from: u32,
     count: u32,
     workers: u32,
@@ -169,7 +193,7 @@ pub fn search_slots<R: Threads + Sync, G: Gate + Sync>(
 ) -> Result<SlotRun, RefineError>
     requires within { from + count ≤ ground.now.slots }
     requires limit { limit ≤ MOST_LEAVES }
-    ensures { AreSought (plain_problem ground.now.problem.now) from count limit result }
+    ensures { AreSought (plain_problem ground.now.problem.now) (sought_in ground.now) from count limit result }
 {
     if workers < 2 {
         return search_in_turn(alloc, gate, ground, from, count, limit);

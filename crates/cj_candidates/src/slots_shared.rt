@@ -4,9 +4,9 @@ ghost use Rattle.cj_base.specs.Bounds.{MOST_LEAVES};
 ghost use Rattle.cj_case.specs.Pairs.{objects_of};
 ghost use Rattle.cj_case.specs.Problems.{plain_problem};
 ghost use Rattle.cj_hermite.specs.Roots.{roots_in_slot};
-ghost use Rattle.cj_bezier.specs.Candidates.{candidate_pairs};
 ghost use Rattle.cj_cells.specs.Cells.{added_roots};
-ghost use Rattle.cj_candidates.specs.SlotRuns.{AreFoundIn, IsFoundIn};
+ghost use Rattle.cj_candidates.specs.SlotRuns.{AreFoundIn, IsFoundIn, sought_in};
+ghost use Rattle.cj_candidates.specs.SoughtPairs.{candidates_of};
 
 use crate::crowding::is_crowd;
 use crate::ground::Ground;
@@ -98,7 +98,7 @@ fn append_until_stopped(
 /// Appends what is found in a slot, until the threads are to stop. Whether it has found all.
 fn search_slot(
     alloc: Global,
-    ground: &Ground<'_>,
+    ground: &Ground<'_, '_>,
     slot: u32,
     limit: u64,
     together: &Together,
@@ -109,12 +109,13 @@ fn search_slot(
     requires limit { limit ≤ MOST_LEAVES }
     requires room { vec_len run.old.roots ≤ limit + 1 }
     ensures added { IfOk result (λ whole. whole ≡ true → added_roots run.old.roots.items run.new.roots.items
-        ≡ roots_in_slot (plain_problem ground.now.problem.now) slot (candidate_pairs (plain_problem ground.now.problem.now) slot)) }
+        ≡ roots_in_slot (plain_problem ground.now.problem.now) slot (candidates_of (plain_problem ground.now.problem.now) (sought_in ground.now) slot)) }
     ensures candidate { IfOk result (λ whole. whole ≡ true → run.new.touching
-        ≡ min (run.old.touching + length (candidate_pairs (plain_problem ground.now.problem.now) slot)) 18_446_744_073_709_551_615) }
+        ≡ min (run.old.touching + length (candidates_of (plain_problem ground.now.problem.now) (sought_in ground.now) slot)) 18_446_744_073_709_551_615) }
     ensures room { IfOk result (λ whole. whole ≡ true → vec_len run.new.roots ≤ limit + 1) }
     ensures few { OnOk result (vec_len run.new.roots ≤ vec_len run.old.roots
-        + length (roots_in_slot (plain_problem ground.now.problem.now) slot (candidate_pairs (plain_problem ground.now.problem.now) slot))) }
+        + length (roots_in_slot (plain_problem ground.now.problem.now) slot
+        (candidates_of (plain_problem ground.now.problem.now) (sought_in ground.now) slot))) }
     ensures kept { OnOk result (take (vec_len run.old.roots) run.new.roots.items ≡ run.old.roots.items) }
     ensures stays { run.new.whole ≡ run.old.whole }
 {
@@ -145,14 +146,14 @@ fn search_slot(
 fn search_some<G: Gate>(
     alloc: Global,
     gate: &G,
-    ground: &Ground<'_>,
+    ground: &Ground<'_, '_>,
     slots: &[u32],
     limit: u64,
     together: &Together,
 ) -> Result<ThreadRun, AllocError>
     requires exist { All (λ slot. slot < ground.now.slots) slots.now }
     requires limit { limit ≤ MOST_LEAVES }
-    ensures { IfOk result (IsFoundIn (plain_problem ground.now.problem.now) slots.now) }
+    ensures { IfOk result (IsFoundIn (plain_problem ground.now.problem.now) (sought_in ground.now) slots.now) }
 {
     let mut hints = Hints::new(alloc, ground.problem.tracks.as_slice().len())?;
     let mut run = ThreadRun {
@@ -177,7 +178,7 @@ pub fn search_together<R: Threads + Sync, G: Gate + Sync>(
     rt: &R,
     alloc: Global,
     gate: &G,
-    ground: &Ground<'_>,
+    ground: &Ground<'_, '_>,
     slots: &[u32],
     size: usize,
     workers: u32,
@@ -186,13 +187,13 @@ pub fn search_together<R: Threads + Sync, G: Gate + Sync>(
     requires exist { All (λ slot. slot < ground.now.slots) slots.now }
     requires size { 0 < size }
     requires limit { limit ≤ MOST_LEAVES }
-    ensures { IfOk result (λ runs. AreFoundIn (plain_problem ground.now.problem.now) slots.now runs.items) }
+    ensures { IfOk result (λ runs. AreFoundIn (plain_problem ground.now.problem.now) (sought_in ground.now) slots.now runs.items) }
 {
     gate.begin(Stage::Minutes, slots.len() as u64);
     let together = Together::new();
     let search = |some: &[u32]| -> Result<ThreadRun, AllocError>
         requires { All (λ slot. slot < ground.now.slots) some.now × (limit ≤ MOST_LEAVES) }
-        ensures { IfOk result (IsFoundIn (plain_problem ground.entry.now.problem.now) some.now) }
+        ensures { IfOk result (IsFoundIn (plain_problem ground.entry.now.problem.now) (sought_in ground.entry.now) some.now) }
     { search_some(alloc, gate, ground, some, limit, &together) };
     map_parts(rt, alloc, slots, size, workers as usize, &Nobody, &search)
 }

@@ -10,3 +10,4 @@ pub mod PlainProblems
 pub mod Problems
 pub mod Slots
 pub mod Tables
+pub mod Unchanged

@@ -1,11 +1,12 @@
 -- The one-thread list: its leaves are sound and in order, and hold each common tick of a candidate.
-use Rattle.std.proofs.Common.{◌≡◌, ℕ, ◌+◌, ◌-◌, Bool, true, List, [], ◌∷◌, length, refl, sym, subst, ◌∙◌, arith, length-append}
+use Rattle.std.proofs.Common.{◌≡◌, ℕ, ◌+◌, ◌-◌, Bool, true, List, [], ◌∷◌, length, Some, refl, sym, subst, ◌∙◌, arith, length-append}
 use Rattle.std.specs.Prelude.{All, Any, AllPairs}
 use Rattle.std.specs.List.{flat_map, sum_by}
 use Rattle.std.proofs.lemmas.List.Sums.{sum_by-cons}
 use Rattle.cj_case.specs.PlainProblems.{PlainProblem, threshold_of}
+use Rattle.cj_hermite.specs.Interpolant.{Curve}
 use Rattle.cj_hermite.specs.ObjectsAtTicks.{number_at, curve_at, IsCommonOf}
-use Rattle.cj_bezier.specs.Halving.{leaves_between}
+use Rattle.cj_bezier.specs.Halving.{leaves_between, splits_between}
 use Rattle.cj_case.specs.Slots.{slot_of}
 use Rattle.cj_bezier.specs.Candidates.{is_candidate}
 use Rattle.cj_case.specs.Cells.{PlainCell, IsRootBefore}
@@ -84,28 +85,28 @@ module _ (candidate : ℕ → ℕ → ℕ → Bool) (case : PlainProblem) (leave
   each_described : Each (IsDescribed case) (roots_of candidate case)
   each_described = both_facts case (roots_of candidate case) (Each-roots candidate case) (each_from_All (λ r. Describe case r (leaves_of_root case r)) (roots_of candidate case) leaves)
 
-  list_sound : All (IsSound case) (list_of candidate case)
+  pub list_sound : All (IsSound case) (list_of candidate case)
   unfolding list_of leaves_of_roots
   list_sound =
       All-from_each (IsSound case) (flat_map (leaves_of_root case) (roots_of candidate case))
       (Each-flat_map (IsSound case) (leaves_of_root case) (roots_of candidate case)
       (Each-weaker (IsDescribed case) (λ r. Each (IsSound case) (leaves_of_root case r)) (root_sound case) (roots_of candidate case) each_described))
 
-  list_keeps : All (λ s. KeepPieces case s.a s.b s.first s.last) (list_of candidate case)
+  pub list_keeps : All (λ s. KeepPieces case s.a s.b s.first s.last) (list_of candidate case)
   unfolding list_of leaves_of_roots
   list_keeps =
       All-from_each (λ s. KeepPieces case s.a s.b s.first s.last) (flat_map (leaves_of_root case) (roots_of candidate case))
       (Each-flat_map (λ s. KeepPieces case s.a s.b s.first s.last) (leaves_of_root case) (roots_of candidate case)
       (Each-weaker (IsDescribed case) (λ r. Each (λ s. KeepPieces case s.a s.b s.first s.last) (leaves_of_root case r)) (root_keeps case) (roots_of candidate case) each_described))
 
-  list_ordered : AllPairs IsBefore (list_of candidate case)
+  pub list_ordered : AllPairs IsBefore (list_of candidate case)
   unfolding list_of leaves_of_roots
   list_ordered =
       AllPairs-from_ordered IsBefore (flat_map (leaves_of_root case) (roots_of candidate case))
       (Ordered-flat_map IsBefore IsRootBefore (IsDescribed case) (leaves_of_root case) (root_ordered case) (root_across case)
       (roots_of candidate case) each_described (Ordered-roots candidate case))
 
-  list_has : (a b m : ℕ) → IsCommonOf case a b m → candidate a b (slot_of case.first m) ≡ true → Any (IsTickOf a b m) (list_of candidate case)
+  pub list_has : (a b m : ℕ) → IsCommonOf case a b m → candidate a b (slot_of case.first m) ≡ true → Any (IsTickOf a b m) (list_of candidate case)
   unfolding list_of leaves_of_roots
   list_has a b m common is =
       let numbers = numbers_exist case a b m common.nodes in
@@ -138,6 +139,11 @@ list_described case roots same leaves =
 
 -- ---- how often roots are halved
 
+pub splits_of_two : (case : PlainProblem) (r : PlainCell) (c d : Curve) (thr : ℕ) → curve_at case r.a r.first ≡ Some c → curve_at case r.b r.first ≡ Some d → thr ≡ threshold_of case r.a r.b →
+    splits_of_root case r ≡ splits_between (kind_between c d thr) r.first r.last
+unfolding splits_of_root
+splits_of_two case r c d thr first second e = rw (first, second, e)
+
 root_split : (case : PlainProblem) (r : PlainCell) → IsRootOf case r → length (leaves_of_root case r) ≡ 1 + splits_of_root case r
 unfolding leaves_of_root leaves_between splits_of_root
 root_split case r is = go (curves_of case r.a r.b r.first r.last (root_pieces case r is))
@@ -149,7 +155,7 @@ root_split case r is = go (curves_of case r.a r.b r.first r.last (root_pieces ca
         let second = have.second_curve r.first (omega arith) root.some in
         rw (first, second) (leaves_split (kind_between c d (threshold_of case r.a r.b)) r.a r.b (r.last - r.first) r.first r.last)
 
-roots_split : (case : PlainProblem) (rs : List PlainCell) → Each (IsRootOf case) rs → length (leaves_of_roots case rs) ≡ length rs + sum_by (splits_of_root case) rs
+pub roots_split : (case : PlainProblem) (rs : List PlainCell) → Each (IsRootOf case) rs → length (leaves_of_roots case rs) ≡ length rs + sum_by (splits_of_root case) rs
 unfolding leaves_of_roots
 roots_split case [] are = refl
 roots_split case (r ∷ rs) are =

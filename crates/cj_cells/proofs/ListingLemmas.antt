@@ -5,6 +5,7 @@ use Rattle.std.specs.List.{flat_map, range_with_len}
 use Rattle.std.proofs.lemmas.List.{take_more, map_push, map-append, take-append-drop, drop_more}
 use Rattle.std.proofs.lemmas.List.Concat.{flat_map-append}
 use Rattle.std.proofs.lemmas.List.Elements.{All-push, All-same}
+use Rattle.std.proofs.lemmas.List.Sums.{sum_by-append, sum_by_push}
 use Rattle.cj_case.specs.PlainProblems.{PlainProblem}
 use Rattle.cj_case.specs.declared.cell.Cell.{Cell}
 use Rattle.cj_case.specs.declared.leaf.Leaf.{Leaf}
@@ -15,6 +16,7 @@ use Rattle.cj_hermite.specs.Roots.{KeepPieces, roots_in_slot, roots_of, roots_by
 use Rattle.cj_bezier.specs.Candidates.{is_candidate, candidate_pairs}
 use Rattle.cj_case.specs.Cells.{plain_cell, plain_cells}
 use Rattle.cj_cells.specs.Cells.{added_roots, added_leaves}
+use Rattle.cj_cells.specs.Lists.{looks_of_root, looks_of_roots}
 use Rattle.cj_bezier.specs.RootLeaves.{leaves_of_root, leaves_of_roots}
 use Rattle.cj_interval.proofs.ListLemmas.{Each, Each-weaker, All-from_each, each_from_map}
 use Rattle.cj_interval.proofs.RangeLemmas.{range_more}
@@ -108,6 +110,22 @@ described_more P i cells c lt is all here =
     All-same P (plain_cells (take (i + 1) cells)) (plain_cells (take i cells) ++ plain_cell c ∷ [])
     (ap plain_cells (take_more cells i c lt) ∙ map_push plain_cell (take i cells) (get_or cells i c) ∙ ap (λ (x : Cell). plain_cells (take i cells) ++ plain_cell x ∷ []) (sym is))
     (All-push P (plain_cells (take i cells)) (plain_cell c) all here)
+
+-- how often the first of some cells are looked at, one more, and that this is no more than all
+pub looks_more : (case : PlainProblem) (i : ℕ) (cells : List Cell) (c : Cell) → i < length cells → c ≡ get_or cells i c →
+    looks_of_roots case (plain_cells (take (i + 1) cells)) ≡ looks_of_roots case (plain_cells (take i cells)) + looks_of_root case (plain_cell c)
+looks_more case i cells c lt is =
+    ap (λ (cs : List Cell). looks_of_roots case (plain_cells cs)) (take_more cells i c lt)
+    ∙ ap (looks_of_roots case) (map_push plain_cell (take i cells) (get_or cells i c))
+    ∙ sum_by_push (looks_of_root case) (plain_cells (take i cells)) (plain_cell (get_or cells i c))
+    ∙ ap (λ (x : Cell). looks_of_roots case (plain_cells (take i cells)) + looks_of_root case (plain_cell x)) (sym is)
+
+pub looks_within : (case : PlainProblem) (i : ℕ) (cells : List Cell) → looks_of_roots case (plain_cells (take i cells)) ≤ looks_of_roots case (plain_cells cells)
+looks_within case i cells =
+    let apart = ap (λ (cs : List Cell). looks_of_roots case (plain_cells cs)) (sym (take-append-drop i cells))
+    ∙ ap (looks_of_roots case) (map-append plain_cell (take i cells) (drop i cells))
+    ∙ sum_by-append (looks_of_root case) (plain_cells (take i cells)) (plain_cells (drop i cells)) in
+    omega (arith, apart)
 
 -- the cells of all roots keep their pieces
 pub cells_keep : (candidate : ℕ → ℕ → ℕ → Bool) (case : PlainProblem) (cells : List Cell) → plain_cells cells ≡ roots_of candidate case →

@@ -11,8 +11,9 @@ use Rattle.cj_cells.specs.Cells.{added_leaves}
 use Rattle.cj_hermite.specs.Interpolant.{Curve, IsOver}
 use Rattle.cj_bezier.specs.RootLeaves.{kind_between}
 use Rattle.cj_bezier.proofs.JudgeLemmas.{settled_over}
-use Rattle.cj_bezier.specs.Halving.{middle, closed, leaves_within, leaves_between}
+use Rattle.cj_bezier.specs.Halving.{middle, closed, leaves_within, leaves_between, splits_between}
 use Rattle.cj_bezier.proofs.HalvingLemmas.{HasKind, IsSettled, tiles, two_ticks, leaves-closed, leaves-halved}
+use Rattle.cj_bezier.proofs.LeafLemmas.{leaves_split}
 use Rattle.cj_bezier.specs.Tiles.{Tile}
 
 -- the leaves of the parts that wait, from first on
@@ -174,6 +175,46 @@ pub added_length : (old xs : List Leaf) → take (length old) xs ≡ old → len
 added_length old xs kept =
     let le = old_length old xs kept in
     omega (arith, length-map (drop (length old) xs) plain_leaf, length-drop (length old) xs)
+
+-- ---- how often was looked
+
+-- each part that waits comes to a leaf at least
+rest_waits : (judge : ℕ → ℕ → Option Kind) (a b first : ℕ) (ls : List Tick) → length ls ≤ length (rest judge a b first ls)
+unfolding rest leaves_between
+rest_waits judge a b first [] = omega arith
+rest_waits judge a b first (l ∷ ls) =
+    let later = rest_waits judge a b (l.micros + 1) ls in
+    let here = leaves_split judge a b (l.micros - first) first l.micros in
+    omega (arith, later, here, length-append (leaves_within judge a b (l.micros - first) first l.micros) (rest judge a b (l.micros + 1) ls))
+
+-- a leaf more than there are halvings
+pub one_more : (judge : ℕ → ℕ → Option Kind) (a b first last : ℕ) → length (leaves_between judge a b first last) ≡ 1 + splits_between judge first last
+unfolding leaves_between
+one_more judge a b first last = leaves_split judge a b (last - first) first last
+
+-- each leaf took a look and a halving, and each part that waits a halving
+pub few_looks : (judge : ℕ → ℕ → Option Kind) (a b lo hi first top old new : ℕ) (lasts : List Tick) (done : List PlainLeaf) → top < length lasts →
+    done ++ rest judge a b first (drop top lasts) ≡ leaves_between judge a b lo hi → new ≤ old + (2 * length done + (length lasts - top)) →
+    new ≤ old + (length (leaves_between judge a b lo hi) + splits_between judge lo hi)
+few_looks judge a b lo hi first top old new lasts done lt whole few =
+    let left = rest judge a b first (drop top lasts) in
+    let sum = ap length whole in
+    omega (arith, few, sum, one_more judge a b lo hi, rest_waits judge a b first (drop top lasts), length-drop top lasts, length-append done left)
+
+-- a part that is closed has one look, and is one leaf more; one that is halved has one look, and one part more waits
+pub closed_counted : (old now new top : ℕ) (first xs ys : List Leaf) (leaf : Leaf) → take (length first) xs ≡ first → ys ≡ xs ++ leaf ∷ [] → top < 33 → new ≡ now + 1 →
+    now + 1 ≡ old + (2 * length (added_leaves first xs) + (33 - top)) → new + 1 ≡ old + (2 * length (added_leaves first ys) + (33 - (top + 1)))
+closed_counted old now new top first xs ys leaf kept pushed lt tick counted =
+    let more = ap (λ zs. length (added_leaves first zs)) pushed ∙ ap length (added_more first xs leaf kept) ∙ length-append (added_leaves first xs) (plain_leaf leaf ∷ []) in
+    omega (arith, more, counted, tick, lt)
+
+pub halved_counted : (old now new top done : ℕ) → 1 ≤ top → top < 33 → new ≡ now + 1 → now + 1 ≡ old + (2 * done + (33 - top)) → new + 1 ≡ old + (2 * done + (33 - (top - 1)))
+halved_counted old now new top done some lt tick counted = omega (arith, tick, counted, some, lt)
+
+-- at the end no part waits
+pub all_looks : (judge : ℕ → ℕ → Option Kind) (a b lo hi old new : ℕ) (done : List PlainLeaf) → done ≡ leaves_between judge a b lo hi → new + 1 ≡ old + 2 * length done →
+    new ≡ old + (length (leaves_between judge a b lo hi) + splits_between judge lo hi)
+all_looks judge a b lo hi old new done whole counted = let sum = ap length whole in omega (arith, counted, sum, one_more judge a b lo hi)
 
 -- ---- the same of two interpolants
 

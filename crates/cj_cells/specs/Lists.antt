@@ -1,5 +1,5 @@
 -- The one-thread list: the leaves of all roots, in order.
-use Rattle.std.specs.Prelude.{ℕ, ◌<◌, ◌≤◌, Bool, List, Option, Some, None}
+use Rattle.std.specs.Prelude.{ℕ, ◌+◌, ◌<◌, ◌≤◌, Bool, List, Option, Some, None, length}
 use Rattle.std.specs.List.{sum_by}
 use Rattle.cj_hermite.specs.Interpolant.{Curve}
 use Rattle.cj_case.specs.PlainProblems.{PlainProblem, threshold_of}
@@ -8,8 +8,8 @@ use Rattle.cj_case.specs.Cells.{PlainCell}
 use Rattle.cj_hermite.specs.Roots.{roots_of}
 use Rattle.cj_case.specs.Leaves.{PlainLeaf}
 use Rattle.cj_bezier.specs.Halving.{splits_between}
-use Rattle.cj_bezier.specs.Candidates.{is_candidate}
-use Rattle.cj_bezier.specs.RootLeaves.{kind_between, leaves_of_roots, IsTrueThroughout}
+use Rattle.cj_bezier.specs.Candidates.{is_candidate, is_candidate_anew}
+use Rattle.cj_bezier.specs.RootLeaves.{kind_between, leaves_of_root, leaves_of_roots, IsTrueThroughout}
 
 -- the one-thread list of the candidates
 unfoldable pub list_of : (ℕ → ℕ → ℕ → Bool) → PlainProblem → List PlainLeaf
@@ -40,3 +40,15 @@ splits_of_root case r = splits_of_curves r (threshold_of case r.a r.b) (curve_at
 -- how often the roots of a case are halved
 unfoldable pub splits_of : PlainProblem → ℕ
 splits_of case = sum_by (splits_of_root case) (roots_of (is_candidate case) case)
+
+-- how often a root and its parts are looked at: once for each leaf, and once for each halving
+abbrev pub looks_of_root : PlainProblem → PlainCell → ℕ
+looks_of_root case r = length (leaves_of_root case r) + splits_of_root case r
+
+-- how often several roots and their parts are
+abbrev pub looks_of_roots : PlainProblem → List PlainCell → ℕ
+looks_of_roots case rs = sum_by (looks_of_root case) rs
+
+-- how often the roots of the candidates are that are not unchanged
+unfoldable pub looks_anew : PlainProblem → PlainProblem → ℕ
+looks_anew old new = looks_of_roots new (roots_of (is_candidate_anew old new) new)

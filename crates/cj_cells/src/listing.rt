@@ -9,14 +9,74 @@ ghost use Rattle.cj_bezier.specs.Candidates.{is_candidate};
 ghost use Rattle.cj_hermite.specs.Roots.{KeepPieces, roots_of};
 ghost use Rattle.cj_case.specs.Cells.{plain_cells};
 ghost use Rattle.cj_bezier.specs.RootLeaves.{leaves_of_root, leaves_of_roots, Describe};
-ghost use Rattle.cj_cells.specs.Lists.{list_candidates, splits_of, IsSound};
+ghost use Rattle.cj_cells.specs.Lists.{list_candidates, looks_of_roots, splits_of, IsSound};
 ghost use Rattle.cj_case.specs.Leaves.{IsTickOf};
 
 use crate::refine_error::RefineError;
-use crate::refining::refine;
+use crate::refining::refine_once;
 use cj_case::{Cell, Leaf, Problem};
 use cj_io::{Gate, Stage};
+use cj_steps::Steps;
 use std::alloc::Global;
+use std::marker::Brand;
+use std::sync::ledger::{Blank, Ledger};
+
+/// The leaves of several roots, in order. The gate is told of each root, and each look at a part of one is a step.
+pub fn refine_all_once<L: Ledger, G: Gate>(
+    alloc: Global,
+    gate: &G,
+    problem: &Problem,
+    roots: &[Cell],
+    limit: u64,
+    steps: &mut Steps<L>,
+) -> Result<Vec<Leaf>, RefineError>
+    requires { All (λ cell. KeepPieces (plain_problem problem.now) cell.pair.a cell.pair.b cell.first.micros cell.last.micros) roots.now }
+
+    ensures value { IfOk result (λ leaves. plain_leaves leaves.items ≡ leaves_of_roots (plain_problem problem.now) (plain_cells roots.now)) }
+    ensures within { IfOk result (λ leaves. vec_len leaves ≤ limit) }
+    ensures too_many { IsErrOf result RefineError.TooMany → limit < length (leaves_of_roots (plain_problem problem.now) (plain_cells roots.now)) }
+
+    // The leaves of each root lie in order in it, hold each of its ticks, and each is true at each of its own.
+    ensures leaves { OnOk result (All (λ root. Describe (plain_problem problem.now) root (leaves_of_root (plain_problem problem.now) root)) (plain_cells roots.now)) }
+
+    // A step for each leaf and one for each halving, and no more where it refuses.
+    ensures no_fewer { steps.old ≤ steps.new }
+    ensures steps { OnOk result (steps.new ≡ steps.old + looks_of_roots (plain_problem problem.now) (plain_cells roots.now)) }
+    ensures few_steps { steps.new ≤ steps.old + looks_of_roots (plain_problem problem.now) (plain_cells roots.now) }
+{
+    let mut leaves = Vec::new(alloc);
+    for root in roots {
+        let before = leaves.len();
+        refine_once(alloc, problem, *root, limit, &mut leaves, steps)?;
+        tell(gate, leaves.len().saturating_sub(before) as u64);
+    }
+    Ok(leaves)
+}
+
+/// The same with steps of its own.
+fn refine_all_counted<L: Ledger, G: Gate>(
+    blank: Blank,
+    alloc: Global,
+    gate: &G,
+    problem: &Problem,
+    roots: &[Cell],
+    limit: u64,
+) -> Result<Vec<Leaf>, RefineError>
+    requires name { blank.name ≡ L.name }
+    requires parts { blank.parts ≡ L.parts }
+    requires some { 0 < blank.parts }
+    requires pieces { All (λ cell. KeepPieces (plain_problem problem.now) cell.pair.a cell.pair.b cell.first.micros cell.last.micros) roots.now }
+
+    ensures value { IfOk result (λ leaves. plain_leaves leaves.items ≡ leaves_of_roots (plain_problem problem.now) (plain_cells roots.now)) }
+    ensures within { IfOk result (λ leaves. vec_len leaves ≤ limit) }
+    ensures too_many { IsErrOf result RefineError.TooMany → limit < length (leaves_of_roots (plain_problem problem.now) (plain_cells roots.now)) }
+
+    // The leaves of each root lie in order in it, hold each of its ticks, and each is true at each of its own.
+    ensures leaves { OnOk result (All (λ root. Describe (plain_problem problem.now) root (leaves_of_root (plain_problem problem.now) root)) (plain_cells roots.now)) }
+{
+    let mut steps = Steps::<L>::new(blank);
+    refine_all_once(alloc, gate, problem, roots, limit, &mut steps)
+}
 
 /// The leaves of several roots, in order. The gate is told of each root.
 pub fn refine_all<G: Gate>(
@@ -35,13 +95,7 @@ pub fn refine_all<G: Gate>(
     // The leaves of each root lie in order in it, hold each of its ticks, and each is true at each of its own.
     ensures leaves { OnOk result (All (λ root. Describe (plain_problem problem.now) root (leaves_of_root (plain_problem problem.now) root)) (plain_cells roots.now)) }
 {
-    let mut leaves = Vec::new(alloc);
-    for root in roots {
-        let before = leaves.len();
-        refine(alloc, problem, *root, limit, &mut leaves)?;
-        tell(gate, leaves.len().saturating_sub(before) as u64);
-    }
-    Ok(leaves)
+    refine_all_counted::<Brand, G>(Blank::new(1), alloc, gate, problem, roots, limit)
 }
 
 /// Tells a gate of a root that is done. So many leaves take one halving less.

@@ -1,5 +1,5 @@
 //! The look at a cell of a problem.
-ghost use Rattle.std.specs.Prelude.{◌≡◌};
+ghost use Rattle.std.specs.Prelude.{◌≡◌, ◌+◌};
 ghost use Rattle.cj_case.specs.Problems.{plain_problem};
 ghost use Rattle.cj_bezier.specs.Halves.{AreHalves};
 ghost use Rattle.cj_case.specs.Cells.{plain_cell};
@@ -13,6 +13,8 @@ use crate::preparing::prepare;
 use crate::ready_look::look_at;
 use cj_case::{Cell, Problem};
 use cj_interval::Divisor;
+use cj_steps::Steps;
+use std::sync::ledger::Ledger;
 
 /// How long the pieces of most tracks are: a minute of ticks.
 pub(crate) const USUAL_SPAN: u64 = 60_000_000;
@@ -59,4 +61,16 @@ pub fn look(problem: &Problem, cell: Cell) -> Look
     ensures halved { IfHalves result (AreHalves cell) }
 {
     Looker::new(problem).look(cell)
+}
+
+/// The same, and one step more.
+pub fn look_once<L: Ledger>(problem: &Problem, cell: Cell, steps: &mut Steps<L>) -> Look
+    requires { KeepPieces (plain_problem problem.now) cell.pair.a cell.pair.b cell.first.micros cell.last.micros }
+    ensures kind { kind_found result ≡ kind_of_cell (plain_problem problem.now) (plain_cell cell) }
+    ensures closed { IfClosed result (λ leaf. leaf.cell ≡ cell) }
+    ensures halved { IfHalves result (AreHalves cell) }
+    ensures steps { steps.new ≡ steps.old + 1 }
+{
+    steps.tick();
+    look(problem, cell)
 }

@@ -5,9 +5,9 @@ ghost use Rattle.cj_hermite.specs.Distance.{IsFar};
 ghost use Rattle.cj_bezier.specs.SlotBoxes.{IsPlaceIn, are_touching};
 ghost use Rattle.cj_case.specs.Boxes.{plain_box};
 
-use crate::steps::Steps;
 use cj_bezier::box_touches;
 use cj_case::AxisBox;
+use cj_steps::Steps;
 use std::sync::ledger::Ledger;
 
 /// Whether two boxes are apart by at most a threshold in nm on each axis. It is one step.

@@ -8,8 +8,8 @@ ghost use Rattle.cj_grid.specs.Found.{ShareBucket, AreInOrder, entry_at};
 use crate::box_touch::touches;
 use crate::entries::Entry;
 use crate::slot_objects::SlotObjects;
-use crate::steps::Steps;
 use cj_case::{Pair, threshold_between};
+use cj_steps::Steps;
 use std::alloc::AllocError;
 use std::sync::ledger::Ledger;
 

@@ -12,13 +12,12 @@ mod joined_boxes;
 mod reach;
 mod reaches;
 mod slot_objects;
-mod steps;
 mod sweep;
 mod touching_pairs;
 mod track_box;
 
 pub use box_touch::touches;
 pub use cj_case::AxisBox;
-pub use steps::Steps;
+pub use cj_steps::Steps;
 pub use touching_pairs::{find_touching, touching};
 pub use track_box::slot_box;

@@ -10,8 +10,8 @@ use crate::entries::narrow_objects;
 use crate::reach::Reach;
 use crate::reaches::{Reaches, begun_about, begun_within, lay_out};
 use crate::slot_objects::SlotObjects;
-use crate::steps::Steps;
 use cj_case::Pair;
+use cj_steps::Steps;
 use std::alloc::{AllocError, Global};
 use std::sync::ledger::Ledger;
 

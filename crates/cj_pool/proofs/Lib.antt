@@ -21,5 +21,6 @@ pub mod SortLemmas
 pub mod StationLemmas
 pub mod TakeLemmas
 pub mod TreeLemmas
+pub mod TrueListLemmas
 pub mod TurnLemmas
 pub mod WeightLemmas

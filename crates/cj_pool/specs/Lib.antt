@@ -7,6 +7,7 @@ pub mod RootLists
 pub mod Runs
 pub mod Stations
 pub mod Tree
+pub mod TrueLists
 pub mod Turns
 pub mod Weights
 pub mod Parted

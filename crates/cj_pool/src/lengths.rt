@@ -1,6 +1,8 @@
-//! The interpolants of a problem have lengths.
+//! The interpolants of a problem have lengths, so that its lists are true.
+ghost use Rattle.std.specs.Prelude.{ℕ, Bool};
 ghost use Rattle.cj_case.specs.Problems.{plain_problem};
 ghost use Rattle.cj_hermite.specs.Lengths.{HaveLengths, IsRising};
+ghost use Rattle.cj_pool.specs.TrueLists.{IsTrueList};
 ghost use Rattle.cj_track.specs.Tracks.{plain_track};
 
 use cj_case::Problem;
@@ -22,4 +24,12 @@ pub(crate) fn have_lengths(problem: &Problem)
     for track in problem.tracks.as_slice() {
         rising(track);
     }
+}
+
+/// The one-thread list of a problem is true, by whatever test its candidates are found and whoever finds its leaves: it does nothing else than to look
+/// at the tracks.
+pub fn true_lists(problem: &Problem)
+    ensures { (candidate : ℕ → ℕ → ℕ → Bool) → IsTrueList candidate (plain_problem problem.now) }
+{
+    have_lengths(problem);
 }

@@ -32,7 +32,8 @@ mod work;
 
 pub use crew::run_hands;
 pub use hand::Hand;
-pub use listing::{leaves_by_hands, leaves_by_workers};
+pub use lengths::true_lists;
+pub use listing::{leaves_by_hands, leaves_by_workers, leaves_of_list};
 pub use refined::{FinishError, Refined};
 pub use refinery::Refinery;
 pub use run::Run;

@@ -21,7 +21,7 @@ use crate::refined::FinishError;
 use crate::refinery::Refinery;
 use crate::run::Run;
 use cj_case::{Cell, Leaf, Problem};
-use cj_cells::{RefineError, leaves_of};
+use cj_cells::{RefineError, refine_all};
 use cj_io::{Gate, Stage};
 use std::alloc::Global;
 use std::marker::Brand;
@@ -72,9 +72,38 @@ pub fn leaves_by_hands<K: Run + Send + Sync, R: Threads + Wait + Sync, G: Gate +
     }
 }
 
+/// The leaves of roots in order, by so many workers. Each of several workers calls the gate before each of its turns. One worker takes no turns: it
+/// halves the roots one after another, and enters no gate.
+pub fn leaves_of_list<R: Threads + Wait + Sync, G: Gate + Sync>(
+    rt: &R,
+    alloc: Global,
+    gate: &G,
+    problem: &Problem,
+    roots: Vec<Cell>,
+    workers: u32,
+    limit: u64,
+) -> Result<Vec<Leaf>, RefineError>
+    requires roots { AreRoots (plain_problem problem.now) roots.items }
+    requires few { vec_len roots ≤ limit }
+    requires limit { limit ≤ MOST_LEAVES }
+    requires some { 1 ≤ workers }
+    requires few_workers { workers ≤ 16 }
+
+    ensures value { IfOk result (λ leaves. plain_leaves leaves.items ≡ leaves_of_roots (plain_problem problem.now) (plain_cells roots.items)) }
+    ensures within { IfOk result (λ leaves. vec_len leaves ≤ limit) }
+    ensures too_many { IsErrOf result RefineError.TooMany → limit < length (leaves_of_roots (plain_problem problem.now) (plain_cells roots.items)) }
+    ensures leaves { OnOk result (All
+        (λ root. Describe (plain_problem problem.now) root (leaves_of_root (plain_problem problem.now) root)) (plain_cells roots.items)) }
+{
+    gate.begin(Stage::Cells, roots.len() as u64);
+    if workers == 1 {
+        return refine_all(alloc, gate, problem, &roots, limit);
+    }
+    leaves_by_hands::<Brand, R, G>(rt, alloc, gate, problem, roots, workers, limit)
+}
+
 /// The one-thread list, by so many workers, of the roots of the candidates of each slot, each with its place as its
-/// number. Each of several workers calls the gate before each of its turns. One worker takes no turns: it halves the roots one after
-/// another, and enters no gate.
+/// number.
 pub fn leaves_by_workers<R: Threads + Wait + Sync, G: Gate + Sync>(
     rt: &R,
     alloc: Global,
@@ -110,9 +139,5 @@ pub fn leaves_by_workers<R: Threads + Wait + Sync, G: Gate + Sync>(
     ensures pieces { OnOk result (All
         (λ s. KeepPieces (plain_problem problem.now) s.a s.b s.first s.last) (list_candidates (plain_problem problem.now))) }
 {
-    gate.begin(Stage::Cells, roots.len() as u64);
-    if workers == 1 {
-        return leaves_of(alloc, gate, problem, &roots, limit);
-    }
-    leaves_by_hands::<Brand, R, G>(rt, alloc, gate, problem, roots, workers, limit)
+    leaves_of_list(rt, alloc, gate, problem, roots, workers, limit)
 }

@@ -3,6 +3,7 @@ pub mod Frames
 pub mod Labels
 pub mod Limits
 pub mod Nodes
+pub mod SameTracks
 pub mod Sameness
 pub mod Segments
 pub mod Tracks

@@ -1,22 +1,28 @@
-use Rattle.std.proofs.Common.{ℕ, List, length, ap, subst, ◌∙◌, arith}
+use Rattle.std.proofs.Common.{◌≡◌, ℕ, ◌<◌, Bool, List, length, filter, ap, subst, ◌∙◌, arith}
 use Rattle.std.specs.List.Sorted.{IsPermutation}
 use Rattle.std.proofs.lemmas.List.{length-map}
 use Rattle.std.proofs.lemmas.Result.{err_from_is_err_and}
+use Rattle.cj_case.specs.Pairs.{pairs_of}
 use Rattle.cj_case.specs.Problems.{plain_problem}
 use Rattle.cj_case.specs.Cells.{PlainCell}
 use Rattle.cj_case.specs.Cells.{plain_cell, plain_cells}
-use Rattle.cj_bezier.specs.Candidates.{is_candidate}
-use Rattle.cj_cells.proofs.ListingLemmas.{error_is, by_slot, same_count}
-use Rattle.cj_candidates.specs.SlotRuns.{candidates_over, roots_over}
+use Rattle.cj_hermite.specs.Roots.{slots_of}
+use Rattle.cj_cells.proofs.ListingLemmas.{error_is}
+use Rattle.cj_candidates.specs.SlotRuns.{candidates_over, roots_at, roots_over, sought_in}
+use Rattle.cj_candidates.specs.SoughtPairs.{is_wanted_candidate}
+use Rattle.cj_candidates.proofs.WantedLemmas.{as_many_roots, wanted_by_slot}
 use Rattle.cj_candidates.proofs.filtering.search_all.Goals as goal
 
 pub returns-in_err-found-clause-too_many : goal.returns-in_err-found-clause-too_many
 returns-in_err-found-clause-too_many g c =
-    let case = plain_problem c.args.ground.now.problem.now in
+    let ground = c.args.ground.now in
+    let case = plain_problem ground.problem.now in
     let p = err_from_is_err_and c.from_residual.result c.from_residual.ensures.1 in
-    let all = ap (λ (n : ℕ). length (roots_over case 0 n)) c.args.ground.now.counted in
-    let slots = ap length (by_slot case) in
-    rw (p.1, p.2) (λ is. let many = c.in_err-found.ensures.too_many (error_is _ _ is) in omega (arith, many, all, slots, same_count case))
+    let all = ap (λ (n : ℕ). length (roots_over case (sought_in ground) 0 n)) ground.counted in
+    rw (p.1, p.2) (λ is wanted same.
+    let many = c.in_err-found.ensures.too_many (error_is _ _ is) in
+    let slots = ap length (wanted_by_slot case (sought_in ground) wanted same) in
+    omega (arith, many, all, slots, as_many_roots (is_wanted_candidate wanted case) case))
 
 pub number_roots-requires-clause-few : goal.number_roots-requires-clause-few
 number_roots-requires-clause-few g c = omega (arith, c.in_ok-found.ensures.found.few, c.requires)
@@ -25,11 +31,12 @@ pub number_roots-requires-clause-ordered : goal.number_roots-requires-clause-ord
 number_roots-requires-clause-ordered g c = c.in_ok-found.ensures.found.ordered
 
 pub returns-clause-roots : goal.returns-clause-roots
-returns-clause-roots g c =
-    let case = plain_problem c.args.ground.now.problem.now in
-    c.number_roots.ensures.all (is_candidate case) case
+returns-clause-roots g c = λ wanted same.
+    let ground = c.args.ground.now in
+    let case = plain_problem ground.problem.now in
+    c.number_roots.ensures.all (is_wanted_candidate wanted case) case
     (subst (λ (rs : List PlainCell). IsPermutation rs (plain_cells c.in_ok-found.found.roots.items))
-    (ap (λ (n : ℕ). roots_over case 0 n) c.args.ground.now.counted ∙ by_slot case)
+    (ap (λ (n : ℕ). roots_over case (sought_in ground) 0 n) ground.counted ∙ wanted_by_slot case (sought_in ground) wanted same)
     c.in_ok-found.ensures.found.roots)
 
 pub returns-clause-numbered : goal.returns-clause-numbered
@@ -50,4 +57,4 @@ returns-clause-few g c =
     )
 
 pub returns-clause-touching : goal.returns-clause-touching
-returns-clause-touching g c = c.in_ok-found.ensures.found.touching ∙ ap (candidates_over (plain_problem c.args.ground.now.problem.now) 0) c.args.ground.now.counted
+returns-clause-touching g c = c.in_ok-found.ensures.found.touching ∙ ap (candidates_over (plain_problem c.args.ground.now.problem.now) (sought_in c.args.ground.now) 0) c.args.ground.now.counted

@@ -6,7 +6,8 @@ use Rattle.std.proofs.lemmas.Result.{err_from_is_err_and}
 use Rattle.cj_track.specs.Tracks.{plain_track}
 use Rattle.cj_case.specs.Problems.{plain_problem}
 use Rattle.cj_candidates.specs.declared.slot_run.ThreadRun.{ThreadRun}
-use Rattle.cj_candidates.specs.SlotRuns.{AreFoundIn, roots_at, roots_listed}
+use Rattle.cj_candidates.specs.SlotRuns.{AreFoundIn, roots_at, roots_listed, sought_in}
+use Rattle.cj_candidates.proofs.ListedLemmas.{are_few}
 use Rattle.cj_candidates.proofs.SlotRunLemmas.{all_found, below}
 use Rattle.cj_candidates.proofs.slots_searched.search_slots.Goals as goal
 
@@ -26,9 +27,9 @@ returns g c =
     let size = λ (rs : List ThreadRun). length (roots_listed rs) in
     record {
       too_many = λ is. absurd cc;
-      found = all_found case c.args.from c.args.count c.args.limit runs run
+      found = all_found case (sought_in c.args.ground.now) c.args.from c.args.count c.args.limit runs run (are_few (length case.tracks) (sought_in c.args.ground.now) c.args.ground.now.are_pairs)
           (omega (arith, objects, length-map problem.tracks plain_track)) (omega (arith, c.ranges.count.fits))
-          (subst (λ (slots : List ℕ). AreFoundIn case slots runs) (c.deref.ensures.value ∙ c.in_ok-slots.ensures) c.in_ok-runs.ensures)
+          (subst (λ (slots : List ℕ). AreFoundIn case (sought_in c.args.ground.now) slots runs) (c.deref.ensures.value ∙ c.in_ok-slots.ensures) c.in_ok-runs.ensures)
           (sym (ap (list_all (λ (r : ThreadRun). r.whole)) c.deref-3.ensures.value) ∙ sym c.are_whole.ensures ∙ c.if-not-are_whole.false)
           (omega (arith, c.if-count_of-limit.false, c.count_of.ensures, ap size c.deref-2.ensures.value, c.requires.limit)) told.roots run.roots.ok.0 told.touching told.ordered;
     }
@@ -38,7 +39,7 @@ returns-then-count_of-limit g c =
     let size = λ (rs : List ThreadRun). length (roots_listed rs) in
     let few = c.in_ok-runs.ensures.few in
     let case = plain_problem c.args.ground.now.problem.now in
-    let roots = ap (λ (slots : List ℕ). length (roots_at case slots)) (c.deref.ensures.value ∙ c.in_ok-slots.ensures) in
+    let roots = ap (λ (slots : List ℕ). length (roots_at case (sought_in c.args.ground.now) slots)) (c.deref.ensures.value ∙ c.in_ok-slots.ensures) in
     record {
       too_many = λ is. omega (arith, c.if-count_of-limit.true, c.count_of.ensures, ap size c.deref-2.ensures.value, few, roots);
       found = tt;

@@ -8,7 +8,9 @@ use Rattle.cj_case.specs.Problems.{plain_problem}
 use Rattle.cj_hermite.specs.Roots.{roots_in_slot}
 use Rattle.cj_bezier.specs.Candidates.{is_candidate}
 use Rattle.cj_case.specs.Boxes.{plain_boxes}
-use Rattle.cj_candidates.proofs.ObjectLemmas.{pairs_within}
+use Rattle.cj_candidates.specs.SlotRuns.{sought_in}
+use Rattle.cj_candidates.proofs.ListedLemmas.{are_existing}
+use Rattle.cj_candidates.proofs.ObjectLemmas.{passing_exist}
 use Rattle.cj_candidates.proofs.slots_shared.search_slot.Goals as goal
 
 pub candidates_among-requires : goal.candidates_among-requires
@@ -18,7 +20,7 @@ pub append_until_stopped-requires-clause-exist : goal.append_until_stopped-requi
 append_until_stopped-requires-clause-exist c =
     let problem = c.args.ground.now.problem.now in
     let case = plain_problem problem in
-    let within = pairs_within (λ pair. is_candidate case pair.0 pair.1 c.args.slot) (length case.tracks) c.in_ok-pairs.pairs.items c.in_ok-pairs.ensures in
+    let within = passing_exist (λ pair. is_candidate case pair.0 pair.1 c.args.slot) (length case.tracks) (sought_in c.args.ground.now) c.in_ok-pairs.pairs.items (are_existing (length case.tracks) (sought_in c.args.ground.now) c.args.ground.now.are_pairs) c.in_ok-pairs.ensures in
     subst (λ (ps : List Pair). All (λ pair. pair.b < length problem.tracks) ps) (sym c.deref-3.ensures.value)
     (subst (λ (n : ℕ). All (λ pair. pair.b < n) c.in_ok-pairs.pairs.items) (length-map problem.tracks plain_track) within)
 

@@ -7,7 +7,7 @@ use Rattle.cj_case.specs.Cells.{PlainCell}
 use Rattle.cj_case.specs.Cells.{plain_cell, plain_cells}
 use Rattle.cj_cells.specs.Cells.{added_roots}
 use Rattle.cj_cells.proofs.ListingLemmas.{cells_more}
-use Rattle.cj_candidates.specs.SlotRuns.{candidates_at, roots_at}
+use Rattle.cj_candidates.specs.SlotRuns.{candidates_at, roots_at, sought_in}
 use Rattle.cj_candidates.proofs.SlotRunLemmas.{candidates_more, roots_more, roots_within}
 use Rattle.cj_candidates.proofs.slots_shared.search_some.Goals as goal
 
@@ -18,7 +18,7 @@ pub returns-then-not-branch : goal.returns-then-not-branch
 returns-then-not-branch g c =
     let l = c.loop-slot in
     let new = c.search_slot.new.run in
-    let upto = roots_within (plain_problem c.args.ground.now.problem.now) c.args.slots.now l.slot-index 0 c.loop-slot-test.true in
+    let upto = roots_within (plain_problem c.args.ground.now.problem.now) (sought_in c.args.ground.now) c.args.slots.now l.slot-index 0 c.loop-slot-test.true in
     let found = ap length l.invariant.found in
     let few = c.in_ok-search_slot.ensures.few in
     let stopped = c.search_slot.ensures.stays ∙ l.invariant.stopped in
@@ -43,9 +43,9 @@ loop-slot-preserved g c =
     record {
       room = c.in_ok-search_slot.ensures.room whole;
       found = cells_more old.items new kept ∙ ap (λ (rs : List PlainCell). rs ++ added_roots old.items new) i.found
-          ∙ ap (λ (rs : List PlainCell). roots_at case (take at slots) ++ rs) (c.in_ok-search_slot.ensures.added whole)
-          ∙ sym (roots_more case slots at 0 c.loop-slot-test.true);
-      counted = omega (arith, candidate, i.counted, candidates_more case slots at 0 c.loop-slot-test.true);
+          ∙ ap (λ (rs : List PlainCell). roots_at case (sought_in c.args.ground.now) (take at slots) ++ rs) (c.in_ok-search_slot.ensures.added whole)
+          ∙ sym (roots_more case (sought_in c.args.ground.now) slots at 0 c.loop-slot-test.true);
+      counted = omega (arith, candidate, i.counted, candidates_more case (sought_in c.args.ground.now) slots at 0 c.loop-slot-test.true);
       stopped = c.search_slot.ensures.stays ∙ i.stopped;
     }
 
@@ -57,10 +57,10 @@ returns g c =
     let new = c.sort_by_key.new.self in
     let all = take_all l.slot-index c.args.slots.now c.loop-slot-test.false in
     let sorted = c.in_ok-sort_by_key.ensures.permutation in
-    let found = i.found ∙ ap (roots_at case) all in
+    let found = i.found ∙ ap (roots_at case (sought_in c.args.ground.now)) all in
     let long = ap length found in
     record {
       few = omega (arith, long, length_permutation l.run.roots.items new.items sorted, length-map l.run.roots.items plain_cell);
       roots = λ _. subst (λ (rs : List PlainCell). IsPermutation rs (plain_cells new.items)) found (IsPermutation-map plain_cell l.run.roots.items new.items sorted);
-      touching = λ _. i.counted ∙ ap (λ (slots : List ℕ). min (candidates_at case slots) 18_446_744_073_709_551_615) all;
+      touching = λ _. i.counted ∙ ap (λ (slots : List ℕ). min (candidates_at case (sought_in c.args.ground.now) slots) 18_446_744_073_709_551_615) all;
     }

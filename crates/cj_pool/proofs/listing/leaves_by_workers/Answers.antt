@@ -1,4 +1,4 @@
-use Rattle.std.proofs.Common.{◌≡◌, ◌+◌, length, Result, Ok, Err, Vec, Global, vec_len, refl, sym, ap, ◌∙◌, arith}
+use Rattle.std.proofs.Common.{◌≡◌, ◌+◌, length, Result, Ok, Err, Vec, Global, vec_len, sym, ap, ◌∙◌, arith}
 use Rattle.std.specs.Prelude.{IfOk}
 use Rattle.std.specs.List.{range_with_len}
 use Rattle.std.proofs.lemmas.List.{length-map}
@@ -17,8 +17,8 @@ use Rattle.cj_cells.proofs.LeafLemmas.{list_described, list_split}
 use Rattle.cj_pool.proofs.RootListLemmas.{are_roots}
 use Rattle.cj_pool.proofs.listing.leaves_by_workers.Goals as goal
 
-pub leaves_by_hands-requires-clause-are_roots : goal.leaves_by_hands-requires-clause-are_roots
-leaves_by_hands-requires-clause-are_roots g c =
+pub leaves_of_list-requires-clause-roots : goal.leaves_of_list-requires-clause-roots
+leaves_of_list-requires-clause-roots g c =
     let case = plain_problem c.args.problem.now in
     let long : vec_len c.args.roots ≡ length c.args.roots.items = omega (arith, c.args.roots.ok.0) in
     λ later within. are_roots (is_candidate case) case c.args.roots.items c.requires.found (c.requires.numbered ∙ ap (range_with_len 0) long)
@@ -29,7 +29,10 @@ returns-clause-value g c =
     let case = plain_problem c.args.problem.now in
     let same : leaves_of_roots case (roots_of (is_candidate case) case) ≡ leaves_of_roots case (plain_cells c.args.roots.items) =
     ap (leaves_of_roots case) (sym c.requires.found) in
-    rw same c.leaves_by_hands.ensures.value
+    rw same c.leaves_of_list.ensures.value
+
+pub returns-clause-within : goal.returns-clause-within
+returns-clause-within g c = c.leaves_of_list.ensures.within
 
 pub returns-clause-too_many : goal.returns-clause-too_many
 unfolding list_of
@@ -37,31 +40,31 @@ returns-clause-too_many g c =
     let case = plain_problem c.args.problem.now in
     let same : leaves_of_roots case (roots_of (is_candidate case) case) ≡ leaves_of_roots case (plain_cells c.args.roots.items) =
     ap (leaves_of_roots case) (sym c.requires.found) in
-    rw same c.leaves_by_hands.ensures.too_many
+    rw same c.leaves_of_list.ensures.too_many
 
 pub returns-clause-sound : goal.returns-clause-sound
 returns-clause-sound g c =
     let case = plain_problem c.args.problem.now in
-    on_ok_weaker c.leaves_by_hands.result (λ leaves. let list = list_described case (plain_cells c.args.roots.items) c.requires.found leaves in list.sound) c.leaves_by_hands.ensures.leaves
+    on_ok_weaker c.leaves_of_list.result (λ leaves. let list = list_described case (plain_cells c.args.roots.items) c.requires.found leaves in list.sound) c.leaves_of_list.ensures.leaves
 
 pub returns-clause-complete : goal.returns-clause-complete
 returns-clause-complete g c =
     let case = plain_problem c.args.problem.now in
-    on_ok_weaker c.leaves_by_hands.result (λ leaves. let list = list_described case (plain_cells c.args.roots.items) c.requires.found leaves in list.complete) c.leaves_by_hands.ensures.leaves
+    on_ok_weaker c.leaves_of_list.result (λ leaves. let list = list_described case (plain_cells c.args.roots.items) c.requires.found leaves in list.complete) c.leaves_of_list.ensures.leaves
 
 pub returns-clause-ordered : goal.returns-clause-ordered
 returns-clause-ordered g c =
     let case = plain_problem c.args.problem.now in
-    on_ok_weaker c.leaves_by_hands.result (λ leaves. let list = list_described case (plain_cells c.args.roots.items) c.requires.found leaves in list.ordered) c.leaves_by_hands.ensures.leaves
+    on_ok_weaker c.leaves_of_list.result (λ leaves. let list = list_described case (plain_cells c.args.roots.items) c.requires.found leaves in list.ordered) c.leaves_of_list.ensures.leaves
 
 pub returns-clause-pieces : goal.returns-clause-pieces
 returns-clause-pieces g c =
     let case = plain_problem c.args.problem.now in
-    on_ok_weaker c.leaves_by_hands.result (λ leaves. let list = list_described case (plain_cells c.args.roots.items) c.requires.found leaves in list.pieces) c.leaves_by_hands.ensures.leaves
+    on_ok_weaker c.leaves_of_list.result (λ leaves. let list = list_described case (plain_cells c.args.roots.items) c.requires.found leaves in list.pieces) c.leaves_of_list.ensures.leaves
 
 pub returns-clause-splits : goal.returns-clause-splits
 unfolding list_of
-returns-clause-splits g c = go c.leaves_by_hands.result (returns-clause-value g c)
+returns-clause-splits g c = go c.leaves_of_list.result (returns-clause-value g c)
   where
     case : PlainProblem
     case = plain_problem c.args.problem.now
@@ -73,48 +76,3 @@ returns-clause-splits g c = go c.leaves_by_hands.result (returns-clause-value g 
         let split = list_split case in
         let roots = ap length c.requires.found in
         omega (arith, length-map leaves.items plain_leaf, length-map c.args.roots.items plain_cell, leaves.ok.0, c.args.roots.ok.0)
-
-pub leaves_by_hands-requires-clause-problem : goal.leaves_by_hands-requires-clause-problem
-leaves_by_hands-requires-clause-problem g c _ _ = refl
-
-pub leaves_by_hands-requires-clause-roots : goal.leaves_by_hands-requires-clause-roots
-leaves_by_hands-requires-clause-roots g c _ _ = refl
-
-pub leaves_by_hands-requires-clause-workers : goal.leaves_by_hands-requires-clause-workers
-leaves_by_hands-requires-clause-workers g c _ _ = refl
-
-pub leaves_by_hands-requires-clause-some : goal.leaves_by_hands-requires-clause-some
-leaves_by_hands-requires-clause-some g c _ _ = c.requires.some
-
-pub leaves_by_hands-requires-clause-few_workers : goal.leaves_by_hands-requires-clause-few_workers
-leaves_by_hands-requires-clause-few_workers g c _ _ = c.requires.few_workers
-
-pub leaves_by_hands-requires-clause-few_leaves : goal.leaves_by_hands-requires-clause-few_leaves
-leaves_by_hands-requires-clause-few_leaves g c _ _ = c.requires.limit
-
-pub leaves_by_hands-requires-clause-few_roots : goal.leaves_by_hands-requires-clause-few_roots
-leaves_by_hands-requires-clause-few_roots g c _ _ = omega (arith, c.requires.few, c.args.roots.ok.0)
-
-pub returns-clause-within : goal.returns-clause-within
-returns-clause-within g c = c.leaves_by_hands.ensures.within
-
-pub returns-then-workers-eq1-clause-value : goal.returns-then-workers-eq1-clause-value
-returns-then-workers-eq1-clause-value g c = c.leaves_of.ensures.value
-
-pub returns-then-workers-eq1-clause-within : goal.returns-then-workers-eq1-clause-within
-returns-then-workers-eq1-clause-within g c = c.leaves_of.ensures.within
-
-pub returns-then-workers-eq1-clause-too_many : goal.returns-then-workers-eq1-clause-too_many
-returns-then-workers-eq1-clause-too_many g c = c.leaves_of.ensures.too_many
-
-pub returns-then-workers-eq1-clause-sound : goal.returns-then-workers-eq1-clause-sound
-returns-then-workers-eq1-clause-sound g c = c.leaves_of.ensures.sound
-
-pub returns-then-workers-eq1-clause-complete : goal.returns-then-workers-eq1-clause-complete
-returns-then-workers-eq1-clause-complete g c = c.leaves_of.ensures.complete
-
-pub returns-then-workers-eq1-clause-ordered : goal.returns-then-workers-eq1-clause-ordered
-returns-then-workers-eq1-clause-ordered g c = c.leaves_of.ensures.ordered
-
-pub returns-then-workers-eq1-clause-pieces : goal.returns-then-workers-eq1-clause-pieces
-returns-then-workers-eq1-clause-pieces g c = c.leaves_of.ensures.pieces

@@ -1,4 +1,4 @@
-use Rattle.cj_pool.proofs.listing.leaves_by_workers.Given as goal
+use Rattle.cj_pool.proofs.listing.leaves_of_list.Given as goal
 
 -- the values of the run are those of the arguments
 abbrev pub ghosts-leaves_by_hands : goal.ghosts-leaves_by_hands

@@ -1,0 +1,9 @@
+pub mod CarriedLemmas
+pub mod ChangedLemmas
+pub mod MatchLemmas
+pub mod PairLeafLemmas
+pub mod PlaceLemmas
+pub mod RowLemmas
+pub mod SameLemmas
+pub mod SelectedLemmas
+pub mod TransportLemmas

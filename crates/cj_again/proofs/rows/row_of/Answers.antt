@@ -1,0 +1,29 @@
+use Rattle.std.proofs.Common.{◌-◌, List, length, take, drop, leb, ltb, rules, sym, subst}
+use Rattle.std.specs.List.Sorted.{IsNonDecreasingBy}
+use Rattle.std.proofs.lemmas.List.Sorted.{IsNonDecreasingBy-drop, IsPartitionPoint-from_clause, IsPartitionedBy-leb, IsPartitionedBy-ltb}
+use Rattle.cj_case.specs.declared.leaf.Leaf.{Leaf}
+use Rattle.cj_case.specs.Leaves.{PlainLeaf, plain_leaves}
+use Rattle.cj_again.specs.PairLeaves.{AreBySecond}
+use Rattle.cj_again.proofs.RowLemmas.{first_sliced, firsts_rise, rest_is, row_ordered, sliced_rest}
+use Rattle.cj_again.proofs.rows.row_of.Goals as goal
+
+pub returns-clause-value : goal.returns-clause-value
+returns-clause-value c =
+    let xs = c.args.leaves.now in
+    let s = c.partition_point-start.result in
+    let ys = take (length xs - s) (drop s xs) in
+    let rise = firsts_rise xs c.requires in
+    first_sliced xs (take c.partition_point-count.result ys) c.args.object
+    (sliced_rest (λ (leaf : Leaf). leaf.cell.pair.a) c.args.object xs ys s c.partition_point-count.result (rest_is s xs)
+    (IsPartitionPoint-from_clause (λ (leaf : Leaf). ltb leaf.cell.pair.a c.args.object) xs s c.partition_point-start.ensures.partitioned
+    (IsPartitionedBy-ltb (λ (leaf : Leaf). leaf.cell.pair.a) xs c.args.object rise) (λ a r f h. search rules))
+    c.partition_point-start.ensures.bound
+    (IsPartitionPoint-from_clause (λ (leaf : Leaf). leb leaf.cell.pair.a c.args.object) ys c.partition_point-count.result c.partition_point-count.ensures.partitioned
+    (IsPartitionedBy-leb (λ (leaf : Leaf). leaf.cell.pair.a) ys c.args.object
+    (subst (λ (zs : List Leaf). IsNonDecreasingBy (λ (leaf : Leaf). leaf.cell.pair.a) zs) (sym (rest_is s xs)) (IsNonDecreasingBy-drop (λ (leaf : Leaf). leaf.cell.pair.a) s xs rise)))
+    (λ a r f h. search rules))
+    c.partition_point-count.ensures.bound)
+
+pub returns-clause-ordered : goal.returns-clause-ordered
+returns-clause-ordered c =
+    subst (λ (ss : List PlainLeaf). AreBySecond ss) (sym (returns-clause-value c)) (row_ordered c.args.object (plain_leaves c.args.leaves.now) c.requires)

@@ -1,0 +1,3 @@
+pub mod KeptPairs
+pub mod Matchings
+pub mod PairLeaves

@@ -1,0 +1,37 @@
+use Rattle.std.proofs.Common.{◌<◌, List, Vec, Global, filter, map, length, sym, ap, ◌∙◌, arith}
+use Rattle.std.proofs.lemmas.List.{take_all}
+use Rattle.std.proofs.lemmas.Result.{err_from_is_err_and}
+use Rattle.cj_case.specs.declared.pair.Pair.{Pair}
+use Rattle.cj_case.specs.Pairs.{objects_of}
+use Rattle.cj_candidates.specs.SoughtPairs.{is_listed}
+use Rattle.cj_candidates.proofs.KeepingLemmas.{pair_found, pair_passed}
+use Rattle.cj_candidates.proofs.touching.in_list.Goals as goal
+use Rattle.cj_candidates.proofs.touching.in_list.Goals.{then-is_in_list+in_ok-push, else-is_in_list}
+
+pub loop-pair-preserved : goal.loop-pair-preserved
+loop-pair-preserved c =
+    let p = is_listed (map objects_of c.args.list.now) in
+    let pairs = c.args.pairs.now in
+    let k = c.loop-pair.pair-index in
+    let pair = c.pair-item.result in
+    let lt : k < length pairs = omega arith in
+    elim c.if-is_in_list.branch [
+      | then-is_in_list+in_ok-push w ↦
+          ap (λ (v : Vec Pair Global). map objects_of v.items) w.some-is
+          ∙ pair_found p pairs c.loop-pair.some.items _ k pair lt c.pair-item.is (sym c.is_in_list.ensures ∙ w.if-is_in_list.true) w.in_ok-push.ensures.items c.loop-pair.invariant
+      | else-is_in_list w ↦
+          ap (λ (v : Vec Pair Global). map objects_of v.items) w.some-is
+          ∙ pair_passed p pairs c.loop-pair.some.items k pair lt c.pair-item.is (sym c.is_in_list.ensures ∙ w.if-is_in_list.false) c.loop-pair.invariant
+    ]
+
+pub returns : goal.returns
+returns c =
+    let pairs = c.args.pairs.now in
+    let all = take_all c.loop-pair.pair-index pairs (omega arith) in
+    c.loop-pair.invariant ∙ ap (λ (some : List Pair). filter (is_listed (map objects_of c.args.list.now)) (map objects_of some)) all
+
+pub loop-pair-init : goal.loop-pair-init
+loop-pair-init c = ap (λ (some : List Pair). map objects_of some) c.new-some.ensures.items
+
+pub returns-in_err-push : goal.returns-in_err-push
+returns-in_err-push c = rw (err_from_is_err_and c.from_residual.result c.from_residual.ensures.1).1 tt

@@ -1,0 +1,21 @@
+-- Unchanged pairs: pairs of objects that another case has too, in the same order.
+use Rattle.std.specs.Prelude.{ℕ, Bool, false, ◌&&◌, ◌==◌, Option, Some, None, length, slice_get, slice_index}
+use Rattle.std.specs.List.{list_any}
+use Rattle.cj_track.specs.PlainTracks.{PlainTrack}
+use Rattle.cj_track.specs.SameTracks.{same_track}
+use Rattle.cj_case.specs.Pairs.{pairs_of}
+use Rattle.cj_case.specs.PlainProblems.{PlainProblem}
+
+-- there are two tracks, and they are the same in all fields
+abbrev pub are_same : Option PlainTrack → Option PlainTrack → Bool
+are_same None f = false
+are_same (Some e) None = false
+are_same (Some e) (Some f) = same_track e f
+
+-- object p of one case is object i of another: the same track, with covariances and names, and the same size
+unfoldable pub is_object : PlainProblem → PlainProblem → ℕ → ℕ → Bool
+is_object old new p i = are_same (slice_get old.tracks p) (slice_get new.tracks i) && slice_index old.sizes p == slice_index new.sizes i
+
+-- a pair of the new case is unchanged: the old case has a pair of both its objects, in the same order
+unfoldable pub is_unchanged : PlainProblem → PlainProblem → ℕ × ℕ → Bool
+is_unchanged old new pair = list_any (λ p. is_object old new p.0 pair.0 && is_object old new p.1 pair.1) (pairs_of (length old.tracks))
