@@ -61,6 +61,14 @@ pub fn range_of(option: Opt) -> Hint {
             means: "--cert-version is 1 or 2",
             helps: "left out it is 1",
         },
+        Opt::Update => Hint {
+            means: "--update is 1 to 20 bytes: printable ASCII, no blank, no /; not --suffix",
+            helps: "left out rescreen takes .new, and check and rewrite take no update",
+        },
+        Opt::Changed => Hint {
+            means: "--changed has no value",
+            helps: "left out all pairs are told",
+        },
         Opt::Report => Hint {
             means: "--report is a name of 1 to 200 bytes: printable ASCII, no blank, no /",
             helps: "left out no report is checked; --cert-dir names its folder",

@@ -48,12 +48,26 @@ pub fn push_slip(text: &mut Vec<u8>, slip: Slip<'_>) -> Result<(), AllocError> {
             text.extend_from_slice(option_name(option))?;
             text.extend_from_slice(b" stands twice\nhint: leave one of the two out")
         }
+        Slip::NoEnd { option } => {
+            text.extend_from_slice(b"rescreen wants ")?;
+            text.extend_from_slice(option_name(option))?;
+            text.extend_from_slice(b"\nhint: old and new files are screened over one window: ")?;
+            text.extend_from_slice(b"give --from and --to")
+        }
+        Slip::NotBeside { option, other } => {
+            text.extend_from_slice(option_name(option))?;
+            text.extend_from_slice(b" does not stand beside ")?;
+            text.extend_from_slice(option_name(other))?;
+            text.extend_from_slice(
+                b"\nhint: changed pairs alone have no messages and no certificate",
+            )
+        }
     }
 }
 
 fn push_commands(text: &mut Vec<u8>) -> Result<(), AllocError> {
     text.extend_from_slice(
-        b"\nhint: it is screen, check, generate, selfrun, rewrite or thin; see conj --help",
+        b"\nhint: screen, rescreen, check, rewrite, generate, selfrun or thin; conj --help",
     )
 }
 
@@ -109,9 +123,8 @@ fn push_stray(text: &mut Vec<u8>, word: &[u8], verb: Verb) -> Result<(), AllocEr
     text.extend_from_slice(b" stands where an option should, which begins with --\nhint: ")?;
     match verb {
         Verb::Selfrun => text.extend_from_slice(b"selfrun has no directory: it works in memory"),
-        Verb::Screen | Verb::Check | Verb::Generate | Verb::Rewrite | Verb::Thin => {
-            text.extend_from_slice(b"a name or a time with a blank in it is one word in quotes")
-        }
+        Verb::Screen | Verb::Check | Verb::Generate | Verb::Rewrite | Verb::Thin | Verb::Rescreen =>
+            { text.extend_from_slice(b"a name or a time with a blank in it is one word in quotes") }
     }
 }
 

@@ -47,16 +47,26 @@ pub enum Slip<'w> {
     Twice {
         option: Opt,
     },
+    /// This end of the window is not given, where both have to be.
+    NoEnd {
+        option: Opt,
+    },
+    /// The option does not go together with the other one, which stands too.
+    NotBeside {
+        option: Opt,
+        other: Opt,
+    },
 }
 
 /// Each command once.
-pub const VERBS: [Verb; 6] = [
+pub const VERBS: [Verb; 7] = [
     Verb::Screen,
     Verb::Check,
     Verb::Generate,
     Verb::Selfrun,
     Verb::Rewrite,
     Verb::Thin,
+    Verb::Rescreen,
 ];
 
 /// A command as it stands on the command line.
@@ -68,6 +78,7 @@ pub fn verb_name(verb: Verb) -> &'static str {
         Verb::Selfrun => "selfrun",
         Verb::Rewrite => "rewrite",
         Verb::Thin => "thin",
+        Verb::Rescreen => "rescreen",
     }
 }
 
@@ -117,7 +128,10 @@ fn slip_in_options(words: &[Word], verb: Verb) -> Option<Slip<'_>>
     }
     match rest {
         [word, ..] => Some(slip_of_word(word.as_slice(), verb)),
-        [] => repeated(words),
+        [] => match repeated(words) {
+            Some(slip) => Some(slip),
+            None => slip_of_all(words, verb),
+        },
     }
 }
 
@@ -145,9 +159,9 @@ fn slip_of_word(word: &[u8], verb: Verb) -> Slip<'_>
         return slip_of_name(name, verb);
     }
     match option_named(name) {
-        Some(option @ (Opt::AsHermite3 | Opt::Rtn | Opt::Warnings | Opt::AllFaults)) => {
-            Slip::ValueOfFlag { option }
-        }
+        Some(
+            option @ (Opt::AsHermite3 | Opt::Changed | Opt::Rtn | Opt::Warnings | Opt::AllFaults),
+        ) => Slip::ValueOfFlag { option },
         Some(option) => Slip::NoValue { option },
         None => Slip::Stray { word, verb },
     }
@@ -172,6 +186,45 @@ fn repeated(words: &[Word]) -> Option<Slip<'_>>
     }
     None
 }
+
+/// What is wrong with the options of a command together.
+fn slip_of_all(words: &[Word], verb: Verb) -> Option<Slip<'_>>
+    ensures { IfSome result IsOwn }
+{
+    if verb != Verb::Rescreen {
+        return None;
+    }
+    for end in &ENDS {
+        if count_of(words, *end) == 0 {
+            return Some(Slip::NoEnd { option: *end });
+        }
+    }
+    if count_of(words, Opt::Changed) > 0 {
+        return shaping(words, Opt::Changed);
+    }
+    None
+}
+
+/// The first option that asks something of messages or of the certificate, which does not go together with the other.
+fn shaping(words: &[Word], other: Opt) -> Option<Slip<'_>>
+    ensures { IfSome result IsOwn }
+{
+    for option in &SHAPING {
+        if count_of(words, *option) > 0 {
+            return Some(Slip::NotBeside {
+                option: *option,
+                other,
+            });
+        }
+    }
+    None
+}
+
+/// The ends of the window.
+const ENDS: [Opt; 2] = [Opt::From, Opt::To];
+
+/// What asks something of messages or of the certificate.
+const SHAPING: [Opt; 3] = [Opt::Originator, Opt::CertVersion, Opt::Rtn];
 
 /// How often the option stands.
 fn count_of(words: &[Word], option: Opt) -> usize {

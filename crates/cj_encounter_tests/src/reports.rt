@@ -6,7 +6,7 @@ use cj_base::{Text, Tick, Window};
 use cj_case::{Cell, Closest, Kind, Leaf, Pair, Problem, Sizes, Tracks};
 use cj_epoch::leap_between;
 use cj_meet::encounters;
-use cj_report::report_text;
+use cj_report::{changed_summary_text, changed_text, report_text};
 use cj_track::{Frame, Matrices, Node, Nodes, Segment, Segments, Track, Vec3};
 use std::alloc::{AllocError, Global};
 use std::panic::Expect;
@@ -134,41 +134,76 @@ fn leaf(first: u64, last: u64, kind: Kind) -> Leaf
     }
 }
 
-#[test]
-fn two_tracks_cross_at_one_kilometre(rt: HostRuntime) {
-    let problem = problem(&rt, rt.alloc()).expect(&rt, "no fault");
+/// What is told of the crossing.
+#[derive(Clone, Copy)]
+enum Told {
+    Whole,
+    /// With sizes, and with a message.
+    Sized,
+    /// As a report of changed pairs alone.
+    Changed,
+}
+
+/// What is told of two tracks that cross at one kilometre.
+fn told_of_crossing(rt: &impl Abort, alloc: Global, told: Told) -> Vec<u8> {
+    let problem = problem(rt, alloc).expect(rt, "no fault");
     let leaves = [
         leaf(29_500_000, 29_538_119, Kind::Far),
         leaf(29_538_120, 29_999_999, Kind::Near),
         leaf(30_000_000, 30_461_880, Kind::Near),
         leaf(30_461_881, 30_499_999, Kind::Far),
     ];
-    let found = encounters(rt.alloc(), &leaves).expect(&rt, "no fault");
+    let found = encounters(alloc, &leaves).expect(rt, "no fault");
     assert!(rt; found.len() == 1);
     let approaches = [Closest {
         tick: tick(30_000_000),
         high: 1_000_000_000_000,
     }];
-    let text = report_text(
-        rt.alloc(),
-        &problem,
-        false,
-        &leaves,
-        &found,
-        &approaches,
-        &[false],
-    )
-    .expect(&rt, "no fault");
+    let text = match told {
+        Told::Whole => report_text(
+            alloc,
+            &problem,
+            false,
+            &leaves,
+            &found,
+            &approaches,
+            &[false],
+        ),
+        Told::Sized => report_text(alloc, &problem, true, &leaves, &found, &approaches, &[true]),
+        Told::Changed => changed_text(
+            alloc,
+            &problem,
+            false,
+            &leaves,
+            &found,
+            &approaches,
+            &[false],
+        ),
+    };
+    text.expect(rt, "no fault")
+}
+
+#[test]
+fn two_tracks_cross_at_one_kilometre(rt: HostRuntime) {
+    let text = told_of_crossing(&rt, rt.alloc(), Told::Whole);
     assert_eq!(rt; text.as_slice(), REPORT);
-    let text = report_text(
-        rt.alloc(),
-        &problem,
-        true,
-        &leaves,
-        &found,
-        &approaches,
-        &[true],
-    )
-    .expect(&rt, "no fault");
+    let text = told_of_crossing(&rt, rt.alloc(), Told::Sized);
     assert_eq!(rt; text.as_slice(), SIZED_REPORT);
+}
+
+#[test]
+fn changed_pairs_have_a_title_of_their_own(rt: HostRuntime) {
+    let text = told_of_crossing(&rt, rt.alloc(), Told::Changed);
+    let behind = text.strip_prefix(b"CONJ-CHANGED 1\n".as_slice());
+    assert!(rt; behind.is_some());
+    assert_eq!(rt; behind, REPORT.strip_prefix(b"CONJ-REPORT 1\n".as_slice()));
+}
+
+#[test]
+fn the_summary_of_changed_pairs_has_three_lines(rt: HostRuntime) {
+    let text = changed_summary_text(rt.alloc(), 3, 2, 1).expect(&rt, "no fault");
+    assert_eq!(rt;
+        text.as_slice(),
+        b"OBJECTS 3\nENCOUNTERS 2\nKEPT 1\n".as_slice()
+    );
 }

@@ -17,7 +17,8 @@ pub fn command_help(alloc: Global, help: &str, verb: Verb) -> Result<Vec<u8>, Al
 
 fn directory_of(verb: Verb) -> &'static [u8] {
     match verb {
-        Verb::Screen | Verb::Check | Verb::Generate | Verb::Rewrite | Verb::Thin => b" DIR",
+        Verb::Screen | Verb::Check | Verb::Generate | Verb::Rewrite | Verb::Thin | Verb::Rescreen =>
+            b" DIR",
         Verb::Selfrun => b"",
     }
 }

@@ -7,10 +7,12 @@ ghost use Rattle.cj_words.specs.Settings.{plain_settings};
 
 use cj_words::{Command, Settings, Word, read_command};
 
-/// The files of a directory that a run reads: those whose names end with the suffix, the one of sizes, and the report that is checked.
+/// The files of a directory that a run reads: those whose names end with the suffix or with the update suffix, the one of sizes, and the report
+/// that is checked.
 #[derive(Clone, Copy, Debug, PartialEq, Eq)]
 pub struct Inputs<'w> {
     suffix: Option<&'w [u8]>,
+    update: Option<&'w [u8]>,
     sizes: Option<&'w [u8]>,
     report: Option<&'w [u8]>,
 }
@@ -22,6 +24,7 @@ impl<'w> Inputs<'w> {
     {
         Inputs {
             suffix: None,
+            update: None,
             sizes: None,
             report: None,
         }
@@ -32,9 +35,18 @@ impl<'w> Inputs<'w> {
         ensures { plain_inputs result ≡ spec.reads_of (command_of words.now) }
     {
         match read_command(words) {
-            Ok(Command::Screen(screening)) => Inputs::of_settings(screening.settings, None),
-            Ok(Command::Check(checking)) => Inputs::of_settings(checking.settings, checking.report),
-            Ok(Command::Rewrite(checking)) => Inputs::of_settings(checking.settings, None),
+            Ok(Command::Screen(screening)) => Inputs::of_settings(screening.settings, None, None),
+            Ok(Command::Check(checking)) => {
+                Inputs::of_settings(checking.settings, checking.update, checking.report)
+            }
+            Ok(Command::Rewrite(checking)) => {
+                Inputs::of_settings(checking.settings, checking.update, None)
+            }
+            Ok(Command::Rescreen(rescreening)) => Inputs::of_settings(
+                rescreening.screening.settings,
+                Some(rescreening.update),
+                None,
+            ),
             Ok(Command::Thin(thinning)) => Inputs {
                 suffix: Some(thinning.suffix),
                 ..Inputs::none()
@@ -43,11 +55,16 @@ impl<'w> Inputs<'w> {
         }
     }
 
-    fn of_settings(settings: Settings<'w>, report: Option<&'w [u8]>) -> Inputs<'w>
-        ensures { plain_inputs result ≡ spec.reads_asked (plain_settings settings.entry) (option_copied report.entry) }
+    fn of_settings(
+        settings: Settings<'w>,
+        update: Option<&'w [u8]>,
+        report: Option<&'w [u8]>,
+    ) -> Inputs<'w>
+        ensures { plain_inputs result ≡ spec.reads_asked (plain_settings settings.entry) (option_copied update.entry) (option_copied report.entry) }
     {
         Inputs {
             suffix: Some(settings.suffix),
+            update,
             sizes: settings.sizes,
             report,
         }
@@ -57,7 +74,10 @@ impl<'w> Inputs<'w> {
     pub fn have(&self, name: &[u8]) -> bool
         ensures { result ≡ spec.is_read (plain_inputs self.now) name.now }
     {
-        has_suffix(self.suffix, name) || has_name(self.sizes, name) || has_name(self.report, name)
+        has_suffix(self.suffix, name)
+            || has_suffix(self.update, name)
+            || has_name(self.sizes, name)
+            || has_name(self.report, name)
     }
 }
 

@@ -161,7 +161,7 @@ reads:
   certificates  CONJ-CERT 1 and 2
   reports       CONJ-REPORT 1
 writes:
-  reports       CONJ-REPORT 1
+  reports       CONJ-REPORT 1, CONJ-CHANGED 1
   certificates  CONJ-CERT 1 and 2
   messages      CDM of CCSDS 508.0-B-1, KVN, CCSDS_CDM_VERS 1.0
   catalogues    OEM of CCSDS 502.0-B-2, KVN, CCSDS_OEM_VERS 2.0
@@ -173,6 +173,7 @@ conj - certified all-on-all conjunction screening of ephemerides
 
 Usage:
   conj screen DIR [OPTIONS]
+  conj rescreen DIR [OPTIONS]
   conj check DIR [OPTIONS]
   conj generate DIR [OPTIONS]
   conj selfrun [OPTIONS]
@@ -193,6 +194,13 @@ both objects have a covariance it writes a conjunction data message (CCSDS
 508.0-B-1), DIR/000001.cdm for encounter 1. It is proved that no such approach
 of the interpolated tracks is missed, where DIR gives the bytes that it holds
 and keeps those that it is given.
+
+rescreen screens DIR again after some files changed. a.oem.new stands in place
+of a.oem, or beside the others where there is no a.oem; where it is empty it
+takes a.oem away. It writes what screen writes of the files that then stand,
+and prints one line more: how many of the pairs that are not parted are as
+they were. With --changed it tells those pairs alone that are not as they
+were, and writes the report DIR/changed.report and nothing more.
 
 check reads the same ephemerides and the certificate, and decides anew whether
 it is accepted for them, and with --report NAME whether the report is that of
@@ -220,36 +228,44 @@ where the centers come within the threshold and both radii.
 Options stand in any order, each at most once. One with a value is two words
 or one, as --threshold 1000 or --threshold=1000.
 
-Options of screen, check, rewrite and selfrun:
+Options of screen, rescreen, check, rewrite and selfrun:
   --threshold METRES  greatest distance that is reported, 1 to 1000000
                       (default 5000)
-Options of screen, check and rewrite:
+Options of screen, rescreen, check and rewrite:
   --from EPOCH        first instant of the window in UTC, as
                       2025-01-01T00:00:00.000000 or 2025-001T00:00:00Z
                       (default: where the first ephemeris begins to be
-                      useable)
+                      useable; rescreen has none)
   --to EPOCH          last instant of the window, not before the first
-                      (default: where the last ephemeris ends to be useable)
+                      (default: where the last ephemeris ends to be useable;
+                      rescreen has none)
   --sizes NAME        file of DIR with the radius of each object in metres:
                       the threshold is then measured from surface to surface
                       (default: all objects are points)
-Options of screen, check, rewrite and thin:
+Options of screen, rescreen, check, rewrite and thin:
   --suffix TEXT       how names of ephemerides end, 1 to 20 bytes (default
                       .oem)
   --as-hermite3       take a file that declares another interpolation, or
                       none, by the cubic through its nodes: the result is of
                       these cubics, not of the curves that the files mean
-Options of screen and selfrun:
+Options of screen, rescreen and selfrun:
   --workers N         how many threads share the work, 1 to 16 (default 1)
   --cells N           greatest number of stretches of time that are told
                       apart, 1 to 4000000 (default 4000000)
-Options of screen:
+Options of screen and rescreen:
   --originator TEXT   who makes messages, 1 to 40 letters, digits, _ and -
                       (default CONJ)
   --cert-version N    the version of the certificate, 1 or 2 (default 1)
   --rtn               add six lines to each message: place and velocity of the
                       second object less those of the first, along the radial,
                       transverse and normal axes of the first
+Options of rescreen, check and rewrite:
+  --update TEXT       how names of updates end, 1 to 20 bytes, not as --suffix
+                      says (default of rescreen .new; left out of check and
+                      rewrite no file is an update)
+Options of rescreen:
+  --changed           tell the pairs alone that are not as they were; not with
+                      --originator, --cert-version or --rtn
 Options of check and rewrite:
   --cert NAME         the certificate's file (default screen.cert)
   --cert-dir DIR      the directory of the certificate, and of the report
@@ -257,7 +273,7 @@ Options of check and rewrite:
 Options of check:
   --report NAME       the report's file, in the directory of the certificate
                       (default: no report is checked)
-Options of screen, generate, rewrite and thin:
+Options of screen, rescreen, generate, rewrite and thin:
   --out NEW           the directory that is made for the results, which are
                       there together or not at all; nothing may have its name
                       yet (default: they are put into DIR, in place of those
@@ -269,7 +285,7 @@ Options of generate and selfrun:
 Options of thin:
   --within METRES     how far an object may be from where it was, 1 to 1000
                       (default 1)
-Options of screen, check and rewrite that change no result:
+Options of screen, rescreen, check and rewrite that change no result:
   --warnings          say on standard error what may not be meant, as a
                       directory without ephemerides (default: at a terminal
                       alone)

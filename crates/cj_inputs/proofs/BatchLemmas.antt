@@ -34,7 +34,7 @@ reads_wider P Q view seen (input.Limit fault) read wider here = here
 -- ---- a file that was read
 
 -- what a file says names the file
-said_named : (as_hermite3 : Bool) (name bytes : List ℕ) (e : PlainTrack) → refused_of name (reading name bytes as_hermite3) ≡ Ok e → e.file ≡ name
+pub said_named : (as_hermite3 : Bool) (name bytes : List ℕ) (e : PlainTrack) → refused_of name (reading name bytes as_hermite3) ≡ Ok e → e.file ≡ name
 said_named as_hermite3 name bytes e is = (reading_says as_hermite3 name bytes e (unrefused (reading name bytes as_hermite3) is)).named
   where
     unrefused : (r : Result PlainTrack Fault) → refused_of name r ≡ Ok e → r ≡ Ok e

@@ -1,9 +1,17 @@
 pub mod AloneLemmas
 pub mod BatchLemmas
+pub mod CopyLemmas
 pub mod EndLemmas
+pub mod FrameLemmas
 pub mod InputFileLemmas
+pub mod PlaceLemmas
 pub mod ReadingLemmas
 pub mod SortLemmas
 pub mod StepLemmas
+pub mod UpdateCaseLemmas
+pub mod UpdateFileLemmas
+pub mod UpdateLemmas
+pub mod UpdateStepLemmas
+pub mod UpdatedLemmas
 pub mod WindowLemmas
 pub mod WithinLemmas

@@ -90,7 +90,7 @@ pub overflows : (most : ℕ) (tracks : List Track) (name : List ℕ) (track : Tr
     → checked_after most (map plain_track tracks) name (plain_track track) ≡ Err (Limit (limit.Nodes nodes))
 overflows most tracks name track nodes frame is many = rw frame (many_nodes most tracks track nodes is many)
 
-frames_tied : (f g : Frame) → same_frame f g ≡ true → f ≡ g
+pub frames_tied : (f g : Frame) → same_frame f g ≡ true → f ≡ g
 frames_tied frames.Eme2000 frames.Eme2000 e = refl
 frames_tied frames.Eme2000 frames.Gcrf e = absurd cc
 frames_tied frames.Gcrf frames.Eme2000 e = absurd cc

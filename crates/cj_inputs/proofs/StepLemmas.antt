@@ -25,6 +25,7 @@ use Rattle.cj_inputs.specs.Readings.{readings_of, Reads}
 use Rattle.cj_status.specs.Errors.{folder_status}
 use Rattle.cj_inputs.specs.Errors.{input_status}
 use Rattle.cj_inputs.specs.Cases.{case_asked, case_of_run, case_with, object_slots, within_limits, within_objects}
+use Rattle.cj_inputs.specs.Updates.{case_with_updates}
 use Rattle.cj_inputs.specs.CheckInputs.{PlainInputs, certificate_named, inputs_asked, input_at, input_named, report_if_named, report_named}
 use Rattle.cj_status.specs.declared.status.CertificateCause.{CertificateCause}
 use Rattle.cj_status.specs.declared.status.CertificateCause.TheVariants.{NoFile, NoReport}
@@ -217,15 +218,15 @@ all case bytes report = record { case = case; bytes = bytes; report = report }
 
 -- the case is not made
 pub case_fails : (later rose : Type 0) (files : List FileBytes) (checking : PlainChecking) (s : Status) → (later → rose)
-    → Stops later s (case_asked files checking.settings) → Stops rose s (inputs_asked files checking)
+    → Stops later s (case_with_updates files checking.settings checking.update) → Stops rose s (inputs_asked files checking)
 unfolding inputs_asked
 case_fails later rose files checking s wider stops =
-    stops_behind later rose s (case_asked files checking.settings)
+    stops_behind later rose s (case_with_updates files checking.settings checking.update)
     (λ case. certificate_named files checking.certificate >>= λ bytes. report_if_named files checking.report >>= λ report. Ok (all case bytes report)) wider stops
 
 -- the certificate is not read
 pub certificate_fails : (later rose : Type 0) (files : List FileBytes) (checking : PlainChecking) (case : PlainProblem) (s : Status) → (later → rose)
-    → case_asked files checking.settings ≡ Ok case → Stops later s (input_named NoFile files checking.certificate) → Stops rose s (inputs_asked files checking)
+    → case_with_updates files checking.settings checking.update ≡ Ok case → Stops later s (input_named NoFile files checking.certificate) → Stops rose s (inputs_asked files checking)
 unfolding inputs_asked certificate_named
 certificate_fails later rose files checking case s wider made stops =
     rw made (stops_behind later rose s (input_named NoFile files checking.certificate)
@@ -233,7 +234,7 @@ certificate_fails later rose files checking case s wider made stops =
 
 -- the report is not read
 pub report_fails : (later rose : Type 0) (files : List FileBytes) (checking : PlainChecking) (case : PlainProblem) (bytes : List ℕ) (s : Status) → (later → rose)
-    → case_asked files checking.settings ≡ Ok case → input_named NoFile files checking.certificate ≡ Ok bytes
+    → case_with_updates files checking.settings checking.update ≡ Ok case → input_named NoFile files checking.certificate ≡ Ok bytes
     → Stops later s (report_if_named files checking.report) → Stops rose s (inputs_asked files checking)
 unfolding inputs_asked certificate_named
 report_fails later rose files checking case bytes s wider made read stops =
@@ -241,7 +242,7 @@ report_fails later rose files checking case bytes s wider made read stops =
 
 -- all are there
 pub inputs_made : (files : List FileBytes) (checking : PlainChecking) (case : PlainProblem) (bytes : List ℕ) (report : Option (List ℕ))
-    → case_asked files checking.settings ≡ Ok case → input_named NoFile files checking.certificate ≡ Ok bytes
+    → case_with_updates files checking.settings checking.update ≡ Ok case → input_named NoFile files checking.certificate ≡ Ok bytes
     → report_if_named files checking.report ≡ Ok report → inputs_asked files checking ≡ Ok (all case bytes report)
 unfolding inputs_asked certificate_named
 inputs_made files checking case bytes report made read beside = rw (made, read, beside) refl

@@ -22,12 +22,12 @@ use Rattle.cj_inputs.specs.ObjectSizes.{sizes_asked}
 use Rattle.cj_inputs.specs.Readings.{reading_after, readings_after, readings_of}
 
 -- where two steps come to a value, the first comes to one
-step_there : {A B : Type 0} (r : Result A Status) (f : A → Result B Status) (y : B) → (r >>= f) ≡ Ok y → (x : A) × (r ≡ Ok x) × (f x ≡ Ok y)
+pub step_there : {A B : Type 0} (r : Result A Status) (f : A → Result B Status) (y : B) → (r >>= f) ≡ Ok y → (x : A) × (r ≡ Ok x) × (f x ≡ Ok y)
 step_there (Ok x) f y is = (x, refl, is)
 step_there (Err s) f y is = absurd cc
 
 -- what is let through is within the bound
-let_through : {A : Type 0} (n most : ℕ) (x y : A) (s : Status) → ◌≡◌ {A = Result A Status} (cond (nat_le n most) (Ok x) (Err s)) (Ok y) → (n ≤ most) × (x ≡ y)
+pub let_through : {A : Type 0} (n most : ℕ) (x y : A) (s : Status) → ◌≡◌ {A = Result A Status} (cond (nat_le n most) (Ok x) (Err s)) (Ok y) → (n ≤ most) × (x ≡ y)
 let_through {A} n most x y s is = go (nat_le n most) refl is
   where
     go : (b : Bool) → nat_le n most ≡ b → ◌≡◌ {A = Result A Status} (cond b (Ok x) (Err s)) (Ok y) → (n ≤ most) × (x ≡ y)
@@ -47,7 +47,7 @@ pub record IsWithin (limits : PlainLimits) (case : PlainProblem) : Type 0 where
   pub objects : length case.tracks ≤ limits.objects
   pub slots : object_slots case ≤ limits.object_slots
 
-within_there : (most : ℕ) (made case : PlainProblem) → within_limits most made ≡ Ok case → (object_slots made ≤ most) × (made ≡ case)
+pub within_there : (most : ℕ) (made case : PlainProblem) → within_limits most made ≡ Ok case → (object_slots made ≤ most) × (made ≡ case)
 within_there most made case is =
     let short = step_there (within_window made) (within_slots most) case is in
     let same : made ≡ short.0 = (let_through (made.last - made.first) 1_209_600_000_000 made short.0 (status.Limit (Window (made.last - made.first))) short.1).1 in

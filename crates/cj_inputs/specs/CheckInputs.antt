@@ -11,9 +11,9 @@ use Rattle.cj_status.specs.declared.status.CertificateCause.{CertificateCause}
 use Rattle.cj_status.specs.declared.status.CertificateCause.TheVariants.{NoFile, NoReport}
 use Rattle.cj_status.specs.Steps.{◌>>=◌}
 use Rattle.cj_inputs.specs.declared.check_inputs.CheckInputs.{CheckInputs}
-use Rattle.cj_inputs.specs.Cases.{case_asked}
 use Rattle.cj_inputs.specs.ObjectSizes.{first_named}
 use Rattle.cj_inputs.specs.Readings.{within}
+use Rattle.cj_inputs.specs.Updates.{case_with_updates}
 
 -- at most 1,073,741,824 bytes of the file with this number, which has this name; for want of one there is this cause
 abbrev pub input_at : CertificateCause → List FileBytes → List ℕ → Option ℕ → Result (List ℕ) Status
@@ -53,7 +53,7 @@ plain_inputs inputs = record { case = plain_problem inputs.problem; bytes = inpu
 -- the case that is asked, then the bytes of the certificate, and then those of the report, or the first cause for which there is none
 unfoldable pub inputs_asked : List FileBytes → PlainChecking → Result PlainInputs Status
 inputs_asked files checking = do
-  case ← case_asked files checking.settings
+  case ← case_with_updates files checking.settings checking.update
   bytes ← certificate_named files checking.certificate
   report ← report_if_named files checking.report
   Ok (record { case = case; bytes = bytes; report = report })

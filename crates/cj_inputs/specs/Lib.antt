@@ -6,5 +6,7 @@ pub mod Errors
 pub mod InputFiles
 pub mod ObjectSizes
 pub mod Orders
+pub mod Places
 pub mod Readings
+pub mod Updates
 pub mod Windows

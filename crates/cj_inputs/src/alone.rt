@@ -45,7 +45,7 @@ pub fn read_alone<F: Folder, G: Gate>(
 {
     let names = folder.names(alloc)?;
     let entries = list_few_inputs(alloc, &names, thinning.suffix, None, limits)?;
-    warn_of_names(gate, &names, &entries, thinning.suffix, None);
+    warn_of_names(gate, &names, &entries, thinning.suffix, None, None);
     let lone = read_each(alloc, folder, &entries, thinning.as_hermite3, limits)?;
     Ok(lone)
 }
@@ -78,7 +78,7 @@ fn read_each<F: Folder>(
 
 /// The track of a file.
 #[tactic(auto, unfolding(crate::specs::Readings::reading_of))]
-pub fn read_track<F: Folder>(
+fn read_track<F: Folder>(
     alloc: Global,
     folder: &mut F,
     entry: &Entry,

@@ -10,7 +10,7 @@ ghost use Rattle.cj_status.specs.Steps.{Gives, ComesBetween};
 
 use crate::check_inputs::CheckInputs;
 use crate::object_sizes::first_named;
-use crate::preparing::prepare_listed;
+use crate::preparing_updates::prepare_with_updates;
 use crate::reading::read_within;
 use cj_io::{Folder, Gate, Name};
 use cj_status::{CertificateCause, Status};
@@ -43,7 +43,16 @@ pub fn prepare_check<R: Threads + Sync, F: Folder, G: Gate + Sync>(
     ensures later { F.faults folder.old ≤ F.faults folder.new }
 {
     let names = folder.names(alloc)?;
-    let problem = prepare_listed(rt, alloc, gate, folder, &names, &checking.settings, workers)?;
+    let problem = prepare_with_updates(
+        rt,
+        alloc,
+        gate,
+        folder,
+        &names,
+        &checking.settings,
+        checking.update,
+        workers,
+    )?;
     let certificate = read_named(
         alloc,
         folder,

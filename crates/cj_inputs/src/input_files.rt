@@ -53,7 +53,7 @@ fn entries(
 }
 
 /// Whether the file with this name is taken as an ephemeris.
-fn is_taken(name: &[u8], suffix: &[u8], sizes: Option<&[u8]>) -> bool
+pub fn is_taken(name: &[u8], suffix: &[u8], sizes: Option<&[u8]>) -> bool
     ensures { result ≡ spec.is_taken suffix.now (option_copied sizes.entry) name.now }
 {
     name.ends_with(suffix) && !has_sizes(name, sizes)

@@ -1,8 +1,9 @@
 //! What files say that were read: one after another, or by several threads that take the next file each.
-ghost use Rattle.std.specs.Prelude.{◌<◌, IfOk, get_or, length};
+ghost use Rattle.std.specs.Prelude.{◌<◌, ◌≤◌, IfOk, get_or, length};
 ghost use Rattle.cj_track.specs.Tracks.{plain_track};
 ghost use Rattle.cj_inputs.specs.Batches.{AreParsed, said_by};
-ghost use Rattle.cj_inputs.specs.Readings.{Reads};
+ghost use Rattle.cj_oem.specs.Reading.{reading};
+ghost use Rattle.cj_inputs.specs.Readings.{Reads, refused_of};
 ghost use Rattle.cj_inputs.specs.declared.batch.FileRead.{FileRead};
 
 use crate::batch::FileRead;
@@ -23,11 +24,25 @@ pub fn parse_file(
 ) -> Result<Track, InputError>
     ensures value { Reads ⊥ plain_track result (said_by as_hermite3 file.now) }
 {
-    match read_oem(alloc, file.name, &file.bytes, as_hermite3) {
+    parse_bytes(alloc, file.name, file.name, &file.bytes, as_hermite3)
+}
+
+/// The track that bytes say under a name; where they are refused, the file is told by the name that the folder has.
+pub fn parse_bytes(
+    alloc: Global,
+    name: &[u8],
+    told: &[u8],
+    bytes: &[u8],
+    as_hermite3: bool,
+) -> Result<Track, InputError>
+    requires { length bytes.now ≤ 67_108_864 }
+    ensures value { Reads ⊥ plain_track result (refused_of told.now (reading name.now bytes.now as_hermite3)) }
+{
+    match read_oem(alloc, name, bytes, as_hermite3) {
         Ok(track) => Ok(track),
         Err(OemFault::Memory) => Err(InputError::Memory),
         Err(OemFault::At { line, cause }) => Err(InputError::Refused {
-            file: Name::copy_of(alloc, file.name)?,
+            file: Name::copy_of(alloc, told)?,
             line,
             cause: FileCause::Oem(cause),
         }),

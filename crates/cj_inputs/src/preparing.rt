@@ -79,7 +79,7 @@ pub fn prepare_listed<R: Threads + Sync, F: Folder, G: Gate + Sync>(
     ensures later { F.faults folder.old ≤ F.faults folder.new }
 {
     let read = read_problem(rt, alloc, gate, folder, names, settings, workers);
-    tell_all_faults(alloc, gate, folder, names, settings, &read);
+    tell_all_faults(alloc, gate, folder, names, settings, None, &read);
     read
 }
 
@@ -113,7 +113,7 @@ fn read_problem<R: Threads + Sync, F: Folder, G: Gate + Sync>(
         settings.sizes,
         settings.limits,
     )?;
-    warn_of_names(gate, names, &entries, settings.suffix, settings.sizes);
+    warn_of_names(gate, names, &entries, settings.suffix, settings.sizes, None);
     let tracks = read_tracks(rt, alloc, gate, folder, &entries, settings, workers)?;
     let lines = read_size_lines(alloc, folder, names, settings.sizes)?;
     problem_of(alloc, gate, settings, tracks, &lines)
@@ -141,14 +141,14 @@ pub fn list_few_inputs(
     Ok(entries)
 }
 
-fn too_many_objects(count: u32) -> Status
+pub fn too_many_objects(count: u32) -> Status
     ensures { result ≡ Status.Limit (LimitFault.Objects count) }
 {
     Status::Limit(LimitFault::Objects { count })
 }
 
 /// The problem that is asked of these tracks, where a file says this of the sizes of objects.
-fn problem_of<G: Gate>(
+pub fn problem_of<G: Gate>(
     alloc: Global,
     gate: &G,
     settings: &Settings,
@@ -162,9 +162,26 @@ fn problem_of<G: Gate>(
     ensures told { Gives ⊥ plain_problem result
         (spec.within_limits settings.now.limits.object_slots (spec.case_of_run (plain_settings settings.now) (map plain_track tracks.items) (sizes_of lines.now))) }
 {
+    warn_of_tracks(alloc, gate, &tracks, window_of(settings, &tracks), lines);
+    silent_problem_of(alloc, settings, tracks, lines)
+}
+
+/// The same, of which nobody is warned.
+pub fn silent_problem_of(
+    alloc: Global,
+    settings: &Settings,
+    tracks: Vec<Track>,
+    lines: &[SizeLine],
+) -> Result<Problem, Status>
+    requires few { length tracks.items ≤ MOST_OBJECTS }
+    requires frame { HaveOneFrame tracks.items }
+    requires nodes { AreFewNodes tracks.items }
+    ensures between { IfErr result ComesBetween }
+    ensures told { Gives ⊥ plain_problem result
+        (spec.within_limits settings.now.limits.object_slots (spec.case_of_run (plain_settings settings.now) (map plain_track tracks.items) (sizes_of lines.now))) }
+{
     let sizes = sizes_of_tracks(alloc, lines, &tracks)?;
     let window = window_of(settings, &tracks);
-    warn_of_tracks(alloc, gate, &tracks, window, lines);
     let threshold = settings.threshold * 1_000_000_000;
     make_problem(tracks, sizes, window, threshold, settings.limits)
 }

@@ -1,7 +1,7 @@
 //! Tracks that are taken together.
-ghost use Rattle.std.specs.Prelude.{◌≡◌, ◌<◌, ◌≤◌, ◌+◌, ◌++◌, ◌∷◌, ◌^◌, [], map, IfOk, OnOk, true};
+ghost use Rattle.std.specs.Prelude.{◌≡◌, ◌<◌, ◌≤◌, ◌+◌, ◌++◌, ◌∷◌, ◌^◌, [], length, map, IfOk, OnOk, true};
 ghost use Rattle.cj_base.specs.Bounds.{MOST_NODES};
-ghost use Rattle.cj_case.specs.CaseLimits.{node_total};
+ghost use Rattle.cj_case.specs.CaseLimits.{AreFewNodes, node_total};
 ghost use Rattle.cj_case.specs.Frames.{HaveOneFrame};
 ghost use Rattle.cj_track.specs.Segments.{node_count as the_count};
 ghost use Rattle.cj_track.specs.Tracks.{plain_track};
@@ -24,6 +24,7 @@ pub struct Taken {
     pub ghost frame: { HaveOneFrame tracks.items },
     pub ghost counted: { nodes ≡ node_total tracks.items },
     pub ghost few: { nodes ≤ MOST_NODES },
+    pub ghost fewer: { length tracks.items ≤ nodes },
 }
 
 impl Taken {
@@ -44,16 +45,60 @@ impl Taken {
         ensures more { IfOk result (λ taken. taken.tracks.items ≡ self.tracks.items ++ track ∷ []) }
     {
         let nodes = self.nodes + node_count(&track);
-        check_limits(alloc, &self.tracks, &track, nodes, limits)?;
+        let name = track.file.as_slice();
+        check_limits(alloc, &self.tracks, &track, name, nodes, limits)?;
         let mut tracks = self.tracks;
         tracks.push(track)?;
         Ok(Taken { tracks, nodes })
     }
+
+    /// These and one more, whose file the folder has under another name, where it may stand behind them.
+    pub fn with_update(
+        self,
+        alloc: Global,
+        track: Track,
+        name: &[u8],
+        limits: Limits,
+    ) -> Result<Self, InputError>
+        ensures told { Reads ⊥ (λ taken. plain_track track) result
+            (spec.checked_after limits.nodes (map plain_track self.tracks.items) name.now (plain_track track)) }
+        ensures more { IfOk result (λ taken. taken.tracks.items ≡ self.tracks.items ++ track ∷ []) }
+    {
+        let nodes = self.nodes + node_count(&track);
+        check_limits(alloc, &self.tracks, &track, name, nodes, limits)?;
+        let mut tracks = self.tracks;
+        tracks.push(track)?;
+        Ok(Taken { tracks, nodes })
+    }
+
+    /// These tracks.
+    pub fn of(tracks: Vec<Track>) -> Self
+        requires frame { HaveOneFrame tracks.items }
+        requires few { AreFewNodes tracks.items }
+        ensures { result.tracks.items ≡ tracks.items }
+    {
+        let nodes = node_sum(&tracks);
+        Taken { tracks, nodes }
+    }
+}
+
+/// How many nodes tracks have in all.
+fn node_sum(tracks: &[Track]) -> u64
+    requires { AreFewNodes tracks.now }
+    ensures value { result ≡ node_total tracks.now }
+    ensures many { length tracks.now ≤ result }
+{
+    let mut count = 0;
+    for track in tracks {
+        count += node_count(track);
+    }
+    count
 }
 
 /// How many nodes a track has.
 pub fn node_count(track: &Track) -> u64
     ensures value { result ≡ the_count track.now.segments }
+    ensures some { 1 ≤ result }
     ensures small { result < 2 ^ 32 }
 {
     let mut count = 0;
@@ -63,23 +108,25 @@ pub fn node_count(track: &Track) -> u64
     count
 }
 
-/// Refuses a track that may not stand behind those before it. With it there are so many nodes in all.
+/// Refuses a track, whose file the folder has under this name, if it may not stand behind those before it. With it there are so many nodes in
+/// all.
 fn check_limits(
     alloc: Global,
     before: &[Track],
     track: &Track,
+    name: &[u8],
     nodes: u64,
     limits: Limits,
 ) -> Result<(), InputError>
     requires { nodes ≡ node_total before.now + the_count track.now.segments }
     ensures told { Reads ⊥ (λ done. plain_track track.now) result
-        (spec.checked_after limits.nodes (map plain_track before.now) track.now.file (plain_track track.now)) }
+        (spec.checked_after limits.nodes (map plain_track before.now) name.now (plain_track track.now)) }
     ensures frame { OnOk result (spec.has_frame_of (map plain_track before.now) (plain_track track.now) ≡ true) }
     ensures nodes { OnOk result (nodes ≤ limits.nodes) }
 {
     if !has_frame_of(before, track) {
         return Err(InputError::Refused {
-            file: Name::copy_of(alloc, track.file.as_slice())?,
+            file: Name::copy_of(alloc, name)?,
             line: 0,
             cause: FileCause::MixedFrames,
         });

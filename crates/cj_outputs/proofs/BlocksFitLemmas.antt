@@ -1,5 +1,5 @@
 -- The certificate that a run writes fits in either version, and one that is rewritten fits where the given one does.
-use Rattle.std.proofs.Common.{◌≡◌, ℕ, ◌+◌, ◌-◌, ◌^◌, ◌<◌, ◌≤◌, Bool, true, false, cond, List, [], ◌∷◌, length, map, filter, Option, Some, None, refl, subst, arith}
+use Rattle.std.proofs.Common.{◌≡◌, ℕ, ◌+◌, ◌^◌, ◌<◌, ◌≤◌, Bool, true, false, cond, List, [], ◌∷◌, length, map, filter, Option, Some, None, refl, subst, arith}
 use Rattle.std.specs.Prelude.{All, IfSome, option_and_then, option_map, slice_get}
 use Rattle.std.specs.List.{enumerate_from, filter_map, find, flat_map, fold, list_all, range_with_len}
 use Rattle.cj_interval.proofs.ListLemmas.{Each, Each-weaker, Each-always, Each-both, Each-map, Each-flat_map, All-from_each, each_at, each_from_All}

@@ -20,6 +20,7 @@ use Rattle.cj_cert.specs.Written.{box_lines, line_in_slot, shell_line, written}
 use Rattle.cj_status.specs.declared.status.Status.{Status}
 use Rattle.cj_status.specs.Steps.{◌>>=◌}
 use Rattle.cj_inputs.specs.Cases.{case_asked}
+use Rattle.cj_inputs.specs.Updates.{case_with_updates}
 use Rattle.cj_inputs.specs.CheckInputs.{PlainInputs, certificate_named, inputs_asked, report_if_named, report_named}
 use Rattle.cj_outputs.specs.declared.findings.Findings.{Findings}
 use Rattle.cj_outputs.specs.Again.{IsAcceptedLater}
@@ -87,14 +88,14 @@ all_there f (Err s) q p z is = absurd cc
 
 -- what the inputs of a check are that are there
 record AreInputs (files : List FileBytes) (checking : PlainChecking) (inputs : PlainInputs) : Type 0 where
-  case : case_asked files checking.settings ≡ Ok inputs.case
+  case : case_with_updates files checking.settings checking.update ≡ Ok inputs.case
   bytes : certificate_named files checking.certificate ≡ Ok inputs.bytes
   report : report_if_named files checking.report ≡ Ok inputs.report
 
 inputs_there : (files : List FileBytes) (checking : PlainChecking) (inputs : PlainInputs) → inputs_asked files checking ≡ Ok inputs → AreInputs files checking inputs
 unfolding inputs_asked
 inputs_there files checking inputs there =
-    let all = all_there (λ case bytes report. record { case = case; bytes = bytes; report = report }) (case_asked files checking.settings)
+    let all = all_there (λ case bytes report. record { case = case; bytes = bytes; report = report }) (case_with_updates files checking.settings checking.update)
     (certificate_named files checking.certificate) (report_if_named files checking.report) inputs there in
     record {
       case = all.3 ∙ ap (λ (x : PlainInputs). Ok x.case) all.6;
@@ -134,4 +135,11 @@ pub renews : (files : List FileBytes) (checking : PlainChecking) (inputs : Plain
     → (case_asked files checking.settings ≡ Ok inputs.case → length (text_of renewed) ≤ 1_073_741_824 → IsAcceptedLater checking.settings files (text_of renewed)) → Renews checking files renewed
 renews files checking inputs renewed there holds later =
     let are = inputs_there files checking inputs there in
-    record { case = inputs.case; read = are.case; bytes = inputs.bytes; named = are.bytes; holds = holds; later = later are.case }
+    record {
+      case = inputs.case;
+      read = are.case;
+      bytes = inputs.bytes;
+      named = are.bytes;
+      holds = holds;
+      later = λ none. later (subst (λ (u : Option (List ℕ)). case_with_updates files checking.settings u ≡ Ok inputs.case) none are.case);
+    }

@@ -76,7 +76,7 @@ of_run problem few sizes near =
 
 -- a check by this name, of no report
 abbrev by_name : PlainSettings → List ℕ → PlainChecking
-by_name settings name = record { settings = settings; certificate = name; report = None }
+by_name settings name = record { settings = settings; certificate = name; report = None; update = None }
 
 abbrev alone : PlainProblem → List ℕ → PlainInputs
 alone case bytes = record { case = case; bytes = bytes; report = None }

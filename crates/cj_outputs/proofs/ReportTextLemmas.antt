@@ -6,10 +6,13 @@ use Rattle.cj_case.specs.declared.leaf.Leaf.{Leaf}
 use Rattle.cj_case.specs.Leaves.{PlainLeaf, plain_leaves}
 use Rattle.cj_meet.specs.Closest.{PlainClosest, closest_of, some_closest}
 use Rattle.cj_meet.specs.Encounters.{encounters_of, groups_in}
-use Rattle.cj_report.specs.Report.{report_of, told}
+use Rattle.cj_report.specs.Report.{changed_of, report_of, told}
+use Rattle.cj_case.specs.Problems.{plain_problem}
+use Rattle.cj_outputs.specs.declared.changes.Changes.{Changes}
 use Rattle.cj_outputs.specs.declared.findings.Findings.{Findings}
+use Rattle.cj_outputs.specs.Changes.{AreChanges}
 use Rattle.cj_outputs.specs.Messages.{has_message}
-use Rattle.cj_outputs.specs.Outcome.{report_bytes}
+use Rattle.cj_outputs.specs.Outcome.{changed_bytes, report_bytes}
 use Rattle.cj_outputs.specs.Findings.{AreFound, case_in}
 
 -- the text that is made of findings is their report
@@ -17,12 +20,28 @@ pub report_is : (found : Findings) (leaves : List Leaf) (es : List Encounter) (x
     leaves ≡ found.leaves.items → es ≡ found.encounters.items → xs ≡ found.closest.items → bs ≡ found.messages.items
     → (let case = case_in found in (approach : List PlainLeaf → Option PlainClosest) (has : List PlainLeaf → Bool) → map some_closest xs ≡ map approach (groups_in (plain_leaves leaves) es)
     → bs ≡ map has (groups_in (plain_leaves leaves) es)
-    → text ≡ report_of case.first case.last case.threshold case.tracks (told found.with_sizes case.sizes) approach has (groups_in (plain_leaves leaves) es))
-    → text ≡ report_bytes found.with_sizes (case_in found) (plain_leaves found.leaves.items)
+    → text ≡ report_of case.first case.last case.threshold case.tracks (told found.wanted.tells_sizes case.sizes) approach has (groups_in (plain_leaves leaves) es))
+    → text ≡ report_bytes found.wanted.tells_sizes (case_in found) (plain_leaves found.leaves.items)
 report_is found leaves es xs bs text are p q r b given =
     let case = case_in found in
     let groups : groups_in (plain_leaves leaves) es ≡ encounters_of (plain_leaves found.leaves.items) = (λ i. groups_in (plain_leaves (p i)) (q i)) ∙ are.encounters.groups in
     let each = ap (map some_closest) r ∙ are.closest ∙ sym (λ i. map (closest_of case) (groups_in (plain_leaves (p i)) (q i))) in
     let noted = b ∙ are.messages ∙ sym (λ i. map (has_message case) (groups_in (plain_leaves (p i)) (q i))) in
     given (closest_of case) (has_message case) each noted
-    ∙ ap (report_of case.first case.last case.threshold case.tracks (told found.with_sizes case.sizes) (closest_of case) (has_message case)) groups
+    ∙ ap (report_of case.first case.last case.threshold case.tracks (told found.wanted.tells_sizes case.sizes) (closest_of case) (has_message case)) groups
+
+-- the text that is made of the pairs that are not unchanged is their report
+pub changes_are : (changes : Changes) (leaves : List Leaf) (es : List Encounter) (xs : List Closest) (bs : List Bool) (text : List ℕ) → AreChanges changes →
+    leaves ≡ changes.leaves.items → es ≡ changes.met.encounters.items → xs ≡ changes.met.closest.items → bs ≡ changes.met.messages.items
+    → (let case = plain_problem changes.problem in (approach : List PlainLeaf → Option PlainClosest) (has : List PlainLeaf → Bool)
+    → map some_closest xs ≡ map approach (groups_in (plain_leaves leaves) es) → bs ≡ map has (groups_in (plain_leaves leaves) es)
+    → text ≡ changed_of case.first case.last case.threshold case.tracks (told changes.tells_sizes case.sizes) approach has (groups_in (plain_leaves leaves) es))
+    → text ≡ changed_bytes changes.tells_sizes (plain_problem changes.problem) (plain_leaves changes.leaves.items)
+changes_are changes leaves es xs bs text are p q r b given =
+    let case = plain_problem changes.problem in
+    let met = are.met in
+    let groups : groups_in (plain_leaves leaves) es ≡ encounters_of (plain_leaves changes.leaves.items) = (λ i. groups_in (plain_leaves (p i)) (q i)) ∙ met.encounters.groups in
+    let each = ap (map some_closest) r ∙ met.closest ∙ sym (λ i. map (closest_of case) (groups_in (plain_leaves (p i)) (q i))) in
+    let noted = b ∙ met.messages ∙ sym (λ i. map (has_message case) (groups_in (plain_leaves (p i)) (q i))) in
+    given (closest_of case) (has_message case) each noted
+    ∙ ap (changed_of case.first case.last case.threshold case.tracks (told changes.tells_sizes case.sizes) (closest_of case) (has_message case)) groups

@@ -27,4 +27,4 @@ pub record IsNoInput (settings : PlainSettings) (name : List ℕ) : Type 0 where
 -- whatever its name, a check of such later files accepts it
 abbrev pub IsAcceptedLater : PlainSettings → List FileBytes → List ℕ → Type 0
 IsAcceptedLater settings files bytes = (name : List ℕ) (later : List FileBytes) → IsNoInput settings name → HoldAlso name bytes files later
-    → outputs_checked later (record { settings = settings; certificate = name; report = None }) ≡ Ok (accepted_output ∷ [])
+    → outputs_checked later (record { settings = settings; certificate = name; report = None; update = None }) ≡ Ok (accepted_output ∷ [])

@@ -12,8 +12,8 @@ use Rattle.cj_cert.specs.Certificates.{PlainCertificate}
 use Rattle.cj_cert_text.specs.Fits.{Fits}
 use Rattle.cj_cert.specs.Splits.{CellsSplit}
 use Rattle.cj_cert_text.specs.Texts.{text_of}
-use Rattle.cj_inputs.specs.Cases.{case_asked}
 use Rattle.cj_inputs.specs.CheckInputs.{certificate_named, report_named}
+use Rattle.cj_inputs.specs.Updates.{case_with_updates}
 use Rattle.cj_outputs.specs.Messages.{has_message}
 use Rattle.cj_outputs.specs.Outcome.{accepted_output, tells_sizes}
 use Rattle.cj_outputs.specs.SpanSplits.{SplitsTicks}
@@ -43,7 +43,7 @@ pub record VouchesReport (checking : PlainChecking) (files : List FileBytes) (ca
 -- Those of the named certificate are accepted, for the case that was asked; and where a report is named, it is that of the certificate's cells.
 pub record Vouches (checking : PlainChecking) (files : List FileBytes) : Type 0 where
   pub case : PlainProblem
-  pub read : case_asked files checking.settings ≡ Ok case
+  pub read : case_with_updates files checking.settings checking.update ≡ Ok case
   pub bytes : List ℕ
   pub named : certificate_named files checking.certificate ≡ Ok bytes
   pub holds : AcceptedText case bytes

@@ -1,5 +1,5 @@
 -- What is found in a problem, and what is put of it.
-use Rattle.std.specs.Prelude.{◌≡◌, ◌≤◌, List, length, map, Result, Ok, Err}
+use Rattle.std.specs.Prelude.{◌≡◌, ℕ, ◌≤◌, List, [], length, map, Result, Ok, Err}
 use Rattle.cj_base.specs.Bounds.{MOST_LEAVES}
 use Rattle.cj_io.specs.declared.file.FileBytes.{FileBytes}
 use Rattle.cj_case.specs.PlainProblems.{PlainProblem}
@@ -10,11 +10,14 @@ use Rattle.cj_bezier.specs.MeasuredObjects.{AreMeasured}
 use Rattle.cj_meet.specs.Closest.{closest_of, some_closest}
 use Rattle.cj_meet.specs.Encounters.{AreEncounters, encounters_of, groups_in}
 use Rattle.cj_report.specs.Counts.{tally_of}
+use Rattle.cj_report.specs.Summary.{kept_line}
+use Rattle.cj_outputs.specs.declared.findings.Behind.{Behind}
+use Rattle.cj_outputs.specs.declared.findings.Behind.TheVariants.{Nothing, CheckAccepted, Kept}
 use Rattle.cj_outputs.specs.declared.findings.Findings.{Findings}
 use Rattle.cj_status.specs.declared.status.Status.{Status}
 use Rattle.cj_status.specs.declared.status.Status.TheVariants as status
 use Rattle.cj_outputs.specs.Messages.{PlainOrigin, has_message, message_outputs}
-use Rattle.cj_outputs.specs.Outcome.{cert_bytes, cert_output, outputs_with, report_bytes, report_output, summary_bytes, summary_output, selfrun_output}
+use Rattle.cj_outputs.specs.Outcome.{cert_bytes, cert_output, check_accepted, outputs_with, report_bytes, report_output, summary_with}
 use Rattle.cj_outputs.specs.Summaries.{tally_with}
 
 -- the case whose findings they are
@@ -33,27 +36,29 @@ pub record AreFound (found : Findings) : Type 0 where
 
 -- the output of the report
 abbrev pub report_in : Findings → FileBytes
-report_in found = report_output (report_bytes found.with_sizes (case_in found) (plain_leaves found.leaves.items))
+report_in found = report_output (report_bytes found.wanted.tells_sizes (case_in found) (plain_leaves found.leaves.items))
 
 -- the output of the certificate
 abbrev pub cert_in : Findings → FileBytes
-cert_in found = cert_output (cert_bytes found.version (case_in found))
+cert_in found = cert_output (cert_bytes found.wanted.version (case_in found))
 
 -- the outputs of the messages
 abbrev pub messages_in : PlainOrigin → Findings → List FileBytes
 messages_in origin found = message_outputs (case_in found) origin (encounters_of (plain_leaves found.leaves.items))
 
+-- the lines behind the summary
+abbrev pub lines_of : Behind → List ℕ
+lines_of Nothing = []
+lines_of CheckAccepted = check_accepted
+lines_of (Kept pairs) = kept_line pairs
+
 -- the output of the summary
 abbrev pub summary_in : Findings → FileBytes
-summary_in found = summary_output (summary_bytes (case_in found) (plain_leaves found.leaves.items))
-
--- the output of a made-up catalogue that is screened
-abbrev pub selfrun_in : Findings → FileBytes
-selfrun_in found = selfrun_output (case_in found) (plain_leaves found.leaves.items)
+summary_in found = summary_with (lines_of found.behind) (case_in found) (plain_leaves found.leaves.items)
 
 -- all outputs, in the order in which they are put
 abbrev pub outputs_in : PlainOrigin → Findings → List FileBytes
-outputs_in origin found = outputs_with found.with_sizes found.version origin (case_in found) (plain_leaves found.leaves.items)
+outputs_in origin found = outputs_with found.wanted.tells_sizes found.wanted.version origin (lines_of found.behind) (case_in found) (plain_leaves found.leaves.items)
 
 -- how a run ends by its last step
 abbrev pub ended : Result (Unit {0}) Status → Status

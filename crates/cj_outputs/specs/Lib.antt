@@ -1,4 +1,5 @@
 pub mod Again
+pub mod Changes
 pub mod Checks
 pub mod Differences
 pub mod Findings

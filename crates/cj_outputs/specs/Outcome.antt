@@ -1,23 +1,26 @@
 -- How a run over told files ends, and what it puts.
-use Rattle.std.specs.Prelude.{◌≡◌, ◌⊎◌, ℕ, Bool, false, nat_le, if◌then◌else◌, List, [], ◌∷◌, ◌++◌, length, Option, Some, None, is_some, Result, Ok, Err, codes}
+use Rattle.std.specs.Prelude.{◌≡◌, ◌⊎◌, ℕ, Bool, false, nat_le, if◌then◌else◌, List, [], ◌∷◌, ◌++◌, filter, length, Option, Some, None, is_some, Result, Ok, Err, codes}
 use Rattle.std.specs.Fmt.{decimal}
 use Rattle.std.specs.Str.{bytes_eq}
 use Rattle.cj_io.specs.declared.file.FileBytes.{FileBytes}
 use Rattle.cj_io.specs.Files.{IsPrefix}
 use Rattle.cj_base.specs.Limits.{USUAL}
 use Rattle.cj_words.specs.declared.option.UsageFault.{UsageFault}
-use Rattle.cj_words.specs.Commands.{PlainCommand, Screens, Checks, Generates, Selfruns, Rewrites, Thins, PlainChecking, PlainScreening, PlainSelfrun, command_of}
+use Rattle.cj_words.specs.Commands.{PlainCommand, Screens, Checks, Generates, Selfruns, Rewrites, Thins, Rescreens, PlainChecking, PlainRescreening, PlainScreening, PlainSelfrun, command_of}
 use Rattle.cj_words.specs.Settings.{PlainSettings}
 use Rattle.cj_gen.specs.Catalogues.{catalogue_of}
+use Rattle.cj_case.specs.Pairs.{pairs_of}
 use Rattle.cj_case.specs.PlainProblems.{PlainProblem}
+use Rattle.cj_bezier.specs.Candidates.{is_candidate_anew, is_kept_unchanged}
 use Rattle.cj_inputs.specs.Cases.{case_asked}
 use Rattle.cj_inputs.specs.CheckInputs.{inputs_asked}
+use Rattle.cj_inputs.specs.Updates.{PlainUpdating, cases_asked}
 use Rattle.cj_case.specs.Leaves.{PlainLeaf}
 use Rattle.cj_meet.specs.Closest.{closest_of}
 use Rattle.cj_meet.specs.Encounters.{encounters_of}
-use Rattle.cj_cells.specs.Lists.{list_candidates}
-use Rattle.cj_report.specs.Report.{report_of, told}
-use Rattle.cj_report.specs.Summary.{summary_of}
+use Rattle.cj_cells.specs.Lists.{list_candidates, list_of}
+use Rattle.cj_report.specs.Report.{changed_of, report_of, told}
+use Rattle.cj_report.specs.Summary.{changed_summary, kept_line, summary_of}
 use Rattle.cj_cert.specs.Certificates.{PlainCertificate}
 use Rattle.cj_cert_text.specs.Reading.{Fault, reading}
 use Rattle.cj_cert_text.specs.Texts.{text_of}
@@ -71,19 +74,23 @@ cert_output bytes = output (codes "screen.cert") bytes
 abbrev pub summary_output : List ℕ → FileBytes
 summary_output bytes = output (codes "-") bytes
 
--- the outputs behind the report and the certificate: the messages by number, and the summary for standard output
-abbrev pub further_outputs : PlainOrigin → PlainProblem → List PlainLeaf → List FileBytes
-further_outputs origin case leaves = message_outputs case origin (encounters_of leaves) ++ summary_output (summary_bytes case leaves) ∷ []
+-- the summary for standard output, with these lines behind it
+abbrev pub summary_with : List ℕ → PlainProblem → List PlainLeaf → FileBytes
+summary_with behind case leaves = summary_output (summary_bytes case leaves ++ behind)
+
+-- the outputs behind the report and the certificate: the messages by number, and the summary with these lines behind it
+abbrev pub further_outputs : PlainOrigin → List ℕ → PlainProblem → List PlainLeaf → List FileBytes
+further_outputs origin behind case leaves = message_outputs case origin (encounters_of leaves) ++ summary_with behind case leaves ∷ []
 
 -- the outputs of a case with these leaves: the report, the certificate, and those
-abbrev pub outputs_with : Bool → CertVersion → PlainOrigin → PlainProblem → List PlainLeaf → List FileBytes
-outputs_with with_sizes version origin case leaves =
-    report_output (report_bytes with_sizes case leaves) ∷ cert_output (cert_bytes version case) ∷ further_outputs origin case leaves
+abbrev pub outputs_with : Bool → CertVersion → PlainOrigin → List ℕ → PlainProblem → List PlainLeaf → List FileBytes
+outputs_with with_sizes version origin behind case leaves =
+    report_output (report_bytes with_sizes case leaves) ∷ cert_output (cert_bytes version case) ∷ further_outputs origin behind case leaves
 
--- the outputs of a case, where it has at most so many leaves
-unfoldable pub outputs_within : ℕ → Bool → CertVersion → PlainOrigin → PlainProblem → Result (List FileBytes) Status
-outputs_within limit with_sizes version origin case =
-    within_cells limit (list_candidates case) >>= λ leaves. Ok (outputs_with with_sizes version origin case leaves)
+-- the outputs of a case, where it has at most so many leaves, with these lines behind the summary
+unfoldable pub outputs_within : ℕ → Bool → CertVersion → PlainOrigin → List ℕ → PlainProblem → Result (List FileBytes) Status
+outputs_within limit with_sizes version origin behind case =
+    within_cells limit (list_candidates case) >>= λ leaves. Ok (outputs_with with_sizes version origin behind case leaves)
 
 -- the report is to tell the sizes
 abbrev pub tells_sizes : PlainSettings → Bool
@@ -97,7 +104,56 @@ origin_of now screening = record { created = now; originator = screening.origina
 unfoldable pub outputs_screened : List FileBytes → ℕ → PlainScreening → Result (List FileBytes) Status
 outputs_screened files now screening = do
   case ← case_asked files screening.settings
-  outputs_within screening.cells (tells_sizes screening.settings) screening.version (origin_of now screening) case
+  outputs_within screening.cells (tells_sizes screening.settings) screening.version (origin_of now screening) [] case
+
+-- ---- screening again
+
+-- how many pairs of the new case are kept and unchanged
+unfoldable pub kept_unchanged : PlainProblem → PlainProblem → ℕ
+kept_unchanged old new = length (filter (is_kept_unchanged old new) (pairs_of (length new.tracks)))
+
+-- the outputs of the new case, where it and the old one have at most so many leaves each: behind the summary stands how many pairs are kept and
+-- unchanged
+unfoldable pub outputs_again : ℕ → Bool → CertVersion → PlainOrigin → PlainProblem → PlainProblem → Result (List FileBytes) Status
+outputs_again limit with_sizes version origin old new = do
+  base ← within_cells limit (list_candidates old)
+  outputs_within limit with_sizes version origin (kept_line (kept_unchanged old new)) new
+
+-- the leaves of the new case of those pairs alone that are not unchanged
+unfoldable pub list_anew : PlainProblem → PlainProblem → List PlainLeaf
+list_anew old new = list_of (is_candidate_anew old new) new
+
+-- the report of a case with these leaves of the pairs that are not unchanged
+abbrev pub changed_bytes : Bool → PlainProblem → List PlainLeaf → List ℕ
+changed_bytes with_sizes case leaves =
+    changed_of case.first case.last case.threshold case.tracks (told with_sizes case.sizes) (closest_of case) (has_message case) (encounters_of leaves)
+
+abbrev pub changed_output : List ℕ → FileBytes
+changed_output bytes = output (codes "changed.report") bytes
+
+-- the outputs of these leaves: that report, and a summary of it
+abbrev pub outputs_of_changes : Bool → PlainProblem → ℕ → List PlainLeaf → List FileBytes
+outputs_of_changes with_sizes case kept leaves =
+    changed_output (changed_bytes with_sizes case leaves) ∷ summary_output (changed_summary (length case.tracks) (length (encounters_of leaves)) kept) ∷ []
+
+-- those of the new case, where at most so many leaves are of pairs that are not unchanged
+unfoldable pub outputs_changed : ℕ → Bool → PlainProblem → PlainProblem → Result (List FileBytes) Status
+outputs_changed limit with_sizes old new =
+    within_cells limit (list_anew old new) >>= λ leaves. Ok (outputs_of_changes with_sizes new (kept_unchanged old new) leaves)
+
+-- what is asked of the cases before and after the updates at this tick: all outputs, or those of the pairs that are not unchanged
+abbrev pub outputs_updated : ℕ → PlainRescreening → PlainUpdating → Result (List FileBytes) Status
+outputs_updated now asked cases =
+    if asked.changed then outputs_changed asked.screening.cells (tells_sizes asked.screening.settings) cases.base cases.new
+    else outputs_again asked.screening.cells (tells_sizes asked.screening.settings) asked.screening.version (origin_of now asked.screening) cases.base cases.new
+
+-- the outputs of a screening again at this tick, or the first cause for which there is none
+unfoldable pub outputs_rescreened : List FileBytes → ℕ → PlainRescreening → Result (List FileBytes) Status
+outputs_rescreened files now asked = do
+  cases ← cases_asked files asked
+  outputs_updated now asked cases
+
+-- ---- what else is asked
 
 -- how many files were made
 abbrev pub count_bytes : ℕ → List ℕ
@@ -168,9 +224,13 @@ settings_of_selfrun selfrun = record { threshold = selfrun.threshold; from = Non
 unfoldable pub case_of_selfrun : PlainSelfrun → Result PlainProblem Status
 case_of_selfrun selfrun = case_asked (catalogue_of selfrun.recipe.seed selfrun.recipe.objects selfrun.recipe.minutes) (settings_of_selfrun selfrun)
 
+-- behind the summary of a catalogue: its certificate is accepted
+abbrev pub check_accepted : List ℕ
+check_accepted = codes "CHECK ACCEPTED" ++ 10 ∷ []
+
 -- for standard output: the summary of a catalogue that is screened, and that its certificate is accepted
 abbrev pub selfrun_output : PlainProblem → List PlainLeaf → FileBytes
-selfrun_output case leaves = summary_output (summary_bytes case leaves ++ (codes "CHECK ACCEPTED" ++ 10 ∷ []))
+selfrun_output case leaves = summary_with check_accepted case leaves
 
 -- the output of a case, where it has at most so many leaves
 abbrev pub selfrun_within : ℕ → PlainProblem → Result (List FileBytes) Status
@@ -190,6 +250,7 @@ outputs_asked files now (Generates recipe) = Ok (outputs_made (catalogue_of reci
 outputs_asked files now (Selfruns selfrun) = outputs_of_selfrun selfrun
 outputs_asked files now (Rewrites checking) = outputs_rewritten files checking
 outputs_asked files now (Thins thinning) = outputs_thinned files thinning
+outputs_asked files now (Rescreens rescreening) = outputs_rescreened files now rescreening
 
 -- the outputs that the words ask of the files at this tick, or the first cause for which there is none
 unfoldable pub outputs_of : List (List ℕ) → List FileBytes → ℕ → Result (List FileBytes) Status
@@ -292,6 +353,17 @@ EndsSelfrun status.ReadFault = ⊥
 EndsSelfrun status.WriteFault = Unit {0}
 EndsSelfrun (status.Limit fault) = Unit {0}
 EndsSelfrun status.OutOfMemory = Unit {0}
+
+-- how a screening again may end: no certificate is judged
+abbrev pub EndsRescreening : Status → Type 0
+EndsRescreening status.Ok = Unit {0}
+EndsRescreening (status.NotAccepted line cause) = ⊥
+EndsRescreening (status.Usage fault) = ⊥
+EndsRescreening (status.BadFile file line cause) = Unit {0}
+EndsRescreening status.ReadFault = Unit {0}
+EndsRescreening status.WriteFault = Unit {0}
+EndsRescreening (status.Limit fault) = Unit {0}
+EndsRescreening status.OutOfMemory = Unit {0}
 
 -- how a catalogue that is made up may end: it is written, a write failed, or memory ran out
 abbrev pub EndsMaking : Status → Type 0

@@ -1,17 +1,23 @@
+use crate::wanted::Wanted;
 use cj_case::{Closest, Encounter, Leaf, Measured, Problem};
-use cj_formats::CertVersion;
 use cj_report::Counts;
+
+/// What stands behind a summary.
+#[derive(Clone, Copy, Debug, PartialEq, Eq)]
+pub enum Behind {
+    Nothing,
+    /// That the certificate is accepted.
+    CheckAccepted,
+    /// How many pairs are kept and unchanged, of a screening again.
+    Kept(u64),
+}
 
 /// All that is found in a problem. After it a run can fail only for want of memory or in a write.
 #[derive(Debug, Drop)]
 pub struct Findings {
     pub problem: Problem,
-    /// Whether the report tells the sizes of its objects.
-    pub with_sizes: bool,
-    /// How many workers found it, and are to make its texts.
-    pub workers: u32,
-    /// The version of its certificate.
-    pub version: CertVersion,
+    /// How it was found, and what is wanted of its outputs.
+    pub wanted: Wanted,
     /// The shells and boxes of its objects.
     pub measured: Measured,
     /// The leaves of all candidates, in order of pair and time.
@@ -24,4 +30,6 @@ pub struct Findings {
     pub messages: Vec<bool>,
     /// What the summary tells.
     pub counts: Counts,
+    /// What stands behind it.
+    pub behind: Behind,
 }

@@ -3,6 +3,7 @@
 #![tactic(auto)]
 
 mod catalogues;
+mod changes;
 mod checking;
 mod counting;
 mod differing;
@@ -16,16 +17,19 @@ mod reporting;
 mod rewriting;
 mod thinning;
 mod vouching;
+mod wanted;
 
 pub use catalogues::put_catalogue;
+pub use changes::{Changes, put_changes};
 pub use checking::check_certificate;
 pub use counting::{CandidateCounts, count};
-pub use findings::Findings;
+pub use findings::{Behind, Findings};
 pub use later::accepted_later;
 pub use meetings::{Meetings, find_meetings};
 pub use messages::note_messages;
 pub use origin::Origin;
 pub use putting::{begin, put};
-pub use reporting::{put_outputs, tells_sizes};
+pub use reporting::{put_outputs, put_summary};
 pub use rewriting::{put_rewritten, rewrite_certificate};
 pub use thinning::{put_thinned, stays_within};
+pub use wanted::Wanted;

@@ -1,5 +1,5 @@
 //! Putting what is due of the findings onto a shelf, output by output.
-ghost use Rattle.std.specs.Prelude.{◌≡◌, ◌≤◌, List, [], ◌∷◌, Some, Err, IfErr, IfOk};
+ghost use Rattle.std.specs.Prelude.{◌≡◌, ◌≤◌, List, [], ◌∷◌, ◌++◌, Some, Err, IfErr, IfOk, OnOk};
 ghost use Rattle.cj_io.specs.Faults.{Rose};
 ghost use Rattle.cj_io.specs.Parts.{joined};
 ghost use Rattle.cj_io.specs.declared.file.FileBytes.{FileBytes};
@@ -7,13 +7,13 @@ ghost use Rattle.cj_formats.specs.declared.cert_version.CertVersion.TheVariants.
 ghost use Rattle.cj_cert.specs.Certificates.{plain_certificate};
 ghost use Rattle.cj_blocks.specs.Rewritten.{written_in};
 ghost use Rattle.cj_cert_text.specs.TextLeft.{text_left};
-ghost use Rattle.cj_outputs.specs.Findings.{AreFound, case_in, cert_in, ended, outputs_in, report_in, summary_in};
+ghost use Rattle.cj_outputs.specs.Findings.{AreFound, case_in, cert_in, ended, lines_of, outputs_in, report_in, summary_in};
 ghost use Rattle.cj_outputs.specs.Origins.{plain_origin};
 ghost use Rattle.cj_outputs.specs.Outcome as spec;
 ghost use Rattle.cj_outputs.specs.Outcome.{ComesOfPuts, Leaves, cert_bytes};
 ghost use Rattle.cj_words.specs.Settings.{plain_settings};
 
-use crate::findings::Findings;
+use crate::findings::{Behind, Findings};
 use crate::messages::put_messages;
 use crate::origin::Origin;
 use crate::putting::{put, put_made, put_parts};
@@ -22,7 +22,7 @@ use cj_cert::Certificate;
 use cj_cert_text::{CertificateText, cert_parts};
 use cj_formats::CertVersion;
 use cj_io::{Shelf, StreamShelf};
-use cj_report::{report_text, summary_text};
+use cj_report::{push_kept, report_text, summary_text};
 use cj_sieve::kept_pairs;
 use cj_status::Status;
 use cj_words::Settings;
@@ -61,7 +61,7 @@ fn put_report<S: Shelf>(alloc: Global, shelf: &mut S, found: &Findings) -> Resul
     let report = report_text(
         alloc,
         &found.problem,
-        found.with_sizes,
+        found.wanted.tells_sizes,
         &found.leaves,
         &found.encounters,
         &found.closest,
@@ -83,7 +83,7 @@ fn put_certificate<R: Threads + Sync, S: StreamShelf>(
     ensures leaves { (old : List FileBytes) → S.outputs shelf.old ≡ Some old → Leaves (ended result) (Ok (cert_in found.now ∷ [])) old (S.outputs shelf.new) }
     ensures later { S.faults shelf.old ≤ S.faults shelf.new }
 {
-    match found.version {
+    match found.wanted.version {
         CertVersion::One => {
             let mut text = certificate_text(alloc, found)?;
             put_made(rt, alloc, shelf, b"screen.cert", &mut text)
@@ -102,12 +102,12 @@ fn certificate_text(alloc: Global, found: &Findings) -> Result<CertificateText<'
 {
     let Findings {
         problem,
-        workers,
+        wanted,
         measured,
         leaves,
         ..
     } = found;
-    CertificateText::new(alloc, problem, measured, leaves, *workers)
+    CertificateText::new(alloc, problem, measured, leaves, wanted.workers)
 }
 
 /// The text of the certificate in version 2, in parts.
@@ -120,7 +120,7 @@ fn parts_by_blocks<R: Threads + Sync>(
     ensures { IfOk result (λ parts. joined parts.items ≡ cert_bytes Two (case_in found.now)) }
 {
     let certificate = certificate_by_blocks(alloc, found)?;
-    cert_parts(rt, alloc, &certificate, found.workers)
+    cert_parts(rt, alloc, &certificate, found.wanted.workers)
 }
 
 /// The certificate in version 2, with blocks by the pairs that are kept.
@@ -143,16 +143,28 @@ fn certificate_by_blocks(alloc: Global, found: &Findings) -> Result<Certificate,
     certificate_in_blocks(alloc, problem, measured, &kept, leaves)
 }
 
-/// Puts the summary.
-fn put_summary<S: Shelf>(alloc: Global, shelf: &mut S, found: &Findings) -> Result<(), Status>
+/// Puts the summary, and what stands behind it.
+pub fn put_summary<S: Shelf>(alloc: Global, shelf: &mut S, found: &Findings) -> Result<(), Status>
     requires { AreFound found.now }
     ensures comes { IfErr result ComesOfPuts }
     ensures write { result ≡ Err Status.WriteFault → Rose (S.faults shelf.old) (S.faults shelf.new) }
     ensures leaves { (old : List FileBytes) → S.outputs shelf.old ≡ Some old → Leaves (ended result) (Ok (summary_in found.now ∷ [])) old (S.outputs shelf.new) }
     ensures later { S.faults shelf.old ≤ S.faults shelf.new }
 {
-    let summary = summary_text(alloc, &found.counts)?;
+    let mut summary = summary_text(alloc, &found.counts)?;
+    push_behind(&mut summary, found.behind)?;
     put(alloc, shelf, b"-", &summary)
+}
+
+/// Adds what stands behind a summary.
+fn push_behind(text: &mut Vec<u8>, behind: Behind) -> Result<(), AllocError>
+    ensures { OnOk result (text.new.items ≡ text.old.items ++ lines_of behind) }
+{
+    match behind {
+        Behind::Nothing => Ok(()),
+        Behind::CheckAccepted => text.extend_from_slice(b"CHECK ACCEPTED\n"),
+        Behind::Kept(pairs) => push_kept(text, pairs),
+    }
 }
 
 /// Whether the report tells the sizes: the command line names a file of them.

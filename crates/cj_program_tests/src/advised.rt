@@ -120,7 +120,7 @@ fn hint_of(alloc: Global, line: &str) -> Result<Vec<u8>, AllocError> {
     hint_text(alloc, &Status::Usage(UsageFault::Words), Some(&words))
 }
 
-const SLIPS: [(&str, &[u8]); 27] = [
+const SLIPS: [(&str, &[u8]); 30] = [
     (
         "screen . --treshold 1000",
         b"hint: --treshold is no option of screen; nearest: --threshold\nhint: conj screen --help lists its options\n",
@@ -154,6 +154,18 @@ const SLIPS: [(&str, &[u8]); 27] = [
         b"hint: -seed is no option of selfrun; nearest: --seed\nhint: conj selfrun --help lists its options\n",
     ),
     (
+        "rescreen . --to 2025-01-01T00:00:00",
+        b"hint: rescreen wants --from\nhint: old and new files are screened over one window: give --from and --to\n",
+    ),
+    (
+        "rescreen . --from 2025-01-01T00:00:00 --to 2025-01-01T00:00:00 --rtn --changed",
+        b"hint: --rtn does not stand beside --changed\nhint: changed pairs alone have no messages and no certificate\n",
+    ),
+    (
+        "rescreen . --changed=1",
+        b"hint: --changed has no value\nhint: write it alone\n",
+    ),
+    (
         "screen . --suffix x --suffix y",
         b"hint: --suffix stands twice\nhint: leave one of the two out\n",
     ),
@@ -183,11 +195,11 @@ const SLIPS: [(&str, &[u8]); 27] = [
     ),
     (
         "check . --rtn",
-        b"hint: --rtn is no option of check; nearest: --to\nhint: it is an option of screen\n",
+        b"hint: --rtn is no option of check; nearest: --to\nhint: it is an option of screen, rescreen\n",
     ),
     (
         "thin . --sizes x",
-        b"hint: --sizes is no option of thin; nearest: --suffix\nhint: it is an option of screen, check, rewrite\n",
+        b"hint: --sizes is no option of thin; nearest: --suffix\nhint: it is an option of screen, check, rewrite, rescreen\n",
     ),
     (
         "thin . --within",
@@ -215,7 +227,7 @@ const SLIPS: [(&str, &[u8]); 27] = [
     ),
     (
         "scren .",
-        b"hint: scren is no command\nhint: it is screen, check, generate, selfrun, rewrite or thin; see conj --help\n",
+        b"hint: scren is no command\nhint: screen, rescreen, check, rewrite, generate, selfrun or thin; conj --help\n",
     ),
     (
         "screen . --help",
@@ -409,7 +421,9 @@ fn option_behind(option: Opt) -> Option<Opt> {
         Opt::Minutes => Some(Opt::AsHermite3),
         Opt::AsHermite3 => Some(Opt::Sizes),
         Opt::Sizes => Some(Opt::CertVersion),
-        Opt::CertVersion => Some(Opt::Report),
+        Opt::CertVersion => Some(Opt::Update),
+        Opt::Update => Some(Opt::Changed),
+        Opt::Changed => Some(Opt::Report),
         Opt::Report => Some(Opt::Out),
         Opt::Out => Some(Opt::CertDir),
         Opt::CertDir => Some(Opt::Rtn),
@@ -428,7 +442,8 @@ fn verb_behind(verb: Verb) -> Option<Verb> {
         Verb::Generate => Some(Verb::Selfrun),
         Verb::Selfrun => Some(Verb::Rewrite),
         Verb::Rewrite => Some(Verb::Thin),
-        Verb::Thin => None,
+        Verb::Thin => Some(Verb::Rescreen),
+        Verb::Rescreen => None,
     }
 }
 
@@ -448,7 +463,7 @@ fn no_option_and_no_command_is_left_out(rt: HostRuntime) {
     assert_eq!(rt; due, None);
 }
 
-const NOTICES: [(&str, Option<Notice>); 21] = [
+const NOTICES: [(&str, Option<Notice>); 22] = [
     ("--help", Some(Notice::Help)),
     ("-h", Some(Notice::Help)),
     ("--version", Some(Notice::Version)),
@@ -460,6 +475,7 @@ const NOTICES: [(&str, Option<Notice>); 21] = [
     ("rewrite --help", Some(Notice::CommandHelp(Verb::Rewrite))),
     ("rewrite --version", Some(Notice::Version)),
     ("thin --help", Some(Notice::CommandHelp(Verb::Thin))),
+    ("rescreen --help", Some(Notice::CommandHelp(Verb::Rescreen))),
     ("--explain Words", Some(Notice::Explanation(Cause::Words))),
     ("--explain words", Some(Notice::NoCause)),
     ("--explain --help", Some(Notice::NoCause)),
@@ -568,6 +584,7 @@ fn the_help_of_a_command_and_the_version_as_they_are_shown(rt: HostRuntime) {
         b"KVN".as_slice(),
         b"CONJ-CERT 1 and 2".as_slice(),
         b"CONJ-REPORT 1".as_slice(),
+        b"CONJ-CHANGED 1".as_slice(),
     ] {
         assert!(rt; has(&text, name));
     }

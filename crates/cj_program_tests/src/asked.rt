@@ -61,6 +61,7 @@ fn what_is_left_out(rt: HostRuntime) {
                 settings: USUAL,
                 certificate: b"screen.cert",
                 report: None,
+                update: None,
             }),
         ),
         (
@@ -69,6 +70,7 @@ fn what_is_left_out(rt: HostRuntime) {
                 settings: USUAL,
                 certificate: b"screen.cert",
                 report: None,
+                update: None,
             }),
         ),
         ("generate .", Command::Generate(USUAL_RECIPE)),
@@ -138,6 +140,7 @@ fn all_that_can_be_asked_of_a_check(rt: HostRuntime) {
         },
         certificate: b"other.cert",
         report: Some(b"other.report"),
+        update: None,
     };
     assert_eq!(rt; read_command(&words), Ok(Command::Check(checking)));
 }

@@ -36,6 +36,17 @@ fn a_run_reads_the_files_with_its_suffix_and_that_of_sizes(rt: HostRuntime) {
     assert!(rt; inputs.have(b"a.oem.thin"));
     assert!(rt; !inputs.have(b"a.oem"));
     assert!(rt; !inputs.have(b"screen.report"));
+    let words = words_of(
+        rt.alloc(),
+        "rescreen d --from 2025-01-01T00:00:00 --to 2025-01-01T00:00:00",
+    )
+    .expect(&rt, "memory");
+    let inputs = Inputs::of(&words);
+    assert!(rt; inputs.have(b"a.oem"));
+    assert!(rt; inputs.have(b"a.oem.new"));
+    assert!(rt; !inputs.have(b"screen.report"));
+    let words = words_of(rt.alloc(), "check d --update .cert").expect(&rt, "memory");
+    assert!(rt; Inputs::of(&words).have(b"a.oem.cert"));
     let words = words_of(rt.alloc(), "generate d --seed 3").expect(&rt, "memory");
     assert!(rt; !Inputs::of(&words).have(b"GEN00001.oem"));
     let words = words_of(rt.alloc(), "screen d --sizes").expect(&rt, "memory");

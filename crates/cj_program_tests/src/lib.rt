@@ -4,6 +4,8 @@
 #[cfg(test)]
 mod advised;
 #[cfg(test)]
+mod again;
+#[cfg(test)]
 mod asked;
 #[cfg(test)]
 mod directories;

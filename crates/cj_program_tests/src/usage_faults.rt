@@ -33,6 +33,10 @@ pub const BAD_VERSION: Option<UsageFault> = Some(UsageFault::Value {
     option: Opt::CertVersion,
 });
 
+pub const BAD_UPDATE: Option<UsageFault> = Some(UsageFault::Value {
+    option: Opt::Update,
+});
+
 pub const BAD_REPORT: Option<UsageFault> = Some(UsageFault::Value {
     option: Opt::Report,
 });

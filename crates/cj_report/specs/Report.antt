@@ -72,13 +72,23 @@ encounter_lines approach has_message n encounter =
 abbrev pub told : Bool → List ℕ → List ℕ
 told with_sizes sizes = if with_sizes then sizes else []
 
--- the report: its window from the first tick to the last, its threshold in nm, its objects, the sizes that are told, its encounters
+-- a report under a title: its window from the first tick to the last, its threshold in nm, its objects, the sizes that are told, its encounters
 -- with the closest approaches that they have by the one function and the messages that they have by the other
-abbrev pub report_of : ℕ → ℕ → ℕ → List PlainTrack → List ℕ → (List PlainLeaf → Option PlainClosest) → (List PlainLeaf → Bool) → List (List PlainLeaf) → List ℕ
-report_of first last threshold objects sizes approach has_message encounters =
-    line_of_words (codes "CONJ-REPORT" ∷ codes "1" ∷ [])
+abbrev pub report_titled : List ℕ → ℕ → ℕ → ℕ → List PlainTrack → List ℕ → (List PlainLeaf → Option PlainClosest) → (List PlainLeaf → Bool) → List (List PlainLeaf) → List ℕ
+report_titled title first last threshold objects sizes approach has_message encounters =
+    line_of_words (title ∷ codes "1" ∷ [])
     ++ line_of_words (codes "WINDOW" ∷ epoch_of first ∷ epoch_of last ∷ [])
     ++ line_of_words (codes "THRESHOLD" ∷ decimal threshold ∷ [])
     ++ numbered (object_lines sizes) 1 objects
     ++ numbered (encounter_lines approach has_message) 1 encounters
     ++ line_of_words (codes "END" ∷ [])
+
+-- the report
+abbrev pub report_of : ℕ → ℕ → ℕ → List PlainTrack → List ℕ → (List PlainLeaf → Option PlainClosest) → (List PlainLeaf → Bool) → List (List PlainLeaf) → List ℕ
+report_of first last threshold objects sizes approach has_message encounters =
+    report_titled (codes "CONJ-REPORT") first last threshold objects sizes approach has_message encounters
+
+-- the report of those encounters alone whose pairs are not unchanged
+abbrev pub changed_of : ℕ → ℕ → ℕ → List PlainTrack → List ℕ → (List PlainLeaf → Option PlainClosest) → (List PlainLeaf → Bool) → List (List PlainLeaf) → List ℕ
+changed_of first last threshold objects sizes approach has_message encounters =
+    report_titled (codes "CONJ-CHANGED") first last threshold objects sizes approach has_message encounters

@@ -40,3 +40,11 @@ summary_of t =
     ++ count_line (codes "UNDECIDED") t.undecided
     ++ count_line (codes "ENCOUNTERS") t.encounters
     ++ count_line (codes "MESSAGES") t.messages
+
+-- behind it, of a screening again: how many pairs are kept and unchanged
+abbrev pub kept_line : ℕ → List ℕ
+kept_line kept = count_line (codes "KEPT") kept
+
+-- the summary of the pairs that are not unchanged alone: the objects, the encounters of these pairs, and that line
+abbrev pub changed_summary : ℕ → ℕ → ℕ → List ℕ
+changed_summary objects encounters kept = count_line (codes "OBJECTS") objects ++ count_line (codes "ENCOUNTERS") encounters ++ kept_line kept

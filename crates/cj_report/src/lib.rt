@@ -10,5 +10,5 @@ mod span_line;
 mod summary;
 
 pub use counts::Counts;
-pub use report::report_text;
-pub use summary::summary_text;
+pub use report::{changed_text, report_text};
+pub use summary::{changed_summary_text, push_kept, summary_text};

@@ -3,7 +3,7 @@ ghost use Rattle.cj_case.specs.Leaves.{PlainLeaf, plain_leaves};
 ghost use Rattle.cj_meet.specs.Closest.{PlainClosest, some_closest};
 ghost use Rattle.cj_meet.specs.Encounters.{Describes, groups_in};
 ghost use Rattle.cj_case.specs.Problems.{plain_problem};
-ghost use Rattle.cj_report.specs.Report.{report_of, told};
+ghost use Rattle.cj_report.specs.Report.{changed_of, report_of, report_titled, told};
 
 use crate::encounters::push_encounters;
 use crate::lines::push_line;
@@ -34,8 +34,73 @@ pub fn report_text(
         → text.items ≡ report_of case.first case.last case.threshold case.tracks (told with_sizes case.sizes) approach has_message
         (groups_in (plain_leaves leaves.now) encounters.now)) }
 {
+    titled_text(
+        alloc,
+        b"CONJ-REPORT",
+        problem,
+        with_sizes,
+        leaves,
+        encounters,
+        approaches,
+        messages,
+    )
+}
+
+/// The same of the encounters of those leaves alone whose pairs are not unchanged, under a title of its own.
+pub fn changed_text(
+    alloc: Global,
+    problem: &Problem,
+    with_sizes: bool,
+    leaves: &[Leaf],
+    encounters: &[Encounter],
+    approaches: &[Closest],
+    messages: &[bool],
+) -> Result<Vec<u8>, AllocError>
+    requires described { All (Describes (plain_leaves leaves.now)) encounters.now }
+    requires one_each { length approaches.now ≡ length encounters.now }
+    requires each_noted { length messages.now ≡ length encounters.now }
+    // By whatever functions these are the closest approaches and say whether there is a message.
+    ensures { let case = plain_problem problem.now in IfOk result (λ text. (approach : List PlainLeaf → Option PlainClosest) (has_message : List PlainLeaf → Bool)
+        → map some_closest approaches.now ≡ map approach (groups_in (plain_leaves leaves.now) encounters.now)
+        → messages.now ≡ map has_message (groups_in (plain_leaves leaves.now) encounters.now)
+        → text.items ≡ changed_of case.first case.last case.threshold case.tracks (told with_sizes case.sizes) approach has_message
+        (groups_in (plain_leaves leaves.now) encounters.now)) }
+{
+    titled_text(
+        alloc,
+        b"CONJ-CHANGED",
+        problem,
+        with_sizes,
+        leaves,
+        encounters,
+        approaches,
+        messages,
+    )
+}
+
+/// A report under this title.
+fn titled_text(
+    alloc: Global,
+    title: &[u8],
+    problem: &Problem,
+    with_sizes: bool,
+    leaves: &[Leaf],
+    encounters: &[Encounter],
+    approaches: &[Closest],
+    messages: &[bool],
+) -> Result<Vec<u8>, AllocError>
+    requires described { All (Describes (plain_leaves leaves.now)) encounters.now }
+    requires one_each { length approaches.now ≡ length encounters.now }
+    requires each_noted { length messages.now ≡ length encounters.now }
+    // By whatever functions these are the closest approaches and say whether there is a message.
+    ensures { let case = plain_problem problem.now in IfOk result (λ text. (approach : List PlainLeaf → Option PlainClosest) (has_message : List PlainLeaf → Bool)
+        → map some_closest approaches.now ≡ map approach (groups_in (plain_leaves leaves.now) encounters.now)
+        → messages.now ≡ map has_message (groups_in (plain_leaves leaves.now) encounters.now)
+        → text.items ≡ report_titled title.now case.first case.last case.threshold case.tracks (told with_sizes case.sizes) approach has_message
+        (groups_in (plain_leaves leaves.now) encounters.now)) }
+{
     let mut text = Vec::with_capacity(alloc, usual_length(problem, encounters))?;
-    push_line(&mut text, b"CONJ-REPORT", &[b"1"])?;
+    push_line(&mut text, title, &[b"1"])?;
     push_line(
         &mut text,
         b"WINDOW",

@@ -1,6 +1,7 @@
 ghost use Rattle.std.specs.Prelude.{◌≡◌, ◌++◌, IfOk, OnOk, codes};
 ghost use Rattle.cj_report.specs.Counts.{tally_of};
-ghost use Rattle.cj_report.specs.Summary.{count_line, summary_of};
+ghost use Rattle.cj_report.specs.Summary as spec;
+ghost use Rattle.cj_report.specs.Summary.{count_line, kept_line, summary_of};
 
 use crate::counts::Counts;
 use crate::lines::push_line;
@@ -17,6 +18,29 @@ pub fn summary_text(alloc: Global, counts: &Counts) -> Result<Vec<u8>, AllocErro
     push_count(&mut text, b"ENCOUNTERS", counts.encounters)?;
     push_count(&mut text, b"MESSAGES", counts.messages)?;
     Ok(text)
+}
+
+/// The summary of the pairs that are not unchanged alone: three lines.
+pub fn changed_summary_text(
+    alloc: Global,
+    objects: u64,
+    encounters: u64,
+    kept: u64,
+) -> Result<Vec<u8>, AllocError>
+    ensures { IfOk result (λ text. text.items ≡ spec.changed_summary objects encounters kept) }
+{
+    let mut text = Vec::with_capacity(alloc, ROOM)?;
+    push_count(&mut text, b"OBJECTS", objects)?;
+    push_count(&mut text, b"ENCOUNTERS", encounters)?;
+    push_kept(&mut text, kept)?;
+    Ok(text)
+}
+
+/// Adds the line behind the summary of a screening again: how many pairs are kept and unchanged.
+pub fn push_kept(text: &mut Vec<u8>, kept: u64) -> Result<(), AllocError>
+    ensures { OnOk result (text.new.items ≡ text.old.items ++ kept_line kept) }
+{
+    push_count(text, b"KEPT", kept)
 }
 
 /// Enough for twelve lines of the longest word and number.

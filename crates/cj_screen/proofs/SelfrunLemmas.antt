@@ -31,10 +31,10 @@ use Rattle.cj_inputs.specs.ObjectSizes.{sizes_asked}
 use Rattle.cj_inputs.specs.Readings.{checked_after, has_frame_of, nodes_in, reading_after, reading_of, readings_after, readings_of, refused_of, within_nodes}
 use Rattle.cj_inputs.proofs.InputFileLemmas.{Stands, inputs_stand}
 use Rattle.cj_case.specs.Problems.{plain_problem}
-use Rattle.cj_case.specs.Leaves.{PlainLeaf}
+use Rattle.cj_case.specs.Leaves.{PlainLeaf, plain_leaves}
 use Rattle.cj_cells.specs.Lists.{list_candidates}
 use Rattle.cj_outputs.specs.declared.findings.Findings.{Findings}
-use Rattle.cj_outputs.specs.Findings.{AreFound, case_in, outputs_in, selfrun_in}
+use Rattle.cj_outputs.specs.Findings.{AreFound, case_in, outputs_in}
 use Rattle.cj_outputs.specs.Messages.{PlainOrigin}
 use Rattle.cj_outputs.specs.Outcome.{ComesOfSelfrun, case_of_selfrun, outputs_of_selfrun, outputs_with, outputs_within, settings_of_selfrun, selfrun_output, selfrun_within, within_cells}
 
@@ -217,26 +217,30 @@ there : {A B : Type 0} (b : Bool) (x : A) (e : Status) (y : B) (f : A → B) →
 there true x e y f is = refl
 there false x e y f is = absurd cc
 
+-- the output of a made-up catalogue that is screened, and whose certificate is accepted
+abbrev pub selfrun_in : Findings → FileBytes
+selfrun_in found = selfrun_output (case_in found) (plain_leaves found.leaves.items)
+
 -- what is found is what the output of a catalogue's screening tells
-pub selfrun_told : (most : ℕ) (with_sizes : Bool) (version : CertVersion) (origin : PlainOrigin) (case : PlainProblem) (r : Result Findings Status)
-    → Gives ⊥ (outputs_in origin) r (outputs_within most with_sizes version origin case)
+pub selfrun_told : (most : ℕ) (with_sizes : Bool) (version : CertVersion) (origin : PlainOrigin) (behind : List ℕ) (case : PlainProblem) (r : Result Findings Status)
+    → Gives ⊥ (outputs_in origin) r (outputs_within most with_sizes version origin behind case)
     → IfOk r (λ found. plain_problem found.problem ≡ case) → IfOk r AreFound → Gives ⊥ (λ found. selfrun_in found ∷ []) r (selfrun_within most case)
 unfolding outputs_within
-selfrun_told most with_sizes version origin case (Ok found) told same are =
+selfrun_told most with_sizes version origin behind case (Ok found) told same are =
     let leaves = list_candidates case in
-    let fits : nat_le (length leaves) most ≡ true = there (nat_le (length leaves) most) leaves (status.Limit (limit.Cells most)) (outputs_in origin found) (outputs_with with_sizes version origin case) told in
+    let fits : nat_le (length leaves) most ≡ true = there (nat_le (length leaves) most) leaves (status.Limit (limit.Cells most)) (outputs_in origin found) (outputs_with with_sizes version origin behind case) told in
     let output : selfrun_output case leaves ≡ selfrun_in found =
     ap (λ (c : PlainProblem). selfrun_output c (list_candidates c)) (sym same) ∙ ap (λ (ss : List PlainLeaf). selfrun_output (case_in found) ss) (sym are.leaves) in
     rw fits (ap (λ (p : FileBytes). Ok (p ∷ [])) output)
-selfrun_told most with_sizes version origin case (Err s) told same are =
+selfrun_told most with_sizes version origin behind case (Err s) told same are =
     let leaves = list_candidates case in
-    stops_turned (nat_le (length leaves) most) leaves (status.Limit (limit.Cells most)) s (outputs_with with_sizes version origin case) (λ ss. selfrun_output case ss ∷ []) told
+    stops_turned (nat_le (length leaves) most) leaves (status.Limit (limit.Cells most)) s (outputs_with with_sizes version origin behind case) (λ ss. selfrun_output case ss ∷ []) told
 
-pub within_limits_of : (most : ℕ) (with_sizes : Bool) (version : CertVersion) (origin : PlainOrigin) (case : PlainProblem) → IfErr (outputs_within most with_sizes version origin case) IsLimit
+pub within_limits_of : (most : ℕ) (with_sizes : Bool) (version : CertVersion) (origin : PlainOrigin) (behind : List ℕ) (case : PlainProblem) → IfErr (outputs_within most with_sizes version origin behind case) IsLimit
 unfolding outputs_within
-within_limits_of most with_sizes version origin case =
+within_limits_of most with_sizes version origin behind case =
     let leaves = list_candidates case in
-    then (within_cells most leaves) (λ ss. Ok (outputs_with with_sizes version origin case ss)) (limited (nat_le (length leaves) most) leaves (limit.Cells most)) (λ ss same. tt)
+    then (within_cells most leaves) (λ ss. Ok (outputs_with with_sizes version origin behind case ss)) (limited (nat_le (length leaves) most) leaves (limit.Cells most)) (λ ss same. tt)
 
 -- what is due, once the case is there
 pub selfrun_after : (selfrun : PlainSelfrun) (case : PlainProblem) → case_of_selfrun selfrun ≡ Ok case → outputs_of_selfrun selfrun ≡ selfrun_within selfrun.cells case

@@ -14,7 +14,7 @@ use Rattle.cj_outputs.specs.Outcome.{encounters_in}
 use Rattle.cj_outputs.specs.SpanSplits.{SplitsTicks}
 use Rattle.cj_screen.specs.Refining.{HoldsAllTicks}
 
-all_true : (case : PlainProblem) (ss : List PlainLeaf) → All (IsSound case) ss → All (IsTrueLeaf case) ss
+pub all_true : (case : PlainProblem) (ss : List PlainLeaf) → All (IsSound case) ss → All (IsTrueLeaf case) ss
 all_true case ss sound =
     All-from_each (IsTrueLeaf case) ss
     (Each-weaker (IsSound case) (IsTrueLeaf case) (λ s is. record { ordered = is.ordered; from = is.from; to = is.to; holds = is.holds }) ss

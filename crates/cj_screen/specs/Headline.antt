@@ -1,24 +1,28 @@
 -- The headline: what the report of a run says of each common tick of each pair.
-use Rattle.std.specs.Prelude.{◌≡◌, ℕ, List, ◌∷◌, ◌++◌, Option, Some, Ok, All, IfSome}
+use Rattle.std.specs.Prelude.{◌≡◌, ℕ, List, [], ◌∷◌, ◌++◌, Option, Some, Ok, All, IfSome}
 use Rattle.cj_io.specs.declared.file.FileBytes.{FileBytes}
 use Rattle.cj_case.specs.PlainProblems.{PlainProblem}
 use Rattle.cj_case.specs.Leaves.{PlainLeaf}
 use Rattle.cj_hermite.specs.ObjectsAtTicks.{OfObjectsAt}
 use Rattle.cj_meet.specs.Closest.{HasNearest, PlainClosest, closest_of}
-use Rattle.cj_meet.specs.Encounters.{first_object, second_object}
+use Rattle.cj_cells.specs.Lists.{list_candidates}
+use Rattle.cj_meet.specs.Encounters.{encounters_of, first_object, second_object}
 use Rattle.cj_rtn.specs.Exact.{IsNearlyAt}
 use Rattle.cj_rtn.specs.Relative.{object_relative}
 use Rattle.cj_report.specs.Report.{report_of, told}
+use Rattle.cj_report.specs.Summary.{kept_line}
 use Rattle.cj_cert.specs.Accepted.{Accepted}
 use Rattle.cj_cert.specs.Certificates.{PlainCertificate}
 use Rattle.cj_cert.specs.Splits.{AcceptedSplits}
 use Rattle.cj_cert_text.specs.Texts.{text_of}
+use Rattle.cj_words.specs.Commands.{PlainRescreening}
 use Rattle.cj_words.specs.Settings.{PlainSettings}
 use Rattle.cj_inputs.specs.Cases.{case_asked}
+use Rattle.cj_inputs.specs.Updates.{PlainUpdating, cases_asked}
 use Rattle.cj_outputs.specs.Again.{IsAcceptedLater}
 use Rattle.cj_outputs.specs.Messages.{has_message}
-use Rattle.cj_outputs.specs.Outcome.{cert_output, encounters_in, report_output, tells_sizes}
-use Rattle.cj_outputs.specs.SpanSplits.{SplitsTicks}
+use Rattle.cj_outputs.specs.Outcome.{cert_output, encounters_in, kept_unchanged, list_anew, outputs_of_changes, report_output, summary_with, tells_sizes}
+use Rattle.cj_outputs.specs.SpanSplits.{SplitsChangedTicks, SplitsTicks, StillSo}
 
 -- The bytes are the text of a certificate that is accepted for the case. Whatever certificate is accepted for it, the certificate's cells
 -- split the common ticks of every pair.
@@ -36,20 +40,23 @@ pub record HasExactRelative (case : PlainProblem) (encounter : List PlainLeaf) :
   pub law : OfObjectsAt case (first_object encounter) (second_object encounter) at.tick
       (λ c d. IfSome (object_relative case (first_object encounter) (second_object encounter) at.tick) (IsNearlyAt c d at.tick))
 
--- The first bytes are the report of the case that was asked, with the encounters of its one-thread list, the closest approach of each
--- and whether it has a message.
+-- The first bytes are the report of a case, with the encounters of its one-thread list, the closest approach of each and whether it has a message.
 -- Their spans split the common ticks of every pair. Each pair is within its bound at its closest approach, and at no tick of the encounter
 -- more than one millimetre nearer. What a message may tell of their relative state there is exact to one millimetre, and to one millimetre per
--- second. The second bytes are an accepted certificate of the case, and a check of the same files, with these bytes among them, accepts it.
-pub record Reports (settings : PlainSettings) (files : List FileBytes) (bytes certificate : List ℕ) : Type 0 where
-  pub case : PlainProblem
-  pub read : case_asked files settings ≡ Ok case
+-- second. The second bytes are an accepted certificate of the case.
+pub record ReportsOf (settings : PlainSettings) (case : PlainProblem) (bytes certificate : List ℕ) : Type 0 where
   pub text : bytes ≡ report_of case.first case.last case.threshold case.tracks (told (tells_sizes settings) case.sizes)
       (closest_of case) (has_message case) (encounters_in case)
   pub split : SplitsTicks case (encounters_in case)
   pub nearest : All (HasNearest case) (encounters_in case)
   pub relative : All (HasExactRelative case) (encounters_in case)
   pub certified : Certifies case certificate
+
+-- So they are of the case that was asked. A check of the same files, with the bytes of the certificate among them, accepts it.
+pub record Reports (settings : PlainSettings) (files : List FileBytes) (bytes certificate : List ℕ) : Type 0 where
+  pub case : PlainProblem
+  pub read : case_asked files settings ≡ Ok case
+  pub of_case : ReportsOf settings case bytes certificate
   pub later : IsAcceptedLater settings files certificate
 
 -- The new outputs are such a report and such a certificate, followed by further outputs.
@@ -59,3 +66,27 @@ pub record IsScreened (settings : PlainSettings) (files old : List FileBytes) (n
   pub report : Reports settings files bytes certificate
   pub further : List FileBytes
   pub put : new ≡ Some (old ++ report_output bytes ∷ cert_output certificate ∷ further)
+
+-- The new outputs are a report and a certificate of the updated files, then messages, and last the summary, behind which stands how many pairs are
+-- kept and unchanged.
+pub record IsRescreened (asked : PlainRescreening) (files old : List FileBytes) (new : Option (List FileBytes)) : Type 0 where
+  pub cases : PlainUpdating
+  pub read : cases_asked files asked ≡ Ok cases
+  pub bytes : List ℕ
+  pub certificate : List ℕ
+  pub report : ReportsOf asked.screening.settings cases.new bytes certificate
+  pub messages : List FileBytes
+  pub put : new ≡ Some (old ++ report_output bytes ∷ cert_output certificate ∷ (messages
+      ++ summary_with (kept_line (kept_unchanged cases.base cases.new)) cases.new (list_candidates cases.new) ∷ []))
+
+-- The new outputs are the report of those pairs of the updated files alone that are not unchanged, and a summary of it. Its spans split the common
+-- ticks of these pairs. Each pair is within its bound at its closest approach, and at no tick of the encounter more than one millimetre nearer. What an
+-- earlier report of the base files says of a pair stays true of the unchanged pair that it is.
+pub record IsChanged (asked : PlainRescreening) (files old : List FileBytes) (new : Option (List FileBytes)) : Type 0 where
+  pub cases : PlainUpdating
+  pub read : cases_asked files asked ≡ Ok cases
+  pub split : SplitsChangedTicks cases.base cases.new (encounters_of (list_anew cases.base cases.new))
+  pub nearest : All (HasNearest cases.new) (encounters_of (list_anew cases.base cases.new))
+  pub still_so : StillSo cases.base cases.new
+  pub put : new ≡ Some (old ++ outputs_of_changes (tells_sizes asked.screening.settings) cases.new (kept_unchanged cases.base cases.new)
+      (list_anew cases.base cases.new))

@@ -1,19 +1,23 @@
 -- What comes of the refining of a problem.
-use Rattle.std.specs.Prelude.{◌≡◌, ℕ, ◌+◌, ◌≤◌, true, length, All, Any}
+use Rattle.std.specs.Prelude.{◌≡◌, ℕ, ◌+◌, ◌≤◌, true, List, length, Result, All, Any}
 use Rattle.cj_base.specs.Bounds.{MOST_LEAVES}
 use Rattle.cj_case.specs.PlainProblems.{PlainProblem}
 use Rattle.cj_hermite.specs.ObjectsAtTicks.{IsCommonOf}
 use Rattle.cj_hermite.specs.Roots.{roots_of}
 use Rattle.cj_case.specs.Slots.{slot_of}
 use Rattle.cj_bezier.specs.Enclosed.{OthersAreFar}
-use Rattle.cj_case.specs.Leaves.{IsTickOf, plain_leaves}
-use Rattle.cj_bezier.specs.Candidates.{is_candidate}
+use Rattle.cj_case.specs.Leaves.{IsTickOf, PlainLeaf, plain_leaves}
+use Rattle.cj_bezier.specs.Candidates.{is_candidate, is_candidate_anew}
 use Rattle.cj_bezier.specs.MeasuredObjects.{AreMeasured}
 use Rattle.cj_case.specs.Order.{AreInOrder}
 use Rattle.cj_candidates.specs.Counts.{candidate_count}
 use Rattle.cj_cells.specs.Lists.{IsSound, list_candidates, splits_of}
+use Rattle.cj_pool.specs.TrueLists.{IsTrueList}
 use Rattle.cj_meet.specs.Closest.{KeepTheirPieces}
+use Rattle.cj_outputs.specs.Outcome.{within_cells}
 use Rattle.cj_outputs.specs.Summaries.{kept_count}
+use Rattle.cj_status.specs.declared.status.Status.{Status}
+use Rattle.cj_status.specs.Steps.{◌>>=◌}
 use Rattle.cj_screen.specs.declared.refining.FoundLeaves.{FoundLeaves}
 
 -- what is measured of the objects of a case, its leaves and counts
@@ -33,3 +37,12 @@ pub record HoldsAllTicks (case : PlainProblem) : Type 0 where
   pub far : OthersAreFar case (is_candidate case)
   pub ordered : AreInOrder (list_candidates case)
   pub pieces : KeepTheirPieces case (list_candidates case)
+
+-- the leaves of the new case, where it and the old one have at most so many each
+abbrev pub leaves_within : ℕ → PlainProblem → PlainProblem → Result (List PlainLeaf) Status
+leaves_within limit old new = within_cells limit (list_candidates old) >>= λ base. within_cells limit (list_candidates new)
+
+-- those of the pairs that are not unchanged do so for these pairs
+pub record HoldsChangedTicks (old new : PlainProblem) : Type 0 where
+  pub lists : IsTrueList (is_candidate_anew old new) new
+  pub far : OthersAreFar new (is_candidate new)

@@ -5,22 +5,23 @@ use Rattle.cj_cert.specs.Certificates.{plain_certificate}
 use Rattle.cj_gen.specs.Catalogues.{catalogue_of}
 use Rattle.cj_case.specs.Problems.{plain_problem}
 use Rattle.cj_words.specs.declared.option.UsageFault.{UsageFault}
-use Rattle.cj_words.specs.Commands.{PlainCommand, Screens, Checks, Generates, Selfruns, Rewrites, Thins, PlainChecking, PlainScreening, PlainThinning, command_of, plain_screening, plain_selfrun, plain_thinning}
+use Rattle.cj_words.specs.Commands.{PlainCommand, Screens, Checks, Generates, Selfruns, Rewrites, Thins, Rescreens, PlainChecking, PlainRescreening, PlainScreening, PlainThinning, command_of, plain_rescreening, plain_screening, plain_selfrun, plain_thinning}
 use Rattle.cj_words.specs.Settings.{plain_settings}
 use Rattle.cj_base.specs.Limits.{USUAL}
 use Rattle.cj_inputs.specs.Alone.{plain_tracks, tracks_asked}
 use Rattle.cj_inputs.specs.Cases.{case_asked}
+use Rattle.cj_inputs.specs.Updates.{cases_asked, plain_updating}
 use Rattle.cj_status.specs.declared.status.Status.{Status}
 use Rattle.cj_status.specs.declared.status.Status.TheVariants as status
 use Rattle.cj_status.specs.Steps.{Stops}
 use Rattle.cj_outputs.specs.Checks.{IsChecked, Vouches}
-use Rattle.cj_outputs.specs.Outcome.{accepted_output, origin_of, outputs_made, outputs_renewed, outputs_of_selfrun, outputs_within, tells_sizes}
+use Rattle.cj_outputs.specs.Outcome.{accepted_output, origin_of, outputs_made, outputs_renewed, outputs_of_selfrun, outputs_updated, outputs_within, tells_sizes}
 use Rattle.cj_outputs.specs.Rewrites.{IsRewritten, Renews}
 use Rattle.cj_outputs.specs.Thinned.{length_of, outputs_with_fewer}
 use Rattle.cj_outputs.specs.Thinnings.{IsThinned}
-use Rattle.cj_screen.specs.Headline.{IsScreened}
+use Rattle.cj_screen.specs.Headline.{IsChanged, IsRescreened, IsScreened}
 use Rattle.cj_screen.specs.declared.task.Task.{Task}
-use Rattle.cj_screen.specs.declared.task.Task.TheVariants.{Screen, Accept, Make, Selfrun, Renew, Thin}
+use Rattle.cj_screen.specs.declared.task.Task.TheVariants.{Screen, Accept, Make, Selfrun, Renew, Thin, Rescreen}
 
 -- files are put, and not only what goes to standard output
 abbrev pub puts_files : Task → Bool
@@ -30,16 +31,19 @@ puts_files (Make recipe) = true
 puts_files (Selfrun selfrun) = false
 puts_files (Renew certificate) = true
 puts_files (Thin lone thinning) = true
+puts_files (Rescreen updating rescreening) = true
 
 -- the outputs of a task at this tick, or the cause for which there are none
 abbrev pub outputs_of_task : ℕ → Task → Result (List FileBytes) Status
 outputs_of_task now (Screen problem screening) =
-    outputs_within screening.cells (tells_sizes (plain_settings screening.settings)) screening.version (origin_of now (plain_screening screening)) (plain_problem problem)
+    outputs_within screening.cells (tells_sizes (plain_settings screening.settings)) screening.version (origin_of now (plain_screening screening)) []
+    (plain_problem problem)
 outputs_of_task now Accept = Ok (accepted_output ∷ [])
 outputs_of_task now (Make recipe) = Ok (outputs_made (catalogue_of recipe.seed recipe.objects recipe.minutes))
 outputs_of_task now (Selfrun selfrun) = outputs_of_selfrun (plain_selfrun selfrun)
 outputs_of_task now (Renew certificate) = Ok (outputs_renewed (plain_certificate certificate))
 outputs_of_task now (Thin lone thinning) = Ok (outputs_with_fewer (length_of (plain_thinning thinning)) (plain_tracks lone))
+outputs_of_task now (Rescreen updating rescreening) = outputs_updated now (plain_rescreening rescreening) (plain_updating updating)
 
 -- what was read leads to what is due
 abbrev pub Leads : Type 0 → ℕ → Result Task Status → Result (List FileBytes) Status → Type 0
@@ -56,6 +60,7 @@ ReadsNothing (Ok (Generates recipe)) = Unit {0}
 ReadsNothing (Ok (Selfruns selfrun)) = Unit {0}
 ReadsNothing (Ok (Rewrites checking)) = ⊥
 ReadsNothing (Ok (Thins thinning)) = ⊥
+ReadsNothing (Ok (Rescreens rescreening)) = ⊥
 ReadsNothing (Err fault) = Unit {0}
 
 -- the files that words are about: those that a folder tells, and any where nothing is read
@@ -75,6 +80,7 @@ IsScreening screening files (Make recipe) = ⊥
 IsScreening screening files (Selfrun selfrun) = ⊥
 IsScreening screening files (Renew certificate) = ⊥
 IsScreening screening files (Thin lone thinning) = ⊥
+IsScreening screening files (Rescreen updating rescreening) = ⊥
 
 abbrev pub IsAccepting : PlainChecking → List FileBytes → Task → Type 0
 IsAccepting checking files (Screen problem asked) = ⊥
@@ -83,6 +89,7 @@ IsAccepting checking files (Make recipe) = ⊥
 IsAccepting checking files (Selfrun selfrun) = ⊥
 IsAccepting checking files (Renew certificate) = ⊥
 IsAccepting checking files (Thin lone thinning) = ⊥
+IsAccepting checking files (Rescreen updating rescreening) = ⊥
 
 abbrev pub IsRenewal : PlainChecking → List FileBytes → Task → Type 0
 IsRenewal checking files (Screen problem asked) = ⊥
@@ -91,6 +98,7 @@ IsRenewal checking files (Make recipe) = ⊥
 IsRenewal checking files (Selfrun selfrun) = ⊥
 IsRenewal checking files (Renew certificate) = Renews checking files (plain_certificate certificate)
 IsRenewal checking files (Thin lone thinning) = ⊥
+IsRenewal checking files (Rescreen updating rescreening) = ⊥
 
 abbrev pub IsThinning : PlainThinning → List FileBytes → Task → Type 0
 IsThinning asked files (Screen problem screening) = ⊥
@@ -99,6 +107,17 @@ IsThinning asked files (Make recipe) = ⊥
 IsThinning asked files (Selfrun selfrun) = ⊥
 IsThinning asked files (Renew certificate) = ⊥
 IsThinning asked files (Thin lone thinning) = (tracks_asked USUAL files asked ≡ Ok (plain_tracks lone)) × (plain_thinning thinning ≡ asked)
+IsThinning asked files (Rescreen updating rescreening) = ⊥
+
+abbrev pub IsRescreening : PlainRescreening → List FileBytes → Task → Type 0
+IsRescreening asked files (Screen problem screening) = ⊥
+IsRescreening asked files Accept = ⊥
+IsRescreening asked files (Make recipe) = ⊥
+IsRescreening asked files (Selfrun selfrun) = ⊥
+IsRescreening asked files (Renew certificate) = ⊥
+IsRescreening asked files (Thin lone thinning) = ⊥
+IsRescreening asked files (Rescreen updating rescreening) =
+    (cases_asked files asked ≡ Ok (plain_updating updating)) × (plain_rescreening rescreening ≡ asked)
 
 -- what was read of the files is what the command asks
 abbrev pub Readies : PlainCommand → List FileBytes → Task → Type 0
@@ -108,6 +127,7 @@ Readies (Generates recipe) files task = Unit {0}
 Readies (Selfruns selfrun) files task = Unit {0}
 Readies (Rewrites checking) files task = IsRenewal checking files task
 Readies (Thins thinning) files task = IsThinning thinning files task
+Readies (Rescreens rescreening) files task = IsRescreening rescreening files task
 
 abbrev pub IsMaking : Task → Type 0
 IsMaking (Screen problem asked) = ⊥
@@ -116,6 +136,7 @@ IsMaking (Make recipe) = Unit {0}
 IsMaking (Selfrun selfrun) = ⊥
 IsMaking (Renew certificate) = ⊥
 IsMaking (Thin lone thinning) = ⊥
+IsMaking (Rescreen updating rescreening) = ⊥
 
 abbrev pub IsSelfrun : Task → Type 0
 IsSelfrun (Screen problem asked) = ⊥
@@ -124,6 +145,7 @@ IsSelfrun (Make recipe) = ⊥
 IsSelfrun (Selfrun selfrun) = Unit {0}
 IsSelfrun (Renew certificate) = ⊥
 IsSelfrun (Thin lone thinning) = ⊥
+IsSelfrun (Rescreen updating rescreening) = ⊥
 
 -- a command that reads nothing comes to its task, whatever the folder does
 abbrev pub ComesToTask : PlainCommand → Result Task Status → Type 0
@@ -135,6 +157,7 @@ ComesToTask (Selfruns selfrun) (Ok task) = IsSelfrun task
 ComesToTask (Selfruns selfrun) (Err s) = ⊥
 ComesToTask (Rewrites checking) r = Unit {0}
 ComesToTask (Thins thinning) r = Unit {0}
+ComesToTask (Rescreens rescreening) r = Unit {0}
 
 -- ---- how a task ends
 
@@ -160,6 +183,11 @@ EndsTask task status.WriteFault = Unit {0}
 EndsTask task (status.Limit fault) = ¬ IsMaking task
 EndsTask task status.OutOfMemory = Unit {0}
 
+-- what a screening again has put: all outputs, or those of the pairs that are not unchanged
+pub record IsDoneAgain (asked : PlainRescreening) (files old : List FileBytes) (new : Option (List FileBytes)) : Type 0 where
+  pub whole : asked.changed ≡ false → IsRescreened asked files old new
+  pub changed : asked.changed ≡ true → IsChanged asked files old new
+
 -- what a command that is done has put says of the files what the command asks
 abbrev pub IsDone : PlainCommand → List FileBytes → List FileBytes → Option (List FileBytes) → Type 0
 IsDone (Screens screening) files old new = IsScreened screening.settings files old new
@@ -168,3 +196,4 @@ IsDone (Generates recipe) files old new = Unit {0}
 IsDone (Selfruns selfrun) files old new = Unit {0}
 IsDone (Rewrites checking) files old new = IsRewritten checking files old new
 IsDone (Thins thinning) files old new = IsThinned thinning files old new
+IsDone (Rescreens rescreening) files old new = IsDoneAgain rescreening files old new

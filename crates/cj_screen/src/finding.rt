@@ -1,10 +1,11 @@
 //! From a task to what is to be put.
-ghost use Rattle.std.specs.Prelude.{◌≡◌, ℕ, List, Ok, IfOk, IfErr};
+ghost use Rattle.std.specs.Prelude.{◌≡◌, ℕ, List, [], Ok, IfOk, IfErr};
 ghost use Rattle.cj_case.specs.Problems.{plain_problem};
 ghost use Rattle.cj_io.specs.declared.file.FileBytes.{FileBytes};
-ghost use Rattle.cj_words.specs.Commands.{PlainCommand, plain_screening};
+ghost use Rattle.cj_words.specs.Commands.{PlainCommand, Rescreens, plain_rescreening, plain_screening};
 ghost use Rattle.cj_words.specs.Settings.{plain_settings};
 ghost use Rattle.cj_inputs.specs.Cases.{case_asked};
+ghost use Rattle.cj_inputs.specs.Updates.{cases_asked, plain_updating};
 ghost use Rattle.cj_outputs.specs.Findings.{AreFound, cert_in, outputs_in, report_in};
 ghost use Rattle.cj_outputs.specs.Outcome as spec;
 ghost use Rattle.cj_outputs.specs.Outcome.{ComesOfSelfrun};
@@ -13,6 +14,8 @@ ghost use Rattle.cj_screen.specs.Results.{AreDue, ShowsDue, outputs_due};
 ghost use Rattle.cj_screen.specs.Tasks.{ComesOfSearch, Readies, outputs_of_task};
 ghost use Rattle.cj_status.specs.Steps.{Gives};
 
+use crate::changing::screen_changes;
+use crate::rescreening::rescreen;
 use crate::results::Results;
 use crate::screening::screen;
 use crate::selfruns::selfrun_catalogue;
@@ -21,10 +24,11 @@ use crate::warnings::warn_of_messages;
 use cj_base::Tick;
 use cj_case::Problem;
 use cj_gen::catalogue;
+use cj_inputs::Updating;
 use cj_io::Gate;
-use cj_outputs::{Findings, Origin, stays_within, tells_sizes};
+use cj_outputs::{Findings, Origin, Wanted, stays_within};
 use cj_status::Status;
-use cj_words::Screening;
+use cj_words::{Rescreening, Screening};
 use std::alloc::Global;
 use std::sync::Wait;
 use std::thread::Threads;
@@ -63,6 +67,9 @@ pub fn find<'w, R: Threads + Wait + Sync, G: Gate + Sync>(
             stays_within(&lone, &thinning);
             Ok(Results::Thinned(lone, thinning))
         }
+        Task::Rescreen(updating, rescreening) => {
+            find_again(rt, alloc, gate, updating, &rescreening, now)
+        }
     }
 }
 
@@ -78,19 +85,36 @@ fn find_encounters<R: Threads + Wait + Sync, G: Gate + Sync>(
     // At whatever tick the messages are made.
     ensures told { (now : ℕ) → Gives ⊥ (outputs_in (spec.origin_of now (plain_screening screening.now))) result
         (spec.outputs_within screening.now.cells (spec.tells_sizes (plain_settings screening.now.settings)) screening.now.version
-        (spec.origin_of now (plain_screening screening.now)) (plain_problem problem)) }
+        (spec.origin_of now (plain_screening screening.now)) [] (plain_problem problem)) }
     ensures found { IfOk result AreFound }
     ensures reports { (files : List FileBytes) → case_asked files (plain_settings screening.now.settings) ≡ Ok (plain_problem problem)
         → IfOk result (λ found. Reports (plain_settings screening.now.settings) files (report_in found).bytes (cert_in found).bytes) }
 {
-    screen(
-        rt,
-        alloc,
-        gate,
-        problem,
-        tells_sizes(&screening.settings),
-        screening.version,
-        screening.workers,
-        screening.cells,
-    )
+    screen(rt, alloc, gate, problem, Wanted::of(screening))
+}
+
+/// What is found after updates: all of it, or what is found of the pairs that are not unchanged.
+fn find_again<'w, R: Threads + Wait + Sync, G: Gate + Sync>(
+    rt: &R,
+    alloc: Global,
+    gate: &G,
+    updating: Updating,
+    rescreening: &Rescreening<'w>,
+    now: Tick,
+) -> Result<Results<'w>, Status>
+    ensures ends { IfErr result ComesOfSelfrun }
+    ensures told { Gives ⊥ outputs_due result (spec.outputs_updated now.micros (plain_rescreening rescreening.now) (plain_updating updating)) }
+    ensures due { IfOk result AreDue }
+    ensures shows { (files : List FileBytes) → cases_asked files (plain_rescreening rescreening.now) ≡ Ok (plain_updating updating)
+        → IfOk result (ShowsDue (Rescreens (plain_rescreening rescreening.now)) files) }
+{
+    let screening = &rescreening.screening;
+    let wanted = Wanted::of(screening);
+    if rescreening.changed {
+        let changes = screen_changes(rt, alloc, gate, updating, wanted)?;
+        return Ok(Results::Changed(changes));
+    }
+    let found = rescreen(rt, alloc, gate, updating, wanted)?;
+    warn_of_messages(gate, &found);
+    Ok(Results::Screened(found, Origin::of(screening, now)))
 }

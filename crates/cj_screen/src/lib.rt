@@ -1,10 +1,12 @@
 //! The screener's one call: from the words of a command line over a folder to the outputs on a shelf.
 #![tactic(auto)]
 
+mod changing;
 mod finding;
 mod reading;
 mod refining;
 mod relatives;
+mod rescreening;
 mod results;
 mod screening;
 mod selfruns;

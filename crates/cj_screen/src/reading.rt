@@ -10,7 +10,7 @@ ghost use Rattle.cj_status.specs.Steps.{ComesBefore, ComesBetween};
 
 use crate::task::Task;
 use cj_base::Limits;
-use cj_inputs::{prepare, read_alone};
+use cj_inputs::{prepare, prepare_update, read_alone};
 use cj_io::{Folder, Gate};
 use cj_outputs::{check_certificate, rewrite_certificate};
 use cj_status::Status;
@@ -88,6 +88,10 @@ fn read_asked<'w, R: Threads + Sync, F: Folder, G: Gate + Sync>(
         Command::Thin(thinning) => {
             let lone = read_alone(alloc, gate, folder, &thinning, Limits::USUAL)?;
             Ok(Task::Thin(lone, thinning))
+        }
+        Command::Rescreen(rescreening) => {
+            let updating = prepare_update(rt, alloc, gate, folder, &rescreening)?;
+            Ok(Task::Rescreen(updating, rescreening))
         }
     }
 }

@@ -1,8 +1,8 @@
 //! From a problem to its leaves.
 ghost use Rattle.std.specs.Prelude.{◌≡◌, ◌≤◌, length, IfOk, IfErr, OnOk};
-ghost use Rattle.cj_base.specs.Bounds.{MOST_LEAVES};
 ghost use Rattle.cj_case.specs.Problems.{plain_problem};
 ghost use Rattle.cj_case.specs.Leaves.{plain_leaves};
+ghost use Rattle.cj_candidates.specs.MeasuredObjects.{AreOfProblem};
 ghost use Rattle.cj_cells.specs.Lists.{list_candidates};
 ghost use Rattle.cj_outputs.specs.Outcome.{within_cells};
 ghost use Rattle.cj_screen.specs.Errors.{refined_status};
@@ -13,7 +13,7 @@ use cj_candidates::{Candidates, find_candidates};
 use cj_case::{Leaf, Measured, Problem};
 use cj_cells::RefineError;
 use cj_io::Gate;
-use cj_outputs::CandidateCounts;
+use cj_outputs::{CandidateCounts, Wanted};
 use cj_pool::leaves_by_workers;
 use cj_status::{LimitFault, Status};
 use std::alloc::Global;
@@ -31,51 +31,66 @@ pub struct FoundLeaves {
     pub leaves: Vec<Leaf>,
 }
 
-/// The leaves of a problem by so many workers, where there are at most so many.
+/// The leaves of a problem, where there are at most as many as are wanted.
 pub fn refine<R: Threads + Wait + Sync, G: Gate + Sync>(
     rt: &R,
     alloc: Global,
     gate: &G,
     problem: &Problem,
-    workers: u32,
-    cells: u64,
+    wanted: Wanted,
 ) -> Result<FoundLeaves, Status>
-    requires some { 1 ≤ workers }
-    requires few_workers { workers ≤ 16 }
-    requires few_cells { cells ≤ MOST_LEAVES }
     ensures between { IfErr result ComesBetween }
-    ensures told { Gives ⊥ (λ refined. plain_leaves refined.leaves.items) result (within_cells cells (list_candidates (plain_problem problem.now))) }
-    ensures few { IfOk result (λ refined. length refined.leaves.items ≤ cells) }
+    ensures told { Gives ⊥ (λ refined. plain_leaves refined.leaves.items) result (within_cells wanted.leaves (list_candidates (plain_problem problem.now))) }
+    ensures few { IfOk result (λ refined. length refined.leaves.items ≤ wanted.leaves) }
+    ensures theirs { IfOk result (λ refined. AreOfProblem problem.now refined.measured) }
     ensures refined { IfOk result (AreFoundLeaves (plain_problem problem.now)) }
     ensures ticks { OnOk result (HoldsAllTicks (plain_problem problem.now)) }
 {
-    let candidates = match find_candidates(rt, alloc, gate, problem, workers, cells) {
+    let found = find_candidates(rt, alloc, gate, problem, wanted.workers, wanted.leaves);
+    let candidates = match found {
         Ok(candidates) => candidates,
-        Err(error) => return Err(refused(error, cells)),
+        Err(error) => return Err(refused(error, wanted.leaves)),
     };
+    let counted = counts_of(&candidates);
     let Candidates {
         measured,
-        kept,
         roots,
-        touching,
+        ..
     } = candidates;
-    let counted = CandidateCounts {
-        kept,
-        touching,
-        roots: roots.len() as u64,
-    };
-    match leaves_by_workers(rt, alloc, gate, problem, roots, workers, cells) {
+    let leaves = leaves_by_workers(
+        rt,
+        alloc,
+        gate,
+        problem,
+        roots,
+        wanted.workers,
+        wanted.leaves,
+    );
+    match leaves {
         Ok(leaves) => Ok(FoundLeaves {
             measured,
             counted,
             leaves,
         }),
-        Err(error) => Err(refused(error, cells)),
+        Err(error) => Err(refused(error, wanted.leaves)),
+    }
+}
+
+/// What is counted of candidates.
+pub fn counts_of(candidates: &Candidates) -> CandidateCounts
+    ensures kept { result.kept ≡ candidates.now.kept }
+    ensures touching { result.touching ≡ candidates.now.touching }
+    ensures roots { result.roots ≡ length candidates.now.roots.items }
+{
+    CandidateCounts {
+        kept: candidates.kept,
+        touching: candidates.touching,
+        roots: candidates.roots.len() as u64,
     }
 }
 
 /// How a run ends whose list of roots or leaves is not whole.
-fn refused(error: RefineError, cells: u64) -> Status
+pub fn refused(error: RefineError, cells: u64) -> Status
     ensures { result ≡ refined_status cells error }
 {
     match error {

@@ -1,7 +1,7 @@
 use cj_cert::Certificate;
 use cj_inputs::LoneTracks;
 use cj_io::FileBytes;
-use cj_outputs::{Findings, Origin};
+use cj_outputs::{Changes, Findings, Origin};
 use cj_words::Thinning;
 
 /// What a run is to put. From here on it can fail only for want of memory or in a write.
@@ -19,4 +19,6 @@ pub enum Results<'w> {
     Rewritten(Certificate),
     /// The tracks that are to be put with fewer nodes.
     Thinned(LoneTracks, Thinning<'w>),
+    /// What is found of the pairs that are not unchanged, of files that are screened again.
+    Changed(Changes),
 }

@@ -1,13 +1,11 @@
 //! A made-up catalogue that is screened in memory.
-ghost use Rattle.std.specs.Prelude.{◌≡◌, ◌≤◌, List, [], ◌∷◌, Some, Ok, Err, IfErr, IfOk};
-ghost use Rattle.cj_io.specs.Faults.{Rose};
-ghost use Rattle.cj_io.specs.declared.file.FileBytes.{FileBytes};
+ghost use Rattle.std.specs.Prelude.{◌≡◌, [], ◌∷◌, IfErr, IfOk};
 ghost use Rattle.cj_case.specs.Problems.{plain_problem};
 ghost use Rattle.cj_words.specs.Commands.{plain_selfrun};
 ghost use Rattle.cj_words.specs.Settings.{plain_settings};
-ghost use Rattle.cj_outputs.specs.Findings.{AreFound, ended, selfrun_in};
+ghost use Rattle.cj_outputs.specs.Findings.{AreFound, summary_in};
 ghost use Rattle.cj_outputs.specs.Outcome as spec;
-ghost use Rattle.cj_outputs.specs.Outcome.{ComesOfPuts, ComesOfSelfrun, Leaves};
+ghost use Rattle.cj_outputs.specs.Outcome.{ComesOfSelfrun};
 ghost use Rattle.cj_status.specs.Steps.{Gives};
 
 use crate::screening::screen;
@@ -18,9 +16,8 @@ use cj_checker::{Answer, check};
 use cj_formats::CertVersion;
 use cj_gen::catalogue;
 use cj_inputs::prepare;
-use cj_io::{CalmFolder, Gate, Shelf};
-use cj_outputs::{Findings, put};
-use cj_report::summary_text;
+use cj_io::{CalmFolder, Gate};
+use cj_outputs::{Behind, Findings, Wanted};
 use cj_status::Status;
 use cj_words::{Selfrun, Settings};
 use std::alloc::{AllocError, Global};
@@ -36,21 +33,19 @@ pub fn selfrun_catalogue<R: Threads + Wait + Sync, G: Gate + Sync>(
     selfrun: &Selfrun,
 ) -> Result<Findings, Status>
     ensures ends { IfErr result ComesOfSelfrun }
-    ensures told { Gives ⊥ (λ found. selfrun_in found ∷ []) result (spec.outputs_of_selfrun (plain_selfrun selfrun.now)) }
+    ensures told { Gives ⊥ (λ found. summary_in found ∷ []) result (spec.outputs_of_selfrun (plain_selfrun selfrun.now)) }
     ensures found { IfOk result AreFound }
 {
     let problem = prepare_catalogue(rt, alloc, gate, selfrun)?;
-    let found = screen(
-        rt,
-        alloc,
-        gate,
-        problem,
-        false,
-        CertVersion::One,
-        selfrun.workers,
-        selfrun.cells,
-    )?;
+    let wanted = Wanted {
+        tells_sizes: false,
+        version: CertVersion::One,
+        workers: selfrun.workers,
+        leaves: selfrun.cells,
+    };
+    let mut found = screen(rt, alloc, gate, problem, wanted)?;
     confirm(alloc, &found)?;
+    found.behind = Behind::CheckAccepted;
     Ok(found)
 }
 
@@ -102,17 +97,4 @@ fn confirm(alloc: Global, found: &Findings) -> Result<(), AllocError>
         Answer::Accepted => Ok(()),
         Answer::Refused { .. } => unreachable!(),
     }
-}
-
-/// Puts the summary, and that the certificate is accepted.
-pub fn put_selfrun<S: Shelf>(alloc: Global, shelf: &mut S, found: &Findings) -> Result<(), Status>
-    requires { AreFound found.now }
-    ensures comes { IfErr result ComesOfPuts }
-    ensures write { result ≡ Err Status.WriteFault → Rose (S.faults shelf.old) (S.faults shelf.new) }
-    ensures leaves { (old : List FileBytes) → S.outputs shelf.old ≡ Some old → Leaves (ended result) (Ok (selfrun_in found.now ∷ [])) old (S.outputs shelf.new) }
-    ensures later { S.faults shelf.old ≤ S.faults shelf.new }
-{
-    let mut text = summary_text(alloc, &found.counts)?;
-    text.extend_from_slice(b"CHECK ACCEPTED\n")?;
-    put(alloc, shelf, b"-", &text)
 }

@@ -3,8 +3,8 @@ ghost use Rattle.cj_screen.specs.Tasks.{puts_files};
 
 use cj_case::Problem;
 use cj_cert::Certificate;
-use cj_inputs::LoneTracks;
-use cj_words::{Recipe, Screening, Selfrun, Thinning};
+use cj_inputs::{LoneTracks, Updating};
+use cj_words::{Recipe, Rescreening, Screening, Selfrun, Thinning};
 
 /// What a command line asks for, once all that it reads is accepted.
 #[derive(Drop)]
@@ -21,6 +21,8 @@ pub enum Task<'w> {
     Renew(Certificate),
     /// Tracks are put with fewer nodes.
     Thin(LoneTracks, Thinning<'w>),
+    /// A problem is screened again after updates.
+    Rescreen(Updating, Rescreening<'w>),
 }
 
 impl Task<'_> {
@@ -29,7 +31,11 @@ impl Task<'_> {
         ensures { result ≡ puts_files self.now }
     {
         match self {
-            Task::Screen(..) | Task::Make(_) | Task::Renew(_) | Task::Thin(..) => true,
+            Task::Screen(..)
+            | Task::Make(_)
+            | Task::Renew(_)
+            | Task::Thin(..)
+            | Task::Rescreen(..) => true,
             Task::Accept | Task::Selfrun(_) => false,
         }
     }

@@ -1,16 +1,16 @@
 //! The one call that does all that the program does.
-ghost use Rattle.std.specs.Prelude.{◌≡◌, ◌↔◌, ◌⊎◌, ◌≤◌, List, Some, Ok, Err, IfErr, IsTrue};
+ghost use Rattle.std.specs.Prelude.{◌≡◌, ◌↔◌, ◌⊎◌, ◌≤◌, true, false, List, Some, Ok, Err, IfErr, IsTrue};
 ghost use Rattle.cj_io.specs.Faults.{Rose};
 ghost use Rattle.cj_io.specs.declared.file.FileBytes.{FileBytes};
 ghost use Rattle.cj_words.specs.declared.option.UsageFault.{UsageFault};
 ghost use Rattle.cj_words.specs.Commands as asks;
-ghost use Rattle.cj_words.specs.Commands.{Checks, Generates, Rewrites, Screens, Selfruns, Thins, command_of};
+ghost use Rattle.cj_words.specs.Commands.{Checks, Generates, Rescreens, Rewrites, Screens, Selfruns, Thins, command_of};
 ghost use Rattle.cj_status.specs.declared.status.Status.{Status as Ends};
 ghost use Rattle.cj_outputs.specs.Checks.{IsChecked};
 ghost use Rattle.cj_outputs.specs.Findings.{ended};
-ghost use Rattle.cj_screen.specs.Headline.{IsScreened};
+ghost use Rattle.cj_screen.specs.Headline.{IsChanged, IsRescreened, IsScreened};
 ghost use Rattle.cj_outputs.specs.Outcome as spec;
-ghost use Rattle.cj_outputs.specs.Outcome.{Answers, ComesOfPuts, Extends, Leaves, EndsMaking, EndsSelfrun, PutsNothing};
+ghost use Rattle.cj_outputs.specs.Outcome.{Answers, ComesOfPuts, Extends, Leaves, EndsMaking, EndsRescreening, EndsSelfrun, PutsNothing};
 ghost use Rattle.cj_screen.specs.Results.{AreDue, outputs_due};
 ghost use Rattle.cj_screen.specs.Tasks.{AreRead, EndsTask, IsCalm, IsDone, Readies, outputs_of_task, puts_files};
 ghost use Rattle.cj_outputs.specs.Rewrites.{IsRewritten};
@@ -19,11 +19,12 @@ ghost use Rattle.cj_outputs.specs.Thinnings.{IsThinned};
 use crate::finding::find;
 use crate::reading::read_task;
 use crate::results::Results;
-use crate::selfruns::put_selfrun;
 use crate::task::Task;
 use cj_base::Tick;
 use cj_io::{Folder, Gate, StreamShelf};
-use cj_outputs::{begin, put, put_catalogue, put_outputs, put_rewritten, put_thinned};
+use cj_outputs::{
+    begin, put, put_catalogue, put_changes, put_outputs, put_rewritten, put_summary, put_thinned,
+};
 use cj_status::Status;
 use cj_words::Word;
 use std::alloc::Global;
@@ -77,6 +78,16 @@ pub fn conj<R: Threads + Wait + Sync, F: Folder, S: StreamShelf, G: Gate + Sync>
     // Status 0 of a thinning says that the tracks that were asked are put with fewer nodes, and that each stays within the length of where it was.
     ensures thinned { (files outputs : List FileBytes) (thinning : asks.PlainThinning) → F.files folder.old ≡ Some files → S.outputs shelf.old ≡ Some outputs
         → command_of words.now ≡ Ok (Thins thinning) → result ≡ Status.Ok → IsThinned thinning files outputs (S.outputs shelf.new) }
+
+    // Status 0 of a screening again says of the updated files what that of a screening says: the report's spans split the common ticks of every pair
+    // by the exact distance, and the certificate is accepted. Where the pairs that changed are told alone, the spans split the common ticks of these,
+    // and what is known of other pairs from the base files stays true. No certificate is judged.
+    ensures rescreened { (files outputs : List FileBytes) (rescreening : asks.PlainRescreening) → F.files folder.old ≡ Some files → S.outputs shelf.old ≡ Some outputs
+        → command_of words.now ≡ Ok (Rescreens rescreening) → rescreening.changed ≡ false → result ≡ Status.Ok → IsRescreened rescreening files outputs (S.outputs shelf.new) }
+    ensures changed { (files outputs : List FileBytes) (rescreening : asks.PlainRescreening) → F.files folder.old ≡ Some files → S.outputs shelf.old ≡ Some outputs
+        → command_of words.now ≡ Ok (Rescreens rescreening) → rescreening.changed ≡ true → result ≡ Status.Ok → IsChanged rescreening files outputs (S.outputs shelf.new) }
+    ensures never { (files : List FileBytes) (rescreening : asks.PlainRescreening) → F.files folder.old ≡ Some files → command_of words.now ≡ Ok (Rescreens rescreening)
+        → EndsRescreening result }
 
     // A catalogue that is made up ends so whatever the folder does, and so does one that is screened.
     ensures made { (recipe : asks.PlainRecipe) → command_of words.now ≡ Ok (Generates recipe) → EndsMaking result }
@@ -170,8 +181,9 @@ fn put_results<R: Threads + Sync, S: StreamShelf>(
         Results::Screened(found, origin) => put_outputs(rt, alloc, shelf, found, *origin),
         Results::Checked => put(alloc, shelf, b"-", b"ACCEPTED\n"),
         Results::Made(files) => put_catalogue(alloc, shelf, files),
-        Results::Selfrun(found) => put_selfrun(alloc, shelf, found),
+        Results::Selfrun(found) => put_summary(alloc, shelf, found),
         Results::Rewritten(certificate) => put_rewritten(rt, alloc, shelf, certificate),
         Results::Thinned(lone, thinning) => put_thinned(alloc, shelf, lone, thinning),
+        Results::Changed(changes) => put_changes(alloc, shelf, changes),
     }
 }

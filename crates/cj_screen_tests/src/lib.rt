@@ -32,6 +32,8 @@ mod relative;
 #[cfg(test)]
 mod reports;
 #[cfg(test)]
+mod rescreens;
+#[cfg(test)]
 mod results;
 #[cfg(test)]
 mod runs;
@@ -43,6 +45,8 @@ mod selfruns;
 mod thinnings;
 #[cfg(test)]
 mod told;
+#[cfg(test)]
+mod updated;
 #[cfg(test)]
 mod versions;
 #[cfg(test)]

@@ -20,7 +20,7 @@ fn words(alloc: Global, line: &str) -> Result<Vec<Word>, AllocError> {
 }
 
 /// A folder that never fails.
-fn calm(alloc: Global, files: Vec<FileBytes>) -> CalmFolder {
+pub fn calm(alloc: Global, files: Vec<FileBytes>) -> CalmFolder {
     if files.len() < 10_000 {
         CalmFolder::new(files)
     } else {

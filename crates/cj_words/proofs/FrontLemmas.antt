@@ -2,13 +2,14 @@
 use Rattle.std.proofs.Common.{◌≡◌, ℕ, ◌+◌, ◌-◌, ◌<◌, ◌≤◌, List, [], ◌∷◌, length, get_or, take, drop, Bool, true, false, not, Option, Some, None, cond, refl, ap, sym, subst, ◌∙◌, arith}
 use Rattle.std.specs.Prelude.{IsTrue, IfNone, IfSome}
 use Rattle.std.specs.List.{before_first, after_first}
+use Rattle.std.proofs.lemmas.Bool.{and_parts}
 use Rattle.std.proofs.lemmas.List.{take_all}
 use Rattle.std.proofs.lemmas.List.Sums.{sum_by-cons}
 use Rattle.cj_words.specs.declared.command.Verb.{Verb}
 use Rattle.cj_words.specs.declared.front.Front.{Front}
 use Rattle.cj_words.specs.declared.option.Opt.{Opt}
 use Rattle.cj_kvn.specs.Lines.{is_equals}
-use Rattle.cj_words.specs.Options.{Given, flag, given_of, has_equals, if_empty, in_one_word, in_two_words, is_flag, is_one_word, is_value, may_have, none_next, in_front, is_name, is_named, are_accepted, are_known, are_listed, listed, count_of, value_of}
+use Rattle.cj_words.specs.Options.{Given, flag, given_of, has_equals, if_empty, in_one_word, in_two_words, is_flag, is_one_word, is_value, may_have, none_next, in_front, is_name, is_named, are_accepted, are_known, are_listed, are_options, go_together, listed, count_of, value_of}
 
 -- ---- what stands at the front
 
@@ -93,6 +94,11 @@ known_listed verb (Some gs) h = refl
 pub accepted_listed : (verb : Verb) (o : Option (List Given)) → are_accepted verb o ≡ true → are_listed o ≡ true
 accepted_listed verb None h = absurd cc
 accepted_listed verb (Some gs) h = refl
+
+-- where they are accepted, they go together
+pub accepted_together : (verb : Verb) (o : Option (List Given)) → are_accepted verb o ≡ true → go_together verb (listed o) ≡ true
+accepted_together verb None h = absurd cc
+accepted_together verb (Some gs) h = (and_parts (are_options verb gs) (go_together verb gs) h).1
 
 pub count_step : (option : Opt) (g : Given) (o : Option (List Given)) → IsTrue (are_listed (in_front true g o))
     → count_of option (listed (in_front true g o)) ≡ cond (is_named option g) 1 0 + count_of option (listed o)

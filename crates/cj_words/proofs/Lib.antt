@@ -1,4 +1,5 @@
 mod DigitLemmas
+mod EndLemmas
 mod FrontLemmas
 mod LineLemmas
 mod PlaceLemmas

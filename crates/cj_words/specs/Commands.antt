@@ -9,18 +9,19 @@ use Rattle.cj_words.specs.declared.command.Checking as kept_checking
 use Rattle.cj_words.specs.declared.command.Command.{Command}
 use Rattle.cj_words.specs.declared.command.Command.TheVariants as commands
 use Rattle.cj_words.specs.declared.command.Recipe as kept_recipe
+use Rattle.cj_words.specs.declared.command.Rescreening as kept_rescreening
 use Rattle.cj_words.specs.declared.command.Screening as kept_screening
 use Rattle.cj_words.specs.declared.command.Selfrun as kept_selfrun
 use Rattle.cj_words.specs.declared.command.Thinning as kept_thinning
 use Rattle.cj_words.specs.declared.command.Verb.{Verb}
-use Rattle.cj_words.specs.declared.command.Verb.TheVariants.{Screen, Check, Generate, Selfrun, Rewrite, Thin}
+use Rattle.cj_words.specs.declared.command.Verb.TheVariants.{Screen, Check, Generate, Selfrun, Rewrite, Thin, Rescreen}
 use Rattle.cj_words.specs.declared.option.Opt.{Opt}
-use Rattle.cj_words.specs.declared.option.Opt.TheVariants.{Workers, Cert, Originator, Cells, Seed, Objects, Minutes, AsHermite3, CertVersion, Report, Out, CertDir, Rtn, Within}
+use Rattle.cj_words.specs.declared.option.Opt.TheVariants.{Workers, Cert, Originator, Cells, Seed, Objects, Minutes, AsHermite3, CertVersion, Update, Changed, Report, Out, CertDir, Rtn, Within}
 use Rattle.cj_words.specs.declared.option.UsageFault.{UsageFault}
 use Rattle.cj_words.specs.declared.option.UsageFault.TheVariants.{Words, Value}
 use Rattle.cj_words.specs.Lines.{Line, line_of}
 use Rattle.cj_words.specs.Options.{Given, given_of, are_accepted, is_given, listed, value_of}
-use Rattle.cj_words.specs.Settings.{◌>>=◌, PlainSettings, plain_settings, file_text_or, in_range, is_path_or_none, name_or, number_or, originator_or, sized_of, suffix_of, threshold_of, unsized_of, version_or}
+use Rattle.cj_words.specs.Settings.{◌>>=◌, PlainSettings, plain_settings, file_text_or, in_range, is_path_or_none, name_or, number_or, originator_or, sized_of, suffix_of, threshold_of, unsized_of, update_or, update_or_none, version_or}
 
 -- how files are screened: how many workers share the work, who makes the messages, the greatest number of leaves, the version of the
 -- certificate, whether messages tell the relative state along the axes of the first object
@@ -33,11 +34,19 @@ pub record PlainScreening : Type 0 where
   pub rtn : Bool
 
 -- what is checked against files, or rewritten: the certificate in the file with this name, and beside it the report in the file with that
--- name, where one is named
+-- name, where one is named; what the names of update files end with, where files may be updates
 pub record PlainChecking : Type 0 where
   pub settings : PlainSettings
   pub certificate : List ℕ
   pub report : Option (List ℕ)
+  pub update : Option (List ℕ)
+
+-- how files are screened again, some of them in place of others: what the names of update files end with, whether the pairs that changed are
+-- told alone
+pub record PlainRescreening : Type 0 where
+  pub screening : PlainScreening
+  pub update : List ℕ
+  pub changed : Bool
 
 -- how a catalogue is made up: what it is drawn from, how many objects it has, how many minutes it covers
 pub record PlainRecipe : Type 0 where
@@ -60,7 +69,7 @@ pub record PlainThinning : Type 0 where
   pub within : ℕ
 
 -- what a command line asks for: files are screened, a certificate is checked, a catalogue is written, or one is screened, a certificate is
--- rewritten, or files are written with fewer nodes
+-- rewritten, files are written with fewer nodes, or are screened again
 pub data PlainCommand : Type 0 where
   Screens : PlainScreening → PlainCommand
   Checks : PlainChecking → PlainCommand
@@ -68,6 +77,7 @@ pub data PlainCommand : Type 0 where
   Selfruns : PlainSelfrun → PlainCommand
   Rewrites : PlainChecking → PlainCommand
   Thins : PlainThinning → PlainCommand
+  Rescreens : PlainRescreening → PlainCommand
 
 -- ---- what a command says
 
@@ -75,7 +85,15 @@ abbrev pub plain_screening : kept_screening.Screening → PlainScreening
 plain_screening s = record { settings = plain_settings s.settings; workers = s.workers; originator = s.originator.now; cells = s.cells; version = s.version; rtn = s.rtn }
 
 abbrev pub plain_checking : kept_checking.Checking → PlainChecking
-plain_checking c = record { settings = plain_settings c.settings; certificate = c.certificate.now; report = option_copied c.report }
+plain_checking c = record {
+  settings = plain_settings c.settings;
+  certificate = c.certificate.now;
+  report = option_copied c.report;
+  update = option_copied c.update;
+}
+
+abbrev pub plain_rescreening : kept_rescreening.Rescreening → PlainRescreening
+plain_rescreening r = record { screening = plain_screening r.screening; update = r.update.now; changed = r.changed }
 
 abbrev pub plain_recipe : kept_recipe.Recipe → PlainRecipe
 plain_recipe r = record { seed = r.seed; objects = r.objects; minutes = r.minutes }
@@ -93,6 +111,7 @@ plain_command (commands.Generate recipe) = Generates (plain_recipe recipe)
 plain_command (commands.Selfrun selfrun) = Selfruns (plain_selfrun selfrun)
 plain_command (commands.Rewrite checking) = Rewrites (plain_checking checking)
 plain_command (commands.Thin thinning) = Thins (plain_thinning thinning)
+plain_command (commands.Rescreen rescreening) = Rescreens (plain_rescreening rescreening)
 
 -- ---- what words ask for
 
@@ -119,8 +138,16 @@ checking_of givens = do
   unsized ← unsized_of threshold givens
   certificate ← in_range Cert (file_text_or 200 (codes "screen.cert") (value_of Cert givens))
   settings ← sized_of unsized givens
+  update ← in_range Update (update_or_none settings.suffix (value_of Update givens))
   report ← in_range Report (name_or (value_of Report givens))
-  Ok (record { settings = settings; certificate = certificate; report = report })
+  Ok (record { settings = settings; certificate = certificate; report = report; update = update })
+
+-- the same of a screening again
+unfoldable pub rescreening_of : List Given → Result PlainRescreening UsageFault
+rescreening_of givens = do
+  screening ← screening_of givens
+  update ← in_range Update (update_or screening.settings.suffix (value_of Update givens))
+  Ok (record { screening = screening; update = update; changed = is_given Changed givens })
 
 -- the same of a catalogue
 unfoldable pub recipe_of : List Given → Result PlainRecipe UsageFault
@@ -154,6 +181,7 @@ command_with Generate givens = recipe_of givens >>= λ recipe. Ok (Generates rec
 command_with Selfrun givens = selfrun_of givens >>= λ selfrun. Ok (Selfruns selfrun)
 command_with Rewrite givens = checking_of givens >>= λ checking. Ok (Rewrites checking)
 command_with Thin givens = thinning_of givens >>= λ thinning. Ok (Thins thinning)
+command_with Rescreen givens = rescreening_of givens >>= λ rescreening. Ok (Rescreens rescreening)
 
 -- an option that names a directory has a path as its value, where it stands. What is asked of files does not depend on it
 abbrev pub place_judged : Opt → List Given → Result (Unit {0}) UsageFault

@@ -2,7 +2,7 @@
 use Rattle.std.specs.Prelude.{ℕ, if◌then◌else◌, List, [], ◌∷◌, Option, Some, None, codes}
 use Rattle.std.specs.Str.{bytes_eq}
 use Rattle.cj_words.specs.declared.command.Verb.{Verb}
-use Rattle.cj_words.specs.declared.command.Verb.TheVariants.{Screen, Check, Generate, Selfrun, Rewrite, Thin}
+use Rattle.cj_words.specs.declared.command.Verb.TheVariants.{Screen, Check, Generate, Selfrun, Rewrite, Thin, Rescreen}
 use Rattle.cj_words.specs.declared.line.Line as kept
 use Rattle.cj_words.specs.Options.{is_value}
 
@@ -24,6 +24,7 @@ verb_of word =
     else if bytes_eq word (codes "selfrun") then Some Selfrun
     else if bytes_eq word (codes "rewrite") then Some Rewrite
     else if bytes_eq word (codes "thin") then Some Thin
+    else if bytes_eq word (codes "rescreen") then Some Rescreen
     else None
 
 -- a command that names a directory, none where no word is one
@@ -40,6 +41,7 @@ line_behind (Some Generate) words = with_directory Generate words
 line_behind (Some Selfrun) words = Some (record { verb = Selfrun; directory = codes "."; options = words })
 line_behind (Some Rewrite) words = with_directory Rewrite words
 line_behind (Some Thin) words = with_directory Thin words
+line_behind (Some Rescreen) words = with_directory Rescreen words
 
 -- the parts of words that begin with a command, and with a directory where the command has one
 abbrev pub line_of : List (List ℕ) → Option Line

@@ -4,9 +4,9 @@ use Rattle.std.specs.List.{list_all, before_first, after_first}
 use Rattle.std.specs.Str.{bytes_eq}
 use Rattle.cj_kvn.specs.Lines.{is_equals}
 use Rattle.cj_words.specs.declared.option.Opt.{Opt}
-use Rattle.cj_words.specs.declared.option.Opt.TheVariants.{Threshold, Workers, From, To, Suffix, Cert, Originator, Cells, Seed, Objects, Minutes, AsHermite3, Sizes, CertVersion, Report, Out, CertDir, Rtn, Within, Warnings, AllFaults}
+use Rattle.cj_words.specs.declared.option.Opt.TheVariants.{Threshold, Workers, From, To, Suffix, Cert, Originator, Cells, Seed, Objects, Minutes, AsHermite3, Sizes, CertVersion, Update, Changed, Report, Out, CertDir, Rtn, Within, Warnings, AllFaults}
 use Rattle.cj_words.specs.declared.command.Verb.{Verb}
-use Rattle.cj_words.specs.declared.command.Verb.TheVariants.{Screen, Check, Generate, Selfrun, Rewrite, Thin}
+use Rattle.cj_words.specs.declared.command.Verb.TheVariants.{Screen, Check, Generate, Selfrun, Rewrite, Thin, Rescreen}
 
 abbrev pub name_of : Opt → List ℕ
 name_of Threshold = codes "--threshold"
@@ -23,6 +23,8 @@ name_of Minutes = codes "--minutes"
 name_of AsHermite3 = codes "--as-hermite3"
 name_of Sizes = codes "--sizes"
 name_of CertVersion = codes "--cert-version"
+name_of Update = codes "--update"
+name_of Changed = codes "--changed"
 name_of Report = codes "--report"
 name_of Out = codes "--out"
 name_of CertDir = codes "--cert-dir"
@@ -55,25 +57,34 @@ is_directory_name name =
 abbrev pub is_catalogue_name : List ℕ → Bool
 is_catalogue_name name = bytes_eq name (name_of Seed) || (bytes_eq name (name_of Objects) || bytes_eq name (name_of Minutes))
 
--- the name of an option of the command
-abbrev pub is_name : Verb → List ℕ → Bool
-is_name Screen name =
+-- the name of an option of each command that screens the files of a directory
+abbrev pub is_screening_name : List ℕ → Bool
+is_screening_name name =
     is_directory_name name
     || (bytes_eq name (name_of Workers)
     || (bytes_eq name (name_of Originator)
     || (bytes_eq name (name_of Cells)
     || (bytes_eq name (name_of CertVersion) || (bytes_eq name (name_of Out) || bytes_eq name (name_of Rtn))))))
-is_name Check name = is_directory_name name || (bytes_eq name (name_of Cert) || (bytes_eq name (name_of Report) || bytes_eq name (name_of CertDir)))
+
+-- the name of an option of each command that checks the certificate of a directory
+abbrev pub is_checking_name : List ℕ → Bool
+is_checking_name name = is_directory_name name || (bytes_eq name (name_of Cert) || (bytes_eq name (name_of CertDir) || bytes_eq name (name_of Update)))
+
+-- the name of an option of the command
+abbrev pub is_name : Verb → List ℕ → Bool
+is_name Screen name = is_screening_name name
+is_name Check name = is_checking_name name || bytes_eq name (name_of Report)
 is_name Generate name = is_catalogue_name name || bytes_eq name (name_of Out)
 is_name Selfrun name = bytes_eq name (name_of Threshold) || (bytes_eq name (name_of Workers) || (bytes_eq name (name_of Cells) || is_catalogue_name name))
-is_name Rewrite name = is_directory_name name || (bytes_eq name (name_of Cert) || (bytes_eq name (name_of Out) || bytes_eq name (name_of CertDir)))
+is_name Rewrite name = is_checking_name name || bytes_eq name (name_of Out)
 is_name Thin name =
     bytes_eq name (name_of Suffix)
     || (bytes_eq name (name_of AsHermite3) || (bytes_eq name (name_of Out) || bytes_eq name (name_of Within)))
+is_name Rescreen name = is_screening_name name || (bytes_eq name (name_of Update) || bytes_eq name (name_of Changed))
 
 -- the name of a flag: an option that has no value
 abbrev pub is_flag : List ℕ → Bool
-is_flag name = bytes_eq name (name_of AsHermite3) || (bytes_eq name (name_of Rtn) || is_telling_name name)
+is_flag name = bytes_eq name (name_of AsHermite3) || (bytes_eq name (name_of Changed) || (bytes_eq name (name_of Rtn) || is_telling_name name))
 
 -- a word that may stand on its own as a directory or as a value: not empty, and no option
 abbrev pub is_value : List ℕ → Bool
@@ -173,11 +184,13 @@ are_others_single givens =
     && (is_single Originator givens
     && (is_single Cells givens
     && (is_single CertVersion givens
+    && (is_single Update givens
+    && (is_single Changed givens
     && (is_single Report givens
     && (is_single Out givens
     && (is_single CertDir givens
     && (is_single Rtn givens
-    && is_single Within givens))))))))
+    && is_single Within givens))))))))))
 
 -- so does each
 abbrev pub are_single : List Given → Bool
@@ -199,6 +212,25 @@ value_of option givens = value_in (find (is_named option) givens)
 abbrev pub is_given : Opt → List Given → Bool
 is_given option givens = nat_le 1 (count_of option givens)
 
+-- both ends of the window stand
+abbrev pub has_ends : List Given → Bool
+has_ends givens = is_given From givens && is_given To givens
+
+-- something is asked of messages or of the certificate
+abbrev pub shapes_outputs : List Given → Bool
+shapes_outputs givens = is_given Originator givens || (is_given CertVersion givens || is_given Rtn givens)
+
+-- The options of a command go together. Screening again asks for both ends of the window; pairs that changed have neither messages nor a
+-- certificate where they are told alone.
+abbrev pub go_together : Verb → List Given → Bool
+go_together Rescreen givens = has_ends givens && not (is_given Changed givens && shapes_outputs givens)
+go_together Screen givens = true
+go_together Check givens = true
+go_together Generate givens = true
+go_together Selfrun givens = true
+go_together Rewrite givens = true
+go_together Thin givens = true
+
 -- the words are options with their values
 abbrev pub are_listed : Option (List Given) → Bool
 are_listed None = false
@@ -214,7 +246,7 @@ abbrev pub listed : Option (List Given) → List Given
 listed None = []
 listed (Some givens) = givens
 
--- the words are options, each one of the command and given at most once
+-- the words are options, each one of the command and given at most once, and these go together
 abbrev pub are_accepted : Verb → Option (List Given) → Bool
 are_accepted verb None = false
-are_accepted verb (Some givens) = are_options verb givens
+are_accepted verb (Some givens) = are_options verb givens && go_together verb givens

@@ -1,9 +1,10 @@
 -- What the words of a command line ask for.
-use Rattle.std.specs.Prelude.{ℕ, ◌-◌, ◌^◌, Bool, true, not, ◌&&◌, ◌==◌, nat_le, length, if◌then◌else◌, List, Option, Some, None, Result, Ok, Err, codes}
+use Rattle.std.specs.Prelude.{ℕ, ◌-◌, ◌^◌, Bool, true, not, ◌&&◌, ◌==◌, nat_le, length, if◌then◌else◌, List, Option, Some, None, Result, Ok, Err, codes, unwrap_or}
 use Rattle.std.specs.Borrow.{Bor}
 use Rattle.std.specs.List.{list_all}
 use Rattle.std.specs.Option.{option_and_then, option_map, option_copied}
 use Rattle.std.specs.Char.{is_ascii_digit}
+use Rattle.std.specs.Str.{bytes_eq}
 use Rattle.std.specs.Str.Parse.{digits_value}
 use Rattle.cj_base.specs.Limits.{PlainLimits, USUAL, plain_limits}
 use Rattle.cj_formats.specs.declared.cert_version.CertVersion.{CertVersion}
@@ -126,6 +127,19 @@ originator_or left_out (Some text) = if is_originator text then Some text else N
 abbrev pub name_or : Option (List ℕ) → Option (Option (List ℕ))
 name_or None = Some None
 name_or (Some text) = if is_file_text 200 text then Some (Some text) else None
+
+-- what the names of update files end with, apart from what those of the files end with that are taken
+abbrev pub update_text : List ℕ → List ℕ → Option (List ℕ)
+update_text suffix text = if is_file_text 20 text && not (bytes_eq text suffix) then Some text else None
+
+-- the same, which may be left out
+abbrev pub update_or : List ℕ → Option (List ℕ) → Option (List ℕ)
+update_or suffix value = update_text suffix (unwrap_or value (codes ".new"))
+
+-- the same where no file is an update if it is left out
+abbrev pub update_or_none : List ℕ → Option (List ℕ) → Option (Option (List ℕ))
+update_or_none suffix None = Some None
+update_or_none suffix (Some text) = option_map Some (update_text suffix text)
 
 -- the value of an option, which is out of its range where there is none
 abbrev pub in_range : {A : Type 0} → Opt → Option A → Result A UsageFault

@@ -1,4 +1,4 @@
-ghost use Rattle.std.specs.Prelude.{◌≤◌};
+ghost use Rattle.std.specs.Prelude.{◌≡◌, ◌≤◌, true, is_some};
 ghost use Rattle.cj_base.specs.Bounds.{MOST_LEAVES, MOST_MADE_OBJECTS};
 
 use crate::settings::Settings;
@@ -13,6 +13,7 @@ pub enum Verb {
     Selfrun,
     Rewrite,
     Thin,
+    Rescreen,
 }
 
 /// What a command line asks for.
@@ -30,6 +31,8 @@ pub enum Command<'w> {
     Rewrite(Checking<'w>),
     /// The ephemerides of a directory are put with fewer nodes.
     Thin(Thinning<'w>),
+    /// The files of a directory are screened again, some of them in place of others.
+    Rescreen(Rescreening<'w>),
 }
 
 /// How the files of a directory are screened. The originator is lent by the words.
@@ -60,6 +63,21 @@ pub struct Checking<'w> {
     pub certificate: &'w [u8],
     /// The name of the report's file, where one is to be checked beside the certificate: 1 to 200 such bytes. Of a rewriting there is none.
     pub report: Option<&'w [u8]>,
+    /// What the names of update files end with, where files may be updates: 1 to 20 bytes from 33 to 126, none of them `/`, and not the suffix.
+    pub update: Option<&'w [u8]>,
+}
+
+/// How the files of a directory are screened again, where some of them are updates of others. The update suffix is lent by the words.
+#[derive(Clone, Copy, Debug, PartialEq, Eq)]
+pub struct Rescreening<'w> {
+    /// How they are screened. Both ends of the window are given.
+    pub screening: Screening<'w>,
+    /// What the names of update files end with: 1 to 20 bytes from 33 to 126, none of them `/`, and not the suffix.
+    pub update: &'w [u8],
+    /// Whether the pairs that changed are told alone.
+    pub changed: bool,
+    pub ghost begins: { is_some screening.settings.from ≡ true },
+    pub ghost ends: { is_some screening.settings.to ≡ true },
 }
 
 /// How a catalogue is made up.

@@ -1,20 +1,22 @@
 //! From the words of a command line to its command.
 ghost use Rattle.std.specs.Prelude.{◌≡◌, ◌≤◌, IfOk, IsTrue, Some};
 ghost use Rattle.cj_words.specs.Commands as spec;
-ghost use Rattle.cj_words.specs.Commands.{plain_checking, plain_command, plain_recipe, plain_screening, plain_selfrun, plain_thinning};
+ghost use Rattle.cj_words.specs.Commands.{plain_checking, plain_command, plain_recipe, plain_rescreening, plain_screening, plain_selfrun, plain_thinning};
 ghost use Rattle.cj_words.specs.Lines.{plain_line};
 ghost use Rattle.cj_words.specs.Options as options;
 ghost use Rattle.cj_words.specs.Options.{given_of, listed};
 ghost use Rattle.cj_words.specs.Settings.{said};
 
-use crate::command::{Checking, Command, Recipe, Screening, Selfrun, Thinning, Verb};
+use crate::command::{Checking, Command, Recipe, Rescreening, Screening, Selfrun, Thinning, Verb};
 use crate::given::{are_options, is_given, value_of};
 use crate::line::{Line, line_of};
 use crate::numbers::{number_or, out_of_range, version_or};
 use crate::option::{Opt, UsageFault};
 use crate::reading::{sized_of, suffix_of, threshold_of, unsized_of};
 use crate::settings::Word;
-use crate::texts::{file_text_or, is_path_or_none, name_or, originator_or};
+use crate::texts::{
+    file_text_or, is_path_or_none, name_or, originator_or, update_or, update_or_none,
+};
 use cj_base::{Limits, MOST_MADE_OBJECTS};
 use cj_formats::CertVersion;
 
@@ -35,7 +37,7 @@ pub fn read_command(words: &[Word]) -> Result<Command<'_>, UsageFault>
 }
 
 /// What a command line asks for.
-#[tactic(auto, using(crate::proofs::FrontLemmas::accepted_listed))]
+#[tactic(auto, using(crate::proofs::FrontLemmas::accepted_listed, crate::proofs::FrontLemmas::accepted_together))]
 pub fn command_in(line: Line<'_>) -> Result<Command<'_>, UsageFault>
     ensures asked { said plain_command result ≡ spec.asked_in (Some (plain_line line.entry)) }
     ensures listed { IfOk result (λ command. IsTrue (options.are_listed (given_of line.entry.options.now))) }
@@ -49,7 +51,8 @@ pub fn command_in(line: Line<'_>) -> Result<Command<'_>, UsageFault>
 
 /// What the options of a command ask for, the directories that they name judged behind all other values.
 fn placed_command_of(words: &[Word], verb: Verb) -> Result<Command<'_>, UsageFault>
-    requires { IsTrue (options.are_listed (given_of words.now)) }
+    requires listed { IsTrue (options.are_listed (given_of words.now)) }
+    requires together { IsTrue (options.go_together verb (listed (given_of words.now))) }
     ensures { said plain_command result ≡ spec.placed_command_with verb (listed (given_of words.now)) }
 {
     let command = command_of(words, verb)?;
@@ -71,7 +74,8 @@ fn judge_place(words: &[Word], option: Opt) -> Result<(), UsageFault>
 }
 
 fn command_of(words: &[Word], verb: Verb) -> Result<Command<'_>, UsageFault>
-    requires { IsTrue (options.are_listed (given_of words.now)) }
+    requires listed { IsTrue (options.are_listed (given_of words.now)) }
+    requires together { IsTrue (options.go_together verb (listed (given_of words.now))) }
     ensures { said plain_command result ≡ spec.command_with verb (listed (given_of words.now)) }
 {
     match verb {
@@ -81,6 +85,7 @@ fn command_of(words: &[Word], verb: Verb) -> Result<Command<'_>, UsageFault>
         Verb::Selfrun => Ok(Command::Selfrun(selfrun_of(words)?)),
         Verb::Rewrite => Ok(Command::Rewrite(checking_of(words)?)),
         Verb::Thin => Ok(Command::Thin(thinning_of(words)?)),
+        Verb::Rescreen => Ok(Command::Rescreen(rescreening_of(words)?)),
     }
 }
 
@@ -137,6 +142,9 @@ fn checking_of(words: &[Word]) -> Result<Checking<'_>, UsageFault>
         return Err(out_of_range(Opt::Cert));
     };
     let settings = sized_of(unsized_settings, words)?;
+    let Some(update) = update_or_none(value_of(words, Opt::Update), settings.suffix) else {
+        return Err(out_of_range(Opt::Update));
+    };
     let Some(report) = name_or(value_of(words, Opt::Report)) else {
         return Err(out_of_range(Opt::Report));
     };
@@ -144,6 +152,24 @@ fn checking_of(words: &[Word]) -> Result<Checking<'_>, UsageFault>
         settings,
         certificate,
         report,
+        update,
+    })
+}
+
+#[tactic(auto, unfolding(crate::specs::Commands::rescreening_of))]
+fn rescreening_of(words: &[Word]) -> Result<Rescreening<'_>, UsageFault>
+    requires listed { IsTrue (options.are_listed (given_of words.now)) }
+    requires ends { IsTrue (options.has_ends (listed (given_of words.now))) }
+    ensures { said plain_rescreening result ≡ spec.rescreening_of (listed (given_of words.now)) }
+{
+    let screening = screening_of(words)?;
+    let Some(update) = update_or(value_of(words, Opt::Update), screening.settings.suffix) else {
+        return Err(out_of_range(Opt::Update));
+    };
+    Ok(Rescreening {
+        screening,
+        update,
+        changed: is_given(words, Opt::Changed),
     })
 }
 

@@ -43,7 +43,10 @@ pub fn front_of(words: &[Word]) -> Option<Front<'_>>
 fn is_flag(name: &[u8]) -> bool
     ensures { result ≡ spec.is_flag name.now }
 {
-    name == option_name(Opt::AsHermite3) || name == option_name(Opt::Rtn) || is_telling(name)
+    name == option_name(Opt::AsHermite3)
+        || name == option_name(Opt::Changed)
+        || name == option_name(Opt::Rtn)
+        || is_telling(name)
 }
 
 /// Whether it is the name of an option that says what else is told.

@@ -10,12 +10,12 @@ use crate::front::{front_of, is_telling};
 use crate::option::{Opt, option_name};
 use crate::settings::Word;
 
-/// Whether the words are options, each one of the command and given at most once.
+/// Whether the words are options, each one of the command and given at most once, and these go together.
 #[tactic(auto, using(crate::proofs::FrontLemmas::known_listed))]
 pub fn are_options(words: &[Word], verb: Verb) -> bool
     ensures { result ≡ spec.are_accepted verb (given_of words.now) }
 {
-    are_known(words, verb) && are_single(words)
+    are_known(words, verb) && are_single(words) && go_together(words, verb)
 }
 
 fn are_single(words: &[Word]) -> bool
@@ -58,6 +58,8 @@ fn are_others_single(words: &[Word]) -> bool
         && is_single(words, Opt::Originator)
         && is_single(words, Opt::Cells)
         && is_single(words, Opt::CertVersion)
+        && is_single(words, Opt::Update)
+        && is_single(words, Opt::Changed)
         && is_single(words, Opt::Report)
         && is_single(words, Opt::Out)
         && is_single(words, Opt::CertDir)
@@ -70,6 +72,38 @@ fn is_single(words: &[Word], option: Opt) -> bool
     ensures { result ≡ spec.is_single option (listed (given_of words.now)) }
 {
     count_of(words, option) <= 1
+}
+
+/// Whether the options of a command go together.
+fn go_together(words: &[Word], verb: Verb) -> bool
+    requires { IsTrue (spec.are_listed (given_of words.now)) }
+    ensures { result ≡ spec.go_together verb (listed (given_of words.now)) }
+{
+    match verb {
+        Verb::Rescreen => {
+            has_ends(words) && !(is_given(words, Opt::Changed) && shapes_outputs(words))
+        }
+        Verb::Screen | Verb::Check | Verb::Generate | Verb::Selfrun | Verb::Rewrite | Verb::Thin =>
+            true,
+    }
+}
+
+/// Whether both ends of the window stand.
+fn has_ends(words: &[Word]) -> bool
+    requires { IsTrue (spec.are_listed (given_of words.now)) }
+    ensures { result ≡ spec.has_ends (listed (given_of words.now)) }
+{
+    is_given(words, Opt::From) && is_given(words, Opt::To)
+}
+
+/// Whether something is asked of messages or of the certificate.
+fn shapes_outputs(words: &[Word]) -> bool
+    requires { IsTrue (spec.are_listed (given_of words.now)) }
+    ensures { result ≡ spec.shapes_outputs (listed (given_of words.now)) }
+{
+    is_given(words, Opt::Originator)
+        || is_given(words, Opt::CertVersion)
+        || is_given(words, Opt::Rtn)
 }
 
 fn are_known(words: &[Word], verb: Verb) -> bool
@@ -90,21 +124,8 @@ pub fn is_known(name: &[u8], verb: Verb) -> bool
     ensures { result ≡ spec.is_name verb name.now }
 {
     match verb {
-        Verb::Screen => {
-            is_of_directory(name)
-                || is_named(name, Opt::Workers)
-                || is_named(name, Opt::Originator)
-                || is_named(name, Opt::Cells)
-                || is_named(name, Opt::CertVersion)
-                || is_named(name, Opt::Out)
-                || is_named(name, Opt::Rtn)
-        }
-        Verb::Check => {
-            is_of_directory(name)
-                || is_named(name, Opt::Cert)
-                || is_named(name, Opt::Report)
-                || is_named(name, Opt::CertDir)
-        }
+        Verb::Screen => is_of_screening(name),
+        Verb::Check => is_of_checking(name) || is_named(name, Opt::Report),
         Verb::Generate => is_of_catalogue(name) || is_named(name, Opt::Out),
         Verb::Selfrun => {
             is_named(name, Opt::Threshold)
@@ -112,19 +133,40 @@ pub fn is_known(name: &[u8], verb: Verb) -> bool
                 || is_named(name, Opt::Cells)
                 || is_of_catalogue(name)
         }
-        Verb::Rewrite => {
-            is_of_directory(name)
-                || is_named(name, Opt::Cert)
-                || is_named(name, Opt::Out)
-                || is_named(name, Opt::CertDir)
-        }
+        Verb::Rewrite => is_of_checking(name) || is_named(name, Opt::Out),
         Verb::Thin => {
             is_named(name, Opt::Suffix)
                 || is_named(name, Opt::AsHermite3)
                 || is_named(name, Opt::Out)
                 || is_named(name, Opt::Within)
         }
+        Verb::Rescreen => {
+            is_of_screening(name) || is_named(name, Opt::Update) || is_named(name, Opt::Changed)
+        }
     }
+}
+
+/// Whether it is an option of each command that screens the files of a directory.
+fn is_of_screening(name: &[u8]) -> bool
+    ensures { result ≡ spec.is_screening_name name.now }
+{
+    is_of_directory(name)
+        || is_named(name, Opt::Workers)
+        || is_named(name, Opt::Originator)
+        || is_named(name, Opt::Cells)
+        || is_named(name, Opt::CertVersion)
+        || is_named(name, Opt::Out)
+        || is_named(name, Opt::Rtn)
+}
+
+/// Whether it is an option of each command that checks the certificate of a directory.
+fn is_of_checking(name: &[u8]) -> bool
+    ensures { result ≡ spec.is_checking_name name.now }
+{
+    is_of_directory(name)
+        || is_named(name, Opt::Cert)
+        || is_named(name, Opt::CertDir)
+        || is_named(name, Opt::Update)
 }
 
 /// Whether it is an option of each command that reads the files of a directory.

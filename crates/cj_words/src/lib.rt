@@ -15,7 +15,7 @@ mod settings;
 mod telling;
 mod texts;
 
-pub use command::{Checking, Command, Recipe, Screening, Selfrun, Thinning, Verb};
+pub use command::{Checking, Command, Recipe, Rescreening, Screening, Selfrun, Thinning, Verb};
 pub use commands::read_command;
 pub use front::{Front, front_of, split_at_equals};
 pub use given::is_known;

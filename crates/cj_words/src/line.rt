@@ -41,6 +41,8 @@ pub fn verb_of(word: &[u8]) -> Option<Verb>
         Some(Verb::Rewrite)
     } else if word == b"thin".as_slice() {
         Some(Verb::Thin)
+    } else if word == b"rescreen".as_slice() {
+        Some(Verb::Rescreen)
     } else {
         None
     }
@@ -50,9 +52,8 @@ fn line_behind(verb: Verb, words: &[Word]) -> Option<Line<'_>>
     ensures { option_map plain_line result ≡ spec.line_behind (Some verb) words.now }
 {
     match verb {
-        Verb::Screen | Verb::Check | Verb::Generate | Verb::Rewrite | Verb::Thin => {
-            with_directory(verb, words)
-        }
+        Verb::Screen | Verb::Check | Verb::Generate | Verb::Rewrite | Verb::Thin | Verb::Rescreen =>
+            with_directory(verb, words),
         Verb::Selfrun => Some(Line {
             verb,
             directory: b".",

@@ -32,6 +32,10 @@ pub enum Opt {
     Sizes,
     /// In which version the certificate is written.
     CertVersion,
+    /// What the names of update files end with.
+    Update,
+    /// Whether the pairs that changed are told alone; a flag.
+    Changed,
     /// The file of the report that is checked beside the certificate.
     Report,
     /// The directory that is made for the results.
@@ -76,6 +80,8 @@ pub fn option_name(option: Opt) -> &'static [u8]
         Opt::AsHermite3 => b"--as-hermite3",
         Opt::Sizes => b"--sizes",
         Opt::CertVersion => b"--cert-version",
+        Opt::Update => b"--update",
+        Opt::Changed => b"--changed",
         Opt::Report => b"--report",
         Opt::Out => b"--out",
         Opt::CertDir => b"--cert-dir",

@@ -45,6 +45,37 @@ fn are_file_bytes(text: &[u8]) -> bool
     text.iter().all(|b| 33 <= *b && *b <= 126 && *b != b'/')
 }
 
+/// What the names of update files end with, as a value says it, or the text that stands for a value that is left out. It is not the suffix of
+/// the files that are taken.
+pub fn update_or<'w>(value: Option<&'w [u8]>, suffix: &[u8]) -> Option<&'w [u8]>
+    ensures { option_copied result ≡ spec.update_or suffix.now (option_copied value.entry) }
+{
+    match value {
+        None => update_text(b".new", suffix),
+        Some(text) => update_text(text, suffix),
+    }
+}
+
+/// The same, none where it is left out.
+pub fn update_or_none<'w>(value: Option<&'w [u8]>, suffix: &[u8]) -> Option<Option<&'w [u8]>>
+    ensures { option_map (λ update. option_copied update) result ≡ spec.update_or_none suffix.now (option_copied value.entry) }
+{
+    match value {
+        None => Some(None),
+        Some(text) => Some(Some(update_text(text, suffix)?)),
+    }
+}
+
+fn update_text<'w>(text: &'w [u8], suffix: &[u8]) -> Option<&'w [u8]>
+    ensures { option_copied result ≡ spec.update_text suffix.now text.now }
+{
+    if is_file_text(text, 20) && text != suffix {
+        Some(text)
+    } else {
+        None
+    }
+}
+
 /// Whether a value is a path or is left out.
 pub fn is_path_or_none(value: Option<&[u8]>) -> bool
     ensures { result ≡ spec.is_path_or_none (option_copied value.entry) }

@@ -31,7 +31,7 @@ returns-in_err-problem g c =
     let s = c.in_err-problem.field-0.0 in
     let first = g.F.Folder.faults c.args.folder.now in
     let before = g.F.Folder.faults c.names.new.self in
-    let now = g.F.Folder.faults c.prepare_listed.new.folder in
+    let now = g.F.Folder.faults c.prepare_with_updates.new.folder in
     let since = rose_since first before now c.names.ensures.later in
     let p = err_from_is_err_and c.from_residual-in_err-problem.result c.from_residual-in_err-problem.ensures.1 in
     rw (p.1, p.2)
@@ -44,18 +44,18 @@ returns-in_err-problem g c =
           (c.in_err-problem.ensures.told files (c.names.ensures.files ∙ told) known);
       small = tt;
       small_report = tt;
-      files = c.prepare_listed.ensures.files ∙ c.names.ensures.files;
-      later = omega (arith, c.prepare_listed.ensures.later, c.names.ensures.later);
+      files = c.prepare_with_updates.ensures.files ∙ c.names.ensures.files;
+      later = omega (arith, c.prepare_with_updates.ensures.later, c.names.ensures.later);
     })
 
 pub returns-in_err-certificate : goal.returns-in_err-certificate
 returns-in_err-certificate g c =
     let s = c.in_err-certificate.field-0.0 in
     let first = g.F.Folder.faults c.args.folder.now in
-    let before = g.F.Folder.faults c.prepare_listed.new.folder in
+    let before = g.F.Folder.faults c.prepare_with_updates.new.folder in
     let now = g.F.Folder.faults c.read_named.new.folder in
-    let since = rose_since first before now (omega (arith, c.prepare_listed.ensures.later, c.names.ensures.later)) in
-    let kept = c.prepare_listed.ensures.files ∙ c.names.ensures.files in
+    let since = rose_since first before now (omega (arith, c.prepare_with_updates.ensures.later, c.names.ensures.later)) in
+    let kept = c.prepare_with_updates.ensures.files ∙ c.names.ensures.files in
     let p = err_from_is_err_and c.from_residual-in_err-certificate.result c.from_residual-in_err-certificate.ensures.1 in
     rw (p.1, p.2)
     (record {
@@ -69,7 +69,7 @@ returns-in_err-certificate g c =
       small = tt;
       small_report = tt;
       files = c.read_named.ensures.files ∙ kept;
-      later = omega (arith, c.read_named.ensures.later, c.prepare_listed.ensures.later, c.names.ensures.later);
+      later = omega (arith, c.read_named.ensures.later, c.prepare_with_updates.ensures.later, c.names.ensures.later);
     })
 
 pub returns-in_err-report : goal.returns-in_err-report
@@ -78,8 +78,8 @@ returns-in_err-report g c =
     let first = g.F.Folder.faults c.args.folder.now in
     let before = g.F.Folder.faults c.read_named.new.folder in
     let now = g.F.Folder.faults c.read_report.new.folder in
-    let since = rose_since first before now (omega (arith, c.read_named.ensures.later, c.prepare_listed.ensures.later, c.names.ensures.later)) in
-    let listed = c.prepare_listed.ensures.files ∙ c.names.ensures.files in
+    let since = rose_since first before now (omega (arith, c.read_named.ensures.later, c.prepare_with_updates.ensures.later, c.names.ensures.later)) in
+    let listed = c.prepare_with_updates.ensures.files ∙ c.names.ensures.files in
     let kept = c.read_named.ensures.files ∙ listed in
     let p = err_from_is_err_and c.from_residual-in_err-report.result c.from_residual-in_err-report.ensures.1 in
     rw (p.1, p.2)
@@ -95,12 +95,12 @@ returns-in_err-report g c =
       small = tt;
       small_report = tt;
       files = c.read_report.ensures.files ∙ kept;
-      later = omega (arith, c.read_report.ensures.later, c.read_named.ensures.later, c.prepare_listed.ensures.later, c.names.ensures.later);
+      later = omega (arith, c.read_report.ensures.later, c.read_named.ensures.later, c.prepare_with_updates.ensures.later, c.names.ensures.later);
     })
 
 pub returns : goal.returns
 returns g c =
-    let listed = c.prepare_listed.ensures.files ∙ c.names.ensures.files in
+    let listed = c.prepare_with_updates.ensures.files ∙ c.names.ensures.files in
     let kept = c.read_named.ensures.files ∙ listed in
     record {
       between = tt;
@@ -114,5 +114,5 @@ returns g c =
       small = c.in_ok-certificate.ensures.small;
       small_report = c.in_ok-report.ensures.small;
       files = c.read_report.ensures.files ∙ kept;
-      later = omega (arith, c.read_report.ensures.later, c.read_named.ensures.later, c.prepare_listed.ensures.later, c.names.ensures.later);
+      later = omega (arith, c.read_report.ensures.later, c.read_named.ensures.later, c.prepare_with_updates.ensures.later, c.names.ensures.later);
     }

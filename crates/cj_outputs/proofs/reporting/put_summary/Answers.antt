@@ -1,6 +1,6 @@
-use Rattle.std.proofs.Common.{ℕ, ◌∙◌, List, [], ◌∷◌, Ok, ap, subst}
+use Rattle.std.proofs.Common.{ℕ, ◌∙◌, List, [], ◌∷◌, ◌++◌, Ok, ap, subst}
 use Rattle.cj_report.specs.Summary.{summary_of}
-use Rattle.cj_outputs.specs.Findings.{ended}
+use Rattle.cj_outputs.specs.Findings.{ended, lines_of}
 use Rattle.cj_outputs.specs.Outcome.{Leaves, summary_output}
 use Rattle.cj_outputs.proofs.EndLemmas.{nothing_made}
 use Rattle.cj_outputs.proofs.reporting.put_summary.Goals as goal
@@ -8,10 +8,15 @@ use Rattle.cj_outputs.proofs.reporting.put_summary.Goals as goal
 pub returns-clause-leaves : goal.returns-clause-leaves
 returns-clause-leaves g c = λ old stood.
     subst (λ (bytes : List ℕ). Leaves (ended c.put.result) (Ok (summary_output bytes ∷ [])) old (g.S.Shelf.outputs c.put.new.shelf))
-    (c.deref.ensures.value ∙ c.in_ok-summary.ensures ∙ ap summary_of c.requires.counts) (c.put.ensures.leaves old stood)
+    (c.deref.ensures.value ∙ c.in_ok-push_behind.ensures
+    ∙ ap (λ (text : List ℕ). text ++ lines_of c.args.found.now.behind) (c.in_ok-summary.ensures ∙ ap summary_of c.requires.counts))
+    (c.put.ensures.leaves old stood)
 
 pub returns-in_err-summary : goal.returns-in_err-summary
 returns-in_err-summary g c = nothing_made _ _ _ _ c.from_residual.ensures.1
+
+pub returns-in_err-push_behind : goal.returns-in_err-push_behind
+returns-in_err-push_behind g c = nothing_made _ _ _ _ c.from_residual-in_err-push_behind.ensures.1
 
 pub returns-clause-comes : goal.returns-clause-comes
 returns-clause-comes g c = c.put.ensures.comes

@@ -4,7 +4,7 @@ use Rattle.cj_outputs.specs.Findings.{outputs_in}
 use Rattle.cj_outputs.specs.Messages.{PlainOrigin}
 use Rattle.cj_outputs.specs.Outcome.{outputs_made}
 use Rattle.cj_screen.specs.declared.task.Task.TheVariants.{Screen, Selfrun}
-use Rattle.cj_screen.proofs.TaskLemmas.{comes_of_search, shows_accepted, shows_made, shows_renewed, shows_screened, shows_thinned}
+use Rattle.cj_screen.proofs.TaskLemmas.{comes_of_search, ends_again, shown_again, shows_accepted, shows_made, shows_renewed, shows_screened, shows_thinned}
 use Rattle.cj_screen.proofs.finding.find.Goals as goal
 
 pub returns-in_ok-found-in-Screen : goal.returns-in_ok-found-in-Screen
@@ -75,4 +75,16 @@ returns-in-Thin g c =
       told = refl;
       due = tt;
       shows = λ files command readies. shows_thinned command files c.in-Thin.lone c.in-Thin.thinning readies c.stays_within.ensures.law;
+    })
+
+pub returns-in-Rescreen : goal.returns-in-Rescreen
+returns-in-Rescreen g c =
+    let found = c.find_again.ensures in
+    let updating = c.in-Rescreen.updating in
+    let rescreening = c.in-Rescreen.rescreening in
+    rw c.in-Rescreen.is (record {
+      ends = ends_again updating rescreening c.find_again.result found.ends;
+      told = found.told;
+      due = found.due;
+      shows = λ files command readies. shown_again command files updating rescreening c.find_again.result readies (found.shows files);
     })

@@ -1,12 +1,13 @@
 use Rattle.std.proofs.Common.{refl}
 use Rattle.std.proofs.lemmas.Result.{err_from_is_err_and}
-use Rattle.cj_words.specs.Commands.{plain_screening, plain_thinning}
+use Rattle.cj_words.specs.Commands.{plain_rescreening, plain_screening, plain_thinning}
 use Rattle.cj_case.specs.Problems.{plain_problem}
 use Rattle.cj_inputs.specs.Alone.{plain_tracks}
+use Rattle.cj_inputs.specs.Updates.{plain_updating}
 use Rattle.cj_io.specs.Faults.{Rose}
 use Rattle.cj_outputs.proofs.AcceptingLemmas.{same_error}
 use Rattle.cj_screen.proofs.ResultLemmas.{count_stays, no_error}
-use Rattle.cj_screen.proofs.TaskLemmas.{no_case, no_tracks, screened_case, the_first, thinned_tracks}
+use Rattle.cj_screen.proofs.TaskLemmas.{no_case, no_cases, no_tracks, rescreened_cases, screened_case, the_first, thinned_tracks}
 use Rattle.cj_screen.proofs.reading.read_asked.Goals as goal
 
 pub returns-in_ok-problem-in-Screen : goal.returns-in_ok-problem-in-Screen
@@ -147,4 +148,35 @@ returns-in_err-lone-in-Thin g c =
       unread = tt;
       files = read.files;
       later = read.later;
+    })
+
+pub returns-in_ok-updating-in-Rescreen : goal.returns-in_ok-updating-in-Rescreen
+returns-in_ok-updating-in-Rescreen g c =
+    let prepared = c.in_ok-updating-in-Rescreen.ensures in
+    let asked = plain_rescreening c.in-Rescreen.rescreening in
+    let cases = plain_updating c.in_ok-updating-in-Rescreen.updating in
+    rw c.in-Rescreen.is (record {
+      between = tt;
+      read = no_error;
+      told = λ files now either. rescreened_cases files now asked cases (prepared.told files (the_first either (λ none. none)));
+      readies = λ files told. (prepared.told files told, refl);
+      unread = tt;
+      files = prepared.files;
+      later = prepared.later;
+    })
+
+pub returns-in_err-updating-in-Rescreen : goal.returns-in_err-updating-in-Rescreen
+returns-in_err-updating-in-Rescreen g c =
+    let prepared = c.in_err-updating-in-Rescreen.ensures in
+    let asked = plain_rescreening c.in-Rescreen.rescreening in
+    let rose = Rose (g.F.Folder.faults c.args.folder.now) (g.F.Folder.faults c.prepare_update.new.folder) in
+    let p = err_from_is_err_and c.from_residual-in_err-updating-in-Rescreen.result c.from_residual-in_err-updating-in-Rescreen.ensures.1 in
+    rw (p.1, p.2, c.in-Rescreen.is) (record {
+      between = prepared.between;
+      read = λ is. prepared.read (same_error is);
+      told = λ files now either. no_cases rose files now asked c.in_err-updating-in-Rescreen.field-0.0 (prepared.told files (the_first either (λ none. none)));
+      readies = λ files told. tt;
+      unread = tt;
+      files = prepared.files;
+      later = prepared.later;
     })

@@ -1,4 +1,4 @@
-use Rattle.std.proofs.Common.{◌∙◌, List, Result, Ok, Err, [], false, sym, subst}
+use Rattle.std.proofs.Common.{◌∙◌, List, Result, Ok, Err, [], false, ap, sym, subst}
 use Rattle.std.proofs.lemmas.Result.{err_from_is_err_and}
 use Rattle.cj_io.specs.declared.file.FileBytes.{FileBytes}
 use Rattle.cj_formats.specs.declared.cert_version.CertVersion.TheVariants.{One}
@@ -21,15 +21,15 @@ returns-in_err-found-clause-ends g c =
     let case = plain_problem c.in_ok-problem.problem in
     let cells = c.args.selfrun.now.cells in
     let p = err_from_is_err_and c.from_residual-in_err-found.result c.from_residual-in_err-found.ensures.1 in
-    rw (p.1, p.2) (comes_of_selfrun ⊥ (outputs_in nobody) (Err c.in_err-found.field-0.0) (outputs_within cells false One nobody case) (λ none. none)
-    (c.in_err-found.ensures.told nobody) (within_limits_of cells false One nobody case))
+    rw (p.1, p.2) (comes_of_selfrun ⊥ (outputs_in nobody) (Err c.in_err-found.field-0.0) (outputs_within cells false One nobody [] case) (λ none. none)
+    (c.in_err-found.ensures.told nobody) (within_limits_of cells false One nobody [] case))
 
 pub returns-in_err-found-clause-told : goal.returns-in_err-found-clause-told
 returns-in_err-found-clause-told g c =
     let case = plain_problem c.in_ok-problem.problem in
     let selfrun = plain_selfrun c.args.selfrun.now in
     let s = c.in_err-found.field-0.0 in
-    let within = selfrun_told selfrun.cells false One nobody case (Err s) (c.in_err-found.ensures.told nobody) tt tt in
+    let within = selfrun_told selfrun.cells false One nobody [] case (Err s) (c.in_err-found.ensures.told nobody) tt tt in
     let p = err_from_is_err_and c.from_residual-in_err-found.result c.from_residual-in_err-found.ensures.1 in
     rw (p.1, p.2) (subst (λ (due : Result (List FileBytes) Status). Stops ⊥ s due) (sym (selfrun_after selfrun case c.in_ok-problem.ensures.told)) within)
 
@@ -38,4 +38,17 @@ returns-clause-told g c =
     let case = plain_problem c.in_ok-problem.problem in
     let selfrun = plain_selfrun c.args.selfrun.now in
     selfrun_after selfrun case c.in_ok-problem.ensures.told
-    ∙ selfrun_told selfrun.cells false One nobody case (Ok c.in_ok-found.found) (c.in_ok-found.ensures.told nobody) c.in_ok-found.ensures.same c.in_ok-found.ensures.found
+    ∙ selfrun_told selfrun.cells false One nobody [] case (Ok c.in_ok-found.found) (c.in_ok-found.ensures.told nobody) (ap plain_problem c.in_ok-found.ensures.same) c.in_ok-found.ensures.found
+
+pub returns-clause-found : goal.returns-clause-found
+returns-clause-found g c =
+    let are = c.in_ok-found.ensures.found in
+    record {
+      measured = are.measured;
+      leaves = are.leaves;
+      few = are.few;
+      encounters = are.encounters;
+      closest = are.closest;
+      messages = are.messages;
+      counts = are.counts;
+    }

@@ -1,17 +1,18 @@
-use Rattle.std.proofs.Common.{◌≡◌, ◌⊎◌, inr, Err, List, Result, refl, ap, sym, subst, ◌∙◌}
+use Rattle.std.proofs.Common.{◌≡◌, ◌⊎◌, inl, inr, Err, List, Result, refl, ap, sym, subst, ◌∙◌}
 use Rattle.cj_io.specs.Faults.{Rose}
 use Rattle.cj_io.specs.declared.file.FileBytes.{FileBytes}
-use Rattle.cj_words.specs.Commands.{Checks, Generates, Rewrites, Screens, Selfruns, Thins, command_of}
+use Rattle.cj_words.specs.Commands.{Checks, Generates, Rescreens, Rewrites, Screens, Selfruns, Thins, command_of}
 use Rattle.cj_status.specs.declared.status.Status.{Status}
 use Rattle.cj_status.specs.declared.status.Status.TheVariants as status
 use Rattle.cj_status.specs.Steps.{ComesBefore}
 use Rattle.cj_outputs.specs.Outcome as spec
-use Rattle.cj_outputs.specs.Outcome.{Answers, EndsMaking, EndsSelfrun, Leaves, PutsNothing}
+use Rattle.cj_outputs.specs.Outcome.{Answers, EndsMaking, EndsRescreening, EndsSelfrun, Leaves, PutsNothing}
 use Rattle.cj_outputs.specs.Findings.{ended}
 use Rattle.cj_outputs.proofs.EndLemmas.{answers_stop, answers_wider, leaves_extends, leaves_stop, nothing_more, refused_as, stopped_for}
 use Rattle.cj_screen.specs.Tasks.{EndsTask, outputs_of_task}
+use Rattle.cj_screen.proofs.RescreenLemmas.{stopped_rescreening}
 use Rattle.cj_screen.proofs.ResultLemmas.{count_stays, ended_failed, same_status}
-use Rattle.cj_screen.proofs.TaskLemmas.{calm_read, ends_making, ends_selfrun}
+use Rattle.cj_screen.proofs.TaskLemmas.{calm_read, ends_making, ends_rescreening, ends_selfrun}
 use Rattle.cj_screen.proofs.top.conj.Goals as goal
 
 pub returns-in-Ok-clause-usage : goal.returns-in-Ok-clause-usage
@@ -56,6 +57,19 @@ returns-in-Ok-clause-rewritten g c = λ files outputs checking told stood asked 
 pub returns-in-Ok-clause-thinned : goal.returns-in-Ok-clause-thinned
 returns-in-Ok-clause-thinned g c = λ files outputs thinning told stood asked ok.
     c.run.ensures.done files outputs (Thins thinning) (c.in-Ok.ensures.readies files (Thins thinning) told asked) stood (sym c.end.ensures ∙ ok)
+
+pub returns-in-Ok-clause-rescreened : goal.returns-in-Ok-clause-rescreened
+returns-in-Ok-clause-rescreened g c = λ files outputs asked told stood words whole ok.
+    let done = c.run.ensures.done files outputs (Rescreens asked) (c.in-Ok.ensures.readies files (Rescreens asked) told words) stood (sym c.end.ensures ∙ ok) in
+    done.whole whole
+
+pub returns-in-Ok-clause-changed : goal.returns-in-Ok-clause-changed
+returns-in-Ok-clause-changed g c = λ files outputs asked told stood words changed ok.
+    let done = c.run.ensures.done files outputs (Rescreens asked) (c.in-Ok.ensures.readies files (Rescreens asked) told words) stood (sym c.end.ensures ∙ ok) in
+    done.changed changed
+
+pub returns-in-Ok-clause-never : goal.returns-in-Ok-clause-never
+returns-in-Ok-clause-never g c = λ files rescreening told words. subst EndsRescreening (sym c.end.ensures) (ends_rescreening c.in-Ok.task (ended c.run.result) c.run.ensures.ends)
 
 pub returns-in-Ok-clause-refused : goal.returns-in-Ok-clause-refused
 returns-in-Ok-clause-refused g c = λ files cause are is calm free.
@@ -154,6 +168,17 @@ returns-in-Err-clause-rewritten g c = λ files outputs checking told stood asked
 
 pub returns-in-Err-clause-thinned : goal.returns-in-Err-clause-thinned
 returns-in-Err-clause-thinned g c = λ files outputs thinning told stood asked ok. absurd (subst ComesBefore ok c.in-Err.ensures.before)
+
+pub returns-in-Err-clause-rescreened : goal.returns-in-Err-clause-rescreened
+returns-in-Err-clause-rescreened g c = λ files outputs asked told stood words whole ok. absurd (subst ComesBefore ok c.in-Err.ensures.before)
+
+pub returns-in-Err-clause-changed : goal.returns-in-Err-clause-changed
+returns-in-Err-clause-changed g c = λ files outputs asked told stood words changed ok. absurd (subst ComesBefore ok c.in-Err.ensures.before)
+
+pub returns-in-Err-clause-never : goal.returns-in-Err-clause-never
+returns-in-Err-clause-never g c = λ files rescreening told words.
+    stopped_rescreening (Rose (g.F.Folder.faults c.args.folder.now) (g.F.Folder.faults c.read_task.new.folder)) c.args.words.now files c.args.now.micros rescreening c.in-Err.status words
+    (c.in-Err.ensures.told files c.args.now.micros (inl told)) c.in-Err.ensures.before (λ fault is. let wrong = sym ((c.in-Err.ensures.usage fault).0 (ap (λ (s : Status). Err s) is)) ∙ words in absurd cc)
 
 pub returns-in-Err-clause-untouched : goal.returns-in-Err-clause-untouched
 returns-in-Err-clause-untouched g c = λ none. refl

@@ -17,7 +17,7 @@ returns-in-Made g c =
 
 pub returns-in-Selfrun : goal.returns-in-Selfrun
 returns-in-Selfrun g c =
-    let done = c.put_selfrun.ensures in
+    let done = c.put_summary.ensures in
     rw c.in-Selfrun.is (record { comes = done.comes; write = done.write; leaves = done.leaves; later = done.later })
 
 pub returns-in-Rewritten : goal.returns-in-Rewritten
@@ -29,3 +29,8 @@ pub returns-in-Thinned : goal.returns-in-Thinned
 returns-in-Thinned g c =
     let done = c.put_thinned.ensures in
     rw c.in-Thinned.is (record { comes = done.comes; write = done.write; leaves = done.leaves; later = done.later })
+
+pub returns-in-Changed : goal.returns-in-Changed
+returns-in-Changed g c =
+    let done = c.put_changes.ensures in
+    rw c.in-Changed.is (record { comes = done.comes; write = done.write; leaves = done.leaves; later = done.later })

@@ -1,12 +1,13 @@
 use Rattle.std.proofs.Common.{refl, sym, ap, ◌∙◌}
 use Rattle.std.specs.Prelude.{codes}
 use Rattle.cj_words.specs.Commands.{checking_of}
-use Rattle.cj_words.specs.Settings.{file_text_or, name_or}
+use Rattle.cj_words.specs.Settings.{file_text_or, name_or, update_or_none}
 use Rattle.cj_words.proofs.commands.checking_of.Goals as goal
 
 pub returns : goal.returns
 unfolding checking_of
 returns c =
     let certificate = c.in-Some.ensures ∙ ap (file_text_or 200 (codes "screen.cert")) c.value_of.ensures in
-    let report = c.in-Some-name_or.ensures ∙ ap name_or c.value_of-2.ensures in
-    rw (sym c.in_ok-threshold.ensures.value, sym c.in_ok-unsized_settings.ensures, sym certificate, sym c.in_ok-settings.ensures.value, sym report) refl
+    let update = c.in-Some-update_or_none.ensures ∙ ap (update_or_none c.in_ok-settings.settings.suffix.now) c.value_of-2.ensures in
+    let report = c.in-Some-name_or.ensures ∙ ap name_or c.value_of-3.ensures in
+    rw (sym c.in_ok-threshold.ensures.value, sym c.in_ok-unsized_settings.ensures, sym certificate, sym c.in_ok-settings.ensures.value, sym update, sym report) refl

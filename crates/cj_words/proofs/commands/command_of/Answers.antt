@@ -49,3 +49,11 @@ pub returns-in_err-thinning_of-in-Thin : goal.returns-in_err-thinning_of-in-Thin
 returns-in_err-thinning_of-in-Thin c =
     let p = err_from_is_err_and c.from_residual-in_err-thinning_of-in-Thin.result c.from_residual-in_err-thinning_of-in-Thin.ensures.1 in
     rw (p.1, p.2, c.in-Thin.is, sym c.in_err-thinning_of-in-Thin.ensures) refl
+
+pub returns-in_ok-rescreening_of-in-Rescreen : goal.returns-in_ok-rescreening_of-in-Rescreen
+returns-in_ok-rescreening_of-in-Rescreen c = rw (c.in-Rescreen.is, sym c.in_ok-rescreening_of-in-Rescreen.ensures) refl
+
+pub returns-in_err-rescreening_of-in-Rescreen : goal.returns-in_err-rescreening_of-in-Rescreen
+returns-in_err-rescreening_of-in-Rescreen c =
+    let p = err_from_is_err_and c.from_residual-in_err-rescreening_of-in-Rescreen.result c.from_residual-in_err-rescreening_of-in-Rescreen.ensures.1 in
+    rw (p.1, p.2, c.in-Rescreen.is, sym c.in_err-rescreening_of-in-Rescreen.ensures) refl

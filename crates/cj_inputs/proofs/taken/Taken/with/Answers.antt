@@ -1,4 +1,5 @@
-use Rattle.std.proofs.Common.{◌≡◌, ◌∙◌, List, map, true, sym, ap, subst, arith}
+use Rattle.std.proofs.Common.{◌≡◌, ◌∙◌, [], ◌∷◌, List, length, map, true, sym, ap, subst, arith}
+use Rattle.std.proofs.lemmas.List.{length-append}
 use Rattle.cj_track.specs.Tracks.{plain_track}
 use Rattle.cj_track.specs.declared.track.Track.{Track}
 use Rattle.cj_case.specs.CaseLimits.{node_total}
@@ -17,4 +18,5 @@ invariant_of-result c =
       frame = subst HaveOneFrame (sym c.in_ok-push.ensures.items) (one_frame_more tracks track c.args.self.frame fits);
       counted = omega (arith, c.args.self.counted, c.node_count.ensures.value, nodes_behind tracks track, ap node_total c.in_ok-push.ensures.items);
       few = omega (arith, c.in_ok-check_limits.ensures.nodes, c.args.limits.most_nodes);
+      fewer = omega (arith, c.args.self.fewer, c.node_count.ensures.some, ap (λ (ts : List Track). length ts) c.in_ok-push.ensures.items, length-append tracks (track ∷ []));
     }

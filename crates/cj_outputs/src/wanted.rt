@@ -1,0 +1,42 @@
+ghost use Rattle.std.specs.Prelude.{◌≤◌};
+ghost use Rattle.cj_base.specs.Bounds.{MOST_LEAVES};
+
+use crate::reporting::tells_sizes;
+use cj_formats::CertVersion;
+use cj_words::Screening;
+
+/// How a problem is screened, and what is wanted of its outputs.
+#[derive(Clone, Copy, Debug)]
+pub struct Wanted {
+    /// Whether the report tells the sizes of its objects.
+    pub tells_sizes: bool,
+    /// The version of the certificate.
+    pub version: CertVersion,
+    /// How many workers search, and make the texts, from 1 to 16.
+    pub workers: u32,
+    /// The greatest number of leaves.
+    pub leaves: u64,
+    pub ghost some: { 1 ≤ workers },
+    pub ghost few_workers: { workers ≤ 16 },
+    pub ghost few_leaves: { leaves ≤ MOST_LEAVES },
+}
+
+impl Wanted {
+    ghost use Rattle.std.specs.Prelude.{◌≡◌};
+    ghost use Rattle.cj_outputs.specs.Outcome as spec;
+    ghost use Rattle.cj_words.specs.Settings.{plain_settings};
+
+    /// What a screening wants.
+    pub fn of(screening: &Screening) -> Wanted
+        ensures tells_sizes { result.tells_sizes ≡ spec.tells_sizes (plain_settings screening.now.settings) }
+        ensures version { result.version ≡ screening.now.version }
+        ensures leaves { result.leaves ≡ screening.now.cells }
+    {
+        Wanted {
+            tells_sizes: tells_sizes(&screening.settings),
+            version: screening.version,
+            workers: screening.workers,
+            leaves: screening.cells,
+        }
+    }
+}
