@@ -21,7 +21,7 @@ REFUSED = re.compile(rb"conj: (?P<file>[^\n]+?): line \d+: [A-Z][A-Za-z]*(?: [A-
 REFUSING_STATUS = 3
 # The words that ask for more to be told, and the commands that take them.
 TELLING = ("--warnings", "--all-faults")
-TELLING_COMMANDS = ("screen", "check", "rewrite")
+TELLING_COMMANDS = ("screen", "rescreen", "check", "rewrite")
 
 
 @dataclass(frozen=True)

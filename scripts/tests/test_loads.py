@@ -23,11 +23,11 @@ else:
 
 # A small size for each load: bytes, objects, nodes, minutes or lines, as the load counts.
 SMALL = {
-    "line_ends": 400_000, "long_comments": 4000, "late_fault": 4000, "matrices_alone": 4000, "many_nodes": 250, "small_files": 5, "long_numbers": 4000,
-    "long_epochs": 4000, "sizes_alone": 800, "crowded_folder": 7, "many_matrices": 6000, "long_object_name": 1000, "resting_together": 5,
-    "thin_objects": 5, "fast_objects": 5, "close_nodes": 50, "short_spans": 6, "together_for_a_tick": 4, "long_file_names": 3,
-    "at_the_threshold": 90, "near_misses": 20, "touching_everywhere": 5, "many_cells": 30, "thin_boxes": 5, "one_long_line": 3_000_000,
-    "short_lines": 4000, "cells_of_one_pair": 20, "many_sizes": 20,
+    "line_ends": 400_000, "long_comments": 4000, "late_fault": 4000, "matrices_alone": 4000, "many_nodes": 250, "small_files": 5,
+    "long_numbers": 4000, "long_epochs": 4000, "sizes_alone": 800, "crowded_folder": 7, "updated_files": 5, "crowded_updates": 7,
+    "many_matrices": 6000, "long_object_name": 1000, "resting_together": 5, "thin_objects": 5, "fast_objects": 5, "close_nodes": 50, "short_spans": 6,
+    "together_for_a_tick": 4, "long_file_names": 3, "at_the_threshold": 90, "near_misses": 20, "touching_everywhere": 5, "many_cells": 30,
+    "thin_boxes": 5, "one_long_line": 3_000_000, "short_lines": 4000, "cells_of_one_pair": 20, "many_sizes": 20,
 }  # fmt: skip
 KM = 10**12
 

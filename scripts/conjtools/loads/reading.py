@@ -141,6 +141,25 @@ def sizes_alone(folder: Path, seed: int, size: int) -> None:
             file.write(f"{halves[number >> 15]}{halves[number >> 5 & 1023]}{DIGITS[number & 31]} 1\n")
 
 
+def updated_files(folder: Path, seed: int, size: int) -> None:
+    """So many objects of two nodes, each 20 kilometres further out than another, and of each an update that puts it beyond all of them."""
+    draw = random.Random(seed)
+    for number, rank in enumerate(draw.sample(range(size), size)):
+        for end, beyond in (("", 0), (".new", size)):
+            text = resting(f"UPDATED {number}", ((7000 + 20 * (rank + beyond)) * KM, 0, 0), MINUTE)
+            put(folder, f"{number:04}.oem{end}", text)
+
+
+def crowded_updates(folder: Path, seed: int, size: int) -> None:
+    """Two objects among so many empty updates, with long names, of files that are not there."""
+    draw = random.Random(seed)
+    for name, x in (("a", 7000), ("b", 7100)):
+        put(folder, f"{name}.oem", resting(f"FEW {name}", (x * KM, 0, 0), MINUTE))
+    filler = draw.choice(("x", "y", " ")) * 240
+    for number in draw.sample(range(size), size):
+        (folder / f"{number:06}{filler}.oem.new").touch()
+
+
 def crowded_folder(folder: Path, seed: int, size: int) -> None:
     """Two objects among so many empty files with long names that no command takes."""
     draw = random.Random(seed)

@@ -34,6 +34,7 @@ from conjtools.loads.certificates import (
 from conjtools.loads.reading import (
     ONE_OBJECT,
     crowded_folder,
+    crowded_updates,
     late_fault,
     line_ends,
     long_comments,
@@ -45,6 +46,7 @@ from conjtools.loads.reading import (
     matrices_alone,
     sizes_alone,
     small_files,
+    updated_files,
 )
 from conjtools.loads.texts import KM, LARGEST_FILE, OBJECTS_TIMES_SLOTS
 
@@ -152,6 +154,12 @@ def checks(due: Callable[[Path, int], Due]) -> tuple[Run, ...]:
     return (Run("check", ("--cert", CERTIFICATE), due),)
 
 
+def screens_again(*lines: str, workers: tuple[int, ...] = ()) -> Run:
+    return Run("rescreen", A_MINUTE, ends_well(*lines), workers)
+
+
+A_MINUTE = ("--from", "2025-01-01T00:00:00", "--to", "2025-01-01T00:01:00")
+ALL_UPDATED = Run("rescreen", A_MINUTE, lambda folder, size: Due(0, "", (f"PAIRS {pairs(size)}", f"PARTED {pairs(size)}", "KEPT 0")), (1, 4, 16))
 AT_7000_KM = f"SHELL 1 {7000 * KM} {7000 * KM}"
 ALL_PARTED = Run("screen", (), lambda folder, size: Due(0, "", (f"PAIRS {pairs(size)}", f"PARTED {pairs(size)}")), (1, 4, 16))
 ALL_PASS = Run("screen", (), lambda folder, size: Due(0, "", (f"PAIRS {pairs(size)}", "MESSAGES 0")))
@@ -176,6 +184,9 @@ LOADS = (
     Load(sizes_alone, LARGEST_FILE // 4, (Run("screen", ("--sizes", "sizes.txt"), ends_well("OBJECTS 2", "PARTED 1")),),
          Bound(60, 4, lambda size: size // 8 * 128, "two million designators are put into a tree")),
     Load(crowded_folder, 100_000, (screens("OBJECTS 2", "PARTED 1"),), Bound(5, 4, lambda size: size * 512, "a name is asked for its end")),
+    Load(updated_files, 2_000, (ALL_UPDATED,), Bound(10, 4, lambda size: 2 * size * 4096 + 16 * MIB, "shells part all pairs, before updates and after them")),
+    Load(crowded_updates, 100_000, (screens_again("OBJECTS 2", "PARTED 1", "KEPT 0"),),
+         Bound(5, 4, lambda size: size * 1024, "a name is kept, its file is found empty, and no object has it")),
     Load(many_matrices, LARGEST_FILE // 4, (Run("screen", (), segments_are_encounters),),
          Bound(40, 4, lambda size: size // 84 * MATRIX + size // 3 // 400 * ENCOUNTER, "a matrix is found in the logarithm of their number")),
     Load(long_object_name, MIB, (Run("screen", (), segments_are_encounters),),
