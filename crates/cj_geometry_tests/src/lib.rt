@@ -2,6 +2,8 @@
 #![tactic(auto)]
 
 #[cfg(test)]
+mod coverage;
+#[cfg(test)]
 mod crowds;
 #[cfg(test)]
 mod gaps;

@@ -1,0 +1,3 @@
+pub mod CoverageLemmas
+pub mod StretchLemmas
+pub mod UncoveredLemmas
