@@ -1,16 +1,15 @@
 -- Where the objects of a new case stand in an old one.
-use Rattle.std.proofs.Common.{◌≡◌, ℕ, ◌<◌, true, List, Option, Some, None, length, map, option_map, sym, ap, subst, ◌∙◌, arith}
+use Rattle.std.proofs.Common.{◌≡◌, ℕ, true, List, Option, Some, None, length, map, option_map, sym, ap, subst, ◌∙◌, arith}
 use Rattle.std.specs.Prelude.{slice_get}
 use Rattle.std.proofs.lemmas.List.{length-map}
 use Rattle.std.proofs.lemmas.Option.{slice_get-get_or, slice_get-map, slice_get_within}
 use Rattle.std.proofs.Common.{get_or}
-use Rattle.cj_track.specs.PlainTracks.{PlainTrack}
 use Rattle.cj_case.specs.PlainProblems.{PlainProblem}
 use Rattle.cj_case.specs.Unchanged.{is_object}
 use Rattle.cj_candidates.specs.MeasuredObjects.{ArePlaces}
 use Rattle.cj_again.specs.declared.ends.Ends.{Ends}
 use Rattle.cj_again.specs.Matchings.{all_ends, ends_of, objects_like, plain_ends}
-use Rattle.cj_again.proofs.MatchLemmas.{AreEnds, AreEndsOrNone, ends_are, ends_at, ends_count}
+use Rattle.cj_again.proofs.MatchLemmas.{AreEndsOrNone, ends_are, ends_at, ends_count}
 use Rattle.cj_again.proofs.TransportLemmas.{object_is}
 
 -- the first of the ends of an object is that object
