@@ -10,9 +10,9 @@ use Rattle.cj_formats.specs.declared.sizes_cause.SizesCause.TheVariants as sizes
 use Rattle.cj_formats.specs.declared.cert_cause.CertCause.TheVariants as certs
 use Rattle.cj_formats.specs.declared.check_cause.CheckCause.TheVariants as checks
 use Rattle.cj_status.specs.declared.status.CertificateCause.TheVariants as refusals
-use Rattle.cj_status.specs.declared.status.FileCause.TheVariants as files
 use Rattle.cj_advice.specs.declared.cause.Cause.{Cause}
 use Rattle.cj_advice.specs.declared.cause.Cause.TheVariants.{Words, Value, File, Certificate, Limit, ReadFault, WriteFault, OutOfMemory}
+use Rattle.cj_advice.specs.declared.cause.FileReason.TheVariants as files
 use Rattle.cj_advice.specs.declared.cause.LimitCause.TheVariants.{Objects, FileBytes, Nodes, Window, Slots, Cells}
 use Rattle.cj_advice.specs.Causes.{word_of, every, cause_named}
 
@@ -56,6 +56,7 @@ each_found (File (files.Sizes sizes.Number)) = refl
 each_found (File (files.Sizes sizes.Range)) = refl
 each_found (File (files.Sizes sizes.Twice)) = refl
 each_found (File files.NoSizes) = refl
+each_found (File files.Uncovered) = refl
 each_found (Certificate refusals.NoFile) = refl
 each_found (Certificate (refusals.Text certs.Form)) = refl
 each_found (Certificate (refusals.Text certs.Range)) = refl

@@ -11,15 +11,18 @@ use Rattle.cj_formats.specs.declared.check_cause.CheckCause.TheVariants as check
 use Rattle.cj_words.specs.declared.option.UsageFault.{UsageFault}
 use Rattle.cj_words.specs.declared.option.UsageFault.TheVariants as usage
 use Rattle.cj_words.specs.Options.{name_of}
-use Rattle.cj_status.specs.Faults.{cause_text, certificate_text, line_of, shown_name}
+use Rattle.cj_status.specs.Faults.{cause_rest, certificate_text, line_of, oem_text, shown_name, sizes_text}
 use Rattle.cj_status.specs.declared.status.CertificateCause.TheVariants as refusals
-use Rattle.cj_status.specs.declared.status.FileCause.TheVariants as files
+use Rattle.cj_status.specs.declared.status.FileCause.{FileCause}
+use Rattle.cj_status.specs.declared.status.FileCause.TheVariants as refused
 use Rattle.cj_status.specs.declared.status.LimitFault.{LimitFault}
 use Rattle.cj_status.specs.declared.status.LimitFault.TheVariants as faults
 use Rattle.cj_status.specs.declared.status.Status.{Status}
 use Rattle.cj_status.specs.declared.status.Status.TheVariants as status
 use Rattle.cj_advice.specs.declared.cause.Cause.{Cause}
 use Rattle.cj_advice.specs.declared.cause.Cause.TheVariants.{Words, Value, File, Certificate, Limit, ReadFault, WriteFault, OutOfMemory}
+use Rattle.cj_advice.specs.declared.cause.FileReason.{FileReason}
+use Rattle.cj_advice.specs.declared.cause.FileReason.TheVariants as files
 use Rattle.cj_advice.specs.declared.cause.LimitCause.{LimitCause}
 use Rattle.cj_advice.specs.declared.cause.LimitCause.TheVariants.{Objects, FileBytes, Nodes, Window, Slots, Cells}
 
@@ -31,11 +34,18 @@ limit_word Window = codes "Window"
 limit_word Slots = codes "Slots"
 limit_word Cells = codes "Cells"
 
+abbrev pub file_word : FileReason → List ℕ
+file_word (files.Oem cause) = oem_text cause
+file_word files.MixedFrames = codes "MixedFrames"
+file_word (files.Sizes cause) = codes "Sizes " ++ sizes_text cause
+file_word files.NoSizes = codes "NoSizes"
+file_word files.Uncovered = codes "Uncovered"
+
 -- the words of a cause, which are those of fault lines
 abbrev pub word_of : Cause → List ℕ
 word_of Words = codes "Words"
 word_of Value = codes "Value"
-word_of (File cause) = cause_text cause
+word_of (File reason) = file_word reason
 word_of (Certificate cause) = certificate_text cause
 word_of (Limit limit) = limit_word limit
 word_of ReadFault = codes "read fault"
@@ -52,6 +62,13 @@ limit_cause (faults.Window length) = Window
 limit_cause (faults.Slots count) = Slots
 limit_cause (faults.Cells limit) = Cells
 
+abbrev pub file_reason : FileCause → FileReason
+file_reason (refused.Oem cause) = files.Oem cause
+file_reason refused.MixedFrames = files.MixedFrames
+file_reason (refused.Sizes cause) = files.Sizes cause
+file_reason refused.NoSizes = files.NoSizes
+file_reason (refused.Uncovered micros) = files.Uncovered
+
 abbrev pub usage_cause : UsageFault → Cause
 usage_cause usage.Words = Words
 usage_cause (usage.Value option) = Value
@@ -60,7 +77,7 @@ abbrev pub cause_of : Status → Option Cause
 cause_of status.Ok = None
 cause_of (status.NotAccepted line cause) = Some (Certificate cause)
 cause_of (status.Usage fault) = Some (usage_cause fault)
-cause_of (status.BadFile file line cause) = Some (File cause)
+cause_of (status.BadFile file line cause) = Some (File (file_reason cause))
 cause_of status.ReadFault = Some ReadFault
 cause_of status.WriteFault = Some WriteFault
 cause_of (status.Limit fault) = Some (Limit (limit_cause fault))
@@ -77,7 +94,7 @@ front_of status.WriteFault = codes "conj: "
 front_of (status.Limit fault) = codes "conj: limit: "
 front_of status.OutOfMemory = codes "conj: "
 
--- and behind it the option, the number or the file, and the end of the line
+-- and behind it the option, the number, the tick or the file, and the end of the line
 abbrev pub limit_rest : LimitFault → List ℕ
 limit_rest (faults.Objects count) = codes " " ++ decimal count ++ 10 ∷ []
 limit_rest (faults.FileBytes file) = codes " " ++ shown_name file ++ 10 ∷ []
@@ -91,7 +108,7 @@ rest_of status.Ok = []
 rest_of (status.NotAccepted line cause) = 10 ∷ []
 rest_of (status.Usage usage.Words) = 10 ∷ []
 rest_of (status.Usage (usage.Value option)) = codes " " ++ name_of option ++ 10 ∷ []
-rest_of (status.BadFile file line cause) = 10 ∷ []
+rest_of (status.BadFile file line cause) = cause_rest cause ++ 10 ∷ []
 rest_of status.ReadFault = 10 ∷ []
 rest_of status.WriteFault = 10 ∷ []
 rest_of (status.Limit fault) = limit_rest fault
@@ -144,6 +161,7 @@ every =
     ∷ File (files.Sizes sizes.Range)
     ∷ File (files.Sizes sizes.Twice)
     ∷ File files.NoSizes
+    ∷ File files.Uncovered
     ∷ Certificate refusals.NoFile
     ∷ Certificate (refusals.Text certs.Form)
     ∷ Certificate (refusals.Text certs.Range)

@@ -1,7 +1,7 @@
 -- The options of a command.
 use Rattle.std.specs.Prelude.{Bool, true, ◌≡◌}
 use Rattle.cj_advice.specs.declared.slips.Slip.{Slip}
-use Rattle.cj_advice.specs.declared.slips.Slip.TheVariants.{Nothing, NoCommand, NotAlone, NoDirectory, NoOption, Stray, NoValue, ValueOfFlag, Twice, NoEnd, NotBeside}
+use Rattle.cj_advice.specs.declared.slips.Slip.TheVariants.{Nothing, NoCommand, NotAlone, NoDirectory, NoOption, Stray, NoValue, ValueOfFlag, Twice, NoEnd, NoReport, NotBeside}
 use Rattle.cj_words.specs.declared.command.Verb.{Verb}
 use Rattle.cj_words.specs.declared.option.Opt.{Opt}
 use Rattle.cj_words.specs.Options.{is_name, name_of}
@@ -22,4 +22,5 @@ IsOwn (NoValue option) = Unit {0}
 IsOwn (ValueOfFlag option) = Unit {0}
 IsOwn (Twice option) = Unit {0}
 IsOwn (NoEnd option) = Unit {0}
+IsOwn (NoReport option) = Unit {0}
 IsOwn (NotBeside option other) = Unit {0}

@@ -3,6 +3,7 @@ ghost use Rattle.std.specs.Prelude.{◌≡◌, IfSome};
 ghost use Rattle.cj_advice.specs.Causes as spec;
 ghost use Rattle.cj_advice.specs.Causes.{Tells};
 
+use cj_formats::{OemCause, SizesCause};
 use cj_status::{
     CertificateCause, FileCause, LimitFault, Status, cause_name, certificate_cause_name,
 };
@@ -16,7 +17,7 @@ pub enum Cause {
     /// The value of an option is out of its range.
     Value,
     /// A file was refused.
-    File(FileCause),
+    File(FileReason),
     /// The certificate, or the report beside it, is not accepted.
     Certificate(CertificateCause),
     /// A limit was exceeded.
@@ -24,6 +25,21 @@ pub enum Cause {
     ReadFault,
     WriteFault,
     OutOfMemory,
+}
+
+/// Why a file was refused, without the tick that a fault line names.
+#[derive(Clone, Copy, Debug, PartialEq, Eq)]
+pub enum FileReason {
+    /// It is not an ephemeris that can be read.
+    Oem(OemCause),
+    /// Its frame is not that of the first file.
+    MixedFrames,
+    /// It is not a file of sizes.
+    Sizes(SizesCause),
+    /// No file has the name that was given for the file of sizes.
+    NoSizes,
+    /// Its object does not cover the window.
+    Uncovered,
 }
 
 /// What is beyond its limit, without its number.
@@ -44,12 +60,24 @@ pub fn cause_word(cause: Cause) -> &'static [u8]
     match cause {
         Cause::Words => b"Words",
         Cause::Value => b"Value",
-        Cause::File(cause) => cause_name(cause),
+        Cause::File(reason) => file_word(reason),
         Cause::Certificate(cause) => certificate_cause_name(cause),
         Cause::Limit(limit) => limit_word(limit),
         Cause::ReadFault => b"read fault",
         Cause::WriteFault => b"write fault",
         Cause::OutOfMemory => b"out of memory",
+    }
+}
+
+fn file_word(reason: FileReason) -> &'static [u8]
+    ensures { result.now ≡ spec.file_word reason }
+{
+    match reason {
+        FileReason::Oem(cause) => cause_name(FileCause::Oem(cause)),
+        FileReason::MixedFrames => b"MixedFrames",
+        FileReason::Sizes(cause) => cause_name(FileCause::Sizes(cause)),
+        FileReason::NoSizes => b"NoSizes",
+        FileReason::Uncovered => b"Uncovered",
     }
 }
 
@@ -82,7 +110,7 @@ fn cause_in(status: &Status) -> Option<Cause>
         Status::Ok => None,
         Status::NotAccepted { cause, .. } => Some(Cause::Certificate(*cause)),
         Status::Usage(fault) => Some(usage_cause(fault)),
-        Status::BadFile { cause, .. } => Some(Cause::File(*cause)),
+        Status::BadFile { cause, .. } => Some(Cause::File(file_reason(*cause))),
         Status::ReadFault => Some(Cause::ReadFault),
         Status::WriteFault => Some(Cause::WriteFault),
         Status::Limit(fault) => Some(Cause::Limit(limit_cause(fault))),
@@ -96,6 +124,18 @@ fn usage_cause(fault: &UsageFault) -> Cause
     match fault {
         UsageFault::Words => Cause::Words,
         UsageFault::Value { .. } => Cause::Value,
+    }
+}
+
+pub fn file_reason(cause: FileCause) -> FileReason
+    ensures { result ≡ spec.file_reason cause }
+{
+    match cause {
+        FileCause::Oem(cause) => FileReason::Oem(cause),
+        FileCause::MixedFrames => FileReason::MixedFrames,
+        FileCause::Sizes(cause) => FileReason::Sizes(cause),
+        FileCause::NoSizes => FileReason::NoSizes,
+        FileCause::Uncovered { .. } => FileReason::Uncovered,
     }
 }
 

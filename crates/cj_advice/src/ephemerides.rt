@@ -419,6 +419,19 @@ stands behind the states of the segment.
     right: "STOP_TIME = 2025-01-01T00:01:00\n",
 };
 
+pub const UNCOVERED: Advice = Advice {
+    means: "the object has no state at this tick of the window",
+    helps: "give a later --from or an earlier --to, or leave --must-cover out",
+    more: "\
+With --must-cover each object has a state at each microsecond of the window,
+from its first to its last. The tick that is told is the first at which this
+one has none: it lies outside the useable time of all its segments. With
+--coverage the report tells of each object which ticks it covers.
+",
+    wrong: "conj screen DIR --must-cover\n",
+    right: "conj screen DIR --coverage\n",
+};
+
 const SEGMENTS_OVERLAP: Advice = Advice {
     means: "a segment begins before the one before has ended",
     helps: "set USEABLE_START_TIME or USEABLE_STOP_TIME so that they do not",

@@ -2,7 +2,7 @@
 ghost use Rattle.std.specs.Prelude.{IfOk};
 ghost use Rattle.cj_advice.specs.Hints.{IsOfLines};
 
-use crate::cause::{Cause, limit_cause};
+use crate::cause::{Cause, file_reason, limit_cause};
 use crate::headers::hint_on_header;
 use crate::hint::Hint;
 use crate::ranges::range_of;
@@ -41,7 +41,9 @@ fn push_on_status(
         Status::NotAccepted { line, cause } => push_hint(text, hint_on_refusal(*line, *cause)),
         Status::Usage(UsageFault::Words) => push_on_words(text, words),
         Status::Usage(UsageFault::Value { option }) => push_hint(text, range_of(*option)),
-        Status::BadFile { cause, .. } => push_hint(text, advice_on(Cause::File(*cause)).hint()),
+        Status::BadFile { cause, .. } => {
+            push_hint(text, advice_on(Cause::File(file_reason(*cause))).hint())
+        }
         Status::ReadFault => push_hint(text, advice_on(Cause::ReadFault).hint()),
         Status::WriteFault => push_hint(text, advice_on(Cause::WriteFault).hint()),
         Status::Limit(fault) => push_hint(text, advice_on(Cause::Limit(limit_cause(fault))).hint()),

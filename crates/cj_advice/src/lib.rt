@@ -25,7 +25,7 @@ mod warnings;
 mod words;
 
 pub use advice::Advice;
-pub use cause::{Cause, LimitCause, cause_of, cause_word};
+pub use cause::{Cause, FileReason, LimitCause, cause_of, cause_word};
 pub use differences::difference_text;
 pub use explaining::{explanation, known_causes_text, list_of_causes};
 pub use found::{EVERY, cause_named};

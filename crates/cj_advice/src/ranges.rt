@@ -85,6 +85,14 @@ pub fn range_of(option: Opt) -> Hint {
             means: "--rtn has no value",
             helps: "left out messages do not tell the relative state",
         },
+        Opt::Coverage => Hint {
+            means: "--coverage has no value",
+            helps: "left out the report does not tell which ticks objects cover",
+        },
+        Opt::MustCover => Hint {
+            means: "--must-cover has no value",
+            helps: "left out objects need not cover the window",
+        },
         Opt::Within => Hint {
             means: "--within is a whole number of metres from 1 to 1000",
             helps: "left out it is 1",

@@ -54,6 +54,11 @@ pub fn push_slip(text: &mut Vec<u8>, slip: Slip<'_>) -> Result<(), AllocError> {
             text.extend_from_slice(b"\nhint: old and new files are screened over one window: ")?;
             text.extend_from_slice(b"give --from and --to")
         }
+        Slip::NoReport { option } => {
+            text.extend_from_slice(option_name(option))?;
+            text.extend_from_slice(b" stands beside --report\nhint: ")?;
+            text.extend_from_slice(b"the certificate does not tell which ticks objects cover")
+        }
         Slip::NotBeside { option, other } => {
             text.extend_from_slice(option_name(option))?;
             text.extend_from_slice(b" does not stand beside ")?;

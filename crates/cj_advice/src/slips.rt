@@ -51,6 +51,10 @@ pub enum Slip<'w> {
     NoEnd {
         option: Opt,
     },
+    /// The option asks something of a report, and none is named.
+    NoReport {
+        option: Opt,
+    },
     /// The option does not go together with the other one, which stands too.
     NotBeside {
         option: Opt,
@@ -160,7 +164,13 @@ fn slip_of_word(word: &[u8], verb: Verb) -> Slip<'_>
     }
     match option_named(name) {
         Some(
-            option @ (Opt::AsHermite3 | Opt::Changed | Opt::Rtn | Opt::Warnings | Opt::AllFaults),
+            option @ (Opt::AsHermite3
+            | Opt::Changed
+            | Opt::Rtn
+            | Opt::Coverage
+            | Opt::MustCover
+            | Opt::Warnings
+            | Opt::AllFaults),
         ) => Slip::ValueOfFlag { option },
         Some(option) => Slip::NoValue { option },
         None => Slip::Stray { word, verb },
@@ -191,9 +201,26 @@ fn repeated(words: &[Word]) -> Option<Slip<'_>>
 fn slip_of_all(words: &[Word], verb: Verb) -> Option<Slip<'_>>
     ensures { IfSome result IsOwn }
 {
-    if verb != Verb::Rescreen {
-        return None;
+    match verb {
+        Verb::Rescreen => slip_of_rescreening(words),
+        Verb::Check => slip_of_checking(words),
+        Verb::Screen | Verb::Generate | Verb::Selfrun | Verb::Rewrite | Verb::Thin => None,
     }
+}
+
+fn slip_of_checking(words: &[Word]) -> Option<Slip<'_>>
+    ensures { IfSome result IsOwn }
+{
+    let option = Opt::Coverage;
+    if count_of(words, option) > 0 && count_of(words, Opt::Report) == 0 {
+        return Some(Slip::NoReport { option });
+    }
+    None
+}
+
+fn slip_of_rescreening(words: &[Word]) -> Option<Slip<'_>>
+    ensures { IfSome result IsOwn }
+{
     for end in &ENDS {
         if count_of(words, *end) == 0 {
             return Some(Slip::NoEnd { option: *end });

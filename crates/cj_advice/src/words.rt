@@ -1,15 +1,14 @@
 //! Each cause with what a person is told of it.
 use crate::advice::Advice;
-use crate::cause::Cause;
+use crate::cause::{Cause, FileReason};
 use crate::{certificates, ephemerides, limits, outside, sizes, usage};
-use cj_status::FileCause;
 
 /// What a person is told of a cause.
 pub fn advice_on(cause: Cause) -> Advice {
     match cause {
         Cause::Words => usage::WORDS,
         Cause::Value => usage::VALUE,
-        Cause::File(cause) => advice_on_file(cause),
+        Cause::File(reason) => advice_on_file(reason),
         Cause::Certificate(cause) => certificates::advice_on(cause),
         Cause::Limit(limit) => limits::advice_on(limit),
         Cause::ReadFault => outside::READ_FAULT,
@@ -18,11 +17,12 @@ pub fn advice_on(cause: Cause) -> Advice {
     }
 }
 
-fn advice_on_file(cause: FileCause) -> Advice {
-    match cause {
-        FileCause::Oem(cause) => ephemerides::advice_on(cause),
-        FileCause::MixedFrames => sizes::MIXED_FRAMES,
-        FileCause::Sizes(cause) => sizes::advice_on(cause),
-        FileCause::NoSizes => sizes::NO_SIZES,
+fn advice_on_file(reason: FileReason) -> Advice {
+    match reason {
+        FileReason::Oem(cause) => ephemerides::advice_on(cause),
+        FileReason::MixedFrames => sizes::MIXED_FRAMES,
+        FileReason::Sizes(cause) => sizes::advice_on(cause),
+        FileReason::NoSizes => sizes::NO_SIZES,
+        FileReason::Uncovered => ephemerides::UNCOVERED,
     }
 }

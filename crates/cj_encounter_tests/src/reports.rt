@@ -6,7 +6,7 @@ use cj_base::{Text, Tick, Window};
 use cj_case::{Cell, Closest, Kind, Leaf, Pair, Problem, Sizes, Tracks};
 use cj_epoch::leap_between;
 use cj_meet::encounters;
-use cj_report::{changed_summary_text, changed_text, report_text};
+use cj_report::{Tells, changed_summary_text, changed_text, push_uncovered, report_text};
 use cj_track::{Frame, Matrices, Node, Nodes, Segment, Segments, Track, Vec3};
 use std::alloc::{AllocError, Global};
 use std::panic::Expect;
@@ -48,6 +48,46 @@ ENCOUNTER 1 1 2 NEAR 2025-01-01T00:00:30.000000 1000000000000 CDM
 SPAN NEAR 2025-01-01T00:00:29.538120 2025-01-01T00:00:30.461880
 END
 ";
+
+const REPORT_OF_COVERAGE: &[u8] = b"CONJ-REPORT 1
+WINDOW 2025-01-01T00:00:59.500000 2025-01-01T00:01:00.500000
+THRESHOLD 5000000000000
+OBJECT 1
+FILE a.oem
+ID 2025-001A
+NAME SAT A
+SIZE 1500000000
+COVERED 2025-01-01T00:00:59.500000 2025-01-01T00:01:00.000000
+OBJECT 2
+FILE b.oem
+ID 2025-001A
+NAME SAT A
+SIZE 0
+COVERED 2025-01-01T00:00:59.500000 2025-01-01T00:01:00.000000
+END
+";
+
+const REPORT_OF_NO_COVERAGE: &[u8] = b"CONJ-REPORT 1
+WINDOW 2025-01-01T00:01:00.000001 2025-01-01T00:01:00.500000
+THRESHOLD 5000000000000
+OBJECT 1
+FILE a.oem
+ID 2025-001A
+NAME SAT A
+COVERED NONE
+OBJECT 2
+FILE b.oem
+ID 2025-001A
+NAME SAT A
+COVERED NONE
+END
+";
+
+/// The encounters alone.
+const NO_MORE: Tells = Tells {
+    sizes: false,
+    coverage: false,
+};
 
 fn tick(after: u64) -> Tick
     requires { after < 100_000_000 }
@@ -163,17 +203,28 @@ fn told_of_crossing(rt: &impl Abort, alloc: Global, told: Told) -> Vec<u8> {
         Told::Whole => report_text(
             alloc,
             &problem,
-            false,
+            NO_MORE,
             &leaves,
             &found,
             &approaches,
             &[false],
         ),
-        Told::Sized => report_text(alloc, &problem, true, &leaves, &found, &approaches, &[true]),
+        Told::Sized => report_text(
+            alloc,
+            &problem,
+            Tells {
+                sizes: true,
+                coverage: false,
+            },
+            &leaves,
+            &found,
+            &approaches,
+            &[true],
+        ),
         Told::Changed => changed_text(
             alloc,
             &problem,
-            false,
+            NO_MORE,
             &leaves,
             &found,
             &approaches,
@@ -191,6 +242,33 @@ fn two_tracks_cross_at_one_kilometre(rt: HostRuntime) {
     assert_eq!(rt; text.as_slice(), SIZED_REPORT);
 }
 
+/// What is told of the coverage of a window that has no encounter.
+fn told_of_coverage(rt: &impl Abort, alloc: Global, sizes: bool, window: Window) -> Vec<u8> {
+    let mut problem = problem(rt, alloc).expect(rt, "no fault");
+    problem.window = window;
+    let tells = Tells {
+        sizes,
+        coverage: true,
+    };
+    report_text(alloc, &problem, tells, &[], &[], &[], &[]).expect(rt, "no fault")
+}
+
+#[test]
+fn covered_spans_stand_behind_the_lines_of_their_object(rt: HostRuntime) {
+    let half_covered = Window {
+        first: tick(59_500_000),
+        last: tick(60_500_000),
+    };
+    let text = told_of_coverage(&rt, rt.alloc(), true, half_covered);
+    assert_eq!(rt; text.as_slice(), REPORT_OF_COVERAGE);
+    let uncovered = Window {
+        first: tick(60_000_001),
+        last: tick(60_500_000),
+    };
+    let text = told_of_coverage(&rt, rt.alloc(), false, uncovered);
+    assert_eq!(rt; text.as_slice(), REPORT_OF_NO_COVERAGE);
+}
+
 #[test]
 fn changed_pairs_have_a_title_of_their_own(rt: HostRuntime) {
     let text = told_of_crossing(&rt, rt.alloc(), Told::Changed);
@@ -205,5 +283,15 @@ fn the_summary_of_changed_pairs_has_three_lines(rt: HostRuntime) {
     assert_eq!(rt;
         text.as_slice(),
         b"OBJECTS 3\nENCOUNTERS 2\nKEPT 1\n".as_slice()
+    );
+}
+
+#[test]
+fn the_last_line_of_a_summary_counts_objects_that_leave_ticks_out(rt: HostRuntime) {
+    let mut text = changed_summary_text(rt.alloc(), 3, 2, 1).expect(&rt, "no fault");
+    push_uncovered(&mut text, 2).expect(&rt, "no fault");
+    assert_eq!(rt;
+        text.as_slice(),
+        b"OBJECTS 3\nENCOUNTERS 2\nKEPT 1\nUNCOVERED 2\n".as_slice()
     );
 }

@@ -259,6 +259,12 @@ Options of screen and rescreen:
   --rtn               add six lines to each message: place and velocity of the
                       second object less those of the first, along the radial,
                       transverse and normal axes of the first
+  --must-cover        refuse the first file whose object has no state at some
+                      microsecond of the window, and tell that microsecond
+Options of screen, rescreen and check:
+  --coverage          the report tells when in the window each object has a
+                      state, and the summary how many have none at some
+                      microsecond; of check with --report alone
 Options of rescreen, check and rewrite:
   --update TEXT       how names of updates end, 1 to 20 bytes, not as --suffix
                       says (default of rescreen .new; left out of check and

@@ -1,6 +1,7 @@
 pub mod AloneLemmas
 pub mod BatchLemmas
 pub mod CopyLemmas
+pub mod CoveringLemmas
 pub mod EndLemmas
 pub mod FrameLemmas
 pub mod InputFileLemmas

@@ -1,5 +1,5 @@
 -- Base files and updates step by step, as they are read and put in their places.
-use Rattle.std.proofs.Common.{◌≡◌, ℕ, suc, Bool, ◌+◌, ◌<◌, ◌≤◌, List, [], ◌∷◌, ◌++◌, length, map, take, drop, drop-cons, add-one, get_or, true, false, Ok, Err, Result, refl, sym, ap, subst, ◌∙◌, arith}
+use Rattle.std.proofs.Common.{◌≡◌, ℕ, suc, Bool, ◌+◌, ◌<◌, ◌≤◌, List, [], ◌∷◌, ◌++◌, length, map, drop, drop-cons, add-one, get_or, true, false, Ok, Err, Result, refl, sym, ap, subst, ◌∙◌, arith}
 use Rattle.std.specs.Prelude.{◌==◌, IfOk, fold, nat_le}
 use Rattle.std.proofs.lemmas.Bool.Decides.{nat_tests}
 use Rattle.std.proofs.lemmas.List.{map-append, nil_from_length}
@@ -17,7 +17,6 @@ use Rattle.cj_status.specs.Steps.{◌>>=◌, Stops}
 use Rattle.cj_inputs.specs.declared.input_files.Entry.{Entry}
 use Rattle.cj_inputs.specs.declared.reading.InputError.{InputError}
 use Rattle.cj_inputs.specs.declared.taken.Taken.{Taken}
-use Rattle.cj_inputs.specs.Cases.{within_objects}
 use Rattle.cj_inputs.specs.Errors.{input_status}
 use Rattle.cj_inputs.specs.Readings.{Reads, checked_after, readings_of, refused_of, within_bytes}
 use Rattle.cj_inputs.specs.Updates.{PlainUpdated, read_as, said_behind, update_after, updated_name, updated_names, updated_of, updated_with, updates_after, with_others, without_first}

@@ -2,6 +2,7 @@ pub mod Alone
 pub mod Batches
 pub mod Cases
 pub mod CheckInputs
+pub mod Coverings
 pub mod Errors
 pub mod InputFiles
 pub mod ObjectSizes

@@ -26,7 +26,7 @@ use Rattle.cj_outputs.specs.declared.findings.Findings.{Findings}
 use Rattle.cj_outputs.specs.Again.{IsAcceptedLater}
 use Rattle.cj_outputs.specs.Checks.{AcceptedReport, AcceptedText, Vouches, VouchesReport}
 use Rattle.cj_outputs.specs.Findings.{AreFound, case_in}
-use Rattle.cj_outputs.specs.Outcome.{tells_sizes}
+use Rattle.cj_outputs.specs.Outcome.{tells_of}
 use Rattle.cj_outputs.specs.Rewrites.{RenewedText, Renews}
 use Rattle.cj_outputs.proofs.CertificateLemmas.{leaves_alike}
 
@@ -105,19 +105,19 @@ inputs_there files checking inputs there =
 
 -- the report of the inputs is that of the file that was named, where one was
 reported : (checking : PlainChecking) (files : List FileBytes) (case : PlainProblem) (cells : List PlainLeaf) (report named : Option (List ℕ)) → report_if_named files named ≡ Ok report
-    → IfSome report (AcceptedReport (tells_sizes checking.settings) case cells) → IfSome named (VouchesReport checking files case cells)
+    → IfSome report (AcceptedReport (tells_of checking.settings) case cells) → IfSome named (VouchesReport checking files case cells)
 reported checking files case cells report None is holds = tt
 reported checking files case cells report (Some name) is holds = go (report_named files name) refl is
   where
     go : (r : Result (List ℕ) Status) → report_named files name ≡ r → (r >>= λ bytes. Ok (Some bytes)) ≡ Ok report → VouchesReport checking files case cells name
     go (Ok bytes) read same =
         let some : Some bytes ≡ report = cc in
-        record { bytes = bytes; named = read; holds = subst (λ (o : Option (List ℕ)). IfSome o (AcceptedReport (tells_sizes checking.settings) case cells)) (sym some) holds }
+        record { bytes = bytes; named = read; holds = subst (λ (o : Option (List ℕ)). IfSome o (AcceptedReport (tells_of checking.settings) case cells)) (sym some) holds }
     go (Err s) read same = absurd cc
 
 -- where the inputs of a check are there, the certificate is accepted, and the report too where there is one, this is so of the files that were named
 pub vouched : (files : List FileBytes) (checking : PlainChecking) (inputs : PlainInputs) → inputs_asked files checking ≡ Ok inputs
-    → (holds : AcceptedText inputs.case inputs.bytes) → IfSome inputs.report (AcceptedReport (tells_sizes checking.settings) inputs.case holds.certificate.cells)
+    → (holds : AcceptedText inputs.case inputs.bytes) → IfSome inputs.report (AcceptedReport (tells_of checking.settings) inputs.case holds.certificate.cells)
     → Vouches checking files
 vouched files checking inputs there holds beside =
     let are = inputs_there files checking inputs there in

@@ -33,7 +33,7 @@ use Rattle.cj_words.specs.Settings.{PlainSettings}
 use Rattle.cj_inputs.specs.Cases.{case_asked}
 use Rattle.cj_inputs.specs.CheckInputs.{PlainInputs, certificate_named, inputs_asked}
 use Rattle.cj_outputs.specs.Again.{IsAcceptedLater}
-use Rattle.cj_outputs.specs.Outcome.{accepted_output, cert_bytes, outputs_checked, report_if_accepting, said_or, tells_sizes}
+use Rattle.cj_outputs.specs.Outcome.{accepted_output, cert_bytes, outputs_checked, report_if_accepting, said_or, tells_of}
 use Rattle.cj_status.specs.Steps.{◌>>=◌}
 use Rattle.cj_outputs.proofs.AcceptingLemmas.{accepted_so, outputs_made_from}
 use Rattle.cj_outputs.proofs.AgainLemmas.{asked_again, named_again}
@@ -93,7 +93,7 @@ text_accepted settings files case c read fits none short name later outside hold
     let bytes = text_of c in
     let asked = asked_again settings name bytes files later outside holds ∙ read in
     let there = inputs_there later settings name case bytes asked (named_again name bytes files later holds short) in
-    outputs_made_from (λ inputs certificate. report_if_accepting (tells_sizes settings) inputs.case certificate.cells inputs.report >>= λ done. Ok (accepted_output ∷ []))
+    outputs_made_from (λ inputs certificate. report_if_accepting (tells_of settings) inputs.case certificate.cells inputs.report >>= λ done. Ok (accepted_output ∷ []))
     (inputs_asked later (by_name settings name)) (alone case bytes) c there (accepted_so case bytes c (ap said_or (reading_again c fits)) none)
 
 -- ---- a certificate that is written

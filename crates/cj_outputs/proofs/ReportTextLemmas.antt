@@ -1,5 +1,5 @@
 -- What the report that is made of findings says.
-use Rattle.std.proofs.Common.{◌≡◌, ℕ, Option, map, List, Bool, sym, ap, ◌∙◌}
+use Rattle.std.proofs.Common.{◌≡◌, ℕ, Option, map, List, ◌++◌, Bool, append_assoc, refl, sym, ap, ◌∙◌}
 use Rattle.cj_case.specs.declared.encounter.Closest.{Closest}
 use Rattle.cj_case.specs.declared.encounter.Encounter.{Encounter}
 use Rattle.cj_case.specs.declared.leaf.Leaf.{Leaf}
@@ -20,23 +20,23 @@ pub report_is : (found : Findings) (leaves : List Leaf) (es : List Encounter) (x
     leaves ≡ found.leaves.items → es ≡ found.encounters.items → xs ≡ found.closest.items → bs ≡ found.messages.items
     → (let case = case_in found in (approach : List PlainLeaf → Option PlainClosest) (has : List PlainLeaf → Bool) → map some_closest xs ≡ map approach (groups_in (plain_leaves leaves) es)
     → bs ≡ map has (groups_in (plain_leaves leaves) es)
-    → text ≡ report_of case.first case.last case.threshold case.tracks (told found.wanted.tells_sizes case.sizes) approach has (groups_in (plain_leaves leaves) es))
-    → text ≡ report_bytes found.wanted.tells_sizes (case_in found) (plain_leaves found.leaves.items)
+    → text ≡ report_of case.first case.last case.threshold case.tracks (told found.wanted.tells.sizes case.sizes) found.wanted.tells.coverage approach has (groups_in (plain_leaves leaves) es))
+    → text ≡ report_bytes found.wanted.tells (case_in found) (plain_leaves found.leaves.items)
 report_is found leaves es xs bs text are p q r b given =
     let case = case_in found in
     let groups : groups_in (plain_leaves leaves) es ≡ encounters_of (plain_leaves found.leaves.items) = (λ i. groups_in (plain_leaves (p i)) (q i)) ∙ are.encounters.groups in
     let each = ap (map some_closest) r ∙ are.closest ∙ sym (λ i. map (closest_of case) (groups_in (plain_leaves (p i)) (q i))) in
     let noted = b ∙ are.messages ∙ sym (λ i. map (has_message case) (groups_in (plain_leaves (p i)) (q i))) in
     given (closest_of case) (has_message case) each noted
-    ∙ ap (report_of case.first case.last case.threshold case.tracks (told found.wanted.tells_sizes case.sizes) (closest_of case) (has_message case)) groups
+    ∙ ap (report_of case.first case.last case.threshold case.tracks (told found.wanted.tells.sizes case.sizes) found.wanted.tells.coverage (closest_of case) (has_message case)) groups
 
 -- the text that is made of the pairs that are not unchanged is their report
 pub changes_are : (changes : Changes) (leaves : List Leaf) (es : List Encounter) (xs : List Closest) (bs : List Bool) (text : List ℕ) → AreChanges changes →
     leaves ≡ changes.leaves.items → es ≡ changes.met.encounters.items → xs ≡ changes.met.closest.items → bs ≡ changes.met.messages.items
     → (let case = plain_problem changes.problem in (approach : List PlainLeaf → Option PlainClosest) (has : List PlainLeaf → Bool)
     → map some_closest xs ≡ map approach (groups_in (plain_leaves leaves) es) → bs ≡ map has (groups_in (plain_leaves leaves) es)
-    → text ≡ changed_of case.first case.last case.threshold case.tracks (told changes.tells_sizes case.sizes) approach has (groups_in (plain_leaves leaves) es))
-    → text ≡ changed_bytes changes.tells_sizes (plain_problem changes.problem) (plain_leaves changes.leaves.items)
+    → text ≡ changed_of case.first case.last case.threshold case.tracks (told changes.tells.sizes case.sizes) changes.tells.coverage approach has (groups_in (plain_leaves leaves) es))
+    → text ≡ changed_bytes changes.tells (plain_problem changes.problem) (plain_leaves changes.leaves.items)
 changes_are changes leaves es xs bs text are p q r b given =
     let case = plain_problem changes.problem in
     let met = are.met in
@@ -44,4 +44,14 @@ changes_are changes leaves es xs bs text are p q r b given =
     let each = ap (map some_closest) r ∙ met.closest ∙ sym (λ i. map (closest_of case) (groups_in (plain_leaves (p i)) (q i))) in
     let noted = b ∙ met.messages ∙ sym (λ i. map (has_message case) (groups_in (plain_leaves (p i)) (q i))) in
     given (closest_of case) (has_message case) each noted
-    ∙ ap (changed_of case.first case.last case.threshold case.tracks (told changes.tells_sizes case.sizes) (closest_of case) (has_message case)) groups
+    ∙ ap (changed_of case.first case.last case.threshold case.tracks (told changes.tells.sizes case.sizes) changes.tells.coverage (closest_of case) (has_message case)) groups
+
+-- a text that is added behind a summary
+pub added : (summary told one two bytes : List ℕ) → bytes ≡ two → two ≡ one ++ told → one ≡ summary → bytes ≡ summary ++ told
+added summary told one two bytes last second first = last ∙ second ∙ ap (λ (text : List ℕ). text ++ told) first
+
+-- two texts that are added behind a summary, one after the other
+pub added_behind : (summary behind told one two three bytes : List ℕ) → bytes ≡ three → three ≡ two ++ told → two ≡ one ++ behind → one ≡ summary
+    → bytes ≡ summary ++ (behind ++ told)
+added_behind summary behind told one two three bytes last third second first =
+    added (summary ++ behind) told two three bytes last third (added summary behind one two two refl second first) ∙ append_assoc summary behind told

@@ -31,6 +31,7 @@ use Rattle.cj_outputs.specs.Meetings.{AreMeetings}
 use Rattle.cj_outputs.specs.Messages.{has_message}
 use Rattle.cj_outputs.specs.Outcome.{as_due, report_accepting, report_bytes}
 use Rattle.cj_outputs.specs.SpanSplits.{SplitsTicks}
+use Rattle.cj_report.specs.declared.tells.Tells.{Tells}
 
 -- ---- the spans
 
@@ -46,27 +47,27 @@ spans_split case cells split spans = record {
 -- ---- the text that is due
 
 -- the text that is made of what is told of the encounters of these leaves is the report of the case with them
-report_made : (with_sizes : Bool) (case : PlainProblem) (ss : List PlainLeaf) (met : Meetings) (es : List Encounter) (xs : List Closest) (bs : List Bool) (text : List ℕ)
+report_made : (tells : Tells) (case : PlainProblem) (ss : List PlainLeaf) (met : Meetings) (es : List Encounter) (xs : List Closest) (bs : List Bool) (text : List ℕ)
     → AreMeetings case ss met → es ≡ met.encounters.items → xs ≡ met.closest.items → bs ≡ met.messages.items
     → ((approach : List PlainLeaf → Option PlainClosest) (has : List PlainLeaf → Bool) → map some_closest xs ≡ map approach (groups_in ss es) → bs ≡ map has (groups_in ss es)
-    → text ≡ report_of case.first case.last case.threshold case.tracks (told with_sizes case.sizes) approach has (groups_in ss es))
-    → text ≡ report_bytes with_sizes case ss
-report_made with_sizes case ss met es xs bs text are p q r given =
+    → text ≡ report_of case.first case.last case.threshold case.tracks (told tells.sizes case.sizes) tells.coverage approach has (groups_in ss es))
+    → text ≡ report_bytes tells case ss
+report_made tells case ss met es xs bs text are p q r given =
     let groups : groups_in ss es ≡ encounters_of ss = ap (groups_in ss) p ∙ are.encounters.groups in
     let each = ap (map some_closest) q ∙ are.closest ∙ sym (ap (λ (es : List Encounter). map (closest_of case) (groups_in ss es)) p) in
     let noted = r ∙ are.messages ∙ sym (ap (λ (es : List Encounter). map (has_message case) (groups_in ss es)) p) in
     given (closest_of case) (has_message case) each noted
-    ∙ ap (report_of case.first case.last case.threshold case.tracks (told with_sizes case.sizes) (closest_of case) (has_message case)) groups
+    ∙ ap (report_of case.first case.last case.threshold case.tracks (told tells.sizes case.sizes) tells.coverage (closest_of case) (has_message case)) groups
 
 -- the same where there is memory for it
-pub report_if_made : (with_sizes : Bool) (case : PlainProblem) (ss : List PlainLeaf) (met : Meetings) (es : List Encounter) (xs : List Closest) (bs : List Bool)
+pub report_if_made : (tells : Tells) (case : PlainProblem) (ss : List PlainLeaf) (met : Meetings) (es : List Encounter) (xs : List Closest) (bs : List Bool)
     (r : Result (Vec ℕ Global) AllocError) → AreMeetings case ss met → es ≡ met.encounters.items → xs ≡ met.closest.items → bs ≡ met.messages.items
     → IfOk r (λ text. (approach : List PlainLeaf → Option PlainClosest) (has : List PlainLeaf → Bool) → map some_closest xs ≡ map approach (groups_in ss es)
     → bs ≡ map has (groups_in ss es)
-    → text.items ≡ report_of case.first case.last case.threshold case.tracks (told with_sizes case.sizes) approach has (groups_in ss es))
-    → IfOk r (λ text. text.items ≡ report_bytes with_sizes case ss)
-report_if_made with_sizes case ss met es xs bs (Ok text) are p q r given = report_made with_sizes case ss met es xs bs text.items are p q r given
-report_if_made with_sizes case ss met es xs bs (Err e) are p q r given = tt
+    → text.items ≡ report_of case.first case.last case.threshold case.tracks (told tells.sizes case.sizes) tells.coverage approach has (groups_in ss es))
+    → IfOk r (λ text. text.items ≡ report_bytes tells case ss)
+report_if_made tells case ss met es xs bs (Ok text) are p q r given = report_made tells case ss met es xs bs text.items are p q r given
+report_if_made tells case ss met es xs bs (Err e) are p q r given = tt
 
 pub on_ok : {X E P : Type 0} (r : Result X E) → P → OnOk r P
 on_ok (Ok x) holds = holds
@@ -109,22 +110,22 @@ judged P bytes due follows = go (bytes_eq bytes due) refl
     go false is = record { between = tt; read = λ e. absurd cc; told = refl; holds = tt }
 
 -- no more cells than may be
-few_enough : (with_sizes : Bool) (case : PlainProblem) (cells : List PlainLeaf) (bytes : List ℕ) → length cells ≤ 4_000_000
-    → report_accepting with_sizes case cells bytes ≡ as_due bytes (report_bytes with_sizes case cells)
+few_enough : (tells : Tells) (case : PlainProblem) (cells : List PlainLeaf) (bytes : List ℕ) → length cells ≤ 4_000_000
+    → report_accepting tells case cells bytes ≡ as_due bytes (report_bytes tells case cells)
 unfolding report_accepting
-few_enough with_sizes case cells bytes few =
+few_enough tells case cells bytes few =
     let small : nat_le (length cells) 4_000_000 ≡ true = grind (arith, nat_tests) in
     rw small refl
 
 -- a report that is judged by the text that is due of these cells
-pub report_judged : (with_sizes : Bool) (case : PlainProblem) (cells : List PlainLeaf) (bytes due : List ℕ) (r : Result (Unit {0}) Status) → length cells ≤ 4_000_000
-    → r ≡ as_due bytes due → due ≡ report_bytes with_sizes case cells → CellsSplit case cells → HaveExactSpans cells → All (HasNearest case) (encounters_of cells)
-    → Judges (AcceptedReport with_sizes case cells bytes) r (report_accepting with_sizes case cells bytes)
-report_judged with_sizes case cells bytes due r few is text split spans nearest =
-    let whole : report_accepting with_sizes case cells bytes ≡ as_due bytes due = few_enough with_sizes case cells bytes few ∙ sym (ap (as_due bytes) text) in
-    subst (λ (q : Result (Unit {0}) Status). Judges (AcceptedReport with_sizes case cells bytes) q (report_accepting with_sizes case cells bytes)) (sym is)
-    (subst (λ (d : Result (Unit {0}) Status). Judges (AcceptedReport with_sizes case cells bytes) (as_due bytes due) d) (sym whole)
-    (judged (AcceptedReport with_sizes case cells bytes) bytes due
+pub report_judged : (tells : Tells) (case : PlainProblem) (cells : List PlainLeaf) (bytes due : List ℕ) (r : Result (Unit {0}) Status) → length cells ≤ 4_000_000
+    → r ≡ as_due bytes due → due ≡ report_bytes tells case cells → CellsSplit case cells → HaveExactSpans cells → All (HasNearest case) (encounters_of cells)
+    → Judges (AcceptedReport tells case cells bytes) r (report_accepting tells case cells bytes)
+report_judged tells case cells bytes due r few is text split spans nearest =
+    let whole : report_accepting tells case cells bytes ≡ as_due bytes due = few_enough tells case cells bytes few ∙ sym (ap (as_due bytes) text) in
+    subst (λ (q : Result (Unit {0}) Status). Judges (AcceptedReport tells case cells bytes) q (report_accepting tells case cells bytes)) (sym is)
+    (subst (λ (d : Result (Unit {0}) Status). Judges (AcceptedReport tells case cells bytes) (as_due bytes due) d) (sym whole)
+    (judged (AcceptedReport tells case cells bytes) bytes due
     (λ same. record { text = same ∙ text; split = spans_split case cells split spans; nearest = nearest })))
 
 -- the outputs of a check whose report is judged

@@ -1,5 +1,5 @@
 -- What a check says that accepts a certificate, and of the report beside it.
-use Rattle.std.specs.Prelude.{◌≡◌, ℕ, Bool, List, [], ◌∷◌, ◌++◌, Option, Some, Ok, All, IfSome}
+use Rattle.std.specs.Prelude.{◌≡◌, ℕ, List, [], ◌∷◌, ◌++◌, Option, Some, Ok, All, IfSome}
 use Rattle.cj_io.specs.declared.file.FileBytes.{FileBytes}
 use Rattle.cj_words.specs.Commands.{PlainChecking}
 use Rattle.cj_case.specs.PlainProblems.{PlainProblem}
@@ -15,8 +15,9 @@ use Rattle.cj_cert_text.specs.Texts.{text_of}
 use Rattle.cj_inputs.specs.CheckInputs.{certificate_named, report_named}
 use Rattle.cj_inputs.specs.Updates.{case_with_updates}
 use Rattle.cj_outputs.specs.Messages.{has_message}
-use Rattle.cj_outputs.specs.Outcome.{accepted_output, tells_sizes}
+use Rattle.cj_outputs.specs.Outcome.{accepted_output, tells_of}
 use Rattle.cj_outputs.specs.SpanSplits.{SplitsTicks}
+use Rattle.cj_report.specs.declared.tells.Tells.{Tells}
 
 -- The bytes are the text of a certificate that is accepted for a case, and its cells split the common ticks of every pair.
 pub record AcceptedText (case : PlainProblem) (bytes : List ℕ) : Type 0 where
@@ -29,8 +30,9 @@ pub record AcceptedText (case : PlainProblem) (bytes : List ℕ) : Type 0 where
 -- The bytes are the report of a case with the encounters of these cells, the closest approach of each and whether it has a message. Their spans
 -- split the common ticks of every pair. Each pair is within its bound at its closest approach, and at no tick of the encounter more than one
 -- millimetre nearer.
-pub record AcceptedReport (with_sizes : Bool) (case : PlainProblem) (cells : List PlainLeaf) (bytes : List ℕ) : Type 0 where
-  pub text : bytes ≡ report_of case.first case.last case.threshold case.tracks (told with_sizes case.sizes) (closest_of case) (has_message case) (encounters_of cells)
+pub record AcceptedReport (tells : Tells) (case : PlainProblem) (cells : List PlainLeaf) (bytes : List ℕ) : Type 0 where
+  pub text : bytes ≡ report_of case.first case.last case.threshold case.tracks (told tells.sizes case.sizes) tells.coverage
+      (closest_of case) (has_message case) (encounters_of cells)
   pub split : SplitsTicks case (encounters_of cells)
   pub nearest : All (HasNearest case) (encounters_of cells)
 
@@ -38,7 +40,7 @@ pub record AcceptedReport (with_sizes : Bool) (case : PlainProblem) (cells : Lis
 pub record VouchesReport (checking : PlainChecking) (files : List FileBytes) (case : PlainProblem) (cells : List PlainLeaf) (name : List ℕ) : Type 0 where
   pub bytes : List ℕ
   pub named : report_named files name ≡ Ok bytes
-  pub holds : AcceptedReport (tells_sizes checking.settings) case cells bytes
+  pub holds : AcceptedReport (tells_of checking.settings) case cells bytes
 
 -- Those of the named certificate are accepted, for the case that was asked; and where a report is named, it is that of the certificate's cells.
 pub record Vouches (checking : PlainChecking) (files : List FileBytes) : Type 0 where

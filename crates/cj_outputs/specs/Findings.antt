@@ -1,5 +1,5 @@
 -- What is found in a problem, and what is put of it.
-use Rattle.std.specs.Prelude.{◌≡◌, ℕ, ◌≤◌, List, [], length, map, Result, Ok, Err}
+use Rattle.std.specs.Prelude.{◌≡◌, ℕ, ◌≤◌, List, [], ◌++◌, length, map, Result, Ok, Err}
 use Rattle.cj_base.specs.Bounds.{MOST_LEAVES}
 use Rattle.cj_io.specs.declared.file.FileBytes.{FileBytes}
 use Rattle.cj_case.specs.PlainProblems.{PlainProblem}
@@ -17,7 +17,7 @@ use Rattle.cj_outputs.specs.declared.findings.Findings.{Findings}
 use Rattle.cj_status.specs.declared.status.Status.{Status}
 use Rattle.cj_status.specs.declared.status.Status.TheVariants as status
 use Rattle.cj_outputs.specs.Messages.{PlainOrigin, has_message, message_outputs}
-use Rattle.cj_outputs.specs.Outcome.{cert_bytes, cert_output, check_accepted, outputs_with, report_bytes, report_output, summary_with}
+use Rattle.cj_outputs.specs.Outcome.{cert_bytes, cert_output, check_accepted, outputs_with, report_bytes, report_output, summary_with, uncovered_told}
 use Rattle.cj_outputs.specs.Summaries.{tally_with}
 
 -- the case whose findings they are
@@ -36,7 +36,7 @@ pub record AreFound (found : Findings) : Type 0 where
 
 -- the output of the report
 abbrev pub report_in : Findings → FileBytes
-report_in found = report_output (report_bytes found.wanted.tells_sizes (case_in found) (plain_leaves found.leaves.items))
+report_in found = report_output (report_bytes found.wanted.tells (case_in found) (plain_leaves found.leaves.items))
 
 -- the output of the certificate
 abbrev pub cert_in : Findings → FileBytes
@@ -54,11 +54,11 @@ lines_of (Kept pairs) = kept_line pairs
 
 -- the output of the summary
 abbrev pub summary_in : Findings → FileBytes
-summary_in found = summary_with (lines_of found.behind) (case_in found) (plain_leaves found.leaves.items)
+summary_in found = summary_with (lines_of found.behind ++ uncovered_told found.wanted.tells (case_in found)) (case_in found) (plain_leaves found.leaves.items)
 
 -- all outputs, in the order in which they are put
 abbrev pub outputs_in : PlainOrigin → Findings → List FileBytes
-outputs_in origin found = outputs_with found.wanted.tells_sizes found.wanted.version origin (lines_of found.behind) (case_in found) (plain_leaves found.leaves.items)
+outputs_in origin found = outputs_with found.wanted.tells found.wanted.version origin (lines_of found.behind) (case_in found) (plain_leaves found.leaves.items)
 
 -- how a run ends by its last step
 abbrev pub ended : Result (Unit {0}) Status → Status

@@ -1,5 +1,5 @@
 -- How a run over told files ends, and what it puts.
-use Rattle.std.specs.Prelude.{◌≡◌, ◌⊎◌, ℕ, Bool, false, nat_le, if◌then◌else◌, List, [], ◌∷◌, ◌++◌, filter, length, Option, Some, None, is_some, Result, Ok, Err, codes}
+use Rattle.std.specs.Prelude.{◌≡◌, ◌⊎◌, ℕ, false, nat_le, if◌then◌else◌, List, [], ◌∷◌, ◌++◌, filter, length, Option, Some, None, is_some, Result, Ok, Err, codes}
 use Rattle.std.specs.Fmt.{decimal}
 use Rattle.std.specs.Str.{bytes_eq}
 use Rattle.cj_io.specs.declared.file.FileBytes.{FileBytes}
@@ -13,14 +13,17 @@ use Rattle.cj_case.specs.Pairs.{pairs_of}
 use Rattle.cj_case.specs.PlainProblems.{PlainProblem}
 use Rattle.cj_bezier.specs.Candidates.{is_candidate_anew, is_kept_unchanged}
 use Rattle.cj_inputs.specs.Cases.{case_asked}
+use Rattle.cj_inputs.specs.Coverings.{case_covered, cases_covered}
 use Rattle.cj_inputs.specs.CheckInputs.{inputs_asked}
-use Rattle.cj_inputs.specs.Updates.{PlainUpdating, cases_asked}
+use Rattle.cj_inputs.specs.Updates.{PlainUpdating}
 use Rattle.cj_case.specs.Leaves.{PlainLeaf}
 use Rattle.cj_meet.specs.Closest.{closest_of}
 use Rattle.cj_meet.specs.Encounters.{encounters_of}
 use Rattle.cj_cells.specs.Lists.{list_candidates, list_of}
+use Rattle.cj_coverage.specs.Coverage.{uncovered_count}
 use Rattle.cj_report.specs.Report.{changed_of, report_of, told}
-use Rattle.cj_report.specs.Summary.{changed_summary, kept_line, summary_of}
+use Rattle.cj_report.specs.Summary.{changed_summary, kept_line, summary_of, uncovered_line}
+use Rattle.cj_report.specs.declared.tells.Tells.{Tells}
 use Rattle.cj_cert.specs.Certificates.{PlainCertificate}
 use Rattle.cj_cert_text.specs.Reading.{Fault, reading}
 use Rattle.cj_cert_text.specs.Texts.{text_of}
@@ -52,10 +55,11 @@ output name bytes = record { name = name; bytes = bytes }
 abbrev pub encounters_in : PlainProblem → List (List PlainLeaf)
 encounters_in case = encounters_of (list_candidates case)
 
--- the report of a case with these leaves, which may tell the sizes; it tells which encounters have a message
-abbrev pub report_bytes : Bool → PlainProblem → List PlainLeaf → List ℕ
-report_bytes with_sizes case leaves =
-    report_of case.first case.last case.threshold case.tracks (told with_sizes case.sizes) (closest_of case) (has_message case) (encounters_of leaves)
+-- the report of a case with these leaves, which may tell the sizes and what objects cover; it tells which encounters have a message
+abbrev pub report_bytes : Tells → PlainProblem → List PlainLeaf → List ℕ
+report_bytes tells case leaves =
+    report_of case.first case.last case.threshold case.tracks (told tells.sizes case.sizes) tells.coverage
+    (closest_of case) (has_message case) (encounters_of leaves)
 
 -- its certificate in a version
 abbrev pub cert_bytes : CertVersion → PlainProblem → List ℕ
@@ -82,19 +86,24 @@ summary_with behind case leaves = summary_output (summary_bytes case leaves ++ b
 abbrev pub further_outputs : PlainOrigin → List ℕ → PlainProblem → List PlainLeaf → List FileBytes
 further_outputs origin behind case leaves = message_outputs case origin (encounters_of leaves) ++ summary_with behind case leaves ∷ []
 
+-- behind a summary: how many objects do not cover the whole window, where coverage is told
+abbrev pub uncovered_told : Tells → PlainProblem → List ℕ
+uncovered_told tells case = if tells.coverage then uncovered_line (uncovered_count case) else []
+
 -- the outputs of a case with these leaves: the report, the certificate, and those
-abbrev pub outputs_with : Bool → CertVersion → PlainOrigin → List ℕ → PlainProblem → List PlainLeaf → List FileBytes
-outputs_with with_sizes version origin behind case leaves =
-    report_output (report_bytes with_sizes case leaves) ∷ cert_output (cert_bytes version case) ∷ further_outputs origin behind case leaves
+abbrev pub outputs_with : Tells → CertVersion → PlainOrigin → List ℕ → PlainProblem → List PlainLeaf → List FileBytes
+outputs_with tells version origin behind case leaves =
+    report_output (report_bytes tells case leaves) ∷ cert_output (cert_bytes version case)
+    ∷ further_outputs origin (behind ++ uncovered_told tells case) case leaves
 
 -- the outputs of a case, where it has at most so many leaves, with these lines behind the summary
-unfoldable pub outputs_within : ℕ → Bool → CertVersion → PlainOrigin → List ℕ → PlainProblem → Result (List FileBytes) Status
-outputs_within limit with_sizes version origin behind case =
-    within_cells limit (list_candidates case) >>= λ leaves. Ok (outputs_with with_sizes version origin behind case leaves)
+unfoldable pub outputs_within : ℕ → Tells → CertVersion → PlainOrigin → List ℕ → PlainProblem → Result (List FileBytes) Status
+outputs_within limit tells version origin behind case =
+    within_cells limit (list_candidates case) >>= λ leaves. Ok (outputs_with tells version origin behind case leaves)
 
--- the report is to tell the sizes
-abbrev pub tells_sizes : PlainSettings → Bool
-tells_sizes settings = is_some settings.sizes
+-- what the report is to tell
+abbrev pub tells_of : PlainSettings → Tells
+tells_of settings = record { sizes = is_some settings.sizes; coverage = settings.coverage }
 
 -- when the messages of a screening at this tick are made, by whom, and whether they tell the relative state
 abbrev pub origin_of : ℕ → PlainScreening → PlainOrigin
@@ -103,8 +112,8 @@ origin_of now screening = record { created = now; originator = screening.origina
 -- the outputs of a screening of files at this tick, or the first cause for which there is none
 unfoldable pub outputs_screened : List FileBytes → ℕ → PlainScreening → Result (List FileBytes) Status
 outputs_screened files now screening = do
-  case ← case_asked files screening.settings
-  outputs_within screening.cells (tells_sizes screening.settings) screening.version (origin_of now screening) [] case
+  case ← case_covered files screening.settings
+  outputs_within screening.cells (tells_of screening.settings) screening.version (origin_of now screening) [] case
 
 -- ---- screening again
 
@@ -114,43 +123,45 @@ kept_unchanged old new = length (filter (is_kept_unchanged old new) (pairs_of (l
 
 -- the outputs of the new case, where it and the old one have at most so many leaves each: behind the summary stands how many pairs are kept and
 -- unchanged
-unfoldable pub outputs_again : ℕ → Bool → CertVersion → PlainOrigin → PlainProblem → PlainProblem → Result (List FileBytes) Status
-outputs_again limit with_sizes version origin old new = do
+unfoldable pub outputs_again : ℕ → Tells → CertVersion → PlainOrigin → PlainProblem → PlainProblem → Result (List FileBytes) Status
+outputs_again limit tells version origin old new = do
   base ← within_cells limit (list_candidates old)
-  outputs_within limit with_sizes version origin (kept_line (kept_unchanged old new)) new
+  outputs_within limit tells version origin (kept_line (kept_unchanged old new)) new
 
 -- the leaves of the new case of those pairs alone that are not unchanged
 unfoldable pub list_anew : PlainProblem → PlainProblem → List PlainLeaf
 list_anew old new = list_of (is_candidate_anew old new) new
 
 -- the report of a case with these leaves of the pairs that are not unchanged
-abbrev pub changed_bytes : Bool → PlainProblem → List PlainLeaf → List ℕ
-changed_bytes with_sizes case leaves =
-    changed_of case.first case.last case.threshold case.tracks (told with_sizes case.sizes) (closest_of case) (has_message case) (encounters_of leaves)
+abbrev pub changed_bytes : Tells → PlainProblem → List PlainLeaf → List ℕ
+changed_bytes tells case leaves =
+    changed_of case.first case.last case.threshold case.tracks (told tells.sizes case.sizes) tells.coverage
+    (closest_of case) (has_message case) (encounters_of leaves)
 
 abbrev pub changed_output : List ℕ → FileBytes
 changed_output bytes = output (codes "changed.report") bytes
 
 -- the outputs of these leaves: that report, and a summary of it
-abbrev pub outputs_of_changes : Bool → PlainProblem → ℕ → List PlainLeaf → List FileBytes
-outputs_of_changes with_sizes case kept leaves =
-    changed_output (changed_bytes with_sizes case leaves) ∷ summary_output (changed_summary (length case.tracks) (length (encounters_of leaves)) kept) ∷ []
+abbrev pub outputs_of_changes : Tells → PlainProblem → ℕ → List PlainLeaf → List FileBytes
+outputs_of_changes tells case kept leaves =
+    changed_output (changed_bytes tells case leaves)
+    ∷ summary_output (changed_summary (length case.tracks) (length (encounters_of leaves)) kept ++ uncovered_told tells case) ∷ []
 
 -- those of the new case, where at most so many leaves are of pairs that are not unchanged
-unfoldable pub outputs_changed : ℕ → Bool → PlainProblem → PlainProblem → Result (List FileBytes) Status
-outputs_changed limit with_sizes old new =
-    within_cells limit (list_anew old new) >>= λ leaves. Ok (outputs_of_changes with_sizes new (kept_unchanged old new) leaves)
+unfoldable pub outputs_changed : ℕ → Tells → PlainProblem → PlainProblem → Result (List FileBytes) Status
+outputs_changed limit tells old new =
+    within_cells limit (list_anew old new) >>= λ leaves. Ok (outputs_of_changes tells new (kept_unchanged old new) leaves)
 
 -- what is asked of the cases before and after the updates at this tick: all outputs, or those of the pairs that are not unchanged
 abbrev pub outputs_updated : ℕ → PlainRescreening → PlainUpdating → Result (List FileBytes) Status
 outputs_updated now asked cases =
-    if asked.changed then outputs_changed asked.screening.cells (tells_sizes asked.screening.settings) cases.base cases.new
-    else outputs_again asked.screening.cells (tells_sizes asked.screening.settings) asked.screening.version (origin_of now asked.screening) cases.base cases.new
+    if asked.changed then outputs_changed asked.screening.cells (tells_of asked.screening.settings) cases.base cases.new
+    else outputs_again asked.screening.cells (tells_of asked.screening.settings) asked.screening.version (origin_of now asked.screening) cases.base cases.new
 
 -- the outputs of a screening again at this tick, or the first cause for which there is none
 unfoldable pub outputs_rescreened : List FileBytes → ℕ → PlainRescreening → Result (List FileBytes) Status
 outputs_rescreened files now asked = do
-  cases ← cases_asked files asked
+  cases ← cases_covered files asked
   outputs_updated now asked cases
 
 -- ---- what else is asked
@@ -189,20 +200,20 @@ abbrev pub as_due : List ℕ → List ℕ → Result (Unit {0}) Status
 as_due bytes due = if bytes_eq bytes due then Ok tt else Err (status.NotAccepted (differing_line bytes due) Report)
 
 -- the bytes are the report of a case with the encounters of these cells, of which there are at most 4,000,000
-unfoldable pub report_accepting : Bool → PlainProblem → List PlainLeaf → List ℕ → Result (Unit {0}) Status
-report_accepting with_sizes case cells bytes = within_cells 4_000_000 cells >>= λ few. as_due bytes (report_bytes with_sizes case few)
+unfoldable pub report_accepting : Tells → PlainProblem → List PlainLeaf → List ℕ → Result (Unit {0}) Status
+report_accepting tells case cells bytes = within_cells 4_000_000 cells >>= λ few. as_due bytes (report_bytes tells case few)
 
 -- the same of a report that may be named
-abbrev pub report_if_accepting : Bool → PlainProblem → List PlainLeaf → Option (List ℕ) → Result (Unit {0}) Status
-report_if_accepting with_sizes case cells None = Ok tt
-report_if_accepting with_sizes case cells (Some bytes) = report_accepting with_sizes case cells bytes
+abbrev pub report_if_accepting : Tells → PlainProblem → List PlainLeaf → Option (List ℕ) → Result (Unit {0}) Status
+report_if_accepting tells case cells None = Ok tt
+report_if_accepting tells case cells (Some bytes) = report_accepting tells case cells bytes
 
 -- the output of a check, or the first cause for which there is none
 unfoldable pub outputs_checked : List FileBytes → PlainChecking → Result (List FileBytes) Status
 outputs_checked files checking = do
   inputs ← inputs_asked files checking
   certificate ← accepting inputs.case inputs.bytes
-  done ← report_if_accepting (tells_sizes checking.settings) inputs.case certificate.cells inputs.report
+  done ← report_if_accepting (tells_of checking.settings) inputs.case certificate.cells inputs.report
   Ok (accepted_output ∷ [])
 
 -- the outputs of a certificate that is rewritten: its text, and for standard output that it is
@@ -218,7 +229,17 @@ outputs_rewritten files checking = do
 
 -- the settings by which a made-up catalogue is screened: over its whole span, within the usual limits
 abbrev pub settings_of_selfrun : PlainSelfrun → PlainSettings
-settings_of_selfrun selfrun = record { threshold = selfrun.threshold; from = None; to = None; suffix = codes ".oem"; as_hermite3 = false; sizes = None; limits = USUAL }
+settings_of_selfrun selfrun = record {
+  threshold = selfrun.threshold;
+  from = None;
+  to = None;
+  suffix = codes ".oem";
+  as_hermite3 = false;
+  sizes = None;
+  coverage = false;
+  must_cover = false;
+  limits = USUAL;
+}
 
 -- the case of a made-up catalogue: that of its files
 unfoldable pub case_of_selfrun : PlainSelfrun → Result PlainProblem Status

@@ -6,11 +6,12 @@ ghost use Rattle.cj_outputs.specs.Changes.{AreChanges, changed_in, changed_outpu
 ghost use Rattle.cj_outputs.specs.Findings.{ended};
 ghost use Rattle.cj_outputs.specs.Outcome.{ComesOfPuts, Leaves};
 
+use crate::coverage::push_coverage;
 use crate::meetings::Meetings;
 use crate::putting::put;
 use cj_case::{Leaf, Problem};
 use cj_io::Shelf;
-use cj_report::{changed_summary_text, changed_text};
+use cj_report::{Tells, changed_summary_text, changed_text};
 use cj_status::Status;
 use std::alloc::Global;
 
@@ -18,8 +19,8 @@ use std::alloc::Global;
 #[derive(Drop)]
 pub struct Changes {
     pub problem: Problem,
-    /// Whether the report tells the sizes of its objects.
-    pub tells_sizes: bool,
+    /// What the report tells beside the encounters.
+    pub tells: Tells,
     /// The leaves of these pairs, in order of pair and time.
     pub leaves: Vec<Leaf>,
     /// Their encounters.
@@ -51,7 +52,7 @@ fn put_report<S: Shelf>(alloc: Global, shelf: &mut S, changes: &Changes) -> Resu
     let report = changed_text(
         alloc,
         &changes.problem,
-        changes.tells_sizes,
+        changes.tells,
         &changes.leaves,
         &changes.met.encounters,
         &changes.met.closest,
@@ -70,6 +71,7 @@ fn put_summary<S: Shelf>(alloc: Global, shelf: &mut S, changes: &Changes) -> Res
 {
     let objects = changes.problem.tracks.as_slice().len() as u64;
     let encounters = changes.met.encounters.len() as u64;
-    let summary = changed_summary_text(alloc, objects, encounters, changes.kept)?;
+    let mut summary = changed_summary_text(alloc, objects, encounters, changes.kept)?;
+    push_coverage(&mut summary, changes.tells, &changes.problem)?;
     put(alloc, shelf, b"-", &summary)
 }

@@ -15,7 +15,7 @@ ghost use Rattle.cj_outputs.specs.Outcome as spec;
 ghost use Rattle.cj_status.specs.Steps.{Gives, ComesBetween};
 
 use crate::differing::tell_differences;
-use crate::reporting::tells_sizes;
+use crate::reporting::tells_of;
 use crate::vouching::accept_report;
 use cj_case::Problem;
 use cj_cert::Certificate;
@@ -62,7 +62,7 @@ pub fn check_certificate<R: Threads + Sync, F: Folder, G: Gate + Sync>(
         alloc,
         gate,
         &problem,
-        tells_sizes(&checking.settings),
+        tells_of(&checking.settings),
         &accepted.cells,
         report,
     )

@@ -6,6 +6,7 @@ mod catalogues;
 mod changes;
 mod checking;
 mod counting;
+mod coverage;
 mod differing;
 mod findings;
 mod later;

@@ -13,6 +13,7 @@ ghost use Rattle.cj_outputs.specs.Outcome as spec;
 ghost use Rattle.cj_outputs.specs.Outcome.{ComesOfPuts, Leaves, cert_bytes};
 ghost use Rattle.cj_words.specs.Settings.{plain_settings};
 
+use crate::coverage::push_coverage;
 use crate::findings::{Behind, Findings};
 use crate::messages::put_messages;
 use crate::origin::Origin;
@@ -22,7 +23,7 @@ use cj_cert::Certificate;
 use cj_cert_text::{CertificateText, cert_parts};
 use cj_formats::CertVersion;
 use cj_io::{Shelf, StreamShelf};
-use cj_report::{push_kept, report_text, summary_text};
+use cj_report::{Tells, push_kept, report_text, summary_text};
 use cj_sieve::kept_pairs;
 use cj_status::Status;
 use cj_words::Settings;
@@ -61,7 +62,7 @@ fn put_report<S: Shelf>(alloc: Global, shelf: &mut S, found: &Findings) -> Resul
     let report = report_text(
         alloc,
         &found.problem,
-        found.wanted.tells_sizes,
+        found.wanted.tells,
         &found.leaves,
         &found.encounters,
         &found.closest,
@@ -153,6 +154,7 @@ pub fn put_summary<S: Shelf>(alloc: Global, shelf: &mut S, found: &Findings) -> 
 {
     let mut summary = summary_text(alloc, &found.counts)?;
     push_behind(&mut summary, found.behind)?;
+    push_coverage(&mut summary, found.wanted.tells, &found.problem)?;
     put(alloc, shelf, b"-", &summary)
 }
 
@@ -167,9 +169,12 @@ fn push_behind(text: &mut Vec<u8>, behind: Behind) -> Result<(), AllocError>
     }
 }
 
-/// Whether the report tells the sizes: the command line names a file of them.
-pub fn tells_sizes(settings: &Settings) -> bool
-    ensures { result ≡ spec.tells_sizes (plain_settings settings.now) }
+/// What the report tells: the sizes where the command line names a file of them, and what objects cover where it asks for this.
+pub fn tells_of(settings: &Settings) -> Tells
+    ensures { result ≡ spec.tells_of (plain_settings settings.now) }
 {
-    settings.sizes.is_some()
+    Tells {
+        sizes: settings.sizes.is_some(),
+        coverage: settings.coverage,
+    }
 }

@@ -19,7 +19,7 @@ use crate::meetings::find_meetings;
 use cj_case::{Cell, Leaf, Problem};
 use cj_cert::CellLine;
 use cj_io::Gate;
-use cj_report::report_text;
+use cj_report::{Tells, report_text};
 use cj_status::{CertificateCause, LimitFault, Status};
 use std::alloc::{AllocError, Global};
 use std::thread::Threads;
@@ -34,7 +34,7 @@ pub fn accept_report<R: Threads + Sync, G: Gate + Sync>(
     alloc: Global,
     gate: &G,
     problem: &Problem,
-    with_sizes: bool,
+    tells: Tells,
     cells: &[CellLine],
     report: Option<Vec<u8>>,
 ) -> Result<(), Status>
@@ -45,13 +45,13 @@ pub fn accept_report<R: Threads + Sync, G: Gate + Sync>(
     ensures between { IfErr result ComesBetween }
     ensures read { result ≢ Err Status.ReadFault }
     ensures told { Gives ⊥ (λ done. done) result
-        (spec.report_if_accepting with_sizes (plain_problem problem.now) (map plain_cell_line cells.now) (option_map (λ bytes. bytes.items) report)) }
+        (spec.report_if_accepting tells (plain_problem problem.now) (map plain_cell_line cells.now) (option_map (λ bytes. bytes.items) report)) }
     ensures holds { OnOk result
-        (IfSome report (λ bytes. AcceptedReport with_sizes (plain_problem problem.now) (map plain_cell_line cells.now) bytes.items)) }
+        (IfSome report (λ bytes. AcceptedReport tells (plain_problem problem.now) (map plain_cell_line cells.now) bytes.items)) }
 {
     match report {
         None => Ok(()),
-        Some(bytes) => accept_bytes(rt, alloc, gate, problem, with_sizes, cells, &bytes),
+        Some(bytes) => accept_bytes(rt, alloc, gate, problem, tells, cells, &bytes),
     }
 }
 
@@ -62,7 +62,7 @@ fn accept_bytes<R: Threads + Sync, G: Gate + Sync>(
     alloc: Global,
     gate: &G,
     problem: &Problem,
-    with_sizes: bool,
+    tells: Tells,
     cells: &[CellLine],
     bytes: &[u8],
 ) -> Result<(), Status>
@@ -72,8 +72,8 @@ fn accept_bytes<R: Threads + Sync, G: Gate + Sync>(
     requires split { CellsSplit (plain_problem problem.now) (map plain_cell_line cells.now) }
     ensures between { IfErr result ComesBetween }
     ensures read { result ≢ Err Status.ReadFault }
-    ensures told { Gives ⊥ (λ done. done) result (spec.report_accepting with_sizes (plain_problem problem.now) (map plain_cell_line cells.now) bytes.now) }
-    ensures holds { OnOk result (AcceptedReport with_sizes (plain_problem problem.now) (map plain_cell_line cells.now) bytes.now) }
+    ensures told { Gives ⊥ (λ done. done) result (spec.report_accepting tells (plain_problem problem.now) (map plain_cell_line cells.now) bytes.now) }
+    ensures holds { OnOk result (AcceptedReport tells (plain_problem problem.now) (map plain_cell_line cells.now) bytes.now) }
 {
     if cells.len() > MAX_CELLS {
         return Err(Status::Limit(LimitFault::Cells {
@@ -81,7 +81,7 @@ fn accept_bytes<R: Threads + Sync, G: Gate + Sync>(
         }));
     }
     let leaves = leaves_of(alloc, cells)?;
-    let due = report_due(rt, alloc, gate, problem, with_sizes, &leaves)?;
+    let due = report_due(rt, alloc, gate, problem, tells, &leaves)?;
     accept_as(bytes, &due)
 }
 
@@ -117,13 +117,13 @@ fn report_due<R: Threads + Sync, G: Gate + Sync>(
     alloc: Global,
     gate: &G,
     problem: &Problem,
-    with_sizes: bool,
+    tells: Tells,
     leaves: &[Leaf],
 ) -> Result<Vec<u8>, AllocError>
     requires few { length leaves.now ≤ MOST_LEAVES }
     requires in_order { AreInOrder (plain_leaves leaves.now) }
     requires pieces { KeepTheirPieces (plain_problem problem.now) (plain_leaves leaves.now) }
-    ensures text { IfOk result (λ text. text.items ≡ spec.report_bytes with_sizes (plain_problem problem.now) (plain_leaves leaves.now)) }
+    ensures text { IfOk result (λ text. text.items ≡ spec.report_bytes tells (plain_problem problem.now) (plain_leaves leaves.now)) }
     ensures spans { HaveExactSpans (plain_leaves leaves.now) }
     ensures nearest { OnOk result (All (HasNearest (plain_problem problem.now)) (encounters_of (plain_leaves leaves.now))) }
 {
@@ -131,7 +131,7 @@ fn report_due<R: Threads + Sync, G: Gate + Sync>(
     report_text(
         alloc,
         problem,
-        with_sizes,
+        tells,
         leaves,
         &met.encounters,
         &met.closest,

@@ -1,15 +1,16 @@
 ghost use Rattle.std.specs.Prelude.{◌≤◌};
 ghost use Rattle.cj_base.specs.Bounds.{MOST_LEAVES};
 
-use crate::reporting::tells_sizes;
+use crate::reporting::tells_of;
 use cj_formats::CertVersion;
+use cj_report::Tells;
 use cj_words::Screening;
 
 /// How a problem is screened, and what is wanted of its outputs.
 #[derive(Clone, Copy, Debug)]
 pub struct Wanted {
-    /// Whether the report tells the sizes of its objects.
-    pub tells_sizes: bool,
+    /// What the report tells beside the encounters.
+    pub tells: Tells,
     /// The version of the certificate.
     pub version: CertVersion,
     /// How many workers search, and make the texts, from 1 to 16.
@@ -28,12 +29,13 @@ impl Wanted {
 
     /// What a screening wants.
     pub fn of(screening: &Screening) -> Wanted
-        ensures tells_sizes { result.tells_sizes ≡ spec.tells_sizes (plain_settings screening.now.settings) }
+        ensures tells { result.tells ≡ spec.tells_of (plain_settings screening.now.settings) }
         ensures version { result.version ≡ screening.now.version }
+        ensures workers { result.workers ≡ screening.now.workers }
         ensures leaves { result.leaves ≡ screening.now.cells }
     {
         Wanted {
-            tells_sizes: tells_sizes(&screening.settings),
+            tells: tells_of(&screening.settings),
             version: screening.version,
             workers: screening.workers,
             leaves: screening.cells,

@@ -1,11 +1,11 @@
 //! What a person is told behind a fault line.
 use crate::lines::words;
 use cj_advice::{
-    Advice, Cause, EVERY, LimitCause, OPTIONS, VERBS, advice_on, cause_named, cause_of, cause_word,
-    explanation, hint_on_files, hint_text, known_causes_text, list_of_causes, nearest_option,
-    range_of,
+    Advice, Cause, EVERY, FileReason, LimitCause, OPTIONS, VERBS, advice_on, cause_named, cause_of,
+    cause_word, explanation, hint_on_files, hint_text, known_causes_text, list_of_causes,
+    nearest_option, range_of,
 };
-use cj_base::Limits;
+use cj_base::{Limits, Tick};
 use cj_epoch::EpochFault;
 use cj_formats::{CheckCause, OemCause, SizesCause};
 use cj_host::{Notice, asked_notice, notice_text};
@@ -76,11 +76,11 @@ fn a_cause_is_found_by_what_a_fault_line_prints(rt: HostRuntime) {
         (b"Value", Cause::Value),
         (
             b"Epoch SecondSixty",
-            Cause::File(FileCause::Oem(OemCause::Epoch(EpochFault::SecondSixty))),
+            Cause::File(FileReason::Oem(OemCause::Epoch(EpochFault::SecondSixty))),
         ),
         (
             b"Sizes Kvn NoLineForm",
-            Cause::File(FileCause::Sizes(SizesCause::Kvn(KvnCause::NoLineForm))),
+            Cause::File(FileReason::Sizes(SizesCause::Kvn(KvnCause::NoLineForm))),
         ),
         (b"Window", Cause::Limit(LimitCause::Window)),
     ];
@@ -312,10 +312,10 @@ fn status_of(alloc: Global, cause: Cause) -> Result<Status, AllocError> {
         Cause::Value => Status::Usage(UsageFault::Value {
             option: Opt::Threshold,
         }),
-        Cause::File(cause) => Status::BadFile {
+        Cause::File(reason) => Status::BadFile {
             file: Name::copy_of(alloc, b"a.oem")?,
             line: 1,
-            cause,
+            cause: cause_for(reason),
         },
         Cause::Certificate(cause) => Status::NotAccepted { line: 1, cause },
         Cause::Limit(limit) => Status::Limit(fault_of(alloc, limit)?),
@@ -324,6 +324,18 @@ fn status_of(alloc: Global, cause: Cause) -> Result<Status, AllocError> {
         Cause::OutOfMemory => Status::OutOfMemory,
     };
     Ok(status)
+}
+
+fn cause_for(reason: FileReason) -> FileCause {
+    match reason {
+        FileReason::Oem(cause) => FileCause::Oem(cause),
+        FileReason::MixedFrames => FileCause::MixedFrames,
+        FileReason::Sizes(cause) => FileCause::Sizes(cause),
+        FileReason::NoSizes => FileCause::NoSizes,
+        FileReason::Uncovered => FileCause::Uncovered {
+            micros: Tick::FIRST.micros,
+        },
+    }
 }
 
 fn fault_of(alloc: Global, limit: LimitCause) -> Result<LimitFault, AllocError> {
@@ -376,7 +388,7 @@ fn behind_several_files_each_cause_is_pointed_to(rt: HostRuntime) {
         assert!(rt; is_of_lines(&hint) && fits(&hint), "{cause:?}");
         assert!(rt; has(&hint, cause_word(*cause)), "{cause:?}");
     }
-    let cause = Cause::File(FileCause::Oem(OemCause::Epoch(EpochFault::Form)));
+    let cause = Cause::File(FileReason::Oem(OemCause::Epoch(EpochFault::Form)));
     let status = status_of(alloc, cause).expect(&rt, "no fault");
     let hint = hint_on_files(alloc, &status).expect(&rt, "no fault");
     let due = b"hint: these are the first faults of their files; mending one may show another
@@ -427,7 +439,9 @@ fn option_behind(option: Opt) -> Option<Opt> {
         Opt::Report => Some(Opt::Out),
         Opt::Out => Some(Opt::CertDir),
         Opt::CertDir => Some(Opt::Rtn),
-        Opt::Rtn => Some(Opt::Within),
+        Opt::Rtn => Some(Opt::Coverage),
+        Opt::Coverage => Some(Opt::MustCover),
+        Opt::MustCover => Some(Opt::Within),
         Opt::Within => Some(Opt::Warnings),
         Opt::Warnings => Some(Opt::AllFaults),
         Opt::AllFaults => None,

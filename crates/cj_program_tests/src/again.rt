@@ -30,6 +30,8 @@ fn a_minute() -> Settings<'static>
         suffix: b".oem",
         as_hermite3: false,
         sizes: None,
+        coverage: false,
+        must_cover: false,
         limits: Limits::USUAL,
     }
 }
@@ -103,6 +105,8 @@ fn what_is_asked_of_updates_of_a_certificate(rt: HostRuntime) {
             suffix: b".oem",
             as_hermite3: false,
             sizes: None,
+            coverage: false,
+            must_cover: false,
             limits: Limits::USUAL,
         },
         certificate: b"screen.cert",

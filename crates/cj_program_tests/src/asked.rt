@@ -4,8 +4,8 @@ use cj_base::{Limits, Tick};
 use cj_epoch::read_epoch;
 use cj_formats::CertVersion;
 use cj_words::{
-    Checking, Command, Opt, Recipe, Screening, Selfrun, Settings, Thinning, option_name,
-    read_command,
+    Checking, Command, Opt, Recipe, Screening, Selfrun, Settings, Thinning, UsageFault,
+    option_name, read_command,
 };
 use std::alloc::{AllocError, Global};
 use std::panic::Expect;
@@ -32,6 +32,8 @@ const USUAL: Settings = Settings {
     suffix: b".oem",
     as_hermite3: false,
     sizes: None,
+    coverage: false,
+    must_cover: false,
     limits: Limits::USUAL,
 };
 
@@ -112,6 +114,8 @@ fn all_that_can_be_asked_of_a_screening(rt: HostRuntime) {
             suffix: b".txt",
             as_hermite3: true,
             sizes: Some(b"r.txt"),
+            coverage: false,
+            must_cover: false,
             limits: Limits::USUAL,
         },
         workers: 16,
@@ -136,6 +140,8 @@ fn all_that_can_be_asked_of_a_check(rt: HostRuntime) {
             suffix: b".txt",
             as_hermite3: true,
             sizes: Some(b"r.txt"),
+            coverage: false,
+            must_cover: false,
             limits: Limits::USUAL,
         },
         certificate: b"other.cert",
@@ -209,6 +215,44 @@ fn suffixes_that_are_taken(rt: HostRuntime) {
 }
 
 #[test]
+fn what_is_asked_of_coverage(rt: HostRuntime) {
+    let cases = [
+        ("screen . --coverage", true, false),
+        ("screen . --must-cover", false, true),
+        ("screen . --must-cover --coverage", true, true),
+        ("check . --coverage --report r", true, false),
+        (
+            "rescreen . --coverage --from 2025-01-01T00:00:00 --must-cover --to 2025-01-01T00:01:00 --changed",
+            true,
+            true,
+        ),
+    ];
+    for (line, coverage, must_cover) in cases {
+        let words = words(rt.alloc(), line).expect(&rt, "no fault");
+        let settings = match read_command(&words) {
+            Ok(Command::Screen(screening)) => screening.settings,
+            Ok(Command::Check(checking)) => checking.settings,
+            Ok(Command::Rescreen(rescreening)) => rescreening.screening.settings,
+            _ => USUAL,
+        };
+        assert_eq!(rt; settings.coverage, coverage, "{line}");
+        assert_eq!(rt; settings.must_cover, must_cover, "{line}");
+    }
+    for line in [
+        "check . --coverage",
+        "check . --must-cover",
+        "rewrite . --coverage",
+        "selfrun --coverage",
+        "thin . --must-cover",
+        "screen . --coverage=yes",
+        "screen . --coverage --coverage",
+    ] {
+        let words = words(rt.alloc(), line).expect(&rt, "no fault");
+        assert_eq!(rt; read_command(&words), Err(UsageFault::Words), "{line}");
+    }
+}
+
+#[test]
 fn the_names_of_fault_lines(rt: HostRuntime) {
     assert_eq!(rt; option_name(Opt::Suffix), b"--suffix".as_slice());
     assert_eq!(rt; option_name(Opt::AsHermite3), b"--as-hermite3".as_slice());
@@ -223,6 +267,8 @@ fn the_names_of_fault_lines(rt: HostRuntime) {
     assert_eq!(rt; option_name(Opt::CertDir), b"--cert-dir".as_slice());
     assert_eq!(rt; option_name(Opt::Rtn), b"--rtn".as_slice());
     assert_eq!(rt; option_name(Opt::Within), b"--within".as_slice());
+    assert_eq!(rt; option_name(Opt::Coverage), b"--coverage".as_slice());
+    assert_eq!(rt; option_name(Opt::MustCover), b"--must-cover".as_slice());
 }
 
 #[test]

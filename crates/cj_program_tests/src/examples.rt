@@ -1,11 +1,10 @@
 //! What each cause shows as refused is refused with it, and what it shows as taken is taken.
 use crate::lines::first_wrong;
 use crate::usage_faults::{BAD_THRESHOLD, WORDS};
-use cj_advice::{Advice, Cause, EVERY, advice_on};
+use cj_advice::{Advice, Cause, EVERY, FileReason, advice_on};
 use cj_formats::{OemCause, SizesCause};
 use cj_oem::{OemFault, read_oem};
 use cj_sizes::{SizesFault, read_sizes};
-use cj_status::FileCause;
 use std::alloc::{AllocError, Global};
 use std::panic::Expect;
 
@@ -164,7 +163,7 @@ fn the_files_are_taken(rt: HostRuntime) {
 fn what_is_shown_of_ephemerides_is_refused_with_the_cause(rt: HostRuntime) {
     let alloc = rt.alloc();
     for cause in &EVERY {
-        let Cause::File(FileCause::Oem(due)) = *cause else {
+        let Cause::File(FileReason::Oem(due)) = *cause else {
             continue;
         };
         let advice = advice_on(*cause);
@@ -184,7 +183,7 @@ fn what_is_shown_of_ephemerides_is_refused_with_the_cause(rt: HostRuntime) {
 fn what_is_shown_of_sizes_is_refused_with_the_cause(rt: HostRuntime) {
     let alloc = rt.alloc();
     for cause in &EVERY {
-        let Cause::File(FileCause::Sizes(due)) = *cause else {
+        let Cause::File(FileReason::Sizes(due)) = *cause else {
             continue;
         };
         let text = exchanged(alloc, RADII, &advice_on(*cause)).expect(&rt, "no fault");

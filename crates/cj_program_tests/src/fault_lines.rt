@@ -8,7 +8,7 @@ use std::panic::Expect;
 
 #[test]
 fn the_cause_of_a_refused_file_is_told_by_its_name(rt: HostRuntime) {
-    let cases: [(&[u8], u32, FileCause, &[u8]); 7] = [
+    let cases: [(&[u8], u32, FileCause, &[u8]); 8] = [
         (
             b"sizes.txt",
             5,
@@ -45,6 +45,14 @@ fn the_cause_of_a_refused_file_is_told_by_its_name(rt: HostRuntime) {
             0,
             FileCause::MixedFrames,
             b"conj: b.oem: line 0: MixedFrames\n",
+        ),
+        (
+            b"b.oem",
+            0,
+            FileCause::Uncovered {
+                micros: 1_735_689_630_000_001,
+            },
+            b"conj: b.oem: line 0: Uncovered 2025-01-01T00:00:30.000001\n",
         ),
         (
             b"a.oem",

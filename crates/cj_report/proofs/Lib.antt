@@ -1,3 +1,4 @@
+pub mod CoveredLemmas
 pub mod EncounterTextLemmas
 pub mod NumberLemmas
 mod RunLemmas

@@ -5,7 +5,9 @@ use Rattle.cj_case.specs.declared.kind.Kind.TheVariants as kind
 use Rattle.cj_case.specs.declared.encounter.Mark.{Mark}
 use Rattle.cj_case.specs.declared.encounter.Mark.TheVariants as mark
 use Rattle.cj_case.specs.Leaves.{PlainLeaf}
+use Rattle.cj_coverage.specs.Coverage.{covered_spans}
 use Rattle.cj_epoch.specs.Written.{epoch_of}
+use Rattle.cj_hermite.specs.CommonRuns.{Run}
 use Rattle.cj_kvn.specs.Entries.{line_of_words}
 use Rattle.cj_meet.specs.Closest.{PlainClosest}
 use Rattle.cj_meet.specs.Encounters.{first_object, second_object, mark_of}
@@ -30,9 +32,26 @@ name_lines n object =
     ++ line_of_words (codes "ID" ∷ object.id ∷ [])
     ++ line_of_words (codes "NAME" ∷ object.name ∷ [])
 
--- the same with its size, where these sizes are told; numbers count from 1
-abbrev pub object_lines : List ℕ → ℕ → PlainTrack → List ℕ
-object_lines sizes n object = name_lines n object ++ size_line (slice_get sizes (n - 1))
+-- a covered span with its first tick and its last
+abbrev pub covered_line : Run → List ℕ
+covered_line span = line_of_words (codes "COVERED" ∷ epoch_of span.first ∷ epoch_of span.last ∷ [])
+
+-- covered spans, or that there are none
+abbrev pub covered_lines : List Run → List ℕ
+covered_lines [] = line_of_words (codes "COVERED" ∷ codes "NONE" ∷ [])
+covered_lines (span ∷ spans) = flat_map covered_line (span ∷ spans)
+
+-- which of the ticks from first to last an object covers, where this is told
+abbrev pub coverage_lines : Bool → ℕ → ℕ → PlainTrack → List ℕ
+coverage_lines with_coverage first last object = if with_coverage then covered_lines (covered_spans object first last) else []
+
+-- its names with its size, where these sizes are told; numbers count from 1
+abbrev pub sized_lines : List ℕ → ℕ → PlainTrack → List ℕ
+sized_lines sizes n object = name_lines n object ++ size_line (slice_get sizes (n - 1))
+
+-- all that is told of it
+abbrev pub object_lines : List ℕ → Bool → ℕ → ℕ → ℕ → PlainTrack → List ℕ
+object_lines sizes with_coverage first last n object = sized_lines sizes n object ++ coverage_lines with_coverage first last object
 
 abbrev pub mark_word : Mark → List ℕ
 mark_word mark.Near = codes "NEAR"
@@ -72,23 +91,24 @@ encounter_lines approach has_message n encounter =
 abbrev pub told : Bool → List ℕ → List ℕ
 told with_sizes sizes = if with_sizes then sizes else []
 
--- a report under a title: its window from the first tick to the last, its threshold in nm, its objects, the sizes that are told, its encounters
--- with the closest approaches that they have by the one function and the messages that they have by the other
-abbrev pub report_titled : List ℕ → ℕ → ℕ → ℕ → List PlainTrack → List ℕ → (List PlainLeaf → Option PlainClosest) → (List PlainLeaf → Bool) → List (List PlainLeaf) → List ℕ
-report_titled title first last threshold objects sizes approach has_message encounters =
+-- a report under a title: its window from the first tick to the last, its threshold in nm, its objects, the sizes that are told, whether it is told
+-- which ticks each object covers, its encounters with the closest approaches that they have by the one function and the messages that they have
+-- by the other
+abbrev pub report_titled : List ℕ → ℕ → ℕ → ℕ → List PlainTrack → List ℕ → Bool → (List PlainLeaf → Option PlainClosest) → (List PlainLeaf → Bool) → List (List PlainLeaf) → List ℕ
+report_titled title first last threshold objects sizes with_coverage approach has_message encounters =
     line_of_words (title ∷ codes "1" ∷ [])
     ++ line_of_words (codes "WINDOW" ∷ epoch_of first ∷ epoch_of last ∷ [])
     ++ line_of_words (codes "THRESHOLD" ∷ decimal threshold ∷ [])
-    ++ numbered (object_lines sizes) 1 objects
+    ++ numbered (object_lines sizes with_coverage first last) 1 objects
     ++ numbered (encounter_lines approach has_message) 1 encounters
     ++ line_of_words (codes "END" ∷ [])
 
 -- the report
-abbrev pub report_of : ℕ → ℕ → ℕ → List PlainTrack → List ℕ → (List PlainLeaf → Option PlainClosest) → (List PlainLeaf → Bool) → List (List PlainLeaf) → List ℕ
-report_of first last threshold objects sizes approach has_message encounters =
-    report_titled (codes "CONJ-REPORT") first last threshold objects sizes approach has_message encounters
+abbrev pub report_of : ℕ → ℕ → ℕ → List PlainTrack → List ℕ → Bool → (List PlainLeaf → Option PlainClosest) → (List PlainLeaf → Bool) → List (List PlainLeaf) → List ℕ
+report_of first last threshold objects sizes with_coverage approach has_message encounters =
+    report_titled (codes "CONJ-REPORT") first last threshold objects sizes with_coverage approach has_message encounters
 
 -- the report of those encounters alone whose pairs are not unchanged
-abbrev pub changed_of : ℕ → ℕ → ℕ → List PlainTrack → List ℕ → (List PlainLeaf → Option PlainClosest) → (List PlainLeaf → Bool) → List (List PlainLeaf) → List ℕ
-changed_of first last threshold objects sizes approach has_message encounters =
-    report_titled (codes "CONJ-CHANGED") first last threshold objects sizes approach has_message encounters
+abbrev pub changed_of : ℕ → ℕ → ℕ → List PlainTrack → List ℕ → Bool → (List PlainLeaf → Option PlainClosest) → (List PlainLeaf → Bool) → List (List PlainLeaf) → List ℕ
+changed_of first last threshold objects sizes with_coverage approach has_message encounters =
+    report_titled (codes "CONJ-CHANGED") first last threshold objects sizes with_coverage approach has_message encounters

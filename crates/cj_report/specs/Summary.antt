@@ -41,6 +41,10 @@ summary_of t =
     ++ count_line (codes "ENCOUNTERS") t.encounters
     ++ count_line (codes "MESSAGES") t.messages
 
+-- behind it, where coverage is told: how many objects do not cover the whole window
+abbrev pub uncovered_line : ℕ → List ℕ
+uncovered_line count = count_line (codes "UNCOVERED") count
+
 -- behind it, of a screening again: how many pairs are kept and unchanged
 abbrev pub kept_line : ℕ → List ℕ
 kept_line kept = count_line (codes "KEPT") kept

@@ -8,7 +8,9 @@ mod objects;
 mod report;
 mod span_line;
 mod summary;
+mod tells;
 
 pub use counts::Counts;
 pub use report::{changed_text, report_text};
-pub use summary::{changed_summary_text, push_kept, summary_text};
+pub use summary::{changed_summary_text, push_kept, push_uncovered, summary_text};
+pub use tells::Tells;

@@ -8,17 +8,18 @@ ghost use Rattle.cj_report.specs.Report.{changed_of, report_of, report_titled, t
 use crate::encounters::push_encounters;
 use crate::lines::push_line;
 use crate::objects::push_objects;
+use crate::tells::Tells;
 use cj_case::{Closest, Encounter, Leaf, Problem};
 use cj_epoch::epoch_text;
 use itoa::Buffer;
 use std::alloc::{AllocError, Global};
 
-/// The report of a problem: its window, its threshold in nm, its objects, with their sizes where these are told, and the encounters
-/// of its leaves, each with its closest approach and whether it has a message.
+/// The report of a problem: its window, its threshold in nm, its objects, with their sizes and the ticks that they cover where these are told,
+/// and the encounters of its leaves, each with its closest approach and whether it has a message.
 pub fn report_text(
     alloc: Global,
     problem: &Problem,
-    with_sizes: bool,
+    tells: Tells,
     leaves: &[Leaf],
     encounters: &[Encounter],
     approaches: &[Closest],
@@ -31,14 +32,14 @@ pub fn report_text(
     ensures { let case = plain_problem problem.now in IfOk result (λ text. (approach : List PlainLeaf → Option PlainClosest) (has_message : List PlainLeaf → Bool)
         → map some_closest approaches.now ≡ map approach (groups_in (plain_leaves leaves.now) encounters.now)
         → messages.now ≡ map has_message (groups_in (plain_leaves leaves.now) encounters.now)
-        → text.items ≡ report_of case.first case.last case.threshold case.tracks (told with_sizes case.sizes) approach has_message
-        (groups_in (plain_leaves leaves.now) encounters.now)) }
+        → text.items ≡ report_of case.first case.last case.threshold case.tracks (told tells.sizes case.sizes)
+        tells.coverage approach has_message (groups_in (plain_leaves leaves.now) encounters.now)) }
 {
     titled_text(
         alloc,
         b"CONJ-REPORT",
         problem,
-        with_sizes,
+        tells,
         leaves,
         encounters,
         approaches,
@@ -50,7 +51,7 @@ pub fn report_text(
 pub fn changed_text(
     alloc: Global,
     problem: &Problem,
-    with_sizes: bool,
+    tells: Tells,
     leaves: &[Leaf],
     encounters: &[Encounter],
     approaches: &[Closest],
@@ -63,14 +64,14 @@ pub fn changed_text(
     ensures { let case = plain_problem problem.now in IfOk result (λ text. (approach : List PlainLeaf → Option PlainClosest) (has_message : List PlainLeaf → Bool)
         → map some_closest approaches.now ≡ map approach (groups_in (plain_leaves leaves.now) encounters.now)
         → messages.now ≡ map has_message (groups_in (plain_leaves leaves.now) encounters.now)
-        → text.items ≡ changed_of case.first case.last case.threshold case.tracks (told with_sizes case.sizes) approach has_message
-        (groups_in (plain_leaves leaves.now) encounters.now)) }
+        → text.items ≡ changed_of case.first case.last case.threshold case.tracks (told tells.sizes case.sizes)
+        tells.coverage approach has_message (groups_in (plain_leaves leaves.now) encounters.now)) }
 {
     titled_text(
         alloc,
         b"CONJ-CHANGED",
         problem,
-        with_sizes,
+        tells,
         leaves,
         encounters,
         approaches,
@@ -83,7 +84,7 @@ fn titled_text(
     alloc: Global,
     title: &[u8],
     problem: &Problem,
-    with_sizes: bool,
+    tells: Tells,
     leaves: &[Leaf],
     encounters: &[Encounter],
     approaches: &[Closest],
@@ -96,8 +97,8 @@ fn titled_text(
     ensures { let case = plain_problem problem.now in IfOk result (λ text. (approach : List PlainLeaf → Option PlainClosest) (has_message : List PlainLeaf → Bool)
         → map some_closest approaches.now ≡ map approach (groups_in (plain_leaves leaves.now) encounters.now)
         → messages.now ≡ map has_message (groups_in (plain_leaves leaves.now) encounters.now)
-        → text.items ≡ report_titled title.now case.first case.last case.threshold case.tracks (told with_sizes case.sizes) approach has_message
-        (groups_in (plain_leaves leaves.now) encounters.now)) }
+        → text.items ≡ report_titled title.now case.first case.last case.threshold case.tracks (told tells.sizes case.sizes)
+        tells.coverage approach has_message (groups_in (plain_leaves leaves.now) encounters.now)) }
 {
     let mut text = Vec::with_capacity(alloc, usual_length(problem, encounters))?;
     push_line(&mut text, title, &[b"1"])?;
@@ -114,8 +115,15 @@ fn titled_text(
         b"THRESHOLD",
         &[Buffer::new().format(problem.threshold).as_bytes()],
     )?;
-    let sizes = sizes_told(problem, with_sizes);
-    push_objects(&mut text, problem.tracks.as_slice(), sizes)?;
+    let sizes = sizes_told(problem, tells.sizes);
+    push_objects(
+        alloc,
+        &mut text,
+        problem.tracks.as_slice(),
+        sizes,
+        tells.coverage,
+        problem.window,
+    )?;
     push_encounters(&mut text, leaves, encounters, approaches, messages)?;
     push_line(&mut text, b"END", &[])?;
     Ok(text)

@@ -1,7 +1,7 @@
 ghost use Rattle.std.specs.Prelude.{◌≡◌, ◌++◌, IfOk, OnOk, codes};
 ghost use Rattle.cj_report.specs.Counts.{tally_of};
 ghost use Rattle.cj_report.specs.Summary as spec;
-ghost use Rattle.cj_report.specs.Summary.{count_line, kept_line, summary_of};
+ghost use Rattle.cj_report.specs.Summary.{count_line, kept_line, summary_of, uncovered_line};
 
 use crate::counts::Counts;
 use crate::lines::push_line;
@@ -34,6 +34,13 @@ pub fn changed_summary_text(
     push_count(&mut text, b"ENCOUNTERS", encounters)?;
     push_kept(&mut text, kept)?;
     Ok(text)
+}
+
+/// Adds the line behind a summary that tells how many objects do not cover the whole window.
+pub fn push_uncovered(text: &mut Vec<u8>, count: u64) -> Result<(), AllocError>
+    ensures { OnOk result (text.new.items ≡ text.old.items ++ uncovered_line count) }
+{
+    push_count(text, b"UNCOVERED", count)
 }
 
 /// Adds the line behind the summary of a screening again: how many pairs are kept and unchanged.

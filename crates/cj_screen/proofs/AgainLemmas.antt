@@ -1,5 +1,5 @@
 -- What is found after updates: it is what is due, and says what is asked.
-use Rattle.std.proofs.Common.{◌≡◌, ℕ, Bool, true, false, cond, List, Result, Ok, Err, sym, ap, subst, ◌∙◌, length}
+use Rattle.std.proofs.Common.{◌≡◌, ℕ, Bool, true, false, cond, List, Result, Ok, Err, sym, ap, subst, ◌∙◌, length, ◌++◌}
 use Rattle.std.specs.Prelude.{All, IfErr, nat_le}
 use Rattle.cj_base.specs.declared.tick.Tick.{Tick}
 use Rattle.cj_io.specs.declared.file.FileBytes.{FileBytes}
@@ -15,7 +15,8 @@ use Rattle.cj_words.specs.declared.command.Rescreening.{Rescreening}
 use Rattle.cj_words.specs.Commands.{Rescreens, plain_rescreening, plain_screening}
 use Rattle.cj_words.specs.Settings.{PlainSettings, plain_settings}
 use Rattle.cj_inputs.specs.declared.updating.Updating.{Updating}
-use Rattle.cj_inputs.specs.Updates.{cases_asked, plain_updating}
+use Rattle.cj_inputs.specs.Coverings.{cases_covered}
+use Rattle.cj_inputs.specs.Updates.{plain_updating}
 use Rattle.cj_status.specs.declared.status.Status.{Status}
 use Rattle.cj_status.specs.declared.status.Status.TheVariants as status
 use Rattle.cj_status.specs.declared.status.LimitFault.TheVariants as limit
@@ -28,23 +29,25 @@ use Rattle.cj_outputs.specs.Changes.{AreChanges, changed_outputs_in}
 use Rattle.cj_outputs.specs.Findings.{AreFound, cert_in, outputs_in, report_in, summary_in}
 use Rattle.cj_outputs.specs.Messages.{PlainOrigin}
 use Rattle.cj_outputs.specs.Origins.{plain_origin}
-use Rattle.cj_outputs.specs.Outcome.{ComesOfSelfrun, kept_unchanged, list_anew, origin_of, outputs_again, outputs_changed, outputs_of_changes, outputs_updated, outputs_within, summary_with, tells_sizes}
+use Rattle.cj_outputs.specs.Outcome.{ComesOfSelfrun, kept_unchanged, list_anew, origin_of, outputs_again, outputs_changed, outputs_of_changes, outputs_updated, outputs_within, summary_with, tells_of, uncovered_told}
 use Rattle.cj_outputs.specs.SpanSplits.{SplitsChangedTicks, StillSo}
 use Rattle.cj_screen.specs.declared.results.Results.TheVariants.{Changed, Screened}
 use Rattle.cj_screen.specs.Headline.{ReportsOf}
 use Rattle.cj_screen.specs.Results.{ShowsDue}
+use Rattle.cj_screen.proofs.CoverLemmas.{covers_exactly, whole_windows}
 use Rattle.cj_screen.proofs.SelfrunLemmas.{comes_of_selfrun, within_limits_of}
+use Rattle.cj_report.specs.declared.tells.Tells.{Tells}
 
 -- ---- those of the pairs that are not unchanged
 
 -- where they are due, they are these
-changed_outputs : (most : ℕ) (with_sizes : Bool) (old new : PlainProblem) (outputs : List FileBytes) → outputs_changed most with_sizes old new ≡ Ok outputs
-    → outputs ≡ outputs_of_changes with_sizes new (kept_unchanged old new) (list_anew old new)
+changed_outputs : (most : ℕ) (tells : Tells) (old new : PlainProblem) (outputs : List FileBytes) → outputs_changed most tells old new ≡ Ok outputs
+    → outputs ≡ outputs_of_changes tells new (kept_unchanged old new) (list_anew old new)
 unfolding outputs_changed
-changed_outputs most with_sizes old new outputs = by_count (nat_le (length (list_anew old new)) most)
+changed_outputs most tells old new outputs = by_count (nat_le (length (list_anew old new)) most)
   where
     due : List PlainLeaf → List FileBytes
-    due leaves = outputs_of_changes with_sizes new (kept_unchanged old new) leaves
+    due leaves = outputs_of_changes tells new (kept_unchanged old new) leaves
 
     by_count : (b : Bool) → (cond b (Ok (list_anew old new)) (Err (status.Limit (limit.Cells most))) >>= λ leaves. Ok (due leaves)) ≡ Ok outputs
         → outputs ≡ due (list_anew old new)
@@ -52,33 +55,33 @@ changed_outputs most with_sizes old new outputs = by_count (nat_le (length (list
     by_count false is = absurd cc
 
 -- only a limit ends what is due of them
-changed_limits : (most : ℕ) (with_sizes : Bool) (old new : PlainProblem) → IfErr (outputs_changed most with_sizes old new) IsLimit
+changed_limits : (most : ℕ) (tells : Tells) (old new : PlainProblem) → IfErr (outputs_changed most tells old new) IsLimit
 unfolding outputs_changed
-changed_limits most with_sizes old new = by_count (nat_le (length (list_anew old new)) most)
+changed_limits most tells old new = by_count (nat_le (length (list_anew old new)) most)
   where
     due : List PlainLeaf → List FileBytes
-    due leaves = outputs_of_changes with_sizes new (kept_unchanged old new) leaves
+    due leaves = outputs_of_changes tells new (kept_unchanged old new) leaves
 
     by_count : (b : Bool) → IfErr (cond b (Ok (list_anew old new)) (Err (status.Limit (limit.Cells most))) >>= λ leaves. Ok (due leaves)) IsLimit
     by_count true = tt
     by_count false = tt
 
-changed_ends : (most : ℕ) (with_sizes : Bool) (old new : PlainProblem) (s : Status) → Stops ⊥ s (outputs_changed most with_sizes old new) → ComesOfSelfrun s
-changed_ends most with_sizes old new s stops =
-    comes_of_selfrun {X = List FileBytes} ⊥ (λ outputs. outputs) (Err s) (outputs_changed most with_sizes old new) (λ none. none) stops (changed_limits most with_sizes old new)
+changed_ends : (most : ℕ) (tells : Tells) (old new : PlainProblem) (s : Status) → Stops ⊥ s (outputs_changed most tells old new) → ComesOfSelfrun s
+changed_ends most tells old new s stops =
+    comes_of_selfrun {X = List FileBytes} ⊥ (λ outputs. outputs) (Err s) (outputs_changed most tells old new) (λ none. none) stops (changed_limits most tells old new)
 
 module _ (rescreening : Rescreening) (updating : Updating) (now : ℕ) (wanted : Wanted) (is : rescreening.changed ≡ true)
-    (tells : wanted.tells_sizes ≡ tells_sizes (plain_settings rescreening.screening.settings)) (leaves : wanted.leaves ≡ rescreening.screening.cells) where
+    (tells : wanted.tells ≡ tells_of (plain_settings rescreening.screening.settings)) (leaves : wanted.leaves ≡ rescreening.screening.cells) where
   -- what is due is theirs
   theirs : outputs_updated now (plain_rescreening rescreening) (plain_updating updating)
-      ≡ outputs_changed wanted.leaves wanted.tells_sizes (plain_problem updating.base) (plain_problem updating.new)
+      ≡ outputs_changed wanted.leaves wanted.tells (plain_problem updating.base) (plain_problem updating.new)
   theirs =
       let old = plain_problem updating.base in
       let new = plain_problem updating.new in
-      rw is (ap (λ (n : ℕ). outputs_changed n (tells_sizes (plain_settings rescreening.screening.settings)) old new) (sym leaves)
-      ∙ ap (λ (b : Bool). outputs_changed wanted.leaves b old new) (sym tells))
+      rw is (ap (λ (n : ℕ). outputs_changed n (tells_of (plain_settings rescreening.screening.settings)) old new) (sym leaves)
+      ∙ ap (λ (t : Tells). outputs_changed wanted.leaves t old new) (sym tells))
 
-  pub changes_found : (changes : Changes) → outputs_changed wanted.leaves wanted.tells_sizes (plain_problem updating.base) (plain_problem updating.new) ≡ Ok (changed_outputs_in changes)
+  pub changes_found : (changes : Changes) → outputs_changed wanted.leaves wanted.tells (plain_problem updating.base) (plain_problem updating.new) ≡ Ok (changed_outputs_in changes)
       → AreChanges changes
       → SplitsChangedTicks (plain_problem updating.base) (plain_problem updating.new) (encounters_of (list_anew (plain_problem updating.base) (plain_problem updating.new)))
       → All (HasNearest (plain_problem updating.new)) (encounters_of (list_anew (plain_problem updating.base) (plain_problem updating.new)))
@@ -86,7 +89,7 @@ module _ (rescreening : Rescreening) (updating : Updating) (now : ℕ) (wanted :
         ends : Unit {0};
         told : outputs_updated now (plain_rescreening rescreening) (plain_updating updating) ≡ Ok (changed_outputs_in changes);
         due : AreChanges changes;
-        shows : (files : List FileBytes) → cases_asked files (plain_rescreening rescreening) ≡ Ok (plain_updating updating)
+        shows : (files : List FileBytes) → cases_covered files (plain_rescreening rescreening) ≡ Ok (plain_updating updating)
             → ShowsDue (Rescreens (plain_rescreening rescreening)) files (Changed changes);
       }
   changes_found changes told found split nearest still =
@@ -101,23 +104,25 @@ module _ (rescreening : Rescreening) (updating : Updating) (now : ℕ) (wanted :
           changed = λ same. record {
             cases = plain_updating updating;
             read = read;
+            whole = whole_windows files (plain_rescreening rescreening) (plain_updating updating) read;
             split = split;
             nearest = nearest;
+            covered = covers_exactly new;
             still_so = still;
-            outputs = changed_outputs wanted.leaves wanted.tells_sizes old new (changed_outputs_in changes) told
-                ∙ ap (λ (b : Bool). outputs_of_changes b new (kept_unchanged old new) (list_anew old new)) tells;
+            outputs = changed_outputs wanted.leaves wanted.tells old new (changed_outputs_in changes) told
+                ∙ ap (λ (t : Tells). outputs_of_changes t new (kept_unchanged old new) (list_anew old new)) tells;
           };
         };
       }
 
-  pub changes_fail : (s : Status) → Stops ⊥ s (outputs_changed wanted.leaves wanted.tells_sizes (plain_problem updating.base) (plain_problem updating.new)) → record {
+  pub changes_fail : (s : Status) → Stops ⊥ s (outputs_changed wanted.leaves wanted.tells (plain_problem updating.base) (plain_problem updating.new)) → record {
     ends : ComesOfSelfrun s;
     told : Stops ⊥ s (outputs_updated now (plain_rescreening rescreening) (plain_updating updating));
     due : Unit {0};
-    shows : (files : List FileBytes) → cases_asked files (plain_rescreening rescreening) ≡ Ok (plain_updating updating) → Unit {0};
+    shows : (files : List FileBytes) → cases_covered files (plain_rescreening rescreening) ≡ Ok (plain_updating updating) → Unit {0};
   }
   changes_fail s told = record {
-    ends = changed_ends wanted.leaves wanted.tells_sizes (plain_problem updating.base) (plain_problem updating.new) s told;
+    ends = changed_ends wanted.leaves wanted.tells (plain_problem updating.base) (plain_problem updating.new) s told;
     told = subst (λ (r : Result (List FileBytes) Status). Stops ⊥ s r) (sym theirs) told;
     due = tt;
     shows = λ files read. tt;
@@ -126,45 +131,46 @@ module _ (rescreening : Rescreening) (updating : Updating) (now : ℕ) (wanted :
 -- ---- all outputs
 
 -- only a limit ends what is due
-again_limits : (most : ℕ) (with_sizes : Bool) (version : CertVersion) (origin : PlainOrigin) (old new : PlainProblem) → IfErr (outputs_again most with_sizes version origin old new) IsLimit
+again_limits : (most : ℕ) (tells : Tells) (version : CertVersion) (origin : PlainOrigin) (old new : PlainProblem) → IfErr (outputs_again most tells version origin old new) IsLimit
 unfolding outputs_again
-again_limits most with_sizes version origin old new = by_base (nat_le (length (list_candidates old)) most)
+again_limits most tells version origin old new = by_base (nat_le (length (list_candidates old)) most)
   where
     due : Result (List FileBytes) Status
-    due = outputs_within most with_sizes version origin (kept_line (kept_unchanged old new)) new
+    due = outputs_within most tells version origin (kept_line (kept_unchanged old new)) new
 
     by_base : (b : Bool) → IfErr (cond b (Ok (list_candidates old)) (Err (status.Limit (limit.Cells most))) >>= λ base. due) IsLimit
-    by_base true = within_limits_of most with_sizes version origin (kept_line (kept_unchanged old new)) new
+    by_base true = within_limits_of most tells version origin (kept_line (kept_unchanged old new)) new
     by_base false = tt
 
-again_ends : (most : ℕ) (with_sizes : Bool) (version : CertVersion) (origin : PlainOrigin) (old new : PlainProblem) (s : Status)
-    → Stops ⊥ s (outputs_again most with_sizes version origin old new) → ComesOfSelfrun s
-again_ends most with_sizes version origin old new s stops = comes_of_selfrun {X = List FileBytes} ⊥ (λ outputs. outputs) (Err s) (outputs_again most with_sizes version origin old new) (λ none. none) stops (again_limits most with_sizes version origin old new)
+again_ends : (most : ℕ) (tells : Tells) (version : CertVersion) (origin : PlainOrigin) (old new : PlainProblem) (s : Status)
+    → Stops ⊥ s (outputs_again most tells version origin old new) → ComesOfSelfrun s
+again_ends most tells version origin old new s stops = comes_of_selfrun {X = List FileBytes} ⊥ (λ outputs. outputs) (Err s) (outputs_again most tells version origin old new) (λ none. none) stops (again_limits most tells version origin old new)
 
 module _ (rescreening : Rescreening) (updating : Updating) (wanted : Wanted) (is : rescreening.changed ≡ false)
-    (tells : wanted.tells_sizes ≡ tells_sizes (plain_settings rescreening.screening.settings)) (of_version : wanted.version ≡ rescreening.screening.version)
+    (tells : wanted.tells ≡ tells_of (plain_settings rescreening.screening.settings)) (of_version : wanted.version ≡ rescreening.screening.version)
     (leaves : wanted.leaves ≡ rescreening.screening.cells) where
   all_theirs : (now : ℕ) → outputs_updated now (plain_rescreening rescreening) (plain_updating updating)
-      ≡ outputs_again wanted.leaves wanted.tells_sizes wanted.version (origin_of now (plain_screening rescreening.screening)) (plain_problem updating.base) (plain_problem updating.new)
+      ≡ outputs_again wanted.leaves wanted.tells wanted.version (origin_of now (plain_screening rescreening.screening)) (plain_problem updating.base) (plain_problem updating.new)
   all_theirs now =
       let old = plain_problem updating.base in
       let new = plain_problem updating.new in
       let origin = origin_of now (plain_screening rescreening.screening) in
-      let asked = tells_sizes (plain_settings rescreening.screening.settings) in
+      let asked = tells_of (plain_settings rescreening.screening.settings) in
       rw is (ap (λ (n : ℕ). outputs_again n asked rescreening.screening.version origin old new) (sym leaves)
-      ∙ ap (λ (b : Bool). outputs_again wanted.leaves b rescreening.screening.version origin old new) (sym tells)
-      ∙ ap (λ (v : CertVersion). outputs_again wanted.leaves wanted.tells_sizes v origin old new) (sym of_version))
+      ∙ ap (λ (t : Tells). outputs_again wanted.leaves t rescreening.screening.version origin old new) (sym tells)
+      ∙ ap (λ (v : CertVersion). outputs_again wanted.leaves wanted.tells v origin old new) (sym of_version))
 
   pub all_found : (now : Tick) (found : Findings) (origin : Origin) → plain_origin origin ≡ origin_of now.micros (plain_screening rescreening.screening)
-      → ((o : PlainOrigin) → outputs_again wanted.leaves wanted.tells_sizes wanted.version o (plain_problem updating.base) (plain_problem updating.new) ≡ Ok (outputs_in o found))
+      → ((o : PlainOrigin) → outputs_again wanted.leaves wanted.tells wanted.version o (plain_problem updating.base) (plain_problem updating.new) ≡ Ok (outputs_in o found))
       → AreFound found
-      → ((settings : PlainSettings) → wanted.tells_sizes ≡ tells_sizes settings → ReportsOf settings (plain_problem updating.new) (report_in found).bytes (cert_in found).bytes)
-      → summary_in found ≡ summary_with (kept_line (kept_unchanged (plain_problem updating.base) (plain_problem updating.new))) (plain_problem updating.new) (list_candidates (plain_problem updating.new))
+      → ((settings : PlainSettings) → wanted.tells ≡ tells_of settings → ReportsOf settings (plain_problem updating.new) (report_in found).bytes (cert_in found).bytes)
+      → summary_in found ≡ summary_with (kept_line (kept_unchanged (plain_problem updating.base) (plain_problem updating.new)) ++ uncovered_told wanted.tells (plain_problem updating.new))
+      (plain_problem updating.new) (list_candidates (plain_problem updating.new))
       → record {
         ends : Unit {0};
         told : outputs_updated now.micros (plain_rescreening rescreening) (plain_updating updating) ≡ Ok (outputs_in (plain_origin origin) found);
         due : AreFound found;
-        shows : (files : List FileBytes) → cases_asked files (plain_rescreening rescreening) ≡ Ok (plain_updating updating)
+        shows : (files : List FileBytes) → cases_covered files (plain_rescreening rescreening) ≡ Ok (plain_updating updating)
             → ShowsDue (Rescreens (plain_rescreening rescreening)) files (Screened found origin);
       }
   all_found now found origin made told are reports summary =
@@ -176,24 +182,26 @@ module _ (rescreening : Rescreening) (updating : Updating) (wanted : Wanted) (is
           whole = λ same. record {
             cases = plain_updating updating;
             read = read;
+            whole = whole_windows files (plain_rescreening rescreening) (plain_updating updating) read;
             report = reports (plain_settings rescreening.screening.settings) tells;
-            summary = summary;
+            summary = summary ∙ ap (λ (t : Tells). summary_with (kept_line (kept_unchanged (plain_problem updating.base) (plain_problem updating.new)) ++ uncovered_told t (plain_problem updating.new))
+                (plain_problem updating.new) (list_candidates (plain_problem updating.new))) tells;
           };
           changed = λ other. let wrong = sym is ∙ other in absurd cc;
         };
       }
 
   pub all_fail : (now : ℕ) (s : Status)
-      → ((o : PlainOrigin) → Stops ⊥ s (outputs_again wanted.leaves wanted.tells_sizes wanted.version o (plain_problem updating.base) (plain_problem updating.new))) → record {
+      → ((o : PlainOrigin) → Stops ⊥ s (outputs_again wanted.leaves wanted.tells wanted.version o (plain_problem updating.base) (plain_problem updating.new))) → record {
         ends : ComesOfSelfrun s;
         told : Stops ⊥ s (outputs_updated now (plain_rescreening rescreening) (plain_updating updating));
         due : Unit {0};
-        shows : (files : List FileBytes) → cases_asked files (plain_rescreening rescreening) ≡ Ok (plain_updating updating) → Unit {0};
+        shows : (files : List FileBytes) → cases_covered files (plain_rescreening rescreening) ≡ Ok (plain_updating updating) → Unit {0};
       }
   all_fail now s told =
       let origin = origin_of now (plain_screening rescreening.screening) in
       record {
-        ends = again_ends wanted.leaves wanted.tells_sizes wanted.version origin (plain_problem updating.base) (plain_problem updating.new) s (told origin);
+        ends = again_ends wanted.leaves wanted.tells wanted.version origin (plain_problem updating.base) (plain_problem updating.new) s (told origin);
         told = subst (λ (r : Result (List FileBytes) Status). Stops ⊥ s r) (sym (all_theirs now)) (told origin);
         due = tt;
         shows = λ files read. tt;

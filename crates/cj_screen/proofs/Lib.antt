@@ -1,4 +1,5 @@
 pub mod AgainLemmas
+pub mod CoverLemmas
 pub mod RelativeLemmas
 pub mod ReportLemmas
 pub mod RescreenLemmas

@@ -1,5 +1,5 @@
 -- What the outputs that are due say.
-use Rattle.std.proofs.Common.{◌≡◌, ℕ, ◌<◌, List, Bool, true, false, Result, Ok, Err, refl, sym, ap, subst, ◌∙◌, length, ◌≤◌, arith}
+use Rattle.std.proofs.Common.{◌≡◌, ℕ, ◌<◌, List, true, false, Result, Ok, Err, refl, sym, ap, subst, ◌∙◌, length, ◌≤◌, arith}
 use Rattle.std.specs.Prelude.{nat_le, IfOk, OnOk}
 use Rattle.std.proofs.lemmas.Bool.Decides.{nat_tests}
 use Rattle.cj_io.specs.declared.file.FileBytes.{FileBytes}
@@ -18,11 +18,13 @@ use Rattle.cj_status.specs.Steps.{◌>>=◌, ComesBetween, Stops}
 use Rattle.cj_screen.specs.Errors.{refined_status}
 use Rattle.cj_outputs.specs.Again.{IsAcceptedLater}
 use Rattle.cj_outputs.specs.Messages.{PlainOrigin}
-use Rattle.cj_inputs.specs.Cases.{case_asked}
+use Rattle.cj_inputs.specs.Coverings.{case_covered}
 use Rattle.cj_outputs.specs.Outcome.{cert_bytes, outputs_with, outputs_within, within_cells}
 use Rattle.cj_outputs.specs.Findings.{AreFound, case_in, cert_in, lines_of, outputs_in, report_in}
 use Rattle.cj_outputs.proofs.AcceptingLemmas.{stops_then}
 use Rattle.cj_screen.specs.Headline.{Reports, ReportsOf}
+use Rattle.cj_report.specs.declared.tells.Tells.{Tells}
+use Rattle.cj_screen.proofs.CoverLemmas.{whole_window}
 
 -- what ends the search for leaves is no read
 pub never_read : {A B : Type 0} (s : Status) (r : Result A Status) → Stops ⊥ s r → ¬ ◌≡◌ {A = Result B Status} (Err s) (Err status.ReadFault)
@@ -47,46 +49,47 @@ between_refined limit refine.Memory = tt
 between_refined limit refine.TooMany = tt
 
 -- the outputs of a case, of its leaves
-pub outputs_of_leaves : (limit : ℕ) (with_sizes : Bool) (version : CertVersion) (origin : PlainOrigin) (behind : List ℕ) (case : PlainProblem) (leaves : List PlainLeaf)
+pub outputs_of_leaves : (limit : ℕ) (tells : Tells) (version : CertVersion) (origin : PlainOrigin) (behind : List ℕ) (case : PlainProblem) (leaves : List PlainLeaf)
     → within_cells limit (list_candidates case) ≡ Ok leaves
-    → outputs_within limit with_sizes version origin behind case ≡ Ok (outputs_with with_sizes version origin behind case leaves)
+    → outputs_within limit tells version origin behind case ≡ Ok (outputs_with tells version origin behind case leaves)
 unfolding outputs_within
-outputs_of_leaves limit with_sizes version origin behind case leaves same =
-    ap (λ (r : Result (List PlainLeaf) Status). r >>= λ ss. Ok (outputs_with with_sizes version origin behind case ss)) same
+outputs_of_leaves limit tells version origin behind case leaves same =
+    ap (λ (r : Result (List PlainLeaf) Status). r >>= λ ss. Ok (outputs_with tells version origin behind case ss)) same
 
 -- what ends the search for the leaves ends that for the outputs
-pub outputs_stop : (limit : ℕ) (with_sizes : Bool) (version : CertVersion) (origin : PlainOrigin) (behind : List ℕ) (case : PlainProblem) (s : Status)
+pub outputs_stop : (limit : ℕ) (tells : Tells) (version : CertVersion) (origin : PlainOrigin) (behind : List ℕ) (case : PlainProblem) (s : Status)
     → Stops ⊥ s (within_cells limit (list_candidates case))
-    → Stops ⊥ s (outputs_within limit with_sizes version origin behind case)
+    → Stops ⊥ s (outputs_within limit tells version origin behind case)
 unfolding outputs_within
-outputs_stop limit with_sizes version origin behind case s =
-    stops_then ⊥ s (within_cells limit (list_candidates case)) (λ ss. Ok (outputs_with with_sizes version origin behind case ss))
+outputs_stop limit tells version origin behind case s =
+    stops_then ⊥ s (within_cells limit (list_candidates case)) (λ ss. Ok (outputs_with tells version origin behind case ss))
 
 -- the outputs of what is found in a case
 pub same_outputs : (wanted : Wanted) (origin : PlainOrigin) (behind : List ℕ) (case : PlainProblem) (found : Findings) → case_in found ≡ case → found.wanted ≡ wanted → lines_of found.behind ≡ behind
-    → AreFound found → outputs_with wanted.tells_sizes wanted.version origin behind case (list_candidates case) ≡ outputs_in origin found
+    → AreFound found → outputs_with wanted.tells wanted.version origin behind case (list_candidates case) ≡ outputs_in origin found
 same_outputs wanted origin behind case found same as_wanted lines are =
-    sym (ap (λ (ss : List PlainLeaf). outputs_with found.wanted.tells_sizes found.wanted.version origin (lines_of found.behind) (case_in found) ss) are.leaves
-    ∙ ap (λ (c : PlainProblem). outputs_with found.wanted.tells_sizes found.wanted.version origin (lines_of found.behind) c (list_candidates c)) same
-    ∙ ap (λ (w : Wanted). outputs_with w.tells_sizes w.version origin (lines_of found.behind) case (list_candidates case)) as_wanted
-    ∙ ap (λ (b : List ℕ). outputs_with wanted.tells_sizes wanted.version origin b case (list_candidates case)) lines)
+    sym (ap (λ (ss : List PlainLeaf). outputs_with found.wanted.tells found.wanted.version origin (lines_of found.behind) (case_in found) ss) are.leaves
+    ∙ ap (λ (c : PlainProblem). outputs_with found.wanted.tells found.wanted.version origin (lines_of found.behind) c (list_candidates c)) same
+    ∙ ap (λ (w : Wanted). outputs_with w.tells w.version origin (lines_of found.behind) case (list_candidates case)) as_wanted
+    ∙ ap (λ (b : List ℕ). outputs_with wanted.tells wanted.version origin b case (list_candidates case)) lines)
 
 -- what is found is what is due
 pub outputs_told : (wanted : Wanted) (origin : PlainOrigin) (behind : List ℕ) (case : PlainProblem) (found : Findings) → within_cells wanted.leaves (list_candidates case) ≡ Ok (list_candidates case)
     → case_in found ≡ case → found.wanted ≡ wanted → lines_of found.behind ≡ behind → AreFound found
-    → outputs_within wanted.leaves wanted.tells_sizes wanted.version origin behind case ≡ Ok (outputs_in origin found)
+    → outputs_within wanted.leaves wanted.tells wanted.version origin behind case ≡ Ok (outputs_in origin found)
 outputs_told wanted origin behind case found within same as_wanted lines are =
-    outputs_of_leaves wanted.leaves wanted.tells_sizes wanted.version origin behind case (list_candidates case) within
+    outputs_of_leaves wanted.leaves wanted.tells wanted.version origin behind case (list_candidates case) within
     ∙ ap (λ (outputs : List FileBytes). Ok outputs) (same_outputs wanted origin behind case found same as_wanted lines are)
 
 -- the report of findings is that of the case that was asked
-pub reports : (files : List FileBytes) (settings : PlainSettings) (version : CertVersion) (case : PlainProblem) → case_asked files settings ≡ Ok case → (r : Result Findings Status)
+pub reports : (files : List FileBytes) (settings : PlainSettings) (version : CertVersion) (case : PlainProblem) → case_covered files settings ≡ Ok case → (r : Result Findings Status)
     → IfOk r (λ found. ReportsOf settings case (report_in found).bytes (cert_in found).bytes) → IfOk r (λ found. case_in found ≡ case)
     → IfOk r (λ found. found.wanted.version ≡ version) → OnOk r (IsAcceptedLater settings files (cert_bytes version case))
     → IfOk r (λ found. Reports settings files (report_in found).bytes (cert_in found).bytes)
 reports files settings version case read (Ok found) of_case same told later = record {
   case = case;
   read = read;
+  whole = whole_window files settings case read;
   of_case = of_case;
   later = subst (λ (n : CertVersion). IsAcceptedLater settings files (cert_bytes n (case_in found))) (sym told)
       (subst (λ (c : PlainProblem). IsAcceptedLater settings files (cert_bytes version c)) (sym same) later);

@@ -22,7 +22,7 @@ use Rattle.cj_hermite.specs.Interpolant.{Curve}
 use Rattle.cj_hermite.specs.ObjectsAtTicks.{OfObjectsAt}
 use Rattle.cj_hermite.specs.Pieces.{OfBothAt}
 use Rattle.cj_bezier.specs.Candidates.{is_candidate}
-use Rattle.cj_bezier.proofs.TrueLeafLemmas.{tells_of, outside_of}
+use Rattle.cj_bezier.proofs.TrueLeafLemmas.{tells_of as leaf_tells, outside_of}
 use Rattle.cj_case.specs.Cells.{PlainCell}
 use Rattle.cj_hermite.specs.Roots.{roots_of}
 use Rattle.cj_hermite.proofs.RootLemmas.{Each-roots}
@@ -49,17 +49,20 @@ use Rattle.cj_inputs.specs.declared.input_files.Entry.{Entry}
 use Rattle.cj_inputs.specs.Cases.{object_slots, within_limits, within_objects, within_slots, within_window}
 use Rattle.cj_inputs.specs.ObjectSizes.{first_named, refused_sizes, sizes_asked, sizes_at, sizes_of_file}
 use Rattle.cj_inputs.specs.Readings.{checked_after, has_frame_of, nodes_in, reading_after, reading_of, readings_after, refused_of, same_frame_as, within_bytes, within_nodes}
+use Rattle.cj_coverage.specs.Coverage.{first_uncovered}
+use Rattle.cj_inputs.specs.Coverings.{all_cover, cases_covered, covering, whole_or}
 use Rattle.cj_inputs.specs.Updates.{PlainUpdating, base_of, both_within, cases_asked, cases_of_run, larger, read_as, said_behind, tracks_updated, update_after, updated_name, updated_of, updated_with, updates_after, updates_of}
 use Rattle.cj_outputs.specs.declared.findings.Findings.{Findings}
 use Rattle.cj_outputs.specs.declared.wanted.Wanted.{Wanted}
 use Rattle.cj_outputs.specs.Findings.{AreFound, case_in, lines_of, outputs_in, summary_in}
 use Rattle.cj_outputs.specs.Messages.{PlainOrigin}
-use Rattle.cj_outputs.specs.Outcome.{EndsRescreening, kept_unchanged, list_anew, origin_of, outputs_again, outputs_changed, outputs_of, outputs_of_changes, outputs_rescreened, outputs_updated, outputs_with, outputs_within, summary_with, tells_sizes, within_cells}
+use Rattle.cj_outputs.specs.Outcome.{EndsRescreening, kept_unchanged, list_anew, origin_of, outputs_again, outputs_changed, outputs_of, outputs_of_changes, outputs_rescreened, outputs_updated, outputs_with, outputs_within, summary_with, tells_of, within_cells, uncovered_told}
 use Rattle.cj_outputs.specs.SpanSplits.{SplitsChangedTicks, StillSo}
 use Rattle.cj_outputs.proofs.AcceptingLemmas.{stops_then}
 use Rattle.cj_screen.specs.Refining.{HoldsChangedTicks, leaves_within}
 use Rattle.cj_screen.proofs.ReportLemmas.{few_leaves, same_outputs}
 use Rattle.cj_screen.proofs.SplitLemmas.{all_true}
+use Rattle.cj_report.specs.declared.tells.Tells.{Tells}
 
 -- ---- no certificate is judged
 
@@ -168,6 +171,25 @@ never_asked files asked =
     (then (within_window case) (within_slots most) (limited (nat_le (case.last - case.first) 1_209_600_000_000) case (limit.Window (case.last - case.first)))
     (λ c. limited (nat_le (object_slots c) most) c (limit.Slots (object_slots c)))) (λ large. tt)))
 
+-- so are those that cover what they have to
+never_covered : (files : List FileBytes) (asked : PlainRescreening) → IfErr (cases_covered files asked) EndsRescreening
+unfolding cases_covered
+never_covered files asked =
+    then (cases_asked files asked) (λ cases. covering asked.screening.settings.must_cover cases.new >>= λ done. Ok cases) (never_asked files asked)
+    (λ cases. then (covering asked.screening.settings.must_cover cases.new) (λ done. Ok cases) (judged asked.screening.settings.must_cover cases.new) (λ done. tt))
+  where
+    one : (file : List ℕ) (o : Option ℕ) → IfErr (whole_or file o) EndsRescreening
+    one file None = tt
+    one file (Some micros) = tt
+
+    each : (first last : ℕ) (es : List PlainTrack) → IfErr (all_cover first last es) EndsRescreening
+    each first last [] = tt
+    each first last (e ∷ es) = then (whole_or e.file (first_uncovered e first last)) (λ done. all_cover first last es) (one e.file (first_uncovered e first last)) (λ done. each first last es)
+
+    judged : (b : Bool) (case : PlainProblem) → IfErr (covering b case) EndsRescreening
+    judged false case = tt
+    judged true case = each case.first case.last case.tracks
+
 -- the outputs are due, or such a cause stands
 few_or_not : (b : Bool) (most : ℕ) (leaves : List PlainLeaf) (outputs : List PlainLeaf → Result (List FileBytes) Status) → ((ss : List PlainLeaf) → IfErr (outputs ss) EndsRescreening)
     → IfErr (cond b (Ok leaves) (Err (status.Limit (limit.Cells most))) >>= outputs) EndsRescreening
@@ -181,29 +203,29 @@ never_updated now asked cases = by_kind asked.changed
     cells : ℕ
     cells = asked.screening.cells
 
-    sizes : Bool
-    sizes = tells_sizes asked.screening.settings
+    tells : Tells
+    tells = tells_of asked.screening.settings
 
     origin : PlainOrigin
     origin = origin_of now asked.screening
 
     all : Result (List FileBytes) Status
-    all = outputs_again cells sizes asked.screening.version origin cases.base cases.new
+    all = outputs_again cells tells asked.screening.version origin cases.base cases.new
 
-    by_kind : (b : Bool) → IfErr (cond b (outputs_changed cells sizes cases.base cases.new) all) EndsRescreening
+    by_kind : (b : Bool) → IfErr (cond b (outputs_changed cells tells cases.base cases.new) all) EndsRescreening
     by_kind true =
         few_or_not (nat_le (length (list_anew cases.base cases.new)) cells) cells (list_anew cases.base cases.new)
-        (λ leaves. Ok (outputs_of_changes sizes cases.new (kept_unchanged cases.base cases.new) leaves)) (λ leaves. tt)
+        (λ leaves. Ok (outputs_of_changes tells cases.new (kept_unchanged cases.base cases.new) leaves)) (λ leaves. tt)
     by_kind false =
         few_or_not (nat_le (length (list_candidates cases.base)) cells) cells (list_candidates cases.base)
-        (λ base. outputs_within cells sizes asked.screening.version origin (kept_line (kept_unchanged cases.base cases.new)) cases.new)
+        (λ base. outputs_within cells tells asked.screening.version origin (kept_line (kept_unchanged cases.base cases.new)) cases.new)
         (λ base. few_or_not (nat_le (length (list_candidates cases.new)) cells) cells (list_candidates cases.new)
-        (λ leaves. Ok (outputs_with sizes asked.screening.version origin (kept_line (kept_unchanged cases.base cases.new)) cases.new leaves)) (λ leaves. tt))
+        (λ leaves. Ok (outputs_with tells asked.screening.version origin (kept_line (kept_unchanged cases.base cases.new)) cases.new leaves)) (λ leaves. tt))
 
 never_due : (words : List (List ℕ)) (files : List FileBytes) (now : ℕ) (asked : PlainRescreening) → command_of words ≡ Ok (Rescreens asked) → IfErr (outputs_of words files now) EndsRescreening
 unfolding outputs_of outputs_rescreened
 never_due words files now asked is =
-    rw is (then (cases_asked files asked) (λ cases. outputs_updated now asked cases) (never_asked files asked) (λ cases. never_updated now asked cases))
+    rw is (then (cases_covered files asked) (λ cases. outputs_updated now asked cases) (never_covered files asked) (λ cases. never_updated now asked cases))
 
 -- what ends such a run before its writes
 pub stopped_rescreening : (read : Type 0) (words : List (List ℕ)) (files : List FileBytes) (now : ℕ) (asked : PlainRescreening) (s : Status) → command_of words ≡ Ok (Rescreens asked)
@@ -254,14 +276,14 @@ pub new_stops : (limit : ℕ) (old new : PlainProblem) (ss : List PlainLeaf) (s 
 new_stops limit old new ss s base stops = rw base stops
 
 -- what is due comes of both
-again_of_leaves : (most : ℕ) (with_sizes : Bool) (version : CertVersion) (origin : PlainOrigin) (old new : PlainProblem)
-    → outputs_again most with_sizes version origin old new
-    ≡ (leaves_within most old new >>= λ leaves. Ok (outputs_with with_sizes version origin (kept_line (kept_unchanged old new)) new leaves))
+again_of_leaves : (most : ℕ) (tells : Tells) (version : CertVersion) (origin : PlainOrigin) (old new : PlainProblem)
+    → outputs_again most tells version origin old new
+    ≡ (leaves_within most old new >>= λ leaves. Ok (outputs_with tells version origin (kept_line (kept_unchanged old new)) new leaves))
 unfolding outputs_again outputs_within
-again_of_leaves most with_sizes version origin old new = by_base (nat_le (length (list_candidates old)) most)
+again_of_leaves most tells version origin old new = by_base (nat_le (length (list_candidates old)) most)
   where
     outputs : List PlainLeaf → Result (List FileBytes) Status
-    outputs leaves = Ok (outputs_with with_sizes version origin (kept_line (kept_unchanged old new)) new leaves)
+    outputs leaves = Ok (outputs_with tells version origin (kept_line (kept_unchanged old new)) new leaves)
 
     by_base : (b : Bool) → (cond b (Ok (list_candidates old)) (Err (status.Limit (limit.Cells most))) >>= λ base. within_cells most (list_candidates new) >>= outputs)
         ≡ ((cond b (Ok (list_candidates old)) (Err (status.Limit (limit.Cells most))) >>= λ base. within_cells most (list_candidates new)) >>= outputs)
@@ -269,28 +291,29 @@ again_of_leaves most with_sizes version origin old new = by_base (nat_le (length
     by_base false = refl
 
 pub again_stops : (wanted : Wanted) (origin : PlainOrigin) (old new : PlainProblem) (s : Status) → Stops ⊥ s (leaves_within wanted.leaves old new)
-    → Stops ⊥ s (outputs_again wanted.leaves wanted.tells_sizes wanted.version origin old new)
+    → Stops ⊥ s (outputs_again wanted.leaves wanted.tells wanted.version origin old new)
 again_stops wanted origin old new s stops =
-    let outputs = λ (leaves : List PlainLeaf). Ok (outputs_with wanted.tells_sizes wanted.version origin (kept_line (kept_unchanged old new)) new leaves) in
-    subst (λ (r : Result (List FileBytes) Status). Stops ⊥ s r) (sym (again_of_leaves wanted.leaves wanted.tells_sizes wanted.version origin old new))
+    let outputs = λ (leaves : List PlainLeaf). Ok (outputs_with wanted.tells wanted.version origin (kept_line (kept_unchanged old new)) new leaves) in
+    subst (λ (r : Result (List FileBytes) Status). Stops ⊥ s r) (sym (again_of_leaves wanted.leaves wanted.tells wanted.version origin old new))
     (stops_then ⊥ s (leaves_within wanted.leaves old new) outputs stops)
 
 pub again_told : (wanted : Wanted) (origin : PlainOrigin) (old new : PlainProblem) (found : Findings) → leaves_within wanted.leaves old new ≡ Ok (list_candidates new) → case_in found ≡ new
     → found.wanted ≡ wanted → lines_of found.behind ≡ kept_line (kept_unchanged old new) → AreFound found
-    → outputs_again wanted.leaves wanted.tells_sizes wanted.version origin old new ≡ Ok (outputs_in origin found)
+    → outputs_again wanted.leaves wanted.tells wanted.version origin old new ≡ Ok (outputs_in origin found)
 again_told wanted origin old new found within same as_wanted lines are =
     let behind = kept_line (kept_unchanged old new) in
-    again_of_leaves wanted.leaves wanted.tells_sizes wanted.version origin old new
-    ∙ ap (λ (r : Result (List PlainLeaf) Status). r >>= λ leaves. Ok (outputs_with wanted.tells_sizes wanted.version origin behind new leaves)) within
+    again_of_leaves wanted.leaves wanted.tells wanted.version origin old new
+    ∙ ap (λ (r : Result (List PlainLeaf) Status). r >>= λ leaves. Ok (outputs_with wanted.tells wanted.version origin behind new leaves)) within
     ∙ ap (λ (outputs : List FileBytes). Ok outputs) (same_outputs wanted origin behind new found same as_wanted lines are)
 
 -- the summary of what is found
-pub summary_told : (behind : List ℕ) (case : PlainProblem) (found : Findings) → case_in found ≡ case → lines_of found.behind ≡ behind → AreFound found
-    → summary_in found ≡ summary_with behind case (list_candidates case)
-summary_told behind case found same lines are =
-    ap (λ (ss : List PlainLeaf). summary_with (lines_of found.behind) (case_in found) ss) are.leaves
-    ∙ ap (λ (c : PlainProblem). summary_with (lines_of found.behind) c (list_candidates c)) same
-    ∙ ap (λ (b : List ℕ). summary_with b case (list_candidates case)) lines
+pub summary_told : (wanted : Wanted) (behind : List ℕ) (case : PlainProblem) (found : Findings) → case_in found ≡ case → found.wanted ≡ wanted → lines_of found.behind ≡ behind → AreFound found
+    → summary_in found ≡ summary_with (behind ++ uncovered_told wanted.tells case) case (list_candidates case)
+summary_told wanted behind case found same as_wanted lines are =
+    ap (λ (ss : List PlainLeaf). summary_with (lines_of found.behind ++ uncovered_told found.wanted.tells (case_in found)) (case_in found) ss) are.leaves
+    ∙ ap (λ (c : PlainProblem). summary_with (lines_of found.behind ++ uncovered_told found.wanted.tells c) c (list_candidates c)) same
+    ∙ ap (λ (w : Wanted). summary_with (lines_of found.behind ++ uncovered_told w.tells case) case (list_candidates case)) as_wanted
+    ∙ ap (λ (b : List ℕ). summary_with (b ++ uncovered_told wanted.tells case) case (list_candidates case)) lines
 
 -- ---- the pairs that are not unchanged
 
@@ -309,9 +332,9 @@ changed_splits old new ss same ticks spans =
     let exact : HaveExactSpans all = subst HaveExactSpans same spans in
     record {
       near = λ a b m here.
-          let told = tells_of new all Near a b m true_all ((exact.near a b m).0 here) in (told.common, told.holds);
+          let told = leaf_tells new all Near a b m true_all ((exact.near a b m).0 here) in (told.common, told.holds);
       undecided = λ a b m here.
-          let told = tells_of new all Undecided a b m true_all ((exact.undecided a b m).0 here) in (told.common, told.holds);
+          let told = leaf_tells new all Undecided a b m true_all ((exact.undecided a b m).0 here) in (told.common, told.holds);
       outside = λ a b m other common near undecided.
           let slot = slot_of new.first m in
           outside_of new all a b m (is_candidate new a b slot) true_all
@@ -336,17 +359,17 @@ anew_roots old new roots same =
     omega (arith, roots_split new (roots_of candidate new) (Each-roots candidate new), ap (λ (rs : List PlainCell). length rs) same)
 
 -- what is due of them
-pub changed_leaves : (most : ℕ) (with_sizes : Bool) (old new : PlainProblem) (ss : List PlainLeaf) → within_cells most (list_anew old new) ≡ Ok ss
-    → outputs_changed most with_sizes old new ≡ Ok (outputs_of_changes with_sizes new (kept_unchanged old new) ss)
+pub changed_leaves : (most : ℕ) (tells : Tells) (old new : PlainProblem) (ss : List PlainLeaf) → within_cells most (list_anew old new) ≡ Ok ss
+    → outputs_changed most tells old new ≡ Ok (outputs_of_changes tells new (kept_unchanged old new) ss)
 unfolding outputs_changed
-changed_leaves most with_sizes old new ss there =
-    ap (λ (r : Result (List PlainLeaf) Status). r >>= λ leaves. Ok (outputs_of_changes with_sizes new (kept_unchanged old new) leaves)) there
+changed_leaves most tells old new ss there =
+    ap (λ (r : Result (List PlainLeaf) Status). r >>= λ leaves. Ok (outputs_of_changes tells new (kept_unchanged old new) leaves)) there
 
-pub changed_stops : (most : ℕ) (with_sizes : Bool) (old new : PlainProblem) (s : Status) → Stops ⊥ s (within_cells most (list_anew old new))
-    → Stops ⊥ s (outputs_changed most with_sizes old new)
+pub changed_stops : (most : ℕ) (tells : Tells) (old new : PlainProblem) (s : Status) → Stops ⊥ s (within_cells most (list_anew old new))
+    → Stops ⊥ s (outputs_changed most tells old new)
 unfolding outputs_changed
-changed_stops most with_sizes old new s =
-    stops_then ⊥ s (within_cells most (list_anew old new)) (λ leaves. Ok (outputs_of_changes with_sizes new (kept_unchanged old new) leaves))
+changed_stops most tells old new s =
+    stops_then ⊥ s (within_cells most (list_anew old new)) (λ leaves. Ok (outputs_of_changes tells new (kept_unchanged old new) leaves))
 
 -- ---- what stays so
 

@@ -21,8 +21,8 @@ use Rattle.cj_base.specs.Limits.{USUAL}
 use Rattle.cj_inputs.specs.declared.lone_tracks.LoneTracks.{LoneTracks}
 use Rattle.cj_inputs.specs.Alone.{plain_tracks, tracks_asked}
 use Rattle.cj_inputs.specs.declared.updating.Updating.{Updating}
-use Rattle.cj_inputs.specs.Cases.{case_asked}
-use Rattle.cj_inputs.specs.Updates.{PlainUpdating, cases_asked, plain_updating}
+use Rattle.cj_inputs.specs.Coverings.{case_covered, cases_covered}
+use Rattle.cj_inputs.specs.Updates.{PlainUpdating, plain_updating}
 use Rattle.cj_report.specs.Summary.{kept_line}
 use Rattle.cj_status.specs.declared.status.Status.{Status}
 use Rattle.cj_status.specs.declared.status.Status.TheVariants as status
@@ -34,7 +34,7 @@ use Rattle.cj_outputs.specs.declared.origin.Origin.{Origin}
 use Rattle.cj_outputs.specs.Findings.{cert_in, ended, messages_in, outputs_in, report_in, summary_in}
 use Rattle.cj_outputs.specs.Messages.{PlainOrigin}
 use Rattle.cj_outputs.specs.Origins.{plain_origin}
-use Rattle.cj_outputs.specs.Outcome.{AreOutputs, AreTooManyCells, ComesOfPuts, ComesOfSelfrun, EndsMaking, EndsRescreening, EndsSelfrun, kept_unchanged, list_anew, origin_of, outputs_again, outputs_changed, outputs_made, outputs_of_changes, outputs_renewed, outputs_rescreened, outputs_screened, outputs_updated, outputs_with, outputs_within, tells_sizes}
+use Rattle.cj_outputs.specs.Outcome.{AreOutputs, AreTooManyCells, ComesOfPuts, ComesOfSelfrun, EndsMaking, EndsRescreening, EndsSelfrun, kept_unchanged, list_anew, origin_of, outputs_again, outputs_changed, outputs_made, outputs_of_changes, outputs_renewed, outputs_rescreened, outputs_screened, outputs_updated, outputs_with, outputs_within, tells_of}
 use Rattle.cj_outputs.specs.Rewrites.{IsRewritten}
 use Rattle.cj_outputs.specs.Thinned.{length_of, outputs_thinned, outputs_with_fewer}
 use Rattle.cj_outputs.specs.Thinnings.{IsThinned}
@@ -49,6 +49,7 @@ use Rattle.cj_screen.specs.Results.{ChangesDue, RenewsDue, ReportsDue, Rescreens
 use Rattle.cj_screen.specs.declared.task.Task.{Task}
 use Rattle.cj_screen.specs.declared.task.Task.TheVariants.{Screen, Accept, Make, Selfrun, Renew, Thin, Rescreen}
 use Rattle.cj_screen.specs.Tasks.{ComesOfSearch, ComesToTask, EndsTask, IsDone, IsDoneAgain, IsMaking, IsSelfrun, Readies, ReadsNothing, outputs_of_task, puts_files}
+use Rattle.cj_report.specs.declared.tells.Tells.{Tells}
 
 -- ---- what is read
 
@@ -58,19 +59,19 @@ the_first (inl p) none = p
 the_first (inr q) none = absurd (none q)
 
 -- the outputs of a screening are those of its case
-pub screened_case : (files : List FileBytes) (now : ℕ) (screening : PlainScreening) (case : PlainProblem) → case_asked files screening.settings ≡ Ok case
-    → outputs_screened files now screening ≡ outputs_within screening.cells (tells_sizes screening.settings) screening.version (origin_of now screening) [] case
+pub screened_case : (files : List FileBytes) (now : ℕ) (screening : PlainScreening) (case : PlainProblem) → case_covered files screening.settings ≡ Ok case
+    → outputs_screened files now screening ≡ outputs_within screening.cells (tells_of screening.settings) screening.version (origin_of now screening) [] case
 unfolding outputs_screened
 screened_case files now screening case read =
-    ap (λ (r : Result PlainProblem Status). r >>= λ c. outputs_within screening.cells (tells_sizes screening.settings) screening.version (origin_of now screening) [] c) read
+    ap (λ (r : Result PlainProblem Status). r >>= λ c. outputs_within screening.cells (tells_of screening.settings) screening.version (origin_of now screening) [] c) read
 
 -- where there is no case there are none
-pub no_case : (read : Type 0) (files : List FileBytes) (now : ℕ) (screening : PlainScreening) (s : Status) → Stops read s (case_asked files screening.settings)
+pub no_case : (read : Type 0) (files : List FileBytes) (now : ℕ) (screening : PlainScreening) (s : Status) → Stops read s (case_covered files screening.settings)
     → Stops read s (outputs_screened files now screening)
 unfolding outputs_screened
 no_case read files now screening s stops =
-    stops_then read s (case_asked files screening.settings)
-    (λ case. outputs_within screening.cells (tells_sizes screening.settings) screening.version (origin_of now screening) [] case) stops
+    stops_then read s (case_covered files screening.settings)
+    (λ case. outputs_within screening.cells (tells_of screening.settings) screening.version (origin_of now screening) [] case) stops
 
 -- the outputs of a thinning are those of its tracks
 pub thinned_tracks : (files : List FileBytes) (thinning : PlainThinning) (tracks : List PlainTrack) → tracks_asked USUAL files thinning ≡ Ok tracks
@@ -84,15 +85,15 @@ unfolding outputs_thinned
 no_tracks read files thinning s stops = stops_then read s (tracks_asked USUAL files thinning) (λ tracks. Ok (outputs_with_fewer (length_of thinning) tracks)) stops
 
 -- the outputs of a screening again are those of its cases
-pub rescreened_cases : (files : List FileBytes) (now : ℕ) (asked : PlainRescreening) (cases : PlainUpdating) → cases_asked files asked ≡ Ok cases
+pub rescreened_cases : (files : List FileBytes) (now : ℕ) (asked : PlainRescreening) (cases : PlainUpdating) → cases_covered files asked ≡ Ok cases
     → outputs_rescreened files now asked ≡ outputs_updated now asked cases
 unfolding outputs_rescreened
 rescreened_cases files now asked cases read = ap (λ (r : Result PlainUpdating Status). r >>= λ c. outputs_updated now asked c) read
 
 -- where there are no cases there are none
-pub no_cases : (read : Type 0) (files : List FileBytes) (now : ℕ) (asked : PlainRescreening) (s : Status) → Stops read s (cases_asked files asked) → Stops read s (outputs_rescreened files now asked)
+pub no_cases : (read : Type 0) (files : List FileBytes) (now : ℕ) (asked : PlainRescreening) (s : Status) → Stops read s (cases_covered files asked) → Stops read s (outputs_rescreened files now asked)
 unfolding outputs_rescreened
-no_cases read files now asked s stops = stops_then read s (cases_asked files asked) (λ cases. outputs_updated now asked cases) stops
+no_cases read files now asked s stops = stops_then read s (cases_covered files asked) (λ cases. outputs_updated now asked cases) stops
 
 -- where no read counts, none failed
 pub calm_read : (asked : Result PlainCommand UsageFault) (s : Status) (rose : Type 0) → (¬ rose) ⊎ ReadsNothing asked
@@ -117,30 +118,30 @@ few_or_many : (b : Bool) (limit : ℕ) (leaves : List PlainLeaf) (outputs : List
 few_or_many true limit leaves outputs = inl (outputs leaves, refl)
 few_or_many false limit leaves outputs = inr (limit, refl)
 
-within_or_many : (limit : ℕ) (with_sizes : Bool) (version : CertVersion) (origin : PlainOrigin) (behind : List ℕ) (case : PlainProblem)
-    → AreOutputs (outputs_within limit with_sizes version origin behind case) ⊎ AreTooManyCells (outputs_within limit with_sizes version origin behind case)
+within_or_many : (limit : ℕ) (tells : Tells) (version : CertVersion) (origin : PlainOrigin) (behind : List ℕ) (case : PlainProblem)
+    → AreOutputs (outputs_within limit tells version origin behind case) ⊎ AreTooManyCells (outputs_within limit tells version origin behind case)
 unfolding outputs_within
-within_or_many limit with_sizes version origin behind case =
-    few_or_many (nat_le (length (list_candidates case)) limit) limit (list_candidates case) (λ leaves. outputs_with with_sizes version origin behind case leaves)
+within_or_many limit tells version origin behind case =
+    few_or_many (nat_le (length (list_candidates case)) limit) limit (list_candidates case) (λ leaves. outputs_with tells version origin behind case leaves)
 
 -- the same of a screening again, where the leaves of the base files are counted first
-again_or_many : (limit : ℕ) (with_sizes : Bool) (version : CertVersion) (origin : PlainOrigin) (old new : PlainProblem)
-    → AreOutputs (outputs_again limit with_sizes version origin old new) ⊎ AreTooManyCells (outputs_again limit with_sizes version origin old new)
+again_or_many : (limit : ℕ) (tells : Tells) (version : CertVersion) (origin : PlainOrigin) (old new : PlainProblem)
+    → AreOutputs (outputs_again limit tells version origin old new) ⊎ AreTooManyCells (outputs_again limit tells version origin old new)
 unfolding outputs_again
-again_or_many limit with_sizes version origin old new = by_base (nat_le (length (list_candidates old)) limit)
+again_or_many limit tells version origin old new = by_base (nat_le (length (list_candidates old)) limit)
   where
     due : Result (List FileBytes) Status
-    due = outputs_within limit with_sizes version origin (kept_line (kept_unchanged old new)) new
+    due = outputs_within limit tells version origin (kept_line (kept_unchanged old new)) new
 
     by_base : (b : Bool) → AreOutputs ((if b then Ok (list_candidates old) else Err (status.Limit (Cells limit))) >>= λ base. due)
         ⊎ AreTooManyCells ((if b then Ok (list_candidates old) else Err (status.Limit (Cells limit))) >>= λ base. due)
-    by_base true = within_or_many limit with_sizes version origin (kept_line (kept_unchanged old new)) new
+    by_base true = within_or_many limit tells version origin (kept_line (kept_unchanged old new)) new
     by_base false = inr (limit, refl)
 
-changed_or_many : (limit : ℕ) (with_sizes : Bool) (old new : PlainProblem) → AreOutputs (outputs_changed limit with_sizes old new) ⊎ AreTooManyCells (outputs_changed limit with_sizes old new)
+changed_or_many : (limit : ℕ) (tells : Tells) (old new : PlainProblem) → AreOutputs (outputs_changed limit tells old new) ⊎ AreTooManyCells (outputs_changed limit tells old new)
 unfolding outputs_changed
-changed_or_many limit with_sizes old new =
-    few_or_many (nat_le (length (list_anew old new)) limit) limit (list_anew old new) (λ leaves. outputs_of_changes with_sizes new (kept_unchanged old new) leaves)
+changed_or_many limit tells old new =
+    few_or_many (nat_le (length (list_anew old new)) limit) limit (list_anew old new) (λ leaves. outputs_of_changes tells new (kept_unchanged old new) leaves)
 
 updated_or_many : (now : ℕ) (asked : PlainRescreening) (cases : PlainUpdating) → AreOutputs (outputs_updated now asked cases) ⊎ AreTooManyCells (outputs_updated now asked cases)
 updated_or_many now asked cases = by_kind asked.changed
@@ -148,21 +149,21 @@ updated_or_many now asked cases = by_kind asked.changed
     cells : ℕ
     cells = asked.screening.cells
 
-    with_sizes : Bool
-    with_sizes = tells_sizes asked.screening.settings
+    tells : Tells
+    tells = tells_of asked.screening.settings
 
     all : Result (List FileBytes) Status
-    all = outputs_again cells with_sizes asked.screening.version (origin_of now asked.screening) cases.base cases.new
+    all = outputs_again cells tells asked.screening.version (origin_of now asked.screening) cases.base cases.new
 
-    by_kind : (b : Bool) → AreOutputs (if b then outputs_changed cells with_sizes cases.base cases.new else all)
-        ⊎ AreTooManyCells (if b then outputs_changed cells with_sizes cases.base cases.new else all)
-    by_kind true = changed_or_many cells with_sizes cases.base cases.new
-    by_kind false = again_or_many cells with_sizes asked.screening.version (origin_of now asked.screening) cases.base cases.new
+    by_kind : (b : Bool) → AreOutputs (if b then outputs_changed cells tells cases.base cases.new else all)
+        ⊎ AreTooManyCells (if b then outputs_changed cells tells cases.base cases.new else all)
+    by_kind true = changed_or_many cells tells cases.base cases.new
+    by_kind false = again_or_many cells tells asked.screening.version (origin_of now asked.screening) cases.base cases.new
 
 -- of a task that puts files outputs are due, or there are too many leaves
 pub due_or_many : (now : ℕ) (task : Task) → IsTrue (puts_files task) → AreOutputs (outputs_of_task now task) ⊎ AreTooManyCells (outputs_of_task now task)
 due_or_many now (Screen problem screening) files =
-    within_or_many screening.cells (tells_sizes (plain_settings screening.settings)) screening.version (origin_of now (plain_screening screening)) [] (plain_problem problem)
+    within_or_many screening.cells (tells_of (plain_settings screening.settings)) screening.version (origin_of now (plain_screening screening)) [] (plain_problem problem)
 due_or_many now Accept files = absurd cc
 due_or_many now (Make recipe) files = inl (outputs_made (catalogue_of recipe.seed recipe.objects recipe.minutes), refl)
 due_or_many now (Selfrun selfrun) files = absurd cc
@@ -186,12 +187,12 @@ counted_ends b limit leaves outputs (status.Limit fault) stops = tt
 counted_ends b limit leaves outputs status.OutOfMemory stops = tt
 
 -- only a limit and want of memory end a screening's search
-pub search_ends : (limit : ℕ) (with_sizes : Bool) (version : CertVersion) (origin : PlainOrigin) (behind : List ℕ) (case : PlainProblem) (r : Result Findings Status)
-    → Gives ⊥ (outputs_in origin) r (outputs_within limit with_sizes version origin behind case) → IfErr r ComesOfSelfrun
+pub search_ends : (limit : ℕ) (tells : Tells) (version : CertVersion) (origin : PlainOrigin) (behind : List ℕ) (case : PlainProblem) (r : Result Findings Status)
+    → Gives ⊥ (outputs_in origin) r (outputs_within limit tells version origin behind case) → IfErr r ComesOfSelfrun
 unfolding outputs_within
-search_ends limit with_sizes version origin behind case (Ok found) gives = tt
-search_ends limit with_sizes version origin behind case (Err s) gives =
-    counted_ends (nat_le (length (list_candidates case)) limit) limit (list_candidates case) (λ leaves. outputs_with with_sizes version origin behind case leaves) s gives
+search_ends limit tells version origin behind case (Ok found) gives = tt
+search_ends limit tells version origin behind case (Err s) gives =
+    counted_ends (nat_le (length (list_candidates case)) limit) limit (list_candidates case) (λ leaves. outputs_with tells version origin behind case leaves) s gives
 
 pub comes_of_search : (task : Task) (s : Status) → ¬ IsMaking task → ComesOfSelfrun s → ComesOfSearch task s
 comes_of_search task status.Ok other comes = comes
@@ -207,18 +208,18 @@ comes_of_search task status.OutOfMemory other comes = tt
 
 -- the files are those whose case is asked
 pub asked_case : (screening : kept_screening.Screening) (asked : PlainScreening) (files : List FileBytes) (problem : Problem) (found : Findings)
-    → (case_asked files asked.settings ≡ Ok (plain_problem problem)) × (plain_screening screening ≡ asked)
-    → (case_asked files (plain_settings screening.settings) ≡ Ok (plain_problem problem)
+    → (case_covered files asked.settings ≡ Ok (plain_problem problem)) × (plain_screening screening ≡ asked)
+    → (case_covered files (plain_settings screening.settings) ≡ Ok (plain_problem problem)
     → Reports (plain_settings screening.settings) files (report_in found).bytes (cert_in found).bytes)
     → Reports asked.settings files (report_in found).bytes (cert_in found).bytes
 asked_case screening asked files problem found readies reports =
     let same : plain_settings screening.settings ≡ asked.settings = ap (λ (s : PlainScreening). s.settings) readies.1 in
     subst (λ (settings : PlainSettings). Reports settings files (report_in found).bytes (cert_in found).bytes) same
-    (reports (subst (λ (settings : PlainSettings). case_asked files settings ≡ Ok (plain_problem problem)) (sym same) readies.0))
+    (reports (subst (λ (settings : PlainSettings). case_covered files settings ≡ Ok (plain_problem problem)) (sym same) readies.0))
 
 pub shows_screened : (command : PlainCommand) (files : List FileBytes) (problem : Problem) (screening : kept_screening.Screening) (found : Findings) (origin : Origin)
     → Readies command files (Screen problem screening)
-    → (case_asked files (plain_settings screening.settings) ≡ Ok (plain_problem problem)
+    → (case_covered files (plain_settings screening.settings) ≡ Ok (plain_problem problem)
     → Reports (plain_settings screening.settings) files (report_in found).bytes (cert_in found).bytes)
     → ShowsDue command files (Screened found origin)
 shows_screened (Screens asked) files problem screening found origin readies reports = asked_case screening asked files problem found readies reports
@@ -232,7 +233,7 @@ shows_screened (Rescreens rescreening) files problem screening found origin read
 -- what is due of a screening again, whichever it is
 pub shows_again : (command : PlainCommand) (files : List FileBytes) (updating : Updating) (rescreening : kept_rescreening.Rescreening) (results : Results)
     → Readies command files (Rescreen updating rescreening)
-    → (cases_asked files (plain_rescreening rescreening) ≡ Ok (plain_updating updating) → ShowsDue (Rescreens (plain_rescreening rescreening)) files results)
+    → (cases_covered files (plain_rescreening rescreening) ≡ Ok (plain_updating updating) → ShowsDue (Rescreens (plain_rescreening rescreening)) files results)
     → ShowsDue command files results
 shows_again (Screens screening) files updating rescreening results readies shows = absurd readies
 shows_again (Checks checking) files updating rescreening results readies shows = absurd readies
@@ -242,11 +243,11 @@ shows_again (Rewrites checking) files updating rescreening results readies shows
 shows_again (Thins thinning) files updating rescreening results readies shows = absurd readies
 shows_again (Rescreens asked) files updating rescreening results readies shows =
     subst (λ (a : PlainRescreening). ShowsDue (Rescreens a) files results) readies.1
-    (shows (subst (λ (a : PlainRescreening). cases_asked files a ≡ Ok (plain_updating updating)) (sym readies.1) readies.0))
+    (shows (subst (λ (a : PlainRescreening). cases_covered files a ≡ Ok (plain_updating updating)) (sym readies.1) readies.0))
 
 pub shown_again : (command : PlainCommand) (files : List FileBytes) (updating : Updating) (rescreening : kept_rescreening.Rescreening) (r : Result Results Status)
     → Readies command files (Rescreen updating rescreening)
-    → (cases_asked files (plain_rescreening rescreening) ≡ Ok (plain_updating updating) → IfOk r (ShowsDue (Rescreens (plain_rescreening rescreening)) files))
+    → (cases_covered files (plain_rescreening rescreening) ≡ Ok (plain_updating updating) → IfOk r (ShowsDue (Rescreens (plain_rescreening rescreening)) files))
     → IfOk r (ShowsDue command files)
 shown_again command files updating rescreening (Ok results) readies shows = shows_again command files updating rescreening results readies shows
 shown_again command files updating rescreening (Err s) readies shows = tt
@@ -407,6 +408,7 @@ rescreened : (asked : PlainRescreening) (files old : List FileBytes) (new : Opti
 rescreened asked files old new (Screened found origin) due put = record {
   cases = due.cases;
   read = due.read;
+  whole = due.whole;
   bytes = (report_in found).bytes;
   certificate = (cert_in found).bytes;
   report = due.report;
@@ -432,8 +434,10 @@ changed asked files old new (Thinned lone thinning) due put = absurd due
 changed asked files old new (Changed changes) due put = record {
   cases = due.cases;
   read = due.read;
+  whole = due.whole;
   split = due.split;
   nearest = due.nearest;
+  covered = due.covered;
   still_so = due.still_so;
   put = put ∙ ap (λ (outputs : List FileBytes). Some (old ++ outputs)) due.outputs;
 }

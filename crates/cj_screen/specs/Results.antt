@@ -1,10 +1,11 @@
 -- What a run is to put.
-use Rattle.std.specs.Prelude.{◌≡◌, true, false, List, [], ◌∷◌, All, Ok}
+use Rattle.std.specs.Prelude.{◌≡◌, true, false, List, [], ◌∷◌, ◌++◌, All, Ok}
 use Rattle.cj_io.specs.declared.file.FileBytes.{FileBytes}
 use Rattle.cj_cert.specs.Certificates.{plain_certificate}
 use Rattle.cj_cells.specs.Lists.{list_candidates}
 use Rattle.cj_inputs.specs.Alone.{plain_tracks}
-use Rattle.cj_inputs.specs.Updates.{PlainUpdating, cases_asked}
+use Rattle.cj_inputs.specs.Coverings.{cases_covered}
+use Rattle.cj_inputs.specs.Updates.{PlainUpdating}
 use Rattle.cj_meet.specs.Closest.{HasNearest}
 use Rattle.cj_meet.specs.Encounters.{encounters_of}
 use Rattle.cj_report.specs.Summary.{kept_line}
@@ -17,9 +18,9 @@ use Rattle.cj_outputs.specs.declared.findings.Findings.{Findings}
 use Rattle.cj_outputs.specs.Changes.{AreChanges, changed_outputs_in}
 use Rattle.cj_outputs.specs.Findings.{AreFound, cert_in, outputs_in, report_in, summary_in}
 use Rattle.cj_outputs.specs.Checks.{Vouches}
-use Rattle.cj_screen.specs.Headline.{Reports, ReportsOf}
+use Rattle.cj_screen.specs.Headline.{CoverAll, CoverExactly, Reports, ReportsOf}
 use Rattle.cj_outputs.specs.Origins.{plain_origin}
-use Rattle.cj_outputs.specs.Outcome.{accepted_output, kept_unchanged, list_anew, outputs_made, outputs_of_changes, outputs_renewed, summary_with, tells_sizes}
+use Rattle.cj_outputs.specs.Outcome.{accepted_output, kept_unchanged, list_anew, outputs_made, outputs_of_changes, outputs_renewed, summary_with, tells_of, uncovered_told}
 use Rattle.cj_outputs.specs.SpanSplits.{SplitsChangedTicks, StillSo}
 use Rattle.cj_outputs.specs.Rewrites.{Renews}
 use Rattle.cj_outputs.specs.Thinned.{length_of, outputs_with_fewer}
@@ -88,9 +89,12 @@ ThinsDue asked files (Changed changes) = ⊥
 -- They are the outputs of the updated files, and their report and certificate say of them what those of a screening say.
 pub record RescreensWith (asked : PlainRescreening) (files : List FileBytes) (found : Findings) : Type 0 where
   pub cases : PlainUpdating
-  pub read : cases_asked files asked ≡ Ok cases
+  pub read : cases_covered files asked ≡ Ok cases
+  pub whole : asked.screening.settings.must_cover ≡ true → CoverAll cases.new
   pub report : ReportsOf asked.screening.settings cases.new (report_in found).bytes (cert_in found).bytes
-  pub summary : summary_in found ≡ summary_with (kept_line (kept_unchanged cases.base cases.new)) cases.new (list_candidates cases.new)
+  pub summary : summary_in found
+      ≡ summary_with (kept_line (kept_unchanged cases.base cases.new) ++ uncovered_told (tells_of asked.screening.settings) cases.new) cases.new
+      (list_candidates cases.new)
 
 abbrev pub RescreensDue : PlainRescreening → List FileBytes → Results → Type 0
 RescreensDue asked files (Screened found origin) = RescreensWith asked files found
@@ -104,11 +108,13 @@ RescreensDue asked files (Changed changes) = ⊥
 -- They are the outputs of the pairs that are not unchanged, and say of them what those of a screening say.
 pub record ChangesWith (asked : PlainRescreening) (files : List FileBytes) (found : Changes) : Type 0 where
   pub cases : PlainUpdating
-  pub read : cases_asked files asked ≡ Ok cases
+  pub read : cases_covered files asked ≡ Ok cases
+  pub whole : asked.screening.settings.must_cover ≡ true → CoverAll cases.new
   pub split : SplitsChangedTicks cases.base cases.new (encounters_of (list_anew cases.base cases.new))
   pub nearest : All (HasNearest cases.new) (encounters_of (list_anew cases.base cases.new))
+  pub covered : CoverExactly cases.new
   pub still_so : StillSo cases.base cases.new
-  pub outputs : changed_outputs_in found ≡ outputs_of_changes (tells_sizes asked.screening.settings) cases.new (kept_unchanged cases.base cases.new)
+  pub outputs : changed_outputs_in found ≡ outputs_of_changes (tells_of asked.screening.settings) cases.new (kept_unchanged cases.base cases.new)
       (list_anew cases.base cases.new)
 
 abbrev pub ChangesDue : PlainRescreening → List FileBytes → Results → Type 0

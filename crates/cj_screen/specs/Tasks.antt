@@ -9,13 +9,13 @@ use Rattle.cj_words.specs.Commands.{PlainCommand, Screens, Checks, Generates, Se
 use Rattle.cj_words.specs.Settings.{plain_settings}
 use Rattle.cj_base.specs.Limits.{USUAL}
 use Rattle.cj_inputs.specs.Alone.{plain_tracks, tracks_asked}
-use Rattle.cj_inputs.specs.Cases.{case_asked}
-use Rattle.cj_inputs.specs.Updates.{cases_asked, plain_updating}
+use Rattle.cj_inputs.specs.Coverings.{case_covered, cases_covered}
+use Rattle.cj_inputs.specs.Updates.{plain_updating}
 use Rattle.cj_status.specs.declared.status.Status.{Status}
 use Rattle.cj_status.specs.declared.status.Status.TheVariants as status
 use Rattle.cj_status.specs.Steps.{Stops}
 use Rattle.cj_outputs.specs.Checks.{IsChecked, Vouches}
-use Rattle.cj_outputs.specs.Outcome.{accepted_output, origin_of, outputs_made, outputs_renewed, outputs_of_selfrun, outputs_updated, outputs_within, tells_sizes}
+use Rattle.cj_outputs.specs.Outcome.{accepted_output, origin_of, outputs_made, outputs_renewed, outputs_of_selfrun, outputs_updated, outputs_within, tells_of}
 use Rattle.cj_outputs.specs.Rewrites.{IsRewritten, Renews}
 use Rattle.cj_outputs.specs.Thinned.{length_of, outputs_with_fewer}
 use Rattle.cj_outputs.specs.Thinnings.{IsThinned}
@@ -36,7 +36,7 @@ puts_files (Rescreen updating rescreening) = true
 -- the outputs of a task at this tick, or the cause for which there are none
 abbrev pub outputs_of_task : ℕ → Task → Result (List FileBytes) Status
 outputs_of_task now (Screen problem screening) =
-    outputs_within screening.cells (tells_sizes (plain_settings screening.settings)) screening.version (origin_of now (plain_screening screening)) []
+    outputs_within screening.cells (tells_of (plain_settings screening.settings)) screening.version (origin_of now (plain_screening screening)) []
     (plain_problem problem)
 outputs_of_task now Accept = Ok (accepted_output ∷ [])
 outputs_of_task now (Make recipe) = Ok (outputs_made (catalogue_of recipe.seed recipe.objects recipe.minutes))
@@ -74,7 +74,7 @@ IsCalm words rose = (¬ rose) ⊎ ReadsNothing (command_of words)
 -- ---- what a task has of its command
 
 abbrev pub IsScreening : PlainScreening → List FileBytes → Task → Type 0
-IsScreening screening files (Screen problem asked) = (case_asked files screening.settings ≡ Ok (plain_problem problem)) × (plain_screening asked ≡ screening)
+IsScreening screening files (Screen problem asked) = (case_covered files screening.settings ≡ Ok (plain_problem problem)) × (plain_screening asked ≡ screening)
 IsScreening screening files Accept = ⊥
 IsScreening screening files (Make recipe) = ⊥
 IsScreening screening files (Selfrun selfrun) = ⊥
@@ -117,7 +117,7 @@ IsRescreening asked files (Selfrun selfrun) = ⊥
 IsRescreening asked files (Renew certificate) = ⊥
 IsRescreening asked files (Thin lone thinning) = ⊥
 IsRescreening asked files (Rescreen updating rescreening) =
-    (cases_asked files asked ≡ Ok (plain_updating updating)) × (plain_rescreening rescreening ≡ asked)
+    (cases_covered files asked ≡ Ok (plain_updating updating)) × (plain_rescreening rescreening ≡ asked)
 
 -- what was read of the files is what the command asks
 abbrev pub Readies : PlainCommand → List FileBytes → Task → Type 0

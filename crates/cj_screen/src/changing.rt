@@ -46,7 +46,7 @@ pub fn screen_changes<R: Threads + Wait + Sync, G: Gate + Sync>(
     ensures between { IfErr result ComesBetween }
     ensures read { result ≢ Err Status.ReadFault }
     ensures told { Gives ⊥ changed_outputs_in result
-        (spec.outputs_changed wanted.leaves wanted.tells_sizes (plain_problem updating.base) (plain_problem updating.new)) }
+        (spec.outputs_changed wanted.leaves wanted.tells (plain_problem updating.base) (plain_problem updating.new)) }
     ensures found { IfOk result AreChanges }
     ensures split { OnOk result (SplitsChangedTicks (plain_problem updating.base) (plain_problem updating.new)
         (encounters_of (spec.list_anew (plain_problem updating.base) (plain_problem updating.new)))) }
@@ -60,7 +60,7 @@ pub fn screen_changes<R: Threads + Wait + Sync, G: Gate + Sync>(
     let met = find_meetings(rt, alloc, gate, &new, &changed.leaves, wanted.workers)?;
     Ok(Changes {
         problem: new,
-        tells_sizes: wanted.tells_sizes,
+        tells: wanted.tells,
         leaves: changed.leaves,
         met,
         kept: changed.kept,

@@ -4,8 +4,8 @@ ghost use Rattle.cj_case.specs.Problems.{plain_problem};
 ghost use Rattle.cj_io.specs.declared.file.FileBytes.{FileBytes};
 ghost use Rattle.cj_words.specs.Commands.{PlainCommand, Rescreens, plain_rescreening, plain_screening};
 ghost use Rattle.cj_words.specs.Settings.{plain_settings};
-ghost use Rattle.cj_inputs.specs.Cases.{case_asked};
-ghost use Rattle.cj_inputs.specs.Updates.{cases_asked, plain_updating};
+ghost use Rattle.cj_inputs.specs.Coverings.{case_covered, cases_covered};
+ghost use Rattle.cj_inputs.specs.Updates.{plain_updating};
 ghost use Rattle.cj_outputs.specs.Findings.{AreFound, cert_in, outputs_in, report_in};
 ghost use Rattle.cj_outputs.specs.Outcome as spec;
 ghost use Rattle.cj_outputs.specs.Outcome.{ComesOfSelfrun};
@@ -84,10 +84,10 @@ fn find_encounters<R: Threads + Wait + Sync, G: Gate + Sync>(
     ensures ends { IfErr result ComesOfSelfrun }
     // At whatever tick the messages are made.
     ensures told { (now : ℕ) → Gives ⊥ (outputs_in (spec.origin_of now (plain_screening screening.now))) result
-        (spec.outputs_within screening.now.cells (spec.tells_sizes (plain_settings screening.now.settings)) screening.now.version
+        (spec.outputs_within screening.now.cells (spec.tells_of (plain_settings screening.now.settings)) screening.now.version
         (spec.origin_of now (plain_screening screening.now)) [] (plain_problem problem)) }
     ensures found { IfOk result AreFound }
-    ensures reports { (files : List FileBytes) → case_asked files (plain_settings screening.now.settings) ≡ Ok (plain_problem problem)
+    ensures reports { (files : List FileBytes) → case_covered files (plain_settings screening.now.settings) ≡ Ok (plain_problem problem)
         → IfOk result (λ found. Reports (plain_settings screening.now.settings) files (report_in found).bytes (cert_in found).bytes) }
 {
     screen(rt, alloc, gate, problem, Wanted::of(screening))
@@ -105,7 +105,7 @@ fn find_again<'w, R: Threads + Wait + Sync, G: Gate + Sync>(
     ensures ends { IfErr result ComesOfSelfrun }
     ensures told { Gives ⊥ outputs_due result (spec.outputs_updated now.micros (plain_rescreening rescreening.now) (plain_updating updating)) }
     ensures due { IfOk result AreDue }
-    ensures shows { (files : List FileBytes) → cases_asked files (plain_rescreening rescreening.now) ≡ Ok (plain_updating updating)
+    ensures shows { (files : List FileBytes) → cases_covered files (plain_rescreening rescreening.now) ≡ Ok (plain_updating updating)
         → IfOk result (ShowsDue (Rescreens (plain_rescreening rescreening.now)) files) }
 {
     let screening = &rescreening.screening;

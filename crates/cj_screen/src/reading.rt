@@ -10,7 +10,7 @@ ghost use Rattle.cj_status.specs.Steps.{ComesBefore, ComesBetween};
 
 use crate::task::Task;
 use cj_base::Limits;
-use cj_inputs::{prepare, prepare_update, read_alone};
+use cj_inputs::{prepare_rescreening, prepare_screening, read_alone};
 use cj_io::{Folder, Gate};
 use cj_outputs::{check_certificate, rewrite_certificate};
 use cj_status::Status;
@@ -65,7 +65,7 @@ fn read_asked<'w, R: Threads + Sync, F: Folder, G: Gate + Sync>(
 {
     match command {
         Command::Screen(screening) => {
-            let problem = prepare(
+            let problem = prepare_screening(
                 rt,
                 alloc,
                 gate,
@@ -90,7 +90,7 @@ fn read_asked<'w, R: Threads + Sync, F: Folder, G: Gate + Sync>(
             Ok(Task::Thin(lone, thinning))
         }
         Command::Rescreen(rescreening) => {
-            let updating = prepare_update(rt, alloc, gate, folder, &rescreening)?;
+            let updating = prepare_rescreening(rt, alloc, gate, folder, &rescreening)?;
             Ok(Task::Rescreen(updating, rescreening))
         }
     }

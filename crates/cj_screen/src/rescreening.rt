@@ -1,5 +1,5 @@
 //! From a problem before updates and the one after them to all that is found in the latter: of unchanged pairs it is carried over.
-ghost use Rattle.std.specs.Prelude.{◌≡◌, ◌≢◌, ◌<◌, ◌≤◌, Err, IfOk, IfErr, IsErrOf, OnOk, length, vec_len};
+ghost use Rattle.std.specs.Prelude.{◌≡◌, ◌≢◌, ◌<◌, ◌≤◌, ◌++◌, Err, IfOk, IfErr, IsErrOf, OnOk, length, vec_len};
 ghost use Rattle.cj_base.specs.Bounds.{MOST_LEAVES};
 ghost use Rattle.cj_candidates.specs.MeasuredObjects.{AreOfProblem};
 ghost use Rattle.cj_case.specs.Cells.{plain_cells};
@@ -56,13 +56,13 @@ pub fn rescreen<R: Threads + Wait + Sync, G: Gate + Sync>(
     ensures read { result ≢ Err Status.ReadFault }
     // Whenever and by whomever messages are made.
     ensures told { (origin : PlainOrigin) → Gives ⊥ (outputs_in origin) result
-        (spec.outputs_again wanted.leaves wanted.tells_sizes wanted.version origin (plain_problem updating.base) (plain_problem updating.new)) }
+        (spec.outputs_again wanted.leaves wanted.tells wanted.version origin (plain_problem updating.base) (plain_problem updating.new)) }
     ensures found { IfOk result AreFound }
-    ensures reports { (settings : PlainSettings) → wanted.tells_sizes ≡ spec.tells_sizes settings
+    ensures reports { (settings : PlainSettings) → wanted.tells ≡ spec.tells_of settings
         → IfOk result (λ found. ReportsOf settings (plain_problem updating.new) (report_in found).bytes (cert_in found).bytes) }
     ensures summary { IfOk result (λ found. summary_in found
-        ≡ spec.summary_with (kept_line (spec.kept_unchanged (plain_problem updating.base) (plain_problem updating.new))) (plain_problem updating.new)
-        (list_candidates (plain_problem updating.new))) }
+        ≡ spec.summary_with (kept_line (spec.kept_unchanged (plain_problem updating.base) (plain_problem updating.new))
+        ++ spec.uncovered_told wanted.tells (plain_problem updating.new)) (plain_problem updating.new) (list_candidates (plain_problem updating.new))) }
 {
     let Updating { base, new } = updating;
     let again = refine_again(rt, alloc, gate, &base, &new, wanted)?;

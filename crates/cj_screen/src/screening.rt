@@ -41,12 +41,12 @@ pub fn screen<R: Threads + Wait + Sync, G: Gate + Sync>(
     ensures read { result ≢ Err Status.ReadFault }
     // Whenever and by whomever messages are made.
     ensures told { (origin : PlainOrigin) → Gives ⊥ (outputs_in origin) result
-        (spec.outputs_within wanted.leaves wanted.tells_sizes wanted.version origin [] (plain_problem problem)) }
+        (spec.outputs_within wanted.leaves wanted.tells wanted.version origin [] (plain_problem problem)) }
     ensures same { IfOk result (λ found. found.problem ≡ problem) }
     ensures wanted { IfOk result (λ found. found.wanted ≡ wanted) }
     ensures behind { IfOk result (λ found. found.behind ≡ Nothing) }
     ensures found { IfOk result AreFound }
-    ensures reports { (settings : PlainSettings) → wanted.tells_sizes ≡ spec.tells_sizes settings
+    ensures reports { (settings : PlainSettings) → wanted.tells ≡ spec.tells_of settings
         → IfOk result (λ found. ReportsOf settings (plain_problem problem) (report_in found).bytes (cert_in found).bytes) }
     // Whatever files the problem is that of, within the usual limits.
     ensures later { (settings : PlainSettings) (files : List FileBytes) → case_asked files settings ≡ Ok (plain_problem problem)
@@ -76,7 +76,7 @@ pub fn tell<R: Threads + Sync, G: Gate + Sync>(
     ensures behind { IfOk result (λ found. found.behind ≡ behind) }
     ensures found { IfOk result AreFound }
     // Whatever the settings, if they name a file of sizes where the report tells them.
-    ensures reports { (settings : PlainSettings) → wanted.tells_sizes ≡ spec.tells_sizes settings
+    ensures reports { (settings : PlainSettings) → wanted.tells ≡ spec.tells_of settings
         → IfOk result (λ found. ReportsOf settings (plain_problem problem) (report_in found).bytes (cert_in found).bytes) }
 {
     acceptance(&problem);

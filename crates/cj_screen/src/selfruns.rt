@@ -18,6 +18,7 @@ use cj_gen::catalogue;
 use cj_inputs::prepare;
 use cj_io::{CalmFolder, Gate};
 use cj_outputs::{Behind, Findings, Wanted};
+use cj_report::Tells;
 use cj_status::Status;
 use cj_words::{Selfrun, Settings};
 use std::alloc::{AllocError, Global};
@@ -38,7 +39,10 @@ pub fn selfrun_catalogue<R: Threads + Wait + Sync, G: Gate + Sync>(
 {
     let problem = prepare_catalogue(rt, alloc, gate, selfrun)?;
     let wanted = Wanted {
-        tells_sizes: false,
+        tells: Tells {
+            sizes: false,
+            coverage: false,
+        },
         version: CertVersion::One,
         workers: selfrun.workers,
         leaves: selfrun.cells,
@@ -84,6 +88,8 @@ fn settings_of(selfrun: &Selfrun) -> Settings<'static>
         suffix: b".oem",
         as_hermite3: false,
         sizes: None,
+        coverage: false,
+        must_cover: false,
         limits: Limits::USUAL,
     }
 }

@@ -57,7 +57,8 @@ pub fn conj<R: Threads + Wait + Sync, F: Folder, S: StreamShelf, G: Gate + Sync>
         → IsCalm words.now (Rose (F.faults folder.old) (F.faults folder.new)) → ¬ Rose (S.faults shelf.old) (S.faults shelf.new)
         → (result ≡ Status.Ok) ⊎ (result ≡ Status.OutOfMemory) }
 
-    // With status 0 of a screening the report's spans split the common ticks of every pair by the exact distance. The certificate is accepted,
+    // With status 0 of a screening the report's spans split the common ticks of every pair by the exact distance. The covered spans that it may tell
+    // hold the ticks at which an object has a state, and no others: all of the window where it has to be covered. The certificate is accepted,
     // and acceptance implies such a split.
     ensures headline { (files outputs : List FileBytes) (screening : asks.PlainScreening) → F.files folder.old ≡ Some files → S.outputs shelf.old ≡ Some outputs
         → command_of words.now ≡ Ok (Screens screening) → result ≡ Status.Ok → IsScreened screening.settings files outputs (S.outputs shelf.new) }

@@ -2,10 +2,10 @@
 use crate::certificates::RESTING;
 use crate::runs::{file, run, told};
 use crate::scenes::{COVERED, CROSSING, Scene, files_of};
-use cj_advice::{Advice, Cause, EVERY, LimitCause, advice_on, cause_word};
+use cj_advice::{Advice, Cause, EVERY, FileReason, LimitCause, advice_on, cause_word};
 use cj_formats::CheckCause;
 use cj_io::FileBytes;
-use cj_status::{CertificateCause, FileCause};
+use cj_status::CertificateCause;
 use std::alloc::{AllocError, Global};
 use std::panic::Expect;
 use std::sync::Wait;
@@ -194,7 +194,7 @@ fn command_lines_that_are_shown_are_refused_with_the_cause(rt: HostRuntime) {
     }
     let lines: [(Cause, &[u8]); 4] = [
         (
-            Cause::File(FileCause::NoSizes),
+            Cause::File(FileReason::NoSizes),
             b"conj: radii.txt: line 0: NoSizes\n",
         ),
         (Cause::Words, b"conj: usage: Words\n"),

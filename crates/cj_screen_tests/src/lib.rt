@@ -12,6 +12,8 @@ mod certificates;
 #[cfg(test)]
 mod checks;
 #[cfg(test)]
+mod coverage;
+#[cfg(test)]
 mod cuts;
 #[cfg(test)]
 mod damages;
@@ -21,6 +23,8 @@ mod differing;
 mod directories;
 #[cfg(test)]
 mod failures;
+#[cfg(test)]
+mod many;
 #[cfg(test)]
 mod messages;
 #[cfg(test)]

@@ -1,8 +1,10 @@
 -- The lines that say why a run failed.
-use Rattle.std.specs.Prelude.{ℕ, ◌&&◌, nat_le, if◌then◌else◌, List, [], ◌∷◌, ◌++◌, map, codes}
+use Rattle.std.specs.Prelude.{ℕ, ◌&&◌, max, min, nat_le, if◌then◌else◌, List, [], ◌∷◌, ◌++◌, map, codes}
 use Rattle.std.specs.Fmt.{decimal}
+use Rattle.cj_base.specs.Ticks.{FIRST_TICK, LAST_TICK}
 use Rattle.cj_epoch.specs.declared.fault.EpochFault.{EpochFault}
 use Rattle.cj_epoch.specs.declared.fault.EpochFault.TheVariants as epoch
+use Rattle.cj_epoch.specs.Written.{epoch_of}
 use Rattle.cj_kvn.specs.declared.lines.KvnCause.{KvnCause}
 use Rattle.cj_kvn.specs.declared.lines.KvnCause.TheVariants as kvn
 use Rattle.cj_formats.specs.declared.oem_cause.OemCause.{OemCause}
@@ -21,7 +23,7 @@ use Rattle.cj_status.specs.declared.status.Status.TheVariants as status
 use Rattle.cj_status.specs.declared.status.CertificateCause.{CertificateCause}
 use Rattle.cj_status.specs.declared.status.CertificateCause.TheVariants.{NoFile, Text, Refused, NoReport, Report}
 use Rattle.cj_status.specs.declared.status.FileCause.{FileCause}
-use Rattle.cj_status.specs.declared.status.FileCause.TheVariants.{Oem, MixedFrames, Sizes, NoSizes}
+use Rattle.cj_status.specs.declared.status.FileCause.TheVariants.{Oem, MixedFrames, Sizes, NoSizes, Uncovered}
 use Rattle.cj_status.specs.declared.status.LimitFault.{LimitFault}
 use Rattle.cj_status.specs.declared.status.LimitFault.TheVariants.{Objects, FileBytes, Nodes, Window, Slots, Cells}
 
@@ -79,6 +81,15 @@ cause_text (Oem cause) = oem_text cause
 cause_text MixedFrames = codes "MixedFrames"
 cause_text (Sizes cause) = codes "Sizes " ++ sizes_text cause
 cause_text NoSizes = codes "NoSizes"
+cause_text (Uncovered micros) = codes "Uncovered"
+
+-- what a fault line names behind it: the tick, or the nearest where there is no such tick
+abbrev pub cause_rest : FileCause → List ℕ
+cause_rest (Oem cause) = []
+cause_rest MixedFrames = []
+cause_rest (Sizes cause) = []
+cause_rest NoSizes = []
+cause_rest (Uncovered micros) = codes " " ++ epoch_of (max FIRST_TICK (min LAST_TICK micros))
 
 -- the same of the text of a certificate
 abbrev pub cert_text : CertCause → List ℕ
@@ -120,12 +131,16 @@ limit_text (Window length) = codes "Window " ++ decimal length
 limit_text (Slots count) = codes "Slots " ++ decimal count
 limit_text (Cells limit) = codes "Cells " ++ decimal limit
 
+-- of a file that is refused: its name, the line, and what is wrong with it
+abbrev pub refused_body : List ℕ → ℕ → FileCause → List ℕ
+refused_body file line cause = shown_name file ++ codes ": line " ++ decimal line ++ codes ": " ++ cause_text cause ++ cause_rest cause
+
 -- what stands between `conj: ` and the end of the line
 abbrev pub fault_body : Status → List ℕ
 fault_body status.Ok = []
 fault_body (status.NotAccepted line cause) = codes "not accepted: line " ++ decimal line ++ codes ": " ++ certificate_text cause
 fault_body (status.Usage fault) = codes "usage: " ++ usage_text fault
-fault_body (status.BadFile file line cause) = shown_name file ++ codes ": line " ++ decimal line ++ codes ": " ++ cause_text cause
+fault_body (status.BadFile file line cause) = refused_body file line cause
 fault_body status.ReadFault = codes "read fault"
 fault_body status.WriteFault = codes "write fault"
 fault_body (status.Limit fault) = codes "limit: " ++ limit_text fault

@@ -1,11 +1,12 @@
 //! The line that says on standard error why a run failed.
 ghost use Rattle.std.specs.Prelude.{◌≡◌, ◌++◌, IfOk, OnOk, codes};
 ghost use Rattle.std.specs.Fmt.{decimal};
-ghost use Rattle.cj_status.specs.Faults.{line_of, fault_body, usage_text, limit_text, shown_byte, shown_name};
-ghost use Rattle.cj_status.specs.Faults.{cause_text, certificate_text, cert_text, check_text, oem_text, kvn_text, epoch_text, sizes_text};
+ghost use Rattle.cj_status.specs.Faults.{line_of, fault_body, refused_body, usage_text, limit_text, shown_byte, shown_name};
+ghost use Rattle.cj_status.specs.Faults.{cause_rest, cause_text, certificate_text, cert_text, check_text, oem_text, kvn_text, epoch_text, sizes_text};
 
 use crate::status::{CertificateCause, FileCause, LimitFault, Status};
-use cj_epoch::EpochFault;
+use cj_base::Tick;
+use cj_epoch::{EpochFault, epoch_text};
 use cj_formats::{CertCause, CheckCause, OemCause, SizesCause};
 use cj_kvn::KvnCause;
 use cj_words::{UsageFault, option_name};
@@ -41,13 +42,42 @@ fn push_fault(alloc: Global, text: &mut Vec<u8>, status: &Status) -> Result<(), 
         ),
         Status::Usage(fault) => push_usage(text, fault),
         Status::BadFile { file, line, cause } => {
-            push_name(text, file.as_slice())?;
-            push_place(alloc, text, b": line ", *line, cause_name(*cause))
+            push_refused(alloc, text, file.as_slice(), *line, *cause)
         }
         Status::ReadFault => text.extend_from_slice(b"read fault"),
         Status::WriteFault => text.extend_from_slice(b"write fault"),
         Status::Limit(fault) => push_limit(alloc, text, fault),
         Status::OutOfMemory => text.extend_from_slice(b"out of memory"),
+    }
+}
+
+/// The file that was refused, its line, and what is wrong with it.
+fn push_refused(
+    alloc: Global,
+    text: &mut Vec<u8>,
+    file: &[u8],
+    line: u32,
+    cause: FileCause,
+) -> Result<(), AllocError>
+    ensures { OnOk result (text.new.items ≡ text.old.items ++ refused_body file.now line cause) }
+{
+    push_name(text, file)?;
+    push_place(alloc, text, b": line ", line, cause_name(cause))?;
+    push_rest(text, cause)
+}
+
+/// What a fault line names behind a cause.
+fn push_rest(text: &mut Vec<u8>, cause: FileCause) -> Result<(), AllocError>
+    ensures { OnOk result (text.new.items ≡ text.old.items ++ cause_rest cause) }
+{
+    match cause {
+        FileCause::Uncovered { micros } => {
+            text.push(b' ')?;
+            text.extend_from_slice(&epoch_text(Tick::nearest(micros)))
+        }
+        FileCause::Oem(_) | FileCause::MixedFrames | FileCause::Sizes(_) | FileCause::NoSizes => {
+            Ok(())
+        }
     }
 }
 
@@ -106,7 +136,7 @@ fn check_name(cause: CheckCause) -> &'static [u8]
     }
 }
 
-/// The words that a fault line prints for a file that was refused.
+/// The words that a fault line prints for a file that was refused, without the tick behind them.
 pub fn cause_name(cause: FileCause) -> &'static [u8]
     ensures { result.now ≡ cause_text cause }
 {
@@ -115,6 +145,7 @@ pub fn cause_name(cause: FileCause) -> &'static [u8]
         FileCause::MixedFrames => b"MixedFrames",
         FileCause::Sizes(cause) => sizes_name(cause),
         FileCause::NoSizes => b"NoSizes",
+        FileCause::Uncovered { .. } => b"Uncovered",
     }
 }
 

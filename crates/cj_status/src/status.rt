@@ -16,6 +16,8 @@ pub enum FileCause {
     Sizes(SizesCause),
     /// No file has this name, which was given for the file of sizes.
     NoSizes,
+    /// Its object has to cover the window, and has no state at this tick of it, the first of such: so many microseconds since 1970.
+    Uncovered { micros: u64 },
 }
 
 /// Why a certificate, or the report beside it, was not accepted.

@@ -10,7 +10,7 @@ use Rattle.cj_epoch.specs.declared.fault.EpochFault.{EpochFault}
 use Rattle.cj_formats.specs.declared.cert_version.CertVersion.{CertVersion}
 use Rattle.cj_formats.specs.declared.cert_version.CertVersion.TheVariants.{One}
 use Rattle.cj_words.specs.declared.option.Opt.{Opt}
-use Rattle.cj_words.specs.declared.option.Opt.TheVariants.{From, To, Originator, Cells, AsHermite3, Sizes, CertVersion as Version, Rtn}
+use Rattle.cj_words.specs.declared.option.Opt.TheVariants.{From, To, Originator, Cells, AsHermite3, Sizes, CertVersion as Version, Rtn, Coverage, MustCover}
 use Rattle.cj_words.specs.declared.option.UsageFault.{UsageFault}
 use Rattle.cj_words.specs.Commands.{PlainScreening, screening_of, workers_of}
 use Rattle.cj_words.specs.Options.{Given, count_of, has_ends, is_given, is_named, value_of}
@@ -90,7 +90,18 @@ unsized_ends : (threshold : ℕ) (gs : List Given) (s : PlainSettings) → is_so
 unfolding unsized_of
 unsized_ends threshold gs s begins ends is =
     ends_made (value_of From gs) (value_of To gs) (suffix_of gs)
-    (λ from to suffix. record { threshold = threshold; from = from; to = to; suffix = suffix; as_hermite3 = is_given AsHermite3 gs; sizes = None; limits = USUAL }) s
+    (λ from to suffix. record {
+      threshold = threshold;
+      from = from;
+      to = to;
+      suffix = suffix;
+      as_hermite3 = is_given AsHermite3 gs;
+      sizes = None;
+      coverage = is_given Coverage gs;
+      must_cover = is_given MustCover gs;
+      limits = USUAL;
+    })
+    s
     (λ f t x. refl) (λ f t x. refl) begins ends is
 
 sized_ends : (some s : PlainSettings) (gs : List Given) → HasEnds some → sized_of some gs ≡ Ok s → HasEnds s

@@ -4,7 +4,7 @@ use Rattle.std.specs.List.{list_all, before_first, after_first}
 use Rattle.std.specs.Str.{bytes_eq}
 use Rattle.cj_kvn.specs.Lines.{is_equals}
 use Rattle.cj_words.specs.declared.option.Opt.{Opt}
-use Rattle.cj_words.specs.declared.option.Opt.TheVariants.{Threshold, Workers, From, To, Suffix, Cert, Originator, Cells, Seed, Objects, Minutes, AsHermite3, Sizes, CertVersion, Update, Changed, Report, Out, CertDir, Rtn, Within, Warnings, AllFaults}
+use Rattle.cj_words.specs.declared.option.Opt.TheVariants.{Threshold, Workers, From, To, Suffix, Cert, Originator, Cells, Seed, Objects, Minutes, AsHermite3, Sizes, CertVersion, Update, Changed, Report, Out, CertDir, Rtn, Coverage, MustCover, Within, Warnings, AllFaults}
 use Rattle.cj_words.specs.declared.command.Verb.{Verb}
 use Rattle.cj_words.specs.declared.command.Verb.TheVariants.{Screen, Check, Generate, Selfrun, Rewrite, Thin, Rescreen}
 
@@ -29,6 +29,8 @@ name_of Report = codes "--report"
 name_of Out = codes "--out"
 name_of CertDir = codes "--cert-dir"
 name_of Rtn = codes "--rtn"
+name_of Coverage = codes "--coverage"
+name_of MustCover = codes "--must-cover"
 name_of Within = codes "--within"
 name_of Warnings = codes "--warnings"
 name_of AllFaults = codes "--all-faults"
@@ -64,7 +66,9 @@ is_screening_name name =
     || (bytes_eq name (name_of Workers)
     || (bytes_eq name (name_of Originator)
     || (bytes_eq name (name_of Cells)
-    || (bytes_eq name (name_of CertVersion) || (bytes_eq name (name_of Out) || bytes_eq name (name_of Rtn))))))
+    || (bytes_eq name (name_of CertVersion)
+    || (bytes_eq name (name_of Out)
+    || (bytes_eq name (name_of Rtn) || (bytes_eq name (name_of Coverage) || bytes_eq name (name_of MustCover))))))))
 
 -- the name of an option of each command that checks the certificate of a directory
 abbrev pub is_checking_name : List ℕ → Bool
@@ -73,7 +77,7 @@ is_checking_name name = is_directory_name name || (bytes_eq name (name_of Cert) 
 -- the name of an option of the command
 abbrev pub is_name : Verb → List ℕ → Bool
 is_name Screen name = is_screening_name name
-is_name Check name = is_checking_name name || bytes_eq name (name_of Report)
+is_name Check name = is_checking_name name || (bytes_eq name (name_of Report) || bytes_eq name (name_of Coverage))
 is_name Generate name = is_catalogue_name name || bytes_eq name (name_of Out)
 is_name Selfrun name = bytes_eq name (name_of Threshold) || (bytes_eq name (name_of Workers) || (bytes_eq name (name_of Cells) || is_catalogue_name name))
 is_name Rewrite name = is_checking_name name || bytes_eq name (name_of Out)
@@ -84,7 +88,10 @@ is_name Rescreen name = is_screening_name name || (bytes_eq name (name_of Update
 
 -- the name of a flag: an option that has no value
 abbrev pub is_flag : List ℕ → Bool
-is_flag name = bytes_eq name (name_of AsHermite3) || (bytes_eq name (name_of Changed) || (bytes_eq name (name_of Rtn) || is_telling_name name))
+is_flag name =
+    bytes_eq name (name_of AsHermite3)
+    || (bytes_eq name (name_of Changed)
+    || (bytes_eq name (name_of Rtn) || (bytes_eq name (name_of Coverage) || (bytes_eq name (name_of MustCover) || is_telling_name name))))
 
 -- a word that may stand on its own as a directory or as a value: not empty, and no option
 abbrev pub is_value : List ℕ → Bool
@@ -176,25 +183,26 @@ are_directory_single givens =
 abbrev pub are_catalogue_single : List Given → Bool
 are_catalogue_single givens = is_single Seed givens && (is_single Objects givens && is_single Minutes givens)
 
+-- so does each option that says what is written and where
+abbrev pub are_results_single : List Given → Bool
+are_results_single givens =
+    is_single Originator givens
+    && (is_single CertVersion givens
+    && (is_single Report givens
+    && (is_single Out givens && (is_single CertDir givens && (is_single Rtn givens && is_single Coverage givens)))))
+
 -- so does each other option
 abbrev pub are_others_single : List Given → Bool
 are_others_single givens =
     is_single Workers givens
     && (is_single Cert givens
-    && (is_single Originator givens
     && (is_single Cells givens
-    && (is_single CertVersion givens
-    && (is_single Update givens
-    && (is_single Changed givens
-    && (is_single Report givens
-    && (is_single Out givens
-    && (is_single CertDir givens
-    && (is_single Rtn givens
-    && is_single Within givens))))))))))
+    && (is_single Update givens && (is_single Changed givens && (is_single MustCover givens && is_single Within givens)))))
 
 -- so does each
-abbrev pub are_single : List Given → Bool
-are_single givens = are_directory_single givens && (are_catalogue_single givens && are_others_single givens)
+unfoldable pub are_single : List Given → Bool
+are_single givens =
+    are_directory_single givens && (are_catalogue_single givens && (are_results_single givens && are_others_single givens))
 
 -- each is known and stands at most once
 abbrev pub are_options : Verb → List Given → Bool
@@ -220,12 +228,16 @@ has_ends givens = is_given From givens && is_given To givens
 abbrev pub shapes_outputs : List Given → Bool
 shapes_outputs givens = is_given Originator givens || (is_given CertVersion givens || is_given Rtn givens)
 
+-- a report is named where it is to tell which ticks each object covers
+abbrev pub has_report : List Given → Bool
+has_report givens = not (is_given Coverage givens) || is_given Report givens
+
 -- The options of a command go together. Screening again asks for both ends of the window; pairs that changed have neither messages nor a
--- certificate where they are told alone.
+-- certificate where they are told alone. What a check asks of a report asks for one.
 abbrev pub go_together : Verb → List Given → Bool
 go_together Rescreen givens = has_ends givens && not (is_given Changed givens && shapes_outputs givens)
 go_together Screen givens = true
-go_together Check givens = true
+go_together Check givens = has_report givens
 go_together Generate givens = true
 go_together Selfrun givens = true
 go_together Rewrite givens = true

@@ -16,13 +16,13 @@ use Rattle.cj_epoch.specs.declared.fault.EpochFault.{EpochFault}
 use Rattle.cj_words.specs.declared.option.Opt.{Opt}
 use Rattle.cj_words.specs.declared.option.UsageFault.{UsageFault}
 use Rattle.cj_words.specs.declared.option.UsageFault.TheVariants.{Value}
-use Rattle.cj_words.specs.declared.option.Opt.TheVariants.{Threshold, From, To, Suffix, AsHermite3, Sizes}
+use Rattle.cj_words.specs.declared.option.Opt.TheVariants.{Threshold, From, To, Suffix, AsHermite3, Sizes, Coverage, MustCover}
 use Rattle.cj_words.specs.declared.settings.Settings.{Settings}
 use Rattle.cj_words.specs.Options.{Given, value_of, is_given}
 
 -- settings: the threshold in metres, the ends of the window in ticks, where they are given, what the names of the files that are taken
--- end with, whether each file is taken as if it declared the cubic, the name of the file of sizes, where it is given, and how much a run
--- may take
+-- end with, whether each file is taken as if it declared the cubic, the name of the file of sizes, where it is given, whether the report
+-- tells which ticks each object covers, whether each has to cover the window, and how much a run may take
 pub record PlainSettings : Type 0 where
   pub threshold : ℕ
   pub from : Option ℕ
@@ -30,6 +30,8 @@ pub record PlainSettings : Type 0 where
   pub suffix : List ℕ
   pub as_hermite3 : Bool
   pub sizes : Option (List ℕ)
+  pub coverage : Bool
+  pub must_cover : Bool
   pub limits : PlainLimits
 
 -- the bytes of a text that is lent
@@ -45,6 +47,8 @@ plain_settings s = record {
   suffix = s.suffix.now;
   as_hermite3 = s.as_hermite3;
   sizes = option_copied s.sizes;
+  coverage = s.coverage;
+  must_cover = s.must_cover;
   limits = plain_limits s.limits;
 }
 
@@ -166,7 +170,17 @@ unsized_of threshold givens = do
   from ← in_range From (epoch_or (value_of From givens))
   to ← in_range To (not_before from (epoch_or (value_of To givens)))
   suffix ← suffix_of givens
-  Ok (record { threshold = threshold; from = from; to = to; suffix = suffix; as_hermite3 = is_given AsHermite3 givens; sizes = None; limits = USUAL })
+  Ok (record {
+    threshold = threshold;
+    from = from;
+    to = to;
+    suffix = suffix;
+    as_hermite3 = is_given AsHermite3 givens;
+    sizes = None;
+    coverage = is_given Coverage givens;
+    must_cover = is_given MustCover givens;
+    limits = USUAL;
+  })
 
 -- these settings with the file of sizes that options name, where they name one
 unfoldable pub sized_of : PlainSettings → List Given → Result PlainSettings UsageFault

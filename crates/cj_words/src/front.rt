@@ -46,6 +46,8 @@ fn is_flag(name: &[u8]) -> bool
     name == option_name(Opt::AsHermite3)
         || name == option_name(Opt::Changed)
         || name == option_name(Opt::Rtn)
+        || name == option_name(Opt::Coverage)
+        || name == option_name(Opt::MustCover)
         || is_telling(name)
 }
 

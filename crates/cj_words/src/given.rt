@@ -18,11 +18,15 @@ pub fn are_options(words: &[Word], verb: Verb) -> bool
     are_known(words, verb) && are_single(words) && go_together(words, verb)
 }
 
+#[tactic(auto, unfolding(crate::specs::Options::are_single))]
 fn are_single(words: &[Word]) -> bool
     requires { IsTrue (spec.are_listed (given_of words.now)) }
     ensures { result ≡ spec.are_single (listed (given_of words.now)) }
 {
-    are_directory_single(words) && are_catalogue_single(words) && are_others_single(words)
+    are_directory_single(words)
+        && are_catalogue_single(words)
+        && are_results_single(words)
+        && are_others_single(words)
 }
 
 /// Whether each option of the commands that read the files of a directory stands at most once.
@@ -48,6 +52,20 @@ fn are_catalogue_single(words: &[Word]) -> bool
     is_single(words, Opt::Seed) && is_single(words, Opt::Objects) && is_single(words, Opt::Minutes)
 }
 
+/// Whether each option that says what is written and where does.
+fn are_results_single(words: &[Word]) -> bool
+    requires { IsTrue (spec.are_listed (given_of words.now)) }
+    ensures { result ≡ spec.are_results_single (listed (given_of words.now)) }
+{
+    is_single(words, Opt::Originator)
+        && is_single(words, Opt::CertVersion)
+        && is_single(words, Opt::Report)
+        && is_single(words, Opt::Out)
+        && is_single(words, Opt::CertDir)
+        && is_single(words, Opt::Rtn)
+        && is_single(words, Opt::Coverage)
+}
+
 /// Whether each other option does.
 fn are_others_single(words: &[Word]) -> bool
     requires { IsTrue (spec.are_listed (given_of words.now)) }
@@ -55,15 +73,10 @@ fn are_others_single(words: &[Word]) -> bool
 {
     is_single(words, Opt::Workers)
         && is_single(words, Opt::Cert)
-        && is_single(words, Opt::Originator)
         && is_single(words, Opt::Cells)
-        && is_single(words, Opt::CertVersion)
         && is_single(words, Opt::Update)
         && is_single(words, Opt::Changed)
-        && is_single(words, Opt::Report)
-        && is_single(words, Opt::Out)
-        && is_single(words, Opt::CertDir)
-        && is_single(words, Opt::Rtn)
+        && is_single(words, Opt::MustCover)
         && is_single(words, Opt::Within)
 }
 
@@ -83,8 +96,8 @@ fn go_together(words: &[Word], verb: Verb) -> bool
         Verb::Rescreen => {
             has_ends(words) && !(is_given(words, Opt::Changed) && shapes_outputs(words))
         }
-        Verb::Screen | Verb::Check | Verb::Generate | Verb::Selfrun | Verb::Rewrite | Verb::Thin =>
-            true,
+        Verb::Check => has_report(words),
+        Verb::Screen | Verb::Generate | Verb::Selfrun | Verb::Rewrite | Verb::Thin => true,
     }
 }
 
@@ -94,6 +107,14 @@ fn has_ends(words: &[Word]) -> bool
     ensures { result ≡ spec.has_ends (listed (given_of words.now)) }
 {
     is_given(words, Opt::From) && is_given(words, Opt::To)
+}
+
+/// Whether a report is named where it is to tell which ticks each object covers.
+fn has_report(words: &[Word]) -> bool
+    requires { IsTrue (spec.are_listed (given_of words.now)) }
+    ensures { result ≡ spec.has_report (listed (given_of words.now)) }
+{
+    !is_given(words, Opt::Coverage) || is_given(words, Opt::Report)
 }
 
 /// Whether something is asked of messages or of the certificate.
@@ -125,7 +146,9 @@ pub fn is_known(name: &[u8], verb: Verb) -> bool
 {
     match verb {
         Verb::Screen => is_of_screening(name),
-        Verb::Check => is_of_checking(name) || is_named(name, Opt::Report),
+        Verb::Check => {
+            is_of_checking(name) || is_named(name, Opt::Report) || is_named(name, Opt::Coverage)
+        }
         Verb::Generate => is_of_catalogue(name) || is_named(name, Opt::Out),
         Verb::Selfrun => {
             is_named(name, Opt::Threshold)
@@ -157,6 +180,8 @@ fn is_of_screening(name: &[u8]) -> bool
         || is_named(name, Opt::CertVersion)
         || is_named(name, Opt::Out)
         || is_named(name, Opt::Rtn)
+        || is_named(name, Opt::Coverage)
+        || is_named(name, Opt::MustCover)
 }
 
 /// Whether it is an option of each command that checks the certificate of a directory.

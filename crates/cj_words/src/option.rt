@@ -44,6 +44,10 @@ pub enum Opt {
     CertDir,
     /// Whether messages tell the state of the second object along the axes of the first; a flag.
     Rtn,
+    /// Whether the report tells which ticks of the window each object covers; a flag.
+    Coverage,
+    /// Whether an object that does not cover the window is refused; a flag.
+    MustCover,
     /// How far an object with fewer nodes may be from where it was, in metres.
     Within,
     /// Whether what a person may not have meant is told wherever standard error goes; a flag.
@@ -86,6 +90,8 @@ pub fn option_name(option: Opt) -> &'static [u8]
         Opt::Out => b"--out",
         Opt::CertDir => b"--cert-dir",
         Opt::Rtn => b"--rtn",
+        Opt::Coverage => b"--coverage",
+        Opt::MustCover => b"--must-cover",
         Opt::Within => b"--within",
         Opt::Warnings => b"--warnings",
         Opt::AllFaults => b"--all-faults",

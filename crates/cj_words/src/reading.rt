@@ -64,6 +64,8 @@ pub fn unsized_of(words: &[Word], threshold: u64) -> Result<Settings<'_>, UsageF
         suffix,
         as_hermite3: is_given(words, Opt::AsHermite3),
         sizes: None,
+        coverage: is_given(words, Opt::Coverage),
+        must_cover: is_given(words, Opt::MustCover),
         limits: Limits::USUAL,
     })
 }

@@ -22,6 +22,10 @@ pub struct Settings<'w> {
     pub as_hermite3: bool,
     /// The name of the file of sizes, where it is given: 1 to 200 such bytes. Without it no object has a size.
     pub sizes: Option<&'w [u8]>,
+    /// Whether the report tells which ticks of the window each object covers.
+    pub coverage: bool,
+    /// Whether an object that does not cover the window is refused.
+    pub must_cover: bool,
     /// How much a run may take. No option tells it.
     pub limits: Limits,
     pub ghost some: { 1 ≤ threshold },

@@ -1,4 +1,3 @@
-use Rattle.std.proofs.Common.{map}
 use Rattle.cj_track.specs.Tracks.{plain_segment}
 use Rattle.cj_inputs.proofs.CopyLemmas.{copied_segments, copies_all, copies_more}
 use Rattle.cj_inputs.proofs.copying.copies_of_segments.Goals as goal

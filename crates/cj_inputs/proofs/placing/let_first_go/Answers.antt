@@ -1,4 +1,4 @@
-use Rattle.std.proofs.Common.{◌≡◌, ◌∙◌, List, Some, None, ap, sym, arith}
+use Rattle.std.proofs.Common.{◌∙◌, List, Some, None, ap, sym, arith}
 use Rattle.cj_track.specs.declared.track.Track.{Track}
 use Rattle.cj_inputs.specs.Places.{file_of, place_of}
 use Rattle.cj_inputs.proofs.PlaceLemmas.{first_out, none_out}

@@ -1,14 +1,11 @@
-use Rattle.std.proofs.Common.{arith, ◌≡◌, ◌<◌, ◌∙◌, refl, subst, ap, List, Ok, Err, Result, length, get_or}
+use Rattle.std.proofs.Common.{arith, ◌<◌, refl, subst, ap, List, length, get_or}
 use Rattle.std.proofs.lemmas.Result.{err_from_is_err_and}
 use Rattle.cj_io.specs.Faults.{Rose}
-use Rattle.cj_io.specs.declared.name.Name.{Name}
 use Rattle.cj_words.specs.Settings.{plain_settings}
-use Rattle.cj_status.specs.declared.status.Status.{Status}
 use Rattle.cj_status.specs.Steps.{Gives}
 use Rattle.cj_inputs.specs.declared.input_files.Entry.{Entry}
-use Rattle.cj_inputs.specs.declared.updated.Updated.{Updated}
 use Rattle.cj_inputs.specs.Cases.{within_objects}
-use Rattle.cj_inputs.specs.Updates.{PlainUpdated, base_of, plain_updated, read_as, tracks_updated}
+use Rattle.cj_inputs.specs.Updates.{base_of, plain_updated, read_as}
 use Rattle.cj_inputs.proofs.StepLemmas.{stops_unread}
 use Rattle.cj_inputs.proofs.UpdateCaseLemmas.{base_unlisted, both_listed}
 use Rattle.cj_inputs.proofs.preparing_updates.read_listed.Goals as goal

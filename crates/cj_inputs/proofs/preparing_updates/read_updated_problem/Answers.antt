@@ -1,4 +1,4 @@
-use Rattle.std.proofs.Common.{arith, ◌≡◌, ◌∙◌, refl, subst, ap, List, Vec, Global, Ok, Err}
+use Rattle.std.proofs.Common.{arith, ◌∙◌, subst, ap, List, Vec, Global, Err}
 use Rattle.std.proofs.lemmas.Result.{err_from_is_err_and}
 use Rattle.cj_io.specs.Faults.{Rose}
 use Rattle.cj_io.proofs.FileLemmas.{rose_since}

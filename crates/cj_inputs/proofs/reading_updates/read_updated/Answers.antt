@@ -1,4 +1,4 @@
-use Rattle.std.proofs.Common.{arith, ◌≡◌, ◌∙◌, ◌+◌, ◌≤◌, refl, sym, subst, ap, List, Vec, Global, Ok, Err, length, map}
+use Rattle.std.proofs.Common.{arith, ◌≡◌, ◌∙◌, subst, List, Vec, Global, Ok, Err, length, map}
 use Rattle.std.proofs.lemmas.List.{length-map}
 use Rattle.std.proofs.lemmas.Result.{err_from_is_err_and}
 use Rattle.cj_io.specs.Faults.{Rose}
@@ -8,8 +8,8 @@ use Rattle.cj_track.specs.Tracks.{plain_track}
 use Rattle.cj_track.specs.declared.track.Track.{Track}
 use Rattle.cj_words.specs.Settings.{plain_settings}
 use Rattle.cj_inputs.specs.Readings.{Reads}
-use Rattle.cj_inputs.specs.Updates.{plain_updated, read_as, updates_after, updated_with}
-use Rattle.cj_inputs.proofs.StepLemmas.{comes_between, folder_failed, gives_unread, gives_wider}
+use Rattle.cj_inputs.specs.Updates.{plain_updated, read_as, updates_after}
+use Rattle.cj_inputs.proofs.StepLemmas.{comes_between, folder_failed, gives_wider}
 use Rattle.cj_inputs.proofs.UpdateStepLemmas.{base_fails, read_of_both, seen, updates_fail}
 use Rattle.cj_inputs.proofs.reading_updates.read_updated.Goals as goal
 

@@ -1,12 +1,10 @@
-use Rattle.std.proofs.Common.{vec_len, ◌≡◌, ◌∙◌, ◌<◌, ◌≤◌, ℕ, [], ◌∷◌, ◌++◌, List, Result, Vec, Global, Ok, Err, length, map, ap, sym, subst, refl, arith}
+use Rattle.std.proofs.Common.{vec_len, ◌≡◌, ◌∙◌, ◌≤◌, ℕ, [], ◌∷◌, ◌++◌, List, Result, Vec, Global, Ok, Err, length, map, ap, sym, subst, arith}
 use Rattle.std.proofs.lemmas.List.{length-append}
 use Rattle.std.proofs.lemmas.Result.{err_from_is_err_and}
 use Rattle.std.specs.Prelude.{IfOk}
 use Rattle.cj_io.specs.Faults.{Rose}
-use Rattle.cj_io.specs.declared.file.FileBytes.{FileBytes}
 use Rattle.cj_io.specs.Files.{bytes_of}
 use Rattle.cj_oem.specs.Reading.{reading}
-use Rattle.cj_track.specs.PlainTracks.{PlainTrack}
 use Rattle.cj_track.specs.Tracks.{plain_track}
 use Rattle.cj_track.specs.declared.track.Track.{Track}
 use Rattle.cj_words.specs.Settings.{plain_settings}

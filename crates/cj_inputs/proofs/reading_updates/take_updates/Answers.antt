@@ -1,4 +1,4 @@
-use Rattle.std.proofs.Common.{◌∙◌, ◌≤◌, List, Result, Err, map, drop, refl, ap, sym, subst, arith}
+use Rattle.std.proofs.Common.{◌∙◌, List, Result, Err, refl, ap, sym, subst, arith}
 use Rattle.std.proofs.lemmas.List.{drop_all}
 use Rattle.std.proofs.lemmas.Result.{err_from_is_err_and}
 use Rattle.cj_io.specs.Faults.{Rose}

@@ -1,8 +1,8 @@
-use Rattle.std.proofs.Common.{◌≡◌, ◌∙◌, ◌-◌, ◌++◌, ◌∷◌, [], ℕ, List, Vec, Global, ap, sym, refl, take, drop, length, arith}
+use Rattle.std.proofs.Common.{◌∙◌, ◌-◌, ◌++◌, List, ap, sym, take, drop, length, arith}
 use Rattle.std.proofs.lemmas.List.{append-nil, nil_from_length}
 use Rattle.cj_inputs.specs.declared.input_files.Entry.{Entry}
 use Rattle.cj_inputs.specs.Updates.{is_last_update, last_updates}
-use Rattle.cj_inputs.proofs.UpdateFileLemmas.{opened, update_counts, update_passed}
+use Rattle.cj_inputs.proofs.UpdateFileLemmas.{opened, update_passed}
 use Rattle.cj_inputs.proofs.updates.last_updates.Goals as goal
 
 pub loop-rest-preserved : goal.loop-rest-preserved

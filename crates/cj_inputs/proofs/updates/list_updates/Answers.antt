@@ -1,4 +1,4 @@
-use Rattle.std.proofs.Common.{◌≡◌, ◌∙◌, ◌≤◌, ◌<◌, List, length, ap, sym, subst, arith}
+use Rattle.std.proofs.Common.{◌∙◌, ◌<◌, List, length, ap, sym, subst, arith}
 use Rattle.std.specs.Prelude.{All}
 use Rattle.cj_inputs.specs.declared.input_files.Entry.{Entry}
 use Rattle.cj_inputs.specs.Updates.{last_updates, updates_of}

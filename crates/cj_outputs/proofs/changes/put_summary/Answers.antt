@@ -7,8 +7,9 @@ use Rattle.cj_case.specs.Problems.{plain_problem}
 use Rattle.cj_meet.specs.Encounters.{encounters_of, leaves_in}
 use Rattle.cj_report.specs.Summary.{changed_summary}
 use Rattle.cj_outputs.specs.Findings.{ended}
-use Rattle.cj_outputs.specs.Outcome.{Leaves, summary_output}
+use Rattle.cj_outputs.specs.Outcome.{Leaves, summary_output, uncovered_told}
 use Rattle.cj_outputs.proofs.EndLemmas.{nothing_made}
+use Rattle.cj_outputs.proofs.ReportTextLemmas.{added}
 use Rattle.cj_outputs.proofs.changes.put_summary.Goals as goal
 
 pub returns-clause-leaves : goal.returns-clause-leaves
@@ -20,10 +21,15 @@ returns-clause-leaves g c = λ old stood.
     let encounters : c.len-encounters.result ≡ length (encounters_of (plain_leaves changes.leaves.items)) =
     omega (arith, c.len-encounters.ensures, changes.met.encounters.ok.0, ap length met.encounters.groups, length-map changes.met.encounters.items (leaves_in (plain_leaves changes.leaves.items))) in
     subst (λ (bytes : List ℕ). Leaves (ended c.put.result) (Ok (summary_output bytes ∷ [])) old (g.S.Shelf.outputs c.put.new.shelf))
-    (c.deref.ensures.value ∙ c.in_ok-summary.ensures ∙ ap₂ (λ (n k : ℕ). changed_summary n k changes.kept) objects encounters) (c.put.ensures.leaves old stood)
+    (added _ (uncovered_told changes.tells (plain_problem changes.problem)) _ _ _ c.deref.ensures.value c.in_ok-push_coverage.ensures
+    (c.in_ok-summary.ensures ∙ ap₂ (λ (n k : ℕ). changed_summary n k changes.kept) objects encounters))
+    (c.put.ensures.leaves old stood)
 
 pub returns-in_err-summary : goal.returns-in_err-summary
 returns-in_err-summary g c = nothing_made _ _ _ _ c.from_residual.ensures.1
+
+pub returns-in_err-push_coverage : goal.returns-in_err-push_coverage
+returns-in_err-push_coverage g c = nothing_made _ _ _ _ c.from_residual-in_err-push_coverage.ensures.1
 
 pub returns-clause-comes : goal.returns-clause-comes
 returns-clause-comes g c = c.put.ensures.comes

@@ -1,4 +1,4 @@
-use Rattle.std.proofs.Common.{ℕ, Bool, List, [], ◌∷◌, map, Ok, Result, Vec, Global, sym, subst}
+use Rattle.std.proofs.Common.{ℕ, List, [], ◌∷◌, map, Ok, Result, Vec, Global, sym, subst}
 use Rattle.std.specs.Prelude.{IfSome, OnOk}
 use Rattle.std.proofs.lemmas.Result.{err_from_is_err_and}
 use Rattle.cj_io.specs.Faults.{Rose}
@@ -14,16 +14,17 @@ use Rattle.cj_inputs.specs.CheckInputs.{PlainInputs, inputs_asked, plain_inputs}
 use Rattle.cj_status.specs.declared.status.Status.{Status}
 use Rattle.cj_status.specs.Steps.{◌>>=◌, Gives}
 use Rattle.cj_outputs.specs.Checks.{AcceptedReport, AcceptedText}
-use Rattle.cj_outputs.specs.Outcome.{accepted_output, outputs_checked, report_if_accepting, tells_sizes}
+use Rattle.cj_outputs.specs.Outcome.{accepted_output, outputs_checked, report_if_accepting, tells_of}
 use Rattle.cj_outputs.proofs.AcceptingLemmas.{outputs_made_from, same_error, unaccepted, unprepared}
 use Rattle.cj_outputs.proofs.CellLemmas.{cells_in_order, cells_keep}
 use Rattle.cj_outputs.proofs.CheckLemmas.{vouched}
 use Rattle.cj_outputs.proofs.VouchLemmas.{if_some_seen, on_ok_so, outputs_behind}
 use Rattle.cj_outputs.proofs.checking.check_certificate.Goals as goal
+use Rattle.cj_report.specs.declared.tells.Tells.{Tells}
 
 -- what is put of a certificate that is accepted, where the report is
-abbrev due : Bool → PlainInputs → PlainCertificate → Result (List FileBytes) Status
-due with_sizes inputs certificate = report_if_accepting with_sizes inputs.case certificate.cells inputs.report >>= λ done. Ok (accepted_output ∷ [])
+abbrev due : Tells → PlainInputs → PlainCertificate → Result (List FileBytes) Status
+due tells inputs certificate = report_if_accepting tells inputs.case certificate.cells inputs.report >>= λ done. Ok (accepted_output ∷ [])
 
 pub accept_report-requires-clause-in_order : goal.accept_report-requires-clause-in_order
 accept_report-requires-clause-in_order g c = λ lifetimes outlive.
@@ -56,14 +57,14 @@ returns-clause-vouches g c = λ files told.
       split = accepted.split;
     } in
     let beside =
-    subst (λ (b : Bool). OnOk c.accept_report.result (IfSome c.in_ok-problem.field-0.report (λ report. AcceptedReport b inputs.case certificate.cells report.items)))
-    c.tells_sizes.ensures
+    subst (λ (t : Tells). OnOk c.accept_report.result (IfSome c.in_ok-problem.field-0.report (λ report. AcceptedReport t inputs.case certificate.cells report.items)))
+    c.tells_of.ensures
     (subst (λ (ls : List CellLine). OnOk c.accept_report.result
-    (IfSome c.in_ok-problem.field-0.report (λ report. AcceptedReport c.tells_sizes.result inputs.case (map plain_cell_line ls) report.items)))
+    (IfSome c.in_ok-problem.field-0.report (λ report. AcceptedReport c.tells_of.result inputs.case (map plain_cell_line ls) report.items)))
     c.deref.ensures.value c.accept_report.ensures.holds) in
     on_ok_so c.accept_report.result
     (λ report. vouched files checking inputs (c.in_ok-problem.ensures.told files told) holds
-    (if_some_seen (λ (text : Vec ℕ Global). text.items) (AcceptedReport (tells_sizes checking.settings) inputs.case certificate.cells) c.in_ok-problem.field-0.report report))
+    (if_some_seen (λ (text : Vec ℕ Global). text.items) (AcceptedReport (tells_of checking.settings) inputs.case certificate.cells) c.in_ok-problem.field-0.report report))
     beside
 
 pub returns-clause-told : goal.returns-clause-told
@@ -75,13 +76,13 @@ returns-clause-told g c = λ files told.
     let rose = Rose (g.F.Folder.faults c.args.folder.now) (g.F.Folder.faults c.prepare_check.new.folder) in
     let outputs = accepted_output ∷ [] in
     let judged =
-    subst (λ (b : Bool). Gives ⊥ (λ done. done) c.accept_report.result (report_if_accepting b inputs.case certificate.cells inputs.report)) c.tells_sizes.ensures
+    subst (λ (t : Tells). Gives ⊥ (λ done. done) c.accept_report.result (report_if_accepting t inputs.case certificate.cells inputs.report)) c.tells_of.ensures
     (subst (λ (ls : List CellLine). Gives ⊥ (λ done. done) c.accept_report.result
-    (report_if_accepting c.tells_sizes.result inputs.case (map plain_cell_line ls) inputs.report)) c.deref.ensures.value c.accept_report.ensures.told) in
+    (report_if_accepting c.tells_of.result inputs.case (map plain_cell_line ls) inputs.report)) c.deref.ensures.value c.accept_report.ensures.told) in
     subst (λ (d : Result (List FileBytes) Status). Gives rose (λ done. outputs) c.accept_report.result d)
-    (sym (outputs_made_from (due (tells_sizes checking.settings)) (inputs_asked files checking) inputs certificate (c.in_ok-problem.ensures.told files told)
+    (sym (outputs_made_from (due (tells_of checking.settings)) (inputs_asked files checking) inputs certificate (c.in_ok-problem.ensures.told files told)
     c.in_ok-accepted.ensures.told))
-    (outputs_behind rose outputs c.accept_report.result (report_if_accepting (tells_sizes checking.settings) inputs.case certificate.cells inputs.report) judged)
+    (outputs_behind rose outputs c.accept_report.result (report_if_accepting (tells_of checking.settings) inputs.case certificate.cells inputs.report) judged)
 
 pub returns-in_err-problem : goal.returns-in_err-problem
 unfolding outputs_checked
@@ -92,7 +93,7 @@ returns-in_err-problem g c =
     rw (p.1, p.2) (record {
       between = prepared.between;
       read = λ is. prepared.read (same_error is);
-      told = λ files told. unprepared (due (tells_sizes checking.settings)) _ c.in_err-problem.field-0.0 (inputs_asked files checking) (prepared.told files told);
+      told = λ files told. unprepared (due (tells_of checking.settings)) _ c.in_err-problem.field-0.0 (inputs_asked files checking) (prepared.told files told);
       vouches = λ files told. tt;
       files = prepared.files;
       later = prepared.later;
@@ -108,7 +109,7 @@ returns-in_err-accepted g c =
       between = accepted.between;
       read = λ is. absurd (accepted.read (same_error is));
       told = λ files told.
-          unaccepted (due (tells_sizes checking.settings)) _ c.in_err-accepted.field-0.0 (inputs_asked files checking) (plain_inputs c.in_ok-problem.field-0)
+          unaccepted (due (tells_of checking.settings)) _ c.in_err-accepted.field-0.0 (inputs_asked files checking) (plain_inputs c.in_ok-problem.field-0)
           (c.in_ok-problem.ensures.told files told) accepted.told;
       vouches = λ files told. tt;
       files = c.in_ok-problem.ensures.files;

@@ -38,7 +38,7 @@ returns g c =
     let test = c.if-cells-gt-MAX_CELLS.false in
     let few : length cells ≤ 4_000_000 = omega (arith, length-map c.args.cells.now plain_cell_line) in
     let all =
-    report_judged c.args.with_sizes case cells c.args.bytes.now c.deref-2.result.now c.accept_as.result few c.accept_as.ensures
-    (c.deref-2.ensures.value ∙ due.text ∙ ap (report_bytes c.args.with_sizes case) lent) c.requires.split (subst HaveExactSpans lent due.spans)
+    report_judged c.args.tells case cells c.args.bytes.now c.deref-2.result.now c.accept_as.result few c.accept_as.ensures
+    (c.deref-2.ensures.value ∙ due.text ∙ ap (report_bytes c.args.tells case) lent) c.requires.split (subst HaveExactSpans lent due.spans)
     (subst (λ (ss : List PlainLeaf). All (HasNearest case) (encounters_of ss)) lent due.nearest) in
     record { between = all.between; read = all.read; told = all.told; holds = all.holds }

@@ -24,7 +24,7 @@ report_text-requires g c =
 
 pub returns : goal.returns
 returns g c = record {
-  text = report_if_made c.args.with_sizes (plain_problem c.args.problem.now) (plain_leaves c.args.leaves.now) c.in_ok-met.met c.deref.result.now c.deref-2.result.now
+  text = report_if_made c.args.tells (plain_problem c.args.problem.now) (plain_leaves c.args.leaves.now) c.in_ok-met.met c.deref.result.now c.deref-2.result.now
       c.deref-3.result.now c.report_text.result c.in_ok-met.ensures.meetings c.deref.ensures.value c.deref-2.ensures.value c.deref-3.ensures.value c.report_text.ensures;
   spans = c.in_ok-met.ensures.spans;
   nearest = on_ok c.report_text.result c.in_ok-met.ensures.nearest;

@@ -39,8 +39,8 @@ returns g c =
     record {
       between = tt;
       read = λ is. absurd cc;
-      told = changed_leaves wanted.leaves wanted.tells_sizes old new (plain_leaves changed.leaves.items) refined.told
-          ∙ ap (λ (n : ℕ). Ok (outputs_of_changes wanted.tells_sizes new n (plain_leaves changed.leaves.items))) (sym refined.kept);
+      told = changed_leaves wanted.leaves wanted.tells old new (plain_leaves changed.leaves.items) refined.told
+          ∙ ap (λ (n : ℕ). Ok (outputs_of_changes wanted.tells new n (plain_leaves changed.leaves.items))) (sym refined.kept);
       found = record {
         few = omega (arith, refined.few, wanted.few_leaves);
         met = subst (λ (ss : List PlainLeaf). AreMeetings new ss c.in_ok-met.met) lent met.meetings;
@@ -74,7 +74,7 @@ returns-in_err-changed g c =
     rw (p.1, p.2) (record {
       between = c.in_err-changed.ensures.between;
       read = λ is. never_read s _ told is;
-      told = changed_stops wanted.leaves wanted.tells_sizes (plain_problem updating.base) (plain_problem updating.new) s told;
+      told = changed_stops wanted.leaves wanted.tells (plain_problem updating.base) (plain_problem updating.new) s told;
       found = tt;
       split = tt;
       nearest = tt;

@@ -1,4 +1,4 @@
-use Rattle.std.proofs.Common.{◌≡◌, ℕ, ◌≤◌, [], Bool, Result, Ok, Err, ap, subst, ◌∙◌, arith}
+use Rattle.std.proofs.Common.{◌≡◌, ℕ, ◌≤◌, [], Result, Ok, Err, ap, subst, ◌∙◌, arith}
 use Rattle.std.specs.Prelude.{IfOk}
 use Rattle.cj_case.specs.declared.problem.Problem.{Problem}
 use Rattle.cj_case.specs.Problems.{plain_problem}
@@ -8,12 +8,14 @@ use Rattle.cj_words.specs.Settings.{plain_settings}
 use Rattle.cj_outputs.specs.declared.findings.Findings.{Findings}
 use Rattle.cj_outputs.specs.declared.wanted.Wanted.{Wanted}
 use Rattle.cj_outputs.specs.Findings.{case_in, outputs_in}
-use Rattle.cj_outputs.specs.Outcome.{origin_of, outputs_within, tells_sizes}
+use Rattle.cj_outputs.specs.Outcome.{origin_of, outputs_within, tells_of}
 use Rattle.cj_status.specs.declared.status.Status.{Status}
 use Rattle.cj_status.specs.Steps.{Gives}
+use Rattle.cj_inputs.proofs.CoveringLemmas.{asked_there}
 use Rattle.cj_screen.proofs.ReportLemmas.{reports}
 use Rattle.cj_screen.proofs.TaskLemmas.{search_ends}
 use Rattle.cj_screen.proofs.finding.find_encounters.Goals as goal
+use Rattle.cj_report.specs.declared.tells.Tells.{Tells}
 
 same_case : (problem : Problem) (r : Result Findings Status) → IfOk r (λ found. found.problem ≡ problem) → IfOk r (λ found. case_in found ≡ plain_problem problem)
 same_case problem (Ok found) is = ap plain_problem is
@@ -27,7 +29,7 @@ pub returns-clause-ends : goal.returns-clause-ends
 returns-clause-ends g c =
     let wanted = c.of.result in
     let origin = origin_of 0 (plain_screening c.args.screening.now) in
-    search_ends wanted.leaves wanted.tells_sizes wanted.version origin [] (plain_problem c.args.problem) c.screen.result (c.screen.ensures.told origin)
+    search_ends wanted.leaves wanted.tells wanted.version origin [] (plain_problem c.args.problem) c.screen.result (c.screen.ensures.told origin)
 
 pub returns-clause-told : goal.returns-clause-told
 returns-clause-told g c = λ now.
@@ -35,10 +37,10 @@ returns-clause-told g c = λ now.
     let case = plain_problem c.args.problem in
     let origin = origin_of now (plain_screening screening) in
     let wanted = c.of.result in
-    let tells = tells_sizes (plain_settings screening.settings) in
+    let tells = tells_of (plain_settings screening.settings) in
     subst (λ (k : ℕ). Gives ⊥ (outputs_in origin) c.screen.result (outputs_within k tells screening.version origin [] case)) c.of.ensures.leaves
     (subst (λ (v : CertVersion). Gives ⊥ (outputs_in origin) c.screen.result (outputs_within wanted.leaves tells v origin [] case)) c.of.ensures.version
-    (subst (λ (b : Bool). Gives ⊥ (outputs_in origin) c.screen.result (outputs_within wanted.leaves b wanted.version origin [] case)) c.of.ensures.tells_sizes
+    (subst (λ (t : Tells). Gives ⊥ (outputs_in origin) c.screen.result (outputs_within wanted.leaves t wanted.version origin [] case)) c.of.ensures.tells
     (c.screen.ensures.told origin)))
 
 pub returns-clause-found : goal.returns-clause-found
@@ -50,6 +52,6 @@ returns-clause-reports g c = λ files read.
     let asked = plain_settings screening.settings in
     let wanted = c.of.result in
     let few : wanted.leaves ≤ asked.limits.leaves = omega (arith, c.of.ensures.leaves, screening.most_cells) in
-    reports files asked wanted.version (plain_problem c.args.problem) read c.screen.result (c.screen.ensures.reports asked c.of.ensures.tells_sizes)
+    reports files asked wanted.version (plain_problem c.args.problem) read c.screen.result (c.screen.ensures.reports asked c.of.ensures.tells)
     (same_case c.args.problem c.screen.result c.screen.ensures.same) (of_version wanted wanted.version (λ i. wanted.version) c.screen.result c.screen.ensures.wanted)
-    (c.screen.ensures.later asked files read screening.settings.usual few)
+    (c.screen.ensures.later asked files (asked_there files asked (plain_problem c.args.problem) read).0 screening.settings.usual few)

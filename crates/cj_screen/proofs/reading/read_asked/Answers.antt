@@ -29,7 +29,7 @@ pub returns-in_err-problem-in-Screen : goal.returns-in_err-problem-in-Screen
 returns-in_err-problem-in-Screen g c =
     let prepared = c.in_err-problem-in-Screen.ensures in
     let screening = plain_screening c.in-Screen.screening in
-    let rose = Rose (g.F.Folder.faults c.args.folder.now) (g.F.Folder.faults c.prepare.new.folder) in
+    let rose = Rose (g.F.Folder.faults c.args.folder.now) (g.F.Folder.faults c.prepare_screening.new.folder) in
     let p = err_from_is_err_and c.from_residual.result c.from_residual.ensures.1 in
     rw (p.1, p.2, c.in-Screen.is) (record {
       between = prepared.between;
@@ -169,7 +169,7 @@ pub returns-in_err-updating-in-Rescreen : goal.returns-in_err-updating-in-Rescre
 returns-in_err-updating-in-Rescreen g c =
     let prepared = c.in_err-updating-in-Rescreen.ensures in
     let asked = plain_rescreening c.in-Rescreen.rescreening in
-    let rose = Rose (g.F.Folder.faults c.args.folder.now) (g.F.Folder.faults c.prepare_update.new.folder) in
+    let rose = Rose (g.F.Folder.faults c.args.folder.now) (g.F.Folder.faults c.prepare_rescreening.new.folder) in
     let p = err_from_is_err_and c.from_residual-in_err-updating-in-Rescreen.result c.from_residual-in_err-updating-in-Rescreen.ensures.1 in
     rw (p.1, p.2, c.in-Rescreen.is) (record {
       between = prepared.between;

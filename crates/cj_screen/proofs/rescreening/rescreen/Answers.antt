@@ -33,7 +33,7 @@ returns g c =
       told = λ origin. again_told c.args.wanted origin old new c.in_ok-found.found within same told.wanted lines told.found;
       found = told.found;
       reports = told.reports;
-      summary = summary_told _ new c.in_ok-found.found same lines told.found;
+      summary = summary_told c.args.wanted _ new c.in_ok-found.found same told.wanted lines told.found;
     }
 
 pub returns-in_err-found : goal.returns-in_err-found

@@ -57,7 +57,7 @@ returns-in_err-refined g c =
     rw (p.1, p.2) (record {
       between = c.in_err-refined.ensures.between;
       read = λ is. never_read s _ told is;
-      told = λ origin. outputs_stop wanted.leaves wanted.tells_sizes wanted.version origin _ (plain_problem c.args.problem) s told;
+      told = λ origin. outputs_stop wanted.leaves wanted.tells wanted.version origin _ (plain_problem c.args.problem) s told;
       same = tt;
       wanted = tt;
       behind = tt;

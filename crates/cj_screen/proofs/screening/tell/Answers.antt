@@ -1,4 +1,4 @@
-use Rattle.std.proofs.Common.{◌≡◌, ◌∙◌, All, Bool, List, length, map, ap, refl, sym, subst, arith}
+use Rattle.std.proofs.Common.{◌≡◌, ◌∙◌, All, List, length, map, ap, refl, sym, subst, arith}
 use Rattle.std.proofs.lemmas.Result.{err_from_is_err_and}
 use Rattle.cj_case.specs.Problems.{plain_problem}
 use Rattle.cj_case.specs.Leaves.{PlainLeaf, plain_leaves}
@@ -12,6 +12,8 @@ use Rattle.cj_outputs.specs.Meetings.{AreMeetings}
 use Rattle.cj_outputs.specs.Messages.{has_message}
 use Rattle.cj_outputs.specs.Outcome.{report_bytes}
 use Rattle.cj_outputs.specs.Summaries.{tally_with}
+use Rattle.cj_report.specs.declared.tells.Tells.{Tells}
+use Rattle.cj_screen.proofs.CoverLemmas.{covers_exactly}
 use Rattle.cj_screen.proofs.SplitLemmas.{splits}
 use Rattle.cj_screen.proofs.screening.tell.Goals as goal
 
@@ -62,10 +64,11 @@ returns g c =
         counts = c.count-counts.ensures ∙ ap (tally_with case) lent;
       };
       reports = λ settings tells. record {
-        text = ap (report_bytes c.args.wanted.tells_sizes case) refined.leaves ∙ ap (λ (b : Bool). report_bytes b case (list_candidates case)) tells;
+        text = ap (report_bytes c.args.wanted.tells case) refined.leaves ∙ ap (λ (t : Tells). report_bytes t case (list_candidates case)) tells;
         split = splits case (plain_leaves c.as_slice-leaves.result.now) same c.requires.ticks c.in_ok-met.ensures.spans;
         nearest = nearest;
         relative = c.exact_relatives.ensures c.requires.ticks.sound nearest;
+        covered = covers_exactly case;
         certified = record {
           certificate = written_in c.args.wanted.version case;
           text = refl;

@@ -1,8 +1,7 @@
-use Rattle.std.proofs.lemmas.Result.{IfOk-from_err}
 use Rattle.cj_status.proofs.fault_line.push_fault.Goals as goal
 
-pub returns-in_err-push_name-in-BadFile : goal.returns-in_err-push_name-in-BadFile
-returns-in_err-push_name-in-BadFile c = IfOk-from_err c.from_residual.result _ c.from_residual.ensures.0
+pub returns-in-BadFile : goal.returns-in-BadFile
+returns-in-BadFile c = rw (c.in-BadFile.is, ← c.as_slice.ensures) c.push_refused.ensures
 
 pub returns-in-Limit : goal.returns-in-Limit
 returns-in-Limit c = rw c.in-Limit.is c.push_limit.ensures

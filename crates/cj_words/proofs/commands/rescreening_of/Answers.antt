@@ -1,4 +1,4 @@
-use Rattle.std.proofs.Common.{◌≡◌, ◌∙◌, Bool, Ok, Result, ap, sym}
+use Rattle.std.proofs.Common.{◌∙◌, Bool, Ok, Result, ap, sym}
 use Rattle.cj_base.specs.PlainTicks.{micros_of}
 use Rattle.cj_words.specs.Commands.{PlainRescreening, plain_screening, rescreening_of}
 use Rattle.cj_words.specs.Options.{given_of, listed}

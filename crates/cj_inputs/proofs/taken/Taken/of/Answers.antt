@@ -1,4 +1,4 @@
-use Rattle.std.proofs.Common.{◌≡◌, ◌∙◌, List, length, ap, arith}
+use Rattle.std.proofs.Common.{◌∙◌, List, length, ap, arith}
 use Rattle.cj_case.specs.CaseLimits.{node_total}
 use Rattle.cj_track.specs.declared.track.Track.{Track}
 use Rattle.cj_inputs.proofs.taken.Taken.of.Goals as goal
