@@ -3,9 +3,12 @@
 from __future__ import annotations
 
 from collections.abc import Sequence
+from typing import TYPE_CHECKING
 
-from conjtools.oem import Ephemeris
 from conjtools.report import Report, Window
+
+if TYPE_CHECKING:
+    from conjtools.oem import Ephemeris
 
 Spans = tuple[tuple[int, int], ...]
 
@@ -51,6 +54,11 @@ def gaps(spans: Spans, window: Window) -> Spans:
     if tick <= window.last:
         found.append((tick, window.last))
     return tuple(found)
+
+
+def is_whole(spans: Spans, window: Window) -> bool:
+    """Whether an object has a state at each tick of the window."""
+    return not gaps(spans, window)
 
 
 def meets(spans: Spans, first: int, last: int) -> bool:

@@ -14,7 +14,7 @@ from urllib.parse import quote
 from conjtools import drawing
 from conjtools.cdm import message_name
 from conjtools.changes import Cause, Change, Changes, Comparison
-from conjtools.coverage import Spans, gaps
+from conjtools.coverage import Spans, gaps, is_whole
 from conjtools.curves import Curve
 from conjtools.epochs import epoch_text
 from conjtools.motion import Approach
@@ -58,7 +58,7 @@ def page_text(content: Content) -> str:
         "heading": html.escape(f"Close approaches: {content.folder}"),
         "style": (PARTS / "style.css").read_text("utf-8").strip(),
         "script": "\n\n".join((PARTS / f"{name}.js").read_text("utf-8").strip() for name in SCRIPTS),
-        "facts": facts(report),
+        "facts": facts(content),
         "report_link": html.escape(link(content.results, "screen.report")),
         "report_name": "screen.report",
         "changes": changes_section(content),
@@ -130,8 +130,20 @@ def readable(tick: int) -> str:
     return epoch_text(tick).replace("T", " ")
 
 
-def facts(report: Report) -> str:
+def lacking_text(content: Content) -> str:
+    """How many objects do not cover the window, where some do not."""
+    lacking = len(lacking_objects(content))
+    return f", {lacking:,} {'does' if lacking == 1 else 'do'} not cover the window" if lacking else ""
+
+
+def lacking_objects(content: Content) -> set[int]:
+    """The numbers of the objects that have no state at some tick of the window."""
+    return {place for place, spans in enumerate(content.covered, 1) if not is_whole(spans, content.report.window)}
+
+
+def facts(content: Content) -> str:
     """The facts of the head: window, threshold, counts, the nearest encounter."""
+    report = content.report
     window, objects = report.window, len(report.objects)
     near = sum(encounter.mark is Kind.NEAR for encounter in report.encounters)
     messages = sum(encounter.has_message for encounter in report.encounters)
@@ -140,7 +152,7 @@ def facts(report: Report) -> str:
     told = [
         fact("Window (UTC)", readable(window.first), f"to {readable(window.last)}, {length}", "time"),
         fact("Threshold", f"{metres_short(report.threshold)} m", "and the sizes of both objects" if sized else "of each pair"),
-        fact("Objects", f"{objects:,}", plural(objects * (objects - 1) // 2, "pair")),
+        fact("Objects", f"{objects:,}", plural(objects * (objects - 1) // 2, "pair") + lacking_text(content)),
         fact("Encounters", f"{len(report.encounters):,}", f"{near:,} near, {len(report.encounters) - near:,} undecided"),
         fact("Messages", f"{messages:,}", "where both objects have a covariance"),
     ]
@@ -192,7 +204,7 @@ def objects_summary(content: Content) -> str:
     """How many objects have encounters and gaps, and how many neither."""
     report = content.report
     met = {place for encounter in report.encounters for place in (encounter.a, encounter.b)}
-    lacking = {place for place, spans in enumerate(content.covered, 1) if gaps(spans, report.window)}
+    lacking = lacking_objects(content)
     neither = len(report.objects) - len(met | lacking)
     source = "the report" if any(told.covered is not None for told in report.objects) else "the useable spans of the ephemerides"
     return (
@@ -273,6 +285,7 @@ def data(content: Content) -> dict[str, object]:
             "size": [told.size for told in report.objects],
             "primary": [int(told.primary) for told in report.objects],
             "covered": [[tick for span in spans for tick in span] for spans in content.covered],
+            "missing": [next((first for first, _ in gaps(spans, report.window)), None) for spans in content.covered],
             "prepared": list(content.prepared),
         },
         "encounters": {

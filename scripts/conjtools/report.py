@@ -186,7 +186,7 @@ def read_report(file: str, content: bytes) -> Report:
         raise reader.refuse("a report of another version; version 1 is read", back=1)
     window = Window(*reader.epochs(reader.take("WINDOW")))
     threshold = reader.number(reader.take("THRESHOLD"), LEAST_THRESHOLD, LARGEST_THRESHOLD)
-    objects = read_objects(reader)
+    objects = read_objects(reader, window)
     encounters = read_encounters(reader, window, len(objects))
     if reader.place >= len(reader.lines):
         raise reader.refuse("the report is cut: END is wanted")
@@ -211,11 +211,11 @@ def report_lines(file: str, content: bytes) -> list[str]:
     return [line.decode("ascii") for line in lines]
 
 
-def read_objects(reader: Reader) -> tuple[ReportObject, ...]:
+def read_objects(reader: Reader, window: Window) -> tuple[ReportObject, ...]:
     """The lines of all objects."""
     objects: list[ReportObject] = []
     while reader.next_word() == "OBJECT":
-        told = read_object(reader, len(objects) + 1)
+        told = read_object(reader, len(objects) + 1, window)
         if objects:
             check_follows(reader, objects[-1], told)
         objects.append(told)
@@ -232,7 +232,7 @@ def check_follows(reader: Reader, before: ReportObject, told: ReportObject) -> N
         raise InputFault(reader.file, told.line, "COVERED stands for some objects and not for others")
 
 
-def read_object(reader: Reader, number: int) -> ReportObject:
+def read_object(reader: Reader, number: int, window: Window) -> ReportObject:
     """The lines of the object with this number."""
     line = reader.place + 1
     if reader.number(reader.take("OBJECT"), 1, MOST_OBJECTS) != number:
@@ -248,7 +248,7 @@ def read_object(reader: Reader, number: int) -> ReportObject:
         if reader.lines[reader.place] != "PRIMARY":
             raise reader.refuse("PRIMARY stands alone")
         reader.place += 1
-    return ReportObject(file, designator, name, size, primary, read_covered(reader), line)
+    return ReportObject(file, designator, name, size, primary, read_covered(reader, window), line)
 
 
 def read_label(reader: Reader, key: str) -> str:
@@ -259,8 +259,8 @@ def read_label(reader: Reader, key: str) -> str:
     return label
 
 
-def read_covered(reader: Reader) -> tuple[tuple[int, int], ...] | None:
-    """The lines that tell when an object has a state, where there are any."""
+def read_covered(reader: Reader, window: Window) -> tuple[tuple[int, int], ...] | None:
+    """The lines that tell when an object has a state, where there are any: spans in the window, with a tick or more between two."""
     if reader.next_word() != "COVERED":
         return None
     spans: list[tuple[int, int]] = []
@@ -269,8 +269,10 @@ def read_covered(reader: Reader) -> tuple[tuple[int, int], ...] | None:
         if text == "NONE" and not spans:
             break
         first, last = reader.epochs(text)
-        if first > last or spans and first <= spans[-1][1]:
-            raise reader.refuse("spans are empty or not in order of time", back=1)
+        if first > last or spans and first <= spans[-1][1] + 1:
+            raise reader.refuse("covered spans are empty or not in order of time, or follow one another without a gap", back=1)
+        if first < window.first or window.last < last:
+            raise reader.refuse("the covered span leaves the window", back=1)
         spans.append((first, last))
     return tuple(spans)
 

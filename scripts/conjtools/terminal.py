@@ -18,6 +18,8 @@ SHOWN = re.compile(rb"\r\x1b\[\?7l(?P<passing>[^\r\n\x1b]*)\x1b\[K\x1b\[\?7h|(?P
 TOLD = re.compile(rb"^(?:conj: warning|hint): .*\n", re.MULTILINE)
 WARNED = re.compile(rb"^conj: warning: .*\n", re.MULTILINE)
 REFUSED = re.compile(rb"conj: (?P<file>[^\n]+?): line \d+: [A-Z][A-Za-z]*(?: [A-Z][A-Za-z]*){0,2}\n")
+# An object that does not cover the window is told alone.
+UNCOVERED = re.compile(rb"conj: [^\n]+: line 0: Uncovered [-0-9T:.]+\n")
 REFUSING_STATUS = 3
 # The words that ask for more to be told, and the commands that take them.
 TELLING = ("--warnings", "--all-faults")
@@ -115,7 +117,7 @@ def differences_at_terminal(plain: Ended, told: Ended) -> list[str]:
 def differences_with_words(plain: Ended, told: Ended) -> list[str]:
     """In what a run with the words that ask for more is not the same run without them, but for lines that warn and that refuse other files."""
     error = WARNED.sub(b"", told.error)
-    if plain.status != REFUSING_STATUS:
+    if plain.status != REFUSING_STATUS or UNCOVERED.fullmatch(plain.error):
         return different(plain, told, error)
     files = [line["file"] for line in REFUSED.finditer(error)]
     if len(set(files)) != len(files) or REFUSED.sub(b"", error):

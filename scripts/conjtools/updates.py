@@ -80,6 +80,12 @@ def kept_pairs(summary: bytes) -> int:
     return told["PAIRS"] - told["PARTED"]
 
 
+def summary_parts(summary: bytes) -> tuple[bytes, bytes]:
+    """The lines of a summary of a screening, and the line that tells how many objects do not cover the window, or nothing."""
+    counted, word, count = summary.partition(b"UNCOVERED ")
+    return counted, word + count
+
+
 def changed_text(report: Report, unchanged: frozenset[str]) -> str:
     """The report of those pairs alone of which a file is not unchanged."""
     encounters = [told for told in report.encounters if not {report.objects[told.a - 1].file, report.objects[told.b - 1].file} <= unchanged]
@@ -102,7 +108,8 @@ def differences_from_screening(again: Put, screened: Put, kept: int) -> list[str
         for name in sorted(again.pieces.keys() | screened.pieces.keys())
         if again.pieces.get(name) != screened.pieces.get(name)
     ]
-    wanted = screened.summary + b"KEPT %d\n" % kept
+    counted, uncovered = summary_parts(screened.summary)
+    wanted = counted + b"KEPT %d\n" % kept + uncovered
     if again.summary != wanted:
         found.append(f"the summary is {again.summary!r} in place of {wanted!r}")
     return found
@@ -116,7 +123,7 @@ def differences_of_changed(changed: Put, screened: Put, kept: int, unchanged: fr
     if changed.pieces != {CHANGED: text.encode("ascii")}:
         found.append(f"{sorted(changed.pieces)} are not the report of the changed pairs")
     count = text.count("\nENCOUNTER ")
-    wanted = f"OBJECTS {len(report.objects)}\nENCOUNTERS {count}\nKEPT {kept}\n".encode("ascii")
+    wanted = f"OBJECTS {len(report.objects)}\nENCOUNTERS {count}\nKEPT {kept}\n".encode("ascii") + summary_parts(screened.summary)[1]
     if changed.summary != wanted:
         found.append(f"the summary is {changed.summary!r} in place of {wanted!r}")
     return found

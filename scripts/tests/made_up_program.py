@@ -1,6 +1,7 @@
 #!/usr/bin/python3
 """Stands in for `conj` where the workflow is tested and not the program: it reads the same folders by the same words, finds no encounter,
-and its certificate says of each object what it is in the window, by which its check decides. It has a fault where a file asks for one.
+and its certificate says of each object what it is in the window, by which its check decides. Its reports tell what objects cover where they are asked
+to, and a check has to be asked for the same. It has a fault where a file asks for one.
 
 `FAULTS` names a folder. A file `COMMAND-FIRST` in it, as `screen-2025-01-01T00:10:00.000000`, has the fault of the run with this window:
 the signal by which it ends, or text that it says as it ends with status 5. The file is taken away, so that the next run is well.
@@ -12,12 +13,14 @@ import os
 import re
 import signal
 import sys
+from dataclasses import replace
 from pathlib import Path
 
 sys.path.insert(0, str(Path(__file__).resolve().parents[1]))
 
 from conjtools.epochs import EpochFault, epoch_text, read_epoch  # noqa: E402
 from conjtools.report import Report, ReportObject, Window  # noqa: E402
+from tests.made_up_covering import covered, left_out, useable  # noqa: E402
 
 COUNTS = ("PARTED", "TOUCHING", "ROOTS", "SPLITS", "LEAVES", "FAR", "NEAR", "UNDECIDED", "ENCOUNTERS", "MESSAGES")
 MINUTE = 60_000_000
@@ -52,6 +55,11 @@ def certificate(window: Window, rows: list[list[tuple[int, str]]]) -> str:
     return head + "".join(f"STATE {line}\n" for line in states) + "END\n"
 
 
+def spans_of(path: Path, window: Window) -> tuple[tuple[int, int], ...]:
+    """The covered spans of the object of a file."""
+    return tuple(covered(useable(path.read_text("ascii")), window.first, window.last))
+
+
 def fault(command: str, window: Window) -> None:
     """Ends as the folder of faults asks."""
     path = Path(os.environ.get("FAULTS", "/nowhere")) / f"{command}-{epoch_text(window.first)}"
@@ -73,19 +81,25 @@ def main(words: list[str]) -> int:
     files = [read_file(path) for path in sorted(Path(folder).glob("*.oem"))]
     fault(command, window)
     text = certificate(window, [rows for _, rows in files])
+    objects = tuple(one for one, _ in files)
+    if "coverage" in options:
+        objects = tuple(replace(one, covered=spans_of(Path(folder) / one.file, window)) for one in objects)
+    report = Report(window, 5 * 10**12, objects, ()).text()
     if command == "check":
-        if (Path(options["cert-dir"]) / "screen.cert").read_text("ascii") != text:
+        place = Path(options["cert-dir"])
+        if (place / "screen.cert").read_text("ascii") != text or (place / options["report"]).read_text("ascii") != report:
             print("conj: not accepted: line 5: ShellOf", file=sys.stderr)
             return 1
         print("ACCEPTED")
         return 0
-    objects = tuple(one for one, _ in files)
     out = Path(options["out"])
     out.mkdir()
-    (out / "screen.report").write_text(Report(window, 5 * 10**12, objects, ()).text(), "ascii")
+    (out / "screen.report").write_text(report, "ascii")
     (out / "screen.cert").write_text(text, "ascii")
     count = len(files)
     print(f"OBJECTS {count}\nPAIRS {count * (count - 1) // 2}\n" + "".join(f"{word} 0\n" for word in COUNTS), end="")
+    if "coverage" in options:
+        print(f"UNCOVERED {sum(bool(left_out(list(one.covered or ()), window.first, window.last)) for one in objects)}")
     return 0
 
 

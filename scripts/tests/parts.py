@@ -6,12 +6,13 @@ Ticks are told as seconds from the start of the window, as `at(59.999999)`.
 from __future__ import annotations
 
 import hashlib
+from collections.abc import Sequence
 from dataclasses import dataclass
 from decimal import Decimal
 from pathlib import Path
 
 from conjtools.epochs import epoch_text
-from tests.support import message, oem
+from tests.support import message, oem, segment
 
 START = 1_735_689_600_000_000
 THRESHOLD = 5 * 10**12
@@ -131,3 +132,15 @@ def write_drifting(folder: Path) -> Path:
             rows.append(f"{when(seconds)} {7000 + place} {'-' if y < 0 else ''}0.{abs(y):012} 0 0 {place * 1e-6:.6f} 0")
         (folder / file).write_text(oem(rows, when(0), when(120), name, designator), "ascii")
     return folder
+
+
+def write_resting(path: Path, designator: str, place: int, useable: Sequence[tuple[int, int]]) -> None:
+    """Writes an ephemeris of an object at rest so many kilometres along x, with a segment for each of these useable spans of ticks, whose two
+    states are a second before and a second behind it."""
+    texts: list[str] = []
+    for first, last in useable:
+        rows = [f"{epoch_text(tick)} {place} 0 0 0 0 0" for tick in (first - 10**6, last + 10**6)]
+        more = f"USEABLE_START_TIME = {epoch_text(first)}\nUSEABLE_STOP_TIME = {epoch_text(last)}\n"
+        made = segment if texts else oem
+        texts.append(made(rows, epoch_text(first - 10**6), epoch_text(last + 10**6), designator, designator, more))
+    path.write_text("".join(texts), "ascii")

@@ -9,7 +9,7 @@ from tests.support import SAMPLES, USUAL_REPORT, need_numpy
 
 need_numpy()
 
-from conjtools.coverage import common, coverage, covered_by, gaps, joined, meets, within  # noqa: E402
+from conjtools.coverage import common, coverage, covered_by, gaps, is_whole, joined, meets, within  # noqa: E402
 from conjtools.epochs import read_epoch  # noqa: E402
 from conjtools.oem import read_oem  # noqa: E402
 from conjtools.report import Window, read_report  # noqa: E402
@@ -26,6 +26,11 @@ class Spans(unittest.TestCase):
         self.assertEqual(gaps(spans, window), ((11, 19), (31, 35)))
         self.assertEqual(gaps((), window), ((5, 35),))
         self.assertEqual(gaps(((5, 35),), window), ())
+
+    def test_whole(self) -> None:
+        for spans, whole in ((((5, 35),), True), (((5, 34),), False), (((6, 35),), False), (((5, 19), (21, 35)), False), ((), False)):
+            self.assertEqual(is_whole(spans, Window(5, 35)), whole)
+        self.assertTrue(is_whole((), Window(6, 5)), "a window without a tick")
 
     def test_common(self) -> None:
         self.assertEqual(common(((0, 10), (20, 30)), ((5, 25),)), ((5, 10), (20, 25)))

@@ -84,6 +84,13 @@ class JoinCase(FolderCase):
         for name, window, told in (("p1", FIRST, FIRST_TOLD), ("p2", SECOND, SECOND_TOLD), ("p3", THIRD, THIRD_TOLD)):
             write_part(Path(name), *window, told)
 
+    def tell_covered(self, part: str, uncovered: int, *lines: str) -> None:
+        """Has a part tell what each object covers, and how many do not cover its window."""
+        for (_, _, name), told in zip(OBJECTS, lines):
+            self.change(f"{part}/screen.report", f"NAME {name}\n", f"NAME {name}\n{told}")
+        with open(f"{part}/screen.out", "a", encoding="ascii") as file:
+            file.write(f"UNCOVERED {uncovered}\n")
+
     def change(self, name: str, old: str, new: str) -> None:
         """Changes a text that stands once in a file."""
         text = Path(name).read_bytes().decode("ascii")
@@ -182,17 +189,50 @@ class Whole(JoinCase):
             "p2": (f"COVERED {when(120)} {when('179.999999')}\n", f"COVERED {when(121)} {when(130)}\n", "COVERED NONE\n"),
             "p3": (f"COVERED {when(180)} {when(180)}\n", f"COVERED {when(180)} {when(180)}\n", "COVERED NONE\n"),
         }
-        for part, spans in covered.items():
-            for (_, _, name), lines in zip(OBJECTS, spans):
-                self.change(f"{part}/screen.report", f"NAME {name}\n", f"NAME {name}\n{lines}")
+        for number, (part, spans) in enumerate(covered.items()):
+            self.tell_covered(part, 3 - number, *spans)
         self.assertEqual(self.join("p1", "p2", "p3").returncode, 0)
         text = Path("whole/screen.report").read_text("ascii")
+        self.assertIn("MESSAGES 3\nUNCOVERED 3\n", Path("whole/summary.txt").read_text("ascii"))
         for lines in (
             f"NAME SAT A\nCOVERED {when(0)} {when(20)}\nCOVERED {when(30)} {when(180)}\nOBJECT",
             f"NAME SAT B\nCOVERED {when(121)} {when(130)}\nCOVERED {when(180)} {when(180)}\nOBJECT",
             f"NAME SAT C\nCOVERED {when(1)} {when(2)}\nENCOUNTER",
         ):  # fmt: skip
             self.assertIn(lines, text)
+
+    def test_objects_that_do_not_cover_the_whole_window(self) -> None:
+        """SAT A leaves out a tick of the first part, SAT B some of the second and all of the third, and SAT C none."""
+        self.write_three()
+        ends = [f"{when(0)} {when('119.999999')}", f"{when(120)} {when('179.999999')}", f"{when(180)} {when(180)}"]
+        first, second, third = (f"COVERED {window}\n" for window in ends)
+        self.tell_covered("p1", 1, f"COVERED {when('0.000001')} {when('119.999999')}\n", first, first)
+        self.tell_covered("p2", 1, second, f"COVERED {when(120)} {when(130)}\nCOVERED {when('130.000002')} {when('179.999999')}\n", second)
+        self.tell_covered("p3", 1, third, "COVERED NONE\n", third)
+        run = self.join("p1", "p2", "p3")
+        self.assertEqual((run.returncode, run.stderr), (0, ""))
+        self.assertEqual(run.stdout, summary(3, (3, 6, 9, 12, 15, 18, 21, 24), 4, 3) + "UNCOVERED 2\n")
+        self.assertEqual(run.stdout, Path("whole/summary.txt").read_text("ascii"))
+        self.assertEqual(re.findall(r"^(?:NAME|COVERED) .*\n", Path("whole/screen.report").read_text("ascii"), re.MULTILINE), [
+            "NAME SAT A\n", f"COVERED {when('0.000001')} {when(180)}\n",
+            "NAME SAT B\n", f"COVERED {when(0)} {when(130)}\n", f"COVERED {when('130.000002')} {when('179.999999')}\n",
+            "NAME SAT C\n", f"COVERED {when(0)} {when(180)}\n",
+        ])  # fmt: skip
+
+    def test_parts_without_objects(self) -> None:
+        """Their reports do not say whether they were asked what objects cover; their summaries do."""
+        for name, window in (("p1", FIRST), ("p2", SECOND)):
+            write_part(Path(name), *window, ())
+            text = Path(f"{name}/screen.report").read_text("ascii")
+            Path(f"{name}/screen.report").write_text(text[: text.index("OBJECT 1")] + "END\n", "ascii")
+            Path(f"{name}/screen.out").write_text(summary(0, (0,) * 8, 0, 0) + "UNCOVERED 0\n", "ascii")
+            cert = certificate(*window, 0)
+            Path(f"{name}/screen.cert").write_text(cert, "ascii")
+            Path(f"{name}/screen.cert.sha256").write_text(checksum(cert.encode()), "ascii")
+        self.assertEqual(self.join("p1", "p2"), Run(0, summary(0, (0,) * 8, 0, 0) + "UNCOVERED 0\n", ""))
+        shutil.rmtree("whole")
+        self.change("p2/screen.out", "UNCOVERED 0\n", "")
+        self.refused("p1", "p2", line="p2/screen.out: line 13: UNCOVERED stands here or in p1/screen.out, and not in both")
 
     def test_paths_of_the_list_lead_from_the_new_directory(self) -> None:
         os.mkdir("deep")
@@ -264,8 +304,7 @@ class Refusals(JoinCase):
         write_part(Path("q1"), *FIRST, (), (1, 2, 4))
         self.refused("q1", "q2", line="q2/screen.report: line 18: SIZE of object 3 is not that in q1/screen.report")
         self.refused("q1", "p2", line="p2/screen.report: line 4: SIZE of object 1 is not that in q1/screen.report")
-        for name in OBJECTS:
-            self.change("p2/screen.report", f"NAME {name[2]}\n", f"NAME {name[2]}\nCOVERED NONE\n")
+        self.tell_covered("p2", 3, *["COVERED NONE\n"] * 3)
         self.refused("p1", "p2", line="p2/screen.report: line 4: COVERED of object 1 is not that in p1/screen.report")
 
     def test_another_number_of_objects(self) -> None:
@@ -329,6 +368,9 @@ class Refusals(JoinCase):
             ("LEAVES 5", "LEAVES five", "7: LEAVES and a number are wanted, as screen prints them"),
             ("MESSAGES 2\n", "MESSAGES 2", "13: the summary is cut, or goes on behind its last line"),
             ("MESSAGES 2\n", "MESSAGES 2\nCHECK ACCEPTED\n", "13: the summary is cut, or goes on behind its last line"),
+            ("MESSAGES 2\n", "MESSAGES 2\nUNCOVERED 0\n", "13: UNCOVERED has to stand where the report tells what objects cover, and there alone"),
+            ("MESSAGES 2\n", "MESSAGES 2\nUNCOVERED \n", "13: UNCOVERED and a number are wanted, as screen prints them"),
+            ("MESSAGES 2\n", "MESSAGES 2\nUNCOVERED 0\nKEPT 0\n", "14: the summary is cut, or goes on behind its last line"),
         ):  # fmt: skip
             with self.subTest(new):
                 kept = Path("p2/screen.out").read_bytes()
@@ -365,6 +407,18 @@ class Refusals(JoinCase):
                 Path("p2/000001.cdm").write_bytes(kept)
         os.remove("p2/000001.cdm")
         self.refused("p1", "p2", "p3", line="p2/000001.cdm: line 0: No such file or directory")
+
+    def test_a_summary_that_does_not_count_what_objects_cover(self) -> None:
+        self.tell_covered("p2", 1, *[f"COVERED {when(120)} {when('179.999999')}\n"] * 2, f"COVERED {when(120)} {when('179.999998')}\n")
+        for old, new, line in (
+            ("UNCOVERED 1", "UNCOVERED 0", "13: UNCOVERED is 0, and the report has 1"),
+            ("UNCOVERED 1\n", "", "13: UNCOVERED has to stand where the report tells what objects cover, and there alone"),
+        ):
+            kept = Path("p2/screen.out").read_bytes()
+            self.change("p2/screen.out", old, new)
+            self.refused("p2", line=f"p2/screen.out: line {line}")
+            Path("p2/screen.out").write_bytes(kept)
+        self.assertEqual(self.join("p2").returncode, 0)
 
     def test_a_message_that_is_not_needed_may_be_any(self) -> None:
         # The encounters 2 of p1 and 1 of p3 end in that of p2.

@@ -38,8 +38,10 @@ class Covered(unittest.TestCase):
     def test_spans_across_borders(self) -> None:
         self.assertIsNone(joined_covered([None, None]))
         self.assertEqual(joined_covered([((1, 5), (8, 9)), ((10, 19),), ((20, 22), (24, 25)), (), ((31, 32),)]), ((1, 5), (8, 22), (24, 25), (31, 32)))
-        # Two that follow within a part stay as its report has them.
-        self.assertEqual(joined_covered([((1, 5), (6, 9)), ()]), ((1, 5), (6, 9)))
+        self.assertEqual(joined_covered([(), ((1, 5),), (), ()]), ((1, 5),))
+        self.assertEqual(joined_covered([(), ()]), ())
+        # A tick between two keeps them apart.
+        self.assertEqual(joined_covered([((1, 5),), ((7, 9),)]), ((1, 5), (7, 9)))
 
 
 if __name__ == "__main__":

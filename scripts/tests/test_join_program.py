@@ -14,7 +14,7 @@ import subprocess
 import unittest
 from pathlib import Path
 
-from tests.parts import at, when, write_drifting
+from tests.parts import at, when, write_drifting, write_resting
 from tests.support import FolderCase, need_numpy
 
 need_numpy()
@@ -64,7 +64,8 @@ class Program(FolderCase):
             mine, others = (CREATED.sub(b"CREATION_DATE", (folder / name).read_bytes()) for folder in (joined, whole))
             self.assertEqual(mine, others)
         counts, one_run = (read_summary("summary", path.read_bytes()) for path in (joined / "summary.txt", whole / "screen.out"))
-        for word in ("OBJECTS", "PAIRS", "NEAR", "UNDECIDED", "ENCOUNTERS", "MESSAGES"):
+        self.assertEqual(counts.keys(), one_run.keys())
+        for word in counts.keys() - {"PARTED", "TOUCHING", "ROOTS", "SPLITS", "LEAVES", "FAR"}:
             self.assertEqual(counts[word], one_run[word], word)
         told = sum(len(read_report("part", (part / "screen.report").read_bytes()).encounters) for part in parts)
         return counts["ENCOUNTERS"], told - counts["ENCOUNTERS"]
@@ -91,6 +92,27 @@ class Program(FolderCase):
         encounters, at_borders = self.compare(borders, at("1111.000003"), options, ("--cert-version", "2"))
         self.assertGreater(encounters, 50)
         self.assertGreater(at_borders, 5)
+
+    def test_what_objects_cover(self) -> None:
+        """Five objects at rest beside each other, over a border at each minute: one that covers all by two segments that meet there; one with a gap
+        of a tick at the first border; one that ends a tick before the second, with nothing in the third part; one of a single tick; one of none."""
+        files = self.folder / "files"
+        files.mkdir()
+        spans = (
+            ((at(-5), at(60)), (at(60), at(200))), ((at(0), at(60) - 2), (at(60), at(180))), ((at(0), at(120) - 1),), ((at(60) - 1, at(60) - 1),),
+            ((at(181), at(200)),),
+        )  # fmt: skip
+        for place, useable in enumerate(spans):
+            write_resting(files / f"{place}.oem", f"2025-00{place}A", 7000 + place, useable)
+        self.compare([at(0), at(60), at(120)], at(180), ("--coverage",))
+        lines = re.findall("^(?:OBJECT|COVERED) .*$", (self.folder / "joined" / "screen.report").read_text("ascii"), re.MULTILINE)
+        first, last = when(0), when(180)
+        self.assertEqual(lines, [
+            "OBJECT 1", f"COVERED {first} {last}", "OBJECT 2", f"COVERED {first} {when('59.999998')}", f"COVERED {when(60)} {last}",
+            "OBJECT 3", f"COVERED {first} {when('119.999999')}", "OBJECT 4", f"COVERED {when('59.999999')} {when('59.999999')}",
+            "OBJECT 5", "COVERED NONE",
+        ])  # fmt: skip
+        self.assertTrue((self.folder / "joined" / "summary.txt").read_text("ascii").endswith("\nUNCOVERED 4\n"))
 
 
 if __name__ == "__main__":

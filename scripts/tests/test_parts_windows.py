@@ -67,10 +67,16 @@ class Configuration(unittest.TestCase):
         self.assertEqual(settings.check_words(), ["--as-hermite3", "--sizes=-s.txt", "--threshold=300"])
         self.assertEqual(settings.sizes, "-s.txt")
 
+    def test_a_check_is_asked_what_objects_cover_and_not_that_they_have_to(self) -> None:
+        settings = self.read(options={"coverage": True, "must-cover": True})
+        self.assertEqual(settings.screen_words(), ["--coverage", "--must-cover"])
+        self.assertEqual(settings.check_words(), ["--coverage"])
+
     def test_options_are_those_of_the_documents(self) -> None:
         """Each option of docs/FORMATS.md that screen has and a configuration does not set otherwise; those to come are known too."""
         self.assertEqual(
-            set(OPTIONS), {"threshold", "sizes", "suffix", "as-hermite3", "originator", "cells", "cert-version", "rtn"} | {"large", "brief"}
+            set(OPTIONS),
+            {"threshold", "sizes", "suffix", "as-hermite3", "originator", "cells", "cert-version", "rtn", "coverage", "must-cover"} | {"large", "brief"},
         )
 
     def test_epochs_without_quotes(self) -> None:

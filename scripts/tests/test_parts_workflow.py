@@ -96,6 +96,35 @@ class Workflow(FolderCase):
         self.assertEqual((self.plan().parts[0].name == first.name, self.plan().parts[1].name == second.name), (False, True))
         self.assertEqual(sorted(path.name for path in (results / PARTS).iterdir()), sorted(part.name for part in self.plan().parts))
 
+    def test_what_objects_cover_in_both_parts(self) -> None:
+        """The first object covers a quarter of an hour over the border. A check of a report that tells it has to be asked for it."""
+        self.hold_covering(str(PROGRAM))
+
+    @unittest.skipUnless(os.environ.get("CONJ_PROGRAM"), "CONJ_PROGRAM names no program")
+    def test_what_objects_cover_by_the_program(self) -> None:
+        program = os.path.abspath(os.environ["CONJ_PROGRAM"])
+        joined = self.hold_covering(program)
+        words = [program, "screen", str(self.files), "--from", "2025-01-01T00:00:00", "--to", "2025-01-01T00:30:00", "--coverage", "--out", "one"]
+        one = subprocess.run(words, cwd=self.folder, capture_output=True, check=True)
+        self.assertEqual((joined / "screen.report").read_bytes(), (self.folder / "one" / "screen.report").read_bytes())
+        self.assertEqual((joined / "summary.txt").read_bytes().splitlines()[-1], one.stdout.splitlines()[-1])
+
+    def hold_covering(self, program: str) -> Path:
+        """Runs the workflow with `coverage`, holds what it tells of the first object, and gives the folder of the joined report."""
+        path = self.files / "demo-01.oem"
+        ends = "USEABLE_START_TIME = 2025-01-01T00:05:00\nUSEABLE_STOP_TIME = 2025-01-01T00:20:00\nMETA_STOP\n"
+        path.write_text(path.read_text("ascii").replace("META_STOP\n", ends), "ascii")
+        self.configure(options={"coverage": True}, program=program)
+        run = self.run_workflow()
+        self.assertEqual(run.returncode, 0, run.stderr)
+        whole = self.folder / "results" / "latest"
+        text = (whole / "joined" / "screen.report").read_text("ascii")
+        spans = [line for line in text.splitlines() if line.startswith("COVERED")]
+        self.assertEqual(spans, [f"COVERED 2025-01-01T00:{first}:00.000000 2025-01-01T00:{last}:00.000000" for first, last in (("05", "20"), ("00", "30"))])
+        self.assertTrue((whole / "joined" / "summary.txt").read_text("ascii").endswith("\nUNCOVERED 1\n"))
+        self.assertIn("1 does not cover the window", (whole / "screen.html").read_text("utf-8"))
+        return (whole / "joined").resolve()
+
     def test_a_job_of_a_cluster_is_tried_again_by_another_job(self) -> None:
         """It is the run that tries again, so that another node can be taken, and not the job by itself."""
         self.configure(part_minutes=60, retries=1, page=False)

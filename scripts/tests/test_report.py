@@ -91,6 +91,11 @@ class Refused(unittest.TestCase):
         self.swapped("NAME SAT A\n", "NAME SAT A\nCOVERED NONE\n", 9)
         self.swapped("NAME SAT A\n", "NAME SAT A\nCOVERED NONE\nCOVERED NONE\n", 9)
         self.swapped("NAME SAT A\n", "NAME SAT A\nCOVERED 2025-01-01T00:00:01.000000 2025-01-01T00:00:00.000000\n", 8)
+        for first, last in (("2024-12-31T23:59:59.999999", "2025-01-01T00:00:01.000000"), ("2025-01-01T00:00:00.000000", "2025-01-01T00:01:00.000001")):
+            self.swapped("NAME SAT A\n", f"NAME SAT A\nCOVERED {first} {last}\n", 8)
+        for behind in ("01.000000", "01.000001"):
+            spans = f"COVERED 2025-01-01T00:00:00.000000 2025-01-01T00:00:01.000000\nCOVERED 2025-01-01T00:00:{behind} 2025-01-01T00:00:02.000000\n"
+            self.swapped("NAME SAT A\n", f"NAME SAT A\n{spans}", 9)
         self.swapped("NAME SAT A\n", "NAME SAT \xc4\n", 7)
         self.swapped("NAME SAT A\n", "NAME SAT A\r\n", 7)
 

@@ -8,6 +8,7 @@ import io
 import json
 import os
 import re
+import shutil
 import subprocess
 from dataclasses import dataclass
 import unittest
@@ -21,6 +22,7 @@ from tests.support import (
 
 need_numpy()
 
+from conjtools.epochs import read_epoch  # noqa: E402
 from conjtools.show import main  # noqa: E402
 
 SHOW = ROOT / "scripts" / "show"
@@ -201,8 +203,30 @@ class Page(ShowCase):
         page = self.shown(self.crossing(text))
         midnight = 1_735_689_600_000_000
         self.assertEqual(page.data["objects"]["covered"], [[midnight + 10_000_000, midnight + 40_000_000], []])
+        self.assertEqual(page.data["objects"]["missing"], [midnight, midnight])
+        self.assertIn("1 pair, 2 do not cover the window", (self.folder / "screen.html").read_text("utf-8"))
         self.assertEqual(page.data["objects"]["primary"], [1, 0])
         self.assertIn('name="primary"', (self.folder / "screen.html").read_text("utf-8"))
+
+    def test_objects_that_do_not_cover_the_window(self) -> None:
+        """The imager of the samples has states from 12:01 to 12:09, and the relay all the time: by the ephemerides, and as the report tells it."""
+        noon, minute = read_epoch("2025-02-14T12:00:00"), 60_000_000
+        relay = "COVERED 2025-02-14T12:00:00.000000 2025-02-14T12:10:00.000000\n"
+        told = USUAL_REPORT.replace("RELAY 7\n", f"RELAY 7\n{relay}")
+        later = told.replace("IMAGER 3\n", f"IMAGER 3\n{relay.replace('10:00.000000', '09:59.999999')}")
+        whole = told.replace("IMAGER 3\n", f"IMAGER 3\n{relay}")
+        for report, spans, missing in (
+            (USUAL_REPORT, [noon + minute, noon + 9 * minute], noon), (later, [noon, noon + 10 * minute - 1], noon + 10 * minute),
+            (whole, [noon, noon + 10 * minute], None),
+        ):  # fmt: skip
+            folder = self.sample("usual", report, {"000001.cdm": USUAL_MESSAGE})
+            page = self.shown(folder)
+            self.assertEqual(page.data["objects"]["covered"], [spans, [noon, noon + 10 * minute]])
+            self.assertEqual(page.data["objects"]["missing"], [missing, None])
+            text = (self.folder / "screen.html").read_text("utf-8")
+            self.assertEqual("1 does not cover the window" in text, missing is not None)
+            self.assertEqual("do not cover the window" in text, False)
+            shutil.rmtree(folder)
 
 
 class Since(ShowCase):

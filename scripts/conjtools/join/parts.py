@@ -9,7 +9,7 @@ from pathlib import Path
 from conjtools.epochs import SECOND, epoch_text
 from conjtools.faults import InputFault
 from conjtools.join.certificates import Certificate, read_certificate, read_checksum
-from conjtools.join.summary import Counts, check_summary, line_of, read_summary
+from conjtools.join.summary import UNCOVERED, Counts, check_summary, line_of, read_summary
 from conjtools.report import Report, Window, read_report
 
 REPORT, CERTIFICATE = "screen.report", "screen.cert"
@@ -104,6 +104,8 @@ def check_agreement(parts: Sequence[Part]) -> None:
         if part.counts["PAIRS"] != model.counts["PAIRS"]:
             told = f"PAIRS is {part.counts['PAIRS']}, and {model.counts['PAIRS']} in {model.folder / SUMMARY}"
             raise InputFault(str(part.folder / SUMMARY), line_of("PAIRS"), told)
+        if part.counts.keys() != model.counts.keys():
+            raise InputFault(str(part.folder / SUMMARY), line_of(UNCOVERED), f"{UNCOVERED} stands here or in {model.folder / SUMMARY}, and not in both")
 
 
 def check_objects(model: Part, part: Part) -> None:

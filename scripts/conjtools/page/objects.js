@@ -19,6 +19,8 @@ const objectColumns = [
   { key: "encounters", label: "Encounters", style: "number", value: (k) => ofObject[k].length },
   { key: "nearest", label: "Nearest (m)", style: "number", value: (k) => nearest[k], title: "least miss distance of its encounters" },
   { key: "share", label: "Covered (%)", style: "number", value: (k) => share[k], title: "part of the window at which it has a state" },
+  { key: "missing", label: "Not covered from (UTC)", style: "time", value: (k) => objects.missing[k],
+    title: "first microsecond of the window at which it has no state" },
   { key: "bar", label: "Window", style: "bar", title: `${timeText(windowFirst)} to ${timeText(windowLast)}` },
 ];
 function bar(k) {
@@ -52,7 +54,8 @@ const objectTable = pagedTable(document.getElementById("object-table"), {
       update();
       document.getElementById("encounters-heading").scrollIntoView();
     } }) : noneCell("none"),
-    nearest[k] === null ? noneCell() : fixedText(nearest[k] / 1e9, 3), fixedText(Math.floor(share[k] * 1e5) / 1e3, 3), bar(k)],
+    nearest[k] === null ? noneCell() : fixedText(nearest[k] / 1e9, 3), fixedText(Math.floor(share[k] * 1e5) / 1e3, 3),
+    objects.missing[k] === null ? noneCell("none") : timeText(objects.missing[k]), bar(k)],
   onSort(key) {
     objectSort.falling = objectSort.key === key ? !objectSort.falling : key === "encounters";
     objectSort.key = key;
@@ -63,7 +66,7 @@ function updateObjects() {
   const hits = phrasesOf(objectField("q").value).map(hitsOf), which = objectField("which").value, primary = objectField("primary")?.checked;
   const found = [];
   for (let k = 0; k < objects.name.length; k++) {
-    const meets = ofObject[k].length > 0, lacks = windowFirst <= windowLast && share[k] < 1;
+    const meets = ofObject[k].length > 0, lacks = objects.missing[k] !== null;
     if ((hits.length === 0 || hits.some((hit) => hit[k])) && (!primary || objects.primary[k])
       && (which === "" || (which === "told" ? meets || lacks : which === "encounters" ? meets : which === "gaps" ? lacks : !meets && !lacks))) found.push(k);
   }

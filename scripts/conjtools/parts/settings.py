@@ -41,6 +41,8 @@ OPTIONS = {
     "cells": Option.SCREEN_VALUE,
     "cert-version": Option.SCREEN_VALUE,
     "rtn": Option.SCREEN_FLAG,
+    "coverage": Option.FLAG,
+    "must-cover": Option.SCREEN_FLAG,
 }
 KEYS = ("folder", "from", "to", "part_minutes", "options", "results", "page", "threads", "memory_mb", "retries", "program")
 
