@@ -49,40 +49,6 @@ SPAN NEAR 2025-01-01T00:00:29.538120 2025-01-01T00:00:30.461880
 END
 ";
 
-const REPORT_OF_COVERAGE: &[u8] = b"CONJ-REPORT 1
-WINDOW 2025-01-01T00:00:59.500000 2025-01-01T00:01:00.500000
-THRESHOLD 5000000000000
-OBJECT 1
-FILE a.oem
-ID 2025-001A
-NAME SAT A
-SIZE 1500000000
-COVERED 2025-01-01T00:00:59.500000 2025-01-01T00:01:00.000000
-OBJECT 2
-FILE b.oem
-ID 2025-001A
-NAME SAT A
-SIZE 0
-COVERED 2025-01-01T00:00:59.500000 2025-01-01T00:01:00.000000
-END
-";
-
-const REPORT_OF_NO_COVERAGE: &[u8] = b"CONJ-REPORT 1
-WINDOW 2025-01-01T00:01:00.000001 2025-01-01T00:01:00.500000
-THRESHOLD 5000000000000
-OBJECT 1
-FILE a.oem
-ID 2025-001A
-NAME SAT A
-COVERED NONE
-OBJECT 2
-FILE b.oem
-ID 2025-001A
-NAME SAT A
-COVERED NONE
-END
-";
-
 /// The encounters alone.
 const NO_MORE: Tells = Tells {
     sizes: false,
@@ -240,33 +206,6 @@ fn two_tracks_cross_at_one_kilometre(rt: HostRuntime) {
     assert_eq!(rt; text.as_slice(), REPORT);
     let text = told_of_crossing(&rt, rt.alloc(), Told::Sized);
     assert_eq!(rt; text.as_slice(), SIZED_REPORT);
-}
-
-/// What is told of the coverage of a window that has no encounter.
-fn told_of_coverage(rt: &impl Abort, alloc: Global, sizes: bool, window: Window) -> Vec<u8> {
-    let mut problem = problem(rt, alloc).expect(rt, "no fault");
-    problem.window = window;
-    let tells = Tells {
-        sizes,
-        coverage: true,
-    };
-    report_text(alloc, &problem, tells, &[], &[], &[], &[]).expect(rt, "no fault")
-}
-
-#[test]
-fn covered_spans_stand_behind_the_lines_of_their_object(rt: HostRuntime) {
-    let half_covered = Window {
-        first: tick(59_500_000),
-        last: tick(60_500_000),
-    };
-    let text = told_of_coverage(&rt, rt.alloc(), true, half_covered);
-    assert_eq!(rt; text.as_slice(), REPORT_OF_COVERAGE);
-    let uncovered = Window {
-        first: tick(60_000_001),
-        last: tick(60_500_000),
-    };
-    let text = told_of_coverage(&rt, rt.alloc(), false, uncovered);
-    assert_eq!(rt; text.as_slice(), REPORT_OF_NO_COVERAGE);
 }
 
 #[test]
