@@ -14,4 +14,5 @@ pub mod Sizes
 pub mod SlotBoxes
 pub mod Squares
 pub mod Tiles
+pub mod ToldLeaves
 pub mod Verdicts

@@ -1,12 +1,13 @@
 -- The leaves of roots: what the ticks of a root are closed as, and how its leaves describe it.
-use Rattle.std.specs.Prelude.{ℕ, ◌≡◌, ◌≤◌, List, [], All, Any, Option, Some, None}
-use Rattle.std.specs.List.{flat_map}
+use Rattle.std.specs.Prelude.{ℕ, ◌≡◌, ◌≤◌, Bool, if◌then◌else◌, List, [], All, Any, Option, Some, None}
+use Rattle.std.specs.List.{flat_map, list_all}
 use Rattle.cj_hermite.specs.Interpolant.{Curve}
 use Rattle.cj_case.specs.PlainProblems.{PlainProblem, threshold_of}
 use Rattle.cj_hermite.specs.ObjectsAtTicks.{curve_at, OfObjectsAt}
 use Rattle.cj_case.specs.Cells.{PlainCell}
 use Rattle.cj_case.specs.declared.kind.Kind.{Kind}
-use Rattle.cj_case.specs.Leaves.{PlainLeaf, IsTickOf}
+use Rattle.cj_case.specs.declared.kind.Kind.TheVariants.{Far}
+use Rattle.cj_case.specs.Leaves.{PlainLeaf, IsTickOf, same_kind}
 use Rattle.cj_case.specs.Order.{AreInOrder}
 use Rattle.cj_bezier.specs.Verdicts.{kind_of, cell_verdict, Holds}
 use Rattle.cj_bezier.specs.Halving.{leaves_between}
@@ -38,6 +39,14 @@ leaves_of_root case r = leaves_of_curves r (threshold_of case r.a r.b) (curve_at
 -- the leaves of several roots, in order
 unfoldable pub leaves_of_roots : PlainProblem → List PlainCell → List PlainLeaf
 leaves_of_roots case rs = flat_map (leaves_of_root case) rs
+
+-- each leaf of a root is far
+unfoldable pub is_far_throughout : PlainProblem → PlainCell → Bool
+is_far_throughout case r = list_all (λ s. same_kind Far s.kind) (leaves_of_root case r)
+
+-- the leaves of a root that are told: all of them, but none where each is far
+unfoldable pub told_of_root : PlainProblem → PlainCell → List PlainLeaf
+told_of_root case r = if is_far_throughout case r then [] else leaves_of_root case r
 
 -- what a leaf says is so at each of its ticks: there both its objects have a state, and their distance is of its kind
 abbrev pub IsTrueThroughout : PlainProblem → PlainLeaf → Type 0

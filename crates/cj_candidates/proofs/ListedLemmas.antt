@@ -1,17 +1,10 @@
 -- Pairs that are in a list.
-use Rattle.std.proofs.Common.{◌≡◌, ◌⊎◌, inl, inr, ℕ, zero, suc, ◌+◌, ◌<◌, ◌≤◌, ◌&&◌, Bool, true, false, cond, List, [], ◌∷◌, length, get_or, map, filter, Result, Ok, Err, All, refl, sym, ap, subst, ◌∙◌, arith, nat_cmp}
-use Rattle.std.specs.Prelude.{◌||◌, nat_eq, is_ok, slice_index_or}
-use Rattle.std.specs.List.{AllPairs, list_any}
-use Rattle.std.specs.List.Sorted.{IsBinarySearchResult, IsNonDecreasingBy, IsSearchInRange}
-use Rattle.std.specs.declared.cmp.Ordering.{Ordering}
-use Rattle.std.specs.declared.cmp.Ordering.TheVariants.{Less, Equal, Greater}
-use Rattle.std.specs.Ordering.{ordering_index, ordering_then}
+use Rattle.std.proofs.Common.{◌≡◌, ◌⊎◌, inl, inr, ℕ, ◌<◌, ◌≤◌, ◌&&◌, Bool, true, false, cond, List, [], ◌∷◌, length, filter, All, refl, sym, ap, subst, ◌∙◌, arith}
+use Rattle.std.specs.Prelude.{◌||◌, nat_eq}
 use Rattle.std.proofs.lemmas.Bool.Decides.{nat_tests}
-use Rattle.std.proofs.lemmas.List.{get_or_default}
 use Rattle.std.proofs.lemmas.List.Sums.{length-filter, count_by-le-length}
 use Rattle.cj_interval.proofs.ListLemmas.{Each, Each-weaker, Exists, All-from_each, member_passes}
-use Rattle.cj_case.specs.declared.pair.Pair.{Pair}
-use Rattle.cj_case.specs.Pairs.{objects_of, pairs_of}
+use Rattle.cj_case.specs.Pairs.{pairs_of}
 use Rattle.cj_case.proofs.PairLemmas.{IsPair, Each-pairs}
 use Rattle.cj_candidates.specs.SoughtPairs.{ArePairsOf, is_listed}
 use Rattle.cj_candidates.proofs.ObjectLemmas.{each_filtered, filter_both}

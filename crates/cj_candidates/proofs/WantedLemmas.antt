@@ -1,10 +1,8 @@
 -- The candidates that are wanted: slot by slot of the pairs of a list, and in all.
-use Rattle.std.proofs.Common.{◌≡◌, ℕ, ◌&&◌, Bool, true, false, cond, List, [], ◌∷◌, length, filter, refl, sym, ap, subst, ◌∙◌, arith}
+use Rattle.std.proofs.Common.{◌≡◌, ℕ, ◌&&◌, Bool, true, false, List, [], ◌∷◌, length, filter, refl, sym, ap, ◌∙◌, arith}
 use Rattle.std.specs.List.{flat_map}
-use Rattle.std.specs.List.Sorted.{IsPermutation}
 use Rattle.cj_case.specs.PlainProblems.{PlainProblem}
 use Rattle.cj_case.specs.Pairs.{pairs_of}
-use Rattle.cj_case.specs.Cells.{PlainCell}
 use Rattle.cj_hermite.specs.Roots.{roots_by_slot, roots_in_slot, roots_of, slots_of}
 use Rattle.cj_hermite.proofs.RootSumLemmas.{same_roots}
 use Rattle.cj_interval.proofs.SumLemmas.{total}
@@ -13,7 +11,7 @@ use Rattle.cj_bezier.specs.Candidates.{is_candidate, is_kept, is_touching, shell
 use Rattle.cj_case.specs.declared.shells.Shell.{Shell}
 use Rattle.std.specs.Prelude.{Option}
 use Rattle.cj_candidates.specs.SlotRuns.{roots_at}
-use Rattle.cj_candidates.specs.SoughtPairs.{candidates_of, is_wanted_candidate}
+use Rattle.cj_candidates.specs.SoughtPairs.{is_wanted_candidate}
 use Rattle.cj_candidates.proofs.ObjectLemmas.{filter_both}
 
 length_is : {X : Type 0} (xs : List X) → length xs ≡ total (λ x. 1) xs

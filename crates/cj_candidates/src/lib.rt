@@ -9,6 +9,7 @@ mod ground;
 mod keeping;
 mod measured_object;
 mod objects_measured;
+mod one_slot;
 mod slot_boxes;
 mod slot_run;
 mod slots_searched;
@@ -21,3 +22,4 @@ pub use candidates::Candidates;
 pub use filtering::{
     find_among, find_candidates, find_wanted, measure_again, measure_all, roots_in_turn,
 };
+pub use one_slot::candidates_in_slot;

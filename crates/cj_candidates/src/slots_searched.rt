@@ -67,7 +67,7 @@ pub fn candidates_among(
 }
 
 /// The candidates of a slot.
-fn candidates_paired(
+pub fn candidates_paired(
     alloc: Global,
     ground: &Ground<'_, '_>,
     slot: u32,
@@ -172,7 +172,7 @@ fn merged<R: Threads + Sync>(
 {
     let touching = touching_in(&runs);
     let lists = roots_in(alloc, runs)?;
-    let roots = merge_runs(rt, alloc, &lists, workers as usize)?;
+    let roots = merge_runs(rt, alloc, lists, workers as usize)?;
     Ok(SlotRun { roots, touching })
 }
 

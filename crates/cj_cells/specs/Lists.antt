@@ -1,12 +1,13 @@
 -- The one-thread list: the leaves of all roots, in order.
-use Rattle.std.specs.Prelude.{ℕ, ◌+◌, ◌<◌, ◌≤◌, Bool, List, Option, Some, None, length}
+use Rattle.std.specs.Prelude.{ℕ, ◌+◌, ◌<◌, ◌≤◌, Bool, not, List, Option, Some, None, filter, length}
 use Rattle.std.specs.List.{sum_by}
 use Rattle.cj_hermite.specs.Interpolant.{Curve}
 use Rattle.cj_case.specs.PlainProblems.{PlainProblem, threshold_of}
 use Rattle.cj_hermite.specs.ObjectsAtTicks.{curve_at}
 use Rattle.cj_case.specs.Cells.{PlainCell}
 use Rattle.cj_hermite.specs.Roots.{roots_of}
-use Rattle.cj_case.specs.Leaves.{PlainLeaf}
+use Rattle.cj_case.specs.declared.kind.Kind.TheVariants.{Far}
+use Rattle.cj_case.specs.Leaves.{PlainLeaf, same_kind}
 use Rattle.cj_bezier.specs.Halving.{splits_between}
 use Rattle.cj_bezier.specs.Candidates.{is_candidate, is_candidate_anew}
 use Rattle.cj_bezier.specs.RootLeaves.{kind_between, leaves_of_root, leaves_of_roots, IsTrueThroughout}
@@ -26,6 +27,10 @@ pub record IsSound (case : PlainProblem) (s : PlainLeaf) : Type 0 where
 -- the one-thread list of a case
 abbrev pub list_candidates : PlainProblem → List PlainLeaf
 list_candidates case = list_of (is_candidate case) case
+
+-- the near and undecided leaves of a case, in order of pair and time
+unfoldable pub marked_leaves : PlainProblem → List PlainLeaf
+marked_leaves case = filter (λ s. not (same_kind Far s.kind)) (list_candidates case)
 
 -- how often a root is halved whose objects have these interpolants
 abbrev pub splits_of_curves : PlainCell → ℕ → Option Curve → Option Curve → ℕ

@@ -48,7 +48,8 @@ impl<'p, K: Run> Refinery<'p, K> {
         let parts = take_apart(alloc, self, hands)?;
         let mut cells = parts.kept;
         gather(parts.stations, &mut cells)?;
-        let leaves = merge_runs(rt, alloc, &parts.runs, parts.runs.len())?;
+        let hands = parts.runs.len();
+        let leaves = merge_runs(rt, alloc, parts.runs, hands)?;
         Ok(Collected {
             leaves,
             cells,

@@ -48,7 +48,7 @@ fn take_turns<R: Threads + Sync + Abort>(
     let merged = merge_runs(
         rt,
         alloc,
-        &runs(alloc, count, length).expect(rt, "no fault"),
+        runs(alloc, count, length).expect(rt, "no fault"),
         workers,
     )
     .expect(rt, "no fault");
@@ -87,7 +87,7 @@ fn follow_each_other<R: Threads + Sync + Abort>(
             .expect(rt, "no fault");
         count = count.wrapping_add(*length);
     }
-    let merged = merge_runs(rt, alloc, &runs, workers).expect(rt, "no fault");
+    let merged = merge_runs(rt, alloc, runs, workers).expect(rt, "no fault");
     let expected = cells(alloc, 0, 1, count).expect(rt, "no fault");
     assert!(rt; merged.as_slice() == expected.as_slice());
 }
@@ -125,7 +125,7 @@ fn come_in_order<R: Threads + Sync + Abort>(rt: &R, alloc: Global, count: u32, w
         .expect(rt, "no fault");
     runs.push(cells(alloc, count, 1, count).expect(rt, "no fault"))
         .expect(rt, "no fault");
-    let merged = merge_runs(rt, alloc, &runs, workers).expect(rt, "no fault");
+    let merged = merge_runs(rt, alloc, runs, workers).expect(rt, "no fault");
     let expected = cells(alloc, 0, 1, count.wrapping_mul(2)).expect(rt, "no fault");
     assert!(rt; merged.as_slice() == expected.as_slice());
 }
@@ -145,7 +145,7 @@ fn stay_at_one_place<R: Threads + Sync + Abort>(rt: &R, alloc: Global, workers: 
         runs.push(cells(alloc, 7, 0, 10_000).expect(rt, "no fault"))
             .expect(rt, "no fault");
     }
-    let merged = merge_runs(rt, alloc, &runs, workers).expect(rt, "no fault");
+    let merged = merge_runs(rt, alloc, runs, workers).expect(rt, "no fault");
     let expected = cells(alloc, 7, 0, 30_000).expect(rt, "no fault");
     assert!(rt; merged.as_slice() == expected.as_slice());
 }

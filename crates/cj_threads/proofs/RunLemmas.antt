@@ -2,6 +2,7 @@
 use Rattle.std.proofs.Common.{◌≡◌, ℕ, suc, ◌+◌, ◌-◌, ◌<◌, ◌≤◌, inl, inr, None, List, [], ◌∷◌, ◌++◌, length, map, take, drop, get_or, refl, sym, ap, subst, ◌∙◌, arith}
 use Rattle.std.specs.Borrow.{Bor}
 use Rattle.std.specs.Global.{Vec}
+use Rattle.std.specs.Prelude.{All}
 use Rattle.std.specs.List.{flat_map, slice_get}
 use Rattle.std.specs.List.Sorted.{IsPermutation}
 use Rattle.std.proofs.lemmas.List.{append-nil, append_assoc, map-append, take-append-drop, take_all, take_more}
@@ -14,6 +15,12 @@ use Rattle.cj_base.specs.declared.tick.Tick.{Tick}
 use Rattle.cj_case.specs.declared.pair.Pair.{Pair}
 use Rattle.cj_case.specs.PairOrder.{AreInOrderBy}
 use Rattle.cj_threads.specs.Runs.{elements_of, elements_in, AreMerged, IsMerged}
+
+-- what holds of all that are left holds of the one that is taken, and of the others
+pub each_taken : {Y : Type 0} (P : Y → Type 0) (y : Y) (left rest : List Y) → left ≡ y ∷ rest → All P left → P y × All P rest
+each_taken {Y} P y left rest is all =
+    let now = subst (All P) is all in
+    (now 0 y (omega arith), λ i d lt. now (suc i) d (omega (arith, lt)))
 
 module _ {X : Type 0} where
   -- of some lists, and of one more
@@ -35,6 +42,18 @@ module _ {X : Type 0} where
       → IsPermutation (flat_map items ys) all
   items_all items ys i all end so_far =
       subst (IsPermutation (flat_map items ys)) (sym (so_far ∙ ap (flat_map items) (take_all i ys end))) (IsPermutation-refl (flat_map items ys))
+
+  -- a list is taken from those that are left, and put behind the others
+  pub list_taken : {Y : Type 0} (items : Y → List X) (y : Y) (left rest : List Y) (old new more all : List X) → left ≡ y ∷ rest → new ≡ old ++ more → more ≡ items y
+      → old ++ flat_map items left ≡ all → new ++ flat_map items rest ≡ all
+  list_taken {Y} items y left rest old new more all is grown same so_far =
+      ap (λ (xs : List X). xs ++ flat_map items rest) (grown ∙ ap (λ (xs : List X). old ++ xs) same) ∙ append_assoc old (items y) (flat_map items rest)
+      ∙ ap (λ (ys : List Y). old ++ flat_map items ys) (sym is) ∙ so_far
+
+  -- when no list is left, each element is there as often
+  pub all_taken : {Y : Type 0} (items : Y → List X) (left : List Y) (old all : List X) → left ≡ [] → old ++ flat_map items left ≡ all → IsPermutation all old
+  all_taken {Y} items left old all none so_far =
+      subst (λ (xs : List X). IsPermutation xs old) (sym (append-nil old) ∙ ap (λ (ys : List Y). old ++ flat_map items ys) (sym none) ∙ so_far) (IsPermutation-refl old)
 
   -- the first lists as slices, and one more
   pub slices_more : {Y : Type 0} (items : Y → List X) (ys : List Y) (i : ℕ) (y : Y) (old new : List (Bor (List X))) (slice : Bor (List X)) → i < length ys

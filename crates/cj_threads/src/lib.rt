@@ -13,7 +13,6 @@ mod told;
 
 pub use dealing::map_dealt;
 pub use dealt_parts::{all_made, map_parts};
-pub use joining::ready_list;
 pub use merging::merge_runs;
 pub use placed::Placed;
 pub use told::{Nobody, Told};

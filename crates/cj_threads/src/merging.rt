@@ -1,19 +1,18 @@
 //! Runs merged into one list: ranges of them are merged by threads, and what comes of them is put behind one another.
-ghost use Rattle.std.specs.Prelude.{◌≡◌, ◌<◌, [], get_or, length, map, flat_map, IfOk};
+ghost use Rattle.std.specs.Prelude.{◌≡◌, ◌<◌, get_or, length, map, flat_map, All, IfOk};
 ghost use Rattle.std.specs.List.Sorted.{IsPermutation};
-ghost use Rattle.std.specs.Thread.{IsSync};
 ghost use Rattle.cj_case.specs.PairOrder.{AreInOrderBy};
 ghost use Rattle.cj_threads.specs.Runs.{elements_of, AreMerged, IsMerged};
 
 use crate::dealing::map_dealt;
 use crate::dealt_parts::all_made;
-use crate::joining::{put_together, ready_list};
+use crate::joining::put_together;
 use crate::placed::Placed;
 use crate::ranges::{count_of, cut_into_ranges};
 use crate::sorting::put_in_order;
 use crate::told::Nobody;
 use std::alloc::{AllocError, Global};
-use std::thread::{Threads, join};
+use std::thread::Threads;
 
 /// From so many elements on a merge is worth a second thread.
 const MANY: usize = 16_384;
@@ -51,39 +50,6 @@ fn merge_each<T: Placed + Copy + Send + Sync, R: Threads + Sync>(
     all_made(alloc, lists)
 }
 
-/// Some element of runs, if they have any.
-fn some_element<T: Copy>(runs: &[&[T]]) -> Option<T> {
-    runs.iter().find_map(|run| run.first().copied())
-}
-
-/// The elements of some runs, so many as are counted: their ranges are merged by as many threads as there are workers, and beside that the list is
-/// made that takes all of them.
-fn merge_by_threads<T: Placed + Copy + Send + Sync, R: Threads + Sync>(
-    rt: &R,
-    alloc: Global,
-    runs: Vec<&[T]>,
-    count: usize,
-    workers: usize,
-) -> Result<Vec<T>, AllocError>
-    ensures elements { IfOk result (λ all. IsPermutation (elements_of runs.entry.items) all.items) }
-    ensures ordered { IfOk result (λ all. AreInOrderBy T.place_of all.items) }
-{
-    let filler = some_element(&runs);
-    let ranges = cut_into_ranges(alloc, runs, workers.saturating_mul(RANGES_A_WORKER))?;
-    let parts = ranges.as_slice();
-    let merge = || -> Result<Vec<Vec<T>>, AllocError>
-        requires { IsSync R.row }
-        ensures { IfOk result (λ lists. AreMerged T.place_of parts.entry.now lists.items) }
-    { merge_each(rt, alloc, parts, workers) };
-    let make = || -> Result<Vec<T>, AllocError>
-        ensures { IfOk result (λ all. all.items ≡ []) }
-    { ready_list(alloc, filler, count) };
-    let (lists, all) = join(rt, merge, make);
-    let lists = lists?;
-    let all = all?;
-    put_together(&lists, all)
-}
-
 /// Runs as slices.
 fn slices<T>(alloc: Global, runs: &[Vec<T>]) -> Result<Vec<&[T]>, AllocError>
     ensures { IfOk result (λ all. map (λ run. run.now) all.items ≡ map (λ run. run.items) runs.now) }
@@ -95,20 +61,37 @@ fn slices<T>(alloc: Global, runs: &[Vec<T>]) -> Result<Vec<&[T]>, AllocError>
     Ok(all)
 }
 
-/// The elements of some runs, in order whatever came, by as many threads as there are workers.
+/// Ranges of some runs, each merged into a list of its own, by as many threads as there are workers.
+fn merge_ranges<T: Placed + Copy + Send + Sync, R: Threads + Sync>(
+    rt: &R,
+    alloc: Global,
+    runs: Vec<&[T]>,
+    workers: usize,
+) -> Result<Vec<Vec<T>>, AllocError>
+    ensures elements { IfOk result (λ lists. IsPermutation (elements_of runs.entry.items) (flat_map (λ list. list.items) lists.items)) }
+    ensures ordered { IfOk result (λ lists. All (λ list. AreInOrderBy T.place_of list.items) lists.items) }
+{
+    let ranges = cut_into_ranges(alloc, runs, workers.saturating_mul(RANGES_A_WORKER))?;
+    merge_each(rt, alloc, &ranges, workers)
+}
+
+/// The elements of some runs, in order whatever came, by as many threads as there are workers. The runs are given up before the list is made that
+/// takes all elements.
 pub fn merge_runs<T: Placed + Copy + Send + Sync, R: Threads + Sync>(
     rt: &R,
     alloc: Global,
-    runs: &[Vec<T>],
+    runs: Vec<Vec<T>>,
     workers: usize,
 ) -> Result<Vec<T>, AllocError>
-    ensures elements { IfOk result (λ all. IsPermutation (flat_map (λ run. run.items) runs.now) all.items) }
+    ensures elements { IfOk result (λ all. IsPermutation (flat_map (λ run. run.items) runs.items) all.items) }
     ensures ordered { IfOk result (λ all. AreInOrderBy T.place_of all.items) }
 {
-    let runs = slices(alloc, runs)?;
-    let count = count_of(&runs);
+    let parts = slices(alloc, &runs)?;
+    let count = count_of(&parts);
     if workers < 2 || count < MANY {
-        return merge_in_turn(alloc, &runs);
+        return merge_in_turn(alloc, &parts);
     }
-    merge_by_threads(rt, alloc, runs, count, workers)
+    let lists = merge_ranges(rt, alloc, parts, workers)?;
+    drop(runs);
+    put_together(alloc, lists, count)
 }

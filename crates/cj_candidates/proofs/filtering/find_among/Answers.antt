@@ -1,6 +1,5 @@
-use Rattle.std.proofs.Common.{◌≡◌, ℕ, ◌<◌, Bool, true, length, map, refl, sym, ap, subst, ◌∙◌, arith}
+use Rattle.std.proofs.Common.{ℕ, ◌<◌, Bool, true, length, refl, sym, ap, subst, ◌∙◌}
 use Rattle.std.proofs.lemmas.Result.{err_from_is_err_and}
-use Rattle.cj_track.specs.Tracks.{plain_track}
 use Rattle.cj_case.specs.Pairs.{pairs_of}
 use Rattle.cj_case.specs.Problems.{plain_problem}
 use Rattle.cj_case.specs.Slots.{slot_count}

@@ -1,9 +1,9 @@
-use Rattle.std.proofs.Common.{◌≡◌, ◌∙◌, ◌&&◌, ℕ, ◌<◌, ◌≤◌, Bool, List, All, length, filter, map, refl, sym, ap, subst, arith}
+use Rattle.std.proofs.Common.{◌∙◌, ◌&&◌, ℕ, ◌<◌, ◌≤◌, Bool, List, All, length, map, refl, sym, ap, subst, arith}
 use Rattle.std.proofs.lemmas.List.{length-map}
 use Rattle.std.proofs.lemmas.Result.{err_from_is_err_and}
 use Rattle.cj_track.specs.Tracks.{plain_track}
 use Rattle.cj_case.specs.CaseLimits.{MAX_SIZE}
-use Rattle.cj_case.specs.Pairs.{objects_of, pairs_of}
+use Rattle.cj_case.specs.Pairs.{objects_of}
 use Rattle.cj_case.specs.Problems.{plain_problem}
 use Rattle.cj_case.specs.Slots.{slot_count}
 use Rattle.cj_hermite.specs.Roots.{roots_of}

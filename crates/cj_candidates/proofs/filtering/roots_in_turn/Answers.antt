@@ -1,10 +1,9 @@
 use Rattle.std.proofs.Common.{◌≡◌, ℕ, List, length, map, ap, subst, ◌∙◌, arith}
 use Rattle.std.specs.List.Sorted.{IsPermutation}
-use Rattle.std.proofs.lemmas.List.{length-map}
 use Rattle.std.proofs.lemmas.Result.{err_from_is_err_and}
 use Rattle.cj_track.specs.declared.track.Track.{Track}
 use Rattle.cj_track.specs.Tracks.{plain_track}
-use Rattle.cj_case.specs.Cells.{PlainCell, plain_cell, plain_cells}
+use Rattle.cj_case.specs.Cells.{PlainCell}
 use Rattle.cj_case.specs.Pairs.{pairs_of}
 use Rattle.cj_case.specs.Problems.{plain_problem}
 use Rattle.cj_hermite.specs.Roots.{roots_by_slot}

@@ -1,14 +1,12 @@
-use Rattle.std.proofs.Common.{◌≡◌, ℕ, ◌<◌, Bool, List, length, filter, ap, subst, ◌∙◌, arith}
+use Rattle.std.proofs.Common.{ℕ, List, length, ap, subst, ◌∙◌, arith}
 use Rattle.std.specs.List.Sorted.{IsPermutation}
 use Rattle.std.proofs.lemmas.List.{length-map}
 use Rattle.std.proofs.lemmas.Result.{err_from_is_err_and}
-use Rattle.cj_case.specs.Pairs.{pairs_of}
 use Rattle.cj_case.specs.Problems.{plain_problem}
 use Rattle.cj_case.specs.Cells.{PlainCell}
 use Rattle.cj_case.specs.Cells.{plain_cell, plain_cells}
-use Rattle.cj_hermite.specs.Roots.{slots_of}
 use Rattle.cj_cells.proofs.ListingLemmas.{error_is}
-use Rattle.cj_candidates.specs.SlotRuns.{candidates_over, roots_at, roots_over, sought_in}
+use Rattle.cj_candidates.specs.SlotRuns.{candidates_over, roots_over, sought_in}
 use Rattle.cj_candidates.specs.SoughtPairs.{is_wanted_candidate}
 use Rattle.cj_candidates.proofs.WantedLemmas.{as_many_roots, wanted_by_slot}
 use Rattle.cj_candidates.proofs.filtering.search_all.Goals as goal

@@ -1,9 +1,4 @@
-use Rattle.std.proofs.Common.{◌≡◌, ◌<◌, ◌∙◌, length, sym, ap, subst, get_or, arith}
-use Rattle.std.proofs.lemmas.Result.{err_from_is_err_and}
-use Rattle.cj_track.specs.declared.track.Track.{Track}
-use Rattle.cj_track.specs.Tracks.{plain_track}
-use Rattle.cj_candidates.specs.declared.measured_object.MeasuredObject.{MeasuredObject}
-use Rattle.cj_candidates.specs.MeasuredObjects.{IsMeasured}
+use Rattle.std.proofs.Common.{◌≡◌, ◌∙◌, length, ap, arith}
 use Rattle.cj_candidates.proofs.MeasuredLemmas.{each_measured, in_one_are, measured_more, rows_whole}
 use Rattle.cj_candidates.proofs.objects_measured.measure_in_turn.Goals as goal
 

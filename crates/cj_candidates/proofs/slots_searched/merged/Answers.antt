@@ -1,5 +1,4 @@
-use Rattle.std.proofs.Common.{List, Vec, Global, ◌∙◌, ap, subst}
-use Rattle.std.specs.List.{flat_map}
+use Rattle.std.proofs.Common.{List, ◌∙◌, ap, subst}
 use Rattle.std.specs.List.Sorted.{IsPermutation}
 use Rattle.cj_case.specs.declared.cell.Cell.{Cell}
 use Rattle.cj_cells.proofs.OrderLemmas.{roots_in_order}
@@ -7,10 +6,7 @@ use Rattle.cj_candidates.specs.SlotRuns.{candidates_counted}
 use Rattle.cj_candidates.proofs.slots_searched.merged.Goals as goal
 
 pub returns-clause-roots : goal.returns-clause-roots
-returns-clause-roots g c =
-    let all = λ (lists : List (Vec Cell Global)). flat_map (λ list. list.items) lists in
-    subst (λ (cells : List Cell). IsPermutation cells c.in_ok-roots.roots.items)
-    (ap all c.deref-2.ensures.value ∙ c.in_ok-lists.ensures) c.in_ok-roots.ensures.elements
+returns-clause-roots g c = subst (λ (cells : List Cell). IsPermutation cells c.in_ok-roots.roots.items) c.in_ok-lists.ensures c.in_ok-roots.ensures.elements
 
 pub returns-clause-ordered : goal.returns-clause-ordered
 returns-clause-ordered g c = roots_in_order c.in_ok-roots.roots.items c.in_ok-roots.ensures.ordered

@@ -1,8 +1,6 @@
-use Rattle.std.proofs.Common.{◌≡◌, List, All, Ok, refl, sym, subst, arith}
-use Rattle.std.specs.Prelude.{IfOk, OnOk, IsErrOf}
+use Rattle.std.proofs.Common.{List, All, refl, sym, subst, arith}
 use Rattle.cj_case.specs.Problems.{plain_problem}
 use Rattle.cj_case.specs.declared.cell.Cell.{Cell}
-use Rattle.cj_case.specs.Cells.{plain_cells}
 use Rattle.cj_pool.specs.RootLists.{IsKept}
 use Rattle.cj_pool.proofs.listing.leaves_of_list.Goals as goal
 
