@@ -1,38 +1,18 @@
--- Boxes that are entered line by line, from the last, and lines that are made one by one.
-use Rattle.std.proofs.Common.{◌≡◌, ℕ, zero, suc, ◌+◌, ◌-◌, ◌<◌, ◌≤◌, Bool, true, false, cond, min, List, [], ◌∷◌, ◌++◌, length, get_or, take, drop, map, replicate, subst, Option, Some, None, refl, sym, ap, ◌∙◌, arith}
+-- Boxes that are entered line by line, from the last.
+use Rattle.std.proofs.Common.{◌≡◌, ℕ, zero, suc, ◌+◌, ◌-◌, ◌<◌, ◌≤◌, Bool, true, false, cond, min, List, [], ◌∷◌, length, get_or, drop, map, replicate, subst, Option, Some, None, refl, sym, ap, ◌∙◌, arith}
 use Rattle.std.specs.Prelude.{All, option_map}
-use Rattle.std.specs.List.{enumerate_from, find, range_with_len}
-use Rattle.std.proofs.lemmas.List.{drop_all, length-take-le, length-map, map-append, take_more}
+use Rattle.std.specs.List.{find, range_with_len}
+use Rattle.std.proofs.lemmas.List.{drop_all, length-map}
 use Rattle.cj_case.specs.declared.axis_box.AxisBox.{AxisBox}
 use Rattle.cj_case.specs.Boxes.{plain_box, plain_boxes, plain_rows}
 use Rattle.cj_case.specs.Tables.{IsEven, Table, even_table, filled, value_at}
 use Rattle.cj_case.proofs.TableLemmas.{even_everywhere, filled_where, length-replicated, rows_made, value_everywhere}
 use Rattle.cj_bezier.proofs.AllBoxLemmas.{seen_at}
 use Rattle.cj_cert.specs.declared.cert_lines.BoxLine.{BoxLine}
-use Rattle.cj_cert.specs.declared.cert_lines.SizeOfLine.{SizeOfLine}
 use Rattle.cj_cert.specs.Certificates.{PlainBoxLine, plain_box_line}
 use Rattle.cj_cert.specs.Listed.{box_listed, is_line_of}
 use Rattle.cj_cert.proofs.ListedLemmas.{line_tells, told_by}
 use Rattle.cj_blocks.specs.Entered.{IsEntered}
-use Rattle.cj_blocks.specs.Rewritten.{size_line, size_lines}
-
--- ---- sizes
-
-enumerate_more : (n : ℕ) (xs : List ℕ) (x : ℕ) → enumerate_from n (xs ++ x ∷ []) ≡ enumerate_from n xs ++ (n + length xs, x) ∷ []
-enumerate_more n [] x = let at : n ≡ n + 0 = omega arith in ap (λ (k : ℕ). (k, x) ∷ []) at
-enumerate_more n (y ∷ xs) x =
-    let at : n + 1 + length xs ≡ n + suc (length xs) = omega arith in
-    ap (λ (ps : List (ℕ × ℕ)). (n, y) ∷ ps) (enumerate_more (n + 1) xs x ∙ ap (λ (k : ℕ). enumerate_from (n + 1) xs ++ (k, x) ∷ []) at)
-
-pub size_more : (sizes : List ℕ) (i object : ℕ) (lines : List SizeOfLine) → i < length sizes → object ≡ i → lines ≡ size_lines (take i sizes)
-    → lines ++ record { object = object; size = get_or sizes i 0 } ∷ [] ≡ size_lines (take (i + 1) sizes)
-size_more sizes i object lines lt number before =
-    let count : length (take i sizes) ≡ i = length-take-le i sizes (omega arith) in
-    let at : object ≡ 0 + length (take i sizes) = omega (arith, number, count) in
-    (λ j. before j ++ size_line (at j, get_or sizes i 0) ∷ [])
-    ∙ sym (map-append size_line (enumerate_from 0 (take i sizes)) ((0 + length (take i sizes), get_or sizes i 0) ∷ []))
-    ∙ ap (map size_line) (sym (enumerate_more 0 (take i sizes) (get_or sizes i 0)))
-    ∙ ap size_lines (sym (take_more sizes i 0 lt))
 
 -- ---- a line
 

@@ -18,9 +18,9 @@ use Rattle.cj_cert.specs.declared.cert_lines.ShellLine.{ShellLine}
 use Rattle.cj_cert.specs.declared.cert_lines.SizeOfLine.{SizeOfLine}
 use Rattle.cj_cert.specs.Certificates.{PlainBoxLine, PlainCertificate}
 use Rattle.cj_cert.specs.Listed.{box_listed}
-use Rattle.cj_blocks.specs.Rewritten.{size_lines, line_of_block, boxes_by_lines, pairs_by_shells, given_of, with_blocks, rewritten, written_in}
+use Rattle.cj_blocks.specs.Rewritten.{line_of_block, boxes_by_lines, pairs_by_shells, given_of, with_blocks, rewritten, written_in}
 use Rattle.cj_bezier.specs.AllBoxes.{boxes_of}
-use Rattle.cj_cert.specs.Written.{leaves_in_order, shell_line, written}
+use Rattle.cj_cert.specs.Written.{leaves_in_order, shell_line, size_lines, written}
 use Rattle.cj_cert.proofs.WrittenLineLemmas.{of_lines_in}
 
 -- pairs that are left of all are of the objects

@@ -5,7 +5,7 @@ use Rattle.std.specs.List.{enumerate_from, find, flat_map, range_with_len}
 use Rattle.std.proofs.lemmas.Int.{ints}
 use Rattle.std.proofs.lemmas.List.Elements.{filter_passes}
 use Rattle.std.proofs.lemmas.List.Folds.{list_any_none}
-use Rattle.std.proofs.lemmas.Option.{get_or_from_slice_get, slice_get-map, slice_get_within}
+use Rattle.std.proofs.lemmas.Option.{slice_get-map, slice_get_within}
 use Rattle.cj_interval.proofs.ListLemmas.{Each, Each-weaker, Each-both, Each-map, Each-flat_map, Each-range, All-from_each, each_from_All, each_from_flat_map, each_from_map, Each-filter, flat_map_alike}
 use Rattle.cj_interval.proofs.RangeLemmas.{each_in_range}
 use Rattle.cj_formats.specs.declared.cert_version.CertVersion.{CertVersion}
@@ -36,19 +36,12 @@ use Rattle.cj_blocks.proofs.RunLemmas.{IsRound, each_round, slots_told, slots_ar
 use Rattle.cj_cert.specs.Accepted.{IsHullIn, has_state_in, slots_with_states, HoldsHulls, AreBoxes, IsSupported, TileRoots, Accepted}
 use Rattle.cj_cert.specs.Certificates.{PlainBoxLine, PlainCertificate}
 use Rattle.cj_cert.specs.Listed.{slots_of_line, is_line_of, box_listed, boxes_listed, shells_listed, is_candidate_listed}
-use Rattle.cj_blocks.specs.Rewritten.{size_line, line_of_block, boxes_by_lines, pairs_by_shells, given_of, with_blocks, rewritten, from_version, in_version_2, written_in_blocks, written_in}
+use Rattle.cj_blocks.specs.Rewritten.{line_of_block, boxes_by_lines, pairs_by_shells, given_of, with_blocks, rewritten, from_version, in_version_2, written_in_blocks, written_in}
 use Rattle.cj_bezier.specs.AllBoxes.{boxes_of}
-use Rattle.cj_cert.specs.Reaches.{AllStayNear, StaysNear}
 use Rattle.cj_cert.specs.Written.{box_in, written}
 use Rattle.cj_cert.proofs.ListedLemmas.{AreAllInTime, told_by, find_some, in_one_box, range_at}
 use Rattle.cj_cert.proofs.WrittenLemmas.{IsAtNumber, numbered, lines_of, box_is, shells_same}
-use Rattle.cj_cert.proofs.WrittenLineLemmas.{flat_map_numbered}
-
--- ---- sizes
-
-sizes_numbered : (n : ℕ) (sizes : List ℕ) → map (λ line. (line.object, line.size)) (map size_line (enumerate_from n sizes)) ≡ enumerate_from n sizes
-sizes_numbered n [] = refl
-sizes_numbered n (size ∷ sizes) = ap (λ (ps : List (ℕ × ℕ)). (n, size) ∷ ps) (sizes_numbered (n + 1) sizes)
+use Rattle.cj_cert.proofs.WrittenLineLemmas.{flat_map_numbered, sizes_numbered}
 
 -- ---- boxes by object and slot
 
@@ -361,9 +354,3 @@ written_in_blocks_accepted case time accepted = subst (λ (c : PlainCertificate)
 pub written_in_accepted : (version : CertVersion) (case : PlainProblem) → AreAllInTime case → Accepted case (written case) → Accepted case (written_in version case)
 written_in_accepted One case time accepted = accepted
 written_in_accepted Two case time accepted = written_in_blocks_accepted case time accepted
-
--- the pieces of objects that stay near come in order of time
-pub near_in_time : (case : PlainProblem) → AllStayNear case → AreAllInTime case
-near_in_time case near i e is from to =
-    let stays : StaysNear e = subst StaysNear (get_or_from_slice_get case.tracks i e e is) (near i e (slice_get_within case.tracks i e is)) in
-    stays.time from to

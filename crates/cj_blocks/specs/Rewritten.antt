@@ -1,6 +1,6 @@
 -- Certificates of version 2: one box for a block of slots, where the object then touches nothing more.
 use Rattle.std.specs.Prelude.{ℕ, List, map, filter, length, Option}
-use Rattle.std.specs.List.{enumerate_from, range_with_len}
+use Rattle.std.specs.List.{range_with_len}
 use Rattle.cj_formats.specs.declared.cert_version.CertVersion.{CertVersion}
 use Rattle.cj_formats.specs.declared.cert_version.CertVersion.TheVariants.{One, Two}
 use Rattle.cj_case.specs.Pairs.{pairs_of}
@@ -11,21 +11,12 @@ use Rattle.cj_bezier.specs.Candidates.{pairs_kept}
 use Rattle.cj_bezier.specs.Shells.{keeps_between}
 use Rattle.cj_case.specs.Boxes.{PlainBox}
 use Rattle.cj_blocks.specs.Blocks.{PlainBlock, Given, blocks_of}
-use Rattle.cj_cert.specs.declared.cert_lines.SizeOfLine.{SizeOfLine}
 use Rattle.cj_cert.specs.Certificates.{PlainBoxLine, PlainCertificate}
 use Rattle.cj_cert.specs.Listed.{box_listed, shells_listed}
 use Rattle.cj_bezier.specs.AllBoxes.{boxes_of}
-use Rattle.cj_cert.specs.Written.{written}
+use Rattle.cj_cert.specs.Written.{size_lines, written}
 
 -- ---- lines
-
--- the line of an object with its size
-abbrev pub size_line : ℕ × ℕ → SizeOfLine
-size_line object = record { object = object.0; size = object.1 }
-
--- a line for each object
-abbrev pub size_lines : List ℕ → List SizeOfLine
-size_lines sizes = map size_line (enumerate_from 0 sizes)
 
 abbrev pub line_of_block : PlainBlock → PlainBoxLine
 line_of_block b = record { object = b.object; first = b.first; last = b.last; area = b.area }

@@ -1,5 +1,5 @@
-//! The lines of a certificate of version 2: sizes, and boxes for blocks of slots.
-ghost use Rattle.std.specs.Prelude.{◌≡◌, ◌^◌, ◌<◌, All, length, map, IfOk};
+//! The lines of boxes in a certificate of version 2: one for each block of slots.
+ghost use Rattle.std.specs.Prelude.{◌≡◌, ◌<◌, All, length, map, IfOk};
 ghost use Rattle.cj_case.specs.Pairs.{objects_of};
 ghost use Rattle.cj_case.specs.Problems.{plain_problem};
 ghost use Rattle.cj_case.specs.Slots as slots;
@@ -7,30 +7,13 @@ ghost use Rattle.cj_case.specs.Boxes.{plain_rows};
 ghost use Rattle.cj_blocks.specs.Blocks.{blocks_of};
 ghost use Rattle.cj_blocks.specs.Listed.{plain_block};
 ghost use Rattle.cj_cert.specs.Certificates.{plain_box_line};
-ghost use Rattle.cj_blocks.specs.Rewritten as spec;
 ghost use Rattle.cj_blocks.specs.Rewritten.{given_of, line_of_block};
 
 use crate::block::Block;
 use crate::listing::blocks;
 use cj_case::{AxisBox, BySlot, Pair, Problem};
-use cj_cert::{BoxLine, SizeOfLine};
+use cj_cert::BoxLine;
 use std::alloc::{AllocError, Global};
-
-/// A line for each object with its size.
-pub fn size_lines(alloc: Global, sizes: &[u64]) -> Result<Vec<SizeOfLine>, AllocError>
-    requires { length sizes.now < 2 ^ 32 }
-    ensures { IfOk result (λ lines. lines.items ≡ spec.size_lines sizes.now) }
-{
-    let mut lines = Vec::with_capacity(alloc, sizes.len())?;
-    for size in sizes {
-        let object = lines.len() as u32;
-        lines.push(SizeOfLine {
-            object,
-            size: *size,
-        })?;
-    }
-    Ok(lines)
-}
 
 /// A line for each block.
 fn lines_of(alloc: Global, found: &[Block]) -> Result<Vec<BoxLine>, AllocError>

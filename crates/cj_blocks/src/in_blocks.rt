@@ -14,10 +14,10 @@ ghost use Rattle.cj_blocks.specs.Rewritten.{pairs_by_shells, written_in};
 ghost use Rattle.cj_cert.specs.Written.{leaves_in_order};
 
 use crate::accepting::acceptance_in_blocks;
-use crate::block_lines::{block_lines, size_lines};
+use crate::block_lines::block_lines;
 use crate::listed_boxes::listed_boxes;
 use cj_case::{Leaf, Measured, Pair, Problem, Shell, slot_count};
-use cj_cert::{Certificate, cell_lines, shell_lines};
+use cj_cert::{Certificate, cell_lines, shell_lines, size_lines};
 use cj_formats::CertVersion;
 use std::alloc::{AllocError, Global};
 

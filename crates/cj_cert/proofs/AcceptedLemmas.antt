@@ -23,7 +23,7 @@ use Rattle.cj_cert.specs.Splits.{CellsSplit}
 use Rattle.cj_cert.proofs.ListedLemmas.{AreAllInTime, in_shells, in_boxes}
 use Rattle.cj_cert.proofs.TiledLemmas.{each_tiled, some_tiled, true_cell}
 
-true_leaf : (case : PlainProblem) → AreAllInTime case → 10 ^ 9 ≤ case.threshold → (r : PlainCell) (s : PlainLeaf) → IsRootOf case r
+pub true_leaf : (case : PlainProblem) → AreAllInTime case → 10 ^ 9 ≤ case.threshold → (r : PlainCell) (s : PlainLeaf) → IsRootOf case r
     → IsLeaf (IsSupported case) r.a r.b r.first r.last s → IsTrueLeaf case s
 true_leaf case time big r s is leaf =
     let root = is.root in

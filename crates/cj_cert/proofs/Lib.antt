@@ -1,4 +1,4 @@
-mod AcceptedLemmas
+pub mod AcceptedLemmas
 pub mod TiledLemmas
 pub mod WrittenLemmas
 mod BoundLemmas

@@ -5,7 +5,7 @@ use Rattle.std.specs.Prelude.{◌==◌, All, IfSome, IsSomeAnd, is_some, nat_le,
 use Rattle.std.specs.List.{enumerate_from, find, flat_map, list_any, range_with_len}
 use Rattle.std.proofs.lemmas.Bool.{and_parts, or_parts, cases_eq, eqb-true, eq-eqb, leb-true, false_from_ne_true}
 use Rattle.std.proofs.lemmas.Bool.Decides.{nat_tests}
-use Rattle.std.proofs.lemmas.Option.{slice_get-map, slice_get_within}
+use Rattle.std.proofs.lemmas.Option.{get_or_from_slice_get, slice_get-map, slice_get_within}
 use Rattle.cj_interval.proofs.ListLemmas.{Each, Exists, Each-weaker, Each-map, Each-flat_map, Each-range, Each-exists}
 use Rattle.cj_interval.proofs.ListLemmas.{Exists-filter, Exists-flat_map, Exists-map, Exists-weaker, Exists-range, each_at, each_from_All}
 use Rattle.cj_interval.proofs.RangeLemmas.{Exists-enumerated}
@@ -28,10 +28,17 @@ use Rattle.cj_cert.specs.declared.cert_lines.ShellLine.{ShellLine}
 use Rattle.cj_cert.specs.Accepted.{ShowsRadii, IsShellOver, AreShells, IsHullIn, has_state_in, slots_with_states, HoldsHulls, AreBoxes}
 use Rattle.cj_cert.specs.Certificates.{PlainBoxLine, PlainCertificate}
 use Rattle.cj_cert.specs.Listed.{slots_of_line, is_line_of, box_listed, boxes_listed, shells_listed}
+use Rattle.cj_cert.specs.Reaches.{AllStayNear, StaysNear}
 
 -- the pieces of each object come in order of time
 abbrev pub AreAllInTime : PlainProblem → Type 0
 AreAllInTime case = (i : ℕ) (e : PlainTrack) → slice_get case.tracks i ≡ Some e → (from to : ℕ) → AreInTime e from to
+
+-- the pieces of objects that stay near come in order of time
+pub near_in_time : (case : PlainProblem) → AllStayNear case → AreAllInTime case
+near_in_time case near i e is from to =
+    let stays : StaysNear e = subst StaysNear (get_or_from_slice_get case.tracks i e e is) (near i e (slice_get_within case.tracks i e is)) in
+    stays.time from to
 
 -- ---- places in lists
 

@@ -41,7 +41,7 @@ pub each_tiled : (P S : PlainLeaf → Type 0) (Q : PlainCell → Type 0) → ((r
     → (roots : List PlainCell) (cells : List PlainLeaf) → TileRoots P roots cells → Each Q roots → Each S cells
 each_tiled P S Q law roots cells tile each = subst (Each S) (sym tile.whole) (each_cell P S Q law roots tile.parts tile.tiles each)
 
-in_part : (P : PlainLeaf → Type 0) (a b m : ℕ) (r : PlainCell) (part : List PlainLeaf) → Tile P r.a r.b r.first r.last part → HasTickOf a b m r → Exists (IsTickOf a b m) part
+pub in_part : (P : PlainLeaf → Type 0) (a b m : ℕ) (r : PlainCell) (part : List PlainLeaf) → Tile P r.a r.b r.first r.last part → HasTickOf a b m r → Exists (IsTickOf a b m) part
 in_part P a b m r part tile has =
     Exists-weaker (λ s. IsLeaf P r.a r.b r.first r.last s × HasTick m s) (IsTickOf a b m)
     (λ s both.

@@ -87,7 +87,7 @@ objects_in_order : (case : PlainProblem) (n : ℕ) (es : List PlainTrack) → ma
 objects_in_order case n [] = refl
 objects_in_order case n (e ∷ es) = ap (λ (ks : List ℕ). n ∷ ks) (objects_in_order case (n + 1) es)
 
-are_shells : (case : PlainProblem) → AreAllWithin case → AreShells case (map (shell_line case) (enumerate_from 0 case.tracks))
+pub are_shells : (case : PlainProblem) → AreAllWithin case → AreShells case (map (shell_line case) (enumerate_from 0 case.tracks))
 are_shells case within = record {
   objects = objects_in_order case 0 case.tracks;
   hold =
@@ -293,7 +293,7 @@ supported_leaf case r c d have s leaf =
     (ap (λ (x : ℕ). curve_at case x s.first) b ∙ have.second_curve s.first from (omega arith))
     (subst (λ (thr : ℕ). Supports (gap_terms (hull_gap c d s.first s.last)) thr s.kind) same (supports c d (threshold_of case r.a r.b) s.first s.last s.kind leaf.judged))
 
-root_tile : (case : PlainProblem) (r : PlainCell) → AreAllInTime case → 10 ^ 9 ≤ case.threshold → IsRootOf case r → Tile (IsSupported case) r.a r.b r.first r.last (leaves_of_root case r)
+pub root_tile : (case : PlainProblem) (r : PlainCell) → AreAllInTime case → 10 ^ 9 ≤ case.threshold → IsRootOf case r → Tile (IsSupported case) r.a r.b r.first r.last (leaves_of_root case r)
 unfolding leaves_between
 root_tile case r time big is = go (curves_of case r.a r.b r.first r.last (root_pieces case r is))
   where

@@ -1,10 +1,10 @@
 -- The lines of a written certificate, one by one.
 use Rattle.std.proofs.Common.{◌≡◌, ℕ, suc, ◌+◌, ◌<◌, true, eqb, List, [], ◌∷◌, ◌++◌, length}
-use Rattle.std.proofs.Common.{get_or, map, Option, Some, None, refl, sym, ap, ◌∙◌, subst, arith, append_assoc, append-nil}
+use Rattle.std.proofs.Common.{get_or, map, take, Option, Some, None, refl, sym, ap, ◌∙◌, subst, arith, append_assoc, append-nil}
 use Rattle.std.specs.Prelude.{◌==◌, option_map, option_and_then, slice_get}
 use Rattle.std.specs.List.{cons_option, enumerate_from, filter_map, flat_map, list_all, range_with_len}
 use Rattle.std.proofs.lemmas.Bool.{and_parts, eq-eqb}
-use Rattle.std.proofs.lemmas.List.{length-map}
+use Rattle.std.proofs.lemmas.List.{length-map, length-take-le, map-append, take_more}
 use Rattle.std.proofs.lemmas.List.FromFn.{map-range_with_len_more}
 use Rattle.std.proofs.lemmas.Option.{get_or_from_slice_get, slice_get-get_or, slice_get-map}
 use Rattle.cj_interval.proofs.ListLemmas.{Each, Each-range}
@@ -29,7 +29,30 @@ use Rattle.cj_cert.specs.declared.cert_lines.BoxLine.{BoxLine}
 use Rattle.cj_cert.specs.declared.cert_lines.SizeOfLine.{SizeOfLine}
 use Rattle.cj_cert.specs.Certificates.{PlainBoxLine, PlainCertificate}
 use Rattle.cj_bezier.specs.AllBoxes.{boxes_of}
-use Rattle.cj_cert.specs.Written.{shell_line, box_in, line_of_box, line_in_slot, box_lines, line_by_shells, line_in_row, lines_in_row, lines_by_boxes, leaves_in_order, written}
+use Rattle.cj_cert.specs.Written.{size_line, size_lines, shell_line, box_in, line_of_box, line_in_slot, box_lines, line_by_shells, line_in_row, lines_in_row, lines_by_boxes, leaves_in_order, written}
+
+-- ---- sizes
+
+enumerate_more : (n : ℕ) (xs : List ℕ) (x : ℕ) → enumerate_from n (xs ++ x ∷ []) ≡ enumerate_from n xs ++ (n + length xs, x) ∷ []
+enumerate_more n [] x = let at : n ≡ n + 0 = omega arith in ap (λ (k : ℕ). (k, x) ∷ []) at
+enumerate_more n (y ∷ xs) x =
+    let at : n + 1 + length xs ≡ n + suc (length xs) = omega arith in
+    ap (λ (ps : List (ℕ × ℕ)). (n, y) ∷ ps) (enumerate_more (n + 1) xs x ∙ ap (λ (k : ℕ). enumerate_from (n + 1) xs ++ (k, x) ∷ []) at)
+
+pub size_more : (sizes : List ℕ) (i object : ℕ) (lines : List SizeOfLine) → i < length sizes → object ≡ i → lines ≡ size_lines (take i sizes)
+    → lines ++ record { object = object; size = get_or sizes i 0 } ∷ [] ≡ size_lines (take (i + 1) sizes)
+size_more sizes i object lines lt number before =
+    let count : length (take i sizes) ≡ i = length-take-le i sizes (omega arith) in
+    let at : object ≡ 0 + length (take i sizes) = omega (arith, number, count) in
+    (λ j. before j ++ size_line (at j, get_or sizes i 0) ∷ [])
+    ∙ sym (map-append size_line (enumerate_from 0 (take i sizes)) ((0 + length (take i sizes), get_or sizes i 0) ∷ []))
+    ∙ ap (map size_line) (sym (enumerate_more 0 (take i sizes) (get_or sizes i 0)))
+    ∙ ap size_lines (sym (take_more sizes i 0 lt))
+
+-- the lines of sizes say them, number by number
+pub sizes_numbered : (n : ℕ) (sizes : List ℕ) → map (λ line. (line.object, line.size)) (map size_line (enumerate_from n sizes)) ≡ enumerate_from n sizes
+sizes_numbered n [] = refl
+sizes_numbered n (size ∷ sizes) = ap (λ (ps : List (ℕ × ℕ)). (n, size) ∷ ps) (sizes_numbered (n + 1) sizes)
 
 -- ---- one line more
 

@@ -15,7 +15,16 @@ use Rattle.cj_bezier.specs.Shells.{shell_in, shell_of}
 use Rattle.cj_case.specs.Boxes.{PlainBox}
 use Rattle.cj_bezier.specs.SlotBoxes.{box_of, reaches_in}
 use Rattle.cj_cert.specs.declared.cert_lines.ShellLine.{ShellLine}
+use Rattle.cj_cert.specs.declared.cert_lines.SizeOfLine.{SizeOfLine}
 use Rattle.cj_cert.specs.Certificates.{PlainBoxLine, PlainCertificate}
+
+-- the line of an object with its size
+abbrev pub size_line : ℕ × ℕ → SizeOfLine
+size_line object = record { object = object.0; size = object.1 }
+
+-- a line for each object
+abbrev pub size_lines : List ℕ → List SizeOfLine
+size_lines sizes = map size_line (enumerate_from 0 sizes)
 
 -- the line of an object with its shell
 abbrev pub shell_line : PlainProblem → ℕ × PlainTrack → ShellLine

@@ -10,4 +10,4 @@ mod written;
 pub use accepting::acceptance;
 pub use cert_lines::{BoxLine, CellLine, ShellLine, SizeOfLine};
 pub use certificate::Certificate;
-pub use written::{cell_lines, shell_lines, written_certificate};
+pub use written::{cell_lines, shell_lines, size_lines, written_certificate};

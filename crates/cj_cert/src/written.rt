@@ -9,10 +9,10 @@ ghost use Rattle.cj_cert.specs.Accepted.{Accepted};
 ghost use Rattle.cj_cert.specs.Certificates.{plain_box_line, plain_cell_line, plain_certificate};
 ghost use Rattle.cj_cert.specs.Versions.{is_of_version};
 ghost use Rattle.cj_bezier.specs.MeasuredObjects.{AreMeasured};
-ghost use Rattle.cj_cert.specs.Written.{leaves_in_order, line_by_shells, lines_by_boxes, lines_in_row, written};
+ghost use Rattle.cj_cert.specs.Written.{leaves_in_order, line_by_shells, lines_by_boxes, lines_in_row, size_lines as the_size_lines, written};
 
 use crate::accepting::acceptance;
-use crate::cert_lines::{BoxLine, CellLine, ShellLine};
+use crate::cert_lines::{BoxLine, CellLine, ShellLine, SizeOfLine};
 use crate::certificate::Certificate;
 use cj_case::{AxisBox, BySlot, Leaf, Measured, Problem, Shell};
 use cj_formats::CertVersion;
@@ -46,6 +46,22 @@ pub fn written_certificate(
         boxes,
         cells,
     })
+}
+
+/// A line for each object with its size.
+pub fn size_lines(alloc: Global, sizes: &[u64]) -> Result<Vec<SizeOfLine>, AllocError>
+    requires { length sizes.now < 2 ^ 32 }
+    ensures { IfOk result (λ lines. lines.items ≡ the_size_lines sizes.now) }
+{
+    let mut lines = Vec::with_capacity(alloc, sizes.len())?;
+    for size in sizes {
+        let object = lines.len() as u32;
+        lines.push(SizeOfLine {
+            object,
+            size: *size,
+        })?;
+    }
+    Ok(lines)
 }
 
 /// A line for each object with its shell.

@@ -10,36 +10,41 @@ use Rattle.cj_case.specs.declared.shells.Shell.{Shell as Radii}
 use Rattle.cj_case.specs.Leaves.{PlainLeaf}
 use Rattle.cj_bezier.specs.Shells.{MAX_RADIUS}
 use Rattle.cj_cert.specs.declared.cert_lines.SizeOfLine.{SizeOfLine}
-use Rattle.cj_formats.specs.declared.cert_version.CertVersion.{CertVersion}
+use Rattle.cj_formats.specs.declared.cert_format.CertFormat.{CertFormat}
+use Rattle.cj_formats.specs.declared.cert_format.CertFormat.TheVariants.{Full, Brief}
 use Rattle.cj_formats.specs.declared.cert_version.CertVersion.TheVariants.{One, Two}
-use Rattle.cj_formats.specs.Versions.{most_objects, number_of_version}
+use Rattle.cj_formats.specs.Formats.{most_objects_in, number_of_format}
 use Rattle.cj_cert_text.specs.declared.rank.Rank.{Rank}
 use Rattle.cj_cert_text.specs.declared.rank.Rank.TheVariants as rank
 use Rattle.cj_cert.specs.Certificates.{PlainBoxLine}
-use Rattle.cj_cert_text.specs.Fits.{FitsShell, FitsBox, FitsCell}
+use Rattle.cj_cert_text.specs.Fits.{FitsSize, FitsShell, FitsBox, FitsCell}
 use Rattle.cj_cert_text.specs.Lines as spec
 use Rattle.cj_cert_text.specs.Lines.{PlainLine, Heading, Window, Threshold, Objects, Size, Shell, Box, Cell, End, rank_of, said_by, in_range, is_from, is_tick, is_object}
 use Rattle.cj_case.specs.CaseLimits.{MAX_SIZE}
 use Rattle.cj_cert_text.specs.Lines.{is_radius, MAX_THRESHOLD}
 use Rattle.cj_cert_text.specs.Readers.{HasNoNumber}
-use Rattle.cj_cert_text.specs.Texts.{number, slots, ends, kind_word}
+use Rattle.cj_cert_text.specs.Texts.{number, ends, kind_word}
 use Rattle.cj_cert_text.proofs.WordLemmas.{AreAbove, AreSmall, AreWords, texts_words, nothing_first, other_first}
-use Rattle.cj_cert_text.proofs.LineLemmas.{FitsLine, FitsSizeIn, FitsSlots, numbers_of, others_of, word_of, words_of, into_range, is_object_of, object_back, le_of, small_coordinate, small_objects, small_version, reach_parts, box_test}
+use Rattle.cj_cert_text.proofs.LineLemmas.{FitsLine, FitsSizeIn, FitsSlots, numbers_of, slots_in, others_of, word_of, words_of, into_range, is_object_of, object_back, le_of, small_coordinate, small_objects, small_version, reach_parts, box_test}
 
 in_range_of : (b : Bool) (line l : PlainLine) → b ≡ true → line ≡ l → in_range b line ≡ Ok l
 in_range_of b line l is same = ap (λ (t : Bool). in_range t line) is ∙ ap (λ (k : PlainLine). Ok k) same
 
-heading_again : (v : CertVersion) → spec.heading v (pos (number_of_version v) ∷ []) ≡ Ok Heading
-heading_again v = let same = le_of (number_of_version v) (number_of_version v) (omega arith) in rw same refl
+heading_again : (v : CertFormat) → spec.heading v (pos (number_of_format v) ∷ []) ≡ Ok Heading
+heading_again v = let same = le_of (number_of_format v) (number_of_format v) (omega arith) in rw same refl
 
-size_again : (v : CertVersion) (s : SizeOfLine) → FitsSizeIn v s → spec.size v (number s.object ∷ pos s.size ∷ []) ≡ Ok (Size s)
-size_again One s fits = absurd fits
-size_again Two s fits =
-    in_range_of (is_object Two (number s.object) && is_from 0 MAX_SIZE (pos s.size)) _ (Size s)
-    (and_from _ _ (is_object_of Two s.object fits.object) (into_range 0 MAX_SIZE s.size (omega arith) fits.size))
+size_of_again : (v : CertFormat) (s : SizeOfLine) → FitsSize (most_objects_in v) s → spec.size_of v (number s.object ∷ pos s.size ∷ []) ≡ Ok (Size s)
+size_of_again v s fits =
+    in_range_of (is_object v (number s.object) && is_from 0 MAX_SIZE (pos s.size)) _ (Size s)
+    (and_from _ _ (is_object_of v s.object fits.object) (into_range 0 MAX_SIZE s.size (omega arith) fits.size))
     (ap (λ (o : ℕ). Size (record { object = o; size = s.size })) (object_back s.object))
 
-radii_again : (v : CertVersion) (o lo hi : ℕ) → o < most_objects v → lo ≤ hi → hi ≤ MAX_RADIUS → spec.shell v (number o ∷ pos lo ∷ pos hi ∷ []) ≡ Ok (Shell (record {
+size_again : (v : CertFormat) (s : SizeOfLine) → FitsSizeIn v s → spec.size v (number s.object ∷ pos s.size ∷ []) ≡ Ok (Size s)
+size_again (Full One) s fits = absurd fits
+size_again (Full Two) s fits = size_of_again (Full Two) s fits
+size_again Brief s fits = size_of_again Brief s fits
+
+radii_again : (v : CertFormat) (o lo hi : ℕ) → o < most_objects_in v → lo ≤ hi → hi ≤ MAX_RADIUS → spec.shell v (number o ∷ pos lo ∷ pos hi ∷ []) ≡ Ok (Shell (record {
   object =
       o;
   shell = Some (record { lo = lo; hi = hi });
@@ -49,10 +54,10 @@ radii_again v o lo hi object ordered most =
     (and_from _ _ (and_from _ _ (and_from _ _ (is_object_of v o object) (into_range 0 MAX_RADIUS lo (omega arith) (omega arith))) (into_range 0 MAX_RADIUS hi (omega arith) most)) (le_of lo hi ordered))
     (ap (λ (n : ℕ). Shell (record { object = n; shell = Some (record { lo = lo; hi = hi }) })) (object_back o))
 
-no_shell_again : (v : CertVersion) (o : ℕ) → o < most_objects v → spec.no_shell v (number o ∷ []) (codes "NONE" ∷ []) ≡ Ok (Shell (record { object = o; shell = None }))
+no_shell_again : (v : CertFormat) (o : ℕ) → o < most_objects_in v → spec.no_shell v (number o ∷ []) (codes "NONE" ∷ []) ≡ Ok (Shell (record { object = o; shell = None }))
 no_shell_again v o object = in_range_of (is_object v (number o)) _ _ (is_object_of v o object) (ap (λ (n : ℕ). Shell (record { object = n; shell = None })) (object_back o))
 
-shell_again : (v : CertVersion) (o : ℕ) (shell : Option Radii) → FitsShell (most_objects v) (record {
+shell_again : (v : CertFormat) (o : ℕ) (shell : Option Radii) → FitsShell (most_objects_in v) (record {
   object =
       o;
   shell = shell;
@@ -61,7 +66,7 @@ shell_again : (v : CertVersion) (o : ℕ) (shell : Option Radii) → FitsShell (
 shell_again v o None fits = no_shell_again v o fits.object
 shell_again v o (Some r) fits = radii_again v o r.lo r.hi fits.object fits.radii.0 fits.radii.1
 
-box_of_again : (v : CertVersion) (b : PlainBoxLine) → FitsBox (most_objects v) b → spec.box_of v (number b.object) (pos b.first) (pos b.last) (ends b.area) ≡ Ok (Box b)
+box_of_again : (v : CertFormat) (b : PlainBoxLine) → FitsBox (most_objects_in v) b → spec.box_of v (number b.object) (pos b.first) (pos b.last) (ends b.area) ≡ Ok (Box b)
 box_of_again v b fits =
     in_range_of (box_test v (number b.object) (pos b.first) (pos b.last) b.area.x.least b.area.x.most b.area.y.least b.area.y.most b.area.z.least b.area.z.most) _ (Box b)
     (and_from _ _ (and_from _ _ (and_from _ _ (and_from _ _ (and_from _ _ (and_from _ _
@@ -72,11 +77,12 @@ box_of_again v b fits =
     fits.x) fits.y) fits.z)
     (ap (λ (o : ℕ). Box (record { object = o; first = b.first; last = b.last; area = b.area })) (object_back b.object))
 
-box_again : (v : CertVersion) (b : PlainBoxLine) → FitsSlots v b → FitsBox (most_objects v) b → spec.box v (number b.object ∷ (slots v b ++ ends b.area)) ≡ Ok (Box b)
-box_again One b same fits = ap (λ (n : ℕ). spec.box_of One (number b.object) (pos b.first) (pos n) (ends b.area)) same ∙ box_of_again One b fits
-box_again Two b same fits = box_of_again Two b fits
+box_again : (v : CertFormat) (b : PlainBoxLine) → FitsSlots v b → FitsBox (most_objects_in v) b → spec.box v (number b.object ∷ (slots_in v b ++ ends b.area)) ≡ Ok (Box b)
+box_again (Full One) b same fits = ap (λ (n : ℕ). spec.box_of (Full One) (number b.object) (pos b.first) (pos n) (ends b.area)) same ∙ box_of_again (Full One) b fits
+box_again (Full Two) b same fits = box_of_again (Full Two) b fits
+box_again Brief b none fits = absurd none
 
-cell_again : (v : CertVersion) (s : PlainLeaf) (kind : Kind) → s.kind ≡ kind → FitsCell (most_objects v) s → spec.cell v (numbers_of v (Cell s)) (spec.kind_of (kind_word kind ∷ [])) ≡ Ok (Cell s)
+cell_again : (v : CertFormat) (s : PlainLeaf) (kind : Kind) → s.kind ≡ kind → FitsCell (most_objects_in v) s → spec.cell v (numbers_of v (Cell s)) (spec.kind_of (kind_word kind ∷ [])) ≡ Ok (Cell s)
 cell_again v s kind same fits = ap (spec.cell v (numbers_of v (Cell s))) (known kind) ∙ in_range_of _ _ (Cell s)
     (and_from _ _ (and_from _ _ (and_from _ _ (and_from _ _ (and_from _ _
     (is_object_of v s.a (omega (arith, fits.ordered, fits.objects)))
@@ -96,12 +102,12 @@ cell_again v s kind same fits = ap (spec.cell v (numbers_of v (Cell s))) (known 
     lower : (a b : ℕ) → a < b → int_lt (number a) (number b) ≡ true
     lower a b less = grind (arith, ints)
 
-pub said_again : (v : CertVersion) (l : PlainLine) → FitsLine v l → said_by v (rank_of l) (numbers_of v l) (others_of l) ≡ Ok l
+pub said_again : (v : CertFormat) (l : PlainLine) → FitsLine v l → said_by v (rank_of l) (numbers_of v l) (others_of l) ≡ Ok l
 said_again v Heading fits = heading_again v
 said_again v (Window first last) fits =
     in_range_of (is_tick (pos first) && is_tick (pos last)) _ _ (and_from _ _ (into_range FIRST_TICK LAST_TICK first fits.0.0 fits.0.1) (into_range FIRST_TICK LAST_TICK last fits.1.0 fits.1.1)) refl
 said_again v (Threshold threshold) fits = in_range_of (is_from 1 MAX_THRESHOLD (pos threshold)) _ _ (into_range 1 MAX_THRESHOLD threshold fits.0 fits.1) refl
-said_again v (Objects count) fits = in_range_of (is_from 0 (most_objects v) (pos count)) _ _ (into_range 0 (most_objects v) count (omega arith) fits) refl
+said_again v (Objects count) fits = in_range_of (is_from 0 (most_objects_in v) (pos count)) _ _ (into_range 0 (most_objects_in v) count (omega arith) fits) refl
 said_again v (Size s) fits = size_again v s fits
 said_again v (Shell s) fits = shell_again v s.object s.shell fits
 said_again v (Box b) fits = box_again v b fits.1 fits.0
@@ -113,11 +119,11 @@ said_again v End fits = refl
 tick_small : (n : ℕ) → n ≤ LAST_TICK → n < 2 ^ 64
 tick_small n most = omega arith
 
-shell_small : (v : CertVersion) (o : ℕ) (shell : Option Radii) → FitsShell (most_objects v) (record { object = o; shell = shell }) → AreSmall (numbers_of v (Shell (record { object = o; shell = shell })))
+shell_small : (v : CertFormat) (o : ℕ) (shell : Option Radii) → FitsShell (most_objects_in v) (record { object = o; shell = shell }) → AreSmall (numbers_of v (Shell (record { object = o; shell = shell })))
 shell_small v o None fits = (omega (arith, small_objects v, fits.object), tt)
 shell_small v o (Some r) fits = (omega (arith, small_objects v, fits.object), (omega (arith, fits.radii.0, fits.radii.1), (omega (arith, fits.radii.0, fits.radii.1), tt)))
 
-ends_small : (v : CertVersion) (b : PlainBoxLine) → FitsBox (most_objects v) b → AreSmall (ends b.area)
+ends_small : (v : CertFormat) (b : PlainBoxLine) → FitsBox (most_objects_in v) b → AreSmall (ends b.area)
 ends_small v b fits =
     let x = reach_parts b.area.x.least b.area.x.most fits.x in
     let y = reach_parts b.area.y.least b.area.y.most fits.y in
@@ -132,15 +138,17 @@ ends_small v b fits =
       ),
     )
 
-slots_small : (v : CertVersion) (b : PlainBoxLine) → FitsBox (most_objects v) b → AreSmall (ends b.area) → AreSmall (slots v b ++ ends b.area)
-slots_small One b fits rest = (omega (arith, fits.some, fits.last), rest)
-slots_small Two b fits rest = (omega (arith, fits.some, fits.last), (omega (arith, fits.last), rest))
+slots_small : (v : CertFormat) (b : PlainBoxLine) → FitsBox (most_objects_in v) b → AreSmall (ends b.area) → AreSmall (slots_in v b ++ ends b.area)
+slots_small (Full One) b fits rest = (omega (arith, fits.some, fits.last), rest)
+slots_small (Full Two) b fits rest = (omega (arith, fits.some, fits.last), (omega (arith, fits.last), rest))
+slots_small Brief b fits rest = rest
 
-size_small : (v : CertVersion) (s : SizeOfLine) → FitsSizeIn v s → AreSmall (numbers_of v (Size s))
-size_small One s fits = absurd fits
-size_small Two s fits = (omega (arith, fits.object), (omega (arith, fits.size), tt))
+size_small : (v : CertFormat) (s : SizeOfLine) → FitsSizeIn v s → AreSmall (numbers_of v (Size s))
+size_small (Full One) s fits = absurd fits
+size_small (Full Two) s fits = (omega (arith, fits.object), (omega (arith, fits.size), tt))
+size_small Brief s fits = (omega (arith, fits.object), (omega (arith, fits.size), tt))
 
-pub numbers_small : (v : CertVersion) (l : PlainLine) → FitsLine v l → AreSmall (numbers_of v l)
+pub numbers_small : (v : CertFormat) (l : PlainLine) → FitsLine v l → AreSmall (numbers_of v l)
 numbers_small v Heading fits = (omega (arith, small_version v), tt)
 numbers_small v (Window first last) fits = (tick_small first fits.0.1, (tick_small last fits.1.1, tt))
 numbers_small v (Threshold threshold) fits = (omega (arith, fits.1), tt)
@@ -203,5 +211,5 @@ word_above rank.Box = omega arith
 word_above rank.Cell = omega arith
 word_above rank.End = omega arith
 
-pub line_words : (v : CertVersion) (l : PlainLine) → FitsLine v l → AreWords (word_of (rank_of l) ∷ words_of v l)
+pub line_words : (v : CertFormat) (l : PlainLine) → FitsLine v l → AreWords (word_of (rank_of l) ∷ words_of v l)
 line_words v l fits = (word_above (rank_of l), texts_words (numbers_of v l) (others_of l) (numbers_small v l fits) (others_words l))

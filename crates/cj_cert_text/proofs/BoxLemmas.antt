@@ -10,9 +10,10 @@ use Rattle.cj_base.specs.Ticks.{FIRST_TICK, LAST_TICK}
 use Rattle.cj_case.specs.declared.kind.Kind.{Kind}
 use Rattle.cj_formats.specs.declared.cert_cause.CertCause.{CertCause}
 use Rattle.cj_formats.specs.declared.cert_cause.CertCause.TheVariants as causes
-use Rattle.cj_formats.specs.declared.cert_version.CertVersion.{CertVersion}
+use Rattle.cj_formats.specs.declared.cert_format.CertFormat.{CertFormat}
+use Rattle.cj_formats.specs.declared.cert_format.CertFormat.TheVariants.{Full}
 use Rattle.cj_formats.specs.declared.cert_version.CertVersion.TheVariants.{One, Two}
-use Rattle.cj_formats.specs.Versions.{most_objects}
+use Rattle.cj_formats.specs.Formats.{most_objects_in}
 use Rattle.cj_cert.specs.Certificates.{PlainBoxLine}
 use Rattle.cj_cert_text.specs.Lines as spec
 use Rattle.cj_cert_text.specs.Lines.{Box, Cell, PlainLine, in_range, is_from, is_object, is_reach, is_slot, is_tick, object_of}
@@ -41,7 +42,7 @@ abbrev pub at : List ℤ → ℕ → ℤ
 at ns k = get_or ns k (pos 0)
 
 -- a box with six ends
-pub six_ends : (v : CertVersion) (i first last : ℤ) (ns : List ℤ) → 6 ≤ length ns → length ns < 7
+pub six_ends : (v : CertFormat) (i first last : ℤ) (ns : List ℤ) → 6 ≤ length ns → length ns < 7
     → spec.box_of v i first last ns ≡ in_range (box_test v i first last (at ns 0) (at ns 1) (at ns 2) (at ns 3) (at ns 4) (at ns 5))
     (Box (the_box i first last (at ns 0) (at ns 1) (at ns 2) (at ns 3) (at ns 4) (at ns 5)))
 six_ends v i first last [] least most = absurd (omega arith)
@@ -54,7 +55,7 @@ six_ends v i first last (a ∷ b ∷ c ∷ d ∷ e ∷ f ∷ []) least most = re
 six_ends v i first last (a ∷ b ∷ c ∷ d ∷ e ∷ f ∷ g ∷ ns) least most = absurd (omega arith)
 
 -- fewer or more
-pub too_few : (v : CertVersion) (i first last : ℤ) (ns : List ℤ) → length ns < 6 → spec.box_of v i first last ns ≡ Err causes.Form
+pub too_few : (v : CertFormat) (i first last : ℤ) (ns : List ℤ) → length ns < 6 → spec.box_of v i first last ns ≡ Err causes.Form
 too_few v i first last [] few = refl
 too_few v i first last (a ∷ []) few = refl
 too_few v i first last (a ∷ b ∷ []) few = refl
@@ -63,7 +64,7 @@ too_few v i first last (a ∷ b ∷ c ∷ d ∷ []) few = refl
 too_few v i first last (a ∷ b ∷ c ∷ d ∷ e ∷ []) few = refl
 too_few v i first last (a ∷ b ∷ c ∷ d ∷ e ∷ f ∷ ns) few = absurd (omega arith)
 
-pub too_many : (v : CertVersion) (i first last : ℤ) (ns : List ℤ) → 7 ≤ length ns → spec.box_of v i first last ns ≡ Err causes.Form
+pub too_many : (v : CertFormat) (i first last : ℤ) (ns : List ℤ) → 7 ≤ length ns → spec.box_of v i first last ns ≡ Err causes.Form
 too_many v i first last [] many = absurd (omega arith)
 too_many v i first last (a ∷ []) many = absurd (omega arith)
 too_many v i first last (a ∷ b ∷ []) many = absurd (omega arith)
@@ -73,16 +74,16 @@ too_many v i first last (a ∷ b ∷ c ∷ d ∷ e ∷ []) many = absurd (omega 
 too_many v i first last (a ∷ b ∷ c ∷ d ∷ e ∷ f ∷ []) many = absurd (omega arith)
 too_many v i first last (a ∷ b ∷ c ∷ d ∷ e ∷ f ∷ g ∷ ns) many = refl
 
-pub one_slot : (ns : List ℤ) → 2 ≤ length ns → spec.box_1 ns ≡ spec.box_of One (at ns 0) (at ns 1) (at ns 1) (take (length ns - 2) (drop 2 ns))
+pub one_slot : (ns : List ℤ) → 2 ≤ length ns → spec.box_1 ns ≡ spec.box_of (Full One) (at ns 0) (at ns 1) (at ns 1) (take (length ns - 2) (drop 2 ns))
 one_slot [] least = absurd (omega arith)
 one_slot (a ∷ []) least = absurd (omega arith)
-one_slot (a ∷ b ∷ ns) least = ap (spec.box_of One a b b) (sym (take_all (length (a ∷ b ∷ ns) - 2) ns (omega arith)))
+one_slot (a ∷ b ∷ ns) least = ap (spec.box_of (Full One) a b b) (sym (take_all (length (a ∷ b ∷ ns) - 2) ns (omega arith)))
 
-pub two_slots : (ns : List ℤ) → 3 ≤ length ns → spec.box_2 ns ≡ spec.box_of Two (at ns 0) (at ns 1) (at ns 2) (take (length ns - 3) (drop 3 ns))
+pub two_slots : (ns : List ℤ) → 3 ≤ length ns → spec.box_2 ns ≡ spec.box_of (Full Two) (at ns 0) (at ns 1) (at ns 2) (take (length ns - 3) (drop 3 ns))
 two_slots [] least = absurd (omega arith)
 two_slots (a ∷ []) least = absurd (omega arith)
 two_slots (a ∷ b ∷ []) least = absurd (omega arith)
-two_slots (a ∷ b ∷ c ∷ ns) least = ap (spec.box_of Two a b c) (sym (take_all (length (a ∷ b ∷ c ∷ ns) - 3) ns (omega arith)))
+two_slots (a ∷ b ∷ c ∷ ns) least = ap (spec.box_of (Full Two) a b c) (sym (take_all (length (a ∷ b ∷ c ∷ ns) - 3) ns (omega arith)))
 
 -- ---- what the tests of a box decide
 
@@ -93,11 +94,11 @@ IsRefused least most cause = (is_reach least most ≡ false) × (cause ≡ cause
 abbrev pub IsTaken : ℤ → ℤ → ℤ → ℤ → Type 0
 IsTaken least most from to = (is_reach least most ≡ true) × ◌≡◌ {A = ℤ × ℤ} (from, to) (least, most)
 
-abbrev pub ends_at : CertVersion → ℤ → ℤ → ℤ → List ℤ → Bool
+abbrev pub ends_at : CertFormat → ℤ → ℤ → ℤ → List ℤ → Bool
 ends_at v i first last ns = box_test v i first last (at ns 0) (at ns 1) (at ns 2) (at ns 3) (at ns 4) (at ns 5)
 
 -- the tests in front of the ends
-pub record HasSlots (v : CertVersion) (i first last : ℤ) : Type 0 where
+pub record HasSlots (v : CertFormat) (i first last : ℤ) : Type 0 where
   pub object : is_object v i ≡ true
   pub from : is_slot first ≡ true
   pub to : is_from (unsigned_abs first) (2 ^ 32 - 1) last ≡ true
@@ -107,7 +108,7 @@ abbrev pub passed : ℤ → ℤ
 passed z = to_z w128 (of_z w128 z)
 
 -- the same of numbers that are passed on, the first slot as it was taken
-pub has_slots : (v : CertVersion) (i first last : ℤ) (from : ℕ) → FitsSigned w128 i → FitsSigned w128 first → FitsSigned w128 last
+pub has_slots : (v : CertFormat) (i first last : ℤ) (from : ℕ) → FitsSigned w128 i → FitsSigned w128 first → FitsSigned w128 last
     → is_object v (passed i) ≡ true → is_slot (passed first) ≡ true → from ≡ unsigned_abs (passed first)
     → is_from from (2 ^ 32 - 1) (passed last) ≡ true → HasSlots v i first last
 has_slots v i first last from p q r object slot taken order = record {
@@ -116,17 +117,17 @@ has_slots v i first last from p q r object slot taken order = record {
   to = rw (taken, to_z-of_z q, to_z-of_z r) at order;
 }
 
-pub object_refused : (v : CertVersion) (i first last : ℤ) (ns : List ℤ) → 6 ≤ length ns → length ns < 7 → is_object v i ≡ false → spec.box_of v i first last ns ≡ Err causes.Range
+pub object_refused : (v : CertFormat) (i first last : ℤ) (ns : List ℤ) → 6 ≤ length ns → length ns < 7 → is_object v i ≡ false → spec.box_of v i first last ns ≡ Err causes.Range
 object_refused v i first last ns least most object =
     let test : ends_at v i first last ns ≡ false = rw object refl in
     six_ends v i first last ns least most ∙ ap (λ (b : Bool). in_range b (Box (the_box i first last (at ns 0) (at ns 1) (at ns 2) (at ns 3) (at ns 4) (at ns 5)))) test
 
-pub from_refused : (v : CertVersion) (i first last : ℤ) (ns : List ℤ) → 6 ≤ length ns → length ns < 7 → is_object v i ≡ true → is_slot first ≡ false → spec.box_of v i first last ns ≡ Err causes.Range
+pub from_refused : (v : CertFormat) (i first last : ℤ) (ns : List ℤ) → 6 ≤ length ns → length ns < 7 → is_object v i ≡ true → is_slot first ≡ false → spec.box_of v i first last ns ≡ Err causes.Range
 from_refused v i first last ns least most object from =
     let test : ends_at v i first last ns ≡ false = rw (object, from) refl in
     six_ends v i first last ns least most ∙ ap (λ (b : Bool). in_range b (Box (the_box i first last (at ns 0) (at ns 1) (at ns 2) (at ns 3) (at ns 4) (at ns 5)))) test
 
-pub to_refused : (v : CertVersion) (i first last : ℤ) (ns : List ℤ) → 6 ≤ length ns → length ns < 7 → is_object v i ≡ true → is_slot first ≡ true → is_from (unsigned_abs first) (2 ^ 32 - 1) last ≡ false
+pub to_refused : (v : CertFormat) (i first last : ℤ) (ns : List ℤ) → 6 ≤ length ns → length ns < 7 → is_object v i ≡ true → is_slot first ≡ true → is_from (unsigned_abs first) (2 ^ 32 - 1) last ≡ false
     → spec.box_of v i first last ns ≡ Err causes.Range
 to_refused v i first last ns least most object from to =
     let none = slots_unordered first last from to in
@@ -137,20 +138,20 @@ to_refused v i first last ns least most object from to =
     (λ j. (((((object j && from j) && is_slot last) && int_le first last) && x) && y) && z) ∙ (λ j. ((none j && x) && y) && z) in
     six_ends v i first last ns least most ∙ ap (λ (b : Bool). in_range b (Box (the_box i first last (at ns 0) (at ns 1) (at ns 2) (at ns 3) (at ns 4) (at ns 5)))) test
 
-pub x_refused : (v : CertVersion) (i first last : ℤ) (ns : List ℤ) → 6 ≤ length ns → length ns < 7 → HasSlots v i first last → is_reach (at ns 0) (at ns 1) ≡ false → spec.box_of v i first last ns ≡ Err causes.Range
+pub x_refused : (v : CertFormat) (i first last : ℤ) (ns : List ℤ) → 6 ≤ length ns → length ns < 7 → HasSlots v i first last → is_reach (at ns 0) (at ns 1) ≡ false → spec.box_of v i first last ns ≡ Err causes.Range
 x_refused v i first last ns least most slots x =
     let ordered = slots_ordered first last slots.from slots.to in
     let test : ends_at v i first last ns ≡ false = rw (slots.object, slots.from, ordered.0, ordered.1, x) refl in
     six_ends v i first last ns least most ∙ ap (λ (b : Bool). in_range b (Box (the_box i first last (at ns 0) (at ns 1) (at ns 2) (at ns 3) (at ns 4) (at ns 5)))) test
 
-pub y_refused : (v : CertVersion) (i first last : ℤ) (ns : List ℤ) → 6 ≤ length ns → length ns < 7 → HasSlots v i first last → is_reach (at ns 0) (at ns 1) ≡ true → is_reach (at ns 2) (at ns 3) ≡ false
+pub y_refused : (v : CertFormat) (i first last : ℤ) (ns : List ℤ) → 6 ≤ length ns → length ns < 7 → HasSlots v i first last → is_reach (at ns 0) (at ns 1) ≡ true → is_reach (at ns 2) (at ns 3) ≡ false
     → spec.box_of v i first last ns ≡ Err causes.Range
 y_refused v i first last ns least most slots x y =
     let ordered = slots_ordered first last slots.from slots.to in
     let test : ends_at v i first last ns ≡ false = rw (slots.object, slots.from, ordered.0, ordered.1, x, y) refl in
     six_ends v i first last ns least most ∙ ap (λ (b : Bool). in_range b (Box (the_box i first last (at ns 0) (at ns 1) (at ns 2) (at ns 3) (at ns 4) (at ns 5)))) test
 
-pub z_refused : (v : CertVersion) (i first last : ℤ) (ns : List ℤ) → 6 ≤ length ns → length ns < 7 → HasSlots v i first last → is_reach (at ns 0) (at ns 1) ≡ true → is_reach (at ns 2) (at ns 3) ≡ true
+pub z_refused : (v : CertFormat) (i first last : ℤ) (ns : List ℤ) → 6 ≤ length ns → length ns < 7 → HasSlots v i first last → is_reach (at ns 0) (at ns 1) ≡ true → is_reach (at ns 2) (at ns 3) ≡ true
     → is_reach (at ns 4) (at ns 5) ≡ false
     → spec.box_of v i first last ns ≡ Err causes.Range
 z_refused v i first last ns least most slots x y z =
@@ -158,7 +159,7 @@ z_refused v i first last ns least most slots x y z =
     let test : ends_at v i first last ns ≡ false = rw (slots.object, slots.from, ordered.0, ordered.1, x, y, z) refl in
     six_ends v i first last ns least most ∙ ap (λ (b : Bool). in_range b (Box (the_box i first last (at ns 0) (at ns 1) (at ns 2) (at ns 3) (at ns 4) (at ns 5)))) test
 
-pub box_taken : (v : CertVersion) (i first last : ℤ) (ns : List ℤ) → 6 ≤ length ns → length ns < 7 → HasSlots v i first last → is_reach (at ns 0) (at ns 1) ≡ true → is_reach (at ns 2) (at ns 3) ≡ true
+pub box_taken : (v : CertFormat) (i first last : ℤ) (ns : List ℤ) → 6 ≤ length ns → length ns < 7 → HasSlots v i first last → is_reach (at ns 0) (at ns 1) ≡ true → is_reach (at ns 2) (at ns 3) ≡ true
     → is_reach (at ns 4) (at ns 5) ≡ true
     → spec.box_of v i first last ns ≡ Ok (Box (the_box i first last (at ns 0) (at ns 1) (at ns 2) (at ns 3) (at ns 4) (at ns 5)))
 box_taken v i first last ns least most slots x y z =
@@ -179,7 +180,7 @@ as_cause x cause refused same = refused ∙ ap (λ (k : CertCause). Err k) (sym 
 
 -- ---- cells
 
-pub four_numbers : (v : CertVersion) (ns : List ℤ) (kind : Option Kind) → 4 ≤ length ns → length ns < 5 → spec.cell v ns kind ≡ spec.cell_of v (at ns 0) (at ns 1) (at ns 2) (at ns 3) kind
+pub four_numbers : (v : CertFormat) (ns : List ℤ) (kind : Option Kind) → 4 ≤ length ns → length ns < 5 → spec.cell v ns kind ≡ spec.cell_of v (at ns 0) (at ns 1) (at ns 2) (at ns 3) kind
 four_numbers v [] kind least most = absurd (omega arith)
 four_numbers v (a ∷ []) kind least most = absurd (omega arith)
 four_numbers v (a ∷ b ∷ []) kind least most = absurd (omega arith)
@@ -187,36 +188,36 @@ four_numbers v (a ∷ b ∷ c ∷ []) kind least most = absurd (omega arith)
 four_numbers v (a ∷ b ∷ c ∷ d ∷ []) kind least most = refl
 four_numbers v (a ∷ b ∷ c ∷ d ∷ e ∷ ns) kind least most = absurd (omega arith)
 
-abbrev cell_test : CertVersion → ℤ → ℤ → ℤ → ℤ → Bool
+abbrev cell_test : CertFormat → ℤ → ℤ → ℤ → ℤ → Bool
 cell_test v a b first last = is_object v a && is_object v b && int_lt a b && is_tick first && is_tick last && int_le first last
 
 abbrev the_cell : ℤ → ℤ → ℤ → ℤ → Kind → PlainLine
 the_cell a b first last kind = Cell (record { a = object_of a; b = object_of b; first = unsigned_abs first; last = unsigned_abs last; kind = kind })
 
-refused_by : (v : CertVersion) (a b first last : ℤ) (kind : Kind) → cell_test v a b first last ≡ false → spec.cell_of v a b first last (Some kind) ≡ Err causes.Range
+refused_by : (v : CertFormat) (a b first last : ℤ) (kind : Kind) → cell_test v a b first last ≡ false → spec.cell_of v a b first last (Some kind) ≡ Err causes.Range
 refused_by v a b first last kind test = ap (λ (t : Bool). in_range t (the_cell a b first last kind)) test
 
-pub one_refused : (v : CertVersion) (a b first last : ℤ) (kind : Kind) → is_object v a ≡ false → spec.cell_of v a b first last (Some kind) ≡ Err causes.Range
+pub one_refused : (v : CertFormat) (a b first last : ℤ) (kind : Kind) → is_object v a ≡ false → spec.cell_of v a b first last (Some kind) ≡ Err causes.Range
 one_refused v a b first last kind none = refused_by v a b first last kind (and_left _ _ (and_left _ _ (and_left _ _ (and_left _ _ (and_left _ _ none)))))
 
-pub other_refused : (v : CertVersion) (a b first last : ℤ) (kind : Kind) → is_object v b ≡ false → spec.cell_of v a b first last (Some kind) ≡ Err causes.Range
+pub other_refused : (v : CertFormat) (a b first last : ℤ) (kind : Kind) → is_object v b ≡ false → spec.cell_of v a b first last (Some kind) ≡ Err causes.Range
 other_refused v a b first last kind none = refused_by v a b first last kind (and_left _ _ (and_left _ _ (and_left _ _ (and_left _ _ (and_right _ _ none)))))
 
-pub first_refused : (v : CertVersion) (a b first last : ℤ) (kind : Kind) → is_tick first ≡ false → spec.cell_of v a b first last (Some kind) ≡ Err causes.Range
+pub first_refused : (v : CertFormat) (a b first last : ℤ) (kind : Kind) → is_tick first ≡ false → spec.cell_of v a b first last (Some kind) ≡ Err causes.Range
 first_refused v a b first last kind none = refused_by v a b first last kind (and_left _ _ (and_left _ _ (and_right _ _ none)))
 
-pub last_refused : (v : CertVersion) (a b first last : ℤ) (kind : Kind) → is_tick last ≡ false → spec.cell_of v a b first last (Some kind) ≡ Err causes.Range
+pub last_refused : (v : CertFormat) (a b first last : ℤ) (kind : Kind) → is_tick last ≡ false → spec.cell_of v a b first last (Some kind) ≡ Err causes.Range
 last_refused v a b first last kind none = refused_by v a b first last kind (and_left _ _ (and_right _ _ none))
 
 -- the objects and ticks of a cell are there
-pub record HasCell (v : CertVersion) (a b first last : ℤ) : Type 0 where
+pub record HasCell (v : CertFormat) (a b first last : ℤ) : Type 0 where
   pub one : is_object v a ≡ true
   pub other : is_object v b ≡ true
   pub from : is_tick first ≡ true
   pub to : is_tick last ≡ true
 
 -- the same, where each number was read from its bits
-pub has_cell : (v : CertVersion) (a b first last : ℤ) → FitsSigned w128 a → FitsSigned w128 b → FitsSigned w128 first → FitsSigned w128 last
+pub has_cell : (v : CertFormat) (a b first last : ℤ) → FitsSigned w128 a → FitsSigned w128 b → FitsSigned w128 first → FitsSigned w128 last
     → is_object v (to_z w128 (of_z w128 a)) ≡ true → is_object v (to_z w128 (of_z w128 b)) ≡ true
     → is_tick (to_z w128 (of_z w128 first)) ≡ true → is_tick (to_z w128 (of_z w128 last)) ≡ true → HasCell v a b first last
 has_cell v a b first last fa fb ff fl one other from to = record {
@@ -235,25 +236,25 @@ less_is m n h = grind (arith, ints)
 most_not : (m n : ℕ) → n < m → int_le (pos m) (pos n) ≡ false
 most_not m n h = grind (arith, ints)
 
-pub objects_refused : (v : CertVersion) (a b first last : ℤ) (kind : Kind) → HasCell v a b first last → object_of b ≤ object_of a → spec.cell_of v a b first last (Some kind) ≡ Err causes.Range
+pub objects_refused : (v : CertFormat) (a b first last : ℤ) (kind : Kind) → HasCell v a b first last → object_of b ≤ object_of a → spec.cell_of v a b first last (Some kind) ≡ Err causes.Range
 objects_refused v a b first last kind has order =
-    let x = from_range 1 (most_objects v) a has.one in
-    let y = from_range 1 (most_objects v) b has.other in
+    let x = from_range 1 (most_objects_in v) a has.one in
+    let y = from_range 1 (most_objects_in v) b has.other in
     let less : int_lt a b ≡ false = ap (λ (z : ℤ). int_lt z b) x.value ∙ ap (int_lt (pos (unsigned_abs a))) y.value ∙ less_not (unsigned_abs a) (unsigned_abs b) (omega (arith, x.low, y.low)) in
     refused_by v a b first last kind (and_left _ _ (and_left _ _ (and_left _ _ (and_right _ _ less))))
 
-pub ticks_refused : (v : CertVersion) (a b first last : ℤ) (kind : Kind) → HasCell v a b first last → unsigned_abs last < unsigned_abs first → spec.cell_of v a b first last (Some kind) ≡ Err causes.Range
+pub ticks_refused : (v : CertFormat) (a b first last : ℤ) (kind : Kind) → HasCell v a b first last → unsigned_abs last < unsigned_abs first → spec.cell_of v a b first last (Some kind) ≡ Err causes.Range
 ticks_refused v a b first last kind has order =
     let x = from_range FIRST_TICK LAST_TICK first has.from in
     let y = from_range FIRST_TICK LAST_TICK last has.to in
     let none : int_le first last ≡ false = ap (λ (z : ℤ). int_le z last) x.value ∙ ap (int_le (pos (unsigned_abs first))) y.value ∙ most_not (unsigned_abs first) (unsigned_abs last) order in
     refused_by v a b first last kind (and_right _ _ none)
 
-pub cell_taken : (v : CertVersion) (a b first last : ℤ) (kind : Kind) → HasCell v a b first last → object_of a < object_of b → unsigned_abs first ≤ unsigned_abs last
+pub cell_taken : (v : CertFormat) (a b first last : ℤ) (kind : Kind) → HasCell v a b first last → object_of a < object_of b → unsigned_abs first ≤ unsigned_abs last
     → spec.cell_of v a b first last (Some kind) ≡ Ok (the_cell a b first last kind)
 cell_taken v a b first last kind has objects ticks =
-    let xa = from_range 1 (most_objects v) a has.one in
-    let xb = from_range 1 (most_objects v) b has.other in
+    let xa = from_range 1 (most_objects_in v) a has.one in
+    let xb = from_range 1 (most_objects_in v) b has.other in
     let xf = from_range FIRST_TICK LAST_TICK first has.from in
     let xl = from_range FIRST_TICK LAST_TICK last has.to in
     let less : int_lt a b ≡ true = ap (λ (z : ℤ). int_lt z b) xa.value ∙ ap (int_lt (pos (unsigned_abs a))) xb.value ∙ less_is (unsigned_abs a) (unsigned_abs b) (omega (arith, xa.low, xb.low)) in

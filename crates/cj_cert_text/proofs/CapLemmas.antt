@@ -12,9 +12,10 @@ use Rattle.cj_case.specs.declared.kind.Kind.{Kind}
 use Rattle.cj_bezier.specs.Shells.{MAX_RADIUS}
 use Rattle.cj_formats.specs.declared.cert_cause.CertCause.{CertCause}
 use Rattle.cj_formats.specs.declared.cert_cause.CertCause.TheVariants as causes
-use Rattle.cj_formats.specs.declared.cert_version.CertVersion.{CertVersion}
+use Rattle.cj_formats.specs.declared.cert_format.CertFormat.{CertFormat}
+use Rattle.cj_formats.specs.declared.cert_format.CertFormat.TheVariants.{Full, Brief}
 use Rattle.cj_formats.specs.declared.cert_version.CertVersion.TheVariants.{One, Two}
-use Rattle.cj_formats.specs.Versions.{most_objects, number_of_version}
+use Rattle.cj_formats.specs.Formats.{most_objects_in, number_of_format}
 use Rattle.cj_cert_text.specs.declared.rank.Rank.{Rank}
 use Rattle.cj_cert_text.specs.declared.rank.Rank.TheVariants as rank
 use Rattle.cj_cert_text.specs.Lines as spec
@@ -78,9 +79,9 @@ same_kept n z small =
     is_below : (y : ℤ) → (int_le y (pos n) && int_le (pos n) y) ≡ true → unsigned_abs y < 2 ^ 64 - 1
     is_below y t = omega (arith, ap unsigned_abs (equal_by n y t))
 
-heading_kept : (v : CertVersion) (numbers : List ℤ) → spec.heading v (map capped numbers) ≡ spec.heading v numbers
+heading_kept : (v : CertFormat) (numbers : List ℤ) → spec.heading v (map capped numbers) ≡ spec.heading v numbers
 heading_kept v [] = refl
-heading_kept v (z ∷ []) = ap (λ (b : Bool). cond b (Ok Heading) (Err causes.Form)) (same_kept (number_of_version v) z (omega (arith, small_version v)))
+heading_kept v (z ∷ []) = ap (λ (b : Bool). cond b (Ok Heading) (Err causes.Form)) (same_kept (number_of_format v) z (omega (arith, small_version v)))
 heading_kept v (z ∷ y ∷ zs) = refl
 
 window_kept : (numbers : List ℤ) → spec.window (map capped numbers) ≡ spec.window numbers
@@ -103,66 +104,67 @@ threshold_kept (z ∷ []) =
     (λ t. ap (λ (x : ℤ). spec.threshold (x ∷ [])) (was_kept_from 1 MAX_THRESHOLD z (omega arith) t))
 threshold_kept (z ∷ y ∷ zs) = refl
 
-objects_kept : (v : CertVersion) (numbers : List ℤ) → spec.objects v (map capped numbers) ≡ spec.objects v numbers
+objects_kept : (v : CertFormat) (numbers : List ℤ) → spec.objects v (map capped numbers) ≡ spec.objects v numbers
 objects_kept v [] = refl
 objects_kept v (z ∷ []) =
-    settle (is_from 0 (most_objects v) z) (is_from 0 (most_objects v) (capped z)) _ _
-    (λ t. ap (λ (x : ℤ). spec.objects v (x ∷ [])) (kept_from 0 (most_objects v) z (omega (arith, small_objects v)) t))
-    (λ t. ap (λ (x : ℤ). spec.objects v (x ∷ [])) (was_kept_from 0 (most_objects v) z (omega (arith, small_objects v)) t))
+    settle (is_from 0 (most_objects_in v) z) (is_from 0 (most_objects_in v) (capped z)) _ _
+    (λ t. ap (λ (x : ℤ). spec.objects v (x ∷ [])) (kept_from 0 (most_objects_in v) z (omega (arith, small_objects v)) t))
+    (λ t. ap (λ (x : ℤ). spec.objects v (x ∷ [])) (was_kept_from 0 (most_objects_in v) z (omega (arith, small_objects v)) t))
 objects_kept v (z ∷ y ∷ zs) = refl
 
--- the line of a size, in a version that tells them
-abbrev sized : ℤ → ℤ → Said
-sized i z = in_range (is_object Two i && is_from 0 MAX_SIZE z) (spec.Size (record { object = spec.object_of i; size = unsigned_abs z }))
+-- the line of a size, in a format that tells them
+abbrev sized : CertFormat → ℤ → ℤ → Said
+sized v i z = in_range (is_object v i && is_from 0 MAX_SIZE z) (spec.Size (record { object = spec.object_of i; size = unsigned_abs z }))
 
-size_2_kept : (numbers : List ℤ) → spec.size_of Two (map capped numbers) ≡ spec.size_of Two numbers
-size_2_kept [] = refl
-size_2_kept (i ∷ []) = refl
-size_2_kept (i ∷ z ∷ []) =
-    settle (is_object Two i && is_from 0 MAX_SIZE z) (is_object Two (capped i) && is_from 0 MAX_SIZE (capped z)) _ _
-    (λ t. let p = and_parts (is_object Two i) (is_from 0 MAX_SIZE z) t in
-    ap₂ sized (kept_from 1 (most_objects Two) i (omega (arith, small_objects Two)) p.0) (kept_from 0 MAX_SIZE z (omega arith) p.1))
-    (λ t. let p = and_parts (is_object Two (capped i)) (is_from 0 MAX_SIZE (capped z)) t in
-    ap₂ sized (was_kept_from 1 (most_objects Two) i (omega (arith, small_objects Two)) p.0) (was_kept_from 0 MAX_SIZE z (omega arith) p.1))
-size_2_kept (i ∷ z ∷ y ∷ zs) = refl
+size_of_kept : (v : CertFormat) (numbers : List ℤ) → spec.size_of v (map capped numbers) ≡ spec.size_of v numbers
+size_of_kept v [] = refl
+size_of_kept v (i ∷ []) = refl
+size_of_kept v (i ∷ z ∷ []) =
+    settle (is_object v i && is_from 0 MAX_SIZE z) (is_object v (capped i) && is_from 0 MAX_SIZE (capped z)) _ _
+    (λ t. let p = and_parts (is_object v i) (is_from 0 MAX_SIZE z) t in
+    ap₂ (sized v) (kept_from 1 (most_objects_in v) i (omega (arith, small_objects v)) p.0) (kept_from 0 MAX_SIZE z (omega arith) p.1))
+    (λ t. let p = and_parts (is_object v (capped i)) (is_from 0 MAX_SIZE (capped z)) t in
+    ap₂ (sized v) (was_kept_from 1 (most_objects_in v) i (omega (arith, small_objects v)) p.0) (was_kept_from 0 MAX_SIZE z (omega arith) p.1))
+size_of_kept v (i ∷ z ∷ y ∷ zs) = refl
 
-size_kept : (v : CertVersion) (numbers : List ℤ) → spec.size v (map capped numbers) ≡ spec.size v numbers
-size_kept One numbers = refl
-size_kept Two numbers = size_2_kept numbers
+size_kept : (v : CertFormat) (numbers : List ℤ) → spec.size v (map capped numbers) ≡ spec.size v numbers
+size_kept (Full One) numbers = refl
+size_kept (Full Two) numbers = size_of_kept (Full Two) numbers
+size_kept Brief numbers = size_of_kept Brief numbers
 
-record ShellTests (v : CertVersion) (i lo hi : ℤ) : Type 0 where
+record ShellTests (v : CertFormat) (i lo hi : ℤ) : Type 0 where
   object : is_object v i ≡ true
   low : is_radius lo ≡ true
   high : is_radius hi ≡ true
 
-shell_tests : (v : CertVersion) (i lo hi : ℤ) → (is_object v i && is_radius lo && is_radius hi && int_le lo hi) ≡ true → ShellTests v i lo hi
+shell_tests : (v : CertFormat) (i lo hi : ℤ) → (is_object v i && is_radius lo && is_radius hi && int_le lo hi) ≡ true → ShellTests v i lo hi
 shell_tests v i lo hi t =
     let p1 = and_parts (is_object v i && is_radius lo && is_radius hi) (int_le lo hi) t in
     let p2 = and_parts (is_object v i && is_radius lo) (is_radius hi) p1.0 in
     let p3 = and_parts (is_object v i) (is_radius lo) p2.0 in
     record { object = p3.0; low = p3.1; high = p2.1 }
 
-radii_kept : (v : CertVersion) (numbers : List ℤ) → spec.shell v (map capped numbers) ≡ spec.shell v numbers
+radii_kept : (v : CertFormat) (numbers : List ℤ) → spec.shell v (map capped numbers) ≡ spec.shell v numbers
 radii_kept v [] = refl
 radii_kept v (i ∷ []) = refl
 radii_kept v (i ∷ lo ∷ []) = refl
 radii_kept v (i ∷ lo ∷ hi ∷ []) =
     settle (is_object v i && is_radius lo && is_radius hi && int_le lo hi) (is_object v (capped i) && is_radius (capped lo) && is_radius (capped hi) && int_le (capped lo) (capped hi)) _ _
-    (λ t. let p = shell_tests v i lo hi t in same (kept_from 1 (most_objects v) i (omega (arith, small_objects v)) p.object) (kept_from 0 MAX_RADIUS lo (omega arith) p.low) (kept_from 0 MAX_RADIUS hi (omega arith) p.high))
+    (λ t. let p = shell_tests v i lo hi t in same (kept_from 1 (most_objects_in v) i (omega (arith, small_objects v)) p.object) (kept_from 0 MAX_RADIUS lo (omega arith) p.low) (kept_from 0 MAX_RADIUS hi (omega arith) p.high))
     (λ t. let p = shell_tests v (capped i) (capped lo) (capped hi) t in
-    same (was_kept_from 1 (most_objects v) i (omega (arith, small_objects v)) p.object) (was_kept_from 0 MAX_RADIUS lo (omega arith) p.low) (was_kept_from 0 MAX_RADIUS hi (omega arith) p.high))
+    same (was_kept_from 1 (most_objects_in v) i (omega (arith, small_objects v)) p.object) (was_kept_from 0 MAX_RADIUS lo (omega arith) p.low) (was_kept_from 0 MAX_RADIUS hi (omega arith) p.high))
   where
     same : capped i ≡ i → capped lo ≡ lo → capped hi ≡ hi → spec.shell v (capped i ∷ capped lo ∷ capped hi ∷ []) ≡ spec.shell v (i ∷ lo ∷ hi ∷ [])
     same ei el eh = ap (λ (x : ℤ). spec.shell v (x ∷ capped lo ∷ capped hi ∷ [])) ei ∙ ap₂ (λ (x y : ℤ). spec.shell v (i ∷ x ∷ y ∷ [])) el eh
 radii_kept v (i ∷ lo ∷ hi ∷ z ∷ zs) = refl
 
-no_shell_kept : (v : CertVersion) (numbers : List ℤ) (word : List ℕ) (words : List (List ℕ)) → spec.no_shell v (map capped numbers) (word ∷ words) ≡ spec.no_shell v numbers (word ∷ words)
+no_shell_kept : (v : CertFormat) (numbers : List ℤ) (word : List ℕ) (words : List (List ℕ)) → spec.no_shell v (map capped numbers) (word ∷ words) ≡ spec.no_shell v numbers (word ∷ words)
 no_shell_kept v [] word words = refl
 no_shell_kept v (i ∷ []) word [] =
     ap (λ (x : Said). cond (bytes_eq word (codes "NONE")) x (Err causes.Form)) (
     settle (is_object v i) (is_object v (capped i)) _ _
-    (λ t. ap unshelled (kept_from 1 (most_objects v) i (omega (arith, small_objects v)) t))
-    (λ t. ap unshelled (was_kept_from 1 (most_objects v) i (omega (arith, small_objects v)) t))
+    (λ t. ap unshelled (kept_from 1 (most_objects_in v) i (omega (arith, small_objects v)) t))
+    (λ t. ap unshelled (was_kept_from 1 (most_objects_in v) i (omega (arith, small_objects v)) t))
     )
   where
     unshelled : ℤ → Said
@@ -170,7 +172,7 @@ no_shell_kept v (i ∷ []) word [] =
 no_shell_kept v (i ∷ []) word (next ∷ words) = refl
 no_shell_kept v (i ∷ z ∷ zs) word words = refl
 
-shell_kept : (v : CertVersion) (numbers : List ℤ) (words : List (List ℕ)) → spec.shell_or_none v (map capped numbers) words ≡ spec.shell_or_none v numbers words
+shell_kept : (v : CertFormat) (numbers : List ℤ) (words : List (List ℕ)) → spec.shell_or_none v (map capped numbers) words ≡ spec.shell_or_none v numbers words
 shell_kept v numbers [] = radii_kept v numbers
 shell_kept v numbers (word ∷ words) = no_shell_kept v numbers word words
 
@@ -185,7 +187,7 @@ was_kept_coordinate z h = was_kept z (below (capped z) h)
     below (pos n) t = let p = and_parts (int_le (negsuc (2 ^ 63 - 1)) (pos n)) (int_lt (pos n) (pos (2 ^ 63))) t in let e = p.1 in grind (arith, ints)
     below (negsuc n) t = let p = and_parts (int_le (negsuc (2 ^ 63 - 1)) (negsuc n)) (int_lt (negsuc n) (pos (2 ^ 63))) t in let e = p.0 in grind (arith, ints)
 
-box_kept : (v : CertVersion) (i first last : ℤ) (ns : List ℤ) → spec.box_of v (capped i) (capped first) (capped last) (map capped ns) ≡ spec.box_of v i first last ns
+box_kept : (v : CertFormat) (i first last : ℤ) (ns : List ℤ) → spec.box_of v (capped i) (capped first) (capped last) (map capped ns) ≡ spec.box_of v i first last ns
 box_kept v i first last [] = refl
 box_kept v i first last (xl ∷ []) = refl
 box_kept v i first last (xl ∷ xm ∷ []) = refl
@@ -198,13 +200,13 @@ box_kept v i first last (xl ∷ xm ∷ yl ∷ ym ∷ zl ∷ zm ∷ []) =
     let x = reach_parts xl xm p.x in
     let y = reach_parts yl ym p.y in
     let z = reach_parts zl zm p.z in
-    same (kept_from 1 (most_objects v) i (omega (arith, small_objects v)) p.object) (kept_from 0 (2 ^ 32 - 1) first (omega arith) p.from) (kept_from 0 (2 ^ 32 - 1) last (omega arith) p.to)
+    same (kept_from 1 (most_objects_in v) i (omega (arith, small_objects v)) p.object) (kept_from 0 (2 ^ 32 - 1) first (omega arith) p.from) (kept_from 0 (2 ^ 32 - 1) last (omega arith) p.to)
     (kept_coordinate xl x.low) (kept_coordinate xm x.high) (kept_coordinate yl y.low) (kept_coordinate ym y.high) (kept_coordinate zl z.low) (kept_coordinate zm z.high))
     (λ t. let p = box_tests v (capped i) (capped first) (capped last) (capped xl) (capped xm) (capped yl) (capped ym) (capped zl) (capped zm) t in
     let x = reach_parts (capped xl) (capped xm) p.x in
     let y = reach_parts (capped yl) (capped ym) p.y in
     let z = reach_parts (capped zl) (capped zm) p.z in
-    same (was_kept_from 1 (most_objects v) i (omega (arith, small_objects v)) p.object) (was_kept_from 0 (2 ^ 32 - 1) first (omega arith) p.from) (was_kept_from 0 (2 ^ 32 - 1) last (omega arith) p.to)
+    same (was_kept_from 1 (most_objects_in v) i (omega (arith, small_objects v)) p.object) (was_kept_from 0 (2 ^ 32 - 1) first (omega arith) p.from) (was_kept_from 0 (2 ^ 32 - 1) last (omega arith) p.to)
     (was_kept_coordinate xl x.low) (was_kept_coordinate xm x.high) (was_kept_coordinate yl y.low) (was_kept_coordinate ym y.high) (was_kept_coordinate zl z.low) (was_kept_coordinate zm z.high))
   where
     same : capped i ≡ i → capped first ≡ first → capped last ≡ last → capped xl ≡ xl → capped xm ≡ xm → capped yl ≡ yl → capped ym ≡ ym → capped zl ≡ zl → capped zm ≡ zm
@@ -220,21 +222,21 @@ box_kept v i first last (xl ∷ xm ∷ yl ∷ ym ∷ zl ∷ zm ∷ w ∷ ws) = r
 box_1_kept : (numbers : List ℤ) → spec.box_1 (map capped numbers) ≡ spec.box_1 numbers
 box_1_kept [] = refl
 box_1_kept (i ∷ []) = refl
-box_1_kept (i ∷ slot ∷ ns) = box_kept One i slot slot ns
+box_1_kept (i ∷ slot ∷ ns) = box_kept (Full One) i slot slot ns
 
 box_2_kept : (numbers : List ℤ) → spec.box_2 (map capped numbers) ≡ spec.box_2 numbers
 box_2_kept [] = refl
 box_2_kept (i ∷ []) = refl
 box_2_kept (i ∷ first ∷ []) = refl
-box_2_kept (i ∷ first ∷ last ∷ ns) = box_kept Two i first last ns
+box_2_kept (i ∷ first ∷ last ∷ ns) = box_kept (Full Two) i first last ns
 
-record CellTests (v : CertVersion) (a b first last : ℤ) : Type 0 where
+record CellTests (v : CertFormat) (a b first last : ℤ) : Type 0 where
   one : is_object v a ≡ true
   other : is_object v b ≡ true
   from : is_tick first ≡ true
   to : is_tick last ≡ true
 
-cell_tests : (v : CertVersion) (a b first last : ℤ) → (is_object v a && is_object v b && int_lt a b && is_tick first && is_tick last && int_le first last) ≡ true → CellTests v a b first last
+cell_tests : (v : CertFormat) (a b first last : ℤ) → (is_object v a && is_object v b && int_lt a b && is_tick first && is_tick last && int_le first last) ≡ true → CellTests v a b first last
 cell_tests v a b first last t =
     let p1 = and_parts (is_object v a && is_object v b && int_lt a b && is_tick first && is_tick last) (int_le first last) t in
     let p2 = and_parts (is_object v a && is_object v b && int_lt a b && is_tick first) (is_tick last) p1.0 in
@@ -243,16 +245,16 @@ cell_tests v a b first last t =
     let p5 = and_parts (is_object v a) (is_object v b) p4.0 in
     record { one = p5.0; other = p5.1; from = p3.1; to = p2.1 }
 
-cell_of_kept : (v : CertVersion) (a b first last : ℤ) (kind : Option Kind) → spec.cell_of v (capped a) (capped b) (capped first) (capped last) kind ≡ spec.cell_of v a b first last kind
+cell_of_kept : (v : CertFormat) (a b first last : ℤ) (kind : Option Kind) → spec.cell_of v (capped a) (capped b) (capped first) (capped last) kind ≡ spec.cell_of v a b first last kind
 cell_of_kept v a b first last None = refl
 cell_of_kept v a b first last (Some kind) =
     settle (is_object v a && is_object v b && int_lt a b && is_tick first && is_tick last && int_le first last)
     (is_object v (capped a) && is_object v (capped b) && int_lt (capped a) (capped b) && is_tick (capped first) && is_tick (capped last) && int_le (capped first) (capped last)) _ _
     (λ t. let p = cell_tests v a b first last t in
-    same (kept_from 1 (most_objects v) a (omega (arith, small_objects v)) p.one) (kept_from 1 (most_objects v) b (omega (arith, small_objects v)) p.other) (kept_from FIRST_TICK LAST_TICK first (omega arith) p.from)
+    same (kept_from 1 (most_objects_in v) a (omega (arith, small_objects v)) p.one) (kept_from 1 (most_objects_in v) b (omega (arith, small_objects v)) p.other) (kept_from FIRST_TICK LAST_TICK first (omega arith) p.from)
     (kept_from FIRST_TICK LAST_TICK last (omega arith) p.to))
     (λ t. let p = cell_tests v (capped a) (capped b) (capped first) (capped last) t in
-    same (was_kept_from 1 (most_objects v) a (omega (arith, small_objects v)) p.one) (was_kept_from 1 (most_objects v) b (omega (arith, small_objects v)) p.other) (was_kept_from FIRST_TICK LAST_TICK first (omega arith) p.from)
+    same (was_kept_from 1 (most_objects_in v) a (omega (arith, small_objects v)) p.one) (was_kept_from 1 (most_objects_in v) b (omega (arith, small_objects v)) p.other) (was_kept_from FIRST_TICK LAST_TICK first (omega arith) p.from)
     (was_kept_from FIRST_TICK LAST_TICK last (omega arith) p.to))
   where
     some : Option Kind
@@ -263,7 +265,7 @@ cell_of_kept v a b first last (Some kind) =
         ap₂ (λ (x y : ℤ). spec.cell_of v x y (capped first) (capped last) some) ea eb
         ∙ ap₂ (λ (x y : ℤ). spec.cell_of v a b x y some) ef el
 
-cell_kept : (v : CertVersion) (numbers : List ℤ) (kind : Option Kind) → spec.cell v (map capped numbers) kind ≡ spec.cell v numbers kind
+cell_kept : (v : CertFormat) (numbers : List ℤ) (kind : Option Kind) → spec.cell v (map capped numbers) kind ≡ spec.cell v numbers kind
 cell_kept v [] kind = refl
 cell_kept v (a ∷ []) kind = refl
 cell_kept v (a ∷ b ∷ []) kind = refl
@@ -275,11 +277,12 @@ end_kept : (numbers : List ℤ) → spec.end (map capped numbers) ≡ spec.end n
 end_kept [] = refl
 end_kept (z ∷ zs) = refl
 
-box_both : (v : CertVersion) (numbers : List ℤ) → spec.box v (map capped numbers) ≡ spec.box v numbers
-box_both One numbers = box_1_kept numbers
-box_both Two numbers = box_2_kept numbers
+box_both : (v : CertFormat) (numbers : List ℤ) → spec.box v (map capped numbers) ≡ spec.box v numbers
+box_both (Full One) numbers = box_1_kept numbers
+box_both (Full Two) numbers = box_2_kept numbers
+box_both Brief numbers = refl
 
-all_kept : (v : CertVersion) (r : Rank) (numbers : List ℤ) (words : List (List ℕ)) → said_by v r (map capped numbers) words ≡ said_by v r numbers words
+all_kept : (v : CertFormat) (r : Rank) (numbers : List ℤ) (words : List (List ℕ)) → said_by v r (map capped numbers) words ≡ said_by v r numbers words
 all_kept v rank.Heading numbers words = ap (spec.alone words) (heading_kept v numbers)
 all_kept v rank.Window numbers words = ap (spec.alone words) (window_kept numbers)
 all_kept v rank.Threshold numbers words = ap (spec.alone words) (threshold_kept numbers)
@@ -295,19 +298,21 @@ form_alone : (words : List (List ℕ)) → spec.alone words (Err causes.Form) �
 form_alone [] = refl
 form_alone (word ∷ words) = refl
 
-form_size : (v : CertVersion) (a b c : ℤ) (ns : List ℤ) → spec.size v (a ∷ b ∷ c ∷ ns) ≡ Err causes.Form
-form_size One a b c ns = refl
-form_size Two a b c ns = refl
+form_size : (v : CertFormat) (a b c : ℤ) (ns : List ℤ) → spec.size v (a ∷ b ∷ c ∷ ns) ≡ Err causes.Form
+form_size (Full One) a b c ns = refl
+form_size (Full Two) a b c ns = refl
+form_size Brief a b c ns = refl
 
-form_box : (v : CertVersion) (a b c d e f g h i j : ℤ) (ns : List ℤ) → spec.box v (a ∷ b ∷ c ∷ d ∷ e ∷ f ∷ g ∷ h ∷ i ∷ j ∷ ns) ≡ Err causes.Form
-form_box One a b c d e f g h i j ns = refl
-form_box Two a b c d e f g h i j ns = refl
+form_box : (v : CertFormat) (a b c d e f g h i j : ℤ) (ns : List ℤ) → spec.box v (a ∷ b ∷ c ∷ d ∷ e ∷ f ∷ g ∷ h ∷ i ∷ j ∷ ns) ≡ Err causes.Form
+form_box (Full One) a b c d e f g h i j ns = refl
+form_box (Full Two) a b c d e f g h i j ns = refl
+form_box Brief a b c d e f g h i j ns = refl
 
-form_shell : (v : CertVersion) (a b c d : ℤ) (ns : List ℤ) (words : List (List ℕ)) → spec.shell_or_none v (a ∷ b ∷ c ∷ d ∷ ns) words ≡ Err causes.Form
+form_shell : (v : CertFormat) (a b c d : ℤ) (ns : List ℤ) (words : List (List ℕ)) → spec.shell_or_none v (a ∷ b ∷ c ∷ d ∷ ns) words ≡ Err causes.Form
 form_shell v a b c d ns [] = refl
 form_shell v a b c d ns (word ∷ words) = refl
 
-too_many : (v : CertVersion) (r : Rank) (a b c d e f g h i j : ℤ) (ns : List ℤ) (words : List (List ℕ)) → said_by v r (a ∷ b ∷ c ∷ d ∷ e ∷ f ∷ g ∷ h ∷ i ∷ j ∷ ns) words ≡ Err causes.Form
+too_many : (v : CertFormat) (r : Rank) (a b c d e f g h i j : ℤ) (ns : List ℤ) (words : List (List ℕ)) → said_by v r (a ∷ b ∷ c ∷ d ∷ e ∷ f ∷ g ∷ h ∷ i ∷ j ∷ ns) words ≡ Err causes.Form
 too_many v rank.Heading a b c d e f g h i j ns words = form_alone words
 too_many v rank.Window a b c d e f g h i j ns words = form_alone words
 too_many v rank.Threshold a b c d e f g h i j ns words = form_alone words
@@ -318,14 +323,14 @@ too_many v rank.Box a b c d e f g h i j ns words = ap (spec.alone words) (form_b
 too_many v rank.Cell a b c d e f g h i j ns words = refl
 too_many v rank.End a b c d e f g h i j ns words = form_alone words
 
-few_kept : (v : CertVersion) (r : Rank) (numbers : List ℤ) (words others : List (List ℕ)) → length numbers < 10 → words ≡ others
+few_kept : (v : CertFormat) (r : Rank) (numbers : List ℤ) (words others : List (List ℕ)) → length numbers < 10 → words ≡ others
     → said_by v r (take 10 (map capped numbers)) words ≡ said_by v r numbers others
 few_kept v r numbers words others few same =
     let long = length-map numbers capped in
     ap (λ (ns : List ℤ). said_by v r ns words) (take_all 10 (map capped numbers) (omega arith)) ∙ all_kept v r numbers words ∙ ap (said_by v r numbers) same
 
 -- the numbers that are kept, and the words behind them, say what all numbers and words say
-pub said_by_kept : (v : CertVersion) (r : Rank) (numbers : List ℤ) (words others : List (List ℕ)) → (length numbers < 10 → words ≡ others)
+pub said_by_kept : (v : CertFormat) (r : Rank) (numbers : List ℤ) (words others : List (List ℕ)) → (length numbers < 10 → words ≡ others)
     → said_by v r (take 10 (map capped numbers)) words ≡ said_by v r numbers others
 said_by_kept v r (a ∷ b ∷ c ∷ d ∷ e ∷ f ∷ g ∷ h ∷ i ∷ j ∷ ns) words others same =
     too_many v r (capped a) (capped b) (capped c) (capped d) (capped e) (capped f) (capped g) (capped h) (capped i) (capped j) [] words ∙ sym (too_many v r a b c d e f g h i j ns others)

@@ -7,8 +7,11 @@ use Rattle.cj_case.specs.declared.shells.Shell.{Shell}
 use Rattle.cj_cert_text.specs.declared.rank.Rank.{Rank}
 use Rattle.cj_cert_text.specs.declared.rank.Rank.TheVariants as rank
 use Rattle.cj_cert.specs.Certificates.{PlainCertificate, line_count}
+use Rattle.cj_brief.specs.Certificates as brief
+use Rattle.cj_brief.specs.Certificates.{PlainBrief}
+use Rattle.cj_formats.specs.declared.cert_format.CertFormat.TheVariants.{Brief}
 use Rattle.cj_kvn.specs.Entries.{line_of_words}
-use Rattle.cj_cert_text.specs.Texts.{row, row_ended, size_text, shell_row, shell_text, box_text, cell_text, head_text, text_of}
+use Rattle.cj_cert_text.specs.Texts.{row, row_ended, size_text, shell_row, shell_text, box_text, cell_text, head_text, first_lines_in, text_of, brief_text}
 use Rattle.cj_cert_text.proofs.LineLemmas.{word_of}
 
 line_some : (words : List (List ℕ)) → 1 ≤ length (line_of_words words)
@@ -50,6 +53,24 @@ lines_within c =
       length-append (head_text c ++ sizes ++ shells) boxes,
       length-append (head_text c ++ sizes ++ shells ++ boxes) cells,
       length-append (head_text c ++ sizes ++ shells ++ boxes ++ cells) (row (codes "END") []),
+    )
+
+pub brief_lines_within : (c : PlainBrief) → brief.line_count c ≤ length (brief_text c)
+unfolding brief_text
+brief_lines_within c =
+    let sizes = flat_map size_text c.sizes in
+    let shells = flat_map shell_text c.shells in
+    let cells = flat_map cell_text c.cells in
+    let head = first_lines_in Brief c.first c.last c.threshold c.objects in
+    omega (
+      arith,
+      many size_text (λ s. row_some _ _) c.sizes,
+      many shell_text (λ s. shell_some s.object s.shell) c.shells,
+      many cell_text (λ s. ended_some _ _ _) c.cells,
+      length-append head sizes,
+      length-append (head ++ sizes) shells,
+      length-append (head ++ sizes ++ shells) cells,
+      length-append (head ++ sizes ++ shells ++ cells) (row (codes "END") []),
     )
 
 -- ---- a line is no single byte

@@ -8,6 +8,7 @@ use Rattle.std.proofs.lemmas.Fmt.{length-decimal-le}
 use Rattle.std.proofs.lemmas.List.{length-append}
 use Rattle.std.proofs.lemmas.List.Elements.{All-head, All-tail}
 use Rattle.cj_formats.specs.declared.cert_version.CertVersion.{CertVersion}
+use Rattle.cj_formats.specs.declared.cert_format.CertFormat.TheVariants.{Full}
 use Rattle.cj_formats.specs.declared.cert_version.CertVersion.TheVariants.{One, Two}
 use Rattle.cj_formats.specs.Versions.{most_objects, number_of_version}
 use Rattle.cj_case.specs.declared.kind.Kind.{Kind}
@@ -100,14 +101,14 @@ shell_length v object (Some r) few radii =
       numbers_length ends (omega (arith, radii.0, radii.1), (omega (arith, radii.1), tt)),
     )
 
-box_length : (v : CertVersion) (b : PlainBoxLine) → FitsSlots v b → FitsBox (most_objects v) b → length (box_text v b) ≤ 185
+box_length : (v : CertVersion) (b : PlainBoxLine) → FitsSlots (Full v) b → FitsBox (most_objects v) b → length (box_text v b) ≤ 185
 box_length v b same fits =
     let rest = slots v b ++ ends b.area in
     omega (
       arith,
       row_length (codes "BOX") (number b.object ∷ rest),
       object_length v b.object rest fits.object,
-      numbers_length rest (numbers_small v (Box b) (fits, same)).1,
+      numbers_length rest (numbers_small (Full v) (Box b) (fits, same)).1,
       length-append (slots v b) (ends b.area),
       few v,
     )
@@ -124,7 +125,7 @@ cell_length v s fits =
       row_ended_length (codes "CELL") (kind_word s.kind) (number s.a ∷ number s.b ∷ ticks),
       object_length v s.a (number s.b ∷ ticks) (omega (arith, fits.ordered, fits.objects)),
       object_length v s.b ticks fits.objects,
-      numbers_length ticks (numbers_small v (Cell s) fits).1.1,
+      numbers_length ticks (numbers_small (Full v) (Cell s) fits).1.1,
       letter s.kind,
     )
   where
@@ -165,10 +166,10 @@ head_length c fits =
       row_length (codes "WINDOW") window,
       row_length (codes "THRESHOLD") threshold,
       row_length (codes "OBJECTS") objects,
-      numbers_length version (omega (arith, small_version c.version), tt),
-      numbers_length window (numbers_small c.version (Window c.first c.last) (fits.first, fits.last)),
-      numbers_length threshold (numbers_small c.version (Threshold c.threshold) (fits.some, fits.threshold)),
-      numbers_length objects (numbers_small c.version (Objects c.objects) fits.objects),
+      numbers_length version (omega (arith, small_version (Full c.version)), tt),
+      numbers_length window (numbers_small (Full c.version) (Window c.first c.last) (fits.first, fits.last)),
+      numbers_length threshold (numbers_small (Full c.version) (Threshold c.threshold) (fits.some, fits.threshold)),
+      numbers_length objects (numbers_small (Full c.version) (Objects c.objects) fits.objects),
     )
 
 boxes_length : (v : CertVersion) (sizes : List SizeOfLine) (boxes : List PlainBoxLine) → IsOfVersion v sizes boxes → All (FitsBox (most_objects v)) boxes

@@ -15,9 +15,10 @@ use Rattle.cj_bezier.specs.Shells.{MAX_RADIUS}
 use Rattle.cj_cert.specs.declared.cert_lines.ShellLine.{ShellLine}
 use Rattle.cj_cert.specs.declared.cert_lines.SizeOfLine.{SizeOfLine}
 use Rattle.cj_formats.specs.declared.cert_cause.CertCause.{CertCause}
-use Rattle.cj_formats.specs.declared.cert_version.CertVersion.{CertVersion}
 use Rattle.cj_formats.specs.declared.cert_version.CertVersion.TheVariants.{One, Two}
-use Rattle.cj_formats.specs.Versions.{most_objects, number_of_version}
+use Rattle.cj_formats.specs.declared.cert_format.CertFormat.{CertFormat}
+use Rattle.cj_formats.specs.declared.cert_format.CertFormat.TheVariants.{Full, Brief}
+use Rattle.cj_formats.specs.Formats.{most_objects_in, number_of_format}
 use Rattle.cj_cert_text.specs.declared.rank.Rank.{Rank}
 use Rattle.cj_cert_text.specs.declared.rank.Rank.TheVariants as rank
 use Rattle.cj_cert.specs.Certificates.{PlainBoxLine}
@@ -88,16 +89,21 @@ abbrev pub shell_numbers : ℕ → Option Radii → List ℤ
 shell_numbers object None = number object ∷ []
 shell_numbers object (Some r) = number object ∷ pos r.lo ∷ pos r.hi ∷ []
 
-abbrev pub numbers_of : CertVersion → PlainLine → List ℤ
-numbers_of v Heading = pos (number_of_version v) ∷ []
-numbers_of v (Window first last) = pos first ∷ pos last ∷ []
-numbers_of v (Threshold threshold) = pos threshold ∷ []
-numbers_of v (Objects count) = pos count ∷ []
-numbers_of v (Size s) = number s.object ∷ pos s.size ∷ []
-numbers_of v (Shell s) = shell_numbers s.object s.shell
-numbers_of v (Box b) = number b.object ∷ (slots v b ++ ends b.area)
-numbers_of v (Cell s) = number s.a ∷ number s.b ∷ pos s.first ∷ pos s.last ∷ []
-numbers_of v End = []
+-- the slots of a box; in brief there is none
+abbrev pub slots_in : CertFormat → PlainBoxLine → List ℤ
+slots_in (Full version) b = slots version b
+slots_in Brief b = []
+
+abbrev pub numbers_of : CertFormat → PlainLine → List ℤ
+numbers_of f Heading = pos (number_of_format f) ∷ []
+numbers_of f (Window first last) = pos first ∷ pos last ∷ []
+numbers_of f (Threshold threshold) = pos threshold ∷ []
+numbers_of f (Objects count) = pos count ∷ []
+numbers_of f (Size s) = number s.object ∷ pos s.size ∷ []
+numbers_of f (Shell s) = shell_numbers s.object s.shell
+numbers_of f (Box b) = number b.object ∷ (slots_in f b ++ ends b.area)
+numbers_of f (Cell s) = number s.a ∷ number s.b ∷ pos s.first ∷ pos s.last ∷ []
+numbers_of f End = []
 
 abbrev pub shell_others : Option Radii → List (List ℕ)
 shell_others None = codes "NONE" ∷ []
@@ -115,29 +121,31 @@ others_of (Cell s) = kind_word s.kind ∷ []
 others_of End = []
 
 -- the words of a line behind its first
-abbrev pub words_of : CertVersion → PlainLine → List (List ℕ)
-words_of v l = texts (numbers_of v l) ++ others_of l
+abbrev pub words_of : CertFormat → PlainLine → List (List ℕ)
+words_of f l = texts (numbers_of f l) ++ others_of l
 
--- in version 1 no size is told, and each box is of one slot
-abbrev pub FitsSizeIn : CertVersion → SizeOfLine → Type 0
-FitsSizeIn One s = ⊥
-FitsSizeIn Two s = FitsSize (most_objects Two) s
+-- in version 1 no size is told, and each box is of one slot; in brief there is no box
+abbrev pub FitsSizeIn : CertFormat → SizeOfLine → Type 0
+FitsSizeIn (Full One) s = ⊥
+FitsSizeIn (Full Two) s = FitsSize (most_objects_in (Full Two)) s
+FitsSizeIn Brief s = FitsSize (most_objects_in Brief) s
 
-abbrev pub FitsSlots : CertVersion → PlainBoxLine → Type 0
-FitsSlots One b = b.first ≡ b.last
-FitsSlots Two b = Unit {0}
+abbrev pub FitsSlots : CertFormat → PlainBoxLine → Type 0
+FitsSlots (Full One) b = b.first ≡ b.last
+FitsSlots (Full Two) b = Unit {0}
+FitsSlots Brief b = ⊥
 
--- its numbers are in their ranges, and it is of this version
-abbrev pub FitsLine : CertVersion → PlainLine → Type 0
-FitsLine v Heading = Unit {0}
-FitsLine v (Window first last) = IsTick first × IsTick last
-FitsLine v (Threshold threshold) = (1 ≤ threshold) × (threshold ≤ MAX_THRESHOLD)
-FitsLine v (Objects count) = count ≤ most_objects v
-FitsLine v (Size s) = FitsSizeIn v s
-FitsLine v (Shell s) = FitsShell (most_objects v) s
-FitsLine v (Box b) = FitsBox (most_objects v) b × FitsSlots v b
-FitsLine v (Cell s) = FitsCell (most_objects v) s
-FitsLine v End = Unit {0}
+-- its numbers are in their ranges, and it is of this format
+abbrev pub FitsLine : CertFormat → PlainLine → Type 0
+FitsLine f Heading = Unit {0}
+FitsLine f (Window first last) = IsTick first × IsTick last
+FitsLine f (Threshold threshold) = (1 ≤ threshold) × (threshold ≤ MAX_THRESHOLD)
+FitsLine f (Objects count) = count ≤ most_objects_in f
+FitsLine f (Size s) = FitsSizeIn f s
+FitsLine f (Shell s) = FitsShell (most_objects_in f) s
+FitsLine f (Box b) = FitsBox (most_objects_in f) b × FitsSlots f b
+FitsLine f (Cell s) = FitsCell (most_objects_in f) s
+FitsLine f End = Unit {0}
 
 -- ---- ranges
 
@@ -156,22 +164,24 @@ pub into_range : (least most n : ℕ) → least ≤ n → n ≤ most → is_from
 into_range least most n low high = rw (le-leb least n low, le-leb n most high) refl
 
 -- far below the greatest number that is kept
-pub small_version : (v : CertVersion) → number_of_version v < 2 ^ 32
-small_version One = omega arith
-small_version Two = omega arith
+pub small_version : (f : CertFormat) → number_of_format f < 2 ^ 32
+small_version (Full One) = omega arith
+small_version (Full Two) = omega arith
+small_version Brief = omega arith
 
-pub small_objects : (v : CertVersion) → most_objects v < 2 ^ 32
-small_objects One = omega arith
-small_objects Two = omega arith
+pub small_objects : (f : CertFormat) → most_objects_in f < 2 ^ 32
+small_objects (Full One) = omega arith
+small_objects (Full Two) = omega arith
+small_objects Brief = omega arith
 
-object_again : (v : CertVersion) (z : ℤ) → is_object v z ≡ true → (number (object_of z) ≡ z) × (object_of z < most_objects v)
-object_again v z h =
-    let from = from_range 1 (most_objects v) z h in
+object_again : (f : CertFormat) (z : ℤ) → is_object f z ≡ true → (number (object_of z) ≡ z) × (object_of z < most_objects_in f)
+object_again f z h =
+    let from = from_range 1 (most_objects_in f) z h in
     let more : unsigned_abs z - 1 + 1 ≡ unsigned_abs z = omega (arith, from.low) in
     (ap pos more ∙ sym from.value, omega (arith, from.low, from.high))
 
-pub is_object_of : (v : CertVersion) (o : ℕ) → o < most_objects v → is_object v (number o) ≡ true
-is_object_of v o small = into_range 1 (most_objects v) (o + 1) (omega arith) (omega arith)
+pub is_object_of : (f : CertFormat) (o : ℕ) → o < most_objects_in f → is_object f (number o) ≡ true
+is_object_of f o small = into_range 1 (most_objects_in f) (o + 1) (omega arith) (omega arith)
 
 pub object_back : (o : ℕ) → object_of (number o) ≡ o
 object_back o = omega arith
@@ -202,11 +212,11 @@ reach_parts least most h =
 -- ---- what is said
 
 -- what a line says is its own numbers and words
-pub record IsSaid (v : CertVersion) (r : Rank) (numbers : List ℤ) (others : List (List ℕ)) (l : PlainLine) : Type 0 where
+pub record IsSaid (f : CertFormat) (r : Rank) (numbers : List ℤ) (others : List (List ℕ)) (l : PlainLine) : Type 0 where
   pub rank : rank_of l ≡ r
-  pub its_numbers : numbers ≡ numbers_of v l
+  pub its_numbers : numbers ≡ numbers_of f l
   pub its_others : others ≡ others_of l
-  pub fits : FitsLine v l
+  pub fits : FitsLine f l
 
 ranged : (b : Bool) (line l : PlainLine) → in_range b line ≡ Ok l → (b ≡ true) × (line ≡ l)
 ranged true line l h = (refl, cc)
@@ -225,112 +235,113 @@ equal_by n z is =
     let high = parts.1 in
     grind (arith, ints)
 
-heading_said : (v : CertVersion) (numbers : List ℤ) (l : PlainLine) → spec.heading v numbers ≡ Ok l → IsSaid v rank.Heading numbers [] l
-heading_said v [] l h = absurd cc
-heading_said v (z ∷ []) l h =
-    let n = number_of_version v in
+heading_said : (f : CertFormat) (numbers : List ℤ) (l : PlainLine) → spec.heading f numbers ≡ Ok l → IsSaid f rank.Heading numbers [] l
+heading_said f [] l h = absurd cc
+heading_said f (z ∷ []) l h =
+    let n = number_of_format f in
     let t = tested (int_le z (pos n) && int_le (pos n) z) (Ok Heading) _ l h in
     let same : Heading ≡ l = let e = t.1 in cc in
-    subst (IsSaid v rank.Heading (z ∷ []) []) same (record { rank = refl; its_numbers = ap (λ (y : ℤ). y ∷ []) (equal_by n z t.0); its_others = refl; fits = tt })
-heading_said v (z ∷ y ∷ zs) l h = absurd cc
+    subst (IsSaid f rank.Heading (z ∷ []) []) same (record { rank = refl; its_numbers = ap (λ (y : ℤ). y ∷ []) (equal_by n z t.0); its_others = refl; fits = tt })
+heading_said f (z ∷ y ∷ zs) l h = absurd cc
 
-window_said : (v : CertVersion) (numbers : List ℤ) (l : PlainLine) → spec.window numbers ≡ Ok l → IsSaid v rank.Window numbers [] l
-window_said v [] l h = absurd cc
-window_said v (a ∷ []) l h = absurd cc
-window_said v (a ∷ b ∷ []) l h =
+window_said : (f : CertFormat) (numbers : List ℤ) (l : PlainLine) → spec.window numbers ≡ Ok l → IsSaid f rank.Window numbers [] l
+window_said f [] l h = absurd cc
+window_said f (a ∷ []) l h = absurd cc
+window_said f (a ∷ b ∷ []) l h =
     let r = ranged (is_tick a && is_tick b) (Window (unsigned_abs a) (unsigned_abs b)) l h in
     let parts = and_parts (is_tick a) (is_tick b) r.0 in
     let first = from_range FIRST_TICK LAST_TICK a parts.0 in
     let last = from_range FIRST_TICK LAST_TICK b parts.1 in
-    subst (IsSaid v rank.Window (a ∷ b ∷ []) []) r.1 (record {
+    subst (IsSaid f rank.Window (a ∷ b ∷ []) []) r.1 (record {
       rank = refl;
       its_numbers = ap₂ (λ (x y : ℤ). x ∷ y ∷ []) first.value last.value;
       its_others = refl;
       fits = ((first.low, first.high), (last.low, last.high));
     })
-window_said v (a ∷ b ∷ c ∷ zs) l h = absurd cc
+window_said f (a ∷ b ∷ c ∷ zs) l h = absurd cc
 
-threshold_said : (v : CertVersion) (numbers : List ℤ) (l : PlainLine) → spec.threshold numbers ≡ Ok l → IsSaid v rank.Threshold numbers [] l
-threshold_said v [] l h = absurd cc
-threshold_said v (z ∷ []) l h =
+threshold_said : (f : CertFormat) (numbers : List ℤ) (l : PlainLine) → spec.threshold numbers ≡ Ok l → IsSaid f rank.Threshold numbers [] l
+threshold_said f [] l h = absurd cc
+threshold_said f (z ∷ []) l h =
     let r = ranged (is_from 1 MAX_THRESHOLD z) (Threshold (unsigned_abs z)) l h in
     let from = from_range 1 MAX_THRESHOLD z r.0 in
-    subst (IsSaid v rank.Threshold (z ∷ []) []) r.1 (record { rank = refl; its_numbers = ap (λ (x : ℤ). x ∷ []) from.value; its_others = refl; fits = (from.low, from.high) })
-threshold_said v (z ∷ y ∷ zs) l h = absurd cc
+    subst (IsSaid f rank.Threshold (z ∷ []) []) r.1 (record { rank = refl; its_numbers = ap (λ (x : ℤ). x ∷ []) from.value; its_others = refl; fits = (from.low, from.high) })
+threshold_said f (z ∷ y ∷ zs) l h = absurd cc
 
-objects_said : (v : CertVersion) (numbers : List ℤ) (l : PlainLine) → spec.objects v numbers ≡ Ok l → IsSaid v rank.Objects numbers [] l
-objects_said v [] l h = absurd cc
-objects_said v (z ∷ []) l h =
-    let r = ranged (is_from 0 (most_objects v) z) (Objects (unsigned_abs z)) l h in
-    let from = from_range 0 (most_objects v) z r.0 in
-    subst (IsSaid v rank.Objects (z ∷ []) []) r.1 (record { rank = refl; its_numbers = ap (λ (x : ℤ). x ∷ []) from.value; its_others = refl; fits = from.high })
-objects_said v (z ∷ y ∷ zs) l h = absurd cc
+objects_said : (f : CertFormat) (numbers : List ℤ) (l : PlainLine) → spec.objects f numbers ≡ Ok l → IsSaid f rank.Objects numbers [] l
+objects_said f [] l h = absurd cc
+objects_said f (z ∷ []) l h =
+    let r = ranged (is_from 0 (most_objects_in f) z) (Objects (unsigned_abs z)) l h in
+    let from = from_range 0 (most_objects_in f) z r.0 in
+    subst (IsSaid f rank.Objects (z ∷ []) []) r.1 (record { rank = refl; its_numbers = ap (λ (x : ℤ). x ∷ []) from.value; its_others = refl; fits = from.high })
+objects_said f (z ∷ y ∷ zs) l h = absurd cc
 
-size_2_said : (numbers : List ℤ) (l : PlainLine) → spec.size_of Two numbers ≡ Ok l → IsSaid Two rank.Size numbers [] l
-size_2_said [] l h = absurd cc
-size_2_said (i ∷ []) l h = absurd cc
-size_2_said (i ∷ z ∷ []) l h =
+size_of_said : (f : CertFormat) → ((s : SizeOfLine) → FitsSize (most_objects_in f) s → FitsSizeIn f s) → (numbers : List ℤ) (l : PlainLine) → spec.size_of f numbers ≡ Ok l → IsSaid f rank.Size numbers [] l
+size_of_said f told [] l h = absurd cc
+size_of_said f told (i ∷ []) l h = absurd cc
+size_of_said f told (i ∷ z ∷ []) l h =
     let made : SizeOfLine = record { object = object_of i; size = unsigned_abs z } in
-    let r = ranged (is_object Two i && is_from 0 MAX_SIZE z) (Size made) l h in
-    let parts = and_parts (is_object Two i) (is_from 0 MAX_SIZE z) r.0 in
-    let object = object_again Two i parts.0 in
+    let r = ranged (is_object f i && is_from 0 MAX_SIZE z) (Size made) l h in
+    let parts = and_parts (is_object f i) (is_from 0 MAX_SIZE z) r.0 in
+    let object = object_again f i parts.0 in
     let size = from_range 0 MAX_SIZE z parts.1 in
-    subst (IsSaid Two rank.Size (i ∷ z ∷ []) []) r.1 (record {
+    subst (IsSaid f rank.Size (i ∷ z ∷ []) []) r.1 (record {
       rank = refl;
       its_numbers = ap₂ (λ (x y : ℤ). x ∷ y ∷ []) (sym object.0) size.value;
       its_others = refl;
-      fits = record { object = object.1; size = size.high };
+      fits = told made (record { object = object.1; size = size.high });
     })
-size_2_said (i ∷ z ∷ y ∷ zs) l h = absurd cc
+size_of_said f told (i ∷ z ∷ y ∷ zs) l h = absurd cc
 
-size_said : (v : CertVersion) (numbers : List ℤ) (l : PlainLine) → spec.size v numbers ≡ Ok l → IsSaid v rank.Size numbers [] l
-size_said One numbers l h = absurd cc
-size_said Two numbers l h = size_2_said numbers l h
+size_said : (f : CertFormat) (numbers : List ℤ) (l : PlainLine) → spec.size f numbers ≡ Ok l → IsSaid f rank.Size numbers [] l
+size_said (Full One) numbers l h = absurd cc
+size_said (Full Two) numbers l h = size_of_said (Full Two) (λ s fits. fits) numbers l h
+size_said Brief numbers l h = size_of_said Brief (λ s fits. fits) numbers l h
 
-radii_said : (v : CertVersion) (numbers : List ℤ) (l : PlainLine) → spec.shell v numbers ≡ Ok l → IsSaid v rank.Shell numbers [] l
-radii_said v [] l h = absurd cc
-radii_said v (i ∷ []) l h = absurd cc
-radii_said v (i ∷ lo ∷ []) l h = absurd cc
-radii_said v (i ∷ lo ∷ hi ∷ []) l h =
+radii_said : (f : CertFormat) (numbers : List ℤ) (l : PlainLine) → spec.shell f numbers ≡ Ok l → IsSaid f rank.Shell numbers [] l
+radii_said f [] l h = absurd cc
+radii_said f (i ∷ []) l h = absurd cc
+radii_said f (i ∷ lo ∷ []) l h = absurd cc
+radii_said f (i ∷ lo ∷ hi ∷ []) l h =
     let made : ShellLine = record { object = object_of i; shell = Some (record { lo = unsigned_abs lo; hi = unsigned_abs hi }) } in
-    let r = ranged (is_object v i && is_radius lo && is_radius hi && int_le lo hi) (Shell made) l h in
-    let p1 = and_parts (is_object v i && is_radius lo && is_radius hi) (int_le lo hi) r.0 in
-    let p2 = and_parts (is_object v i && is_radius lo) (is_radius hi) p1.0 in
-    let p3 = and_parts (is_object v i) (is_radius lo) p2.0 in
-    let object = object_again v i p3.0 in
+    let r = ranged (is_object f i && is_radius lo && is_radius hi && int_le lo hi) (Shell made) l h in
+    let p1 = and_parts (is_object f i && is_radius lo && is_radius hi) (int_le lo hi) r.0 in
+    let p2 = and_parts (is_object f i && is_radius lo) (is_radius hi) p1.0 in
+    let p3 = and_parts (is_object f i) (is_radius lo) p2.0 in
+    let object = object_again f i p3.0 in
     let low = from_range 0 MAX_RADIUS lo p3.1 in
     let high = from_range 0 MAX_RADIUS hi p2.1 in
-    subst (IsSaid v rank.Shell (i ∷ lo ∷ hi ∷ []) []) r.1 (record {
+    subst (IsSaid f rank.Shell (i ∷ lo ∷ hi ∷ []) []) r.1 (record {
       rank = refl;
       its_numbers = ap (λ (x : ℤ). x ∷ lo ∷ hi ∷ []) (sym object.0) ∙ ap₂ (λ (x y : ℤ). number (object_of i) ∷ x ∷ y ∷ []) low.value high.value;
       its_others = refl;
       fits = record { object = object.1; radii = (of_le lo hi _ _ low.value high.value p1.1, high.high) };
     })
-radii_said v (i ∷ lo ∷ hi ∷ z ∷ zs) l h = absurd cc
+radii_said f (i ∷ lo ∷ hi ∷ z ∷ zs) l h = absurd cc
 
-no_shell_said : (v : CertVersion) (numbers : List ℤ) (word : List ℕ) (words : List (List ℕ)) (l : PlainLine) → spec.no_shell v numbers (word ∷ words) ≡ Ok l → IsSaid v rank.Shell numbers (word ∷ words) l
-no_shell_said v [] word words l h = absurd cc
-no_shell_said v (i ∷ []) word [] l h =
+no_shell_said : (f : CertFormat) (numbers : List ℤ) (word : List ℕ) (words : List (List ℕ)) (l : PlainLine) → spec.no_shell f numbers (word ∷ words) ≡ Ok l → IsSaid f rank.Shell numbers (word ∷ words) l
+no_shell_said f [] word words l h = absurd cc
+no_shell_said f (i ∷ []) word [] l h =
     let made : ShellLine = record { object = object_of i; shell = None } in
-    let t = tested (bytes_eq word (codes "NONE")) (in_range (is_object v i) (Shell made)) _ l h in
-    let r = ranged (is_object v i) (Shell made) l t.1 in
-    let object = object_again v i r.0 in
-    subst (IsSaid v rank.Shell (i ∷ []) (word ∷ [])) r.1 (record {
+    let t = tested (bytes_eq word (codes "NONE")) (in_range (is_object f i) (Shell made)) _ l h in
+    let r = ranged (is_object f i) (Shell made) l t.1 in
+    let object = object_again f i r.0 in
+    subst (IsSaid f rank.Shell (i ∷ []) (word ∷ [])) r.1 (record {
       rank = refl;
       its_numbers = ap (λ (x : ℤ). x ∷ []) (sym object.0);
       its_others = ap (λ (w : List ℕ). w ∷ []) ((bytes_eq-Decides word (codes "NONE")).0 t.0);
       fits = record { object = object.1; radii = tt };
     })
-no_shell_said v (i ∷ []) word (next ∷ words) l h = absurd cc
-no_shell_said v (i ∷ z ∷ zs) word words l h = absurd cc
+no_shell_said f (i ∷ []) word (next ∷ words) l h = absurd cc
+no_shell_said f (i ∷ z ∷ zs) word words l h = absurd cc
 
-shell_said : (v : CertVersion) (numbers : List ℤ) (others : List (List ℕ)) (l : PlainLine) → spec.shell_or_none v numbers others ≡ Ok l → IsSaid v rank.Shell numbers others l
-shell_said v numbers [] l h = radii_said v numbers l h
-shell_said v numbers (word ∷ words) l h = no_shell_said v numbers word words l h
+shell_said : (f : CertFormat) (numbers : List ℤ) (others : List (List ℕ)) (l : PlainLine) → spec.shell_or_none f numbers others ≡ Ok l → IsSaid f rank.Shell numbers others l
+shell_said f numbers [] l h = radii_said f numbers l h
+shell_said f numbers (word ∷ words) l h = no_shell_said f numbers word words l h
 
 -- the nine tests of a box
-pub record BoxTests (v : CertVersion) (i first last xl xm yl ym zl zm : ℤ) : Type 0 where
-  pub object : is_object v i ≡ true
+pub record BoxTests (f : CertFormat) (i first last xl xm yl ym zl zm : ℤ) : Type 0 where
+  pub object : is_object f i ≡ true
   pub from : is_slot first ≡ true
   pub to : is_slot last ≡ true
   pub ordered : int_le first last ≡ true
@@ -338,17 +349,17 @@ pub record BoxTests (v : CertVersion) (i first last xl xm yl ym zl zm : ℤ) : T
   pub y : is_reach yl ym ≡ true
   pub z : is_reach zl zm ≡ true
 
-abbrev pub box_test : CertVersion → ℤ → ℤ → ℤ → ℤ → ℤ → ℤ → ℤ → ℤ → ℤ → Bool
-box_test v i first last xl xm yl ym zl zm = is_object v i && is_slot first && is_slot last && int_le first last && is_reach xl xm && is_reach yl ym && is_reach zl zm
+abbrev pub box_test : CertFormat → ℤ → ℤ → ℤ → ℤ → ℤ → ℤ → ℤ → ℤ → ℤ → Bool
+box_test f i first last xl xm yl ym zl zm = is_object f i && is_slot first && is_slot last && int_le first last && is_reach xl xm && is_reach yl ym && is_reach zl zm
 
-pub box_tests : (v : CertVersion) (i first last xl xm yl ym zl zm : ℤ) → box_test v i first last xl xm yl ym zl zm ≡ true → BoxTests v i first last xl xm yl ym zl zm
-box_tests v i first last xl xm yl ym zl zm h =
-    let p1 = and_parts (is_object v i && is_slot first && is_slot last && int_le first last && is_reach xl xm && is_reach yl ym) (is_reach zl zm) h in
-    let p2 = and_parts (is_object v i && is_slot first && is_slot last && int_le first last && is_reach xl xm) (is_reach yl ym) p1.0 in
-    let p3 = and_parts (is_object v i && is_slot first && is_slot last && int_le first last) (is_reach xl xm) p2.0 in
-    let p4 = and_parts (is_object v i && is_slot first && is_slot last) (int_le first last) p3.0 in
-    let p5 = and_parts (is_object v i && is_slot first) (is_slot last) p4.0 in
-    let p6 = and_parts (is_object v i) (is_slot first) p5.0 in
+pub box_tests : (f : CertFormat) (i first last xl xm yl ym zl zm : ℤ) → box_test f i first last xl xm yl ym zl zm ≡ true → BoxTests f i first last xl xm yl ym zl zm
+box_tests f i first last xl xm yl ym zl zm h =
+    let p1 = and_parts (is_object f i && is_slot first && is_slot last && int_le first last && is_reach xl xm && is_reach yl ym) (is_reach zl zm) h in
+    let p2 = and_parts (is_object f i && is_slot first && is_slot last && int_le first last && is_reach xl xm) (is_reach yl ym) p1.0 in
+    let p3 = and_parts (is_object f i && is_slot first && is_slot last && int_le first last) (is_reach xl xm) p2.0 in
+    let p4 = and_parts (is_object f i && is_slot first && is_slot last) (int_le first last) p3.0 in
+    let p5 = and_parts (is_object f i && is_slot first) (is_slot last) p4.0 in
+    let p6 = and_parts (is_object f i) (is_slot first) p5.0 in
     record { object = p6.0; from = p6.1; to = p5.1; ordered = p4.1; x = p3.1; y = p2.1; z = p1.1 }
 
 abbrev pub the_box : ℤ → ℤ → ℤ → ℤ → ℤ → ℤ → ℤ → ℤ → ℤ → PlainBoxLine
@@ -360,27 +371,27 @@ the_box i first last xl xm yl ym zl zm = record {
 }
 
 -- a box that is said
-record SaysBox (v : CertVersion) (i first last : ℤ) (ns : List ℤ) (l : PlainLine) : Type 0 where
+record SaysBox (f : CertFormat) (i first last : ℤ) (ns : List ℤ) (l : PlainLine) : Type 0 where
   box : PlainBoxLine
   same : Box box ≡ l
   object : number box.object ≡ i
   from : pos box.first ≡ first
   to : pos box.last ≡ last
   reaches : ns ≡ ends box.area
-  fits : FitsBox (most_objects v) box
+  fits : FitsBox (most_objects_in f) box
 
-box_of_said : (v : CertVersion) (i first last : ℤ) (ns : List ℤ) (l : PlainLine) → spec.box_of v i first last ns ≡ Ok l → SaysBox v i first last ns l
-box_of_said v i first last [] l h = absurd cc
-box_of_said v i first last (xl ∷ []) l h = absurd cc
-box_of_said v i first last (xl ∷ xm ∷ []) l h = absurd cc
-box_of_said v i first last (xl ∷ xm ∷ yl ∷ []) l h = absurd cc
-box_of_said v i first last (xl ∷ xm ∷ yl ∷ ym ∷ []) l h = absurd cc
-box_of_said v i first last (xl ∷ xm ∷ yl ∷ ym ∷ zl ∷ []) l h = absurd cc
-box_of_said v i first last (xl ∷ xm ∷ yl ∷ ym ∷ zl ∷ zm ∷ []) l h =
+box_of_said : (f : CertFormat) (i first last : ℤ) (ns : List ℤ) (l : PlainLine) → spec.box_of f i first last ns ≡ Ok l → SaysBox f i first last ns l
+box_of_said f i first last [] l h = absurd cc
+box_of_said f i first last (xl ∷ []) l h = absurd cc
+box_of_said f i first last (xl ∷ xm ∷ []) l h = absurd cc
+box_of_said f i first last (xl ∷ xm ∷ yl ∷ []) l h = absurd cc
+box_of_said f i first last (xl ∷ xm ∷ yl ∷ ym ∷ []) l h = absurd cc
+box_of_said f i first last (xl ∷ xm ∷ yl ∷ ym ∷ zl ∷ []) l h = absurd cc
+box_of_said f i first last (xl ∷ xm ∷ yl ∷ ym ∷ zl ∷ zm ∷ []) l h =
     let made = the_box i first last xl xm yl ym zl zm in
-    let r = ranged (box_test v i first last xl xm yl ym zl zm) (Box made) l h in
-    let t = box_tests v i first last xl xm yl ym zl zm r.0 in
-    let object = object_again v i t.object in
+    let r = ranged (box_test f i first last xl xm yl ym zl zm) (Box made) l h in
+    let t = box_tests f i first last xl xm yl ym zl zm r.0 in
+    let object = object_again f i t.object in
     let from = from_range 0 (2 ^ 32 - 1) first t.from in
     let to = from_range 0 (2 ^ 32 - 1) last t.to in
     record {
@@ -399,30 +410,30 @@ box_of_said v i first last (xl ∷ xm ∷ yl ∷ ym ∷ zl ∷ zm ∷ []) l h =
         z = t.z;
       };
     }
-box_of_said v i first last (xl ∷ xm ∷ yl ∷ ym ∷ zl ∷ zm ∷ w ∷ ws) l h = absurd cc
+box_of_said f i first last (xl ∷ xm ∷ yl ∷ ym ∷ zl ∷ zm ∷ w ∷ ws) l h = absurd cc
 
 same_numbers : (m n : ℕ) (z : ℤ) → pos m ≡ z → pos n ≡ z → m ≡ n
 same_numbers m n z em en = ap unsigned_abs (em ∙ sym en)
 
-box_1_said : (numbers : List ℤ) (l : PlainLine) → spec.box_1 numbers ≡ Ok l → IsSaid One rank.Box numbers [] l
+box_1_said : (numbers : List ℤ) (l : PlainLine) → spec.box_1 numbers ≡ Ok l → IsSaid (Full One) rank.Box numbers [] l
 box_1_said [] l h = absurd cc
 box_1_said (i ∷ []) l h = absurd cc
 box_1_said (i ∷ slot ∷ ns) l h =
-    let s = box_of_said One i slot slot ns l h in
-    subst (IsSaid One rank.Box (i ∷ slot ∷ ns) []) s.same (record {
+    let s = box_of_said (Full One) i slot slot ns l h in
+    subst (IsSaid (Full One) rank.Box (i ∷ slot ∷ ns) []) s.same (record {
       rank = refl;
       its_numbers = ap₂ (λ (x y : ℤ). x ∷ y ∷ ns) (sym s.object) (sym s.from) ∙ ap (λ (zs : List ℤ). number s.box.object ∷ pos s.box.first ∷ zs) s.reaches;
       its_others = refl;
       fits = (s.fits, same_numbers s.box.first s.box.last slot s.from s.to);
     })
 
-box_2_said : (numbers : List ℤ) (l : PlainLine) → spec.box_2 numbers ≡ Ok l → IsSaid Two rank.Box numbers [] l
+box_2_said : (numbers : List ℤ) (l : PlainLine) → spec.box_2 numbers ≡ Ok l → IsSaid (Full Two) rank.Box numbers [] l
 box_2_said [] l h = absurd cc
 box_2_said (i ∷ []) l h = absurd cc
 box_2_said (i ∷ first ∷ []) l h = absurd cc
 box_2_said (i ∷ first ∷ last ∷ ns) l h =
-    let s = box_of_said Two i first last ns l h in
-    subst (IsSaid Two rank.Box (i ∷ first ∷ last ∷ ns) []) s.same (record {
+    let s = box_of_said (Full Two) i first last ns l h in
+    subst (IsSaid (Full Two) rank.Box (i ∷ first ∷ last ∷ ns) []) s.same (record {
       rank = refl;
       its_numbers = ap₂ (λ (x y : ℤ). x ∷ y ∷ last ∷ ns) (sym s.object) (sym s.from)
           ∙ ap (λ (x : ℤ). number s.box.object ∷ pos s.box.first ∷ x ∷ ns) (sym s.to)
@@ -431,9 +442,10 @@ box_2_said (i ∷ first ∷ last ∷ ns) l h =
       fits = (s.fits, tt);
     })
 
-box_said : (v : CertVersion) (numbers : List ℤ) (l : PlainLine) → spec.box v numbers ≡ Ok l → IsSaid v rank.Box numbers [] l
-box_said One numbers l h = box_1_said numbers l h
-box_said Two numbers l h = box_2_said numbers l h
+box_said : (f : CertFormat) (numbers : List ℤ) (l : PlainLine) → spec.box f numbers ≡ Ok l → IsSaid f rank.Box numbers [] l
+box_said (Full One) numbers l h = box_1_said numbers l h
+box_said (Full Two) numbers l h = box_2_said numbers l h
+box_said Brief numbers l h = absurd cc
 
 -- ---- cells
 
@@ -454,23 +466,23 @@ kind_said (word ∷ []) kind h =
     )
 kind_said (word ∷ next ∷ words) kind h = absurd cc
 
-cell_of_said : (v : CertVersion) (a b first last : ℤ) (words : List (List ℕ)) (kind : Option Kind) (l : PlainLine) → spec.kind_of words ≡ kind → spec.cell_of v a b first last kind ≡ Ok l
-    → IsSaid v rank.Cell (a ∷ b ∷ first ∷ last ∷ []) words l
-cell_of_said v a b first last words None l said h = absurd cc
-cell_of_said v a b first last words (Some kind) l said h =
+cell_of_said : (f : CertFormat) (a b first last : ℤ) (words : List (List ℕ)) (kind : Option Kind) (l : PlainLine) → spec.kind_of words ≡ kind → spec.cell_of f a b first last kind ≡ Ok l
+    → IsSaid f rank.Cell (a ∷ b ∷ first ∷ last ∷ []) words l
+cell_of_said f a b first last words None l said h = absurd cc
+cell_of_said f a b first last words (Some kind) l said h =
     let made : PlainLeaf = record { a = object_of a; b = object_of b; first = unsigned_abs first; last = unsigned_abs last; kind = kind } in
-    let r = ranged (is_object v a && is_object v b && int_lt a b && is_tick first && is_tick last && int_le first last) (Cell made) l h in
-    let p1 = and_parts (is_object v a && is_object v b && int_lt a b && is_tick first && is_tick last) (int_le first last) r.0 in
-    let p2 = and_parts (is_object v a && is_object v b && int_lt a b && is_tick first) (is_tick last) p1.0 in
-    let p3 = and_parts (is_object v a && is_object v b && int_lt a b) (is_tick first) p2.0 in
-    let p4 = and_parts (is_object v a && is_object v b) (int_lt a b) p3.0 in
-    let p5 = and_parts (is_object v a) (is_object v b) p4.0 in
-    let oa = object_again v a p5.0 in
-    let ob = object_again v b p5.1 in
+    let r = ranged (is_object f a && is_object f b && int_lt a b && is_tick first && is_tick last && int_le first last) (Cell made) l h in
+    let p1 = and_parts (is_object f a && is_object f b && int_lt a b && is_tick first && is_tick last) (int_le first last) r.0 in
+    let p2 = and_parts (is_object f a && is_object f b && int_lt a b && is_tick first) (is_tick last) p1.0 in
+    let p3 = and_parts (is_object f a && is_object f b && int_lt a b) (is_tick first) p2.0 in
+    let p4 = and_parts (is_object f a && is_object f b) (int_lt a b) p3.0 in
+    let p5 = and_parts (is_object f a) (is_object f b) p4.0 in
+    let oa = object_again f a p5.0 in
+    let ob = object_again f b p5.1 in
     let from = from_range FIRST_TICK LAST_TICK first p3.1 in
     let to = from_range FIRST_TICK LAST_TICK last p2.1 in
     let lower : object_of a + 1 < object_of b + 1 = of_lt a b _ _ (sym oa.0) (sym ob.0) p4.1 in
-    subst (IsSaid v rank.Cell (a ∷ b ∷ first ∷ last ∷ []) words) r.1 (record {
+    subst (IsSaid f rank.Cell (a ∷ b ∷ first ∷ last ∷ []) words) r.1 (record {
       rank = refl;
       its_numbers = ap₂ (λ (x y : ℤ). x ∷ y ∷ first ∷ last ∷ []) (sym oa.0) (sym ob.0) ∙ ap₂ (λ (x y : ℤ). number (object_of a) ∷ number (object_of b) ∷ x ∷ y ∷ []) from.value to.value;
       its_others = kind_said words kind said;
@@ -483,31 +495,31 @@ cell_of_said v a b first last words (Some kind) l said h =
       };
     })
 
-cell_said : (v : CertVersion) (numbers : List ℤ) (words : List (List ℕ)) (l : PlainLine) → spec.cell v numbers (spec.kind_of words) ≡ Ok l → IsSaid v rank.Cell numbers words l
-cell_said v [] words l h = absurd cc
-cell_said v (a ∷ []) words l h = absurd cc
-cell_said v (a ∷ b ∷ []) words l h = absurd cc
-cell_said v (a ∷ b ∷ first ∷ []) words l h = absurd cc
-cell_said v (a ∷ b ∷ first ∷ last ∷ []) words l h = cell_of_said v a b first last words (spec.kind_of words) l refl h
-cell_said v (a ∷ b ∷ first ∷ last ∷ z ∷ zs) words l h = absurd cc
+cell_said : (f : CertFormat) (numbers : List ℤ) (words : List (List ℕ)) (l : PlainLine) → spec.cell f numbers (spec.kind_of words) ≡ Ok l → IsSaid f rank.Cell numbers words l
+cell_said f [] words l h = absurd cc
+cell_said f (a ∷ []) words l h = absurd cc
+cell_said f (a ∷ b ∷ []) words l h = absurd cc
+cell_said f (a ∷ b ∷ first ∷ []) words l h = absurd cc
+cell_said f (a ∷ b ∷ first ∷ last ∷ []) words l h = cell_of_said f a b first last words (spec.kind_of words) l refl h
+cell_said f (a ∷ b ∷ first ∷ last ∷ z ∷ zs) words l h = absurd cc
 
-end_said : (v : CertVersion) (numbers : List ℤ) (l : PlainLine) → spec.end numbers ≡ Ok l → IsSaid v rank.End numbers [] l
-end_said v [] l h = subst (IsSaid v rank.End [] []) (let same : End ≡ l = cc in same) (record { rank = refl; its_numbers = refl; its_others = refl; fits = tt })
-end_said v (z ∷ zs) l h = absurd cc
+end_said : (f : CertFormat) (numbers : List ℤ) (l : PlainLine) → spec.end numbers ≡ Ok l → IsSaid f rank.End numbers [] l
+end_said f [] l h = subst (IsSaid f rank.End [] []) (let same : End ≡ l = cc in same) (record { rank = refl; its_numbers = refl; its_others = refl; fits = tt })
+end_said f (z ∷ zs) l h = absurd cc
 
 -- a line of numbers alone
-alone_said : (v : CertVersion) (r : Rank) (numbers : List ℤ) (words : List (List ℕ)) (x : Result PlainLine CertCause) (l : PlainLine) → (x ≡ Ok l → IsSaid v r numbers [] l)
-    → spec.alone words x ≡ Ok l → IsSaid v r numbers words l
-alone_said v r numbers [] x l rest h = rest h
-alone_said v r numbers (word ∷ words) x l rest h = absurd cc
+alone_said : (f : CertFormat) (r : Rank) (numbers : List ℤ) (words : List (List ℕ)) (x : Result PlainLine CertCause) (l : PlainLine) → (x ≡ Ok l → IsSaid f r numbers [] l)
+    → spec.alone words x ≡ Ok l → IsSaid f r numbers words l
+alone_said f r numbers [] x l rest h = rest h
+alone_said f r numbers (word ∷ words) x l rest h = absurd cc
 
-pub what_is_said : (v : CertVersion) (r : Rank) (numbers : List ℤ) (words : List (List ℕ)) (l : PlainLine) → said_by v r numbers words ≡ Ok l → IsSaid v r numbers words l
-what_is_said v rank.Heading numbers words l h = alone_said v rank.Heading numbers words (spec.heading v numbers) l (heading_said v numbers l) h
-what_is_said v rank.Window numbers words l h = alone_said v rank.Window numbers words (spec.window numbers) l (window_said v numbers l) h
-what_is_said v rank.Threshold numbers words l h = alone_said v rank.Threshold numbers words (spec.threshold numbers) l (threshold_said v numbers l) h
-what_is_said v rank.Objects numbers words l h = alone_said v rank.Objects numbers words (spec.objects v numbers) l (objects_said v numbers l) h
-what_is_said v rank.Size numbers words l h = alone_said v rank.Size numbers words (spec.size v numbers) l (size_said v numbers l) h
-what_is_said v rank.Shell numbers words l h = shell_said v numbers words l h
-what_is_said v rank.Box numbers words l h = alone_said v rank.Box numbers words (spec.box v numbers) l (box_said v numbers l) h
-what_is_said v rank.Cell numbers words l h = cell_said v numbers words l h
-what_is_said v rank.End numbers words l h = alone_said v rank.End numbers words (spec.end numbers) l (end_said v numbers l) h
+pub what_is_said : (f : CertFormat) (r : Rank) (numbers : List ℤ) (words : List (List ℕ)) (l : PlainLine) → said_by f r numbers words ≡ Ok l → IsSaid f r numbers words l
+what_is_said f rank.Heading numbers words l h = alone_said f rank.Heading numbers words (spec.heading f numbers) l (heading_said f numbers l) h
+what_is_said f rank.Window numbers words l h = alone_said f rank.Window numbers words (spec.window numbers) l (window_said f numbers l) h
+what_is_said f rank.Threshold numbers words l h = alone_said f rank.Threshold numbers words (spec.threshold numbers) l (threshold_said f numbers l) h
+what_is_said f rank.Objects numbers words l h = alone_said f rank.Objects numbers words (spec.objects f numbers) l (objects_said f numbers l) h
+what_is_said f rank.Size numbers words l h = alone_said f rank.Size numbers words (spec.size f numbers) l (size_said f numbers l) h
+what_is_said f rank.Shell numbers words l h = shell_said f numbers words l h
+what_is_said f rank.Box numbers words l h = alone_said f rank.Box numbers words (spec.box f numbers) l (box_said f numbers l) h
+what_is_said f rank.Cell numbers words l h = cell_said f numbers words l h
+what_is_said f rank.End numbers words l h = alone_said f rank.End numbers words (spec.end numbers) l (end_said f numbers l) h

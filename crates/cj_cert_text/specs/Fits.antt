@@ -9,7 +9,10 @@ use Rattle.cj_bezier.specs.Shells.{MAX_RADIUS}
 use Rattle.cj_cert.specs.declared.cert_lines.ShellLine.{ShellLine}
 use Rattle.cj_cert.specs.declared.cert_lines.SizeOfLine.{SizeOfLine}
 use Rattle.cj_cert.specs.Certificates.{PlainBoxLine, PlainCertificate}
+use Rattle.cj_brief.specs.Certificates.{PlainBrief}
 use Rattle.cj_case.specs.CaseLimits.{MAX_SIZE}
+use Rattle.cj_formats.specs.declared.cert_format.CertFormat.TheVariants.{Brief}
+use Rattle.cj_formats.specs.Formats.{most_objects_in}
 use Rattle.cj_cert_text.specs.Lines.{MAX_THRESHOLD, is_reach}
 
 -- lines of one of so many objects
@@ -53,3 +56,14 @@ pub record Fits (c : PlainCertificate) : Type 0 where
   pub shells : All (FitsShell (most_objects c.version)) c.shells
   pub boxes : All (FitsBox (most_objects c.version)) c.boxes
   pub cells : All (FitsCell (most_objects c.version)) c.cells
+
+-- the same of one in brief
+pub record FitsInBrief (c : PlainBrief) : Type 0 where
+  pub first : IsTick c.first
+  pub last : IsTick c.last
+  pub some : 1 ≤ c.threshold
+  pub threshold : c.threshold ≤ MAX_THRESHOLD
+  pub objects : c.objects ≤ most_objects_in Brief
+  pub sizes : All (FitsSize (most_objects_in Brief)) c.sizes
+  pub shells : All (FitsShell (most_objects_in Brief)) c.shells
+  pub cells : All (FitsCell (most_objects_in Brief)) c.cells

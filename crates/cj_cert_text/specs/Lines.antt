@@ -12,9 +12,10 @@ use Rattle.cj_cert.specs.declared.cert_lines.ShellLine.{ShellLine}
 use Rattle.cj_cert.specs.declared.cert_lines.SizeOfLine.{SizeOfLine}
 use Rattle.cj_formats.specs.declared.cert_cause.CertCause.{CertCause}
 use Rattle.cj_formats.specs.declared.cert_cause.CertCause.TheVariants as causes
-use Rattle.cj_formats.specs.declared.cert_version.CertVersion.{CertVersion}
 use Rattle.cj_formats.specs.declared.cert_version.CertVersion.TheVariants.{One, Two}
-use Rattle.cj_formats.specs.Versions.{most_objects, number_of_version}
+use Rattle.cj_formats.specs.declared.cert_format.CertFormat.{CertFormat}
+use Rattle.cj_formats.specs.declared.cert_format.CertFormat.TheVariants.{Full, Brief}
+use Rattle.cj_formats.specs.Formats.{most_objects_in, number_of_format}
 use Rattle.cj_cert_text.specs.declared.rank.Rank.{Rank}
 use Rattle.cj_cert_text.specs.declared.rank.Rank.TheVariants as rank
 use Rattle.cj_cert.specs.Certificates.{PlainBoxLine}
@@ -53,8 +54,8 @@ is_from least most z = int_le (pos least) z && int_le z (pos most)
 abbrev pub MAX_THRESHOLD : ℕ
 MAX_THRESHOLD = 10 ^ 16
 
-abbrev pub is_object : CertVersion → ℤ → Bool
-is_object version z = is_from 1 (most_objects version) z
+abbrev pub is_object : CertFormat → ℤ → Bool
+is_object format z = is_from 1 (most_objects_in format) z
 
 abbrev pub is_tick : ℤ → Bool
 is_tick z = is_from FIRST_TICK LAST_TICK z
@@ -83,10 +84,10 @@ abbrev pub in_range : Bool → PlainLine → Result PlainLine CertCause
 in_range true line = Ok line
 in_range false line = Err causes.Range
 
-abbrev pub heading : CertVersion → List ℤ → Result PlainLine CertCause
-heading version (z ∷ []) =
-    if int_le z (pos (number_of_version version)) && int_le (pos (number_of_version version)) z then Ok Heading else Err causes.Form
-heading version numbers = Err causes.Form
+abbrev pub heading : CertFormat → List ℤ → Result PlainLine CertCause
+heading format (z ∷ []) =
+    if int_le z (pos (number_of_format format)) && int_le (pos (number_of_format format)) z then Ok Heading else Err causes.Form
+heading format numbers = Err causes.Form
 
 abbrev pub window : List ℤ → Result PlainLine CertCause
 window (first ∷ last ∷ []) = in_range (is_tick first && is_tick last) (Window (unsigned_abs first) (unsigned_abs last))
@@ -96,53 +97,55 @@ abbrev pub threshold : List ℤ → Result PlainLine CertCause
 threshold (z ∷ []) = in_range (is_from 1 MAX_THRESHOLD z) (Threshold (unsigned_abs z))
 threshold numbers = Err causes.Form
 
-abbrev pub objects : CertVersion → List ℤ → Result PlainLine CertCause
-objects version (z ∷ []) = in_range (is_from 0 (most_objects version) z) (Objects (unsigned_abs z))
-objects version numbers = Err causes.Form
+abbrev pub objects : CertFormat → List ℤ → Result PlainLine CertCause
+objects format (z ∷ []) = in_range (is_from 0 (most_objects_in format) z) (Objects (unsigned_abs z))
+objects format numbers = Err causes.Form
 
-abbrev pub size_of : CertVersion → List ℤ → Result PlainLine CertCause
-size_of version (i ∷ z ∷ []) = in_range (is_object version i && is_from 0 MAX_SIZE z) (Size (record { object = object_of i; size = unsigned_abs z }))
-size_of version numbers = Err causes.Form
+abbrev pub size_of : CertFormat → List ℤ → Result PlainLine CertCause
+size_of format (i ∷ z ∷ []) = in_range (is_object format i && is_from 0 MAX_SIZE z) (Size (record { object = object_of i; size = unsigned_abs z }))
+size_of format numbers = Err causes.Form
 
 -- in version 1 no size is told
-abbrev pub size : CertVersion → List ℤ → Result PlainLine CertCause
-size One numbers = Err causes.Form
-size Two numbers = size_of Two numbers
+abbrev pub size : CertFormat → List ℤ → Result PlainLine CertCause
+size (Full One) numbers = Err causes.Form
+size (Full Two) numbers = size_of (Full Two) numbers
+size Brief numbers = size_of Brief numbers
 
-abbrev pub shell : CertVersion → List ℤ → Result PlainLine CertCause
-shell version (i ∷ lo ∷ hi ∷ []) = in_range (is_object version i && is_radius lo && is_radius hi && int_le lo hi)
+abbrev pub shell : CertFormat → List ℤ → Result PlainLine CertCause
+shell format (i ∷ lo ∷ hi ∷ []) = in_range (is_object format i && is_radius lo && is_radius hi && int_le lo hi)
     (Shell (record { object = object_of i; shell = Some (record { lo = unsigned_abs lo; hi = unsigned_abs hi }) }))
-shell version numbers = Err causes.Form
+shell format numbers = Err causes.Form
 
-abbrev pub no_shell : CertVersion → List ℤ → List (List ℕ) → Result PlainLine CertCause
-no_shell version (i ∷ []) (word ∷ []) =
-    if bytes_eq word (codes "NONE") then in_range (is_object version i) (Shell (record { object = object_of i; shell = None })) else Err causes.Form
-no_shell version numbers words = Err causes.Form
+abbrev pub no_shell : CertFormat → List ℤ → List (List ℕ) → Result PlainLine CertCause
+no_shell format (i ∷ []) (word ∷ []) =
+    if bytes_eq word (codes "NONE") then in_range (is_object format i) (Shell (record { object = object_of i; shell = None })) else Err causes.Form
+no_shell format numbers words = Err causes.Form
 
 -- the box of an object from one slot to another
-abbrev pub box_of : CertVersion → ℤ → ℤ → ℤ → List ℤ → Result PlainLine CertCause
-box_of version i first last (xl ∷ xm ∷ yl ∷ ym ∷ zl ∷ zm ∷ []) =
-    in_range (is_object version i && is_slot first && is_slot last && int_le first last && is_reach xl xm && is_reach yl ym && is_reach zl zm)
+abbrev pub box_of : CertFormat → ℤ → ℤ → ℤ → List ℤ → Result PlainLine CertCause
+box_of format i first last (xl ∷ xm ∷ yl ∷ ym ∷ zl ∷ zm ∷ []) =
+    in_range (is_object format i && is_slot first && is_slot last && int_le first last && is_reach xl xm && is_reach yl ym && is_reach zl zm)
     (Box (record {
       object = object_of i;
       first = unsigned_abs first;
       last = unsigned_abs last;
       area = record { x = record { least = xl; most = xm }; y = record { least = yl; most = ym }; z = record { least = zl; most = zm } };
     }))
-box_of version i first last numbers = Err causes.Form
+box_of format i first last numbers = Err causes.Form
 
--- in version 1 a box is of one slot
+-- in version 1 a box is of one slot; in brief there is none
 abbrev pub box_1 : List ℤ → Result PlainLine CertCause
-box_1 (i ∷ slot ∷ ends) = box_of One i slot slot ends
+box_1 (i ∷ slot ∷ ends) = box_of (Full One) i slot slot ends
 box_1 numbers = Err causes.Form
 
 abbrev pub box_2 : List ℤ → Result PlainLine CertCause
-box_2 (i ∷ first ∷ last ∷ ends) = box_of Two i first last ends
+box_2 (i ∷ first ∷ last ∷ ends) = box_of (Full Two) i first last ends
 box_2 numbers = Err causes.Form
 
-abbrev pub box : CertVersion → List ℤ → Result PlainLine CertCause
-box One numbers = box_1 numbers
-box Two numbers = box_2 numbers
+abbrev pub box : CertFormat → List ℤ → Result PlainLine CertCause
+box (Full One) numbers = box_1 numbers
+box (Full Two) numbers = box_2 numbers
+box Brief numbers = Err causes.Form
 
 abbrev pub kind_of_word : List ℕ → Option Kind
 kind_of_word word =
@@ -157,15 +160,15 @@ kind_of [] = None
 kind_of (word ∷ []) = kind_of_word word
 kind_of (word ∷ next ∷ words) = None
 
-abbrev pub cell_of : CertVersion → ℤ → ℤ → ℤ → ℤ → Option Kind → Result PlainLine CertCause
-cell_of version a b first last None = Err causes.Form
-cell_of version a b first last (Some kind) =
-    in_range (is_object version a && is_object version b && int_lt a b && is_tick first && is_tick last && int_le first last)
+abbrev pub cell_of : CertFormat → ℤ → ℤ → ℤ → ℤ → Option Kind → Result PlainLine CertCause
+cell_of format a b first last None = Err causes.Form
+cell_of format a b first last (Some kind) =
+    in_range (is_object format a && is_object format b && int_lt a b && is_tick first && is_tick last && int_le first last)
     (Cell (record { a = object_of a; b = object_of b; first = unsigned_abs first; last = unsigned_abs last; kind = kind }))
 
-abbrev pub cell : CertVersion → List ℤ → Option Kind → Result PlainLine CertCause
-cell version (a ∷ b ∷ first ∷ last ∷ []) kind = cell_of version a b first last kind
-cell version numbers kind = Err causes.Form
+abbrev pub cell : CertFormat → List ℤ → Option Kind → Result PlainLine CertCause
+cell format (a ∷ b ∷ first ∷ last ∷ []) kind = cell_of format a b first last kind
+cell format numbers kind = Err causes.Form
 
 abbrev pub end : List ℤ → Result PlainLine CertCause
 end [] = Ok End
@@ -179,33 +182,33 @@ alone [] line = line
 alone (word ∷ words) line = Err causes.Form
 
 -- a shell, or none
-abbrev pub shell_or_none : CertVersion → List ℤ → List (List ℕ) → Result PlainLine CertCause
-shell_or_none version numbers [] = shell version numbers
-shell_or_none version numbers (word ∷ words) = no_shell version numbers (word ∷ words)
+abbrev pub shell_or_none : CertFormat → List ℤ → List (List ℕ) → Result PlainLine CertCause
+shell_or_none format numbers [] = shell format numbers
+shell_or_none format numbers (word ∷ words) = no_shell format numbers (word ∷ words)
 
-abbrev pub said_by : CertVersion → Rank → List ℤ → List (List ℕ) → Result PlainLine CertCause
-said_by version rank.Heading numbers words = alone words (heading version numbers)
-said_by version rank.Window numbers words = alone words (window numbers)
-said_by version rank.Threshold numbers words = alone words (threshold numbers)
-said_by version rank.Objects numbers words = alone words (objects version numbers)
-said_by version rank.Size numbers words = alone words (size version numbers)
-said_by version rank.Shell numbers words = shell_or_none version numbers words
-said_by version rank.Box numbers words = alone words (box version numbers)
-said_by version rank.Cell numbers words = cell version numbers (kind_of words)
-said_by version rank.End numbers words = alone words (end numbers)
+abbrev pub said_by : CertFormat → Rank → List ℤ → List (List ℕ) → Result PlainLine CertCause
+said_by format rank.Heading numbers words = alone words (heading format numbers)
+said_by format rank.Window numbers words = alone words (window numbers)
+said_by format rank.Threshold numbers words = alone words (threshold numbers)
+said_by format rank.Objects numbers words = alone words (objects format numbers)
+said_by format rank.Size numbers words = alone words (size format numbers)
+said_by format rank.Shell numbers words = shell_or_none format numbers words
+said_by format rank.Box numbers words = alone words (box format numbers)
+said_by format rank.Cell numbers words = cell format numbers (kind_of words)
+said_by format rank.End numbers words = alone words (end numbers)
 
 -- what a line of this kind says, by the words behind its first
-unfoldable pub said : CertVersion → Rank → List (List ℕ) → Result PlainLine CertCause
-said version rank words = said_by version rank (numbers_in words) (others_in words)
+unfoldable pub said : CertFormat → Rank → List (List ℕ) → Result PlainLine CertCause
+said format rank words = said_by format rank (numbers_in words) (others_in words)
 
-abbrev pub where_it_may_stand : CertVersion → Option Rank → Option Rank → List (List ℕ) → Result PlainLine CertCause
-where_it_may_stand version before None words = Err causes.Form
-where_it_may_stand version before (Some rank) words = if may_follow rank before then said version rank words else Err causes.Form
+abbrev pub where_it_may_stand : CertFormat → Option Rank → Option Rank → List (List ℕ) → Result PlainLine CertCause
+where_it_may_stand format before None words = Err causes.Form
+where_it_may_stand format before (Some rank) words = if may_follow rank before then said format rank words else Err causes.Form
 
-abbrev pub said_in : CertVersion → Option Rank → List (List ℕ) → Result PlainLine CertCause
-said_in version before [] = Err causes.Form
-said_in version before (word ∷ words) = where_it_may_stand version before (rank_of_word word) words
+abbrev pub said_in : CertFormat → Option Rank → List (List ℕ) → Result PlainLine CertCause
+said_in format before [] = Err causes.Form
+said_in format before (word ∷ words) = where_it_may_stand format before (rank_of_word word) words
 
 -- what a line says behind one of this kind: behind the last line nothing may stand
-unfoldable pub line_said : CertVersion → Option Rank → List ℕ → Result PlainLine CertCause
-line_said version before text = if has_ended before then Err causes.End else said_in version before (slice_split (λ b. b == 32) text)
+unfoldable pub line_said : CertFormat → Option Rank → List ℕ → Result PlainLine CertCause
+line_said format before text = if has_ended before then Err causes.End else said_in format before (slice_split (λ b. b == 32) text)

@@ -9,9 +9,10 @@ use Rattle.cj_cert_text.specs.declared.cert_line.CertLine.TheVariants as lines
 use Rattle.cj_cert_text.specs.declared.draft.CertificateDraft.{CertificateDraft}
 use Rattle.cj_formats.specs.declared.cert_cause.CertCause.{CertCause}
 use Rattle.cj_formats.specs.declared.cert_cause.CertCause.TheVariants as causes
-use Rattle.cj_cert.specs.Certificates.{PlainCertificate, plain_box_line, plain_cell_line}
+use Rattle.cj_cert.specs.Certificates.{plain_box_line, plain_cell_line}
 use Rattle.cj_cert_text.specs.Lines.{PlainLine, Heading, Window, Threshold, Objects, Size, Shell, Box, Cell, End}
 use Rattle.cj_cert_text.specs.Numbers.{numbers_in, others_in}
+use Rattle.cj_cert_text.specs.Reading.{PlainSaid}
 
 -- the greatest size to which a number is read: beyond every range
 abbrev pub CAP : ℤ
@@ -42,9 +43,8 @@ Takes view ok value (Ok x) = (ok ≡ true) × (view x ≡ value)
 Takes view ok value (Err cause) = (ok ≡ false) × (cause ≡ causes.Range)
 
 -- what a draft says so far
-abbrev pub plain_draft : CertificateDraft → PlainCertificate
+abbrev pub plain_draft : CertificateDraft → PlainSaid
 plain_draft d = record {
-  version = d.version;
   first = d.window.first.micros;
   last = d.window.last.micros;
   threshold = d.threshold;

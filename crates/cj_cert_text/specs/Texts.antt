@@ -3,7 +3,9 @@ use Rattle.std.specs.Prelude.{ℕ, ◌+◌, ℤ, pos, List, [], ◌∷◌, ◌++
 use Rattle.std.specs.Fmt.{signed_decimal}
 use Rattle.cj_formats.specs.declared.cert_version.CertVersion.{CertVersion}
 use Rattle.cj_formats.specs.declared.cert_version.CertVersion.TheVariants.{One, Two}
-use Rattle.cj_formats.specs.Versions.{number_of_version}
+use Rattle.cj_formats.specs.declared.cert_format.CertFormat.{CertFormat}
+use Rattle.cj_formats.specs.declared.cert_format.CertFormat.TheVariants.{Full, Brief}
+use Rattle.cj_formats.specs.Formats.{number_of_format}
 use Rattle.cj_case.specs.declared.kind.Kind.{Kind}
 use Rattle.cj_case.specs.declared.kind.Kind.TheVariants as kind
 use Rattle.cj_case.specs.declared.shells.Shell.{Shell}
@@ -13,6 +15,7 @@ use Rattle.cj_cert.specs.declared.cert_lines.ShellLine.{ShellLine}
 use Rattle.cj_cert.specs.declared.cert_lines.SizeOfLine.{SizeOfLine}
 use Rattle.cj_kvn.specs.Entries.{line_of_words}
 use Rattle.cj_cert.specs.Certificates.{PlainBoxLine, PlainCertificate}
+use Rattle.cj_brief.specs.Certificates.{PlainBrief}
 
 -- numbers, each with a space before it
 abbrev pub spaced_numbers : List ℤ → List ℕ
@@ -30,13 +33,17 @@ row_ended word numbers last = line_of_words (word ∷ (map signed_decimal number
 abbrev pub number : ℕ → ℤ
 number object = pos (object + 1)
 
--- the first four lines, of a version, a window, a threshold and a number of objects
-abbrev pub first_lines : CertVersion → ℕ → ℕ → ℕ → ℕ → List ℕ
-first_lines version first last threshold objects =
-    row (codes "CONJ-CERT") (pos (number_of_version version) ∷ [])
+-- the first four lines, of a format, a window, a threshold and a number of objects
+abbrev pub first_lines_in : CertFormat → ℕ → ℕ → ℕ → ℕ → List ℕ
+first_lines_in format first last threshold objects =
+    row (codes "CONJ-CERT") (pos (number_of_format format) ∷ [])
     ++ row (codes "WINDOW") (pos first ∷ pos last ∷ [])
     ++ row (codes "THRESHOLD") (pos threshold ∷ [])
     ++ row (codes "OBJECTS") (pos objects ∷ [])
+
+-- the same of a version
+abbrev pub first_lines : CertVersion → ℕ → ℕ → ℕ → ℕ → List ℕ
+first_lines version first last threshold objects = first_lines_in (Full version) first last threshold objects
 
 abbrev pub head_text : PlainCertificate → List ℕ
 head_text c = first_lines c.version c.first c.last c.threshold c.objects
@@ -79,5 +86,14 @@ text_of c =
     ++ flat_map size_text c.sizes
     ++ flat_map shell_text c.shells
     ++ flat_map (box_text c.version) c.boxes
+    ++ flat_map cell_text c.cells
+    ++ row (codes "END") []
+
+-- the text of a certificate in brief
+unfoldable pub brief_text : PlainBrief → List ℕ
+brief_text c =
+    first_lines_in Brief c.first c.last c.threshold c.objects
+    ++ flat_map size_text c.sizes
+    ++ flat_map shell_text c.shells
     ++ flat_map cell_text c.cells
     ++ row (codes "END") []

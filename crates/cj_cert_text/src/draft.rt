@@ -1,5 +1,6 @@
 use crate::cert_line::CertLine;
 use cj_base::{Tick, Window};
+use cj_brief::BriefCertificate;
 use cj_cert::{BoxLine, CellLine, Certificate, ShellLine, SizeOfLine};
 use cj_formats::CertVersion;
 use std::alloc::{AllocError, Global};
@@ -7,7 +8,6 @@ use std::alloc::{AllocError, Global};
 /// What the lines so far say. What is not told yet is as in the certificate of an empty folder.
 #[derive(Drop)]
 pub(crate) struct CertificateDraft {
-    version: CertVersion,
     window: Window,
     threshold: u64,
     objects: u32,
@@ -20,15 +20,15 @@ pub(crate) struct CertificateDraft {
 impl CertificateDraft {
     ghost use Rattle.std.specs.Prelude.{◌≡◌, OnOk, true};
     ghost use Rattle.cj_cert.specs.Certificates.{plain_certificate};
+    ghost use Rattle.cj_brief.specs.Certificates.{plain_brief};
     ghost use Rattle.cj_cert_text.specs.Readers.{plain_draft, plain_line};
-    ghost use Rattle.cj_cert_text.specs.Reading.{nothing_said, with_line};
+    ghost use Rattle.cj_cert_text.specs.Reading.{in_brief, in_version, nothing_said, with_line};
     ghost use Rattle.cj_cert.specs.Versions.{is_of_version};
 
-    pub(crate) fn new(alloc: Global, version: CertVersion) -> CertificateDraft
-        ensures { plain_draft result ≡ nothing_said version }
+    pub(crate) fn new(alloc: Global) -> CertificateDraft
+        ensures { plain_draft result ≡ nothing_said }
     {
         CertificateDraft {
-            version,
             window: Window {
                 first: Tick::FIRST,
                 last: Tick::FIRST,
@@ -59,19 +59,33 @@ impl CertificateDraft {
         Ok(())
     }
 
-    /// What all lines said.
-    pub(crate) fn into_certificate(self) -> Certificate
-        requires { is_of_version self.version self.sizes.items self.boxes.items ≡ true }
-        ensures { plain_certificate result ≡ plain_draft self }
+    /// What all lines said, as a certificate in full.
+    pub(crate) fn into_certificate(self, version: CertVersion) -> Certificate
+        requires { is_of_version version self.sizes.items self.boxes.items ≡ true }
+        ensures { plain_certificate result ≡ in_version version (plain_draft self) }
     {
         Certificate {
-            version: self.version,
+            version,
             window: self.window,
             threshold: self.threshold,
             objects: self.objects,
             sizes: self.sizes,
             shells: self.shells,
             boxes: self.boxes,
+            cells: self.cells,
+        }
+    }
+
+    /// What all lines but those of boxes said, as a certificate in brief.
+    pub(crate) fn into_brief(self) -> BriefCertificate
+        ensures { plain_brief result ≡ in_brief (plain_draft self) }
+    {
+        BriefCertificate {
+            window: self.window,
+            threshold: self.threshold,
+            objects: self.objects,
+            sizes: self.sizes,
+            shells: self.shells,
             cells: self.cells,
         }
     }

@@ -1,4 +1,5 @@
-//! The text of a certificate, in two versions: how it is read and printed, and the text of the certificate that a run writes.
+//! The text of a certificate, in full in two versions and in brief: how it is read and printed, and the text of the certificate that a run
+//! writes.
 #![tactic(auto)]
 
 mod cert_line;
@@ -22,5 +23,5 @@ mod written_text;
 pub use certificate_text::CertificateText;
 pub use cj_formats::CertCause;
 pub use fault::CertFault;
-pub use printing::{cert_parts, cert_text};
-pub use reading::read_cert;
+pub use printing::{brief_parts, brief_text, cert_parts, cert_text};
+pub use reading::{read_brief, read_cert};

@@ -8,7 +8,7 @@ use crate::cert_line::CertLine;
 use crate::line_text::said;
 use crate::rank::Rank;
 use crate::words::Words;
-use cj_formats::{CertCause, CertVersion};
+use cj_formats::{CertCause, CertFormat};
 
 /// What a line says behind a line of that kind, or first of all.
 ///
@@ -17,11 +17,11 @@ use cj_formats::{CertCause, CertVersion};
 /// `End` behind the last line, `Form` where it is none of the lines that may stand there, `Range` where a number is out of its range.
 #[tactic(auto, unfolding(crate::specs::Lines::line_said))]
 pub(crate) fn line_said(
-    version: CertVersion,
+    format: CertFormat,
     before: Option<Rank>,
     text: &[u8],
 ) -> Result<CertLine, CertCause>
-    ensures { Tells plain_line result (spec.line_said version before text.now) }
+    ensures { Tells plain_line result (spec.line_said format before text.now) }
 {
     if has_ended(before) {
         return Err(CertCause::End);
@@ -30,7 +30,7 @@ pub(crate) fn line_said(
         return Err(CertCause::Form);
     };
     match Rank::of_word(word) {
-        Some(rank) if rank.may_follow(before) => said(version, rank, words),
+        Some(rank) if rank.may_follow(before) => said(format, rank, words),
         _ => Err(CertCause::Form),
     }
 }

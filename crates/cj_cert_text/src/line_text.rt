@@ -12,7 +12,7 @@ use arrayvec::ArrayVec;
 use cj_base::Window;
 use cj_case::{AxisBox, Kind, Pair, Shell};
 use cj_cert::{BoxLine, CellLine, ShellLine, SizeOfLine};
-use cj_formats::{CertCause, CertVersion};
+use cj_formats::{CertCause, CertFormat, CertVersion};
 use cj_track::Vec3;
 
 /// The greatest threshold in nm.
@@ -31,54 +31,46 @@ const ROOM: usize = 10;
 ///
 /// # Errors
 ///
-/// `Form` where the line has not the form of its kind in this version, else `Range` where a number is out of its range.
-pub(crate) fn said(
-    version: CertVersion,
-    rank: Rank,
-    words: Words<'_>,
-) -> Result<CertLine, CertCause>
-    ensures { Tells plain_line result (spec.said version rank (words_in words.entry.rest)) }
+/// `Form` where the line has not the form of its kind in this format, else `Range` where a number is out of its range.
+pub(crate) fn said(format: CertFormat, rank: Rank, words: Words<'_>) -> Result<CertLine, CertCause>
+    ensures { Tells plain_line result (spec.said format rank (words_in words.entry.rest)) }
 {
     let (numbers, others) = numbers_in(words);
-    said_by(version, rank, numbers.as_slice(), others)
+    said_by(format, rank, numbers.as_slice(), others)
 }
 
 /// What a line says by its numbers and the words behind them.
 fn said_by(
-    version: CertVersion,
+    format: CertFormat,
     rank: Rank,
     numbers: &[i128],
     others: Words<'_>,
 ) -> Result<CertLine, CertCause>
-    ensures { Tells plain_line result (spec.said_by version rank numbers.now (words_in others.entry.rest)) }
+    ensures { Tells plain_line result (spec.said_by format rank numbers.now (words_in others.entry.rest)) }
 {
     if others.is_empty() {
-        said_by_numbers(version, rank, numbers)
+        said_by_numbers(format, rank, numbers)
     } else {
         match rank {
-            Rank::Shell => no_shell(version, numbers, others),
-            Rank::Cell => cell(version, numbers, others),
+            Rank::Shell => no_shell(format, numbers, others),
+            Rank::Cell => cell(format, numbers, others),
             _ => Err(CertCause::Form),
         }
     }
 }
 
 /// What a line of numbers alone says.
-fn said_by_numbers(
-    version: CertVersion,
-    rank: Rank,
-    numbers: &[i128],
-) -> Result<CertLine, CertCause>
-    ensures { Tells plain_line result (spec.said_by version rank numbers.now []) }
+fn said_by_numbers(format: CertFormat, rank: Rank, numbers: &[i128]) -> Result<CertLine, CertCause>
+    ensures { Tells plain_line result (spec.said_by format rank numbers.now []) }
 {
     match rank {
-        Rank::Heading => heading(version, numbers),
+        Rank::Heading => heading(format, numbers),
         Rank::Window => window(numbers),
         Rank::Threshold => threshold(numbers),
-        Rank::Objects => objects(version, numbers),
-        Rank::Size => size(version, numbers),
-        Rank::Shell => shell(version, numbers),
-        Rank::Box => area(version, numbers),
+        Rank::Objects => objects(format, numbers),
+        Rank::Size => size(format, numbers),
+        Rank::Shell => shell(format, numbers),
+        Rank::Box => area(format, numbers),
         Rank::Cell => Err(CertCause::Form),
         Rank::End => end(numbers),
     }
@@ -110,11 +102,11 @@ fn first_number(words: Words<'_>) -> Option<(i128, Words<'_>)>
     Some((read_number(word)?, behind))
 }
 
-fn heading(version: CertVersion, numbers: &[i128]) -> Result<CertLine, CertCause>
-    ensures { Tells plain_line result (spec.heading version numbers.now) }
+fn heading(format: CertFormat, numbers: &[i128]) -> Result<CertLine, CertCause>
+    ensures { Tells plain_line result (spec.heading format numbers.now) }
 {
     match numbers {
-        [number] if *number == i128::from(version.number()) => Ok(CertLine::Heading),
+        [number] if *number == i128::from(format.number()) => Ok(CertLine::Heading),
         _ => Err(CertCause::Form),
     }
 }
@@ -139,44 +131,45 @@ fn threshold(numbers: &[i128]) -> Result<CertLine, CertCause>
     Ok(CertLine::Threshold(within(*threshold, 1, MAX_THRESHOLD)?))
 }
 
-fn objects(version: CertVersion, numbers: &[i128]) -> Result<CertLine, CertCause>
-    ensures { Tells plain_line result (spec.objects version numbers.now) }
+fn objects(format: CertFormat, numbers: &[i128]) -> Result<CertLine, CertCause>
+    ensures { Tells plain_line result (spec.objects format numbers.now) }
 {
     let [count] = numbers else {
         return Err(CertCause::Form);
     };
-    let count = within(*count, 0, u64::from(version.most_objects()))?;
+    let count = within(*count, 0, u64::from(format.most_objects()))?;
     Ok(CertLine::Objects(count as u32))
 }
 
 /// The size of an object, which version 1 does not tell.
-fn size(version: CertVersion, numbers: &[i128]) -> Result<CertLine, CertCause>
-    ensures { Tells plain_line result (spec.size version numbers.now) }
+fn size(format: CertFormat, numbers: &[i128]) -> Result<CertLine, CertCause>
+    ensures { Tells plain_line result (spec.size format numbers.now) }
 {
-    match version {
-        CertVersion::One => Err(CertCause::Form),
-        CertVersion::Two => size_of(version, numbers),
+    match format {
+        CertFormat::Full(CertVersion::One) => Err(CertCause::Form),
+        CertFormat::Full(CertVersion::Two) => size_of(format, numbers),
+        CertFormat::Brief => size_of(format, numbers),
     }
 }
 
-fn size_of(version: CertVersion, numbers: &[i128]) -> Result<CertLine, CertCause>
-    ensures { Tells plain_line result (spec.size_of version numbers.now) }
+fn size_of(format: CertFormat, numbers: &[i128]) -> Result<CertLine, CertCause>
+    ensures { Tells plain_line result (spec.size_of format numbers.now) }
 {
     let [number, size] = numbers else {
         return Err(CertCause::Form);
     };
-    let object = object(version, *number)?;
+    let object = object(format, *number)?;
     let size = within(*size, 0, MAX_SIZE)?;
     Ok(CertLine::Size(SizeOfLine { object, size }))
 }
 
-fn shell(version: CertVersion, numbers: &[i128]) -> Result<CertLine, CertCause>
-    ensures { Tells plain_line result (spec.shell version numbers.now) }
+fn shell(format: CertFormat, numbers: &[i128]) -> Result<CertLine, CertCause>
+    ensures { Tells plain_line result (spec.shell format numbers.now) }
 {
     let [number, lo, hi] = numbers else {
         return Err(CertCause::Form);
     };
-    let object = object(version, *number)?;
+    let object = object(format, *number)?;
     let lo = within(*lo, 0, MAX_RADIUS)?;
     let hi = within(*hi, lo, MAX_RADIUS)?;
     Ok(CertLine::Shell(ShellLine {
@@ -185,12 +178,8 @@ fn shell(version: CertVersion, numbers: &[i128]) -> Result<CertLine, CertCause>
     }))
 }
 
-fn no_shell(
-    version: CertVersion,
-    numbers: &[i128],
-    others: Words<'_>,
-) -> Result<CertLine, CertCause>
-    ensures { Tells plain_line result (spec.no_shell version numbers.now (words_in others.entry.rest)) }
+fn no_shell(format: CertFormat, numbers: &[i128], others: Words<'_>) -> Result<CertLine, CertCause>
+    ensures { Tells plain_line result (spec.no_shell format numbers.now (words_in others.entry.rest)) }
 {
     let [number] = numbers else {
         return Err(CertCause::Form);
@@ -198,7 +187,7 @@ fn no_shell(
     if only(others) != Some(b"NONE".as_slice()) {
         return Err(CertCause::Form);
     }
-    let object = object(version, *number)?;
+    let object = object(format, *number)?;
     Ok(CertLine::Shell(ShellLine {
         object,
         shell: None,
@@ -215,12 +204,13 @@ fn only(words: Words<'_>) -> Option<&[u8]>
 }
 
 /// A box, in version 1 of one slot, in version 2 of those from the first to the last.
-fn area(version: CertVersion, numbers: &[i128]) -> Result<CertLine, CertCause>
-    ensures { Tells plain_line result (spec.box version numbers.now) }
+fn area(format: CertFormat, numbers: &[i128]) -> Result<CertLine, CertCause>
+    ensures { Tells plain_line result (spec.box format numbers.now) }
 {
-    match version {
-        CertVersion::One => area_in_slot(numbers),
-        CertVersion::Two => area_in_slots(numbers),
+    match format {
+        CertFormat::Full(CertVersion::One) => area_in_slot(numbers),
+        CertFormat::Full(CertVersion::Two) => area_in_slots(numbers),
+        CertFormat::Brief => Err(CertCause::Form),
     }
 }
 
@@ -230,7 +220,13 @@ fn area_in_slot(numbers: &[i128]) -> Result<CertLine, CertCause>
     let [number, slot, ends @ ..] = numbers else {
         return Err(CertCause::Form);
     };
-    area_of(CertVersion::One, *number, *slot, *slot, ends)
+    area_of(
+        CertFormat::Full(CertVersion::One),
+        *number,
+        *slot,
+        *slot,
+        ends,
+    )
 }
 
 fn area_in_slots(numbers: &[i128]) -> Result<CertLine, CertCause>
@@ -239,22 +235,28 @@ fn area_in_slots(numbers: &[i128]) -> Result<CertLine, CertCause>
     let [number, first, last, ends @ ..] = numbers else {
         return Err(CertCause::Form);
     };
-    area_of(CertVersion::Two, *number, *first, *last, ends)
+    area_of(
+        CertFormat::Full(CertVersion::Two),
+        *number,
+        *first,
+        *last,
+        ends,
+    )
 }
 
 fn area_of(
-    version: CertVersion,
+    format: CertFormat,
     number: i128,
     first: i128,
     last: i128,
     ends: &[i128],
 ) -> Result<CertLine, CertCause>
-    ensures { Tells plain_line result (spec.box_of version number first last ends.now) }
+    ensures { Tells plain_line result (spec.box_of format number first last ends.now) }
 {
     let [x_least, x_most, y_least, y_most, z_least, z_most] = ends else {
         return Err(CertCause::Form);
     };
-    let object = object(version, number)?;
+    let object = object(format, number)?;
     let first = slot(first)?;
     let last = within(last, u64::from(first), u64::from(u32::MAX))? as u32;
     let (x_least, x_most) = reach(*x_least, *x_most)?;
@@ -279,8 +281,8 @@ fn area_of(
     }))
 }
 
-fn cell(version: CertVersion, numbers: &[i128], others: Words<'_>) -> Result<CertLine, CertCause>
-    ensures { Tells plain_line result (spec.cell version numbers.now (spec.kind_of (words_in others.entry.rest))) }
+fn cell(format: CertFormat, numbers: &[i128], others: Words<'_>) -> Result<CertLine, CertCause>
+    ensures { Tells plain_line result (spec.cell format numbers.now (spec.kind_of (words_in others.entry.rest))) }
 {
     let [a, b, first, last] = numbers else {
         return Err(CertCause::Form);
@@ -288,21 +290,21 @@ fn cell(version: CertVersion, numbers: &[i128], others: Words<'_>) -> Result<Cer
     let Some(kind) = kind_of(others) else {
         return Err(CertCause::Form);
     };
-    cell_of(version, *a, *b, *first, *last, kind)
+    cell_of(format, *a, *b, *first, *last, kind)
 }
 
 fn cell_of(
-    version: CertVersion,
+    format: CertFormat,
     a: i128,
     b: i128,
     first: i128,
     last: i128,
     kind: Kind,
 ) -> Result<CertLine, CertCause>
-    ensures { Tells plain_line result (spec.cell_of version a b first last (Some kind)) }
+    ensures { Tells plain_line result (spec.cell_of format a b first last (Some kind)) }
 {
-    let a = object(version, a)?;
-    let b = object(version, b)?;
+    let a = object(format, a)?;
+    let b = object(format, b)?;
     let first = tick(first)?;
     let last = tick(last)?;
     if b <= a {

@@ -9,7 +9,7 @@ ghost use Rattle.cj_cert_text.specs.Numbers as spec;
 ghost use Rattle.cj_cert_text.specs.Readers.{Takes, capped};
 
 use cj_base::Tick;
-use cj_formats::{CertCause, CertVersion};
+use cj_formats::{CertCause, CertFormat};
 
 /// The number that a text says. The greatest u64 stands for all that is greater too, and its negative for all that is less.
 #[tactic(auto, unfolding(crate::specs::Numbers::number_of))]
@@ -111,10 +111,10 @@ pub(crate) fn within(number: i128, least: u64, most: u64) -> Result<u64, CertCau
 }
 
 /// The object of this number, where objects are counted from 1.
-pub(crate) fn object(version: CertVersion, number: i128) -> Result<u32, CertCause>
-    ensures { Takes (λ n. n) (is_object version number) (object_of number) result }
+pub(crate) fn object(format: CertFormat, number: i128) -> Result<u32, CertCause>
+    ensures { Takes (λ n. n) (is_object format number) (object_of number) result }
 {
-    Ok((within(number, 1, u64::from(version.most_objects()))? - 1) as u32)
+    Ok((within(number, 1, u64::from(format.most_objects()))? - 1) as u32)
 }
 
 pub(crate) fn slot(number: i128) -> Result<u32, CertCause>

@@ -13,7 +13,7 @@ use crate::printed_boxes::boxes_by_object;
 use crate::printing::{end, head};
 use cj_case::{Leaf, Measured, Problem};
 use cj_cert::{acceptance, shell_lines};
-use cj_formats::CertVersion;
+use cj_formats::{CertFormat, CertVersion};
 use std::alloc::{AllocError, Global};
 
 impl<'a> CertificateText<'a> {
@@ -37,7 +37,7 @@ impl<'a> CertificateText<'a> {
             workers,
             head: head(
                 alloc,
-                CertVersion::One,
+                CertFormat::Full(CertVersion::One),
                 problem.window,
                 problem.threshold,
                 objects,

@@ -4,6 +4,12 @@
 #[cfg(test)]
 mod blocks;
 #[cfg(test)]
+mod brief;
+#[cfg(test)]
+mod brief_checks;
+#[cfg(test)]
+mod brief_leaves;
+#[cfg(test)]
 mod cells;
 #[cfg(test)]
 mod certificates;

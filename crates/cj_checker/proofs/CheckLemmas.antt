@@ -27,21 +27,21 @@ chained : (case : PlainProblem) (c : PlainCertificate) → first_failure case c 
 unfolding first_failure
 chained case c = regroup (header_failure case c) (size_failure case c) (shell_failure case c) (box_failure case c) (cell_failure case c)
 
-some_first : (o l : Option Failure) → is_some o ≡ true → option_or o l ≡ o
+pub some_first : (o l : Option Failure) → is_some o ≡ true → option_or o l ≡ o
 some_first None l is = absurd cc
 some_first (Some f) l is = refl
 
 pub fails_before : (case : PlainProblem) (c : PlainCertificate) (o : Option Failure) → o ≡ before_cells case c → is_some o ≡ true → o ≡ first_failure case c
 fails_before case c o is some = sym (chained case c ∙ ap (λ (p : Option Failure). option_or p (cell_failure case c)) (sym is) ∙ some_first o (cell_failure case c) some)
 
-none_of : (o : Option Failure) → is_some o ≡ false → o ≡ None
+pub none_of : (o : Option Failure) → is_some o ≡ false → o ≡ None
 none_of None is = refl
 none_of (Some f) is = absurd cc
 
 pub fails_in_cells : (case : PlainProblem) (c : PlainCertificate) (o : Option Failure) → o ≡ before_cells case c → is_some o ≡ false → first_failure case c ≡ cell_failure case c
 fails_in_cells case c o is none = chained case c ∙ ap (λ (p : Option Failure). option_or p (cell_failure case c)) (sym is ∙ none_of o none)
 
-both_none : (o p : Option Failure) → option_or o p ≡ None → (o ≡ None) × (p ≡ None)
+pub both_none : (o p : Option Failure) → option_or o p ≡ None → (o ≡ None) × (p ≡ None)
 both_none None p h = (refl, h)
 both_none (Some f) p h = absurd cc
 

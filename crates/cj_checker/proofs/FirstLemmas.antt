@@ -31,7 +31,7 @@ use Rattle.cj_checker.proofs.TestLemmas.{decides_same, decides_shell, decides_ho
 
 -- ---- failures one after another
 
-neither_fails : (o p : Option Failure) → (option_or o p ≡ None) ↔ ((o ≡ None) × (p ≡ None))
+pub neither_fails : (o p : Option Failure) → (option_or o p ≡ None) ↔ ((o ≡ None) × (p ≡ None))
 neither_fails None p = (λ h. (refl, h), λ both. both.1)
 neither_fails (Some f) p = (λ h. absurd cc, λ both. let wrong : ◌≡◌ {A = Option Failure} (Some f) None = both.0 in absurd cc)
 
@@ -92,7 +92,7 @@ sizes_law n at (s ∷ sizes) (l ∷ lines) =
           here.1 ((ap (λ (p : ℕ × ℕ). p.0) head, ap (λ (p : ℕ × ℕ). p.1) head), rest.1 tail),
     )
 
-size_law : (version : CertVersion) (case : PlainProblem) (lines : List SizeOfLine) → (size_failure_in version case lines ≡ None) ↔ AreSizesIn version case lines
+pub size_law : (version : CertVersion) (case : PlainProblem) (lines : List SizeOfLine) → (size_failure_in version case lines ≡ None) ↔ AreSizesIn version case lines
 size_law One case lines = (λ h. tt, λ h. refl)
 size_law Two case lines = sizes_law 0 first_line case.sizes lines
 
@@ -293,7 +293,7 @@ tiles_from case at (r ∷ roots) (s ∷ cells) h =
 abbrev HaveTicks : List PlainCell → Type 0
 HaveTicks roots = Each (λ r. r.first ≤ r.last) roots
 
-no_more : (P : PlainLeaf → Type 0) (a b lo hi : ℕ) (part : List PlainLeaf) → hi < lo → Tile P a b lo hi part → part ≡ []
+pub no_more : (P : PlainLeaf → Type 0) (a b lo hi : ℕ) (part : List PlainLeaf) → hi < lo → Tile P a b lo hi part → part ≡ []
 no_more P a b lo hi [] lt tile = refl
 no_more P a b lo hi (t ∷ part) lt tile = let leaf = tile.1.0 in absurd (omega (arith, leaf.from, leaf.some, leaf.to))
 

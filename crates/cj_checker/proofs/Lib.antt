@@ -1,16 +1,16 @@
 mod BoundLemmas
 mod BoxLemmas
-mod CauseLemmas
-mod CheckLemmas
-mod FirstLemmas
+pub mod CauseLemmas
+pub mod CheckLemmas
+pub mod FirstLemmas
 mod HullLemmas
 mod KeyLemmas
 mod PlaceLemmas
 mod ReadLemmas
-mod RoundLemmas
-mod SweepLemmas
+pub mod RoundLemmas
+pub mod SweepLemmas
 mod TableLemmas
-mod TestLemmas
-mod TilingLemmas
+pub mod TestLemmas
+pub mod TilingLemmas
 mod UnfitLemmas
 mod WalkLemmas

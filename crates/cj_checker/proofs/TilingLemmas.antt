@@ -53,7 +53,7 @@ drop_past f (y ∷ ys) (suc k) le = drop_past f ys k (omega arith)
 abbrev pub cause_in : Root → ℕ → CellLine → Option CheckCause
 cause_in root from cell = cause_at (is_shown root cell) (root_from root from) (plain_cell_line cell)
 
-shown : (case : PlainProblem) (root : Root) (from : ℕ) (cell : CellLine) → IsOf case root → root.ticks.first.micros ≤ from → from ≤ root.ticks.last.micros
+pub shown : (case : PlainProblem) (root : Root) (from : ℕ) (cell : CellLine) → IsOf case root → root.ticks.first.micros ≤ from → from ≤ root.ticks.last.micros
     → begins (root_from root from) (plain_cell_line cell) ≡ true → is_supported case (plain_cell_line cell) ≡ is_shown root cell
 shown case root from cell of low high is =
     let s = plain_cell_line cell in

@@ -16,7 +16,7 @@ use cj_interval::Divisor;
 
 /// A root: ticks of a pair at which both are at one piece each, made ready.
 #[derive(Clone, Copy)]
-pub(crate) struct Root {
+pub struct Root {
     pub pair: Pair,
     pub ticks: Window,
     /// The threshold of the pair in nm.
@@ -28,7 +28,7 @@ pub(crate) struct Root {
 }
 
 impl Root {
-    pub(crate) fn new(problem: &Problem, pair: Pair, run: &CommonRun) -> Self
+    pub fn new(problem: &Problem, pair: Pair, run: &CommonRun) -> Self
         requires { pair.b < length problem.now.tracks }
         ensures pair { result.pair ≡ pair }
         ensures ticks { result.ticks ≡ run.now.ticks }
@@ -49,7 +49,7 @@ impl Root {
     }
 
     /// Whether the gap of both hulls over a cell supports its kind.
-    pub(crate) fn supports(&self, cell: &CellLine) -> bool
+    pub fn supports(&self, cell: &CellLine) -> bool
         requires one { IsOver (curve_ready self.now.first) cell.now.first.micros cell.now.last.micros }
         requires other { IsOver (curve_ready self.now.second) cell.now.first.micros cell.now.last.micros }
         ensures { result ≡ supported

@@ -148,7 +148,7 @@ fn read_on(
 }
 
 /// Whether a track has a state in a window.
-fn has_state(track: &Track, window: Window) -> bool
+pub(crate) fn has_state(track: &Track, window: Window) -> bool
     ensures { result ≡ has_state_between (plain_track track.now) window.first.micros window.last.micros }
 {
     next_run(track, window.first, window.last).is_some()

@@ -24,7 +24,8 @@ pub fn size_failure(problem: &Problem, cert: &Certificate) -> Option<Failure>
     }
 }
 
-fn unfit_size(sizes: &[u64], lines: &[SizeOfLine]) -> Option<Failure>
+/// The first line that is not the size of the object in its place.
+pub fn unfit_size(sizes: &[u64], lines: &[SizeOfLine]) -> Option<Failure>
     requires few { length lines.now < 2 ^ 32 - 5 }
     ensures { result ≡ first_unfit the_test SizeOf first_line (enumerate_from 0 sizes.now) lines.now }
 {

@@ -125,13 +125,13 @@ fn append_met(
 
 /// Lists that are kept from slot to slot.
 #[derive(Drop)]
-pub(crate) struct Sweep {
+pub struct Sweep {
     axis: Axis,
     reaches: Reaches,
 }
 
 impl Sweep {
-    pub(crate) fn new(alloc: Global) -> Self {
+    pub fn new(alloc: Global) -> Self {
         Sweep {
             axis: Axis::X,
             reaches: Reaches::new(alloc),
@@ -140,7 +140,7 @@ impl Sweep {
 
     /// Finds the candidates of some rows, by the listed shells and the boxes of a slot, in any order. A pair is found
     /// twice where both objects begin at one place.
-    pub(crate) fn find(
+    pub fn find(
         &mut self,
         problem: &Problem,
         shells: &[ShellLine],

@@ -1,5 +1,6 @@
 use Rattle.cj_case.specs.Problems.{plain_problem}
-use Rattle.cj_blocks.proofs.RewrittenLemmas.{in_version_2_accepted, near_in_time, written_in_accepted}
+use Rattle.cj_cert.proofs.ListedLemmas.{near_in_time}
+use Rattle.cj_blocks.proofs.RewrittenLemmas.{in_version_2_accepted, written_in_accepted}
 use Rattle.cj_blocks.proofs.accepting.acceptance_in_blocks.Goals as goal
 
 pub returns-clause-in_version : goal.returns-clause-in_version

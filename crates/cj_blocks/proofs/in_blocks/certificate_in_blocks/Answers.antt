@@ -11,7 +11,7 @@ use Rattle.cj_bezier.specs.Candidates.{is_kept}
 use Rattle.cj_case.specs.Boxes.{plain_rows}
 use Rattle.cj_cert.specs.Accepted.{Accepted}
 use Rattle.cj_cert.specs.Certificates.{PlainCertificate, plain_box_line, plain_cell_line}
-use Rattle.cj_blocks.specs.Rewritten.{size_lines}
+use Rattle.cj_cert.specs.Written.{size_lines}
 use Rattle.cj_blocks.proofs.InBlocksLemmas.{pairs_of_objects, written_is}
 use Rattle.cj_bezier.proofs.AllBoxLemmas.{rows_count}
 use Rattle.cj_cert.proofs.WrittenLineLemmas.{shells_count, shells_are}

@@ -11,7 +11,7 @@ use Rattle.cj_case.specs.Boxes.{plain_rows}
 use Rattle.cj_cert.specs.declared.cert_lines.BoxLine.{BoxLine}
 use Rattle.cj_cert.specs.Certificates.{plain_box_line, plain_certificate}
 use Rattle.cj_cert.specs.Listed.{box_listed, shells_listed}
-use Rattle.cj_blocks.specs.Rewritten.{size_lines}
+use Rattle.cj_cert.specs.Written.{size_lines}
 use Rattle.cj_blocks.proofs.InBlocksLemmas.{listed_in_order, pairs_of_objects, rewritten_is}
 use Rattle.cj_blocks.proofs.in_blocks.rewritten.Goals as goal
 

@@ -13,5 +13,5 @@ returns c =
     let first : FitsSigned w128 (get_or ns 2 (pos 0)) = search rules in
     let last : FitsSigned w128 (get_or ns 3 (pos 0)) = search rules in
     subst (Tells plain_line c.cell_of.result)
-    (sym (ap (cell c.args.version ns) (sym c.in-Some.ensures) ∙ four_numbers c.args.version ns _ c.in-len4.len_at_least c.in-len4.len_below))
+    (sym (ap (cell c.args.format ns) (sym c.in-Some.ensures) ∙ four_numbers c.args.format ns _ c.in-len4.len_at_least c.in-len4.len_below))
     (simp to_z-of_z at c.cell_of.ensures)

@@ -1,6 +1,6 @@
 use Rattle.std.proofs.Common.{◌≡◌, take, vec_len}
-use Rattle.cj_blocks.specs.Rewritten as spec
-use Rattle.cj_blocks.proofs.block_lines.size_lines.Given as goal
+use Rattle.cj_cert.specs.Written as spec
+use Rattle.cj_cert.proofs.written.size_lines.Given as goal
 
 abbrev pub invariant-loop-size : goal.invariant-loop-size
 invariant-loop-size l = record {

@@ -1,8 +1,8 @@
 use Rattle.std.proofs.Common.{◌∙◌, ap, arith}
 use Rattle.std.proofs.lemmas.List.{take_all}
-use Rattle.cj_blocks.specs.Rewritten as spec
-use Rattle.cj_blocks.proofs.EnterLemmas.{size_more}
-use Rattle.cj_blocks.proofs.block_lines.size_lines.Goals as goal
+use Rattle.cj_cert.specs.Written as spec
+use Rattle.cj_cert.proofs.WrittenLineLemmas.{size_more}
+use Rattle.cj_cert.proofs.written.size_lines.Goals as goal
 
 pub loop-size-preserved : goal.loop-size-preserved
 loop-size-preserved c =

@@ -1,0 +1,4 @@
+pub mod BriefLemmas
+pub mod RootsBySlotLemmas
+pub mod TellingLemmas
+pub mod WrittenLemmas

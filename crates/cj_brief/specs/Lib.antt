@@ -1,0 +1,5 @@
+pub mod Certificates
+pub mod Accepted
+pub mod Splits
+pub mod Telling
+pub mod Written

@@ -1,0 +1,8 @@
+mod CheckLemmas
+mod FarLemmas
+mod FirstLemmas
+mod OrderLemmas
+mod PairLemmas
+mod SlotLemmas
+mod StepLemmas
+mod ToldLemmas

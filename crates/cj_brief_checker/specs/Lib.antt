@@ -1,0 +1,4 @@
+pub mod FarThroughout
+pub mod First
+pub mod SlotPairs
+pub mod Steps

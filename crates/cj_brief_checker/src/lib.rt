@@ -1,0 +1,15 @@
+//! The checker of certificates in brief: whether one is accepted for a problem, or else at which line it first fails, and why.
+#![tactic(auto)]
+
+mod cell_steps;
+mod cells;
+mod checking;
+mod far;
+mod header;
+mod laws;
+mod slot_pairs;
+mod step;
+mod tiling;
+
+pub use checking::check_in_brief;
+pub use laws::acceptance_in_brief;
