@@ -2,6 +2,7 @@ pub mod ApproachListLemmas
 pub mod EndLemmas
 pub mod ClosestLemmas
 pub mod EncounterLemmas
+pub mod MarkedLemmas
 pub mod NearerLemmas
 pub mod OrderLemmas
 pub mod SearchLemmas

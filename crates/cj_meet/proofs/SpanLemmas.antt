@@ -225,13 +225,17 @@ spans_near ss all = All-weaker IsGroup (λ g. All (λ s. s.kind ≢ Far) (spans_
 pub leaves_have_ticks : (leaves : List Leaf) → HaveTicks (plain_leaves leaves)
 leaves_have_ticks leaves = All-map HasTick plain_leaf leaves (λ k d short. (get_or leaves k d).cell.some)
 
+-- so are all spans of leaves that have ticks
+pub exact_spans_of : (ss : List PlainLeaf) → HaveTicks ss → HaveExactSpans ss
+exact_spans_of ss ticks = record {
+  near = λ a b tick. spans_hold Near a b tick ss (λ e. cc) ticks;
+  undecided = λ a b tick. spans_hold Undecided a b tick ss (λ e. cc) ticks;
+  none_far = spans_near ss ticks;
+}
+
 -- the same of leaves, which have ticks by their type
 pub exact_spans : (leaves : List Leaf) → HaveExactSpans (plain_leaves leaves)
-exact_spans leaves = record {
-  near = λ a b tick. spans_hold Near a b tick (plain_leaves leaves) (λ e. cc) (leaves_have_ticks leaves);
-  undecided = λ a b tick. spans_hold Undecided a b tick (plain_leaves leaves) (λ e. cc) (leaves_have_ticks leaves);
-  none_far = spans_near (plain_leaves leaves) (leaves_have_ticks leaves);
-}
+exact_spans leaves = exact_spans_of (plain_leaves leaves) (leaves_have_ticks leaves)
 
 follows-from : (s t : PlainLeaf) → GoesOn s t → follows s t ≡ true
 follows-from s t on = rw (eq-eqb _ _ on.a, eq-eqb _ _ on.b, eq-eqb _ _ on.next) refl

@@ -1,0 +1,113 @@
+-- What comes of runs of slots, and what is put together of it.
+use Rattle.std.proofs.Common.{◌≡◌, ℕ, ◌+◌, ◌≤◌, List, [], ◌∷◌, ◌++◌, Vec, Global, length, min, sym, ap, subst, ◌∙◌, arith, append-nil, append_assoc}
+use Rattle.std.specs.Prelude.{All}
+use Rattle.std.proofs.lemmas.List.{map-append}
+use Rattle.std.proofs.lemmas.List.Elements.{All-append, All-nil}
+use Rattle.std.proofs.lemmas.List.Sums.{sum_by-append, sum_by-cons}
+use Rattle.cj_threads.proofs.RunLemmas.{pushed}
+use Rattle.cj_case.specs.PlainProblems.{PlainProblem}
+use Rattle.cj_case.specs.declared.leaf.Leaf.{Leaf}
+use Rattle.cj_case.specs.Cells.{PlainCell}
+use Rattle.cj_case.specs.Leaves.{PlainLeaf, plain_leaf, plain_leaves}
+use Rattle.cj_bezier.specs.Candidates.{candidate_pairs}
+use Rattle.cj_bezier.specs.RootLeaves.{leaves_of_root, leaves_of_roots, Describe}
+use Rattle.cj_slabs.specs.declared.leaf_counts.LeafCounts.{LeafCounts}
+use Rattle.cj_slabs.specs.declared.sifted.Sifted.{Sifted}
+use Rattle.cj_slabs.specs.declared.slab.Slab.{Slab}
+use Rattle.cj_slabs.specs.declared.slab.Outcome.{Outcome}
+use Rattle.cj_slabs.specs.declared.slab.Outcome.TheVariants.{Whole, Stopped}
+use Rattle.cj_slabs.specs.Counts.{AreCountsOf}
+use Rattle.cj_slabs.specs.Slabs.{AreOutcomes, AreSlabsOf, IsOutcome, IsSlabOf, least, least_of, leaves_listed, roots_at, told_of_roots}
+use Rattle.cj_slabs.proofs.CountLemmas.{counts_both, none_counted, number_both}
+use Rattle.cj_slabs.proofs.SlabLemmas.{roots_both, told_both}
+
+-- ---- how many leaves there are at least
+
+least_few : (case : PlainProblem) (slots : List ℕ) (outcome : Outcome) → IsOutcome case slots outcome → least outcome ≤ length (leaves_of_roots case (roots_at case slots))
+least_few case slots (Whole slab) is = let counts = is.counts in omega (arith, counts.leaves)
+least_few case slots (Stopped leaves) is = is
+
+-- runs of slots have at least so many
+pub least_in_all : (case : PlainProblem) (slots : List ℕ) (outcomes : List Outcome) → AreOutcomes case slots outcomes → least_of outcomes ≤ length (leaves_of_roots case (roots_at case slots))
+least_in_all case slots [] are = omega arith
+least_in_all case slots (outcome ∷ outcomes) are =
+    let some = are.0 in
+    let rest = are.1 in
+    let here = least_few case some outcome are.3 in
+    let there = least_in_all case rest outcomes are.4 in
+    let both = ap (λ (ks : List ℕ). length (leaves_of_roots case (roots_at case ks))) are.2 ∙ ap (λ (rs : List PlainCell). length (leaves_of_roots case rs)) (roots_both case some rest)
+    ∙ number_both case (roots_at case some) (roots_at case rest) in
+    omega (arith, here, there, both, sum_by-cons least outcome outcomes)
+
+-- ---- slabs put together
+
+pub no_slabs : (case : PlainProblem) (found : Sifted) → found.slabs.items ≡ [] → found.touching ≡ 0 → found.counts.leaves ≡ 0 → AreSlabsOf case [] found
+no_slabs case found slabs touching counts = record {
+  told = ap (λ (lists : List (Vec Leaf Global)). plain_leaves (leaves_listed lists)) slabs;
+  counts = none_counted case found.counts counts;
+  described = All-nil (λ r. Describe case r (leaves_of_root case r));
+  touching = touching;
+}
+
+-- one slab more, of slots that follow
+pub slabs_more : (case : PlainProblem) (some more : List ℕ) (old new : Sifted) (slab : Slab) → new.slabs.items ≡ old.slabs.items ++ slab.told ∷ []
+    → new.touching ≡ min (old.touching + slab.touching) 18_446_744_073_709_551_615
+    → new.counts.roots ≡ old.counts.roots + slab.counts.roots → new.counts.leaves ≡ old.counts.leaves + slab.counts.leaves → new.counts.far ≡ old.counts.far + slab.counts.far
+    → new.counts.near ≡ old.counts.near + slab.counts.near → new.counts.undecided ≡ old.counts.undecided + slab.counts.undecided
+    → AreSlabsOf case some old → IsSlabOf case more slab → AreSlabsOf case (some ++ more) new
+slabs_more case some more old new slab pushes touching roots leaves far near undecided first second =
+    let both : roots_at case (some ++ more) ≡ roots_at case some ++ roots_at case more = roots_both case some more in
+    let f = λ (k : ℕ). length (candidate_pairs case k) in
+    let listed = leaves_listed old.slabs.items in
+    record {
+      told = ap (λ (lists : List (Vec Leaf Global)). plain_leaves (leaves_listed lists)) pushes
+          ∙ ap plain_leaves (pushed (λ (list : Vec Leaf Global). list.items) old.slabs.items slab.told)
+          ∙ map-append plain_leaf listed slab.told.items
+          ∙ ap (λ (ts : List PlainLeaf). ts ++ plain_leaves slab.told.items) first.told
+          ∙ ap (λ (ts : List PlainLeaf). told_of_roots case (roots_at case some) ++ ts) second.told
+          ∙ sym (told_both case (roots_at case some) (roots_at case more)) ∙ ap (told_of_roots case) (sym both);
+      counts = subst (λ (rs : List PlainCell). AreCountsOf case rs new.counts) (sym both)
+          (counts_both case (roots_at case some) (roots_at case more) old.counts slab.counts new.counts first.counts second.counts roots leaves far near undecided);
+      described = subst (All (λ r. Describe case r (leaves_of_root case r))) (sym both)
+          (All-append (λ r. Describe case r (leaves_of_root case r)) (roots_at case some) (roots_at case more) first.described second.described);
+      touching = let all = sum_by-append f some more in omega (arith, touching, first.touching, second.touching, all);
+    }
+
+-- one slab alone
+pub one_slab : (case : PlainProblem) (slots : List ℕ) (found : Sifted) (slab : Slab) → found.slabs.items ≡ slab.told ∷ [] → found.touching ≡ slab.touching → found.counts ≡ slab.counts → IsSlabOf case slots slab
+    → AreSlabsOf case slots found
+one_slab case slots found slab slabs touching counts is = record {
+  told = ap (λ (lists : List (Vec Leaf Global)). plain_leaves (leaves_listed lists)) slabs ∙ ap plain_leaves (append-nil slab.told.items) ∙ is.told;
+  counts = subst (λ (c : LeafCounts). AreCountsOf case (roots_at case slots) c) (sym counts) is.counts;
+  described = is.described;
+  touching = touching ∙ is.touching;
+}
+
+-- slabs of the first slots are put together, and these outcomes are left
+pub record FoundSoFar (case : PlainProblem) (slots : List ℕ) (found : Sifted) (left : List Outcome) : Type 0 where
+  pub done : List ℕ
+  pub rest : List ℕ
+  pub whole : slots ≡ done ++ rest
+  pub slabs : AreSlabsOf case done found
+  pub others : AreOutcomes case rest left
+
+-- one more of them
+pub found_next : (case : PlainProblem) (slots : List ℕ) (old new : Sifted) (slab : Slab) (left rest : List Outcome) → left ≡ Whole slab ∷ rest
+    → ((some more : List ℕ) → AreSlabsOf case some old → IsSlabOf case more slab → AreSlabsOf case (some ++ more) new) → FoundSoFar case slots old left → FoundSoFar case slots new rest
+found_next case slots old new slab left rest first join so_far = go (subst (AreOutcomes case so_far.rest) first so_far.others)
+  where
+    go : AreOutcomes case so_far.rest (Whole slab ∷ rest) → FoundSoFar case slots new rest
+    go are = record {
+      done = so_far.done ++ are.0;
+      rest = are.1;
+      whole = so_far.whole ∙ ap (λ (ks : List ℕ). so_far.done ++ ks) are.2 ∙ sym (append_assoc so_far.done are.0 are.1);
+      slabs = join so_far.done are.0 so_far.slabs are.3;
+      others = are.4;
+    }
+
+-- none is left
+pub all_found : (case : PlainProblem) (slots : List ℕ) (found : Sifted) (left : List Outcome) → left ≡ [] → FoundSoFar case slots found left → AreSlabsOf case slots found
+all_found case slots found left none so_far =
+    let nothing : so_far.rest ≡ [] = subst (AreOutcomes case so_far.rest) none so_far.others in
+    let whole : slots ≡ so_far.done = so_far.whole ∙ ap (λ (ks : List ℕ). so_far.done ++ ks) nothing ∙ append-nil so_far.done in
+    subst (λ (ks : List ℕ). AreSlabsOf case ks found) (sym whole) so_far.slabs

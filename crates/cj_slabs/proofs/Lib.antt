@@ -1,0 +1,6 @@
+pub mod CaseLemmas
+pub mod CountLemmas
+pub mod HaltLemmas
+pub mod JoinLemmas
+pub mod MarkLemmas
+pub mod SlabLemmas

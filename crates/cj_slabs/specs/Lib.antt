@@ -1,0 +1,4 @@
+pub mod Counts
+pub mod Halts
+pub mod Marks
+pub mod Slabs

@@ -1,0 +1,155 @@
+//! Some slots, one after another, until threads that search others beside are to stop.
+ghost use Rattle.std.specs.Prelude.{◌≡◌, ℕ, ◌+◌, ◌<◌, ◌≤◌, false, List, None, All, IfOk, OnOk, IsErrOf, length, map};
+ghost use Rattle.cj_base.specs.Bounds.{MOST_LEAVES};
+ghost use Rattle.cj_case.specs.Pairs.{objects_of};
+ghost use Rattle.cj_case.specs.PlainProblems.{PlainProblem};
+ghost use Rattle.cj_case.specs.Problems.{plain_problem};
+ghost use Rattle.cj_case.specs.Slots.{slot_count};
+ghost use Rattle.cj_bezier.specs.MeasuredObjects.{AreMeasured};
+ghost use Rattle.cj_bezier.specs.RootLeaves.{leaves_of_roots};
+ghost use Rattle.cj_hermite.specs.Roots.{roots_in_slot};
+ghost use Rattle.cj_slabs.specs.Slabs.{AddRoots, AddSlot, IsOutcome, IsWithinOrOver, roots_at, slot_roots};
+
+use crate::halt::Halt;
+use crate::roots_sifted::sift_pairs;
+use crate::scratch::Scratch;
+use crate::slab::{Outcome, Slab};
+use crate::together::Together;
+use cj_candidates::candidates_in_slot;
+use cj_case::{Measured, Pair, Problem};
+use cj_io::{Gate, Stage};
+use std::alloc::{AllocError, Global};
+
+/// Whether threads that search together are to stop. One that searches alone never is.
+fn is_over(together: Option<&Together>, limit: u64) -> bool
+    ensures { together.entry ≡ None → result ≡ false }
+{
+    match together {
+        Some(together) => together.is_over(limit),
+        None => false,
+    }
+}
+
+/// So many pairs have their roots sifted at once.
+const PAIRS_AT_ONCE: usize = 64;
+
+/// Pairs of existing objects in a slot, some at a time.
+fn sift_until_stopped(
+    alloc: Global,
+    problem: &Problem,
+    slot: u32,
+    pairs: &[Pair],
+    limit: u64,
+    together: Option<&Together>,
+    scratch: &mut Scratch,
+    slab: &mut Slab,
+) -> Result<(), Halt>
+    requires exist { All (λ pair. pair.b < length problem.now.tracks) pairs.now }
+    requires room { slab.old.counts.leaves ≤ limit }
+    ensures added { OnOk result (AddRoots (plain_problem problem.now)
+        (roots_in_slot (plain_problem problem.now) slot (map objects_of pairs.now)) slab.old slab.new) }
+    ensures within { OnOk result (slab.new.counts.leaves ≤ limit) }
+    ensures too_many { IsErrOf result Halt.TooMany → limit < slab.old.counts.leaves
+        + length (leaves_of_roots (plain_problem problem.now) (roots_in_slot (plain_problem problem.now) slot (map objects_of pairs.now))) }
+    ensures stopped { IsErrOf result Halt.Stopped → slab.new.counts.leaves ≤ slab.old.counts.leaves
+        + length (leaves_of_roots (plain_problem problem.now) (roots_in_slot (plain_problem problem.now) slot (map objects_of pairs.now))) }
+    ensures alone { together.entry ≡ None → IsErrOf result Halt.Stopped → ⊥ }
+{
+    let mut rest = pairs;
+    while !rest.is_empty() {
+        if is_over(together, limit) {
+            return Err(Halt::Stopped);
+        }
+        let (some, others) = rest.split_at(rest.len().min(PAIRS_AT_ONCE));
+        let before = slab.counts.leaves;
+        sift_pairs(alloc, problem, slot, some, limit, scratch, slab)?;
+        tell(together, slab.counts.leaves.saturating_sub(before));
+        rest = others;
+    }
+    Ok(())
+}
+
+/// Tells the others of leaves that are found.
+fn tell(together: Option<&Together>, leaves: u64) {
+    if let Some(together) = together {
+        together.add(leaves);
+    }
+}
+
+/// A slot.
+fn sift_slot(
+    alloc: Global,
+    problem: &Problem,
+    measured: &Measured,
+    slot: u32,
+    limit: u64,
+    together: Option<&Together>,
+    scratch: &mut Scratch,
+    slab: &mut Slab,
+) -> Result<(), Halt>
+    requires measured { AreMeasured (plain_problem problem.now) measured.now }
+    requires exists { slot < slot_count problem.now.window.first.micros problem.now.window.last.micros }
+    requires room { slab.old.counts.leaves ≤ limit }
+    ensures added { OnOk result (AddSlot (plain_problem problem.now) slot slab.old slab.new) }
+    ensures within { OnOk result (slab.new.counts.leaves ≤ limit) }
+    ensures too_many { IsErrOf result Halt.TooMany → limit < slab.old.counts.leaves
+        + length (leaves_of_roots (plain_problem problem.now) (slot_roots (plain_problem problem.now) slot)) }
+    ensures stopped { IsErrOf result Halt.Stopped → slab.new.counts.leaves ≤ slab.old.counts.leaves
+        + length (leaves_of_roots (plain_problem problem.now) (slot_roots (plain_problem problem.now) slot)) }
+    ensures alone { together.entry ≡ None → IsErrOf result Halt.Stopped → ⊥ }
+{
+    let pairs = candidates_in_slot(alloc, problem, measured, slot)?;
+    slab.touching = slab.touching.saturating_add(pairs.len() as u64);
+    sift_until_stopped(alloc, problem, slot, &pairs, limit, together, scratch, slab)
+}
+
+/// What has come of slots whose search was halted when so many leaves were found.
+fn halted(halt: Halt, limit: u64, leaves: u64) -> Result<Outcome, AllocError>
+    requires { limit ≤ MOST_LEAVES }
+    ensures outcome { (case : PlainProblem) (slots : List ℕ) → (halt ≡ Halt.TooMany → limit < length (leaves_of_roots case (roots_at case slots)))
+        → (halt ≡ Halt.Stopped → leaves ≤ length (leaves_of_roots case (roots_at case slots))) → IfOk result (IsOutcome case slots) }
+    ensures over { (halt ≡ Halt.Stopped → ⊥) → IfOk result (IsWithinOrOver limit) }
+{
+    match halt {
+        Halt::Memory => Err(AllocError),
+        Halt::TooMany => Ok(Outcome::Stopped { leaves: limit + 1 }),
+        Halt::Stopped => Ok(Outcome::Stopped { leaves }),
+    }
+}
+
+/// Some slots, one after another. The gate is told of each.
+pub fn sift_some<G: Gate>(
+    alloc: Global,
+    gate: &G,
+    problem: &Problem,
+    measured: &Measured,
+    slots: &[u32],
+    limit: u64,
+    together: Option<&Together>,
+) -> Result<Outcome, AllocError>
+    requires measured { AreMeasured (plain_problem problem.now) measured.now }
+    requires exist { All (λ slot. slot < slot_count problem.now.window.first.micros problem.now.window.last.micros) slots.now }
+    requires limit { limit ≤ MOST_LEAVES }
+    ensures outcome { IfOk result (IsOutcome (plain_problem problem.now) slots.now) }
+    ensures alone { together.entry ≡ None → IfOk result (IsWithinOrOver limit) }
+{
+    let mut scratch = Scratch::new(alloc, problem.tracks.as_slice().len())?;
+    let mut slab = Slab::empty(alloc);
+    for slot in slots {
+        match sift_slot(
+            alloc,
+            problem,
+            measured,
+            *slot,
+            limit,
+            together,
+            &mut scratch,
+            &mut slab,
+        ) {
+            Ok(()) => gate.advance(Stage::Minutes, 1),
+            Err(halt) => return halted(halt, limit, slab.counts.leaves),
+        }
+    }
+    slab.told.shrink_to_fit();
+    Ok(Outcome::Whole(slab))
+}

@@ -1,0 +1,7 @@
+//! Tests of the whole list slab by slab, over public calls alone.
+#![tactic(auto)]
+
+#[cfg(test)]
+mod cases;
+#[cfg(test)]
+mod slabs;
