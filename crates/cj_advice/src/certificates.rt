@@ -46,12 +46,13 @@ folder: --cert-dir names the folder then.
     right: "conj check samples/resting --cert screen.cert\n",
 };
 
-const TEXT_FORM: Advice = Advice {
+pub const TEXT_FORM: Advice = Advice {
     means: "no line of a certificate may stand here so",
     helps: "take the certificate anew from who made it: it is not as written",
     more: "\
 docs/FORMATS.md has the lines of a certificate and their order. What the
 program writes is of this form. A file that is not was changed, or is none.
+One that a run wrote with --brief is read with --brief.
 ",
     wrong: "CELL 1 2 1735689600000000 1735689659999999 X\n",
     right: "CELL 1 2 1735689600000000 1735689659999999 N\n",
@@ -100,8 +101,9 @@ const SIZE_OF: Advice = Advice {
     means: "an object's size is not that of the run",
     helps: "give --sizes as the run had it, and the same file of sizes",
     more: "\
-A certificate of version 2 tells the size of each object in nanometres, 0
-where the run had no --sizes. The report tells them in its lines SIZE.
+A certificate of version 2, or in brief, tells the size of each object in
+nanometres, 0 where the run had no --sizes. The report tells them in its lines
+SIZE.
 ",
     wrong: "SIZE 1 1500000000\n",
     right: "SIZE 1 0\n",
@@ -136,8 +138,9 @@ const UNTILED: Advice = Advice {
     helps: "other files or options than the run's, or a line that was left out",
     more: "\
 Where shells and boxes do not tell two objects apart, cells have to say of
-each microsecond whether they are near. The line that is told comes too
-early: a cell before it is missing or ends too soon.
+each microsecond whether they are near; in brief they may be left out where
+the tracks show by themselves that the objects are far. The line that is told
+comes too early: a cell before it is missing or ends too soon.
 ",
     wrong: "\
 CELL 1 2 1735689600000000 1735689659999998 N

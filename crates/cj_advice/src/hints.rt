@@ -3,13 +3,13 @@ ghost use Rattle.std.specs.Prelude.{IfOk};
 ghost use Rattle.cj_advice.specs.Hints.{IsOfLines};
 
 use crate::cause::{Cause, file_reason, limit_cause};
-use crate::headers::hint_on_header;
+use crate::headers::{hint_on_form, hint_on_header};
 use crate::hint::Hint;
 use crate::ranges::range_of;
 use crate::slip_lines::push_slip;
 use crate::slips::slip_in;
 use crate::words::advice_on;
-use cj_formats::CheckCause;
+use cj_formats::{CertCause, CheckCause};
 use cj_status::{CertificateCause, Status};
 use cj_words::{UsageFault, Word};
 use std::alloc::{AllocError, Global};
@@ -55,6 +55,7 @@ fn push_on_status(
 fn hint_on_refusal(line: u32, cause: CertificateCause) -> Hint {
     match cause {
         CertificateCause::Refused(CheckCause::Header) => hint_on_header(line),
+        CertificateCause::Text(CertCause::Form) => hint_on_form(line),
         _ => advice_on(Cause::Certificate(cause)).hint(),
     }
 }

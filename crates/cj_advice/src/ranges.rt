@@ -58,7 +58,7 @@ pub fn range_of(option: Opt) -> Hint {
             helps: "left out all objects are points; the file has to lie in DIR",
         },
         Opt::CertVersion => Hint {
-            means: "--cert-version is 1 or 2",
+            means: "--cert-version is 1 or 2, and not beside --brief",
             helps: "left out it is 1",
         },
         Opt::Update => Hint {
@@ -92,6 +92,10 @@ pub fn range_of(option: Opt) -> Hint {
         Opt::MustCover => Hint {
             means: "--must-cover has no value",
             helps: "left out objects need not cover the window",
+        },
+        Opt::Brief => Hint {
+            means: "--brief has no value",
+            helps: "left out certificates are written and read in full",
         },
         Opt::Within => Hint {
             means: "--within is a whole number of metres from 1 to 1000",

@@ -169,6 +169,7 @@ fn slip_of_word(word: &[u8], verb: Verb) -> Slip<'_>
             | Opt::Rtn
             | Opt::Coverage
             | Opt::MustCover
+            | Opt::Brief
             | Opt::Warnings
             | Opt::AllFaults),
         ) => Slip::ValueOfFlag { option },
@@ -251,7 +252,7 @@ fn shaping(words: &[Word], other: Opt) -> Option<Slip<'_>>
 const ENDS: [Opt; 2] = [Opt::From, Opt::To];
 
 /// What asks something of messages or of the certificate.
-const SHAPING: [Opt; 3] = [Opt::Originator, Opt::CertVersion, Opt::Rtn];
+const SHAPING: [Opt; 4] = [Opt::Originator, Opt::CertVersion, Opt::Rtn, Opt::Brief];
 
 /// How often the option stands.
 fn count_of(words: &[Word], option: Opt) -> usize {

@@ -1,4 +1,4 @@
-use crate::failure::{Failure, done_at};
+use crate::failure::Failure;
 use crate::holding::sync_directory;
 use crate::new_file::NewFile;
 use crate::new_path::NewPath;

@@ -158,11 +158,11 @@ const VERSION: &str = "0.1.0";
 const FORMATS: &str = "\
 reads:
   ephemerides   OEM of CCSDS 502.0-B-2, KVN, CCSDS_OEM_VERS 1.0, 2.0 and 3.0
-  certificates  CONJ-CERT 1 and 2
+  certificates  CONJ-CERT 1, 2 and 3
   reports       CONJ-REPORT 1
 writes:
   reports       CONJ-REPORT 1, CONJ-CHANGED 1
-  certificates  CONJ-CERT 1 and 2
+  certificates  CONJ-CERT 1, 2 and 3
   messages      CDM of CCSDS 508.0-B-1, KVN, CCSDS_CDM_VERS 1.0
   catalogues    OEM of CCSDS 502.0-B-2, KVN, CCSDS_OEM_VERS 2.0
   ephemerides   OEM of CCSDS 502.0-B-2, KVN, CCSDS_OEM_VERS 2.0
@@ -213,7 +213,7 @@ selfrun screens such a catalogue in memory, has the certificate checked, and
 prints the summary. It has no directory.
 
 rewrite does what check does, and writes an accepted certificate in version 2,
-which has fewer lines, as DIR/screen.cert2.
+which has fewer lines, as DIR/screen.cert2. One in brief is written as it is.
 
 thin writes each ephemeris of DIR with fewer nodes, a.oem as DIR/a.oem.thin.
 At each microsecond the object has a place where it had one, and that is
@@ -242,6 +242,9 @@ Options of screen, rescreen, check and rewrite:
   --sizes NAME        file of DIR with the radius of each object in metres:
                       the threshold is then measured from surface to surface
                       (default: all objects are points)
+  --brief             the certificate is in brief, that is, in version 3: it
+                      leaves out what is far throughout; not with
+                      --cert-version (default: in full)
 Options of screen, rescreen, check, rewrite and thin:
   --suffix TEXT       how names of ephemerides end, 1 to 20 bytes (default
                       .oem)
@@ -271,7 +274,7 @@ Options of rescreen, check and rewrite:
                       rewrite no file is an update)
 Options of rescreen:
   --changed           tell the pairs alone that are not as they were; not with
-                      --originator, --cert-version or --rtn
+                      --originator, --cert-version, --rtn or --brief
 Options of check and rewrite:
   --cert NAME         the certificate's file (default screen.cert)
   --cert-dir DIR      the directory of the certificate, and of the report

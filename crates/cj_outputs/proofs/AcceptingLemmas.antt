@@ -1,16 +1,15 @@
 -- A run that asks for an accepted certificate: how it ends, of how its parts do.
-use Rattle.std.proofs.Common.{◌≡◌, ℕ, List, Some, None, Result, Ok, Err, refl, ap, sym, subst, ◌∙◌}
+use Rattle.std.proofs.Common.{◌≡◌, ℕ, Bool, List, Some, None, Result, Ok, Err, refl, ap, sym, subst, ◌∙◌}
 use Rattle.cj_io.specs.declared.file.FileBytes.{FileBytes}
 use Rattle.cj_case.specs.PlainProblems.{PlainProblem}
-use Rattle.cj_cert.specs.Certificates.{PlainCertificate}
-use Rattle.cj_cert_text.specs.Reading.{reading}
-use Rattle.cj_checker.specs.First.{first_failure, Failure}
+use Rattle.cj_checker.specs.First.{Failure}
 use Rattle.cj_inputs.specs.CheckInputs.{PlainInputs}
 use Rattle.cj_inputs.proofs.StepLemmas.{stops_wider}
 use Rattle.cj_status.specs.declared.status.Status.{Status}
 use Rattle.cj_status.specs.declared.status.Status.TheVariants as status
 use Rattle.cj_status.specs.declared.status.CertificateCause.TheVariants.{Refused}
 use Rattle.cj_status.specs.Steps.{◌>>=◌, Stops}
+use Rattle.cj_outputs.specs.Either.{PlainAnyCertificate, any_failure, any_reading}
 use Rattle.cj_outputs.specs.Outcome.{accepting, none_of, said_or}
 
 -- the same error of another answer
@@ -30,41 +29,41 @@ stops_then read status.OutOfMemory r f stops = stops
 
 -- ---- a text that is read and checked
 
-pub unreadable : (case : PlainProblem) (bytes : List ℕ) (s : Status) → Stops ⊥ s (said_or (reading bytes)) → Stops ⊥ s (accepting case bytes)
+pub unreadable : (brief : Bool) (case : PlainProblem) (bytes : List ℕ) (s : Status) → Stops ⊥ s (said_or (any_reading brief bytes)) → Stops ⊥ s (accepting brief case bytes)
 unfolding accepting
-unreadable case bytes s stops =
-    stops_then ⊥ s (said_or (reading bytes)) (λ certificate. none_of (first_failure case certificate) >>= λ done. Ok certificate) stops
+unreadable brief case bytes s stops =
+    stops_then ⊥ s (said_or (any_reading brief bytes)) (λ certificate. none_of (any_failure case certificate) >>= λ done. Ok certificate) stops
 
-pub accepted_so : (case : PlainProblem) (bytes : List ℕ) (certificate : PlainCertificate) → said_or (reading bytes) ≡ Ok certificate
-    → first_failure case certificate ≡ None → accepting case bytes ≡ Ok certificate
+pub accepted_so : (brief : Bool) (case : PlainProblem) (bytes : List ℕ) (certificate : PlainAnyCertificate) → said_or (any_reading brief bytes) ≡ Ok certificate
+    → any_failure case certificate ≡ None → accepting brief case bytes ≡ Ok certificate
 unfolding accepting
-accepted_so case bytes certificate said none = rw (said, none) refl
+accepted_so brief case bytes certificate said none = rw (said, none) refl
 
-pub refused_so : (case : PlainProblem) (bytes : List ℕ) (certificate : PlainCertificate) (failure : Failure) → said_or (reading bytes) ≡ Ok certificate
-    → first_failure case certificate ≡ Some failure → accepting case bytes ≡ Err (status.NotAccepted failure.line (Refused failure.cause))
+pub refused_so : (brief : Bool) (case : PlainProblem) (bytes : List ℕ) (certificate : PlainAnyCertificate) (failure : Failure) → said_or (any_reading brief bytes) ≡ Ok certificate
+    → any_failure case certificate ≡ Some failure → accepting brief case bytes ≡ Err (status.NotAccepted failure.line (Refused failure.cause))
 unfolding accepting
-refused_so case bytes certificate failure said some = rw (said, some) refl
+refused_so brief case bytes certificate failure said some = rw (said, some) refl
 
 -- ---- what comes of a certificate that is accepted for its inputs
 
-abbrev outputs_from : (PlainInputs → PlainCertificate → Result (List FileBytes) Status) → Result PlainInputs Status → Result (List FileBytes) Status
-outputs_from outputs inputs = inputs >>= λ i. accepting i.case i.bytes >>= λ certificate. outputs i certificate
+abbrev outputs_from : Bool → (PlainInputs → PlainAnyCertificate → Result (List FileBytes) Status) → Result PlainInputs Status → Result (List FileBytes) Status
+outputs_from brief outputs inputs = inputs >>= λ i. accepting brief i.case i.bytes >>= λ certificate. outputs i certificate
 
 -- the inputs are not there
-pub unprepared : (outputs : PlainInputs → PlainCertificate → Result (List FileBytes) Status) (read : Type 0) (s : Status) (inputs : Result PlainInputs Status)
-    → Stops read s inputs → Stops read s (outputs_from outputs inputs)
-unprepared outputs read s inputs stops = stops_then read s inputs (λ i. accepting i.case i.bytes >>= λ certificate. outputs i certificate) stops
+pub unprepared : (brief : Bool) (outputs : PlainInputs → PlainAnyCertificate → Result (List FileBytes) Status) (read : Type 0) (s : Status) (inputs : Result PlainInputs Status)
+    → Stops read s inputs → Stops read s (outputs_from brief outputs inputs)
+unprepared brief outputs read s inputs stops = stops_then read s inputs (λ i. accepting brief i.case i.bytes >>= λ certificate. outputs i certificate) stops
 
 -- the certificate is not accepted
-pub unaccepted : (outputs : PlainInputs → PlainCertificate → Result (List FileBytes) Status) (read : Type 0) (s : Status) (inputs : Result PlainInputs Status)
-    (i : PlainInputs) → inputs ≡ Ok i → Stops ⊥ s (accepting i.case i.bytes) → Stops read s (outputs_from outputs inputs)
-unaccepted outputs read s inputs i there stops =
-    subst (λ (r : Result PlainInputs Status). Stops read s (outputs_from outputs r)) (sym there)
-    (stops_then read s (accepting i.case i.bytes) (λ certificate. outputs i certificate)
-    (stops_wider ⊥ read s (accepting i.case i.bytes) (λ none. absurd none) stops))
+pub unaccepted : (brief : Bool) (outputs : PlainInputs → PlainAnyCertificate → Result (List FileBytes) Status) (read : Type 0) (s : Status) (inputs : Result PlainInputs Status)
+    (i : PlainInputs) → inputs ≡ Ok i → Stops ⊥ s (accepting brief i.case i.bytes) → Stops read s (outputs_from brief outputs inputs)
+unaccepted brief outputs read s inputs i there stops =
+    subst (λ (r : Result PlainInputs Status). Stops read s (outputs_from brief outputs r)) (sym there)
+    (stops_then read s (accepting brief i.case i.bytes) (λ certificate. outputs i certificate)
+    (stops_wider ⊥ read s (accepting brief i.case i.bytes) (λ none. absurd none) stops))
 
 -- it is
-pub outputs_made_from : (outputs : PlainInputs → PlainCertificate → Result (List FileBytes) Status) (inputs : Result PlainInputs Status) (i : PlainInputs)
-    (certificate : PlainCertificate) → inputs ≡ Ok i → accepting i.case i.bytes ≡ Ok certificate → outputs_from outputs inputs ≡ outputs i certificate
-outputs_made_from outputs inputs i certificate there accepted =
-    ap (outputs_from outputs) there ∙ ap (λ (r : Result PlainCertificate Status). r >>= λ c. outputs i c) accepted
+pub outputs_made_from : (brief : Bool) (outputs : PlainInputs → PlainAnyCertificate → Result (List FileBytes) Status) (inputs : Result PlainInputs Status) (i : PlainInputs)
+    (certificate : PlainAnyCertificate) → inputs ≡ Ok i → accepting brief i.case i.bytes ≡ Ok certificate → outputs_from brief outputs inputs ≡ outputs i certificate
+outputs_made_from brief outputs inputs i certificate there accepted =
+    ap (outputs_from brief outputs) there ∙ ap (λ (r : Result PlainAnyCertificate Status). r >>= λ c. outputs i c) accepted

@@ -19,8 +19,8 @@ use Rattle.cj_cert.specs.Accepted.{Accepted}
 use Rattle.cj_cert.specs.Certificates.{PlainBoxLine, PlainCertificate}
 use Rattle.cj_cert.specs.Listed.{box_listed, is_line_of}
 use Rattle.cj_cert.specs.Reaches.{StaysNear}
-use Rattle.cj_blocks.specs.Rewritten.{boxes_by_lines, from_version, given_of, in_version_2, line_of_block, pairs_by_shells, rewritten, size_line, size_lines, with_blocks, written_in, written_in_blocks}
-use Rattle.cj_cert.specs.Written.{written}
+use Rattle.cj_blocks.specs.Rewritten.{boxes_by_lines, from_version, given_of, in_version_2, line_of_block, pairs_by_shells, rewritten, with_blocks, written_in, written_in_blocks}
+use Rattle.cj_cert.specs.Written.{size_line, size_lines, written}
 use Rattle.cj_cert.proofs.ListedLemmas.{AreAllInTime}
 use Rattle.cj_blocks.proofs.RewrittenLemmas.{blocks_same}
 use Rattle.cj_cert_text.specs.Fits.{Fits, FitsBox, FitsCell, FitsShell, FitsSize}
@@ -151,7 +151,7 @@ blocks_fit most own case lines kept few short each =
 
 -- ---- a certificate that is rewritten
 
-sizes_fit : (most n : ℕ) (sizes : List ℕ) → Each (λ size. size ≤ MAX_SIZE) sizes → n + length sizes ≤ most → Each (FitsSize most) (map size_line (enumerate_from n sizes))
+pub sizes_fit : (most n : ℕ) (sizes : List ℕ) → Each (λ size. size ≤ MAX_SIZE) sizes → n + length sizes ≤ most → Each (FitsSize most) (map size_line (enumerate_from n sizes))
 sizes_fit most n [] each few = tt
 sizes_fit most n (size ∷ sizes) each few = (record { object = omega arith; size = each.0 }, sizes_fit most (n + 1) sizes each.1 (omega arith))
 

@@ -34,7 +34,7 @@ each_of_parts P S Q law (r ∷ roots) (part ∷ parts) tiles each =
 -- ---- in order
 
 -- leaves that tile ticks are in order
-tile_ordered : (P : PlainLeaf → Type 0) (a b lo hi : ℕ) (ss : List PlainLeaf) → Tile P a b lo hi ss → Ordered IsBefore ss
+pub tile_ordered : (P : PlainLeaf → Type 0) (a b lo hi : ℕ) (ss : List PlainLeaf) → Tile P a b lo hi ss → Ordered IsBefore ss
 tile_ordered P a b lo hi [] tile = tt
 tile_ordered P a b lo hi (s ∷ ss) tile =
     let leaf = tile.1.0 in (
@@ -81,11 +81,11 @@ cells_in_order case c accepted =
 
 -- ---- in their pieces
 
-abbrev Keeps : PlainProblem → PlainLeaf → Type 0
+abbrev pub Keeps : PlainProblem → PlainLeaf → Type 0
 Keeps case s = KeepPieces case s.a s.b s.first s.last
 
 -- a leaf of a root keeps the root's
-kept : (case : PlainProblem) (r : PlainCell) (s : PlainLeaf) → IsRootOf case r → IsLeaf (IsSupported case) r.a r.b r.first r.last s → Keeps case s
+pub kept : (case : PlainProblem) (r : PlainCell) (s : PlainLeaf) → IsRootOf case r → IsLeaf (IsSupported case) r.a r.b r.first r.last s → Keeps case s
 kept case r s is leaf =
     subst (λ (a : ℕ). KeepPieces case a s.b s.first s.last) (sym leaf.first_object)
     (subst (λ (b : ℕ). KeepPieces case r.a b s.first s.last) (sym leaf.second_object)

@@ -14,8 +14,7 @@ use Rattle.cj_case.specs.Slots.{slot_count}
 use Rattle.cj_words.specs.Commands.{PlainChecking}
 use Rattle.cj_case.specs.Leaves.{PlainLeaf, plain_leaf}
 use Rattle.cj_cells.specs.Lists.{list_candidates}
-use Rattle.cj_cert.specs.Certificates.{PlainCertificate, line_count}
-use Rattle.cj_cert_text.specs.Texts.{text_of}
+use Rattle.cj_cert.specs.Certificates.{line_count}
 use Rattle.cj_cert.specs.Written.{box_lines, line_in_slot, shell_line, written}
 use Rattle.cj_status.specs.declared.status.Status.{Status}
 use Rattle.cj_status.specs.Steps.{◌>>=◌}
@@ -25,6 +24,7 @@ use Rattle.cj_inputs.specs.CheckInputs.{PlainInputs, certificate_named, inputs_a
 use Rattle.cj_outputs.specs.declared.findings.Findings.{Findings}
 use Rattle.cj_outputs.specs.Again.{IsAcceptedLater}
 use Rattle.cj_outputs.specs.Checks.{AcceptedReport, AcceptedText, Vouches, VouchesReport}
+use Rattle.cj_outputs.specs.Either.{PlainAnyCertificate, cells_in, text_in}
 use Rattle.cj_outputs.specs.Findings.{AreFound, case_in}
 use Rattle.cj_outputs.specs.Outcome.{tells_of}
 use Rattle.cj_outputs.specs.Rewrites.{RenewedText, Renews}
@@ -117,7 +117,7 @@ reported checking files case cells report (Some name) is holds = go (report_name
 
 -- where the inputs of a check are there, the certificate is accepted, and the report too where there is one, this is so of the files that were named
 pub vouched : (files : List FileBytes) (checking : PlainChecking) (inputs : PlainInputs) → inputs_asked files checking ≡ Ok inputs
-    → (holds : AcceptedText inputs.case inputs.bytes) → IfSome inputs.report (AcceptedReport (tells_of checking.settings) inputs.case holds.certificate.cells)
+    → (holds : AcceptedText inputs.case inputs.bytes) → IfSome inputs.report (AcceptedReport (tells_of checking.settings) inputs.case (cells_in holds.certificate))
     → Vouches checking files
 vouched files checking inputs there holds beside =
     let are = inputs_there files checking inputs there in
@@ -127,12 +127,12 @@ vouched files checking inputs there holds beside =
       bytes = inputs.bytes;
       named = are.bytes;
       holds = holds;
-      reported = reported checking files inputs.case holds.certificate.cells inputs.report checking.report are.report beside;
+      reported = reported checking files inputs.case (cells_in holds.certificate) inputs.report checking.report are.report beside;
     }
 
 -- the same of a certificate that is rewritten
-pub renews : (files : List FileBytes) (checking : PlainChecking) (inputs : PlainInputs) (renewed : PlainCertificate) → inputs_asked files checking ≡ Ok inputs → RenewedText inputs.case inputs.bytes renewed
-    → (case_asked files checking.settings ≡ Ok inputs.case → length (text_of renewed) ≤ 1_073_741_824 → IsAcceptedLater checking.settings files (text_of renewed)) → Renews checking files renewed
+pub renews : (files : List FileBytes) (checking : PlainChecking) (inputs : PlainInputs) (renewed : PlainAnyCertificate) → inputs_asked files checking ≡ Ok inputs → RenewedText inputs.case inputs.bytes renewed
+    → (case_asked files checking.settings ≡ Ok inputs.case → length (text_in renewed) ≤ 1_073_741_824 → IsAcceptedLater checking.settings checking.brief files (text_in renewed)) → Renews checking files renewed
 renews files checking inputs renewed there holds later =
     let are = inputs_there files checking inputs there in
     record {

@@ -1,5 +1,5 @@
 -- What was put as a certificate is accepted by a check of the same files.
-use Rattle.std.proofs.Common.{◌≡◌, ℕ, ◌*◌, ◌^◌, ◌<◌, ◌≤◌, List, [], ◌∷◌, length, None, Ok, refl, sym, ap, ◌∙◌, subst, arith}
+use Rattle.std.proofs.Common.{◌≡◌, ℕ, Bool, false, true, ◌*◌, ◌^◌, ◌<◌, ◌≤◌, List, [], ◌∷◌, length, None, Ok, refl, sym, ap, ◌∙◌, subst, arith}
 use Rattle.std.specs.Prelude.{All}
 use Rattle.std.proofs.lemmas.List.{length-map}
 use Rattle.cj_base.specs.Limits.{PlainLimits, USUAL}
@@ -23,22 +23,28 @@ use Rattle.cj_cert.specs.Reaches.{AllStayNear}
 use Rattle.cj_blocks.specs.Rewritten.{in_version_2, with_blocks, written_in}
 use Rattle.cj_cert.specs.Written.{leaves_in_order, written}
 use Rattle.cj_cert_text.specs.Fits.{Fits, IsOfVersion}
-use Rattle.cj_cert_text.specs.Texts.{text_of}
-use Rattle.cj_cert_text.proofs.ChainLemmas.{reading_again}
+use Rattle.cj_cert_text.specs.Texts.{brief_text, text_of}
 use Rattle.cj_cert_text.proofs.LengthLemmas.{text_short}
 use Rattle.cj_cert_text.proofs.WrittenFitsLemmas.{IsOfRun, few_boxes, few_shells, few_sizes}
 use Rattle.cj_checker.specs.First.{first_failure}
+use Rattle.cj_brief.specs.Accepted.{AcceptedInBrief}
+use Rattle.cj_brief.specs.Certificates.{PlainBrief}
+use Rattle.cj_brief.specs.Written.{written_in_brief}
+use Rattle.cj_brief_checker.specs.First.{first_failure_in_brief}
 use Rattle.cj_words.specs.Commands.{PlainChecking}
 use Rattle.cj_words.specs.Settings.{PlainSettings}
 use Rattle.cj_inputs.specs.Cases.{case_asked}
 use Rattle.cj_inputs.specs.CheckInputs.{PlainInputs, certificate_named, inputs_asked}
 use Rattle.cj_outputs.specs.Again.{IsAcceptedLater}
-use Rattle.cj_outputs.specs.Outcome.{accepted_output, cert_bytes, outputs_checked, report_if_accepting, said_or, tells_of}
+use Rattle.cj_outputs.specs.Either.{PlainAnyCertificate, InFull, InBrief, FitsIn, IsAcceptedFor, MayRead, any_failure, any_renewed, cells_in, text_in}
+use Rattle.cj_outputs.specs.Outcome.{accepted_output, outputs_checked, report_if_accepting, said_or, tells_of}
 use Rattle.cj_status.specs.Steps.{◌>>=◌}
 use Rattle.cj_outputs.proofs.AcceptingLemmas.{accepted_so, outputs_made_from}
 use Rattle.cj_outputs.proofs.AgainLemmas.{asked_again, named_again}
 use Rattle.cj_outputs.proofs.BlocksFitLemmas.{in_version_2_fits, written_in_fits}
+use Rattle.cj_outputs.proofs.BriefFitLemmas.{written_in_brief_fits, written_in_brief_short}
 use Rattle.cj_outputs.proofs.CertificateLemmas.{leaves_alike}
+use Rattle.cj_outputs.proofs.EitherLemmas.{any_again}
 use Rattle.cj_inputs.proofs.WithinLemmas.{usual_slots}
 
 -- ---- what is so of a problem
@@ -51,7 +57,7 @@ few_objects : (n : ℕ) → n ≤ 2000 → (version : CertVersion) → n ≤ mos
 few_objects n few One = few
 few_objects n few Two = few
 
-pub usual_few : (n : ℕ) (version : CertVersion) → n ≤ most_objects version → n ≤ 2000
+usual_few : (n : ℕ) (version : CertVersion) → n ≤ most_objects version → n ≤ 2000
 usual_few n One few = few
 usual_few n Two few = few
 
@@ -75,26 +81,26 @@ of_run problem few sizes near =
 -- ---- a text that is accepted later
 
 -- a check by this name, of no report
-abbrev by_name : PlainSettings → List ℕ → PlainChecking
-by_name settings name = record { settings = settings; certificate = name; report = None; update = None }
+abbrev by_name : PlainSettings → Bool → List ℕ → PlainChecking
+by_name settings brief name = record { settings = settings; certificate = name; report = None; update = None; brief = brief }
 
 abbrev alone : PlainProblem → List ℕ → PlainInputs
 alone case bytes = record { case = case; bytes = bytes; report = None }
 
-inputs_there : (files : List FileBytes) (settings : PlainSettings) (name : List ℕ) (case : PlainProblem) (bytes : List ℕ) → case_asked files settings ≡ Ok case
-    → certificate_named files name ≡ Ok bytes → inputs_asked files (by_name settings name) ≡ Ok (alone case bytes)
+inputs_there : (files : List FileBytes) (settings : PlainSettings) (brief : Bool) (name : List ℕ) (case : PlainProblem) (bytes : List ℕ) → case_asked files settings ≡ Ok case
+    → certificate_named files name ≡ Ok bytes → inputs_asked files (by_name settings brief name) ≡ Ok (alone case bytes)
 unfolding inputs_asked
-inputs_there files settings name case bytes read named = rw (read, named) refl
+inputs_there files settings brief name case bytes read named = rw (read, named) refl
 
-text_accepted : (settings : PlainSettings) (files : List FileBytes) (case : PlainProblem) (c : PlainCertificate) → case_asked files settings ≡ Ok case → Fits c → first_failure case c ≡ None
-    → length (text_of c) ≤ 1_073_741_824 → IsAcceptedLater settings files (text_of c)
+text_accepted : (settings : PlainSettings) (files : List FileBytes) (brief : Bool) (case : PlainProblem) (c : PlainAnyCertificate) → case_asked files settings ≡ Ok case → MayRead brief c → FitsIn c
+    → any_failure case c ≡ None → length (text_in c) ≤ 1_073_741_824 → IsAcceptedLater settings brief files (text_in c)
 unfolding outputs_checked
-text_accepted settings files case c read fits none short name later outside holds =
-    let bytes = text_of c in
+text_accepted settings files brief case c read may fits none short name later outside holds =
+    let bytes = text_in c in
     let asked = asked_again settings name bytes files later outside holds ∙ read in
-    let there = inputs_there later settings name case bytes asked (named_again name bytes files later holds short) in
-    outputs_made_from (λ inputs certificate. report_if_accepting (tells_of settings) inputs.case certificate.cells inputs.report >>= λ done. Ok (accepted_output ∷ []))
-    (inputs_asked later (by_name settings name)) (alone case bytes) c there (accepted_so case bytes c (ap said_or (reading_again c fits)) none)
+    let there = inputs_there later settings brief name case bytes asked (named_again name bytes files later holds short) in
+    outputs_made_from brief (λ inputs certificate. report_if_accepting (tells_of settings) inputs.case (cells_in certificate) inputs.report >>= λ done. Ok (accepted_output ∷ []))
+    (inputs_asked later (by_name settings brief name)) (alone case bytes) c there (accepted_so brief case bytes c (ap said_or (any_again brief c may fits)) none)
 
 -- ---- a certificate that is written
 
@@ -117,18 +123,33 @@ text_few case c run slots accepted fits cells =
 
 pub written_later : (problem : Problem) (settings : PlainSettings) (files : List FileBytes) (version : CertVersion) → IsOfRun (plain_problem problem) → Accepted (plain_problem problem) (written (plain_problem problem))
     → Accepted (plain_problem problem) (written_in version (plain_problem problem)) → first_failure (plain_problem problem) (written_in version (plain_problem problem)) ≡ None
-    → case_asked files settings ≡ Ok (plain_problem problem) → settings.limits ≡ USUAL → length (list_candidates (plain_problem problem)) ≤ settings.limits.leaves → IsAcceptedLater settings files (cert_bytes version (plain_problem problem))
+    → case_asked files settings ≡ Ok (plain_problem problem) → settings.limits ≡ USUAL → length (list_candidates (plain_problem problem)) ≤ settings.limits.leaves → IsAcceptedLater settings false files (text_of (written_in version (plain_problem problem)))
 written_later problem settings files version run first accepted none read usual leaves =
     let case = plain_problem problem in
     let c = written_in version case in
     let fits = written_in_fits version case run first in
     let cells : length c.cells ≤ 4_000_000 =
     subst (λ (ss : List PlainLeaf). length ss ≤ 4_000_000) (leaves_alike case ∙ sym (same_cells version case)) (subst (λ (l : PlainLimits). length (list_candidates case) ≤ l.leaves) usual leaves) in
-    text_accepted settings files case c read fits none (text_few case c run (usual_slots files settings case read usual) accepted fits cells)
+    text_accepted settings files false case (InFull c) read tt fits none (text_few case c run (usual_slots files settings case read usual) accepted fits cells)
+
+pub written_in_brief_later : (problem : Problem) (settings : PlainSettings) (files : List FileBytes) → IsOfRun (plain_problem problem) → Accepted (plain_problem problem) (written (plain_problem problem))
+    → AcceptedInBrief (plain_problem problem) (written_in_brief (plain_problem problem)) → first_failure_in_brief (plain_problem problem) (written_in_brief (plain_problem problem)) ≡ None
+    → case_asked files settings ≡ Ok (plain_problem problem) → settings.limits ≡ USUAL → length (list_candidates (plain_problem problem)) ≤ settings.limits.leaves
+    → IsAcceptedLater settings true files (brief_text (written_in_brief (plain_problem problem)))
+written_in_brief_later problem settings files run first accepted none read usual leaves =
+    let case = plain_problem problem in
+    let few : length (list_candidates case) ≤ 4_000_000 = subst (λ (l : PlainLimits). length (list_candidates case) ≤ l.leaves) usual leaves in
+    text_accepted settings files true case (InBrief (written_in_brief case)) read refl (written_in_brief_fits case run first accepted) none (written_in_brief_short case run first accepted few)
 
 -- ---- a certificate that is rewritten
 
-pub rewritten_later : (settings : PlainSettings) (files : List FileBytes) (case : PlainProblem) (c : PlainCertificate) → IsOfRun case → first_failure case (in_version_2 case c) ≡ None
-    → case_asked files settings ≡ Ok case → Fits c → length (text_of (in_version_2 case c)) ≤ 1_073_741_824 → IsAcceptedLater settings files (text_of (in_version_2 case c))
-rewritten_later settings files case c run none read fits short =
-    text_accepted settings files case (in_version_2 case c) read (in_version_2_fits case c run fits) none short
+-- what comes of an accepted one is accepted, and so has no failure; of one in full the case has no more objects than a run
+pub renewed_later : (settings : PlainSettings) (files : List FileBytes) (brief : Bool) (case : PlainProblem) (c : PlainAnyCertificate) → (length case.tracks ≤ 2000 → IsOfRun case)
+    → ((d : PlainCertificate) → Accepted case d → first_failure case (in_version_2 case d) ≡ None) → ((d : PlainBrief) → AcceptedInBrief case d → first_failure_in_brief case d ≡ None)
+    → case_asked files settings ≡ Ok case → MayRead brief c → IsAcceptedFor case c → FitsIn c → length (text_in (any_renewed case c)) ≤ 1_073_741_824
+    → IsAcceptedLater settings brief files (text_in (any_renewed case c))
+renewed_later settings files brief case (InFull c) run full in_brief read may accepted fits short =
+    let few : length case.tracks ≤ 2000 = subst (λ (n : ℕ). n ≤ 2000) accepted.objects (usual_few c.objects c.version fits.objects) in
+    text_accepted settings files brief case (InFull (in_version_2 case c)) read tt (in_version_2_fits case c (run few) fits) (full c accepted) short
+renewed_later settings files brief case (InBrief c) run full in_brief read may accepted fits short =
+    text_accepted settings files brief case (InBrief c) read may fits (in_brief c accepted) short

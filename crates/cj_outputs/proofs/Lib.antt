@@ -1,12 +1,16 @@
 pub mod AgainLemmas
 pub mod AcceptingLemmas
 pub mod BlocksFitLemmas
+pub mod BriefFitLemmas
+pub mod ByPairLemmas
 pub mod CellLemmas
 pub mod CertificateLemmas
 pub mod CheckLemmas
+pub mod EitherLemmas
 pub mod EndLemmas
 pub mod LaterLemmas
 pub mod MessageLemmas
+pub mod PairSortLemmas
 pub mod PutLemmas
 pub mod ReportTextLemmas
 pub mod ThinnedLemmas

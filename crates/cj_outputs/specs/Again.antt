@@ -24,7 +24,7 @@ pub record IsNoInput (settings : PlainSettings) (name : List ℕ) : Type 0 where
   pub suffix : has_suffix settings.suffix name ≡ false
   pub sizes : has_sizes settings.sizes name ≡ false
 
--- whatever its name, a check of such later files accepts it
-abbrev pub IsAcceptedLater : PlainSettings → List FileBytes → List ℕ → Type 0
-IsAcceptedLater settings files bytes = (name : List ℕ) (later : List FileBytes) → IsNoInput settings name → HoldAlso name bytes files later
-    → outputs_checked later (record { settings = settings; certificate = name; report = None; update = None }) ≡ Ok (accepted_output ∷ [])
+-- whatever its name, a check of such later files accepts it, which reads one in brief where that is asked
+abbrev pub IsAcceptedLater : PlainSettings → Bool → List FileBytes → List ℕ → Type 0
+IsAcceptedLater settings brief files bytes = (name : List ℕ) (later : List FileBytes) → IsNoInput settings name → HoldAlso name bytes files later
+    → outputs_checked later (record { settings = settings; certificate = name; report = None; update = None; brief = brief }) ≡ Ok (accepted_output ∷ [])

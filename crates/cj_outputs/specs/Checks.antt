@@ -7,13 +7,10 @@ use Rattle.cj_case.specs.Leaves.{PlainLeaf}
 use Rattle.cj_meet.specs.Closest.{HasNearest, closest_of}
 use Rattle.cj_meet.specs.Encounters.{encounters_of}
 use Rattle.cj_report.specs.Report.{report_of, told}
-use Rattle.cj_cert.specs.Accepted.{Accepted}
-use Rattle.cj_cert.specs.Certificates.{PlainCertificate}
-use Rattle.cj_cert_text.specs.Fits.{Fits}
 use Rattle.cj_cert.specs.Splits.{CellsSplit}
-use Rattle.cj_cert_text.specs.Texts.{text_of}
 use Rattle.cj_inputs.specs.CheckInputs.{certificate_named, report_named}
 use Rattle.cj_inputs.specs.Updates.{case_with_updates}
+use Rattle.cj_outputs.specs.Either.{PlainAnyCertificate, FitsIn, IsAcceptedFor, cells_in, text_in}
 use Rattle.cj_outputs.specs.Messages.{has_message}
 use Rattle.cj_outputs.specs.Outcome.{accepted_output, tells_of}
 use Rattle.cj_outputs.specs.SpanSplits.{SplitsTicks}
@@ -21,11 +18,11 @@ use Rattle.cj_report.specs.declared.tells.Tells.{Tells}
 
 -- The bytes are the text of a certificate that is accepted for a case, and its cells split the common ticks of every pair.
 pub record AcceptedText (case : PlainProblem) (bytes : List ℕ) : Type 0 where
-  pub certificate : PlainCertificate
-  pub text : bytes ≡ text_of certificate
-  pub fits : Fits certificate
-  pub accepted : Accepted case certificate
-  pub split : CellsSplit case certificate.cells
+  pub certificate : PlainAnyCertificate
+  pub text : bytes ≡ text_in certificate
+  pub fits : FitsIn certificate
+  pub accepted : IsAcceptedFor case certificate
+  pub split : CellsSplit case (cells_in certificate)
 
 -- The bytes are the report of a case with the encounters of these cells, the closest approach of each and whether it has a message. Their spans
 -- split the common ticks of every pair. Each pair is within its bound at its closest approach, and at no tick of the encounter more than one
@@ -49,7 +46,7 @@ pub record Vouches (checking : PlainChecking) (files : List FileBytes) : Type 0 
   pub bytes : List ℕ
   pub named : certificate_named files checking.certificate ≡ Ok bytes
   pub holds : AcceptedText case bytes
-  pub reported : IfSome checking.report (VouchesReport checking files case holds.certificate.cells)
+  pub reported : IfSome checking.report (VouchesReport checking files case (cells_in holds.certificate))
 
 -- the new output says so
 pub record IsChecked (checking : PlainChecking) (files old : List FileBytes) (new : Option (List FileBytes)) : Type 0 where

@@ -2,6 +2,8 @@ pub mod Again
 pub mod Changes
 pub mod Checks
 pub mod Differences
+pub mod Either
+pub mod EitherKept
 pub mod Findings
 pub mod Meetings
 pub mod Messages

@@ -1,5 +1,5 @@
 -- How a run over told files ends, and what it puts.
-use Rattle.std.specs.Prelude.{◌≡◌, ◌⊎◌, ℕ, false, nat_le, if◌then◌else◌, List, [], ◌∷◌, ◌++◌, filter, length, Option, Some, None, is_some, Result, Ok, Err, codes}
+use Rattle.std.specs.Prelude.{◌≡◌, ◌⊎◌, ℕ, Bool, false, nat_le, if◌then◌else◌, List, [], ◌∷◌, ◌++◌, filter, length, Option, Some, None, is_some, Result, Ok, Err, codes}
 use Rattle.std.specs.Fmt.{decimal}
 use Rattle.std.specs.Str.{bytes_eq}
 use Rattle.cj_io.specs.declared.file.FileBytes.{FileBytes}
@@ -24,18 +24,16 @@ use Rattle.cj_coverage.specs.Coverage.{uncovered_count}
 use Rattle.cj_report.specs.Report.{changed_of, report_of, told}
 use Rattle.cj_report.specs.Summary.{changed_summary, kept_line, summary_of, uncovered_line}
 use Rattle.cj_report.specs.declared.tells.Tells.{Tells}
-use Rattle.cj_cert.specs.Certificates.{PlainCertificate}
-use Rattle.cj_cert_text.specs.Reading.{Fault, reading}
-use Rattle.cj_cert_text.specs.Texts.{text_of}
-use Rattle.cj_blocks.specs.Rewritten.{in_version_2, written_in}
-use Rattle.cj_formats.specs.declared.cert_version.CertVersion.{CertVersion}
-use Rattle.cj_checker.specs.First.{first_failure, Failure}
+use Rattle.cj_cert_text.specs.Reading.{Fault}
+use Rattle.cj_formats.specs.declared.cert_format.CertFormat.{CertFormat}
+use Rattle.cj_checker.specs.First.{Failure}
 use Rattle.cj_status.specs.declared.status.Status.{Status}
 use Rattle.cj_status.specs.declared.status.Status.TheVariants as status
 use Rattle.cj_status.specs.declared.status.CertificateCause.TheVariants.{Text, Refused, Report}
 use Rattle.cj_status.specs.declared.status.LimitFault.TheVariants.{Cells}
 use Rattle.cj_status.specs.Steps.{◌>>=◌}
 use Rattle.cj_outputs.specs.Differences.{differing_line}
+use Rattle.cj_outputs.specs.Either.{PlainAnyCertificate, any_failure, any_reading, any_renewed, any_written, cells_in, text_in}
 use Rattle.cj_outputs.specs.Messages.{PlainOrigin, has_message, message_outputs}
 use Rattle.cj_outputs.specs.Summaries.{tally_with}
 use Rattle.cj_outputs.specs.Thinned.{outputs_thinned}
@@ -61,9 +59,9 @@ report_bytes tells case leaves =
     report_of case.first case.last case.threshold case.tracks (told tells.sizes case.sizes) tells.coverage
     (closest_of case) (has_message case) (encounters_of leaves)
 
--- its certificate in a version
-abbrev pub cert_bytes : CertVersion → PlainProblem → List ℕ
-cert_bytes version case = text_of (written_in version case)
+-- its certificate in a format
+abbrev pub cert_bytes : CertFormat → PlainProblem → List ℕ
+cert_bytes format case = text_in (any_written format case)
 
 -- its summary
 abbrev pub summary_bytes : PlainProblem → List PlainLeaf → List ℕ
@@ -91,15 +89,15 @@ abbrev pub uncovered_told : Tells → PlainProblem → List ℕ
 uncovered_told tells case = if tells.coverage then uncovered_line (uncovered_count case) else []
 
 -- the outputs of a case with these leaves: the report, the certificate, and those
-abbrev pub outputs_with : Tells → CertVersion → PlainOrigin → List ℕ → PlainProblem → List PlainLeaf → List FileBytes
-outputs_with tells version origin behind case leaves =
-    report_output (report_bytes tells case leaves) ∷ cert_output (cert_bytes version case)
+abbrev pub outputs_with : Tells → CertFormat → PlainOrigin → List ℕ → PlainProblem → List PlainLeaf → List FileBytes
+outputs_with tells format origin behind case leaves =
+    report_output (report_bytes tells case leaves) ∷ cert_output (cert_bytes format case)
     ∷ further_outputs origin (behind ++ uncovered_told tells case) case leaves
 
 -- the outputs of a case, where it has at most so many leaves, with these lines behind the summary
-unfoldable pub outputs_within : ℕ → Tells → CertVersion → PlainOrigin → List ℕ → PlainProblem → Result (List FileBytes) Status
-outputs_within limit tells version origin behind case =
-    within_cells limit (list_candidates case) >>= λ leaves. Ok (outputs_with tells version origin behind case leaves)
+unfoldable pub outputs_within : ℕ → Tells → CertFormat → PlainOrigin → List ℕ → PlainProblem → Result (List FileBytes) Status
+outputs_within limit tells format origin behind case =
+    within_cells limit (list_candidates case) >>= λ leaves. Ok (outputs_with tells format origin behind case leaves)
 
 -- what the report is to tell
 abbrev pub tells_of : PlainSettings → Tells
@@ -113,7 +111,7 @@ origin_of now screening = record { created = now; originator = screening.origina
 unfoldable pub outputs_screened : List FileBytes → ℕ → PlainScreening → Result (List FileBytes) Status
 outputs_screened files now screening = do
   case ← case_covered files screening.settings
-  outputs_within screening.cells (tells_of screening.settings) screening.version (origin_of now screening) [] case
+  outputs_within screening.cells (tells_of screening.settings) screening.format (origin_of now screening) [] case
 
 -- ---- screening again
 
@@ -123,10 +121,10 @@ kept_unchanged old new = length (filter (is_kept_unchanged old new) (pairs_of (l
 
 -- the outputs of the new case, where it and the old one have at most so many leaves each: behind the summary stands how many pairs are kept and
 -- unchanged
-unfoldable pub outputs_again : ℕ → Tells → CertVersion → PlainOrigin → PlainProblem → PlainProblem → Result (List FileBytes) Status
-outputs_again limit tells version origin old new = do
+unfoldable pub outputs_again : ℕ → Tells → CertFormat → PlainOrigin → PlainProblem → PlainProblem → Result (List FileBytes) Status
+outputs_again limit tells format origin old new = do
   base ← within_cells limit (list_candidates old)
-  outputs_within limit tells version origin (kept_line (kept_unchanged old new)) new
+  outputs_within limit tells format origin (kept_line (kept_unchanged old new)) new
 
 -- the leaves of the new case of those pairs alone that are not unchanged
 unfoldable pub list_anew : PlainProblem → PlainProblem → List PlainLeaf
@@ -156,7 +154,7 @@ outputs_changed limit tells old new =
 abbrev pub outputs_updated : ℕ → PlainRescreening → PlainUpdating → Result (List FileBytes) Status
 outputs_updated now asked cases =
     if asked.changed then outputs_changed asked.screening.cells (tells_of asked.screening.settings) cases.base cases.new
-    else outputs_again asked.screening.cells (tells_of asked.screening.settings) asked.screening.version (origin_of now asked.screening) cases.base cases.new
+    else outputs_again asked.screening.cells (tells_of asked.screening.settings) asked.screening.format (origin_of now asked.screening) cases.base cases.new
 
 -- the outputs of a screening again at this tick, or the first cause for which there is none
 unfoldable pub outputs_rescreened : List FileBytes → ℕ → PlainRescreening → Result (List FileBytes) Status
@@ -179,7 +177,7 @@ abbrev pub accepted_output : FileBytes
 accepted_output = output (codes "-") (codes "ACCEPTED" ++ 10 ∷ [])
 
 -- what a text says as a certificate
-abbrev pub said_or : Result PlainCertificate Fault → Result PlainCertificate Status
+abbrev pub said_or : Result PlainAnyCertificate Fault → Result PlainAnyCertificate Status
 said_or (Ok certificate) = Ok certificate
 said_or (Err fault) = Err (status.NotAccepted fault.line (Text fault.cause))
 
@@ -188,11 +186,12 @@ abbrev pub none_of : Option Failure → Result (Unit {0}) Status
 none_of None = Ok tt
 none_of (Some failure) = Err (status.NotAccepted failure.line (Refused failure.cause))
 
--- the certificate that the bytes are, which is accepted for the case, or the first cause for which there is none
-unfoldable pub accepting : PlainProblem → List ℕ → Result PlainCertificate Status
-accepting case bytes = do
-  certificate ← said_or (reading bytes)
-  done ← none_of (first_failure case certificate)
+-- the certificate that the bytes are, which may be in brief where that is asked, and is accepted for the case, or the first cause for which there
+-- is none
+unfoldable pub accepting : Bool → PlainProblem → List ℕ → Result PlainAnyCertificate Status
+accepting brief case bytes = do
+  certificate ← said_or (any_reading brief bytes)
+  done ← none_of (any_failure case certificate)
   Ok certificate
 
 -- the bytes are a text, or the line in which they first differ from it
@@ -212,20 +211,20 @@ report_if_accepting tells case cells (Some bytes) = report_accepting tells case 
 unfoldable pub outputs_checked : List FileBytes → PlainChecking → Result (List FileBytes) Status
 outputs_checked files checking = do
   inputs ← inputs_asked files checking
-  certificate ← accepting inputs.case inputs.bytes
-  done ← report_if_accepting (tells_of checking.settings) inputs.case certificate.cells inputs.report
+  certificate ← accepting checking.brief inputs.case inputs.bytes
+  done ← report_if_accepting (tells_of checking.settings) inputs.case (cells_in certificate) inputs.report
   Ok (accepted_output ∷ [])
 
 -- the outputs of a certificate that is rewritten: its text, and for standard output that it is
-abbrev pub outputs_renewed : PlainCertificate → List FileBytes
-outputs_renewed certificate = output (codes "screen.cert2") (text_of certificate) ∷ output (codes "-") (codes "REWRITTEN" ++ 10 ∷ []) ∷ []
+abbrev pub outputs_renewed : PlainAnyCertificate → List FileBytes
+outputs_renewed certificate = output (codes "screen.cert2") (text_in certificate) ∷ output (codes "-") (codes "REWRITTEN" ++ 10 ∷ []) ∷ []
 
--- the outputs of the certificate that is named in version 2, or the first cause for which there are none
+-- the outputs of the certificate that is named, one in full in version 2, or the first cause for which there are none
 unfoldable pub outputs_rewritten : List FileBytes → PlainChecking → Result (List FileBytes) Status
 outputs_rewritten files checking = do
   inputs ← inputs_asked files checking
-  certificate ← accepting inputs.case inputs.bytes
-  Ok (outputs_renewed (in_version_2 inputs.case certificate))
+  certificate ← accepting checking.brief inputs.case inputs.bytes
+  Ok (outputs_renewed (any_renewed inputs.case certificate))
 
 -- the settings by which a made-up catalogue is screened: over its whole span, within the usual limits
 abbrev pub settings_of_selfrun : PlainSelfrun → PlainSettings

@@ -1,6 +1,6 @@
 //! In what a certificate differs from the case for which it is checked. What is told is no part of any clause.
+use crate::any_certificate::Stated;
 use cj_case::Problem;
-use cj_cert::Certificate;
 use cj_formats::CheckCause;
 use cj_io::{Difference, Differing, Gate};
 
@@ -8,46 +8,46 @@ use cj_io::{Difference, Differing, Gate};
 pub fn tell_differences<G: Gate>(
     gate: &G,
     problem: &Problem,
-    certificate: &Certificate,
+    stated: Stated<'_>,
     cause: CheckCause,
 ) {
     if cause == CheckCause::Header || cause == CheckCause::SizeOf {
-        tell_head(gate, problem, certificate);
-        tell_size(gate, problem, certificate);
+        tell_head(gate, problem, stated);
+        tell_size(gate, problem, stated);
     }
 }
 
-fn tell_head<G: Gate>(gate: &G, problem: &Problem, certificate: &Certificate) {
+fn tell_head<G: Gate>(gate: &G, problem: &Problem, stated: Stated<'_>) {
     tell_if(
         gate,
         Differing::Start,
-        certificate.window.first.micros,
+        stated.window.first.micros,
         problem.window.first.micros,
     );
     tell_if(
         gate,
         Differing::Stop,
-        certificate.window.last.micros,
+        stated.window.last.micros,
         problem.window.last.micros,
     );
     tell_if(
         gate,
         Differing::Threshold,
-        certificate.threshold,
+        stated.threshold,
         problem.threshold,
     );
     tell_if(
         gate,
         Differing::Objects,
-        u64::from(certificate.objects),
+        u64::from(stated.objects),
         problem.tracks.as_slice().len() as u64,
     );
 }
 
 /// Tells the first size that a line states otherwise.
-fn tell_size<G: Gate>(gate: &G, problem: &Problem, certificate: &Certificate) {
+fn tell_size<G: Gate>(gate: &G, problem: &Problem, stated: Stated<'_>) {
     let sizes = problem.sizes.as_slice();
-    for line in &certificate.sizes {
+    for line in stated.sizes {
         match sizes.get(line.object as usize) {
             Some(size) if *size != line.size => {
                 let object = u64::from(line.object) + 1;

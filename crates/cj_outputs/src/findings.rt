@@ -22,6 +22,8 @@ pub struct Findings {
     pub measured: Measured,
     /// The leaves of all candidates, in order of pair and time.
     pub leaves: Vec<Leaf>,
+    /// Where the certificate is in brief, those of the roots that are not far throughout, in order of slot, pair and time; else none.
+    pub told: Vec<Leaf>,
     /// The encounters of the leaves.
     pub encounters: Vec<Encounter>,
     /// The closest approach of each encounter.

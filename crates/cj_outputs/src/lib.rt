@@ -2,6 +2,7 @@
 //! beside it, are judged, and how one is written anew.
 #![tactic(auto)]
 
+mod any_certificate;
 mod catalogues;
 mod changes;
 mod checking;
@@ -20,6 +21,7 @@ mod thinning;
 mod vouching;
 mod wanted;
 
+pub use any_certificate::AnyCertificate;
 pub use catalogues::put_catalogue;
 pub use changes::{Changes, put_changes};
 pub use checking::check_certificate;

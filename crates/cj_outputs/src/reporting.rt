@@ -3,6 +3,7 @@ ghost use Rattle.std.specs.Prelude.{◌≡◌, ◌≤◌, List, [], ◌∷◌, �
 ghost use Rattle.cj_io.specs.Faults.{Rose};
 ghost use Rattle.cj_io.specs.Parts.{joined};
 ghost use Rattle.cj_io.specs.declared.file.FileBytes.{FileBytes};
+ghost use Rattle.cj_formats.specs.declared.cert_format.CertFormat.TheVariants.{Full, Brief};
 ghost use Rattle.cj_formats.specs.declared.cert_version.CertVersion.TheVariants.{One, Two};
 ghost use Rattle.cj_cert.specs.Certificates.{plain_certificate};
 ghost use Rattle.cj_blocks.specs.Rewritten.{written_in};
@@ -19,9 +20,10 @@ use crate::messages::put_messages;
 use crate::origin::Origin;
 use crate::putting::{put, put_made, put_parts};
 use cj_blocks::certificate_in_blocks;
+use cj_brief::certificate_in_brief;
 use cj_cert::Certificate;
-use cj_cert_text::{CertificateText, cert_parts};
-use cj_formats::CertVersion;
+use cj_cert_text::{CertificateText, brief_parts, cert_parts};
+use cj_formats::{CertFormat, CertVersion};
 use cj_io::{Shelf, StreamShelf};
 use cj_report::{Tells, push_kept, report_text, summary_text};
 use cj_sieve::kept_pairs;
@@ -71,7 +73,7 @@ fn put_report<S: Shelf>(alloc: Global, shelf: &mut S, found: &Findings) -> Resul
     put(alloc, shelf, b"screen.report", &report)
 }
 
-/// Puts the certificate in the version that was asked.
+/// Puts the certificate in the format that was asked.
 fn put_certificate<R: Threads + Sync, S: StreamShelf>(
     rt: &R,
     alloc: Global,
@@ -84,13 +86,17 @@ fn put_certificate<R: Threads + Sync, S: StreamShelf>(
     ensures leaves { (old : List FileBytes) → S.outputs shelf.old ≡ Some old → Leaves (ended result) (Ok (cert_in found.now ∷ [])) old (S.outputs shelf.new) }
     ensures later { S.faults shelf.old ≤ S.faults shelf.new }
 {
-    match found.wanted.version {
-        CertVersion::One => {
+    match found.wanted.format {
+        CertFormat::Full(CertVersion::One) => {
             let mut text = certificate_text(alloc, found)?;
             put_made(rt, alloc, shelf, b"screen.cert", &mut text)
         }
-        CertVersion::Two => {
+        CertFormat::Full(CertVersion::Two) => {
             let parts = parts_by_blocks(rt, alloc, found)?;
+            put_parts(alloc, shelf, b"screen.cert", &parts)
+        }
+        CertFormat::Brief => {
+            let parts = parts_in_brief(rt, alloc, found)?;
             put_parts(alloc, shelf, b"screen.cert", &parts)
         }
     }
@@ -99,7 +105,7 @@ fn put_certificate<R: Threads + Sync, S: StreamShelf>(
 /// The text of the certificate in version 1, which is still to be made.
 fn certificate_text(alloc: Global, found: &Findings) -> Result<CertificateText<'_>, AllocError>
     requires { AreFound found.now }
-    ensures { IfOk result (λ text. text_left text ≡ cert_bytes One (case_in found.now)) }
+    ensures { IfOk result (λ text. text_left text ≡ cert_bytes (Full One) (case_in found.now)) }
 {
     let Findings {
         problem,
@@ -118,10 +124,31 @@ fn parts_by_blocks<R: Threads + Sync>(
     found: &Findings,
 ) -> Result<Vec<Vec<u8>>, AllocError>
     requires { AreFound found.now }
-    ensures { IfOk result (λ parts. joined parts.items ≡ cert_bytes Two (case_in found.now)) }
+    ensures { IfOk result (λ parts. joined parts.items ≡ cert_bytes (Full Two) (case_in found.now)) }
 {
     let certificate = certificate_by_blocks(alloc, found)?;
     cert_parts(rt, alloc, &certificate, found.wanted.workers)
+}
+
+/// The text of the certificate in brief, in parts.
+fn parts_in_brief<R: Threads + Sync>(
+    rt: &R,
+    alloc: Global,
+    found: &Findings,
+) -> Result<Vec<Vec<u8>>, AllocError>
+    requires found { AreFound found.now }
+    requires brief { found.now.wanted.format ≡ Brief }
+    ensures { IfOk result (λ parts. joined parts.items ≡ cert_bytes Brief (case_in found.now)) }
+{
+    let Findings {
+        problem,
+        wanted,
+        measured,
+        told,
+        ..
+    } = found;
+    let certificate = certificate_in_brief(alloc, problem, &measured.shells, told)?;
+    brief_parts(rt, alloc, &certificate, wanted.workers)
 }
 
 /// The certificate in version 2, with blocks by the pairs that are kept.

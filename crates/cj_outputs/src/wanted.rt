@@ -2,7 +2,7 @@ ghost use Rattle.std.specs.Prelude.{◌≤◌};
 ghost use Rattle.cj_base.specs.Bounds.{MOST_LEAVES};
 
 use crate::reporting::tells_of;
-use cj_formats::CertVersion;
+use cj_formats::CertFormat;
 use cj_report::Tells;
 use cj_words::Screening;
 
@@ -11,8 +11,8 @@ use cj_words::Screening;
 pub struct Wanted {
     /// What the report tells beside the encounters.
     pub tells: Tells,
-    /// The version of the certificate.
-    pub version: CertVersion,
+    /// How the certificate is written.
+    pub format: CertFormat,
     /// How many workers search, and make the texts, from 1 to 16.
     pub workers: u32,
     /// The greatest number of leaves.
@@ -30,13 +30,13 @@ impl Wanted {
     /// What a screening wants.
     pub fn of(screening: &Screening) -> Wanted
         ensures tells { result.tells ≡ spec.tells_of (plain_settings screening.now.settings) }
-        ensures version { result.version ≡ screening.now.version }
+        ensures format { result.format ≡ screening.now.format }
         ensures workers { result.workers ≡ screening.now.workers }
         ensures leaves { result.leaves ≡ screening.now.cells }
     {
         Wanted {
             tells: tells_of(&screening.settings),
-            version: screening.version,
+            format: screening.format,
             workers: screening.workers,
             leaves: screening.cells,
         }

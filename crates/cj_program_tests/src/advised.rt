@@ -7,7 +7,7 @@ use cj_advice::{
 };
 use cj_base::{Limits, Tick};
 use cj_epoch::EpochFault;
-use cj_formats::{CheckCause, OemCause, SizesCause};
+use cj_formats::{CertCause, CheckCause, OemCause, SizesCause};
 use cj_host::{Notice, asked_notice, notice_text};
 use cj_io::Name;
 use cj_kvn::KvnCause;
@@ -120,7 +120,7 @@ fn hint_of(alloc: Global, line: &str) -> Result<Vec<u8>, AllocError> {
     hint_text(alloc, &Status::Usage(UsageFault::Words), Some(&words))
 }
 
-const SLIPS: [(&str, &[u8]); 30] = [
+const SLIPS: [(&str, &[u8]); 32] = [
     (
         "screen . --treshold 1000",
         b"hint: --treshold is no option of screen; nearest: --threshold\nhint: conj screen --help lists its options\n",
@@ -160,6 +160,14 @@ const SLIPS: [(&str, &[u8]); 30] = [
     (
         "rescreen . --from 2025-01-01T00:00:00 --to 2025-01-01T00:00:00 --rtn --changed",
         b"hint: --rtn does not stand beside --changed\nhint: changed pairs alone have no messages and no certificate\n",
+    ),
+    (
+        "rescreen . --from 2025-01-01T00:00:00 --to 2025-01-01T00:00:00 --changed --brief",
+        b"hint: --brief does not stand beside --changed\nhint: changed pairs alone have no messages and no certificate\n",
+    ),
+    (
+        "check . --brief=1",
+        b"hint: --brief has no value\nhint: write it alone\n",
     ),
     (
         "rescreen . --changed=1",
@@ -317,7 +325,7 @@ fn status_of(alloc: Global, cause: Cause) -> Result<Status, AllocError> {
             line: 1,
             cause: cause_for(reason),
         },
-        Cause::Certificate(cause) => Status::NotAccepted { line: 1, cause },
+        Cause::Certificate(cause) => Status::NotAccepted { line: 5, cause },
         Cause::Limit(limit) => Status::Limit(fault_of(alloc, limit)?),
         Cause::ReadFault => Status::ReadFault,
         Cause::WriteFault => Status::WriteFault,
@@ -417,6 +425,35 @@ fn a_header_is_told_by_its_line(rt: HostRuntime) {
     }
 }
 
+/// The certificate in brief that a run wrote with `--brief` has a first line of no version that is read without it.
+#[test]
+fn a_version_that_is_not_read_is_told_at_the_first_line(rt: HostRuntime) {
+    for (line, due) in [
+        (
+            1,
+            b"hint: the certificate is of no version that is read here
+hint: give --brief where the run had it, else take the certificate anew
+"
+                .as_slice(),
+        ),
+        (
+            2,
+            b"hint: no line of a certificate may stand here so
+hint: take the certificate anew from who made it: it is not as written
+"
+                .as_slice(),
+        ),
+    ] {
+        let status = Status::NotAccepted {
+            line,
+            cause: CertificateCause::Text(CertCause::Form),
+        };
+        let hint = hint_text(rt.alloc(), &status, None).expect(&rt, "no fault");
+        assert!(rt; is_of_lines(&hint) && fits(&hint), "{line}");
+        assert_eq!(rt; hint.as_slice(), due, "{line}");
+    }
+}
+
 /// The option behind this one where values are judged: a new option has to be given its place here, or nothing compiles.
 fn option_behind(option: Opt) -> Option<Opt> {
     match option {
@@ -441,7 +478,8 @@ fn option_behind(option: Opt) -> Option<Opt> {
         Opt::CertDir => Some(Opt::Rtn),
         Opt::Rtn => Some(Opt::Coverage),
         Opt::Coverage => Some(Opt::MustCover),
-        Opt::MustCover => Some(Opt::Within),
+        Opt::MustCover => Some(Opt::Brief),
+        Opt::Brief => Some(Opt::Within),
         Opt::Within => Some(Opt::Warnings),
         Opt::Warnings => Some(Opt::AllFaults),
         Opt::AllFaults => None,
@@ -596,7 +634,7 @@ fn the_help_of_a_command_and_the_version_as_they_are_shown(rt: HostRuntime) {
         b"502.0-B-2".as_slice(),
         b"508.0-B-1".as_slice(),
         b"KVN".as_slice(),
-        b"CONJ-CERT 1 and 2".as_slice(),
+        b"CONJ-CERT 1, 2 and 3".as_slice(),
         b"CONJ-REPORT 1".as_slice(),
         b"CONJ-CHANGED 1".as_slice(),
     ] {

@@ -8,7 +8,7 @@ use crate::usage_faults::{
 };
 use cj_base::{Limits, Tick};
 use cj_epoch::read_epoch;
-use cj_formats::CertVersion;
+use cj_formats::{CertFormat, CertVersion};
 use cj_words::{
     Checking, Command, Opt, Rescreening, Screening, Settings, option_name, read_command,
 };
@@ -47,7 +47,7 @@ fn what_is_asked_of_a_screening_again(rt: HostRuntime) {
                     workers: 1,
                     originator: b"CONJ",
                     cells: 4_000_000,
-                    version: CertVersion::One,
+                    format: CertFormat::Full(CertVersion::One),
                     rtn: false,
                 },
                 update: b".new",
@@ -62,7 +62,7 @@ fn what_is_asked_of_a_screening_again(rt: HostRuntime) {
                     workers: 16,
                     originator: b"CONJ",
                     cells: 4_000_000,
-                    version: CertVersion::One,
+                    format: CertFormat::Full(CertVersion::One),
                     rtn: false,
                 },
                 update: b"~",
@@ -77,7 +77,7 @@ fn what_is_asked_of_a_screening_again(rt: HostRuntime) {
                     workers: 1,
                     originator: b"ME",
                     cells: 7,
-                    version: CertVersion::Two,
+                    format: CertFormat::Full(CertVersion::Two),
                     rtn: true,
                 },
                 update: b".oem.new",
@@ -112,6 +112,7 @@ fn what_is_asked_of_updates_of_a_certificate(rt: HostRuntime) {
         certificate: b"screen.cert",
         report: None,
         update: Some(b".new"),
+        brief: false,
     };
     let check = words(rt.alloc(), "check . --update .new").expect(&rt, "no fault");
     assert_eq!(rt; read_command(&check), Ok(Command::Check(checking)));

@@ -2,7 +2,7 @@
 use crate::lines::words;
 use cj_base::{Limits, Tick};
 use cj_epoch::read_epoch;
-use cj_formats::CertVersion;
+use cj_formats::{CertFormat, CertVersion};
 use cj_words::{
     Checking, Command, Opt, Recipe, Screening, Selfrun, Settings, Thinning, UsageFault,
     option_name, read_command,
@@ -53,7 +53,7 @@ fn what_is_left_out(rt: HostRuntime) {
                 workers: 1,
                 originator: b"CONJ",
                 cells: 4_000_000,
-                version: CertVersion::One,
+                format: CertFormat::Full(CertVersion::One),
                 rtn: false,
             }),
         ),
@@ -64,6 +64,7 @@ fn what_is_left_out(rt: HostRuntime) {
                 certificate: b"screen.cert",
                 report: None,
                 update: None,
+                brief: false,
             }),
         ),
         (
@@ -73,6 +74,7 @@ fn what_is_left_out(rt: HostRuntime) {
                 certificate: b"screen.cert",
                 report: None,
                 update: None,
+                brief: false,
             }),
         ),
         ("generate .", Command::Generate(USUAL_RECIPE)),
@@ -121,7 +123,7 @@ fn all_that_can_be_asked_of_a_screening(rt: HostRuntime) {
         workers: 16,
         originator: b"MY_site-1",
         cells: 9,
-        version: CertVersion::Two,
+        format: CertFormat::Full(CertVersion::Two),
         rtn: true,
     };
     assert_eq!(rt; read_command(&words), Ok(Command::Screen(screening)));
@@ -147,6 +149,7 @@ fn all_that_can_be_asked_of_a_check(rt: HostRuntime) {
         certificate: b"other.cert",
         report: Some(b"other.report"),
         update: None,
+        brief: false,
     };
     assert_eq!(rt; read_command(&words), Ok(Command::Check(checking)));
 }
@@ -253,6 +256,103 @@ fn what_is_asked_of_coverage(rt: HostRuntime) {
 }
 
 #[test]
+fn a_certificate_is_written_in_brief_where_that_is_asked(rt: HostRuntime) {
+    let cases = [
+        ("screen .", CertFormat::Full(CertVersion::One)),
+        (
+            "screen . --cert-version 1",
+            CertFormat::Full(CertVersion::One),
+        ),
+        (
+            "screen . --cert-version=2",
+            CertFormat::Full(CertVersion::Two),
+        ),
+        ("screen . --brief", CertFormat::Brief),
+        ("screen . --rtn --brief --out new", CertFormat::Brief),
+        (
+            "rescreen . --from 2025-01-01T00:00:00 --brief --to 2025-01-01T00:01:00",
+            CertFormat::Brief,
+        ),
+        (
+            "rescreen . --from 2025-01-01T00:00:00 --to 2025-01-01T00:01:00",
+            CertFormat::Full(CertVersion::One),
+        ),
+    ];
+    for (line, format) in cases {
+        let words = words(rt.alloc(), line).expect(&rt, "no fault");
+        let asked = match read_command(&words) {
+            Ok(Command::Screen(screening)) => Some(screening.format),
+            Ok(Command::Rescreen(rescreening)) => Some(rescreening.screening.format),
+            _ => None,
+        };
+        assert_eq!(rt; asked, Some(format), "{line}");
+    }
+}
+
+#[test]
+fn a_certificate_is_read_in_brief_where_that_is_asked(rt: HostRuntime) {
+    let cases = [
+        ("check .", false),
+        ("check . --report screen.report", false),
+        ("check . --brief", true),
+        ("check . --update .new --brief --cert a.cert", true),
+        ("rewrite .", false),
+        ("rewrite . --brief", true),
+        ("rewrite . --brief --out new", true),
+    ];
+    for (line, brief) in cases {
+        let words = words(rt.alloc(), line).expect(&rt, "no fault");
+        let asked = match read_command(&words) {
+            Ok(Command::Check(checking) | Command::Rewrite(checking)) => Some(checking.brief),
+            _ => None,
+        };
+        assert_eq!(rt; asked, Some(brief), "{line}");
+    }
+}
+
+#[test]
+fn where_nothing_may_be_asked_in_brief(rt: HostRuntime) {
+    for line in [
+        "generate . --brief",
+        "selfrun --brief",
+        "thin . --brief",
+        "screen . --brief=yes",
+        "screen . --brief yes",
+        "screen . --brief --brief",
+        "check . --brief --brief",
+        "check . --brief --cert-version 2",
+        "rescreen . --from 2025-01-01T00:00:00 --to 2025-01-01T00:01:00 --changed --brief",
+        "rescreen . --brief",
+    ] {
+        let words = words(rt.alloc(), line).expect(&rt, "no fault");
+        assert_eq!(rt; read_command(&words), Err(UsageFault::Words), "{line}");
+    }
+}
+
+/// Command lines that ask for a certificate in brief and for a version of one, and the first option whose value is out of its range.
+const BRIEF_IN_A_VERSION: [(&str, Opt); 6] = [
+    ("screen . --brief --cert-version 1", Opt::CertVersion),
+    ("screen . --cert-version 2 --brief", Opt::CertVersion),
+    ("screen . --brief --cert-version 3", Opt::CertVersion),
+    // It is told where the version stands in the order of the options: behind these, and before those.
+    ("screen . --brief --cert-version 1 --sizes /", Opt::Sizes),
+    ("screen . --brief --cert-version 1 --cells 0", Opt::Cells),
+    (
+        "rescreen . --from 2025-01-01T00:00:00 --to 2025-01-01T00:01:00 --update / --brief --cert-version 1",
+        Opt::CertVersion,
+    ),
+];
+
+#[test]
+fn no_version_is_asked_beside_a_certificate_in_brief(rt: HostRuntime) {
+    for (line, option) in BRIEF_IN_A_VERSION {
+        let words = words(rt.alloc(), line).expect(&rt, "no fault");
+        let due = Err(UsageFault::Value { option });
+        assert_eq!(rt; read_command(&words), due, "{line}");
+    }
+}
+
+#[test]
 fn the_names_of_fault_lines(rt: HostRuntime) {
     assert_eq!(rt; option_name(Opt::Suffix), b"--suffix".as_slice());
     assert_eq!(rt; option_name(Opt::AsHermite3), b"--as-hermite3".as_slice());
@@ -269,6 +369,7 @@ fn the_names_of_fault_lines(rt: HostRuntime) {
     assert_eq!(rt; option_name(Opt::Within), b"--within".as_slice());
     assert_eq!(rt; option_name(Opt::Coverage), b"--coverage".as_slice());
     assert_eq!(rt; option_name(Opt::MustCover), b"--must-cover".as_slice());
+    assert_eq!(rt; option_name(Opt::Brief), b"--brief".as_slice());
 }
 
 #[test]

@@ -3,7 +3,7 @@ use Rattle.std.proofs.Common.{◌≡◌, ℕ, Bool, true, false, cond, List, Res
 use Rattle.std.specs.Prelude.{All, IfErr, nat_le}
 use Rattle.cj_base.specs.declared.tick.Tick.{Tick}
 use Rattle.cj_io.specs.declared.file.FileBytes.{FileBytes}
-use Rattle.cj_formats.specs.declared.cert_version.CertVersion.{CertVersion}
+use Rattle.cj_formats.specs.declared.cert_format.CertFormat.{CertFormat}
 use Rattle.cj_case.specs.PlainProblems.{PlainProblem}
 use Rattle.cj_case.specs.Problems.{plain_problem}
 use Rattle.cj_case.specs.Leaves.{PlainLeaf}
@@ -131,37 +131,37 @@ module _ (rescreening : Rescreening) (updating : Updating) (now : ℕ) (wanted :
 -- ---- all outputs
 
 -- only a limit ends what is due
-again_limits : (most : ℕ) (tells : Tells) (version : CertVersion) (origin : PlainOrigin) (old new : PlainProblem) → IfErr (outputs_again most tells version origin old new) IsLimit
+again_limits : (most : ℕ) (tells : Tells) (format : CertFormat) (origin : PlainOrigin) (old new : PlainProblem) → IfErr (outputs_again most tells format origin old new) IsLimit
 unfolding outputs_again
-again_limits most tells version origin old new = by_base (nat_le (length (list_candidates old)) most)
+again_limits most tells format origin old new = by_base (nat_le (length (list_candidates old)) most)
   where
     due : Result (List FileBytes) Status
-    due = outputs_within most tells version origin (kept_line (kept_unchanged old new)) new
+    due = outputs_within most tells format origin (kept_line (kept_unchanged old new)) new
 
     by_base : (b : Bool) → IfErr (cond b (Ok (list_candidates old)) (Err (status.Limit (limit.Cells most))) >>= λ base. due) IsLimit
-    by_base true = within_limits_of most tells version origin (kept_line (kept_unchanged old new)) new
+    by_base true = within_limits_of most tells format origin (kept_line (kept_unchanged old new)) new
     by_base false = tt
 
-again_ends : (most : ℕ) (tells : Tells) (version : CertVersion) (origin : PlainOrigin) (old new : PlainProblem) (s : Status)
-    → Stops ⊥ s (outputs_again most tells version origin old new) → ComesOfSelfrun s
-again_ends most tells version origin old new s stops = comes_of_selfrun {X = List FileBytes} ⊥ (λ outputs. outputs) (Err s) (outputs_again most tells version origin old new) (λ none. none) stops (again_limits most tells version origin old new)
+again_ends : (most : ℕ) (tells : Tells) (format : CertFormat) (origin : PlainOrigin) (old new : PlainProblem) (s : Status)
+    → Stops ⊥ s (outputs_again most tells format origin old new) → ComesOfSelfrun s
+again_ends most tells format origin old new s stops = comes_of_selfrun {X = List FileBytes} ⊥ (λ outputs. outputs) (Err s) (outputs_again most tells format origin old new) (λ none. none) stops (again_limits most tells format origin old new)
 
 module _ (rescreening : Rescreening) (updating : Updating) (wanted : Wanted) (is : rescreening.changed ≡ false)
-    (tells : wanted.tells ≡ tells_of (plain_settings rescreening.screening.settings)) (of_version : wanted.version ≡ rescreening.screening.version)
+    (tells : wanted.tells ≡ tells_of (plain_settings rescreening.screening.settings)) (of_format : wanted.format ≡ rescreening.screening.format)
     (leaves : wanted.leaves ≡ rescreening.screening.cells) where
   all_theirs : (now : ℕ) → outputs_updated now (plain_rescreening rescreening) (plain_updating updating)
-      ≡ outputs_again wanted.leaves wanted.tells wanted.version (origin_of now (plain_screening rescreening.screening)) (plain_problem updating.base) (plain_problem updating.new)
+      ≡ outputs_again wanted.leaves wanted.tells wanted.format (origin_of now (plain_screening rescreening.screening)) (plain_problem updating.base) (plain_problem updating.new)
   all_theirs now =
       let old = plain_problem updating.base in
       let new = plain_problem updating.new in
       let origin = origin_of now (plain_screening rescreening.screening) in
       let asked = tells_of (plain_settings rescreening.screening.settings) in
-      rw is (ap (λ (n : ℕ). outputs_again n asked rescreening.screening.version origin old new) (sym leaves)
-      ∙ ap (λ (t : Tells). outputs_again wanted.leaves t rescreening.screening.version origin old new) (sym tells)
-      ∙ ap (λ (v : CertVersion). outputs_again wanted.leaves wanted.tells v origin old new) (sym of_version))
+      rw is (ap (λ (n : ℕ). outputs_again n asked rescreening.screening.format origin old new) (sym leaves)
+      ∙ ap (λ (t : Tells). outputs_again wanted.leaves t rescreening.screening.format origin old new) (sym tells)
+      ∙ ap (λ (v : CertFormat). outputs_again wanted.leaves wanted.tells v origin old new) (sym of_format))
 
   pub all_found : (now : Tick) (found : Findings) (origin : Origin) → plain_origin origin ≡ origin_of now.micros (plain_screening rescreening.screening)
-      → ((o : PlainOrigin) → outputs_again wanted.leaves wanted.tells wanted.version o (plain_problem updating.base) (plain_problem updating.new) ≡ Ok (outputs_in o found))
+      → ((o : PlainOrigin) → outputs_again wanted.leaves wanted.tells wanted.format o (plain_problem updating.base) (plain_problem updating.new) ≡ Ok (outputs_in o found))
       → AreFound found
       → ((settings : PlainSettings) → wanted.tells ≡ tells_of settings → ReportsOf settings (plain_problem updating.new) (report_in found).bytes (cert_in found).bytes)
       → summary_in found ≡ summary_with (kept_line (kept_unchanged (plain_problem updating.base) (plain_problem updating.new)) ++ uncovered_told wanted.tells (plain_problem updating.new))
@@ -192,7 +192,7 @@ module _ (rescreening : Rescreening) (updating : Updating) (wanted : Wanted) (is
       }
 
   pub all_fail : (now : ℕ) (s : Status)
-      → ((o : PlainOrigin) → Stops ⊥ s (outputs_again wanted.leaves wanted.tells wanted.version o (plain_problem updating.base) (plain_problem updating.new))) → record {
+      → ((o : PlainOrigin) → Stops ⊥ s (outputs_again wanted.leaves wanted.tells wanted.format o (plain_problem updating.base) (plain_problem updating.new))) → record {
         ends : ComesOfSelfrun s;
         told : Stops ⊥ s (outputs_updated now (plain_rescreening rescreening) (plain_updating updating));
         due : Unit {0};
@@ -201,7 +201,7 @@ module _ (rescreening : Rescreening) (updating : Updating) (wanted : Wanted) (is
   all_fail now s told =
       let origin = origin_of now (plain_screening rescreening.screening) in
       record {
-        ends = again_ends wanted.leaves wanted.tells wanted.version origin (plain_problem updating.base) (plain_problem updating.new) s (told origin);
+        ends = again_ends wanted.leaves wanted.tells wanted.format origin (plain_problem updating.base) (plain_problem updating.new) s (told origin);
         told = subst (λ (r : Result (List FileBytes) Status). Stops ⊥ s r) (sym (all_theirs now)) (told origin);
         due = tt;
         shows = λ files read. tt;

@@ -3,13 +3,19 @@ use Rattle.std.proofs.Common.{◌≡◌, ℕ, ◌<◌, List, true, false, Result
 use Rattle.std.specs.Prelude.{nat_le, IfOk, OnOk}
 use Rattle.std.proofs.lemmas.Bool.Decides.{nat_tests}
 use Rattle.cj_io.specs.declared.file.FileBytes.{FileBytes}
+use Rattle.cj_formats.specs.declared.cert_format.CertFormat.{CertFormat}
+use Rattle.cj_formats.specs.declared.cert_format.CertFormat.TheVariants.{Full, Brief}
 use Rattle.cj_formats.specs.declared.cert_version.CertVersion.{CertVersion}
-use Rattle.cj_words.specs.Settings.{PlainSettings}
+use Rattle.cj_words.specs.Commands.{PlainScreening}
 use Rattle.cj_case.specs.PlainProblems.{PlainProblem}
 use Rattle.cj_case.specs.Leaves.{PlainLeaf}
+use Rattle.cj_blocks.specs.Rewritten.{written_in}
+use Rattle.cj_brief.specs.Accepted.{AcceptedInBrief}
+use Rattle.cj_brief.specs.Written.{written_in_brief}
 use Rattle.cj_cells.specs.Lists.{list_candidates}
 use Rattle.cj_cells.specs.declared.refine_error.RefineError.{RefineError}
 use Rattle.cj_cells.specs.declared.refine_error.RefineError.TheVariants as refine
+use Rattle.cj_cert.specs.Accepted.{Accepted}
 use Rattle.cj_outputs.specs.declared.findings.Findings.{Findings}
 use Rattle.cj_outputs.specs.declared.wanted.Wanted.{Wanted}
 use Rattle.cj_status.specs.declared.status.Status.{Status}
@@ -17,6 +23,7 @@ use Rattle.cj_status.specs.declared.status.Status.TheVariants as status
 use Rattle.cj_status.specs.Steps.{◌>>=◌, ComesBetween, Stops}
 use Rattle.cj_screen.specs.Errors.{refined_status}
 use Rattle.cj_outputs.specs.Again.{IsAcceptedLater}
+use Rattle.cj_outputs.specs.Either.{IsAcceptedFor, any_written, is_brief}
 use Rattle.cj_outputs.specs.Messages.{PlainOrigin}
 use Rattle.cj_inputs.specs.Coverings.{case_covered}
 use Rattle.cj_outputs.specs.Outcome.{cert_bytes, outputs_with, outputs_within, within_cells}
@@ -49,49 +56,56 @@ between_refined limit refine.Memory = tt
 between_refined limit refine.TooMany = tt
 
 -- the outputs of a case, of its leaves
-pub outputs_of_leaves : (limit : ℕ) (tells : Tells) (version : CertVersion) (origin : PlainOrigin) (behind : List ℕ) (case : PlainProblem) (leaves : List PlainLeaf)
+pub outputs_of_leaves : (limit : ℕ) (tells : Tells) (format : CertFormat) (origin : PlainOrigin) (behind : List ℕ) (case : PlainProblem) (leaves : List PlainLeaf)
     → within_cells limit (list_candidates case) ≡ Ok leaves
-    → outputs_within limit tells version origin behind case ≡ Ok (outputs_with tells version origin behind case leaves)
+    → outputs_within limit tells format origin behind case ≡ Ok (outputs_with tells format origin behind case leaves)
 unfolding outputs_within
-outputs_of_leaves limit tells version origin behind case leaves same =
-    ap (λ (r : Result (List PlainLeaf) Status). r >>= λ ss. Ok (outputs_with tells version origin behind case ss)) same
+outputs_of_leaves limit tells format origin behind case leaves same =
+    ap (λ (r : Result (List PlainLeaf) Status). r >>= λ ss. Ok (outputs_with tells format origin behind case ss)) same
 
 -- what ends the search for the leaves ends that for the outputs
-pub outputs_stop : (limit : ℕ) (tells : Tells) (version : CertVersion) (origin : PlainOrigin) (behind : List ℕ) (case : PlainProblem) (s : Status)
+pub outputs_stop : (limit : ℕ) (tells : Tells) (format : CertFormat) (origin : PlainOrigin) (behind : List ℕ) (case : PlainProblem) (s : Status)
     → Stops ⊥ s (within_cells limit (list_candidates case))
-    → Stops ⊥ s (outputs_within limit tells version origin behind case)
+    → Stops ⊥ s (outputs_within limit tells format origin behind case)
 unfolding outputs_within
-outputs_stop limit tells version origin behind case s =
-    stops_then ⊥ s (within_cells limit (list_candidates case)) (λ ss. Ok (outputs_with tells version origin behind case ss))
+outputs_stop limit tells format origin behind case s =
+    stops_then ⊥ s (within_cells limit (list_candidates case)) (λ ss. Ok (outputs_with tells format origin behind case ss))
 
 -- the outputs of what is found in a case
 pub same_outputs : (wanted : Wanted) (origin : PlainOrigin) (behind : List ℕ) (case : PlainProblem) (found : Findings) → case_in found ≡ case → found.wanted ≡ wanted → lines_of found.behind ≡ behind
-    → AreFound found → outputs_with wanted.tells wanted.version origin behind case (list_candidates case) ≡ outputs_in origin found
+    → AreFound found → outputs_with wanted.tells wanted.format origin behind case (list_candidates case) ≡ outputs_in origin found
 same_outputs wanted origin behind case found same as_wanted lines are =
-    sym (ap (λ (ss : List PlainLeaf). outputs_with found.wanted.tells found.wanted.version origin (lines_of found.behind) (case_in found) ss) are.leaves
-    ∙ ap (λ (c : PlainProblem). outputs_with found.wanted.tells found.wanted.version origin (lines_of found.behind) c (list_candidates c)) same
-    ∙ ap (λ (w : Wanted). outputs_with w.tells w.version origin (lines_of found.behind) case (list_candidates case)) as_wanted
-    ∙ ap (λ (b : List ℕ). outputs_with wanted.tells wanted.version origin b case (list_candidates case)) lines)
+    sym (ap (λ (ss : List PlainLeaf). outputs_with found.wanted.tells found.wanted.format origin (lines_of found.behind) (case_in found) ss) are.leaves
+    ∙ ap (λ (c : PlainProblem). outputs_with found.wanted.tells found.wanted.format origin (lines_of found.behind) c (list_candidates c)) same
+    ∙ ap (λ (w : Wanted). outputs_with w.tells w.format origin (lines_of found.behind) case (list_candidates case)) as_wanted
+    ∙ ap (λ (b : List ℕ). outputs_with wanted.tells wanted.format origin b case (list_candidates case)) lines)
 
 -- what is found is what is due
 pub outputs_told : (wanted : Wanted) (origin : PlainOrigin) (behind : List ℕ) (case : PlainProblem) (found : Findings) → within_cells wanted.leaves (list_candidates case) ≡ Ok (list_candidates case)
     → case_in found ≡ case → found.wanted ≡ wanted → lines_of found.behind ≡ behind → AreFound found
-    → outputs_within wanted.leaves wanted.tells wanted.version origin behind case ≡ Ok (outputs_in origin found)
+    → outputs_within wanted.leaves wanted.tells wanted.format origin behind case ≡ Ok (outputs_in origin found)
 outputs_told wanted origin behind case found within same as_wanted lines are =
-    outputs_of_leaves wanted.leaves wanted.tells wanted.version origin behind case (list_candidates case) within
+    outputs_of_leaves wanted.leaves wanted.tells wanted.format origin behind case (list_candidates case) within
     ∙ ap (λ (outputs : List FileBytes). Ok outputs) (same_outputs wanted origin behind case found same as_wanted lines are)
 
 -- the report of findings is that of the case that was asked
-pub reports : (files : List FileBytes) (settings : PlainSettings) (version : CertVersion) (case : PlainProblem) → case_covered files settings ≡ Ok case → (r : Result Findings Status)
-    → IfOk r (λ found. ReportsOf settings case (report_in found).bytes (cert_in found).bytes) → IfOk r (λ found. case_in found ≡ case)
-    → IfOk r (λ found. found.wanted.version ≡ version) → OnOk r (IsAcceptedLater settings files (cert_bytes version case))
-    → IfOk r (λ found. Reports settings files (report_in found).bytes (cert_in found).bytes)
-reports files settings version case read (Ok found) of_case same told later = record {
+pub reports : (files : List FileBytes) (screening : PlainScreening) (case : PlainProblem) → case_covered files screening.settings ≡ Ok case → (r : Result Findings Status)
+    → IfOk r (λ found. ReportsOf screening.settings case (report_in found).bytes (cert_in found).bytes) → IfOk r (λ found. case_in found ≡ case)
+    → IfOk r (λ found. found.wanted.format ≡ screening.format)
+    → OnOk r (IsAcceptedLater screening.settings (is_brief screening.format) files (cert_bytes screening.format case))
+    → IfOk r (λ found. Reports screening files (report_in found).bytes (cert_in found).bytes)
+reports files screening case read (Ok found) of_case same told later = record {
   case = case;
   read = read;
-  whole = whole_window files settings case read;
+  whole = whole_window files screening.settings case read;
   of_case = of_case;
-  later = subst (λ (n : CertVersion). IsAcceptedLater settings files (cert_bytes n (case_in found))) (sym told)
-      (subst (λ (c : PlainProblem). IsAcceptedLater settings files (cert_bytes version c)) (sym same) later);
+  later = subst (λ (f : CertFormat). IsAcceptedLater screening.settings (is_brief screening.format) files (cert_bytes f (case_in found))) (sym told)
+      (subst (λ (c : PlainProblem). IsAcceptedLater screening.settings (is_brief screening.format) files (cert_bytes screening.format c)) (sym same) later);
 }
-reports files settings version case read (Err s) of_case same told later = tt
+reports files screening case read (Err s) of_case same told later = tt
+
+-- the certificate that is written is accepted, in whichever format
+pub written_accepted : (case : PlainProblem) (format : CertFormat) → ((version : CertVersion) → Accepted case (written_in version case))
+    → AcceptedInBrief case (written_in_brief case) → IsAcceptedFor case (any_written format case)
+written_accepted case (Full version) full brief = full version
+written_accepted case Brief full brief = brief

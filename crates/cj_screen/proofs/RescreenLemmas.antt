@@ -4,7 +4,7 @@ use Rattle.std.specs.Prelude.{IfErr, IsSomeAnd, nat_le, slice_get}
 use Rattle.std.proofs.lemmas.List.{length-map}
 use Rattle.cj_io.specs.declared.file.FileBytes.{FileBytes}
 use Rattle.cj_io.specs.Files.{bytes_of, names_of}
-use Rattle.cj_formats.specs.declared.cert_version.CertVersion.{CertVersion}
+use Rattle.cj_formats.specs.declared.cert_format.CertFormat.{CertFormat}
 use Rattle.cj_track.specs.PlainTracks.{PlainTrack}
 use Rattle.cj_track.specs.Tracks.{plain_track}
 use Rattle.cj_oem.specs.Reading.{Fault, reading}
@@ -210,7 +210,7 @@ never_updated now asked cases = by_kind asked.changed
     origin = origin_of now asked.screening
 
     all : Result (List FileBytes) Status
-    all = outputs_again cells tells asked.screening.version origin cases.base cases.new
+    all = outputs_again cells tells asked.screening.format origin cases.base cases.new
 
     by_kind : (b : Bool) → IfErr (cond b (outputs_changed cells tells cases.base cases.new) all) EndsRescreening
     by_kind true =
@@ -218,9 +218,9 @@ never_updated now asked cases = by_kind asked.changed
         (λ leaves. Ok (outputs_of_changes tells cases.new (kept_unchanged cases.base cases.new) leaves)) (λ leaves. tt)
     by_kind false =
         few_or_not (nat_le (length (list_candidates cases.base)) cells) cells (list_candidates cases.base)
-        (λ base. outputs_within cells tells asked.screening.version origin (kept_line (kept_unchanged cases.base cases.new)) cases.new)
+        (λ base. outputs_within cells tells asked.screening.format origin (kept_line (kept_unchanged cases.base cases.new)) cases.new)
         (λ base. few_or_not (nat_le (length (list_candidates cases.new)) cells) cells (list_candidates cases.new)
-        (λ leaves. Ok (outputs_with tells asked.screening.version origin (kept_line (kept_unchanged cases.base cases.new)) cases.new leaves)) (λ leaves. tt))
+        (λ leaves. Ok (outputs_with tells asked.screening.format origin (kept_line (kept_unchanged cases.base cases.new)) cases.new leaves)) (λ leaves. tt))
 
 never_due : (words : List (List ℕ)) (files : List FileBytes) (now : ℕ) (asked : PlainRescreening) → command_of words ≡ Ok (Rescreens asked) → IfErr (outputs_of words files now) EndsRescreening
 unfolding outputs_of outputs_rescreened
@@ -276,14 +276,14 @@ pub new_stops : (limit : ℕ) (old new : PlainProblem) (ss : List PlainLeaf) (s 
 new_stops limit old new ss s base stops = rw base stops
 
 -- what is due comes of both
-again_of_leaves : (most : ℕ) (tells : Tells) (version : CertVersion) (origin : PlainOrigin) (old new : PlainProblem)
-    → outputs_again most tells version origin old new
-    ≡ (leaves_within most old new >>= λ leaves. Ok (outputs_with tells version origin (kept_line (kept_unchanged old new)) new leaves))
+again_of_leaves : (most : ℕ) (tells : Tells) (format : CertFormat) (origin : PlainOrigin) (old new : PlainProblem)
+    → outputs_again most tells format origin old new
+    ≡ (leaves_within most old new >>= λ leaves. Ok (outputs_with tells format origin (kept_line (kept_unchanged old new)) new leaves))
 unfolding outputs_again outputs_within
-again_of_leaves most tells version origin old new = by_base (nat_le (length (list_candidates old)) most)
+again_of_leaves most tells format origin old new = by_base (nat_le (length (list_candidates old)) most)
   where
     outputs : List PlainLeaf → Result (List FileBytes) Status
-    outputs leaves = Ok (outputs_with tells version origin (kept_line (kept_unchanged old new)) new leaves)
+    outputs leaves = Ok (outputs_with tells format origin (kept_line (kept_unchanged old new)) new leaves)
 
     by_base : (b : Bool) → (cond b (Ok (list_candidates old)) (Err (status.Limit (limit.Cells most))) >>= λ base. within_cells most (list_candidates new) >>= outputs)
         ≡ ((cond b (Ok (list_candidates old)) (Err (status.Limit (limit.Cells most))) >>= λ base. within_cells most (list_candidates new)) >>= outputs)
@@ -291,19 +291,19 @@ again_of_leaves most tells version origin old new = by_base (nat_le (length (lis
     by_base false = refl
 
 pub again_stops : (wanted : Wanted) (origin : PlainOrigin) (old new : PlainProblem) (s : Status) → Stops ⊥ s (leaves_within wanted.leaves old new)
-    → Stops ⊥ s (outputs_again wanted.leaves wanted.tells wanted.version origin old new)
+    → Stops ⊥ s (outputs_again wanted.leaves wanted.tells wanted.format origin old new)
 again_stops wanted origin old new s stops =
-    let outputs = λ (leaves : List PlainLeaf). Ok (outputs_with wanted.tells wanted.version origin (kept_line (kept_unchanged old new)) new leaves) in
-    subst (λ (r : Result (List FileBytes) Status). Stops ⊥ s r) (sym (again_of_leaves wanted.leaves wanted.tells wanted.version origin old new))
+    let outputs = λ (leaves : List PlainLeaf). Ok (outputs_with wanted.tells wanted.format origin (kept_line (kept_unchanged old new)) new leaves) in
+    subst (λ (r : Result (List FileBytes) Status). Stops ⊥ s r) (sym (again_of_leaves wanted.leaves wanted.tells wanted.format origin old new))
     (stops_then ⊥ s (leaves_within wanted.leaves old new) outputs stops)
 
 pub again_told : (wanted : Wanted) (origin : PlainOrigin) (old new : PlainProblem) (found : Findings) → leaves_within wanted.leaves old new ≡ Ok (list_candidates new) → case_in found ≡ new
     → found.wanted ≡ wanted → lines_of found.behind ≡ kept_line (kept_unchanged old new) → AreFound found
-    → outputs_again wanted.leaves wanted.tells wanted.version origin old new ≡ Ok (outputs_in origin found)
+    → outputs_again wanted.leaves wanted.tells wanted.format origin old new ≡ Ok (outputs_in origin found)
 again_told wanted origin old new found within same as_wanted lines are =
     let behind = kept_line (kept_unchanged old new) in
-    again_of_leaves wanted.leaves wanted.tells wanted.version origin old new
-    ∙ ap (λ (r : Result (List PlainLeaf) Status). r >>= λ leaves. Ok (outputs_with wanted.tells wanted.version origin behind new leaves)) within
+    again_of_leaves wanted.leaves wanted.tells wanted.format origin old new
+    ∙ ap (λ (r : Result (List PlainLeaf) Status). r >>= λ leaves. Ok (outputs_with wanted.tells wanted.format origin behind new leaves)) within
     ∙ ap (λ (outputs : List FileBytes). Ok outputs) (same_outputs wanted origin behind new found same as_wanted lines are)
 
 -- the summary of what is found

@@ -6,7 +6,7 @@ use Rattle.cj_base.specs.Limits.{USUAL}
 use Rattle.cj_io.specs.declared.file.FileBytes.{FileBytes}
 use Rattle.cj_io.specs.Faults.{Rose}
 use Rattle.cj_io.specs.Files.{bytes_of, names_of}
-use Rattle.cj_formats.specs.declared.cert_version.CertVersion.{CertVersion}
+use Rattle.cj_formats.specs.declared.cert_format.CertFormat.{CertFormat}
 use Rattle.cj_track.specs.declared.frame.Frame.{Frame}
 use Rattle.cj_track.specs.declared.frame.Frame.TheVariants as frames
 use Rattle.cj_track.specs.PlainTracks.{PlainTrack}
@@ -223,25 +223,25 @@ abbrev pub selfrun_in : Findings → FileBytes
 selfrun_in found = selfrun_output (case_in found) (plain_leaves found.leaves.items)
 
 -- what is found is what the output of a catalogue's screening tells
-pub selfrun_told : (most : ℕ) (tells : Tells) (version : CertVersion) (origin : PlainOrigin) (behind : List ℕ) (case : PlainProblem) (r : Result Findings Status)
-    → Gives ⊥ (outputs_in origin) r (outputs_within most tells version origin behind case)
+pub selfrun_told : (most : ℕ) (tells : Tells) (format : CertFormat) (origin : PlainOrigin) (behind : List ℕ) (case : PlainProblem) (r : Result Findings Status)
+    → Gives ⊥ (outputs_in origin) r (outputs_within most tells format origin behind case)
     → IfOk r (λ found. plain_problem found.problem ≡ case) → IfOk r AreFound → Gives ⊥ (λ found. selfrun_in found ∷ []) r (selfrun_within most case)
 unfolding outputs_within
-selfrun_told most tells version origin behind case (Ok found) told same are =
+selfrun_told most tells format origin behind case (Ok found) told same are =
     let leaves = list_candidates case in
-    let fits : nat_le (length leaves) most ≡ true = there (nat_le (length leaves) most) leaves (status.Limit (limit.Cells most)) (outputs_in origin found) (outputs_with tells version origin behind case) told in
+    let fits : nat_le (length leaves) most ≡ true = there (nat_le (length leaves) most) leaves (status.Limit (limit.Cells most)) (outputs_in origin found) (outputs_with tells format origin behind case) told in
     let output : selfrun_output case leaves ≡ selfrun_in found =
     ap (λ (c : PlainProblem). selfrun_output c (list_candidates c)) (sym same) ∙ ap (λ (ss : List PlainLeaf). selfrun_output (case_in found) ss) (sym are.leaves) in
     rw fits (ap (λ (p : FileBytes). Ok (p ∷ [])) output)
-selfrun_told most tells version origin behind case (Err s) told same are =
+selfrun_told most tells format origin behind case (Err s) told same are =
     let leaves = list_candidates case in
-    stops_turned (nat_le (length leaves) most) leaves (status.Limit (limit.Cells most)) s (outputs_with tells version origin behind case) (λ ss. selfrun_output case ss ∷ []) told
+    stops_turned (nat_le (length leaves) most) leaves (status.Limit (limit.Cells most)) s (outputs_with tells format origin behind case) (λ ss. selfrun_output case ss ∷ []) told
 
-pub within_limits_of : (most : ℕ) (tells : Tells) (version : CertVersion) (origin : PlainOrigin) (behind : List ℕ) (case : PlainProblem) → IfErr (outputs_within most tells version origin behind case) IsLimit
+pub within_limits_of : (most : ℕ) (tells : Tells) (format : CertFormat) (origin : PlainOrigin) (behind : List ℕ) (case : PlainProblem) → IfErr (outputs_within most tells format origin behind case) IsLimit
 unfolding outputs_within
-within_limits_of most tells version origin behind case =
+within_limits_of most tells format origin behind case =
     let leaves = list_candidates case in
-    then (within_cells most leaves) (λ ss. Ok (outputs_with tells version origin behind case ss)) (limited (nat_le (length leaves) most) leaves (limit.Cells most)) (λ ss same. tt)
+    then (within_cells most leaves) (λ ss. Ok (outputs_with tells format origin behind case ss)) (limited (nat_le (length leaves) most) leaves (limit.Cells most)) (λ ss same. tt)
 
 -- what is due, once the case is there
 pub selfrun_after : (selfrun : PlainSelfrun) (case : PlainProblem) → case_of_selfrun selfrun ≡ Ok case → outputs_of_selfrun selfrun ≡ selfrun_within selfrun.cells case

@@ -2,11 +2,9 @@
 use Rattle.std.proofs.Common.{◌≡◌, ◌⊎◌, inl, inr, ℕ, Bool, true, false, List, ◌∷◌, [], ◌++◌, length, Option, Some, Result, Ok, Err, refl, ap, sym, subst, ◌∙◌}
 use Rattle.std.specs.Prelude.{All, IfErr, IfOk, IsTrue, nat_le, if◌then◌else◌}
 use Rattle.cj_io.specs.declared.file.FileBytes.{FileBytes}
-use Rattle.cj_formats.specs.declared.cert_version.CertVersion.{CertVersion}
+use Rattle.cj_formats.specs.declared.cert_format.CertFormat.{CertFormat}
 use Rattle.cj_case.specs.Leaves.{PlainLeaf}
 use Rattle.cj_cells.specs.Lists.{list_candidates}
-use Rattle.cj_cert.specs.declared.certificate.Certificate.{Certificate}
-use Rattle.cj_cert.specs.Certificates.{plain_certificate}
 use Rattle.cj_gen.specs.Catalogues.{catalogue_of}
 use Rattle.cj_case.specs.declared.problem.Problem.{Problem}
 use Rattle.cj_case.specs.PlainProblems.{PlainProblem}
@@ -16,7 +14,7 @@ use Rattle.cj_words.specs.declared.command.Rescreening as kept_rescreening
 use Rattle.cj_words.specs.declared.command.Screening as kept_screening
 use Rattle.cj_words.specs.declared.command.Thinning as kept_thinning
 use Rattle.cj_words.specs.Commands.{PlainCommand, Screens, Checks, Generates, Selfruns, Rewrites, Thins, Rescreens, PlainChecking, PlainRescreening, PlainScreening, PlainThinning, plain_rescreening, plain_screening, plain_thinning}
-use Rattle.cj_words.specs.Settings.{PlainSettings, plain_settings}
+use Rattle.cj_words.specs.Settings.{plain_settings}
 use Rattle.cj_base.specs.Limits.{USUAL}
 use Rattle.cj_inputs.specs.declared.lone_tracks.LoneTracks.{LoneTracks}
 use Rattle.cj_inputs.specs.Alone.{plain_tracks, tracks_asked}
@@ -29,6 +27,8 @@ use Rattle.cj_status.specs.declared.status.Status.TheVariants as status
 use Rattle.cj_status.specs.declared.status.LimitFault.TheVariants.{Cells}
 use Rattle.cj_status.specs.Steps.{◌>>=◌, Gives, Stops}
 use Rattle.cj_outputs.specs.Checks.{IsChecked}
+use Rattle.cj_outputs.specs.EitherKept.{plain_any}
+use Rattle.cj_outputs.specs.declared.any_certificate.AnyCertificate.{AnyCertificate}
 use Rattle.cj_outputs.specs.declared.findings.Findings.{Findings}
 use Rattle.cj_outputs.specs.declared.origin.Origin.{Origin}
 use Rattle.cj_outputs.specs.Findings.{cert_in, ended, messages_in, outputs_in, report_in, summary_in}
@@ -60,10 +60,10 @@ the_first (inr q) none = absurd (none q)
 
 -- the outputs of a screening are those of its case
 pub screened_case : (files : List FileBytes) (now : ℕ) (screening : PlainScreening) (case : PlainProblem) → case_covered files screening.settings ≡ Ok case
-    → outputs_screened files now screening ≡ outputs_within screening.cells (tells_of screening.settings) screening.version (origin_of now screening) [] case
+    → outputs_screened files now screening ≡ outputs_within screening.cells (tells_of screening.settings) screening.format (origin_of now screening) [] case
 unfolding outputs_screened
 screened_case files now screening case read =
-    ap (λ (r : Result PlainProblem Status). r >>= λ c. outputs_within screening.cells (tells_of screening.settings) screening.version (origin_of now screening) [] c) read
+    ap (λ (r : Result PlainProblem Status). r >>= λ c. outputs_within screening.cells (tells_of screening.settings) screening.format (origin_of now screening) [] c) read
 
 -- where there is no case there are none
 pub no_case : (read : Type 0) (files : List FileBytes) (now : ℕ) (screening : PlainScreening) (s : Status) → Stops read s (case_covered files screening.settings)
@@ -71,7 +71,7 @@ pub no_case : (read : Type 0) (files : List FileBytes) (now : ℕ) (screening : 
 unfolding outputs_screened
 no_case read files now screening s stops =
     stops_then read s (case_covered files screening.settings)
-    (λ case. outputs_within screening.cells (tells_of screening.settings) screening.version (origin_of now screening) [] case) stops
+    (λ case. outputs_within screening.cells (tells_of screening.settings) screening.format (origin_of now screening) [] case) stops
 
 -- the outputs of a thinning are those of its tracks
 pub thinned_tracks : (files : List FileBytes) (thinning : PlainThinning) (tracks : List PlainTrack) → tracks_asked USUAL files thinning ≡ Ok tracks
@@ -118,24 +118,24 @@ few_or_many : (b : Bool) (limit : ℕ) (leaves : List PlainLeaf) (outputs : List
 few_or_many true limit leaves outputs = inl (outputs leaves, refl)
 few_or_many false limit leaves outputs = inr (limit, refl)
 
-within_or_many : (limit : ℕ) (tells : Tells) (version : CertVersion) (origin : PlainOrigin) (behind : List ℕ) (case : PlainProblem)
-    → AreOutputs (outputs_within limit tells version origin behind case) ⊎ AreTooManyCells (outputs_within limit tells version origin behind case)
+within_or_many : (limit : ℕ) (tells : Tells) (format : CertFormat) (origin : PlainOrigin) (behind : List ℕ) (case : PlainProblem)
+    → AreOutputs (outputs_within limit tells format origin behind case) ⊎ AreTooManyCells (outputs_within limit tells format origin behind case)
 unfolding outputs_within
-within_or_many limit tells version origin behind case =
-    few_or_many (nat_le (length (list_candidates case)) limit) limit (list_candidates case) (λ leaves. outputs_with tells version origin behind case leaves)
+within_or_many limit tells format origin behind case =
+    few_or_many (nat_le (length (list_candidates case)) limit) limit (list_candidates case) (λ leaves. outputs_with tells format origin behind case leaves)
 
 -- the same of a screening again, where the leaves of the base files are counted first
-again_or_many : (limit : ℕ) (tells : Tells) (version : CertVersion) (origin : PlainOrigin) (old new : PlainProblem)
-    → AreOutputs (outputs_again limit tells version origin old new) ⊎ AreTooManyCells (outputs_again limit tells version origin old new)
+again_or_many : (limit : ℕ) (tells : Tells) (format : CertFormat) (origin : PlainOrigin) (old new : PlainProblem)
+    → AreOutputs (outputs_again limit tells format origin old new) ⊎ AreTooManyCells (outputs_again limit tells format origin old new)
 unfolding outputs_again
-again_or_many limit tells version origin old new = by_base (nat_le (length (list_candidates old)) limit)
+again_or_many limit tells format origin old new = by_base (nat_le (length (list_candidates old)) limit)
   where
     due : Result (List FileBytes) Status
-    due = outputs_within limit tells version origin (kept_line (kept_unchanged old new)) new
+    due = outputs_within limit tells format origin (kept_line (kept_unchanged old new)) new
 
     by_base : (b : Bool) → AreOutputs ((if b then Ok (list_candidates old) else Err (status.Limit (Cells limit))) >>= λ base. due)
         ⊎ AreTooManyCells ((if b then Ok (list_candidates old) else Err (status.Limit (Cells limit))) >>= λ base. due)
-    by_base true = within_or_many limit tells version origin (kept_line (kept_unchanged old new)) new
+    by_base true = within_or_many limit tells format origin (kept_line (kept_unchanged old new)) new
     by_base false = inr (limit, refl)
 
 changed_or_many : (limit : ℕ) (tells : Tells) (old new : PlainProblem) → AreOutputs (outputs_changed limit tells old new) ⊎ AreTooManyCells (outputs_changed limit tells old new)
@@ -153,21 +153,21 @@ updated_or_many now asked cases = by_kind asked.changed
     tells = tells_of asked.screening.settings
 
     all : Result (List FileBytes) Status
-    all = outputs_again cells tells asked.screening.version (origin_of now asked.screening) cases.base cases.new
+    all = outputs_again cells tells asked.screening.format (origin_of now asked.screening) cases.base cases.new
 
     by_kind : (b : Bool) → AreOutputs (if b then outputs_changed cells tells cases.base cases.new else all)
         ⊎ AreTooManyCells (if b then outputs_changed cells tells cases.base cases.new else all)
     by_kind true = changed_or_many cells tells cases.base cases.new
-    by_kind false = again_or_many cells tells asked.screening.version (origin_of now asked.screening) cases.base cases.new
+    by_kind false = again_or_many cells tells asked.screening.format (origin_of now asked.screening) cases.base cases.new
 
 -- of a task that puts files outputs are due, or there are too many leaves
 pub due_or_many : (now : ℕ) (task : Task) → IsTrue (puts_files task) → AreOutputs (outputs_of_task now task) ⊎ AreTooManyCells (outputs_of_task now task)
 due_or_many now (Screen problem screening) files =
-    within_or_many screening.cells (tells_of (plain_settings screening.settings)) screening.version (origin_of now (plain_screening screening)) [] (plain_problem problem)
+    within_or_many screening.cells (tells_of (plain_settings screening.settings)) screening.format (origin_of now (plain_screening screening)) [] (plain_problem problem)
 due_or_many now Accept files = absurd cc
 due_or_many now (Make recipe) files = inl (outputs_made (catalogue_of recipe.seed recipe.objects recipe.minutes), refl)
 due_or_many now (Selfrun selfrun) files = absurd cc
-due_or_many now (Renew certificate) files = inl (outputs_renewed (plain_certificate certificate), refl)
+due_or_many now (Renew certificate) files = inl (outputs_renewed (plain_any certificate), refl)
 due_or_many now (Thin lone thinning) files = inl (outputs_with_fewer (length_of (plain_thinning thinning)) (plain_tracks lone), refl)
 due_or_many now (Rescreen updating rescreening) files = updated_or_many now (plain_rescreening rescreening) (plain_updating updating)
 
@@ -187,12 +187,12 @@ counted_ends b limit leaves outputs (status.Limit fault) stops = tt
 counted_ends b limit leaves outputs status.OutOfMemory stops = tt
 
 -- only a limit and want of memory end a screening's search
-pub search_ends : (limit : ℕ) (tells : Tells) (version : CertVersion) (origin : PlainOrigin) (behind : List ℕ) (case : PlainProblem) (r : Result Findings Status)
-    → Gives ⊥ (outputs_in origin) r (outputs_within limit tells version origin behind case) → IfErr r ComesOfSelfrun
+pub search_ends : (limit : ℕ) (tells : Tells) (format : CertFormat) (origin : PlainOrigin) (behind : List ℕ) (case : PlainProblem) (r : Result Findings Status)
+    → Gives ⊥ (outputs_in origin) r (outputs_within limit tells format origin behind case) → IfErr r ComesOfSelfrun
 unfolding outputs_within
-search_ends limit tells version origin behind case (Ok found) gives = tt
-search_ends limit tells version origin behind case (Err s) gives =
-    counted_ends (nat_le (length (list_candidates case)) limit) limit (list_candidates case) (λ leaves. outputs_with tells version origin behind case leaves) s gives
+search_ends limit tells format origin behind case (Ok found) gives = tt
+search_ends limit tells format origin behind case (Err s) gives =
+    counted_ends (nat_le (length (list_candidates case)) limit) limit (list_candidates case) (λ leaves. outputs_with tells format origin behind case leaves) s gives
 
 pub comes_of_search : (task : Task) (s : Status) → ¬ IsMaking task → ComesOfSelfrun s → ComesOfSearch task s
 comes_of_search task status.Ok other comes = comes
@@ -210,17 +210,16 @@ comes_of_search task status.OutOfMemory other comes = tt
 pub asked_case : (screening : kept_screening.Screening) (asked : PlainScreening) (files : List FileBytes) (problem : Problem) (found : Findings)
     → (case_covered files asked.settings ≡ Ok (plain_problem problem)) × (plain_screening screening ≡ asked)
     → (case_covered files (plain_settings screening.settings) ≡ Ok (plain_problem problem)
-    → Reports (plain_settings screening.settings) files (report_in found).bytes (cert_in found).bytes)
-    → Reports asked.settings files (report_in found).bytes (cert_in found).bytes
+    → Reports (plain_screening screening) files (report_in found).bytes (cert_in found).bytes)
+    → Reports asked files (report_in found).bytes (cert_in found).bytes
 asked_case screening asked files problem found readies reports =
-    let same : plain_settings screening.settings ≡ asked.settings = ap (λ (s : PlainScreening). s.settings) readies.1 in
-    subst (λ (settings : PlainSettings). Reports settings files (report_in found).bytes (cert_in found).bytes) same
-    (reports (subst (λ (settings : PlainSettings). case_covered files settings ≡ Ok (plain_problem problem)) (sym same) readies.0))
+    subst (λ (s : PlainScreening). Reports s files (report_in found).bytes (cert_in found).bytes) readies.1
+    (reports (subst (λ (s : PlainScreening). case_covered files s.settings ≡ Ok (plain_problem problem)) (sym readies.1) readies.0))
 
 pub shows_screened : (command : PlainCommand) (files : List FileBytes) (problem : Problem) (screening : kept_screening.Screening) (found : Findings) (origin : Origin)
     → Readies command files (Screen problem screening)
     → (case_covered files (plain_settings screening.settings) ≡ Ok (plain_problem problem)
-    → Reports (plain_settings screening.settings) files (report_in found).bytes (cert_in found).bytes)
+    → Reports (plain_screening screening) files (report_in found).bytes (cert_in found).bytes)
     → ShowsDue command files (Screened found origin)
 shows_screened (Screens asked) files problem screening found origin readies reports = asked_case screening asked files problem found readies reports
 shows_screened (Checks checking) files problem screening found origin readies reports = absurd readies
@@ -265,7 +264,7 @@ shows_accepted (Rewrites checking) files readies = absurd readies
 shows_accepted (Thins thinning) files readies = absurd readies
 shows_accepted (Rescreens rescreening) files readies = absurd readies
 
-pub shows_renewed : (command : PlainCommand) (files : List FileBytes) (certificate : Certificate) → Readies command files (Renew certificate)
+pub shows_renewed : (command : PlainCommand) (files : List FileBytes) (certificate : AnyCertificate) → Readies command files (Renew certificate)
     → ShowsDue command files (Rewritten certificate)
 shows_renewed (Screens asked) files certificate readies = absurd readies
 shows_renewed (Checks checking) files certificate readies = absurd readies
@@ -349,21 +348,21 @@ shows_made (Rescreens asked) files (Rescreen updating rescreening) results (inr 
 -- ---- what is put says it
 
 -- the report and the certificate of a screening stand in front
-pub screened : (settings : PlainSettings) (files old : List FileBytes) (new : Option (List FileBytes)) (results : Results)
-    → ReportsDue settings files results → new ≡ Some (old ++ outputs_due results) → IsScreened settings files old new
-screened settings files old new (Screened found origin) reports put = record {
+pub screened : (screening : PlainScreening) (files old : List FileBytes) (new : Option (List FileBytes)) (results : Results)
+    → ReportsDue screening files results → new ≡ Some (old ++ outputs_due results) → IsScreened screening files old new
+screened screening files old new (Screened found origin) reports put = record {
   bytes = (report_in found).bytes;
   certificate = (cert_in found).bytes;
   report = reports;
   further = messages_in (plain_origin origin) found ++ summary_in found ∷ [];
   put = put;
 }
-screened settings files old new Checked reports put = absurd reports
-screened settings files old new (Made catalogue) reports put = absurd reports
-screened settings files old new (SelfrunFound found) reports put = absurd reports
-screened settings files old new (Rewritten certificate) reports put = absurd reports
-screened settings files old new (Thinned lone thinning) reports put = absurd reports
-screened settings files old new (Changed changes) reports put = absurd reports
+screened screening files old new Checked reports put = absurd reports
+screened screening files old new (Made catalogue) reports put = absurd reports
+screened screening files old new (SelfrunFound found) reports put = absurd reports
+screened screening files old new (Rewritten certificate) reports put = absurd reports
+screened screening files old new (Thinned lone thinning) reports put = absurd reports
+screened screening files old new (Changed changes) reports put = absurd reports
 
 -- the one output of a check
 pub checked : (checking : PlainChecking) (files old : List FileBytes) (new : Option (List FileBytes)) (results : Results)
@@ -383,7 +382,7 @@ renewed checking files old new (Screened found origin) renews put = absurd renew
 renewed checking files old new Checked renews put = absurd renews
 renewed checking files old new (Made catalogue) renews put = absurd renews
 renewed checking files old new (SelfrunFound found) renews put = absurd renews
-renewed checking files old new (Rewritten certificate) renews put = record { renewed = plain_certificate certificate; renews = renews; put = put }
+renewed checking files old new (Rewritten certificate) renews put = record { renewed = plain_any certificate; renews = renews; put = put }
 renewed checking files old new (Thinned lone thinning) renews put = absurd renews
 renewed checking files old new (Changed changes) renews put = absurd renews
 
@@ -451,7 +450,7 @@ done_again asked files old new results shows put = record {
 
 pub done_by : (command : PlainCommand) (files old : List FileBytes) (new : Option (List FileBytes)) (results : Results)
     → ShowsDue command files results → new ≡ Some (old ++ outputs_due results) → IsDone command files old new
-done_by (Screens screening) files old new results shows put = screened screening.settings files old new results shows put
+done_by (Screens screening) files old new results shows put = screened screening files old new results shows put
 done_by (Checks checking) files old new results shows put = checked checking files old new results shows put
 done_by (Generates recipe) files old new results shows put = tt
 done_by (Selfruns selfrun) files old new results shows put = tt

@@ -11,16 +11,13 @@ use Rattle.cj_rtn.specs.Exact.{IsNearlyAt}
 use Rattle.cj_rtn.specs.Relative.{object_relative}
 use Rattle.cj_report.specs.Report.{report_of, told}
 use Rattle.cj_report.specs.Summary.{kept_line}
-use Rattle.cj_cert.specs.Accepted.{Accepted}
-use Rattle.cj_cert.specs.Certificates.{PlainCertificate}
-use Rattle.cj_cert.specs.Splits.{AcceptedSplits}
-use Rattle.cj_cert_text.specs.Texts.{text_of}
-use Rattle.cj_words.specs.Commands.{PlainRescreening}
+use Rattle.cj_words.specs.Commands.{PlainRescreening, PlainScreening}
 use Rattle.cj_words.specs.Settings.{PlainSettings}
 use Rattle.cj_coverage.specs.Coverage.{HasAll, IsCovered, IsIn, covered_spans}
 use Rattle.cj_inputs.specs.Coverings.{case_covered, cases_covered}
 use Rattle.cj_inputs.specs.Updates.{PlainUpdating}
 use Rattle.cj_outputs.specs.Again.{IsAcceptedLater}
+use Rattle.cj_outputs.specs.Either.{PlainAnyCertificate, AnySplits, IsAcceptedFor, is_brief, text_in}
 use Rattle.cj_outputs.specs.Messages.{has_message}
 use Rattle.cj_outputs.specs.Outcome.{cert_output, encounters_in, kept_unchanged, list_anew, outputs_of_changes, report_output, summary_with, tells_of, uncovered_told}
 use Rattle.cj_outputs.specs.SpanSplits.{SplitsChangedTicks, SplitsTicks, StillSo}
@@ -28,10 +25,10 @@ use Rattle.cj_outputs.specs.SpanSplits.{SplitsChangedTicks, SplitsTicks, StillSo
 -- The bytes are the text of a certificate that is accepted for the case. Whatever certificate is accepted for it, the certificate's cells
 -- split the common ticks of every pair.
 pub record Certifies (case : PlainProblem) (bytes : List ℕ) : Type 0 where
-  pub certificate : PlainCertificate
-  pub text : bytes ≡ text_of certificate
-  pub accepted : Accepted case certificate
-  pub implies : AcceptedSplits case
+  pub certificate : PlainAnyCertificate
+  pub text : bytes ≡ text_in certificate
+  pub accepted : IsAcceptedFor case certificate
+  pub implies : AnySplits case
 
 -- At the closest approach of an encounter each component of the relative state of its objects, where there is one, is within one millimetre, or
 -- one millimetre per second, of the exact one.
@@ -65,18 +62,18 @@ pub record ReportsOf (settings : PlainSettings) (case : PlainProblem) (bytes cer
 
 -- So they are of the case that was asked, whose objects cover its window where they have to. A check of the same files, with the bytes of the
 -- certificate among them, accepts it.
-pub record Reports (settings : PlainSettings) (files : List FileBytes) (bytes certificate : List ℕ) : Type 0 where
+pub record Reports (screening : PlainScreening) (files : List FileBytes) (bytes certificate : List ℕ) : Type 0 where
   pub case : PlainProblem
-  pub read : case_covered files settings ≡ Ok case
-  pub whole : settings.must_cover ≡ true → CoverAll case
-  pub of_case : ReportsOf settings case bytes certificate
-  pub later : IsAcceptedLater settings files certificate
+  pub read : case_covered files screening.settings ≡ Ok case
+  pub whole : screening.settings.must_cover ≡ true → CoverAll case
+  pub of_case : ReportsOf screening.settings case bytes certificate
+  pub later : IsAcceptedLater screening.settings (is_brief screening.format) files certificate
 
 -- The new outputs are such a report and such a certificate, followed by further outputs.
-pub record IsScreened (settings : PlainSettings) (files old : List FileBytes) (new : Option (List FileBytes)) : Type 0 where
+pub record IsScreened (screening : PlainScreening) (files old : List FileBytes) (new : Option (List FileBytes)) : Type 0 where
   pub bytes : List ℕ
   pub certificate : List ℕ
-  pub report : Reports settings files bytes certificate
+  pub report : Reports screening files bytes certificate
   pub further : List FileBytes
   pub put : new ≡ Some (old ++ report_output bytes ∷ cert_output certificate ∷ further)
 

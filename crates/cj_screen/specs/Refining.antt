@@ -14,16 +14,19 @@ use Rattle.cj_candidates.specs.Counts.{candidate_count}
 use Rattle.cj_cells.specs.Lists.{IsSound, list_candidates, splits_of}
 use Rattle.cj_pool.specs.TrueLists.{IsTrueList}
 use Rattle.cj_meet.specs.Closest.{KeepTheirPieces}
+use Rattle.cj_formats.specs.declared.cert_format.CertFormat.{CertFormat}
+use Rattle.cj_outputs.specs.Findings.{told_in}
 use Rattle.cj_outputs.specs.Outcome.{within_cells}
 use Rattle.cj_outputs.specs.Summaries.{kept_count}
 use Rattle.cj_status.specs.declared.status.Status.{Status}
 use Rattle.cj_status.specs.Steps.{◌>>=◌}
 use Rattle.cj_screen.specs.declared.refining.FoundLeaves.{FoundLeaves}
 
--- what is measured of the objects of a case, its leaves and counts
-pub record AreFoundLeaves (case : PlainProblem) (found : FoundLeaves) : Type 0 where
+-- what is measured of the objects of a case, its leaves, those that a certificate of this format tells apart, and counts
+pub record AreFoundLeaves (format : CertFormat) (case : PlainProblem) (found : FoundLeaves) : Type 0 where
   pub measured : AreMeasured case found.measured
   pub leaves : plain_leaves found.leaves.items ≡ list_candidates case
+  pub told : plain_leaves found.told.items ≡ told_in format case
   pub few : length found.leaves.items ≤ MOST_LEAVES
   pub kept : found.counted.kept ≡ kept_count case
   pub touching : found.counted.touching ≡ candidate_count case

@@ -1,7 +1,6 @@
 -- What a run is to put.
 use Rattle.std.specs.Prelude.{◌≡◌, true, false, List, [], ◌∷◌, ◌++◌, All, Ok}
 use Rattle.cj_io.specs.declared.file.FileBytes.{FileBytes}
-use Rattle.cj_cert.specs.Certificates.{plain_certificate}
 use Rattle.cj_cells.specs.Lists.{list_candidates}
 use Rattle.cj_inputs.specs.Alone.{plain_tracks}
 use Rattle.cj_inputs.specs.Coverings.{cases_covered}
@@ -9,8 +8,7 @@ use Rattle.cj_inputs.specs.Updates.{PlainUpdating}
 use Rattle.cj_meet.specs.Closest.{HasNearest}
 use Rattle.cj_meet.specs.Encounters.{encounters_of}
 use Rattle.cj_report.specs.Summary.{kept_line}
-use Rattle.cj_words.specs.Commands.{PlainCommand, Screens, Checks, Generates, Selfruns, Rewrites, Thins, Rescreens, PlainChecking, PlainRescreening, PlainThinning, plain_thinning}
-use Rattle.cj_words.specs.Settings.{PlainSettings}
+use Rattle.cj_words.specs.Commands.{PlainScreening, PlainCommand, Screens, Checks, Generates, Selfruns, Rewrites, Thins, Rescreens, PlainChecking, PlainRescreening, PlainThinning, plain_thinning}
 use Rattle.cj_screen.specs.declared.results.Results.{Results}
 use Rattle.cj_screen.specs.declared.results.Results.TheVariants.{Screened, Checked, Made, Selfrun, Rewritten, Thinned, Changed}
 use Rattle.cj_outputs.specs.declared.changes.Changes.{Changes}
@@ -18,6 +16,7 @@ use Rattle.cj_outputs.specs.declared.findings.Findings.{Findings}
 use Rattle.cj_outputs.specs.Changes.{AreChanges, changed_outputs_in}
 use Rattle.cj_outputs.specs.Findings.{AreFound, cert_in, outputs_in, report_in, summary_in}
 use Rattle.cj_outputs.specs.Checks.{Vouches}
+use Rattle.cj_outputs.specs.EitherKept.{plain_any}
 use Rattle.cj_screen.specs.Headline.{CoverAll, CoverExactly, Reports, ReportsOf}
 use Rattle.cj_outputs.specs.Origins.{plain_origin}
 use Rattle.cj_outputs.specs.Outcome.{accepted_output, kept_unchanged, list_anew, outputs_made, outputs_of_changes, outputs_renewed, summary_with, tells_of, uncovered_told}
@@ -32,7 +31,7 @@ outputs_due (Screened found origin) = outputs_in (plain_origin origin) found
 outputs_due Checked = accepted_output ∷ []
 outputs_due (Made catalogue) = outputs_made catalogue.items
 outputs_due (Selfrun found) = summary_in found ∷ []
-outputs_due (Rewritten certificate) = outputs_renewed (plain_certificate certificate)
+outputs_due (Rewritten certificate) = outputs_renewed (plain_any certificate)
 outputs_due (Thinned lone thinning) = outputs_with_fewer (length_of (plain_thinning thinning)) (plain_tracks lone)
 outputs_due (Changed changes) = changed_outputs_in changes
 
@@ -46,15 +45,15 @@ AreDue (Rewritten certificate) = Unit {0}
 AreDue (Thinned lone thinning) = Unit {0}
 AreDue (Changed changes) = AreChanges changes
 
--- the first two outputs are the report and the certificate of files that are screened with these settings
-abbrev pub ReportsDue : PlainSettings → List FileBytes → Results → Type 0
-ReportsDue settings files (Screened found origin) = Reports settings files (report_in found).bytes (cert_in found).bytes
-ReportsDue settings files Checked = ⊥
-ReportsDue settings files (Made catalogue) = ⊥
-ReportsDue settings files (Selfrun found) = ⊥
-ReportsDue settings files (Rewritten certificate) = ⊥
-ReportsDue settings files (Thinned lone thinning) = ⊥
-ReportsDue settings files (Changed changes) = ⊥
+-- the first two outputs are the report and the certificate of files that are screened so
+abbrev pub ReportsDue : PlainScreening → List FileBytes → Results → Type 0
+ReportsDue screening files (Screened found origin) = Reports screening files (report_in found).bytes (cert_in found).bytes
+ReportsDue screening files Checked = ⊥
+ReportsDue screening files (Made catalogue) = ⊥
+ReportsDue screening files (Selfrun found) = ⊥
+ReportsDue screening files (Rewritten certificate) = ⊥
+ReportsDue screening files (Thinned lone thinning) = ⊥
+ReportsDue screening files (Changed changes) = ⊥
 
 -- the certificate that was named is accepted
 abbrev pub VouchesDue : PlainChecking → List FileBytes → Results → Type 0
@@ -72,7 +71,7 @@ RenewsDue checking files (Screened found origin) = ⊥
 RenewsDue checking files Checked = ⊥
 RenewsDue checking files (Made catalogue) = ⊥
 RenewsDue checking files (Selfrun found) = ⊥
-RenewsDue checking files (Rewritten certificate) = Renews checking files (plain_certificate certificate)
+RenewsDue checking files (Rewritten certificate) = Renews checking files (plain_any certificate)
 RenewsDue checking files (Thinned lone thinning) = ⊥
 RenewsDue checking files (Changed changes) = ⊥
 
@@ -133,7 +132,7 @@ pub record AgainDue (asked : PlainRescreening) (files : List FileBytes) (results
 
 -- what is due of a command says of the files what the command asks
 abbrev pub ShowsDue : PlainCommand → List FileBytes → Results → Type 0
-ShowsDue (Screens screening) files results = ReportsDue screening.settings files results
+ShowsDue (Screens screening) files results = ReportsDue screening files results
 ShowsDue (Checks checking) files results = VouchesDue checking files results
 ShowsDue (Generates recipe) files results = Unit {0}
 ShowsDue (Selfruns selfrun) files results = Unit {0}

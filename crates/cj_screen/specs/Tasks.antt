@@ -1,7 +1,6 @@
 -- What a command line asks for, once all that it reads is accepted.
 use Rattle.std.specs.Prelude.{◌≡◌, ◌⊎◌, ℕ, Bool, true, false, List, ◌∷◌, [], Option, Some, Result, Ok, Err}
 use Rattle.cj_io.specs.declared.file.FileBytes.{FileBytes}
-use Rattle.cj_cert.specs.Certificates.{plain_certificate}
 use Rattle.cj_gen.specs.Catalogues.{catalogue_of}
 use Rattle.cj_case.specs.Problems.{plain_problem}
 use Rattle.cj_words.specs.declared.option.UsageFault.{UsageFault}
@@ -16,6 +15,7 @@ use Rattle.cj_status.specs.declared.status.Status.TheVariants as status
 use Rattle.cj_status.specs.Steps.{Stops}
 use Rattle.cj_outputs.specs.Checks.{IsChecked, Vouches}
 use Rattle.cj_outputs.specs.Outcome.{accepted_output, origin_of, outputs_made, outputs_renewed, outputs_of_selfrun, outputs_updated, outputs_within, tells_of}
+use Rattle.cj_outputs.specs.EitherKept.{plain_any}
 use Rattle.cj_outputs.specs.Rewrites.{IsRewritten, Renews}
 use Rattle.cj_outputs.specs.Thinned.{length_of, outputs_with_fewer}
 use Rattle.cj_outputs.specs.Thinnings.{IsThinned}
@@ -36,12 +36,12 @@ puts_files (Rescreen updating rescreening) = true
 -- the outputs of a task at this tick, or the cause for which there are none
 abbrev pub outputs_of_task : ℕ → Task → Result (List FileBytes) Status
 outputs_of_task now (Screen problem screening) =
-    outputs_within screening.cells (tells_of (plain_settings screening.settings)) screening.version (origin_of now (plain_screening screening)) []
+    outputs_within screening.cells (tells_of (plain_settings screening.settings)) screening.format (origin_of now (plain_screening screening)) []
     (plain_problem problem)
 outputs_of_task now Accept = Ok (accepted_output ∷ [])
 outputs_of_task now (Make recipe) = Ok (outputs_made (catalogue_of recipe.seed recipe.objects recipe.minutes))
 outputs_of_task now (Selfrun selfrun) = outputs_of_selfrun (plain_selfrun selfrun)
-outputs_of_task now (Renew certificate) = Ok (outputs_renewed (plain_certificate certificate))
+outputs_of_task now (Renew certificate) = Ok (outputs_renewed (plain_any certificate))
 outputs_of_task now (Thin lone thinning) = Ok (outputs_with_fewer (length_of (plain_thinning thinning)) (plain_tracks lone))
 outputs_of_task now (Rescreen updating rescreening) = outputs_updated now (plain_rescreening rescreening) (plain_updating updating)
 
@@ -96,7 +96,7 @@ IsRenewal checking files (Screen problem asked) = ⊥
 IsRenewal checking files Accept = ⊥
 IsRenewal checking files (Make recipe) = ⊥
 IsRenewal checking files (Selfrun selfrun) = ⊥
-IsRenewal checking files (Renew certificate) = Renews checking files (plain_certificate certificate)
+IsRenewal checking files (Renew certificate) = Renews checking files (plain_any certificate)
 IsRenewal checking files (Thin lone thinning) = ⊥
 IsRenewal checking files (Rescreen updating rescreening) = ⊥
 
@@ -190,7 +190,7 @@ pub record IsDoneAgain (asked : PlainRescreening) (files old : List FileBytes) (
 
 -- what a command that is done has put says of the files what the command asks
 abbrev pub IsDone : PlainCommand → List FileBytes → List FileBytes → Option (List FileBytes) → Type 0
-IsDone (Screens screening) files old new = IsScreened screening.settings files old new
+IsDone (Screens screening) files old new = IsScreened screening files old new
 IsDone (Checks checking) files old new = IsChecked checking files old new
 IsDone (Generates recipe) files old new = Unit {0}
 IsDone (Selfruns selfrun) files old new = Unit {0}

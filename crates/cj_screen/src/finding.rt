@@ -84,11 +84,11 @@ fn find_encounters<R: Threads + Wait + Sync, G: Gate + Sync>(
     ensures ends { IfErr result ComesOfSelfrun }
     // At whatever tick the messages are made.
     ensures told { (now : ℕ) → Gives ⊥ (outputs_in (spec.origin_of now (plain_screening screening.now))) result
-        (spec.outputs_within screening.now.cells (spec.tells_of (plain_settings screening.now.settings)) screening.now.version
+        (spec.outputs_within screening.now.cells (spec.tells_of (plain_settings screening.now.settings)) screening.now.format
         (spec.origin_of now (plain_screening screening.now)) [] (plain_problem problem)) }
     ensures found { IfOk result AreFound }
     ensures reports { (files : List FileBytes) → case_covered files (plain_settings screening.now.settings) ≡ Ok (plain_problem problem)
-        → IfOk result (λ found. Reports (plain_settings screening.now.settings) files (report_in found).bytes (cert_in found).bytes) }
+        → IfOk result (λ found. Reports (plain_screening screening.now) files (report_in found).bytes (cert_in found).bytes) }
 {
     screen(rt, alloc, gate, problem, Wanted::of(screening))
 }

@@ -3,20 +3,27 @@ ghost use Rattle.std.specs.Prelude.{◌≡◌, ◌≤◌, length, IfOk, IfErr, O
 ghost use Rattle.cj_case.specs.Problems.{plain_problem};
 ghost use Rattle.cj_case.specs.Leaves.{plain_leaves};
 ghost use Rattle.cj_candidates.specs.MeasuredObjects.{AreOfProblem};
+ghost use Rattle.cj_bezier.specs.Candidates.{is_candidate};
+ghost use Rattle.cj_case.specs.Cells.{plain_cells};
 ghost use Rattle.cj_cells.specs.Lists.{list_candidates};
+ghost use Rattle.cj_formats.specs.declared.cert_format.CertFormat.TheVariants.{Brief};
+ghost use Rattle.cj_hermite.specs.Roots.{roots_of};
+ghost use Rattle.cj_outputs.specs.Findings.{told_in};
 ghost use Rattle.cj_outputs.specs.Outcome.{within_cells};
 ghost use Rattle.cj_screen.specs.Errors.{refined_status};
 ghost use Rattle.cj_screen.specs.Refining.{AreFoundLeaves, HoldsAllTicks};
 ghost use Rattle.cj_status.specs.Steps.{Gives, ComesBetween};
 
+use cj_brief::told_of_list;
 use cj_candidates::{Candidates, find_candidates};
-use cj_case::{Leaf, Measured, Problem};
+use cj_case::{Cell, Leaf, Measured, Problem};
 use cj_cells::RefineError;
+use cj_formats::CertFormat;
 use cj_io::Gate;
 use cj_outputs::{CandidateCounts, Wanted};
 use cj_pool::leaves_by_workers;
 use cj_status::{LimitFault, Status};
-use std::alloc::Global;
+use std::alloc::{AllocError, Global};
 use std::sync::Wait;
 use std::thread::Threads;
 
@@ -29,6 +36,8 @@ pub struct FoundLeaves {
     pub counted: CandidateCounts,
     /// The leaves of all candidates, in order of pair and time.
     pub leaves: Vec<Leaf>,
+    /// Where the certificate is in brief, those of the roots that are not far throughout, in order of slot, pair and time; else none.
+    pub told: Vec<Leaf>,
 }
 
 /// The leaves of a problem, where there are at most as many as are wanted.
@@ -43,7 +52,7 @@ pub fn refine<R: Threads + Wait + Sync, G: Gate + Sync>(
     ensures told { Gives ⊥ (λ refined. plain_leaves refined.leaves.items) result (within_cells wanted.leaves (list_candidates (plain_problem problem.now))) }
     ensures few { IfOk result (λ refined. length refined.leaves.items ≤ wanted.leaves) }
     ensures theirs { IfOk result (λ refined. AreOfProblem problem.now refined.measured) }
-    ensures refined { IfOk result (AreFoundLeaves (plain_problem problem.now)) }
+    ensures refined { IfOk result (AreFoundLeaves wanted.format (plain_problem problem.now)) }
     ensures ticks { OnOk result (HoldsAllTicks (plain_problem problem.now)) }
 {
     let found = find_candidates(rt, alloc, gate, problem, wanted.workers, wanted.leaves);
@@ -57,6 +66,7 @@ pub fn refine<R: Threads + Wait + Sync, G: Gate + Sync>(
         roots,
         ..
     } = candidates;
+    let kept = kept_roots(alloc, &roots, wanted.format)?;
     let leaves = leaves_by_workers(
         rt,
         alloc,
@@ -66,13 +76,44 @@ pub fn refine<R: Threads + Wait + Sync, G: Gate + Sync>(
         wanted.workers,
         wanted.leaves,
     );
-    match leaves {
-        Ok(leaves) => Ok(FoundLeaves {
-            measured,
-            counted,
-            leaves,
-        }),
-        Err(error) => Err(refused(error, wanted.leaves)),
+    let leaves = match leaves {
+        Ok(leaves) => leaves,
+        Err(error) => return Err(refused(error, wanted.leaves)),
+    };
+    let told = told_leaves(alloc, problem, &kept, &leaves, wanted.format)?;
+    Ok(FoundLeaves {
+        measured,
+        counted,
+        leaves,
+        told,
+    })
+}
+
+/// The roots once more, where a certificate of this format asks for them once they are halved; else none.
+fn kept_roots(alloc: Global, roots: &[Cell], format: CertFormat) -> Result<Vec<Cell>, AllocError>
+    ensures { IfOk result (λ kept. format ≡ Brief → kept.items ≡ roots.now) }
+{
+    match format {
+        CertFormat::Full(_) => Ok(Vec::new(alloc)),
+        CertFormat::Brief => roots.to_vec(alloc),
+    }
+}
+
+/// The leaves that a certificate of this format tells apart from the others, from the roots of all candidates and their leaves.
+pub fn told_leaves(
+    alloc: Global,
+    problem: &Problem,
+    roots: &[Cell],
+    leaves: &[Leaf],
+    format: CertFormat,
+) -> Result<Vec<Leaf>, AllocError>
+    requires roots { format ≡ Brief → plain_cells roots.now ≡ roots_of (is_candidate (plain_problem problem.now)) (plain_problem problem.now) }
+    requires leaves { plain_leaves leaves.now ≡ list_candidates (plain_problem problem.now) }
+    ensures { IfOk result (λ told. plain_leaves told.items ≡ told_in format (plain_problem problem.now)) }
+{
+    match format {
+        CertFormat::Full(_) => Ok(Vec::new(alloc)),
+        CertFormat::Brief => told_of_list(alloc, problem, roots, leaves),
     }
 }
 

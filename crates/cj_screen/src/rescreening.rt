@@ -20,7 +20,7 @@ ghost use Rattle.cj_screen.specs.Refining.{AreFoundLeaves, HoldsAllTicks, leaves
 ghost use Rattle.cj_status.specs.Steps.{Gives, ComesBetween};
 ghost use Rattle.cj_words.specs.Settings.{PlainSettings};
 
-use crate::refining::{FoundLeaves, counts_of, refine, refused};
+use crate::refining::{FoundLeaves, counts_of, refine, refused, told_leaves};
 use crate::screening::tell;
 use cj_again::{Matching, carried, changed_roots, kept_unchanged, match_objects, places};
 use cj_candidates::{Candidates, find_among, measure_again};
@@ -56,7 +56,7 @@ pub fn rescreen<R: Threads + Wait + Sync, G: Gate + Sync>(
     ensures read { result ≢ Err Status.ReadFault }
     // Whenever and by whomever messages are made.
     ensures told { (origin : PlainOrigin) → Gives ⊥ (outputs_in origin) result
-        (spec.outputs_again wanted.leaves wanted.tells wanted.version origin (plain_problem updating.base) (plain_problem updating.new)) }
+        (spec.outputs_again wanted.leaves wanted.tells wanted.format origin (plain_problem updating.base) (plain_problem updating.new)) }
     ensures found { IfOk result AreFound }
     ensures reports { (settings : PlainSettings) → wanted.tells ≡ spec.tells_of settings
         → IfOk result (λ found. ReportsOf settings (plain_problem updating.new) (report_in found).bytes (cert_in found).bytes) }
@@ -87,7 +87,7 @@ fn refine_again<R: Threads + Wait + Sync, G: Gate + Sync>(
     ensures between { IfErr result ComesBetween }
     ensures told { Gives ⊥ (λ again. plain_leaves again.found.leaves.items) result
         (leaves_within wanted.leaves (plain_problem base.now) (plain_problem new.now)) }
-    ensures refined { IfOk result (λ again. AreFoundLeaves (plain_problem new.now) again.found) }
+    ensures refined { IfOk result (λ again. AreFoundLeaves wanted.format (plain_problem new.now) again.found) }
     ensures kept { IfOk result (λ again. again.kept ≡ spec.kept_unchanged (plain_problem base.now) (plain_problem new.now)) }
     ensures ticks { OnOk result (HoldsAllTicks (plain_problem new.now)) }
 {
@@ -112,10 +112,10 @@ fn refine_after<R: Threads + Wait + Sync, G: Gate + Sync>(
     requires last { new.now.window.last.micros ≡ base.now.window.last.micros }
     requires threshold { new.now.threshold ≡ base.now.threshold }
     requires theirs { AreOfProblem base.now before.measured }
-    requires refined { AreFoundLeaves (plain_problem base.now) before }
+    requires refined { AreFoundLeaves wanted.format (plain_problem base.now) before }
     ensures too_many { IsErrOf result RefineError.TooMany → wanted.leaves < length (list_candidates (plain_problem new.now)) }
     ensures few { IfOk result (λ again. length again.found.leaves.items ≤ wanted.leaves) }
-    ensures refined { IfOk result (λ again. AreFoundLeaves (plain_problem new.now) again.found) }
+    ensures refined { IfOk result (λ again. AreFoundLeaves wanted.format (plain_problem new.now) again.found) }
     ensures kept { IfOk result (λ again. again.kept ≡ spec.kept_unchanged (plain_problem base.now) (plain_problem new.now)) }
     ensures ticks { OnOk result (HoldsAllTicks (plain_problem new.now)) }
 {
@@ -136,10 +136,12 @@ fn refine_after<R: Threads + Wait + Sync, G: Gate + Sync>(
         ..
     } = candidates;
     let leaves = leaves_again(rt, alloc, gate, &matching, &leaves, &roots, wanted)?;
+    let told = told_leaves(alloc, new, &roots, &leaves, wanted.format)?;
     let found = FoundLeaves {
         measured,
         counted,
         leaves,
+        told,
     };
     Ok(FoundAgain { found, kept })
 }

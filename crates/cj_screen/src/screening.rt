@@ -7,6 +7,7 @@ ghost use Rattle.cj_outputs.specs.declared.findings.Behind.TheVariants.{Nothing}
 ghost use Rattle.cj_words.specs.Settings.{PlainSettings};
 ghost use Rattle.cj_inputs.specs.Cases.{case_asked};
 ghost use Rattle.cj_outputs.specs.Again.{IsAcceptedLater};
+ghost use Rattle.cj_outputs.specs.Either.{is_brief};
 ghost use Rattle.cj_outputs.specs.Findings.{AreFound, cert_in, outputs_in, report_in};
 ghost use Rattle.cj_screen.specs.Headline.{ReportsOf};
 ghost use Rattle.cj_screen.specs.Refining.{AreFoundLeaves, HoldsAllTicks};
@@ -18,6 +19,7 @@ ghost use Rattle.cj_status.specs.Steps.{Gives, ComesBetween};
 use crate::refining::{FoundLeaves, refine};
 use crate::relatives::exact_relatives;
 use cj_blocks::acceptance_in_blocks;
+use cj_brief::acceptance_in_brief;
 use cj_case::Problem;
 use cj_cert::acceptance;
 use cj_io::Gate;
@@ -41,7 +43,7 @@ pub fn screen<R: Threads + Wait + Sync, G: Gate + Sync>(
     ensures read { result ≢ Err Status.ReadFault }
     // Whenever and by whomever messages are made.
     ensures told { (origin : PlainOrigin) → Gives ⊥ (outputs_in origin) result
-        (spec.outputs_within wanted.leaves wanted.tells wanted.version origin [] (plain_problem problem)) }
+        (spec.outputs_within wanted.leaves wanted.tells wanted.format origin [] (plain_problem problem)) }
     ensures same { IfOk result (λ found. found.problem ≡ problem) }
     ensures wanted { IfOk result (λ found. found.wanted ≡ wanted) }
     ensures behind { IfOk result (λ found. found.behind ≡ Nothing) }
@@ -51,7 +53,7 @@ pub fn screen<R: Threads + Wait + Sync, G: Gate + Sync>(
     // Whatever files the problem is that of, within the usual limits.
     ensures later { (settings : PlainSettings) (files : List FileBytes) → case_asked files settings ≡ Ok (plain_problem problem)
         → settings.limits ≡ USUAL → wanted.leaves ≤ settings.limits.leaves
-        → OnOk result (IsAcceptedLater settings files (cert_bytes wanted.version (plain_problem problem))) }
+        → OnOk result (IsAcceptedLater settings (is_brief wanted.format) files (cert_bytes wanted.format (plain_problem problem))) }
 {
     accepted_later(&problem);
     let refined = refine(rt, alloc, gate, &problem, wanted)?;
@@ -69,7 +71,7 @@ pub fn tell<R: Threads + Sync, G: Gate + Sync>(
     refined: FoundLeaves,
     behind: Behind,
 ) -> Result<Findings, AllocError>
-    requires refined { AreFoundLeaves (plain_problem problem) refined }
+    requires refined { AreFoundLeaves wanted.format (plain_problem problem) refined }
     requires ticks { HoldsAllTicks (plain_problem problem) }
     ensures same { IfOk result (λ found. found.problem ≡ problem) }
     ensures wanted { IfOk result (λ found. found.wanted ≡ wanted) }
@@ -81,6 +83,7 @@ pub fn tell<R: Threads + Sync, G: Gate + Sync>(
 {
     acceptance(&problem);
     acceptance_in_blocks(&problem);
+    acceptance_in_brief(&problem);
     exact_relatives(&problem);
     let leaves = refined.leaves.as_slice();
     let met = find_meetings(rt, alloc, gate, &problem, leaves, wanted.workers)?;
@@ -90,6 +93,7 @@ pub fn tell<R: Threads + Sync, G: Gate + Sync>(
         wanted,
         measured: refined.measured,
         leaves: refined.leaves,
+        told: refined.told,
         encounters: met.encounters,
         closest: met.closest,
         messages: met.messages,

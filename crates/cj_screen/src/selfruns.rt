@@ -13,7 +13,7 @@ use cj_base::Limits;
 use cj_case::Problem;
 use cj_cert::written_certificate;
 use cj_checker::{Answer, check};
-use cj_formats::CertVersion;
+use cj_formats::{CertFormat, CertVersion};
 use cj_gen::catalogue;
 use cj_inputs::prepare;
 use cj_io::{CalmFolder, Gate};
@@ -43,7 +43,7 @@ pub fn selfrun_catalogue<R: Threads + Wait + Sync, G: Gate + Sync>(
             sizes: false,
             coverage: false,
         },
-        version: CertVersion::One,
+        format: CertFormat::Full(CertVersion::One),
         workers: selfrun.workers,
         leaves: selfrun.cells,
     };

@@ -2,8 +2,8 @@ ghost use Rattle.std.specs.Prelude.{◌≡◌};
 ghost use Rattle.cj_screen.specs.Tasks.{puts_files};
 
 use cj_case::Problem;
-use cj_cert::Certificate;
 use cj_inputs::{LoneTracks, Updating};
+use cj_outputs::AnyCertificate;
 use cj_words::{Recipe, Rescreening, Screening, Selfrun, Thinning};
 
 /// What a command line asks for, once all that it reads is accepted.
@@ -18,7 +18,7 @@ pub enum Task<'w> {
     /// A made-up catalogue is screened.
     Selfrun(Selfrun),
     /// A certificate that is accepted is put, as it is rewritten.
-    Renew(Certificate),
+    Renew(AnyCertificate),
     /// Tracks are put with fewer nodes.
     Thin(LoneTracks, Thinning<'w>),
     /// A problem is screened again after updates.

@@ -61,7 +61,7 @@ pub fn conj<R: Threads + Wait + Sync, F: Folder, S: StreamShelf, G: Gate + Sync>
     // hold the ticks at which an object has a state, and no others: all of the window where it has to be covered. The certificate is accepted,
     // and acceptance implies such a split.
     ensures headline { (files outputs : List FileBytes) (screening : asks.PlainScreening) → F.files folder.old ≡ Some files → S.outputs shelf.old ≡ Some outputs
-        → command_of words.now ≡ Ok (Screens screening) → result ≡ Status.Ok → IsScreened screening.settings files outputs (S.outputs shelf.new) }
+        → command_of words.now ≡ Ok (Screens screening) → result ≡ Status.Ok → IsScreened screening files outputs (S.outputs shelf.new) }
 
     // Status 0 of a check says that the named file is an accepted certificate, whose cells split the common ticks of every pair, and of a report that
     // is named that it is that of these cells, and that its spans split the common ticks by the exact distance. Where a cause is due, status 1 for a
@@ -72,7 +72,7 @@ pub fn conj<R: Threads + Wait + Sync, F: Folder, S: StreamShelf, G: Gate + Sync>
         → IsCalm words.now (Rose (F.faults folder.old) (F.faults folder.new)) → ¬ Rose (S.refusals shelf.old) (S.refusals shelf.new)
         → (result ≡ cause) ⊎ (result ≡ Status.OutOfMemory) }
 
-    // Status 0 of a rewriting says that the named file is an accepted certificate, and that its text in version 2 is put, which is one too.
+    // Status 0 of a rewriting says that the named file is an accepted certificate, and that its text, of one in full in version 2, is put, which is one too.
     ensures rewritten { (files outputs : List FileBytes) (checking : asks.PlainChecking) → F.files folder.old ≡ Some files → S.outputs shelf.old ≡ Some outputs
         → command_of words.now ≡ Ok (Rewrites checking) → result ≡ Status.Ok → IsRewritten checking files outputs (S.outputs shelf.new) }
 

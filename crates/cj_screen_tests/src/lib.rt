@@ -6,6 +6,8 @@ mod advised;
 #[cfg(test)]
 mod all_faults;
 #[cfg(test)]
+mod brief;
+#[cfg(test)]
 mod catalogues;
 #[cfg(test)]
 mod certificates;

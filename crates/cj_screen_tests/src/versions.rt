@@ -34,7 +34,12 @@ BOX 2 1 1 7001000000000000 7001000000000000 0 0 225000000000000 225000000000000
 ";
 
 /// The text with another line in the place of one, counted from 1, or without it where the other is empty.
-fn changed(alloc: Global, text: &[u8], number: usize, other: &[u8]) -> Result<Vec<u8>, AllocError> {
+pub fn changed(
+    alloc: Global,
+    text: &[u8],
+    number: usize,
+    other: &[u8],
+) -> Result<Vec<u8>, AllocError> {
     let mut changed = Vec::new(alloc);
     for (place, line) in text.split(|b| *b == b'\n').enumerate() {
         let line = if number == place + 1 { other } else { line };

@@ -7,14 +7,13 @@ use Rattle.cj_base.proofs.LogicLemmas.{some_is}
 use Rattle.cj_base.specs.Limits.{USUAL}
 use Rattle.cj_epoch.specs.Reading.{reading_of}
 use Rattle.cj_epoch.specs.declared.fault.EpochFault.{EpochFault}
-use Rattle.cj_formats.specs.declared.cert_version.CertVersion.{CertVersion}
-use Rattle.cj_formats.specs.declared.cert_version.CertVersion.TheVariants.{One}
+use Rattle.cj_formats.specs.declared.cert_format.CertFormat.{CertFormat}
 use Rattle.cj_words.specs.declared.option.Opt.{Opt}
-use Rattle.cj_words.specs.declared.option.Opt.TheVariants.{From, To, Originator, Cells, AsHermite3, Sizes, CertVersion as Version, Rtn, Coverage, MustCover}
+use Rattle.cj_words.specs.declared.option.Opt.TheVariants.{From, To, Originator, Cells, AsHermite3, Sizes, CertVersion as Version, Rtn, Coverage, MustCover, Brief}
 use Rattle.cj_words.specs.declared.option.UsageFault.{UsageFault}
 use Rattle.cj_words.specs.Commands.{PlainScreening, screening_of, workers_of}
 use Rattle.cj_words.specs.Options.{Given, count_of, has_ends, is_given, is_named, value_of}
-use Rattle.cj_words.specs.Settings.{◌>>=◌, PlainSettings, are_in_order, epoch_or, in_range, name_or, not_before, number_or, originator_or, sized_of, suffix_of, threshold_of, unsized_of, version_or}
+use Rattle.cj_words.specs.Settings.{◌>>=◌, PlainSettings, are_in_order, epoch_or, format_or, in_range, name_or, not_before, number_or, originator_or, sized_of, suffix_of, threshold_of, unsized_of}
 
 -- an option that stands has a value
 pub given_value : (option : Opt) (gs : List Given) → is_given option gs ≡ true → is_some (value_of option gs) ≡ true
@@ -117,19 +116,19 @@ settings_of P made s x is same here = subst (λ (some : PlainScreening). P some.
 
 -- what holds of the settings of a screening, where it holds of what they are made of
 settings_made : (P : PlainSettings → Type 0) (threshold workers : Result ℕ UsageFault) (unsized : ℕ → Result PlainSettings UsageFault) (originator : Result (List ℕ) UsageFault)
-    (cells : PlainSettings → Result ℕ UsageFault) (sized : PlainSettings → Result PlainSettings UsageFault) (version : Result CertVersion UsageFault)
-    (make : PlainSettings → ℕ → List ℕ → ℕ → CertVersion → PlainScreening) (s : PlainScreening)
-    → ((x : PlainSettings) (w : ℕ) (o : List ℕ) (n : ℕ) (v : CertVersion) → x ≡ (make x w o n v).settings)
+    (cells : PlainSettings → Result ℕ UsageFault) (sized : PlainSettings → Result PlainSettings UsageFault) (format : Result CertFormat UsageFault)
+    (make : PlainSettings → ℕ → List ℕ → ℕ → CertFormat → PlainScreening) (s : PlainScreening)
+    → ((x : PlainSettings) (w : ℕ) (o : List ℕ) (n : ℕ) (k : CertFormat) → x ≡ (make x w o n k).settings)
     → ((t : ℕ) (x : PlainSettings) → unsized t ≡ Ok x → P x) → ((x y : PlainSettings) → P x → sized x ≡ Ok y → P y)
-    → (threshold >>= λ t. workers >>= λ w. unsized t >>= λ x. originator >>= λ o. cells x >>= λ n. sized x >>= λ y. version >>= λ v. Ok (make y w o n v)) ≡ Ok s → P s.settings
-settings_made P threshold workers unsized originator cells sized version make s kept first more is =
-    let a = step_of threshold (λ t. workers >>= λ w. unsized t >>= λ x. originator >>= λ o. cells x >>= λ n. sized x >>= λ y. version >>= λ v. Ok (make y w o n v)) s is in
-    let b = step_of workers (λ w. unsized a.0 >>= λ x. originator >>= λ o. cells x >>= λ n. sized x >>= λ y. version >>= λ v. Ok (make y w o n v)) s a.2 in
-    let c = step_of (unsized a.0) (λ x. originator >>= λ o. cells x >>= λ n. sized x >>= λ y. version >>= λ v. Ok (make y b.0 o n v)) s b.2 in
-    let d = step_of originator (λ o. cells c.0 >>= λ n. sized c.0 >>= λ y. version >>= λ v. Ok (make y b.0 o n v)) s c.2 in
-    let e = step_of (cells c.0) (λ n. sized c.0 >>= λ y. version >>= λ v. Ok (make y b.0 d.0 n v)) s d.2 in
-    let f = step_of (sized c.0) (λ y. version >>= λ v. Ok (make y b.0 d.0 e.0 v)) s e.2 in
-    let g = step_of version (λ v. Ok (make f.0 b.0 d.0 e.0 v)) s f.2 in
+    → (threshold >>= λ t. workers >>= λ w. unsized t >>= λ x. originator >>= λ o. cells x >>= λ n. sized x >>= λ y. format >>= λ k. Ok (make y w o n k)) ≡ Ok s → P s.settings
+settings_made P threshold workers unsized originator cells sized format make s kept first more is =
+    let a = step_of threshold (λ t. workers >>= λ w. unsized t >>= λ x. originator >>= λ o. cells x >>= λ n. sized x >>= λ y. format >>= λ k. Ok (make y w o n k)) s is in
+    let b = step_of workers (λ w. unsized a.0 >>= λ x. originator >>= λ o. cells x >>= λ n. sized x >>= λ y. format >>= λ k. Ok (make y w o n k)) s a.2 in
+    let c = step_of (unsized a.0) (λ x. originator >>= λ o. cells x >>= λ n. sized x >>= λ y. format >>= λ k. Ok (make y b.0 o n k)) s b.2 in
+    let d = step_of originator (λ o. cells c.0 >>= λ n. sized c.0 >>= λ y. format >>= λ k. Ok (make y b.0 o n k)) s c.2 in
+    let e = step_of (cells c.0) (λ n. sized c.0 >>= λ y. format >>= λ k. Ok (make y b.0 d.0 n k)) s d.2 in
+    let f = step_of (sized c.0) (λ y. format >>= λ k. Ok (make y b.0 d.0 e.0 k)) s e.2 in
+    let g = step_of format (λ k. Ok (make f.0 b.0 d.0 e.0 k)) s f.2 in
     settings_of P (make f.0 b.0 d.0 e.0 g.0) s f.0 (ok_is (make f.0 b.0 d.0 e.0 g.0) s g.2) (kept f.0 b.0 d.0 e.0 g.0) (more c.0 f.0 (first a.0 c.0 c.1) f.1)
 
 -- a screening whose ends stand has both
@@ -138,8 +137,8 @@ unfolding screening_of
 screening_ends gs s has is =
     let given = and_parts (is_given From gs) (is_given To gs) has in
     settings_made HasEnds (threshold_of gs) (workers_of gs) (λ t. unsized_of t gs) (in_range Originator (originator_or (codes "CONJ") (value_of Originator gs)))
-    (λ x. in_range Cells (number_or 1 x.limits.leaves x.limits.leaves (value_of Cells gs))) (λ x. sized_of x gs) (in_range Version (version_or One (value_of Version gs)))
-    (λ x w o n v. record { settings = x; workers = w; originator = o; cells = n; version = v; rtn = is_given Rtn gs }) s (λ x w o n v. refl)
+    (λ x. in_range Cells (number_or 1 x.limits.leaves x.limits.leaves (value_of Cells gs))) (λ x. sized_of x gs) (in_range Version (format_or (is_given Brief gs) (value_of Version gs)))
+    (λ x w o n k. record { settings = x; workers = w; originator = o; cells = n; format = k; rtn = is_given Rtn gs }) s (λ x w o n k. refl)
     (λ t x made. unsized_ends t gs x (given_value From gs given.0) (given_value To gs given.1) made) (λ x y both made. sized_ends x y gs both made) is
 
 pub some_mapped : {A B : Type 0} (f : A → B) (o : Option A) → is_some (option_map f o) ≡ is_some o

@@ -3,8 +3,7 @@ use Rattle.std.specs.Prelude.{ℕ, ◌-◌, ◌^◌, if◌then◌else◌, Bool, 
 use Rattle.std.specs.Option.{option_copied}
 use Rattle.cj_base.specs.Bounds.{MOST_MADE_OBJECTS}
 use Rattle.cj_base.specs.Limits.{USUAL}
-use Rattle.cj_formats.specs.declared.cert_version.CertVersion.{CertVersion as Version}
-use Rattle.cj_formats.specs.declared.cert_version.CertVersion.TheVariants.{One}
+use Rattle.cj_formats.specs.declared.cert_format.CertFormat.{CertFormat}
 use Rattle.cj_words.specs.declared.command.Checking as kept_checking
 use Rattle.cj_words.specs.declared.command.Command.{Command}
 use Rattle.cj_words.specs.declared.command.Command.TheVariants as commands
@@ -16,30 +15,31 @@ use Rattle.cj_words.specs.declared.command.Thinning as kept_thinning
 use Rattle.cj_words.specs.declared.command.Verb.{Verb}
 use Rattle.cj_words.specs.declared.command.Verb.TheVariants.{Screen, Check, Generate, Selfrun, Rewrite, Thin, Rescreen}
 use Rattle.cj_words.specs.declared.option.Opt.{Opt}
-use Rattle.cj_words.specs.declared.option.Opt.TheVariants.{Workers, Cert, Originator, Cells, Seed, Objects, Minutes, AsHermite3, CertVersion, Update, Changed, Report, Out, CertDir, Rtn, Within}
+use Rattle.cj_words.specs.declared.option.Opt.TheVariants.{Workers, Cert, Originator, Cells, Seed, Objects, Minutes, AsHermite3, CertVersion, Update, Changed, Report, Out, CertDir, Rtn, Brief, Within}
 use Rattle.cj_words.specs.declared.option.UsageFault.{UsageFault}
 use Rattle.cj_words.specs.declared.option.UsageFault.TheVariants.{Words, Value}
 use Rattle.cj_words.specs.Lines.{Line, line_of}
 use Rattle.cj_words.specs.Options.{Given, given_of, are_accepted, is_given, listed, value_of}
-use Rattle.cj_words.specs.Settings.{◌>>=◌, PlainSettings, plain_settings, file_text_or, in_range, is_path_or_none, name_or, number_or, originator_or, sized_of, suffix_of, threshold_of, unsized_of, update_or, update_or_none, version_or}
+use Rattle.cj_words.specs.Settings.{◌>>=◌, PlainSettings, plain_settings, file_text_or, format_or, in_range, is_path_or_none, name_or, number_or, originator_or, sized_of, suffix_of, threshold_of, unsized_of, update_or, update_or_none}
 
--- how files are screened: how many workers share the work, who makes the messages, the greatest number of leaves, the version of the
--- certificate, whether messages tell the relative state along the axes of the first object
+-- how files are screened: how many workers share the work, who makes the messages, the greatest number of leaves, how the
+-- certificate is written, whether messages tell the relative state along the axes of the first object
 pub record PlainScreening : Type 0 where
   pub settings : PlainSettings
   pub workers : ℕ
   pub originator : List ℕ
   pub cells : ℕ
-  pub version : Version
+  pub format : CertFormat
   pub rtn : Bool
 
 -- what is checked against files, or rewritten: the certificate in the file with this name, and beside it the report in the file with that
--- name, where one is named; what the names of update files end with, where files may be updates
+-- name, where one is named; what the names of update files end with, where files may be updates; whether the certificate may be in brief
 pub record PlainChecking : Type 0 where
   pub settings : PlainSettings
   pub certificate : List ℕ
   pub report : Option (List ℕ)
   pub update : Option (List ℕ)
+  pub brief : Bool
 
 -- how files are screened again, some of them in place of others: what the names of update files end with, whether the pairs that changed are
 -- told alone
@@ -82,7 +82,7 @@ pub data PlainCommand : Type 0 where
 -- ---- what a command says
 
 abbrev pub plain_screening : kept_screening.Screening → PlainScreening
-plain_screening s = record { settings = plain_settings s.settings; workers = s.workers; originator = s.originator.now; cells = s.cells; version = s.version; rtn = s.rtn }
+plain_screening s = record { settings = plain_settings s.settings; workers = s.workers; originator = s.originator.now; cells = s.cells; format = s.format; rtn = s.rtn }
 
 abbrev pub plain_checking : kept_checking.Checking → PlainChecking
 plain_checking c = record {
@@ -90,6 +90,7 @@ plain_checking c = record {
   certificate = c.certificate.now;
   report = option_copied c.report;
   update = option_copied c.update;
+  brief = c.brief;
 }
 
 abbrev pub plain_rescreening : kept_rescreening.Rescreening → PlainRescreening
@@ -128,8 +129,8 @@ screening_of givens = do
   originator ← in_range Originator (originator_or (codes "CONJ") (value_of Originator givens))
   cells ← in_range Cells (number_or 1 unsized.limits.leaves unsized.limits.leaves (value_of Cells givens))
   settings ← sized_of unsized givens
-  version ← in_range CertVersion (version_or One (value_of CertVersion givens))
-  Ok (record { settings = settings; workers = workers; originator = originator; cells = cells; version = version; rtn = is_given Rtn givens })
+  format ← in_range CertVersion (format_or (is_given Brief givens) (value_of CertVersion givens))
+  Ok (record { settings = settings; workers = workers; originator = originator; cells = cells; format = format; rtn = is_given Rtn givens })
 
 -- the same of a check, and of a certificate that is rewritten, which has no option for a report
 unfoldable pub checking_of : List Given → Result PlainChecking UsageFault
@@ -140,7 +141,7 @@ checking_of givens = do
   settings ← sized_of unsized givens
   update ← in_range Update (update_or_none settings.suffix (value_of Update givens))
   report ← in_range Report (name_or (value_of Report givens))
-  Ok (record { settings = settings; certificate = certificate; report = report; update = update })
+  Ok (record { settings = settings; certificate = certificate; report = report; update = update; brief = is_given Brief givens })
 
 -- the same of a screening again
 unfoldable pub rescreening_of : List Given → Result PlainRescreening UsageFault

@@ -4,7 +4,7 @@ use Rattle.std.specs.List.{list_all, before_first, after_first}
 use Rattle.std.specs.Str.{bytes_eq}
 use Rattle.cj_kvn.specs.Lines.{is_equals}
 use Rattle.cj_words.specs.declared.option.Opt.{Opt}
-use Rattle.cj_words.specs.declared.option.Opt.TheVariants.{Threshold, Workers, From, To, Suffix, Cert, Originator, Cells, Seed, Objects, Minutes, AsHermite3, Sizes, CertVersion, Update, Changed, Report, Out, CertDir, Rtn, Coverage, MustCover, Within, Warnings, AllFaults}
+use Rattle.cj_words.specs.declared.option.Opt.TheVariants.{Threshold, Workers, From, To, Suffix, Cert, Originator, Cells, Seed, Objects, Minutes, AsHermite3, Sizes, CertVersion, Update, Changed, Report, Out, CertDir, Rtn, Coverage, MustCover, Brief, Within, Warnings, AllFaults}
 use Rattle.cj_words.specs.declared.command.Verb.{Verb}
 use Rattle.cj_words.specs.declared.command.Verb.TheVariants.{Screen, Check, Generate, Selfrun, Rewrite, Thin, Rescreen}
 
@@ -31,6 +31,7 @@ name_of CertDir = codes "--cert-dir"
 name_of Rtn = codes "--rtn"
 name_of Coverage = codes "--coverage"
 name_of MustCover = codes "--must-cover"
+name_of Brief = codes "--brief"
 name_of Within = codes "--within"
 name_of Warnings = codes "--warnings"
 name_of AllFaults = codes "--all-faults"
@@ -68,11 +69,15 @@ is_screening_name name =
     || (bytes_eq name (name_of Cells)
     || (bytes_eq name (name_of CertVersion)
     || (bytes_eq name (name_of Out)
-    || (bytes_eq name (name_of Rtn) || (bytes_eq name (name_of Coverage) || bytes_eq name (name_of MustCover))))))))
+    || (bytes_eq name (name_of Rtn)
+    || (bytes_eq name (name_of Coverage) || (bytes_eq name (name_of MustCover) || bytes_eq name (name_of Brief)))))))))
 
 -- the name of an option of each command that checks the certificate of a directory
 abbrev pub is_checking_name : List ℕ → Bool
-is_checking_name name = is_directory_name name || (bytes_eq name (name_of Cert) || (bytes_eq name (name_of CertDir) || bytes_eq name (name_of Update)))
+is_checking_name name =
+    is_directory_name name
+    || (bytes_eq name (name_of Cert)
+    || (bytes_eq name (name_of CertDir) || (bytes_eq name (name_of Update) || bytes_eq name (name_of Brief))))
 
 -- the name of an option of the command
 abbrev pub is_name : Verb → List ℕ → Bool
@@ -91,7 +96,9 @@ abbrev pub is_flag : List ℕ → Bool
 is_flag name =
     bytes_eq name (name_of AsHermite3)
     || (bytes_eq name (name_of Changed)
-    || (bytes_eq name (name_of Rtn) || (bytes_eq name (name_of Coverage) || (bytes_eq name (name_of MustCover) || is_telling_name name))))
+    || (bytes_eq name (name_of Rtn)
+    || (bytes_eq name (name_of Coverage)
+    || (bytes_eq name (name_of MustCover) || (bytes_eq name (name_of Brief) || is_telling_name name)))))
 
 -- a word that may stand on its own as a directory or as a value: not empty, and no option
 abbrev pub is_value : List ℕ → Bool
@@ -189,7 +196,8 @@ are_results_single givens =
     is_single Originator givens
     && (is_single CertVersion givens
     && (is_single Report givens
-    && (is_single Out givens && (is_single CertDir givens && (is_single Rtn givens && is_single Coverage givens)))))
+    && (is_single Out givens
+    && (is_single CertDir givens && (is_single Rtn givens && (is_single Coverage givens && is_single Brief givens))))))
 
 -- so does each other option
 abbrev pub are_others_single : List Given → Bool
@@ -226,7 +234,7 @@ has_ends givens = is_given From givens && is_given To givens
 
 -- something is asked of messages or of the certificate
 abbrev pub shapes_outputs : List Given → Bool
-shapes_outputs givens = is_given Originator givens || (is_given CertVersion givens || is_given Rtn givens)
+shapes_outputs givens = is_given Originator givens || (is_given CertVersion givens || (is_given Rtn givens || is_given Brief givens))
 
 -- a report is named where it is to tell which ticks each object covers
 abbrev pub has_report : List Given → Bool

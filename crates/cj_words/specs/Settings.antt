@@ -1,5 +1,5 @@
 -- What the words of a command line ask for.
-use Rattle.std.specs.Prelude.{ℕ, ◌-◌, ◌^◌, Bool, true, not, ◌&&◌, ◌==◌, nat_le, length, if◌then◌else◌, List, Option, Some, None, Result, Ok, Err, codes, unwrap_or}
+use Rattle.std.specs.Prelude.{ℕ, ◌-◌, ◌^◌, Bool, true, false, not, ◌&&◌, ◌==◌, nat_le, length, if◌then◌else◌, List, Option, Some, None, Result, Ok, Err, codes, unwrap_or}
 use Rattle.std.specs.Borrow.{Bor}
 use Rattle.std.specs.List.{list_all}
 use Rattle.std.specs.Option.{option_and_then, option_map, option_copied}
@@ -7,7 +7,10 @@ use Rattle.std.specs.Char.{is_ascii_digit}
 use Rattle.std.specs.Str.{bytes_eq}
 use Rattle.std.specs.Str.Parse.{digits_value}
 use Rattle.cj_base.specs.Limits.{PlainLimits, USUAL, plain_limits}
+use Rattle.cj_formats.specs.declared.cert_format.CertFormat.{CertFormat}
+use Rattle.cj_formats.specs.declared.cert_format.CertFormat.TheVariants.{Full, Brief}
 use Rattle.cj_formats.specs.declared.cert_version.CertVersion.{CertVersion}
+use Rattle.cj_formats.specs.declared.cert_version.CertVersion.TheVariants.{One}
 use Rattle.cj_formats.specs.Versions.{version_of_number}
 use Rattle.cj_kvn.specs.Originators.{is_originator}
 use Rattle.cj_base.specs.PlainTicks.{micros_of}
@@ -75,6 +78,13 @@ number_or low high left_out (Some text) = number_in low high text
 abbrev pub version_or : CertVersion → Option (List ℕ) → Option CertVersion
 version_or left_out None = Some left_out
 version_or left_out (Some text) = option_and_then version_of_number (number_in 0 (2 ^ 64 - 1) text)
+
+-- How a certificate is written: in the version that an option tells, the first one where it is left out; in brief where that is asked, and
+-- then no version may be told beside it
+abbrev pub format_or : Bool → Option (List ℕ) → Option CertFormat
+format_or false value = option_map Full (version_or One value)
+format_or true None = Some Brief
+format_or true (Some text) = None
 
 -- an end of the window that may be left out, as a tick
 abbrev pub epoch_or : Option (List ℕ) → Option (Option ℕ)

@@ -2,7 +2,7 @@ ghost use Rattle.std.specs.Prelude.{◌≡◌, ◌≤◌, true, is_some};
 ghost use Rattle.cj_base.specs.Bounds.{MOST_LEAVES, MOST_MADE_OBJECTS};
 
 use crate::settings::Settings;
-use cj_formats::CertVersion;
+use cj_formats::CertFormat;
 
 /// The command that the first word of a command line names.
 #[derive(Clone, Copy, Debug, PartialEq, Eq)]
@@ -45,8 +45,8 @@ pub struct Screening<'w> {
     pub originator: &'w [u8],
     /// The greatest number of leaves, from 1 to that of the limits.
     pub cells: u64,
-    /// The version of the certificate.
-    pub version: CertVersion,
+    /// How the certificate is written: in full, in one of its versions, or in brief.
+    pub format: CertFormat,
     /// Whether messages tell the state of the second object along the radial, transverse and normal axes of the first.
     pub rtn: bool,
     pub ghost some_workers: { 1 ≤ workers },
@@ -65,6 +65,8 @@ pub struct Checking<'w> {
     pub report: Option<&'w [u8]>,
     /// What the names of update files end with, where files may be updates: 1 to 20 bytes from 33 to 126, none of them `/`, and not the suffix.
     pub update: Option<&'w [u8]>,
+    /// Whether the certificate may be in brief.
+    pub brief: bool,
 }
 
 /// How the files of a directory are screened again, where some of them are updates of others. The update suffix is lent by the words.

@@ -10,7 +10,7 @@ ghost use Rattle.cj_words.specs.Settings.{said};
 use crate::command::{Checking, Command, Recipe, Rescreening, Screening, Selfrun, Thinning, Verb};
 use crate::given::{are_options, is_given, value_of};
 use crate::line::{Line, line_of};
-use crate::numbers::{number_or, out_of_range, version_or};
+use crate::numbers::{format_or, number_or, out_of_range};
 use crate::option::{Opt, UsageFault};
 use crate::reading::{sized_of, suffix_of, threshold_of, unsized_of};
 use crate::settings::Word;
@@ -18,7 +18,6 @@ use crate::texts::{
     file_text_or, is_path_or_none, name_or, originator_or, update_or, update_or_none,
 };
 use cj_base::{Limits, MOST_MADE_OBJECTS};
-use cj_formats::CertVersion;
 
 /// Reads the words of a command line, without the program's name.
 ///
@@ -118,7 +117,10 @@ fn screening_of(words: &[Word]) -> Result<Screening<'_>, UsageFault>
         return Err(out_of_range(Opt::Cells));
     };
     let settings = sized_of(unsized_settings, words)?;
-    let Some(version) = version_or(value_of(words, Opt::CertVersion), CertVersion::One) else {
+    let Some(format) = format_or(
+        value_of(words, Opt::CertVersion),
+        is_given(words, Opt::Brief),
+    ) else {
         return Err(out_of_range(Opt::CertVersion));
     };
     Ok(Screening {
@@ -126,7 +128,7 @@ fn screening_of(words: &[Word]) -> Result<Screening<'_>, UsageFault>
         workers,
         originator,
         cells,
-        version,
+        format,
         rtn: is_given(words, Opt::Rtn),
     })
 }
@@ -153,6 +155,7 @@ fn checking_of(words: &[Word]) -> Result<Checking<'_>, UsageFault>
         certificate,
         report,
         update,
+        brief: is_given(words, Opt::Brief),
     })
 }
 

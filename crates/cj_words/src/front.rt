@@ -1,9 +1,9 @@
 //! Options at the front of words.
-ghost use Rattle.std.specs.Prelude.{◌≡◌, ◌≤◌, ◌<◌, List, [], ◌∷◌, false, Option, Some, None, IfSome, IfNone, length, true, position, ◌==◌};
+ghost use Rattle.std.specs.Prelude.{◌≡◌, ◌<◌, [], ◌∷◌, false, Option, Some, None, IfSome, IfNone, length, true, position, ◌==◌};
 ghost use Rattle.cj_words.specs.Options as spec;
 ghost use Rattle.cj_kvn.specs.Lines.{is_equals};
 ghost use Rattle.cj_words.specs.Options.{given_of, in_front, has_equals};
-ghost use Rattle.std.specs.List.{before_first, after_first, position_or_len};
+ghost use Rattle.std.specs.List.{before_first, after_first};
 
 use crate::option::{Opt, option_name};
 use crate::settings::Word;
@@ -48,6 +48,7 @@ fn is_flag(name: &[u8]) -> bool
         || name == option_name(Opt::Rtn)
         || name == option_name(Opt::Coverage)
         || name == option_name(Opt::MustCover)
+        || name == option_name(Opt::Brief)
         || is_telling(name)
 }
 

@@ -1,5 +1,5 @@
 //! The options among the words of a command line.
-ghost use Rattle.std.specs.Prelude.{◌≡◌, ◌≤◌, ◌<◌, IsTrue, Option, length};
+ghost use Rattle.std.specs.Prelude.{◌≡◌, ◌<◌, IsTrue, Option};
 ghost use Rattle.std.specs.Option.{option_copied};
 ghost use Rattle.std.specs.Str.{bytes_eq};
 ghost use Rattle.cj_words.specs.Options as spec;
@@ -64,6 +64,7 @@ fn are_results_single(words: &[Word]) -> bool
         && is_single(words, Opt::CertDir)
         && is_single(words, Opt::Rtn)
         && is_single(words, Opt::Coverage)
+        && is_single(words, Opt::Brief)
 }
 
 /// Whether each other option does.
@@ -125,6 +126,7 @@ fn shapes_outputs(words: &[Word]) -> bool
     is_given(words, Opt::Originator)
         || is_given(words, Opt::CertVersion)
         || is_given(words, Opt::Rtn)
+        || is_given(words, Opt::Brief)
 }
 
 fn are_known(words: &[Word], verb: Verb) -> bool
@@ -182,6 +184,7 @@ fn is_of_screening(name: &[u8]) -> bool
         || is_named(name, Opt::Rtn)
         || is_named(name, Opt::Coverage)
         || is_named(name, Opt::MustCover)
+        || is_named(name, Opt::Brief)
 }
 
 /// Whether it is an option of each command that checks the certificate of a directory.
@@ -192,6 +195,7 @@ fn is_of_checking(name: &[u8]) -> bool
         || is_named(name, Opt::Cert)
         || is_named(name, Opt::CertDir)
         || is_named(name, Opt::Update)
+        || is_named(name, Opt::Brief)
 }
 
 /// Whether it is an option of each command that reads the files of a directory.

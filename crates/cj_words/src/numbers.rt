@@ -5,7 +5,7 @@ ghost use Rattle.cj_words.specs.Settings as spec;
 
 use crate::digits::read_number;
 use crate::option::{Opt, UsageFault};
-use cj_formats::CertVersion;
+use cj_formats::{CertFormat, CertVersion};
 
 /// What is wrong where the value of the option is out of its range.
 pub fn out_of_range(option: Opt) -> UsageFault
@@ -28,8 +28,20 @@ pub fn number_or(value: Option<&[u8]>, least: u64, greatest: u64, left_out: u64)
     }
 }
 
+/// How a certificate is written: in the version whose number a value says, which is version 1 where the value is left out; or in brief, where
+/// that is asked and no version is.
+pub fn format_or(value: Option<&[u8]>, brief: bool) -> Option<CertFormat>
+    ensures { result ≡ spec.format_or brief (option_copied value.entry) }
+{
+    match (brief, value) {
+        (false, value) => Some(CertFormat::Full(version_or(value, CertVersion::One)?)),
+        (true, None) => Some(CertFormat::Brief),
+        (true, Some(_)) => None,
+    }
+}
+
 /// The version whose number a value says, or the one that stands for a value that is left out.
-pub fn version_or(value: Option<&[u8]>, left_out: CertVersion) -> Option<CertVersion>
+fn version_or(value: Option<&[u8]>, left_out: CertVersion) -> Option<CertVersion>
     ensures { result ≡ spec.version_or left_out (option_copied value.entry) }
 {
     match value {

@@ -48,6 +48,8 @@ pub enum Opt {
     Coverage,
     /// Whether an object that does not cover the window is refused; a flag.
     MustCover,
+    /// Whether the certificate is in brief, which is version 3; a flag.
+    Brief,
     /// How far an object with fewer nodes may be from where it was, in metres.
     Within,
     /// Whether what a person may not have meant is told wherever standard error goes; a flag.
@@ -92,6 +94,7 @@ pub fn option_name(option: Opt) -> &'static [u8]
         Opt::Rtn => b"--rtn",
         Opt::Coverage => b"--coverage",
         Opt::MustCover => b"--must-cover",
+        Opt::Brief => b"--brief",
         Opt::Within => b"--within",
         Opt::Warnings => b"--warnings",
         Opt::AllFaults => b"--all-faults",

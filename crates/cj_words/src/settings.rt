@@ -1,4 +1,4 @@
-ghost use Rattle.std.specs.Prelude.{◌≤◌, ◌≡◌, Option, Some};
+ghost use Rattle.std.specs.Prelude.{◌≤◌, ◌≡◌, Option};
 ghost use Rattle.cj_base.specs.Limits.{USUAL, plain_limits};
 ghost use Rattle.cj_base.specs.declared.tick.Tick.{Tick};
 

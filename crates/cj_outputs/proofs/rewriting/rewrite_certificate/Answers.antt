@@ -2,11 +2,10 @@ use Rattle.std.proofs.Common.{List, ◌≤◌, length, Ok, Result, subst, sym, a
 use Rattle.std.proofs.lemmas.Result.{err_from_is_err_and}
 use Rattle.cj_io.specs.declared.file.FileBytes.{FileBytes}
 use Rattle.cj_words.specs.Commands.{plain_checking}
-use Rattle.cj_cert.specs.Certificates.{PlainCertificate, plain_certificate}
-use Rattle.cj_blocks.specs.Rewritten.{in_version_2}
-use Rattle.cj_cert_text.specs.Texts.{text_of}
 use Rattle.cj_inputs.specs.CheckInputs.{PlainInputs, inputs_asked, plain_inputs}
 use Rattle.cj_outputs.specs.Again.{IsAcceptedLater}
+use Rattle.cj_outputs.specs.Either.{PlainAnyCertificate, any_renewed, text_in}
+use Rattle.cj_outputs.specs.EitherKept.{plain_any}
 use Rattle.cj_status.specs.declared.status.Status.{Status}
 use Rattle.cj_outputs.specs.Outcome.{outputs_renewed, outputs_rewritten}
 use Rattle.cj_outputs.proofs.AcceptingLemmas.{outputs_made_from, same_error, unaccepted, unprepared}
@@ -14,14 +13,14 @@ use Rattle.cj_outputs.proofs.CheckLemmas.{renews}
 use Rattle.cj_outputs.proofs.rewriting.rewrite_certificate.Goals as goal
 
 -- what is put of a certificate that is accepted
-abbrev due : PlainInputs → PlainCertificate → Result (List FileBytes) Status
-due inputs certificate = Ok (outputs_renewed (in_version_2 inputs.case certificate))
+abbrev due : PlainInputs → PlainAnyCertificate → Result (List FileBytes) Status
+due inputs certificate = Ok (outputs_renewed (any_renewed inputs.case certificate))
 
 pub returns-clause-renews : goal.returns-clause-renews
 returns-clause-renews g c = λ files told.
-    renews files (plain_checking c.args.checking.now) (plain_inputs c.in_ok-problem.field-0) (plain_certificate c.in_ok-renewed.field-0) (c.in_ok-problem.ensures.told files told)
+    renews files (plain_checking c.args.checking.now) (plain_inputs c.in_ok-problem.field-0) (plain_any c.in_ok-renewed.field-0) (c.in_ok-problem.ensures.told files told)
     (record {
-      certificate = plain_certificate c.in_ok-accepted.accepted;
+      certificate = plain_any c.in_ok-accepted.accepted;
       text = c.in_ok-accepted.ensures.only.0;
       fits = c.in_ok-accepted.ensures.only.1;
       accepted = c.in_ok-accepted.ensures.holds;
@@ -29,15 +28,15 @@ returns-clause-renews g c = λ files told.
       still = c.in_ok-renewed.ensures.accepted;
     })
     (λ read. let checking = plain_checking c.args.checking.now in
-    subst (λ (r : PlainCertificate). length (text_of r) ≤ 1_073_741_824 → IsAcceptedLater checking.settings files (text_of r)) (sym c.in_ok-renewed.ensures.value)
-    (c.accepted_later.ensures.rewritten checking.settings files (plain_certificate c.in_ok-accepted.accepted) read c.in_ok-accepted.ensures.holds c.in_ok-accepted.ensures.only.1))
+    subst (λ (r : PlainAnyCertificate). length (text_in r) ≤ 1_073_741_824 → IsAcceptedLater checking.settings checking.brief files (text_in r)) (sym c.in_ok-renewed.ensures.value)
+    (c.accepted_later.ensures.rewritten checking.settings files checking.brief (plain_any c.in_ok-accepted.accepted) read c.in_ok-accepted.ensures.may c.in_ok-accepted.ensures.holds c.in_ok-accepted.ensures.only.1))
 
 pub returns-clause-told : goal.returns-clause-told
 unfolding outputs_rewritten
 returns-clause-told g c = λ files told.
-    outputs_made_from due (inputs_asked files (plain_checking c.args.checking.now)) (plain_inputs c.in_ok-problem.field-0)
-    (plain_certificate c.in_ok-accepted.accepted) (c.in_ok-problem.ensures.told files told) c.in_ok-accepted.ensures.told
-    ∙ ap (λ (x : PlainCertificate). Ok (outputs_renewed x)) (sym c.in_ok-renewed.ensures.value)
+    outputs_made_from c.args.checking.now.brief due (inputs_asked files (plain_checking c.args.checking.now)) (plain_inputs c.in_ok-problem.field-0)
+    (plain_any c.in_ok-accepted.accepted) (c.in_ok-problem.ensures.told files told) c.in_ok-accepted.ensures.told
+    ∙ ap (λ (x : PlainAnyCertificate). Ok (outputs_renewed x)) (sym c.in_ok-renewed.ensures.value)
 
 pub returns-in_err-problem : goal.returns-in_err-problem
 unfolding outputs_rewritten
@@ -48,7 +47,7 @@ returns-in_err-problem g c =
       between = prepared.between;
       read = λ is. prepared.read (same_error is);
       told = λ files told.
-          unprepared due _ c.in_err-problem.field-0.0 (inputs_asked files (plain_checking c.args.checking.now)) (prepared.told files told);
+          unprepared c.args.checking.now.brief due _ c.in_err-problem.field-0.0 (inputs_asked files (plain_checking c.args.checking.now)) (prepared.told files told);
       renews = λ files told. tt;
       files = prepared.files;
       later = prepared.later;
@@ -63,7 +62,7 @@ returns-in_err-accepted g c =
       between = accepted.between;
       read = λ is. absurd (accepted.read (same_error is));
       told = λ files told.
-          unaccepted due _ c.in_err-accepted.field-0.0 (inputs_asked files (plain_checking c.args.checking.now)) (plain_inputs c.in_ok-problem.field-0)
+          unaccepted c.args.checking.now.brief due _ c.in_err-accepted.field-0.0 (inputs_asked files (plain_checking c.args.checking.now)) (plain_inputs c.in_ok-problem.field-0)
           (c.in_ok-problem.ensures.told files told) accepted.told;
       renews = λ files told. tt;
       files = c.in_ok-problem.ensures.files;

@@ -20,12 +20,12 @@ pub returns : goal.returns
 returns g c =
     let found = c.in_ok-found.ensures in
     let wanted = c.of-wanted.ensures in
-    all_found c.args.rescreening.now c.args.updating c.of-wanted.result c.if-rescreening.false wanted.tells wanted.version wanted.leaves c.args.now c.in_ok-found.found c.of.result
+    all_found c.args.rescreening.now c.args.updating c.of-wanted.result c.if-rescreening.false wanted.tells wanted.format wanted.leaves c.args.now c.in_ok-found.found c.of.result
     c.of.ensures found.told found.found found.reports found.summary
 
 pub returns-in_err-found : goal.returns-in_err-found
 returns-in_err-found g c =
     let wanted = c.of-wanted.ensures in
     let p = err_from_is_err_and c.from_residual-in_err-found.result c.from_residual-in_err-found.ensures.1 in
-    rw (p.1, p.2) (all_fail c.args.rescreening.now c.args.updating c.of-wanted.result c.if-rescreening.false wanted.tells wanted.version wanted.leaves c.args.now.micros
+    rw (p.1, p.2) (all_fail c.args.rescreening.now c.args.updating c.of-wanted.result c.if-rescreening.false wanted.tells wanted.format wanted.leaves c.args.now.micros
     c.in_err-found.field-0.0 c.in_err-found.ensures.told)

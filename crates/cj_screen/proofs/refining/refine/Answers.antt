@@ -1,8 +1,9 @@
 use Rattle.std.proofs.Common.{◌≤◌, ◌∙◌, Ok, Err, length, ap, sym, arith}
 use Rattle.std.proofs.lemmas.List.{length-map}
+use Rattle.std.proofs.lemmas.Result.{err_from_is_err_and}
 use Rattle.cj_case.specs.Problems.{plain_problem}
-use Rattle.cj_case.specs.Cells.{plain_cell}
-use Rattle.cj_case.specs.Leaves.{plain_leaf}
+use Rattle.cj_case.specs.Cells.{plain_cell, plain_cells}
+use Rattle.cj_case.specs.Leaves.{plain_leaf, plain_leaves}
 use Rattle.cj_cells.specs.Lists.{list_candidates}
 use Rattle.cj_cells.proofs.LeafLemmas.{list_split}
 use Rattle.cj_screen.proofs.ReportLemmas.{between_refined, few_leaves, stops_refined}
@@ -33,8 +34,24 @@ returns-in-Err-leaves g c =
       ticks = tt;
     })
 
-pub returns-in-Ok-leaves : goal.returns-in-Ok-leaves
-returns-in-Ok-leaves g c =
+pub returns-in_err-kept : goal.returns-in_err-kept
+returns-in_err-kept g c =
+    let p = err_from_is_err_and c.from_residual.result c.from_residual.ensures.1 in
+    rw (p.1, p.2) (record { between = tt; told = tt; few = tt; theirs = tt; refined = tt; ticks = tt })
+
+pub returns-in_err-told : goal.returns-in_err-told
+returns-in_err-told g c =
+    let p = err_from_is_err_and c.from_residual-in_err-told.result c.from_residual-in_err-told.ensures.1 in
+    rw (p.1, p.2) (record { between = tt; told = tt; few = tt; theirs = tt; refined = tt; ticks = tt })
+
+pub told_leaves-requires-clause-roots : goal.told_leaves-requires-clause-roots
+told_leaves-requires-clause-roots g c = λ is. ap plain_cells (c.deref-2.ensures.value ∙ c.in_ok-kept.ensures is ∙ c.deref.ensures.value) ∙ c.in-Ok.ensures.roots
+
+pub told_leaves-requires-clause-leaves : goal.told_leaves-requires-clause-leaves
+told_leaves-requires-clause-leaves g c = ap plain_leaves c.deref-3.ensures.value ∙ c.in-Ok-leaves.ensures.value
+
+pub returns : goal.returns
+returns g c =
     let all = list_candidates (plain_problem c.args.problem.now) in
     let found = c.in-Ok.ensures in
     let roots = c.in-Ok.candidates.roots in
@@ -50,6 +67,7 @@ returns-in-Ok-leaves g c =
       refined = record {
         measured = found.measured;
         leaves = listed.value;
+        told = c.in_ok-told.ensures;
         few = omega (arith, listed.within, leaves.ok.0, c.args.wanted.few_leaves);
         kept = counted.kept ∙ found.kept;
         touching = counted.touching ∙ found.touching;

@@ -1,4 +1,4 @@
-use Rattle.std.proofs.Common.{◌∙◌, ◌<◌, List, length, ap, subst, arith}
+use Rattle.std.proofs.Common.{◌∙◌, ◌<◌, List, length, ap, subst, sym, arith}
 use Rattle.std.proofs.lemmas.List.{length-map}
 use Rattle.std.proofs.lemmas.Result.{err_from_is_err_and}
 use Rattle.cj_case.specs.declared.problem.Problem.{Problem}
@@ -11,6 +11,7 @@ use Rattle.cj_cells.proofs.LeafLemmas.{list_split}
 use Rattle.cj_cells.proofs.ListingLemmas.{error_is}
 use Rattle.cj_cells.specs.Lists.{list_candidates}
 use Rattle.cj_hermite.specs.Roots.{roots_of}
+use Rattle.cj_outputs.specs.Findings.{told_in}
 use Rattle.cj_screen.specs.Refining.{AreFoundLeaves}
 use Rattle.cj_screen.specs.declared.refining.FoundLeaves.{FoundLeaves}
 use Rattle.cj_screen.proofs.RescreenLemmas.{kept_of_both}
@@ -29,10 +30,11 @@ returns-clause-refined g c =
     let leaves = c.in_ok-leaves.leaves in
     let value = c.in_ok-leaves.ensures.value in
     let cells = ap (λ (cs : List PlainCell). length cs) found.roots in
-    let all : FoundLeaves = record { measured = c.in_ok-candidates.candidates.measured; counted = c.counts_of-counted.result; leaves = leaves } in
-    subst (λ (n : Problem). AreFoundLeaves (plain_problem n) all) same (record {
+    let all : FoundLeaves = record { measured = c.in_ok-candidates.candidates.measured; counted = c.counts_of-counted.result; leaves = leaves; told = c.in_ok-told.told } in
+    subst (λ (n : Problem). AreFoundLeaves c.args.wanted.format (plain_problem n) all) same (record {
       measured = found.measured;
       leaves = value;
+      told = c.in_ok-told.ensures ∙ ap (λ (n : Problem). told_in c.args.wanted.format (plain_problem n)) (sym same);
       few = omega (arith, c.in_ok-leaves.ensures.within, leaves.ok.0, c.args.wanted.few_leaves);
       kept = counted.kept ∙ found.kept;
       touching = counted.touching ∙ found.touching;
@@ -80,3 +82,8 @@ returns-in_err-leaves-clause-too_many g c =
     let p = err_from_is_err_and c.from_residual-in_err-leaves.result c.from_residual-in_err-leaves.ensures.1 in
     rw (p.1, p.2) (λ is.
     subst (λ (n : Problem). c.args.wanted.leaves < length (list_candidates (plain_problem n))) c.in_ok-matching.ensures.new (c.in_err-leaves.ensures.too_many (error_is _ _ is)))
+
+pub returns-in_err-told-clause-too_many : goal.returns-in_err-told-clause-too_many
+returns-in_err-told-clause-too_many g c =
+    let p = err_from_is_err_and c.from_residual-in_err-told.result c.from_residual-in_err-told.ensures.1 in
+    rw (p.1, p.2) (λ is. absurd cc)

@@ -29,7 +29,7 @@ returns g c =
       behind = told.behind;
       found = told.found;
       reports = told.reports;
-      later = λ settings files read usual few. c.accepted_later.ensures.written settings files c.args.wanted.version read usual
+      later = λ settings files read usual few. c.accepted_later.ensures.written settings files c.args.wanted.format read usual
           (omega (arith, ap (λ (ss : List PlainLeaf). length ss) refined.refined.leaves, length-map c.in_ok-refined.refined.leaves.items plain_leaf, refined.few, few));
     }
 
@@ -57,7 +57,7 @@ returns-in_err-refined g c =
     rw (p.1, p.2) (record {
       between = c.in_err-refined.ensures.between;
       read = λ is. never_read s _ told is;
-      told = λ origin. outputs_stop wanted.leaves wanted.tells wanted.version origin _ (plain_problem c.args.problem) s told;
+      told = λ origin. outputs_stop wanted.leaves wanted.tells wanted.format origin _ (plain_problem c.args.problem) s told;
       same = tt;
       wanted = tt;
       behind = tt;

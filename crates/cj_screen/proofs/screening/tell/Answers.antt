@@ -5,15 +5,16 @@ use Rattle.cj_case.specs.Leaves.{PlainLeaf, plain_leaves}
 use Rattle.cj_case.specs.Order.{AreInOrder}
 use Rattle.cj_case.specs.declared.leaf.Leaf.{Leaf}
 use Rattle.cj_cells.specs.Lists.{list_candidates}
-use Rattle.cj_blocks.specs.Rewritten.{written_in}
 use Rattle.cj_meet.specs.Closest.{HasNearest, KeepTheirPieces}
 use Rattle.cj_meet.specs.Encounters.{encounters_of}
+use Rattle.cj_outputs.specs.Either.{any_written}
 use Rattle.cj_outputs.specs.Meetings.{AreMeetings}
 use Rattle.cj_outputs.specs.Messages.{has_message}
 use Rattle.cj_outputs.specs.Outcome.{report_bytes}
 use Rattle.cj_outputs.specs.Summaries.{tally_with}
 use Rattle.cj_report.specs.declared.tells.Tells.{Tells}
 use Rattle.cj_screen.proofs.CoverLemmas.{covers_exactly}
+use Rattle.cj_screen.proofs.ReportLemmas.{written_accepted}
 use Rattle.cj_screen.proofs.SplitLemmas.{splits}
 use Rattle.cj_screen.proofs.screening.tell.Goals as goal
 
@@ -58,6 +59,7 @@ returns g c =
         measured = refined.measured;
         leaves = refined.leaves;
         few = refined.few;
+        told = refined.told;
         encounters = met.encounters;
         closest = met.closest;
         messages = met.messages;
@@ -70,10 +72,10 @@ returns g c =
         relative = c.exact_relatives.ensures c.requires.ticks.sound nearest;
         covered = covers_exactly case;
         certified = record {
-          certificate = written_in c.args.wanted.version case;
+          certificate = any_written c.args.wanted.format case;
           text = refl;
-          accepted = c.acceptance_in_blocks.ensures.in_version c.args.wanted.version;
-          implies = c.acceptance.ensures.splits;
+          accepted = written_accepted case c.args.wanted.format c.acceptance_in_blocks.ensures.in_version c.acceptance_in_brief.ensures.written;
+          implies = (c.acceptance.ensures.splits, c.acceptance_in_brief.ensures.splits);
         };
       };
     }

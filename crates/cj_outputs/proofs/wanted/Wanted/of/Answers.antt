@@ -4,8 +4,8 @@ use Rattle.cj_outputs.proofs.wanted.Wanted.of.Goals as goal
 pub returns-clause-tells : goal.returns-clause-tells
 returns-clause-tells c = c.tells_of.ensures
 
-pub returns-clause-version : goal.returns-clause-version
-returns-clause-version c = refl
+pub returns-clause-format : goal.returns-clause-format
+returns-clause-format c = refl
 
 pub returns-clause-workers : goal.returns-clause-workers
 returns-clause-workers c = refl

@@ -13,7 +13,7 @@ use Rattle.cj_cert.specs.Accepted.{AreShells}
 use Rattle.cj_cert.specs.Certificates.{PlainCertificate, plain_certificate}
 use Rattle.cj_cert.specs.Listed.{shells_listed}
 use Rattle.cj_blocks.specs.Rewritten.{pairs_by_shells}
-use Rattle.cj_outputs.proofs.rewriting.renewed.Goals as goal
+use Rattle.cj_outputs.proofs.rewriting.by_blocks.Goals as goal
 
 -- a certificate that is accepted lists one shell for each object
 one_each : (case : PlainProblem) (c : PlainCertificate) (shells : List (Option Shell)) → AreShells case c.shells → shells ≡ shells_listed c → length shells ≡ length case.tracks
