@@ -68,19 +68,24 @@ def differences_of_covering(told: Outcome, plain: Outcome, stood: Mapping[str, b
         due = due_of(plain, stood, covering, asked)
     except ValueError as wrong:
         return [f"without {' '.join(asked)}: {wrong}"]
-    found = [
-        f"{what} is {mine!r} in place of {wanted!r}"
-        for what, mine, wanted in (
-            ("the status", told.ended.status, due.ended.status),
-            ("standard output", told.ended.output, due.ended.output),
-            ("standard error", told.ended.error, due.ended.error),
-        )
-        if mine != wanted
-    ]
+    found = differences_of_ending(told.ended, due.ended)
     for name in sorted(told.pieces.keys() | due.pieces.keys()):
         if told.pieces.get(name) != due.pieces.get(name):
             found.append(f"{name} is not as it is due: {first_difference(told.pieces.get(name, b''), due.pieces.get(name, b''))}")
     return [f"with {' '.join(asked)}: {what}" for what in found]
+
+
+def differences_of_ending(ended: Ended, due: Ended) -> list[str]:
+    """In what a run did not end as it is due, but for what it put."""
+    return [
+        f"{what} is {mine!r} in place of {wanted!r}"
+        for what, mine, wanted in (
+            ("the status", ended.status, due.status),
+            ("standard output", ended.output, due.output),
+            ("standard error", ended.error, due.error),
+        )
+        if mine != wanted
+    ]
 
 
 def first_difference(mine: bytes, wanted: bytes) -> str:
