@@ -1,0 +1,3 @@
+pub mod NeededLemmas
+pub mod SameLemmas
+pub mod TrimLemmas

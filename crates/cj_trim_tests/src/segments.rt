@@ -1,0 +1,177 @@
+//! Segments that share a tick, and others with a gap between them.
+use crate::texts::read;
+use cj_base::Window;
+use cj_hermite::{piece, piece_at};
+use cj_oem::{OemFault, Track, oem_text};
+use cj_samples::{tick, window};
+use cj_trim::trim;
+use std::alloc::Global;
+use std::panic::Expect;
+
+/// Two segments that share a tick, and a third one behind a gap. The first and the last are useable within their nodes, and the first has a
+/// covariance.
+const WHOLE: &[u8] = b"CCSDS_OEM_VERS = 2.0
+CREATION_DATE = 1972-01-01T00:00:00.000000
+ORIGINATOR = CONJ
+META_START
+OBJECT_NAME = SAT A
+OBJECT_ID = 2025-001A
+CENTER_NAME = EARTH
+REF_FRAME = GCRF
+TIME_SYSTEM = UTC
+START_TIME = 2025-01-01T00:00:00.000010
+STOP_TIME = 2025-01-01T00:00:00.000050
+INTERPOLATION = HERMITE
+INTERPOLATION_DEGREE = 3
+META_STOP
+2025-01-01T00:00:00.000000 7000.000000000000 0.000000000000 0.000000000000 0.000000000000 0.000000000000 0.000000000000
+2025-01-01T00:00:00.000020 7000.000000000000 0.000000000000 0.000000000000 0.000000000000 0.000000000000 0.000000000000
+2025-01-01T00:00:00.000040 7000.000000000000 0.000000000000 0.000000000000 0.000000000000 0.000000000000 0.000000000000
+2025-01-01T00:00:00.000060 7000.000000000000 0.000000000000 0.000000000000 0.000000000000 0.000000000000 0.000000000000
+COVARIANCE_START
+EPOCH = 2025-01-01T00:00:00.000020
+COV_REF_FRAME = RTN
+1.0E-04
+-2.5E-05 1.0E-04
+0.0E+00 0.0E+00 0.0E+00
+0.0E+00 0.0E+00 0.0E+00 1.0E-04
+0.0E+00 0.0E+00 0.0E+00 0.0E+00 0.0E+00
+-2.5E-05 0.0E+00 0.0E+00 0.0E+00 0.0E+00 1.0E-04
+COVARIANCE_STOP
+META_START
+OBJECT_NAME = SAT A
+OBJECT_ID = 2025-001A
+CENTER_NAME = EARTH
+REF_FRAME = GCRF
+TIME_SYSTEM = UTC
+START_TIME = 2025-01-01T00:00:00.000050
+STOP_TIME = 2025-01-01T00:00:00.000060
+INTERPOLATION = HERMITE
+INTERPOLATION_DEGREE = 3
+META_STOP
+2025-01-01T00:00:00.000030 7000.000000000000 0.000000000000 0.000000000000 0.000000000000 0.000000000000 0.000000000000
+2025-01-01T00:00:00.000045 7000.010000000000 0.000000000000 0.000000000000 0.000000000000 0.000000000000 0.000000000000
+2025-01-01T00:00:00.000050 7000.000000000000 0.000000000000 0.000000000000 0.000000000000 0.000000000000 0.000000000000
+2025-01-01T00:00:00.000060 7000.010000000000 0.000000000000 0.000000000000 0.000000000000 0.000000000000 0.000000000000
+META_START
+OBJECT_NAME = SAT A
+OBJECT_ID = 2025-001A
+CENTER_NAME = EARTH
+REF_FRAME = GCRF
+TIME_SYSTEM = UTC
+START_TIME = 2025-01-01T00:00:00.000072
+STOP_TIME = 2025-01-01T00:00:00.000090
+INTERPOLATION = HERMITE
+INTERPOLATION_DEGREE = 3
+META_STOP
+2025-01-01T00:00:00.000070 7000.000000000000 0.000000000000 0.000000000000 0.000000000000 0.000000000000 0.000000000000
+2025-01-01T00:00:00.000080 7000.010000000000 0.000000000000 0.000000000000 0.000000000000 0.000000000000 0.000000000000
+2025-01-01T00:00:00.000090 7000.000000000000 0.000000000000 0.000000000000 0.000000000000 0.000000000000 0.000000000000
+";
+
+/// What is left of it from 45 to 50 microseconds after the start: the shared tick, and the covariance of an earlier one.
+const LEFT: &[u8] = b"CCSDS_OEM_VERS = 2.0
+CREATION_DATE = 1972-01-01T00:00:00.000000
+ORIGINATOR = CONJ
+META_START
+OBJECT_NAME = SAT A
+OBJECT_ID = 2025-001A
+CENTER_NAME = EARTH
+REF_FRAME = GCRF
+TIME_SYSTEM = UTC
+START_TIME = 2025-01-01T00:00:00.000045
+STOP_TIME = 2025-01-01T00:00:00.000050
+INTERPOLATION = HERMITE
+INTERPOLATION_DEGREE = 3
+META_STOP
+2025-01-01T00:00:00.000040 7000.000000000000 0.000000000000 0.000000000000 0.000000000000 0.000000000000 0.000000000000
+2025-01-01T00:00:00.000060 7000.000000000000 0.000000000000 0.000000000000 0.000000000000 0.000000000000 0.000000000000
+COVARIANCE_START
+EPOCH = 2025-01-01T00:00:00.000020
+COV_REF_FRAME = RTN
+1.0E-04
+-2.5E-05 1.0E-04
+0.0E+00 0.0E+00 0.0E+00
+0.0E+00 0.0E+00 0.0E+00 1.0E-04
+0.0E+00 0.0E+00 0.0E+00 0.0E+00 0.0E+00
+-2.5E-05 0.0E+00 0.0E+00 0.0E+00 0.0E+00 1.0E-04
+COVARIANCE_STOP
+META_START
+OBJECT_NAME = SAT A
+OBJECT_ID = 2025-001A
+CENTER_NAME = EARTH
+REF_FRAME = GCRF
+TIME_SYSTEM = UTC
+START_TIME = 2025-01-01T00:00:00.000050
+STOP_TIME = 2025-01-01T00:00:00.000050
+INTERPOLATION = HERMITE
+INTERPOLATION_DEGREE = 3
+META_STOP
+2025-01-01T00:00:00.000050 7000.000000000000 0.000000000000 0.000000000000 0.000000000000 0.000000000000 0.000000000000
+2025-01-01T00:00:00.000060 7000.010000000000 0.000000000000 0.000000000000 0.000000000000 0.000000000000 0.000000000000
+META_START
+OBJECT_NAME = SAT A
+OBJECT_ID = 2025-001A
+CENTER_NAME = EARTH
+REF_FRAME = GCRF
+TIME_SYSTEM = UTC
+START_TIME = 2025-01-01T00:00:00.000072
+STOP_TIME = 2025-01-01T00:00:00.000072
+INTERPOLATION = HERMITE
+INTERPOLATION_DEGREE = 3
+META_STOP
+2025-01-01T00:00:00.000070 7000.000000000000 0.000000000000 0.000000000000 0.000000000000 0.000000000000 0.000000000000
+2025-01-01T00:00:00.000080 7000.010000000000 0.000000000000 0.000000000000 0.000000000000 0.000000000000 0.000000000000
+";
+
+/// The canonical text of what is left of a track.
+fn left_text(alloc: Global, text: &[u8], window: Window) -> Result<Vec<u8>, OemFault> {
+    let track = read(alloc, text)?;
+    Ok(oem_text(alloc, &trim(alloc, &track, window)?)?)
+}
+
+#[test]
+fn each_segment_keeps_what_the_window_needs_and_its_covariances(rt: HostRuntime) {
+    let text = left_text(rt.alloc(), WHOLE, window(45, 50)).expect(&rt, "no fault");
+    assert_eq!(rt; text.as_slice(), LEFT);
+}
+
+/// Whether two tracks are in the same piece so many microseconds after the start of 2025, or neither has a state.
+fn are_alike(one: &Track, other: &Track, micros: u32) -> bool {
+    match (piece_at(one, tick(micros)), piece_at(other, tick(micros))) {
+        (Some(first), Some(second)) => piece(one, first) == piece(other, second),
+        (first, second) => first.is_none() && second.is_none(),
+    }
+}
+
+/// The first tick of a window at which a track and what is left of it are in other pieces.
+fn first_unlike(
+    alloc: Global,
+    track: &Track,
+    first: u32,
+    last: u32,
+) -> Result<Option<u32>, OemFault> {
+    let left = trim(alloc, track, window(first, last))?;
+    Ok((first..=last).find(|micros| !are_alike(track, &left, *micros)))
+}
+
+/// The first and the last tick of a window of some up to 100 microseconds, and the first tick of it at which what is left is unlike the whole.
+fn first_changed(alloc: Global, text: &[u8]) -> Result<Option<(u32, u32, u32)>, OemFault> {
+    let track = read(alloc, text)?;
+    for first in 0..100 {
+        for length in [0, 5, 10, 25] {
+            if let Some(unlike) = first_unlike(alloc, &track, first, first + length)? {
+                return Ok(Some((first, first + length, unlike)));
+            }
+        }
+    }
+    Ok(None)
+}
+
+#[test]
+fn each_tick_of_the_window_keeps_its_piece(rt: HostRuntime) {
+    assert_eq!(rt;
+        first_changed(rt.alloc(), WHOLE).expect(&rt, "no fault"),
+        None
+    );
+}
