@@ -29,16 +29,24 @@ use cj_sieve::{ShelledObjects, count_kept};
 use std::alloc::{AllocError, Global};
 use std::thread::Threads;
 
-/// How many pairs of all objects are kept.
-fn count_of_kept(ground: &Ground<'_, '_>) -> u64
-    ensures { result ≡ length (pairs_kept (plain_problem ground.now.problem.now)) }
+/// How many pairs of a problem are kept, once its objects are measured: counted by as many threads as there are workers.
+pub fn count_kept_of<R: Threads + Sync>(
+    rt: &R,
+    alloc: Global,
+    problem: &Problem,
+    measured: &Measured,
+    workers: u32,
+) -> Result<u64, AllocError>
+    requires measured { AreMeasured (plain_problem problem.now) measured.now }
+    ensures { IfOk result (λ count. count ≡ length (pairs_kept (plain_problem problem.now))) }
 {
+    let thr = problem.threshold;
     let objects = ShelledObjects {
-        shells: &ground.measured.shells,
-        sizes: ground.problem.sizes.as_slice(),
-        thr: ground.problem.threshold,
+        shells: &measured.shells,
+        sizes: problem.sizes.as_slice(),
+        thr,
     };
-    count_kept(&objects)
+    count_kept(rt, alloc, &objects, workers)
 }
 
 /// What is found in all slots, with at most so many roots: the roots are in order and numbered.
@@ -101,7 +109,7 @@ pub fn find_among<R: Threads + Sync, G: Gate + Sync>(
         slots,
         sought: Sought::All,
     };
-    let kept = count_of_kept(&ground);
+    let kept = count_kept_of(rt, alloc, problem, &measured, workers)?;
     let SlotRun { roots, touching } = search_all(rt, alloc, gate, &ground, workers, limit)?;
     Ok(Candidates {
         measured,

@@ -19,7 +19,9 @@ mod together;
 mod touching;
 
 pub use candidates::Candidates;
+pub use crowding::is_crowded;
 pub use filtering::{
-    find_among, find_candidates, find_wanted, measure_again, measure_all, roots_in_turn,
+    count_kept_of, find_among, find_candidates, find_wanted, measure_again, measure_all,
+    roots_in_turn,
 };
 pub use one_slot::candidates_in_slot;

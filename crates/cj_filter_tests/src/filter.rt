@@ -1,15 +1,17 @@
-ghost use Rattle.std.specs.Prelude.{◌≤◌, All};
+ghost use Rattle.std.specs.Prelude.{◌≡◌, ◌≤◌, All, IfOk, length};
+ghost use Rattle.cj_base.specs.Bounds.{MOST_OBJECTS};
 ghost use Rattle.cj_case.specs.CaseLimits.{MAX_SIZE};
 
 use cj_base::Window;
 use cj_case::{Pair, Shell};
 use cj_samples::{AT_7000, AT_7100, along_y, rest, seconds, track_of_two};
-use cj_sieve::{kept_pairs, parted, shell};
+use cj_sieve::{ShelledObjects, count_kept, kept_pairs, parted, shell};
 use cj_track::Track;
 use cj_walk::TrackWalk;
 use std::alloc::{AllocError, Global};
 use std::panic::Expect;
 use std::process::Abort;
+use std::thread::Threads;
 
 /// 5 km in nm.
 const THRESHOLD: u64 = 5_000_000_000_000;
@@ -121,6 +123,75 @@ fn kept_pairs_come_in_order(rt: HostRuntime) {
             .expect(&rt, "no fault")
             .is_empty()
     );
+}
+
+/// The shells of so many objects at 7,000 and 7,100 km in turn.
+fn shells_in_turn(alloc: Global, count: u32) -> Result<Vec<Option<Shell>>, AllocError>
+    ensures { IfOk result (λ shells. length shells.items ≡ count) }
+{
+    let mut shells = Vec::new(alloc);
+    for object in 0..count {
+        let radius = if object % 2 == 0 {
+            7_000_000_000_000_000
+        } else {
+            7_100_000_000_000_000
+        };
+        shells.push(Some(thin(radius)))?;
+    }
+    Ok(shells)
+}
+
+/// The sizes of so many points.
+fn points(alloc: Global, count: u32) -> Result<Vec<u64>, AllocError>
+    ensures len { IfOk result (λ sizes. length sizes.items ≡ count) }
+    ensures small { IfOk result (λ sizes. All (λ size. size ≤ MAX_SIZE) sizes.items) }
+{
+    let mut sizes = Vec::new(alloc);
+    for _ in 0..count {
+        sizes.push(0)?;
+    }
+    Ok(sizes)
+}
+
+/// How many pairs are kept of so many points in turn, counted by so many workers.
+fn kept_in_turn<R: Threads + Sync>(
+    rt: &R,
+    alloc: Global,
+    count: u32,
+    workers: u32,
+) -> Result<u64, AllocError>
+    requires { count ≤ MOST_OBJECTS }
+{
+    let shells = shells_in_turn(alloc, count)?;
+    let sizes = points(alloc, count)?;
+    let objects = ShelledObjects {
+        shells: &shells,
+        sizes: &sizes,
+        thr: THRESHOLD,
+    };
+    count_kept(rt, alloc, &objects, workers)
+}
+
+/// Of 1,001 objects 501 are low, which make 125,250 pairs, and 500 high, which make 124,750.
+#[test]
+fn kept_pairs_are_counted_alike_by_any_number_of_workers(rt: HostRuntime) {
+    let alloc = rt.alloc();
+    for (objects, expected) in [
+        (0, 0),
+        (1, 0),
+        (2, 0),
+        (3, 1),
+        (4, 2),
+        (5, 4),
+        (1_001, 250_000),
+    ] {
+        for workers in [1, 2, 3, 16] {
+            assert_eq!(rt;
+                kept_in_turn(&rt, alloc, objects, workers).expect(&rt, "no fault"),
+                expected
+            );
+        }
+    }
 }
 
 /// The pairs of three objects, the second of them three metres beyond the threshold from the others.

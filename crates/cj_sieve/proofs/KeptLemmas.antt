@@ -1,8 +1,12 @@
 -- The pairs that are kept, one after another and row by row.
-use Rattle.std.proofs.Common.{◌≡◌, ℕ, ◌+◌, ◌<◌, ◌++◌, Bool, true, false, [], ◌∷◌, length, filter, Option, Some, None, refl, sym, ap, ◌∙◌, arith, length-append}
+use Rattle.std.proofs.Common.{◌≡◌, ℕ, zero, suc, ◌+◌, ◌-◌, ◌<◌, ◌≤◌, ◌++◌, Bool, true, false, List, [], ◌∷◌, length, get_or, take, filter, Option, Some, None, refl, sym, ap, ◌∙◌, arith, length-append}
 use Rattle.std.specs.Prelude.{not}
-use Rattle.std.specs.List.{flat_map, range_with_len}
+use Rattle.std.specs.List.{flat_map, range_with_len, sum}
+use Rattle.std.proofs.lemmas.List.{length-map, take_all}
+use Rattle.std.proofs.lemmas.List.FromFn.{length-range_with_len}
+use Rattle.std.proofs.lemmas.List.Sums.{count_by-le-length, length-filter, sum_by_more}
 use Rattle.cj_case.proofs.PairLemmas.{pair_taken, pair_left, pairs_from, row_taken, row_to}
+use Rattle.cj_case.specs.Pairs.{pairs_of}
 use Rattle.cj_case.specs.declared.shells.Shell.{Shell}
 use Rattle.cj_bezier.specs.Shells.{are_kept, are_parted}
 
@@ -38,3 +42,27 @@ rows_counted p n a old row before here =
     let more = ap length (row_taken p n a done (done ++ filter p (pairs_from n a)) refl refl) in
     let both = length-append done (filter p (pairs_from n a)) in
     omega (arith, more, both, before, here)
+
+-- an object has no more pairs than there are objects
+pub row_few : (p : ℕ × ℕ → Bool) (n a : ℕ) → length (filter p (pairs_from n a)) ≤ n
+row_few p n a =
+    let all = length-filter p (pairs_from n a) in
+    let some = count_by-le-length p (pairs_from n a) in
+    let row = length-map (range_with_len (a + 1) (n - (a + 1))) (λ (b : ℕ). let q : ℕ × ℕ = (a, b) in q) in
+    let size = length-range_with_len (a + 1) (n - (a + 1)) in
+    omega (arith, all, some, row, size)
+
+-- the rows of all objects together
+pub rows_summed : (p : ℕ × ℕ → Bool) (n : ℕ) (counts : List ℕ) → length counts ≡ n → ((a d : ℕ) → a < n → get_or counts a d ≡ length (filter p (pairs_from n a)))
+    → sum counts ≡ length (filter p (pairs_of n))
+rows_summed p n counts many each = ap sum (sym (take_all n counts (omega (arith, many)))) ∙ up_to n (omega arith)
+  where
+    up_to : (k : ℕ) → k ≤ n → sum (take k counts) ≡ length (filter p (flat_map (pairs_from n) (range_with_len 0 k)))
+    up_to zero le = refl
+    up_to (suc k) le =
+        let lt : k < length counts = omega (arith, many, le) in
+        let more = sum_by_more (λ count. count) counts k 0 lt in
+        let here = each k 0 (omega arith) in
+        let row = rows_counted p n k (sum (take k counts)) (get_or counts k 0) (up_to k (omega arith)) here in
+        let next : k + 1 ≡ suc k = omega arith in
+        ap (λ i. sum (take i counts)) (sym next) ∙ more ∙ row ∙ ap (λ i. length (filter p (flat_map (pairs_from n) (range_with_len 0 i)))) next

@@ -1,5 +1,6 @@
 //! The pairs that the filter keeps.
 ghost use Rattle.std.specs.Prelude.{◌≡◌, ◌^◌, ◌<◌, ◌≤◌, ◌++◌, map, filter, length, All, IfOk, OnOk};
+ghost use Rattle.std.specs.List.{sum};
 ghost use Rattle.cj_base.specs.Bounds.{MOST_OBJECTS};
 ghost use Rattle.cj_case.specs.CaseLimits.{MAX_SIZE};
 ghost use Rattle.cj_case.specs.Pairs.{objects_of, pairs_of};
@@ -9,7 +10,9 @@ ghost use Rattle.cj_sieve.specs.Among.{keeps_among, kept_among, row_among};
 use crate::parted_shells::parted;
 use crate::shelled_objects::ShelledObjects;
 use cj_case::{Pair, Shell, threshold_between};
+use cj_threads::{Nobody, map_dealt};
 use std::alloc::{AllocError, Global};
+use std::thread::Threads;
 
 /// The shell of an object, where it has one.
 fn shell_of_object(shells: &[Option<Shell>], object: u32) -> Option<Shell>
@@ -48,15 +51,44 @@ fn count_row(a: u32, objects: &ShelledObjects<'_>) -> u64
     count
 }
 
-/// How many pairs of these objects are kept.
-pub fn count_kept(objects: &ShelledObjects<'_>) -> u64
-    ensures value { result ≡ length (kept_among objects.now) }
+/// The sum of what each object has, which is no more than there may be objects.
+fn sum_of(counts: &[u64]) -> u64
+    requires objects { length counts.now ≤ MOST_OBJECTS }
+    requires few { All (λ count. count ≤ MOST_OBJECTS) counts.now }
+    ensures { result ≡ sum counts.now }
 {
-    let mut count = 0;
-    for a in 0..objects.shells.len() as u32 {
-        count += count_row(a, objects);
+    let mut sum = 0;
+    for count in counts {
+        sum += count;
     }
-    count
+    sum
+}
+
+/// So many objects, or more, are worth several threads.
+const OBJECTS_FOR_THREADS: usize = 1_000;
+
+/// How many pairs of these objects are kept. Where there are many objects, as many threads count as there are workers: each takes the next
+/// object that no other has taken.
+pub fn count_kept<R: Threads + Sync>(
+    rt: &R,
+    alloc: Global,
+    objects: &ShelledObjects<'_>,
+    workers: u32,
+) -> Result<u64, AllocError>
+    ensures value { IfOk result (λ count. count ≡ length (kept_among objects.now)) }
+{
+    let count = |a: usize| -> u64
+        requires { a < length objects.now.shells.now }
+        ensures { result ≡ length (row_among objects.entry.now a) }
+    { count_row(a as u32, objects) };
+    let many = objects.shells.len();
+    let threads = if many < OBJECTS_FOR_THREADS {
+        1
+    } else {
+        workers as usize
+    };
+    let counts = map_dealt(rt, alloc, many, threads, &Nobody, &count)?;
+    Ok(sum_of(&counts))
 }
 
 /// Appends the kept pairs of an object with those of higher numbers.

@@ -30,7 +30,7 @@ use Rattle.cj_candidates.proofs.CountLemmas.{candidates_few}
 use Rattle.cj_candidates.proofs.ObjectLemmas.{in_boxes, in_shells}
 use Rattle.cj_slabs.specs.declared.sifted.Sifted.{Sifted}
 use Rattle.cj_slabs.specs.Counts.{AreCounts, AreCountsOf}
-use Rattle.cj_slabs.specs.Slabs.{AreDescribed, AreSlabsOf, candidates_at, leaves_listed, roots_at}
+use Rattle.cj_slabs.specs.Slabs.{AreDescribed, AreSlabsOf, candidates_at, leaves_listed, roots_at, told_of_roots}
 use Rattle.cj_slabs.proofs.CountLemmas.{counts_of_case, same_number}
 
 -- the roots of all slots
@@ -41,6 +41,10 @@ all_roots case = refl
 pub told_is : (case : PlainProblem) (found : Sifted) → AreSlabsOf case (slots_of case) found → plain_leaves (leaves_listed found.slabs.items) ≡ told_leaves case
 unfolding told_by roots_by_slot
 told_is case found are = are.told
+
+pub all_told : (case : PlainProblem) → told_of_roots case (roots_at case (slots_of case)) ≡ told_leaves case
+unfolding told_by roots_by_slot
+all_told case = refl
 
 pub counts_are : (case : PlainProblem) (found : Sifted) → AreSlabsOf case (slots_of case) found → AreCounts case found.counts
 counts_are case found are = counts_of_case case found.counts (subst (λ (rs : List PlainCell). AreCountsOf case rs found.counts) (all_roots case) are.counts)

@@ -1,7 +1,9 @@
 -- What comes of runs of slots, and what is put together of it.
-use Rattle.std.proofs.Common.{◌≡◌, ℕ, ◌+◌, ◌≤◌, List, [], ◌∷◌, ◌++◌, Vec, Global, length, min, sym, ap, subst, ◌∙◌, arith, append-nil, append_assoc}
-use Rattle.std.specs.Prelude.{All}
-use Rattle.std.proofs.lemmas.List.{map-append}
+use Rattle.std.proofs.Common.{◌≡◌, ℕ, ◌+◌, ◌≤◌, true, List, [], ◌∷◌, ◌++◌, Vec, Global, length, min, refl, sym, ap, subst, ◌∙◌, arith, append-nil, append_assoc, length-append}
+use Rattle.std.specs.Prelude.{All, Option, Some, None, IfSome}
+use Rattle.std.specs.List.{list_all}
+use Rattle.std.proofs.lemmas.Bool.{and_parts}
+use Rattle.std.proofs.lemmas.List.{length-map, map-append}
 use Rattle.std.proofs.lemmas.List.Elements.{All-append, All-nil}
 use Rattle.std.proofs.lemmas.List.Sums.{sum_by-append, sum_by-cons}
 use Rattle.cj_threads.proofs.RunLemmas.{pushed}
@@ -15,9 +17,9 @@ use Rattle.cj_slabs.specs.declared.leaf_counts.LeafCounts.{LeafCounts}
 use Rattle.cj_slabs.specs.declared.sifted.Sifted.{Sifted}
 use Rattle.cj_slabs.specs.declared.slab.Slab.{Slab}
 use Rattle.cj_slabs.specs.declared.slab.Outcome.{Outcome}
-use Rattle.cj_slabs.specs.declared.slab.Outcome.TheVariants.{Whole, Stopped}
+use Rattle.cj_slabs.specs.declared.slab.Outcome.TheVariants.{Whole, Counted, Stopped}
 use Rattle.cj_slabs.specs.Counts.{AreCountsOf}
-use Rattle.cj_slabs.specs.Slabs.{AreOutcomes, AreSlabsOf, IsOutcome, IsSlabOf, least, least_of, leaves_listed, roots_at, told_of_roots}
+use Rattle.cj_slabs.specs.Slabs.{AreOutcomes, AreSlabsOf, IsOutcome, IsSlabOf, is_searched, least, least_of, leaves_listed, roots_at, told_by_outcome, told_by_outcomes, told_of_roots}
 use Rattle.cj_slabs.proofs.CountLemmas.{counts_both, none_counted, number_both}
 use Rattle.cj_slabs.proofs.SlabLemmas.{roots_both, told_both}
 
@@ -25,6 +27,7 @@ use Rattle.cj_slabs.proofs.SlabLemmas.{roots_both, told_both}
 
 least_few : (case : PlainProblem) (slots : List ℕ) (outcome : Outcome) → IsOutcome case slots outcome → least outcome ≤ length (leaves_of_roots case (roots_at case slots))
 least_few case slots (Whole slab) is = let counts = is.counts in omega (arith, counts.leaves)
+least_few case slots (Counted leaves told) is = omega (arith, is.0)
 least_few case slots (Stopped leaves) is = is
 
 -- runs of slots have at least so many
@@ -39,7 +42,59 @@ least_in_all case slots (outcome ∷ outcomes) are =
     ∙ number_both case (roots_at case some) (roots_at case rest) in
     omega (arith, here, there, both, sum_by-cons least outcome outcomes)
 
+least_exact : (case : PlainProblem) (slots : List ℕ) (outcome : Outcome) → is_searched outcome ≡ true → IsOutcome case slots outcome → least outcome ≡ length (leaves_of_roots case (roots_at case slots))
+least_exact case slots (Whole slab) searched is = let counts = is.counts in counts.leaves
+least_exact case slots (Counted leaves told) searched is = is.0
+least_exact case slots (Stopped leaves) searched is = absurd cc
+
+no_leaves : (case : PlainProblem) → length (leaves_of_roots case (roots_at case [])) ≡ 0
+unfolding leaves_of_roots
+no_leaves case = refl
+
+-- they have as many, where all were searched to their end
+pub leaves_in_all : (case : PlainProblem) (slots : List ℕ) (outcomes : List Outcome) → list_all is_searched outcomes ≡ true → AreOutcomes case slots outcomes
+    → least_of outcomes ≡ length (leaves_of_roots case (roots_at case slots))
+leaves_in_all case slots [] searched are = sym (ap (λ (ks : List ℕ). length (leaves_of_roots case (roots_at case ks))) are ∙ no_leaves case)
+leaves_in_all case slots (outcome ∷ outcomes) searched are =
+    let some = are.0 in
+    let rest = are.1 in
+    let parts = and_parts (is_searched outcome) (list_all is_searched outcomes) searched in
+    let here = least_exact case some outcome parts.0 are.3 in
+    let there = leaves_in_all case rest outcomes parts.1 are.4 in
+    let both = ap (λ (ks : List ℕ). length (leaves_of_roots case (roots_at case ks))) are.2 ∙ ap (λ (rs : List PlainCell). length (leaves_of_roots case rs)) (roots_both case some rest)
+    ∙ number_both case (roots_at case some) (roots_at case rest) in
+    omega (arith, here, there, both, sum_by-cons least outcome outcomes)
+
+-- ---- how many of them are told
+
+told_few : (case : PlainProblem) (slots : List ℕ) (outcome : Outcome) → IsOutcome case slots outcome → told_by_outcome outcome ≤ length (told_of_roots case (roots_at case slots))
+told_few case slots (Whole slab) is = omega (arith, ap length is.told, length-map slab.told.items plain_leaf)
+told_few case slots (Counted leaves told) is = omega (arith, is.1)
+told_few case slots (Stopped leaves) is = omega arith
+
+-- runs of slots have at least so many
+pub told_in_all : (case : PlainProblem) (slots : List ℕ) (outcomes : List Outcome) → AreOutcomes case slots outcomes → told_by_outcomes outcomes ≤ length (told_of_roots case (roots_at case slots))
+told_in_all case slots [] are = omega arith
+told_in_all case slots (outcome ∷ outcomes) are =
+    let some = are.0 in
+    let rest = are.1 in
+    let here = told_few case some outcome are.3 in
+    let there = told_in_all case rest outcomes are.4 in
+    let both = ap (λ (ks : List ℕ). length (told_of_roots case (roots_at case ks))) are.2 ∙ ap (λ (rs : List PlainCell). length (told_of_roots case rs)) (roots_both case some rest)
+    ∙ ap length (told_both case (roots_at case some) (roots_at case rest)) ∙ length-append (told_of_roots case (roots_at case some)) (told_of_roots case (roots_at case rest)) in
+    omega (arith, here, there, both, sum_by-cons told_by_outcome outcome outcomes)
+
+-- a list more of what is told
+pub told_pushed : (old new : List (Vec Leaf Global)) (list : Vec Leaf Global) → new ≡ old ++ list ∷ [] → length (leaves_listed new) ≡ length (leaves_listed old) + length list.items
+told_pushed old new list more =
+    ap (λ (lists : List (Vec Leaf Global)). length (leaves_listed lists)) more ∙ ap length (pushed (λ (l : Vec Leaf Global). l.items) old list) ∙ length-append (leaves_listed old) list.items
+
 -- ---- slabs put together
+
+-- what holds of something, where there is something, gives what follows of it
+pub some_weaker : {X : Type 0} (o : Option X) (P Q : X → Type 0) → ((x : X) → P x → Q x) → IfSome o P → IfSome o Q
+some_weaker None P Q from is = tt
+some_weaker (Some x) P Q from is = from x is
 
 pub no_slabs : (case : PlainProblem) (found : Sifted) → found.slabs.items ≡ [] → found.touching ≡ 0 → found.counts.leaves ≡ 0 → AreSlabsOf case [] found
 no_slabs case found slabs touching counts = record {

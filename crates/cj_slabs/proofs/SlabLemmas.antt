@@ -11,7 +11,7 @@ use Rattle.cj_case.specs.declared.cell.Cell.{Cell}
 use Rattle.cj_case.specs.declared.leaf.Leaf.{Leaf}
 use Rattle.cj_case.specs.declared.pair.Pair.{Pair}
 use Rattle.cj_case.specs.Cells.{PlainCell, plain_cell, plain_cells}
-use Rattle.cj_case.specs.Leaves.{PlainLeaf, plain_leaves, IsTickOf}
+use Rattle.cj_case.specs.Leaves.{PlainLeaf, plain_leaf, plain_leaves, IsTickOf}
 use Rattle.cj_case.specs.Pairs.{objects_of}
 use Rattle.cj_case.specs.Slots.{slot_first, slot_last}
 use Rattle.cj_case.proofs.SlotLemmas.{slot_within}
@@ -243,6 +243,13 @@ next_found case slots i d old new lt found added =
 pub given_back : (case : PlainProblem) (slots : List ℕ) (slab : Slab) (told : Vec Leaf Global) → told.items ≡ slab.told.items → IsSlabOf case slots slab
     → IsSlabOf case slots (record slab { told = told })
 given_back case slots slab told same is = record { told = ap plain_leaves same ∙ is.told; counts = is.counts; described = is.described; touching = is.touching }
+
+-- the leaves of a slab, and those of them that are told, are as many as those of its roots
+pub counted_alone : (case : PlainProblem) (slots : List ℕ) (slab : Slab) (told : ℕ) → told ≡ length slab.told.items → IsSlabOf case slots slab
+    → (slab.counts.leaves ≡ length (leaves_of_roots case (roots_at case slots))) × (told ≡ length (told_of_roots case (roots_at case slots)))
+counted_alone case slots slab told same is =
+    let counts = is.counts in
+    (counts.leaves, same ∙ sym (length-map slab.told.items plain_leaf) ∙ ap length is.told)
 
 -- the first of some slots and the next have no more leaves than all
 pub upto_slot : (case : PlainProblem) (slots : List ℕ) (i d : ℕ) → i < length slots

@@ -1,5 +1,5 @@
 -- What is found in some slots.
-use Rattle.std.specs.Prelude.{◌≡◌, ℕ, ◌+◌, ◌<◌, ◌≤◌, ◌++◌, List, [], ◌∷◌, All, flat_map, if◌then◌else◌, length, min}
+use Rattle.std.specs.Prelude.{◌≡◌, ℕ, ◌+◌, ◌<◌, ◌≤◌, ◌++◌, Bool, true, false, List, [], ◌∷◌, All, flat_map, if◌then◌else◌, length, min}
 use Rattle.std.specs.Global.{Vec}
 use Rattle.std.specs.List.{list_all, sum_by}
 use Rattle.cj_case.specs.PlainProblems.{PlainProblem}
@@ -13,7 +13,8 @@ use Rattle.cj_bezier.specs.RootLeaves.{leaves_of_root, leaves_of_roots, told_of_
 use Rattle.cj_slabs.specs.declared.sifted.Sifted.{Sifted}
 use Rattle.cj_slabs.specs.declared.slab.Slab.{Slab}
 use Rattle.cj_slabs.specs.declared.slab.Outcome.{Outcome}
-use Rattle.cj_slabs.specs.declared.slab.Outcome.TheVariants.{Whole, Stopped}
+use Rattle.cj_slabs.specs.declared.slab.Outcome.TheVariants.{Whole, Counted, Stopped}
+use Rattle.cj_slabs.specs.declared.leaf_limits.LeafLimits.{LeafLimits}
 use Rattle.cj_slabs.specs.Counts.{AddCounts, AreCountsOf}
 
 -- the roots of the candidates of a slot
@@ -75,15 +76,33 @@ pub record AreSlabsOf (case : PlainProblem) (slots : List ℕ) (found : Sifted) 
 -- how many leaves there are at least
 abbrev pub least : Outcome → ℕ
 least (Whole slab) = slab.counts.leaves
+least (Counted leaves told) = leaves
 least (Stopped leaves) = leaves
 
 -- how many there are at least in all
 abbrev pub least_of : List Outcome → ℕ
 least_of outcomes = sum_by least outcomes
 
+-- how many of them are told, as far as is known
+abbrev pub told_by_outcome : Outcome → ℕ
+told_by_outcome (Whole slab) = length slab.told.items
+told_by_outcome (Counted leaves told) = told
+told_by_outcome (Stopped leaves) = 0
+
+-- how many are told in all, as far as is known
+abbrev pub told_by_outcomes : List Outcome → ℕ
+told_by_outcomes outcomes = sum_by told_by_outcome outcomes
+
+-- the slots were searched to their end
+abbrev pub is_searched : Outcome → Bool
+is_searched (Whole slab) = true
+is_searched (Counted leaves told) = true
+is_searched (Stopped leaves) = false
+
 -- this came of these slots
 abbrev pub IsOutcome : PlainProblem → List ℕ → Outcome → Type 0
 IsOutcome case slots (Whole slab) = IsSlabOf case slots slab
+IsOutcome case slots (Counted leaves told) = (leaves ≡ length (leaves_of_roots case (roots_at case slots))) × (told ≡ length (told_of_roots case (roots_at case slots)))
 IsOutcome case slots (Stopped leaves) = leaves ≤ length (leaves_of_roots case (roots_at case slots))
 
 -- these came of the first slots, of those behind them and so on
@@ -92,7 +111,9 @@ AreOutcomes case slots [] = slots ≡ []
 AreOutcomes case slots (outcome ∷ outcomes) =
     (some : List ℕ) × (rest : List ℕ) × (slots ≡ some ++ rest) × IsOutcome case some outcome × AreOutcomes case rest outcomes
 
--- what is whole has no more leaves than this, and what was stopped has more
-abbrev pub IsWithinOrOver : ℕ → Outcome → Type 0
-IsWithinOrOver limit (Whole slab) = slab.counts.leaves ≤ limit
-IsWithinOrOver limit (Stopped leaves) = limit < leaves
+-- where all slots were searched, there are no more leaves than may be, and what is told is kept exactly where that is no more than may be; what was
+-- stopped has more leaves
+abbrev pub IsWithinOrOver : LeafLimits → Outcome → Type 0
+IsWithinOrOver limits (Whole slab) = (slab.counts.leaves ≤ limits.leaves) × (length slab.told.items ≤ limits.told)
+IsWithinOrOver limits (Counted leaves told) = (leaves ≤ limits.leaves) × (limits.told < told)
+IsWithinOrOver limits (Stopped leaves) = limits.leaves < leaves

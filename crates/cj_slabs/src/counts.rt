@@ -49,6 +49,25 @@ impl LeafCounts {
         undecided: 0,
     };
 
+    /// Those of so many roots, which have these leaves: each at least one.
+    pub fn of_list(roots: u64, leaves: &[Leaf]) -> LeafCounts
+        requires { roots ≤ length leaves.now }
+        ensures roots { result.roots ≡ roots }
+        ensures leaves { result.leaves ≡ length leaves.now }
+        ensures far { result.far ≡ count_of Far (plain_leaves leaves.now) }
+        ensures near { result.near ≡ count_of Near (plain_leaves leaves.now) }
+        ensures undecided { result.undecided ≡ count_of Undecided (plain_leaves leaves.now) }
+    {
+        let kinds = count_kinds(leaves);
+        LeafCounts {
+            roots,
+            leaves: leaves.len() as u64,
+            far: kinds.far,
+            near: kinds.near,
+            undecided: kinds.undecided,
+        }
+    }
+
     /// With one root more, which has these leaves.
     pub(crate) fn with_root(self, leaves: &[Leaf]) -> LeafCounts
         requires some { 0 < length leaves.now }

@@ -16,15 +16,16 @@ ghost use Rattle.cj_cells.specs.Lists.{list_candidates, IsSound};
 ghost use Rattle.cj_candidates.specs.Counts.{candidate_count};
 ghost use Rattle.cj_candidates.specs.MeasuredObjects.{AreOfProblem};
 ghost use Rattle.cj_slabs.specs.Counts.{AreCounts};
-ghost use Rattle.cj_slabs.specs.Slabs.{AreOutcomes, AreSlabsOf, IsOutcome, leaves_listed, roots_at};
+ghost use Rattle.cj_slabs.specs.Slabs.{AreOutcomes, AreSlabsOf, IsOutcome, leaves_listed, roots_at, told_of_roots};
 
-use crate::joining::{joined, leaves_in};
+use crate::joining::joined_within;
+use crate::leaf_limits::LeafLimits;
+use crate::sift_error::SiftError;
 use crate::sifted::Sifted;
 use crate::slab::Outcome;
 use crate::slots_sifted::sift_some;
 use crate::together::Together;
 use cj_case::{Measured, Problem, slot_count};
-use cj_cells::RefineError;
 use cj_io::{Gate, Stage};
 use cj_threads::{Nobody, map_parts};
 use std::alloc::{AllocError, Global};
@@ -55,21 +56,29 @@ fn sift_together<R: Threads + Sync, G: Gate + Sync>(
     measured: &Measured,
     slots: &[u32],
     workers: u32,
-    limit: u64,
+    limits: LeafLimits,
 ) -> Result<Vec<Outcome>, AllocError>
     requires measured { AreMeasured (plain_problem problem.now) measured.now }
     requires exist { All (λ slot. slot < slot_count problem.now.window.first.micros problem.now.window.last.micros) slots.now }
-    requires limit { limit ≤ MOST_LEAVES }
+    requires limit { limits.leaves ≤ MOST_LEAVES }
     ensures { IfOk result (λ outcomes. AreOutcomes (plain_problem problem.now) slots.now outcomes.items) }
 {
     gate.begin(Stage::Minutes, slots.len() as u64);
     let together = Together::new();
     let sift = |some: &[u32]| -> Result<Outcome, AllocError>
-        requires { AreMeasured (plain_problem problem.now) measured.now × (limit ≤ MOST_LEAVES)
+        requires { AreMeasured (plain_problem problem.now) measured.now × (limits.leaves ≤ MOST_LEAVES)
             × All (λ slot. slot < slot_count problem.now.window.first.micros problem.now.window.last.micros) some.now }
         ensures { IfOk result (IsOutcome (plain_problem problem.entry.now) some.now) }
     {
-        let outcome = sift_some(alloc, gate, problem, measured, some, limit, Some(&together));
+        let outcome = sift_some(
+            alloc,
+            gate,
+            problem,
+            measured,
+            some,
+            limits,
+            Some(&together),
+        );
         if !is_whole(&outcome) {
             together.halt();
         }
@@ -89,7 +98,7 @@ fn sift_together<R: Threads + Sync, G: Gate + Sync>(
 /// Whether slots were searched to their end.
 fn is_whole(outcome: &Result<Outcome, AllocError>) -> bool {
     match outcome {
-        Ok(Outcome::Whole(_)) => true,
+        Ok(Outcome::Whole(_) | Outcome::Counted { .. }) => true,
         Ok(Outcome::Stopped { .. }) => false,
         Err(_) => false,
     }
@@ -102,30 +111,36 @@ fn sift_alone<G: Gate>(
     problem: &Problem,
     measured: &Measured,
     slots: &[u32],
-    limit: u64,
-) -> Result<Sifted, RefineError>
+    limits: LeafLimits,
+) -> Result<Sifted, SiftError>
     requires measured { AreMeasured (plain_problem problem.now) measured.now }
     requires exist { All (λ slot. slot < slot_count problem.now.window.first.micros problem.now.window.last.micros) slots.now }
-    requires limit { limit ≤ MOST_LEAVES }
+    requires limit { limits.leaves ≤ MOST_LEAVES }
     ensures found { IfOk result (AreSlabsOf (plain_problem problem.now) slots.now) }
-    ensures within { IfOk result (λ found. found.counts.leaves ≤ limit) }
-    ensures too_many { IsErrOf result RefineError.TooMany
-        → limit < length (leaves_of_roots (plain_problem problem.now) (roots_at (plain_problem problem.now) slots.now)) }
+    ensures within { IfOk result (λ found. found.counts.leaves ≤ limits.leaves) }
+    ensures told_within { IfOk result (λ found. length (leaves_listed found.slabs.items) ≤ limits.told) }
+    ensures too_many { IsErrOf result SiftError.TooMany
+        → limits.leaves < length (leaves_of_roots (plain_problem problem.now) (roots_at (plain_problem problem.now) slots.now)) }
+    ensures too_many_told { IsErrOf result SiftError.TooManyTold
+        → limits.told < length (told_of_roots (plain_problem problem.now) (roots_at (plain_problem problem.now) slots.now)) }
+    ensures few_leaves { IsErrOf result SiftError.TooManyTold
+        → length (leaves_of_roots (plain_problem problem.now) (roots_at (plain_problem problem.now) slots.now)) ≤ limits.leaves }
 {
     gate.begin(Stage::Minutes, slots.len() as u64);
-    let outcome = sift_some(alloc, gate, problem, measured, slots, limit, None)?;
+    let outcome = sift_some(alloc, gate, problem, measured, slots, limits, None)?;
     match outcome {
         Outcome::Whole(slab) => Ok(Sifted {
             slabs: vec![in alloc; slab.told]?,
             touching: slab.touching,
             counts: slab.counts,
         }),
-        Outcome::Stopped { .. } => Err(RefineError::TooMany),
+        Outcome::Counted { .. } => Err(SiftError::TooManyTold),
+        Outcome::Stopped { .. } => Err(SiftError::TooMany),
     }
 }
 
-/// What is found of a problem, whose objects are measured, with at most so many leaves: slab by slab, by as many threads as there are workers.
-/// They stop where they have found too many together, which no clause says.
+/// What is found of a problem, whose objects are measured, with at most so many leaves, of which at most so many are told: slab by slab, by as
+/// many threads as there are workers. They stop where they have found too many together, which no clause says.
 pub fn sift<R: Threads + Sync, G: Gate + Sync>(
     rt: &R,
     alloc: Global,
@@ -133,16 +148,21 @@ pub fn sift<R: Threads + Sync, G: Gate + Sync>(
     problem: &Problem,
     measured: &Measured,
     workers: u32,
-    limit: u64,
-) -> Result<Sifted, RefineError>
-    requires limit { limit ≤ MOST_LEAVES }
+    limits: LeafLimits,
+) -> Result<Sifted, SiftError>
+    requires limit { limits.leaves ≤ MOST_LEAVES }
     requires measured { AreOfProblem problem.now measured.now }
-    ensures too_many { IsErrOf result RefineError.TooMany → limit < length (list_candidates (plain_problem problem.now)) }
+    ensures too_many { IsErrOf result SiftError.TooMany → limits.leaves < length (list_candidates (plain_problem problem.now)) }
+
+    // Told leaves are too many only where all leaves are not.
+    ensures too_many_told { IsErrOf result SiftError.TooManyTold → limits.told < length (told_leaves (plain_problem problem.now)) }
+    ensures few_leaves { IsErrOf result SiftError.TooManyTold → length (list_candidates (plain_problem problem.now)) ≤ limits.leaves }
 
     ensures told { IfOk result (λ found. plain_leaves (leaves_listed found.slabs.items) ≡ told_leaves (plain_problem problem.now)) }
     ensures counts { IfOk result (λ found. AreCounts (plain_problem problem.now) found.counts) }
     ensures touching { IfOk result (λ found. found.touching ≡ candidate_count (plain_problem problem.now)) }
-    ensures within { IfOk result (λ found. found.counts.leaves ≤ limit) }
+    ensures within { IfOk result (λ found. found.counts.leaves ≤ limits.leaves) }
+    ensures told_within { IfOk result (λ found. length (leaves_listed found.slabs.items) ≤ limits.told) }
 
     // Each leaf of the one-thread list is true at each of its ticks, each common tick of a candidate lies in a leaf of that pair, and they are
     // in order of pair and time; over each both its objects are in one piece.
@@ -157,14 +177,9 @@ pub fn sift<R: Threads + Sync, G: Gate + Sync>(
     ensures far { OnOk result (OthersAreFar (plain_problem problem.now) (is_candidate (plain_problem problem.now))) }
 {
     let slots = all_slots(alloc, problem)?;
-    let outcomes = sift_together(rt, alloc, gate, problem, measured, &slots, workers, limit)?;
-    let leaves = leaves_in(&outcomes);
-    if leaves > limit {
-        return Err(RefineError::TooMany);
-    }
-    let whole = joined(alloc, outcomes)?;
-    match whole {
+    let outcomes = sift_together(rt, alloc, gate, problem, measured, &slots, workers, limits)?;
+    match joined_within(alloc, outcomes, limits)? {
         Some(found) => Ok(found),
-        None => sift_alone(alloc, gate, problem, measured, &slots, limit),
+        None => sift_alone(alloc, gate, problem, measured, &slots, limits),
     }
 }

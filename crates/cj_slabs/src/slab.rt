@@ -35,6 +35,8 @@ impl Slab {
 pub enum Outcome {
     /// All of them are searched.
     Whole(Slab),
+    /// All of them are searched: there are so many leaves, and so many of them are told, which are not kept.
+    Counted { leaves: u64, told: u64 },
     /// The search was stopped when so many leaves were found: that many there are at least.
     Stopped { leaves: u64 },
 }

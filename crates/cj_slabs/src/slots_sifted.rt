@@ -1,5 +1,5 @@
 //! Some slots, one after another, until threads that search others beside are to stop.
-ghost use Rattle.std.specs.Prelude.{◌≡◌, ℕ, ◌+◌, ◌<◌, ◌≤◌, false, List, None, All, IfOk, OnOk, IsErrOf, length, map};
+ghost use Rattle.std.specs.Prelude.{◌≡◌, ℕ, ◌+◌, ◌<◌, ◌≤◌, true, false, List, None, All, IfOk, OnOk, IsErrOf, length, map};
 ghost use Rattle.cj_base.specs.Bounds.{MOST_LEAVES};
 ghost use Rattle.cj_case.specs.Pairs.{objects_of};
 ghost use Rattle.cj_case.specs.PlainProblems.{PlainProblem};
@@ -8,14 +8,15 @@ ghost use Rattle.cj_case.specs.Slots.{slot_count};
 ghost use Rattle.cj_bezier.specs.MeasuredObjects.{AreMeasured};
 ghost use Rattle.cj_bezier.specs.RootLeaves.{leaves_of_roots};
 ghost use Rattle.cj_hermite.specs.Roots.{roots_in_slot};
-ghost use Rattle.cj_slabs.specs.Slabs.{AddRoots, AddSlot, IsOutcome, IsWithinOrOver, roots_at, slot_roots};
+ghost use Rattle.cj_slabs.specs.Slabs.{AddRoots, AddSlot, IsOutcome, IsSlabOf, IsWithinOrOver, roots_at, slot_roots};
 
 use crate::halt::Halt;
+use crate::leaf_limits::LeafLimits;
 use crate::roots_sifted::sift_pairs;
 use crate::scratch::Scratch;
 use crate::slab::{Outcome, Slab};
 use crate::together::Together;
-use cj_candidates::candidates_in_slot;
+use cj_candidates::{candidates_in_slot, is_crowded};
 use cj_case::{Measured, Pair, Problem};
 use cj_io::{Gate, Stage};
 use std::alloc::{AllocError, Global};
@@ -27,6 +28,23 @@ fn is_over(together: Option<&Together>, limit: u64) -> bool
     match together {
         Some(together) => together.is_over(limit),
         None => false,
+    }
+}
+
+/// Whether a thread may go on to a slot. One that searches alone always may.
+fn may_begin(together: Option<&Together>, limit: u64, is_crowded: bool) -> bool
+    ensures { together.entry ≡ None → result ≡ true }
+{
+    match together {
+        Some(together) => together.begin(limit, is_crowded),
+        None => true,
+    }
+}
+
+/// Tells the others that a thread is through with a slot.
+fn end(together: Option<&Together>, is_crowded: bool) {
+    if let Some(together) = together {
+        together.end(is_crowded);
     }
 }
 
@@ -76,7 +94,7 @@ fn tell(together: Option<&Together>, leaves: u64) {
     }
 }
 
-/// A slot.
+/// A slot. No two threads are at crowded slots at once.
 fn sift_slot(
     alloc: Global,
     problem: &Problem,
@@ -98,21 +116,57 @@ fn sift_slot(
         + length (leaves_of_roots (plain_problem problem.now) (slot_roots (plain_problem problem.now) slot)) }
     ensures alone { together.entry ≡ None → IsErrOf result Halt.Stopped → ⊥ }
 {
+    let crowded = is_crowded(measured, slot);
+    if !may_begin(together, limit, crowded) {
+        return Err(Halt::Stopped);
+    }
     let pairs = candidates_in_slot(alloc, problem, measured, slot)?;
     slab.touching = slab.touching.saturating_add(pairs.len() as u64);
-    sift_until_stopped(alloc, problem, slot, &pairs, limit, together, scratch, slab)
+    let sifted = sift_until_stopped(alloc, problem, slot, &pairs, limit, together, scratch, slab);
+    end(together, crowded);
+    sifted
+}
+
+/// Whether so many leaves more that are told are more than may be, with those of all threads. A thread that searches alone has no others.
+fn are_too_many(together: Option<&Together>, told: u64, limit: u64) -> bool
+    ensures yes { together.entry ≡ None → result ≡ true → limit < told }
+    ensures no { together.entry ≡ None → result ≡ false → told ≤ limit }
+{
+    match together {
+        Some(together) => together.tell(told, limit),
+        None => told > limit,
+    }
+}
+
+/// What has come of slots that are searched to their end. What is told is given up where it is more than may be.
+fn searched(mut slab: Slab, limits: LeafLimits, together: Option<&Together>) -> Outcome
+    requires { slab.counts.leaves ≤ limits.leaves }
+    ensures outcome { (case : PlainProblem) (slots : List ℕ) → IsSlabOf case slots slab → IsOutcome case slots result }
+    ensures over { together.entry ≡ None → IsWithinOrOver limits result }
+{
+    let told = slab.told.len() as u64;
+    if are_too_many(together, told, limits.told) {
+        return Outcome::Counted {
+            leaves: slab.counts.leaves,
+            told,
+        };
+    }
+    slab.told.shrink_to_fit();
+    Outcome::Whole(slab)
 }
 
 /// What has come of slots whose search was halted when so many leaves were found.
-fn halted(halt: Halt, limit: u64, leaves: u64) -> Result<Outcome, AllocError>
-    requires { limit ≤ MOST_LEAVES }
-    ensures outcome { (case : PlainProblem) (slots : List ℕ) → (halt ≡ Halt.TooMany → limit < length (leaves_of_roots case (roots_at case slots)))
+fn halted(halt: Halt, limits: LeafLimits, leaves: u64) -> Result<Outcome, AllocError>
+    requires { limits.leaves ≤ MOST_LEAVES }
+    ensures outcome { (case : PlainProblem) (slots : List ℕ) → (halt ≡ Halt.TooMany → limits.leaves < length (leaves_of_roots case (roots_at case slots)))
         → (halt ≡ Halt.Stopped → leaves ≤ length (leaves_of_roots case (roots_at case slots))) → IfOk result (IsOutcome case slots) }
-    ensures over { (halt ≡ Halt.Stopped → ⊥) → IfOk result (IsWithinOrOver limit) }
+    ensures over { (halt ≡ Halt.Stopped → ⊥) → IfOk result (IsWithinOrOver limits) }
 {
     match halt {
         Halt::Memory => Err(AllocError),
-        Halt::TooMany => Ok(Outcome::Stopped { leaves: limit + 1 }),
+        Halt::TooMany => Ok(Outcome::Stopped {
+            leaves: limits.leaves + 1,
+        }),
         Halt::Stopped => Ok(Outcome::Stopped { leaves }),
     }
 }
@@ -124,14 +178,14 @@ pub fn sift_some<G: Gate>(
     problem: &Problem,
     measured: &Measured,
     slots: &[u32],
-    limit: u64,
+    limits: LeafLimits,
     together: Option<&Together>,
 ) -> Result<Outcome, AllocError>
     requires measured { AreMeasured (plain_problem problem.now) measured.now }
     requires exist { All (λ slot. slot < slot_count problem.now.window.first.micros problem.now.window.last.micros) slots.now }
-    requires limit { limit ≤ MOST_LEAVES }
+    requires limit { limits.leaves ≤ MOST_LEAVES }
     ensures outcome { IfOk result (IsOutcome (plain_problem problem.now) slots.now) }
-    ensures alone { together.entry ≡ None → IfOk result (IsWithinOrOver limit) }
+    ensures alone { together.entry ≡ None → IfOk result (IsWithinOrOver limits) }
 {
     let mut scratch = Scratch::new(alloc, problem.tracks.as_slice().len())?;
     let mut slab = Slab::empty(alloc);
@@ -141,15 +195,14 @@ pub fn sift_some<G: Gate>(
             problem,
             measured,
             *slot,
-            limit,
+            limits.leaves,
             together,
             &mut scratch,
             &mut slab,
         ) {
             Ok(()) => gate.advance(Stage::Minutes, 1),
-            Err(halt) => return halted(halt, limit, slab.counts.leaves),
+            Err(halt) => return halted(halt, limits, slab.counts.leaves),
         }
     }
-    slab.told.shrink_to_fit();
-    Ok(Outcome::Whole(slab))
+    Ok(searched(slab, limits, together))
 }

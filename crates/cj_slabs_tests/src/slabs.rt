@@ -5,27 +5,44 @@ ghost use Rattle.cj_base.specs.Bounds.{MOST_LEAVES};
 use crate::cases::{FIVE_SLOTS, crossing, none, resting, several, two};
 use cj_candidates::{measure_all, roots_in_turn};
 use cj_case::{Kind, Leaf, Problem};
-use cj_cells::{RefineError, leaves_of};
+use cj_cells::leaves_of;
 use cj_io::OpenGate;
 use cj_samples::tick;
-use cj_slabs::{LeafCounts, Sifted, marked, sift};
+use cj_slabs::{LeafLimits, SiftError, Sifted, marked, sift};
 use std::alloc::Global;
 use std::panic::Expect;
 use std::process::Abort;
 use std::thread::Threads;
 
-/// What is found of a problem by so many workers, with at most so many leaves.
+/// What is found of a problem by so many workers, within limits.
+fn found_within<R: Threads + Sync>(
+    rt: &R,
+    alloc: Global,
+    problem: &Problem,
+    workers: u32,
+    limits: LeafLimits,
+) -> Result<Sifted, SiftError>
+    requires { limits.leaves ≤ MOST_LEAVES }
+{
+    let measured = measure_all(rt, alloc, &OpenGate, problem, 1)?;
+    sift(rt, alloc, &OpenGate, problem, &measured, workers, limits)
+}
+
+/// What is found with at most so many leaves, each of which may be told.
 fn found<R: Threads + Sync>(
     rt: &R,
     alloc: Global,
     problem: &Problem,
     workers: u32,
-    limit: u64,
-) -> Result<Sifted, RefineError>
-    requires { limit ≤ MOST_LEAVES }
+    leaves: u64,
+) -> Result<Sifted, SiftError>
+    requires { leaves ≤ MOST_LEAVES }
 {
-    let measured = measure_all(rt, alloc, &OpenGate, problem, 1)?;
-    sift(rt, alloc, &OpenGate, problem, &measured, workers, limit)
+    let limits = LeafLimits {
+        leaves,
+        told: leaves,
+    };
+    found_within(rt, alloc, problem, workers, limits)
 }
 
 /// The near and undecided leaves of the one-thread list.
@@ -107,21 +124,49 @@ fn more_leaves_than_may_be_are_too_many(rt: HostRuntime) {
     let problem = crossing(&rt, alloc, 60);
     assert_eq!(rt;
         found(&rt, alloc, &problem, 1, 48).err(),
-        Some(RefineError::TooMany)
+        Some(SiftError::TooMany)
     );
     assert_eq!(rt;
         found(&rt, alloc, &problem, 3, 48).err(),
-        Some(RefineError::TooMany)
+        Some(SiftError::TooMany)
     );
     assert_eq!(rt;
         found(&rt, alloc, &problem, 1, 0).err(),
-        Some(RefineError::TooMany)
+        Some(SiftError::TooMany)
     );
     let problem = several(&rt, alloc);
     assert_eq!(rt;
         found(&rt, alloc, &problem, 2, 20).err(),
-        Some(RefineError::TooMany)
+        Some(SiftError::TooMany)
     );
+}
+
+/// The 49 leaves of one root, and five leaves of five roots in two slabs.
+#[test]
+fn more_leaves_than_may_be_told_are_too_many_where_all_are_not(rt: HostRuntime) {
+    let alloc = rt.alloc();
+    let a = resting(&rt, alloc, 0, 0);
+    let b = resting(&rt, alloc, 1, 0);
+    let crossing = crossing(&rt, alloc, 60);
+    let near = two(&rt, alloc, a, b, FIVE_SLOTS);
+    for workers in [1, 2, 3] {
+        for (problem, leaves, told, expected) in [
+            (&crossing, 49, 49, None),
+            (&crossing, 49, 48, Some(SiftError::TooManyTold)),
+            (&crossing, 48, 48, Some(SiftError::TooMany)),
+            (&crossing, 48, 0, Some(SiftError::TooMany)),
+            (&near, 5, 5, None),
+            (&near, 5, 4, Some(SiftError::TooManyTold)),
+            (&near, 100, 0, Some(SiftError::TooManyTold)),
+            (&near, 4, 0, Some(SiftError::TooMany)),
+        ] {
+            let limits = LeafLimits { leaves, told };
+            assert_eq!(rt;
+                found_within(&rt, alloc, problem, workers, limits).err(),
+                expected
+            );
+        }
+    }
 }
 
 #[test]
@@ -130,7 +175,8 @@ fn a_root_that_is_far_throughout_is_counted_and_not_told(rt: HostRuntime) {
     let a = resting(&rt, alloc, 0, 0);
     let b = resting(&rt, alloc, 4, 4);
     let problem = two(&rt, alloc, a, b, 60);
-    let sifted = found(&rt, alloc, &problem, 1, 2).expect(&rt, "no fault");
+    let limits = LeafLimits { leaves: 2, told: 0 };
+    let sifted = found_within(&rt, alloc, &problem, 1, limits).expect(&rt, "no fault");
     assert_eq!(rt; sifted.slabs.len(), 1);
     assert_eq!(rt; sifted.slabs[0].len(), 0);
     assert_eq!(rt; sifted.counts.roots, 2);

@@ -26,9 +26,17 @@ invariant_of-ground g c =
       are_pairs = all_are (length case.tracks);
     }
 
+pub count_kept_of-requires-clause-measured : goal.count_kept_of-requires-clause-measured
+count_kept_of-requires-clause-measured g c _ _ = are_measured c.args.problem.now c.args.measured c.requires.measured
+
+pub returns-in_err-kept-clause-too_many : goal.returns-in_err-kept-clause-too_many
+returns-in_err-kept-clause-too_many g c =
+    let p = err_from_is_err_and c.from_residual.result c.from_residual.ensures.1 in
+    rw (p.1, p.2) (λ is. absurd cc)
+
 pub returns-in_err-roots-clause-too_many : goal.returns-in_err-roots-clause-too_many
 returns-in_err-roots-clause-too_many g c =
-    let p = err_from_is_err_and c.from_residual.result c.from_residual.ensures.1 in
+    let p = err_from_is_err_and c.from_residual-in_err-roots.result c.from_residual-in_err-roots.ensures.1 in
     let case = plain_problem c.args.problem.now in
     rw (p.1, p.2) (λ is. subst (λ (candidate : ℕ → ℕ → ℕ → Bool). c.args.limit < length (roots_of candidate case)) (wanted_all case)
     (c.in_err-roots.ensures.too_many (error_is _ _ is) (λ pair. true) (all_wanted (pairs_of (length case.tracks)))))
@@ -40,7 +48,7 @@ pub returns-clause-measured : goal.returns-clause-measured
 returns-clause-measured g c = are_measured c.args.problem.now c.args.measured c.requires.measured
 
 pub returns-clause-kept : goal.returns-clause-kept
-returns-clause-kept g c = c.count_of_kept-kept.ensures
+returns-clause-kept g c = c.in_ok-kept.ensures
 
 pub returns-clause-roots : goal.returns-clause-roots
 returns-clause-roots g c =

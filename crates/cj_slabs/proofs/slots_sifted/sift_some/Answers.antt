@@ -1,7 +1,7 @@
 use Rattle.std.proofs.Common.{ℕ, List, Err, ap, subst, arith, take_all}
 use Rattle.cj_case.specs.Problems.{plain_problem}
 use Rattle.cj_slabs.specs.Slabs.{IsSlabOf}
-use Rattle.cj_slabs.proofs.SlabLemmas.{given_back, next_found, nothing_found, upto_slot}
+use Rattle.cj_slabs.proofs.SlabLemmas.{next_found, nothing_found, upto_slot}
 use Rattle.cj_slabs.proofs.slots_sifted.sift_some.Goals as goal
 
 pub loop-slot-init : goal.loop-slot-init
@@ -35,11 +35,14 @@ loop-slot-preserved g c = record {
   found = next_found (plain_problem c.args.problem.now) c.args.slots.now c.loop-slot.slot-index 0 c.loop-slot.slab c.sift_slot.new.slab c.loop-slot-test.true c.loop-slot.invariant.found c.in-Ok.ensures.added;
 }
 
+pub searched-requires : goal.searched-requires
+searched-requires g c = c.loop-slot.invariant.room
+
 pub returns-clause-outcome : goal.returns-clause-outcome
 returns-clause-outcome g c =
     let case = plain_problem c.args.problem.now in
-    given_back case c.args.slots.now c.loop-slot.slab c.shrink_to_fit.new.self c.shrink_to_fit.ensures.items
+    c.searched.ensures.outcome case c.args.slots.now
     (subst (λ (slots : List ℕ). IsSlabOf case slots c.loop-slot.slab) (take_all c.loop-slot.slot-index c.args.slots.now c.loop-slot-test.false) c.loop-slot.invariant.found)
 
 pub returns-clause-alone : goal.returns-clause-alone
-returns-clause-alone g c = λ none. c.loop-slot.invariant.room
+returns-clause-alone g c = λ none. c.searched.ensures.over none
