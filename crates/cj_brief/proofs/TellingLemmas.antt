@@ -28,7 +28,7 @@ use Rattle.cj_bezier.specs.ToldLeaves.{told_by, told_leaves}
 use Rattle.cj_cert.specs.Accepted.{IsSupported}
 use Rattle.cj_cert.proofs.ListedLemmas.{AreAllInTime}
 use Rattle.cj_cert.proofs.WrittenLemmas.{root_tile}
-use Rattle.cj_brief.specs.Telling.{EndsAt, IsListed, plain_lists, told_in}
+use Rattle.cj_brief.specs.Telling.{EndsAt, IsListed, plain_lists, told_at}
 
 -- ---- where the leaves of a root end
 
@@ -153,23 +153,23 @@ told_is case r leaves same =
     ∙ ap (λ (ss : List PlainLeaf). cond (list_all (λ s. same_kind Far s.kind) ss) [] ss) same
 
 -- what is told in a slot with one root more
-told_here : (case : PlainProblem) (rs : List PlainCell) (r : PlainCell) → told_in case (rs ++ r ∷ []) (slot_of case.first r.first) ≡ told_in case rs (slot_of case.first r.first) ++ told_of_root case r
+told_here : (case : PlainProblem) (rs : List PlainCell) (r : PlainCell) → told_at case (rs ++ r ∷ []) (slot_of case.first r.first) ≡ told_at case rs (slot_of case.first r.first) ++ told_of_root case r
 told_here case rs r =
     let k = slot_of case.first r.first in
     let test = λ (q : PlainCell). eqb (slot_of case.first q.first) k in
     let yes : test r ≡ true = eq-eqb k k refl in
     ap (flat_map (told_of_root case)) (filter-append test rs (r ∷ []))
     ∙ flat_map-append (told_of_root case) (filter test rs) (filter test (r ∷ []))
-    ∙ ap (λ (b : Bool). told_in case rs k ++ flat_map (told_of_root case) (cond b (r ∷ []) [])) yes
-    ∙ ap (λ (ss : List PlainLeaf). told_in case rs k ++ ss) (append-nil (told_of_root case r))
+    ∙ ap (λ (b : Bool). told_at case rs k ++ flat_map (told_of_root case) (cond b (r ∷ []) [])) yes
+    ∙ ap (λ (ss : List PlainLeaf). told_at case rs k ++ ss) (append-nil (told_of_root case r))
 
-told_elsewhere : (case : PlainProblem) (rs : List PlainCell) (r : PlainCell) (slot : ℕ) → ¬ (slot ≡ slot_of case.first r.first) → told_in case (rs ++ r ∷ []) slot ≡ told_in case rs slot
+told_elsewhere : (case : PlainProblem) (rs : List PlainCell) (r : PlainCell) (slot : ℕ) → ¬ (slot ≡ slot_of case.first r.first) → told_at case (rs ++ r ∷ []) slot ≡ told_at case rs slot
 told_elsewhere case rs r slot other = go (eqb (slot_of case.first r.first) slot) refl
   where
     test : PlainCell → Bool
     test q = eqb (slot_of case.first q.first) slot
 
-    go : (b : Bool) → test r ≡ b → told_in case (rs ++ r ∷ []) slot ≡ told_in case rs slot
+    go : (b : Bool) → test r ≡ b → told_at case (rs ++ r ∷ []) slot ≡ told_at case rs slot
     go true is = absurd (other (sym (eqb-true (slot_of case.first r.first) slot is)))
     go false is =
         ap (flat_map (told_of_root case)) (filter-append test rs (r ∷ []))
@@ -222,18 +222,18 @@ made_at f a (suc n) zero d lt = let at : a ≡ a + 0 = omega arith in ap f at
 made_at f a (suc n) (suc k) d lt = let at : a + 1 + k ≡ a + suc k = omega arith in made_at f (a + 1) n k d (omega (arith, lt)) ∙ ap f at
 
 pub told_more : (case : PlainProblem) (rs : List PlainCell) (r : PlainCell) (n k : ℕ) (lists new : List (List PlainLeaf)) (told : List PlainLeaf)
-    → lists ≡ map (told_in case rs) (range_with_len 0 n) → k ≡ slot_of case.first r.first → k < n → told ≡ told_of_root case r → new ≡ set lists k (get_or lists k [] ++ told)
-    → new ≡ map (told_in case (rs ++ r ∷ [])) (range_with_len 0 n)
+    → lists ≡ map (told_at case rs) (range_with_len 0 n) → k ≡ slot_of case.first r.first → k < n → told ≡ told_of_root case r → new ≡ set lists k (get_or lists k [] ++ told)
+    → new ≡ map (told_at case (rs ++ r ∷ [])) (range_with_len 0 n)
 told_more case rs r n k lists new told so_far here lt is more =
     let at : 0 + k ≡ k = omega arith in
-    let old : get_or lists k [] ≡ told_in case rs k = ap (λ (ls : List (List PlainLeaf)). get_or ls k []) so_far ∙ made_at (told_in case rs) 0 n k [] lt ∙ ap (told_in case rs) at in
-    let own : get_or lists k [] ++ told ≡ told_in case (rs ++ r ∷ []) (0 + k) =
-    (λ i. old i ++ is i) ∙ ap (λ (j : ℕ). told_in case rs j ++ told_of_root case r) here ∙ sym (told_here case rs r) ∙ ap (told_in case (rs ++ r ∷ [])) (sym (at ∙ here)) in
+    let old : get_or lists k [] ≡ told_at case rs k = ap (λ (ls : List (List PlainLeaf)). get_or ls k []) so_far ∙ made_at (told_at case rs) 0 n k [] lt ∙ ap (told_at case rs) at in
+    let own : get_or lists k [] ++ told ≡ told_at case (rs ++ r ∷ []) (0 + k) =
+    (λ i. old i ++ is i) ∙ ap (λ (j : ℕ). told_at case rs j ++ told_of_root case r) here ∙ sym (told_here case rs r) ∙ ap (told_at case (rs ++ r ∷ [])) (sym (at ∙ here)) in
     more ∙ ap (λ (ls : List (List PlainLeaf)). set ls k (get_or lists k [] ++ told)) so_far
-    ∙ set_made (told_in case rs) (told_in case (rs ++ r ∷ [])) 0 n k (get_or lists k [] ++ told) lt own (λ j other. sym (told_elsewhere case rs r j (λ e. other (e ∙ sym (at ∙ here)))))
+    ∙ set_made (told_at case rs) (told_at case (rs ++ r ∷ [])) 0 n k (get_or lists k [] ++ told) lt own (λ j other. sym (told_elsewhere case rs r j (λ e. other (e ∙ sym (at ∙ here)))))
 
 -- nothing is told of no roots
-pub none_told : (case : PlainProblem) (a n : ℕ) → replicate n [] ≡ map (told_in case []) (range_with_len a n)
+pub none_told : (case : PlainProblem) (a n : ℕ) → replicate n [] ≡ map (told_at case []) (range_with_len a n)
 none_told case a zero = refl
 none_told case a (suc n) = ap (λ (ls : List (List PlainLeaf)). [] ∷ ls) (none_told case (a + 1) n)
 
@@ -328,13 +328,13 @@ roots_there candidate case k lt =
     each pairs = Each-always (λ pair. filter test (flat_map (one pair) (slots_of case)) ≡ one pair k) of_pair pairs
 
 -- what is told in each slot, one behind another
-pub told_in_all : (case : PlainProblem) → flat_map (told_in case (roots_of (is_candidate case) case)) (slots_of case) ≡ told_leaves case
+pub told_in_all : (case : PlainProblem) → flat_map (told_at case (roots_of (is_candidate case) case)) (slots_of case) ≡ told_leaves case
 unfolding told_by roots_by_slot
 told_in_all case =
     let candidate = is_candidate case in
     let there = λ (slot : ℕ). roots_in_slot case slot (filter (λ pair. candidate pair.0 pair.1 slot) (pairs_of (length case.tracks))) in
-    flat_map_alike (told_in case (roots_of candidate case)) (λ slot. flat_map (told_of_root case) (there slot)) (slots_of case)
-    (Each-range (λ slot. told_in case (roots_of candidate case) slot ≡ flat_map (told_of_root case) (there slot)) 0 (slot_count case.first case.last)
+    flat_map_alike (told_at case (roots_of candidate case)) (λ slot. flat_map (told_of_root case) (there slot)) (slots_of case)
+    (Each-range (λ slot. told_at case (roots_of candidate case) slot ≡ flat_map (told_of_root case) (there slot)) 0 (slot_count case.first case.last)
     (λ slot low high. ap (flat_map (told_of_root case)) (roots_there candidate case slot (omega (arith, high)))))
     ∙ sym (flat_map-flat_map (told_of_root case) there (slots_of case))
 
@@ -354,7 +354,7 @@ plain_of_all (list ∷ lists) =
 
 -- what is told in each slot by lists, one behind another
 pub list_told : (case : PlainProblem) (roots : List PlainCell) (lists : List (Vec Leaf)) (all : List Leaf) → roots ≡ roots_of (is_candidate case) case
-    → plain_lists lists ≡ map (told_in case roots) (slots_of case) → all ≡ flat_map (λ list. list.items) lists → plain_leaves all ≡ told_leaves case
+    → plain_lists lists ≡ map (told_at case roots) (slots_of case) → all ≡ flat_map (λ list. list.items) lists → plain_leaves all ≡ told_leaves case
 list_told case roots lists all are told is =
-    ap plain_leaves is ∙ plain_of_all lists ∙ in_one_is (plain_lists lists) (told_in case roots) (slots_of case) told
-    ∙ ap (λ (rs : List PlainCell). flat_map (told_in case rs) (slots_of case)) are ∙ told_in_all case
+    ap plain_leaves is ∙ plain_of_all lists ∙ in_one_is (plain_lists lists) (told_at case roots) (slots_of case) told
+    ∙ ap (λ (rs : List PlainCell). flat_map (told_at case rs) (slots_of case)) are ∙ told_in_all case

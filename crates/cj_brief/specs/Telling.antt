@@ -24,5 +24,5 @@ abbrev pub plain_lists : List (Vec Leaf) → List (List PlainLeaf)
 plain_lists lists = map (λ list. plain_leaves list.items) lists
 
 -- what is told of those of some roots that begin in a slot
-abbrev pub told_in : PlainProblem → List PlainCell → ℕ → List PlainLeaf
-told_in case rs slot = flat_map (told_of_root case) (filter (λ r. slot_of case.first r.first == slot) rs)
+abbrev pub told_at : PlainProblem → List PlainCell → ℕ → List PlainLeaf
+told_at case rs slot = flat_map (told_of_root case) (filter (λ r. slot_of case.first r.first == slot) rs)

@@ -11,7 +11,7 @@ ghost use Rattle.cj_bezier.specs.Candidates.{is_candidate};
 ghost use Rattle.cj_bezier.specs.RootLeaves.{leaves_of_roots};
 ghost use Rattle.cj_bezier.specs.ToldLeaves.{told_leaves};
 ghost use Rattle.cj_cert.specs.Written.{leaves_in_order};
-ghost use Rattle.cj_brief.specs.Telling.{EndsAt, IsListed, plain_lists, told_in};
+ghost use Rattle.cj_brief.specs.Telling.{EndsAt, IsListed, plain_lists, told_at};
 
 use cj_base::Tick;
 use cj_case::{Cell, Kind, Leaf, Problem, SLOT, slot_count};
@@ -105,7 +105,7 @@ fn told_by_slot(
     requires roots { All (λ root. IsListed (plain_problem problem.now) (plain_cell root)) roots.now }
     requires leaves { plain_leaves leaves.now ≡ leaves_of_roots (plain_problem problem.now) (plain_cells roots.now) }
     ensures { IfOk result (λ lists. plain_lists lists.items
-        ≡ map (told_in (plain_problem problem.now) (plain_cells roots.now)) (slots_of (plain_problem problem.now))) }
+        ≡ map (told_at (plain_problem problem.now) (plain_cells roots.now)) (slots_of (plain_problem problem.now))) }
 {
     let mut lists = empty_lists(alloc, slot_count(problem.window))?;
     let mut rest = leaves;

@@ -1,5 +1,5 @@
 -- The first failure of a certificate in brief from those of its parts.
-use Rattle.std.proofs.Common.{◌≡◌, true, false, length, Option, Some, None, refl, sym, ap, ◌∙◌}
+use Rattle.std.proofs.Common.{◌≡◌, ℕ, ◌+◌, List, true, false, length, Option, Some, None, refl, sym, ap, ◌∙◌}
 use Rattle.std.specs.Prelude.{is_some}
 use Rattle.std.specs.Option.{option_or}
 use Rattle.std.proofs.lemmas.List.{length-map}
@@ -7,27 +7,50 @@ use Rattle.std.proofs.lemmas.List.FromFn.{length-range_with_len}
 use Rattle.cj_case.specs.PlainProblems.{PlainProblem}
 use Rattle.cj_cert.specs.declared.cert_lines.ShellLine.{ShellLine}
 use Rattle.cj_brief.specs.Certificates.{PlainBrief}
-use Rattle.cj_checker.specs.First.{header_failure, size_failure, shell_failure, Failure}
-use Rattle.cj_checker.proofs.CheckLemmas.{both_none, none_of, some_first}
+use Rattle.cj_checker.specs.First.{first_line, header_failure, size_failure, shell_failure, Failure}
+use Rattle.cj_checker.proofs.CheckLemmas.{none_of, some_first}
 use Rattle.cj_checker.proofs.FirstLemmas.{shell_law}
-use Rattle.cj_brief_checker.specs.First.{first_failure_in_brief, in_full, object_failure_in_brief, told_failure}
+use Rattle.cj_brief_checker.specs.Shown.{first_unfit_shell}
+use Rattle.cj_brief_checker.specs.First.{first_failure_in_brief, head_failure_in_brief, in_full, told_failure}
 
-pub fails_before : (case : PlainProblem) (c : PlainBrief) (o : Option Failure) → o ≡ object_failure_in_brief case c → is_some o ≡ true → o ≡ first_failure_in_brief case c
+-- the head first, then the shells and the cells
+by_head : (case : PlainProblem) (c : PlainBrief) → first_failure_in_brief case c ≡ option_or (head_failure_in_brief case c) (option_or (shell_failure case (in_full c)) (told_failure case c))
 unfolding first_failure_in_brief
-fails_before case c o is some = sym (ap (λ (p : Option Failure). option_or p (told_failure case c)) (sym is) ∙ some_first o (told_failure case c) some)
+by_head case c = regroup (header_failure case (in_full c)) (size_failure case (in_full c)) (shell_failure case (in_full c)) (told_failure case c)
+  where
+    regroup : (h s t l : Option Failure) → option_or (option_or h (option_or s t)) l ≡ option_or (option_or h s) (option_or t l)
+    regroup (Some f) s t l = refl
+    regroup None (Some f) t l = refl
+    regroup None None t l = refl
 
-pub fails_in_cells : (case : PlainProblem) (c : PlainBrief) (o : Option Failure) → o ≡ object_failure_in_brief case c → is_some o ≡ false → first_failure_in_brief case c ≡ told_failure case c
-unfolding first_failure_in_brief
-fails_in_cells case c o is none = ap (λ (p : Option Failure). option_or p (told_failure case c)) (sym is ∙ none_of o none)
+pub fails_in_head : (case : PlainProblem) (c : PlainBrief) (o : Option Failure) → o ≡ head_failure_in_brief case c → is_some o ≡ true → o ≡ first_failure_in_brief case c
+fails_in_head case c o is some =
+    let rest = option_or (shell_failure case (in_full c)) (told_failure case c) in
+    sym (by_head case c ∙ (ap (λ (p : Option Failure). option_or p rest) (sym is) ∙ some_first o rest some))
 
-pub same_shells : (case : PlainProblem) (c : PlainBrief) (o : Option Failure) → o ≡ object_failure_in_brief case c → is_some o ≡ false → length c.shells ≡ length case.tracks
-same_shells case c o is none =
-    let a = both_none (header_failure case (in_full c)) (option_or (size_failure case (in_full c)) (shell_failure case (in_full c))) (sym is ∙ none_of o none) in
-    let b = both_none (size_failure case (in_full c)) (shell_failure case (in_full c)) a.1 in
-    let are = (shell_law case (in_full c)).0 b.1 in
+behind_head : (case : PlainProblem) (c : PlainBrief) (o : Option Failure) → o ≡ head_failure_in_brief case c → is_some o ≡ false
+    → first_failure_in_brief case c ≡ option_or (shell_failure case (in_full c)) (told_failure case c)
+behind_head case c o is none = by_head case c ∙ ap (λ (p : Option Failure). option_or p (option_or (shell_failure case (in_full c)) (told_failure case c))) (sym is ∙ none_of o none)
+
+pub fails_in_shells : (case : PlainProblem) (c : PlainBrief) (o : Option Failure) (f : Failure) → o ≡ head_failure_in_brief case c → is_some o ≡ false → shell_failure case (in_full c) ≡ Some f
+    → Some f ≡ first_failure_in_brief case c
+fails_in_shells case c o f is none fails = sym (behind_head case c o is none ∙ ap (λ (p : Option Failure). option_or p (told_failure case c)) fails)
+
+pub fails_in_cells : (case : PlainProblem) (c : PlainBrief) (o : Option Failure) → o ≡ head_failure_in_brief case c → is_some o ≡ false → shell_failure case (in_full c) ≡ None
+    → first_failure_in_brief case c ≡ told_failure case c
+fails_in_cells case c o is none passes = behind_head case c o is none ∙ ap (λ (p : Option Failure). option_or p (told_failure case c)) passes
+
+-- the lines of shells by themselves
+pub shells_are : (case : PlainProblem) (c : PlainBrief) (first : ℕ) (lines : List ShellLine) → first ≡ first_line + length c.sizes → lines ≡ c.shells
+    → first_unfit_shell case first lines ≡ shell_failure case (in_full c)
+shells_are case c first lines at are = λ i. first_unfit_shell case (at i) (are i)
+
+pub same_shells : (case : PlainProblem) (c : PlainBrief) → shell_failure case (in_full c) ≡ None → length c.shells ≡ length case.tracks
+same_shells case c passes =
+    let are = (shell_law case (in_full c)).0 passes in
     sym (length-map c.shells (λ (line : ShellLine). line.object)) ∙ ap length are.objects ∙ length-range_with_len 0 (length case.tracks)
 
--- ---- of what fails before the cells
+-- ---- of what fails in the head
 
 pub first_fails : (h o : Option Failure) (rest : Option Failure) → h ≡ o → is_some h ≡ true → h ≡ option_or o rest
 first_fails h o rest is some = sym (ap (λ (p : Option Failure). option_or p rest) (sym is) ∙ some_first h rest some)

@@ -3,6 +3,7 @@ mod FarLemmas
 mod FirstLemmas
 mod OrderLemmas
 mod PairLemmas
+mod ShownLemmas
 mod SlotLemmas
 mod StepLemmas
 mod ToldLemmas

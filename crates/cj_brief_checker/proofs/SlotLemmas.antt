@@ -1,6 +1,6 @@
 -- The boxes of a slot, the candidates by them, and the roots slot by slot.
 use Rattle.std.proofs.Common.{◌≡◌, ℕ, suc, ◌+◌, ◌-◌, ◌<◌, ◌≤◌, List, [], ◌∷◌, ◌++◌, drop, filter, get_or, map, length, Option, Some, refl, sym, ap, ◌∙◌, arith}
-use Rattle.std.specs.Prelude.{option_map, slice_get}
+use Rattle.std.specs.Prelude.{false, option_map, slice_get, Result}
 use Rattle.std.specs.List.{flat_map, range_with_len}
 use Rattle.std.proofs.lemmas.List.{length-map}
 use Rattle.std.proofs.lemmas.Option.{slice_get-map}
@@ -9,6 +9,8 @@ use Rattle.cj_track.specs.PlainTracks.{PlainTrack}
 use Rattle.cj_case.specs.PlainProblems.{PlainProblem}
 use Rattle.cj_case.specs.Cells.{PlainCell}
 use Rattle.cj_case.specs.declared.pair.Pair.{Pair}
+use Rattle.cj_case.specs.declared.problem.Problem.{Problem}
+use Rattle.cj_case.specs.Problems.{plain_problem}
 use Rattle.cj_case.specs.Pairs.{objects_of}
 use Rattle.cj_case.specs.Slots.{slot_first, slot_last, slot_count}
 use Rattle.cj_case.specs.declared.axis_box.AxisBox.{AxisBox}
@@ -20,9 +22,16 @@ use Rattle.cj_bezier.specs.Candidates.{boxes_in}
 use Rattle.cj_bezier.specs.SlotBoxes.{box_of}
 use Rattle.cj_cert.specs.declared.cert_lines.ShellLine.{ShellLine}
 use Rattle.cj_brief.specs.Accepted.{is_candidate_in_brief}
-use Rattle.cj_brief.specs.Certificates.{PlainBrief}
+use Rattle.cj_brief.specs.declared.brief_certificate.BriefCertificate.{BriefCertificate}
+use Rattle.cj_brief.specs.Certificates.{PlainBrief, plain_brief}
+use Rattle.cj_cert.specs.Certificates.{plain_cell_line}
+use Rattle.cj_checker.specs.declared.cell_fault.CellFault.{CellFault}
+use Rattle.cj_checker.specs.First.{Failure}
 use Rattle.cj_checker.specs.Keys.{candidate_with}
+use Rattle.cj_brief_checker.specs.First.{first_cell_line, told_from}
+use Rattle.cj_brief_checker.specs.SlotCells.{IsFound}
 use Rattle.cj_brief_checker.specs.SlotPairs.{candidates_in}
+use Rattle.cj_brief_checker.specs.Steps.{told_behind}
 
 -- ---- the boxes of a slot
 
@@ -90,6 +99,18 @@ no_roots_left case c slot le =
     let n = slot_count case.first case.last in
     let len : n - slot ≡ 0 = omega arith in
     ap (λ (k : ℕ). flat_map (λ slot. roots_in_slot case slot (candidates_in case c slot)) (range_with_len slot k)) len
+
+-- with the cells of a slot told, the whole fails as those that are left do
+pub slot_told : {whole : Option Failure} (problem : Problem) (cert : BriefCertificate) (slot at : ℕ) (found : Result ℕ CellFault) → slot < slot_count problem.window.first.micros problem.window.last.micros
+    → IsFound problem cert slot at found
+    → whole ≡ told_from (plain_problem problem) (drop at (map plain_cell_line cert.cells.items)) (first_cell_line (plain_brief cert) + at) false (roots_from (plain_problem problem) (plain_brief cert) slot)
+    → whole ≡ told_behind (plain_problem problem) (first_cell_line (plain_brief cert)) (roots_from (plain_problem problem) (plain_brief cert) (slot + 1)) (map plain_cell_line cert.cells.items) found
+slot_told problem cert slot at found lt is so_far =
+    let case = plain_problem problem in
+    let c = plain_brief cert in
+    so_far
+    ∙ (ap (told_from case (drop at (map plain_cell_line cert.cells.items)) (first_cell_line c + at) false) (slot_roots case c slot lt)
+    ∙ is.tells (first_cell_line c) (roots_from case c (slot + 1)))
 
 -- those of a slot from one of its pairs on
 pub next_pair : (case : PlainProblem) (slot i : ℕ) (pairs : List Pair) (p : Pair) → i < length pairs → p ≡ get_or pairs i p

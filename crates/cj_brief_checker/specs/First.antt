@@ -76,6 +76,10 @@ first_cell_line c = first_line + length c.sizes + length c.shells
 abbrev pub told_failure : PlainProblem → PlainBrief → Option Failure
 told_failure case c = told_from case c.cells (first_cell_line c) false (roots_by_slot (is_candidate_in_brief case c) case)
 
+-- what fails before the shells
+abbrev pub head_failure_in_brief : PlainProblem → PlainBrief → Option Failure
+head_failure_in_brief case c = option_or (header_failure case (in_full c)) (size_failure case (in_full c))
+
 -- what fails before the cells
 abbrev pub object_failure_in_brief : PlainProblem → PlainBrief → Option Failure
 object_failure_in_brief case c = option_or (header_failure case (in_full c)) (option_or (size_failure case (in_full c)) (shell_failure case (in_full c)))

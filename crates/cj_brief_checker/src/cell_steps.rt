@@ -42,7 +42,7 @@ fn is_behind(root: &Root, from: Tick, cell: &CellLine) -> bool
 }
 
 /// The slot of a tick of a window that begins at `first`, and 0 before it.
-fn slot_of(first: Tick, at: Tick) -> u64
+pub(crate) fn slot_of(first: Tick, at: Tick) -> u64
     ensures { result ≡ the_slot_of first.micros at.micros }
 {
     at.micros.saturating_sub(first.micros) / SLOT

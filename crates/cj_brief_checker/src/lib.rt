@@ -5,10 +5,15 @@ mod cell_steps;
 mod cells;
 mod checking;
 mod far;
+mod halt;
 mod header;
 mod laws;
+mod showing;
+mod shown;
+mod slot_cells;
 mod slot_pairs;
 mod step;
+mod tiled;
 mod tiling;
 
 pub use checking::check_in_brief;

@@ -8,7 +8,10 @@ use Rattle.std.proofs.lemmas.Fmt.{length-decimal-le}
 use Rattle.std.proofs.lemmas.List.{length-append}
 use Rattle.std.proofs.lemmas.List.Elements.{All-head, All-tail}
 use Rattle.cj_formats.specs.declared.cert_version.CertVersion.{CertVersion}
-use Rattle.cj_formats.specs.declared.cert_format.CertFormat.TheVariants.{Full}
+use Rattle.cj_base.specs.Ticks.{LAST_TICK}
+use Rattle.cj_brief.specs.Certificates.{PlainBrief}
+use Rattle.cj_formats.specs.Formats.{most_objects_in}
+use Rattle.cj_formats.specs.declared.cert_format.CertFormat.TheVariants.{Full, Brief}
 use Rattle.cj_formats.specs.declared.cert_version.CertVersion.TheVariants.{One, Two}
 use Rattle.cj_formats.specs.Versions.{most_objects, number_of_version}
 use Rattle.cj_case.specs.declared.kind.Kind.{Kind}
@@ -18,9 +21,9 @@ use Rattle.cj_case.specs.Leaves.{PlainLeaf}
 use Rattle.cj_bezier.specs.Shells.{MAX_RADIUS}
 use Rattle.cj_cert.specs.declared.cert_lines.SizeOfLine.{SizeOfLine}
 use Rattle.cj_cert.specs.Certificates.{PlainBoxLine, PlainCertificate}
-use Rattle.cj_cert_text.specs.Fits.{Fits, FitsBox, FitsCell, FitsSize, IsOfVersion}
+use Rattle.cj_cert_text.specs.Fits.{Fits, FitsBox, FitsCell, FitsInBrief, FitsSize, IsOfVersion}
 use Rattle.cj_cert_text.specs.Lines.{Box, Cell, Objects, Threshold, Window}
-use Rattle.cj_cert_text.specs.Texts.{box_text, cell_text, ends, head_text, kind_word, number, row, row_ended}
+use Rattle.cj_cert_text.specs.Texts.{box_text, brief_text, cell_text, ends, first_lines_in, head_text, kind_word, number, row, row_ended}
 use Rattle.cj_cert_text.specs.Texts.{shell_row, shell_text, size_text, slots, spaced_numbers, text_of}
 use Rattle.cj_cert_text.proofs.RowLemmas.{join-ended}
 use Rattle.cj_kvn.proofs.TextLemmas.{join-spaced}
@@ -206,4 +209,119 @@ text_short c fits few_sizes few_shells few_boxes few_cells =
       length-append (head ++ sizes ++ shells) boxes,
       length-append (head ++ sizes ++ shells ++ boxes) cells,
       length-append (head ++ sizes ++ shells ++ boxes ++ cells) (row (codes "END") []),
+    )
+
+-- ---- certificates in brief
+
+-- the number of an object has five digits at most
+object_in_brief : (object : ℕ) (zs : List ℤ) → object < most_objects_in Brief → length (spaced_numbers (number object ∷ zs)) ≤ 6 + length (spaced_numbers zs)
+object_in_brief object zs few =
+    omega (
+      arith,
+      few,
+      length-append (32 ∷ signed_decimal (number object)) (spaced_numbers zs),
+      length-decimal-le 5 (object + 1) (omega arith) (omega (arith, few)) (omega (arith, few)),
+    )
+
+-- a tick has sixteen
+tick_length : (m : ℕ) (zs : List ℤ) → m ≤ LAST_TICK → length (spaced_numbers (pos m ∷ zs)) ≤ 17 + length (spaced_numbers zs)
+tick_length m zs last =
+    omega (
+      arith,
+      last,
+      length-append (32 ∷ signed_decimal (pos m)) (spaced_numbers zs),
+      length-decimal-le 16 m (omega arith) (omega (arith, last)) (omega (arith, last)),
+    )
+
+size_in_brief : (s : SizeOfLine) → FitsSize (most_objects_in Brief) s → length (size_text s) ≤ 33
+size_in_brief s fits =
+    let size : List ℤ = pos s.size ∷ [] in
+    omega (
+      arith,
+      row_length (codes "SIZE") (number s.object ∷ size),
+      object_in_brief s.object size fits.object,
+      numbers_length size (omega (arith, fits.size), tt),
+    )
+
+shell_in_brief : (object : ℕ) (shell : Option Radii) → object < most_objects_in Brief → IfSome shell (λ r. r.lo ≤ r.hi × r.hi ≤ MAX_RADIUS)
+    → length (shell_row object shell) ≤ 56
+shell_in_brief object None few radii =
+    omega (arith, row_ended_length (codes "SHELL") (codes "NONE") (number object ∷ []), object_in_brief object [] few)
+shell_in_brief object (Some r) few radii =
+    let ends : List ℤ = pos r.lo ∷ pos r.hi ∷ [] in
+    omega (
+      arith,
+      row_length (codes "SHELL") (number object ∷ ends),
+      object_in_brief object ends few,
+      numbers_length ends (omega (arith, radii.0, radii.1), (omega (arith, radii.1), tt)),
+    )
+
+one_letter : (kind : Kind) → length (kind_word kind) ≡ 1
+one_letter kinds.Far = refl
+one_letter kinds.Near = refl
+one_letter kinds.Undecided = refl
+
+cell_in_brief : (s : PlainLeaf) → FitsCell (most_objects_in Brief) s → length (cell_text s) ≤ 53
+cell_in_brief s fits =
+    let ticks : List ℤ = pos s.first ∷ pos s.last ∷ [] in
+    omega (
+      arith,
+      row_ended_length (codes "CELL") (kind_word s.kind) (number s.a ∷ number s.b ∷ ticks),
+      object_in_brief s.a (number s.b ∷ ticks) (omega (arith, fits.ordered, fits.objects)),
+      object_in_brief s.b ticks fits.objects,
+      tick_length s.first (pos s.last ∷ []) fits.first.1,
+      tick_length s.last [] fits.last.1,
+      one_letter s.kind,
+    )
+
+head_in_brief : (c : PlainBrief) → FitsInBrief c → length (first_lines_in Brief c.first c.last c.threshold c.objects) ≤ 200
+head_in_brief c fits =
+    let version : List ℤ = pos 3 ∷ [] in
+    let window : List ℤ = pos c.first ∷ pos c.last ∷ [] in
+    let threshold : List ℤ = pos c.threshold ∷ [] in
+    let objects : List ℤ = pos c.objects ∷ [] in
+    let one = row (codes "CONJ-CERT") version in
+    let two = row (codes "WINDOW") window in
+    let three = row (codes "THRESHOLD") threshold in
+    let four = row (codes "OBJECTS") objects in
+    omega (
+      arith,
+      length-append (one ++ two ++ three) four,
+      length-append (one ++ two) three,
+      length-append one two,
+      row_length (codes "CONJ-CERT") version,
+      row_length (codes "WINDOW") window,
+      row_length (codes "THRESHOLD") threshold,
+      row_length (codes "OBJECTS") objects,
+      numbers_length version (omega arith, tt),
+      numbers_length window (omega (arith, fits.first.1), (omega (arith, fits.last.1), tt)),
+      numbers_length threshold (omega (arith, fits.threshold), tt),
+      numbers_length objects (omega (arith, fits.objects), tt),
+    )
+
+-- how long the text of one is of so many objects and cells
+pub brief_length : (objects cells : ℕ) (c : PlainBrief) → FitsInBrief c → length c.sizes ≤ objects → length c.shells ≤ objects → length c.cells ≤ cells
+    → length (brief_text c) ≤ 204 + objects * 89 + cells * 53
+unfolding brief_text
+brief_length objects cells c fits few_sizes few_shells few_cells =
+    let head = first_lines_in Brief c.first c.last c.threshold c.objects in
+    let sizes = flat_map size_text c.sizes in
+    let shells = flat_map shell_text c.shells in
+    let told = flat_map cell_text c.cells in
+    let each_shell : All (λ s. length (shell_text s) ≤ 56) c.shells = λ k d below.
+    let s = get_or c.shells k d in let own = fits.shells k d below in shell_in_brief s.object s.shell own.object own.radii in
+    omega (
+      arith,
+      few_sizes,
+      few_shells,
+      few_cells,
+      head_in_brief c fits,
+      parts_length size_text 33 c.sizes (λ k d below. size_in_brief (get_or c.sizes k d) (fits.sizes k d below)),
+      parts_length shell_text 56 c.shells each_shell,
+      parts_length cell_text 53 c.cells (λ k d below. cell_in_brief (get_or c.cells k d) (fits.cells k d below)),
+      row_length (codes "END") [],
+      length-append head sizes,
+      length-append (head ++ sizes) shells,
+      length-append (head ++ sizes ++ shells) told,
+      length-append (head ++ sizes ++ shells ++ told) (row (codes "END") []),
     )

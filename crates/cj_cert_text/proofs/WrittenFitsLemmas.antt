@@ -160,7 +160,7 @@ unfolding shell_round
 round_low [] = tt
 round_low (h ∷ hs) = least_upto MAX_RADIUS 0 (is_outer (h ∷ hs))
 
-shells_low : (case : PlainProblem) → Each (λ line. HasLowTop line.shell) (map (shell_line case) (enumerate_from 0 case.tracks))
+pub shells_low : (case : PlainProblem) → Each (λ line. HasLowTop line.shell) (map (shell_line case) (enumerate_from 0 case.tracks))
 shells_low case =
     Each-map (λ (line : ShellLine). HasLowTop line.shell) (shell_line case) (enumerate_from 0 case.tracks)
     (Each-always (λ object. HasLowTop (shell_of object.1 case.first case.last)) (λ object. round_low (hulls_of object.1 case.first case.last)) (enumerate_from 0 case.tracks))
@@ -180,7 +180,7 @@ objects_in n lines same =
     each_from_map (λ k. k < n) (λ (line : ShellLine). line.object) lines
     (subst (λ (ks : List ℕ). Each (λ k. k < n) ks) (sym same) (Each-range (λ k. k < n) 0 n (λ k low high. omega arith)))
 
-shells_fit : (most : ℕ) (case : PlainProblem) (lines : List ShellLine) → length case.tracks ≤ most → AreShells case lines → Each (λ line. HasLowTop line.shell) lines → Each (FitsShell most) lines
+pub shells_fit : (most : ℕ) (case : PlainProblem) (lines : List ShellLine) → length case.tracks ≤ most → AreShells case lines → Each (λ line. HasLowTop line.shell) lines → Each (FitsShell most) lines
 shells_fit most case lines few are low =
     let Over = λ (line : ShellLine). IsSomeAnd (slice_get case.tracks line.object) (λ e. IsShellOver e case.first case.last line.shell) in
     Each-weaker (λ line. (line.object < length case.tracks × Over line) × HasLowTop line.shell) (FitsShell most)

@@ -4,6 +4,7 @@ use Rattle.std.specs.Prelude.{codes, flat_map}
 use Rattle.std.specs.List.{enumerate_from, range_with_len}
 use Rattle.std.proofs.lemmas.Grind.{flat_map-append}
 use Rattle.std.proofs.lemmas.List.Folds.{flat_map-map}
+use Rattle.cj_formats.specs.declared.cert_format.CertFormat.TheVariants.{Brief}
 use Rattle.cj_formats.specs.declared.cert_version.CertVersion.{CertVersion}
 use Rattle.cj_formats.specs.declared.cert_version.CertVersion.TheVariants.{One}
 use Rattle.cj_interval.proofs.RangeLemmas.{flat_map-range_more}
@@ -12,12 +13,14 @@ use Rattle.cj_case.specs.declared.leaf.Leaf.{Leaf}
 use Rattle.cj_case.specs.Leaves.{plain_leaf, plain_leaves}
 use Rattle.cj_case.specs.Boxes.{PlainBox}
 use Rattle.cj_bezier.specs.SlotBoxes.{reaches_in}
+use Rattle.cj_bezier.specs.ToldLeaves.{told_leaves}
+use Rattle.cj_brief.specs.Written.{written_in_brief}
 use Rattle.cj_cert.specs.declared.cert_lines.ShellLine.{ShellLine}
 use Rattle.cj_cert_text.specs.declared.object_boxes.ObjectBoxes.{ObjectBoxes}
 use Rattle.cj_cert.specs.Certificates.{PlainBoxLine}
 use Rattle.cj_cert_text.specs.ObjectTexts.{object_text}
-use Rattle.cj_cert_text.specs.Texts.{box_text, cell_text, first_lines, row, shell_text, text_of}
-use Rattle.cj_cert.specs.Written.{box_lines, leaves_in_order, line_of_box, lines_in_row, shell_line, written}
+use Rattle.cj_cert_text.specs.Texts.{box_text, brief_text, cell_text, first_lines, first_lines_in, row, shell_text, size_text, text_of}
+use Rattle.cj_cert.specs.Written.{box_lines, leaves_in_order, line_of_box, lines_in_row, shell_line, size_lines, written}
 use Rattle.cj_cert.proofs.WrittenLineLemmas.{box_missing, box_more}
 
 -- ---- one box more of an object
@@ -84,3 +87,21 @@ all_left case objects shells each leaves front back count of_shells of_boxes of_
     ∙ append_assoc ((head ++ []) ++ s) b (l ++ e)
     ∙ append_assoc (head ++ []) s (b ++ (l ++ e))
     ∙ ap (λ (t : List ℕ). t ++ (s ++ (b ++ (l ++ e)))) (append-nil head))
+
+-- the same in brief, where no boxes are
+pub all_left_in_brief : (case : PlainProblem) (shells : List ShellLine) (each : List ObjectBoxes) (leaves : List Leaf) (front back : List ℕ)
+    → shells ≡ map (shell_line case) (enumerate_from 0 case.tracks) → each ≡ [] → plain_leaves leaves ≡ told_leaves case
+    → front ≡ first_lines_in Brief case.first case.last case.threshold (length case.tracks) ++ flat_map size_text (size_lines case.sizes) → back ≡ row (codes "END") []
+    → front ++ (flat_map shell_text shells ++ (flat_map (object_text One) each ++ (flat_map (λ (leaf : Leaf). cell_text (plain_leaf leaf)) leaves ++ back)))
+    ≡ brief_text (written_in_brief case)
+unfolding brief_text written_in_brief
+all_left_in_brief case shells each leaves front back of_shells none of_leaves of_front of_back =
+    let head = first_lines_in Brief case.first case.last case.threshold (length case.tracks) in
+    let z = flat_map size_text (size_lines case.sizes) in
+    let s = flat_map shell_text (map (shell_line case) (enumerate_from 0 case.tracks)) in
+    let l = flat_map cell_text (told_leaves case) in
+    let e = row (codes "END") [] in
+    let of_cells : flat_map (λ (leaf : Leaf). cell_text (plain_leaf leaf)) leaves ≡ l =
+    sym (flat_map-map cell_text plain_leaf leaves) ∙ ap (flat_map cell_text) of_leaves in
+    (λ i. of_front i ++ (flat_map shell_text (of_shells i) ++ (flat_map (object_text One) (none i) ++ (of_cells i ++ of_back i))))
+    ∙ sym (append_assoc ((head ++ z) ++ s) l e ∙ append_assoc (head ++ z) s (l ++ e))

@@ -15,18 +15,19 @@ use std::alloc::{AllocError, Global};
 use std::mem::replace;
 use std::thread::Threads;
 
-/// So many lines of shells, boxes or cells are made at a time for each worker: some megabytes of text.
-const LINES_A_WORKER: usize = 65_536;
+/// So many lines of shells, boxes or cells are made at a time for each worker: two megabytes of text, so that what waits to be written takes little memory.
+const LINES_A_WORKER: usize = 16_384;
 
-/// The text of a certificate in version 1, of which a front may be made already: of each list so many lines as were counted.
+/// The text of a certificate in version 1 or in brief, of which a front may be made already: of each list so many lines as were counted.
 /// Its parts are made by as many threads as there are workers, each of which takes the next part.
 #[derive(Drop)]
 pub struct CertificateText<'a> {
     pub(crate) workers: u32,
-    /// The text of the first four lines, until it is handed out.
+    /// The text of the first four lines, and in brief of the sizes, until it is handed out.
     pub(crate) head: Vec<u8>,
     pub(crate) shells: Vec<ShellLine>,
     pub(crate) shells_made: usize,
+    /// In brief there are none.
     pub(crate) boxes: Vec<ObjectBoxes<'a>>,
     pub(crate) boxes_made: usize,
     pub(crate) slots: u32,

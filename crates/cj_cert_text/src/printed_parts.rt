@@ -87,7 +87,7 @@ fn room_of<L: PrintedLine>(part: &[L]) -> usize {
 }
 
 /// Adds lines, one after another.
-fn push_in_turn<L: PrintedLine>(
+pub(crate) fn push_in_turn<L: PrintedLine>(
     text: &mut Vec<u8>,
     version: CertVersion,
     lines: &[L],

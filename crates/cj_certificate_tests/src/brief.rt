@@ -18,7 +18,7 @@ END
 ";
 
 /// Two objects at rest, exactly the threshold of 5 km apart, for a minute.
-const AT_REST: &[u8] = b"CONJ-CERT 3
+pub const AT_REST: &[u8] = b"CONJ-CERT 3
 WINDOW 1735689600000000 1735689660000000
 THRESHOLD 5000000000000
 OBJECTS 2

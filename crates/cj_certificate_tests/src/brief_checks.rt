@@ -1,16 +1,16 @@
 //! Whether certificates in brief are accepted, and at which line and why they are not, of objects at rest over a minute and one tick.
-ghost use Rattle.std.specs.Prelude.{◌≡◌};
+ghost use Rattle.std.specs.Prelude.{◌≡◌, ◌-◌, ◌^◌, ◌<◌};
+ghost use Rattle.cj_brief.specs.Certificates.{line_count, plain_brief};
 ghost use Rattle.cj_samples.specs.Moments.{IsPlace};
 ghost use Rattle.cj_track.specs.declared.frame.Frame.TheVariants.{Eme2000};
 ghost use Rattle.cj_track.specs.Segments.{node_count};
 
+use cj_brief::BriefCertificate;
 use cj_brief_checker::check_in_brief;
-use cj_candidates::measure_all;
 use cj_case::{Problem, Sizes, Tracks};
 use cj_cert_text::read_brief;
 use cj_checker::Answer;
 use cj_formats::CheckCause;
-use cj_io::OpenGate;
 use cj_samples::{problem_of, rest, seconds, track_of};
 use cj_track::{Track, Vec3};
 use std::alloc::Global;
@@ -27,7 +27,7 @@ fn resting(rt: &impl Abort, alloc: Global, out: u8, beside: u8) -> Track
     track_of(alloc, segment).expect(rt, "no fault")
 }
 
-fn place(out: u8, beside: u8) -> Vec3
+pub fn place(out: u8, beside: u8) -> Vec3
     ensures { IsPlace result }
 {
     Vec3 {
@@ -66,8 +66,9 @@ fn three(rt: &impl Abort, alloc: Global) -> Problem {
     }
 }
 
-/// Where the certificate of a text is refused, if it is. A text that is none is refused at line 0, for a box.
-fn refusal<R: Threads + Sync>(
+/// Where the certificate of a text is refused, if it is, by one worker and by three. A text that is none is refused at line 0, for a box, and
+/// so is one that they do not find alike.
+pub fn refusal<R: Threads + Sync>(
     rt: &R,
     alloc: Global,
     problem: &Problem,
@@ -77,21 +78,33 @@ fn refusal<R: Threads + Sync>(
     if 10_000 < text.len() {
         return none;
     }
-    let Ok(measured) = measure_all(rt, alloc, &OpenGate, problem, 1) else {
-        return none;
-    };
     let Ok(cert) = read_brief(alloc, text) else {
         return none;
     };
-    match check_in_brief(alloc, problem, &measured, &cert) {
+    let alone = refusal_by(rt, alloc, problem, &cert, 1);
+    let shared = refusal_by(rt, alloc, problem, &cert, 3);
+    if alone == shared { alone } else { none }
+}
+
+/// The same of a certificate, by so many workers.
+fn refusal_by<R: Threads + Sync>(
+    rt: &R,
+    alloc: Global,
+    problem: &Problem,
+    cert: &BriefCertificate,
+    workers: u32,
+) -> Option<(u32, CheckCause)>
+    requires { line_count (plain_brief cert.now) < 2 ^ 32 - 5 }
+{
+    match check_in_brief(rt, alloc, problem, cert, workers) {
         Ok(Answer::Accepted) => None,
         Ok(Answer::Refused { line, cause }) => Some((line, cause)),
-        Err(_) => none,
+        Err(_) => Some((0, CheckCause::BoxOf)),
     }
 }
 
 /// A text of some parts.
-fn text_of(rt: &impl Abort, alloc: Global, head: &[u8], cells: &[u8]) -> Vec<u8> {
+pub fn text_of(rt: &impl Abort, alloc: Global, head: &[u8], cells: &[u8]) -> Vec<u8> {
     let mut text = Vec::new(alloc);
     text.extend_from_slice(head).expect(rt, "no fault");
     text.extend_from_slice(cells).expect(rt, "no fault");
@@ -319,5 +332,48 @@ fn what_is_said_of_the_run_and_its_objects_comes_first(rt: HostRuntime) {
     for (head, refused) in &HEADS {
         let text = text_of(&rt, alloc, head, b"");
         assert_eq!(rt; refusal(&rt, alloc, &problem, &text), *refused);
+    }
+}
+
+/// An object at rest, so many kilometres on the other side of y = 0, where two of the stripes of the checker's sweep meet.
+fn beyond(rt: &impl Abort, alloc: Global, before: u8) -> Track
+    ensures frame { result.frame ≡ Eme2000 }
+    ensures nodes { node_count result.segments ≡ 2 }
+{
+    let p = Vec3 {
+        x: 7_000_000_000_000_000,
+        y: -i64::from(before) * 1_000_000_000_000,
+        z: 0,
+    };
+    let segment = rest(alloc, 0, 60, p).expect(rt, "no fault");
+    track_of(alloc, segment).expect(rt, "no fault")
+}
+
+/// The lines before the cells, which begin at line 9, with shells that are wider than they need be.
+const ASTRIDE: &[u8] = b"CONJ-CERT 3
+WINDOW 1735689600000000 1735689660000000
+THRESHOLD 5000000000000
+OBJECTS 2
+SIZE 1 0
+SIZE 2 0
+SHELL 1 7000000000000000 7001000000000000
+SHELL 2 7000000000000000 7001000000000000
+";
+
+#[test]
+fn objects_on_both_sides_of_a_stripe_are_a_candidate(rt: HostRuntime) {
+    let alloc = rt.alloc();
+    for before in [1, 5] {
+        let a = beyond(&rt, alloc, before);
+        let b = resting(&rt, alloc, 0, 0);
+        let problem = problem_of(alloc, a, b).expect(&rt, "no fault");
+        let (cells, _) = NEAR_CELLS[0];
+        let text = text_of(&rt, alloc, ASTRIDE, cells);
+        assert_eq!(rt; refusal(&rt, alloc, &problem, &text), None);
+        let none = text_of(&rt, alloc, ASTRIDE, b"");
+        assert_eq!(rt;
+            refusal(&rt, alloc, &problem, &none),
+            Some((9, CheckCause::Untiled))
+        );
     }
 }

@@ -1,19 +1,24 @@
-//! Which leaves a certificate in brief tells, and in which order, of objects at rest over a minute and one tick.
+//! Which leaves a certificate in brief tells, and in which order, of objects at rest over a minute and one tick; and its text, as a run
+//! hands it out.
 ghost use Rattle.std.specs.Prelude.{◌≡◌, ◌<◌, ◌*◌, length};
 ghost use Rattle.cj_samples.specs.Moments.{IsPlace, tick_of};
 ghost use Rattle.cj_track.specs.declared.frame.Frame.TheVariants.{Eme2000};
 ghost use Rattle.cj_track.specs.Segments.{node_count};
 
 use cj_brief::told_of_list;
-use cj_candidates::roots_in_turn;
+use cj_candidates::{measure_all, roots_in_turn};
 use cj_case::{Kind, Leaf, Problem, Sizes, Tracks};
 use cj_cells::leaves_of;
-use cj_io::OpenGate;
-use cj_samples::{crossing, problem_of, rest, seconds, tick, track_of, track_of_two};
+use cj_cert_text::CertificateText;
+use cj_io::{OpenGate, all_parts, join_parts};
+use cj_samples::{
+    crossing, problem_of, rest, resting as at_threshold, seconds, tick, track_of, track_of_two,
+};
 use cj_track::{Segment, Track, Vec3};
 use std::alloc::Global;
 use std::panic::Expect;
 use std::process::Abort;
+use std::thread::Threads;
 
 fn place(out: u8, beside: u8) -> Vec3
     ensures { IsPlace result }
@@ -147,4 +152,34 @@ fn a_root_with_a_near_leaf_is_told_whole(rt: HostRuntime) {
     assert!(rt; lists.told.iter().any(|leaf| leaf.kind == Kind::Far));
     assert!(rt; lists.told.iter().any(|leaf| leaf.kind == Kind::Near));
     assert!(rt; lists.told == lists.leaves);
+}
+
+/// The text of the certificate in brief of a problem, as a run hands it out, by so many workers.
+#[tactic(auto, unfolding(cj_cells::specs::Lists::list_of, cj_cert::specs::Written::leaves_in_order))]
+fn text_of<R: Threads + Abort + Sync>(
+    rt: &R,
+    alloc: Global,
+    problem: &Problem,
+    workers: u32,
+) -> Vec<u8> {
+    let measured = measure_all(rt, alloc, &OpenGate, problem, 1).expect(rt, "no fault");
+    let roots = roots_in_turn(alloc, problem, 10_000).expect(rt, "no fault");
+    let leaves = leaves_of(alloc, &OpenGate, problem, &roots, 10_000).expect(rt, "no fault");
+    let told = told_of_list(alloc, problem, &roots, &leaves).expect(rt, "no fault");
+    let shells = &measured.shells;
+    let mut text = CertificateText::in_brief(alloc, problem, shells, &told, workers).expect(
+        rt, "no fault",
+    );
+    let parts = all_parts(rt, alloc, &mut text).expect(rt, "no fault");
+    join_parts(alloc, &parts).expect(rt, "no fault")
+}
+
+#[test]
+fn a_run_hands_out_its_certificate_in_brief(rt: HostRuntime) {
+    let alloc = rt.alloc();
+    let problem = at_threshold(alloc).expect(&rt, "no fault");
+    let one = text_of(&rt, alloc, &problem, 1);
+    assert_eq!(rt; one.as_slice(), crate::brief::AT_REST);
+    let three = text_of(&rt, alloc, &problem, 3);
+    assert_eq!(rt; three.as_slice(), crate::brief::AT_REST);
 }

@@ -9,6 +9,7 @@ use cj_samples::{resting, seconds, tick};
 use cj_track::Vec3;
 use std::alloc::{AllocError, Global};
 use std::panic::Expect;
+use std::thread::Threads;
 
 fn shell_of(object: u32, radius: u64) -> ShellLine {
     let shell = Some(Shell {
@@ -40,7 +41,11 @@ fn cell(first: u32, last: u32, kind: Kind) -> CellLine
 }
 
 /// What the checker says of a certificate of version 1 with these cells. They begin at line 11.
-fn answer(alloc: Global, cells: &[CellLine]) -> Result<Answer, AllocError>
+fn answer<R: Threads + Sync>(
+    rt: &R,
+    alloc: Global,
+    cells: &[CellLine],
+) -> Result<Answer, AllocError>
     requires { length cells.now ≤ 100 }
 {
     let (a, b) = (place(7_000_000_000_000_000), place(7_005_000_000_000_000));
@@ -84,7 +89,7 @@ fn answer(alloc: Global, cells: &[CellLine]) -> Result<Answer, AllocError>
         ]?,
         cells: list,
     };
-    check(alloc, &resting(alloc)?, &cert)
+    check(rt, alloc, &resting(alloc)?, &cert, 3)
 }
 
 fn refused(line: u32, cause: CheckCause) -> Answer {
@@ -98,13 +103,13 @@ fn cells_of_both_slots_are_accepted(rt: HostRuntime) {
     let a = cell(0, 59_999_999, Kind::Near);
     let b = cell(60_000_000, 60_000_000, Kind::Near);
     assert_eq!(rt;
-        answer(alloc, &[a, b]).expect(&rt, "no fault"),
+        answer(&rt, alloc, &[a, b]).expect(&rt, "no fault"),
         Answer::Accepted
     );
     // In two parts.
     let (c, d) = (cell(0, 5, Kind::Near), cell(6, 59_999_999, Kind::Near));
     assert_eq!(rt;
-        answer(alloc, &[c, d, b]).expect(&rt, "no fault"),
+        answer(&rt, alloc, &[c, d, b]).expect(&rt, "no fault"),
         Answer::Accepted
     );
 }
@@ -115,25 +120,25 @@ fn a_cell_less_is_refused(rt: HostRuntime) {
     let a = cell(0, 59_999_999, Kind::Near);
     let b = cell(60_000_000, 60_000_000, Kind::Near);
     assert_eq!(rt;
-        answer(alloc, &[b]).expect(&rt, "no fault"),
+        answer(&rt, alloc, &[b]).expect(&rt, "no fault"),
         refused(11, CheckCause::Untiled)
     );
     assert_eq!(rt;
-        answer(alloc, &[a]).expect(&rt, "no fault"),
+        answer(&rt, alloc, &[a]).expect(&rt, "no fault"),
         refused(12, CheckCause::Untiled)
     );
     assert_eq!(rt;
-        answer(alloc, &[]).expect(&rt, "no fault"),
+        answer(&rt, alloc, &[]).expect(&rt, "no fault"),
         refused(11, CheckCause::Untiled)
     );
     // Ticks between two parts, and behind the first.
     let (c, d) = (cell(0, 5, Kind::Near), cell(7, 59_999_999, Kind::Near));
     assert_eq!(rt;
-        answer(alloc, &[c, d, b]).expect(&rt, "no fault"),
+        answer(&rt, alloc, &[c, d, b]).expect(&rt, "no fault"),
         refused(12, CheckCause::Untiled)
     );
     assert_eq!(rt;
-        answer(alloc, &[c, b]).expect(&rt, "no fault"),
+        answer(&rt, alloc, &[c, b]).expect(&rt, "no fault"),
         refused(12, CheckCause::Untiled)
     );
 }
@@ -144,22 +149,22 @@ fn a_cell_more_is_refused(rt: HostRuntime) {
     let a = cell(0, 59_999_999, Kind::Near);
     let b = cell(60_000_000, 60_000_000, Kind::Near);
     assert_eq!(rt;
-        answer(alloc, &[a, a, b]).expect(&rt, "no fault"),
+        answer(&rt, alloc, &[a, a, b]).expect(&rt, "no fault"),
         refused(12, CheckCause::Stranger)
     );
     assert_eq!(rt;
-        answer(alloc, &[a, b, b]).expect(&rt, "no fault"),
+        answer(&rt, alloc, &[a, b, b]).expect(&rt, "no fault"),
         refused(13, CheckCause::Stranger)
     );
     // Over the end of its root, and over a part that is listed already.
     let long = cell(0, 60_000_000, Kind::Near);
     assert_eq!(rt;
-        answer(alloc, &[long]).expect(&rt, "no fault"),
+        answer(&rt, alloc, &[long]).expect(&rt, "no fault"),
         refused(11, CheckCause::Stranger)
     );
     let part = cell(6, 59_999_999, Kind::Near);
     assert_eq!(rt;
-        answer(alloc, &[a, part, b]).expect(&rt, "no fault"),
+        answer(&rt, alloc, &[a, part, b]).expect(&rt, "no fault"),
         refused(12, CheckCause::Stranger)
     );
 }
@@ -175,16 +180,16 @@ fn a_kind_that_is_not_supported_is_refused(rt: HostRuntime) {
         cell(0, 59_999_999, Kind::Undecided),
     );
     assert_eq!(rt;
-        answer(alloc, &[far, b]).expect(&rt, "no fault"),
+        answer(&rt, alloc, &[far, b]).expect(&rt, "no fault"),
         refused(11, CheckCause::NotFar)
     );
     assert_eq!(rt;
-        answer(alloc, &[band, b]).expect(&rt, "no fault"),
+        answer(&rt, alloc, &[band, b]).expect(&rt, "no fault"),
         Answer::Accepted
     );
     let far = cell(60_000_000, 60_000_000, Kind::Far);
     assert_eq!(rt;
-        answer(alloc, &[a, far]).expect(&rt, "no fault"),
+        answer(&rt, alloc, &[a, far]).expect(&rt, "no fault"),
         refused(12, CheckCause::NotFar)
     );
 }
@@ -244,7 +249,14 @@ fn a_certificate_of_version_2_is_checked(rt: HostRuntime) {
             .expect(&rt, "no fault"),
         };
         assert_eq!(rt;
-            check(alloc, &resting(alloc).expect(&rt, "no fault"), &cert).expect(&rt, "no fault"),
+            check(
+                &rt,
+                alloc,
+                &resting(alloc).expect(&rt, "no fault"),
+                &cert,
+                3
+            )
+            .expect(&rt, "no fault"),
             expected
         );
     }

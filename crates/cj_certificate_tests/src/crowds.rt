@@ -13,6 +13,7 @@ use cj_track::{Track, Vec3};
 use std::alloc::Global;
 use std::panic::Expect;
 use std::process::Abort;
+use std::thread::Threads;
 
 /// When the objects have a state: all of them in the whole slot, or each in a second of its own.
 #[derive(Clone, Copy)]
@@ -175,7 +176,12 @@ struct Scene {
 
 /// What the checker says of a certificate with these cells. Sizes begin at line 5, shells at line 13, boxes at line 21 and cells at
 /// line 29.
-fn answer(rt: &impl Abort, alloc: Global, scene: Scene, cells: &[CellLine]) -> Answer
+fn answer<R: Abort + Threads + Sync>(
+    rt: &R,
+    alloc: Global,
+    scene: Scene,
+    cells: &[CellLine],
+) -> Answer
     requires { length cells.now ≤ 100 }
 {
     let Scene {
@@ -225,7 +231,7 @@ fn answer(rt: &impl Abort, alloc: Global, scene: Scene, cells: &[CellLine]) -> A
         .expect(rt, "no fault"),
         cells: list,
     };
-    check(alloc, &problem(rt, alloc, states, threshold), &cert).expect(rt, "no fault")
+    check(rt, alloc, &problem(rt, alloc, states, threshold), &cert, 3).expect(rt, "no fault")
 }
 
 fn refused(line: u32, cause: CheckCause) -> Answer {

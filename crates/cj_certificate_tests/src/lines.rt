@@ -9,6 +9,7 @@ use cj_samples::{AT_7000, AT_7005, rest, seconds, track_of, track_of_two};
 use cj_track::Vec3;
 use std::alloc::{AllocError, Global};
 use std::panic::Expect;
+use std::thread::Threads;
 
 /// Three objects for three minutes and a tick, in four slots: one at rest that has states in the first and the third slot, one
 /// without a state in the window, and one at rest throughout.
@@ -133,23 +134,31 @@ fn own_boxes(alloc: Global) -> Result<Vec<BoxLine>, AllocError>
 }
 
 /// The first failure of shells.
-fn by_shells(alloc: Global, shells: Vec<ShellLine>) -> Result<Option<Failure>, AllocError>
+fn by_shells<R: Threads + Sync>(
+    rt: &R,
+    alloc: Global,
+    shells: Vec<ShellLine>,
+) -> Result<Option<Failure>, AllocError>
     requires { vec_len shells ≤ 100 }
 {
     let sizes = own_sizes(alloc)?;
     let boxes = own_boxes(alloc)?;
     let cert = certificate(alloc, sizes, shells, boxes);
-    Ok(hull_failure(&problem(alloc)?, &cert))
+    hull_failure(rt, alloc, &problem(alloc)?, &cert, 3)
 }
 
 /// The first failure of boxes.
-fn by_boxes(alloc: Global, boxes: Vec<BoxLine>) -> Result<Option<Failure>, AllocError>
+fn by_boxes<R: Threads + Sync>(
+    rt: &R,
+    alloc: Global,
+    boxes: Vec<BoxLine>,
+) -> Result<Option<Failure>, AllocError>
     requires { vec_len boxes ≤ 100 }
 {
     let sizes = own_sizes(alloc)?;
     let shells = own_shells(alloc)?;
     let cert = certificate(alloc, sizes, shells, boxes);
-    Ok(hull_failure(&problem(alloc)?, &cert))
+    hull_failure(rt, alloc, &problem(alloc)?, &cert, 3)
 }
 
 fn at(line: u32, cause: CheckCause) -> Option<Failure> {
@@ -201,20 +210,26 @@ fn each_object_has_a_shell_that_its_hulls_show(rt: HostRuntime) {
         ([a, b, shell_of(2, 0, far - 1)], at(10, CheckCause::ShellOf)),
     ] {
         assert_eq!(rt;
-            by_shells(alloc, Vec::from_array(alloc, lines).expect(&rt, "no fault")).expect(
-                &rt, "no fault"
-            ),
+            by_shells(
+                &rt,
+                alloc,
+                Vec::from_array(alloc, lines).expect(&rt, "no fault")
+            )
+            .expect(&rt, "no fault"),
             expected
         );
     }
     assert_eq!(rt;
-        by_shells(alloc, vec![in alloc; a, b].expect(&rt, "no fault")).expect(&rt, "no fault"),
+        by_shells(&rt, alloc, vec![in alloc; a, b].expect(&rt, "no fault")).expect(&rt, "no fault"),
         at(10, CheckCause::ShellOf)
     );
     assert_eq!(rt;
-        by_shells(alloc, vec![in alloc; a, b, c, c].expect(&rt, "no fault")).expect(
-            &rt, "no fault"
-        ),
+        by_shells(
+            &rt,
+            alloc,
+            vec![in alloc; a, b, c, c].expect(&rt, "no fault")
+        )
+        .expect(&rt, "no fault"),
         at(11, CheckCause::ShellOf)
     );
 }
@@ -249,18 +264,26 @@ fn lines_of_boxes_have_the_slots_with_states(rt: HostRuntime) {
         ([a, b, box_of(2, 3, 0, FAR, FAR)], at(13, CheckCause::BoxOf)),
     ] {
         assert_eq!(rt;
-            by_boxes(alloc, Vec::from_array(alloc, lines).expect(&rt, "no fault")).expect(
-                &rt, "no fault"
-            ),
+            by_boxes(
+                &rt,
+                alloc,
+                Vec::from_array(alloc, lines).expect(&rt, "no fault")
+            )
+            .expect(&rt, "no fault"),
             expected
         );
     }
     assert_eq!(rt;
-        by_boxes(alloc, vec![in alloc; a, b].expect(&rt, "no fault")).expect(&rt, "no fault"),
+        by_boxes(&rt, alloc, vec![in alloc; a, b].expect(&rt, "no fault")).expect(&rt, "no fault"),
         at(13, CheckCause::BoxOf)
     );
     assert_eq!(rt;
-        by_boxes(alloc, vec![in alloc; a, b, c, c].expect(&rt, "no fault")).expect(&rt, "no fault"),
+        by_boxes(
+            &rt,
+            alloc,
+            vec![in alloc; a, b, c, c].expect(&rt, "no fault")
+        )
+        .expect(&rt, "no fault"),
         at(14, CheckCause::BoxOf)
     );
 }
@@ -286,9 +309,12 @@ fn a_box_holds_the_hulls_in_each_of_its_slots(rt: HostRuntime) {
         ),
     ] {
         assert_eq!(rt;
-            by_boxes(alloc, Vec::from_array(alloc, lines).expect(&rt, "no fault")).expect(
-                &rt, "no fault"
-            ),
+            by_boxes(
+                &rt,
+                alloc,
+                Vec::from_array(alloc, lines).expect(&rt, "no fault")
+            )
+            .expect(&rt, "no fault"),
             expected
         );
     }

@@ -10,6 +10,7 @@ use cj_samples::{rest, seconds, tick, track_of};
 use cj_track::Vec3;
 use std::alloc::{AllocError, Global};
 use std::panic::Expect;
+use std::thread::Threads;
 
 fn at(x: i64) -> Vec3
     ensures { result ≡ record { x = x; y = pos 0; z = pos 0 } }
@@ -91,7 +92,8 @@ fn neighbours(alloc: Global) -> Result<Vec<CellLine>, AllocError>
 
 /// What the checker says of a certificate with these cells, for a threshold between objects of this size. Shells begin at line 9,
 /// boxes at line 13 and cells at line 17.
-fn answer(
+fn answer<R: Threads + Sync>(
+    rt: &R,
     alloc: Global,
     threshold: u64,
     size: u64,
@@ -127,14 +129,18 @@ fn answer(
         ]?,
         cells,
     };
-    check(alloc, &problem(alloc, threshold, size)?, &cert)
+    check(rt, alloc, &problem(alloc, threshold, size)?, &cert, 3)
 }
 
 /// The same for a threshold of 5 km between objects without size: neighbours are near, and others are parted by their shells.
-fn of_neighbours(alloc: Global, cells: Vec<CellLine>) -> Result<Answer, AllocError>
+fn of_neighbours<R: Threads + Sync>(
+    rt: &R,
+    alloc: Global,
+    cells: Vec<CellLine>,
+) -> Result<Answer, AllocError>
     requires { vec_len cells ≤ 100 }
 {
-    answer(alloc, 5_000_000_000_000, 0, cells)
+    answer(rt, alloc, 5_000_000_000_000, 0, cells)
 }
 
 fn refused(line: u32, cause: CheckCause) -> Answer {
@@ -146,31 +152,33 @@ fn refused(line: u32, cause: CheckCause) -> Answer {
 fn cells_stand_in_order_of_pair_and_slot(rt: HostRuntime) {
     let alloc = rt.alloc();
     assert_eq!(rt;
-        of_neighbours(alloc, neighbours(alloc).expect(&rt, "no fault")).expect(&rt, "no fault"),
+        of_neighbours(&rt, alloc, neighbours(alloc).expect(&rt, "no fault")).expect(
+            &rt, "no fault"
+        ),
         Answer::Accepted
     );
     let mut cells = neighbours(alloc).expect(&rt, "no fault");
     cells.remove(4);
     assert_eq!(rt;
-        of_neighbours(alloc, cells).expect(&rt, "no fault"),
+        of_neighbours(&rt, alloc, cells).expect(&rt, "no fault"),
         refused(21, CheckCause::Untiled)
     );
     let mut cells = neighbours(alloc).expect(&rt, "no fault");
     cells.remove(8);
     assert_eq!(rt;
-        of_neighbours(alloc, cells).expect(&rt, "no fault"),
+        of_neighbours(&rt, alloc, cells).expect(&rt, "no fault"),
         refused(25, CheckCause::Untiled)
     );
     let mut cells = neighbours(alloc).expect(&rt, "no fault");
     cells.insert(4, near(1, 2, 0)).expect(&rt, "no fault");
     assert_eq!(rt;
-        of_neighbours(alloc, cells).expect(&rt, "no fault"),
+        of_neighbours(&rt, alloc, cells).expect(&rt, "no fault"),
         refused(21, CheckCause::Stranger)
     );
     let mut cells = neighbours(alloc).expect(&rt, "no fault");
     cells.swap(2, 3);
     assert_eq!(rt;
-        of_neighbours(alloc, cells).expect(&rt, "no fault"),
+        of_neighbours(&rt, alloc, cells).expect(&rt, "no fault"),
         refused(19, CheckCause::Untiled)
     );
 }
@@ -182,13 +190,13 @@ fn a_kind_that_neighbours_do_not_show_is_refused(rt: HostRuntime) {
     let mut cells = neighbours(alloc).expect(&rt, "no fault");
     cells[5].kind = Kind::Far;
     assert_eq!(rt;
-        of_neighbours(alloc, cells).expect(&rt, "no fault"),
+        of_neighbours(&rt, alloc, cells).expect(&rt, "no fault"),
         refused(22, CheckCause::NotFar)
     );
     let mut cells = neighbours(alloc).expect(&rt, "no fault");
     cells[5].kind = Kind::Undecided;
     assert_eq!(rt;
-        of_neighbours(alloc, cells).expect(&rt, "no fault"),
+        of_neighbours(&rt, alloc, cells).expect(&rt, "no fault"),
         refused(22, CheckCause::NotBand)
     );
 }
@@ -200,7 +208,7 @@ fn sizes_bring_the_pairs_that_just_touch(rt: HostRuntime) {
     let (threshold, size) = (6_000_000_000_000, 1_000_000_000_000);
     let cells = neighbours(alloc).expect(&rt, "no fault");
     assert_eq!(rt;
-        answer(alloc, threshold, size, cells).expect(&rt, "no fault"),
+        answer(&rt, alloc, threshold, size, cells).expect(&rt, "no fault"),
         refused(20, CheckCause::Untiled)
     );
     let cells = vec![in alloc;
@@ -222,7 +230,7 @@ fn sizes_bring_the_pairs_that_just_touch(rt: HostRuntime) {
     ]
     .expect(&rt, "no fault");
     assert_eq!(rt;
-        answer(alloc, threshold, size, cells).expect(&rt, "no fault"),
+        answer(&rt, alloc, threshold, size, cells).expect(&rt, "no fault"),
         Answer::Accepted
     );
 }

@@ -3,6 +3,7 @@ mod BoxLemmas
 pub mod CauseLemmas
 pub mod CheckLemmas
 pub mod FirstLemmas
+mod HullBoxLemmas
 mod HullLemmas
 mod KeyLemmas
 mod PlaceLemmas
@@ -12,5 +13,6 @@ pub mod SweepLemmas
 mod TableLemmas
 pub mod TestLemmas
 pub mod TilingLemmas
-mod UnfitLemmas
+mod TurnLemmas
+pub mod UnfitLemmas
 mod WalkLemmas

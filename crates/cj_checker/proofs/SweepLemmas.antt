@@ -1,5 +1,5 @@
 -- A sweep: pairs that are appended where they are candidates, and boxes that stay active as long as they may be reached.
-use Rattle.std.proofs.Common.{◌≡◌, ◌⊎◌, ℕ, zero, suc, ◌+◌, ◌-◌, ◌<◌, ◌≤◌, true, false, List, [], ◌∷◌, ◌++◌, drop, take, length, get_or, Option, Some, None, refl, sym, ap, ◌∙◌, subst, inl, inr, arith, is_lt, nat_cmp}
+use Rattle.std.proofs.Common.{◌≡◌, ◌⊎◌, ℕ, zero, suc, ◌+◌, ◌-◌, ◌*◌, ◌/◌, ◌<◌, ◌≤◌, min, max, Bool, true, false, List, [], ◌∷◌, ◌++◌, drop, take, length, get_or, Option, Some, None, refl, sym, ap, ◌∙◌, subst, inl, inr, arith, is_lt, nat_cmp}
 use Rattle.std.specs.Prelude.{ℤ, pos, ◌≤ℤ◌, ◌<ℤ◌, ◌+ℤ◌, ◌-ℤ◌, int_le, int_lt, option_map, option_and_then, slice_index}
 use Rattle.std.specs.declared.cmp.Ordering.{Ordering}
 use Rattle.std.specs.declared.cmp.Ordering.TheVariants.{Less, Equal, Greater}
@@ -8,7 +8,9 @@ use Rattle.std.specs.List.{AllWithin, Contains}
 use Rattle.std.specs.List.Sorted.{IsPartitionedBy, IsSorted}
 use Rattle.std.proofs.lemmas.Bool.{and_parts, cases_lt}
 use Rattle.std.proofs.lemmas.Bool.Decides.{nat_tests}
-use Rattle.std.proofs.lemmas.Int.{ints, by_lt_z}
+use Rattle.std.proofs.lemmas.Int.{ints, clamps, by_lt_z}
+use Rattle.std.proofs.lemmas.Nat.{le-div}
+use Rattle.std.proofs.Math.Nat.{div-mul-le_self}
 use Rattle.std.proofs.lemmas.Option.{slice_get_past}
 use Rattle.std.specs.Cmp.{IsTotalOrder}
 use Rattle.std.proofs.lemmas.Cmp.{then_total, on_total, nat_cmp_total, int_cmp_total, int_ranked}
@@ -23,11 +25,14 @@ use Rattle.cj_case.specs.declared.shells.Shell.{Shell}
 use Rattle.cj_bezier.specs.Shells.{are_kept, keeps_between, shell_in}
 use Rattle.cj_case.specs.Boxes.{PlainBox, plain_box, plain_boxes}
 use Rattle.cj_bezier.specs.SlotBoxes.{reaches_in, reaches_touch, both_touch, touch_between}
+use Rattle.cj_bezier.specs.Squares.{from_zero}
+use Rattle.cj_bezier.proofs.ShellLemmas.{from_zero-mono}
 use Rattle.cj_checker.specs.declared.axis.Axis.{Axis}
 use Rattle.cj_checker.specs.declared.axis.Axis.TheVariants as axes
+use Rattle.cj_checker.specs.declared.layout.Layout.{Layout}
 use Rattle.cj_checker.specs.declared.reach.Reach.{Reach}
 use Rattle.cj_checker.specs.Keys.{candidate_with}
-use Rattle.cj_checker.specs.Sweeps.{AreCandidates, AreMet, HasReach, IsInOrder, Meet, reach_of, side}
+use Rattle.cj_checker.specs.Sweeps.{AreCandidates, AreMet, HasReach, IsEntered, IsInOrder, Meet, MeetsStripe, across, moved, reach_of, side, stripe_in, stripe_of}
 
 -- ---- one pair more
 
@@ -102,36 +107,99 @@ area_read (y ∷ areas) zero x lt is = joined y ∙ ap (option_map plain_box) (s
     joined y = refl
 area_read (y ∷ areas) (suc object) x lt is = area_read areas object x (omega arith) is
 
--- the entries of a candidate along an axis meet
-pub met : (case : PlainProblem) (shells : List (Option Shell)) (areas : List (Option PlainBox)) (axis : Axis) (rows others : List Reach) (first end objects a b : ℕ) → length areas ≡ objects
-    → ((object : ℕ) → first ≤ object → object < end → HasReach case shells areas axis rows object)
-    → ((object : ℕ) → end ≤ object → object < objects → HasReach case shells areas axis others object)
+-- ---- stripes
+
+div_up : (a b k : ℕ) → 0 < k → a ≤ b → a / k ≤ b / k
+div_up a b k some le = let part = div-mul-le_self a k in le-div (a / k) b k some (omega arith)
+
+min_up : (a b c : ℕ) → a ≤ b → min a c ≤ min b c
+min_up a b c le = omega (arith, clamps)
+
+stripe_up : (x y : ℤ) → x ≤ℤ y → stripe_of x ≤ stripe_of y
+stripe_up x y h =
+    let begin : ℤ = pos 64_000_000_000_000_000 in
+    let behind = from_zero-mono (x +ℤ begin) (y +ℤ begin) (omega (arith, ints)) in
+    div_up (min (from_zero (x +ℤ begin)) 127_999_999_999_999_999) (min (from_zero (y +ℤ begin)) 127_999_999_999_999_999) 1_000_000_000_000_000 (omega arith)
+    (min_up (from_zero (x +ℤ begin)) (from_zero (y +ℤ begin)) 127_999_999_999_999_999 behind)
+
+stripe_in_up : (striped : Bool) (x y : ℤ) → x ≤ℤ y → stripe_in striped x ≤ stripe_in striped y
+stripe_in_up true x y h = stripe_up x y h
+stripe_in_up false x y h = omega arith
+
+-- two objects that reach each other across the stripes meet one stripe both
+record ShareStripe (striped : Bool) (u v : Reach) : Type 0 where
+  stripe : ℕ
+  first : MeetsStripe striped u stripe
+  second : MeetsStripe striped v stripe
+
+the_later : (a b c d : ℕ) → a ≤ d → b ≤ c → (a ≤ max a b) × (max a b ≤ max c a) × (b ≤ max a b) × (max a b ≤ max d b)
+the_later a b c d h k = (omega (arith, clamps), omega (arith, clamps), omega (arith, clamps), omega (arith, clamps))
+
+share_stripe : (striped : Bool) (u v : Reach) → u.low ≤ℤ v.high → v.low ≤ℤ u.high → ShareStripe striped u v
+share_stripe striped u v there back =
+    let a = stripe_in striped u.low in
+    let b = stripe_in striped v.low in
+    let all = the_later a b (stripe_in striped u.high) (stripe_in striped v.high) (stripe_in_up striped u.low v.high there) (stripe_in_up striped v.low u.high back) in
+    record { stripe = max a b; first = record { from = all.0; upto = all.1 }; second = record { from = all.2; upto = all.3 } }
+
+-- an object is entered by its own shell and box
+pub entered_by : (case : PlainProblem) (object : ℕ) (s own : Shell) (x box : PlainBox) (layout : Layout) (reaches : List Reach) (r t : Reach) → s ≡ own → x ≡ box
+    → r ≡ reach_of case object (side layout.axis s x) → t ≡ reach_of case object (side (across layout.axis) s x)
+    → ((stripe : ℕ) → MeetsStripe layout.striped t stripe → Contains reaches (moved stripe r)) → IsEntered case object own box layout reaches
+entered_by case object s own x box layout reaches r t same same_too along beside all stripe meets =
+    let first : r ≡ reach_of case object (side layout.axis own box) = along ∙ (λ i. reach_of case object (side layout.axis (same i) (same_too i))) in
+    let second : t ≡ reach_of case object (side (across layout.axis) own box) = beside ∙ (λ i. reach_of case object (side (across layout.axis) (same i) (same_too i))) in
+    subst (λ (e : Reach). Contains reaches (moved stripe e)) first (all stripe (subst (λ (e : Reach). MeetsStripe layout.striped e stripe) (sym second) meets))
+
+both_moved : (x y : ℤ) (n : ℕ) → x ≤ℤ y → (x +ℤ pos n) ≤ℤ (y +ℤ pos n)
+both_moved x y n h = omega (arith, ints)
+
+-- the entries of a candidate meet
+pub met : (case : PlainProblem) (shells : List (Option Shell)) (areas : List (Option PlainBox)) (layout : Layout) (rows others : List Reach) (first end objects a b : ℕ) → length areas ≡ objects
+    → ((object : ℕ) → first ≤ object → object < end → HasReach case shells areas layout rows object)
+    → ((object : ℕ) → end ≤ object → object < objects → HasReach case shells areas layout others object)
     → first ≤ a → a < end → a < b → candidate_with case shells areas (a, b) ≡ true → Meet rows others a b
-met case shells areas axis rows others first end objects a b count in_rows in_others low high up is =
+met case shells areas layout rows others first end objects a b count in_rows in_others low high up is =
     let r = boxed case shells areas a b is in
-    let there = r.there axis in
-    let back = r.back axis in
-    let x = side axis r.own r.first in
-    let y = side axis r.other r.second in
+    let x = reach_of case a (side layout.axis r.own r.first) in
+    let y = reach_of case b (side layout.axis r.other r.second) in
+    let u = reach_of case a (side (across layout.axis) r.own r.first) in
+    let v = reach_of case b (side (across layout.axis) r.other r.second) in
+    let along = both layout.axis r in
+    let beside = both (across layout.axis) r in
+    let shared = share_stripe layout.striped u v beside.0 beside.1 in
+    let apart = shared.stripe * 4_000_000_000_000_000_000 in
     let exists = boxed_exists areas b r.second r.second_is in
     record {
-      first = reach_of case a x;
-      second = reach_of case b y;
-      first_there = in_rows a low high r.own r.first r.own_is r.first_is;
-      second_there = go (cases_lt b end) exists r.other r.second r.other_is r.second_is;
+      first = moved shared.stripe x;
+      second = moved shared.stripe y;
+      first_there = in_rows a low high r.own r.first r.own_is r.first_is shared.stripe shared.first;
+      second_there = go (cases_lt b end) exists r.other r.second r.other_is r.second_is shared.stripe shared.second;
       first_is = refl;
       second_is = refl;
-      there = apart x.least y.most case.threshold (slice_index case.sizes a) (slice_index case.sizes b) there;
-      back = apart y.least x.most case.threshold (slice_index case.sizes b) (slice_index case.sizes a) (omega (arith, ints));
+      there = both_moved x.low y.high apart along.0;
+      back = both_moved y.low x.high apart along.1;
     }
   where
-    apart : (least most : ℤ) (thr s t : ℕ) → least ≤ℤ (most +ℤ pos (thr + s + t)) → (least -ℤ pos s) ≤ℤ (most +ℤ pos (t + thr))
-    apart least most thr s t h = omega (arith, ints)
+    apart_by : (least most : ℤ) (thr s t : ℕ) → least ≤ℤ (most +ℤ pos (thr + s + t)) → (least -ℤ pos s) ≤ℤ (most +ℤ pos (t + thr))
+    apart_by least most thr s t h = omega (arith, ints)
+
+    apart_back : (least most : ℤ) (thr s t : ℕ) → least ≤ℤ (most +ℤ pos (thr + s + t)) → (least -ℤ pos t) ≤ℤ (most +ℤ pos (s + thr))
+    apart_back least most thr s t h = omega (arith, ints)
+
+    -- each reaches the other along an axis
+    both : (axis : Axis) (r : AreBoxed case shells areas a b) → ((reach_of case a (side axis r.own r.first)).low ≤ℤ (reach_of case b (side axis r.other r.second)).high)
+        × ((reach_of case b (side axis r.other r.second)).low ≤ℤ (reach_of case a (side axis r.own r.first)).high)
+    both axis r = (
+      apart_by (side axis r.own r.first).least (side axis r.other r.second).most case.threshold (slice_index case.sizes a) (slice_index case.sizes b) (r.there axis),
+      apart_back (side axis r.other r.second).least (side axis r.own r.first).most case.threshold (slice_index case.sizes a) (slice_index case.sizes b) (r.back axis),
+    )
 
     go : (b < end) ⊎ (end ≤ b) → b < length areas → (own : Shell) (box : PlainBox) → shell_in shells b ≡ Some own → reaches_in areas b ≡ Some box
-        → Contains rows (reach_of case b (side axis own box)) ⊎ Contains others (reach_of case b (side axis own box))
-    go (inl within) lt own box h k = inl (in_rows b (omega arith) within own box h k)
-    go (inr behind) lt own box h k = inr (in_others b behind (omega arith) own box h k)
+        → (stripe : ℕ) → MeetsStripe layout.striped (reach_of case b (side (across layout.axis) own box)) stripe
+        → Contains rows (moved stripe (reach_of case b (side layout.axis own box))) ⊎ Contains others (moved stripe (reach_of case b (side layout.axis own box)))
+    go (inl within) lt own box h k stripe meets = inl (in_rows b (omega arith) within own box h k stripe meets)
+    go (inr behind) lt own box h k stripe meets = inr (in_others b behind (omega arith) own box h k stripe meets)
 
 -- ---- entries in order
 

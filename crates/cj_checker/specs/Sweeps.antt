@@ -1,5 +1,5 @@
--- A sweep along an axis over the boxes of a slot.
-use Rattle.std.specs.Prelude.{◌≡◌, ◌⊎◌, ℕ, ◌+◌, ◌<◌, ◌≤◌, true, pos, ◌+ℤ◌, ◌-ℤ◌, ◌≤ℤ◌, List, All, map, length, Option, Some, slice_index}
+-- A sweep along an axis over the boxes of a slot, stripe by stripe.
+use Rattle.std.specs.Prelude.{◌≡◌, ◌⊎◌, ℕ, ◌+◌, ◌*◌, ◌/◌, ◌<◌, ◌≤◌, min, max, Bool, true, false, ℤ, pos, ◌+ℤ◌, ◌-ℤ◌, ◌≤ℤ◌, List, All, map, length, Option, Some, slice_index}
 use Rattle.std.specs.List.{AllPairs, Contains}
 use Rattle.cj_case.specs.declared.pair.Pair.{Pair}
 use Rattle.cj_case.specs.declared.problem.Problem.{Problem}
@@ -11,10 +11,12 @@ use Rattle.cj_case.specs.declared.shells.Shell.{Shell}
 use Rattle.cj_bezier.specs.Shells.{shell_in}
 use Rattle.cj_case.specs.Boxes.{PlainBox, plain_boxes}
 use Rattle.cj_bezier.specs.SlotBoxes.{reaches_in}
+use Rattle.cj_bezier.specs.Squares.{from_zero}
 use Rattle.cj_case.specs.Boxes as boxes
 use Rattle.cj_cert.specs.declared.cert_lines.ShellLine.{ShellLine}
 use Rattle.cj_checker.specs.declared.axis.Axis.{Axis}
 use Rattle.cj_checker.specs.declared.axis.Axis.TheVariants as axes
+use Rattle.cj_checker.specs.declared.layout.Layout.{Layout}
 use Rattle.cj_checker.specs.declared.reach.Reach.{Reach}
 use Rattle.cj_checker.specs.declared.reaches.Reaches.{Reaches}
 use Rattle.cj_checker.specs.Keys.{candidate_with, looks}
@@ -46,14 +48,53 @@ reach_of case object x = record {
   object = object;
 }
 
--- an object with a shell and a box is entered along an axis
-abbrev pub HasReach : PlainProblem → List (Option Shell) → List (Option PlainBox) → Axis → List Reach → ℕ → Type 0
-HasReach case shells areas axis reaches object =
-    (shell : Shell) (area : PlainBox) → shell_in shells object ≡ Some shell → reaches_in areas object ≡ Some area → Contains reaches (reach_of case object (side axis shell area))
+-- ---- stripes
+
+-- the stripe in which a place lies: stripes of 1,000 km, 64 on each side of 0, of which the outermost hold all that lies further out
+abbrev pub stripe_of : ℤ → ℕ
+stripe_of place = min (from_zero (place +ℤ pos 64_000_000_000_000_000)) 127_999_999_999_999_999 / 1_000_000_000_000_000
+
+-- the same where objects are cut into stripes, and else the only one
+abbrev pub stripe_in : Bool → ℤ → ℕ
+stripe_in true place = stripe_of place
+stripe_in false place = 0
+
+-- the axis across which the stripes of a sweep along an axis lie
+abbrev pub across : Axis → Axis
+across axes.X = axes.Y
+across axes.Y = axes.Z
+across axes.Z = axes.X
+across axes.Radius = axes.Z
+
+-- an entry that is moved to a stripe: along the axis of the sweep the stripes lie behind one another, further apart than anything reaches
+abbrev pub moved : ℕ → Reach → Reach
+moved stripe r = record {
+  low = r.low +ℤ pos (stripe * 4_000_000_000_000_000_000);
+  high = r.high +ℤ pos (stripe * 4_000_000_000_000_000_000);
+  object = r.object;
+}
+
+-- an object that reaches so far across the stripes meets one of them
+pub record MeetsStripe (striped : Bool) (x : Reach) (stripe : ℕ) : Type 0 where
+  pub from : stripe_in striped x.low ≤ stripe
+  pub upto : stripe ≤ max (stripe_in striped x.high) (stripe_in striped x.low)
+
+-- an object with this shell and this box is entered in each stripe that it meets
+abbrev pub IsEntered : PlainProblem → ℕ → Shell → PlainBox → Layout → List Reach → Type 0
+IsEntered case object shell area layout reaches =
+    (stripe : ℕ) → MeetsStripe layout.striped (reach_of case object (side (across layout.axis) shell area)) stripe
+    → Contains reaches (moved stripe (reach_of case object (side layout.axis shell area)))
+
+-- an object with a shell and a box is entered
+abbrev pub HasReach : PlainProblem → List (Option Shell) → List (Option PlainBox) → Layout → List Reach → ℕ → Type 0
+HasReach case shells areas layout reaches object =
+    (shell : Shell) (area : PlainBox) → shell_in shells object ≡ Some shell → reaches_in areas object ≡ Some area → IsEntered case object shell area layout reaches
 
 -- the same, as a program keeps them
-abbrev pub HasReachBy : Problem → List ShellLine → List (Option AxisBox) → Axis → List Reach → ℕ → Type 0
-HasReachBy problem shells boxes axis reaches object = HasReach (plain_problem problem) (map (λ line. line.shell) shells) (plain_boxes boxes) axis reaches object
+abbrev pub HasReachBy : Problem → List ShellLine → List (Option AxisBox) → Layout → List Reach → ℕ → Type 0
+HasReachBy problem shells boxes layout reaches object = HasReach (plain_problem problem) (map (λ line. line.shell) shells) (plain_boxes boxes) layout reaches object
+
+-- ---- entries
 
 -- none begins before one that stands earlier
 abbrev pub IsInOrder : List Reach → Type 0

@@ -1,5 +1,5 @@
 -- The cells of a certificate against roots, one after another.
-use Rattle.std.specs.Prelude.{◌≡◌, ℕ, ◌+◌, ◌≤◌, Bool, if◌then◌else◌, List, ◌++◌, drop, map, Option, Some, None, Result, Ok, Err}
+use Rattle.std.specs.Prelude.{◌≡◌, ℕ, ◌+◌, ◌*◌, ◌<◌, ◌≤◌, length, take, get_or, IfErr, IfOk, Bool, if◌then◌else◌, List, ◌++◌, drop, map, Option, Some, None, Result, Ok, Err}
 use Rattle.cj_hermite.specs.Interpolant.{IsOver}
 use Rattle.cj_case.specs.PlainProblems.{PlainProblem, threshold_of}
 use Rattle.cj_hermite.specs.ObjectsAtTicks.{curve_at}
@@ -13,7 +13,10 @@ use Rattle.cj_cert.specs.Certificates.{plain_cell_line}
 use Rattle.cj_formats.specs.declared.check_cause.CheckCause.{CheckCause}
 use Rattle.cj_formats.specs.declared.check_cause.CheckCause.TheVariants.{Untiled, Stranger}
 use Rattle.cj_checker.specs.declared.cell_fault.CellFault.{CellFault}
+use Rattle.cj_checker.specs.declared.keys.Key.{Key}
 use Rattle.cj_checker.specs.declared.root.Root.{Root}
+use Rattle.cj_checker.specs.declared.tiled.Tiled.{Tiled}
+use Rattle.cj_checker.specs.Keys.{plain_key, roots_of_keys}
 use Rattle.cj_checker.specs.First.{failed, begins, comes_after, unsupported, cells_from, Failure}
 
 -- what is wrong with a cell where it is to begin a root, by whether its kind is supported
@@ -30,6 +33,22 @@ goes_on case line left cells (Err fault) = failed (line + fault.at) fault.cause
 abbrev pub Tiles : PlainProblem → List PlainCell → List CellLine → ℕ → Result ℕ CellFault → Type 0
 Tiles case roots cells at found =
     (line : ℕ) (left : List PlainCell) → cells_from case (line + at) (roots ++ left) (drop at (map plain_cell_line cells)) ≡ goes_on case line left (map plain_cell_line cells) found
+
+-- what is found is that of these keys, and lies in the cells
+pub record IsTiled (case : PlainProblem) (keys : List Key) (cells : List CellLine) (at : ℕ) (found : Result ℕ CellFault) : Type 0 where
+  pub tiles : Tiles case (roots_of_keys case (map plain_key keys)) cells at found
+  pub ok : IfOk found (λ next. next ≤ length cells)
+  pub err : IfErr found (λ fault. fault.at ≤ length cells)
+
+-- the keys of a turn: 4,096 of them, or those that are left
+abbrev pub keys_at : ℕ → List Key → List Key
+keys_at number keys = take 4_096 (drop (number * 4_096) keys)
+
+-- what was tried is of the keys of each turn, and no keys are left behind the turns
+pub record AreTried (case : PlainProblem) (keys : List Key) (cells : List CellLine) (tries : List Tiled) : Type 0 where
+  pub inside : (number : ℕ) → number < length tries → number * 4_096 ≤ length keys
+  pub all : length keys ≤ length tries * 4_096
+  pub each : (number : ℕ) (d : Tiled) → number < length tries → IsTiled case (keys_at number keys) cells (get_or tries number d).from (get_or tries number d).found
 
 -- a root from a tick on
 abbrev pub root_from : Root → ℕ → PlainCell

@@ -10,11 +10,12 @@ use crate::cell_fault::CellFault;
 use crate::failure::{FIRST_LINE, Failure};
 use crate::listed::Listed;
 use crate::rounds::round_from;
-use crate::tiling::tile_keys;
+use crate::tiling_shared::tile_together;
 use cj_case::Problem;
 use cj_cert::Certificate;
 use cj_formats::CheckCause;
 use std::alloc::{AllocError, Global};
+use std::thread::Threads;
 
 /// A fault of a cell at its line.
 fn failure_at(cert: &Certificate, fault: CellFault) -> Option<Failure>
@@ -30,11 +31,13 @@ fn failure_at(cert: &Certificate, fault: CellFault) -> Option<Failure>
 }
 
 /// The first line of a cell that does not tile the roots in order, by the table of the listed boxes.
-fn first_fault(
+fn first_fault<R: Threads + Sync>(
+    rt: &R,
     alloc: Global,
     problem: &Problem,
     cert: &Certificate,
     listed: &Listed,
+    workers: u32,
 ) -> Result<Option<Failure>, AllocError>
     requires few { line_count (plain_certificate cert.now) < 2 ^ 32 - 5 }
     requires objects { cert.now.objects ≡ length problem.now.tracks }
@@ -48,7 +51,8 @@ fn first_fault(
     while first < objects {
         let lines = cert.cells.len() - at;
         let round = round_from(alloc, problem, cert, listed, first, lines)?;
-        match tile_keys(problem, &round.keys, &cert.cells, at) {
+        let found = tile_together(rt, alloc, problem, &round.keys, &cert.cells, at, workers)?;
+        match found {
             Ok(next) => at = next,
             Err(fault) => return Ok(failure_at(cert, fault)),
         }
@@ -63,10 +67,12 @@ fn first_fault(
 
 /// The first line of a cell that does not tile the roots in order, or whose kind its hulls do not show. Lines that are missing are
 /// found at the line behind.
-pub(crate) fn cell_failure(
+pub(crate) fn cell_failure<R: Threads + Sync>(
+    rt: &R,
     alloc: Global,
     problem: &Problem,
     cert: &Certificate,
+    workers: u32,
 ) -> Result<Option<Failure>, AllocError>
     requires few { line_count (plain_certificate cert.now) < 2 ^ 32 - 5 }
     requires objects { cert.now.objects ≡ length problem.now.tracks }
@@ -75,5 +81,5 @@ pub(crate) fn cell_failure(
     ensures { IfOk result (λ found. found ≡ the_failure (plain_problem problem.now) (plain_certificate cert.now)) }
 {
     let listed = Listed::new(alloc, problem, cert)?;
-    first_fault(alloc, problem, cert, &listed)
+    first_fault(rt, alloc, problem, cert, &listed, workers)
 }

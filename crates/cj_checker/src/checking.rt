@@ -17,40 +17,49 @@ use crate::sizes::size_failure;
 use cj_case::Problem;
 use cj_cert::{Certificate, acceptance};
 use std::alloc::{AllocError, Global};
+use std::thread::Threads;
 
 /// The first failure of what is said of the run and of each object.
-fn object_failure(problem: &Problem, cert: &Certificate) -> Option<Failure>
-    requires few { line_count (plain_certificate cert.now) < 2 ^ 32 - 5 }
-    ensures { result ≡ option_or (first.header_failure (plain_problem problem.now) (plain_certificate cert.now))
-        (option_or (first.size_failure (plain_problem problem.now) (plain_certificate cert.now))
-        (option_or (first.shell_failure (plain_problem problem.now) (plain_certificate cert.now))
-        (first.box_failure (plain_problem problem.now) (plain_certificate cert.now)))) }
-{
-    let header = header_failure(problem, cert);
-    if header.is_some() {
-        return header;
-    }
-    let size = size_failure(problem, cert);
-    if size.is_some() {
-        return size;
-    }
-    hull_failure(problem, cert)
-}
-
-/// The first failure of a certificate.
-fn first_failure(
+fn object_failure<R: Threads + Sync>(
+    rt: &R,
     alloc: Global,
     problem: &Problem,
     cert: &Certificate,
+    workers: u32,
+) -> Result<Option<Failure>, AllocError>
+    requires few { line_count (plain_certificate cert.now) < 2 ^ 32 - 5 }
+    ensures { IfOk result (λ found. found ≡ option_or (first.header_failure (plain_problem problem.now) (plain_certificate cert.now))
+        (option_or (first.size_failure (plain_problem problem.now) (plain_certificate cert.now))
+        (option_or (first.shell_failure (plain_problem problem.now) (plain_certificate cert.now))
+        (first.box_failure (plain_problem problem.now) (plain_certificate cert.now))))) }
+{
+    let header = header_failure(problem, cert);
+    if header.is_some() {
+        return Ok(header);
+    }
+    let size = size_failure(problem, cert);
+    if size.is_some() {
+        return Ok(size);
+    }
+    hull_failure(rt, alloc, problem, cert, workers)
+}
+
+/// The first failure of a certificate.
+fn first_failure<R: Threads + Sync>(
+    rt: &R,
+    alloc: Global,
+    problem: &Problem,
+    cert: &Certificate,
+    workers: u32,
 ) -> Result<Option<Failure>, AllocError>
     requires few { line_count (plain_certificate cert.now) < 2 ^ 32 - 5 }
     ensures { IfOk result (λ found. found ≡ first.first_failure (plain_problem problem.now) (plain_certificate cert.now)) }
 {
-    let found = object_failure(problem, cert);
+    let found = object_failure(rt, alloc, problem, cert, workers)?;
     if found.is_some() {
         return Ok(found);
     }
-    cell_failure(alloc, problem, cert)
+    cell_failure(rt, alloc, problem, cert, workers)
 }
 
 fn answer_of(found: Option<Failure>) -> Answer
@@ -62,9 +71,15 @@ fn answer_of(found: Option<Failure>) -> Answer
     }
 }
 
-/// Whether a certificate is accepted for a problem, or else the first line at which it is not, and why. It rests on no work of the
-/// run that wrote the certificate: each shell, box and cell is compared with the hulls of the tracks.
-pub fn check(alloc: Global, problem: &Problem, cert: &Certificate) -> Result<Answer, AllocError>
+/// Whether a certificate is accepted for a problem, or else the first line at which it is not, and why, by as many threads as there are
+/// workers. It rests on no work of the run that wrote the certificate: each shell, box and cell is compared with the hulls of the tracks.
+pub fn check<R: Threads + Sync>(
+    rt: &R,
+    alloc: Global,
+    problem: &Problem,
+    cert: &Certificate,
+    workers: u32,
+) -> Result<Answer, AllocError>
     requires few { line_count (plain_certificate cert.now) < 2 ^ 32 - 5 }
 
     // The line and the cause are the first ones, and there are none exactly where it is accepted.
@@ -75,6 +90,6 @@ pub fn check(alloc: Global, problem: &Problem, cert: &Certificate) -> Result<Ans
     ensures law { AcceptedSplits (plain_problem problem.now) }
 {
     acceptance(problem);
-    let found = first_failure(alloc, problem, cert)?;
+    let found = first_failure(rt, alloc, problem, cert, workers)?;
     Ok(answer_of(found))
 }

@@ -4,7 +4,7 @@ ghost use Rattle.cj_checker.specs.Keys.{AreKeysIn, HasKey};
 
 use crate::keys::Key;
 
-/// How many keys are enough in any case. Three times as many and those of one slot, which may be found twice, are fewer than 16,777,216.
+/// How many keys are enough in any case. Three times as many and those of one slot, which may be found more than once, are fewer than 16,777,216.
 const MOST_ENOUGH: usize = 4_000_000;
 
 /// How many keys are enough: as many as lines of cells are left, since with one more key with a root some line fails; and at least

@@ -1,13 +1,16 @@
-//! How far the objects of a slot reach along an axis, and along which axis the fewest of them meet.
-ghost use Rattle.std.specs.Prelude.{◌≡◌, ℕ, ◌<◌, ◌≤◌, pos, ◌+ℤ◌, ◌-ℤ◌, ◌≤ℤ◌, length, option_map, Some, OnOk};
+//! How far the objects of a slot reach along an axis, in each stripe across it, and how they are laid out that the fewest of them meet.
+ghost use Rattle.std.specs.Prelude.{◌≡◌, ℕ, ◌<◌, ◌≤◌, pos, ◌+ℤ◌, ◌-ℤ◌, ◌≤ℤ◌, ◌^◌, length, option_map, Some, OnOk};
+ghost use Rattle.cj_interval.specs.Sizes.{IsWithin};
 ghost use Rattle.std.specs.List.{Contains};
 ghost use Rattle.std.specs.List.Sorted.{IsPermutation};
 ghost use Rattle.cj_case.specs.Problems.{plain_problem};
 ghost use Rattle.cj_case.specs.Boxes.{PlainBox, plain_box};
-ghost use Rattle.cj_checker.specs.Sweeps.{AreLaidOut, Exist, HasReachBy, IsInOrder, reach_of, side};
+ghost use Rattle.cj_checker.specs.Sweeps.{AreLaidOut, Exist, HasReachBy, IsEntered, IsInOrder, reach_of, side};
 
 use crate::axis::Axis;
+use crate::layout::Layout;
 use crate::reach::Reach;
+use crate::stripes::enter_in_stripes;
 use cj_case::{AxisBox, Problem, Shell};
 use cj_cert::ShellLine;
 use std::alloc::{AllocError, Global};
@@ -30,28 +33,32 @@ impl Reaches {
 
 /// Where a reach on an axis of space begins, moved back by a size.
 fn begin(least: i64, size: u64) -> i128
-    ensures { result ≡ least -ℤ pos size }
+    ensures value { result ≡ least -ℤ pos size }
+    ensures near { IsWithin (2 ^ 70) result }
 {
     i128::from(least) - i128::from(size)
 }
 
 /// Where a reach on an axis of space ends, moved on by a size and the threshold together.
 fn finish(most: i64, beyond: u64) -> i128
-    ensures { result ≡ most +ℤ pos beyond }
+    ensures value { result ≡ most +ℤ pos beyond }
+    ensures near { IsWithin (2 ^ 70) result }
 {
     i128::from(most) + i128::from(beyond)
 }
 
 /// Where a shell begins, moved back by a size.
 fn begin_shell(lo: u64, size: u64) -> i128
-    ensures { result ≡ pos lo -ℤ pos size }
+    ensures value { result ≡ pos lo -ℤ pos size }
+    ensures near { IsWithin (2 ^ 70) result }
 {
     i128::from(lo) - i128::from(size)
 }
 
 /// Where a shell ends, moved on by a size and the threshold together.
 fn finish_shell(hi: u64, beyond: u64) -> i128
-    ensures { result ≡ pos hi +ℤ pos beyond }
+    ensures value { result ≡ pos hi +ℤ pos beyond }
+    ensures near { IsWithin (2 ^ 70) result }
 {
     i128::from(hi) + i128::from(beyond)
 }
@@ -59,7 +66,9 @@ fn finish_shell(hi: u64, beyond: u64) -> i128
 /// The reach of an object along an axis.
 fn reach_along(problem: &Problem, axis: Axis, object: u32, shell: Shell, area: &AxisBox) -> Reach
     requires { object < length problem.now.tracks }
-    ensures { result ≡ reach_of (plain_problem problem.now) object (side axis shell (plain_box area.now)) }
+    ensures value { result ≡ reach_of (plain_problem problem.now) object (side axis shell (plain_box area.now)) }
+    ensures low { IsWithin (2 ^ 70) result.low }
+    ensures high { IsWithin (2 ^ 70) result.high }
 {
     let size = problem.sizes.as_slice()[object as usize];
     let beyond = size + problem.threshold;
@@ -72,10 +81,10 @@ fn reach_along(problem: &Problem, axis: Axis, object: u32, shell: Shell, area: &
     Reach { low, high, object }
 }
 
-/// Enters the reach of an object, where it has a shell and a box.
+/// Enters an object in each stripe that it meets, where it has a shell and a box.
 fn enter_object(
     problem: &Problem,
-    axis: Axis,
+    layout: Layout,
     object: u32,
     shell: Option<Shell>,
     area: Option<AxisBox>,
@@ -85,13 +94,17 @@ fn enter_object(
     ensures exist { OnOk result (Exist problem.now reaches.old.items → Exist problem.now reaches.new.items) }
     ensures kept { OnOk result ((reach : Reach) → Contains reaches.old.items reach → Contains reaches.new.items reach) }
     ensures entered { OnOk result ((own : Shell) (box : PlainBox) → shell ≡ Some own → option_map plain_box area ≡ Some box
-        → Contains reaches.new.items (reach_of (plain_problem problem.now) object (side axis own box))) }
+        → IsEntered (plain_problem problem.now) object own box layout reaches.new.items) }
 {
-    let (Some(shell), Some(area)) = (shell, area) else {
+    let Some(shell) = shell else {
         return Ok(());
     };
-    reaches.push(reach_along(problem, axis, object, shell, &area))?;
-    Ok(())
+    let Some(area) = area else {
+        return Ok(());
+    };
+    let own = reach_along(problem, layout.axis, object, shell, &area);
+    let across = reach_along(problem, layout.axis.across(), object, shell, &area);
+    enter_in_stripes(layout.striped, &own, &across, reaches)
 }
 
 /// The reaches of the objects from one on, up to an end.
@@ -99,7 +112,7 @@ fn enter(
     problem: &Problem,
     shells: &[ShellLine],
     boxes: &[Option<AxisBox>],
-    axis: Axis,
+    layout: Layout,
     first: u32,
     end: u32,
     reaches: &mut Vec<Reach>,
@@ -109,12 +122,19 @@ fn enter(
     requires within { end ≤ length problem.now.tracks }
     ensures exist { OnOk result (Exist problem.now reaches.new.items) }
     ensures entered { OnOk result ((object : ℕ) → first ≤ object → object < end
-        → HasReachBy problem.now shells.now boxes.now axis reaches.new.items object) }
+        → HasReachBy problem.now shells.now boxes.now layout reaches.new.items object) }
 {
     reaches.clear();
     for object in first..end {
         let at = object as usize;
-        enter_object(problem, axis, object, shells[at].shell, boxes[at], reaches)?;
+        enter_object(
+            problem,
+            layout,
+            object,
+            shells[at].shell,
+            boxes[at],
+            reaches,
+        )?;
     }
     Ok(())
 }
@@ -171,7 +191,7 @@ fn meetings(some: &[Reach], others: &[Reach]) -> usize
     count
 }
 
-/// How many pairs of some rows meet along an axis. Any number would do.
+/// How many pairs of some rows meet. Any number would do.
 fn pairs_that_meet(reaches: &Reaches) -> usize
     requires rows { IsInOrder reaches.now.rows.items }
     requires others { IsInOrder reaches.now.others.items }
@@ -182,12 +202,12 @@ fn pairs_that_meet(reaches: &Reaches) -> usize
         .saturating_add(meetings(others, rows))
 }
 
-/// The reaches of the objects of some rows, and of those behind, along an axis.
-fn enter_along(
+/// The reaches of the objects of some rows, and of those behind, by a layout.
+fn enter_by(
     problem: &Problem,
     shells: &[ShellLine],
     boxes: &[Option<AxisBox>],
-    axis: Axis,
+    layout: Layout,
     first: u32,
     end: u32,
     reaches: &mut Reaches,
@@ -198,12 +218,20 @@ fn enter_along(
     ensures { OnOk result (AreLaidOut problem.now shells.now boxes.now first end reaches.new) }
 {
     let objects = boxes.len() as u32;
-    enter(problem, shells, boxes, axis, first, end, &mut reaches.rows)?;
     enter(
         problem,
         shells,
         boxes,
-        axis,
+        layout,
+        first,
+        end,
+        &mut reaches.rows,
+    )?;
+    enter(
+        problem,
+        shells,
+        boxes,
+        layout,
         end,
         objects,
         &mut reaches.others,
@@ -213,26 +241,65 @@ fn enter_along(
     Ok(())
 }
 
-/// The axis along which the fewest pairs of some rows meet. Any axis would do.
-fn best_axis(
+/// All layouts.
+const LAYOUTS: [Layout; 8] = [
+    Layout {
+        axis: Axis::X,
+        striped: true,
+    },
+    Layout {
+        axis: Axis::Y,
+        striped: true,
+    },
+    Layout {
+        axis: Axis::Z,
+        striped: true,
+    },
+    Layout {
+        axis: Axis::Radius,
+        striped: true,
+    },
+    Layout {
+        axis: Axis::X,
+        striped: false,
+    },
+    Layout {
+        axis: Axis::Y,
+        striped: false,
+    },
+    Layout {
+        axis: Axis::Z,
+        striped: false,
+    },
+    Layout {
+        axis: Axis::Radius,
+        striped: false,
+    },
+];
+
+/// The layout by which the fewest pairs of some rows meet. Any would do.
+fn best_layout(
     problem: &Problem,
     shells: &[ShellLine],
     boxes: &[Option<AxisBox>],
     first: u32,
     end: u32,
     reaches: &mut Reaches,
-) -> Result<Axis, AllocError>
+) -> Result<Layout, AllocError>
     requires shells { length shells.now ≡ length problem.now.tracks }
     requires boxes { length boxes.now ≡ length problem.now.tracks }
     requires within { end ≤ length problem.now.tracks }
 {
-    let mut best = Axis::X;
+    let mut best = Layout {
+        axis: Axis::X,
+        striped: false,
+    };
     let mut fewest = usize::MAX;
-    for axis in [Axis::X, Axis::Y, Axis::Z, Axis::Radius] {
-        enter_along(problem, shells, boxes, axis, first, end, reaches)?;
+    for layout in LAYOUTS {
+        enter_by(problem, shells, boxes, layout, first, end, reaches)?;
         let count = pairs_that_meet(reaches);
         if count < fewest {
-            best = axis;
+            best = layout;
             fewest = count;
         }
     }
@@ -248,15 +315,15 @@ fn are_many(objects: usize, reaches: &Reaches) -> bool
         && objects.saturating_mul(objects) / 8 < pairs_that_meet(reaches)
 }
 
-/// The reaches of the objects of some rows, and of those behind, along an axis: the one that was taken last, or another one where many
-/// pairs meet along it.
+/// The reaches of the objects of some rows, and of those behind, by the layout that was taken last, or by another one where many pairs
+/// meet by it.
 pub(crate) fn lay_out(
     problem: &Problem,
     shells: &[ShellLine],
     boxes: &[Option<AxisBox>],
     first: u32,
     end: u32,
-    axis: &mut Axis,
+    layout: &mut Layout,
     reaches: &mut Reaches,
 ) -> Result<(), AllocError>
     requires shells { length shells.now ≡ length problem.now.tracks }
@@ -264,10 +331,10 @@ pub(crate) fn lay_out(
     requires within { end ≤ length problem.now.tracks }
     ensures { OnOk result (AreLaidOut problem.now shells.now boxes.now first end reaches.new) }
 {
-    enter_along(problem, shells, boxes, *axis, first, end, reaches)?;
+    enter_by(problem, shells, boxes, *layout, first, end, reaches)?;
     if are_many(boxes.len(), reaches) {
-        *axis = best_axis(problem, shells, boxes, first, end, reaches)?;
-        enter_along(problem, shells, boxes, *axis, first, end, reaches)?;
+        *layout = best_layout(problem, shells, boxes, first, end, reaches)?;
+        enter_by(problem, shells, boxes, *layout, first, end, reaches)?;
     }
     Ok(())
 }

@@ -1,18 +1,21 @@
-//! The lines of shells, and with them those of boxes, so that each track is walked along once.
-ghost use Rattle.std.specs.Prelude.{◌≡◌, ◌+◌, ◌-◌, ◌^◌, ◌<◌, ◌≤◌, [], true, false, Some, length, map, slice_get, vec_len, IfNone, IfSome};
+//! The lines of shells, and with them those of boxes, so that each track is walked along once, by several workers. A worker takes the
+//! lines of an object's boxes from where they begin if all stand in order, of which nothing is proved: what it reads counts where the lines
+//! of the objects before end there, and else the object is gone over again.
+ghost use Rattle.std.specs.Prelude.{◌≡◌, ◌+◌, ◌-◌, ◌^◌, ◌<◌, ◌≤◌, [], true, false, Some, length, map, slice_get, get_or, vec_len, IfNone, IfOk, IfSome};
 ghost use Rattle.std.specs.List.{enumerate_from};
 ghost use Rattle.std.specs.Option.{option_or};
 ghost use Rattle.cj_track.specs.Tracks.{plain_track};
 ghost use Rattle.cj_case.specs.PlainProblems.{PlainProblem};
 ghost use Rattle.cj_case.specs.Problems.{plain_problem};
 ghost use Rattle.cj_cert.specs.Certificates.{plain_box_line, plain_certificate};
-ghost use Rattle.cj_checker.specs.BoxesRead.{IsReadOn, fails_behind};
+ghost use Rattle.cj_cert.specs.declared.cert_lines.ShellLine.{ShellLine};
+ghost use Rattle.cj_checker.specs.BoxesRead.{AreObjectsRead, IsObjectRead, IsReadOn, fails_behind};
 ghost use Rattle.cj_checker.specs.First.{box_failure, first_box_line, fits_at, shell_failure};
 ghost use Rattle.cj_checker.specs.Tests.{has_state_between, is_shell_over, is_shell_line};
 ghost use Rattle.cj_checker.specs.Walks.{IsWalk};
 
 use crate::boxes::read_boxes;
-use crate::boxes_read::BoxesRead;
+use crate::boxes_read::{BoxesRead, ObjectRead};
 use crate::course::Course;
 use crate::failure::{FIRST_LINE, Failure, failed};
 use crate::walk::Walk;
@@ -21,16 +24,26 @@ use cj_case::Problem;
 use cj_cert::{BoxLine, Certificate, ShellLine};
 use cj_formats::CheckCause;
 use cj_hermite::next_run;
+use cj_threads::{Nobody, map_dealt};
 use cj_track::Track;
+use std::alloc::{AllocError, Global};
+use std::thread::Threads;
 
 /// The first line of shells that is not the shell of the object in its place, or else the first line of boxes that does not have the
 /// next slots of an object in which it has a state, or lets one of its hulls out. Lines that are missing or left are found at the line
 /// behind.
-pub fn hull_failure(problem: &Problem, cert: &Certificate) -> Option<Failure>
+pub fn hull_failure<R: Threads + Sync>(
+    rt: &R,
+    alloc: Global,
+    problem: &Problem,
+    cert: &Certificate,
+    workers: u32,
+) -> Result<Option<Failure>, AllocError>
     requires few { vec_len cert.now.sizes + vec_len cert.now.shells + vec_len cert.now.boxes < 2 ^ 32 - 5 }
-    ensures { result ≡ option_or (shell_failure (plain_problem problem.now) (plain_certificate cert.now))
-        (box_failure (plain_problem problem.now) (plain_certificate cert.now)) }
+    ensures { IfOk result (λ found. found ≡ option_or (shell_failure (plain_problem problem.now) (plain_certificate cert.now))
+        (box_failure (plain_problem problem.now) (plain_certificate cert.now))) }
 {
+    let tries = try_objects(rt, alloc, problem, cert, workers)?;
     let first = FIRST_LINE + cert.sizes.len() as u32;
     let mut object = 0;
     let mut read = BoxesRead {
@@ -38,16 +51,84 @@ pub fn hull_failure(problem: &Problem, cert: &Certificate) -> Option<Failure>
         failed: false,
     };
     for line in &cert.shells {
-        let Some(more) = read_object(problem, object, line, &cert.boxes, read) else {
-            return failed(first + object, CheckCause::ShellOf);
+        let tried = tries[object as usize];
+        let Some(more) = read_from(problem, object, line, &cert.boxes, read, tried) else {
+            return Ok(failed(first + object, CheckCause::ShellOf));
         };
         read = more;
         object += 1;
     }
     if (object as usize) < problem.tracks.as_slice().len() {
-        return failed(first + object, CheckCause::ShellOf);
+        return Ok(failed(first + object, CheckCause::ShellOf));
     }
-    failure_of_boxes(first + object, &cert.boxes, read)
+    Ok(failure_of_boxes(first + object, &cert.boxes, read))
+}
+
+/// The place of the first line of boxes of an object or of one behind it, if the lines are in order.
+fn first_of(object: u32, lines: &[BoxLine]) -> usize
+    ensures { result ≤ length lines.now }
+{
+    lines.partition_point(|line| line.object < object)
+}
+
+/// What is read of an object from where the lines of its boxes begin if all are in order.
+fn read_alone(problem: &Problem, object: u32, line: &ShellLine, boxes: &[BoxLine]) -> ObjectRead
+    ensures { IsObjectRead problem.now object line.now boxes.now result }
+{
+    let from = first_of(object, boxes);
+    let read = BoxesRead {
+        passed: from,
+        failed: false,
+    };
+    let more = read_object(problem, object, line, boxes, read);
+    ObjectRead { from, more }
+}
+
+/// The same of each object, by as many threads as there are workers: each takes the next object.
+fn try_objects<R: Threads + Sync>(
+    rt: &R,
+    alloc: Global,
+    problem: &Problem,
+    cert: &Certificate,
+    workers: u32,
+) -> Result<Vec<ObjectRead>, AllocError>
+    requires few { length cert.now.shells.items < 2 ^ 32 }
+    ensures { IfOk result (λ tries. AreObjectsRead problem.now cert.now.shells.items cert.now.boxes.items tries.items) }
+{
+    let attempt = |object: usize| -> ObjectRead
+        requires { (object < length cert.now.shells.items) × (length cert.now.shells.items < 2 ^ 32) }
+        ensures { (d : ShellLine) → IsObjectRead problem.entry.now object (get_or cert.entry.now.shells.items object d) cert.entry.now.boxes.items result }
+    { read_alone(problem, object as u32, &cert.shells[object], &cert.boxes) };
+    let count = cert.shells.len();
+    let tries = map_dealt(rt, alloc, count, workers as usize, &Nobody, &attempt)?;
+    Ok(tries)
+}
+
+/// What is read of boxes with those of an object, as below, which may be what was tried.
+fn read_from(
+    problem: &Problem,
+    object: u32,
+    line: &ShellLine,
+    boxes: &[BoxLine],
+    read: BoxesRead,
+    tried: ObjectRead,
+) -> Option<BoxesRead>
+    requires place { read.passed ≤ length boxes.now }
+    requires tried { IsObjectRead problem.now object line.now boxes.now tried }
+    ensures none { IfNone result (fits_at (is_shell_line problem.now.window.first.micros problem.now.window.last.micros)
+        (enumerate_from 0 (map plain_track problem.now.tracks)) object line.now ≡ false) }
+    ensures some { IfSome result (λ more. fits_at (is_shell_line problem.now.window.first.micros problem.now.window.last.micros)
+        (enumerate_from 0 (map plain_track problem.now.tracks)) object line.now ≡ true) }
+    ensures place { IfSome result (λ more. more.passed ≤ length boxes.now) }
+    ensures on { IfSome result (IsReadOn (plain_problem problem.now) object (map plain_box_line boxes.now) read) }
+{
+    if read.failed {
+        return read_object(problem, object, line, boxes, read);
+    }
+    if tried.from == read.passed {
+        return tried.more;
+    }
+    read_object(problem, object, line, boxes, read)
 }
 
 /// The first line of boxes that fails, where the lines of all objects were read.

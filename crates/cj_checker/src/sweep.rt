@@ -1,4 +1,4 @@
-//! The candidates of a slot, by a sweep along an axis.
+//! The candidates of a slot, by a sweep along an axis, stripe by stripe.
 ghost use Rattle.std.specs.Prelude.{◌≡◌, ℕ, ◌<◌, ◌≤◌, true, length, option_map, Some, IfSome, OnOk};
 ghost use Rattle.std.specs.List.{Contains};
 ghost use Rattle.cj_case.specs.Pairs.{AreBoth, ArePairsKept, HasPair, objects_of};
@@ -7,6 +7,7 @@ ghost use Rattle.cj_checker.specs.Sweeps.{AreCandidatesBy, AreMetBy, Exist, IsIn
 
 use crate::axis::Axis;
 use crate::candidate::is_candidate;
+use crate::layout::Layout;
 use crate::reach::Reach;
 use crate::reaches::{Reaches, begun_within, lay_out};
 use cj_case::{AxisBox, Pair, Problem};
@@ -126,20 +127,23 @@ fn append_met(
 /// Lists that are kept from slot to slot.
 #[derive(Drop)]
 pub struct Sweep {
-    axis: Axis,
+    layout: Layout,
     reaches: Reaches,
 }
 
 impl Sweep {
     pub fn new(alloc: Global) -> Self {
         Sweep {
-            axis: Axis::X,
+            layout: Layout {
+                axis: Axis::X,
+                striped: true,
+            },
             reaches: Reaches::new(alloc),
         }
     }
 
     /// Finds the candidates of some rows, by the listed shells and the boxes of a slot, in any order. A pair is found
-    /// twice where both objects begin at one place.
+    /// in each stripe that both objects meet, and twice where both begin at one place.
     pub fn find(
         &mut self,
         problem: &Problem,
@@ -163,7 +167,7 @@ impl Sweep {
             boxes,
             first,
             end,
-            &mut self.axis,
+            &mut self.layout,
             &mut self.reaches,
         )?;
         let (rows, others) = (self.reaches.rows.as_slice(), self.reaches.others.as_slice());

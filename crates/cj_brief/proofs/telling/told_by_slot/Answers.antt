@@ -6,7 +6,7 @@ use Rattle.cj_case.specs.Problems.{plain_problem}
 use Rattle.cj_case.specs.Slots.{slot_count}
 use Rattle.cj_hermite.specs.Roots.{slots_of}
 use Rattle.cj_bezier.specs.RootLeaves.{leaves_of_root, leaves_of_roots}
-use Rattle.cj_brief.specs.Telling.{IsListed, plain_lists, told_in}
+use Rattle.cj_brief.specs.Telling.{IsListed, plain_lists, told_at}
 use Rattle.cj_brief.proofs.TellingLemmas.{cut_is, given_back, none_told, root_more, roots_on, slots_of_lists, told_is, told_more}
 use Rattle.cj_brief.proofs.telling.told_by_slot.Goals as goal
 
@@ -42,7 +42,7 @@ loop-root-preserved c =
     record {
       rest = cut.1;
       lists = ap plain_lists (given_back old new c.loop-root.lists.len (c.tell_in.ensures.len ∙ ap length lent) c.loop-root.lists.ok.0)
-          ∙ told ∙ ap (λ (rs : List PlainCell). map (told_in case rs) (slots_of case)) (sym (root_more roots at c.root-item.result lt c.root-item.is));
+          ∙ told ∙ ap (λ (rs : List PlainCell). map (told_at case rs) (slots_of case)) (sym (root_more roots at c.root-item.result lt c.root-item.is));
     }
 
 pub tell_in-requires : goal.tell_in-requires
@@ -53,11 +53,11 @@ tell_in-requires c =
     let at = c.loop-root.root-index in
     let root = plain_cell c.root-item.result in
     let listed : IsListed case root = subst (λ (cell : Cell). IsListed case (plain_cell cell)) (sym c.root-item.is) (c.requires.roots at c.root-item.result (omega arith)) in
-    let many = slots_of_lists c.loop-root.lists.items (told_in case (plain_cells (take at roots))) (slot_count case.first case.last) i.lists in
+    let many = slots_of_lists c.loop-root.lists.items (told_at case (plain_cells (take at roots))) (slot_count case.first case.last) i.lists in
     let whole = ap length c.deref_mut.ensures.value in
     omega (arith, listed.slot, c.slot_at-slot.ensures, many, whole)
 
 pub returns : goal.returns
 returns c =
     let case = plain_problem c.args.problem.now in
-    c.loop-root.invariant.lists ∙ ap (λ (roots : List Cell). map (told_in case (plain_cells roots)) (slots_of case)) (take_all c.loop-root.root-index c.args.roots.now (omega arith))
+    c.loop-root.invariant.lists ∙ ap (λ (roots : List Cell). map (told_at case (plain_cells roots)) (slots_of case)) (take_all c.loop-root.root-index c.args.roots.now (omega arith))

@@ -8,7 +8,7 @@ use Rattle.cj_brief_checker.proofs.cells.cell_failure.Given as goal
 
 -- what is left fails as the whole
 abbrev pub invariant-loop-slot : goal.invariant-loop-slot
-invariant-loop-slot l =
+invariant-loop-slot g l =
     let case = plain_problem l.problem in
     let c = plain_brief l.cert in
     record {

@@ -1,34 +1,48 @@
-use Rattle.std.proofs.Common.{◌≡◌, true, false, Option, Result, Ok, Err, sym, ◌∙◌, rules}
-use Rattle.std.specs.Prelude.{is_some, IfOk}
-use Rattle.std.specs.declared.alloc.AllocError.{AllocError}
+use Rattle.std.proofs.Common.{◌≡◌, ◌+◌, false, true, ap, length, sym, subst, ◌∙◌, rules, arith}
+use Rattle.std.specs.Prelude.{is_some}
 use Rattle.std.proofs.lemmas.List.{length-map}
+use Rattle.std.proofs.lemmas.Result.{IfOk-weaker}
 use Rattle.cj_track.specs.Tracks.{plain_track}
 use Rattle.cj_case.specs.Problems.{plain_problem}
 use Rattle.cj_brief.specs.Certificates.{plain_brief}
-use Rattle.cj_checker.specs.First.{Failure}
-use Rattle.cj_brief_checker.specs.First.{first_failure_in_brief, told_failure}
-use Rattle.cj_brief_checker.proofs.CheckLemmas.{fails_before, fails_in_cells, same_shells}
+use Rattle.cj_checker.specs.First.{first_line}
+use Rattle.cj_brief_checker.specs.Shown.{AreShown}
+use Rattle.cj_brief_checker.proofs.CheckLemmas.{fails_in_cells, fails_in_head, fails_in_shells, same_shells, shells_are}
 use Rattle.cj_brief_checker.proofs.checking.first_failure.Goals as goal
 
 pub returns-then-is_some : goal.returns-then-is_some
-returns-then-is_some c =
-    let some : is_some c.object_failure-found.result ≡ true = search rules in
-    fails_before (plain_problem c.args.problem.now) (plain_brief c.args.cert.now) c.object_failure-found.result c.object_failure-found.ensures some
+returns-then-is_some g c =
+    let some : is_some c.head_failure-found.result ≡ true = search rules in
+    fails_in_head (plain_problem c.args.problem.now) (plain_brief c.args.cert.now) c.head_failure-found.result c.head_failure-found.ensures some
 
-pub cell_failure-requires-clause-shells : goal.cell_failure-requires-clause-shells
-cell_failure-requires-clause-shells c =
-    let none : is_some c.object_failure-found.result ≡ false = search rules in
-    same_shells (plain_problem c.args.problem.now) (plain_brief c.args.cert.now) c.object_failure-found.result c.object_failure-found.ensures none ∙ length-map c.args.problem.now.tracks plain_track
-
-pub returns : goal.returns
-returns c =
+pub returns-in-Fails : goal.returns-in-Fails
+returns-in-Fails g c =
     let case = plain_problem c.args.problem.now in
     let cert = plain_brief c.args.cert.now in
-    let none : is_some c.object_failure-found.result ≡ false = search rules in
-    go (fails_in_cells case cert c.object_failure-found.result c.object_failure-found.ensures none) c.cell_failure.result c.cell_failure.ensures
-  where
-    go : first_failure_in_brief (plain_problem c.args.problem.now) (plain_brief c.args.cert.now) ≡ told_failure (plain_problem c.args.problem.now) (plain_brief c.args.cert.now)
-        → (r : Result (Option Failure) AllocError) → IfOk r (λ found. found ≡ told_failure (plain_problem c.args.problem.now) (plain_brief c.args.cert.now))
-        → IfOk r (λ found. found ≡ first_failure_in_brief (plain_problem c.args.problem.now) (plain_brief c.args.cert.now))
-    go same (Ok found) is = is ∙ sym same
-    go same (Err e) is = tt
+    let none : is_some c.head_failure-found.result ≡ false = search rules in
+    let at : 5 + c.len.result ≡ first_line + length c.args.cert.now.sizes.items = omega (arith, c.len.ensures) in
+    let shown = subst (AreShown case (5 + c.len.result) c.deref.result.now) c.in-Fails.is c.in_ok-shown.ensures in
+    fails_in_shells case cert c.head_failure-found.result c.in-Fails.failure c.head_failure-found.ensures none
+    (sym (shells_are case cert (5 + c.len.result) c.deref.result.now at c.deref.ensures.value) ∙ shown)
+
+pub cell_failure-requires-clause-boxes : goal.cell_failure-requires-clause-boxes
+cell_failure-requires-clause-boxes g c = λ lifetimes outlive.
+    (subst (AreShown (plain_problem c.args.problem.now) (5 + c.len.result) c.deref.result.now) c.in-Boxes.is c.in_ok-shown.ensures).1
+
+pub cell_failure-requires-clause-shells : goal.cell_failure-requires-clause-shells
+cell_failure-requires-clause-shells g c = λ lifetimes outlive.
+    let case = plain_problem c.args.problem.now in
+    let cert = plain_brief c.args.cert.now in
+    let at : 5 + c.len.result ≡ first_line + length c.args.cert.now.sizes.items = omega (arith, c.len.ensures) in
+    let shown = subst (AreShown case (5 + c.len.result) c.deref.result.now) c.in-Boxes.is c.in_ok-shown.ensures in
+    same_shells case cert (sym (shells_are case cert (5 + c.len.result) c.deref.result.now at c.deref.ensures.value) ∙ shown.0) ∙ length-map c.args.problem.now.tracks plain_track
+
+pub returns-in-Boxes : goal.returns-in-Boxes
+returns-in-Boxes g c =
+    let case = plain_problem c.args.problem.now in
+    let cert = plain_brief c.args.cert.now in
+    let none : is_some c.head_failure-found.result ≡ false = search rules in
+    let at : 5 + c.len.result ≡ first_line + length c.args.cert.now.sizes.items = omega (arith, c.len.ensures) in
+    let shown = subst (AreShown case (5 + c.len.result) c.deref.result.now) c.in-Boxes.is c.in_ok-shown.ensures in
+    let passes = sym (shells_are case cert (5 + c.len.result) c.deref.result.now at c.deref.ensures.value) ∙ shown.0 in
+    IfOk-weaker c.cell_failure.result _ _ (λ found is. is ∙ sym (fails_in_cells case cert c.head_failure-found.result c.head_failure-found.ensures none passes)) c.cell_failure.ensures

@@ -8,7 +8,7 @@ use Rattle.cj_checker.proofs.cells.first_fault.Given as goal
 
 -- what is left fails as the whole
 abbrev pub invariant-loop-first : goal.invariant-loop-first
-invariant-loop-first l =
+invariant-loop-first g l =
     let case = plain_problem l.problem in
     let c = plain_certificate l.cert in
     record {
@@ -18,4 +18,4 @@ invariant-loop-first l =
     }
 
 abbrev pub decreases-loop-first : goal.decreases-loop-first
-decreases-loop-first l = length l.problem.tracks - l.first
+decreases-loop-first g l = length l.problem.tracks - l.first

@@ -7,7 +7,7 @@ use Rattle.cj_checker.proofs.FirstLemmas.{first_law}
 use Rattle.cj_checker.proofs.checking.check.Goals as goal
 
 pub returns-clause-exact : goal.returns-clause-exact
-returns-clause-exact c =
+returns-clause-exact g c =
     let law = first_law (plain_problem c.args.problem.now) (plain_certificate c.args.cert.now) in
     let same = c.answer_of.ensures ∙ c.in_ok-found.ensures in (
       λ is. law.0 (sym same ∙ ap failure_of is),

@@ -9,5 +9,5 @@ use Rattle.cj_checker.proofs.reaches.enter.Given as goal
 abbrev pub invariant-loop-object : goal.invariant-loop-object
 invariant-loop-object l = record {
   exist : All (λ reach. reach.object < length l.problem.tracks) l.reaches.items;
-  entered : (k : ℕ) → k < l.object → l.first ≤ k → HasReach (plain_problem l.problem) (map (λ (line : ShellLine). line.shell) l.shells) (plain_boxes l.boxes) l.axis l.reaches.items k;
+  entered : (k : ℕ) → k < l.object → l.first ≤ k → HasReach (plain_problem l.problem) (map (λ (line : ShellLine). line.shell) l.shells) (plain_boxes l.boxes) l.layout l.reaches.items k;
 }

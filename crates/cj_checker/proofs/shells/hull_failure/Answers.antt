@@ -9,9 +9,10 @@ use Rattle.cj_track.specs.declared.track.Track.{Track}
 use Rattle.cj_track.specs.Tracks.{plain_track}
 use Rattle.cj_case.specs.Problems.{plain_problem}
 use Rattle.cj_cert.specs.declared.cert_lines.BoxLine.{BoxLine}
+use Rattle.cj_cert.specs.declared.cert_lines.ShellLine.{ShellLine}
 use Rattle.cj_cert.specs.Certificates.{plain_box_line, plain_certificate}
 use Rattle.cj_formats.specs.declared.check_cause.CheckCause.TheVariants.{ShellOf}
-use Rattle.cj_checker.specs.BoxesRead.{IsReadOn, fails_behind}
+use Rattle.cj_checker.specs.BoxesRead.{IsObjectRead, IsReadOn, fails_behind}
 use Rattle.cj_checker.specs.First.{box_failure, failed, first_box_line, first_line, Failure}
 use Rattle.cj_checker.specs.Places.{places_from}
 use Rattle.cj_checker.specs.Tests.{is_shell_line}
@@ -20,7 +21,7 @@ use Rattle.cj_checker.proofs.UnfitLemmas.{unfit_more, unfit_now, unfit_short, un
 use Rattle.cj_checker.proofs.shells.hull_failure.Goals as goal
 
 pub returns-in_default : goal.returns-in_default
-returns-in_default c =
+returns-in_default g c =
     let case = plain_problem c.args.problem.now in
     let lines = c.args.cert.now.shells.items in
     let boxes = box_failure case (plain_certificate c.args.cert.now) in
@@ -36,7 +37,7 @@ returns-in_default c =
     ∙ unfit_now (is_shell_line case.first case.last) ShellOf first (enumerate_from 0 case.tracks) lines object line is c.in_default.ensures.none)))
 
 pub loop-line-preserved : goal.loop-line-preserved
-loop-line-preserved c =
+loop-line-preserved g c =
     let case = plain_problem c.args.problem.now in
     let cert = plain_certificate c.args.cert.now in
     let lines = c.args.cert.now.shells.items in
@@ -55,7 +56,7 @@ loop-line-preserved c =
     }
 
 pub returns-then-object-as_slice : goal.returns-then-object-as_slice
-returns-then-object-as_slice c =
+returns-then-object-as_slice g c =
     let case = plain_problem c.args.problem.now in
     let lines = c.args.cert.now.shells.items in
     let boxes = box_failure case (plain_certificate c.args.cert.now) in
@@ -72,7 +73,7 @@ returns-then-object-as_slice c =
     ∙ unfit_short (is_shell_line case.first case.last) ShellOf first (enumerate_from 0 case.tracks) lines object past (omega (arith, tracks, count, objects, c.if-object-as_slice.true)))))
 
 pub returns : goal.returns
-returns c =
+returns g c =
     let case = plain_problem c.args.problem.now in
     let cert = plain_certificate c.args.cert.now in
     let lines = c.args.cert.now.shells.items in
@@ -93,3 +94,16 @@ returns c =
     ∙ same
     ∙ sym (c.loop-line.invariant.boxes)
     ∙ ap (λ (o : Option Failure). option_or o (box_failure case cert)) (sym shells)
+
+-- what was tried of the object
+pub read_from-requires-clause-tried : goal.read_from-requires-clause-tried
+read_from-requires-clause-tried g c =
+    let object = c.loop-line.object in
+    let lines = c.deref-line-items.result.now in
+    let d : ShellLine = record { object = 0; shell = None } in
+    let line = get_or lines c.loop-line.line-index d in
+    let is : get_or c.args.cert.now.shells.items object d ≡ line = λ j. get_or (sym c.deref-line-items.ensures.value j) (c.loop-line.invariant.place j) d in
+    subst (λ bs. IsObjectRead c.args.problem.now object line bs c.index-tried.result.now) (sym c.deref.ensures.value)
+    (subst (λ l. IsObjectRead c.args.problem.now object l c.args.cert.now.boxes.items c.index-tried.result.now) is
+    (subst (λ t. IsObjectRead c.args.problem.now object (get_or c.args.cert.now.shells.items object d) c.args.cert.now.boxes.items t) (sym c.index-tried.ensures)
+    (c.in_ok-tries.ensures.each object c.index-tried.result.now d (omega (arith, c.loop-line.invariant.place, ap length c.deref-line-items.ensures.value)))))

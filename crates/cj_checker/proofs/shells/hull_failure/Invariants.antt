@@ -12,7 +12,7 @@ use Rattle.cj_checker.proofs.shells.hull_failure.Given as goal
 
 -- what is left of both fails as the whole
 abbrev pub invariant-loop-line : goal.invariant-loop-line
-invariant-loop-line l =
+invariant-loop-line g l =
     let case = plain_problem l.problem in
     let cert = plain_certificate l.cert in
     let fits = is_shell_line case.first case.last in

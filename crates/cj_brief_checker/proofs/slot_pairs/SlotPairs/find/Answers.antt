@@ -17,21 +17,21 @@ use Rattle.cj_brief_checker.proofs.slot_pairs.SlotPairs.find.Goals.{After-find}
 use Rattle.cj_brief_checker.proofs.slot_pairs.SlotPairs.find.Goals as goal
 
 pub in_slot-requires : goal.in_slot-requires
-in_slot-requires c = omega (arith, c.requires.measured.slots, c.requires.exists)
+in_slot-requires c = omega (arith, c.requires.boxes.slots, c.requires.exists)
 
 -- the boxes of the slot
 here : (c : After-find) → plain_boxes c.deref-2.result.now ≡ boxes_in (plain_problem c.args.problem.now) c.args.slot
 here c =
     let case = plain_problem c.args.problem.now in
     ap plain_boxes c.deref-2.ensures.value
-    ∙ boxes_there case c.args.slot c.args.measured.now.boxes.rows c.in_slot.new.here.items c.requires.exists c.requires.measured.boxes c.in_ok-in_slot.ensures
+    ∙ boxes_there case c.args.slot c.args.boxes.now.rows c.in_slot.new.here.items c.requires.exists c.requires.boxes.rows c.in_ok-in_slot.ensures
 
 pub find-requires-clause-boxes : goal.find-requires-clause-boxes
 find-requires-clause-boxes c =
     let case = plain_problem c.args.problem.now in
     ap length c.deref-2.ensures.value
     ∙ boxes_count case c.args.slot c.in_slot.new.here.items
-    (boxes_there case c.args.slot c.args.measured.now.boxes.rows c.in_slot.new.here.items c.requires.exists c.requires.measured.boxes c.in_ok-in_slot.ensures)
+    (boxes_there case c.args.slot c.args.boxes.now.rows c.in_slot.new.here.items c.requires.exists c.requires.boxes.rows c.in_ok-in_slot.ensures)
     ∙ length-map c.args.problem.now.tracks plain_track
 
 -- the candidates of the sweep are those of the certificate
