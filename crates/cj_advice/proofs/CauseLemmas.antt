@@ -13,7 +13,7 @@ use Rattle.cj_status.specs.declared.status.CertificateCause.TheVariants as refus
 use Rattle.cj_advice.specs.declared.cause.Cause.{Cause}
 use Rattle.cj_advice.specs.declared.cause.Cause.TheVariants.{Words, Value, File, Certificate, Limit, ReadFault, WriteFault, OutOfMemory}
 use Rattle.cj_advice.specs.declared.cause.FileReason.TheVariants as files
-use Rattle.cj_advice.specs.declared.cause.LimitCause.TheVariants.{Objects, FileBytes, Nodes, Window, Slots, Cells}
+use Rattle.cj_advice.specs.declared.cause.LimitCause.TheVariants.{Objects, FileBytes, Nodes, Window, Slots, Cells, Told}
 use Rattle.cj_advice.specs.Causes.{word_of, every, cause_named}
 
 each_found : (cause : Cause) → cause_named (word_of cause) ≡ Some cause
@@ -78,6 +78,7 @@ each_found (Limit Nodes) = refl
 each_found (Limit Window) = refl
 each_found (Limit Slots) = refl
 each_found (Limit Cells) = refl
+each_found (Limit Told) = refl
 each_found ReadFault = refl
 each_found WriteFault = refl
 each_found OutOfMemory = refl

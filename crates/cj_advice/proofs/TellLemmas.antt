@@ -39,6 +39,7 @@ told_cause (status.Limit (faults.Nodes count)) = refl
 told_cause (status.Limit (faults.Window length)) = refl
 told_cause (status.Limit (faults.Slots count)) = refl
 told_cause (status.Limit (faults.Cells limit)) = refl
+told_cause (status.Limit (faults.Told limit)) = refl
 told_cause status.OutOfMemory = refl
 
 -- so it is of whatever cause is the status's

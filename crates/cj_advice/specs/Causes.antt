@@ -24,7 +24,7 @@ use Rattle.cj_advice.specs.declared.cause.Cause.TheVariants.{Words, Value, File,
 use Rattle.cj_advice.specs.declared.cause.FileReason.{FileReason}
 use Rattle.cj_advice.specs.declared.cause.FileReason.TheVariants as files
 use Rattle.cj_advice.specs.declared.cause.LimitCause.{LimitCause}
-use Rattle.cj_advice.specs.declared.cause.LimitCause.TheVariants.{Objects, FileBytes, Nodes, Window, Slots, Cells}
+use Rattle.cj_advice.specs.declared.cause.LimitCause.TheVariants.{Objects, FileBytes, Nodes, Window, Slots, Cells, Told}
 
 abbrev pub limit_word : LimitCause → List ℕ
 limit_word Objects = codes "Objects"
@@ -33,6 +33,7 @@ limit_word Nodes = codes "Nodes"
 limit_word Window = codes "Window"
 limit_word Slots = codes "Slots"
 limit_word Cells = codes "Cells"
+limit_word Told = codes "Told"
 
 abbrev pub file_word : FileReason → List ℕ
 file_word (files.Oem cause) = oem_text cause
@@ -61,6 +62,7 @@ limit_cause (faults.Nodes count) = Nodes
 limit_cause (faults.Window length) = Window
 limit_cause (faults.Slots count) = Slots
 limit_cause (faults.Cells limit) = Cells
+limit_cause (faults.Told limit) = Told
 
 abbrev pub file_reason : FileCause → FileReason
 file_reason (refused.Oem cause) = files.Oem cause
@@ -102,6 +104,7 @@ limit_rest (faults.Nodes count) = codes " " ++ decimal count ++ 10 ∷ []
 limit_rest (faults.Window length) = codes " " ++ decimal length ++ 10 ∷ []
 limit_rest (faults.Slots count) = codes " " ++ decimal count ++ 10 ∷ []
 limit_rest (faults.Cells limit) = codes " " ++ decimal limit ++ 10 ∷ []
+limit_rest (faults.Told limit) = codes " " ++ decimal limit ++ 10 ∷ []
 
 abbrev pub rest_of : Status → List ℕ
 rest_of status.Ok = []
@@ -183,6 +186,7 @@ every =
     ∷ Limit Window
     ∷ Limit Slots
     ∷ Limit Cells
+    ∷ Limit Told
     ∷ ReadFault
     ∷ WriteFault
     ∷ OutOfMemory

@@ -51,6 +51,7 @@ pub enum LimitCause {
     Window,
     Slots,
     Cells,
+    Told,
 }
 
 /// The words of a cause, as fault lines print them.
@@ -91,6 +92,7 @@ fn limit_word(limit: LimitCause) -> &'static [u8]
         LimitCause::Window => b"Window",
         LimitCause::Slots => b"Slots",
         LimitCause::Cells => b"Cells",
+        LimitCause::Told => b"Told",
     }
 }
 
@@ -149,5 +151,6 @@ pub fn limit_cause(fault: &LimitFault) -> LimitCause
         LimitFault::Window { .. } => LimitCause::Window,
         LimitFault::Slots { .. } => LimitCause::Slots,
         LimitFault::Cells { .. } => LimitCause::Cells,
+        LimitFault::Told { .. } => LimitCause::Told,
     }
 }

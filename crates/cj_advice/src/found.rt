@@ -10,7 +10,7 @@ use cj_kvn::KvnCause;
 use cj_status::CertificateCause;
 
 /// Each cause once, in the order of docs/FORMATS.md.
-pub const EVERY: [Cause; 63] = [
+pub const EVERY: [Cause; 64] = [
     Cause::Words,
     Cause::Value,
     Cause::File(FileReason::Oem(OemCause::Name)),
@@ -71,6 +71,7 @@ pub const EVERY: [Cause; 63] = [
     Cause::Limit(LimitCause::Window),
     Cause::Limit(LimitCause::Slots),
     Cause::Limit(LimitCause::Cells),
+    Cause::Limit(LimitCause::Told),
     Cause::ReadFault,
     Cause::WriteFault,
     Cause::OutOfMemory,

@@ -34,8 +34,8 @@ pub fn range_of(option: Opt) -> Hint {
             helps: "left out it is CONJ",
         },
         Opt::Cells => Hint {
-            means: "--cells is a whole number from 1 to 4000000",
-            helps: "left out it is 4000000",
+            means: "--cells is a whole number from 1 to 4000000, 400000000 with --large",
+            helps: "left out it is the greatest of them",
         },
         Opt::Seed => Hint {
             means: "--seed is a whole number from 0 to 18446744073709551615",
@@ -58,7 +58,7 @@ pub fn range_of(option: Opt) -> Hint {
             helps: "left out all objects are points; the file has to lie in DIR",
         },
         Opt::CertVersion => Hint {
-            means: "--cert-version is 1 or 2, and not beside --brief",
+            means: "--cert-version is 1 or 2, and not beside --brief or --large",
             helps: "left out it is 1",
         },
         Opt::Update => Hint {
@@ -108,6 +108,10 @@ pub fn range_of(option: Opt) -> Hint {
         Opt::AllFaults => Hint {
             means: "--all-faults has no value",
             helps: "left out a run ends with the first file that is refused",
+        },
+        Opt::Large => Hint {
+            means: "--large has no value",
+            helps: "left out a run takes at most 2000 objects and 2000000 states",
         },
     }
 }

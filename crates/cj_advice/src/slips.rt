@@ -171,7 +171,8 @@ fn slip_of_word(word: &[u8], verb: Verb) -> Slip<'_>
             | Opt::MustCover
             | Opt::Brief
             | Opt::Warnings
-            | Opt::AllFaults),
+            | Opt::AllFaults
+            | Opt::Large),
         ) => Slip::ValueOfFlag { option },
         Some(option) => Slip::NoValue { option },
         None => Slip::Stray { word, verb },

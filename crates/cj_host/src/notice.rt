@@ -254,11 +254,13 @@ Options of screen, rescreen, check, rewrite and thin:
 Options of screen, rescreen and selfrun:
   --workers N         how many threads share the work, 1 to 16 (default 1)
   --cells N           greatest number of stretches of time that are told
-                      apart, 1 to 4000000 (default 4000000)
+                      apart, 1 to 4000000, or 400000000 with --large
+                      (default: the greatest)
 Options of screen and rescreen:
   --originator TEXT   who makes messages, 1 to 40 letters, digits, _ and -
                       (default CONJ)
-  --cert-version N    the version of the certificate, 1 or 2 (default 1)
+  --cert-version N    the version of the certificate, 1 or 2 (default 1);
+                      not with --brief or --large
   --rtn               add six lines to each message: place and velocity of the
                       second object less those of the first, along the radial,
                       transverse and normal axes of the first
@@ -275,6 +277,10 @@ Options of rescreen, check and rewrite:
 Options of rescreen:
   --changed           tell the pairs alone that are not as they were; not with
                       --originator, --cert-version, --rtn or --brief
+Options of screen and check:
+  --large             take up to 50000 objects, 64000000 states and 64000000
+                      objects times minutes, with the certificate in brief
+                      (default: 2000, 2000000 and 4000000)
 Options of check and rewrite:
   --cert NAME         the certificate's file (default screen.cert)
   --cert-dir DIR      the directory of the certificate, and of the report

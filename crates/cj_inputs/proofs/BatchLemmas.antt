@@ -20,9 +20,11 @@ use Rattle.cj_inputs.specs.declared.input_files.Entry.{Entry}
 use Rattle.cj_inputs.specs.declared.progress.Progress.{Progress}
 use Rattle.cj_inputs.specs.declared.reading.InputError.{InputError}
 use Rattle.cj_inputs.specs.declared.reading.InputError.TheVariants as input
-use Rattle.cj_inputs.specs.Batches.{AreParsed, Fits, GoesOn, IsBatchOf, IsCause, IsFirstCause, IsOnTheWay, WasRead, said_by, tracks_after}
+use Rattle.cj_inputs.specs.Batches.{AreParsed, Fits, GoesOn, IsBatchOf, IsCause, IsFirstCause, IsOnTheWay, WasRead, said_by, said_in, tracks_after}
 use Rattle.cj_inputs.specs.Readings.{Reads, checked_after, reading_after, reading_of, readings_after, readings_of, refused_of, within_bytes}
+use Rattle.cj_inputs.specs.Trims.{left_said, trims_of}
 use Rattle.cj_inputs.proofs.ReadingLemmas.{from_on, reads_on}
+use Rattle.cj_inputs.proofs.TrimLemmas.{left_file, left_there, reads_left}
 
 -- a reading that was given up, where more may have failed
 pub reads_wider : {X Y A : Type 0} (P Q : Type 0) (view : X → A) (seen : Y → A) (why : InputError) (read : Result A Status) → (P → Q) → Reads P view (Err why) read → Reads Q seen (Err why) read
@@ -41,12 +43,19 @@ said_named as_hermite3 name bytes e is = (reading_says as_hermite3 name bytes e 
     unrefused (Ok d) same = let one : d ≡ e = cc in ap Ok one
     unrefused (Err fault) same = absurd cc
 
+-- so does what is taken of it
+said_in_named : (settings : PlainSettings) (file : FileRead) (e : PlainTrack) → said_in settings file ≡ Ok e → e.file ≡ file.name.now
+said_in_named settings file e is =
+    let whole = left_there (trims_of settings) (said_by settings.as_hermite3 file) e is in
+    ap (λ (x : PlainTrack). x.file) (sym whole.2) ∙ left_file (trims_of settings) whole.0 ∙ said_named settings.as_hermite3 file.name.now file.bytes.items whole.0 whole.1
+
 -- the reading of a file that was read
 one_after : (settings : PlainSettings) (files : List FileBytes) (before : List PlainTrack) (entry : Entry) (file : FileRead) → WasRead files entry file
-    → reading_after settings files before entry ≡ (said_by settings.as_hermite3 file >>= λ e. checked_after settings.limits.nodes before e.file e)
+    → reading_after settings files before entry ≡ (said_in settings file >>= λ e. checked_after settings.limits.nodes before e.file e)
 unfolding reading_of
 one_after settings files before entry file was =
-    ap (λ (r : Result PlainTrack Status). r >>= checked_after settings.limits.nodes before entry.name) said ∙ named (said_by settings.as_hermite3 file) (λ e is. said_named settings.as_hermite3 file.name.now file.bytes.items e is ∙ was.name)
+    ap (λ (r : Result PlainTrack Status). left_said (trims_of settings) r >>= checked_after settings.limits.nodes before entry.name) said
+    ∙ named (said_in settings file) (λ e is. said_in_named settings file e is ∙ was.name)
   where
     said : reading_of settings.as_hermite3 entry.name (bytes_of files entry.number) ≡ said_by settings.as_hermite3 file
     said =
@@ -60,19 +69,19 @@ one_after settings files before entry file was =
 -- the reading of files of which the first were read: those, and then the rest
 pub front_read : (settings : PlainSettings) (files : List FileBytes) (before : List PlainTrack) (entries : List Entry) (read : List FileRead) → AllZip (WasRead files) (take (length read) entries) read
     → readings_after settings files before entries
-    ≡ (tracks_after settings.limits.nodes before (map (said_by settings.as_hermite3) read) >>= λ es. readings_after settings files es (drop (length read) entries))
+    ≡ (tracks_after settings.limits.nodes before (map (said_in settings) read) >>= λ es. readings_after settings files es (drop (length read) entries))
 front_read settings files before entries [] all = refl
 front_read settings files before [] (file ∷ read) all = absurd all
 front_read settings files before (entry ∷ entries) (file ∷ read) all =
     ap (λ (r : Result PlainTrack Status). r >>= λ e. readings_after settings files (before ++ e ∷ []) entries) (one_after settings files before entry file all.0)
-    ∙ later (said_by settings.as_hermite3 file >>= λ e. checked_after settings.limits.nodes before e.file e) (λ e. front_read settings files (before ++ e ∷ []) entries read all.1)
+    ∙ later (said_in settings file >>= λ e. checked_after settings.limits.nodes before e.file e) (λ e. front_read settings files (before ++ e ∷ []) entries read all.1)
   where
     behind : List PlainTrack → Result (List PlainTrack) Status
     behind es = readings_after settings files es (drop (length read) entries)
 
     later : (r : Result PlainTrack Status)
-        → ((e : PlainTrack) → readings_after settings files (before ++ e ∷ []) entries ≡ (tracks_after settings.limits.nodes (before ++ e ∷ []) (map (said_by settings.as_hermite3) read) >>= behind))
-        → (r >>= λ e. readings_after settings files (before ++ e ∷ []) entries) ≡ ((r >>= λ e. tracks_after settings.limits.nodes (before ++ e ∷ []) (map (said_by settings.as_hermite3) read)) >>= behind)
+        → ((e : PlainTrack) → readings_after settings files (before ++ e ∷ []) entries ≡ (tracks_after settings.limits.nodes (before ++ e ∷ []) (map (said_in settings) read) >>= behind))
+        → (r >>= λ e. readings_after settings files (before ++ e ∷ []) entries) ≡ ((r >>= λ e. tracks_after settings.limits.nodes (before ++ e ∷ []) (map (said_in settings) read)) >>= behind)
     later (Ok e) each = each e
     later (Err s) each = refl
 
@@ -94,7 +103,9 @@ next_fails {Y} seen settings files before entries place why cause =
     let track : PlainTrack → PlainTrack = λ e. e in
     let rest : PlainTrack → Result (List PlainTrack) Status = λ e. readings_after settings files (before ++ e ∷ []) (drop (suc place) entries) in
     let one = reads_on ⊤ bytes track why (within_bytes entry.name (bytes_of files entry.number)) (λ whole. refused_of entry.name (reading entry.name whole settings.as_hermite3)) cause.read in
-    let two = reads_on ⊤ track track why (reading_of settings.as_hermite3 entry.name (bytes_of files entry.number)) (checked_after settings.limits.nodes before entry.name) one in
+    let whole = reading_of settings.as_hermite3 entry.name (bytes_of files entry.number) in
+    let left = reads_left ⊤ track why (trims_of settings) whole one in
+    let two = reads_on ⊤ track track why (left_said (trims_of settings) whole) (checked_after settings.limits.nodes before entry.name) left in
     let three = reads_on ⊤ track seen why (reading_after settings files before entry) rest two in
     let here : readings_after settings files before (drop place entries) ≡ (reading_after settings files before entry >>= rest) =
     from_on settings files before entries place entry cause.exists ∙ ap (λ (x : Entry). reading_after settings files before x >>= rest) cause.stands in
@@ -102,7 +113,7 @@ next_fails {Y} seen settings files before entries place why cause =
 
 -- all that were read are taken: the rest leads where all lead
 pub front_taken : (settings : PlainSettings) (files : List FileBytes) (before after : List PlainTrack) (entries : List Entry) (read : List FileRead) → AllZip (WasRead files) (take (length read) entries) read
-    → tracks_after settings.limits.nodes before (map (said_by settings.as_hermite3) read) ≡ Ok after → readings_after settings files before entries ≡ readings_after settings files after (drop (length read) entries)
+    → tracks_after settings.limits.nodes before (map (said_in settings) read) ≡ Ok after → readings_after settings files before entries ≡ readings_after settings files after (drop (length read) entries)
 front_taken settings files before after entries read all taken =
     front_read settings files before entries read all
     ∙ ap (λ (r : Result (List PlainTrack) Status). r >>= λ es. readings_after settings files es (drop (length read) entries)) taken
@@ -183,14 +194,14 @@ none_left {most} {readings} {before} {end} none to =
 -- ---- side by side
 
 -- where each says what its file says
-pub parsed_each : (as_hermite3 : Bool) (files : List FileRead) (readings : List (Result Track InputError)) → length readings ≡ length files
-    → ((i : ℕ) (d : Result Track InputError) (file : FileRead) → i < length files → Reads ⊥ plain_track (get_or readings i d) (said_by as_hermite3 (get_or files i file)))
-    → AreParsed as_hermite3 files readings
-parsed_each as_hermite3 [] [] many each = tt
-parsed_each as_hermite3 [] (r ∷ rs) many each = absurd (omega (arith, many))
-parsed_each as_hermite3 (f ∷ fs) [] many each = absurd (omega (arith, many))
-parsed_each as_hermite3 (f ∷ fs) (r ∷ rs) many each =
-    (each 0 r f (omega arith), parsed_each as_hermite3 fs rs (omega (arith, many)) (λ i d file lt. each (suc i) d file (omega (arith, lt))))
+pub parsed_each : (settings : PlainSettings) (files : List FileRead) (readings : List (Result Track InputError)) → length readings ≡ length files
+    → ((i : ℕ) (d : Result Track InputError) (file : FileRead) → i < length files → Reads ⊥ plain_track (get_or readings i d) (said_in settings (get_or files i file)))
+    → AreParsed settings files readings
+parsed_each settings [] [] many each = tt
+parsed_each settings [] (r ∷ rs) many each = absurd (omega (arith, many))
+parsed_each settings (f ∷ fs) [] many each = absurd (omega (arith, many))
+parsed_each settings (f ∷ fs) (r ∷ rs) many each =
+    (each 0 r f (omega arith), parsed_each settings fs rs (omega (arith, many)) (λ i d file lt. each (suc i) d file (omega (arith, lt))))
 
 -- ---- read one after another
 
@@ -227,12 +238,12 @@ seen progress = map plain_track progress.taken.tracks.items
 -- one of the files that were read is not taken
 batch_fails : (settings : PlainSettings) (files : List FileBytes) (entries : List Entry) (progress : Progress) (why : InputError)
     → IsOnTheWay settings files entries progress
-    → Reads ⊥ seen (Err why) (tracks_after settings.limits.nodes (seen progress) (map (said_by settings.as_hermite3) progress.batch.files.items)) → GoesOn settings files entries (Err why)
+    → Reads ⊥ seen (Err why) (tracks_after settings.limits.nodes (seen progress) (map (said_in settings) progress.batch.files.items)) → GoesOn settings files entries (Err why)
 batch_fails settings files entries progress why way here =
     let read = progress.batch.files.items in
     let rest = drop (length progress.taken.tracks.items) entries in
     subst (λ (r : Result (List PlainTrack) Status). Reads ⊤ seen (Err why) r) way.leads
-    (front_fails ⊤ seen seen why (readings_after settings files (seen progress) rest) (tracks_after settings.limits.nodes (seen progress) (map (said_by settings.as_hermite3) read))
+    (front_fails ⊤ seen seen why (readings_after settings files (seen progress) rest) (tracks_after settings.limits.nodes (seen progress) (map (said_in settings) read))
     (λ es. readings_after settings files es (drop (length read) rest)) (front_read settings files (seen progress) rest read way.batch.front) here)
 
 cause_of : (P : InputError → Type 0) (o : Option InputError) (why : InputError) → o ≡ Some why → IfSome o P → P why
@@ -245,7 +256,7 @@ own all = all
 -- the next was not read, for this cause or an earlier one
 pub batch_stops : (settings : PlainSettings) (files : List FileBytes) (entries : List Entry) (progress : Progress) (why cause : InputError)
     → IsOnTheWay settings files entries progress → progress.batch.stop ≡ Some why
-    → IsFirstCause settings.limits.nodes why (seen progress) (map (said_by settings.as_hermite3) progress.batch.files.items) cause
+    → IsFirstCause settings.limits.nodes why (seen progress) (map (said_in settings) progress.batch.files.items) cause
     → GoesOn settings files entries (Err cause)
 batch_stops settings files entries progress why cause way stop told =
     let read = progress.batch.files.items in
@@ -268,22 +279,22 @@ tracks_many most before (s ∷ said) after is = one (s >>= λ e. checked_after m
     one (Err why) more is = absurd cc
 
 many_taken : (settings : PlainSettings) (progress next : Progress)
-    → tracks_after settings.limits.nodes (seen progress) (map (said_by settings.as_hermite3) progress.batch.files.items) ≡ Ok (seen next)
+    → tracks_after settings.limits.nodes (seen progress) (map (said_in settings) progress.batch.files.items) ≡ Ok (seen next)
     → length next.taken.tracks.items ≡ length progress.taken.tracks.items + length progress.batch.files.items
 many_taken settings progress next taken =
     let read = progress.batch.files.items in
     omega (
       arith,
-      tracks_many settings.limits.nodes (seen progress) (map (said_by settings.as_hermite3) read) (seen next) taken,
+      tracks_many settings.limits.nodes (seen progress) (map (said_in settings) read) (seen next) taken,
       length-map progress.taken.tracks.items plain_track,
       length-map next.taken.tracks.items plain_track,
-      length-map read (said_by settings.as_hermite3),
+      length-map read (said_in settings),
     )
 
 -- all are taken, and the next batch is read
 batch_taken : (settings : PlainSettings) (files : List FileBytes) (entries rest : List Entry) (progress next : Progress)
     → IsOnTheWay settings files entries progress
-    → tracks_after settings.limits.nodes (seen progress) (map (said_by settings.as_hermite3) progress.batch.files.items) ≡ Ok (seen next)
+    → tracks_after settings.limits.nodes (seen progress) (map (said_in settings) progress.batch.files.items) ≡ Ok (seen next)
     → rest ≡ drop (length progress.taken.tracks.items + length progress.batch.files.items) entries → IsBatchOf files rest next.batch → IsOnTheWay settings files entries next
 batch_taken settings files entries rest progress next way taken left batch =
     let read = progress.batch.files.items in
@@ -301,7 +312,7 @@ batch_taken settings files entries rest progress next way taken left batch =
 -- so it goes on, or one of its files is not taken
 pub batch_goes_on : (settings : PlainSettings) (files : List FileBytes) (entries rest : List Entry) (progress : Progress) (r : Result Progress InputError)
     → IsOnTheWay settings files entries progress
-    → Reads ⊥ seen r (tracks_after settings.limits.nodes (seen progress) (map (said_by settings.as_hermite3) progress.batch.files.items))
+    → Reads ⊥ seen r (tracks_after settings.limits.nodes (seen progress) (map (said_in settings) progress.batch.files.items))
     → rest ≡ drop (length progress.taken.tracks.items + length progress.batch.files.items) entries → IfOk r (λ next. IsBatchOf files rest next.batch)
     → GoesOn settings files entries r
 batch_goes_on settings files entries rest progress (Err why) way taken left batch = batch_fails settings files entries progress why way taken
@@ -309,7 +320,7 @@ batch_goes_on settings files entries rest progress (Ok next) way taken left batc
 
 -- where the batch has files, more are taken
 pub more_taken : (settings : PlainSettings) (progress : Progress) (r : Result Progress InputError)
-    → Reads ⊥ seen r (tracks_after settings.limits.nodes (seen progress) (map (said_by settings.as_hermite3) progress.batch.files.items))
+    → Reads ⊥ seen r (tracks_after settings.limits.nodes (seen progress) (map (said_in settings) progress.batch.files.items))
     → 0 < length progress.batch.files.items → IfOk r (λ next. length progress.taken.tracks.items < length next.taken.tracks.items)
 more_taken settings progress (Err why) taken some = tt
 more_taken settings progress (Ok next) taken some = omega (arith, some, many_taken settings progress next taken)
@@ -320,7 +331,7 @@ all_left entries k m same = take_all (length entries - k) (drop k entries) (omeg
 
 -- the next batch is one of the files behind those that are taken
 pub next_fits : (settings : PlainSettings) (entries rest : List Entry) (progress : Progress) (r : Result Progress InputError) → Fits entries progress
-    → Reads ⊥ seen r (tracks_after settings.limits.nodes (seen progress) (map (said_by settings.as_hermite3) progress.batch.files.items))
+    → Reads ⊥ seen r (tracks_after settings.limits.nodes (seen progress) (map (said_in settings) progress.batch.files.items))
     → rest ≡ drop (length progress.taken.tracks.items + length progress.batch.files.items) entries
     → IfOk r (λ next. length next.batch.files.items ≤ length rest)
     → IfOk r (λ next. next.batch.stop ≡ None → 0 < length rest → 0 < length next.batch.files.items) → IfOk r (Fits entries)

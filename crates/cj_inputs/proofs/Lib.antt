@@ -4,11 +4,13 @@ pub mod CopyLemmas
 pub mod CoveringLemmas
 pub mod EndLemmas
 pub mod FrameLemmas
+pub mod FromFileLemmas
 pub mod InputFileLemmas
 pub mod PlaceLemmas
 pub mod ReadingLemmas
 pub mod SortLemmas
 pub mod StepLemmas
+pub mod TrimLemmas
 pub mod UpdateCaseLemmas
 pub mod UpdateFileLemmas
 pub mod UpdateLemmas

@@ -10,6 +10,7 @@ use Rattle.cj_io.specs.Files.{names_of}
 use Rattle.cj_case.specs.PlainProblems.{PlainProblem}
 use Rattle.cj_track.specs.PlainTracks.{PlainTrack}
 use Rattle.cj_sizes.specs.Sizes.{Size}
+use Rattle.cj_words.specs.Limits.{most_certificate_bytes}
 use Rattle.cj_words.specs.Settings.{PlainSettings}
 use Rattle.cj_status.specs.declared.status.Status.{Status}
 use Rattle.cj_status.specs.declared.status.Status.TheVariants as status
@@ -208,10 +209,10 @@ no_limit most case length count is short same few =
 -- ---- the certificate and the report
 
 -- an input is that of the first file with the name, once the names are known
-pub input_found : (missing : CertificateCause) (files : List FileBytes) (name : List ℕ) (names : List Name) (number : Option ℕ) → names ≡ names_of files
+pub input_found : (most : ℕ) (missing : CertificateCause) (files : List FileBytes) (name : List ℕ) (names : List Name) (number : Option ℕ) → names ≡ names_of files
     → number ≡ first_named name names
-    → input_named missing files name ≡ input_at missing files name number
-input_found missing files name names number known is = ap (input_at missing files name) (sym (is ∙ ap (first_named name) known))
+    → input_named most missing files name ≡ input_at most missing files name number
+input_found most missing files name names number known is = ap (input_at most missing files name) (sym (is ∙ ap (first_named name) known))
 
 abbrev all : PlainProblem → List ℕ → Option (List ℕ) → PlainInputs
 all case bytes report = record { case = case; bytes = bytes; report = report }
@@ -222,38 +223,53 @@ pub case_fails : (later rose : Type 0) (files : List FileBytes) (checking : Plai
 unfolding inputs_asked
 case_fails later rose files checking s wider stops =
     stops_behind later rose s (case_with_updates files checking.settings checking.update)
-    (λ case. certificate_named files checking.certificate >>= λ bytes. report_if_named files checking.report >>= λ report. Ok (all case bytes report)) wider stops
+    (λ case. certificate_named (most_certificate_bytes checking.settings.large) files checking.certificate >>= λ bytes. report_if_named (most_certificate_bytes checking.settings.large) files checking.report >>= λ report. Ok (all case bytes report)) wider stops
+
+-- the most bytes of its files
+abbrev IsMost : PlainChecking → ℕ → Type 0
+IsMost checking most = most ≡ most_certificate_bytes checking.settings.large
+
+certificate_for : (files : List FileBytes) (checking : PlainChecking) (most : ℕ) → IsMost checking most
+    → certificate_named (most_certificate_bytes checking.settings.large) files checking.certificate ≡ input_named most NoFile files checking.certificate
+unfolding certificate_named
+certificate_for files checking most same = ap (λ (n : ℕ). input_named n NoFile files checking.certificate) (sym same)
+
+report_for : (files : List FileBytes) (checking : PlainChecking) (most : ℕ) → IsMost checking most
+    → report_if_named (most_certificate_bytes checking.settings.large) files checking.report ≡ report_if_named most files checking.report
+report_for files checking most same = ap (λ (n : ℕ). report_if_named n files checking.report) (sym same)
 
 -- the certificate is not read
-pub certificate_fails : (later rose : Type 0) (files : List FileBytes) (checking : PlainChecking) (case : PlainProblem) (s : Status) → (later → rose)
-    → case_with_updates files checking.settings checking.update ≡ Ok case → Stops later s (input_named NoFile files checking.certificate) → Stops rose s (inputs_asked files checking)
-unfolding inputs_asked certificate_named
-certificate_fails later rose files checking case s wider made stops =
-    rw made (stops_behind later rose s (input_named NoFile files checking.certificate)
-    (λ bytes. report_if_named files checking.report >>= λ report. Ok (all case bytes report)) wider stops)
+pub certificate_fails : (later rose : Type 0) (files : List FileBytes) (checking : PlainChecking) (case : PlainProblem) (most : ℕ) (s : Status) → (later → rose) → IsMost checking most
+    → case_with_updates files checking.settings checking.update ≡ Ok case → Stops later s (input_named most NoFile files checking.certificate) → Stops rose s (inputs_asked files checking)
+unfolding inputs_asked
+certificate_fails later rose files checking case most s wider same made stops =
+    rw (made, certificate_for files checking most same) (stops_behind later rose s (input_named most NoFile files checking.certificate)
+    (λ bytes. report_if_named (most_certificate_bytes checking.settings.large) files checking.report >>= λ report. Ok (all case bytes report)) wider stops)
 
 -- the report is not read
-pub report_fails : (later rose : Type 0) (files : List FileBytes) (checking : PlainChecking) (case : PlainProblem) (bytes : List ℕ) (s : Status) → (later → rose)
-    → case_with_updates files checking.settings checking.update ≡ Ok case → input_named NoFile files checking.certificate ≡ Ok bytes
-    → Stops later s (report_if_named files checking.report) → Stops rose s (inputs_asked files checking)
-unfolding inputs_asked certificate_named
-report_fails later rose files checking case bytes s wider made read stops =
-    rw (made, read) (stops_behind later rose s (report_if_named files checking.report) (λ report. Ok (all case bytes report)) wider stops)
+pub report_fails : (later rose : Type 0) (files : List FileBytes) (checking : PlainChecking) (case : PlainProblem) (bytes : List ℕ) (most : ℕ) (s : Status) → (later → rose) → IsMost checking most
+    → case_with_updates files checking.settings checking.update ≡ Ok case → input_named most NoFile files checking.certificate ≡ Ok bytes
+    → Stops later s (report_if_named most files checking.report) → Stops rose s (inputs_asked files checking)
+unfolding inputs_asked
+report_fails later rose files checking case bytes most s wider same made read stops =
+    rw (made, certificate_for files checking most same, read, report_for files checking most same)
+    (stops_behind later rose s (report_if_named most files checking.report) (λ report. Ok (all case bytes report)) wider stops)
 
 -- all are there
-pub inputs_made : (files : List FileBytes) (checking : PlainChecking) (case : PlainProblem) (bytes : List ℕ) (report : Option (List ℕ))
-    → case_with_updates files checking.settings checking.update ≡ Ok case → input_named NoFile files checking.certificate ≡ Ok bytes
-    → report_if_named files checking.report ≡ Ok report → inputs_asked files checking ≡ Ok (all case bytes report)
-unfolding inputs_asked certificate_named
-inputs_made files checking case bytes report made read beside = rw (made, read, beside) refl
+pub inputs_made : (files : List FileBytes) (checking : PlainChecking) (case : PlainProblem) (bytes : List ℕ) (report : Option (List ℕ)) (most : ℕ) → IsMost checking most
+    → case_with_updates files checking.settings checking.update ≡ Ok case → input_named most NoFile files checking.certificate ≡ Ok bytes
+    → report_if_named most files checking.report ≡ Ok report → inputs_asked files checking ≡ Ok (all case bytes report)
+unfolding inputs_asked
+inputs_made files checking case bytes report most same made read beside =
+    rw (made, certificate_for files checking most same, read, report_for files checking most same, beside) refl
 
 -- a report that is named and not read
-pub named_fails : (rose : Type 0) (files : List FileBytes) (name : List ℕ) (s : Status) → Stops rose s (input_named NoReport files name)
-    → Stops rose s (report_if_named files (Some name))
+pub named_fails : (most : ℕ) (rose : Type 0) (files : List FileBytes) (name : List ℕ) (s : Status) → Stops rose s (input_named most NoReport files name)
+    → Stops rose s (report_if_named most files (Some name))
 unfolding report_named
-named_fails rose files name s stops = stops_behind rose rose s (input_named NoReport files name) (λ bytes. Ok (Some bytes)) (λ risen. risen) stops
+named_fails most rose files name s stops = stops_behind rose rose s (input_named most NoReport files name) (λ bytes. Ok (Some bytes)) (λ risen. risen) stops
 
 -- one that is
-pub named_read : (files : List FileBytes) (name bytes : List ℕ) → input_named NoReport files name ≡ Ok bytes → report_if_named files (Some name) ≡ Ok (Some bytes)
+pub named_read : (most : ℕ) (files : List FileBytes) (name bytes : List ℕ) → input_named most NoReport files name ≡ Ok bytes → report_if_named most files (Some name) ≡ Ok (Some bytes)
 unfolding report_named
-named_read files name bytes read = rw read refl
+named_read most files name bytes read = rw read refl

@@ -25,17 +25,19 @@ use Rattle.cj_inputs.specs.declared.input_files.Entry.{Entry}
 use Rattle.cj_inputs.specs.Orders.{inserted}
 use Rattle.cj_inputs.specs.Readings.{checked_after, has_frame_of, nodes_in, nodes_of, reading_after, reading_of, readings_after, readings_of, refused_of, same_frame_as, within_bytes, within_nodes}
 use Rattle.cj_inputs.specs.Updates.{as_updated, by_name, entry_name, filled, is_filled, said_behind, update_after, updated_name, updated_names, updated_of, updates_after, with_others, without_first}
+use Rattle.cj_inputs.specs.Trims.{left_said, trims_of}
 use Rattle.cj_inputs.proofs.BatchLemmas.{said_named}
 use Rattle.cj_inputs.proofs.ReadingLemmas.{frames_tied, within_most}
+use Rattle.cj_inputs.proofs.TrimLemmas.{left_file, left_ok, left_there}
 use Rattle.cj_inputs.proofs.WithinLemmas.{let_through, step_there}
 
 -- the name of the file of an ephemeris
 abbrev pub file_name : PlainTrack → List ℕ
 file_name track = track.file
 
--- a file of this name and with this number says this ephemeris
-pub record IsRead (as_hermite3 : Bool) (files : List FileBytes) (entry : Entry) (track : PlainTrack) : Type 0 where
-  pub said : reading_of as_hermite3 entry.name (bytes_of files entry.number) ≡ Ok track
+-- this is taken of a file of this name and with this number
+pub record IsRead (settings : PlainSettings) (files : List FileBytes) (entry : Entry) (track : PlainTrack) : Type 0 where
+  pub said : left_said (trims_of settings) (reading_of settings.as_hermite3 entry.name (bytes_of files entry.number)) ≡ Ok track
   pub named : track.file ≡ entry.name
 
 ok_is : {A : Type 0} {x y : A} → ◌≡◌ {A = Result A Status} (Ok x) (Ok y) → x ≡ y
@@ -191,7 +193,7 @@ pub record AreGood (most : ℕ) (tracks : List PlainTrack) : Type 0 where
   pub are : AreOf frame tracks
   pub few : nodes_in tracks ≤ most
 
-none_good : (most : ℕ) → AreGood most []
+pub none_good : (most : ℕ) → AreGood most []
 none_good most = record { frame = frames.Eme2000; are = tt; few = omega arith }
 
 -- what may stand behind those before it
@@ -228,25 +230,30 @@ good_more most before name track kept good is =
 
 -- ---- what is read
 
-unrefused : (name : List ℕ) (r : Result PlainTrack Fault) (track : PlainTrack) → refused_of name r ≡ Ok track → r ≡ Ok track
+pub unrefused : (name : List ℕ) (r : Result PlainTrack Fault) (track : PlainTrack) → refused_of name r ≡ Ok track → r ≡ Ok track
 unrefused name (Ok kept) track is = let one : kept ≡ track = cc in ap Ok one
 unrefused name (Err fault) track is = absurd cc
 
-read_named : (as_hermite3 : Bool) (name bytes : List ℕ) (track : PlainTrack) → reading_of as_hermite3 name bytes ≡ Ok track → track.file ≡ name
+whole_named : (as_hermite3 : Bool) (name bytes : List ℕ) (track : PlainTrack) → reading_of as_hermite3 name bytes ≡ Ok track → track.file ≡ name
 unfolding reading_of
-read_named as_hermite3 name bytes track is =
+whole_named as_hermite3 name bytes track is =
     let whole = step_there (within_bytes name bytes) (λ some. refused_of name (reading name some as_hermite3)) track is in
     said_named as_hermite3 name whole.0 track whole.2
+
+read_named : (settings : PlainSettings) (name bytes : List ℕ) (track : PlainTrack) → left_said (trims_of settings) (reading_of settings.as_hermite3 name bytes) ≡ Ok track → track.file ≡ name
+read_named settings name bytes track is =
+    let whole = left_there (trims_of settings) (reading_of settings.as_hermite3 name bytes) track is in
+    ap (λ (e : PlainTrack). e.file) (sym whole.2) ∙ left_file (trims_of settings) whole.0 ∙ whole_named settings.as_hermite3 name bytes whole.0 whole.1
 
 -- what is read behind others, file by file
 pub record AreRead (settings : PlainSettings) (files : List FileBytes) (before all : List PlainTrack) (entries : List Entry) : Type 0 where
   pub more : List PlainTrack
   pub whole : all ≡ before ++ more
-  pub each : AllZip (IsRead settings.as_hermite3 files) entries more
+  pub each : AllZip (IsRead settings files) entries more
   pub good : AreGood settings.limits.nodes all
 
 one_read : (settings : PlainSettings) (files : List FileBytes) (before all : List PlainTrack) (entry : Entry) (entries : List Entry) (track : PlainTrack)
-    → IsRead settings.as_hermite3 files entry track → AreRead settings files (before ++ track ∷ []) all entries → AreRead settings files before all (entry ∷ entries)
+    → IsRead settings files entry track → AreRead settings files (before ++ track ∷ []) all entries → AreRead settings files before all (entry ∷ entries)
 one_read settings files before all entry entries track one rest = record {
   more = track ∷ rest.more;
   whole = rest.whole ∙ append_assoc before (track ∷ []) rest.more;
@@ -263,10 +270,11 @@ files_read settings files before all (entry ∷ entries) good is =
     let bytes = bytes_of files entry.number in
     let most = settings.limits.nodes in
     let one = step_there (reading_after settings files before entry) (λ track. readings_after settings files (before ++ track ∷ []) entries) all is in
-    let said = step_there (reading_of settings.as_hermite3 entry.name bytes) (checked_after most before entry.name) one.0 one.1 in
+    let due = left_said (trims_of settings) (reading_of settings.as_hermite3 entry.name bytes) in
+    let said = step_there due (checked_after most before entry.name) one.0 one.1 in
     let kept = (checked_there most before entry.name said.0 one.0 said.2).2 in
-    let read : reading_of settings.as_hermite3 entry.name bytes ≡ Ok one.0 = said.1 ∙ ap (λ (t : PlainTrack). Ok t) kept in
-    one_read settings files before all entry entries one.0 (record { said = read; named = read_named settings.as_hermite3 entry.name bytes one.0 read })
+    let read : due ≡ Ok one.0 = said.1 ∙ ap (λ (t : PlainTrack). Ok t) kept in
+    one_read settings files before all entry entries one.0 (record { said = read; named = read_named settings entry.name bytes one.0 read })
     (files_read settings files (before ++ one.0 ∷ []) all entries (good_more most before entry.name said.0 one.0 good said.2) one.2)
 
 -- what the bytes of an update say that has some
@@ -304,18 +312,21 @@ updates_read settings update files before all (entry ∷ entries) good is =
         let most = settings.limits.nodes in
         let read = updated_name update entry.name in
         let text = reading read (b ∷ bytes) settings.as_hermite3 in
-        let kept = step_there (refused_of entry.name text >>= checked_after most before entry.name) (λ track. Ok (before ++ track ∷ [])) next said in
-        let first = step_there (refused_of entry.name text) (checked_after most before entry.name) kept.0 kept.1 in
+        let trims = trims_of settings in
+        let kept = step_there (left_said trims (refused_of entry.name text) >>= checked_after most before entry.name) (λ track. Ok (before ++ track ∷ [])) next said in
+        let first = step_there (left_said trims (refused_of entry.name text)) (checked_after most before entry.name) kept.0 kept.1 in
+        let whole = left_there trims (refused_of entry.name text) first.0 first.1 in
         let same : before ++ kept.0 ∷ [] ≡ next = ok_is kept.2 in
         let tied = (checked_there most before entry.name first.0 kept.0 first.2).2 in
-        let told : reading_of settings.as_hermite3 read (b ∷ bytes) ≡ Ok kept.0 =
-        one_said settings.as_hermite3 entry.name read (b ∷ bytes) first.0 small first.1 ∙ ap (λ (t : PlainTrack). Ok t) tied in
-        let here = subst (λ (some : List ℕ). reading_of settings.as_hermite3 read some ≡ Ok kept.0) (sym full) told in
+        let told : left_said trims (reading_of settings.as_hermite3 read (b ∷ bytes)) ≡ Ok kept.0 =
+        left_ok trims (reading_of settings.as_hermite3 read (b ∷ bytes)) whole.0 (one_said settings.as_hermite3 entry.name read (b ∷ bytes) whole.0 small whole.1)
+        ∙ ap (λ (t : PlainTrack). Ok t) (whole.2 ∙ tied) in
+        let here = subst (λ (some : List ℕ). left_said trims (reading_of settings.as_hermite3 read some) ≡ Ok kept.0) (sym full) told in
         let some : filled update files (entry ∷ entries) ≡ as_updated update entry ∷ others =
         ap (λ (bytes : List ℕ). cond (is_filled bytes) (as_updated update entry ∷ others) others) full in
         subst (AreRead settings files before all) (sym some)
         (one_read settings files before all (as_updated update entry) others kept.0
-        (record { said = here; named = read_named settings.as_hermite3 read (bytes_of files entry.number) kept.0 here })
+        (record { said = here; named = read_named settings read (bytes_of files entry.number) kept.0 here })
         (later (before ++ kept.0 ∷ []) (good_more most before entry.name first.0 kept.0 good first.2)
         (subst (λ (some : List PlainTrack). updates_after settings update files some entries ≡ Ok all) (sym same) rest)))
 
@@ -341,7 +352,7 @@ may_stand most frame before name track more are few =
     rw (tied, small) refl
 
 pub read_anew : (settings : PlainSettings) (files : List FileBytes) (frame : Frame) (before : List PlainTrack) (entries : List Entry) (tracks : List PlainTrack)
-    → AllZip (IsRead settings.as_hermite3 files) entries tracks → AreOf frame (before ++ tracks) → nodes_in (before ++ tracks) ≤ settings.limits.nodes
+    → AllZip (IsRead settings files) entries tracks → AreOf frame (before ++ tracks) → nodes_in (before ++ tracks) ≤ settings.limits.nodes
     → readings_after settings files before entries ≡ Ok (before ++ tracks)
 read_anew settings files frame before [] [] each are few = ap (λ (ts : List PlainTrack). Ok ts) (sym (append-nil before))
 read_anew settings files frame before [] (track ∷ tracks) each are few = absurd each
@@ -370,7 +381,7 @@ pub updated_read : (settings : PlainSettings) (update : List ℕ) (files : List 
 unfolding updated_of
 updated_read settings update files entries updates base all is more =
     let most = settings.limits.nodes in
-    let R = IsRead settings.as_hermite3 files in
+    let R = IsRead settings files in
     let names = updated_names update updates in
     let first = files_read settings files [] base entries (none_good most) is in
     let also = updates_read settings update files base all updates first.good more in

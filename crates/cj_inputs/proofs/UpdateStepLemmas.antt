@@ -19,9 +19,11 @@ use Rattle.cj_inputs.specs.declared.reading.InputError.{InputError}
 use Rattle.cj_inputs.specs.declared.taken.Taken.{Taken}
 use Rattle.cj_inputs.specs.Errors.{input_status}
 use Rattle.cj_inputs.specs.Readings.{Reads, checked_after, readings_of, refused_of, within_bytes}
+use Rattle.cj_inputs.specs.Trims.{left_said, trims_of}
 use Rattle.cj_inputs.specs.Updates.{PlainUpdated, read_as, said_behind, update_after, updated_name, updated_names, updated_of, updated_with, updates_after, with_others, without_first}
 use Rattle.cj_inputs.proofs.BatchLemmas.{reads_wider}
 use Rattle.cj_inputs.proofs.ReadingLemmas.{reads_on}
+use Rattle.cj_inputs.proofs.TrimLemmas.{reads_left}
 use Rattle.cj_inputs.proofs.StepLemmas.{few_enough, input_stops}
 use Rattle.cj_inputs.proofs.UpdateLemmas.{SaysUpdated, file_name}
 
@@ -47,7 +49,7 @@ some_bytes b n bytes is some long = omega (arith, long, some_of n (sym is ∙ so
 -- what bytes say that are some
 said_some : (settings : PlainSettings) (update : List ℕ) (before : List PlainTrack) (name bytes : List ℕ) → 0 < length bytes
     → said_behind settings update before name bytes
-    ≡ ((refused_of name (reading (updated_name update name) bytes settings.as_hermite3) >>= checked_after settings.limits.nodes before name) >>= λ track. Ok (before ++ track ∷ []))
+    ≡ ((left_said (trims_of settings) (refused_of name (reading (updated_name update name) bytes settings.as_hermite3)) >>= checked_after settings.limits.nodes before name) >>= λ track. Ok (before ++ track ∷ []))
 said_some settings update before name [] some = absurd (omega (arith, some))
 said_some settings update before name (b ∷ bytes) some = refl
 
@@ -59,7 +61,7 @@ update_said settings update files before entry bytes is = ap (λ (r : Result (Li
 some_said : (settings : PlainSettings) (update : List ℕ) (files : List FileBytes) (before : List PlainTrack) (entry : Entry) (bytes : List ℕ)
     → within_bytes entry.name (bytes_of files entry.number) ≡ Ok bytes → 0 < length bytes
     → update_after settings update files before entry
-    ≡ ((refused_of entry.name (reading (updated_name update entry.name) bytes settings.as_hermite3) >>= checked_after settings.limits.nodes before entry.name)
+    ≡ ((left_said (trims_of settings) (refused_of entry.name (reading (updated_name update entry.name) bytes settings.as_hermite3)) >>= checked_after settings.limits.nodes before entry.name)
     >>= λ track. Ok (before ++ track ∷ []))
 some_said settings update files before entry bytes is some = update_said settings update files before entry bytes is ∙ said_some settings update before entry.name bytes some
 
@@ -82,9 +84,11 @@ pub update_refused : {Y : Type 0} (rose : Type 0) (all : Y → List PlainTrack) 
     → Reads ⊥ plain_track (Err why) (refused_of entry.name (reading (updated_name update entry.name) bytes settings.as_hermite3))
     → Reads rose all (Err why) (update_after settings update files before entry)
 update_refused {Y} rose all settings update files before entry bytes why is some here =
-    let said = refused_of entry.name (reading (updated_name update entry.name) bytes settings.as_hermite3) in
+    let whole = refused_of entry.name (reading (updated_name update entry.name) bytes settings.as_hermite3) in
+    let said = left_said (trims_of settings) whole in
+    let left = reads_left ⊥ plain_track why (trims_of settings) whole here in
     let checked = checked_after settings.limits.nodes before entry.name in
-    let wide = reads_wider ⊥ rose plain_track plain_track why said (λ none. absurd none) here in
+    let wide = reads_wider ⊥ rose plain_track plain_track why said (λ none. absurd none) left in
     let one = reads_on rose plain_track plain_track why said checked wide in
     subst (λ (due : Result (List PlainTrack) Status). Reads rose all (Err why) due) (sym (some_said settings update files before entry bytes is some))
     (reads_on rose plain_track all why (said >>= checked) (λ track. Ok (before ++ track ∷ [])) one)
@@ -92,7 +96,7 @@ update_refused {Y} rose all settings update files before entry bytes why is some
 -- it says a track, which may stand behind those before it or not
 pub update_taken : (rose : Type 0) (settings : PlainSettings) (update : List ℕ) (files : List FileBytes) (before : List Track) (entry : Entry) (bytes : List ℕ) (track : Track)
     (r : Result Taken InputError) → within_bytes entry.name (bytes_of files entry.number) ≡ Ok bytes → 0 < length bytes
-    → refused_of entry.name (reading (updated_name update entry.name) bytes settings.as_hermite3) ≡ Ok (plain_track track)
+    → left_said (trims_of settings) (refused_of entry.name (reading (updated_name update entry.name) bytes settings.as_hermite3)) ≡ Ok (plain_track track)
     → Reads ⊥ (λ (taken : Taken). plain_track track) r (checked_after settings.limits.nodes (map plain_track before) entry.name (plain_track track))
     → IfOk r (λ taken. taken.tracks.items ≡ before ++ track ∷ []) → Reads rose seen r (update_after settings update files (map plain_track before) entry)
 update_taken rose settings update files before entry bytes track (Ok taken) is some said told more =

@@ -16,6 +16,7 @@ use Rattle.cj_inputs.specs.declared.input_files.Entry.{Entry}
 use Rattle.cj_inputs.specs.declared.progress.Progress.{Progress}
 use Rattle.cj_inputs.specs.declared.reading.InputError.{InputError}
 use Rattle.cj_inputs.specs.Readings.{Reads, checked_after, readings_after, readings_of, refused_of, within_bytes}
+use Rattle.cj_inputs.specs.Trims.{left_said, trims_of}
 
 -- the file that was read has the entry's name, and these are its bytes
 pub record WasRead (files : List FileBytes) (entry : Entry) (file : FileRead) : Type 0 where
@@ -38,9 +39,13 @@ pub record IsBatchOf (files : List FileBytes) (entries : List Entry) (batch : Ba
 abbrev pub said_by : Bool → FileRead → Result PlainTrack Status
 said_by as_hermite3 file = refused_of file.name.now (reading file.name.now file.bytes.items as_hermite3)
 
--- each is what its file says
-abbrev pub AreParsed : Bool → List FileRead → List (Result Track InputError) → Type 0
-AreParsed as_hermite3 files readings = AllZip (Reads ⊥ plain_track) readings (map (said_by as_hermite3) files)
+-- the same, as it is taken
+abbrev pub said_in : PlainSettings → FileRead → Result PlainTrack Status
+said_in settings file = left_said (trims_of settings) (said_by settings.as_hermite3 file)
+
+-- each is what its file says, as it is taken
+abbrev pub AreParsed : PlainSettings → List FileRead → List (Result Track InputError) → Type 0
+AreParsed settings files readings = AllZip (Reads ⊥ plain_track) readings (map (said_in settings) files)
 
 -- the ephemerides before, and these, or why the first that may not stand there is not taken, where all may have so many nodes
 abbrev pub tracks_after : ℕ → List PlainTrack → List (Result PlainTrack Status) → Result (List PlainTrack) Status

@@ -4,10 +4,12 @@ pub mod Cases
 pub mod CheckInputs
 pub mod Coverings
 pub mod Errors
+pub mod FromFiles
 pub mod InputFiles
 pub mod ObjectSizes
 pub mod Orders
 pub mod Places
 pub mod Readings
+pub mod Trims
 pub mod Updates
 pub mod Windows

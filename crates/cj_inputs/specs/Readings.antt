@@ -14,6 +14,7 @@ use Rattle.cj_status.specs.Steps.{◌>>=◌}
 use Rattle.cj_inputs.specs.declared.reading.InputError.{InputError}
 use Rattle.cj_inputs.specs.declared.reading.InputError.TheVariants as input
 use Rattle.cj_inputs.specs.declared.input_files.Entry.{Entry}
+use Rattle.cj_inputs.specs.Trims.{left_said, trims_of}
 
 -- at most so many bytes of the file with this name
 abbrev pub within : ℕ → List ℕ → List ℕ → Result (List ℕ) Status
@@ -62,10 +63,10 @@ within_nodes most before track =
 abbrev pub checked_after : ℕ → List PlainTrack → List ℕ → PlainTrack → Result PlainTrack Status
 checked_after most before name track = same_frame_as before name track >>= within_nodes most before
 
--- what a file is read as behind the files before it
+-- what is taken of a file behind the files before it
 abbrev pub reading_after : PlainSettings → List FileBytes → List PlainTrack → Entry → Result PlainTrack Status
 reading_after settings files before entry =
-    reading_of settings.as_hermite3 entry.name (bytes_of files entry.number) >>= checked_after settings.limits.nodes before entry.name
+    left_said (trims_of settings) (reading_of settings.as_hermite3 entry.name (bytes_of files entry.number)) >>= checked_after settings.limits.nodes before entry.name
 
 -- the ephemerides before, and those of these files, or why the first of them that is not read is not
 abbrev pub readings_after : PlainSettings → List FileBytes → List PlainTrack → List Entry → Result (List PlainTrack) Status

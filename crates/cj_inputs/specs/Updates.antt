@@ -24,6 +24,7 @@ use Rattle.cj_inputs.specs.InputFiles.{has_suffix, inputs_of, is_taken}
 use Rattle.cj_inputs.specs.ObjectSizes.{sizes_asked}
 use Rattle.cj_inputs.specs.Orders.{inserted}
 use Rattle.cj_inputs.specs.Readings.{checked_after, readings_of, refused_of, within_bytes}
+use Rattle.cj_inputs.specs.Trims.{left_said, trims_of}
 
 -- ---- which files are updates
 
@@ -111,7 +112,7 @@ updated_of update files base updates =
 abbrev pub said_behind : PlainSettings → List ℕ → List PlainTrack → List ℕ → List ℕ → Result (List PlainTrack) Status
 said_behind settings update before name [] = Ok before
 said_behind settings update before name (b ∷ bytes) =
-    (refused_of name (reading (updated_name update name) (b ∷ bytes) settings.as_hermite3) >>= checked_after settings.limits.nodes before name)
+    (left_said (trims_of settings) (refused_of name (reading (updated_name update name) (b ∷ bytes) settings.as_hermite3)) >>= checked_after settings.limits.nodes before name)
     >>= λ track. Ok (before ++ track ∷ [])
 
 -- the same of an update

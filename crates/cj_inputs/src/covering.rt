@@ -1,5 +1,5 @@
 //! Problems whose objects have to cover the window.
-ghost use Rattle.std.specs.Prelude.{◌≡◌, ◌≤◌, List, Some, Err, IfErr, map};
+ghost use Rattle.std.specs.Prelude.{◌≡◌, ◌≤◌, List, Some, Err, IfErr, IfOk, map};
 ghost use Rattle.cj_io.specs.Faults.{Rose};
 ghost use Rattle.cj_io.specs.declared.file.FileBytes.{FileBytes};
 ghost use Rattle.cj_case.specs.Problems.{plain_problem};
@@ -7,6 +7,7 @@ ghost use Rattle.cj_track.specs.Tracks.{plain_track};
 ghost use Rattle.cj_words.specs.Commands.{plain_rescreening};
 ghost use Rattle.cj_words.specs.Settings.{plain_settings};
 ghost use Rattle.cj_inputs.specs.Coverings as spec;
+ghost use Rattle.cj_inputs.specs.FromFiles.{AreFromFiles};
 ghost use Rattle.cj_inputs.specs.Updates.{plain_updating};
 ghost use Rattle.cj_status.specs.Steps.{Gives, ComesBetween};
 
@@ -37,6 +38,10 @@ pub fn prepare_screening<R: Threads + Sync, F: Folder, G: Gate + Sync>(
     ensures read { result ≡ Err Status.ReadFault → Rose (F.faults folder.old) (F.faults folder.new) }
     ensures told { (files : List FileBytes) → F.files folder.old ≡ Some files
         → Gives (Rose (F.faults folder.old) (F.faults folder.new)) plain_problem result (spec.case_covered files (plain_settings settings.now)) }
+
+    // At each tick of the window an object is between the two states that its file says, or has none there.
+    ensures trim_same { (files : List FileBytes) → F.files folder.old ≡ Some files
+        → IfOk result (λ problem. AreFromFiles (plain_settings settings.now) files (plain_problem problem)) }
 
     ensures files { F.files folder.new ≡ F.files folder.old }
     ensures later { F.faults folder.old ≤ F.faults folder.new }

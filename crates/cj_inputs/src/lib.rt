@@ -23,6 +23,7 @@ mod reading;
 mod reading_updates;
 mod taken;
 mod taking;
+mod trims;
 mod updated;
 mod updates;
 mod updating;

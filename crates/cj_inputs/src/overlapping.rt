@@ -4,6 +4,7 @@ ghost use Rattle.std.specs.List.{All};
 ghost use Rattle.std.specs.Thread.{IsSync};
 ghost use Rattle.cj_io.specs.Faults.{Rose};
 ghost use Rattle.cj_io.specs.declared.file.FileBytes.{FileBytes};
+ghost use Rattle.cj_words.specs.Settings.{plain_settings};
 ghost use Rattle.cj_inputs.specs.Batches.{AreParsed, IsBatchOf};
 
 use crate::batch::{Batch, FileRead};
@@ -13,6 +14,7 @@ use crate::parsing::parse_files;
 use crate::reading::InputError;
 use cj_io::{Folder, Gate};
 use cj_track::Track;
+use cj_words::Settings;
 use std::alloc::{AllocError, Global};
 use std::thread::{Threads, join_mut};
 
@@ -24,7 +26,7 @@ pub fn parse_and_read<'a, R: Threads + Sync, F: Folder, G: Gate + Sync>(
     folder: &mut F,
     read: &[FileRead<'_>],
     entries: &'a [Entry],
-    as_hermite3: bool,
+    settings: &Settings<'_>,
     workers: u32,
 ) -> (
     Result<Vec<Result<Track, InputError>>, AllocError>,
@@ -32,7 +34,7 @@ pub fn parse_and_read<'a, R: Threads + Sync, F: Folder, G: Gate + Sync>(
 )
     requires { All (λ entry. entry.number < F.count folder.old) entries.now }
 
-    ensures parsed { IfOk result.0 (λ readings. AreParsed as_hermite3 read.now readings.items) }
+    ensures parsed { IfOk result.0 (λ readings. AreParsed (plain_settings settings.now) read.now readings.items) }
 
     ensures fault { IfOk result.1 (λ batch. batch.stop ≡ Some InputError.Failed → Rose (F.faults folder.old) (F.faults folder.new)) }
     ensures told { (files : List FileBytes) → F.files folder.old ≡ Some files → IfOk result.1 (IsBatchOf files entries.now) }
@@ -45,8 +47,8 @@ pub fn parse_and_read<'a, R: Threads + Sync, F: Folder, G: Gate + Sync>(
 {
     let mut parse = || -> Result<Vec<Result<Track, InputError>>, AllocError>
         requires { IsSync R.row × IsSync G.row }
-        ensures { IfOk result (λ readings. AreParsed as_hermite3 read.entry.now readings.items) }
-    { parse_files(rt, alloc, gate, read, as_hermite3, workers) };
+        ensures { IfOk result (λ readings. AreParsed (plain_settings settings.entry.now) read.entry.now readings.items) }
+    { parse_files(rt, alloc, gate, read, settings, workers) };
     let mut read_on = || read_batch(alloc, folder, entries, workers, read.len());
     join_mut(rt, &mut parse, &mut read_on)
 }

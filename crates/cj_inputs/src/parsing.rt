@@ -1,18 +1,21 @@
 //! What files say that were read: one after another, or by several threads that take the next file each.
 ghost use Rattle.std.specs.Prelude.{◌<◌, ◌≤◌, IfOk, get_or, length};
 ghost use Rattle.cj_track.specs.Tracks.{plain_track};
-ghost use Rattle.cj_inputs.specs.Batches.{AreParsed, said_by};
+ghost use Rattle.cj_words.specs.Settings.{plain_settings};
+ghost use Rattle.cj_inputs.specs.Batches.{AreParsed, said_by, said_in};
 ghost use Rattle.cj_oem.specs.Reading.{reading};
 ghost use Rattle.cj_inputs.specs.Readings.{Reads, refused_of};
 ghost use Rattle.cj_inputs.specs.declared.batch.FileRead.{FileRead};
 
 use crate::batch::FileRead;
 use crate::reading::InputError;
+use crate::trims::left_of;
 use cj_io::{Gate, Name, Stage};
 use cj_oem::{OemFault, read_oem};
 use cj_status::FileCause;
 use cj_threads::{Nobody, map_dealt};
 use cj_track::Track;
+use cj_words::Settings;
 use std::alloc::{AllocError, Global};
 use std::thread::Threads;
 
@@ -49,22 +52,36 @@ pub fn parse_bytes(
     }
 }
 
-/// What the files say, each for itself, by as many threads as there are workers: each takes the next file. The gate is told of each.
+/// What is taken of the track that a file says.
+fn parse_left(
+    alloc: Global,
+    file: &FileRead<'_>,
+    settings: &Settings<'_>,
+) -> Result<Track, InputError>
+    ensures { Reads ⊥ plain_track result (said_in (plain_settings settings.now) file.now) }
+{
+    let whole = parse_file(alloc, file, settings.as_hermite3)?;
+    let left = left_of(alloc, whole, settings)?;
+    Ok(left)
+}
+
+/// What the files say, each for itself and as it is taken, by as many threads as there are workers: each takes the next file. The gate is told of
+/// each.
 pub fn parse_files<R: Threads + Sync, G: Gate + Sync>(
     rt: &R,
     alloc: Global,
     gate: &G,
     files: &[FileRead<'_>],
-    as_hermite3: bool,
+    settings: &Settings<'_>,
     workers: u32,
 ) -> Result<Vec<Result<Track, InputError>>, AllocError>
-    ensures { IfOk result (λ readings. AreParsed as_hermite3 files.now readings.items) }
+    ensures { IfOk result (λ readings. AreParsed (plain_settings settings.now) files.now readings.items) }
 {
     let parse = |number: usize| -> Result<Track, InputError>
         requires { number < length files.now }
-        ensures { (d : FileRead) → Reads ⊥ plain_track result (said_by as_hermite3 (get_or files.entry.now number d)) }
+        ensures { (d : FileRead) → Reads ⊥ plain_track result (said_in (plain_settings settings.entry.now) (get_or files.entry.now number d)) }
     {
-        let track = parse_file(alloc, &files[number], as_hermite3);
+        let track = parse_left(alloc, &files[number], settings);
         gate.advance(Stage::Files, 1);
         track
     };

@@ -12,6 +12,7 @@ ghost use Rattle.cj_sizes.specs.Sizes.{sizes_of};
 ghost use Rattle.cj_track.specs.Tracks.{plain_track};
 ghost use Rattle.cj_words.specs.Settings.{plain_settings};
 ghost use Rattle.cj_inputs.specs.Cases as spec;
+ghost use Rattle.cj_inputs.specs.FromFiles.{AreFromFiles};
 ghost use Rattle.cj_inputs.specs.InputFiles.{inputs_of};
 ghost use Rattle.cj_status.specs.Steps.{Gives, ComesBetween, IsLimit};
 
@@ -48,6 +49,10 @@ pub fn prepare<R: Threads + Sync, F: Folder, G: Gate + Sync>(
     ensures read { result ≡ Err Status.ReadFault → Rose (F.faults folder.old) (F.faults folder.new) }
     ensures told { (files : List FileBytes) → F.files folder.old ≡ Some files
         → Gives (Rose (F.faults folder.old) (F.faults folder.new)) plain_problem result (spec.case_asked files (plain_settings settings.now)) }
+
+    // At each tick of the window an object is between the two states that its file says, or has none there.
+    ensures trim_same { (files : List FileBytes) → F.files folder.old ≡ Some files
+        → IfOk result (λ problem. AreFromFiles (plain_settings settings.now) files (plain_problem problem)) }
 
     ensures files { F.files folder.new ≡ F.files folder.old }
     ensures later { F.faults folder.old ≤ F.faults folder.new }

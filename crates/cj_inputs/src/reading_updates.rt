@@ -19,6 +19,7 @@ use crate::preparing::too_many_objects;
 use crate::reading::{InputError, read_file};
 use crate::taken::Taken;
 use crate::taking::read_tracks;
+use crate::trims::left_of;
 use crate::updated::Updated;
 use crate::updates::updated_name;
 use cj_io::{Folder, Gate, Stage};
@@ -126,7 +127,8 @@ fn take_update<F: Folder>(
         return Ok(taken);
     }
     let read = updated_name(name, update);
-    let track = parse_bytes(alloc, read, name, &bytes, settings.as_hermite3)?;
+    let whole = parse_bytes(alloc, read, name, &bytes, settings.as_hermite3)?;
+    let track = left_of(alloc, whole, settings)?;
     taken.with_update(alloc, track, name, settings.limits)
 }
 

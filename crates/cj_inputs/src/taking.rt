@@ -9,7 +9,7 @@ ghost use Rattle.cj_track.specs.PlainTracks.{PlainTrack};
 ghost use Rattle.cj_track.specs.Tracks.{plain_track};
 ghost use Rattle.cj_words.specs.Settings.{plain_settings};
 ghost use Rattle.cj_status.specs.declared.status.Status.{Status};
-ghost use Rattle.cj_inputs.specs.Batches.{Fits, GoesOn, IsBatchOf, IsFirstCause, IsOnTheWay, said_by, tracks_after};
+ghost use Rattle.cj_inputs.specs.Batches.{Fits, GoesOn, IsBatchOf, IsFirstCause, IsOnTheWay, said_in, tracks_after};
 ghost use Rattle.cj_inputs.specs.Readings.{Reads, readings_of};
 
 use crate::batch::{Batch, FileRead};
@@ -118,7 +118,7 @@ fn first_cause<R: Threads + Sync, G: Gate + Sync>(
     workers: u32,
 ) -> InputError
     ensures failed { result ≡ InputError.Failed → why ≡ InputError.Failed }
-    ensures told { IsFirstCause settings.now.limits.nodes why (map plain_track taken.tracks.items) (map (said_by settings.now.as_hermite3) files.now) result }
+    ensures told { IsFirstCause settings.now.limits.nodes why (map plain_track taken.tracks.items) (map (said_in (plain_settings settings.now)) files.now) result }
 {
     match take_files(rt, alloc, gate, taken, files, settings, workers) {
         Ok(all) => {
@@ -147,7 +147,7 @@ fn take_and_read<'a, R: Threads + Sync, F: Folder, G: Gate + Sync>(
     requires numbers { All (λ entry. entry.number < F.count folder.old) rest.now }
 
     ensures taken { Reads ⊥ (λ next. map plain_track next.taken.tracks.items) result
-        (tracks_after settings.now.limits.nodes (map plain_track taken.tracks.items) (map (said_by settings.now.as_hermite3) files.entry.items)) }
+        (tracks_after settings.now.limits.nodes (map plain_track taken.tracks.items) (map (said_in (plain_settings settings.now)) files.entry.items)) }
 
     ensures fault { IfOk result (λ next. next.batch.stop ≡ Some InputError.Failed → Rose (F.faults folder.old) (F.faults folder.new)) }
     ensures told { (told : List FileBytes) → F.files folder.old ≡ Some told → IfOk result (λ next. IsBatchOf told rest.now next.batch) }
@@ -165,14 +165,7 @@ fn take_and_read<'a, R: Threads + Sync, F: Folder, G: Gate + Sync>(
         return Ok(Progress { taken, batch });
     }
     let (readings, batch) = parse_and_read(
-        rt,
-        alloc,
-        gate,
-        folder,
-        &files,
-        rest,
-        settings.as_hermite3,
-        workers,
+        rt, alloc, gate, folder, &files, rest, settings, workers,
     );
     drop(files);
     with_batch(take_all(alloc, taken, readings, settings.limits), batch)
@@ -210,7 +203,7 @@ fn take_and_drop<R: Threads + Sync, G: Gate + Sync>(
     workers: u32,
 ) -> Result<Taken, InputError>
     ensures { Reads ⊥ (λ all. map plain_track all.tracks.items) result
-        (tracks_after settings.now.limits.nodes (map plain_track taken.tracks.items) (map (said_by settings.now.as_hermite3) files.entry.items)) }
+        (tracks_after settings.now.limits.nodes (map plain_track taken.tracks.items) (map (said_in (plain_settings settings.now)) files.entry.items)) }
 {
     let all = take_files(rt, alloc, gate, taken, &files, settings, workers);
     drop(files);
@@ -228,12 +221,12 @@ fn take_files<R: Threads + Sync, G: Gate + Sync>(
     workers: u32,
 ) -> Result<Taken, InputError>
     ensures { Reads ⊥ (λ all. map plain_track all.tracks.items) result
-        (tracks_after settings.now.limits.nodes (map plain_track taken.tracks.items) (map (said_by settings.now.as_hermite3) files.now)) }
+        (tracks_after settings.now.limits.nodes (map plain_track taken.tracks.items) (map (said_in (plain_settings settings.now)) files.now)) }
 {
     take_all(
         alloc,
         taken,
-        parse_files(rt, alloc, gate, files, settings.as_hermite3, workers),
+        parse_files(rt, alloc, gate, files, settings, workers),
         settings.limits,
     )
 }

@@ -28,6 +28,7 @@ use Rattle.cj_inputs.specs.InputFiles.{entries_from, entry_cmp, has_sizes, input
 use Rattle.cj_inputs.specs.ObjectSizes.{first_named, sizes_asked, sizes_at, sizes_of_file}
 use Rattle.cj_inputs.specs.Orders.{inserted, sorted}
 use Rattle.cj_inputs.specs.Readings.{checked_after, reading_after, reading_of, readings_after, readings_of, within}
+use Rattle.cj_inputs.specs.Trims.{left_said, trims_of}
 use Rattle.cj_outputs.specs.Again.{HoldAlso, IsNoInput, has_name, without_name}
 use Rattle.cj_outputs.specs.Outcome.{output}
 
@@ -221,7 +222,8 @@ none_taken settings name files later apart others = passing_alike (takes setting
 abbrev files_after : PlainSettings → List PlainTrack → List FileBytes → Result (List PlainTrack) Status
 files_after settings before [] = Ok before
 files_after settings before (file ∷ files) =
-    (reading_of settings.as_hermite3 file.name file.bytes >>= checked_after settings.limits.nodes before file.name) >>= λ e. files_after settings (before ++ e ∷ []) files
+    (left_said (trims_of settings) (reading_of settings.as_hermite3 file.name file.bytes) >>= checked_after settings.limits.nodes before file.name)
+    >>= λ e. files_after settings (before ++ e ∷ []) files
 
 readings_by_files : (settings : PlainSettings) (all : List FileBytes) (before : List PlainTrack) (entries : List Entry)
     → readings_after settings all before entries ≡ files_after settings before (map (file_of all) entries)
@@ -287,16 +289,16 @@ asked_again settings name bytes files later apart hold =
 abbrev no_certificate : Result (List ℕ) Status
 no_certificate = Err (status.NotAccepted 0 NoFile)
 
-certificate_by_bytes : (files : List FileBytes) (name : List ℕ) (number : Option ℕ)
-    → certificate_at files name number ≡ read_or no_certificate (within 1_073_741_824 name) (option_map (bytes_of files) number)
-certificate_by_bytes files name None = refl
-certificate_by_bytes files name (Some number) = refl
+certificate_by_bytes : (most : ℕ) (files : List FileBytes) (name : List ℕ) (number : Option ℕ)
+    → certificate_at most files name number ≡ read_or no_certificate (within most name) (option_map (bytes_of files) number)
+certificate_by_bytes most files name None = refl
+certificate_by_bytes most files name (Some number) = refl
 
 -- it is what this file holds
-pub named_again : (name bytes : List ℕ) (files later : List FileBytes) → HoldAlso name bytes files later → length bytes ≤ 1_073_741_824
-    → certificate_named later name ≡ Ok bytes
+pub named_again : (most : ℕ) (name bytes : List ℕ) (files later : List FileBytes) → HoldAlso name bytes files later → length bytes ≤ most
+    → certificate_named most later name ≡ Ok bytes
 unfolding certificate_named
-named_again name bytes files later hold short =
-    let few : nat_le (length bytes) 1_073_741_824 ≡ true = grind (arith, nat_tests) in
-    certificate_by_bytes later name (first_named name (names_of later))
-    ∙ ap (read_or no_certificate (within 1_073_741_824 name)) (first_found name later ∙ ap first_bytes hold.once) ∙ rw few refl
+named_again most name bytes files later hold short =
+    let few : nat_le (length bytes) most ≡ true = grind (arith, nat_tests) in
+    certificate_by_bytes most later name (first_named name (names_of later))
+    ∙ ap (read_or no_certificate (within most name)) (first_found name later ∙ ap first_bytes hold.once) ∙ rw few refl

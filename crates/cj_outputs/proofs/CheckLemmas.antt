@@ -12,6 +12,7 @@ use Rattle.cj_case.specs.PlainProblems.{PlainProblem}
 use Rattle.cj_hermite.specs.Roots.{slots_of}
 use Rattle.cj_case.specs.Slots.{slot_count}
 use Rattle.cj_words.specs.Commands.{PlainChecking}
+use Rattle.cj_words.specs.Limits.{most_certificate_bytes}
 use Rattle.cj_case.specs.Leaves.{PlainLeaf, plain_leaf}
 use Rattle.cj_cells.specs.Lists.{list_candidates}
 use Rattle.cj_cert.specs.Certificates.{line_count}
@@ -63,17 +64,15 @@ written_few case few slots leaves =
       leaves,
     )
 
--- what is found is enough for that
-pub found_few : (found : Findings) → AreFound found → line_count (written (case_in found)) < 2 ^ 32 - 5
-found_few found are =
+-- the case of what is found is small enough for that, where it has no more leaves than may be
+pub found_few : (found : Findings) → length (list_candidates (case_in found)) ≤ MOST_LEAVES → line_count (written (case_in found)) < 2 ^ 32 - 5
+found_few found leaves =
     let case = case_in found in
     let problem = found.problem in
     let objects : length case.tracks ≡ length problem.tracks = length-map problem.tracks plain_track in
     let few : length case.tracks ≤ MOST_OBJECTS = omega (arith, objects, problem.few) in
     let slots : length case.tracks * slot_count case.first case.last ≤ MOST_OBJECT_SLOTS =
     subst (λ (n : ℕ). n * slot_count case.first case.last ≤ MOST_OBJECT_SLOTS) (sym objects) problem.few_slots in
-    let leaves : length (list_candidates case) ≤ MOST_LEAVES =
-    omega (arith, ap (λ (ss : List PlainLeaf). length ss) are.leaves, length-map found.leaves.items plain_leaf, are.few) in
     written_few case few slots leaves
 
 -- ---- the inputs of a check
@@ -89,14 +88,14 @@ all_there f (Err s) q p z is = absurd cc
 -- what the inputs of a check are that are there
 record AreInputs (files : List FileBytes) (checking : PlainChecking) (inputs : PlainInputs) : Type 0 where
   case : case_with_updates files checking.settings checking.update ≡ Ok inputs.case
-  bytes : certificate_named files checking.certificate ≡ Ok inputs.bytes
-  report : report_if_named files checking.report ≡ Ok inputs.report
+  bytes : certificate_named (most_certificate_bytes checking.settings.large) files checking.certificate ≡ Ok inputs.bytes
+  report : report_if_named (most_certificate_bytes checking.settings.large) files checking.report ≡ Ok inputs.report
 
 inputs_there : (files : List FileBytes) (checking : PlainChecking) (inputs : PlainInputs) → inputs_asked files checking ≡ Ok inputs → AreInputs files checking inputs
 unfolding inputs_asked
 inputs_there files checking inputs there =
     let all = all_there (λ case bytes report. record { case = case; bytes = bytes; report = report }) (case_with_updates files checking.settings checking.update)
-    (certificate_named files checking.certificate) (report_if_named files checking.report) inputs there in
+    (certificate_named (most_certificate_bytes checking.settings.large) files checking.certificate) (report_if_named (most_certificate_bytes checking.settings.large) files checking.report) inputs there in
     record {
       case = all.3 ∙ ap (λ (x : PlainInputs). Ok x.case) all.6;
       bytes = all.4 ∙ ap (λ (x : PlainInputs). Ok x.bytes) all.6;
@@ -104,12 +103,12 @@ inputs_there files checking inputs there =
     }
 
 -- the report of the inputs is that of the file that was named, where one was
-reported : (checking : PlainChecking) (files : List FileBytes) (case : PlainProblem) (cells : List PlainLeaf) (report named : Option (List ℕ)) → report_if_named files named ≡ Ok report
+reported : (checking : PlainChecking) (files : List FileBytes) (case : PlainProblem) (cells : List PlainLeaf) (report named : Option (List ℕ)) → report_if_named (most_certificate_bytes checking.settings.large) files named ≡ Ok report
     → IfSome report (AcceptedReport (tells_of checking.settings) case cells) → IfSome named (VouchesReport checking files case cells)
 reported checking files case cells report None is holds = tt
-reported checking files case cells report (Some name) is holds = go (report_named files name) refl is
+reported checking files case cells report (Some name) is holds = go (report_named (most_certificate_bytes checking.settings.large) files name) refl is
   where
-    go : (r : Result (List ℕ) Status) → report_named files name ≡ r → (r >>= λ bytes. Ok (Some bytes)) ≡ Ok report → VouchesReport checking files case cells name
+    go : (r : Result (List ℕ) Status) → report_named (most_certificate_bytes checking.settings.large) files name ≡ r → (r >>= λ bytes. Ok (Some bytes)) ≡ Ok report → VouchesReport checking files case cells name
     go (Ok bytes) read same =
         let some : Some bytes ≡ report = cc in
         record { bytes = bytes; named = read; holds = subst (λ (o : Option (List ℕ)). IfSome o (AcceptedReport (tells_of checking.settings) case cells)) (sym some) holds }
@@ -132,7 +131,7 @@ vouched files checking inputs there holds beside =
 
 -- the same of a certificate that is rewritten
 pub renews : (files : List FileBytes) (checking : PlainChecking) (inputs : PlainInputs) (renewed : PlainAnyCertificate) → inputs_asked files checking ≡ Ok inputs → RenewedText inputs.case inputs.bytes renewed
-    → (case_asked files checking.settings ≡ Ok inputs.case → length (text_in renewed) ≤ 1_073_741_824 → IsAcceptedLater checking.settings checking.brief files (text_in renewed)) → Renews checking files renewed
+    → (case_asked files checking.settings ≡ Ok inputs.case → length (text_in renewed) ≤ most_certificate_bytes checking.settings.large → IsAcceptedLater checking.settings checking.brief files (text_in renewed)) → Renews checking files renewed
 renews files checking inputs renewed there holds later =
     let are = inputs_there files checking inputs there in
     record {

@@ -4,6 +4,8 @@ use Rattle.std.specs.Prelude.{All}
 use Rattle.std.proofs.lemmas.List.{length-map}
 use Rattle.cj_base.specs.Limits.{PlainLimits, USUAL}
 use Rattle.cj_io.specs.declared.file.FileBytes.{FileBytes}
+use Rattle.cj_formats.specs.declared.cert_format.CertFormat.{CertFormat}
+use Rattle.cj_formats.specs.declared.cert_format.CertFormat.TheVariants.{Full, Brief}
 use Rattle.cj_formats.specs.declared.cert_version.CertVersion.{CertVersion}
 use Rattle.cj_formats.specs.declared.cert_version.CertVersion.TheVariants.{One, Two}
 use Rattle.cj_formats.specs.Versions.{most_objects}
@@ -15,6 +17,7 @@ use Rattle.cj_case.specs.PlainProblems.{PlainProblem}
 use Rattle.cj_case.specs.Problems.{plain_problem}
 use Rattle.cj_case.specs.Slots.{slot_count}
 use Rattle.cj_case.specs.Leaves.{PlainLeaf}
+use Rattle.cj_bezier.specs.ToldLeaves.{told_leaves}
 use Rattle.cj_cells.specs.Lists.{list_candidates}
 use Rattle.cj_cert.specs.declared.cert_lines.SizeOfLine.{SizeOfLine}
 use Rattle.cj_cert.specs.Accepted.{Accepted, AreSizesIn}
@@ -32,20 +35,23 @@ use Rattle.cj_brief.specs.Certificates.{PlainBrief}
 use Rattle.cj_brief.specs.Written.{written_in_brief}
 use Rattle.cj_brief_checker.specs.First.{first_failure_in_brief}
 use Rattle.cj_words.specs.Commands.{PlainChecking}
+use Rattle.cj_words.specs.Limits.{limits_of, most_certificate_bytes, most_told}
 use Rattle.cj_words.specs.Settings.{PlainSettings}
 use Rattle.cj_inputs.specs.Cases.{case_asked}
 use Rattle.cj_inputs.specs.CheckInputs.{PlainInputs, certificate_named, inputs_asked}
 use Rattle.cj_outputs.specs.Again.{IsAcceptedLater}
 use Rattle.cj_outputs.specs.Either.{PlainAnyCertificate, InFull, InBrief, FitsIn, IsAcceptedFor, MayRead, any_failure, any_renewed, cells_in, text_in}
-use Rattle.cj_outputs.specs.Outcome.{accepted_output, outputs_checked, report_if_accepting, said_or, tells_of}
+use Rattle.cj_outputs.specs.Outcome.{accepted_output, outputs_checked, report_if_accepting, said_or, tells_of, within_told}
+use Rattle.cj_status.specs.declared.status.Status.TheVariants as status
+use Rattle.cj_status.specs.declared.status.LimitFault.TheVariants.{Told}
 use Rattle.cj_status.specs.Steps.{◌>>=◌}
 use Rattle.cj_outputs.proofs.AcceptingLemmas.{accepted_so, outputs_made_from}
 use Rattle.cj_outputs.proofs.AgainLemmas.{asked_again, named_again}
 use Rattle.cj_outputs.proofs.BlocksFitLemmas.{in_version_2_fits, written_in_fits}
-use Rattle.cj_outputs.proofs.BriefFitLemmas.{written_in_brief_fits, written_in_brief_short}
+use Rattle.cj_outputs.proofs.BriefFitLemmas.{IsOfAnyRun, written_in_brief_fits, written_in_brief_short}
 use Rattle.cj_outputs.proofs.CertificateLemmas.{leaves_alike}
 use Rattle.cj_outputs.proofs.EitherLemmas.{any_again}
-use Rattle.cj_inputs.proofs.WithinLemmas.{usual_slots}
+use Rattle.cj_inputs.proofs.WithinLemmas.{asked_within, let_through, usual_slots}
 
 -- ---- what is so of a problem
 
@@ -78,6 +84,21 @@ of_run problem few sizes near =
       near = near;
     }
 
+pub of_any_run : (problem : Problem) → All (λ size. size ≤ MAX_SIZE) problem.sizes → IsOfAnyRun (plain_problem problem)
+of_any_run problem sizes =
+    let objects = length-map problem.tracks plain_track in
+    let sized = problem.sized in
+    let few = problem.few in
+    record {
+      few = omega arith;
+      first = problem.window.first.in_range;
+      last = problem.window.last.in_range;
+      least = problem.least;
+      most = problem.most;
+      sizes = sizes;
+      sized = omega arith;
+    }
+
 -- ---- a text that is accepted later
 
 -- a check by this name, of no report
@@ -88,18 +109,18 @@ abbrev alone : PlainProblem → List ℕ → PlainInputs
 alone case bytes = record { case = case; bytes = bytes; report = None }
 
 inputs_there : (files : List FileBytes) (settings : PlainSettings) (brief : Bool) (name : List ℕ) (case : PlainProblem) (bytes : List ℕ) → case_asked files settings ≡ Ok case
-    → certificate_named files name ≡ Ok bytes → inputs_asked files (by_name settings brief name) ≡ Ok (alone case bytes)
+    → certificate_named (most_certificate_bytes settings.large) files name ≡ Ok bytes → inputs_asked files (by_name settings brief name) ≡ Ok (alone case bytes)
 unfolding inputs_asked
 inputs_there files settings brief name case bytes read named = rw (read, named) refl
 
 text_accepted : (settings : PlainSettings) (files : List FileBytes) (brief : Bool) (case : PlainProblem) (c : PlainAnyCertificate) → case_asked files settings ≡ Ok case → MayRead brief c → FitsIn c
-    → any_failure case c ≡ None → length (text_in c) ≤ 1_073_741_824 → IsAcceptedLater settings brief files (text_in c)
+    → any_failure case c ≡ None → length (text_in c) ≤ most_certificate_bytes settings.large → IsAcceptedLater settings brief files (text_in c)
 unfolding outputs_checked
 text_accepted settings files brief case c read may fits none short name later outside holds =
     let bytes = text_in c in
     let asked = asked_again settings name bytes files later outside holds ∙ read in
-    let there = inputs_there later settings brief name case bytes asked (named_again name bytes files later holds short) in
-    outputs_made_from brief (λ inputs certificate. report_if_accepting (tells_of settings) inputs.case (cells_in certificate) inputs.report >>= λ done. Ok (accepted_output ∷ []))
+    let there = inputs_there later settings brief name case bytes asked (named_again (most_certificate_bytes settings.large) name bytes files later holds short) in
+    outputs_made_from brief (λ inputs certificate. report_if_accepting settings.limits.leaves (tells_of settings) inputs.case (cells_in certificate) inputs.report >>= λ done. Ok (accepted_output ∷ []))
     (inputs_asked later (by_name settings brief name)) (alone case bytes) c there (accepted_so brief case bytes c (ap said_or (any_again brief c may fits)) none)
 
 -- ---- a certificate that is written
@@ -121,32 +142,45 @@ text_few case c run slots accepted fits cells =
     sizes One lines boxes first given = let none = ap length first.0 in omega arith
     sizes Two lines boxes second given = let all = few_sizes case lines given in let sized = run.sized in let few = run.few One in omega arith
 
+-- a run whose certificate is in full goes by the usual limits
+pub in_full_usual : (large : Bool) (version : CertVersion) → (large ≡ true → ◌≡◌ {A = CertFormat} (Full version) Brief) → large ≡ false
+in_full_usual false version brief = refl
+in_full_usual true version brief = let same = brief refl in absurd cc
+
 pub written_later : (problem : Problem) (settings : PlainSettings) (files : List FileBytes) (version : CertVersion) → IsOfRun (plain_problem problem) → Accepted (plain_problem problem) (written (plain_problem problem))
     → Accepted (plain_problem problem) (written_in version (plain_problem problem)) → first_failure (plain_problem problem) (written_in version (plain_problem problem)) ≡ None
-    → case_asked files settings ≡ Ok (plain_problem problem) → settings.limits ≡ USUAL → length (list_candidates (plain_problem problem)) ≤ settings.limits.leaves → IsAcceptedLater settings false files (text_of (written_in version (plain_problem problem)))
-written_later problem settings files version run first accepted none read usual leaves =
+    → case_asked files settings ≡ Ok (plain_problem problem) → settings.large ≡ false → settings.limits ≡ USUAL → length (list_candidates (plain_problem problem)) ≤ settings.limits.leaves
+    → IsAcceptedLater settings false files (text_of (written_in version (plain_problem problem)))
+written_later problem settings files version run first accepted none read small usual leaves =
     let case = plain_problem problem in
     let c = written_in version case in
     let fits = written_in_fits version case run first in
     let cells : length c.cells ≤ 4_000_000 =
     subst (λ (ss : List PlainLeaf). length ss ≤ 4_000_000) (leaves_alike case ∙ sym (same_cells version case)) (subst (λ (l : PlainLimits). length (list_candidates case) ≤ l.leaves) usual leaves) in
-    text_accepted settings files false case (InFull c) read tt fits none (text_few case c run (usual_slots files settings case read usual) accepted fits cells)
+    let short : length (text_of c) ≤ most_certificate_bytes settings.large =
+    subst (λ (b : Bool). length (text_of c) ≤ most_certificate_bytes b) (sym small) (text_few case c run (usual_slots files settings case read usual) accepted fits cells) in
+    text_accepted settings files false case (InFull c) read tt fits none short
 
-pub written_in_brief_later : (problem : Problem) (settings : PlainSettings) (files : List FileBytes) → IsOfRun (plain_problem problem) → Accepted (plain_problem problem) (written (plain_problem problem))
+-- no more leaves are told than may be
+told_within : (most : ℕ) (case : PlainProblem) → within_told most Brief case ≡ Ok tt → length (told_leaves case) ≤ most
+told_within most case within = (let_through {A = Unit {0}} (length (told_leaves case)) most tt tt (status.Limit (Told most)) within).0
+
+pub written_in_brief_later : (problem : Problem) (settings : PlainSettings) (files : List FileBytes) → IsOfAnyRun (plain_problem problem)
     → AcceptedInBrief (plain_problem problem) (written_in_brief (plain_problem problem)) → first_failure_in_brief (plain_problem problem) (written_in_brief (plain_problem problem)) ≡ None
-    → case_asked files settings ≡ Ok (plain_problem problem) → settings.limits ≡ USUAL → length (list_candidates (plain_problem problem)) ≤ settings.limits.leaves
+    → case_asked files settings ≡ Ok (plain_problem problem) → settings.limits ≡ limits_of settings.large → within_told (most_told settings.large) Brief (plain_problem problem) ≡ Ok tt
     → IsAcceptedLater settings true files (brief_text (written_in_brief (plain_problem problem)))
-written_in_brief_later problem settings files run first accepted none read usual leaves =
+written_in_brief_later problem settings files run accepted none read limited within =
     let case = plain_problem problem in
-    let few : length (list_candidates case) ≤ 4_000_000 = subst (λ (l : PlainLimits). length (list_candidates case) ≤ l.leaves) usual leaves in
-    text_accepted settings files true case (InBrief (written_in_brief case)) read refl (written_in_brief_fits case run first accepted) none (written_in_brief_short case run first accepted few)
+    let few : length case.tracks ≤ (limits_of settings.large).objects = subst (λ (l : PlainLimits). length case.tracks ≤ l.objects) limited (asked_within files settings case read).objects in
+    text_accepted settings files true case (InBrief (written_in_brief case)) read refl (written_in_brief_fits case run accepted) none
+    (written_in_brief_short settings.large case run accepted few (told_within (most_told settings.large) case within))
 
 -- ---- a certificate that is rewritten
 
 -- what comes of an accepted one is accepted, and so has no failure; of one in full the case has no more objects than a run
 pub renewed_later : (settings : PlainSettings) (files : List FileBytes) (brief : Bool) (case : PlainProblem) (c : PlainAnyCertificate) → (length case.tracks ≤ 2000 → IsOfRun case)
     → ((d : PlainCertificate) → Accepted case d → first_failure case (in_version_2 case d) ≡ None) → ((d : PlainBrief) → AcceptedInBrief case d → first_failure_in_brief case d ≡ None)
-    → case_asked files settings ≡ Ok case → MayRead brief c → IsAcceptedFor case c → FitsIn c → length (text_in (any_renewed case c)) ≤ 1_073_741_824
+    → case_asked files settings ≡ Ok case → MayRead brief c → IsAcceptedFor case c → FitsIn c → length (text_in (any_renewed case c)) ≤ most_certificate_bytes settings.large
     → IsAcceptedLater settings brief files (text_in (any_renewed case c))
 renewed_later settings files brief case (InFull c) run full in_brief read may accepted fits short =
     let few : length case.tracks ≤ 2000 = subst (λ (n : ℕ). n ≤ 2000) accepted.objects (usual_few c.objects c.version fits.objects) in

@@ -29,9 +29,9 @@ use Rattle.cj_report.proofs.EncounterTextLemmas.{approach_at}
 use Rattle.cj_report.proofs.NumberLemmas.{numbered_parts, numbered_step}
 use Rattle.cj_status.specs.declared.status.Status.{Status}
 use Rattle.cj_outputs.specs.declared.findings.Findings.{Findings}
-use Rattle.cj_outputs.specs.Findings.{AreFound, case_in, messages_in}
+use Rattle.cj_outputs.specs.Findings.{AreFound, case_in, messages_in, met_in}
 use Rattle.cj_outputs.specs.Messages.{PlainOrigin, has_message, message_output, message_outputs, outputs_at, relative_in, relative_to_tell, stamp_from, told_with}
-use Rattle.cj_outputs.specs.Outcome.{ComesOfPuts, Leaves, output}
+use Rattle.cj_outputs.specs.Outcome.{ComesOfPuts, encounters_in, Leaves, output}
 use Rattle.cj_outputs.proofs.EndLemmas.{first_leaves, second_leaves}
 
 -- whether the objects of an encounter have covariances at this tick is whether the encounter has a message
@@ -178,10 +178,10 @@ made_of_found : (found : Findings) (origin : PlainOrigin) (i k : ℕ) (stamp : P
     i < length found.encounters.items → e ≡ get_or found.encounters.items i e → x ≡ get_or found.closest.items i x → stamp ≡ stamp_from origin (i + 1) → k ≡ i + 1 →
     relative ≡ relative_to_tell origin.relative (case_in found) e.pair.a e.pair.b x.tick.micros →
     option_to_list (option_map (message_output k relative) (message_of (case_in found) e.pair.a e.pair.b x.tick.micros x.high stamp))
-    ≡ outputs_at (case_in found) origin (i + 1) (leaves_in (plain_leaves found.leaves.items) e)
+    ≡ outputs_at (case_in found) origin (i + 1) (leaves_in (met_in found) e)
 made_of_found found origin i k stamp relative e x are lt e_is x_is stamped number tells =
     let case = case_in found in
-    let ss = plain_leaves found.leaves.items in
+    let ss = met_in found in
     let es = found.encounters.items in
     let xs = found.closest.items in
     let d = subst (Describes ss) (sym e_is) (are.encounters.described i e lt) in
@@ -195,7 +195,7 @@ pub made_of_index : (found : Findings) (problem : Problem) (origin : PlainOrigin
     i < length found.encounters.items → e ≡ get_or found.encounters.items i e → x ≡ get_or found.closest.items i x → stamp ≡ stamp_from origin (i + 1) → k ≡ i + 1 →
     relative ≡ relative_to_tell origin.relative (case_in found) e.pair.a e.pair.b x.tick.micros →
     option_to_list (option_map (message_output k relative) (message_of (plain_problem problem) e.pair.a e.pair.b x.tick.micros x.high stamp))
-    ≡ outputs_at (case_in found) origin (i + 1) (leaves_in (plain_leaves found.leaves.items) e)
+    ≡ outputs_at (case_in found) origin (i + 1) (leaves_in (met_in found) e)
 made_of_index found problem origin i k stamp relative e x same are lt e_is x_is stamped number tells =
     ap (λ (p : Problem). option_to_list (option_map (message_output k relative) (message_of (plain_problem p) e.pair.a e.pair.b x.tick.micros x.high stamp))) same
     ∙ made_of_found found origin i k stamp relative e x are lt e_is x_is stamped number tells
@@ -203,7 +203,7 @@ made_of_index found problem origin i k stamp relative e x same are lt e_is x_is 
 -- the summary counts the messages
 pub messages_tallied : (found : Findings) (origin : PlainOrigin) → AreFound found → length (messages_in origin found) ≡ found.counts.messages
 messages_tallied found origin are =
-    outputs_counted (case_in found) origin 1 (encounters_of (plain_leaves found.leaves.items)) ∙ sym (ap (λ (t : Tally). t.messages) are.counts)
+    outputs_counted (case_in found) origin 1 (encounters_in (case_in found)) ∙ sym (ap (λ (t : Tally). t.messages) are.counts)
 
 -- the notes of a run's encounters, which were made of what was lent
 pub noted_in : (case : PlainProblem) (ss : List PlainLeaf) (es lent : List Encounter) (xs lent_closest : List Closest) (bs : List Bool) → lent ≡ es → lent_closest ≡ xs →
@@ -214,3 +214,7 @@ noted_in case ss es lent xs lent_closest bs p q described each noted =
     noted ss (subst (λ (y : List Encounter). All (Describes ss) y) (sym p) described)
     (ap (map some_closest) q ∙ each ∙ sym (ap (λ (y : List Encounter). map (closest_of case) (groups_in ss y)) p))
     ∙ ap (λ (y : List Encounter). map (has_message case) (groups_in ss y)) p
+
+-- the encounters of findings are those of their case
+pub groups_are : (found : Findings) → AreFound found → groups_in (met_in found) found.encounters.items ≡ encounters_in (case_in found)
+groups_are found are = are.encounters.groups ∙ are.lines.met

@@ -8,23 +8,26 @@ use Rattle.cj_meet.specs.Closest.{PlainClosest, closest_of, some_closest}
 use Rattle.cj_meet.specs.Encounters.{encounters_of, groups_in}
 use Rattle.cj_report.specs.Report.{changed_of, report_of, told}
 use Rattle.cj_case.specs.Problems.{plain_problem}
+use Rattle.cj_cells.specs.Lists.{list_candidates}
 use Rattle.cj_outputs.specs.declared.changes.Changes.{Changes}
 use Rattle.cj_outputs.specs.declared.findings.Findings.{Findings}
 use Rattle.cj_outputs.specs.Changes.{AreChanges}
+use Rattle.cj_outputs.specs.Lines.{leaves_met}
 use Rattle.cj_outputs.specs.Messages.{has_message}
-use Rattle.cj_outputs.specs.Outcome.{changed_bytes, report_bytes}
+use Rattle.cj_outputs.specs.Outcome.{changed_bytes, encounters_in, report_bytes}
 use Rattle.cj_outputs.specs.Findings.{AreFound, case_in}
+use Rattle.cj_outputs.proofs.MessageLemmas.{groups_are}
 
 -- the text that is made of findings is their report
 pub report_is : (found : Findings) (leaves : List Leaf) (es : List Encounter) (xs : List Closest) (bs : List Bool) (text : List ℕ) → AreFound found →
-    leaves ≡ found.leaves.items → es ≡ found.encounters.items → xs ≡ found.closest.items → bs ≡ found.messages.items
+    leaves ≡ leaves_met found.lines → es ≡ found.encounters.items → xs ≡ found.closest.items → bs ≡ found.messages.items
     → (let case = case_in found in (approach : List PlainLeaf → Option PlainClosest) (has : List PlainLeaf → Bool) → map some_closest xs ≡ map approach (groups_in (plain_leaves leaves) es)
     → bs ≡ map has (groups_in (plain_leaves leaves) es)
     → text ≡ report_of case.first case.last case.threshold case.tracks (told found.wanted.tells.sizes case.sizes) found.wanted.tells.coverage approach has (groups_in (plain_leaves leaves) es))
-    → text ≡ report_bytes found.wanted.tells (case_in found) (plain_leaves found.leaves.items)
+    → text ≡ report_bytes found.wanted.tells (case_in found) (list_candidates (case_in found))
 report_is found leaves es xs bs text are p q r b given =
     let case = case_in found in
-    let groups : groups_in (plain_leaves leaves) es ≡ encounters_of (plain_leaves found.leaves.items) = (λ i. groups_in (plain_leaves (p i)) (q i)) ∙ are.encounters.groups in
+    let groups : groups_in (plain_leaves leaves) es ≡ encounters_in case = (λ i. groups_in (plain_leaves (p i)) (q i)) ∙ groups_are found are in
     let each = ap (map some_closest) r ∙ are.closest ∙ sym (λ i. map (closest_of case) (groups_in (plain_leaves (p i)) (q i))) in
     let noted = b ∙ are.messages ∙ sym (λ i. map (has_message case) (groups_in (plain_leaves (p i)) (q i))) in
     given (closest_of case) (has_message case) each noted

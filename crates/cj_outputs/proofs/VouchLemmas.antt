@@ -110,20 +110,20 @@ judged P bytes due follows = go (bytes_eq bytes due) refl
     go false is = record { between = tt; read = λ e. absurd cc; told = refl; holds = tt }
 
 -- no more cells than may be
-few_enough : (tells : Tells) (case : PlainProblem) (cells : List PlainLeaf) (bytes : List ℕ) → length cells ≤ 4_000_000
-    → report_accepting tells case cells bytes ≡ as_due bytes (report_bytes tells case cells)
+few_enough : (limit : ℕ) (tells : Tells) (case : PlainProblem) (cells : List PlainLeaf) (bytes : List ℕ) → length cells ≤ limit
+    → report_accepting limit tells case cells bytes ≡ as_due bytes (report_bytes tells case cells)
 unfolding report_accepting
-few_enough tells case cells bytes few =
-    let small : nat_le (length cells) 4_000_000 ≡ true = grind (arith, nat_tests) in
+few_enough limit tells case cells bytes few =
+    let small : nat_le (length cells) limit ≡ true = grind (arith, nat_tests) in
     rw small refl
 
 -- a report that is judged by the text that is due of these cells
-pub report_judged : (tells : Tells) (case : PlainProblem) (cells : List PlainLeaf) (bytes due : List ℕ) (r : Result (Unit {0}) Status) → length cells ≤ 4_000_000
+pub report_judged : (limit : ℕ) (tells : Tells) (case : PlainProblem) (cells : List PlainLeaf) (bytes due : List ℕ) (r : Result (Unit {0}) Status) → length cells ≤ limit
     → r ≡ as_due bytes due → due ≡ report_bytes tells case cells → CellsSplit case cells → HaveExactSpans cells → All (HasNearest case) (encounters_of cells)
-    → Judges (AcceptedReport tells case cells bytes) r (report_accepting tells case cells bytes)
-report_judged tells case cells bytes due r few is text split spans nearest =
-    let whole : report_accepting tells case cells bytes ≡ as_due bytes due = few_enough tells case cells bytes few ∙ sym (ap (as_due bytes) text) in
-    subst (λ (q : Result (Unit {0}) Status). Judges (AcceptedReport tells case cells bytes) q (report_accepting tells case cells bytes)) (sym is)
+    → Judges (AcceptedReport tells case cells bytes) r (report_accepting limit tells case cells bytes)
+report_judged limit tells case cells bytes due r few is text split spans nearest =
+    let whole : report_accepting limit tells case cells bytes ≡ as_due bytes due = few_enough limit tells case cells bytes few ∙ sym (ap (as_due bytes) text) in
+    subst (λ (q : Result (Unit {0}) Status). Judges (AcceptedReport tells case cells bytes) q (report_accepting limit tells case cells bytes)) (sym is)
     (subst (λ (d : Result (Unit {0}) Status). Judges (AcceptedReport tells case cells bytes) (as_due bytes due) d) (sym whole)
     (judged (AcceptedReport tells case cells bytes) bytes due
     (λ same. record { text = same ∙ text; split = spans_split case cells split spans; nearest = nearest })))

@@ -1,6 +1,7 @@
 -- What a check says that accepts a certificate, and of the report beside it.
 use Rattle.std.specs.Prelude.{◌≡◌, ℕ, List, [], ◌∷◌, ◌++◌, Option, Some, Ok, All, IfSome}
 use Rattle.cj_io.specs.declared.file.FileBytes.{FileBytes}
+use Rattle.cj_words.specs.Limits.{most_certificate_bytes}
 use Rattle.cj_words.specs.Commands.{PlainChecking}
 use Rattle.cj_case.specs.PlainProblems.{PlainProblem}
 use Rattle.cj_case.specs.Leaves.{PlainLeaf}
@@ -36,7 +37,7 @@ pub record AcceptedReport (tells : Tells) (case : PlainProblem) (cells : List Pl
 -- Those of the file with this name are so. The report tells the sizes where the command line names a file of them.
 pub record VouchesReport (checking : PlainChecking) (files : List FileBytes) (case : PlainProblem) (cells : List PlainLeaf) (name : List ℕ) : Type 0 where
   pub bytes : List ℕ
-  pub named : report_named files name ≡ Ok bytes
+  pub named : report_named (most_certificate_bytes checking.settings.large) files name ≡ Ok bytes
   pub holds : AcceptedReport (tells_of checking.settings) case cells bytes
 
 -- Those of the named certificate are accepted, for the case that was asked; and where a report is named, it is that of the certificate's cells.
@@ -44,7 +45,7 @@ pub record Vouches (checking : PlainChecking) (files : List FileBytes) : Type 0 
   pub case : PlainProblem
   pub read : case_with_updates files checking.settings checking.update ≡ Ok case
   pub bytes : List ℕ
-  pub named : certificate_named files checking.certificate ≡ Ok bytes
+  pub named : certificate_named (most_certificate_bytes checking.settings.large) files checking.certificate ≡ Ok bytes
   pub holds : AcceptedText case bytes
   pub reported : IfSome checking.report (VouchesReport checking files case (cells_in holds.certificate))
 

@@ -5,6 +5,7 @@ pub mod Differences
 pub mod Either
 pub mod EitherKept
 pub mod Findings
+pub mod Lines
 pub mod Meetings
 pub mod Messages
 pub mod Origins

@@ -5,6 +5,7 @@ use Rattle.std.specs.Str.{bytes_eq}
 use Rattle.cj_io.specs.declared.file.FileBytes.{FileBytes}
 use Rattle.cj_io.specs.Files.{IsPrefix}
 use Rattle.cj_base.specs.Limits.{USUAL}
+use Rattle.cj_words.specs.Limits.{most_told}
 use Rattle.cj_words.specs.declared.option.UsageFault.{UsageFault}
 use Rattle.cj_words.specs.Commands.{PlainCommand, Screens, Checks, Generates, Selfruns, Rewrites, Thins, Rescreens, PlainChecking, PlainRescreening, PlainScreening, PlainSelfrun, command_of}
 use Rattle.cj_words.specs.Settings.{PlainSettings}
@@ -12,6 +13,7 @@ use Rattle.cj_gen.specs.Catalogues.{catalogue_of}
 use Rattle.cj_case.specs.Pairs.{pairs_of}
 use Rattle.cj_case.specs.PlainProblems.{PlainProblem}
 use Rattle.cj_bezier.specs.Candidates.{is_candidate_anew, is_kept_unchanged}
+use Rattle.cj_bezier.specs.ToldLeaves.{told_leaves}
 use Rattle.cj_inputs.specs.Cases.{case_asked}
 use Rattle.cj_inputs.specs.Coverings.{case_covered, cases_covered}
 use Rattle.cj_inputs.specs.CheckInputs.{inputs_asked}
@@ -26,11 +28,12 @@ use Rattle.cj_report.specs.Summary.{changed_summary, kept_line, summary_of, unco
 use Rattle.cj_report.specs.declared.tells.Tells.{Tells}
 use Rattle.cj_cert_text.specs.Reading.{Fault}
 use Rattle.cj_formats.specs.declared.cert_format.CertFormat.{CertFormat}
+use Rattle.cj_formats.specs.declared.cert_format.CertFormat.TheVariants.{Full, Brief}
 use Rattle.cj_checker.specs.First.{Failure}
 use Rattle.cj_status.specs.declared.status.Status.{Status}
 use Rattle.cj_status.specs.declared.status.Status.TheVariants as status
 use Rattle.cj_status.specs.declared.status.CertificateCause.TheVariants.{Text, Refused, Report}
-use Rattle.cj_status.specs.declared.status.LimitFault.TheVariants.{Cells}
+use Rattle.cj_status.specs.declared.status.LimitFault.TheVariants.{Cells, Told}
 use Rattle.cj_status.specs.Steps.{◌>>=◌}
 use Rattle.cj_outputs.specs.Differences.{differing_line}
 use Rattle.cj_outputs.specs.Either.{PlainAnyCertificate, any_failure, any_reading, any_renewed, any_written, cells_in, text_in}
@@ -45,6 +48,18 @@ asked (Err fault) = Err (status.Usage fault)
 -- at most so many leaves
 abbrev pub within_cells : ℕ → List PlainLeaf → Result (List PlainLeaf) Status
 within_cells limit leaves = if nat_le (length leaves) limit then Ok leaves else Err (status.Limit (Cells limit))
+
+-- the leaves that a certificate in brief tells; one in full is made of boxes and all leaves, and asks for none apart
+abbrev pub told_in : CertFormat → PlainProblem → List PlainLeaf
+told_in (Full version) case = []
+told_in Brief case = told_leaves case
+
+-- at most so many of these
+abbrev pub few_told : ℕ → ℕ → Result (Unit {0}) Status
+few_told limit count = if nat_le count limit then Ok tt else Err (status.Limit (Told limit))
+
+abbrev pub within_told : ℕ → CertFormat → PlainProblem → Result (Unit {0}) Status
+within_told limit format case = few_told limit (length (told_in format case))
 
 abbrev pub output : List ℕ → List ℕ → FileBytes
 output name bytes = record { name = name; bytes = bytes }
@@ -99,6 +114,13 @@ unfoldable pub outputs_within : ℕ → Tells → CertFormat → PlainOrigin →
 outputs_within limit tells format origin behind case =
     within_cells limit (list_candidates case) >>= λ leaves. Ok (outputs_with tells format origin behind case leaves)
 
+-- the same where its certificate tells at most so many leaves
+unfoldable pub outputs_limited : ℕ → ℕ → Tells → CertFormat → PlainOrigin → List ℕ → PlainProblem → Result (List FileBytes) Status
+outputs_limited limit most tells format origin behind case = do
+  outputs ← outputs_within limit tells format origin behind case
+  done ← within_told most format case
+  Ok outputs
+
 -- what the report is to tell
 abbrev pub tells_of : PlainSettings → Tells
 tells_of settings = record { sizes = is_some settings.sizes; coverage = settings.coverage }
@@ -111,7 +133,7 @@ origin_of now screening = record { created = now; originator = screening.origina
 unfoldable pub outputs_screened : List FileBytes → ℕ → PlainScreening → Result (List FileBytes) Status
 outputs_screened files now screening = do
   case ← case_covered files screening.settings
-  outputs_within screening.cells (tells_of screening.settings) screening.format (origin_of now screening) [] case
+  outputs_limited screening.cells (most_told screening.settings.large) (tells_of screening.settings) screening.format (origin_of now screening) [] case
 
 -- ---- screening again
 
@@ -198,21 +220,21 @@ accepting brief case bytes = do
 abbrev pub as_due : List ℕ → List ℕ → Result (Unit {0}) Status
 as_due bytes due = if bytes_eq bytes due then Ok tt else Err (status.NotAccepted (differing_line bytes due) Report)
 
--- the bytes are the report of a case with the encounters of these cells, of which there are at most 4,000,000
-unfoldable pub report_accepting : Tells → PlainProblem → List PlainLeaf → List ℕ → Result (Unit {0}) Status
-report_accepting tells case cells bytes = within_cells 4_000_000 cells >>= λ few. as_due bytes (report_bytes tells case few)
+-- the bytes are the report of a case with the encounters of these cells, of which there are at most so many
+unfoldable pub report_accepting : ℕ → Tells → PlainProblem → List PlainLeaf → List ℕ → Result (Unit {0}) Status
+report_accepting limit tells case cells bytes = within_cells limit cells >>= λ few. as_due bytes (report_bytes tells case few)
 
 -- the same of a report that may be named
-abbrev pub report_if_accepting : Tells → PlainProblem → List PlainLeaf → Option (List ℕ) → Result (Unit {0}) Status
-report_if_accepting tells case cells None = Ok tt
-report_if_accepting tells case cells (Some bytes) = report_accepting tells case cells bytes
+abbrev pub report_if_accepting : ℕ → Tells → PlainProblem → List PlainLeaf → Option (List ℕ) → Result (Unit {0}) Status
+report_if_accepting limit tells case cells None = Ok tt
+report_if_accepting limit tells case cells (Some bytes) = report_accepting limit tells case cells bytes
 
 -- the output of a check, or the first cause for which there is none
 unfoldable pub outputs_checked : List FileBytes → PlainChecking → Result (List FileBytes) Status
 outputs_checked files checking = do
   inputs ← inputs_asked files checking
   certificate ← accepting checking.brief inputs.case inputs.bytes
-  done ← report_if_accepting (tells_of checking.settings) inputs.case (cells_in certificate) inputs.report
+  done ← report_if_accepting checking.settings.limits.leaves (tells_of checking.settings) inputs.case (cells_in certificate) inputs.report
   Ok (accepted_output ∷ [])
 
 -- the outputs of a certificate that is rewritten: its text, and for standard output that it is
@@ -237,6 +259,7 @@ settings_of_selfrun selfrun = record {
   sizes = None;
   coverage = false;
   must_cover = false;
+  large = false;
   limits = USUAL;
 }
 
@@ -298,9 +321,9 @@ PartlyPut due old new = (front : List FileBytes) × IsPartOf front due × (new �
 abbrev pub AreOutputs : Result (List FileBytes) Status → Type 0
 AreOutputs due = (outputs : List FileBytes) × (due ≡ Ok outputs)
 
--- the cause to put none is that there are too many leaves, which alone is found behind a shelf's refusal
+-- the cause to put none is that there are too many leaves, or too many that are told, which alone is found behind a shelf's refusal
 abbrev pub AreTooManyCells : Result (List FileBytes) Status → Type 0
-AreTooManyCells due = (limit : ℕ) × (due ≡ Err (status.Limit (Cells limit)))
+AreTooManyCells due = (limit : ℕ) × ((due ≡ Err (status.Limit (Cells limit))) ⊎ (due ≡ Err (status.Limit (Told limit))))
 
 -- Which status comes of a run over told files. Status 0 or a write fault: outputs were due, but a shelf that refused the run did so before
 -- its leaves were counted. A cause: it is the first. A read fault: the folder's count rose. Want of memory: whatever is due.

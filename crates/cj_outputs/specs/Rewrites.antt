@@ -1,6 +1,7 @@
 -- What a rewriting says of the certificate that it puts.
 use Rattle.std.specs.Prelude.{◌≡◌, ℕ, ◌≤◌, List, ◌++◌, length, Option, Some, None, Ok}
 use Rattle.cj_io.specs.declared.file.FileBytes.{FileBytes}
+use Rattle.cj_words.specs.Limits.{most_certificate_bytes}
 use Rattle.cj_words.specs.Commands.{PlainChecking}
 use Rattle.cj_case.specs.PlainProblems.{PlainProblem}
 use Rattle.cj_inputs.specs.CheckInputs.{certificate_named}
@@ -24,9 +25,10 @@ pub record Renews (checking : PlainChecking) (files : List FileBytes) (renewed :
   pub case : PlainProblem
   pub read : case_with_updates files checking.settings checking.update ≡ Ok case
   pub bytes : List ℕ
-  pub named : certificate_named files checking.certificate ≡ Ok bytes
+  pub named : certificate_named (most_certificate_bytes checking.settings.large) files checking.certificate ≡ Ok bytes
   pub holds : RenewedText case bytes renewed
-  pub later : checking.update ≡ None → length (text_in renewed) ≤ 1_073_741_824 → IsAcceptedLater checking.settings checking.brief files (text_in renewed)
+  pub later : checking.update ≡ None → length (text_in renewed) ≤ most_certificate_bytes checking.settings.large
+      → IsAcceptedLater checking.settings checking.brief files (text_in renewed)
 
 -- the new outputs are its text and that it was rewritten
 pub record IsRewritten (checking : PlainChecking) (files old : List FileBytes) (new : Option (List FileBytes)) : Type 0 where

@@ -6,6 +6,7 @@ ghost use Rattle.cj_case.specs.Problems.{plain_problem};
 ghost use Rattle.cj_checker.specs.Answers.{failure_of};
 ghost use Rattle.cj_cert.specs.Splits.{CellsSplit};
 ghost use Rattle.cj_cert_text.specs.Readers.{Gives as Reads};
+ghost use Rattle.cj_words.specs.Limits.{MOST_CERTIFICATE_BYTES};
 ghost use Rattle.cj_words.specs.Commands.{plain_checking};
 ghost use Rattle.cj_outputs.specs.Checks.{AcceptedText, Vouches};
 ghost use Rattle.cj_outputs.specs.Either as either;
@@ -16,11 +17,11 @@ ghost use Rattle.cj_status.specs.Steps.{Gives, ComesBetween};
 
 use crate::any_certificate::AnyCertificate;
 use crate::differing::tell_differences;
+use crate::processors::processors;
 use crate::reporting::tells_of;
 use crate::vouching::accept_report;
 use cj_brief::acceptance_in_brief;
 use cj_brief_checker::check_in_brief;
-use cj_candidates::measure_all;
 use cj_case::Problem;
 use cj_cert::acceptance;
 use cj_cert_text::{CertFault, read_brief, read_cert};
@@ -31,9 +32,6 @@ use cj_status::{CertificateCause, Status};
 use cj_words::Checking;
 use std::alloc::{AllocError, Global};
 use std::thread::Threads;
-
-/// How many workers parse files, or make texts, for a command that asks for none.
-pub const WORKERS: u32 = 1;
 
 /// Checks the certificate that is named, and the report, where one is named. It answers an error where the certificate is not accepted for the
 /// files, and where the report is not that of its cells.
@@ -59,7 +57,7 @@ pub fn check_certificate<R: Threads + Sync, F: Folder, G: Gate + Sync>(
         problem,
         certificate,
         report,
-    } = prepare_check(rt, alloc, gate, folder, checking, WORKERS)?;
+    } = prepare_check(rt, alloc, gate, folder, checking, processors(rt))?;
     let accepted = accept(rt, alloc, gate, &problem, certificate, checking.brief)?;
     let cells = accepted.into_cells()?;
     accept_report(
@@ -69,11 +67,13 @@ pub fn check_certificate<R: Threads + Sync, F: Folder, G: Gate + Sync>(
         &problem,
         tells_of(&checking.settings),
         &cells,
+        checking.settings.limits.leaves,
         report,
     )
 }
 
-/// Reads a certificate that is accepted for a problem, which may be in brief where that is asked. Of one that is refused the gate is told in what it differs from the problem.
+/// Reads a certificate that is accepted for a problem, which may be in brief where that is asked. Of one that is refused the gate is told in what it
+/// differs from the problem.
 #[tactic(auto, unfolding(crate::specs::Outcome::accepting))]
 pub fn accept<R: Threads + Sync, G: Gate + Sync>(
     rt: &R,
@@ -83,7 +83,7 @@ pub fn accept<R: Threads + Sync, G: Gate + Sync>(
     bytes: Vec<u8>,
     brief: bool,
 ) -> Result<AnyCertificate, Status>
-    requires { length bytes.items ≤ 1_073_741_824 }
+    requires { length bytes.items ≤ MOST_CERTIFICATE_BYTES }
     ensures between { IfErr result ComesBetween }
     ensures read { result ≢ Err Status.ReadFault }
     ensures told { Gives ⊥ plain_any result (spec.accepting brief (plain_problem problem.now) bytes.items) }
@@ -95,7 +95,7 @@ pub fn accept<R: Threads + Sync, G: Gate + Sync>(
     ensures split { IfOk result (λ c. CellsSplit (plain_problem problem.now) (cells_in (plain_any c))) }
 {
     let certificate = read(alloc, bytes, brief)?;
-    match judge(rt, alloc, gate, problem, &certificate)? {
+    match judge(rt, alloc, problem, &certificate)? {
         Answer::Accepted => Ok(certificate),
         Answer::Refused { line, cause } => {
             tell_differences(gate, problem, certificate.stated(), cause);
@@ -107,11 +107,10 @@ pub fn accept<R: Threads + Sync, G: Gate + Sync>(
     }
 }
 
-/// Whether a certificate is accepted for a problem. One in brief lists no boxes: those of the objects are measured for it.
-fn judge<R: Threads + Sync, G: Gate + Sync>(
+/// Whether a certificate is accepted for a problem.
+fn judge<R: Threads + Sync>(
     rt: &R,
     alloc: Global,
-    gate: &G,
     problem: &Problem,
     certificate: &AnyCertificate,
 ) -> Result<Answer, AllocError>
@@ -123,17 +122,18 @@ fn judge<R: Threads + Sync, G: Gate + Sync>(
     acceptance(problem);
     acceptance_in_brief(problem);
     match certificate {
-        AnyCertificate::InFull(certificate) => check(alloc, problem, certificate),
+        AnyCertificate::InFull(certificate) => {
+            check(rt, alloc, problem, certificate, processors(rt))
+        }
         AnyCertificate::InBrief(certificate) => {
-            let measured = measure_all(rt, alloc, gate, problem, WORKERS)?;
-            check_in_brief(alloc, problem, &measured, certificate)
+            check_in_brief(rt, alloc, problem, certificate, processors(rt))
         }
     }
 }
 
 /// The certificate that a text says, in brief where that is asked and it begins so. The text is dropped.
 fn read(alloc: Global, bytes: Vec<u8>, brief: bool) -> Result<AnyCertificate, Status>
-    requires { length bytes.items ≤ 1_073_741_824 }
+    requires { length bytes.items ≤ MOST_CERTIFICATE_BYTES }
     ensures between { IfErr result ComesBetween }
     ensures read { result ≢ Err Status.ReadFault }
     ensures told { Gives ⊥ plain_any result (spec.said_or (either.any_reading brief bytes.items)) }
@@ -153,7 +153,7 @@ fn read(alloc: Global, bytes: Vec<u8>, brief: bool) -> Result<AnyCertificate, St
 
 /// The certificate of either kind that a text says.
 fn read_either(alloc: Global, bytes: &[u8], brief: bool) -> Result<AnyCertificate, CertFault>
-    requires { length bytes.now ≤ 1_073_741_824 }
+    requires { length bytes.now ≤ MOST_CERTIFICATE_BYTES }
     ensures value { Reads plain_any result (either.any_reading brief bytes.now) }
     ensures may { IfOk result (λ c. MayRead brief (plain_any c)) }
     ensures only { IfOk result (λ c. (bytes.now ≡ text_in (plain_any c)) × FitsIn (plain_any c)) }

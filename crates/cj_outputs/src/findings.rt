@@ -1,5 +1,6 @@
+use crate::lines::Lines;
 use crate::wanted::Wanted;
-use cj_case::{Closest, Encounter, Leaf, Measured, Problem};
+use cj_case::{Closest, Encounter, Problem};
 use cj_report::Counts;
 
 /// What stands behind a summary.
@@ -18,13 +19,9 @@ pub struct Findings {
     pub problem: Problem,
     /// How it was found, and what is wanted of its outputs.
     pub wanted: Wanted,
-    /// The shells and boxes of its objects.
-    pub measured: Measured,
-    /// The leaves of all candidates, in order of pair and time.
-    pub leaves: Vec<Leaf>,
-    /// Where the certificate is in brief, those of the roots that are not far throughout, in order of slot, pair and time; else none.
-    pub told: Vec<Leaf>,
-    /// The encounters of the leaves.
+    /// What its certificate is made of, and the leaves of which the encounters are.
+    pub lines: Lines,
+    /// The encounters of those leaves.
     pub encounters: Vec<Encounter>,
     /// The closest approach of each encounter.
     pub closest: Vec<Closest>,

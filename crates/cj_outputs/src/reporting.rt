@@ -5,10 +5,12 @@ ghost use Rattle.cj_io.specs.Parts.{joined};
 ghost use Rattle.cj_io.specs.declared.file.FileBytes.{FileBytes};
 ghost use Rattle.cj_formats.specs.declared.cert_format.CertFormat.TheVariants.{Full, Brief};
 ghost use Rattle.cj_formats.specs.declared.cert_version.CertVersion.TheVariants.{One, Two};
+ghost use Rattle.cj_case.specs.Problems.{plain_problem};
 ghost use Rattle.cj_cert.specs.Certificates.{plain_certificate};
 ghost use Rattle.cj_blocks.specs.Rewritten.{written_in};
 ghost use Rattle.cj_cert_text.specs.TextLeft.{text_left};
-ghost use Rattle.cj_outputs.specs.Findings.{AreFound, case_in, cert_in, ended, lines_of, outputs_in, report_in, summary_in};
+ghost use Rattle.cj_outputs.specs.Findings.{AreFound, cert_in, ended, lines_of, outputs_in, report_in, summary_in};
+ghost use Rattle.cj_outputs.specs.Lines.{AreInBrief, AreInFull};
 ghost use Rattle.cj_outputs.specs.Origins.{plain_origin};
 ghost use Rattle.cj_outputs.specs.Outcome as spec;
 ghost use Rattle.cj_outputs.specs.Outcome.{ComesOfPuts, Leaves, cert_bytes};
@@ -16,14 +18,15 @@ ghost use Rattle.cj_words.specs.Settings.{plain_settings};
 
 use crate::coverage::push_coverage;
 use crate::findings::{Behind, Findings};
+use crate::lines::Lines;
 use crate::messages::put_messages;
 use crate::origin::Origin;
 use crate::putting::{put, put_made, put_parts};
 use cj_blocks::certificate_in_blocks;
-use cj_brief::certificate_in_brief;
+use cj_case::{Leaf, Measured, Problem, Shell};
 use cj_cert::Certificate;
-use cj_cert_text::{CertificateText, brief_parts, cert_parts};
-use cj_formats::{CertFormat, CertVersion};
+use cj_cert_text::{CertificateText, cert_parts};
+use cj_formats::CertVersion;
 use cj_io::{Shelf, StreamShelf};
 use cj_report::{Tells, push_kept, report_text, summary_text};
 use cj_sieve::kept_pairs;
@@ -65,7 +68,7 @@ fn put_report<S: Shelf>(alloc: Global, shelf: &mut S, found: &Findings) -> Resul
         alloc,
         &found.problem,
         found.wanted.tells,
-        &found.leaves,
+        found.lines.met(),
         &found.encounters,
         &found.closest,
         &found.messages,
@@ -86,82 +89,90 @@ fn put_certificate<R: Threads + Sync, S: StreamShelf>(
     ensures leaves { (old : List FileBytes) → S.outputs shelf.old ≡ Some old → Leaves (ended result) (Ok (cert_in found.now ∷ [])) old (S.outputs shelf.new) }
     ensures later { S.faults shelf.old ≤ S.faults shelf.new }
 {
-    match found.wanted.format {
-        CertFormat::Full(CertVersion::One) => {
-            let mut text = certificate_text(alloc, found)?;
+    let Findings {
+        problem,
+        wanted,
+        lines,
+        ..
+    } = found;
+    match lines {
+        Lines::InFull {
+            version: CertVersion::One,
+            measured,
+            leaves,
+        } => {
+            let mut text = certificate_text(alloc, problem, measured, leaves, wanted.workers)?;
             put_made(rt, alloc, shelf, b"screen.cert", &mut text)
         }
-        CertFormat::Full(CertVersion::Two) => {
-            let parts = parts_by_blocks(rt, alloc, found)?;
+        Lines::InFull {
+            version: CertVersion::Two,
+            measured,
+            leaves,
+        } => {
+            let parts = parts_by_blocks(rt, alloc, problem, measured, leaves, wanted.workers)?;
             put_parts(alloc, shelf, b"screen.cert", &parts)
         }
-        CertFormat::Brief => {
-            let parts = parts_in_brief(rt, alloc, found)?;
-            put_parts(alloc, shelf, b"screen.cert", &parts)
+        Lines::InBrief { shells, told, .. } => {
+            let mut text = text_in_brief(alloc, problem, shells, told, wanted.workers)?;
+            put_made(rt, alloc, shelf, b"screen.cert", &mut text)
         }
     }
 }
 
-/// The text of the certificate in version 1, which is still to be made.
-fn certificate_text(alloc: Global, found: &Findings) -> Result<CertificateText<'_>, AllocError>
-    requires { AreFound found.now }
-    ensures { IfOk result (λ text. text_left text ≡ cert_bytes (Full One) (case_in found.now)) }
+/// The text of the certificate of a problem in version 1, which is still to be made.
+fn certificate_text<'f>(
+    alloc: Global,
+    problem: &'f Problem,
+    measured: &'f Measured,
+    leaves: &'f [Leaf],
+    workers: u32,
+) -> Result<CertificateText<'f>, AllocError>
+    requires { AreInFull (plain_problem problem.now) measured.now leaves.now }
+    ensures { IfOk result (λ text. text_left text ≡ cert_bytes (Full One) (plain_problem problem.now)) }
 {
-    let Findings {
-        problem,
-        wanted,
-        measured,
-        leaves,
-        ..
-    } = found;
-    CertificateText::new(alloc, problem, measured, leaves, wanted.workers)
+    CertificateText::new(alloc, problem, measured, leaves, workers)
 }
 
 /// The text of the certificate in version 2, in parts.
 fn parts_by_blocks<R: Threads + Sync>(
     rt: &R,
     alloc: Global,
-    found: &Findings,
+    problem: &Problem,
+    measured: &Measured,
+    leaves: &[Leaf],
+    workers: u32,
 ) -> Result<Vec<Vec<u8>>, AllocError>
-    requires { AreFound found.now }
-    ensures { IfOk result (λ parts. joined parts.items ≡ cert_bytes (Full Two) (case_in found.now)) }
+    requires { AreInFull (plain_problem problem.now) measured.now leaves.now }
+    ensures { IfOk result (λ parts. joined parts.items ≡ cert_bytes (Full Two) (plain_problem problem.now)) }
 {
-    let certificate = certificate_by_blocks(alloc, found)?;
-    cert_parts(rt, alloc, &certificate, found.wanted.workers)
+    let certificate = certificate_by_blocks(alloc, problem, measured, leaves)?;
+    cert_parts(rt, alloc, &certificate, workers)
 }
 
-/// The text of the certificate in brief, in parts.
-fn parts_in_brief<R: Threads + Sync>(
-    rt: &R,
+/// The text of the certificate in brief, which is still to be made.
+fn text_in_brief<'f>(
     alloc: Global,
-    found: &Findings,
-) -> Result<Vec<Vec<u8>>, AllocError>
-    requires found { AreFound found.now }
-    requires brief { found.now.wanted.format ≡ Brief }
-    ensures { IfOk result (λ parts. joined parts.items ≡ cert_bytes Brief (case_in found.now)) }
+    problem: &Problem,
+    shells: &[Option<Shell>],
+    told: &'f [Leaf],
+    workers: u32,
+) -> Result<CertificateText<'f>, AllocError>
+    requires { AreInBrief (plain_problem problem.now) shells.now told.now }
+    ensures { IfOk result (λ text. text_left text ≡ cert_bytes Brief (plain_problem problem.now)) }
 {
-    let Findings {
-        problem,
-        wanted,
-        measured,
-        told,
-        ..
-    } = found;
-    let certificate = certificate_in_brief(alloc, problem, &measured.shells, told)?;
-    brief_parts(rt, alloc, &certificate, wanted.workers)
+    CertificateText::in_brief(alloc, problem, shells, told, workers)
 }
 
 /// The certificate in version 2, with blocks by the pairs that are kept.
-fn certificate_by_blocks(alloc: Global, found: &Findings) -> Result<Certificate, AllocError>
-    requires { AreFound found.now }
-    ensures { IfOk result (λ cert. plain_certificate cert ≡ written_in Two (case_in found.now)) }
+fn certificate_by_blocks(
+    alloc: Global,
+    problem: &Problem,
+    measured: &Measured,
+    leaves: &[Leaf],
+) -> Result<Certificate, AllocError>
+    requires { AreInFull (plain_problem problem.now) measured.now leaves.now }
+    ensures { IfOk result (λ cert. plain_certificate cert ≡ written_in Two (plain_problem problem.now)) }
 {
-    let Findings {
-        problem,
-        measured,
-        leaves,
-        ..
-    } = found;
     let kept = kept_pairs(
         alloc,
         &measured.shells,

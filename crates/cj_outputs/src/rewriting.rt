@@ -17,8 +17,9 @@ ghost use Rattle.cj_outputs.specs.Rewrites.{Renews};
 ghost use Rattle.cj_status.specs.Steps.{Gives, ComesBetween};
 
 use crate::any_certificate::AnyCertificate;
-use crate::checking::{WORKERS, accept};
+use crate::checking::accept;
 use crate::later::accepted_later;
+use crate::processors::processors;
 use crate::putting::{put, put_parts};
 use cj_blocks::{in_version_2, listed_shells};
 use cj_case::Problem;
@@ -56,7 +57,7 @@ pub fn rewrite_certificate<R: Threads + Sync, F: Folder, G: Gate + Sync>(
         problem,
         certificate,
         ..
-    } = prepare_check(rt, alloc, gate, folder, checking, WORKERS)?;
+    } = prepare_check(rt, alloc, gate, folder, checking, processors(rt))?;
     let accepted = accept(rt, alloc, gate, &problem, certificate, checking.brief)?;
     accepted_later(&problem);
     Ok(renewed(alloc, &problem, accepted)?)
@@ -123,7 +124,7 @@ fn text_parts<R: Threads + Sync>(
     ensures { IfOk result (λ parts. joined parts.items ≡ text_in (plain_any certificate.now)) }
 {
     match certificate {
-        AnyCertificate::InFull(certificate) => cert_parts(rt, alloc, certificate, WORKERS),
-        AnyCertificate::InBrief(certificate) => brief_parts(rt, alloc, certificate, WORKERS),
+        AnyCertificate::InFull(certificate) => cert_parts(rt, alloc, certificate, processors(rt)),
+        AnyCertificate::InBrief(certificate) => brief_parts(rt, alloc, certificate, processors(rt)),
     }
 }

@@ -1,6 +1,7 @@
 //! Whether a report is that of the cells of an accepted certificate.
 ghost use Rattle.std.specs.Prelude.{◌≡◌, ◌≢◌, ◌≤◌, Err, All, IfOk, IfErr, IfSome, OnOk, count_by, length, map, option_map};
 ghost use Rattle.cj_base.specs.Bounds.{MOST_LEAVES};
+ghost use Rattle.cj_words.specs.Limits.{MOST_CERTIFICATE_BYTES};
 ghost use Rattle.cj_case.specs.Problems.{plain_problem};
 ghost use Rattle.cj_case.specs.Leaves.{plain_leaf, plain_leaves};
 ghost use Rattle.cj_case.specs.Order.{AreInOrder};
@@ -14,8 +15,8 @@ ghost use Rattle.cj_outputs.specs.Differences as text;
 ghost use Rattle.cj_outputs.specs.Outcome as spec;
 ghost use Rattle.cj_status.specs.Steps.{Gives, ComesBetween};
 
-use crate::checking::WORKERS;
 use crate::meetings::find_meetings;
+use crate::processors::processors;
 use cj_case::{Cell, Leaf, Problem};
 use cj_cert::CellLine;
 use cj_io::Gate;
@@ -24,11 +25,8 @@ use cj_status::{CertificateCause, LimitFault, Status};
 use std::alloc::{AllocError, Global};
 use std::thread::Threads;
 
-/// The greatest number of cells beside which a report is checked: as many as the leaves of a run.
-const MAX_CELLS: usize = 4_000_000;
-
 /// Accepts the bytes of a report, where there are any, that are the report of a problem with the encounters of these cells of an accepted
-/// certificate. The report is to tell the sizes, or not.
+/// certificate, of which there are at most so many. The report is to tell the sizes, or not.
 pub fn accept_report<R: Threads + Sync, G: Gate + Sync>(
     rt: &R,
     alloc: Global,
@@ -36,26 +34,28 @@ pub fn accept_report<R: Threads + Sync, G: Gate + Sync>(
     problem: &Problem,
     tells: Tells,
     cells: &[CellLine],
+    most_cells: u64,
     report: Option<Vec<u8>>,
 ) -> Result<(), Status>
-    requires small { IfSome report (λ bytes. length bytes.items ≤ 1_073_741_824) }
+    requires small { IfSome report (λ bytes. length bytes.items ≤ MOST_CERTIFICATE_BYTES) }
+    requires few { most_cells ≤ MOST_LEAVES }
     requires in_order { AreInOrder (map plain_cell_line cells.now) }
     requires pieces { KeepTheirPieces (plain_problem problem.now) (map plain_cell_line cells.now) }
     requires split { CellsSplit (plain_problem problem.now) (map plain_cell_line cells.now) }
     ensures between { IfErr result ComesBetween }
     ensures read { result ≢ Err Status.ReadFault }
     ensures told { Gives ⊥ (λ done. done) result
-        (spec.report_if_accepting tells (plain_problem problem.now) (map plain_cell_line cells.now) (option_map (λ bytes. bytes.items) report)) }
+        (spec.report_if_accepting most_cells tells (plain_problem problem.now) (map plain_cell_line cells.now) (option_map (λ bytes. bytes.items) report)) }
     ensures holds { OnOk result
         (IfSome report (λ bytes. AcceptedReport tells (plain_problem problem.now) (map plain_cell_line cells.now) bytes.items)) }
 {
     match report {
         None => Ok(()),
-        Some(bytes) => accept_bytes(rt, alloc, gate, problem, tells, cells, &bytes),
+        Some(bytes) => accept_bytes(rt, alloc, gate, problem, tells, cells, most_cells, &bytes),
     }
 }
 
-/// Accepts the bytes that are the report of a problem with the encounters of these cells.
+/// Accepts the bytes that are the report of a problem with the encounters of these cells, of which there are at most so many.
 #[tactic(auto, unfolding(crate::specs::Outcome::report_accepting))]
 fn accept_bytes<R: Threads + Sync, G: Gate + Sync>(
     rt: &R,
@@ -64,21 +64,21 @@ fn accept_bytes<R: Threads + Sync, G: Gate + Sync>(
     problem: &Problem,
     tells: Tells,
     cells: &[CellLine],
+    most_cells: u64,
     bytes: &[u8],
 ) -> Result<(), Status>
-    requires small { length bytes.now ≤ 1_073_741_824 }
+    requires small { length bytes.now ≤ MOST_CERTIFICATE_BYTES }
+    requires few { most_cells ≤ MOST_LEAVES }
     requires in_order { AreInOrder (map plain_cell_line cells.now) }
     requires pieces { KeepTheirPieces (plain_problem problem.now) (map plain_cell_line cells.now) }
     requires split { CellsSplit (plain_problem problem.now) (map plain_cell_line cells.now) }
     ensures between { IfErr result ComesBetween }
     ensures read { result ≢ Err Status.ReadFault }
-    ensures told { Gives ⊥ (λ done. done) result (spec.report_accepting tells (plain_problem problem.now) (map plain_cell_line cells.now) bytes.now) }
+    ensures told { Gives ⊥ (λ done. done) result (spec.report_accepting most_cells tells (plain_problem problem.now) (map plain_cell_line cells.now) bytes.now) }
     ensures holds { OnOk result (AcceptedReport tells (plain_problem problem.now) (map plain_cell_line cells.now) bytes.now) }
 {
-    if cells.len() > MAX_CELLS {
-        return Err(Status::Limit(LimitFault::Cells {
-            limit: MAX_CELLS as u64,
-        }));
+    if cells.len() as u64 > most_cells {
+        return Err(Status::Limit(LimitFault::Cells { limit: most_cells }));
     }
     let leaves = leaves_of(alloc, cells)?;
     let due = report_due(rt, alloc, gate, problem, tells, &leaves)?;
@@ -127,7 +127,7 @@ fn report_due<R: Threads + Sync, G: Gate + Sync>(
     ensures spans { HaveExactSpans (plain_leaves leaves.now) }
     ensures nearest { OnOk result (All (HasNearest (plain_problem problem.now)) (encounters_of (plain_leaves leaves.now))) }
 {
-    let met = find_meetings(rt, alloc, gate, problem, leaves, WORKERS)?;
+    let met = find_meetings(rt, alloc, gate, problem, leaves, processors(rt))?;
     report_text(
         alloc,
         problem,
@@ -141,7 +141,7 @@ fn report_due<R: Threads + Sync, G: Gate + Sync>(
 
 /// Accepts the bytes of a report that are those that are due.
 fn accept_as(bytes: &[u8], due: &[u8]) -> Result<(), Status>
-    requires { length bytes.now ≤ 1_073_741_824 }
+    requires { length bytes.now ≤ MOST_CERTIFICATE_BYTES }
     ensures { result ≡ spec.as_due bytes.now due.now }
 {
     if bytes == due {
@@ -156,7 +156,7 @@ fn accept_as(bytes: &[u8], due: &[u8]) -> Result<(), Status>
 
 /// The number of the line in which a text first differs from another, counted from 1.
 fn differing_line(bytes: &[u8], others: &[u8]) -> u32
-    requires { length bytes.now ≤ 1_073_741_824 }
+    requires { length bytes.now ≤ MOST_CERTIFICATE_BYTES }
     ensures { result ≡ text.differing_line bytes.now others.now }
 {
     common_lines(bytes, others) as u32 + 1

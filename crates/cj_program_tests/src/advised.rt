@@ -12,7 +12,7 @@ use cj_host::{Notice, asked_notice, notice_text};
 use cj_io::Name;
 use cj_kvn::KvnCause;
 use cj_status::{CertificateCause, FileCause, LimitFault, Status};
-use cj_words::{Opt, UsageFault, Verb, is_known, option_name};
+use cj_words::{LARGE, Opt, UsageFault, Verb, is_known, most_told, option_name};
 use std::alloc::{AllocError, Global};
 use std::panic::Expect;
 
@@ -120,7 +120,7 @@ fn hint_of(alloc: Global, line: &str) -> Result<Vec<u8>, AllocError> {
     hint_text(alloc, &Status::Usage(UsageFault::Words), Some(&words))
 }
 
-const SLIPS: [(&str, &[u8]); 32] = [
+const SLIPS: [(&str, &[u8]); 34] = [
     (
         "screen . --treshold 1000",
         b"hint: --treshold is no option of screen; nearest: --threshold\nhint: conj screen --help lists its options\n",
@@ -168,6 +168,14 @@ const SLIPS: [(&str, &[u8]); 32] = [
     (
         "check . --brief=1",
         b"hint: --brief has no value\nhint: write it alone\n",
+    ),
+    (
+        "screen . --large=1",
+        b"hint: --large has no value\nhint: write it alone\n",
+    ),
+    (
+        "rewrite . --large",
+        b"hint: --large is no option of rewrite; nearest: --from\nhint: it is an option of screen, check\n",
     ),
     (
         "rescreen . --changed=1",
@@ -272,26 +280,34 @@ fn words_that_are_not_there_or_not_text_are_told(rt: HostRuntime) {
 
 #[test]
 fn limits_are_told_as_they_are(rt: HostRuntime) {
-    let usual = Limits::USUAL;
-    let told: [(&str, u64); 4] = [
+    let (usual, large) = (Limits::USUAL, LARGE);
+    let told = [
         (
             advice_on(Cause::Limit(LimitCause::Objects)).means,
             u64::from(usual.objects),
+            u64::from(large.objects),
         ),
         (
             advice_on(Cause::Limit(LimitCause::Nodes)).means,
             usual.nodes,
+            large.nodes,
         ),
         (
             advice_on(Cause::Limit(LimitCause::Slots)).means,
             usual.object_slots,
+            large.object_slots,
         ),
-        (range_of(Opt::Cells).means, usual.leaves),
+        (range_of(Opt::Cells).means, usual.leaves, large.leaves),
     ];
-    for (text, limit) in &told {
-        let number = format!(in rt.alloc(); " {limit}").expect(&rt, "no fault");
+    for (text, usual, large) in &told {
+        let number = format!(in rt.alloc(); " {usual}").expect(&rt, "no fault");
+        assert!(rt; has(text.as_bytes(), number.as_bytes()), "{text}");
+        let number = format!(in rt.alloc(); " {large}").expect(&rt, "no fault");
         assert!(rt; has(text.as_bytes(), number.as_bytes()), "{text}");
     }
+    let told = advice_on(Cause::Limit(LimitCause::Told)).means;
+    let number = format!(in rt.alloc(); " {}", most_told(true)).expect(&rt, "no fault");
+    assert!(rt; has(told.as_bytes(), number.as_bytes()), "{told}");
 }
 
 #[test]
@@ -356,6 +372,7 @@ fn fault_of(alloc: Global, limit: LimitCause) -> Result<LimitFault, AllocError> 
         LimitCause::Window => LimitFault::Window { length: 1 },
         LimitCause::Slots => LimitFault::Slots { count: 4_000_001 },
         LimitCause::Cells => LimitFault::Cells { limit: 1 },
+        LimitCause::Told => LimitFault::Told { limit: 80_000_000 },
     };
     Ok(fault)
 }
@@ -482,7 +499,8 @@ fn option_behind(option: Opt) -> Option<Opt> {
         Opt::Brief => Some(Opt::Within),
         Opt::Within => Some(Opt::Warnings),
         Opt::Warnings => Some(Opt::AllFaults),
-        Opt::AllFaults => None,
+        Opt::AllFaults => Some(Opt::Large),
+        Opt::Large => None,
     }
 }
 

@@ -1,5 +1,5 @@
 //! Command lines of a screening again, and of updates.
-ghost use Rattle.std.specs.Prelude.{◌≡◌, is_some, true};
+ghost use Rattle.std.specs.Prelude.{◌≡◌, false, is_some, true};
 
 use crate::lines::{Case, fault_of, first_wrong, words};
 use crate::usage_faults::{
@@ -22,6 +22,7 @@ fn tick(text: &[u8]) -> Tick {
 fn a_minute() -> Settings<'static>
     ensures begins { is_some result.from ≡ true }
     ensures ends { is_some result.to ≡ true }
+    ensures usual { result.large ≡ false }
 {
     Settings {
         threshold: 5000,
@@ -32,6 +33,7 @@ fn a_minute() -> Settings<'static>
         sizes: None,
         coverage: false,
         must_cover: false,
+        large: false,
         limits: Limits::USUAL,
     }
 }
@@ -107,6 +109,7 @@ fn what_is_asked_of_updates_of_a_certificate(rt: HostRuntime) {
             sizes: None,
             coverage: false,
             must_cover: false,
+            large: false,
             limits: Limits::USUAL,
         },
         certificate: b"screen.cert",

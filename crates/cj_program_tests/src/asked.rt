@@ -4,8 +4,8 @@ use cj_base::{Limits, Tick};
 use cj_epoch::read_epoch;
 use cj_formats::{CertFormat, CertVersion};
 use cj_words::{
-    Checking, Command, Opt, Recipe, Screening, Selfrun, Settings, Thinning, UsageFault,
-    option_name, read_command,
+    Checking, Command, LARGE, Opt, Recipe, Screening, Selfrun, Settings, Thinning, UsageFault,
+    limits_of, most_certificate_bytes, most_told, option_name, read_command,
 };
 use std::alloc::{AllocError, Global};
 use std::panic::Expect;
@@ -34,6 +34,7 @@ const USUAL: Settings = Settings {
     sizes: None,
     coverage: false,
     must_cover: false,
+    large: false,
     limits: Limits::USUAL,
 };
 
@@ -118,6 +119,7 @@ fn all_that_can_be_asked_of_a_screening(rt: HostRuntime) {
             sizes: Some(b"r.txt"),
             coverage: false,
             must_cover: false,
+            large: false,
             limits: Limits::USUAL,
         },
         workers: 16,
@@ -144,6 +146,7 @@ fn all_that_can_be_asked_of_a_check(rt: HostRuntime) {
             sizes: Some(b"r.txt"),
             coverage: false,
             must_cover: false,
+            large: false,
             limits: Limits::USUAL,
         },
         certificate: b"other.cert",
@@ -349,6 +352,118 @@ fn no_version_is_asked_beside_a_certificate_in_brief(rt: HostRuntime) {
         let words = words(rt.alloc(), line).expect(&rt, "no fault");
         let due = Err(UsageFault::Value { option });
         assert_eq!(rt; read_command(&words), due, "{line}");
+    }
+}
+
+/// The settings of a run over a whole sky where all other options are left out.
+const OVER_A_SKY: Settings = Settings {
+    threshold: 5000,
+    from: None,
+    to: None,
+    suffix: b".oem",
+    as_hermite3: false,
+    sizes: None,
+    coverage: false,
+    must_cover: false,
+    large: true,
+    limits: LARGE,
+};
+
+#[test]
+fn a_whole_sky_is_asked_of_a_screening_and_of_a_check(rt: HostRuntime) {
+    let screening = Command::Screen(Screening {
+        settings: OVER_A_SKY,
+        workers: 1,
+        originator: b"CONJ",
+        cells: 400_000_000,
+        format: CertFormat::Brief,
+        rtn: false,
+    });
+    let checking = Command::Check(Checking {
+        settings: OVER_A_SKY,
+        certificate: b"screen.cert",
+        report: None,
+        update: None,
+        brief: true,
+    });
+    let cases = [
+        ("screen . --large", screening),
+        ("screen . --brief --large", screening),
+        ("screen . --large --cells 400000000", screening),
+        ("check . --large", checking),
+        ("check . --large --brief", checking),
+    ];
+    for (line, due) in cases {
+        let words = words(rt.alloc(), line).expect(&rt, "no fault");
+        assert_eq!(rt; read_command(&words), Ok(due), "{line}");
+    }
+    assert_eq!(rt; option_name(Opt::Large), b"--large".as_slice());
+}
+
+#[test]
+fn how_much_a_run_over_a_whole_sky_may_take(rt: HostRuntime) {
+    let large = Limits {
+        objects: 50_000,
+        nodes: 64_000_000,
+        object_slots: 64_000_000,
+        leaves: 400_000_000,
+    };
+    assert_eq!(rt; limits_of(true), large);
+    assert_eq!(rt; most_told(true), 80_000_000);
+    assert_eq!(rt; most_certificate_bytes(true), 4_294_967_290);
+    let usual = Limits {
+        objects: 2_000,
+        nodes: 2_000_000,
+        object_slots: 4_000_000,
+        leaves: 4_000_000,
+    };
+    assert_eq!(rt; limits_of(false), usual);
+    assert_eq!(rt; most_told(false), 4_000_000);
+    assert_eq!(rt; most_certificate_bytes(false), 1_073_741_824);
+}
+
+/// Command lines over a whole sky, or of more cells than others have, and what is wrong with them.
+const LARGE_FAULTS: [(&str, UsageFault); 14] = [
+    ("rescreen . --large", UsageFault::Words),
+    (
+        "rescreen . --from 2025-01-01T00:00:00 --to 2025-01-01T00:01:00 --large",
+        UsageFault::Words,
+    ),
+    ("rewrite . --large", UsageFault::Words),
+    ("rewrite . --brief --large", UsageFault::Words),
+    ("generate . --large", UsageFault::Words),
+    ("selfrun --large", UsageFault::Words),
+    ("thin . --large", UsageFault::Words),
+    ("screen . --large --large", UsageFault::Words),
+    ("check . --large=1", UsageFault::Words),
+    ("screen . --large 1", UsageFault::Words),
+    (
+        "screen . --large --cert-version 1",
+        UsageFault::Value {
+            option: Opt::CertVersion,
+        },
+    ),
+    (
+        "screen . --cert-version 3 --large --brief",
+        UsageFault::Value {
+            option: Opt::CertVersion,
+        },
+    ),
+    (
+        "screen . --large --cells 400000001 --cert-version 1",
+        UsageFault::Value { option: Opt::Cells },
+    ),
+    (
+        "screen . --brief --cells 4000001",
+        UsageFault::Value { option: Opt::Cells },
+    ),
+];
+
+#[test]
+fn what_is_not_asked_over_a_whole_sky(rt: HostRuntime) {
+    for (line, fault) in LARGE_FAULTS {
+        let words = words(rt.alloc(), line).expect(&rt, "no fault");
+        assert_eq!(rt; read_command(&words), Err(fault), "{line}");
     }
 }
 

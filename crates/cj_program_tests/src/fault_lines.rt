@@ -120,8 +120,12 @@ fn the_cause_of_a_refused_certificate_is_told_by_its_name(rt: HostRuntime) {
 #[test]
 fn other_ends_are_told(rt: HostRuntime) {
     let file = Name::copy_of(rt.alloc(), b"a.oem").expect(&rt, "no fault");
-    let cases: [(Status, &[u8]); 5] = [
+    let cases: [(Status, &[u8]); 6] = [
         (Status::Ok, b""),
+        (
+            Status::Limit(LimitFault::Told { limit: 80_000_000 }),
+            b"conj: limit: Told 80000000\n",
+        ),
         (
             Status::Limit(LimitFault::Slots { count: 4_000_200 }),
             b"conj: limit: Slots 4000200\n",

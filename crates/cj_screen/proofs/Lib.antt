@@ -1,5 +1,6 @@
 pub mod AgainLemmas
 pub mod CoverLemmas
+pub mod LinesLemmas
 pub mod RelativeLemmas
 pub mod ReportLemmas
 pub mod RescreenLemmas

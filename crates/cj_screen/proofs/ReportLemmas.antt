@@ -2,13 +2,15 @@
 use Rattle.std.proofs.Common.{◌≡◌, ℕ, ◌<◌, List, true, false, Result, Ok, Err, refl, sym, ap, subst, ◌∙◌, length, ◌≤◌, arith}
 use Rattle.std.specs.Prelude.{nat_le, IfOk, OnOk}
 use Rattle.std.proofs.lemmas.Bool.Decides.{nat_tests}
+use Rattle.std.proofs.lemmas.List.{length-map}
 use Rattle.cj_io.specs.declared.file.FileBytes.{FileBytes}
 use Rattle.cj_formats.specs.declared.cert_format.CertFormat.{CertFormat}
 use Rattle.cj_formats.specs.declared.cert_format.CertFormat.TheVariants.{Full, Brief}
 use Rattle.cj_formats.specs.declared.cert_version.CertVersion.{CertVersion}
 use Rattle.cj_words.specs.Commands.{PlainScreening}
 use Rattle.cj_case.specs.PlainProblems.{PlainProblem}
-use Rattle.cj_case.specs.Leaves.{PlainLeaf}
+use Rattle.cj_case.specs.declared.leaf.Leaf.{Leaf}
+use Rattle.cj_case.specs.Leaves.{PlainLeaf, plain_leaf, plain_leaves}
 use Rattle.cj_blocks.specs.Rewritten.{written_in}
 use Rattle.cj_brief.specs.Accepted.{AcceptedInBrief}
 use Rattle.cj_brief.specs.Written.{written_in_brief}
@@ -26,7 +28,7 @@ use Rattle.cj_outputs.specs.Again.{IsAcceptedLater}
 use Rattle.cj_outputs.specs.Either.{IsAcceptedFor, any_written, is_brief}
 use Rattle.cj_outputs.specs.Messages.{PlainOrigin}
 use Rattle.cj_inputs.specs.Coverings.{case_covered}
-use Rattle.cj_outputs.specs.Outcome.{cert_bytes, outputs_with, outputs_within, within_cells}
+use Rattle.cj_outputs.specs.Outcome.{cert_bytes, few_told, outputs_limited, outputs_with, outputs_within, told_in, within_cells, within_told}
 use Rattle.cj_outputs.specs.Findings.{AreFound, case_in, cert_in, lines_of, outputs_in, report_in}
 use Rattle.cj_outputs.proofs.AcceptingLemmas.{stops_then}
 use Rattle.cj_screen.specs.Headline.{Reports, ReportsOf}
@@ -75,8 +77,7 @@ outputs_stop limit tells format origin behind case s =
 pub same_outputs : (wanted : Wanted) (origin : PlainOrigin) (behind : List ℕ) (case : PlainProblem) (found : Findings) → case_in found ≡ case → found.wanted ≡ wanted → lines_of found.behind ≡ behind
     → AreFound found → outputs_with wanted.tells wanted.format origin behind case (list_candidates case) ≡ outputs_in origin found
 same_outputs wanted origin behind case found same as_wanted lines are =
-    sym (ap (λ (ss : List PlainLeaf). outputs_with found.wanted.tells found.wanted.format origin (lines_of found.behind) (case_in found) ss) are.leaves
-    ∙ ap (λ (c : PlainProblem). outputs_with found.wanted.tells found.wanted.format origin (lines_of found.behind) c (list_candidates c)) same
+    sym (ap (λ (c : PlainProblem). outputs_with found.wanted.tells found.wanted.format origin (lines_of found.behind) c (list_candidates c)) same
     ∙ ap (λ (w : Wanted). outputs_with w.tells w.format origin (lines_of found.behind) case (list_candidates case)) as_wanted
     ∙ ap (λ (b : List ℕ). outputs_with wanted.tells wanted.format origin b case (list_candidates case)) lines)
 
@@ -87,6 +88,38 @@ pub outputs_told : (wanted : Wanted) (origin : PlainOrigin) (behind : List ℕ) 
 outputs_told wanted origin behind case found within same as_wanted lines are =
     outputs_of_leaves wanted.leaves wanted.tells wanted.format origin behind case (list_candidates case) within
     ∙ ap (λ (outputs : List FileBytes). Ok outputs) (same_outputs wanted origin behind case found same as_wanted lines are)
+
+-- ---- the leaves that are told
+
+-- as many are told as their list is long
+pub told_counted : (most : ℕ) (format : CertFormat) (case : PlainProblem) (items told : List Leaf) → told ≡ items → plain_leaves items ≡ told_in format case
+    → few_told most (length told) ≡ within_told most format case
+told_counted most format case items told lent are =
+    ap (few_told most) (ap (λ (ls : List Leaf). length ls) lent ∙ sym (length-map items plain_leaf) ∙ ap (λ (ss : List PlainLeaf). length ss) are)
+
+-- what is found is what is due where few enough are told
+pub limited_told : (wanted : Wanted) (origin : PlainOrigin) (behind : List ℕ) (case : PlainProblem) (found : Findings) → within_cells wanted.leaves (list_candidates case) ≡ Ok (list_candidates case)
+    → within_told wanted.told wanted.format case ≡ Ok tt → case_in found ≡ case → found.wanted ≡ wanted → lines_of found.behind ≡ behind → AreFound found
+    → outputs_limited wanted.leaves wanted.told wanted.tells wanted.format origin behind case ≡ Ok (outputs_in origin found)
+unfolding outputs_limited
+limited_told wanted origin behind case found within few same as_wanted lines are =
+    rw (outputs_told wanted origin behind case found within same as_wanted lines are, few) refl
+
+-- what ends the search for the leaves ends that for the outputs
+pub limited_stop : (wanted : Wanted) (origin : PlainOrigin) (behind : List ℕ) (case : PlainProblem) (s : Status) → Stops ⊥ s (within_cells wanted.leaves (list_candidates case))
+    → Stops ⊥ s (outputs_limited wanted.leaves wanted.told wanted.tells wanted.format origin behind case)
+unfolding outputs_limited
+limited_stop wanted origin behind case s stops =
+    stops_then ⊥ s (outputs_within wanted.leaves wanted.tells wanted.format origin behind case) (λ outputs. within_told wanted.told wanted.format case >>= λ done. Ok outputs)
+    (outputs_stop wanted.leaves wanted.tells wanted.format origin behind case s stops)
+
+-- and so do too many that are told
+pub told_stop : (wanted : Wanted) (origin : PlainOrigin) (behind : List ℕ) (case : PlainProblem) (s : Status) → within_cells wanted.leaves (list_candidates case) ≡ Ok (list_candidates case)
+    → Stops ⊥ s (within_told wanted.told wanted.format case) → Stops ⊥ s (outputs_limited wanted.leaves wanted.told wanted.tells wanted.format origin behind case)
+unfolding outputs_limited
+told_stop wanted origin behind case s within stops =
+    rw (outputs_of_leaves wanted.leaves wanted.tells wanted.format origin behind case (list_candidates case) within)
+    (stops_then ⊥ s (within_told wanted.told wanted.format case) (λ done. Ok (outputs_with wanted.tells wanted.format origin behind case (list_candidates case))) stops)
 
 -- the report of findings is that of the case that was asked
 pub reports : (files : List FileBytes) (screening : PlainScreening) (case : PlainProblem) → case_covered files screening.settings ≡ Ok case → (r : Result Findings Status)

@@ -49,6 +49,8 @@ use Rattle.cj_inputs.specs.declared.input_files.Entry.{Entry}
 use Rattle.cj_inputs.specs.Cases.{object_slots, within_limits, within_objects, within_slots, within_window}
 use Rattle.cj_inputs.specs.ObjectSizes.{first_named, refused_sizes, sizes_asked, sizes_at, sizes_of_file}
 use Rattle.cj_inputs.specs.Readings.{checked_after, has_frame_of, nodes_in, reading_after, reading_of, readings_after, refused_of, same_frame_as, within_bytes, within_nodes}
+use Rattle.cj_inputs.specs.Trims.{left_said, trims_of}
+use Rattle.cj_inputs.proofs.TrimLemmas.{left_ends}
 use Rattle.cj_coverage.specs.Coverage.{first_uncovered}
 use Rattle.cj_inputs.specs.Coverings.{all_cover, cases_covered, covering, whole_or}
 use Rattle.cj_inputs.specs.Updates.{PlainUpdating, base_of, both_within, cases_asked, cases_of_run, larger, read_as, said_behind, tracks_updated, update_after, updated_name, updated_of, updated_with, updates_after, updates_of}
@@ -98,16 +100,18 @@ all_read : (settings : PlainSettings) (files : List FileBytes) (before : List Pl
 all_read settings files before [] = tt
 all_read settings files before (entry ∷ entries) =
     then (reading_after settings files before entry) (λ track. readings_after settings files (before ++ track ∷ []) entries)
-    (then (reading_of settings.as_hermite3 entry.name (bytes_of files entry.number)) (checked_after settings.limits.nodes before entry.name)
-    (one_read settings.as_hermite3 entry.name (bytes_of files entry.number)) (checked settings.limits.nodes before entry.name))
+    (then (left_said (trims_of settings) (reading_of settings.as_hermite3 entry.name (bytes_of files entry.number))) (checked_after settings.limits.nodes before entry.name)
+    (left_ends EndsRescreening (trims_of settings) (reading_of settings.as_hermite3 entry.name (bytes_of files entry.number)) (one_read settings.as_hermite3 entry.name (bytes_of files entry.number)))
+    (checked settings.limits.nodes before entry.name))
     (λ track. all_read settings files (before ++ track ∷ []) entries)
 
 update_said : (settings : PlainSettings) (update : List ℕ) (before : List PlainTrack) (name bytes : List ℕ) → IfErr (said_behind settings update before name bytes) EndsRescreening
 update_said settings update before name [] = tt
 update_said settings update before name (b ∷ bytes) =
-    then (refused_of name (reading (updated_name update name) (b ∷ bytes) settings.as_hermite3) >>= checked_after settings.limits.nodes before name) (λ track. Ok (before ++ track ∷ []))
-    (then (refused_of name (reading (updated_name update name) (b ∷ bytes) settings.as_hermite3)) (checked_after settings.limits.nodes before name)
-    (refused name (reading (updated_name update name) (b ∷ bytes) settings.as_hermite3)) (checked settings.limits.nodes before name))
+    let said = refused_of name (reading (updated_name update name) (b ∷ bytes) settings.as_hermite3) in
+    then (left_said (trims_of settings) said >>= checked_after settings.limits.nodes before name) (λ track. Ok (before ++ track ∷ []))
+    (then (left_said (trims_of settings) said) (checked_after settings.limits.nodes before name)
+    (left_ends EndsRescreening (trims_of settings) said (refused name (reading (updated_name update name) (b ∷ bytes) settings.as_hermite3))) (checked settings.limits.nodes before name))
     (λ track. tt)
 
 updates_read : (settings : PlainSettings) (update : List ℕ) (files : List FileBytes) (before : List PlainTrack) (entries : List Entry)
@@ -310,8 +314,7 @@ again_told wanted origin old new found within same as_wanted lines are =
 pub summary_told : (wanted : Wanted) (behind : List ℕ) (case : PlainProblem) (found : Findings) → case_in found ≡ case → found.wanted ≡ wanted → lines_of found.behind ≡ behind → AreFound found
     → summary_in found ≡ summary_with (behind ++ uncovered_told wanted.tells case) case (list_candidates case)
 summary_told wanted behind case found same as_wanted lines are =
-    ap (λ (ss : List PlainLeaf). summary_with (lines_of found.behind ++ uncovered_told found.wanted.tells (case_in found)) (case_in found) ss) are.leaves
-    ∙ ap (λ (c : PlainProblem). summary_with (lines_of found.behind ++ uncovered_told found.wanted.tells c) c (list_candidates c)) same
+    ap (λ (c : PlainProblem). summary_with (lines_of found.behind ++ uncovered_told found.wanted.tells c) c (list_candidates c)) same
     ∙ ap (λ (w : Wanted). summary_with (lines_of found.behind ++ uncovered_told w.tells case) case (list_candidates case)) as_wanted
     ∙ ap (λ (b : List ℕ). summary_with (b ++ uncovered_told wanted.tells case) case (list_candidates case)) lines
 

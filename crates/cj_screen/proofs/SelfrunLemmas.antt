@@ -1,12 +1,15 @@
 -- A made-up catalogue that is screened: no file of it is refused.
 use Rattle.std.proofs.Common.{◌≡◌, ℕ, zero, suc, ◌+◌, ◌-◌, ◌<◌, ◌≤◌, Bool, true, false, cond, List, [], ◌∷◌, ◌++◌, length, get_or, Some, None, Result, Ok, Err, refl, sym, ap, ap₂, subst, ◌∙◌, arith}
 use Rattle.std.specs.Prelude.{IfErr, IfOk, nat_le, slice_get}
+use Rattle.std.proofs.lemmas.Bool.Decides.{nat_tests}
 use Rattle.std.specs.List.{AllByRecursion}
 use Rattle.cj_base.specs.Limits.{USUAL}
 use Rattle.cj_io.specs.declared.file.FileBytes.{FileBytes}
 use Rattle.cj_io.specs.Faults.{Rose}
 use Rattle.cj_io.specs.Files.{bytes_of, names_of}
 use Rattle.cj_formats.specs.declared.cert_format.CertFormat.{CertFormat}
+use Rattle.cj_formats.specs.declared.cert_format.CertFormat.TheVariants.{Full}
+use Rattle.cj_formats.specs.declared.cert_version.CertVersion.{CertVersion}
 use Rattle.cj_track.specs.declared.frame.Frame.{Frame}
 use Rattle.cj_track.specs.declared.frame.Frame.TheVariants as frames
 use Rattle.cj_track.specs.PlainTracks.{PlainTrack}
@@ -31,12 +34,11 @@ use Rattle.cj_inputs.specs.ObjectSizes.{sizes_asked}
 use Rattle.cj_inputs.specs.Readings.{checked_after, has_frame_of, nodes_in, reading_after, reading_of, readings_after, readings_of, refused_of, within_nodes}
 use Rattle.cj_inputs.proofs.InputFileLemmas.{Stands, inputs_stand}
 use Rattle.cj_case.specs.Problems.{plain_problem}
-use Rattle.cj_case.specs.Leaves.{PlainLeaf, plain_leaves}
 use Rattle.cj_cells.specs.Lists.{list_candidates}
 use Rattle.cj_outputs.specs.declared.findings.Findings.{Findings}
 use Rattle.cj_outputs.specs.Findings.{AreFound, case_in, outputs_in}
 use Rattle.cj_outputs.specs.Messages.{PlainOrigin}
-use Rattle.cj_outputs.specs.Outcome.{ComesOfSelfrun, case_of_selfrun, outputs_of_selfrun, outputs_with, outputs_within, settings_of_selfrun, selfrun_output, selfrun_within, within_cells}
+use Rattle.cj_outputs.specs.Outcome.{ComesOfSelfrun, case_of_selfrun, few_told, outputs_limited, outputs_of_selfrun, outputs_with, outputs_within, settings_of_selfrun, selfrun_output, selfrun_within, told_in, within_cells, within_told}
 use Rattle.cj_report.specs.declared.tells.Tells.{Tells}
 
 -- ---- nothing but a limit
@@ -197,6 +199,18 @@ comes_of_selfrun read view (Err status.OutOfMemory) due calm gives is = tt
 pub calm_count : ¬ Rose 0 0
 calm_count rose = omega (arith, rose)
 
+-- where no read fails, none ends it
+pub gives_calm : {X A : Type 0} (read : Type 0) (view : X → A) (r : Result X Status) (due : Result A Status) → ¬ read → Gives read view r due → Gives ⊥ view r due
+gives_calm read view (Ok x) due calm gives = gives
+gives_calm read view (Err status.Ok) due calm gives = gives
+gives_calm read view (Err (status.NotAccepted line cause)) due calm gives = gives
+gives_calm read view (Err (status.Usage fault)) due calm gives = gives
+gives_calm read view (Err (status.BadFile file line cause)) due calm gives = gives
+gives_calm read view (Err status.ReadFault) due calm gives = absurd (calm gives)
+gives_calm read view (Err status.WriteFault) due calm gives = gives
+gives_calm read view (Err (status.Limit fault)) due calm gives = gives
+gives_calm read view (Err status.OutOfMemory) due calm gives = gives
+
 -- ---- the same steps to other outputs
 
 turned : {A B C : Type 0} (b : Bool) (x : A) (e s : Status) (f : A → B) (h : A → C) → ◌≡◌ {A = Result B Status} (cond b (Ok x) (Err e) >>= λ y. Ok (f y)) (Err s)
@@ -220,7 +234,7 @@ there false x e y f is = absurd cc
 
 -- the output of a made-up catalogue that is screened, and whose certificate is accepted
 abbrev pub selfrun_in : Findings → FileBytes
-selfrun_in found = selfrun_output (case_in found) (plain_leaves found.leaves.items)
+selfrun_in found = selfrun_output (case_in found) (list_candidates (case_in found))
 
 -- what is found is what the output of a catalogue's screening tells
 pub selfrun_told : (most : ℕ) (tells : Tells) (format : CertFormat) (origin : PlainOrigin) (behind : List ℕ) (case : PlainProblem) (r : Result Findings Status)
@@ -231,7 +245,7 @@ selfrun_told most tells format origin behind case (Ok found) told same are =
     let leaves = list_candidates case in
     let fits : nat_le (length leaves) most ≡ true = there (nat_le (length leaves) most) leaves (status.Limit (limit.Cells most)) (outputs_in origin found) (outputs_with tells format origin behind case) told in
     let output : selfrun_output case leaves ≡ selfrun_in found =
-    ap (λ (c : PlainProblem). selfrun_output c (list_candidates c)) (sym same) ∙ ap (λ (ss : List PlainLeaf). selfrun_output (case_in found) ss) (sym are.leaves) in
+    ap (λ (c : PlainProblem). selfrun_output c (list_candidates c)) (sym same) in
     rw fits (ap (λ (p : FileBytes). Ok (p ∷ [])) output)
 selfrun_told most tells format origin behind case (Err s) told same are =
     let leaves = list_candidates case in
@@ -242,6 +256,31 @@ unfolding outputs_within
 within_limits_of most tells format origin behind case =
     let leaves = list_candidates case in
     then (within_cells most leaves) (λ ss. Ok (outputs_with tells format origin behind case ss)) (limited (nat_le (length leaves) most) leaves (limit.Cells most)) (λ ss same. tt)
+
+-- nor does anything else end it where so many leaves may be told
+pub limited_limits : (cells most : ℕ) (tells : Tells) (format : CertFormat) (origin : PlainOrigin) (behind : List ℕ) (case : PlainProblem)
+    → IfErr (outputs_limited cells most tells format origin behind case) IsLimit
+unfolding outputs_limited
+limited_limits cells most tells format origin behind case =
+    then (outputs_within cells tells format origin behind case) (λ outputs. within_told most format case >>= λ done. Ok outputs) (within_limits_of cells tells format origin behind case)
+    (λ outputs same. then (within_told most format case) (λ done. Ok outputs) (limited (nat_le (length (told_in format case)) most) tt (limit.Told most)) (λ done is. tt))
+
+-- that no more leaves are told than may be, by a test
+abbrev pub told_judged : ℕ → Bool → Result (Unit {0}) Status
+told_judged most few = cond few (Ok tt) (Err (status.Limit (limit.Told most)))
+
+none_told : (most : ℕ) → few_told most 0 ≡ Ok tt
+none_told most = let least : nat_le 0 most ≡ true = grind (arith, nat_tests) in ap (told_judged most) least
+
+-- a certificate in full tells no leaves apart
+pub in_full_limited : (cells most : ℕ) (tells : Tells) (version : CertVersion) (origin : PlainOrigin) (behind : List ℕ) (case : PlainProblem)
+    → outputs_limited cells most tells (Full version) origin behind case ≡ outputs_within cells tells (Full version) origin behind case
+unfolding outputs_limited
+in_full_limited cells most tells version origin behind case = same (outputs_within cells tells (Full version) origin behind case)
+  where
+    same : (r : Result (List FileBytes) Status) → (r >>= λ outputs. within_told most (Full version) case >>= λ done. Ok outputs) ≡ r
+    same (Ok outputs) = ap (λ (r : Result (Unit {0}) Status). r >>= λ done. Ok outputs) (none_told most)
+    same (Err s) = refl
 
 -- what is due, once the case is there
 pub selfrun_after : (selfrun : PlainSelfrun) (case : PlainProblem) → case_of_selfrun selfrun ≡ Ok case → outputs_of_selfrun selfrun ≡ selfrun_within selfrun.cells case

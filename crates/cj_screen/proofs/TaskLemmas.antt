@@ -14,6 +14,7 @@ use Rattle.cj_words.specs.declared.command.Rescreening as kept_rescreening
 use Rattle.cj_words.specs.declared.command.Screening as kept_screening
 use Rattle.cj_words.specs.declared.command.Thinning as kept_thinning
 use Rattle.cj_words.specs.Commands.{PlainCommand, Screens, Checks, Generates, Selfruns, Rewrites, Thins, Rescreens, PlainChecking, PlainRescreening, PlainScreening, PlainThinning, plain_rescreening, plain_screening, plain_thinning}
+use Rattle.cj_words.specs.Limits.{most_told}
 use Rattle.cj_words.specs.Settings.{plain_settings}
 use Rattle.cj_base.specs.Limits.{USUAL}
 use Rattle.cj_inputs.specs.declared.lone_tracks.LoneTracks.{LoneTracks}
@@ -24,17 +25,17 @@ use Rattle.cj_inputs.specs.Updates.{PlainUpdating, plain_updating}
 use Rattle.cj_report.specs.Summary.{kept_line}
 use Rattle.cj_status.specs.declared.status.Status.{Status}
 use Rattle.cj_status.specs.declared.status.Status.TheVariants as status
-use Rattle.cj_status.specs.declared.status.LimitFault.TheVariants.{Cells}
-use Rattle.cj_status.specs.Steps.{◌>>=◌, Gives, Stops}
+use Rattle.cj_status.specs.declared.status.LimitFault.TheVariants.{Cells, Told}
+use Rattle.cj_status.specs.Steps.{◌>>=◌, Stops}
 use Rattle.cj_outputs.specs.Checks.{IsChecked}
 use Rattle.cj_outputs.specs.EitherKept.{plain_any}
 use Rattle.cj_outputs.specs.declared.any_certificate.AnyCertificate.{AnyCertificate}
 use Rattle.cj_outputs.specs.declared.findings.Findings.{Findings}
 use Rattle.cj_outputs.specs.declared.origin.Origin.{Origin}
-use Rattle.cj_outputs.specs.Findings.{cert_in, ended, messages_in, outputs_in, report_in, summary_in}
+use Rattle.cj_outputs.specs.Findings.{cert_in, ended, messages_in, report_in, summary_in}
 use Rattle.cj_outputs.specs.Messages.{PlainOrigin}
 use Rattle.cj_outputs.specs.Origins.{plain_origin}
-use Rattle.cj_outputs.specs.Outcome.{AreOutputs, AreTooManyCells, ComesOfPuts, ComesOfSelfrun, EndsMaking, EndsRescreening, EndsSelfrun, kept_unchanged, list_anew, origin_of, outputs_again, outputs_changed, outputs_made, outputs_of_changes, outputs_renewed, outputs_rescreened, outputs_screened, outputs_updated, outputs_with, outputs_within, tells_of}
+use Rattle.cj_outputs.specs.Outcome.{AreOutputs, AreTooManyCells, ComesOfPuts, ComesOfSelfrun, EndsMaking, EndsRescreening, EndsSelfrun, kept_unchanged, list_anew, origin_of, outputs_again, outputs_changed, outputs_limited, outputs_made, outputs_of_changes, outputs_renewed, outputs_rescreened, outputs_screened, outputs_updated, outputs_with, outputs_within, tells_of, told_in}
 use Rattle.cj_outputs.specs.Rewrites.{IsRewritten}
 use Rattle.cj_outputs.specs.Thinned.{length_of, outputs_thinned, outputs_with_fewer}
 use Rattle.cj_outputs.specs.Thinnings.{IsThinned}
@@ -49,6 +50,7 @@ use Rattle.cj_screen.specs.Results.{ChangesDue, RenewsDue, ReportsDue, Rescreens
 use Rattle.cj_screen.specs.declared.task.Task.{Task}
 use Rattle.cj_screen.specs.declared.task.Task.TheVariants.{Screen, Accept, Make, Selfrun, Renew, Thin, Rescreen}
 use Rattle.cj_screen.specs.Tasks.{ComesOfSearch, ComesToTask, EndsTask, IsDone, IsDoneAgain, IsMaking, IsSelfrun, Readies, ReadsNothing, outputs_of_task, puts_files}
+use Rattle.cj_screen.proofs.SelfrunLemmas.{told_judged}
 use Rattle.cj_report.specs.declared.tells.Tells.{Tells}
 
 -- ---- what is read
@@ -60,10 +62,10 @@ the_first (inr q) none = absurd (none q)
 
 -- the outputs of a screening are those of its case
 pub screened_case : (files : List FileBytes) (now : ℕ) (screening : PlainScreening) (case : PlainProblem) → case_covered files screening.settings ≡ Ok case
-    → outputs_screened files now screening ≡ outputs_within screening.cells (tells_of screening.settings) screening.format (origin_of now screening) [] case
+    → outputs_screened files now screening ≡ outputs_limited screening.cells (most_told screening.settings.large) (tells_of screening.settings) screening.format (origin_of now screening) [] case
 unfolding outputs_screened
 screened_case files now screening case read =
-    ap (λ (r : Result PlainProblem Status). r >>= λ c. outputs_within screening.cells (tells_of screening.settings) screening.format (origin_of now screening) [] c) read
+    ap (λ (r : Result PlainProblem Status). r >>= λ c. outputs_limited screening.cells (most_told screening.settings.large) (tells_of screening.settings) screening.format (origin_of now screening) [] c) read
 
 -- where there is no case there are none
 pub no_case : (read : Type 0) (files : List FileBytes) (now : ℕ) (screening : PlainScreening) (s : Status) → Stops read s (case_covered files screening.settings)
@@ -71,7 +73,7 @@ pub no_case : (read : Type 0) (files : List FileBytes) (now : ℕ) (screening : 
 unfolding outputs_screened
 no_case read files now screening s stops =
     stops_then read s (case_covered files screening.settings)
-    (λ case. outputs_within screening.cells (tells_of screening.settings) screening.format (origin_of now screening) [] case) stops
+    (λ case. outputs_limited screening.cells (most_told screening.settings.large) (tells_of screening.settings) screening.format (origin_of now screening) [] case) stops
 
 -- the outputs of a thinning are those of its tracks
 pub thinned_tracks : (files : List FileBytes) (thinning : PlainThinning) (tracks : List PlainTrack) → tracks_asked USUAL files thinning ≡ Ok tracks
@@ -116,13 +118,32 @@ few_or_many : (b : Bool) (limit : ℕ) (leaves : List PlainLeaf) (outputs : List
     → AreOutputs ((if b then Ok leaves else Err (status.Limit (Cells limit))) >>= λ ss. Ok (outputs ss))
     ⊎ AreTooManyCells ((if b then Ok leaves else Err (status.Limit (Cells limit))) >>= λ ss. Ok (outputs ss))
 few_or_many true limit leaves outputs = inl (outputs leaves, refl)
-few_or_many false limit leaves outputs = inr (limit, refl)
+few_or_many false limit leaves outputs = inr (limit, inl refl)
 
 within_or_many : (limit : ℕ) (tells : Tells) (format : CertFormat) (origin : PlainOrigin) (behind : List ℕ) (case : PlainProblem)
     → AreOutputs (outputs_within limit tells format origin behind case) ⊎ AreTooManyCells (outputs_within limit tells format origin behind case)
 unfolding outputs_within
 within_or_many limit tells format origin behind case =
     few_or_many (nat_le (length (list_candidates case)) limit) limit (list_candidates case) (λ leaves. outputs_with tells format origin behind case leaves)
+
+-- and few enough of them are told, or too many
+told_or_many : (due : Result (List FileBytes) Status) (b : Bool) (most : ℕ) → AreOutputs due ⊎ AreTooManyCells due
+    → AreOutputs (due >>= λ outputs. told_judged most b >>= λ done. Ok outputs)
+    ⊎ AreTooManyCells (due >>= λ outputs. told_judged most b >>= λ done. Ok outputs)
+told_or_many due true most (inl (outputs, is)) = inl (outputs, ap (λ (r : Result (List FileBytes) Status). r >>= λ all. Ok all) is)
+told_or_many due false most (inl (outputs, is)) =
+    let refused : List FileBytes → Result (List FileBytes) Status = λ all. Err (status.Limit (Told most)) in
+    inr (most, inr (ap (λ (r : Result (List FileBytes) Status). r >>= refused) is))
+told_or_many due b most (inr (limit, inl is)) =
+    inr (limit, inl (ap (λ (r : Result (List FileBytes) Status). r >>= λ all. told_judged most b >>= λ done. Ok all) is))
+told_or_many due b most (inr (limit, inr is)) =
+    inr (limit, inr (ap (λ (r : Result (List FileBytes) Status). r >>= λ all. told_judged most b >>= λ done. Ok all) is))
+
+limited_or_many : (limit most : ℕ) (tells : Tells) (format : CertFormat) (origin : PlainOrigin) (behind : List ℕ) (case : PlainProblem)
+    → AreOutputs (outputs_limited limit most tells format origin behind case) ⊎ AreTooManyCells (outputs_limited limit most tells format origin behind case)
+unfolding outputs_limited
+limited_or_many limit most tells format origin behind case =
+    told_or_many (outputs_within limit tells format origin behind case) (nat_le (length (told_in format case)) most) most (within_or_many limit tells format origin behind case)
 
 -- the same of a screening again, where the leaves of the base files are counted first
 again_or_many : (limit : ℕ) (tells : Tells) (format : CertFormat) (origin : PlainOrigin) (old new : PlainProblem)
@@ -136,7 +157,7 @@ again_or_many limit tells format origin old new = by_base (nat_le (length (list_
     by_base : (b : Bool) → AreOutputs ((if b then Ok (list_candidates old) else Err (status.Limit (Cells limit))) >>= λ base. due)
         ⊎ AreTooManyCells ((if b then Ok (list_candidates old) else Err (status.Limit (Cells limit))) >>= λ base. due)
     by_base true = within_or_many limit tells format origin (kept_line (kept_unchanged old new)) new
-    by_base false = inr (limit, refl)
+    by_base false = inr (limit, inl refl)
 
 changed_or_many : (limit : ℕ) (tells : Tells) (old new : PlainProblem) → AreOutputs (outputs_changed limit tells old new) ⊎ AreTooManyCells (outputs_changed limit tells old new)
 unfolding outputs_changed
@@ -163,36 +184,14 @@ updated_or_many now asked cases = by_kind asked.changed
 -- of a task that puts files outputs are due, or there are too many leaves
 pub due_or_many : (now : ℕ) (task : Task) → IsTrue (puts_files task) → AreOutputs (outputs_of_task now task) ⊎ AreTooManyCells (outputs_of_task now task)
 due_or_many now (Screen problem screening) files =
-    within_or_many screening.cells (tells_of (plain_settings screening.settings)) screening.format (origin_of now (plain_screening screening)) [] (plain_problem problem)
+    limited_or_many screening.cells (most_told screening.settings.large) (tells_of (plain_settings screening.settings)) screening.format
+    (origin_of now (plain_screening screening)) [] (plain_problem problem)
 due_or_many now Accept files = absurd cc
 due_or_many now (Make recipe) files = inl (outputs_made (catalogue_of recipe.seed recipe.objects recipe.minutes), refl)
 due_or_many now (Selfrun selfrun) files = absurd cc
 due_or_many now (Renew certificate) files = inl (outputs_renewed (plain_any certificate), refl)
 due_or_many now (Thin lone thinning) files = inl (outputs_with_fewer (length_of (plain_thinning thinning)) (plain_tracks lone), refl)
 due_or_many now (Rescreen updating rescreening) files = updated_or_many now (plain_rescreening rescreening) (plain_updating updating)
-
--- what ends a search whose leaves are counted so
-counted_ends : (b : Bool) (limit : ℕ) (leaves : List PlainLeaf) (outputs : List PlainLeaf → List FileBytes) (s : Status)
-    → Stops ⊥ s ((if b then Ok leaves else Err (status.Limit (Cells limit))) >>= λ ss. Ok (outputs ss)) → ComesOfSelfrun s
-counted_ends b limit leaves outputs status.Ok stops = stops
-counted_ends true limit leaves outputs (status.NotAccepted line cause) stops = absurd cc
-counted_ends false limit leaves outputs (status.NotAccepted line cause) stops = absurd cc
-counted_ends true limit leaves outputs (status.Usage fault) stops = absurd cc
-counted_ends false limit leaves outputs (status.Usage fault) stops = absurd cc
-counted_ends true limit leaves outputs (status.BadFile file line cause) stops = absurd cc
-counted_ends false limit leaves outputs (status.BadFile file line cause) stops = absurd cc
-counted_ends b limit leaves outputs status.ReadFault stops = stops
-counted_ends b limit leaves outputs status.WriteFault stops = stops
-counted_ends b limit leaves outputs (status.Limit fault) stops = tt
-counted_ends b limit leaves outputs status.OutOfMemory stops = tt
-
--- only a limit and want of memory end a screening's search
-pub search_ends : (limit : ℕ) (tells : Tells) (format : CertFormat) (origin : PlainOrigin) (behind : List ℕ) (case : PlainProblem) (r : Result Findings Status)
-    → Gives ⊥ (outputs_in origin) r (outputs_within limit tells format origin behind case) → IfErr r ComesOfSelfrun
-unfolding outputs_within
-search_ends limit tells format origin behind case (Ok found) gives = tt
-search_ends limit tells format origin behind case (Err s) gives =
-    counted_ends (nat_le (length (list_candidates case)) limit) limit (list_candidates case) (λ leaves. outputs_with tells format origin behind case leaves) s gives
 
 pub comes_of_search : (task : Task) (s : Status) → ¬ IsMaking task → ComesOfSelfrun s → ComesOfSearch task s
 comes_of_search task status.Ok other comes = comes

@@ -65,7 +65,7 @@ VouchesDue checking files (Rewritten certificate) = ⊥
 VouchesDue checking files (Thinned lone thinning) = ⊥
 VouchesDue checking files (Changed changes) = ⊥
 
--- the certificate that was named is accepted, and this is the same in version 2
+-- the certificate that was named is accepted, and this is what it is rewritten to
 abbrev pub RenewsDue : PlainChecking → List FileBytes → Results → Type 0
 RenewsDue checking files (Screened found origin) = ⊥
 RenewsDue checking files Checked = ⊥

@@ -5,6 +5,7 @@ use Rattle.cj_gen.specs.Catalogues.{catalogue_of}
 use Rattle.cj_case.specs.Problems.{plain_problem}
 use Rattle.cj_words.specs.declared.option.UsageFault.{UsageFault}
 use Rattle.cj_words.specs.Commands.{PlainCommand, Screens, Checks, Generates, Selfruns, Rewrites, Thins, Rescreens, PlainChecking, PlainRescreening, PlainScreening, PlainThinning, command_of, plain_rescreening, plain_screening, plain_selfrun, plain_thinning}
+use Rattle.cj_words.specs.Limits.{most_told}
 use Rattle.cj_words.specs.Settings.{plain_settings}
 use Rattle.cj_base.specs.Limits.{USUAL}
 use Rattle.cj_inputs.specs.Alone.{plain_tracks, tracks_asked}
@@ -14,7 +15,7 @@ use Rattle.cj_status.specs.declared.status.Status.{Status}
 use Rattle.cj_status.specs.declared.status.Status.TheVariants as status
 use Rattle.cj_status.specs.Steps.{Stops}
 use Rattle.cj_outputs.specs.Checks.{IsChecked, Vouches}
-use Rattle.cj_outputs.specs.Outcome.{accepted_output, origin_of, outputs_made, outputs_renewed, outputs_of_selfrun, outputs_updated, outputs_within, tells_of}
+use Rattle.cj_outputs.specs.Outcome.{accepted_output, origin_of, outputs_made, outputs_renewed, outputs_of_selfrun, outputs_limited, outputs_updated, tells_of}
 use Rattle.cj_outputs.specs.EitherKept.{plain_any}
 use Rattle.cj_outputs.specs.Rewrites.{IsRewritten, Renews}
 use Rattle.cj_outputs.specs.Thinned.{length_of, outputs_with_fewer}
@@ -36,8 +37,8 @@ puts_files (Rescreen updating rescreening) = true
 -- the outputs of a task at this tick, or the cause for which there are none
 abbrev pub outputs_of_task : ℕ → Task → Result (List FileBytes) Status
 outputs_of_task now (Screen problem screening) =
-    outputs_within screening.cells (tells_of (plain_settings screening.settings)) screening.format (origin_of now (plain_screening screening)) []
-    (plain_problem problem)
+    outputs_limited screening.cells (most_told screening.settings.large) (tells_of (plain_settings screening.settings)) screening.format
+    (origin_of now (plain_screening screening)) [] (plain_problem problem)
 outputs_of_task now Accept = Ok (accepted_output ∷ [])
 outputs_of_task now (Make recipe) = Ok (outputs_made (catalogue_of recipe.seed recipe.objects recipe.minutes))
 outputs_of_task now (Selfrun selfrun) = outputs_of_selfrun (plain_selfrun selfrun)

@@ -3,6 +3,7 @@ ghost use Rattle.std.specs.Prelude.{◌≡◌, ℕ, List, [], Ok, IfOk, IfErr};
 ghost use Rattle.cj_case.specs.Problems.{plain_problem};
 ghost use Rattle.cj_io.specs.declared.file.FileBytes.{FileBytes};
 ghost use Rattle.cj_words.specs.Commands.{PlainCommand, Rescreens, plain_rescreening, plain_screening};
+ghost use Rattle.cj_words.specs.Limits.{most_told};
 ghost use Rattle.cj_words.specs.Settings.{plain_settings};
 ghost use Rattle.cj_inputs.specs.Coverings.{case_covered, cases_covered};
 ghost use Rattle.cj_inputs.specs.Updates.{plain_updating};
@@ -84,7 +85,7 @@ fn find_encounters<R: Threads + Wait + Sync, G: Gate + Sync>(
     ensures ends { IfErr result ComesOfSelfrun }
     // At whatever tick the messages are made.
     ensures told { (now : ℕ) → Gives ⊥ (outputs_in (spec.origin_of now (plain_screening screening.now))) result
-        (spec.outputs_within screening.now.cells (spec.tells_of (plain_settings screening.now.settings)) screening.now.format
+        (spec.outputs_limited screening.now.cells (most_told screening.now.settings.large) (spec.tells_of (plain_settings screening.now.settings)) screening.now.format
         (spec.origin_of now (plain_screening screening.now)) [] (plain_problem problem)) }
     ensures found { IfOk result AreFound }
     ensures reports { (files : List FileBytes) → case_covered files (plain_settings screening.now.settings) ≡ Ok (plain_problem problem)

@@ -3,6 +3,7 @@
 
 mod changing;
 mod finding;
+mod lines_found;
 mod reading;
 mod refining;
 mod relatives;
@@ -10,6 +11,7 @@ mod rescreening;
 mod results;
 mod screening;
 mod selfruns;
+mod sifting;
 mod task;
 mod top;
 mod warnings;

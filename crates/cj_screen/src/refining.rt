@@ -9,7 +9,7 @@ ghost use Rattle.cj_cells.specs.Lists.{list_candidates};
 ghost use Rattle.cj_formats.specs.declared.cert_format.CertFormat.TheVariants.{Brief};
 ghost use Rattle.cj_hermite.specs.Roots.{roots_of};
 ghost use Rattle.cj_outputs.specs.Findings.{told_in};
-ghost use Rattle.cj_outputs.specs.Outcome.{within_cells};
+ghost use Rattle.cj_outputs.specs.Outcome.{few_told, within_cells};
 ghost use Rattle.cj_screen.specs.Errors.{refined_status};
 ghost use Rattle.cj_screen.specs.Refining.{AreFoundLeaves, HoldsAllTicks};
 ghost use Rattle.cj_status.specs.Steps.{Gives, ComesBetween};
@@ -20,12 +20,20 @@ use cj_case::{Cell, Leaf, Measured, Problem};
 use cj_cells::RefineError;
 use cj_formats::CertFormat;
 use cj_io::Gate;
-use cj_outputs::{CandidateCounts, Wanted};
+use cj_outputs::Wanted;
 use cj_pool::leaves_by_workers;
 use cj_status::{LimitFault, Status};
 use std::alloc::{AllocError, Global};
 use std::sync::Wait;
 use std::thread::Threads;
+
+/// What is counted before any cell is halved.
+#[derive(Clone, Copy, Debug)]
+pub struct CandidateCounts {
+    pub kept: u64,
+    pub touching: u64,
+    pub roots: u64,
+}
 
 /// The leaves of a problem, and what they come from.
 #[derive(Drop)]
@@ -87,6 +95,18 @@ pub fn refine<R: Threads + Wait + Sync, G: Gate + Sync>(
         leaves,
         told,
     })
+}
+
+/// Refuses more leaves that a certificate tells apart than there may be.
+pub fn judge_told(told: &[Leaf], most: u64) -> Result<(), Status>
+    ensures told { Gives ⊥ (λ done. done) result (few_told most (length told.now)) }
+    ensures between { IfErr result ComesBetween }
+{
+    if told.len() as u64 <= most {
+        Ok(())
+    } else {
+        Err(Status::Limit(LimitFault::Told { limit: most }))
+    }
 }
 
 /// The roots once more, where a certificate of this format asks for them once they are halved; else none.

@@ -20,6 +20,7 @@ ghost use Rattle.cj_screen.specs.Refining.{AreFoundLeaves, HoldsAllTicks, leaves
 ghost use Rattle.cj_status.specs.Steps.{Gives, ComesBetween};
 ghost use Rattle.cj_words.specs.Settings.{PlainSettings};
 
+use crate::lines_found::lines_of;
 use crate::refining::{FoundLeaves, counts_of, refine, refused, told_leaves};
 use crate::screening::tell;
 use cj_again::{Matching, carried, changed_roots, kept_unchanged, match_objects, places};
@@ -68,7 +69,8 @@ pub fn rescreen<R: Threads + Wait + Sync, G: Gate + Sync>(
     let again = refine_again(rt, alloc, gate, &base, &new, wanted)?;
     drop(base);
     let behind = Behind::Kept(again.kept);
-    let found = tell(rt, alloc, gate, new, wanted, again.found, behind)?;
+    let lines = lines_of(again.found, wanted.format);
+    let found = tell(rt, alloc, gate, new, wanted, lines, behind)?;
     Ok(found)
 }
 

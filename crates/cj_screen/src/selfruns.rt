@@ -1,6 +1,8 @@
 //! A made-up catalogue that is screened in memory.
 ghost use Rattle.std.specs.Prelude.{◌≡◌, [], ◌∷◌, IfErr, IfOk};
 ghost use Rattle.cj_case.specs.Problems.{plain_problem};
+ghost use Rattle.cj_formats.specs.declared.cert_format.CertFormat.TheVariants.{Full};
+ghost use Rattle.cj_formats.specs.declared.cert_version.CertVersion.TheVariants.{One};
 ghost use Rattle.cj_words.specs.Commands.{plain_selfrun};
 ghost use Rattle.cj_words.specs.Settings.{plain_settings};
 ghost use Rattle.cj_outputs.specs.Findings.{AreFound, summary_in};
@@ -17,10 +19,10 @@ use cj_formats::{CertFormat, CertVersion};
 use cj_gen::catalogue;
 use cj_inputs::prepare;
 use cj_io::{CalmFolder, Gate};
-use cj_outputs::{Behind, Findings, Wanted};
+use cj_outputs::{Behind, Findings, Lines, Wanted};
 use cj_report::Tells;
 use cj_status::Status;
-use cj_words::{Selfrun, Settings};
+use cj_words::{Selfrun, Settings, most_told};
 use std::alloc::{AllocError, Global};
 use std::sync::Wait;
 use std::thread::Threads;
@@ -46,15 +48,16 @@ pub fn selfrun_catalogue<R: Threads + Wait + Sync, G: Gate + Sync>(
         format: CertFormat::Full(CertVersion::One),
         workers: selfrun.workers,
         leaves: selfrun.cells,
+        told: most_told(false),
+        large: false,
     };
     let mut found = screen(rt, alloc, gate, problem, wanted)?;
-    confirm(alloc, &found)?;
+    confirm(rt, alloc, &found, selfrun.workers)?;
     found.behind = Behind::CheckAccepted;
     Ok(found)
 }
 
 /// The problem of a made-up catalogue: its files are read as those of a folder are.
-#[tactic(auto, unfolding(cj_outputs::specs::Outcome::case_of_selfrun))]
 fn prepare_catalogue<R: Threads + Sync, G: Gate + Sync>(
     rt: &R,
     alloc: Global,
@@ -90,16 +93,31 @@ fn settings_of(selfrun: &Selfrun) -> Settings<'static>
         sizes: None,
         coverage: false,
         must_cover: false,
+        large: false,
         limits: Limits::USUAL,
     }
 }
 
 /// Has the certificate of what is found checked. It is accepted.
-fn confirm(alloc: Global, found: &Findings) -> Result<(), AllocError>
-    requires { AreFound found.now }
+fn confirm<R: Threads + Sync>(
+    rt: &R,
+    alloc: Global,
+    found: &Findings,
+    workers: u32,
+) -> Result<(), AllocError>
+    requires found { AreFound found.now }
+    requires in_full { found.now.wanted.format ≡ Full One }
 {
-    let certificate = written_certificate(alloc, &found.problem, &found.measured, &found.leaves)?;
-    match check(alloc, &found.problem, &certificate)? {
+    let Lines::InFull {
+        measured,
+        leaves,
+        ..
+    } = &found.lines
+    else {
+        unreachable!()
+    };
+    let certificate = written_certificate(alloc, &found.problem, measured, leaves)?;
+    match check(rt, alloc, &found.problem, &certificate, workers)? {
         Answer::Accepted => Ok(()),
         Answer::Refused { .. } => unreachable!(),
     }

@@ -3,6 +3,7 @@ use crate::certificates::{AT_REST, RESTING, is_certified};
 use crate::runs::{is_told, output_of, run_at, with_certificate};
 use crate::scenes::{CROSSING, Content, Scene, files_of};
 use crate::versions::{AT_REST_2, changed};
+use crate::workers::are_equal;
 use cj_base::Tick;
 use std::alloc::{AllocError, Global};
 use std::panic::Expect;
@@ -10,7 +11,7 @@ use std::sync::Wait;
 use std::thread::Threads;
 
 /// The certificate of the two objects at rest in brief.
-const AT_REST_3: &[u8] = b"CONJ-CERT 3
+pub const AT_REST_3: &[u8] = b"CONJ-CERT 3
 WINDOW 1735689600000000 1735689660000000
 THRESHOLD 5000000000000
 OBJECTS 2
@@ -24,13 +25,13 @@ END
 ";
 
 /// Two objects at rest whose boxes are four kilometres apart along two axes, so that they touch, and whose distance is more than five.
-const FAR: Scene = &[
+pub const FAR: Scene = &[
     ("a.oem", Content::Rest("0 0 8000")),
     ("b.oem", Content::Rest("4 4 7999.999")),
 ];
 
 /// Their certificate in brief, which leaves out both of their roots.
-const FAR_3: &[u8] = b"CONJ-CERT 3
+pub const FAR_3: &[u8] = b"CONJ-CERT 3
 WINDOW 1735689600000000 1735689660000000
 THRESHOLD 5000000000000
 OBJECTS 2
@@ -183,6 +184,38 @@ fn are_others_alike<R: Threads + Wait + Sync>(
 fn all_else_is_as_in_full(rt: HostRuntime) {
     for scene in [RESTING, FAR, CROSSING] {
         assert!(rt; are_others_alike(&rt, rt.alloc(), scene).expect(&rt, "no fault"));
+    }
+}
+
+/// Whether a run puts the same outputs by this line as by another.
+fn puts_the_same<R: Threads + Wait + Sync>(
+    rt: &R,
+    alloc: Global,
+    line: &str,
+    other: &str,
+    scene: Scene,
+) -> Result<bool, AllocError> {
+    let (end, one) = run_at(rt, alloc, line, files_of(alloc, scene)?, Tick::FIRST)?;
+    let (_, two) = run_at(rt, alloc, other, files_of(alloc, scene)?, Tick::FIRST)?;
+    Ok(end.number == 0 && are_equal(one.written(), two.written()))
+}
+
+/// What is found slab by slab is what is found from lists of all leaves.
+#[test]
+fn a_whole_sky_is_screened_as_in_brief(rt: HostRuntime) {
+    let alloc = rt.alloc();
+    for scene in [RESTING, FAR, CROSSING] {
+        for line in [
+            "screen . --large",
+            "screen . --workers 2 --large",
+            "screen . --workers 3 --large",
+            "screen . --workers 16 --large",
+        ] {
+            assert!(rt;
+                puts_the_same(&rt, alloc, line, "screen . --brief", scene).expect(&rt, "no fault"),
+                "{line}"
+            );
+        }
     }
 }
 

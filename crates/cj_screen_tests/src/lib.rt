@@ -26,6 +26,8 @@ mod directories;
 #[cfg(test)]
 mod failures;
 #[cfg(test)]
+mod large;
+#[cfg(test)]
 mod many;
 #[cfg(test)]
 mod messages;

@@ -25,7 +25,7 @@ use Rattle.cj_status.specs.declared.status.CertificateCause.TheVariants.{NoFile,
 use Rattle.cj_status.specs.declared.status.FileCause.{FileCause}
 use Rattle.cj_status.specs.declared.status.FileCause.TheVariants.{Oem, MixedFrames, Sizes, NoSizes, Uncovered}
 use Rattle.cj_status.specs.declared.status.LimitFault.{LimitFault}
-use Rattle.cj_status.specs.declared.status.LimitFault.TheVariants.{Objects, FileBytes, Nodes, Window, Slots, Cells}
+use Rattle.cj_status.specs.declared.status.LimitFault.TheVariants.{Objects, FileBytes, Nodes, Window, Slots, Cells, Told}
 
 abbrev pub usage_text : UsageFault → List ℕ
 usage_text Words = codes "Words"
@@ -130,6 +130,7 @@ limit_text (Nodes count) = codes "Nodes " ++ decimal count
 limit_text (Window length) = codes "Window " ++ decimal length
 limit_text (Slots count) = codes "Slots " ++ decimal count
 limit_text (Cells limit) = codes "Cells " ++ decimal limit
+limit_text (Told limit) = codes "Told " ++ decimal limit
 
 -- of a file that is refused: its name, the line, and what is wrong with it
 abbrev pub refused_body : List ℕ → ℕ → FileCause → List ℕ

@@ -251,6 +251,7 @@ fn push_limit(alloc: Global, text: &mut Vec<u8>, fault: &LimitFault) -> Result<(
         LimitFault::Window { length } => push_count(alloc, text, b"limit: Window ", *length),
         LimitFault::Slots { count } => push_count(alloc, text, b"limit: Slots ", *count),
         LimitFault::Cells { limit } => push_count(alloc, text, b"limit: Cells ", *limit),
+        LimitFault::Told { limit } => push_count(alloc, text, b"limit: Told ", *limit),
     }
 }
 

@@ -40,7 +40,7 @@ pub enum CertificateCause {
 pub enum LimitFault {
     /// There are so many objects, more than the limit of the run.
     Objects { count: u32 },
-    /// This file has more than 67,108,864 bytes, or it is the certificate or the report and has more than 1,073,741,824.
+    /// This file has more than 67,108,864 bytes, or it is the certificate or the report and has more than the limit of the run.
     FileBytes { file: Name },
     /// The files up to one of them have so many nodes, more than the limit of the run.
     Nodes { count: u64 },
@@ -50,6 +50,8 @@ pub enum LimitFault {
     Slots { count: u64 },
     /// There are more leaves than this limit.
     Cells { limit: u64 },
+    /// There are more leaves that a certificate in brief tells than this limit.
+    Told { limit: u64 },
 }
 
 /// How a run ended.

@@ -4,15 +4,15 @@ use Rattle.std.specs.Prelude.{codes, is_some, nat_le, option_map}
 use Rattle.std.proofs.lemmas.Bool.{and_parts}
 use Rattle.std.proofs.lemmas.List.Sums.{sum_by-cons}
 use Rattle.cj_base.proofs.LogicLemmas.{some_is}
-use Rattle.cj_base.specs.Limits.{USUAL}
 use Rattle.cj_epoch.specs.Reading.{reading_of}
 use Rattle.cj_epoch.specs.declared.fault.EpochFault.{EpochFault}
 use Rattle.cj_formats.specs.declared.cert_format.CertFormat.{CertFormat}
 use Rattle.cj_words.specs.declared.option.Opt.{Opt}
-use Rattle.cj_words.specs.declared.option.Opt.TheVariants.{From, To, Originator, Cells, AsHermite3, Sizes, CertVersion as Version, Rtn, Coverage, MustCover, Brief}
+use Rattle.cj_words.specs.declared.option.Opt.TheVariants.{From, To, Originator, Cells, AsHermite3, Sizes, CertVersion as Version, Rtn, Coverage, MustCover, Large}
 use Rattle.cj_words.specs.declared.option.UsageFault.{UsageFault}
 use Rattle.cj_words.specs.Commands.{PlainScreening, screening_of, workers_of}
-use Rattle.cj_words.specs.Options.{Given, count_of, has_ends, is_given, is_named, value_of}
+use Rattle.cj_words.specs.Limits.{limits_of}
+use Rattle.cj_words.specs.Options.{Given, asks_brief, count_of, has_ends, is_given, is_named, value_of}
 use Rattle.cj_words.specs.Settings.{◌>>=◌, PlainSettings, are_in_order, epoch_or, format_or, in_range, name_or, not_before, number_or, originator_or, sized_of, suffix_of, threshold_of, unsized_of}
 
 -- an option that stands has a value
@@ -98,7 +98,8 @@ unsized_ends threshold gs s begins ends is =
       sizes = None;
       coverage = is_given Coverage gs;
       must_cover = is_given MustCover gs;
-      limits = USUAL;
+      large = is_given Large gs;
+      limits = limits_of (is_given Large gs);
     })
     s
     (λ f t x. refl) (λ f t x. refl) begins ends is
@@ -137,7 +138,7 @@ unfolding screening_of
 screening_ends gs s has is =
     let given = and_parts (is_given From gs) (is_given To gs) has in
     settings_made HasEnds (threshold_of gs) (workers_of gs) (λ t. unsized_of t gs) (in_range Originator (originator_or (codes "CONJ") (value_of Originator gs)))
-    (λ x. in_range Cells (number_or 1 x.limits.leaves x.limits.leaves (value_of Cells gs))) (λ x. sized_of x gs) (in_range Version (format_or (is_given Brief gs) (value_of Version gs)))
+    (λ x. in_range Cells (number_or 1 x.limits.leaves x.limits.leaves (value_of Cells gs))) (λ x. sized_of x gs) (in_range Version (format_or (asks_brief gs) (value_of Version gs)))
     (λ x w o n k. record { settings = x; workers = w; originator = o; cells = n; format = k; rtn = is_given Rtn gs }) s (λ x w o n k. refl)
     (λ t x made. unsized_ends t gs x (given_value From gs given.0) (given_value To gs given.1) made) (λ x y both made. sized_ends x y gs both made) is
 

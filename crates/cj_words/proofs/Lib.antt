@@ -1,5 +1,6 @@
 mod DigitLemmas
 mod EndLemmas
+mod FormatLemmas
 mod FrontLemmas
 mod LineLemmas
 mod PlaceLemmas

@@ -15,11 +15,11 @@ use Rattle.cj_words.specs.declared.command.Thinning as kept_thinning
 use Rattle.cj_words.specs.declared.command.Verb.{Verb}
 use Rattle.cj_words.specs.declared.command.Verb.TheVariants.{Screen, Check, Generate, Selfrun, Rewrite, Thin, Rescreen}
 use Rattle.cj_words.specs.declared.option.Opt.{Opt}
-use Rattle.cj_words.specs.declared.option.Opt.TheVariants.{Workers, Cert, Originator, Cells, Seed, Objects, Minutes, AsHermite3, CertVersion, Update, Changed, Report, Out, CertDir, Rtn, Brief, Within}
+use Rattle.cj_words.specs.declared.option.Opt.TheVariants.{Workers, Cert, Originator, Cells, Seed, Objects, Minutes, AsHermite3, CertVersion, Update, Changed, Report, Out, CertDir, Rtn, Within}
 use Rattle.cj_words.specs.declared.option.UsageFault.{UsageFault}
 use Rattle.cj_words.specs.declared.option.UsageFault.TheVariants.{Words, Value}
 use Rattle.cj_words.specs.Lines.{Line, line_of}
-use Rattle.cj_words.specs.Options.{Given, given_of, are_accepted, is_given, listed, value_of}
+use Rattle.cj_words.specs.Options.{Given, given_of, are_accepted, asks_brief, is_given, listed, value_of}
 use Rattle.cj_words.specs.Settings.{◌>>=◌, PlainSettings, plain_settings, file_text_or, format_or, in_range, is_path_or_none, name_or, number_or, originator_or, sized_of, suffix_of, threshold_of, unsized_of, update_or, update_or_none}
 
 -- how files are screened: how many workers share the work, who makes the messages, the greatest number of leaves, how the
@@ -129,7 +129,7 @@ screening_of givens = do
   originator ← in_range Originator (originator_or (codes "CONJ") (value_of Originator givens))
   cells ← in_range Cells (number_or 1 unsized.limits.leaves unsized.limits.leaves (value_of Cells givens))
   settings ← sized_of unsized givens
-  format ← in_range CertVersion (format_or (is_given Brief givens) (value_of CertVersion givens))
+  format ← in_range CertVersion (format_or (asks_brief givens) (value_of CertVersion givens))
   Ok (record { settings = settings; workers = workers; originator = originator; cells = cells; format = format; rtn = is_given Rtn givens })
 
 -- the same of a check, and of a certificate that is rewritten, which has no option for a report
@@ -141,7 +141,7 @@ checking_of givens = do
   settings ← sized_of unsized givens
   update ← in_range Update (update_or_none settings.suffix (value_of Update givens))
   report ← in_range Report (name_or (value_of Report givens))
-  Ok (record { settings = settings; certificate = certificate; report = report; update = update; brief = is_given Brief givens })
+  Ok (record { settings = settings; certificate = certificate; report = report; update = update; brief = asks_brief givens })
 
 -- the same of a screening again
 unfoldable pub rescreening_of : List Given → Result PlainRescreening UsageFault

@@ -1,4 +1,5 @@
 pub mod Commands
+pub mod Limits
 pub mod Lines
 pub mod Options
 pub mod Places

@@ -4,7 +4,7 @@ use Rattle.std.specs.List.{list_all, before_first, after_first}
 use Rattle.std.specs.Str.{bytes_eq}
 use Rattle.cj_kvn.specs.Lines.{is_equals}
 use Rattle.cj_words.specs.declared.option.Opt.{Opt}
-use Rattle.cj_words.specs.declared.option.Opt.TheVariants.{Threshold, Workers, From, To, Suffix, Cert, Originator, Cells, Seed, Objects, Minutes, AsHermite3, Sizes, CertVersion, Update, Changed, Report, Out, CertDir, Rtn, Coverage, MustCover, Brief, Within, Warnings, AllFaults}
+use Rattle.cj_words.specs.declared.option.Opt.TheVariants.{Threshold, Workers, From, To, Suffix, Cert, Originator, Cells, Seed, Objects, Minutes, AsHermite3, Sizes, CertVersion, Update, Changed, Report, Out, CertDir, Rtn, Coverage, MustCover, Brief, Within, Warnings, AllFaults, Large}
 use Rattle.cj_words.specs.declared.command.Verb.{Verb}
 use Rattle.cj_words.specs.declared.command.Verb.TheVariants.{Screen, Check, Generate, Selfrun, Rewrite, Thin, Rescreen}
 
@@ -35,6 +35,7 @@ name_of Brief = codes "--brief"
 name_of Within = codes "--within"
 name_of Warnings = codes "--warnings"
 name_of AllFaults = codes "--all-faults"
+name_of Large = codes "--large"
 
 -- an option on the command line: its name and its value, empty for a flag
 pub record Given : Type 0 where
@@ -81,8 +82,10 @@ is_checking_name name =
 
 -- the name of an option of the command
 abbrev pub is_name : Verb → List ℕ → Bool
-is_name Screen name = is_screening_name name
-is_name Check name = is_checking_name name || (bytes_eq name (name_of Report) || bytes_eq name (name_of Coverage))
+is_name Screen name = is_screening_name name || bytes_eq name (name_of Large)
+is_name Check name =
+    is_checking_name name
+    || (bytes_eq name (name_of Report) || (bytes_eq name (name_of Coverage) || bytes_eq name (name_of Large)))
 is_name Generate name = is_catalogue_name name || bytes_eq name (name_of Out)
 is_name Selfrun name = bytes_eq name (name_of Threshold) || (bytes_eq name (name_of Workers) || (bytes_eq name (name_of Cells) || is_catalogue_name name))
 is_name Rewrite name = is_checking_name name || bytes_eq name (name_of Out)
@@ -98,7 +101,8 @@ is_flag name =
     || (bytes_eq name (name_of Changed)
     || (bytes_eq name (name_of Rtn)
     || (bytes_eq name (name_of Coverage)
-    || (bytes_eq name (name_of MustCover) || (bytes_eq name (name_of Brief) || is_telling_name name)))))
+    || (bytes_eq name (name_of MustCover)
+    || (bytes_eq name (name_of Brief) || (bytes_eq name (name_of Large) || is_telling_name name))))))
 
 -- a word that may stand on its own as a directory or as a value: not empty, and no option
 abbrev pub is_value : List ℕ → Bool
@@ -205,7 +209,8 @@ are_others_single givens =
     is_single Workers givens
     && (is_single Cert givens
     && (is_single Cells givens
-    && (is_single Update givens && (is_single Changed givens && (is_single MustCover givens && is_single Within givens)))))
+    && (is_single Update givens
+    && (is_single Changed givens && (is_single MustCover givens && (is_single Within givens && is_single Large givens))))))
 
 -- so does each
 unfoldable pub are_single : List Given → Bool
@@ -231,6 +236,10 @@ is_given option givens = nat_le 1 (count_of option givens)
 -- both ends of the window stand
 abbrev pub has_ends : List Given → Bool
 has_ends givens = is_given From givens && is_given To givens
+
+-- the certificate may be in brief, as it is where a run may take a whole sky
+abbrev pub asks_brief : List Given → Bool
+asks_brief givens = is_given Brief givens || is_given Large givens
 
 -- something is asked of messages or of the certificate
 abbrev pub shapes_outputs : List Given → Bool

@@ -6,7 +6,7 @@ use Rattle.std.specs.Option.{option_and_then, option_map, option_copied}
 use Rattle.std.specs.Char.{is_ascii_digit}
 use Rattle.std.specs.Str.{bytes_eq}
 use Rattle.std.specs.Str.Parse.{digits_value}
-use Rattle.cj_base.specs.Limits.{PlainLimits, USUAL, plain_limits}
+use Rattle.cj_base.specs.Limits.{PlainLimits, plain_limits}
 use Rattle.cj_formats.specs.declared.cert_format.CertFormat.{CertFormat}
 use Rattle.cj_formats.specs.declared.cert_format.CertFormat.TheVariants.{Full, Brief}
 use Rattle.cj_formats.specs.declared.cert_version.CertVersion.{CertVersion}
@@ -19,13 +19,14 @@ use Rattle.cj_epoch.specs.declared.fault.EpochFault.{EpochFault}
 use Rattle.cj_words.specs.declared.option.Opt.{Opt}
 use Rattle.cj_words.specs.declared.option.UsageFault.{UsageFault}
 use Rattle.cj_words.specs.declared.option.UsageFault.TheVariants.{Value}
-use Rattle.cj_words.specs.declared.option.Opt.TheVariants.{Threshold, From, To, Suffix, AsHermite3, Sizes, Coverage, MustCover}
+use Rattle.cj_words.specs.declared.option.Opt.TheVariants.{Threshold, From, To, Suffix, AsHermite3, Sizes, Coverage, MustCover, Large}
 use Rattle.cj_words.specs.declared.settings.Settings.{Settings}
+use Rattle.cj_words.specs.Limits.{limits_of}
 use Rattle.cj_words.specs.Options.{Given, value_of, is_given}
 
 -- settings: the threshold in metres, the ends of the window in ticks, where they are given, what the names of the files that are taken
 -- end with, whether each file is taken as if it declared the cubic, the name of the file of sizes, where it is given, whether the report
--- tells which ticks each object covers, whether each has to cover the window, and how much a run may take
+-- tells which ticks each object covers, whether each has to cover the window, whether a run may take a whole sky, and how much it may take
 pub record PlainSettings : Type 0 where
   pub threshold : ℕ
   pub from : Option ℕ
@@ -35,6 +36,7 @@ pub record PlainSettings : Type 0 where
   pub sizes : Option (List ℕ)
   pub coverage : Bool
   pub must_cover : Bool
+  pub large : Bool
   pub limits : PlainLimits
 
 -- the bytes of a text that is lent
@@ -52,6 +54,7 @@ plain_settings s = record {
   sizes = option_copied s.sizes;
   coverage = s.coverage;
   must_cover = s.must_cover;
+  large = s.large;
   limits = plain_limits s.limits;
 }
 
@@ -189,7 +192,8 @@ unsized_of threshold givens = do
     sizes = None;
     coverage = is_given Coverage givens;
     must_cover = is_given MustCover givens;
-    limits = USUAL;
+    large = is_given Large givens;
+    limits = limits_of (is_given Large givens);
   })
 
 -- these settings with the file of sizes that options name, where they name one

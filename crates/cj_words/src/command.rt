@@ -1,5 +1,6 @@
 ghost use Rattle.std.specs.Prelude.{◌≡◌, ◌≤◌, true, is_some};
 ghost use Rattle.cj_base.specs.Bounds.{MOST_LEAVES, MOST_MADE_OBJECTS};
+ghost use Rattle.cj_formats.specs.declared.cert_format.CertFormat.TheVariants.{Brief};
 
 use crate::settings::Settings;
 use cj_formats::CertFormat;
@@ -45,7 +46,7 @@ pub struct Screening<'w> {
     pub originator: &'w [u8],
     /// The greatest number of leaves, from 1 to that of the limits.
     pub cells: u64,
-    /// How the certificate is written: in full, in one of its versions, or in brief.
+    /// How the certificate is written: in full, in one of its versions, or in brief, as that of a whole sky is.
     pub format: CertFormat,
     /// Whether messages tell the state of the second object along the radial, transverse and normal axes of the first.
     pub rtn: bool,
@@ -53,6 +54,7 @@ pub struct Screening<'w> {
     pub ghost most_workers: { workers ≤ 16 },
     pub ghost some_cells: { 1 ≤ cells },
     pub ghost most_cells: { cells ≤ settings.limits.leaves },
+    pub ghost in_brief: { settings.large ≡ true → format ≡ Brief },
 }
 
 /// Which certificate is checked against the files of a directory, or rewritten, and which report beside it. Their names are lent by the words.

@@ -8,7 +8,7 @@ ghost use Rattle.cj_words.specs.Options.{given_of, listed};
 ghost use Rattle.cj_words.specs.Settings.{said};
 
 use crate::command::{Checking, Command, Recipe, Rescreening, Screening, Selfrun, Thinning, Verb};
-use crate::given::{are_options, is_given, value_of};
+use crate::given::{are_options, asks_brief, is_given, value_of};
 use crate::line::{Line, line_of};
 use crate::numbers::{format_or, number_or, out_of_range};
 use crate::option::{Opt, UsageFault};
@@ -117,10 +117,7 @@ fn screening_of(words: &[Word]) -> Result<Screening<'_>, UsageFault>
         return Err(out_of_range(Opt::Cells));
     };
     let settings = sized_of(unsized_settings, words)?;
-    let Some(format) = format_or(
-        value_of(words, Opt::CertVersion),
-        is_given(words, Opt::Brief),
-    ) else {
+    let Some(format) = format_or(value_of(words, Opt::CertVersion), asks_brief(words)) else {
         return Err(out_of_range(Opt::CertVersion));
     };
     Ok(Screening {
@@ -155,7 +152,7 @@ fn checking_of(words: &[Word]) -> Result<Checking<'_>, UsageFault>
         certificate,
         report,
         update,
-        brief: is_given(words, Opt::Brief),
+        brief: asks_brief(words),
     })
 }
 

@@ -49,6 +49,7 @@ fn is_flag(name: &[u8]) -> bool
         || name == option_name(Opt::Coverage)
         || name == option_name(Opt::MustCover)
         || name == option_name(Opt::Brief)
+        || name == option_name(Opt::Large)
         || is_telling(name)
 }
 

@@ -79,6 +79,7 @@ fn are_others_single(words: &[Word]) -> bool
         && is_single(words, Opt::Changed)
         && is_single(words, Opt::MustCover)
         && is_single(words, Opt::Within)
+        && is_single(words, Opt::Large)
 }
 
 fn is_single(words: &[Word], option: Opt) -> bool
@@ -118,6 +119,14 @@ fn has_report(words: &[Word]) -> bool
     !is_given(words, Opt::Coverage) || is_given(words, Opt::Report)
 }
 
+/// Whether the certificate may be in brief, as it is where a run may take a whole sky.
+pub fn asks_brief(words: &[Word]) -> bool
+    requires { IsTrue (spec.are_listed (given_of words.now)) }
+    ensures { result ≡ spec.asks_brief (listed (given_of words.now)) }
+{
+    is_given(words, Opt::Brief) || is_given(words, Opt::Large)
+}
+
 /// Whether something is asked of messages or of the certificate.
 fn shapes_outputs(words: &[Word]) -> bool
     requires { IsTrue (spec.are_listed (given_of words.now)) }
@@ -147,9 +156,12 @@ pub fn is_known(name: &[u8], verb: Verb) -> bool
     ensures { result ≡ spec.is_name verb name.now }
 {
     match verb {
-        Verb::Screen => is_of_screening(name),
+        Verb::Screen => is_of_screening(name) || is_named(name, Opt::Large),
         Verb::Check => {
-            is_of_checking(name) || is_named(name, Opt::Report) || is_named(name, Opt::Coverage)
+            is_of_checking(name)
+                || is_named(name, Opt::Report)
+                || is_named(name, Opt::Coverage)
+                || is_named(name, Opt::Large)
         }
         Verb::Generate => is_of_catalogue(name) || is_named(name, Opt::Out),
         Verb::Selfrun => {

@@ -6,6 +6,7 @@ mod commands;
 mod digits;
 mod front;
 mod given;
+mod limits;
 mod line;
 mod numbers;
 mod option;
@@ -19,6 +20,7 @@ pub use command::{Checking, Command, Recipe, Rescreening, Screening, Selfrun, Th
 pub use commands::read_command;
 pub use front::{Front, front_of, split_at_equals};
 pub use given::is_known;
+pub use limits::{LARGE, limits_of, most_certificate_bytes, most_told};
 pub use line::{Line, line_of, verb_of};
 pub use option::{Opt, UsageFault, option_name};
 pub use places::{Places, places_of};

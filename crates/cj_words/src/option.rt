@@ -56,6 +56,8 @@ pub enum Opt {
     Warnings,
     /// Whether the first fault of each file that is refused is told; a flag.
     AllFaults,
+    /// Whether a run may take a whole sky; then the certificate is in brief. A flag.
+    Large,
 }
 
 /// What is wrong with a command line.
@@ -98,5 +100,6 @@ pub fn option_name(option: Opt) -> &'static [u8]
         Opt::Within => b"--within",
         Opt::Warnings => b"--warnings",
         Opt::AllFaults => b"--all-faults",
+        Opt::Large => b"--large",
     }
 }

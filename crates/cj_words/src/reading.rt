@@ -8,11 +8,12 @@ ghost use Rattle.cj_words.specs.Settings as spec;
 ghost use Rattle.cj_words.specs.Settings.{lent_bytes, plain_settings, said};
 
 use crate::given::{is_given, value_of};
+use crate::limits::limits_of;
 use crate::numbers::{number_or, out_of_range};
 use crate::option::{Opt, UsageFault};
 use crate::settings::{Settings, Word};
 use crate::texts::{file_text_or, name_or};
-use cj_base::{Limits, Tick};
+use cj_base::Tick;
 use cj_epoch::read_epoch;
 
 /// The greatest miss distance that is reported, in metres.
@@ -45,7 +46,8 @@ pub fn unsized_of(words: &[Word], threshold: u64) -> Result<Settings<'_>, UsageF
     requires listed { IsTrue (options.are_listed (given_of words.now)) }
     requires some { 1 ≤ threshold }
     requires most { threshold ≤ 1_000_000 }
-    ensures { said plain_settings result ≡ spec.unsized_of threshold (listed (given_of words.now)) }
+    ensures value { said plain_settings result ≡ spec.unsized_of threshold (listed (given_of words.now)) }
+    ensures large { IfOk result (λ asked. asked.large ≡ options.is_given Opt.Large (listed (given_of words.now))) }
 {
     let Some(from) = epoch_or(value_of(words, Opt::From)) else {
         return Err(out_of_range(Opt::From));
@@ -57,6 +59,7 @@ pub fn unsized_of(words: &[Word], threshold: u64) -> Result<Settings<'_>, UsageF
         return Err(out_of_range(Opt::To));
     }
     let suffix = suffix_of(words)?;
+    let large = is_given(words, Opt::Large);
     Ok(Settings {
         threshold,
         from,
@@ -66,7 +69,8 @@ pub fn unsized_of(words: &[Word], threshold: u64) -> Result<Settings<'_>, UsageF
         sizes: None,
         coverage: is_given(words, Opt::Coverage),
         must_cover: is_given(words, Opt::MustCover),
-        limits: Limits::USUAL,
+        large,
+        limits: limits_of(large),
     })
 }
 
@@ -79,6 +83,7 @@ pub fn sized_of<'w>(
     requires { IsTrue (options.are_listed (given_of words.now)) }
     ensures value { said plain_settings result ≡ spec.sized_of (plain_settings settings.entry) (listed (given_of words.now)) }
     ensures limits { IfOk result (λ sized. sized.limits ≡ settings.entry.limits) }
+    ensures large { IfOk result (λ sized. sized.large ≡ settings.entry.large) }
 {
     let Some(sizes) = name_or(value_of(words, Opt::Sizes)) else {
         return Err(out_of_range(Opt::Sizes));

@@ -1,5 +1,6 @@
 ghost use Rattle.std.specs.Prelude.{◌≤◌, ◌≡◌, Option};
-ghost use Rattle.cj_base.specs.Limits.{USUAL, plain_limits};
+ghost use Rattle.cj_base.specs.Limits.{plain_limits};
+ghost use Rattle.cj_words.specs.Limits.{limits_of};
 ghost use Rattle.cj_base.specs.declared.tick.Tick.{Tick};
 
 use cj_base::{Limits, Text, Tick};
@@ -26,9 +27,11 @@ pub struct Settings<'w> {
     pub coverage: bool,
     /// Whether an object that does not cover the window is refused.
     pub must_cover: bool,
-    /// How much a run may take. No option tells it.
+    /// Whether a run may take a whole sky.
+    pub large: bool,
+    /// How much it may take.
     pub limits: Limits,
     pub ghost some: { 1 ≤ threshold },
     pub ghost most: { threshold ≤ 1_000_000 },
-    pub ghost usual: { plain_limits limits ≡ USUAL },
+    pub ghost limited: { plain_limits limits ≡ limits_of large },
 }

@@ -24,8 +24,8 @@ returns-in_err-read_within-in-Some g c =
       between = comes_between why;
       read = folder_failed why c.in_err-read_within-in-Some.ensures.fault;
       told = λ files told known.
-          rw (input_found c.args.missing files name c.args.names.now (Some c.in-Some.number) known (sym c.in-Some.is ∙ c.first_named.ensures.value))
-          (input_ends rose (λ (bytes : Vec ℕ Global). bytes.items) why (input_at c.args.missing files name (Some c.in-Some.number))
+          rw (input_found c.args.most c.args.missing files name c.args.names.now (Some c.in-Some.number) known (sym c.in-Some.is ∙ c.first_named.ensures.value))
+          (input_ends rose (λ (bytes : Vec ℕ Global). bytes.items) why (input_at c.args.most c.args.missing files name (Some c.in-Some.number))
           (c.in_err-read_within-in-Some.ensures.told files told));
       small = tt;
       count = c.read_within.ensures.count;
@@ -38,7 +38,7 @@ returns-in_ok-read_within-in-Some g c = record {
   between = tt;
   read = ok_not_err;
   told = λ files told known.
-      input_found c.args.missing files c.args.name.now c.args.names.now (Some c.in-Some.number) known (sym c.in-Some.is ∙ c.first_named.ensures.value)
+      input_found c.args.most c.args.missing files c.args.name.now c.args.names.now (Some c.in-Some.number) known (sym c.in-Some.is ∙ c.first_named.ensures.value)
       ∙ c.in_ok-read_within-in-Some.ensures.told files told;
   small = c.in_ok-read_within-in-Some.ensures.small;
   count = c.read_within.ensures.count;
@@ -50,7 +50,7 @@ pub returns-in-None : goal.returns-in-None
 returns-in-None g c = record {
   between = tt;
   read = no_file;
-  told = λ files told known. input_found c.args.missing files c.args.name.now c.args.names.now None known (sym c.in-None.is ∙ c.first_named.ensures.value);
+  told = λ files told known. input_found c.args.most c.args.missing files c.args.name.now c.args.names.now None known (sym c.in-None.is ∙ c.first_named.ensures.value);
   small = tt;
   count = refl;
   files = refl;

@@ -14,7 +14,7 @@ returns-in_err-bytes g c =
     (record {
       between = named.between;
       read = λ is. named.read (ap Err (same_cause is));
-      told = λ files told known. named_fails rose files c.in-Some.name.now c.in_err-bytes.field-0.0 (named.told files told known);
+      told = λ files told known. named_fails c.args.most rose files c.in-Some.name.now c.in_err-bytes.field-0.0 (named.told files told known);
       small = tt;
       files = c.read_named.ensures.files;
       later = c.read_named.ensures.later;
@@ -26,7 +26,7 @@ returns g c =
     (record {
       between = tt;
       read = ok_not_err;
-      told = λ files told known. named_read files c.in-Some.name.now c.in_ok-bytes.bytes.items (c.in_ok-bytes.ensures.told files told known);
+      told = λ files told known. named_read c.args.most files c.in-Some.name.now c.in_ok-bytes.bytes.items (c.in_ok-bytes.ensures.told files told known);
       small = c.in_ok-bytes.ensures.small;
       files = c.read_named.ensures.files;
       later = c.read_named.ensures.later;

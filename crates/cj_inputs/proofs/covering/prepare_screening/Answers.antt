@@ -17,6 +17,7 @@ returns-in_err-problem g c =
       between = c.in_err-problem.ensures.between;
       read = λ is. c.in_err-problem.ensures.read (ap Err (same_cause is));
       told = λ files told. unasked _ files (plain_settings c.args.settings.now) s (c.in_err-problem.ensures.told files told);
+      trim_same = λ files told. tt;
       files = c.prepare.ensures.files;
       later = c.prepare.ensures.later;
     })
@@ -32,6 +33,7 @@ returns-in_err-judge_cover g c =
       between = c.in_err-judge_cover.ensures.between;
       read = λ is. absurd (stops_unread s (covering asked.must_cover case) c.in_err-judge_cover.ensures.told is);
       told = λ files told. uncovered _ files asked case s (c.in_ok-problem.ensures.told files told) c.in_err-judge_cover.ensures.told;
+      trim_same = λ files told. tt;
       files = c.prepare.ensures.files;
       later = c.prepare.ensures.later;
     })

@@ -6,6 +6,7 @@ use Rattle.cj_io.specs.declared.folder.FolderError.TheVariants.{Failed}
 use Rattle.cj_io.proofs.FileLemmas.{rose_since}
 use Rattle.cj_words.specs.Settings.{plain_settings}
 use Rattle.cj_inputs.specs.Cases.{case_asked}
+use Rattle.cj_inputs.proofs.FromFileLemmas.{problem_from_files}
 use Rattle.cj_inputs.proofs.StepLemmas.{folder_between, folder_stops, gives_wider, listing_failed}
 use Rattle.cj_inputs.proofs.preparing.prepare.Goals as goal
 
@@ -20,6 +21,7 @@ returns-in_err-names g c =
       between = folder_between e;
       read = listing_failed e failed;
       told = λ files told. folder_stops rose e _ failed;
+      trim_same = λ files told. tt;
       files = c.names.ensures.files;
       later = c.names.ensures.later;
     })
@@ -37,6 +39,9 @@ returns g c =
           let known = c.deref.ensures.value ∙ c.in_ok-names.ensures.told files told in
           gives_wider (Rose before now) (Rose first now) plain_problem c.prepare_listed.result (case_asked files (plain_settings c.args.settings.now)) since
           (c.prepare_listed.ensures.told files (c.names.ensures.files ∙ told) known);
+      trim_same = λ files told.
+          let known = c.deref.ensures.value ∙ c.in_ok-names.ensures.told files told in
+          problem_from_files (Rose before now) files (plain_settings c.args.settings.now) c.prepare_listed.result (c.prepare_listed.ensures.told files (c.names.ensures.files ∙ told) known);
       files = c.prepare_listed.ensures.files ∙ c.names.ensures.files;
       later = omega (arith, c.prepare_listed.ensures.later, c.names.ensures.later);
     }

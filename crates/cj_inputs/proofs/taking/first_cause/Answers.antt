@@ -4,7 +4,8 @@ use Rattle.cj_track.specs.PlainTracks.{PlainTrack}
 use Rattle.cj_track.specs.Tracks.{plain_track}
 use Rattle.cj_status.specs.declared.status.Status.{Status}
 use Rattle.cj_status.specs.Steps.{◌>>=◌}
-use Rattle.cj_inputs.specs.Batches.{said_by, tracks_after}
+use Rattle.cj_words.specs.Settings.{plain_settings}
+use Rattle.cj_inputs.specs.Batches.{said_in, tracks_after}
 use Rattle.cj_inputs.specs.Readings.{Reads}
 use Rattle.cj_inputs.specs.declared.taken.Taken.{Taken}
 use Rattle.cj_inputs.proofs.BatchLemmas.{front_fails}
@@ -16,5 +17,5 @@ returns-in-Ok-clause-told g c = λ behind each.
 
 pub returns-in-Err-clause-told : goal.returns-in-Err-clause-told
 returns-in-Err-clause-told g c = λ behind each.
-    let expected = tracks_after c.args.settings.now.limits.nodes (map plain_track c.args.taken.tracks.items) (map (said_by c.args.settings.now.as_hermite3) c.args.files.now) in
+    let expected = tracks_after c.args.settings.now.limits.nodes (map plain_track c.args.taken.tracks.items) (map (said_in (plain_settings c.args.settings.now)) c.args.files.now) in
     front_fails ⊤ (λ (all : Taken). map plain_track all.tracks.items) (λ (all : List PlainTrack). all) c.in-Err.earlier (expected >>= behind) expected behind refl c.in-Err.ensures

@@ -6,7 +6,7 @@ use Rattle.cj_inputs.specs.declared.batch.FileRead.{FileRead}
 use Rattle.cj_inputs.specs.declared.input_files.Entry.{Entry}
 use Rattle.cj_inputs.specs.declared.progress.Progress.{Progress}
 use Rattle.cj_inputs.specs.declared.reading.InputError.{InputError}
-use Rattle.cj_inputs.specs.Batches.{IsFirstCause, said_by, tracks_after}
+use Rattle.cj_inputs.specs.Batches.{IsFirstCause, said_in, tracks_after}
 use Rattle.cj_inputs.specs.Readings.{Reads}
 use Rattle.cj_inputs.proofs.EndLemmas.{same_cause}
 use Rattle.cj_inputs.proofs.BatchLemmas.{all_left, batch_goes_on, batch_stops, more_taken, next_fits}
@@ -15,7 +15,7 @@ use Rattle.cj_inputs.proofs.taking.go_on.Goals as goal
 -- this comes of these files that were read
 abbrev Takes : PlainSettings → Progress → Result Progress InputError → List FileRead → Type 0
 Takes settings progress r read =
-    Reads ⊥ (λ (next : Progress). map plain_track next.taken.tracks.items) r (tracks_after settings.limits.nodes (map plain_track progress.taken.tracks.items) (map (said_by settings.as_hermite3) read))
+    Reads ⊥ (λ (next : Progress). map plain_track next.taken.tracks.items) r (tracks_after settings.limits.nodes (map plain_track progress.taken.tracks.items) (map (said_in settings) read))
 
 pub returns-in-Some : goal.returns-in-Some
 returns-in-Some g c = record {
@@ -23,7 +23,7 @@ returns-in-Some g c = record {
   fault = tt;
   told = λ files told way.
       let progress = c.args.progress in
-      let first = subst (λ (read : List FileRead). IsFirstCause c.args.settings.now.limits.nodes c.in-Some.why (map plain_track progress.taken.tracks.items) (map (said_by c.args.settings.now.as_hermite3) read)
+      let first = subst (λ (read : List FileRead). IsFirstCause c.args.settings.now.limits.nodes c.in-Some.why (map plain_track progress.taken.tracks.items) (map (said_in (plain_settings c.args.settings.now)) read)
       c.first_cause.result)
       c.deref.ensures.value c.first_cause.ensures.told in
       batch_stops (plain_settings c.args.settings.now) files c.args.entries.now progress c.in-Some.why c.first_cause.result way c.in-Some.is first;

@@ -7,7 +7,8 @@ use Rattle.cj_inputs.specs.declared.batch.Batch.{Batch}
 use Rattle.cj_inputs.specs.declared.progress.Progress.{Progress}
 use Rattle.cj_inputs.specs.declared.reading.InputError.TheVariants.{Failed}
 use Rattle.cj_inputs.specs.declared.taken.Taken.{Taken}
-use Rattle.cj_inputs.specs.Batches.{AreParsed, IsBatchOf, said_by, tracks_after}
+use Rattle.cj_words.specs.Settings.{plain_settings}
+use Rattle.cj_inputs.specs.Batches.{AreParsed, IsBatchOf, said_in, tracks_after}
 use Rattle.cj_inputs.specs.declared.batch.FileRead.{FileRead}
 use Rattle.cj_inputs.proofs.BatchLemmas.{of_part, reads_wider}
 use Rattle.cj_inputs.proofs.taking.take_and_read.Goals as goal
@@ -23,8 +24,8 @@ next_of next = map plain_track next.taken.tracks.items
 
 pub returns-clause-taken : goal.returns-clause-taken
 returns-clause-taken g c =
-    let said = map (said_by c.args.settings.now.as_hermite3) c.args.files.items in
-    c.with_batch.ensures.told (tracks_after c.args.settings.now.limits.nodes (map plain_track c.args.taken.tracks.items) said) (c.take_all.ensures said (subst (λ (read : List FileRead). IfOk c.parse_and_read-readings.result.0 (λ readings. AreParsed c.args.settings.now.as_hermite3 read readings.items)) c.deref.ensures.value c.parse_and_read-readings.ensures.parsed))
+    let said = map (said_in (plain_settings c.args.settings.now)) c.args.files.items in
+    c.with_batch.ensures.told (tracks_after c.args.settings.now.limits.nodes (map plain_track c.args.taken.tracks.items) said) (c.take_all.ensures said (subst (λ (read : List FileRead). IfOk c.parse_and_read-readings.result.0 (λ readings. AreParsed (plain_settings c.args.settings.now) read readings.items)) c.deref.ensures.value c.parse_and_read-readings.ensures.parsed))
 
 pub returns-clause-fault : goal.returns-clause-fault
 returns-clause-fault g c =
@@ -56,7 +57,7 @@ returns-clause-later g c = c.parse_and_read-readings.ensures.later
 
 pub returns-in_err-taken : goal.returns-in_err-taken
 returns-in_err-taken g c =
-    let expected = tracks_after c.args.settings.now.limits.nodes (map plain_track c.args.taken.tracks.items) (map (said_by c.args.settings.now.as_hermite3) c.args.files.items) in
+    let expected = tracks_after c.args.settings.now.limits.nodes (map plain_track c.args.taken.tracks.items) (map (said_in (plain_settings c.args.settings.now)) c.args.files.items) in
     let p = err_from_is_err_and c.from_residual.result c.from_residual.ensures.1 in
     rw (p.1, p.2)
     (record {

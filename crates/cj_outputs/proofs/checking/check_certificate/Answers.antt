@@ -25,8 +25,11 @@ use Rattle.cj_outputs.proofs.checking.check_certificate.Goals as goal
 use Rattle.cj_report.specs.declared.tells.Tells.{Tells}
 
 -- what is put of a certificate that is accepted, where the report is
-abbrev due : Tells → PlainInputs → PlainAnyCertificate → Result (List FileBytes) Status
-due tells inputs certificate = report_if_accepting tells inputs.case (cells_in certificate) inputs.report >>= λ done. Ok (accepted_output ∷ [])
+abbrev due : ℕ → Tells → PlainInputs → PlainAnyCertificate → Result (List FileBytes) Status
+due limit tells inputs certificate = report_if_accepting limit tells inputs.case (cells_in certificate) inputs.report >>= λ done. Ok (accepted_output ∷ [])
+
+pub accept_report-requires-clause-few : goal.accept_report-requires-clause-few
+accept_report-requires-clause-few g c = λ lifetimes outlive. c.args.checking.now.settings.limits.most_leaves
 
 pub accept_report-requires-clause-in_order : goal.accept_report-requires-clause-in_order
 accept_report-requires-clause-in_order g c = λ lifetimes outlive.
@@ -80,13 +83,13 @@ returns-clause-told g c = λ files told.
     let rose = Rose (g.F.Folder.faults c.args.folder.now) (g.F.Folder.faults c.prepare_check.new.folder) in
     let outputs = accepted_output ∷ [] in
     let judged =
-    subst (λ (t : Tells). Gives ⊥ (λ done. done) c.accept_report.result (report_if_accepting t inputs.case cells inputs.report)) c.tells_of.ensures
-    (subst (λ (ss : List PlainLeaf). Gives ⊥ (λ done. done) c.accept_report.result (report_if_accepting c.tells_of.result inputs.case ss inputs.report))
+    subst (λ (t : Tells). Gives ⊥ (λ done. done) c.accept_report.result (report_if_accepting checking.settings.limits.leaves t inputs.case cells inputs.report)) c.tells_of.ensures
+    (subst (λ (ss : List PlainLeaf). Gives ⊥ (λ done. done) c.accept_report.result (report_if_accepting checking.settings.limits.leaves c.tells_of.result inputs.case ss inputs.report))
     (ap (map plain_cell_line) c.deref.ensures.value ∙ c.in_ok-cells.ensures) c.accept_report.ensures.told) in
     subst (λ (d : Result (List FileBytes) Status). Gives rose (λ done. outputs) c.accept_report.result d)
-    (sym (outputs_made_from checking.brief (due (tells_of checking.settings)) (inputs_asked files checking) inputs certificate (c.in_ok-problem.ensures.told files told)
+    (sym (outputs_made_from checking.brief (due checking.settings.limits.leaves (tells_of checking.settings)) (inputs_asked files checking) inputs certificate (c.in_ok-problem.ensures.told files told)
     c.in_ok-accepted.ensures.told))
-    (outputs_behind rose outputs c.accept_report.result (report_if_accepting (tells_of checking.settings) inputs.case cells inputs.report) judged)
+    (outputs_behind rose outputs c.accept_report.result (report_if_accepting checking.settings.limits.leaves (tells_of checking.settings) inputs.case cells inputs.report) judged)
 
 pub returns-in_err-problem : goal.returns-in_err-problem
 unfolding outputs_checked
@@ -97,7 +100,7 @@ returns-in_err-problem g c =
     rw (p.1, p.2) (record {
       between = prepared.between;
       read = λ is. prepared.read (same_error is);
-      told = λ files told. unprepared checking.brief (due (tells_of checking.settings)) _ c.in_err-problem.field-0.0 (inputs_asked files checking) (prepared.told files told);
+      told = λ files told. unprepared checking.brief (due checking.settings.limits.leaves (tells_of checking.settings)) _ c.in_err-problem.field-0.0 (inputs_asked files checking) (prepared.told files told);
       vouches = λ files told. tt;
       files = prepared.files;
       later = prepared.later;
@@ -113,7 +116,7 @@ returns-in_err-accepted g c =
       between = accepted.between;
       read = λ is. absurd (accepted.read (same_error is));
       told = λ files told.
-          unaccepted checking.brief (due (tells_of checking.settings)) _ c.in_err-accepted.field-0.0 (inputs_asked files checking) (plain_inputs c.in_ok-problem.field-0)
+          unaccepted checking.brief (due checking.settings.limits.leaves (tells_of checking.settings)) _ c.in_err-accepted.field-0.0 (inputs_asked files checking) (plain_inputs c.in_ok-problem.field-0)
           (c.in_ok-problem.ensures.told files told) accepted.told;
       vouches = λ files told. tt;
       files = c.in_ok-problem.ensures.files;

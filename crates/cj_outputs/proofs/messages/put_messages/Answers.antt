@@ -1,25 +1,26 @@
 use Rattle.std.proofs.Common.{◌≡◌, ◌<◌, ◌++◌, List, Ok, Some, length, get_or, refl, take, ap, subst, ◌∙◌, arith, rules}
 use Rattle.std.proofs.lemmas.List.{take_all}
 use Rattle.cj_io.specs.declared.file.FileBytes.{FileBytes}
-use Rattle.cj_case.specs.Leaves.{PlainLeaf, plain_leaves}
-use Rattle.cj_meet.specs.Encounters.{encounters_of, groups_in}
-use Rattle.cj_outputs.specs.Findings.{case_in}
+use Rattle.cj_case.specs.Leaves.{PlainLeaf}
+use Rattle.cj_meet.specs.Encounters.{groups_in}
+use Rattle.cj_outputs.specs.Findings.{case_in, met_in}
+use Rattle.cj_outputs.specs.Lines.{leaves_met}
 use Rattle.cj_outputs.specs.Messages.{message_outputs}
 use Rattle.cj_outputs.specs.Origins.{plain_origin}
-use Rattle.cj_outputs.specs.Outcome.{Leaves}
+use Rattle.cj_outputs.specs.Outcome.{encounters_in, Leaves}
 use Rattle.cj_outputs.proofs.EndLemmas.{first_stand, nothing_made, put_failed}
-use Rattle.cj_outputs.proofs.MessageLemmas.{encounters_within, made_of_index, messages_cut, messages_more, messages_tallied}
+use Rattle.cj_outputs.proofs.MessageLemmas.{encounters_within, groups_are, made_of_index, messages_cut, messages_more, messages_tallied}
 use Rattle.cj_outputs.proofs.messages.put_messages.Goals as goal
 
 pub overflow_cast-place : goal.overflow_cast-place
 overflow_cast-place g c =
     let found = c.args.found.now in
-    omega (arith, encounters_within found.leaves.items found.encounters.items c.requires.encounters c.requires.few)
+    omega (arith, encounters_within (leaves_met found.lines) found.encounters.items c.requires.encounters c.requires.few)
 
 pub overflow_add-place : goal.overflow_add-place
 overflow_add-place g c =
     let found = c.args.found.now in
-    omega (arith, encounters_within found.leaves.items found.encounters.items c.requires.encounters c.requires.few)
+    omega (arith, encounters_within (leaves_met found.lines) found.encounters.items c.requires.encounters c.requires.few)
 
 pub returns-in_err-covariances : goal.returns-in_err-covariances
 returns-in_err-covariances g c =
@@ -37,7 +38,7 @@ returns-in_err-put_message g c =
     let found = c.args.found.now in
     let case = case_in found in
     let origin = plain_origin c.args.origin in
-    let ss = plain_leaves found.leaves.items in
+    let ss = met_in found in
     let es = found.encounters.items in
     let i = c.loop-place.place in
     let e = c.encounter-item.result in
@@ -49,10 +50,10 @@ returns-in_err-put_message g c =
     let s = c.in_err-put_message.field-0.0 in
     let failed = c.in_err-put_message.ensures in
     let ends =
-    put_failed (message_outputs case origin (encounters_of ss)) (g.S.Shelf.outputs c.args.shelf.now) now _ _ _ s _ c.from_residual-in_err-put_message.ensures.1
+    put_failed (message_outputs case origin (encounters_in case)) (g.S.Shelf.outputs c.args.shelf.now) now _ _ _ s _ c.from_residual-in_err-put_message.ensures.1
     c.loop-place.invariant.later failed.comes failed.write failed.later
     (λ old stood.
-    subst (λ (gs : List (List PlainLeaf)). Leaves s (Ok (message_outputs case origin gs)) old now) c.requires.encounters.groups
+    subst (λ (gs : List (List PlainLeaf)). Leaves s (Ok (message_outputs case origin gs)) old now) (groups_are found c.requires)
     (messages_cut case origin ss es i e _ old now s lt e_is made failed.comes (failed.leaves _ (c.loop-place.invariant.put old stood)))) in
     record {
       comes = ends.comes;
@@ -67,7 +68,7 @@ loop-place-preserved g c =
     let found = c.args.found.now in
     let case = case_in found in
     let origin = plain_origin c.args.origin in
-    let ss = plain_leaves found.leaves.items in
+    let ss = met_in found in
     let es = found.encounters.items in
     let i = c.loop-place.place in
     let e = c.encounter-item.result in
@@ -87,9 +88,9 @@ returns-clause-counted g c = messages_tallied c.args.found.now (plain_origin c.a
 pub returns-clause-leaves : goal.returns-clause-leaves
 returns-clause-leaves g c = λ old stood.
     let found = c.args.found.now in
-    let ss = plain_leaves found.leaves.items in
+    let ss = met_in found in
     let es = found.encounters.items in
     let outputs : List (List PlainLeaf) → List FileBytes = message_outputs (case_in found) (plain_origin c.args.origin) in
     let all : take c.loop-place.place es ≡ es = take_all c.loop-place.place es (omega arith) in
-    let groups : groups_in ss (take c.loop-place.place es) ≡ encounters_of ss = ap (groups_in ss) all ∙ c.requires.encounters.groups in
-    (outputs (encounters_of ss), refl, c.loop-place.invariant.put old stood ∙ ap (λ (gs : List (List PlainLeaf)). Some (old ++ outputs gs)) groups)
+    let groups : groups_in ss (take c.loop-place.place es) ≡ encounters_in (case_in found) = ap (groups_in ss) all ∙ groups_are found c.requires in
+    (outputs (encounters_in (case_in found)), refl, c.loop-place.invariant.put old stood ∙ ap (λ (gs : List (List PlainLeaf)). Some (old ++ outputs gs)) groups)

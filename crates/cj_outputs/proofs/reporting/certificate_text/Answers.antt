@@ -1,6 +1,5 @@
-use Rattle.std.proofs.Common.{◌∙◌, ap}
-use Rattle.cj_case.specs.Leaves.{plain_leaves}
-use Rattle.cj_outputs.specs.Findings.{case_in}
+use Rattle.std.proofs.Common.{◌∙◌}
+use Rattle.cj_case.specs.Problems.{plain_problem}
 use Rattle.cj_outputs.proofs.CertificateLemmas.{leaves_alike}
 use Rattle.cj_outputs.proofs.reporting.certificate_text.Goals as goal
 
@@ -8,4 +7,4 @@ pub new-requires-clause-measured : goal.new-requires-clause-measured
 new-requires-clause-measured c = c.requires.measured
 
 pub new-requires-clause-leaves : goal.new-requires-clause-leaves
-new-requires-clause-leaves c = ap plain_leaves c.deref.ensures.value ∙ (c.requires.leaves ∙ leaves_alike (case_in c.args.found.now))
+new-requires-clause-leaves c = c.requires.leaves ∙ leaves_alike (plain_problem c.args.problem.now)

@@ -1,5 +1,5 @@
 use Rattle.std.proofs.Common.{ℕ, ◌∙◌, List, [], ◌∷◌, Ok, ap, subst}
-use Rattle.cj_case.specs.Leaves.{plain_leaves}
+use Rattle.cj_cells.specs.Lists.{list_candidates}
 use Rattle.cj_report.specs.Summary.{summary_of}
 use Rattle.cj_outputs.specs.Findings.{case_in, ended, lines_of}
 use Rattle.cj_outputs.specs.Outcome.{Leaves, summary_bytes, summary_output, uncovered_told}
@@ -10,7 +10,7 @@ use Rattle.cj_outputs.proofs.reporting.put_summary.Goals as goal
 pub returns-clause-leaves : goal.returns-clause-leaves
 returns-clause-leaves g c = λ old stood.
     let found = c.args.found.now in
-    let summary = summary_bytes (case_in found) (plain_leaves found.leaves.items) in
+    let summary = summary_bytes (case_in found) (list_candidates (case_in found)) in
     let told = uncovered_told found.wanted.tells (case_in found) in
     subst (λ (bytes : List ℕ). Leaves (ended c.put.result) (Ok (summary_output bytes ∷ [])) old (g.S.Shelf.outputs c.put.new.shelf))
     (added_behind summary (lines_of found.behind) told _ _ _ _ c.deref.ensures.value c.in_ok-push_coverage.ensures c.in_ok-push_behind.ensures

@@ -2,6 +2,7 @@ use Rattle.std.proofs.Common.{List, ◌≤◌, length, Ok, Result, subst, sym, a
 use Rattle.std.proofs.lemmas.Result.{err_from_is_err_and}
 use Rattle.cj_io.specs.declared.file.FileBytes.{FileBytes}
 use Rattle.cj_words.specs.Commands.{plain_checking}
+use Rattle.cj_words.specs.Limits.{most_certificate_bytes}
 use Rattle.cj_inputs.specs.CheckInputs.{PlainInputs, inputs_asked, plain_inputs}
 use Rattle.cj_outputs.specs.Again.{IsAcceptedLater}
 use Rattle.cj_outputs.specs.Either.{PlainAnyCertificate, any_renewed, text_in}
@@ -28,7 +29,7 @@ returns-clause-renews g c = λ files told.
       still = c.in_ok-renewed.ensures.accepted;
     })
     (λ read. let checking = plain_checking c.args.checking.now in
-    subst (λ (r : PlainAnyCertificate). length (text_in r) ≤ 1_073_741_824 → IsAcceptedLater checking.settings checking.brief files (text_in r)) (sym c.in_ok-renewed.ensures.value)
+    subst (λ (r : PlainAnyCertificate). length (text_in r) ≤ most_certificate_bytes checking.settings.large → IsAcceptedLater checking.settings checking.brief files (text_in r)) (sym c.in_ok-renewed.ensures.value)
     (c.accepted_later.ensures.rewritten checking.settings files checking.brief (plain_any c.in_ok-accepted.accepted) read c.in_ok-accepted.ensures.may c.in_ok-accepted.ensures.holds c.in_ok-accepted.ensures.only.1))
 
 pub returns-clause-told : goal.returns-clause-told

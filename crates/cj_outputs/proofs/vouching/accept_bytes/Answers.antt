@@ -18,8 +18,8 @@ report_due-requires-clause-few g c = λ lifetimes outlive.
     let made : length (plain_leaves c.in_ok-leaves.leaves.items) ≡ length (map plain_cell_line c.args.cells.now) =
     ap (λ (ss : List PlainLeaf). length ss) c.in_ok-leaves.ensures in
     let lent : length c.deref.result.now ≡ length c.in_ok-leaves.leaves.items = ap (λ (ls : List Leaf). length ls) c.deref.ensures.value in
-    let few = c.if-cells-gt-MAX_CELLS.false in
-    omega (arith, length-map c.in_ok-leaves.leaves.items plain_leaf, length-map c.args.cells.now plain_cell_line)
+    let few = c.if-cells-most_cells.false in
+    omega (arith, c.requires.few, length-map c.in_ok-leaves.leaves.items plain_leaf, length-map c.args.cells.now plain_cell_line)
 
 pub report_due-requires-clause-in_order : goal.report_due-requires-clause-in_order
 report_due-requires-clause-in_order g c = λ lifetimes outlive.
@@ -35,10 +35,10 @@ returns g c =
     let cells = map plain_cell_line c.args.cells.now in
     let due = c.in_ok-due.ensures in
     let lent : plain_leaves c.deref.result.now ≡ cells = ap plain_leaves c.deref.ensures.value ∙ c.in_ok-leaves.ensures in
-    let test = c.if-cells-gt-MAX_CELLS.false in
-    let few : length cells ≤ 4_000_000 = omega (arith, length-map c.args.cells.now plain_cell_line) in
+    let test = c.if-cells-most_cells.false in
+    let few : length cells ≤ c.args.most_cells = omega (arith, length-map c.args.cells.now plain_cell_line) in
     let all =
-    report_judged c.args.tells case cells c.args.bytes.now c.deref-2.result.now c.accept_as.result few c.accept_as.ensures
+    report_judged c.args.most_cells c.args.tells case cells c.args.bytes.now c.deref-2.result.now c.accept_as.result few c.accept_as.ensures
     (c.deref-2.ensures.value ∙ due.text ∙ ap (report_bytes c.args.tells case) lent) c.requires.split (subst HaveExactSpans lent due.spans)
     (subst (λ (ss : List PlainLeaf). All (HasNearest case) (encounters_of ss)) lent due.nearest) in
     record { between = all.between; read = all.read; told = all.told; holds = all.holds }

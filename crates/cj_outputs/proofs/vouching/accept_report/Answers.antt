@@ -18,6 +18,6 @@ returns-in-Some g c =
     rw c.in-Some.is (record {
       between = accepted.between;
       read = accepted.read;
-      told = subst (λ (bytes : List ℕ). Gives ⊥ (λ done. done) c.accept_bytes.result (report_accepting c.args.tells case cells bytes)) c.deref.ensures.value accepted.told;
+      told = subst (λ (bytes : List ℕ). Gives ⊥ (λ done. done) c.accept_bytes.result (report_accepting c.args.most_cells c.args.tells case cells bytes)) c.deref.ensures.value accepted.told;
       holds = subst (λ (bytes : List ℕ). OnOk c.accept_bytes.result (AcceptedReport c.args.tells case cells bytes)) c.deref.ensures.value accepted.holds;
     })

@@ -1,4 +1,4 @@
-use Rattle.std.proofs.Common.{◌∙◌, Ok, List, ap, sym}
+use Rattle.std.proofs.Common.{◌∙◌, Ok, List, ap, sym, arith}
 use Rattle.std.proofs.lemmas.Result.{err_from_is_err_and}
 use Rattle.cj_case.specs.Problems.{plain_problem}
 use Rattle.cj_case.specs.Leaves.{PlainLeaf}
@@ -17,6 +17,12 @@ refine_again-requires-clause-last g c _ _ = sym c.args.updating.last
 
 pub refine_again-requires-clause-threshold : goal.refine_again-requires-clause-threshold
 refine_again-requires-clause-threshold g c _ _ = sym c.args.updating.threshold
+
+pub lines_of-lines-requires : goal.lines_of-lines-requires
+lines_of-lines-requires g c = omega (arith, c.in_ok-again.ensures.refined.splits)
+
+pub tell-requires-clause-found : goal.tell-requires-clause-found
+tell-requires-clause-found g c _ _ = c.lines_of-lines.ensures (plain_problem c.args.updating.new) c.in_ok-again.ensures.refined c.in_ok-again.ensures.ticks
 
 pub returns : goal.returns
 returns g c =

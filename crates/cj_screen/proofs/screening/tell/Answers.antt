@@ -8,66 +8,65 @@ use Rattle.cj_cells.specs.Lists.{list_candidates}
 use Rattle.cj_meet.specs.Closest.{HasNearest, KeepTheirPieces}
 use Rattle.cj_meet.specs.Encounters.{encounters_of}
 use Rattle.cj_outputs.specs.Either.{any_written}
+use Rattle.cj_outputs.specs.Lines.{leaves_met}
 use Rattle.cj_outputs.specs.Meetings.{AreMeetings}
 use Rattle.cj_outputs.specs.Messages.{has_message}
 use Rattle.cj_outputs.specs.Outcome.{report_bytes}
-use Rattle.cj_outputs.specs.Summaries.{tally_with}
 use Rattle.cj_report.specs.declared.tells.Tells.{Tells}
 use Rattle.cj_screen.proofs.CoverLemmas.{covers_exactly}
+use Rattle.cj_meet.proofs.SpanLemmas.{exact_spans_of}
+use Rattle.cj_screen.proofs.LinesLemmas.{leaves_have_ticks}
 use Rattle.cj_screen.proofs.ReportLemmas.{written_accepted}
 use Rattle.cj_screen.proofs.SplitLemmas.{splits}
 use Rattle.cj_screen.proofs.screening.tell.Goals as goal
 
 pub find_meetings-requires-clause-in_order : goal.find_meetings-requires-clause-in_order
-find_meetings-requires-clause-in_order g c = λ lifetimes outlive.
-    subst AreInOrder (sym (ap plain_leaves c.as_slice-leaves.ensures.value ∙ c.requires.refined.leaves)) c.requires.ticks.ordered
+find_meetings-requires-clause-in_order g c = λ lifetimes outlive. subst (λ (ls : List Leaf). AreInOrder (plain_leaves ls)) (sym c.met.ensures) c.requires.found.ordered
 
 pub find_meetings-requires-clause-few : goal.find_meetings-requires-clause-few
-find_meetings-requires-clause-few g c = omega (arith, ap (λ (ls : List Leaf). length ls) c.as_slice-leaves.ensures.value, c.requires.refined.few)
+find_meetings-requires-clause-few g c = omega (arith, ap (λ (ls : List Leaf). length ls) c.met.ensures, c.requires.found.few)
 
 pub find_meetings-requires-clause-pieces : goal.find_meetings-requires-clause-pieces
 find_meetings-requires-clause-pieces g c = λ lifetimes outlive.
-    subst (KeepTheirPieces (plain_problem c.args.problem)) (sym (ap plain_leaves c.as_slice-leaves.ensures.value ∙ c.requires.refined.leaves)) c.requires.ticks.pieces
+    subst (λ (ls : List Leaf). KeepTheirPieces (plain_problem c.args.problem) (plain_leaves ls)) (sym c.met.ensures) c.requires.found.pieces
 
 pub count-counts-requires : goal.count-counts-requires
 count-counts-requires g c =
-    let refined = c.requires.refined in
-    let many : length c.as_slice-leaves.result.now ≡ length c.args.refined.leaves.items = ap (λ (ls : List Leaf). length ls) c.as_slice-leaves.ensures.value in
+    let case = plain_problem c.args.problem in
+    let found = c.requires.found in
     let met = c.in_ok-met.ensures.meetings in
+    let shown = ap (λ (ls : List Leaf). encounters_of (plain_leaves ls)) c.met.ensures ∙ found.lines.met in
     record {
-      few = omega (arith, many, refined.few);
-      kept = refined.kept;
-      touching = refined.touching;
-      roots = refined.roots;
-      splits = many ∙ refined.splits;
-      messages = c.deref.ensures.value ∙ met.messages ∙ ap (map (has_message (plain_problem c.args.problem))) met.encounters.groups;
+      kept = found.kept;
+      touching = found.touching;
+      leaves = found.leaves;
+      messages = c.deref.ensures.value ∙ met.messages ∙ ap (map (has_message case)) (met.encounters.groups ∙ shown);
     }
 
 pub returns : goal.returns
 returns g c =
     let case = plain_problem c.args.problem in
-    let refined = c.requires.refined in
-    let lent : plain_leaves c.as_slice-leaves.result.now ≡ plain_leaves c.args.refined.leaves.items = ap plain_leaves c.as_slice-leaves.ensures.value in
-    let same = lent ∙ refined.leaves in
+    let found = c.requires.found in
+    let lent : plain_leaves c.met.result.now ≡ plain_leaves (leaves_met c.args.found.lines) = ap plain_leaves c.met.ensures in
     let met = subst (λ (ss : List PlainLeaf). AreMeetings case ss c.in_ok-met.met) lent c.in_ok-met.ensures.meetings in
-    let nearest = subst (λ (ss : List PlainLeaf). All (HasNearest case) (encounters_of ss)) same c.in_ok-met.ensures.nearest in
+    let shown = ap encounters_of lent ∙ found.lines.met in
+    let nearest = subst (All (HasNearest case)) shown c.in_ok-met.ensures.nearest in
     record {
       same = refl;
       wanted = refl;
       behind = refl;
       found = record {
-        measured = refined.measured;
-        leaves = refined.leaves;
-        few = refined.few;
-        told = refined.told;
+        lines = found.lines;
+        format = found.format;
+        few = found.few;
         encounters = met.encounters;
         closest = met.closest;
         messages = met.messages;
-        counts = c.count-counts.ensures ∙ ap (tally_with case) lent;
+        counts = c.count-counts.ensures;
       };
       reports = λ settings tells. record {
-        text = ap (report_bytes c.args.wanted.tells case) refined.leaves ∙ ap (λ (t : Tells). report_bytes t case (list_candidates case)) tells;
-        split = splits case (plain_leaves c.as_slice-leaves.result.now) same c.requires.ticks c.in_ok-met.ensures.spans;
+        text = ap (λ (t : Tells). report_bytes t case (list_candidates case)) tells;
+        split = splits case (list_candidates case) refl c.requires.ticks (exact_spans_of (list_candidates case) (leaves_have_ticks case c.requires.ticks));
         nearest = nearest;
         relative = c.exact_relatives.ensures c.requires.ticks.sound nearest;
         covered = covers_exactly case;

@@ -8,13 +8,13 @@ use Rattle.cj_case.specs.Problems.{plain_problem}
 use Rattle.cj_words.specs.Commands.{plain_selfrun}
 use Rattle.cj_status.specs.declared.status.Status.{Status}
 use Rattle.cj_status.specs.Steps.{Stops}
-use Rattle.cj_case.specs.Leaves.{plain_leaves}
+use Rattle.cj_cells.specs.Lists.{list_candidates}
 use Rattle.cj_outputs.specs.declared.wanted.Wanted.{Wanted}
 use Rattle.cj_outputs.specs.Findings.{case_in, outputs_in}
 use Rattle.cj_outputs.specs.Messages.{PlainOrigin}
 use Rattle.cj_outputs.specs.Outcome.{check_accepted, outputs_within, summary_with, uncovered_told}
 use Rattle.cj_report.specs.declared.tells.Tells.{Tells}
-use Rattle.cj_screen.proofs.SelfrunLemmas.{comes_of_selfrun, selfrun_after, selfrun_told, within_limits_of}
+use Rattle.cj_screen.proofs.SelfrunLemmas.{comes_of_selfrun, in_full_limited, selfrun_after, selfrun_told, within_limits_of}
 use Rattle.cj_screen.proofs.selfruns.selfrun_catalogue.Goals as goal
 
 -- neither sizes nor what objects cover are told
@@ -35,14 +35,16 @@ returns-in_err-found-clause-ends g c =
     let cells = c.args.selfrun.now.cells in
     let p = err_from_is_err_and c.from_residual-in_err-found.result c.from_residual-in_err-found.ensures.1 in
     rw (p.1, p.2) (comes_of_selfrun ⊥ (outputs_in nobody) (Err c.in_err-found.field-0.0) (outputs_within cells untold in_full nobody [] case) (λ none. none)
-    (c.in_err-found.ensures.told nobody) (within_limits_of cells untold in_full nobody [] case))
+    (subst (λ (due : Result (List FileBytes) Status). Stops ⊥ c.in_err-found.field-0.0 due) (in_full_limited cells c.most_told.result untold One nobody [] case)
+    (c.in_err-found.ensures.told nobody)) (within_limits_of cells untold in_full nobody [] case))
 
 pub returns-in_err-found-clause-told : goal.returns-in_err-found-clause-told
 returns-in_err-found-clause-told g c =
     let case = plain_problem c.in_ok-problem.problem in
     let selfrun = plain_selfrun c.args.selfrun.now in
     let s = c.in_err-found.field-0.0 in
-    let within = selfrun_told selfrun.cells untold in_full nobody [] case (Err s) (c.in_err-found.ensures.told nobody) tt tt in
+    let within = selfrun_told selfrun.cells untold in_full nobody [] case (Err s)
+    (subst (λ (due : Result (List FileBytes) Status). Stops ⊥ s due) (in_full_limited selfrun.cells c.most_told.result untold One nobody [] case) (c.in_err-found.ensures.told nobody)) tt tt in
     let p = err_from_is_err_and c.from_residual-in_err-found.result c.from_residual-in_err-found.ensures.1 in
     rw (p.1, p.2) (subst (λ (due : Result (List FileBytes) Status). Stops ⊥ s due) (sym (selfrun_after selfrun case c.in_ok-problem.ensures.told)) within)
 
@@ -51,18 +53,18 @@ returns-clause-told g c =
     let case = plain_problem c.in_ok-problem.problem in
     let selfrun = plain_selfrun c.args.selfrun.now in
     selfrun_after selfrun case c.in_ok-problem.ensures.told
-    ∙ selfrun_told selfrun.cells untold in_full nobody [] case (Ok c.in_ok-found.found) (c.in_ok-found.ensures.told nobody) (ap plain_problem c.in_ok-found.ensures.same) c.in_ok-found.ensures.found
-    ∙ ap (λ (t : Tells). Ok (summary_with (check_accepted ++ uncovered_told t (case_in c.in_ok-found.found)) (case_in c.in_ok-found.found) (plain_leaves c.in_ok-found.found.leaves.items) ∷ []))
+    ∙ selfrun_told selfrun.cells untold in_full nobody [] case (Ok c.in_ok-found.found)
+    (sym (in_full_limited selfrun.cells c.most_told.result untold One nobody [] case) ∙ c.in_ok-found.ensures.told nobody) (ap plain_problem c.in_ok-found.ensures.same) c.in_ok-found.ensures.found
+    ∙ ap (λ (t : Tells). Ok (summary_with (check_accepted ++ uncovered_told t (case_in c.in_ok-found.found)) (case_in c.in_ok-found.found) (list_candidates (case_in c.in_ok-found.found)) ∷ []))
     (sym (ap (λ (w : Wanted). w.tells) c.in_ok-found.ensures.wanted))
 
 pub returns-clause-found : goal.returns-clause-found
 returns-clause-found g c =
     let are = c.in_ok-found.ensures.found in
     record {
-      measured = are.measured;
-      leaves = are.leaves;
+      lines = are.lines;
+      format = are.format;
       few = are.few;
-      told = are.told;
       encounters = are.encounters;
       closest = are.closest;
       messages = are.messages;

@@ -17,6 +17,9 @@ returns-in-Slots c = rw c.in-Slots.is c.push_count-in-Slots.ensures
 pub returns-in-Cells : goal.returns-in-Cells
 returns-in-Cells c = rw c.in-Cells.is c.push_count-in-Cells.ensures
 
+pub returns-in-Told : goal.returns-in-Told
+returns-in-Told c = rw c.in-Told.is c.push_count-in-Told.ensures
+
 pub returns-in-Objects : goal.returns-in-Objects
 returns-in-Objects c = rw (c.in-Objects.is, ← c.from.ensures) c.push_count.ensures
 

@@ -19,5 +19,5 @@ returns c =
       update = option_copied c.in-Some-update_or_none.update;
       brief = brief;
     }) in
-    rw (sym c.in_ok-threshold.ensures.value, sym c.in_ok-unsized_settings.ensures, sym certificate, sym c.in_ok-settings.ensures.value, sym update, sym report)
-    (ap checking c.is_given.ensures)
+    rw (sym c.in_ok-threshold.ensures.value, sym c.in_ok-unsized_settings.ensures.value, sym certificate, sym c.in_ok-settings.ensures.value, sym update, sym report)
+    (ap checking c.asks_brief.ensures)

@@ -12,3 +12,6 @@ returns-clause-workers c = refl
 
 pub returns-clause-leaves : goal.returns-clause-leaves
 returns-clause-leaves c = refl
+
+pub returns-clause-told : goal.returns-clause-told
+returns-clause-told c = c.most_told.ensures
