@@ -23,7 +23,7 @@ else:
 
 # A small size for each load: bytes, objects, nodes, minutes or lines, as the load counts.
 SMALL = {
-    "line_ends": 400_000, "long_comments": 4000, "late_fault": 4000, "matrices_alone": 4000, "many_nodes": 250, "small_files": 5,
+    "line_ends": 400_000, "long_comments": 4000, "late_fault": 4000, "matrices_alone": 4000, "many_nodes": 250, "small_files": 5, "nodes_outside": 250,
     "long_numbers": 4000, "long_epochs": 4000, "sizes_alone": 800, "crowded_folder": 7, "updated_files": 5, "crowded_updates": 7,
     "many_matrices": 6000, "long_object_name": 1000, "resting_together": 5, "thin_objects": 5, "fast_objects": 5, "close_nodes": 50, "short_spans": 6,
     "together_for_a_tick": 4, "long_file_names": 3, "at_the_threshold": 90, "near_misses": 20, "touching_everywhere": 5, "many_cells": 30,
@@ -118,6 +118,10 @@ class Ephemerides(LoadCase):
         (track,) = self.tracks(reading.many_nodes)
         times = track.segments[0].times.tolist()
         self.assertEqual(times, [texts.FIRST_TICK + 500_000 * number for number in range(250)])
+
+    def test_nodes_of_several_objects_together(self) -> None:
+        tracks = self.tracks(reading.nodes_outside)
+        self.assertEqual([len(track.segments[0].times) for track in tracks], [250 // reading.OBJECTS_OF_NODES] * reading.OBJECTS_OF_NODES)
 
     def test_long_forms_are_all_seven_thousand_kilometres(self) -> None:
         for make in (reading.long_numbers, reading.long_epochs):

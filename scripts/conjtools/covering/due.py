@@ -68,11 +68,16 @@ def differences_of_covering(told: Outcome, plain: Outcome, stood: Mapping[str, b
         due = due_of(plain, stood, covering, asked)
     except ValueError as wrong:
         return [f"without {' '.join(asked)}: {wrong}"]
+    return [f"with {' '.join(asked)}: {what}" for what in differences_of_outcomes(told, due)]
+
+
+def differences_of_outcomes(told: Outcome, due: Outcome) -> list[str]:
+    """In what a run did not end, or did not put, what is due."""
     found = differences_of_ending(told.ended, due.ended)
     for name in sorted(told.pieces.keys() | due.pieces.keys()):
         if told.pieces.get(name) != due.pieces.get(name):
             found.append(f"{name} is not as it is due: {first_difference(told.pieces.get(name, b''), due.pieces.get(name, b''))}")
-    return [f"with {' '.join(asked)}: {what}" for what in found]
+    return found
 
 
 def differences_of_ending(ended: Ended, due: Ended) -> list[str]:

@@ -11,6 +11,7 @@ ONE_OBJECT = resting("LONE", (7000 * KM, 0, 0), MINUTE)
 DIGITS = "0123456789ABCDEFGHIJKLMNOPQRSTUV"
 LONGEST_FIELD = 1_000_000
 LARGEST_EXPONENT = 9_999
+OBJECTS_OF_NODES = 32
 
 
 def line_ends(folder: Path, seed: int, size: int) -> None:
@@ -64,14 +65,25 @@ def matrices_alone(folder: Path, seed: int, size: int) -> None:
 
 def many_nodes(folder: Path, seed: int, size: int) -> None:
     """One object of so many nodes, one each half second, in the shortest rows."""
+    put_half_seconds(folder / "a.oem", "NODES", random.Random(seed), size)
+
+
+def nodes_outside(folder: Path, seed: int, size: int) -> None:
+    """Objects of so many nodes together, one each half second, of which a window of a minute needs few."""
     draw = random.Random(seed)
+    for number in range(OBJECTS_OF_NODES):
+        put_half_seconds(folder / f"{number:02}.oem", f"NODES {number}", draw, max(size // OBJECTS_OF_NODES, 2))
+
+
+def put_half_seconds(path: Path, name: str, draw: random.Random, count: int) -> None:
+    """Writes an object at rest of so many nodes, one each half second."""
     place = " ".join(str(draw.randrange(10)) for _ in range(3)) + " 0 0 0\n"
-    last = (size - 1) * SECOND // 2
-    with open(folder / "a.oem", "w", encoding="ascii", newline="\n") as file:
-        file.write(HEADER + metadata("NODES", 0, last))
-        for minute in range(-(-size // 120)):
+    last = (count - 1) * SECOND // 2
+    with open(path, "w", encoding="ascii", newline="\n") as file:
+        file.write(HEADER + metadata(name, 0, last))
+        for minute in range(-(-count // 120)):
             front = f"2025-{minute // 1440 + 1:03}T{minute // 60 % 24:02}:{minute % 60:02}:"
-            rows = (f"{front}{half // 2:02}{'.5' * (half % 2)} {place}" for half in range(min(120, size - 120 * minute)))
+            rows = (f"{front}{half // 2:02}{'.5' * (half % 2)} {place}" for half in range(min(120, count - 120 * minute)))
             file.writelines(rows)
 
 

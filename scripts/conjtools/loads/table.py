@@ -32,6 +32,7 @@ from conjtools.loads.certificates import (
     touching_everywhere,
 )
 from conjtools.loads.reading import (
+    OBJECTS_OF_NODES,
     ONE_OBJECT,
     crowded_folder,
     crowded_updates,
@@ -44,6 +45,7 @@ from conjtools.loads.reading import (
     many_matrices,
     many_nodes,
     matrices_alone,
+    nodes_outside,
     sizes_alone,
     small_files,
     updated_files,
@@ -168,6 +170,10 @@ ALL_TOLD = Run("screen", (), lambda folder, size: Due(0, "", (f"ENCOUNTERS {pair
 ALL_SHORT = Run("screen", (), lambda folder, size: Due(0, "", (f"ENCOUNTERS {size}", "FAR 0", "MESSAGES 0")))
 TOO_MANY_CELLS = Run("screen", (), ends_with(6, "conj: limit: Cells 4000000\n"), (1, 4, 16))
 MORE_THAN_ONE_CELL = Run("screen", ("--cells", "1"), ends_with(6, "conj: limit: Cells 1\n"))
+# The same as a whole sky, slab by slab.
+LARGE_TOO_MANY_CELLS = Run("screen", ("--large", "--cells", "4000000"), ends_with(6, "conj: limit: Cells 4000000\n"), (1, 4, 16))
+LARGE_ALL_NEAR = Run("screen", ("--large",), ALL_NEAR.due, (1, 4))
+LARGE_MISSES = Run("screen", ("--large",), ends_well("NEAR 0", "MESSAGES 0"))
 
 # Multiples of reading are of 0.2 seconds or more, so that 10 are at least two seconds.
 LOADS = (
@@ -178,6 +184,8 @@ LOADS = (
     Load(matrices_alone, LARGEST_FILE // 2, (screens("ENCOUNTERS 3", "MESSAGES 3", workers=(1, 4)),),
          Bound(40, 4, lambda size: 3 * size // 84 * MATRIX, "numbers are parsed, and 512 bytes kept of 84")),
     Load(many_nodes, 2_000_000, (screens("OBJECTS 1", "PAIRS 0"),), Bound(40, 4, lambda size: size * NODE, "a hull a node, for the shell and for a box")),
+    Load(nodes_outside, 4_000_000, (Run("screen", ("--large", *A_MINUTE), ends_well(f"OBJECTS {OBJECTS_OF_NODES}")),),
+         Bound(30, 4, lambda size: size // OBJECTS_OF_NODES * NODE + MIB, "the nodes of one file at a time, and those that the window needs")),
     Load(small_files, 2_000, (ALL_PARTED,), Bound(5, 4, lambda size: size * 4096 + 16 * MIB, "shells part all pairs; a file stands in room of its size")),
     Load(long_numbers, LARGEST_FILE // 2, (screens("OBJECTS 1", AT_7000_KM),), Bound(5, 4, nothing, "each digit is looked at a few times")),
     Load(long_epochs, LARGEST_FILE // 2, (screens("OBJECTS 1", AT_7000_KM),), Bound(5, 4, nothing, "each digit is looked at a few times")),
@@ -192,16 +200,16 @@ LOADS = (
     Load(long_object_name, MIB, (Run("screen", (), segments_are_encounters),),
          Bound(10, 8, nothing, "a message has the name once, and one message stands in memory", lambda size: 202 * size + 200 * 8192)),
     # approaches
-    Load(resting_together, 2_000, (TOO_MANY_CELLS, MORE_THAN_ONE_CELL), Bound(80, 4, places, "boxes of all slots, and then a refusal")),
+    Load(resting_together, 2_000, (TOO_MANY_CELLS, MORE_THAN_ONE_CELL, LARGE_TOO_MANY_CELLS), Bound(80, 4, places, "boxes of all slots, and then a refusal")),
     Load(thin_objects, 2_000, (screens("TOUCHING 0", "FAR 0"),), Bound(120, 4, places, "hulls of all slots, and a sweep where few meet")),
     Load(fast_objects, 400, (ALL_PASS,), Bound(150, 4, places, "a box stands in up to 64 buckets in each slot")),
     Load(close_nodes, 300_000, (screens("ENCOUNTERS 1", "FAR 0", "MESSAGES 0"),), Bound(40, 4, lambda size: size * (2 * NODE + LEAF), "a leaf a tick")),
     Load(short_spans, 40_000, (ALL_SHORT,), Bound(20, 4, lambda size: size * (4 * NODE + LEAF + ENCOUNTER), "an encounter a segment")),
-    Load(together_for_a_tick, 1_400, (ALL_NEAR,), Bound(60, 4, lambda size: pairs(size) * (LEAF + ENCOUNTER), "an encounter a pair")),
+    Load(together_for_a_tick, 1_400, (ALL_NEAR, LARGE_ALL_NEAR), Bound(60, 4, lambda size: pairs(size) * (LEAF + ENCOUNTER), "an encounter a pair")),
     Load(long_file_names, 80, (ALL_TOLD,),
          Bound(10, 4, lambda size: pairs(size) * ENCOUNTER, "a message a pair", lambda size: pairs(size) * 8192 + 16 * MIB)),
     Load(at_the_threshold, 20_160, (screens("PAIRS 1", "MESSAGES 0"),), Bound(20, 4, lambda size: size * 16 * LEAF, "a few leaves a minute")),
-    Load(near_misses, 20_160, (screens("NEAR 0", "MESSAGES 0"),), Bound(40, 4, lambda size: size * 64 * LEAF, "some thirty leaves a minute")),
+    Load(near_misses, 20_160, (screens("NEAR 0", "MESSAGES 0"), LARGE_MISSES), Bound(40, 4, lambda size: size * 64 * LEAF, "some thirty leaves a minute")),
     # certificates
     Load(touching_everywhere, 2_000, checks(untiled(lambda size: size, nothing)), Bound(80, 4, places, "hulls of all slots, and no list of pairs")),
     Load(many_cells, 1_000_000, checks(untiled(lambda size: CELL_OBJECTS, lambda size: size)), Bound(80, 4, places, "hulls of all slots, and a gap a line")),

@@ -152,8 +152,8 @@ def nodes_read(rows: list[Row]) -> int:
 def limit_notes(rows: list[Row]) -> list[str]:
     """Where `conj` would meet its limits."""
     nodes, objects = sum(row.written for row in rows), len({row.file for row in rows})
-    notes = [f"{nodes} nodes are more than the {MOST_NODES} that conj takes: a larger --within needs fewer"] if nodes > MOST_NODES else []
-    return notes + ([f"{objects} objects are more than the {MOST_OBJECTS} that conj takes"] if objects > MOST_OBJECTS else [])
+    notes = [f"{nodes} nodes are more than the {MOST_NODES} that conj takes without --large: a larger --within needs fewer"] if nodes > MOST_NODES else []
+    return notes + ([f"{objects} objects are more than the {MOST_OBJECTS} that conj takes without --large"] if objects > MOST_OBJECTS else [])
 
 
 def run(given: argparse.Namespace) -> str:
