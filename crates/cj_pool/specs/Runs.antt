@@ -1,5 +1,5 @@
 -- What names a run, and values of a run that nobody has.
-use Rattle.std.specs.Prelude.{◌≡◌, ℕ, ◌≤◌, List, [], length}
+use Rattle.std.specs.Prelude.{◌≡◌, ℕ, ◌≤◌, List, [], None, length}
 use Rattle.std.proofs.Common.{arith, refl}
 use Rattle.cj_base.specs.declared.tick.Tick.{Tick}
 use Rattle.cj_base.specs.declared.tick.Window.{Window}
@@ -30,12 +30,14 @@ no_problem = record {
   window = one_tick;
   threshold = 1_000_000_000;
   sizes = [];
+  primaries = None;
   few = omega arith;
   short = omega arith;
   few_slots = omega arith;
   least = omega arith;
   most = omega arith;
   sized = refl;
+  marked = refl;
 }
 
 abbrev pub no_roots : List Cell

@@ -17,6 +17,7 @@ ghost use Rattle.cj_pool.specs.RootLists.{AreRoots, IsKept};
 ghost use Rattle.cj_pool.specs.Tree.{InTree, IsLeafOf};
 ghost use Rattle.cj_pool.specs.Weights.{weigh, has};
 
+use crate::emptied::Emptied;
 use crate::hand::Hand;
 use crate::lengths::have_lengths;
 use crate::refined::{FinishError, Refined};
@@ -72,6 +73,55 @@ fn refine_open(
     Ok(())
 }
 
+impl Emptied<'_> {
+    /// These leaves, which are in order, and those of cells that are still open, in order of pair and tick.
+    fn refine_rest(
+        &self,
+        alloc: Global,
+        cells: &[Cell],
+        mut leaves: Vec<Leaf>,
+    ) -> Result<Vec<Leaf>, FinishError>
+        requires kept { All (IsKept (plain_problem self.now.problem.now)) cells.now }
+        requires lengths { HaveLengths (plain_problem self.now.problem.now) }
+        requires ordered { AllPairs IsRootUpTo (plain_cells (cells_of leaves.items)) }
+        ensures moved { IfOk result (λ sorted. IsPermutation (plain_leaves leaves.items
+            ++ leaves_of_roots (plain_problem self.now.problem.now) (plain_cells cells.now)) (plain_leaves sorted.items)) }
+        ensures ordered { IfOk result (λ sorted. AllPairs IsRootUpTo (plain_cells (cells_of sorted.items))) }
+        ensures within { IfOk result (λ sorted. length sorted.items ≤ self.now.limit) }
+        ensures among { IfOk result (λ sorted. All (λ leaf. Contains sorted.items leaf) leaves.items) }
+        ensures judged { IfOk result (λ sorted. (roots : List Cell) → AreRoots (plain_problem self.now.problem.now) roots
+            → All (InTree (plain_problem self.now.problem.now) roots) cells.now
+            → All (IsLeafOf (plain_problem self.now.problem.now) roots) leaves.items
+            → All (IsLeafOf (plain_problem self.now.problem.now) roots) sorted.items) }
+        ensures too_many { IfErr result (IsTooMany self.now.limit (length leaves.items
+            + length (leaves_of_roots (plain_problem self.now.problem.now) (plain_cells cells.now)))) }
+    {
+        let merged = leaves.len();
+        refine_open(alloc, self.problem, cells, self.limit, &mut leaves)?;
+        merge_from(&mut leaves, merged)?;
+        Ok(leaves)
+    }
+
+    /// What was counted, once so many open cells have come to so many leaves.
+    fn count(self, shares: Vec<Share>, refined: u64, added: u64) -> Totals
+        requires mine { All (IsOf self.ledger) shares.items }
+        requires all { length shares.items ≡ self.ledger.opening.shares }
+        requires enough { refined ≤ added }
+        requires few_splits { sum_by (λ s. s.count.firsts) shares.items + added < 2 ^ 64 }
+        requires few_closes { sum_by (λ s. s.count.closes) shares.items + added < 2 ^ 64 }
+        ensures roots { result.roots ≡ self.entry.ledger.opening.roots }
+        ensures splits { result.splits + refined ≡ sum_by (λ s. s.count.firsts) shares.items + added }
+        ensures closes { result.closes ≡ sum_by (λ s. s.count.closes) shares.items + added }
+    {
+        let totals = self.ledger.total(shares);
+        Totals {
+            roots: totals.roots,
+            splits: totals.splits + (added - refined),
+            closes: totals.closes + added,
+        }
+    }
+}
+
 impl<'p, K: Run> Refinery<'p, K> {
     /// What is so of the run and its roots, whatever the hands have done: it does nothing else than to look at the tracks.
     fn have_roots(&self)
@@ -83,60 +133,6 @@ impl<'p, K: Run> Refinery<'p, K> {
             (leaves_of_root (plain_problem self.now.problem) root)) (plain_cells self.now.roots) }
     {
         have_lengths(self.problem);
-    }
-
-    /// These leaves, which are in order, and those of cells that are still open, in order of pair and tick.
-    fn refine_rest(
-        &self,
-        alloc: Global,
-        cells: &[Cell],
-        mut leaves: Vec<Leaf>,
-    ) -> Result<Vec<Leaf>, FinishError>
-        requires kept { All (IsKept (plain_problem self.now.problem)) cells.now }
-        requires lengths { HaveLengths (plain_problem self.now.problem) }
-        requires ordered { AllPairs IsRootUpTo (plain_cells (cells_of leaves.items)) }
-        ensures moved { IfOk result (λ sorted. IsPermutation (plain_leaves leaves.items
-            ++ leaves_of_roots (plain_problem self.now.problem) (plain_cells cells.now)) (plain_leaves sorted.items)) }
-        ensures ordered { IfOk result (λ sorted. AllPairs IsRootUpTo (plain_cells (cells_of sorted.items))) }
-        ensures within { IfOk result (λ sorted. length sorted.items ≤ self.now.limit) }
-        ensures among { IfOk result (λ sorted. All (λ leaf. Contains sorted.items leaf) leaves.items) }
-        ensures judged { IfOk result (λ sorted. (roots : List Cell) → AreRoots (plain_problem self.now.problem) roots
-            → All (InTree (plain_problem self.now.problem) roots) cells.now
-            → All (IsLeafOf (plain_problem self.now.problem) roots) leaves.items
-            → All (IsLeafOf (plain_problem self.now.problem) roots) sorted.items) }
-        ensures too_many { IfErr result (IsTooMany self.now.limit (length leaves.items
-            + length (leaves_of_roots (plain_problem self.now.problem) (plain_cells cells.now)))) }
-    {
-        let merged = leaves.len();
-        refine_open(alloc, self.problem, cells, self.limit, &mut leaves)?;
-        merge_from(&mut leaves, merged)?;
-        Ok(leaves)
-    }
-
-    /// What was counted, once so many open cells have come to so many leaves.
-    fn count(self, shares: Vec<Share>, refined: u64, added: u64) -> Totals
-        requires mine { All (IsOf self.ledger) shares.items }
-        requires all { length shares.items ≡ self.hands }
-        requires enough { refined ≤ added }
-        requires few_splits { sum_by (λ s. s.count.firsts) shares.items + added < 2 ^ 64 }
-        requires few_closes { sum_by (λ s. s.count.closes) shares.items + added < 2 ^ 64 }
-        ensures roots { result.roots ≡ length self.entry.roots }
-        ensures splits { result.splits + refined ≡ sum_by (λ s. s.count.firsts) shares.items + added }
-        ensures closes { result.closes ≡ sum_by (λ s. s.count.closes) shares.items + added }
-    {
-        let Refinery {
-            problem: _,
-            limit: _,
-            thieves: _,
-            ledger,
-            of: _,
-        } = self;
-        let totals = ledger.total(shares);
-        Totals {
-            roots: totals.roots,
-            splits: totals.splits + (added - refined),
-            closes: totals.closes + added,
-        }
     }
 
     /// The leaves of all roots, in order, from all hands of the refinery. Cells that are left are refined here.
@@ -172,9 +168,10 @@ impl<'p, K: Run> Refinery<'p, K> {
         let found = self.collect(rt, alloc, hands)?;
         let cells = found.cells;
         let closed = found.leaves.len() as u64;
-        let leaves = self.refine_rest(alloc, &cells, found.leaves)?;
+        let emptied = found.emptied;
+        let leaves = emptied.refine_rest(alloc, &cells, found.leaves)?;
         let added = leaves.len() as u64 - closed;
-        let totals = self.count(found.shares, cells.len() as u64, added);
+        let totals = emptied.count(found.shares, cells.len() as u64, added);
         Ok(Refined { leaves, totals })
     }
 }

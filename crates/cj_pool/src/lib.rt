@@ -6,6 +6,7 @@ mod account;
 mod collecting;
 mod crew;
 mod dealing;
+mod emptied;
 mod finding;
 mod finishing;
 mod growing;

@@ -17,8 +17,8 @@ use std::thread::Threads;
 /// From so many elements on a merge is worth a second thread.
 const MANY: usize = 16_384;
 
-/// So many ranges for each worker.
-const RANGES_A_WORKER: usize = 4;
+/// So many ranges for each worker: what a worker holds beside the lists, while it sorts one, is little then.
+const RANGES_A_WORKER: usize = 16;
 
 /// The elements of some runs, by one thread: they are sorted, and so come out in order whatever came.
 fn merge_in_turn<T: Placed + Copy>(alloc: Global, runs: &[&[T]]) -> Result<Vec<T>, AllocError>

@@ -27,7 +27,7 @@ returns-clause-all g c =
     let cells = c.gather.new.cells.items in
     let k : vec_len parts.kept ≡ length parts.kept.items = omega (arith, parts.kept.ok.0) in
     let front = subst (λ (m : ℕ). take m cells ≡ parts.kept.items) k c.in_ok-gather.ensures.kept in
-    run_all g.K.Run.problem g.K.Run.roots g.K.Run.workers c.args.self.now hands cells c.requires.run c.requires.sound taken.accounts c.requires.all
+    run_all g.K.Run.problem g.K.Run.roots g.K.Run.workers c.args.self hands cells c.requires.run c.requires.sound taken.accounts c.requires.all
     (are_open hands parts.kept.items cells (λ w. weigh_given w parts.stations.items) (λ w. weigh_all_taken w parts.stations.items)
     taken.kept front c.in_ok-gather.ensures.left taken.given taken.taken) c.gather.ensures.tree
 
@@ -37,14 +37,14 @@ returns-clause-ordered g c = leaves_in_order c.in_ok-leaves.leaves.items c.in_ok
 pub returns-in_err-parts : goal.returns-in_err-parts
 returns-in_err-parts g c =
     let p = err_from_is_err_and c.from_residual.result c.from_residual.ensures.1 in
-    rw p.1 (record { all = tt; leaves = tt; ordered = tt; shares = tt })
+    rw p.1 (record { all = tt; leaves = tt; ordered = tt; shares = tt; problem = tt; limit = tt; ledger = tt; opening = tt })
 
 pub returns-in_err-gather : goal.returns-in_err-gather
 returns-in_err-gather g c =
     let p = err_from_is_err_and c.from_residual-in_err-gather.result c.from_residual-in_err-gather.ensures.1 in
-    rw p.1 (record { all = tt; leaves = tt; ordered = tt; shares = tt })
+    rw p.1 (record { all = tt; leaves = tt; ordered = tt; shares = tt; problem = tt; limit = tt; ledger = tt; opening = tt })
 
 pub returns-in_err-leaves : goal.returns-in_err-leaves
 returns-in_err-leaves g c =
     let p = err_from_is_err_and c.from_residual-in_err-leaves.result c.from_residual-in_err-leaves.ensures.1 in
-    rw p.1 (record { all = tt; leaves = tt; ordered = tt; shares = tt })
+    rw p.1 (record { all = tt; leaves = tt; ordered = tt; shares = tt; problem = tt; limit = tt; ledger = tt; opening = tt })
