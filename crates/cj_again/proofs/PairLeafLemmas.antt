@@ -1,5 +1,5 @@
 -- The one-thread list pair by pair: what of it is a pair's, in which order, and how it grows object by object.
-use Rattle.std.proofs.Common.{◌≡◌, ℕ, zero, suc, ◌+◌, ◌-◌, ◌<◌, ◌≤◌, Bool, true, false, cond, List, [], ◌∷◌, ◌++◌, map, filter, length, get_or, take, Option, Some, None, refl, sym, ap, ◌∙◌, inl, inr, arith, append_assoc, append-nil, length-append}
+use Rattle.std.proofs.Common.{◌≡◌, ℕ, zero, suc, ◌+◌, ◌-◌, ◌<◌, ◌≤◌, Bool, true, false, cond, List, [], ◌∷◌, ◌++◌, map, filter, length, get_or, take, Option, Some, None, refl, sym, subst, ap, ◌∙◌, inl, inr, arith, append_assoc, append-nil, length-append}
 use Rattle.std.specs.Prelude.{◌==◌}
 use Rattle.std.specs.Cmp.{unsigned_Decides}
 use Rattle.std.specs.List.{flat_map, range_with_len}
@@ -19,6 +19,7 @@ use Rattle.cj_hermite.specs.CommonRuns.{Run, runs_between}
 use Rattle.cj_hermite.specs.Interpolant.{Curve}
 use Rattle.cj_hermite.specs.ObjectsAtTicks.{curve_at}
 use Rattle.cj_hermite.specs.Roots.{numbers_at, root_of_run, roots_between, roots_in, roots_of, slots_of}
+use Rattle.cj_hermite.proofs.RootLemmas.{Each-admitted}
 use Rattle.cj_bezier.specs.Halving.{closed_or, leaves_between, leaves_within, middle}
 use Rattle.cj_bezier.specs.RootLeaves.{kind_between, leaves_of_curves, leaves_of_root, leaves_of_roots}
 use Rattle.cj_cells.specs.Lists.{list_of}
@@ -52,9 +53,20 @@ curves_of r thr None d = tt
 curves_of r thr (Some c) None = tt
 curves_of r thr (Some c) (Some d) = within_of (kind_between c d thr) r.a r.b (r.last - r.first) r.first r.last
 
-root_of : (case : PlainProblem) (r : PlainCell) → Each (IsOf r.a r.b) (leaves_of_root case r)
+pub root_of : (case : PlainProblem) (r : PlainCell) → Each (IsOf r.a r.b) (leaves_of_root case r)
 unfolding leaves_of_root
 root_of case r = curves_of r (threshold_of case r.a r.b) (curve_at case r.a r.first) (curve_at case r.b r.first)
+
+-- what holds of the pair of each candidate holds of the pair of each leaf
+pub leaves_admitted : (P : ℕ → ℕ → Type 0) (candidate : ℕ → ℕ → ℕ → Bool) (case : PlainProblem) → ((a b slot : ℕ) → candidate a b slot ≡ true → P a b) →
+    Each (λ s. P s.a s.b) (list_of candidate case)
+unfolding list_of leaves_of_roots
+leaves_admitted P candidate case law =
+    Each-flat_map (λ s. P s.a s.b) (leaves_of_root case) (roots_of candidate case)
+    (Each-weaker (λ r. P r.a r.b) (λ r. Each (λ s. P s.a s.b) (leaves_of_root case r))
+    (λ r is. Each-weaker (IsOf r.a r.b) (λ s. P s.a s.b)
+    (λ s of. subst (λ (x : ℕ). P x s.b) (sym of.first) (subst (λ (y : ℕ). P r.a y) (sym of.second) is)) (leaves_of_root case r) (root_of case r))
+    (roots_of candidate case) (Each-admitted P candidate case law))
 
 -- a root is of these objects
 pub record IsRootFor (a b : ℕ) (r : PlainCell) : Type 0 where

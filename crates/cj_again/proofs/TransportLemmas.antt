@@ -1,7 +1,8 @@
 -- What is so of a pair of one case is so of the same pair of another case, under its numbers there: its runs, its hulls, its distances.
 use Rattle.std.proofs.Common.{◌≡◌, ℕ, zero, suc, ◌+◌, ◌-◌, Bool, true, false, cond, List, [], ◌∷◌, ◌++◌, map, Option, Some, None, refl, sym, ap, ◌∙◌}
-use Rattle.std.specs.Prelude.{◌&&◌, ◌==◌, option_map, option_and_then, slice_get, slice_index}
-use Rattle.std.specs.Cmp.{first_so, second_so, unsigned_Decides}
+use Rattle.std.specs.Prelude.{◌&&◌, ◌||◌, ◌==◌, option_map, option_and_then, slice_get, slice_index}
+use Rattle.std.specs.Bool.{beq}
+use Rattle.std.specs.Cmp.{booleans_Decides, first_so, second_so, unsigned_Decides}
 use Rattle.std.specs.List.{flat_map}
 use Rattle.std.proofs.lemmas.List.{map-append}
 use Rattle.std.proofs.lemmas.Option.{slice_get-map}
@@ -11,6 +12,7 @@ use Rattle.cj_case.specs.declared.shells.Shell.{Shell}
 use Rattle.cj_case.specs.Boxes.{PlainBox}
 use Rattle.cj_case.specs.Leaves.{PlainLeaf}
 use Rattle.cj_case.specs.PlainProblems.{PlainProblem, threshold_of}
+use Rattle.cj_case.specs.Primaries.{concerns, has_primary, is_primary}
 use Rattle.cj_case.specs.Slots.{slot_first, slot_last}
 use Rattle.cj_case.specs.Unchanged.{are_same, is_object}
 use Rattle.cj_hermite.specs.Interpolant.{Curve}
@@ -33,6 +35,8 @@ pub record IsSame (old new : PlainProblem) (p q a b : ℕ) : Type 0 where
   pub second_track : slice_get new.tracks b ≡ slice_get old.tracks q
   pub first_size : slice_index new.sizes a ≡ slice_index old.sizes p
   pub second_size : slice_index new.sizes b ≡ slice_index old.sizes q
+  pub first_primary : is_primary new a ≡ is_primary old p
+  pub second_primary : is_primary new b ≡ is_primary old q
   pub from : new.first ≡ old.first
   pub to : new.last ≡ old.last
   pub threshold : new.threshold ≡ old.threshold
@@ -43,12 +47,18 @@ tracks_are (Some e) None is = absurd cc
 tracks_are (Some e) (Some f) is = ap (λ (t : PlainTrack). Some t) (sym (exact_track e f is))
 
 -- what it says that an object of one case is one of another
-pub object_is : (old new : PlainProblem) (p i : ℕ) → is_object old new p i ≡ true → (slice_get new.tracks i ≡ slice_get old.tracks p) × (slice_index new.sizes i ≡ slice_index old.sizes p)
+pub object_is : (old new : PlainProblem) (p i : ℕ) → is_object old new p i ≡ true
+    → (slice_get new.tracks i ≡ slice_get old.tracks p) × (slice_index new.sizes i ≡ slice_index old.sizes p) × (is_primary new i ≡ is_primary old p)
 unfolding is_object
 object_is old new p i is =
     let tracks = are_same (slice_get old.tracks p) (slice_get new.tracks i) in
     let sizes = slice_index old.sizes p == slice_index new.sizes i in
-    (tracks_are (slice_get old.tracks p) (slice_get new.tracks i) (first_so tracks sizes is), sym ((unsigned_Decides (slice_index old.sizes p) (slice_index new.sizes i)).0 (second_so tracks sizes is)))
+    let primaries = beq (is_primary old p) (is_primary new i) in
+    let both = first_so (tracks && sizes) primaries is in (
+      tracks_are (slice_get old.tracks p) (slice_get new.tracks i) (first_so tracks sizes both),
+      sym ((unsigned_Decides (slice_index old.sizes p) (slice_index new.sizes i)).0 (second_so tracks sizes both)),
+      sym ((booleans_Decides (is_primary old p) (is_primary new i)).0 (second_so (tracks && sizes) primaries is)),
+    )
 
 -- ---- leaves under other numbers
 
@@ -112,7 +122,7 @@ module _ (old new : PlainProblem) (p q a b : ℕ) (same : IsSame old new p q a b
   runs_same slot = λ i. runs_between (numbers_same i) (slot_first (same.from i) slot) (slot_last (same.from i) (same.to i) slot)
 
   slots_same : slots_of new ≡ slots_of old
-  slots_same = λ i. slots_of (record { tracks = []; first = same.from i; last = same.to i; threshold = 0; sizes = [] })
+  slots_same = λ i. slots_of (record { tracks = []; first = same.from i; last = same.to i; threshold = 0; sizes = []; primaries = None })
 
   -- ---- as candidates
 
@@ -144,12 +154,16 @@ module _ (old new : PlainProblem) (p q a b : ℕ) (same : IsSame old new p q a b
       ∙ (λ i. option_and_then (λ (s : Option PlainBox). s) (option_map (λ e. box_of e (slot_first (same.from i) slot) (slot_last (same.from i) (same.to i) slot)) (same.second_track i)))
       ∙ ap (option_and_then (λ (s : Option PlainBox). s)) (sym (slice_get-map (λ e. box_of e (slot_first old.first slot) (slot_last old.first old.last slot)) old.tracks q))
 
+  looked_at_same : concerns new (a, b) ≡ concerns old (p, q)
+  unfolding has_primary
+  looked_at_same = λ i. same.first_primary i || same.second_primary i
+
   candidate_same : (slot : ℕ) → is_candidate new a b slot ≡ is_candidate old p q slot
   unfolding is_candidate
   candidate_same slot =
       let box_a = first_box slot in
       let box_b = second_box slot in
-      λ i. are_kept (threshold_same i) (first_shell i) (second_shell i) && both_touch (threshold_same i) (box_a i) (box_b i)
+      λ i. (looked_at_same i && are_kept (threshold_same i) (first_shell i) (second_shell i)) && both_touch (threshold_same i) (box_a i) (box_b i)
 
   -- ---- as roots and leaves
 

@@ -46,6 +46,7 @@ fn is_kept_too(matching: &Matching<'_>, objects: &ShelledObjects<'_>, pair: Pair
     requires exists { pair.b < length matching.now.new.now.tracks }
     requires shells { objects.now.shells.now ≡ shells_of (plain_problem matching.now.new.now) }
     requires sizes { objects.now.sizes.now ≡ matching.now.new.now.sizes }
+    requires primaries { objects.now.primaries.now ≡ matching.now.new.now.primaries }
     requires threshold { objects.now.thr ≡ matching.now.new.now.threshold }
     ensures { result ≡ is_kept_unchanged (plain_problem matching.now.old.now) (plain_problem matching.now.new.now) (objects_of pair) }
 {
@@ -57,6 +58,7 @@ fn count_row(matching: &Matching<'_>, objects: &ShelledObjects<'_>, a: u32) -> u
     requires exists { a < length matching.now.new.now.tracks }
     requires shells { objects.now.shells.now ≡ shells_of (plain_problem matching.now.new.now) }
     requires sizes { objects.now.sizes.now ≡ matching.now.new.now.sizes }
+    requires primaries { objects.now.primaries.now ≡ matching.now.new.now.primaries }
     requires threshold { objects.now.thr ≡ matching.now.new.now.threshold }
     ensures value { result ≡ length (row_kept_unchanged (plain_problem matching.now.old.now) (plain_problem matching.now.new.now) a) }
     ensures few { result ≤ MOST_OBJECTS }
@@ -79,6 +81,7 @@ pub fn kept_unchanged(matching: &Matching<'_>, shells: &[Option<Shell>]) -> u64
     let objects = ShelledObjects {
         shells,
         sizes: matching.new.sizes.as_slice(),
+        primaries: &matching.new.primaries,
         thr: matching.new.threshold,
     };
     let mut count = 0;

@@ -3,6 +3,7 @@ ghost use Rattle.std.specs.Prelude.{◌≡◌, ◌<◌, ◌≤◌, length, optio
 ghost use Rattle.cj_case.specs.Problems.{plain_problem};
 ghost use Rattle.cj_track.specs.Tracks.{plain_track};
 ghost use Rattle.cj_track.specs.SameTracks.{same_frame, same_track};
+ghost use Rattle.cj_case.specs.Unchanged as unchanged;
 ghost use Rattle.cj_case.specs.Unchanged.{is_object};
 ghost use Rattle.cj_again.specs.Matchings.{ends_of, objects_like, plain_ends, with_end};
 
@@ -31,11 +32,21 @@ fn are_same_tracks(one: &Track, other: &Track) -> bool
         && one.segments == other.segments
 }
 
-/// Whether an old object is a new one: they have the same track and the same size.
+#[tactic(auto, unfolding(cj_case::specs::Unchanged::is_object))]
+/// Whether an old object is a new one: they have the same track and the same size, and both are primaries or neither is.
 fn is_same(old: &Problem, new: &Problem, before: u32, object: u32) -> bool
     requires before { before < length old.now.tracks }
     requires object { object < length new.now.tracks }
     ensures { result ≡ is_object (plain_problem old.now) (plain_problem new.now) before object }
+{
+    is_like(old, new, before, object) && old.primaries.has(before) == new.primaries.has(object)
+}
+
+/// Whether an old object and a new one have the same track and the same size.
+fn is_like(old: &Problem, new: &Problem, before: u32, object: u32) -> bool
+    requires before { before < length old.now.tracks }
+    requires object { object < length new.now.tracks }
+    ensures { result ≡ unchanged.is_like (plain_problem old.now) (plain_problem new.now) before object }
 {
     let one = &old.tracks.as_slice()[before as usize];
     let other = &new.tracks.as_slice()[object as usize];

@@ -1,5 +1,5 @@
 -- Pairs that are no candidates in a slot, by shells and boxes that hold their objects, are far at each of its common ticks.
-use Rattle.std.proofs.Common.{◌≡◌, ℕ, ◌<◌, ◌≤◌, Bool, true, false, ◌&&◌, not, List, Option, Some, None, refl, subst}
+use Rattle.std.proofs.Common.{◌≡◌, ℕ, ◌<◌, ◌≤◌, Bool, true, false, ◌&&◌, not, List, Option, Some, None, refl, sym, ap, ◌∙◌, subst}
 use Rattle.std.specs.Prelude.{IfSome, IsSomeAnd, slice_get}
 use Rattle.cj_track.specs.PlainTracks.{PlainTrack}
 use Rattle.cj_case.specs.PlainProblems.{PlainProblem, threshold_of}
@@ -88,6 +88,12 @@ others_far case shells boxes in_shells in_boxes a b m common others = go (slice_
     thr : ℕ
     thr = threshold_of case a b
 
+    -- the pair is looked at
+    apart : (are_kept thr (shell_in shells a) (shell_in shells b) && both_touch thr (reaches_in (boxes slot) a) (reaches_in (boxes slot) b)) ≡ false
+    apart =
+        ap (λ (looked : Bool). (looked && are_kept thr (shell_in shells a) (shell_in shells b)) && both_touch thr (reaches_in (boxes slot) a) (reaches_in (boxes slot) b))
+        (sym common.concerned) ∙ others
+
     known : (i : ℕ) (e : PlainTrack) (x : PlainPiece) → slice_get case.tracks i ≡ Some e → piece_holding e m ≡ Some x → IsKnown case slot m e x (shell_in shells i) (reaches_in (boxes slot) i)
     known i e x is at = record {
       at = at;
@@ -103,7 +109,7 @@ others_far case shells boxes in_shells in_boxes a b m common others = go (slice_
         → IsSomeAnd o (λ y. Unit {0}) → IsSomeAnd o (λ y. IsFar (curve_of_piece x) (curve_of_piece y) thr m)
     at_y e f x is is' at None none_here h = absurd h
     at_y e f x is is' at (Some y) at' h =
-        far_known case slot m thr e f x y (shell_in shells a) (shell_in shells b) (reaches_in (boxes slot) a) (reaches_in (boxes slot) b) (known a e x is at) (known b f y is' at') others
+        far_known case slot m thr e f x y (shell_in shells a) (shell_in shells b) (reaches_in (boxes slot) a) (reaches_in (boxes slot) b) (known a e x is at) (known b f y is' at') apart
 
     at_x : (e f : PlainTrack) → slice_get case.tracks a ≡ Some e → slice_get case.tracks b ≡ Some f → (o : Option PlainPiece) → piece_holding e m ≡ o
         → IsSomeAnd o (λ x. IsSomeAnd (piece_holding f m) (λ y. Unit {0})) → IsSomeAnd o (λ x. IsSomeAnd (piece_holding f m) (λ y. IsFar (curve_of_piece x) (curve_of_piece y) thr m))

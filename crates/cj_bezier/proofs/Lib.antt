@@ -1,11 +1,13 @@
 pub mod AllBoxLemmas
 pub mod BoxLemmas
 pub mod BoxRoundLemmas
+pub mod CandidateLemmas
 pub mod FarLemmas
 pub mod GapLemmas
 pub mod HalvingLemmas
 pub mod HullLemmas
 pub mod HullListLemmas
+pub mod JoinedBoxLemmas
 pub mod JudgeLemmas
 pub mod KindLemmas
 pub mod LeafLemmas

@@ -3,6 +3,7 @@ use Rattle.std.proofs.Common.{◌≡◌, ℕ, ◌<◌, ◌≤◌, Bool, true, fa
 use Rattle.std.specs.Prelude.{All, Any}
 use Rattle.cj_hermite.specs.Distance.{IsFar}
 use Rattle.cj_case.specs.PlainProblems.{PlainProblem, threshold_of}
+use Rattle.cj_case.specs.Primaries.{concerns}
 use Rattle.cj_hermite.specs.ObjectsAtTicks.{IsCommonOf, OfObjectsAt}
 use Rattle.cj_hermite.proofs.ObjectLemmas.{of_objects-wider}
 use Rattle.cj_case.specs.declared.kind.Kind.{Kind}
@@ -11,9 +12,10 @@ use Rattle.cj_case.specs.Leaves.{PlainLeaf, IsTickOf, Covers, LiesIn}
 use Rattle.cj_bezier.specs.RootLeaves.{IsTrueThroughout}
 use Rattle.cj_bezier.specs.Verdicts.{Holds}
 
--- a leaf within the window, of two objects in order, that is true throughout
+-- a leaf within the window, of two objects in order with a primary, that is true throughout
 pub record IsTrueLeaf (case : PlainProblem) (s : PlainLeaf) : Type 0 where
   pub ordered : s.a < s.b
+  pub concerned : concerns case (s.a, s.b) ≡ true
   pub from : case.first ≤ s.first
   pub to : s.last ≤ case.last
   pub holds : IsTrueThroughout case s
@@ -29,6 +31,7 @@ tells case s m is from to =
     record {
       common = record {
         ordered = is.ordered;
+        concerned = is.concerned;
         after = omega (arith, is.from, from);
         before = omega (arith, is.to, to);
         nodes = of_objects-wider case s.a s.b m (λ c d. Holds s.kind c d (threshold_of case s.a s.b) m) (λ c d. Unit {0}) (λ c d h. tt) here;

@@ -1,4 +1,4 @@
--- Candidates: in each slot the pairs of objects whose shells are not parted and whose boxes touch.
+-- Candidates: in each slot the pairs with a primary whose shells are not parted and whose boxes touch.
 use Rattle.std.specs.Prelude.{ℕ, Bool, ◌&&◌, not, List, map, filter, length, Option}
 use Rattle.cj_case.specs.PlainProblems.{PlainProblem}
 use Rattle.cj_case.specs.Pairs.{pairs_of}
@@ -17,17 +17,18 @@ shells_of case = map (λ e. shell_of e case.first case.last) case.tracks
 unfoldable pub boxes_in : PlainProblem → ℕ → List (Option PlainBox)
 boxes_in case slot = map (λ e. box_of e (slot_first case.first slot) (slot_last case.first case.last slot)) case.tracks
 
--- the shells of a pair are not parted
+-- a pair has a primary, and its shells are not parted
 abbrev pub is_kept : PlainProblem → ℕ × ℕ → Bool
-is_kept case = keeps_between case.threshold case.sizes (shells_of case)
+is_kept case = keeps_between case.primaries case.threshold case.sizes (shells_of case)
 
 -- the boxes of a pair touch in a slot
 abbrev pub is_touching : PlainProblem → ℕ → ℕ × ℕ → Bool
 is_touching case slot = touch_between case.threshold case.sizes (boxes_in case slot)
 
--- a pair is a candidate in a slot, by these shells and these boxes in each slot: its shells are not parted, and its boxes touch
+-- a pair is a candidate in a slot, by these shells and these boxes in each slot: it has a primary, its shells are not parted, and its boxes touch
 abbrev pub candidate_by : PlainProblem → List (Option Shell) → (ℕ → List (Option PlainBox)) → ℕ → ℕ → ℕ → Bool
-candidate_by case shells boxes a b slot = keeps_between case.threshold case.sizes shells (a, b) && touch_between case.threshold case.sizes (boxes slot) (a, b)
+candidate_by case shells boxes a b slot =
+    keeps_between case.primaries case.threshold case.sizes shells (a, b) && touch_between case.threshold case.sizes (boxes slot) (a, b)
 
 -- by the shells and boxes of its objects
 unfoldable pub is_candidate : PlainProblem → ℕ → ℕ → ℕ → Bool

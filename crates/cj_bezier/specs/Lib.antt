@@ -6,6 +6,7 @@ pub mod Gaps
 pub mod Halving
 pub mod MeasuredObjects
 pub mod Hulls
+pub mod JoinedBoxes
 pub mod Candidates
 pub mod Parts
 pub mod RootLeaves

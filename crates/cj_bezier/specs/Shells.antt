@@ -1,11 +1,12 @@
 -- Shells: between which distances from the origin a track stays, and which pairs are kept by their shells.
-use Rattle.std.specs.Prelude.{◌≡◌, ℕ, ◌+◌, ◌-◌, ◌*◌, ◌<◌, ◌≤◌, ◌⊎◌, ◌==◌, min, max, nat_lt, Bool, false, ◌||◌, not}
+use Rattle.std.specs.Prelude.{◌≡◌, ℕ, ◌+◌, ◌-◌, ◌*◌, ◌<◌, ◌≤◌, ◌⊎◌, ◌==◌, min, max, nat_lt, Bool, false, ◌||◌, ◌&&◌, not}
 use Rattle.std.specs.Prelude.{ℤ, pos, ◌+ℤ◌, ◌*ℤ◌, ◌≤ℤ◌, List, [], ◌∷◌, Option, Some, None, option_and_then, slice_get}
 use Rattle.std.specs.List.{list_all}
 pub use Rattle.cj_interval.specs.Passing.{greatest_to, least_from}
 use Rattle.cj_track.specs.PlainTracks.{PlainTrack}
 use Rattle.cj_hermite.specs.Interpolant.{Curve, place_numerator, place_denominator}
 use Rattle.cj_case.specs.PlainProblems.{threshold_between}
+use Rattle.cj_case.specs.Primaries.{has_primary}
 use Rattle.cj_case.specs.declared.shells.Shell.{Shell}
 use Rattle.cj_bezier.specs.Gaps.{PlainGap, gap_terms}
 use Rattle.cj_bezier.specs.Hulls.{PlainHull}
@@ -82,6 +83,6 @@ shell_in shells object = option_and_then (λ shell. shell) (slice_get shells obj
 abbrev pub keeps : ℕ → List (Option Shell) → ℕ × ℕ → Bool
 keeps thr shells pair = are_kept thr (shell_in shells pair.0) (shell_in shells pair.1)
 
--- the same, by the threshold between the two, which have these sizes
-abbrev pub keeps_between : ℕ → List ℕ → List (Option Shell) → ℕ × ℕ → Bool
-keeps_between thr sizes shells pair = keeps (threshold_between thr sizes pair.0 pair.1) shells pair
+-- the same, by the threshold between the two, which have these sizes, where one of the two is among these primaries
+abbrev pub keeps_between : Option (List Bool) → ℕ → List ℕ → List (Option Shell) → ℕ × ℕ → Bool
+keeps_between primaries thr sizes shells pair = has_primary primaries pair && keeps (threshold_between thr sizes pair.0 pair.1) shells pair

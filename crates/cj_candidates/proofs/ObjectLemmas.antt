@@ -129,11 +129,11 @@ both_orders false false = refl
 -- the candidates of a slot: of those that touch the ones that are kept
 pub candidates_are : (case : PlainProblem) (sought : List (ℕ × ℕ)) (slot : ℕ) (found touching : List (ℕ × ℕ)) (shells : List (Option Shell)) (sizes : List ℕ)
     → shells ≡ shells_of case → sizes ≡ case.sizes
-    → touching ≡ filter (is_touching case slot) sought → found ≡ filter (keeps_between case.threshold sizes shells) touching → found ≡ candidates_of case sought slot
+    → touching ≡ filter (is_touching case slot) sought → found ≡ filter (keeps_between case.primaries case.threshold sizes shells) touching → found ≡ candidates_of case sought slot
 unfolding is_candidate
 candidates_are case sought slot found touching shells sizes in_shells sized near kept =
-    kept ∙ ap (filter (keeps_between case.threshold sizes shells)) near
-    ∙ (λ i. filter (keeps_between case.threshold (sized i) (in_shells i)) (filter (is_touching case slot) sought))
+    kept ∙ ap (filter (keeps_between case.primaries case.threshold sizes shells)) near
+    ∙ (λ i. filter (keeps_between case.primaries case.threshold (sized i) (in_shells i)) (filter (is_touching case slot) sought))
     ∙ filter_both (is_touching case slot) (is_kept case) sought
     ∙ filter_agree (λ pair. is_touching case slot pair && is_kept case pair) (λ pair. is_kept case pair && is_touching case slot pair) (λ pair. both_orders (is_touching case slot pair) (is_kept case pair)) sought
 
@@ -186,8 +186,8 @@ as_many_boxes case slot boxes same =
 
 -- the pairs that are kept
 pub kept_is : (case : PlainProblem) (shells : List (Option Shell)) (sizes : List ℕ) → shells ≡ shells_of case → sizes ≡ case.sizes
-    → filter (keeps_between case.threshold sizes shells) (pairs_of (length shells)) ≡ pairs_kept case
+    → filter (keeps_between case.primaries case.threshold sizes shells) (pairs_of (length shells)) ≡ pairs_kept case
 kept_is case shells sizes same sized =
-    ap (λ (n : ℕ). filter (keeps_between case.threshold sizes shells) (pairs_of n)) (as_many_shells case shells same)
-    ∙ ap (λ (ss : List (Option Shell)). filter (keeps_between case.threshold sizes ss) (pairs_of (length case.tracks))) same
-    ∙ ap (λ (ss : List ℕ). filter (keeps_between case.threshold ss (shells_of case)) (pairs_of (length case.tracks))) sized
+    ap (λ (n : ℕ). filter (keeps_between case.primaries case.threshold sizes shells) (pairs_of n)) (as_many_shells case shells same)
+    ∙ ap (λ (ss : List (Option Shell)). filter (keeps_between case.primaries case.threshold sizes ss) (pairs_of (length case.tracks))) same
+    ∙ ap (λ (ss : List ℕ). filter (keeps_between case.primaries case.threshold ss (shells_of case)) (pairs_of (length case.tracks))) sized

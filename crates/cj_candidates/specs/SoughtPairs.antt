@@ -27,3 +27,9 @@ candidates_of case sought slot = filter (λ pair. is_candidate case pair.0 pair.
 -- a pair is wanted, and is a candidate in a slot
 unfoldable pub is_wanted_candidate : (ℕ × ℕ → Bool) → PlainProblem → ℕ → ℕ → ℕ → Bool
 is_wanted_candidate wanted case a b slot = wanted (a, b) && is_candidate case a b slot
+
+-- they are pairs of all objects, in order, and all candidates of a case are among them
+pub record HoldCandidates (case : PlainProblem) (sought : List (ℕ × ℕ)) : Type 0 where
+  pub wanted : ℕ × ℕ → Bool
+  pub listed : sought ≡ filter wanted (pairs_of (length case.tracks))
+  pub candidates : is_wanted_candidate wanted case ≡ is_candidate case

@@ -16,6 +16,7 @@ ghost use Rattle.cj_candidates.specs.SoughtPairs.{is_wanted_candidate};
 ghost use Rattle.cj_bezier.specs.Enclosed.{OthersAreFar};
 
 use crate::candidates::Candidates;
+use crate::few_primaries::{few_kept, sought_among};
 use crate::ground::Ground;
 use crate::keeping::kept_of;
 use crate::objects_measured::{measure_in_turn, measure_objects, measure_some};
@@ -44,6 +45,7 @@ pub fn count_kept_of<R: Threads + Sync>(
     let objects = ShelledObjects {
         shells: &measured.shells,
         sizes: problem.sizes.as_slice(),
+        primaries: &problem.primaries,
         thr,
     };
     count_kept(rt, alloc, &objects, workers)
@@ -102,12 +104,12 @@ pub fn find_among<R: Threads + Sync, G: Gate + Sync>(
     // What is no candidate is far.
     ensures far { OnOk result (OthersAreFar (plain_problem problem.now) (is_candidate (plain_problem problem.now))) }
 {
-    let slots = slot_count(problem.window);
+    let few = few_kept(alloc, problem, &measured)?;
     let ground = Ground {
         problem,
         measured: &measured,
-        slots,
-        sought: Sought::All,
+        slots: slot_count(problem.window),
+        sought: sought_among(problem, &few),
     };
     let kept = count_kept_of(rt, alloc, problem, &measured, workers)?;
     let SlotRun { roots, touching } = search_all(rt, alloc, gate, &ground, workers, limit)?;
@@ -150,6 +152,7 @@ pub fn find_wanted<'m, R: Threads + Sync, G: Gate + Sync>(
     let objects = ShelledObjects {
         shells: &measured.shells,
         sizes: problem.sizes.as_slice(),
+        primaries: &problem.primaries,
         thr: problem.threshold,
     };
     let kept = kept_of(alloc, pairs, &objects)?;

@@ -4,6 +4,7 @@
 
 mod candidates;
 mod crowding;
+mod few_primaries;
 mod filtering;
 mod ground;
 mod keeping;
@@ -20,8 +21,10 @@ mod touching;
 
 pub use candidates::Candidates;
 pub use crowding::is_crowded;
+pub use few_primaries::{few_kept, sought_among};
 pub use filtering::{
     count_kept_of, find_among, find_candidates, find_wanted, measure_again, measure_all,
     roots_in_turn,
 };
 pub use one_slot::candidates_in_slot;
+pub use sought_pairs::Sought;

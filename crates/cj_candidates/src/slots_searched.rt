@@ -61,6 +61,7 @@ pub fn candidates_among(
     let objects = ShelledObjects {
         shells: &ground.measured.shells,
         sizes: problem.sizes.as_slice(),
+        primaries: &problem.primaries,
         thr: problem.threshold,
     };
     kept_of(alloc, &touching, &objects)

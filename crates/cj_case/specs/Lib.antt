@@ -7,6 +7,7 @@ pub mod Order
 pub mod PairOrder
 pub mod Pairs
 pub mod PlainProblems
+pub mod Primaries
 pub mod Problems
 pub mod Slots
 pub mod Tables

@@ -11,4 +11,5 @@ plain_problem problem = record {
   last = problem.window.last.micros;
   threshold = problem.threshold;
   sizes = problem.sizes;
+  primaries = problem.primaries;
 }

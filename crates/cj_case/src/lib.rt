@@ -1,4 +1,4 @@
-//! What a run is asked, and what is found: tracks, window, threshold and sizes as a problem, its slots, pairs and their order; shells, boxes,
+//! What a run is asked, and what is found: tracks, window, threshold, sizes and primaries as a problem, its slots, pairs and their order; shells, boxes,
 //! cells, leaves and encounters; and values by object and slot.
 #![tactic(auto)]
 
@@ -10,6 +10,7 @@ mod kind;
 mod leaf;
 mod measured;
 mod pair;
+mod primaries;
 mod problem;
 mod shells;
 mod sizes;
@@ -25,6 +26,7 @@ pub use kind::Kind;
 pub use leaf::Leaf;
 pub use measured::Measured;
 pub use pair::Pair;
+pub use primaries::Primaries;
 pub use problem::Problem;
 pub use shells::Shell;
 pub use sizes::Sizes;

@@ -1,7 +1,6 @@
 pub mod BucketLemmas
 pub mod EntryLemmas
 pub mod FoundLemmas
-pub mod JoinedBoxLemmas
 pub mod PairingLemmas
 pub mod SweepLemmas
 pub mod TrackBoxLemmas

@@ -5,24 +5,14 @@ use Rattle.cj_hermite.specs.declared.box3.Box3.{Box3}
 use Rattle.cj_hermite.specs.Boxes.{IsBoxWithin}
 use Rattle.cj_hermite.specs.Walks.{HasNone}
 use Rattle.cj_bezier.specs.Hulls.{PlainHull}
+use Rattle.cj_bezier.specs.JoinedBoxes.{reaches_of_spans, reaches_of_hull, reaches_with}
 use Rattle.cj_bezier.specs.Parts.{hulls_of, AreInTime}
 use Rattle.cj_bezier.specs.Sizes.{HULL_REACH}
 use Rattle.cj_case.specs.Boxes.{PlainBox}
-use Rattle.cj_bezier.specs.SlotBoxes.{box_of, reaches_round, round_two}
+use Rattle.cj_bezier.specs.SlotBoxes.{box_of, round_two}
 use Rattle.cj_bezier.proofs.HullListLemmas.{no_hulls}
+use Rattle.cj_bezier.proofs.JoinedBoxLemmas.{first_hull, next_hull}
 use Rattle.cj_bezier.proofs.NextPartLemmas.{none_in_time, join_time}
-use Rattle.cj_grid.specs.JoinedBoxes.{reaches_of_spans, reaches_of_hull, reaches_with}
-
--- ---- hull by hull
-
-first_hull : (all left : List PlainHull) (h : PlainHull) → all ≡ h ∷ left → reaches_round all ≡ Some (reaches_with (reaches_of_hull h) left)
-unfolding reaches_round
-first_hull all left h front = ap reaches_round front
-
-next_hull : (r : PlainBox) (left rest : List PlainHull) (h : PlainHull) → left ≡ h ∷ rest → reaches_with r left ≡ reaches_with (round_two r (reaches_of_hull h)) rest
-next_hull r left rest h front = ap (reaches_with r) front
-
--- ---- part by part
 
 -- the box of the parts up to tick `at`, of which the rest makes the whole
 pub record IsBoxUpTo (e : PlainTrack) (from at to : ℕ) (b : Box3) : Type 0 where

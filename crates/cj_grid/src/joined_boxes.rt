@@ -5,7 +5,7 @@ ghost use Rattle.cj_hermite.specs.Boxes.{IsBoxWithin};
 ghost use Rattle.cj_bezier.specs.Hulls.{axes_of};
 ghost use Rattle.cj_bezier.specs.Sizes.{HULL_REACH};
 ghost use Rattle.cj_bezier.specs.SlotBoxes.{round_two};
-ghost use Rattle.cj_grid.specs.JoinedBoxes.{reaches_of_spans, reaches_of_hull};
+ghost use Rattle.cj_bezier.specs.JoinedBoxes.{reaches_of_spans, reaches_of_hull};
 
 use cj_bezier::Hull;
 use cj_hermite::Box3;

@@ -11,7 +11,7 @@ ghost use Rattle.cj_bezier.specs.Sizes.{HULL_REACH};
 ghost use Rattle.cj_bezier.specs.SlotBoxes.{IsBoxOf, IsPlaceIn, box_of};
 ghost use Rattle.cj_case.specs.Boxes.{plain_box};
 ghost use Rattle.cj_walk.specs.TrackWalks.{IsWalk};
-ghost use Rattle.cj_grid.specs.JoinedBoxes.{reaches_of_spans};
+ghost use Rattle.cj_bezier.specs.JoinedBoxes.{reaches_of_spans};
 
 use crate::joined_boxes::{box_of_hull, join_boxes};
 use cj_base::{Tick, Window};

@@ -1,5 +1,5 @@
 -- Roots: what they hold, their order, and that each common tick lies in one.
-use Rattle.std.proofs.Common.{◌≡◌, ℕ, ◌+◌, ◌-◌, ◌<◌, ◌≤◌, Bool, true, cond, List, [], ◌∷◌, map, length, Option, refl, sym, subst, arith}
+use Rattle.std.proofs.Common.{◌≡◌, ℕ, ◌+◌, ◌-◌, ◌<◌, ◌≤◌, Bool, true, false, cond, List, [], ◌∷◌, map, length, Option, refl, sym, subst, arith}
 use Rattle.std.specs.Prelude.{is_some}
 use Rattle.std.specs.List.{flat_map, range_with_len}
 use Rattle.cj_case.specs.PlainProblems.{PlainProblem}
@@ -174,6 +174,29 @@ Each-roots candidate case =
     Each-flat_map (IsRootOf case) (roots_of_pair candidate case) (pairs_of (length case.tracks))
     (Each-weaker (IsPair (length case.tracks)) (λ pair. Each (IsRootOf case) (roots_of_pair candidate case pair))
     (λ pair p. Each-weaker (IsRoot case pair.0 pair.1 case.first case.last) (IsRootOf case) (λ r is. of_pair case pair r p is) (roots_of_pair candidate case pair) (Each-pair candidate case pair))
+    (pairs_of (length case.tracks)) (Each-pairs (length case.tracks)))
+
+-- what holds of the pair of each candidate holds of the pair of each root
+admitted_in : (P : ℕ → ℕ → Type 0) (case : PlainProblem) (a b from to : ℕ) (taken : Bool) → (taken ≡ true → P a b) → Each (λ r. P r.a r.b) (cond taken (roots_between case a b from to) [])
+admitted_in P case a b from to false law = tt
+admitted_in P case a b from to true law =
+    Each-weaker (IsRoot case a b from to) (λ r. P r.a r.b)
+    (λ r is. subst (λ (x : ℕ). P x r.b) (sym is.first_object) (subst (λ (y : ℕ). P a y) (sym is.second_object) (law refl)))
+    (roots_between case a b from to) (Each-between case a b from to)
+
+admitted_of : (P : ℕ → ℕ → Type 0) (candidate : ℕ → ℕ → ℕ → Bool) (case : PlainProblem) (pair : ℕ × ℕ) → ((a b slot : ℕ) → candidate a b slot ≡ true → P a b) →
+    Each (λ r. P r.a r.b) (roots_of_pair candidate case pair)
+admitted_of P candidate case pair law =
+    Each-flat_map (λ r. P r.a r.b) (λ slot. cond (candidate pair.0 pair.1 slot) (roots_in case slot pair.0 pair.1) []) (slots_of case)
+    (Each-range (λ slot. Each (λ r. P r.a r.b) (cond (candidate pair.0 pair.1 slot) (roots_in case slot pair.0 pair.1) [])) 0 (slot_count case.first case.last)
+    (λ k low high. admitted_in P case pair.0 pair.1 (slot_first case.first k) (slot_last case.first case.last k) (candidate pair.0 pair.1 k) (law pair.0 pair.1 k)))
+
+pub Each-admitted : (P : ℕ → ℕ → Type 0) (candidate : ℕ → ℕ → ℕ → Bool) (case : PlainProblem) → ((a b slot : ℕ) → candidate a b slot ≡ true → P a b) →
+    Each (λ r. P r.a r.b) (roots_of candidate case)
+unfolding roots_of
+Each-admitted P candidate case law =
+    Each-flat_map (λ r. P r.a r.b) (roots_of_pair candidate case) (pairs_of (length case.tracks))
+    (Each-weaker (IsPair (length case.tracks)) (λ pair. Each (λ r. P r.a r.b) (roots_of_pair candidate case pair)) (λ pair is. admitted_of P candidate case pair law)
     (pairs_of (length case.tracks)) (Each-pairs (length case.tracks)))
 
 pub Ordered-roots : (candidate : ℕ → ℕ → ℕ → Bool) (case : PlainProblem) → Ordered IsRootBefore (roots_of candidate case)

@@ -1,5 +1,5 @@
 -- The small cases, apart from how a program keeps them: lengths in nm, rates in nm/s.
-use Rattle.std.specs.Prelude.{ℕ, ◌*◌, ◌^◌, [], ◌∷◌, ℤ, pos, neg_ℤ}
+use Rattle.std.specs.Prelude.{ℕ, ◌*◌, ◌^◌, [], ◌∷◌, None, ℤ, pos, neg_ℤ}
 use Rattle.cj_track.specs.declared.vec3.Vec3.{Vec3}
 use Rattle.cj_track.specs.PlainTracks.{PlainTrack}
 use Rattle.cj_case.specs.PlainProblems.{PlainProblem}
@@ -47,4 +47,5 @@ case_of a b size_a size_b = record {
   last = tick_at 60;
   threshold = 5 * 10 ^ 12;
   sizes = size_a ∷ size_b ∷ [];
+  primaries = None;
 }

@@ -11,7 +11,7 @@ use crate::passing::{along_y, along_z};
 use crate::segments::{AT_7000, AT_7005, rest};
 use crate::ticks::seconds;
 use crate::tracks::track_of;
-use cj_case::{Problem, Sizes, Tracks};
+use cj_case::{Primaries, Problem, Sizes, Tracks};
 use cj_track::Track;
 use std::alloc::{AllocError, Global};
 
@@ -39,6 +39,7 @@ pub fn sized(
         window: seconds(0, 60),
         threshold: 5_000_000_000_000,
         sizes: Sizes::new(vec![in alloc; size_a, size_b]?),
+        primaries: Primaries::all(),
     })
 }
 

@@ -5,9 +5,9 @@ use Rattle.cj_case.specs.Pairs.{pairs_of}
 use Rattle.cj_bezier.specs.Shells.{keeps_between}
 use Rattle.cj_sieve.specs.declared.shelled_objects.ShelledObjects.{ShelledObjects}
 
--- a pair is kept, by the threshold between the two
+-- a pair with a primary is kept, by the threshold between the two
 abbrev pub keeps_among : ShelledObjects → ℕ × ℕ → Bool
-keeps_among objects = keeps_between objects.thr objects.sizes.now objects.shells.now
+keeps_among objects = keeps_between objects.primaries.now objects.thr objects.sizes.now objects.shells.now
 
 -- the kept pairs of an object with those of higher numbers
 abbrev pub row_among : ShelledObjects → ℕ → List (ℕ × ℕ)

@@ -4,12 +4,14 @@ ghost use Rattle.std.specs.List.{sum};
 ghost use Rattle.cj_base.specs.Bounds.{MOST_OBJECTS};
 ghost use Rattle.cj_case.specs.CaseLimits.{MAX_SIZE};
 ghost use Rattle.cj_case.specs.Pairs.{objects_of, pairs_of};
+ghost use Rattle.cj_case.specs.PlainProblems.{threshold_between};
 ghost use Rattle.cj_bezier.specs.Shells.{keeps_between, shell_in};
+ghost use Rattle.cj_bezier.specs.Shells as spec;
 ghost use Rattle.cj_sieve.specs.Among.{keeps_among, kept_among, row_among};
 
 use crate::parted_shells::parted;
 use crate::shelled_objects::ShelledObjects;
-use cj_case::{Pair, Shell, threshold_between};
+use cj_case::{Pair, Primaries, Shell, threshold_between};
 use cj_threads::{Nobody, map_dealt};
 use std::alloc::{AllocError, Global};
 use std::thread::Threads;
@@ -21,10 +23,19 @@ fn shell_of_object(shells: &[Option<Shell>], object: u32) -> Option<Shell>
     *shells.get(object as usize)?
 }
 
-/// Whether a pair of these objects is kept: both have shells, and these are not parted by the threshold between the two.
+/// Whether a pair of these objects is kept: one of the two is a primary, both have shells, and these are not parted by the threshold between
+/// the two.
 pub fn keeps(objects: &ShelledObjects<'_>, pair: Pair) -> bool
     requires { pair.b < length objects.now.shells.now }
     ensures value { result ≡ keeps_among objects.now (objects_of pair) }
+{
+    objects.primaries.concern(pair) && are_close(objects, pair)
+}
+
+/// Whether both objects of a pair have shells which are not parted by the threshold between the two.
+fn are_close(objects: &ShelledObjects<'_>, pair: Pair) -> bool
+    requires { pair.b < length objects.now.shells.now }
+    ensures { result ≡ spec.keeps (threshold_between objects.now.thr objects.now.sizes.now pair.a pair.b) objects.now.shells.now (objects_of pair) }
 {
     let between = threshold_between(objects.sizes, objects.thr, pair);
     match (
@@ -116,11 +127,12 @@ fn list_kept(alloc: Global, objects: &ShelledObjects<'_>) -> Result<Vec<Pair>, A
     Ok(pairs)
 }
 
-/// The pairs of objects that have shells which are not parted by a threshold in nm between objects of these sizes, in order.
+/// The pairs with a primary that have shells which are not parted by a threshold in nm between objects of these sizes, in order.
 pub fn kept_pairs(
     alloc: Global,
     shells: &[Option<Shell>],
     sizes: &[u64],
+    primaries: &Primaries,
     thr: u64,
 ) -> Result<Vec<Pair>, AllocError>
     requires few { length shells.now ≤ MOST_OBJECTS }
@@ -129,7 +141,15 @@ pub fn kept_pairs(
     requires least { 10 ^ 9 ≤ thr }
     requires most { thr ≤ 10 ^ 15 }
 
-    ensures value { IfOk result (λ pairs. map objects_of pairs.items ≡ filter (keeps_between thr sizes.now shells.now) (pairs_of (length shells.now))) }
+    ensures value { IfOk result (λ pairs. map objects_of pairs.items ≡ filter (keeps_between primaries.now thr sizes.now shells.now) (pairs_of (length shells.now))) }
 {
-    list_kept(alloc, &ShelledObjects { shells, sizes, thr })
+    list_kept(
+        alloc,
+        &ShelledObjects {
+            shells,
+            sizes,
+            primaries,
+            thr,
+        },
+    )
 }

@@ -1,9 +1,9 @@
 -- What comes of runs of slots, and what is put together of it.
-use Rattle.std.proofs.Common.{◌≡◌, ℕ, ◌+◌, ◌≤◌, true, List, [], ◌∷◌, ◌++◌, Vec, Global, length, min, refl, sym, ap, subst, ◌∙◌, arith, append-nil, append_assoc, length-append}
+use Rattle.std.proofs.Common.{◌≡◌, ℕ, ◌+◌, ◌<◌, ◌≤◌, true, List, [], ◌∷◌, ◌++◌, Vec, Global, length, take, drop, min, refl, sym, ap, subst, ◌∙◌, arith, append-nil, append_assoc, length-append}
 use Rattle.std.specs.Prelude.{All, Option, Some, None, IfSome}
 use Rattle.std.specs.List.{list_all}
 use Rattle.std.proofs.lemmas.Bool.{and_parts}
-use Rattle.std.proofs.lemmas.List.{length-map, map-append}
+use Rattle.std.proofs.lemmas.List.{length-map, map-append, take-append-drop}
 use Rattle.std.proofs.lemmas.List.Elements.{All-append, All-nil}
 use Rattle.std.proofs.lemmas.List.Sums.{sum_by-append, sum_by-cons}
 use Rattle.cj_threads.proofs.RunLemmas.{pushed}
@@ -13,13 +13,15 @@ use Rattle.cj_case.specs.Cells.{PlainCell}
 use Rattle.cj_case.specs.Leaves.{PlainLeaf, plain_leaf, plain_leaves}
 use Rattle.cj_bezier.specs.Candidates.{candidate_pairs}
 use Rattle.cj_bezier.specs.RootLeaves.{leaves_of_root, leaves_of_roots, Describe}
-use Rattle.cj_slabs.specs.declared.leaf_counts.LeafCounts.{LeafCounts}
+use Rattle.cj_slabs.specs.declared.leaf_limits.LeafLimits.{LeafLimits}
+use Rattle.cj_slabs.specs.declared.so_far.SoFar.{SoFar}
+use Rattle.cj_slabs.specs.declared.so_far.SoFar.TheVariants.{Kept, Given}
 use Rattle.cj_slabs.specs.declared.sifted.Sifted.{Sifted}
 use Rattle.cj_slabs.specs.declared.slab.Slab.{Slab}
 use Rattle.cj_slabs.specs.declared.slab.Outcome.{Outcome}
 use Rattle.cj_slabs.specs.declared.slab.Outcome.TheVariants.{Whole, Counted, Stopped}
 use Rattle.cj_slabs.specs.Counts.{AreCountsOf}
-use Rattle.cj_slabs.specs.Slabs.{AreOutcomes, AreSlabsOf, IsOutcome, IsSlabOf, is_searched, least, least_of, leaves_listed, roots_at, told_by_outcome, told_by_outcomes, told_of_roots}
+use Rattle.cj_slabs.specs.Slabs.{AreOutcomes, AreSlabsOf, AreSoFar, IsOutcome, IsSlabOf, IsWithinOrOver, is_searched, least, least_of, leaves_listed, leaves_so_far, roots_at, told_by_outcome, told_by_outcomes, told_of_roots}
 use Rattle.cj_slabs.proofs.CountLemmas.{counts_both, none_counted, number_both}
 use Rattle.cj_slabs.proofs.SlabLemmas.{roots_both, told_both}
 
@@ -128,16 +130,6 @@ slabs_more case some more old new slab pushes touching roots leaves far near und
       touching = let all = sum_by-append f some more in omega (arith, touching, first.touching, second.touching, all);
     }
 
--- one slab alone
-pub one_slab : (case : PlainProblem) (slots : List ℕ) (found : Sifted) (slab : Slab) → found.slabs.items ≡ slab.told ∷ [] → found.touching ≡ slab.touching → found.counts ≡ slab.counts → IsSlabOf case slots slab
-    → AreSlabsOf case slots found
-one_slab case slots found slab slabs touching counts is = record {
-  told = ap (λ (lists : List (Vec Leaf Global)). plain_leaves (leaves_listed lists)) slabs ∙ ap plain_leaves (append-nil slab.told.items) ∙ is.told;
-  counts = subst (λ (c : LeafCounts). AreCountsOf case (roots_at case slots) c) (sym counts) is.counts;
-  described = is.described;
-  touching = touching ∙ is.touching;
-}
-
 -- slabs of the first slots are put together, and these outcomes are left
 pub record FoundSoFar (case : PlainProblem) (slots : List ℕ) (found : Sifted) (left : List Outcome) : Type 0 where
   pub done : List ℕ
@@ -166,3 +158,74 @@ all_found case slots found left none so_far =
     let nothing : so_far.rest ≡ [] = subst (AreOutcomes case so_far.rest) none so_far.others in
     let whole : slots ≡ so_far.done = so_far.whole ∙ ap (λ (ks : List ℕ). so_far.done ++ ks) nothing ∙ append-nil so_far.done in
     subst (λ (ks : List ℕ). AreSlabsOf case ks found) (sym whole) so_far.slabs
+
+-- ---- slot by slot, by a thread alone
+
+-- leaves of slots and of those that follow
+pub leaves_more : (case : PlainProblem) (some more : List ℕ)
+    → length (leaves_of_roots case (roots_at case (some ++ more))) ≡ length (leaves_of_roots case (roots_at case some)) + length (leaves_of_roots case (roots_at case more))
+leaves_more case some more =
+    ap (λ (rs : List PlainCell). length (leaves_of_roots case rs)) (roots_both case some more) ∙ number_both case (roots_at case some) (roots_at case more)
+
+-- the first of some slots have no more than all
+pub leaves_taken : (case : PlainProblem) (slots : List ℕ) (n : ℕ) → length (leaves_of_roots case (roots_at case (take n slots))) ≤ length (leaves_of_roots case (roots_at case slots))
+leaves_taken case slots n =
+    omega (arith, leaves_more case (take n slots) (drop n slots), ap (λ (ks : List ℕ). length (leaves_of_roots case (roots_at case ks))) (take-append-drop n slots))
+
+-- and those of them that are told
+pub told_more : (case : PlainProblem) (some more : List ℕ)
+    → length (told_of_roots case (roots_at case (some ++ more))) ≡ length (told_of_roots case (roots_at case some)) + length (told_of_roots case (roots_at case more))
+told_more case some more =
+    ap (λ (rs : List PlainCell). length (told_of_roots case rs)) (roots_both case some more)
+    ∙ ap length (told_both case (roots_at case some) (roots_at case more)) ∙ length-append (told_of_roots case (roots_at case some)) (told_of_roots case (roots_at case more))
+
+pub found_so_far : (limits : LeafLimits) (case : PlainProblem) (slots : List ℕ) (all : SoFar) → AreSoFar limits case slots all → leaves_so_far all ≡ length (leaves_of_roots case (roots_at case slots))
+found_so_far limits case slots (Kept found room) are = let counts = are.0.counts in counts.leaves
+found_so_far limits case slots (Given leaves) are = are.0
+
+-- more leaves are found than may be
+pub over_more : (limits : LeafLimits) (case : PlainProblem) (some more : List ℕ) (all : SoFar) (next : Outcome) → limits.leaves < leaves_so_far all + least next
+    → AreSoFar limits case some all → IsOutcome case more next → limits.leaves < length (leaves_of_roots case (roots_at case (some ++ more)))
+over_more limits case some more all next over are is =
+    omega (arith, over, found_so_far limits case some all are, least_few case more next is, leaves_more case some more)
+
+-- slots that a thread alone has searched have exactly so many leaves, where these are no more than may be
+exact_within : (limits : LeafLimits) (case : PlainProblem) (slots : List ℕ) (next : Outcome) → IsWithinOrOver limits next → least next ≤ limits.leaves → IsOutcome case slots next
+    → least next ≡ length (leaves_of_roots case (roots_at case slots))
+exact_within limits case slots (Whole slab) within few is = let counts = is.counts in counts.leaves
+exact_within limits case slots (Counted leaves told) within few is = is.0
+exact_within limits case slots (Stopped leaves) within few is = absurd (omega (arith, within, few))
+
+-- where more is told than may be, more is told with further slots
+pub given_more : (limits : LeafLimits) (case : PlainProblem) (some more : List ℕ) (old leaves : ℕ) (next : Outcome) → IsWithinOrOver limits next → leaves ≡ old + least next → leaves ≤ limits.leaves
+    → AreSoFar limits case some (Given old) → IsOutcome case more next → AreSoFar limits case (some ++ more) (Given leaves)
+given_more limits case some more old leaves next within sum few are is =
+    (omega (arith, sum, are.0, exact_within limits case more next within (omega (arith, sum, few)) is, leaves_more case some more), omega (arith, are.1, told_more case some more))
+
+-- or with these slots alone
+pub given_now : (limits : LeafLimits) (case : PlainProblem) (some more : List ℕ) (found : Sifted) (leaves here told : ℕ) → limits.told < told → leaves ≡ found.counts.leaves + here
+    → AreSlabsOf case some found → IsOutcome case more (Counted here told) → AreSoFar limits case (some ++ more) (Given leaves)
+given_now limits case some more found leaves here told over sum are is =
+    let counts = are.counts in
+    (omega (arith, sum, counts.leaves, is.0, leaves_more case some more), omega (arith, over, is.1, told_more case some more))
+
+-- or with all of them, where a slab has more than there is room for
+pub given_up : (limits : LeafLimits) (case : PlainProblem) (some more : List ℕ) (found : Sifted) (slab : Slab) (leaves room told : ℕ) → told ≡ length slab.told.items → room < told
+    → leaves ≡ found.counts.leaves + slab.counts.leaves → AreSlabsOf case some found → room + length (leaves_listed found.slabs.items) ≡ limits.told → IsSlabOf case more slab
+    → AreSoFar limits case (some ++ more) (Given leaves)
+given_up limits case some more found slab leaves room told long over sum are all is =
+    let counts = are.counts in
+    let own = is.counts in (
+      omega (arith, sum, counts.leaves, own.leaves, leaves_more case some more),
+      omega (
+        arith,
+        over,
+        long,
+        all,
+        ap length are.told,
+        length-map (leaves_listed found.slabs.items) plain_leaf,
+        ap length is.told,
+        length-map slab.told.items plain_leaf,
+        told_more case some more,
+      ),
+    )

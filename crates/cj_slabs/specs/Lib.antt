@@ -1,4 +1,5 @@
 pub mod Counts
+pub mod Cuts
 pub mod Halts
 pub mod Marks
 pub mod Slabs

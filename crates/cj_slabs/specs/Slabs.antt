@@ -15,6 +15,8 @@ use Rattle.cj_slabs.specs.declared.slab.Slab.{Slab}
 use Rattle.cj_slabs.specs.declared.slab.Outcome.{Outcome}
 use Rattle.cj_slabs.specs.declared.slab.Outcome.TheVariants.{Whole, Counted, Stopped}
 use Rattle.cj_slabs.specs.declared.leaf_limits.LeafLimits.{LeafLimits}
+use Rattle.cj_slabs.specs.declared.so_far.SoFar.{SoFar}
+use Rattle.cj_slabs.specs.declared.so_far.SoFar.TheVariants.{Kept, Given}
 use Rattle.cj_slabs.specs.Counts.{AddCounts, AreCountsOf}
 
 -- the roots of the candidates of a slot
@@ -117,3 +119,13 @@ abbrev pub IsWithinOrOver : LeafLimits → Outcome → Type 0
 IsWithinOrOver limits (Whole slab) = (slab.counts.leaves ≤ limits.leaves) × (length slab.told.items ≤ limits.told)
 IsWithinOrOver limits (Counted leaves told) = (leaves ≤ limits.leaves) × (limits.told < told)
 IsWithinOrOver limits (Stopped leaves) = limits.leaves < leaves
+
+-- a thread that searches alone found this in these slots: what is told is kept, and so many more may be, or more is told than may be
+abbrev pub AreSoFar : LeafLimits → PlainProblem → List ℕ → SoFar → Type 0
+AreSoFar limits case slots (Kept found room) = AreSlabsOf case slots found × (room + length (leaves_listed found.slabs.items) ≡ limits.told)
+AreSoFar limits case slots (Given leaves) = (leaves ≡ length (leaves_of_roots case (roots_at case slots))) × (limits.told < length (told_of_roots case (roots_at case slots)))
+
+-- how many leaves it found
+abbrev pub leaves_so_far : SoFar → ℕ
+leaves_so_far (Kept found room) = found.counts.leaves
+leaves_so_far (Given leaves) = leaves

@@ -13,7 +13,7 @@ use crate::slab::{Outcome, Slab};
 use std::alloc::{AllocError, Global};
 
 /// How many leaves there are at least.
-fn leaves_at_least(outcome: &Outcome) -> u64
+pub fn leaves_at_least(outcome: &Outcome) -> u64
     ensures { result ≡ least outcome.now }
 {
     match outcome {
@@ -79,7 +79,7 @@ fn were_searched(outcomes: &[Outcome]) -> bool
 }
 
 /// Puts a slab behind those that are found.
-fn join(found: &mut Sifted, slab: Slab) -> Result<(), AllocError>
+pub fn join(found: &mut Sifted, slab: Slab) -> Result<(), AllocError>
     requires { found.old.counts.leaves + slab.counts.leaves ≤ u64.MAX }
     ensures found { (case : PlainProblem) (some more : List ℕ) → AreSlabsOf case some found.old → IsSlabOf case more slab
         → OnOk result (AreSlabsOf case (some ++ more) found.new) }

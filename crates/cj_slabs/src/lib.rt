@@ -2,7 +2,9 @@
 //! forgotten, so that what is kept is little beside what is looked at.
 #![tactic(auto)]
 
+mod closing;
 mod counts;
+mod cutting;
 mod far_leaves;
 mod halt;
 mod joining;
@@ -16,6 +18,7 @@ mod sifted;
 mod sifting;
 mod slab;
 mod slots_sifted;
+mod so_far;
 mod telling;
 mod together;
 

@@ -8,11 +8,12 @@ ghost use Rattle.cj_hermite.specs.Roots.{KeepPieces, roots_in_slot};
 ghost use Rattle.cj_bezier.specs.RootLeaves.{leaves_of_root, leaves_of_roots};
 ghost use Rattle.cj_slabs.specs.Slabs.{AddRoots, told_of};
 
+use crate::closing::Cuts;
 use crate::far_leaves::are_far;
 use crate::scratch::Scratch;
 use crate::slab::Slab;
 use cj_case::{Cell, Leaf, Pair, Problem};
-use cj_cells::{RefineError, refine, roots_of_slot};
+use cj_cells::{RefineError, roots_of_slot};
 use std::alloc::{AllocError, Global};
 
 /// Tells the leaves of a root: all of them, or none where each is far.
@@ -29,21 +30,22 @@ fn tell_leaves(leaves: &[Leaf], told: &mut Vec<Leaf>) -> Result<(), AllocError>
 /// A root whose ticks have the same two pieces. The list of leaves is filled anew.
 fn sift_root(
     alloc: Global,
-    problem: &Problem,
+    cuts: &mut Cuts<'_>,
     root: Cell,
     limit: u64,
     leaves: &mut Vec<Leaf>,
     slab: &mut Slab,
 ) -> Result<(), RefineError>
-    requires pieces { KeepPieces (plain_problem problem.now) root.pair.a root.pair.b root.first.micros root.last.micros }
+    requires pieces { KeepPieces (plain_problem cuts.old) root.pair.a root.pair.b root.first.micros root.last.micros }
     requires room { slab.old.counts.leaves ≤ limit }
-    ensures added { OnOk result (AddRoots (plain_problem problem.now) (plain_cell root ∷ []) slab.old slab.new) }
+    ensures same { cuts.new ≡ cuts.old }
+    ensures added { OnOk result (AddRoots (plain_problem cuts.old) (plain_cell root ∷ []) slab.old slab.new) }
     ensures within { OnOk result (slab.new.counts.leaves ≤ limit) }
     ensures too_many { IsErrOf result RefineError.TooMany
-        → limit < slab.old.counts.leaves + length (leaves_of_root (plain_problem problem.now) (plain_cell root)) }
+        → limit < slab.old.counts.leaves + length (leaves_of_root (plain_problem cuts.old) (plain_cell root)) }
 {
     leaves.clear();
-    refine(alloc, problem, root, limit - slab.counts.leaves, leaves)?;
+    cuts.refine(alloc, root, limit - slab.counts.leaves, leaves)?;
     tell_leaves(leaves, &mut slab.told)?;
     slab.counts = slab.counts.with_root(leaves);
     Ok(())
@@ -52,21 +54,22 @@ fn sift_root(
 /// Roots whose ticks have the same two pieces each.
 fn sift_roots(
     alloc: Global,
-    problem: &Problem,
+    cuts: &mut Cuts<'_>,
     roots: &[Cell],
     limit: u64,
     leaves: &mut Vec<Leaf>,
     slab: &mut Slab,
 ) -> Result<(), RefineError>
-    requires pieces { All (λ cell. KeepPieces (plain_problem problem.now) cell.pair.a cell.pair.b cell.first.micros cell.last.micros) roots.now }
+    requires pieces { All (λ cell. KeepPieces (plain_problem cuts.old) cell.pair.a cell.pair.b cell.first.micros cell.last.micros) roots.now }
     requires room { slab.old.counts.leaves ≤ limit }
-    ensures added { OnOk result (AddRoots (plain_problem problem.now) (plain_cells roots.now) slab.old slab.new) }
+    ensures same { cuts.new ≡ cuts.old }
+    ensures added { OnOk result (AddRoots (plain_problem cuts.old) (plain_cells roots.now) slab.old slab.new) }
     ensures within { OnOk result (slab.new.counts.leaves ≤ limit) }
     ensures too_many { IsErrOf result RefineError.TooMany
-        → limit < slab.old.counts.leaves + length (leaves_of_roots (plain_problem problem.now) (plain_cells roots.now)) }
+        → limit < slab.old.counts.leaves + length (leaves_of_roots (plain_problem cuts.old) (plain_cells roots.now)) }
 {
     for root in roots {
-        sift_root(alloc, problem, *root, limit, leaves, slab)?;
+        sift_root(alloc, cuts, *root, limit, leaves, slab)?;
     }
     Ok(())
 }
@@ -78,11 +81,13 @@ pub fn sift_pairs(
     slot: u32,
     pairs: &[Pair],
     limit: u64,
-    scratch: &mut Scratch,
+    scratch: &mut Scratch<'_>,
     slab: &mut Slab,
 ) -> Result<(), RefineError>
     requires exist { All (λ pair. pair.b < length problem.now.tracks) pairs.now }
+    requires cuts { scratch.old.cuts ≡ problem.now }
     requires room { slab.old.counts.leaves ≤ limit }
+    ensures cuts { scratch.new.cuts ≡ scratch.old.cuts }
     ensures added { OnOk result (AddRoots (plain_problem problem.now)
         (roots_in_slot (plain_problem problem.now) slot (map objects_of pairs.now)) slab.old slab.new) }
     ensures within { OnOk result (slab.new.counts.leaves ≤ limit) }
@@ -102,7 +107,7 @@ pub fn sift_pairs(
     )?;
     sift_roots(
         alloc,
-        problem,
+        &mut scratch.cuts,
         &scratch.roots,
         limit,
         &mut scratch.leaves,

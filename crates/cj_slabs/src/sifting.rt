@@ -15,6 +15,7 @@ ghost use Rattle.cj_bezier.specs.ToldLeaves.{told_leaves};
 ghost use Rattle.cj_cells.specs.Lists.{list_candidates, IsSound};
 ghost use Rattle.cj_candidates.specs.Counts.{candidate_count};
 ghost use Rattle.cj_candidates.specs.MeasuredObjects.{AreOfProblem};
+ghost use Rattle.cj_candidates.specs.SoughtPairs.{HoldCandidates, pairs_sought};
 ghost use Rattle.cj_slabs.specs.Counts.{AreCounts};
 ghost use Rattle.cj_slabs.specs.Slabs.{AreOutcomes, AreSlabsOf, IsOutcome, leaves_listed, roots_at, told_of_roots};
 
@@ -24,7 +25,9 @@ use crate::sift_error::SiftError;
 use crate::sifted::Sifted;
 use crate::slab::Outcome;
 use crate::slots_sifted::sift_some;
+use crate::so_far::SoFar;
 use crate::together::Together;
+use cj_candidates::{Sought, few_kept, sought_among};
 use cj_case::{Measured, Problem, slot_count};
 use cj_io::{Gate, Stage};
 use cj_threads::{Nobody, map_parts};
@@ -54,11 +57,13 @@ fn sift_together<R: Threads + Sync, G: Gate + Sync>(
     gate: &G,
     problem: &Problem,
     measured: &Measured,
+    sought: Sought<'_>,
     slots: &[u32],
     workers: u32,
     limits: LeafLimits,
 ) -> Result<Vec<Outcome>, AllocError>
     requires measured { AreMeasured (plain_problem problem.now) measured.now }
+    requires sought { HoldCandidates (plain_problem problem.now) (pairs_sought (plain_problem problem.now) sought) }
     requires exist { All (λ slot. slot < slot_count problem.now.window.first.micros problem.now.window.last.micros) slots.now }
     requires limit { limits.leaves ≤ MOST_LEAVES }
     ensures { IfOk result (λ outcomes. AreOutcomes (plain_problem problem.now) slots.now outcomes.items) }
@@ -66,7 +71,8 @@ fn sift_together<R: Threads + Sync, G: Gate + Sync>(
     gate.begin(Stage::Minutes, slots.len() as u64);
     let together = Together::new();
     let sift = |some: &[u32]| -> Result<Outcome, AllocError>
-        requires { AreMeasured (plain_problem problem.now) measured.now × (limits.leaves ≤ MOST_LEAVES)
+        requires { AreMeasured (plain_problem problem.now) measured.now
+            × HoldCandidates (plain_problem problem.now) (pairs_sought (plain_problem problem.now) sought) × (limits.leaves ≤ MOST_LEAVES)
             × All (λ slot. slot < slot_count problem.now.window.first.micros problem.now.window.last.micros) some.now }
         ensures { IfOk result (IsOutcome (plain_problem problem.entry.now) some.now) }
     {
@@ -75,6 +81,7 @@ fn sift_together<R: Threads + Sync, G: Gate + Sync>(
             gate,
             problem,
             measured,
+            sought,
             some,
             limits,
             Some(&together),
@@ -104,16 +111,18 @@ fn is_whole(outcome: &Result<Outcome, AllocError>) -> bool {
     }
 }
 
-/// What is found in some slots by the thread that calls, as one slab.
+/// What is found in some slots by the thread that calls, slot by slot.
 fn sift_alone<G: Gate>(
     alloc: Global,
     gate: &G,
     problem: &Problem,
     measured: &Measured,
+    sought: Sought<'_>,
     slots: &[u32],
     limits: LeafLimits,
 ) -> Result<Sifted, SiftError>
     requires measured { AreMeasured (plain_problem problem.now) measured.now }
+    requires sought { HoldCandidates (plain_problem problem.now) (pairs_sought (plain_problem problem.now) sought) }
     requires exist { All (λ slot. slot < slot_count problem.now.window.first.micros problem.now.window.last.micros) slots.now }
     requires limit { limits.leaves ≤ MOST_LEAVES }
     ensures found { IfOk result (AreSlabsOf (plain_problem problem.now) slots.now) }
@@ -127,15 +136,23 @@ fn sift_alone<G: Gate>(
         → length (leaves_of_roots (plain_problem problem.now) (roots_at (plain_problem problem.now) slots.now)) ≤ limits.leaves }
 {
     gate.begin(Stage::Minutes, slots.len() as u64);
-    let outcome = sift_some(alloc, gate, problem, measured, slots, limits, None)?;
-    match outcome {
-        Outcome::Whole(slab) => Ok(Sifted {
-            slabs: vec![in alloc; slab.told]?,
-            touching: slab.touching,
-            counts: slab.counts,
-        }),
-        Outcome::Counted { .. } => Err(SiftError::TooManyTold),
-        Outcome::Stopped { .. } => Err(SiftError::TooMany),
+    let mut so_far = SoFar::empty(alloc, limits);
+    for slot in slots {
+        let next = sift_some(
+            alloc,
+            gate,
+            problem,
+            measured,
+            sought,
+            &[*slot],
+            limits,
+            None,
+        )?;
+        so_far = so_far.with(next, limits)?;
+    }
+    match so_far {
+        SoFar::Kept { found, .. } => Ok(found),
+        SoFar::Given { .. } => Err(SiftError::TooManyTold),
     }
 }
 
@@ -176,10 +193,14 @@ pub fn sift<R: Threads + Sync, G: Gate + Sync>(
     // What is no candidate is far.
     ensures far { OnOk result (OthersAreFar (plain_problem problem.now) (is_candidate (plain_problem problem.now))) }
 {
+    let few = few_kept(alloc, problem, measured)?;
+    let sought = sought_among(problem, &few);
     let slots = all_slots(alloc, problem)?;
-    let outcomes = sift_together(rt, alloc, gate, problem, measured, &slots, workers, limits)?;
+    let outcomes = sift_together(
+        rt, alloc, gate, problem, measured, sought, &slots, workers, limits,
+    )?;
     match joined_within(alloc, outcomes, limits)? {
         Some(found) => Ok(found),
-        None => sift_alone(alloc, gate, problem, measured, &slots, limits),
+        None => sift_alone(alloc, gate, problem, measured, sought, &slots, limits),
     }
 }

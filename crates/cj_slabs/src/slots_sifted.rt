@@ -8,6 +8,7 @@ ghost use Rattle.cj_case.specs.Slots.{slot_count};
 ghost use Rattle.cj_bezier.specs.MeasuredObjects.{AreMeasured};
 ghost use Rattle.cj_bezier.specs.RootLeaves.{leaves_of_roots};
 ghost use Rattle.cj_hermite.specs.Roots.{roots_in_slot};
+ghost use Rattle.cj_candidates.specs.SoughtPairs.{HoldCandidates, pairs_sought};
 ghost use Rattle.cj_slabs.specs.Slabs.{AddRoots, AddSlot, IsOutcome, IsSlabOf, IsWithinOrOver, roots_at, slot_roots};
 
 use crate::halt::Halt;
@@ -16,7 +17,7 @@ use crate::roots_sifted::sift_pairs;
 use crate::scratch::Scratch;
 use crate::slab::{Outcome, Slab};
 use crate::together::Together;
-use cj_candidates::{candidates_in_slot, is_crowded};
+use cj_candidates::{Sought, candidates_in_slot, is_crowded};
 use cj_case::{Measured, Pair, Problem};
 use cj_io::{Gate, Stage};
 use std::alloc::{AllocError, Global};
@@ -59,11 +60,13 @@ fn sift_until_stopped(
     pairs: &[Pair],
     limit: u64,
     together: Option<&Together>,
-    scratch: &mut Scratch,
+    scratch: &mut Scratch<'_>,
     slab: &mut Slab,
 ) -> Result<(), Halt>
     requires exist { All (λ pair. pair.b < length problem.now.tracks) pairs.now }
+    requires cuts { scratch.old.cuts ≡ problem.now }
     requires room { slab.old.counts.leaves ≤ limit }
+    ensures cuts { scratch.new.cuts ≡ scratch.old.cuts }
     ensures added { OnOk result (AddRoots (plain_problem problem.now)
         (roots_in_slot (plain_problem problem.now) slot (map objects_of pairs.now)) slab.old slab.new) }
     ensures within { OnOk result (slab.new.counts.leaves ≤ limit) }
@@ -99,15 +102,19 @@ fn sift_slot(
     alloc: Global,
     problem: &Problem,
     measured: &Measured,
+    sought: Sought<'_>,
     slot: u32,
     limit: u64,
     together: Option<&Together>,
-    scratch: &mut Scratch,
+    scratch: &mut Scratch<'_>,
     slab: &mut Slab,
 ) -> Result<(), Halt>
     requires measured { AreMeasured (plain_problem problem.now) measured.now }
+    requires sought { HoldCandidates (plain_problem problem.now) (pairs_sought (plain_problem problem.now) sought) }
     requires exists { slot < slot_count problem.now.window.first.micros problem.now.window.last.micros }
+    requires cuts { scratch.old.cuts ≡ problem.now }
     requires room { slab.old.counts.leaves ≤ limit }
+    ensures cuts { scratch.new.cuts ≡ scratch.old.cuts }
     ensures added { OnOk result (AddSlot (plain_problem problem.now) slot slab.old slab.new) }
     ensures within { OnOk result (slab.new.counts.leaves ≤ limit) }
     ensures too_many { IsErrOf result Halt.TooMany → limit < slab.old.counts.leaves
@@ -120,7 +127,7 @@ fn sift_slot(
     if !may_begin(together, limit, crowded) {
         return Err(Halt::Stopped);
     }
-    let pairs = candidates_in_slot(alloc, problem, measured, slot)?;
+    let pairs = candidates_in_slot(alloc, problem, measured, sought, slot)?;
     slab.touching = slab.touching.saturating_add(pairs.len() as u64);
     let sifted = sift_until_stopped(alloc, problem, slot, &pairs, limit, together, scratch, slab);
     end(together, crowded);
@@ -177,23 +184,26 @@ pub fn sift_some<G: Gate>(
     gate: &G,
     problem: &Problem,
     measured: &Measured,
+    sought: Sought<'_>,
     slots: &[u32],
     limits: LeafLimits,
     together: Option<&Together>,
 ) -> Result<Outcome, AllocError>
     requires measured { AreMeasured (plain_problem problem.now) measured.now }
+    requires sought { HoldCandidates (plain_problem problem.now) (pairs_sought (plain_problem problem.now) sought) }
     requires exist { All (λ slot. slot < slot_count problem.now.window.first.micros problem.now.window.last.micros) slots.now }
     requires limit { limits.leaves ≤ MOST_LEAVES }
     ensures outcome { IfOk result (IsOutcome (plain_problem problem.now) slots.now) }
     ensures alone { together.entry ≡ None → IfOk result (IsWithinOrOver limits) }
 {
-    let mut scratch = Scratch::new(alloc, problem.tracks.as_slice().len())?;
+    let mut scratch = Scratch::new(alloc, problem)?;
     let mut slab = Slab::empty(alloc);
     for slot in slots {
         match sift_slot(
             alloc,
             problem,
             measured,
+            sought,
             *slot,
             limits.leaves,
             together,

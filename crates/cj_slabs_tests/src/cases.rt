@@ -1,10 +1,11 @@
 //! Cases in the first minutes of 2025, by a threshold of 5 km.
 ghost use Rattle.std.specs.Prelude.{◌≡◌, ◌≤◌, length};
+ghost use Rattle.cj_case.specs.Primaries.{marks_of};
 ghost use Rattle.cj_samples.specs.Moments.{IsPlace, tick_of};
 ghost use Rattle.cj_track.specs.declared.frame.Frame.TheVariants.{Eme2000};
 ghost use Rattle.cj_track.specs.Segments.{node_count};
 
-use cj_case::{Problem, Sizes, Tracks};
+use cj_case::{Primaries, Problem, Sizes, Tracks};
 use cj_samples::{along_y, along_z, rest, seconds, track_of};
 use cj_track::{Track, Vec3};
 use std::alloc::Global;
@@ -41,6 +42,7 @@ pub fn none(rt: &impl Abort, alloc: Global, last: u8) -> Problem {
         window: seconds(0, last),
         threshold: 5_000_000_000_000,
         sizes: Sizes::new(Vec::new(alloc)),
+        primaries: Primaries::all(),
     }
 }
 
@@ -55,6 +57,7 @@ pub fn two(rt: &impl Abort, alloc: Global, a: Track, b: Track, last: u8) -> Prob
         window: seconds(0, last),
         threshold: 5_000_000_000_000,
         sizes: Sizes::new(vec![in alloc; 0, 0].expect(rt, "no fault")),
+        primaries: Primaries::all(),
     }
 }
 
@@ -80,5 +83,24 @@ pub fn several(rt: &impl Abort, alloc: Global) -> Problem {
         window: seconds(0, FIVE_SLOTS),
         threshold: 5_000_000_000_000,
         sizes: Sizes::new(vec![in alloc; 0, 0, 0, 0, 0, 0].expect(rt, "no fault")),
+        primaries: Primaries::all(),
+    }
+}
+
+/// Three points within two kilometres from each other, some of which are primaries, over five slots.
+pub fn three(rt: &impl Abort, alloc: Global, primaries: Primaries) -> Problem
+    requires { marks_of primaries 3 ≡ 3 }
+{
+    let tracks = vec![in alloc;
+        resting(rt, alloc, 0, 0),
+        resting(rt, alloc, 1, 0),
+        resting(rt, alloc, 0, 1),
+    ];
+    Problem {
+        tracks: Tracks::new(tracks.expect(rt, "no fault")),
+        window: seconds(0, FIVE_SLOTS),
+        threshold: 5_000_000_000_000,
+        sizes: Sizes::new(vec![in alloc; 0, 0, 0].expect(rt, "no fault")),
+        primaries,
     }
 }

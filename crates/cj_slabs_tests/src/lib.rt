@@ -4,4 +4,6 @@
 #[cfg(test)]
 mod cases;
 #[cfg(test)]
+mod primaries;
+#[cfg(test)]
 mod slabs;

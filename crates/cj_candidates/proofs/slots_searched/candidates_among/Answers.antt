@@ -46,7 +46,7 @@ returns c = go c.kept_of.result c.kept_of.ensures
     near : map objects_of c.deref-2.result.now ≡ filter (is_touching case c.args.slot) (sought_in c.args.ground.now)
     near = ap (map objects_of) c.deref-2.ensures.value ∙ c.in_ok-touching.ensures
 
-    go : (r : Result (Vec Pair Global) AllocError) → IfOk r (λ kept. map objects_of kept.items ≡ filter (keeps_between case.threshold c.as_slice.result.now c.deref.result.now) (map objects_of c.deref-2.result.now))
+    go : (r : Result (Vec Pair Global) AllocError) → IfOk r (λ kept. map objects_of kept.items ≡ filter (keeps_between case.primaries case.threshold c.as_slice.result.now c.deref.result.now) (map objects_of c.deref-2.result.now))
         → IfOk r (λ pairs. map objects_of pairs.items ≡ candidates_of case (sought_in c.args.ground.now) c.args.slot)
     go (Err e) h = tt
     go (Ok found) h =

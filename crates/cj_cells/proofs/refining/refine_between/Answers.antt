@@ -1,4 +1,4 @@
-use Rattle.std.proofs.Common.{◌≡◌, ◌+◌, ◌-◌, ◌<◌, ◌≤◌, ℕ, List, All, length, ◌++◌, [], ◌∷◌, get_or, take, drop, refl, sym, ap, subst, ◌∙◌, arith}
+use Rattle.std.proofs.Common.{◌≡◌, ◌+◌, ◌-◌, ℕ, List, All, length, ◌++◌, [], ◌∷◌, get_or, take, drop, refl, sym, ap, subst, ◌∙◌, arith}
 use Rattle.cj_hermite.specs.Ready.{curve_ready}
 use Rattle.std.proofs.lemmas.Result.{IfOk-from_err, err_from_is_err_and}
 use Rattle.std.proofs.lemmas.List.{take_all, drop_all, length-set}

@@ -1,4 +1,4 @@
-use Rattle.cj_grid.proofs.JoinedBoxLemmas.{span_within}
+use Rattle.cj_bezier.proofs.JoinedBoxLemmas.{span_within}
 use Rattle.cj_grid.proofs.joined_boxes.join_boxes.Goals as goal
 
 pub returns-clause-value : goal.returns-clause-value

@@ -9,7 +9,7 @@ use Rattle.cj_bezier.specs.Parts.{hulls_of, AreInTime}
 use Rattle.cj_bezier.specs.Sizes.{HULL_REACH}
 use Rattle.cj_bezier.proofs.BoxRoundLemmas.{box_none}
 use Rattle.cj_bezier.proofs.NextPartLemmas.{none_in_time}
-use Rattle.cj_grid.specs.JoinedBoxes.{reaches_of_spans}
+use Rattle.cj_bezier.specs.JoinedBoxes.{reaches_of_spans}
 use Rattle.cj_grid.proofs.TrackBoxLemmas.{first_part, one_part_more, no_part_more, last_tick, IsBoxOfAll, IsBoxUpTo}
 use Rattle.cj_grid.proofs.track_box.box_round.Goals as goal
 

@@ -7,7 +7,7 @@ use Rattle.cj_bezier.specs.SlotBoxes.{box_of}
 use Rattle.cj_case.specs.Boxes.{plain_box}
 use Rattle.cj_bezier.proofs.BoxRoundLemmas.{box_none, none_without, some_with, box_of_parts, box_holds}
 use Rattle.cj_bezier.proofs.HullListLemmas.{have_parts}
-use Rattle.cj_grid.specs.JoinedBoxes.{reaches_of_spans}
+use Rattle.cj_bezier.specs.JoinedBoxes.{reaches_of_spans}
 use Rattle.cj_grid.proofs.TrackBoxLemmas.{at_ends}
 use Rattle.cj_grid.proofs.track_box.slot_box.Goals as goal
 

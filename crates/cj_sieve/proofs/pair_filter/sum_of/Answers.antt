@@ -1,7 +1,6 @@
 use Rattle.std.proofs.Common.{◌∙◌, ap}
 use Rattle.std.specs.List.{sum}
 use Rattle.std.proofs.lemmas.List.{take_all}
-use Rattle.std.proofs.lemmas.List.Sums.{sum_by_more}
 use Rattle.cj_sieve.proofs.pair_filter.sum_of.Goals as goal
 
 pub returns : goal.returns

@@ -24,7 +24,7 @@ returns-in_err-tell_leaves-clause-too_many c =
 
 pub with_root-slab-requires-clause-some : goal.with_root-slab-requires-clause-some
 with_root-slab-requires-clause-some c =
-    let case = plain_problem c.args.problem.now in
+    let case = plain_problem c.args.cuts.now in
     let r = plain_cell c.args.root in
     let leaves = c.refine.new.leaves.items in
     let all = all_leaves_added c.clear.new.self.items leaves (leaves_of_root case r) c.clear.ensures.items c.in_ok-refine.ensures.ok in
@@ -36,7 +36,7 @@ with_root-slab-requires-clause-few c = omega (arith, c.in_ok-refine.ensures.with
 
 pub returns-clause-added : goal.returns-clause-added
 returns-clause-added c =
-    let case = plain_problem c.args.problem.now in
+    let case = plain_problem c.args.cuts.now in
     let r = plain_cell c.args.root in
     let leaves = c.refine.new.leaves.items in
     let all = all_leaves_added c.clear.new.self.items leaves (leaves_of_root case r) c.clear.ensures.items c.in_ok-refine.ensures.ok in

@@ -13,9 +13,31 @@ use Rattle.cj_slabs.specs.Slabs.{AreSlabsOf, leaves_listed, roots_at, told_of_ro
 use Rattle.cj_slabs.proofs.CaseLemmas.{all_leaves, all_told, are_measured, case_described, counts_are, each_below, on_ok, on_ok_from, others_are_far, told_is, touching_is}
 use Rattle.cj_slabs.proofs.sifting.sift.Goals as goal
 
+pub few_kept-requires : goal.few_kept-requires
+few_kept-requires g c = record { measured = are_measured c.args.problem.now c.args.measured.now c.requires.measured }
+
+pub returns-in_err-few : goal.returns-in_err-few
+returns-in_err-few g c =
+    let p = err_from_is_err_and c.from_residual.result c.from_residual.ensures.1 in
+    rw (p.1, p.2) (record {
+      too_many = λ is. absurd cc;
+      too_many_told = λ is. absurd cc;
+      few_leaves = λ is. absurd cc;
+      told = tt;
+      counts = tt;
+      touching = tt;
+      within = tt;
+      told_within = tt;
+      sound = tt;
+      complete = tt;
+      ordered = tt;
+      pieces = tt;
+      far = tt;
+    })
+
 pub returns-in_err-slots : goal.returns-in_err-slots
 returns-in_err-slots g c =
-    let p = err_from_is_err_and c.from_residual.result c.from_residual.ensures.1 in
+    let p = err_from_is_err_and c.from_residual-in_err-slots.result c.from_residual-in_err-slots.ensures.1 in
     rw (p.1, p.2) (record {
       too_many = λ is. absurd cc;
       too_many_told = λ is. absurd cc;

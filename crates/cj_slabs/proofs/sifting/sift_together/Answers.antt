@@ -9,7 +9,7 @@ use Rattle.cj_slabs.proofs.sifting.sift_together.Goals as goal
 pub map_parts-requires-clause-accepts : goal.map_parts-requires-clause-accepts
 map_parts-requires-clause-accepts g c = λ _ _ some is.
     let window = c.args.problem.now.window in
-    (c.requires.measured, c.requires.limit, all_of_part (λ slot. slot < slot_count window.first.micros window.last.micros) c.args.slots.now some.now c.requires.exist is)
+    (c.requires.measured, c.requires.sought, c.requires.limit, all_of_part (λ slot. slot < slot_count window.first.micros window.last.micros) c.args.slots.now some.now c.requires.exist is)
 
 pub returns : goal.returns
 returns g c =

@@ -17,6 +17,7 @@ use Rattle.cj_slabs.proofs.slots_sifted.sift_slot.Goals as goal
 
 pub returns-then-not-may_begin : goal.returns-then-not-may_begin
 returns-then-not-may_begin c = record {
+  cuts = refl;
   added = tt;
   within = tt;
   too_many = λ is. absurd cc;
@@ -27,7 +28,7 @@ returns-then-not-may_begin c = record {
 pub returns-in_err-pairs : goal.returns-in_err-pairs
 returns-in_err-pairs c =
     let p = err_from_is_err_and c.from_residual.result c.from_residual.ensures.1 in
-    rw (p.1, p.2) (record { added = tt; within = tt; too_many = λ is. absurd cc; stopped = λ is. absurd cc; alone = λ none is. cc })
+    rw (p.1, p.2) (record { cuts = refl; added = tt; within = tt; too_many = λ is. absurd cc; stopped = λ is. absurd cc; alone = λ none is. cc })
 
 pub sift_until_stopped-sifted-requires-clause-exist : goal.sift_until_stopped-sifted-requires-clause-exist
 sift_until_stopped-sifted-requires-clause-exist c =

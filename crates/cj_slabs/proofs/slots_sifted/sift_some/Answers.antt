@@ -1,4 +1,4 @@
-use Rattle.std.proofs.Common.{ℕ, List, Err, ap, subst, arith, take_all}
+use Rattle.std.proofs.Common.{◌∙◌, ℕ, List, Err, ap, subst, arith, take_all}
 use Rattle.cj_case.specs.Problems.{plain_problem}
 use Rattle.cj_slabs.specs.Slabs.{IsSlabOf}
 use Rattle.cj_slabs.proofs.SlabLemmas.{next_found, nothing_found, upto_slot}
@@ -8,6 +8,7 @@ pub loop-slot-init : goal.loop-slot-init
 loop-slot-init g c =
     let empty = c.empty-slab.ensures in
     record {
+      cuts = c.in_ok-scratch.ensures;
       room = omega (arith, empty.counts);
       found = nothing_found (plain_problem c.args.problem.now) c.empty-slab.result empty.told empty.touching empty.counts;
     }
@@ -31,6 +32,7 @@ returns-in-Err-clause-alone g c = λ none. c.halted.ensures.over (λ is. c.in-Er
 
 pub loop-slot-preserved : goal.loop-slot-preserved
 loop-slot-preserved g c = record {
+  cuts = c.sift_slot.ensures.cuts ∙ c.loop-slot.invariant.cuts;
   room = c.in-Ok.ensures.within;
   found = next_found (plain_problem c.args.problem.now) c.args.slots.now c.loop-slot.slot-index 0 c.loop-slot.slab c.sift_slot.new.slab c.loop-slot-test.true c.loop-slot.invariant.found c.in-Ok.ensures.added;
 }
@@ -46,3 +48,6 @@ returns-clause-outcome g c =
 
 pub returns-clause-alone : goal.returns-clause-alone
 returns-clause-alone g c = λ none. c.searched.ensures.over none
+
+pub sift_slot-requires-clause-cuts : goal.sift_slot-requires-clause-cuts
+sift_slot-requires-clause-cuts g c = c.loop-slot.invariant.cuts

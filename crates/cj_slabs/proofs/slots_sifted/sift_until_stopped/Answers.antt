@@ -1,4 +1,4 @@
-use Rattle.std.proofs.Common.{◌≡◌, ◌<◌, Err, List, length, rules, ap, sym, subst, arith}
+use Rattle.std.proofs.Common.{◌≡◌, ◌∙◌, ◌<◌, Err, List, length, rules, ap, sym, subst, arith}
 use Rattle.std.specs.Prelude.{All}
 use Rattle.std.proofs.lemmas.List.{nil_from_length}
 use Rattle.std.proofs.lemmas.List.Elements.{All-drop, All-take}
@@ -13,6 +13,7 @@ use Rattle.cj_slabs.proofs.slots_sifted.sift_until_stopped.Goals as goal
 
 pub loop-rest-init : goal.loop-rest-init
 loop-rest-init c = record {
+  cuts = c.requires.cuts;
   exist = c.requires.exist;
   room = c.requires.room;
   added = none_so_far (plain_problem c.args.problem.now) c.args.slot c.args.pairs.now c.args.slab.now;
@@ -27,6 +28,7 @@ pub returns-then-is_over : goal.returns-then-is_over
 returns-then-is_over c =
     let i = c.loop-rest.invariant in
     record {
+      cuts = i.cuts ∙ sym c.requires.cuts;
       added = tt;
       within = tt;
       too_many = λ is. absurd cc;
@@ -42,6 +44,7 @@ returns-in_err-sift_pairs c =
     let few = few_with_next (plain_problem c.args.problem.now) c.args.slot c.min.result c.args.pairs.now c.loop-rest.rest.now some c.args.slab.now c.loop-rest.slab c.split_at.ensures.front i.added in
     let e = c.in_err-sift_pairs.field-0.0 in
     rw (p.1, p.2) (record {
+      cuts = c.sift_pairs.ensures.cuts ∙ i.cuts ∙ sym c.requires.cuts;
       added = tt;
       within = tt;
       too_many = λ is. let same : halt_of e ≡ halt.TooMany = cc in let many = c.in_err-sift_pairs.ensures.too_many (ap (λ x. Err x) (many_were e same)) in omega (arith, many, few);
@@ -56,6 +59,7 @@ loop-rest-preserved c =
     let rest = c.loop-rest.rest.now in
     let n = c.min.result in
     record {
+      cuts = c.sift_pairs.ensures.cuts ∙ i.cuts;
       exist = subst (λ (ps : List Pair). All P ps) (sym c.split_at.ensures.back) (All-drop P n rest i.exist);
       room = c.in_ok-sift_pairs.ensures.within;
       added = more_so_far (plain_problem c.args.problem.now) c.args.slot n c.args.pairs.now rest c.split_at.result.0.now c.args.slab.now c.loop-rest.slab c.split_at.ensures.front i.added
@@ -67,9 +71,13 @@ returns c =
     let i = c.loop-rest.invariant in
     let none : length c.loop-rest.rest.now ≡ 0 = search (rules, c.loop-rest-test.false) in
     record {
+      cuts = i.cuts ∙ sym c.requires.cuts;
       added = all_so_far (plain_problem c.args.problem.now) c.args.slot c.args.pairs.now c.loop-rest.rest.now c.args.slab.now c.loop-rest.slab (nil_from_length c.loop-rest.rest.now none) i.added;
       within = i.room;
       too_many = λ is. absurd cc;
       stopped = λ is. absurd cc;
       alone = λ none is. cc;
     }
+
+pub sift_pairs-requires-clause-cuts : goal.sift_pairs-requires-clause-cuts
+sift_pairs-requires-clause-cuts c = c.loop-rest.invariant.cuts

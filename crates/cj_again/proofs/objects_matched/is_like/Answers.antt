@@ -1,12 +1,10 @@
 use Rattle.std.proofs.Common.{◌≡◌, Bool, List, get_or, sym, ap, subst, ◌∙◌}
 use Rattle.std.specs.Prelude.{◌&&◌, ◌==◌, slice_index}
 use Rattle.cj_track.specs.declared.track.Track.{Track}
-use Rattle.cj_case.specs.Unchanged.{is_object}
 use Rattle.cj_again.proofs.SameLemmas.{tracks_told}
-use Rattle.cj_again.proofs.objects_matched.is_same.Goals as goal
+use Rattle.cj_again.proofs.objects_matched.is_like.Goals as goal
 
 pub returns-then-are_same_tracks : goal.returns-then-are_same_tracks
-unfolding is_object
 returns-then-are_same_tracks c =
     let old = c.args.old.now in
     let new = c.args.new.now in
@@ -18,7 +16,6 @@ returns-then-are_same_tracks c =
     ∙ sym (ap (λ (b : Bool). b && (slice_index old.sizes c.args.before == slice_index new.sizes c.args.object)) both)
 
 pub returns-else-are_same_tracks : goal.returns-else-are_same_tracks
-unfolding is_object
 returns-else-are_same_tracks c =
     let old = c.args.old.now in
     let new = c.args.new.now in

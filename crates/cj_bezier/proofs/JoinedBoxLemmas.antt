@@ -1,5 +1,5 @@
--- Joined boxes: their sizes, and the box of a hull by its points.
-use Rattle.std.proofs.Common.{◌≡◌, ℕ, ◌<◌, arith, sym, ap, subst, ◌∙◌, List, length, slice_index_or, map}
+-- Joined boxes: their sizes, the box of a hull by its points, and that of hulls one after another.
+use Rattle.std.proofs.Common.{◌≡◌, ℕ, ◌<◌, arith, sym, ap, subst, ◌∙◌, List, ◌∷◌, Some, length, slice_index_or, map}
 use Rattle.std.proofs.lemmas.Int.{ints, clamps}
 use Rattle.std.proofs.lemmas.List.{get_or_default}
 use Rattle.std.specs.Prelude.{ℤ, pos, ◌≤ℤ◌}
@@ -9,11 +9,11 @@ use Rattle.cj_interval.specs.declared.span.Span.{Span}
 use Rattle.cj_interval.specs.Spans.{least, greatest}
 use Rattle.cj_hermite.specs.declared.box3.Box3.{Box3}
 use Rattle.cj_hermite.specs.Boxes.{IsSpanWithin, IsBoxWithin}
-use Rattle.cj_bezier.specs.Hulls.{axes_of, ends_of}
-use Rattle.cj_case.specs.Boxes.{Reach}
-use Rattle.cj_bezier.specs.SlotBoxes.{round_reaches, round_two}
+use Rattle.cj_bezier.specs.Hulls.{PlainHull, axes_of, ends_of}
+use Rattle.cj_case.specs.Boxes.{Reach, PlainBox}
+use Rattle.cj_bezier.specs.SlotBoxes.{reaches_round, round_reaches, round_two}
 use Rattle.cj_bezier.proofs.BoxLemmas.{read_end}
-use Rattle.cj_grid.specs.JoinedBoxes.{reaches_of_spans, reach_of_hull, reaches_of_hull}
+use Rattle.cj_bezier.specs.JoinedBoxes.{reaches_of_spans, reach_of_hull, reaches_of_hull, reaches_with}
 
 -- the smallest span round two
 pub record IsSpanOfBoth (a b both : Span) : Type 0 where
@@ -71,3 +71,12 @@ reaches_by_points bs a b c d at0 at1 at2 at3 =
     let y = reach_by_points (λ b. b.y) bs a b c d at0 at1 at2 at3 in
     let z = reach_by_points (λ b. b.z) bs a b c d at0 at1 at2 at3 in
     λ i. record { x = x i; y = y i; z = z i }
+
+-- ---- hull by hull
+
+pub first_hull : (all left : List PlainHull) (h : PlainHull) → all ≡ h ∷ left → reaches_round all ≡ Some (reaches_with (reaches_of_hull h) left)
+unfolding reaches_round
+first_hull all left h front = ap reaches_round front
+
+pub next_hull : (r : PlainBox) (left rest : List PlainHull) (h : PlainHull) → left ≡ h ∷ rest → reaches_with r left ≡ reaches_with (round_two r (reaches_of_hull h)) rest
+next_hull r left rest h front = ap (reaches_with r) front
